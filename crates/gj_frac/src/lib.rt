@@ -1,0 +1,7 @@
+//! Exact fractions of 128 bits.
+#![tactic(auto)]
+
+mod frac;
+mod parts;
+
+pub use frac::Frac;

@@ -1,0 +1,16 @@
+//! Steps on the parts of a fraction, each with a contract of its own.
+ghost use Rattle.std.specs.Int.{IsGcd};
+
+/// The greatest common divisor of two whole numbers, by Euclid's algorithm.
+pub(crate) fn greatest_common_divisor(a: u128, b: u128) -> u128
+    ensures { IsGcd a b result }
+{
+    let mut x = a;
+    let mut y = b;
+    while y != 0 {
+        let rest = x % y;
+        x = y;
+        y = rest;
+    }
+    x
+}
