@@ -1,7 +1,70 @@
 //! Exact fractions of 128 bits.
 #![tactic(auto)]
 
-mod frac;
+ghost use Rattle.std.specs.Prelude.{◌≡◌, ◌≢◌, ◌⊎◌, ◌↔◌, pos, ◌^◌, ◌<◌, unsigned_abs, IsNone, IfSome};
+ghost use Rattle.gj_frac.specs.Lowest.{IsLowest};
+
 mod parts;
 
-pub use frac::Frac;
+use parts::{greatest_common_divisor, quotient};
+
+/// A fraction in lowest terms with a positive denominator; zero is 0/1.
+///
+/// Both parts are at most 2^127 - 1 in absolute value. Equal values have equal parts.
+#[derive(Clone, Copy, Debug, PartialEq, Eq, Hash)]
+pub struct Frac {
+    num: i128,
+    den: i128,
+    ghost lowest: { IsLowest num den },
+}
+
+impl Frac {
+    ghost use Rattle.gj_frac.specs.Fraction.{Is, numerator, denominator};
+
+    /// The fraction `num/den` in lowest terms.
+    ///
+    /// None where `den` is 0, or where one of the two is -2^127, whose absolute value does not fit.
+    pub fn new(num: i128, den: i128) -> Option<Frac>
+        ensures none { IsNone result ↔ ((den ≡ pos 0) ⊎ (unsigned_abs num ≡ 2 ^ 127) ⊎ (unsigned_abs den ≡ 2 ^ 127)) }
+        ensures value { IfSome result (λ x. Is x num den) }
+    {
+        if den == 0 || num == i128::MIN || den == i128::MIN {
+            return None;
+        }
+        Some(reduced(num, den))
+    }
+
+    /// The numerator in lowest terms.
+    pub fn num(self) -> i128
+        ensures { result ≡ numerator self }
+    {
+        self.num
+    }
+
+    /// The denominator in lowest terms, above 0.
+    pub fn den(self) -> i128
+        ensures { result ≡ denominator self }
+    {
+        self.den
+    }
+}
+
+/// The fraction `num/den` in lowest terms.
+fn reduced(num: i128, den: i128) -> Frac
+    requires zero { unsigned_abs den ≢ 0 }
+    requires num_fits { unsigned_abs num < 2 ^ 127 }
+    requires den_fits { unsigned_abs den < 2 ^ 127 }
+    ensures { Is result num den }
+{
+    let divisor = greatest_common_divisor(num.unsigned_abs(), den.unsigned_abs()) as i128;
+    let num = quotient(num, divisor);
+    let den = quotient(den, divisor);
+    if den > 0 {
+        Frac { num, den }
+    } else {
+        Frac {
+            num: -num,
+            den: -den,
+        }
+    }
+}
