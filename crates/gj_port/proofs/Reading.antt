@@ -30,17 +30,17 @@ read_piece all bytes piece n within front fits is =
 
 -- a read that gives n bytes goes on
 pub read_more :
-    (start left after : Option (List ℕ)) (bytes more buf : List ℕ) (n : ℕ)
+    (start left after : Option (List ℕ)) (bytes more piece buf : List ℕ) (n : ℕ)
     → IfSome start (λ all. IsRead all bytes left) → Reads {E = Failed} left after buf (Ok n)
-    → more ≡ bytes ++ take n buf → IfSome start (λ all. IsRead all more after)
-read_more None left after bytes more buf n so_far told is = tt
-read_more (Some all) None after bytes more buf n so_far told is =
+    → more ≡ bytes ++ piece → piece ≡ take n buf → IfSome start (λ all. IsRead all more after)
+read_more None left after bytes more piece buf n so_far told more_is piece_is = tt
+read_more (Some all) None after bytes more piece buf n so_far told more_is piece_is =
     let no : None ≡ Some (drop (length bytes) all) = so_far.rest in absurd (cc)
-read_more (Some all) (Some rest) after bytes more buf n so_far told is =
+read_more (Some all) (Some rest) after bytes more piece buf n so_far told more_is piece_is =
     let same : rest ≡ drop (length bytes) all = (let e = so_far.rest in cc) in
     let fits : n ≤ length (drop (length bytes) all) = rw (← same) told.0 in
-    let front : take n buf ≡ take n (drop (length bytes) all) = rw (← same) told.1 in
-    rw (is, told.2, same) (read_piece all bytes (take n buf) n so_far.within so_far.front fits front)
+    let front : piece ≡ take n (drop (length bytes) all) = piece_is ∙ rw (← same) told.1 in
+    rw (more_is, told.2, same) (read_piece all bytes piece n so_far.within so_far.front fits front)
 
 -- a read that gives nothing ends it
 pub read_end :

@@ -10,7 +10,7 @@ use thiserror::Error;
 pub struct Failed;
 
 /// Why the bytes of a source were not all read.
-#[derive(Debug, Drop, Error)]
+#[derive(Clone, Copy, Debug, PartialEq, Eq, Error)]
 pub enum ReadError {
     /// A read failed.
     #[error("the source failed")]

@@ -1,4 +1,4 @@
-use Rattle.std.proofs.Common.{arith, ap, ◌∙◌, ◌++◌, ◌≤◌, length}
+use Rattle.std.proofs.Common.{arith, ◌≤◌, length}
 use Rattle.std.proofs.lemmas.Grind.{common_steps}
 use Rattle.std.proofs.lemmas.List.{take-append-le}
 use Rattle.gj_port.proofs.Reading.{read_more, read_end}
@@ -16,9 +16,8 @@ loop-bytes-preserved g c =
     record {
       within = grind (arith, common_steps);
       buffer = grind (arith, common_steps);
-      told = read_more _ _ _ _ _ _ _ c.loop-bytes.invariant.told c.in_ok-count.ensures.told
-          (c.in_ok-extend_from_slice.ensures.items
-          ∙ ap (λ xs. c.loop-bytes.bytes.items ++ xs) (take-append-le _ _ _ fits));
+      told = read_more _ _ _ _ _ _ _ _ c.loop-bytes.invariant.told c.in_ok-count.ensures.told
+          c.in_ok-extend_from_slice.ensures.items (take-append-le _ _ _ fits);
       count = omega arith;
       steady = cc;
     }
