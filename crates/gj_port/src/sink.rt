@@ -16,8 +16,8 @@ pub trait Sink {
     /// A number of bytes that are surely taken.
     ghost sure: { Self → ℕ };
 
-    /// Takes some bytes from the front of `piece`, at least one, and says how many. `Failed` comes only
-    /// where the count of faults rose, or stands at 2^64 - 1; no byte was taken then.
+    /// Takes some bytes from the front of `piece`, at least one, and says how many. `Failed` comes
+    /// only where the count of faults rose, or stands at 2^64 - 1; no byte was taken then.
     fn write(&mut self, piece: &[u8]) -> Result<usize, Failed>
         requires { 0 < length piece.now }
         ensures some { IfOk result (λ n. (1 ≤ n) × (n ≤ length piece.now)) }

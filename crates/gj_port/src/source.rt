@@ -17,7 +17,7 @@ pub trait Source {
     ghost steady: { Self → Bool };
 
     /// Puts the next bytes at the front of `buf`, and says how many they are: none only at the end.
-    /// `Failed` comes only where the count of faults rose, or stands at 2^64 - 1; no byte is lost then.
+    /// `Failed` comes only where the count of faults rose, or stands at 2^64 - 1; no byte is lost.
     fn read(&mut self, buf: &mut [u8]) -> Result<usize, Failed>
         requires { 0 < length buf.old }
         ensures within { IfOk result (λ n. n ≤ length buf.old) }

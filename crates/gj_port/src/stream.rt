@@ -8,8 +8,8 @@ use crate::{Failed, Sink, Source};
 use std::io::{Read, Write};
 use std::marker::Model;
 
-/// A source over a reader. It tells the bytes that the reader tells, none over standard input, and any
-/// read may fail.
+/// A source over a reader. It tells the bytes that the reader tells, none over standard input, and
+/// any read may fail. Its count of faults stays at 2^64 - 1 once that is reached.
 #[derive(Drop)]
 pub struct StdSource<R: Read> {
     inner: R,
@@ -61,8 +61,9 @@ impl<R: Read> Source for StdSource<R> {
     }
 }
 
-/// A sink over a writer. It tells the bytes that the writer tells, none over standard output, and any
-/// write may fail.
+/// A sink over a writer. It tells the bytes that the writer tells, none over standard output, and
+/// any write may fail, as one does that takes nothing. Its count of faults stays at 2^64 - 1 once
+/// that is reached.
 #[derive(Drop)]
 pub struct StdSink<W: Write> {
     inner: W,

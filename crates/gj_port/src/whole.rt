@@ -9,9 +9,9 @@ use std::alloc::Global;
 // How many bytes are asked for at once.
 const CHUNK: usize = 8192;
 
-/// Reads a source to its end. `TooLong` comes exactly where it gave `limit` + 1 bytes, and no more are
-/// asked for; `ReadFault` only where it failed in this call, so never where it is steady; `Memory` where
-/// there was no memory for the bytes.
+/// Reads a source to its end; the limit is at most 2^62. `TooLong` comes exactly where it gave
+/// `limit` + 1 bytes, and no more are asked for; `ReadFault` only where it failed in this call, so
+/// never where it is steady; `Memory` where there was no memory for the bytes.
 pub fn read_all<S: Source>(
     alloc: Global,
     source: &mut S,
@@ -19,7 +19,8 @@ pub fn read_all<S: Source>(
 ) -> Result<Vec<u8>, ReadError>
     requires { limit ≤ 2 ^ 62 }
     ensures within { IfOk result (λ bytes. vec_len bytes ≤ limit) }
-    ensures told { IfSome (S.left source.old) (λ left. TakesAll limit left (S.left source.new) result) }
+    ensures told { IfSome (S.left source.old) (λ left.
+        TakesAll limit left (S.left source.new) result) }
     ensures read_fault { IsErrOf result ReadError.ReadFault →
         HasFailed (S.faults source.old) (S.faults source.new) }
     ensures no_fault { IsTrue (S.steady source.old) → ¬ IsErrOf result ReadError.ReadFault }
@@ -41,8 +42,8 @@ pub fn read_all<S: Source>(
     }
 }
 
-/// Writes all bytes to a sink. It takes no memory. `Failed` comes only where the sink failed in this
-/// call, so never where it is sure of so many bytes; some bytes from the front may be taken then.
+/// Writes all bytes to a sink. It takes no memory. `Failed` comes only where the sink failed in
+/// this call, so never where it is sure of so many bytes; some bytes from the front may be taken then.
 pub fn write_all<K: Sink>(sink: &mut K, bytes: &[u8]) -> Result<(), Failed>
     ensures told { IfSome (K.written sink.old) (λ before.
         WritesAll before (K.written sink.new) bytes.now result) }
