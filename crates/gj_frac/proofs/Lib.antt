@@ -1,2 +1,3 @@
 pub mod Divisors
 pub mod Integers
+pub mod Ring
