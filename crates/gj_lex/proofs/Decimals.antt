@@ -45,8 +45,10 @@ decimal_first : (n : ℕ) → n < 10 ^ 64 → 0 < n → 48 < get_or (decimal n) 
 decimal_first n small some = (decimal_by_steps_wide
     (λ m ds. (0 < length ds) × (0 < m → 48 < get_or ds 0 0))
     (λ m l. (omega arith, λ a. omega arith))
-    (λ m ds l h. (omega (arith, length-append ds ((48 + m % 10) ∷ [])),
-      λ a. omega (arith, get_or-append ds ((48 + m % 10) ∷ []) 0 0 h.0, h.1 (omega arith)))) n small).1 some
+    (λ m ds l h. (
+      omega (arith, length-append ds ((48 + m % 10) ∷ [])),
+      λ a. omega (arith, get_or-append ds ((48 + m % 10) ∷ []) 0 0 h.0, h.1 (omega arith)),
+    )) n small).1 some
 
 -- the digits of a number begin with a zero only at 0
 pub decimal_leading_zero : (n : ℕ) → n < 10 ^ 64 → get_or (decimal n) 0 0 ≡ 48 → length (decimal n) ≡ 1

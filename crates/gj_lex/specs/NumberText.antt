@@ -1,5 +1,5 @@
 -- How numbers are spelled in canonical texts: each number in one way (own).
-use Rattle.std.specs.Prelude.{ℕ, ℤ, ◌≡◌, ◌⊎◌, List, [], ◌++◌, nat_le, if◌then◌else◌, codes, decimal, unsigned_abs}
+use Rattle.std.specs.Prelude.{ℕ, ℤ, ◌≡◌, ◌≢◌, ◌⊎◌, List, [], ◌++◌, nat_le, if◌then◌else◌, codes, decimal, unsigned_abs}
 use Rattle.std.specs.Fmt.{signed_decimal}
 use Rattle.std.specs.Char.{IsAsciiDigit}
 use Rattle.gj_frac.specs.declared.Frac.{Frac}
@@ -20,3 +20,10 @@ fraction_text x = ratio_text (numerator x) (denominator x)
 -- a digit, a `-` or a `/`
 abbrev pub IsNumberByte : ℕ → Type 0
 IsNumberByte b = IsAsciiDigit b ⊎ (b ≡ 45) ⊎ (b ≡ 47)
+
+-- a byte that neither parts words nor ends a line: no tab, no LF, no CR and no space
+pub record IsWordByte (b : ℕ) : Type 0 where
+  pub no_tab : b ≢ 9
+  pub no_line_feed : b ≢ 10
+  pub no_carriage_return : b ≢ 13
+  pub no_space : b ≢ 32

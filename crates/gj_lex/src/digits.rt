@@ -30,7 +30,8 @@ fn has_leading_zero(word: &[u8]) -> bool
 
 /// The number that the bytes spell, where each is a digit and the number is at most `LIMIT`.
 fn value_of(word: &[u8]) -> Option<u128>
-    ensures { SomeIff result (AllDigits 10 word.now × (digits_value 10 word.now < 2 ^ 127)) (digits_value 10 word.now) }
+    ensures { let value = digits_value 10 word.now in
+        SomeIff result (AllDigits 10 word.now × (value < 2 ^ 127)) value }
 {
     let mut value = 0;
     for byte in word {
@@ -43,7 +44,8 @@ fn value_of(word: &[u8]) -> Option<u128>
 /// `LIMIT`.
 fn with_digit(front: u128, byte: u8) -> Option<u128>
     requires { front < 2 ^ 127 }
-    ensures { SomeIff result ((digit_value byte < 10) × (front * 10 + digit_value byte < 2 ^ 127)) (front * 10 + digit_value byte) }
+    ensures { let value = front * 10 + digit_value byte in
+        SomeIff result ((digit_value byte < 10) × (value < 2 ^ 127)) value }
 {
     if !byte.is_ascii_digit() || front > LIMIT / 10 {
         return None;

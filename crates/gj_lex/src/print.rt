@@ -4,11 +4,9 @@ ghost use Rattle.std.specs.Prelude.{◌≡◌, ◌+◌, ◌^◌, ◌<◌, ◌≤
 ghost use Rattle.std.specs.Fmt.{signed_decimal};
 ghost use Rattle.gj_lex.specs.NumberText.{fraction_text, denominator_text};
 
-use std::alloc::AllocError;
-
-use gj_frac::Frac;
-
 use crate::digits::write_digits;
+use gj_frac::Frac;
+use std::alloc::AllocError;
 
 /// The length of the longest text: a sign, a `/`, and twice the 39 digits of a number of 128 bits.
 const SPACE: usize = 80;
@@ -40,10 +38,10 @@ pub fn print_frac(out: &mut Vec<u8>, x: Frac) -> Result<(), AllocError>
 
 /// Writes a denominator to the end of the text, and says where it begins.
 fn write_denominator(text: &mut [u8], den: u128) -> usize
-    requires { length text.old ≡ 80 }
+    requires { length text.old ≡ SPACE }
     ensures written { drop result text.new ≡ denominator_text den }
     ensures room { 40 ≤ result }
-    ensures within { result ≤ 80 }
+    ensures within { result ≤ SPACE }
 {
     if den < 2 {
         return text.len();
