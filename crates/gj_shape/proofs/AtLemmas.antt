@@ -1,5 +1,6 @@
 -- Entries at indices that are read modulo the length.
-use Rattle.std.proofs.Common.{◌≡◌, ℕ, ◌+◌, ◌*◌, ◌%◌, ◌<◌, ◌≤◌, ◌^◌, ℤ, pos, List, length, get_or, All, unsigned_abs, ap, subst, arith}
+use Rattle.std.proofs.Common.{◌≡◌, ℕ, ◌+◌, ◌*◌, ◌%◌, ◌<◌, ◌≤◌, ◌^◌, ℤ, pos, List, length, get_or, All, unsigned_abs, ◌≢◌, sym, ap, ◌∙◌, arith}
+use Rattle.std.proofs.lemmas.List.{get_or_read}
 use Rattle.std.proofs.Math.Nat.{mod-eq_of_lt, mod-mod, add-mod_right, add-mul-mod_self_right}
 use Rattle.std.proofs.lemmas.Nat.{mod_below}
 use Rattle.std.proofs.lemmas.List.Elements.{All-get_or}
@@ -47,3 +48,19 @@ pub at_right_small : (f : FunctionData) (i : ℕ) → IsWithinLimits f → unsig
 at_right_small f i h =
     let some : 0 < length f.right = omega (arith, h.right_length, h.order_low) in
     all_at (IsSmallOver f.scale) f.right i some h.right_small
+
+-- ---- what a read of the code gives
+
+-- an entry that was read at an index below the length is the entry there
+pub at_read : (xs : List ℤ) (i : ℕ) (n : ℤ) → i < length xs → n ≡ get_or xs i n → at xs i ≡ n
+at_read xs i n h e = at_below xs i h ∙ sym (get_or_read xs i n h e (pos 0))
+
+-- entries that were read and differ
+pub apart_at : (xs ys : List ℤ) (i : ℕ) (m n : ℤ) → i < length xs → i < length ys → m ≡ get_or xs i m →
+    n ≡ get_or ys i n → m ≢ n → at xs i ≢ at ys i
+apart_at xs ys i m n h k d e differ same = differ (sym (at_read xs i m h d) ∙ same ∙ at_read ys i n k e)
+
+-- entries that are equal as they stand are equal modulo the length
+pub same_at : (xs ys : List ℤ) (i : ℕ) → i < length xs → i < length ys →
+    get_or xs i (pos 0) ≡ get_or ys i (pos 0) → at xs i ≡ at ys i
+same_at xs ys i h k e = at_below xs i h ∙ e ∙ sym (at_below ys i k)

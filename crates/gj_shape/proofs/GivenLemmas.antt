@@ -1,6 +1,6 @@
 -- The function of an order, a place and three lists of fractions over their least common denominator.
-use Rattle.std.proofs.Common.{◌≡◌, ℕ, ◌*◌, ◌/◌, ◌<◌, ◌≤◌, ◌^◌, ℤ, pos, ◌*ℤ◌, List, ◌++◌, length, take, drop, map, get_or, All, unsigned_abs, refl, sym, ap, subst, ◌∙◌, arith}
-use Rattle.std.proofs.Math.Nat.{one-dvd, one-mul, mul-div_cancel', mul_comm, mul_right_comm, mul-dvd-mul_right, dvd_of_mul-dvd-mul_right, pos_of_dvd_of_pos, dvd-mul_left, dvd-mul_right}
+use Rattle.std.proofs.Common.{◌≡◌, ℕ, ◌*◌, ◌/◌, ◌<◌, ℤ, pos, ◌*ℤ◌, List, ◌++◌, length, take, drop, map, get_or, All, unsigned_abs, refl, sym, subst, ◌∙◌}
+use Rattle.std.proofs.Math.Nat.{one-dvd, one-mul, mul-div_cancel', mul_right_comm, mul-dvd-mul_right, dvd_of_mul-dvd-mul_right, pos_of_dvd_of_pos, dvd-mul_left}
 use Rattle.std.proofs.lemmas.Nat.Gcd.{IsGcd-swap, dvd_antisymm}
 use Rattle.std.proofs.lemmas.List.{length-map, get_or-map, take_at, drop_at}
 use Rattle.std.proofs.lemmas.List.Elements.{All-same, All-take, All-drop, All-map}
@@ -9,7 +9,7 @@ use Rattle.std.specs.Int.{◌∣◌, IsGcd}
 use Rattle.gj_frac.specs.declared.Frac.{Frac}
 use Rattle.gj_frac.specs.Fraction.{numerator, denominator}
 use Rattle.gj_frac.proofs.Divisors.{cofactor, gauss}
-use Rattle.gj_shape.specs.FunctionData.{FunctionData, IsWithinLimits, IsSmallOver}
+use Rattle.gj_shape.specs.FunctionData.{FunctionData, IsSmallOver}
 use Rattle.gj_shape.specs.Given.{in_order, IsSmall, IsCommonDenominator, IsOrder, IsPlace, HaveLength, IsGivenBy, numerator_over}
 use Rattle.gj_shape.specs.Denominators.{IsLeastDenominator}
 use Rattle.gj_shape.proofs.InOrder.{all_in_order, all_from_in_order}
@@ -118,3 +118,18 @@ given_over_scale q k scale l v r order place lengths least =
         lowest = λ d h all. none_smaller l v r scale d e f least h all;
       };
     }
+
+-- the same for lists that are these numerators
+pub given_by_numerators : (q k scale : ℕ) (l v r : List Frac) (ls vs rs : List ℤ) → IsOrder q → IsPlace q k →
+    HaveLength l v r q → IsLeastDenominator (in_order l v r) scale → ls ≡ map (numerator_over scale) l →
+    vs ≡ map (numerator_over scale) v → rs ≡ map (numerator_over scale) r →
+    IsGivenBy q k l v r (record { order = q; place = k; scale = scale; left = ls; value = vs; right = rs })
+given_by_numerators q k scale l v r ls vs rs order place lengths least left_is value_is right_is =
+    let numerators = map (numerator_over scale) in
+    let is_given : FunctionData → Type 0 = IsGivenBy q k l v r in
+    let with_left : List ℤ → FunctionData = λ xs. record { order = q; place = k; scale = scale; left = xs; value = numerators v; right = numerators r } in
+    let with_value : List ℤ → FunctionData = λ xs. record { order = q; place = k; scale = scale; left = ls; value = xs; right = numerators r } in
+    let with_right : List ℤ → FunctionData = λ xs. record { order = q; place = k; scale = scale; left = ls; value = vs; right = xs } in
+    let first = subst (λ xs. is_given (with_left xs)) (sym left_is) (given_over_scale q k scale l v r order place lengths least) in
+    let second = subst (λ xs. is_given (with_value xs)) (sym value_is) first in
+    subst (λ xs. is_given (with_right xs)) (sym right_is) second

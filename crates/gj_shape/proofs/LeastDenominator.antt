@@ -1,7 +1,7 @@
 -- The least common denominator with one more fraction, and the first fraction that fails a test.
-use Rattle.std.proofs.Common.{◌≡◌, ℕ, ◌+◌, ◌*◌, ◌/◌, ◌<◌, ◌≤◌, ◌^◌, List, [], ◌∷◌, ◌++◌, length, take, drop, All, pos, unsigned_abs, refl, sym, subst, ◌∙◌, arith}
+use Rattle.std.proofs.Common.{◌≡◌, ℕ, ◌+◌, ◌*◌, ◌/◌, ◌<◌, List, [], ◌∷◌, ◌++◌, length, take, drop, unsigned_abs, refl, sym, subst, ◌∙◌, arith}
 use Rattle.std.proofs.Math.Nat.{one-dvd}
-use Rattle.std.proofs.lemmas.Nat.Gcd.{dvd_trans, le_of_dvd}
+use Rattle.std.proofs.lemmas.Nat.Gcd.{dvd_trans}
 use Rattle.std.proofs.lemmas.List.Elements.{All-nil, All-head, All-same, All-take, All-drop, All-push}
 use Rattle.std.proofs.lemmas.List.{take_at, drop_at, append_assoc, length_push}
 use Rattle.std.specs.Int.{◌∣◌}
@@ -9,7 +9,7 @@ use Rattle.gj_frac.specs.declared.Frac.{Frac}
 use Rattle.gj_frac.specs.Fraction.{denominator}
 use Rattle.gj_frac.proofs.Integers.{abs_positive_z}
 use Rattle.gj_frac.proofs.Divisors.{lcm_positive}
-use Rattle.gj_shape.specs.Given.{in_order, IsSmall, IsCommonDenominator, HasCommonDenominator, IsFirstFault, IsTooLarge, IsTooFine}
+use Rattle.gj_shape.specs.Given.{in_order, IsSmall, IsCommonDenominator, IsFirstFault}
 use Rattle.gj_shape.specs.Denominators.{Widens, IsLeastDenominator, IsRefused, IsFaultIn}
 use Rattle.gj_shape.proofs.InOrder.{before, length-before, before_next, place_of_index, StandAt}
 use Rattle.gj_shape.specs.declared.faults.ShapeFault.{ShapeFault}

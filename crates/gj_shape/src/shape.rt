@@ -2,6 +2,7 @@
 ghost use Rattle.std.specs.Prelude.{◌≡◌, ◌<◌, ℕ, pos, IfOk, IfErr, IfSome, IfNone, IsTrue, ◌↔◌};
 ghost use Rattle.gj_frac.specs.Fraction.{Is};
 ghost use Rattle.gj_shape.specs.FunctionData.{IsWithinLimits, IsContinuous, IsJump, at};
+ghost use Rattle.gj_shape.specs.Given.{IsOrder, IsPlace};
 
 use crate::denominators::common_denominator;
 use crate::faults::ShapeFault;
@@ -57,10 +58,10 @@ impl Shape {
         ensures given { IfOk result (IsGivenBy q k left.now value.now right.now) }
         ensures fault { IfErr result (HasFault q k left.now value.now right.now) }
     {
-        if !(2..=1000).contains(&q) {
+        if !is_order(q) {
             return Err(ShapeFault::Order);
         }
-        if k == 0 || k >= q {
+        if !is_place(q, k) {
             return Err(ShapeFault::Place);
         }
         let length = q as usize;
@@ -172,4 +173,18 @@ impl Shape {
     {
         self.left == self.value && self.right == self.value
     }
+}
+
+/// Whether the order is from 2 to 1,000.
+fn is_order(q: u32) -> bool
+    ensures { IsTrue result ↔ IsOrder q }
+{
+    (2..=1000).contains(&q)
+}
+
+/// Whether the place is from 1 to the order less 1.
+fn is_place(q: u32, k: u32) -> bool
+    ensures { IsTrue result ↔ IsPlace q k }
+{
+    (1..q).contains(&k)
 }

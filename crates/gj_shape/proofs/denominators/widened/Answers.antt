@@ -1,7 +1,6 @@
-use Rattle.std.proofs.Common.{◌≡◌, ◌<◌, unsigned_abs, refl, sym, subst, arith}
+use Rattle.std.proofs.Common.{refl, sym, subst, arith}
 use Rattle.std.proofs.lemmas.Nat.Gcd.{le_of_dvd}
 use Rattle.std.specs.Int.{◌∣◌}
-use Rattle.gj_frac.specs.Fraction.{denominator}
 use Rattle.gj_shape.specs.Denominators.{IsLcm}
 use Rattle.gj_shape.proofs.denominators.widened.Goals as goal
 

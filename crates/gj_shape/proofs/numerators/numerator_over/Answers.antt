@@ -1,8 +1,7 @@
-use Rattle.std.proofs.Common.{◌≡◌, ◌<◌, ◌≤◌, ◌^◌, ◌*◌, ◌/◌, pos, unsigned_abs, ℕ, w64, ℤ, ◌*ℤ◌, FitsSigned, to_z, of_z, arith, rules, ap, ◌∙◌}
-use Rattle.std.proofs.lemmas.Int.{ints, to_z-of_z, fits_signed_from_abs}
+use Rattle.std.proofs.Common.{◌≡◌, ◌≤◌, ◌/◌, pos, unsigned_abs, w64, to_z, of_z, arith, rules, ap, ◌∙◌}
+use Rattle.std.proofs.lemmas.Int.{ints, to_z-of_z}
 use Rattle.std.proofs.lemmas.Nat.Gcd.{le_of_dvd}
 use Rattle.gj_frac.specs.Fraction.{numerator, denominator}
-use Rattle.gj_shape.specs.Given.{numerator_over as over_scale}
 use Rattle.gj_shape.proofs.NumeratorBounds.{numerator_fits}
 use Rattle.gj_shape.proofs.numerators.numerator_over.Goals as goal
 use mir.Syntax.{w128}
