@@ -4,3 +4,4 @@ pub mod Verdict
 pub mod Answer
 pub mod Code
 pub mod Outcome
+pub mod Told

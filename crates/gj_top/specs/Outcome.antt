@@ -48,4 +48,4 @@ abbrev pub IsTrueVerdict : List ℕ → List ℕ → Option (List ℕ) → Type 
 IsTrueVerdict input before written =
     (f : FunctionData) × (text : List ℕ) × IsFirstForm input f × (written ≡ Some (before ++ text))
     × ((IsMinimalText f text × IsMinimalOnGrid f 1)
-      ⊎ ((v : Violation) × IsNotMinimalText f v text × ShowsViolation f v))
+    ⊎ ((v : Violation) × IsNotMinimalText f v text × ShowsViolation f v))

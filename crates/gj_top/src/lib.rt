@@ -1,26 +1,31 @@
 //! The top call: words and an input in, an answer and a status out.
 #![tactic(auto)]
 
-ghost use Rattle.std.specs.Prelude.{◌≡◌, ◌≢◌, ◌⊎◌, ◌≤◌, ℕ, List, length, map, Some, IfSome, IfOk, IsErrOf, IsTrue, IsOk, ◌↔◌, ⊥};
+ghost use Rattle.std.specs.Prelude.{◌≡◌, ◌≢◌, ◌⊎◌, ◌≤◌, length, IfSome, IfOk, IsErrOf, IsTrue, ◌↔◌};
 ghost use Rattle.gj_port.specs.Faults.{HasFailed};
 ghost use Rattle.gj_shape.specs.FunctionData.{FunctionData};
 ghost use Rattle.gj_top.specs.FirstForm.{IsFirstForm};
-ghost use Rattle.gj_top.specs.Answer.{IsMinimalCommand, IsDecided, input_limit};
+ghost use Rattle.gj_top.specs.Answer.{IsMinimalCommand, input_limit};
+ghost use Rattle.gj_top.specs.Verdict.{IsVerdict};
+ghost use Rattle.gj_top.specs.Told.{IsTold};
 ghost use Rattle.gj_top.specs.Outcome.{IsOutcome, IsLeft, IsTrueVerdict};
 
 use gj_minimal::find_violation;
 use gj_port::{ReadError, Sink, Source, read_all, write_all};
-use std::alloc::{AllocError, Global};
+use std::alloc::Global;
 
 mod first_form;
 mod lines;
+#[cfg(test)]
+mod run_tests;
 mod status;
+#[cfg(test)]
+mod tests;
 mod verdict;
-
-pub use status::Status;
 
 use first_form::{FormError, read_first_form};
 use verdict::write_verdict;
+pub use status::Status;
 
 /// The most bytes that are read of an input.
 const INPUT_LIMIT: usize = 16_777_216;
@@ -74,5 +79,38 @@ pub fn run<S: Source, K: Sink>(
         Ok(text) => tell(sink, Status::Done, text.as_slice()),
         Err(FormError::Refused) => tell(sink, Status::Input, b"refused\n"),
         Err(FormError::Memory(_)) => Status::Memory,
+    }
+}
+
+/// The verdict on the function that the input spells, as a proof text.
+fn decide(alloc: Global, input: &[u8]) -> Result<Vec<u8>, FormError>
+    ensures decided { IfOk result (λ text. (f : FunctionData) × IsFirstForm input.now f × IsVerdict f text.items) }
+    ensures refused { IsErrOf result FormError.Refused → (f : FunctionData) → IsFirstForm input.now f → ⊥ }
+{
+    let shape = read_first_form(alloc, input)?;
+    let violation = find_violation(&shape);
+    Ok(write_verdict(alloc, &shape, violation)?)
+}
+
+/// Whether the words are the one word `minimal`.
+fn is_minimal_command(words: &[String]) -> bool
+    ensures { IsTrue result ↔ IsMinimalCommand words.now }
+{
+    match words {
+        [word] => word.as_str() == "minimal",
+        _ => false,
+    }
+}
+
+/// Writes the text, and says how that went.
+fn tell<K: Sink>(sink: &mut K, status: Status, text: &[u8]) -> Status
+    requires { status ≢ Status.WriteFault }
+    ensures told { IfSome (K.written sink.old) (λ before. IsTold before (K.sure sink.old) text.now (K.written sink.new) status result) }
+    ensures cause { result ≡ Status.WriteFault → HasFailed (K.faults sink.old) (K.faults sink.new) }
+    ensures outcome { (result ≡ status) ⊎ (result ≡ Status.WriteFault) }
+{
+    match write_all(sink, text) {
+        Ok(()) => status,
+        Err(_) => Status::WriteFault,
     }
 }

@@ -1,0 +1,34 @@
+//! The program `gjcut`: the words after its name, standard input and standard output, handed to the top call.
+#![tactic(auto)]
+
+use gj_port::{StdSink, StdSource};
+use gj_top::run;
+use std::env;
+use std::io;
+use std::io::ErrorKind;
+use std::process::ExitCode;
+use std::rt::Env;
+
+/// How the program ends where the system has no memory for the list of words.
+const NO_MEMORY_FOR_WORDS: u8 = 6;
+
+/// How the program ends where the system refuses the list of words otherwise. No status of a run has this code.
+const NO_WORDS: u8 = 13;
+
+fn main(rt: HostRuntime) -> ExitCode {
+    ExitCode::from(match words(&rt) {
+        Ok(words) => {
+            let mut source = StdSource::new(rt.stdin());
+            let mut sink = StdSink::new(rt.stdout());
+            run(rt.alloc(), words.as_slice(), &mut source, &mut sink).code()
+        }
+        Err(error) if error.kind() == ErrorKind::OutOfMemory => NO_MEMORY_FOR_WORDS,
+        Err(_) => NO_WORDS,
+    })
+}
+
+/// The words after the program's name.
+fn words(rt: &(impl Env + AllocGlobal)) -> io::Result<Vec<String>> {
+    let words = env::args(rt)?.skip(1).collect(rt.alloc())?;
+    Ok(words)
+}
