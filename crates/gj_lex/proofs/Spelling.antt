@@ -1,7 +1,6 @@
 -- The laws of canonical texts.
-use Rattle.std.proofs.Common.{◌≡◌, ◌≢◌, ℕ, zero, suc, ◌+◌, ◌*◌, ◌^◌, ◌<◌, ◌≤◌, ◌⊎◌, ℤ, pos, negsuc, neg_ℤ, ◌<ℤ◌, ◌*ℤ◌, unsigned_abs, List, [], ◌∷◌, ◌++◌, length, get_or, take, drop, decimal, Option, None, Some, IsSome, IfSome, Bool, true, false, unwrap_or, cond, nat_lt, ◌==◌, refl, sym, ◌∙◌, ap, subst, arith, rules, inl, inr}
-use Rattle.std.specs.List.{All, position, position_or_len}
-use Rattle.std.specs.Char.{IsAsciiDigit}
+use Rattle.std.proofs.Common.{◌≡◌, ◌≢◌, ℕ, zero, suc, ◌^◌, ◌<◌, ◌≤◌, ℤ, pos, negsuc, neg_ℤ, ◌<ℤ◌, unsigned_abs, List, [], ◌∷◌, ◌++◌, length, get_or, take, drop, decimal, Option, None, Some, IsSome, IfSome, Bool, true, false, unwrap_or, cond, nat_lt, ◌==◌, refl, sym, ◌∙◌, ap, subst, arith}
+use Rattle.std.specs.List.{position, position_or_len}
 use Rattle.std.specs.Str.Parse.{AllDigits}
 use Rattle.std.specs.Fmt.{signed_decimal}
 use Rattle.std.proofs.Props.{props}
@@ -20,8 +19,8 @@ use Rattle.gj_frac.specs.declared.Frac.{Frac}
 use Rattle.gj_frac.specs.Fraction.{Is}
 use Rattle.gj_frac.specs.Lowest.{IsLowest}
 use Rattle.gj_frac.proofs.Divisors.{same_ratio}
-use Rattle.gj_lex.specs.NumberText.{denominator_text, ratio_text, fraction_text, IsNumberByte}
-use Rattle.gj_lex.proofs.Decimals.{same_from_decimal, decimal_some}
+use Rattle.gj_lex.specs.NumberText.{denominator_text, ratio_text, fraction_text}
+use Rattle.gj_lex.proofs.Decimals.{same_from_decimal}
 
 -- ---- the first byte
 

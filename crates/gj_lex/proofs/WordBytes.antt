@@ -1,5 +1,5 @@
 -- A canonical number is one word: it is not empty, and no byte of it parts words or ends a line.
-use Rattle.std.proofs.Common.{◌≡◌, ◌≢◌, ℕ, zero, suc, ◌+◌, ◌^◌, ◌<◌, ◌≤◌, ◌⊎◌, inl, inr, ⊎_elim, ℤ, pos, negsuc, unsigned_abs, List, [], ◌∷◌, ◌++◌, length, decimal, refl, sym, subst, arith, length-append}
+use Rattle.std.proofs.Common.{ℕ, zero, suc, ◌^◌, ◌<◌, inl, inr, ℤ, pos, negsuc, unsigned_abs, List, [], ◌∷◌, length, decimal, refl, sym, subst, arith, length-append}
 use Rattle.std.specs.List.{All}
 use Rattle.std.specs.Char.{IsAsciiDigit}
 use Rattle.std.specs.Str.Parse.{AllDigits}

@@ -1,4 +1,3 @@
-use Rattle.std.proofs.Common.{◌≡◌}
 use Rattle.gj_lex.proofs.Spelling.{canonical_only, same_pair, within_bits}
 use Rattle.gj_lex.proofs.canonical.read_canonical.Goals as goal
 

@@ -1,4 +1,4 @@
-use Rattle.std.proofs.Common.{◌≡◌, ℤ, ℕ, Some, ap, ◌∙◌, subst, arith, length, unwrap_or, unsigned_abs}
+use Rattle.std.proofs.Common.{◌≡◌, Some, ap, arith, unwrap_or, unsigned_abs}
 use Rattle.std.proofs.lemmas.Int.{ints}
 use Rattle.gj_lex.proofs.Spelling.{negative_read}
 use Rattle.gj_lex.proofs.canonical.read_numerator.Goals as goal

@@ -1,5 +1,4 @@
-use Rattle.std.proofs.Common.{◌≡◌, ap, ◌∙◌, subst, arith, length, take, drop, unwrap_or, pos}
-use Rattle.std.specs.List.{position_or_len}
+use Rattle.std.proofs.Common.{ap, ◌∙◌, take, drop, unwrap_or, pos}
 use Rattle.std.proofs.lemmas.List.Sums.{prefix_len-le-length}
 use Rattle.gj_lex.proofs.Spelling.{parts_of_text, within_bits}
 use Rattle.gj_lex.proofs.canonical.read_parts.Goals as goal

@@ -1,6 +1,5 @@
-use Rattle.std.proofs.Common.{◌≡◌, ◌<◌, ◌^◌, ap, get_or, length, decimal, arith, rules}
+use Rattle.std.proofs.Common.{◌≡◌, ap, get_or, length, decimal, arith}
 use Rattle.std.proofs.lemmas.Grind.{common_steps}
-use Rattle.gj_lex.proofs.Spelling.{same_frac}
 use Rattle.gj_lex.proofs.Decimals.{read_digits_found, read_digits_only, decimal_some, decimal_leading_zero}
 use Rattle.gj_lex.proofs.digits.read_digits.Goals as goal
 use Rattle.gj_lex.proofs.digits.read_digits.Goals.{then-is_empty-via-then-is_empty, then-is_empty-via-else-is_empty+then-has_leading_zero}

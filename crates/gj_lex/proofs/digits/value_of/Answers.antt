@@ -1,6 +1,5 @@
-use Rattle.std.proofs.Common.{◌≡◌, ◌*◌, ◌+◌, ◌^◌, ◌<◌, take, get_or, length, arith, rules, sym, ap, ◌∙◌}
+use Rattle.std.proofs.Common.{◌*◌, ◌+◌, get_or, arith, sym, ap, ◌∙◌}
 use Rattle.std.specs.Char.{digit_value}
-use Rattle.std.specs.Str.Parse.{AllDigits, digits_value}
 use Rattle.std.proofs.lemmas.Int.Digits.{digits_value_more, digits_more}
 use Rattle.gj_lex.proofs.Decimals.{no_number_from_there}
 use Rattle.gj_lex.proofs.digits.value_of.Goals as goal

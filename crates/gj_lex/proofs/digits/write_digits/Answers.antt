@@ -1,4 +1,4 @@
-use Rattle.std.proofs.Common.{◌≡◌, ◌<◌, ◌^◌, ◌∙◌, sym, length, decimal, arith}
+use Rattle.std.proofs.Common.{◌∙◌, sym, arith}
 use Rattle.gj_lex.proofs.Decimals.{decimal_some, decimal_at_most, length-decimal-step, digit_written, last_digit_written}
 use Rattle.gj_lex.proofs.digits.write_digits.Goals as goal
 

@@ -1,4 +1,4 @@
-use Rattle.std.proofs.Common.{◌≡◌, ap, sym, ◌∙◌, ◌++◌, ◌∷◌, decimal, append-nil, arith}
+use Rattle.std.proofs.Common.{ap, sym, ◌∙◌, ◌++◌, ◌∷◌, decimal, append-nil, arith}
 use Rattle.std.proofs.Math.Seq.{drop-length}
 use Rattle.gj_lex.proofs.Decimals.{written_before}
 use Rattle.gj_lex.proofs.Spelling.{denominator_small, denominator_more}
