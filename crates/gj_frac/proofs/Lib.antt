@@ -1,3 +1,4 @@
 pub mod Divisors
 pub mod Integers
 pub mod Reduced
+pub mod Sums

@@ -1,2 +1,3 @@
 pub mod Lowest
 pub mod Fraction
+pub mod Fits

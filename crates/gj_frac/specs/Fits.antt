@@ -1,0 +1,48 @@
+-- When a sum and a difference of two fractions fit 128 bits (own).
+use Rattle.std.specs.Prelude.{ℕ, ℤ, pos, ◌/◌, ◌*ℤ◌, ◌+ℤ◌, ◌-ℤ◌, unsigned_abs}
+use Rattle.std.specs.Int.{IsGcd}
+use Rattle.gj_frac.specs.declared.Frac.{Frac}
+use Rattle.gj_frac.specs.Fraction.{FitsPart, numerator, denominator}
+
+-- g is the greatest common divisor of the two denominators
+abbrev pub IsDenominatorGcd : Frac → Frac → ℕ → Type 0
+IsDenominatorGcd x y g = IsGcd (unsigned_abs (denominator x)) (unsigned_abs (denominator y)) g
+
+-- the numerator of x over the common denominator of x and y
+abbrev pub scaled_numerator : Frac → Frac → ℕ → ℤ
+scaled_numerator x y g = numerator x *ℤ pos (unsigned_abs (denominator y) / g)
+
+-- the common denominator of x and y
+abbrev pub common_denominator : Frac → Frac → ℕ → ℤ
+common_denominator x y g = pos (unsigned_abs (denominator x) / g) *ℤ denominator y
+
+-- x and y can be brought over their common denominator
+pub record FitsTogetherOver (x y : Frac) (g : ℕ) : Type 0 where
+  pub first : FitsPart (scaled_numerator x y g)
+  pub second : FitsPart (scaled_numerator y x g)
+  pub bottom : FitsPart (common_denominator x y g)
+
+abbrev pub FitsTogether : Frac → Frac → Type 0
+FitsTogether x y = (g : ℕ) → IsDenominatorGcd x y g → FitsTogetherOver x y g
+
+-- the two scaled numerators, their sum and the common denominator fit
+pub record FitsSumOver (x y : Frac) (g : ℕ) : Type 0 where
+  pub first : FitsPart (scaled_numerator x y g)
+  pub second : FitsPart (scaled_numerator y x g)
+  pub total : FitsPart (scaled_numerator x y g +ℤ scaled_numerator y x g)
+  pub bottom : FitsPart (common_denominator x y g)
+
+-- x + y can be computed
+abbrev pub FitsSum : Frac → Frac → Type 0
+FitsSum x y = (g : ℕ) → IsDenominatorGcd x y g → FitsSumOver x y g
+
+-- the two scaled numerators, their difference and the common denominator fit
+pub record FitsDifferenceOver (x y : Frac) (g : ℕ) : Type 0 where
+  pub first : FitsPart (scaled_numerator x y g)
+  pub second : FitsPart (scaled_numerator y x g)
+  pub difference : FitsPart (scaled_numerator x y g -ℤ scaled_numerator y x g)
+  pub bottom : FitsPart (common_denominator x y g)
+
+-- x - y can be computed
+abbrev pub FitsDifference : Frac → Frac → Type 0
+FitsDifference x y = (g : ℕ) → IsDenominatorGcd x y g → FitsDifferenceOver x y g
