@@ -1,8 +1,8 @@
 -- When a sum and a difference of two fractions fit 128 bits (own).
-use Rattle.std.specs.Prelude.{ℕ, ℤ, pos, ◌/◌, ◌*ℤ◌, ◌+ℤ◌, ◌-ℤ◌, unsigned_abs}
+use Rattle.std.specs.Prelude.{ℕ, ℤ, pos, ◌≢◌, ◌≤◌, ◌^◌, ◌/◌, ◌*ℤ◌, ◌+ℤ◌, ◌-ℤ◌, unsigned_abs}
 use Rattle.std.specs.Int.{IsGcd}
 use Rattle.gj_frac.specs.declared.Frac.{Frac}
-use Rattle.gj_frac.specs.Fraction.{FitsPart, numerator, denominator}
+use Rattle.gj_frac.specs.Fraction.{FitsPart, Is, numerator, denominator}
 
 -- g is the greatest common divisor of the two denominators
 abbrev pub IsDenominatorGcd : Frac → Frac → ℕ → Type 0
@@ -46,3 +46,10 @@ pub record FitsDifferenceOver (x y : Frac) (g : ℕ) : Type 0 where
 -- x - y can be computed
 abbrev pub FitsDifference : Frac → Frac → Type 0
 FitsDifference x y = (g : ℕ) → IsDenominatorGcd x y g → FitsDifferenceOver x y g
+
+-- two fractions over one denominator d of at most 2^125, with numerators over d of at most 2^125 in
+-- absolute value, can be added and subtracted
+abbrev pub FitsOverOneDenominator : Type 0
+FitsOverOneDenominator = (x y : Frac) (n m d : ℤ) → Is x n d → Is y m d → unsigned_abs d ≢ 0 →
+    unsigned_abs d ≤ 2 ^ 125 → unsigned_abs n ≤ 2 ^ 125 → unsigned_abs m ≤ 2 ^ 125 →
+    FitsSum x y × FitsDifference x y

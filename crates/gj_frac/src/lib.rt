@@ -8,6 +8,7 @@ ghost use Rattle.gj_frac.specs.Lowest.{IsLowest};
 mod operators;
 mod parts;
 
+pub use operators::fits_over_one_denominator;
 use parts::{common_divisor, quotient};
 
 /// A fraction in lowest terms with a positive denominator; zero is 0/1.

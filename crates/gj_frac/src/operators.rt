@@ -1,7 +1,7 @@
 //! The sum and the difference of two fractions.
 ghost use Rattle.std.specs.Prelude.{◌≡◌, ℕ};
 ghost use Rattle.gj_frac.specs.Fraction.{SameValue, fraction_of, sum_of, difference_of};
-ghost use Rattle.gj_frac.specs.Fits.{FitsTogether, FitsSum, FitsDifference, IsDenominatorGcd, scaled_numerator, common_denominator};
+ghost use Rattle.gj_frac.specs.Fits.{FitsTogether, FitsSum, FitsDifference, IsDenominatorGcd, scaled_numerator, common_denominator, FitsOverOneDenominator};
 
 use crate::Frac;
 use crate::parts::{coprime_quotients, difference, product, total};
@@ -62,3 +62,9 @@ impl Sub for Frac {
         Frac::reduced(difference(first, second), bottom)
     }
 }
+
+/// Two fractions over one denominator of at most 2^125, with numerators over it of at most 2^125 in
+/// absolute value, can be added and subtracted.
+pub fn fits_over_one_denominator()
+    ensures { FitsOverOneDenominator }
+{}
