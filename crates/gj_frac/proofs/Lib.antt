@@ -1,5 +1,8 @@
 pub mod Divisors
 pub mod Integers
 pub mod OneDenominator
+pub mod Ratios
 pub mod Reduced
+pub mod SameValues
+pub mod Signs
 pub mod Sums

@@ -1,19 +1,15 @@
 -- Two fractions over their common denominator, and what adding their numerators there gives.
-use Rattle.std.proofs.Common.{◌≡◌, ◌≢◌, ℕ, ◌*◌, ◌/◌, ◌<◌, ℤ, pos, ◌+ℤ◌, ◌-ℤ◌, ◌*ℤ◌, neg_ℤ, ◌<ℤ◌, unsigned_abs, refl, sym, ap, subst, ⊎_elim, ◌∙◌, arith}
+use Rattle.std.proofs.Common.{◌≡◌, ◌≢◌, ℕ, ◌*◌, ◌/◌, ℤ, pos, ◌+ℤ◌, ◌-ℤ◌, ◌*ℤ◌, neg_ℤ, ◌<ℤ◌, unsigned_abs, sym, ap, ⊎_elim, ◌∙◌, arith}
 use Rattle.std.proofs.Math.Nat.{mul-div_cancel, div-mul_cancel, zero-mul}
 use Rattle.std.proofs.lemmas.Int.{ints, unsigned_abs-mul}
 use Rattle.std.proofs.lemmas.Nat.Gcd.{same_from_IsGcd}
 use Rattle.std.specs.Int.{IsGcd, ◌∣◌}
 use Rattle.gj_frac.specs.declared.Frac.{Frac}
-use Rattle.gj_frac.specs.Fraction.{numerator, denominator, Fraction, Is, SameValue, fraction_of, sum_of, difference_of}
+use Rattle.gj_frac.specs.Fraction.{Is}
 use Rattle.gj_frac.specs.Fits.{IsDenominatorGcd, scaled_numerator, common_denominator}
-use Rattle.gj_frac.proofs.Integers.{mul_assoc_z, mul_comm_z, add_mul_z, neg_mul_z, mul_lt_cancel_right_z, mul_cancel_right_z, mul_zero_z, abs_zero_z, abs_positive_z, pos_abs_z}
+use Rattle.gj_frac.proofs.Integers.{mul_assoc_z, swap_last_z, mul_comm_z, add_mul_z, neg_mul_z, mul_lt_cancel_right_z, mul_cancel_right_z, mul_zero_z, abs_zero_z, abs_positive_z, pos_abs_z}
 
 -- ---- products in another order
-
--- the last two of three factors change places
-pub swap_last_z : (x y z : ℤ) → (x *ℤ y) *ℤ z ≡ (x *ℤ z) *ℤ y
-swap_last_z x y z = mul_assoc_z x y z ∙ ap (λ w. x *ℤ w) (mul_comm_z y z) ∙ sym (mul_assoc_z x z y)
 
 -- the first two of three factors change places
 pub swap_first_z : (x y z : ℤ) → x *ℤ (y *ℤ z) ≡ y *ℤ (x *ℤ z)

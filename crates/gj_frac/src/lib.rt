@@ -5,6 +5,7 @@ ghost use Rattle.std.specs.Prelude.{◌≡◌, ◌≢◌, ◌⊎◌, ◌↔◌, 
 ghost use Rattle.std.specs.Int.{IsGcd};
 ghost use Rattle.gj_frac.specs.Lowest.{IsLowest};
 
+mod comparison;
 mod operators;
 mod parts;
 

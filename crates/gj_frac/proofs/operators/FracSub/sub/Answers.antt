@@ -1,7 +1,5 @@
-use Rattle.std.proofs.Common.{rules, ◌≡◌, ℕ, ◌-ℤ◌, ◌*ℤ◌, unsigned_abs, to_z, of_z, ◌∙◌}
+use Rattle.std.proofs.Common.{rules, unsigned_abs, ◌∙◌}
 use Rattle.std.proofs.lemmas.Int.{to_z-of_z}
-use Rattle.gj_frac.specs.Fraction.{FitsPart}
-use Rattle.gj_frac.specs.Fits.{IsDenominatorGcd, scaled_numerator, common_denominator}
 use Rattle.gj_frac.proofs.Divisors.{gcd_exists}
 use Rattle.gj_frac.proofs.Sums.{common_some, difference_is}
 use Rattle.gj_frac.proofs.operators.FracSub.sub.Goals as goal
