@@ -1,4 +1,5 @@
 pub mod Divisors
 pub mod Integers
 pub mod Quotients
+pub mod Reduced
 pub mod Ring

@@ -1,15 +1,41 @@
--- The value of a fraction, and what a `Frac` is.
-use Rattle.std.specs.Prelude.{ℕ, ℤ, pos, ◌≡◌, ◌*ℤ◌, ◌+ℤ◌, ◌-ℤ◌, ◌<ℤ◌, ◌^◌, ◌<◌, unsigned_abs}
+-- The value of a fraction, and what a `Frac` is (own; the usual cross products over whole numbers without bound).
+use Rattle.std.specs.Prelude.{ℤ, ◌≡◌, ◌*ℤ◌, ◌+ℤ◌, ◌-ℤ◌, ◌<ℤ◌, ◌^◌, ◌<◌, unsigned_abs}
 use Rattle.gj_frac.specs.declared.Frac.{Frac}
 
--- the numerator in lowest terms
+-- a fraction of whole numbers without bound; its bottom is not 0
+pub record Fraction : Type 0 where
+  pub top : ℤ
+  pub bottom : ℤ
+
+-- two fractions have one value where their cross products are equal
+abbrev pub SameValue : Fraction → Fraction → Type 0
+SameValue x y = x.top *ℤ y.bottom ≡ y.top *ℤ x.bottom
+
+-- x is less than y, where both bottoms are above 0
+abbrev pub LessValue : Fraction → Fraction → Type 0
+LessValue x y = (x.top *ℤ y.bottom) <ℤ (y.top *ℤ x.bottom)
+
+abbrev pub sum_of : Fraction → Fraction → Fraction
+sum_of x y = record { top = x.top *ℤ y.bottom +ℤ y.top *ℤ x.bottom; bottom = x.bottom *ℤ y.bottom }
+
+abbrev pub difference_of : Fraction → Fraction → Fraction
+difference_of x y = record { top = x.top *ℤ y.bottom -ℤ y.top *ℤ x.bottom; bottom = x.bottom *ℤ y.bottom }
+
+-- the numerator of a `Frac`, in lowest terms
 abbrev pub numerator : Frac → ℤ
 numerator x = x.num
 
--- the denominator in lowest terms, a positive number
+-- the denominator of a `Frac`, in lowest terms: a number above 0
 abbrev pub denominator : Frac → ℤ
 denominator x = x.den
 
--- x is n/d, for a d other than 0
+abbrev pub fraction_of : Frac → Fraction
+fraction_of x = record { top = x.num; bottom = x.den }
+
+-- x is n/d
 abbrev pub Is : Frac → ℤ → ℤ → Type 0
-Is x n d = x.num *ℤ d ≡ n *ℤ x.den
+Is x n d = SameValue (fraction_of x) (record { top = n; bottom = d })
+
+-- a whole number that fits a part of a `Frac`: at most 2^127 - 1 in absolute value
+abbrev pub FitsPart : ℤ → Type 0
+FitsPart n = unsigned_abs n < 2 ^ 127

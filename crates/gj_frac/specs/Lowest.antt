@@ -1,5 +1,5 @@
 -- When two whole numbers are the parts of a fraction in lowest terms within the limit of 2^127 - 1.
-use Rattle.std.specs.Prelude.{ℕ, ℤ, pos, ◌<ℤ◌, ◌^◌, ◌<◌, unsigned_abs}
+use Rattle.std.specs.Prelude.{ℤ, pos, ◌<ℤ◌, ◌^◌, ◌<◌, unsigned_abs}
 use Rattle.std.specs.Int.{IsGcd}
 
 -- a numerator and a denominator in lowest terms: the denominator is positive, both are at most

@@ -2,11 +2,12 @@
 #![tactic(auto)]
 
 ghost use Rattle.std.specs.Prelude.{◌≡◌, ◌≢◌, ◌⊎◌, ◌↔◌, pos, ◌^◌, ◌<◌, unsigned_abs, IsNone, IfSome};
+ghost use Rattle.std.specs.Int.{IsGcd};
 ghost use Rattle.gj_frac.specs.Lowest.{IsLowest};
 
 mod parts;
 
-use parts::{greatest_common_divisor, quotient};
+use parts::{common_divisor, quotient};
 
 /// A fraction in lowest terms with a positive denominator; zero is 0/1.
 ///
@@ -31,7 +32,7 @@ impl Frac {
         if den == 0 || num == i128::MIN || den == i128::MIN {
             return None;
         }
-        Some(reduced(num, den))
+        Some(Frac::reduced(num, den))
     }
 
     /// The numerator in lowest terms.
@@ -47,21 +48,29 @@ impl Frac {
     {
         self.den
     }
-}
 
-/// The fraction `num/den` in lowest terms.
-fn reduced(num: i128, den: i128) -> Frac
-    requires zero { unsigned_abs den ≢ 0 }
-    requires num_fits { unsigned_abs num < 2 ^ 127 }
-    requires den_fits { unsigned_abs den < 2 ^ 127 }
-    ensures { Is result num den }
-{
-    let divisor = greatest_common_divisor(num.unsigned_abs(), den.unsigned_abs()) as i128;
-    let num = quotient(num, divisor);
-    let den = quotient(den, divisor);
-    if den > 0 {
-        Frac { num, den }
-    } else {
+    /// The fraction `num/den` in lowest terms.
+    fn reduced(num: i128, den: i128) -> Frac
+        requires zero { unsigned_abs den ≢ 0 }
+        requires num_fits { unsigned_abs num < 2 ^ 127 }
+        requires den_fits { unsigned_abs den < 2 ^ 127 }
+        ensures { Is result num den }
+    {
+        let divisor = common_divisor(num, den);
+        Frac::coprime(quotient(num, divisor), quotient(den, divisor))
+    }
+
+    /// The fraction `num/den`, where no number but 1 divides both.
+    fn coprime(num: i128, den: i128) -> Frac
+        requires zero { unsigned_abs den ≢ 0 }
+        requires num_fits { unsigned_abs num < 2 ^ 127 }
+        requires den_fits { unsigned_abs den < 2 ^ 127 }
+        requires coprime { IsGcd (unsigned_abs num) (unsigned_abs den) 1 }
+        ensures { Is result num den }
+    {
+        if den > 0 {
+            return Frac { num, den };
+        }
         Frac {
             num: -num,
             den: -den,

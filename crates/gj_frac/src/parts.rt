@@ -1,5 +1,5 @@
 //! Steps on the parts of a fraction, each with a contract of its own.
-ghost use Rattle.std.specs.Prelude.{◌≡◌, ◌*ℤ◌, ◌<ℤ◌, pos, unsigned_abs};
+ghost use Rattle.std.specs.Prelude.{◌≡◌, ◌≢◌, ◌<◌, ◌^◌, ◌*ℤ◌, ◌<ℤ◌, pos, unsigned_abs};
 ghost use Rattle.std.specs.Int.{IsGcd, ◌∣◌};
 
 /// The greatest common divisor of two whole numbers, by Euclid's algorithm.
@@ -16,7 +16,17 @@ pub(crate) fn greatest_common_divisor(a: u128, b: u128) -> u128
     x
 }
 
-/// A whole number divided by one of its divisors, with its sign turned where `turned` says so.
+/// The greatest common divisor of the absolute values of two whole numbers, the second not 0.
+pub(crate) fn common_divisor(n: i128, d: i128) -> i128
+    requires zero { unsigned_abs d ≢ 0 }
+    requires fits { unsigned_abs d < 2 ^ 127 }
+    ensures positive { pos 0 <ℤ result }
+    ensures greatest { IsGcd (unsigned_abs n) (unsigned_abs d) (unsigned_abs result) }
+{
+    greatest_common_divisor(n.unsigned_abs(), d.unsigned_abs()) as i128
+}
+
+/// A whole number divided by one of its divisors.
 pub(crate) fn quotient(n: i128, divisor: i128) -> i128
     requires positive { pos 0 <ℤ divisor }
     requires divides { unsigned_abs divisor ∣ unsigned_abs n }
