@@ -4,4 +4,3 @@ pub mod Table
 pub mod Violation
 pub mod Faces
 pub mod FirstViolation
-pub mod Kept
