@@ -2,3 +2,5 @@ pub mod Lists
 pub mod Values
 pub mod Everywhere
 pub mod Continuous
+pub mod Minimal
+pub mod Points
