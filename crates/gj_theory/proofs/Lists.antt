@@ -72,6 +72,16 @@ made_at g i n h = ap (map g) (range_at i n h) ∙ map-append g (range_with_len 0
 pub joined_at : {X : Type 0} (g : ℕ → List X) (i n : ℕ) → i < n → flat_map g (range_with_len 0 n) ≡ flat_map g (range_with_len 0 i) ++ (g i ++ flat_map g (range_with_len (i + 1) (n - suc i)))
 joined_at g i n h = ap (flat_map g) (range_at i n h) ∙ flat_map-append g (range_with_len 0 i) (i ∷ range_with_len (i + 1) (n - suc i))
 
+-- ---- where an element stands among joined lists
+
+-- more before it
+pub placed_after : {X : Type 0} (ys xs before after : List X) (t : X) → xs ≡ before ++ t ∷ after → ys ++ xs ≡ (ys ++ before) ++ t ∷ after
+placed_after ys xs before after t e = ap (λ l. ys ++ l) e ∙ sym (append_assoc ys before (t ∷ after))
+
+-- more after it
+pub placed_before : {X : Type 0} (ys xs before after : List X) (t : X) → xs ≡ before ++ t ∷ after → xs ++ ys ≡ before ++ t ∷ (after ++ ys)
+placed_before ys xs before after t e = ap (λ l. l ++ ys) e ∙ append_assoc before (t ∷ after) ys
+
 -- ---- from all elements back to each
 
 -- an element made at an index below n has what all have
