@@ -1,11 +1,10 @@
 -- On a continuous function the tests at grid points carry all others.
-use Rattle.std.proofs.Common.{◌≡◌, ℕ, ◌+◌, ◌-◌, ◌%◌, ◌<◌, ◌≤◌, ℤ, pos, ◌+ℤ◌, ◌-ℤ◌, ◌≤ℤ◌, List, [], ◌∷◌, ◌++◌, length, map, refl, ap, sym, subst, ◌∙◌, arith}
+use Rattle.std.proofs.Common.{◌≡◌, ℕ, ◌+◌, ◌-◌, ◌%◌, ◌<◌, ℤ, pos, ◌+ℤ◌, ◌-ℤ◌, ◌≤ℤ◌, List, [], ◌∷◌, ◌++◌, map, refl, ap, ◌∙◌, arith}
 use Rattle.std.specs.List.{range_with_len, flat_map, All}
 use Rattle.std.proofs.lemmas.List.Elements.{All-nil, All-cons, All-head}
 use Rattle.std.proofs.Math.Nat.{add-mod_right}
 use Rattle.gj_shape.specs.FunctionData.{FunctionData, IsWithinLimits, IsContinuous, at}
-use Rattle.gj_shape.specs.Faces.{limits_of, slack_from, corners_of}
-use Rattle.gj_shape.specs.FirstViolation.{Test, Passes, PassesAll, tests_of, tests_of_face, over_squares}
+use Rattle.gj_shape.specs.FirstViolation.{Test, Passes, PassesAll, tests_of_face, over_squares}
 use Rattle.gj_shape.specs.FirstViolation.Test.{zero_at_zero, nonnegative_at, nonnegative_after, nonnegative_before, symmetric_at, symmetric_between, subadditive_at}
 use Rattle.gj_shape.specs.declared.faces.FaceKind.{FaceKind}
 use Rattle.gj_shape.specs.declared.faces.FaceKind.TheVariants.{Vertex, Horizontal, Vertical, Diagonal, Lower, Upper}
@@ -13,23 +12,29 @@ use Rattle.gj_theory.specs.GridPoints.{PassesAtGridPoints}
 use Rattle.gj_theory.proofs.Lists.{All-front, All-back, All-made, All-joined, All_joined_seven, flat_map_pass, made_has, joined_has}
 use Rattle.gj_theory.proofs.Everywhere.{nonnegative_everywhere, symmetric_everywhere, subadditive_everywhere}
 
--- the open intervals have signs like the grid points
+-- an open interval has signs like the grid points
+pub sign_between : (f : FunctionData) → IsWithinLimits f → IsContinuous f →
+    ((i : ℕ) → i < f.order → Passes f (nonnegative_at i)) →
+    (i : ℕ) → Passes f (nonnegative_after i) × Passes f (nonnegative_before i)
+sign_between f l c h i =
+    let some : 0 < f.order = omega arith in
+    let all = nonnegative_everywhere f.value f.order l.value_length some h in
+    (simp (c.1) (all i), simp (c.0) (all (i + 1)))
+
 pub signs_between : (f : FunctionData) → IsWithinLimits f → IsContinuous f →
     ((i : ℕ) → i < f.order → Passes f (nonnegative_at i)) →
     All (Passes f) (flat_map (λ i. nonnegative_after i ∷ nonnegative_before i ∷ []) (range_with_len 0 f.order))
 signs_between f l c h =
-    let some : 0 < f.order = omega arith in
-    let all = nonnegative_everywhere f.value f.order l.value_length some h in
     All-joined (Passes f) (λ i. nonnegative_after i ∷ nonnegative_before i ∷ []) 0 f.order (λ i below.
-    All-cons (Passes f) (nonnegative_after i) (nonnegative_before i ∷ []) (simp (c.1) (all i))
-    (All-cons (Passes f) (nonnegative_before i) [] (simp (c.0) (all (i + 1))) (All-nil (Passes f))))
+    let both = sign_between f l c h i in
+    All-cons (Passes f) (nonnegative_after i) (nonnegative_before i ∷ []) both.0
+    (All-cons (Passes f) (nonnegative_before i) [] both.1 (All-nil (Passes f))))
 
--- and the open intervals are symmetric like the grid points
-pub symmetry_between : (f : FunctionData) → IsWithinLimits f → IsContinuous f →
+-- an open interval is symmetric like the grid points
+pub symmetric_inside : (f : FunctionData) → IsWithinLimits f → IsContinuous f →
     ((i : ℕ) → i < f.order → Passes f (symmetric_at i)) →
-    All (Passes f) (map symmetric_between (range_with_len 0 f.order))
-symmetry_between f l c h =
-    All-made (Passes f) symmetric_between 0 f.order (λ i below.
+    (i : ℕ) → i < f.order → Passes f (symmetric_between i)
+symmetric_inside f l c h i below =
     let some : 0 < f.order = omega arith in
     let all = symmetric_everywhere f.value f.order f.place f.scale l.value_length some h in
     let left : i + (f.place + (f.order - i)) ≡ f.place + f.order = omega arith in
@@ -37,7 +42,13 @@ symmetry_between f l c h =
     let around = add-mod_right f.place f.order in (
       simp (c.0, c.1) (all i (f.place + (f.order - i)) (ap (λ x. x % f.order) left ∙ around)),
       simp (c.0, c.1) (all (i + 1) (f.place + (f.order - (i + 1))) (ap (λ x. x % f.order) right ∙ around)),
-    ))
+    )
+
+pub symmetry_between : (f : FunctionData) → IsWithinLimits f → IsContinuous f →
+    ((i : ℕ) → i < f.order → Passes f (symmetric_at i)) →
+    All (Passes f) (map symmetric_between (range_with_len 0 f.order))
+symmetry_between f l c h =
+    All-made (Passes f) symmetric_between 0 f.order (λ i below. symmetric_inside f l c h i (omega arith))
 
 -- no slack of values is negative
 abbrev HasNoNegativeSlack : List ℤ → Type 0

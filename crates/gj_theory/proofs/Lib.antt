@@ -4,4 +4,4 @@ pub mod Everywhere
 pub mod Continuous
 pub mod Minimal
 pub mod Points
-pub mod First
+pub mod FirstFailed

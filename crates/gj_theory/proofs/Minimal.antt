@@ -1,5 +1,5 @@
 -- The tests at grid points say that the table on the function's own grid is minimal.
-use Rattle.std.proofs.Common.{◌≡◌, ℕ, ◌+◌, ◌-◌, ◌*◌, ◌%◌, ◌<◌, ◌≤◌, ℤ, pos, ◌+ℤ◌, ◌-ℤ◌, ◌≤ℤ◌, List, length, refl, ap, sym, subst, subst₂, ◌∙◌, arith}
+use Rattle.std.proofs.Common.{◌≡◌, ℕ, ◌+◌, ◌-◌, ◌%◌, ◌<◌, ℤ, refl, ap, sym, ◌∙◌, arith}
 use Rattle.std.proofs.Math.Nat.{mul-one, add-mod_right}
 use Rattle.std.proofs.lemmas.Int.{ints}
 use Rattle.gj_shape.specs.FunctionData.{FunctionData, IsWithinLimits, IsContinuous, at}

@@ -1,15 +1,15 @@
 -- The value at a grid point, and what a failed test at a grid point shows.
-use Rattle.std.proofs.Common.{◌≡◌, ◌≢◌, ℕ, zero, suc, ◌+◌, ◌-◌, ◌*◌, ◌/◌, ◌%◌, ◌<◌, ◌≤◌, ℤ, pos, negsuc, ◌+ℤ◌, ◌-ℤ◌, ◌*ℤ◌, ◌<ℤ◌, ◌≤ℤ◌, unsigned_abs, List, length, refl, ap, sym, subst, subst₂, ◌∙◌, arith}
-use Rattle.std.proofs.Math.Nat.{mul_assoc, mul_right_comm, mul_comm, mul-pos, add-mul, add-mod_right, add-mul-mod_self_right}
+use Rattle.std.proofs.Common.{◌≡◌, ◌≢◌, ℕ, zero, suc, ◌+◌, ◌-◌, ◌*◌, ◌%◌, ◌<◌, ℤ, pos, negsuc, ◌+ℤ◌, ◌*ℤ◌, ◌<ℤ◌, unsigned_abs, refl, ap, sym, ◌∙◌, arith}
+use Rattle.std.proofs.Math.Nat.{mul_assoc, mul_right_comm, mul_comm, mul-pos, add-mul, add-mod_right}
 use Rattle.std.proofs.lemmas.Int.{ints}
-use Rattle.gj_frac.proofs.Integers.{mul_add_z, mul_cancel_left_z, mul_lt_mul_left_z, pos-*ℤ-pos, mul_comm_z}
+use Rattle.gj_frac.proofs.Integers.{mul_add_z, mul_cancel_left_z, mul_lt_mul_left_z}
 use Rattle.gj_frac.specs.declared.Frac.{Frac}
-use Rattle.gj_frac.specs.Fraction.{Is, numerator, denominator}
-use Rattle.gj_shape.specs.FunctionData.{FunctionData, IsWithinLimits, at}
+use Rattle.gj_frac.specs.Fraction.{Is}
+use Rattle.gj_shape.specs.FunctionData.{FunctionData, at}
 use Rattle.gj_shape.specs.Table.{table}
-use Rattle.gj_shape.specs.Violation.{IsPoint, IsNegativeAt, IsAsymmetricAt, IsSuperadditiveAt, value_of, ShowsViolation}
+use Rattle.gj_shape.specs.Violation.{IsPoint, value_of, ShowsViolation}
 use Rattle.gj_shape.specs.declared.violations.Violation.TheVariants as violation
-use Rattle.gj_theory.proofs.Values.{table_at_multiple, table_one}
+use Rattle.gj_theory.proofs.Values.{table_at_multiple}
 
 -- the value at a grid point, whose fraction n/d may be in lower terms
 pub value_at_grid_point : (f : FunctionData) (i n d : ℕ) → 0 < d → n * f.order ≡ i * d → value_of f n d ≡ pos d *ℤ at f.value i
@@ -32,11 +32,14 @@ pub record IsGridPoint (x : Frac) (i q n d : ℕ) : Type 0 where
 -- a fraction equal to i/q is a point n/d
 pub point_of : (x : Frac) (i q : ℕ) → 0 < q → Is x (pos i) (pos q) → (n d : ℕ) × IsGridPoint x i q n d
 point_of x i q some h =
-    let parts = parts_of x.num x.den i q some x.lowest.positive h in
-    (unsigned_abs x.num, unsigned_abs x.den, record {
-      point = record { top = parts.0; bottom = parts.1; positive = parts.2 };
-      equal = parts.3;
-    })
+    let parts = parts_of x.num x.den i q some x.lowest.positive h in (
+      unsigned_abs x.num,
+      unsigned_abs x.den,
+      record {
+        point = record { top = parts.0; bottom = parts.1; positive = parts.2 };
+        equal = parts.3;
+      },
+    )
 
 -- n/d = i/q with both parts of n/d times e
 scaled_first : (n d i q e : ℕ) → n * q ≡ i * d → n * e * q ≡ i * (d * e)
@@ -81,12 +84,16 @@ shows_asymmetric f i x below is h =
     let scale : pos (f.scale * d) ≡ pos d *ℤ pos f.scale = ap pos (mul_comm f.scale d) in
     let whole : i + j ≡ f.place + f.order = omega arith in
     let index : n * f.order + j * d ≡ f.place * d + f.order * d =
-    ap (λ k. k + j * d) p.equal ∙ sym (add-mul i j d) ∙ ap (λ k. k * d) whole ∙ add-mul f.place f.order d in
-    (n, d, j * d, record {
-      point = p.point;
-      opposite = ap (λ k. k % (f.order * d)) index ∙ add-mod_right (f.place * d) (f.order * d);
-      differs = λ e. h (mul_cancel_left_z _ (pos f.scale) (pos d) (together ∙ sym (ap (λ z. z +ℤ pos d *ℤ at f.value j) value) ∙ sym (ap (λ z. value_of f n d +ℤ z) opposite) ∙ e ∙ scale) (omega arith));
-    })
+    ap (λ k. k + j * d) p.equal ∙ sym (add-mul i j d) ∙ ap (λ k. k * d) whole ∙ add-mul f.place f.order d in (
+      n,
+      d,
+      j * d,
+      record {
+        point = p.point;
+        opposite = ap (λ k. k % (f.order * d)) index ∙ add-mod_right (f.place * d) (f.order * d);
+        differs = λ e. h (mul_cancel_left_z _ (pos f.scale) (pos d) (together ∙ sym (ap (λ z. z +ℤ pos d *ℤ at f.value j) value) ∙ sym (ap (λ z. value_of f n d +ℤ z) opposite) ∙ e ∙ scale) (omega arith));
+      },
+    )
 
 -- what values at i/order and j/order that add up to less than that at their sum show
 pub shows_superadditive : (f : FunctionData) (i j : ℕ) (x y : Frac) → 0 < f.order → Is x (pos i) (pos f.order) →
@@ -100,9 +107,14 @@ shows_superadditive f i j x y some is_x is_y h =
     let second = value_at_grid_point f j (m * d) (d * e) some_product (scaled_second m e j f.order d r.equal) in
     let total = value_at_grid_point f (i + j) (n * e + m * d) (d * e) some_product (scaled_sum n d i m e j f.order p.equal r.equal) in
     let together = mul_add_z (pos (d * e)) (at f.value i) (at f.value j) in
-    let scaled = mul_lt_mul_left_z (at f.value i +ℤ at f.value j) (at f.value (i + j)) (pos (d * e)) (omega (arith, ints, some_product)) h in
-    (n, d, m, e, record {
-      first = p.point;
-      second = r.point;
-      below = rw (first, second, total, ← together) scaled;
-    })
+    let scaled = mul_lt_mul_left_z (at f.value i +ℤ at f.value j) (at f.value (i + j)) (pos (d * e)) (omega (arith, ints, some_product)) h in (
+      n,
+      d,
+      m,
+      e,
+      record {
+        first = p.point;
+        second = r.point;
+        below = rw (first, second, total, ← together) scaled;
+      },
+    )

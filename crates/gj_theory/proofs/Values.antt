@@ -1,9 +1,9 @@
 -- Values of a function at indices, and its table on its own grid.
-use Rattle.std.proofs.Common.{◌≡◌, ℕ, zero, suc, ◌+◌, ◌-◌, ◌*◌, ◌/◌, ◌%◌, ◌<◌, ◌≤◌, ℤ, pos, ◌+ℤ◌, ◌*ℤ◌, List, length, get_or, refl, ap, sym, ◌∙◌, arith}
-use Rattle.std.proofs.Math.Nat.{mod-eq_of_lt, add-mod_right, mod-lt, mod-mod, one-mul, mul-one, div-one, mod-one, mul-div_cancel, mul-mod_left}
+use Rattle.std.proofs.Common.{◌≡◌, ℕ, ◌+◌, ◌*◌, ◌%◌, ◌<◌, ℤ, pos, ◌*ℤ◌, List, length, get_or, refl, ap, sym, ◌∙◌, arith}
+use Rattle.std.proofs.Math.Nat.{mod-eq_of_lt, add-mod_right, mod-mod, mul-one, mul-div_cancel, mul-mod_left}
 use Rattle.std.proofs.lemmas.Int.{ints}
-use Rattle.gj_shape.specs.FunctionData.{FunctionData, at, IsContinuous}
-use Rattle.gj_shape.specs.Table.{table, entry}
+use Rattle.gj_shape.specs.FunctionData.{FunctionData, at}
+use Rattle.gj_shape.specs.Table.{table}
 
 -- an index below the length is read as it is
 pub at_within : (xs : List ℤ) (i : ℕ) → i < length xs → at xs i ≡ get_or xs i (pos 0)

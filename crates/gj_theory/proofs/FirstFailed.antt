@@ -1,5 +1,5 @@
 -- On a continuous function the first grid point that fails its test gives the first violation.
-use Rattle.std.proofs.Common.{◌≡◌, ◌≢◌, ℕ, zero, suc, ◌+◌, ◌-◌, ◌*◌, ◌<◌, ◌≤◌, ℤ, pos, ◌+ℤ◌, ◌-ℤ◌, ◌<ℤ◌, ◌≤ℤ◌, List, [], ◌∷◌, ◌++◌, length, map, sum, refl, ap, sym, subst, ◌∙◌, arith}
+use Rattle.std.proofs.Common.{◌≡◌, ◌≢◌, ℕ, suc, ◌+◌, ◌-◌, ◌<◌, pos, ◌+ℤ◌, ◌<ℤ◌, ◌≤ℤ◌, List, [], ◌∷◌, ◌++◌, map, refl, sym, subst, ◌∙◌, arith}
 use Rattle.std.specs.List.{range_with_len, flat_map, All}
 use Rattle.std.proofs.Math.Nat.{mul-one}
 use Rattle.std.proofs.lemmas.Int.{ints}
@@ -7,11 +7,11 @@ use Rattle.std.proofs.lemmas.List.Elements.{All-nil, All-cons, All-append}
 use Rattle.gj_frac.specs.declared.Frac.{Frac}
 use Rattle.gj_frac.specs.Fraction.{Is}
 use Rattle.gj_shape.specs.FunctionData.{FunctionData, IsWithinLimits, IsContinuous, at}
-use Rattle.gj_shape.specs.Table.{table}
-use Rattle.gj_shape.specs.FirstViolation.{Test, Passes, tests_of, tests_of_face, over_squares, near, IsOnGrid, IsLeastFrom, IsSuperadditiveOnGrid, ShowsNearCorner, Shows, IsFirstViolation}
+use Rattle.gj_shape.specs.FirstViolation.{Test, Passes, tests_of_face, near, IsOnGrid, IsSuperadditiveOnGrid, ShowsNearCorner, IsFirstViolation}
 use Rattle.gj_shape.specs.FirstViolation.Test.{zero_at_zero, nonnegative_at, symmetric_at, subadditive_at}
 use Rattle.gj_shape.specs.declared.faces.FaceKind.TheVariants.{Vertex}
 use Rattle.gj_shape.specs.declared.violations.Violation.TheVariants as violation
+use Rattle.gj_theory.specs.GridPoints.{IsSubadditiveBefore}
 use Rattle.gj_theory.proofs.Lists.{All-made, All-joined, made_at, joined_at, placed_after, placed_before}
 use Rattle.gj_theory.proofs.Values.{table_one}
 use Rattle.gj_theory.proofs.Continuous.{sign_tests, sign_tests_between, symmetry_tests, symmetry_tests_between, vertex_tests, other_tests, signs_between, symmetry_between}
@@ -125,11 +125,6 @@ shows_at_vertex f a b x y is_x is_y h =
       second = subst (λ i. IsOnGrid f 1 i y) (sym second) (on_own_grid f b y is_y);
       shown = refl;
     }
-
--- the pairs before (a, b) in walk order: those of an earlier row, and those before b in row a
-pub record IsSubadditiveBefore (f : FunctionData) (a b : ℕ) : Type 0 where
-  pub rows : (i j : ℕ) → i < a → j < f.order → Passes f (subadditive_at Vertex i j 0)
-  pub row : (j : ℕ) → j < b → Passes f (subadditive_at Vertex a j 0)
 
 -- the tests at the vertices before (a, b)
 vertex_tests_before : FunctionData → ℕ → ℕ → List Test
