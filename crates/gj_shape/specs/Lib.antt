@@ -1,6 +1,8 @@
 pub mod FunctionData
 pub mod Given
+pub mod Denominators
 pub mod Table
 pub mod Violation
 pub mod Faces
 pub mod FirstViolation
+pub mod Kept
