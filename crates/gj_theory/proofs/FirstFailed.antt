@@ -3,16 +3,17 @@ use Rattle.std.proofs.Common.{◌≡◌, ◌≢◌, ℕ, suc, ◌+◌, ◌-◌, 
 use Rattle.std.specs.List.{range_with_len, flat_map, All}
 use Rattle.std.proofs.Math.Nat.{mul-one}
 use Rattle.std.proofs.lemmas.Int.{ints}
-use Rattle.std.proofs.lemmas.List.Elements.{All-nil, All-cons, All-append}
+use Rattle.std.proofs.lemmas.List.Elements.{All-nil, All-cons, All-append, All-head}
 use Rattle.gj_frac.specs.declared.Frac.{Frac}
 use Rattle.gj_frac.specs.Fraction.{Is}
 use Rattle.gj_shape.specs.FunctionData.{FunctionData, IsWithinLimits, IsContinuous, at}
-use Rattle.gj_shape.specs.FirstViolation.{Test, Passes, tests_of_face, near, IsOnGrid, IsSuperadditiveOnGrid, ShowsNearCorner, IsFirstViolation}
+use Rattle.gj_shape.specs.FirstViolation.{Test, Passes, PassesAll, tests_of_face, near, IsOnGrid, IsSuperadditiveOnGrid, ShowsNearCorner, IsFirstViolation}
 use Rattle.gj_shape.specs.FirstViolation.Test.{zero_at_zero, nonnegative_at, symmetric_at, subadditive_at}
 use Rattle.gj_shape.specs.declared.faces.FaceKind.TheVariants.{Vertex}
+use Rattle.gj_shape.specs.declared.violations.Violation.{Violation}
 use Rattle.gj_shape.specs.declared.violations.Violation.TheVariants as violation
 use Rattle.gj_theory.specs.GridPoints.{IsSubadditiveBefore}
-use Rattle.gj_theory.proofs.Lists.{All-made, All-joined, made_at, joined_at, placed_after, placed_before}
+use Rattle.gj_theory.proofs.Lists.{All-back, All-made, All-joined, made_at, joined_at, placed_after, placed_before}
 use Rattle.gj_theory.proofs.Values.{table_one}
 use Rattle.gj_theory.proofs.Continuous.{sign_tests, sign_tests_between, symmetry_tests, symmetry_tests_between, vertex_tests, other_tests, signs_between, symmetry_between}
 
@@ -188,3 +189,9 @@ first_superadditive f a b x y l c a_below b_below is_x is_y at_zero signs symmet
       fails = λ h. omega (arith, ints);
       shows = shows_at_vertex f a b x y is_x is_y fails;
     }
+
+-- where there is a first violation not all tests pass
+pub first_violation_fails : (f : FunctionData) (v : Violation) → IsFirstViolation f v → PassesAll f → ⊥
+first_violation_fails f v h all =
+    let split = subst (All (Passes f)) h.place all in
+    h.fails (All-head (Passes f) h.test h.after (All-back (Passes f) h.before (h.test ∷ h.after) split))

@@ -3,8 +3,9 @@ ghost use Rattle.std.specs.Prelude.{ℕ, pos, ◌≡◌, ◌≢◌, ◌+◌, ◌
 ghost use Rattle.gj_frac.specs.declared.Frac.{Frac};
 ghost use Rattle.gj_frac.specs.Fraction.{Is};
 ghost use Rattle.gj_shape.specs.FunctionData.{FunctionData, IsWithinLimits, IsContinuous, at};
-ghost use Rattle.gj_shape.specs.FirstViolation.{Passes, IsFirstViolation};
+ghost use Rattle.gj_shape.specs.FirstViolation.{Passes, PassesAll, IsFirstViolation};
 ghost use Rattle.gj_shape.specs.FirstViolation.Test.{nonnegative_at, symmetric_at};
+ghost use Rattle.gj_shape.specs.declared.violations.Violation.{Violation};
 ghost use Rattle.gj_shape.specs.declared.violations.Violation.TheVariants as violation;
 ghost use Rattle.gj_theory.specs.GridPoints.{IsSubadditiveBefore};
 
@@ -43,4 +44,9 @@ pub fn first_is_superadditive()
         → ((j : ℕ) → j < f.order → Passes f (symmetric_at j)) → IsSubadditiveBefore f a b
         → (at f.value a +ℤ at f.value b) <ℤ at f.value (a + b)
         → IsFirstViolation f (violation.Superadditive x y) }
+{}
+
+/// A function with a first violation does not pass all tests.
+pub fn first_violation_denies_tests()
+    ensures { (f : FunctionData) (v : Violation) → IsFirstViolation f v → PassesAll f → ⊥ }
 {}
