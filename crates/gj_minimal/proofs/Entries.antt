@@ -4,6 +4,7 @@ use Rattle.std.proofs.lemmas.Int.{ints, to_z-of_z}
 use Rattle.gj_shape.specs.FunctionData.{at}
 use Rattle.gj_theory.proofs.Values.{at_within}
 use lib.Signed.{lt_z}
+use mir.Syntax.{w128}
 
 -- an entry that is read
 pub read_is : (xs : List ℤ) (i : ℕ) → i < length xs → FitsSigned w64 (get_or xs i (pos 0)) →
@@ -66,3 +67,7 @@ apart_read x y s h k apart e =
 pub at_is : (xs : List ℤ) (i j : ℕ) → i ≡ j % length xs → at xs j ≡ get_or xs i (pos 0)
 unfolding at
 at_is xs i j e = ap (λ k. get_or xs k (pos 0)) (sym e)
+
+-- a number that was cast from 128 bits
+pub cast_read : (z : ℤ) (n : ℕ) → z ≡ pos n → n < 2 ^ 31 → to_z w64 (of_z w64 (to_z w128 (of_z w128 z))) ≡ pos n
+cast_read z n e small = omega (arith, ints)

@@ -2,4 +2,7 @@
 #![tactic(auto)]
 
 mod points;
+mod violation_search;
 mod walks;
+
+pub use violation_search::find_violation;
