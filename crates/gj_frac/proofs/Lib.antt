@@ -1,1 +1,3 @@
+pub mod Divisors
+pub mod Integers
 pub mod Reduced
