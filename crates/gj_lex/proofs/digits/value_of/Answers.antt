@@ -1,0 +1,21 @@
+use Rattle.std.proofs.Common.{◌≡◌, ◌*◌, ◌+◌, ◌^◌, ◌<◌, take, get_or, length, arith, rules, sym, ap, ◌∙◌}
+use Rattle.std.specs.Char.{digit_value}
+use Rattle.std.specs.Str.Parse.{AllDigits, digits_value}
+use Rattle.std.proofs.lemmas.Int.Digits.{digits_value_more, digits_more}
+use Rattle.gj_lex.proofs.Decimals.{no_number_from_there}
+use Rattle.gj_lex.proofs.digits.value_of.Goals as goal
+
+pub returns-in_err-value : goal.returns-in_err-value
+returns-in_err-value c =
+    rw c.from_residual.ensures
+    (no_number_from_there _ _ _ _ c.loop-byte-test.true c.loop-byte.invariant.value c.in_err-value.ensures)
+
+pub loop-byte-preserved : goal.loop-byte-preserved
+loop-byte-preserved c =
+    let e = c.in_ok-value.ensures in
+    let step = digits_value_more 10 c.args.word.now c.loop-byte.byte-index c.loop-byte-test.true in
+    record {
+      digits = digits_more 10 _ _ c.loop-byte-test.true c.loop-byte.invariant.digits e.0.0;
+      value = e.1 ∙ ap (λ v. v * 10 + digit_value (get_or c.args.word.now c.loop-byte.byte-index 0)) c.loop-byte.invariant.value ∙ sym step;
+      small = omega (arith, e.0.1, e.1);
+    }

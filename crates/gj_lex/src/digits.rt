@@ -1,0 +1,78 @@
+//! Whole numbers in digits, without a leading zero.
+
+ghost use Rattle.std.specs.Prelude.{◌≡◌, ◌+◌, ◌*◌, ◌^◌, ◌<◌, ◌≤◌, ℕ, ◌++◌, length, drop, slice_index, decimal, IfSome, IsTrue, ◌↔◌};
+ghost use Rattle.std.specs.Option.{SomeIff};
+ghost use Rattle.std.specs.Char.{digit_value};
+ghost use Rattle.std.specs.Str.Parse.{AllDigits, digits_value};
+
+/// The greatest number that is read: 2^127 - 1.
+const LIMIT: u128 = 0x7fff_ffff_ffff_ffff_ffff_ffff_ffff_ffff;
+
+/// The number that the word spells in digits, without a leading zero.
+///
+/// None where the word is no such number, or one above 2^127 - 1.
+pub(crate) fn read_digits(word: &[u8]) -> Option<u128>
+    ensures found { IfSome result (λ n. (n < 2 ^ 127) × (word.now ≡ decimal n)) }
+    ensures only { (n : ℕ) → n < 2 ^ 127 → word.now ≡ decimal n → result ≡ Some n }
+{
+    if word.is_empty() || has_leading_zero(word) {
+        return None;
+    }
+    value_of(word)
+}
+
+/// Whether the word begins with a zero and goes on.
+fn has_leading_zero(word: &[u8]) -> bool
+    ensures { IsTrue result ↔ ((1 < length word.now) × (slice_index word.now 0 ≡ 48)) }
+{
+    word.len() > 1 && word[0] == b'0'
+}
+
+/// The number that the bytes spell, where each is a digit and the number is at most `LIMIT`.
+fn value_of(word: &[u8]) -> Option<u128>
+    ensures { let value = digits_value 10 word.now in
+        SomeIff result (AllDigits 10 word.now × (value < 2 ^ 127)) value }
+{
+    let mut value = 0;
+    for byte in word {
+        value = with_digit(value, *byte)?;
+    }
+    Some(value)
+}
+
+/// The number with one more digit at its end, where the byte is a digit and the number is at most
+/// `LIMIT`.
+fn with_digit(front: u128, byte: u8) -> Option<u128>
+    requires { front < 2 ^ 127 }
+    ensures { let value = front * 10 + digit_value byte in
+        SomeIff result ((digit_value byte < 10) × (value < 2 ^ 127)) value }
+{
+    if !byte.is_ascii_digit() || front > LIMIT / 10 {
+        return None;
+    }
+    let value = front * 10 + u128::from(byte - b'0');
+    if value > LIMIT {
+        return None;
+    }
+    Some(value)
+}
+
+/// Writes the digits of `n` into the text so that they end before `end`, and says where they begin.
+pub(crate) fn write_digits(text: &mut [u8], end: usize, n: u128) -> usize
+    requires within { end ≤ length text.old }
+    requires room { 39 ≤ end }
+    ensures written { drop result text.new ≡ decimal n ++ drop end text.old }
+    ensures begins { result < end }
+    ensures room { end ≤ result + 39 }
+{
+    let mut start = end;
+    let mut rest = n;
+    loop {
+        start -= 1;
+        text[start] = b'0' + (rest % 10) as u8;
+        rest /= 10;
+        if rest == 0 {
+            return start;
+        }
+    }
+}

@@ -1,0 +1,67 @@
+//! Numbers printed in their one spelling.
+
+ghost use Rattle.std.specs.Prelude.{◌≡◌, ◌+◌, ◌^◌, ◌<◌, ◌≤◌, ◌++◌, length, drop, decimal, unsigned_abs, pos, ◌<ℤ◌, OnOk, OnErr};
+ghost use Rattle.std.specs.Fmt.{signed_decimal};
+ghost use Rattle.gj_lex.specs.NumberText.{fraction_text, denominator_text};
+
+use crate::digits::write_digits;
+use gj_frac::Frac;
+use std::alloc::AllocError;
+
+/// The length of the longest text: a sign, a `/`, and twice the 39 digits of a number of 128 bits.
+const SPACE: usize = 80;
+
+/// Appends a count in canonical form: its digits, without a leading zero.
+///
+/// An error says that memory ran out; `out` is then as it was.
+pub fn print_count(out: &mut Vec<u8>, n: u32) -> Result<(), AllocError>
+    ensures ok { OnOk result (out.new.items ≡ out.old.items ++ decimal n) }
+    ensures err { OnErr result (out.new.items ≡ out.old.items) }
+{
+    let mut text = [0; SPACE];
+    let start = write_digits(&mut text, SPACE, u128::from(n));
+    out.extend_from_slice(&text[start..])
+}
+
+/// Appends a fraction in canonical form, as `-1/2` or `3`.
+///
+/// An error says that memory ran out; `out` is then as it was.
+pub fn print_frac(out: &mut Vec<u8>, x: Frac) -> Result<(), AllocError>
+    ensures ok { OnOk result (out.new.items ≡ out.old.items ++ fraction_text x) }
+    ensures err { OnErr result (out.new.items ≡ out.old.items) }
+{
+    let mut text = [0; SPACE];
+    let end = write_denominator(&mut text, x.den().unsigned_abs());
+    let start = write_signed(&mut text, end, x.num());
+    out.extend_from_slice(&text[start..])
+}
+
+/// Writes a denominator to the end of the text, and says where it begins.
+fn write_denominator(text: &mut [u8], den: u128) -> usize
+    requires { length text.old ≡ SPACE }
+    ensures written { drop result text.new ≡ denominator_text den }
+    ensures room { 40 ≤ result }
+    ensures within { result ≤ SPACE }
+{
+    if den < 2 {
+        return text.len();
+    }
+    let start = write_digits(text, text.len(), den) - 1;
+    text[start] = b'/';
+    start
+}
+
+/// Writes a whole number into the text so that it ends before `end`, and says where it begins.
+fn write_signed(text: &mut [u8], end: usize, n: i128) -> usize
+    requires room { 40 ≤ end }
+    requires within { end ≤ length text.old }
+    ensures written { drop result text.new ≡ signed_decimal n ++ drop end text.old }
+    ensures begins { result ≤ end }
+{
+    let start = write_digits(text, end, n.unsigned_abs());
+    if n >= 0 {
+        return start;
+    }
+    text[start - 1] = b'-';
+    start - 1
+}

@@ -1,0 +1,83 @@
+//! Outside examples of canonical numbers, and one call of each function that allocates.
+
+use crate::{print_count, print_frac, read_canonical, read_count};
+use std::test::Fail;
+
+#[test]
+fn reads_and_prints_fractions(rt: HostRuntime) -> Result<(), Fail> {
+    let largest = i128::MAX;
+    let words: [(&[u8], i128, i128); 9] = [
+        (b"0", 0, 1),
+        (b"7", 7, 1),
+        (b"-7", -7, 1),
+        (b"1/2", 1, 2),
+        (b"-3/40", -3, 40),
+        (b"10/3", 10, 3),
+        (b"170141183460469231731687303715884105727", largest, 1),
+        (b"-170141183460469231731687303715884105727", -largest, 1),
+        (b"1/170141183460469231731687303715884105727", 1, largest),
+    ];
+    for (word, num, den) in words {
+        let x = read_canonical(word).ok_or("a canonical word")?;
+        assert_eq!(rt; x.num(), num);
+        assert_eq!(rt; x.den(), den);
+
+        let mut out = Vec::new(rt.alloc());
+        print_frac(&mut out, x)?;
+        assert_eq!(rt; out.as_slice(), word);
+    }
+    Ok(())
+}
+
+#[test]
+fn refuses_other_spellings(rt: HostRuntime) {
+    let words: [&[u8]; 22] = [
+        b"",
+        b"-",
+        b"/",
+        b"1/",
+        b"/2",
+        b"1/2/3",
+        b"00012",
+        b"1/02",
+        b"+3",
+        b"-0",
+        b"--1",
+        b".5",
+        b"1/0",
+        b"1/1",
+        b"2/4",
+        b"0/2",
+        b"3/-1",
+        b" 1",
+        b"1\n",
+        b"170141183460469231731687303715884105728",
+        b"340282366920938463463374607431768211457",
+        b"1/340282366920938463463374607431768211458",
+    ];
+    for word in words {
+        assert!(rt; read_canonical(word).is_none());
+    }
+}
+
+#[test]
+fn reads_and_prints_counts(rt: HostRuntime) -> Result<(), Fail> {
+    let words: [(&[u8], Option<u32>); 8] = [
+        (b"0", Some(0)),
+        (b"12", Some(12)),
+        (b"4294967295", Some(4_294_967_295)),
+        (b"4294967296", None),
+        (b"007", None),
+        (b"-1", None),
+        (b"1x", None),
+        (b"", None),
+    ];
+    for (word, count) in words {
+        assert_eq!(rt; read_count(word), count);
+    }
+
+    let mut out = Vec::from_slice(rt.alloc(), b"x ")?;
+    print_count(&mut out, 4_294_967_295)?;
+    assert_eq!(rt; out.as_slice(), b"x 4294967295".as_slice());
+    Ok(())
+}
