@@ -1,5 +1,6 @@
 pub mod FunctionData
 pub mod Given
+pub mod Denominators
 pub mod Table
 pub mod Violation
 pub mod Faces

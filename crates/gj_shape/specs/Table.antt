@@ -1,5 +1,5 @@
 -- Tables of a function on grids, and when they are minimal (Gomory and Johnson 1972; Light on the Infinite Group Relaxation I).
-use Rattle.std.specs.Prelude.{ℕ, ℤ, zero, suc, pos, ◌≡◌, ◌≢◌, ◌+◌, ◌-◌, ◌*◌, ◌/◌, ◌%◌, ◌<◌, ◌+ℤ◌, ◌*ℤ◌, ◌≤ℤ◌}
+use Rattle.std.specs.Prelude.{ℕ, ℤ, zero, suc, pos, ◌≡◌, ◌+◌, ◌-◌, ◌*◌, ◌/◌, ◌%◌, ◌<◌, ◌+ℤ◌, ◌*ℤ◌, ◌≤ℤ◌}
 use Rattle.gj_shape.specs.FunctionData.{FunctionData, at}
 
 -- m times the numerator at a/order + r/(order m): the value where r is 0, else between the limit from the

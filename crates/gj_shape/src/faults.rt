@@ -1,19 +1,45 @@
 //! Why three lists of fractions give no function.
-use std::alloc::AllocError;
+ghost use Rattle.std.specs.Prelude.{◌≡◌, alloc_error};
+ghost use Rattle.gj_shape.specs.declared.faults.ShapeFault.TheVariants.{Memory};
+
+use std::alloc::{AllocError, AllocFailed};
+use thiserror::Error;
 
 /// Why `Shape::new` gives no function: the first test that fails, or want of memory.
-#[derive(Clone, Copy, Debug, PartialEq, Eq)]
+#[derive(Clone, Copy, Debug, PartialEq, Eq, Error)]
 pub enum ShapeFault {
     /// The order is not from 2 to 1,000.
+    #[error("the order is not from 2 to 1000")]
     Order,
     /// The place is not from 1 to the order less 1.
+    #[error("the place is not from 1 to the order less 1")]
     Place,
     /// A list has another length than the order.
+    #[error("a list has another length than the order")]
     Count,
     /// A fraction at this index is greater than 2^20 in absolute value.
+    #[error("a fraction at {0} is greater than 2^20 in absolute value")]
     TooLarge(u32),
     /// With a fraction at this index the fractions so far have no common denominator up to 2^31 - 1.
+    #[error("with a fraction at {0} there is no common denominator up to 2^31 - 1")]
     TooFine(u32),
     /// There was no memory.
+    #[error("out of memory")]
     Memory(AllocError),
+}
+
+impl From<AllocError> for ShapeFault {
+    ghost from_gives = { λ e f. f ≡ Memory e };
+
+    fn from(error: AllocError) -> ShapeFault {
+        ShapeFault::Memory(error)
+    }
+}
+
+impl<T: Drop> From<AllocFailed<T>> for ShapeFault {
+    ghost from_gives = { λ _ f. f ≡ Memory alloc_error };
+
+    fn from(_error: AllocFailed<T>) -> ShapeFault {
+        ShapeFault::Memory(AllocError)
+    }
 }

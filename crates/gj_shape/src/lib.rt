@@ -5,6 +5,7 @@ mod denominators;
 mod faces;
 mod faults;
 mod list;
+mod numerators;
 mod shape;
 mod violations;
 

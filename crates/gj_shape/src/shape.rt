@@ -1,13 +1,15 @@
 //! Functions of period 1 that are affine between neighbouring multiples of 1/q.
-ghost use Rattle.std.specs.Prelude.{◌≡◌, ◌<◌, ℕ, pos, IfOk, IfErr, IfSome, IfNone, IsTrue, ◌↔◌, ⊥};
+ghost use Rattle.std.specs.Prelude.{◌≡◌, ◌<◌, ℕ, pos, IfOk, IfErr, IfSome, IfNone, IsTrue, ◌↔◌};
 ghost use Rattle.gj_frac.specs.Fraction.{Is};
 ghost use Rattle.gj_shape.specs.FunctionData.{IsWithinLimits, IsContinuous, IsJump, at};
+ghost use Rattle.gj_shape.specs.Given.{IsOrder, IsPlace};
 
+use crate::denominators::common_denominator;
+use crate::faults::ShapeFault;
+use crate::numerators::{numerators, over};
 use gj_frac::Frac;
 use std::alloc::Global;
 use std::marker::Model;
-
-use crate::faults::ShapeFault;
 
 /// A function of period 1 that is affine between neighbouring multiples of 1/q, with its limits from the left
 /// and from the right at each of them, and the place k of f = k/q.
@@ -56,7 +58,25 @@ impl Shape {
         ensures given { IfOk result (IsGivenBy q k left.now value.now right.now) }
         ensures fault { IfErr result (HasFault q k left.now value.now right.now) }
     {
-        todo
+        if !is_order(q) {
+            return Err(ShapeFault::Order);
+        }
+        if !is_place(q, k) {
+            return Err(ShapeFault::Place);
+        }
+        let length = q as usize;
+        if left.len() != length || value.len() != length || right.len() != length {
+            return Err(ShapeFault::Count);
+        }
+        let scale = common_denominator(left, value, right)?;
+        Ok(Shape {
+            order: q,
+            place: k,
+            scale,
+            left: numerators(alloc, left, scale)?,
+            value: numerators(alloc, value, scale)?,
+            right: numerators(alloc, right, scale)?,
+        })
     }
 
     /// The order q, from 2 to 1,000.
@@ -138,7 +158,13 @@ impl Shape {
         ensures first { IfSome result (λ i. (j : ℕ) → j < i → IsJump self.now j → ⊥) }
         ensures none { IfNone result (IsContinuous self.now) }
     {
-        todo
+        for i in 0..self.order {
+            let at = i as usize;
+            if self.left[at] != self.value[at] || self.value[at] != self.right[at] {
+                return Some(i);
+            }
+        }
+        None
     }
 
     /// Whether the limits are the value at each multiple of 1/q.
@@ -147,4 +173,18 @@ impl Shape {
     {
         self.left == self.value && self.right == self.value
     }
+}
+
+/// Whether the order is from 2 to 1,000.
+fn is_order(q: u32) -> bool
+    ensures { IsTrue result ↔ IsOrder q }
+{
+    (2..=1000).contains(&q)
+}
+
+/// Whether the place is from 1 to the order less 1.
+fn is_place(q: u32, k: u32) -> bool
+    ensures { IsTrue result ↔ IsPlace q k }
+{
+    (1..q).contains(&k)
 }

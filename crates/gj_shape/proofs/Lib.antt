@@ -1,0 +1,5 @@
+pub mod AtLemmas
+pub mod GivenLemmas
+pub mod InOrder
+pub mod LeastDenominator
+pub mod NumeratorBounds

@@ -1,0 +1,27 @@
+use Rattle.std.proofs.Common.{refl, sym, subst, arith}
+use Rattle.std.proofs.lemmas.Nat.Gcd.{le_of_dvd}
+use Rattle.std.specs.Int.{◌∣◌}
+use Rattle.gj_shape.specs.Denominators.{IsLcm}
+use Rattle.gj_shape.proofs.denominators.widened.Goals as goal
+
+pub returns-in_default-clause-fault : goal.returns-in_default-clause-fault
+returns-in_default-clause-fault c =
+    (refl, c.if-not-is_small.ensures.0 refl, λ m low high a b. let less = le_of_dvd low b in c.in_default.ensures (omega arith))
+
+pub returns-then-multiple-clause-fault : goal.returns-then-multiple-clause-fault
+returns-then-multiple-clause-fault c = (
+  refl,
+  c.if-not-is_small.ensures.0 refl,
+  λ m low high a b.
+      let lcm = c.least_common_multiple-multiple.ensures in
+      let den : c.in-Some.den ∣ m = subst (λ n. n ∣ m) (sym c.in-Some.ensures.1) b in
+      let less = le_of_dvd low (lcm.2 m a den) in
+      omega (arith, c.if-multiple.true),
+)
+
+pub returns-clause-least : goal.returns-clause-least
+returns-clause-least c = record {
+  small = c.if-not-is_small.ensures.0 refl;
+  least = subst (λ n. IsLcm c.args.scale n c.least_common_multiple-multiple.result) c.in-Some.ensures.1 c.least_common_multiple-multiple.ensures;
+  high = omega (arith, c.if-multiple.false);
+}
