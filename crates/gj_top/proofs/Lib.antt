@@ -1,0 +1,5 @@
+pub mod LineLemmas
+pub mod Places
+pub mod PointLines
+pub mod FormLines
+pub mod ViolationLines
