@@ -1,4 +1,5 @@
 pub mod AtLemmas
+pub mod ContinuousGiven
 pub mod GivenLemmas
 pub mod InOrder
 pub mod LeastDenominator
