@@ -82,10 +82,12 @@ end_at input after s r d o w e =
     let read : IsReadInPart input after = (length input, omega arith, e ∙ ap Some (sym (drop_all (length input) input (omega arith)))) in
     let long : IsLeft input after Input = e ∙ ap Some (sym (drop_all (input_limit + 1) input (omega arith))) in
     elim o [
-      inl q ↦ elim d [
-        inl p ↦ subst (λ (x : Status). IsLeft input after x) (sym (q ∙ p)) e
-      | inr p ↦ subst (λ (x : Status). IsLeft input after x) (sym (q ∙ p)) long ]
-    | inr q ↦ subst (λ (x : Status). IsLeft input after x) (sym q) read ]
+      | inl q ↦ elim d [
+        | inl p ↦ subst (λ (x : Status). IsLeft input after x) (sym (q ∙ p)) e
+        | inr p ↦ subst (λ (x : Status). IsLeft input after x) (sym (q ∙ p)) long
+      ]
+      | inr q ↦ subst (λ (x : Status). IsLeft input after x) (sym q) read
+    ]
 
 -- what is left of an input that was read to its end
 pub left_at_end : (left after : Option (List ℕ)) (bytes : Vec ℕ Global) (s r : Status) → (s ≡ Done) ⊎ (s ≡ Input) → (r ≡ s) ⊎ (r ≡ WriteFault) → vec_len bytes ≤ input_limit → IfSome left (λ l. TakesAll input_limit l after (Ok bytes)) → IfSome left (λ input. IsLeft input after r)

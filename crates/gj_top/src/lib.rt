@@ -16,16 +16,14 @@ use std::alloc::Global;
 
 mod first_form;
 mod lines;
-#[cfg(test)]
-mod run_tests;
 mod status;
 #[cfg(test)]
 mod tests;
 mod verdict;
 
 use first_form::{FormError, read_first_form};
-use verdict::write_verdict;
 pub use status::Status;
+use verdict::write_verdict;
 
 /// The most bytes that are read of an input.
 const INPUT_LIMIT: usize = 16_777_216;
