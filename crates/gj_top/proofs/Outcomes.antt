@@ -10,7 +10,7 @@ use Rattle.gj_top.specs.declared.status.Status.TheVariants.{Done, Rejected, Word
 use Rattle.gj_top.specs.FunctionLines.{line}
 use Rattle.gj_top.specs.FirstForm.{IsFirstForm}
 use Rattle.gj_top.specs.Verdict.{IsVerdict}
-use Rattle.gj_top.specs.Answer.{IsMinimalCommand, IsAnswer, IsDecided, input_limit}
+use Rattle.gj_top.specs.Answer.{IsMinimalCommand, IsAnswer, IsOutside, input_limit}
 use Rattle.gj_top.specs.Told.{IsTold}
 use Rattle.gj_top.specs.Outcome.{IsOutcome, IsToBeWritten, IsLeft, IsReadInPart, IsTrueVerdict}
 
@@ -113,3 +113,8 @@ headline_of_answer words (Some input) (Some before) written' sure r text a t e =
 pub not_in_form : (words : List (String Global)) (left : Option (List ℕ)) (P : List ℕ → Type 0) → IfSome left (λ input. IsAnswer words input Input (line (codes "refused"))) → IfSome left (λ input. (f : FunctionData) → IsMinimalCommand words → IsFirstForm input f → length input ≤ input_limit → P input)
 not_in_form words None P a = tt
 not_in_form words (Some input) P a = λ f m h l. absurd (elim a.1 [ inl q ↦ omega (arith, q.0) | inr q ↦ q.1 f h ])
+
+-- an input that is refused is outside the form or the limit
+pub outside_of_answer : (words : List (String Global)) (left : Option (List ℕ)) (r : Status) (text : List ℕ) → IfSome left (λ input. IsAnswer words input Input text) → IfSome left (λ input. r ≡ Input → IsOutside input)
+outside_of_answer words None r text a = tt
+outside_of_answer words (Some input) r text a = λ e. elim a.1 [ inl q ↦ inl q.0 | inr q ↦ inr q.1 ]

@@ -5,7 +5,7 @@ ghost use Rattle.std.specs.Prelude.{◌≡◌, ◌≢◌, ◌⊎◌, ◌≤◌, 
 ghost use Rattle.gj_port.specs.Faults.{HasFailed};
 ghost use Rattle.gj_shape.specs.FunctionData.{FunctionData};
 ghost use Rattle.gj_top.specs.FirstForm.{IsFirstForm};
-ghost use Rattle.gj_top.specs.Answer.{IsMinimalCommand, input_limit};
+ghost use Rattle.gj_top.specs.Answer.{IsMinimalCommand, IsOutside, input_limit};
 ghost use Rattle.gj_top.specs.Verdict.{IsVerdict};
 ghost use Rattle.gj_top.specs.Told.{IsTold};
 ghost use Rattle.gj_top.specs.Outcome.{IsOutcome, IsLeft, IsTrueVerdict};
@@ -51,6 +51,9 @@ pub fn run<S: Source, K: Sink>(
     // The words alone decide whether they are a command.
     ensures words { result ≡ Status.Words → IsMinimalCommand words.now → ⊥ }
     ensures command { (IsMinimalCommand words.now → ⊥) → (result ≡ Status.Words) ⊎ (result ≡ Status.WriteFault) }
+
+    // An input is refused only where it is too long or in no form.
+    ensures refused { IfSome (S.left source.old) (λ input. result ≡ Status.Input → IsOutside input) }
 
     // A fault of the source or the sink is answered only where there was one.
     ensures read_fault { result ≡ Status.ReadFault → HasFailed (S.faults source.old) (S.faults source.new) }

@@ -22,8 +22,10 @@ returns-in_err-shape-clause-refused c = λ e f h.
     c.in_err-shape.ensures.refused (ap Err (same_error _ p.0 _ _ p.1 p.2 e)) f h
 
 pub returns-clause-decided : goal.returns-clause-decided
-returns-clause-decided c =
-    (c.in_ok-shape.shape, c.in_ok-shape.ensures.found,
-     verdict_of_search c.in_ok-shape.shape c.find_violation-violation.result _
-        c.find_violation-violation.ensures.first c.find_violation-violation.ensures.shown c.find_violation-violation.ensures.minimal
-        c.in_ok-write_verdict.ensures.minimal c.in_ok-write_verdict.ensures.not_minimal)
+returns-clause-decided c = (
+  c.in_ok-shape.shape,
+  c.in_ok-shape.ensures.found,
+  verdict_of_search c.in_ok-shape.shape c.find_violation-violation.result _
+      c.find_violation-violation.ensures.first c.find_violation-violation.ensures.shown c.find_violation-violation.ensures.minimal
+      c.in_ok-write_verdict.ensures.minimal c.in_ok-write_verdict.ensures.not_minimal,
+)

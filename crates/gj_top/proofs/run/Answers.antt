@@ -4,7 +4,7 @@ use Rattle.gj_top.specs.FunctionLines.{line}
 use Rattle.gj_top.specs.FirstForm.{IsFirstForm}
 use Rattle.gj_top.specs.Verdict.{IsVerdict}
 use Rattle.gj_top.specs.Answer.{IsAnswer}
-use Rattle.gj_top.proofs.Outcomes.{outcome_of_answer, outcome_of_fault, words_answer, long_answer, refused_answer, decided_answer, left_at_end, left_of_long, headline_of_answer, not_in_form}
+use Rattle.gj_top.proofs.Outcomes.{outcome_of_answer, outcome_of_fault, words_answer, long_answer, refused_answer, decided_answer, left_at_end, left_of_long, headline_of_answer, not_in_form, outside_of_answer}
 use Rattle.gj_top.proofs.run.Given.{Over}
 use Rattle.gj_top.proofs.run.Goals as goal
 
@@ -17,11 +17,17 @@ pub returns-in-Err-ReadFault-clause-answer : goal.returns-in-Err-ReadFault-claus
 returns-in-Err-ReadFault-clause-answer g c =
     outcome_of_fault _ (g.S.Source.left c.args.source.now) _ _ _ _ (c.if-not-is_minimal_command.ensures.0 refl) c.tell-in-Err-ReadFault.ensures.told
 
+-- the input is too long
+long : (g : Over) (c : goal.After-tell-in-Err-TooLong g) → IfSome (g.S.Source.left c.args.source.now) (λ input. IsAnswer c.args.words.now input Input (line (codes "refused long")))
+long g c =
+    long_answer c.args.words.now (g.S.Source.left c.args.source.now) _ (c.if-not-is_minimal_command.ensures.0 refl) (rw c.in-Err-TooLong.field-0-is at c.in-Err-TooLong.ensures.told)
+
 pub returns-in-Err-TooLong-clause-answer : goal.returns-in-Err-TooLong-clause-answer
 returns-in-Err-TooLong-clause-answer g c =
-    outcome_of_answer _ _ _ _ _ Input _ _
-    (long_answer c.args.words.now (g.S.Source.left c.args.source.now) _ (c.if-not-is_minimal_command.ensures.0 refl) (rw c.in-Err-TooLong.field-0-is at c.in-Err-TooLong.ensures.told))
-    c.tell-in-Err-TooLong.ensures.told
+    outcome_of_answer _ _ _ _ _ Input _ _ (long g c) c.tell-in-Err-TooLong.ensures.told
+
+pub returns-in-Err-TooLong-clause-refused : goal.returns-in-Err-TooLong-clause-refused
+returns-in-Err-TooLong-clause-refused g c = outside_of_answer c.args.words.now _ _ _ (long g c)
 
 pub returns-in-Err-TooLong-clause-input : goal.returns-in-Err-TooLong-clause-input
 returns-in-Err-TooLong-clause-input g c =
@@ -55,6 +61,9 @@ returns-in-Ok-decide-clause-input g c =
 pub returns-in-Err-Refused-clause-answer : goal.returns-in-Err-Refused-clause-answer
 returns-in-Err-Refused-clause-answer g c =
     outcome_of_answer _ _ _ _ _ Input _ _ (refused g c) c.tell-in-Err-Refused.ensures.told
+
+pub returns-in-Err-Refused-clause-refused : goal.returns-in-Err-Refused-clause-refused
+returns-in-Err-Refused-clause-refused g c = outside_of_answer c.args.words.now _ _ _ (refused g c)
 
 pub returns-in-Err-Refused-clause-input : goal.returns-in-Err-Refused-clause-input
 returns-in-Err-Refused-clause-input g c =
