@@ -1,6 +1,5 @@
-use Rattle.std.proofs.Common.{◌≡◌, ◌≢◌, ◌+◌, ◌-◌, pos, ◌+ℤ◌, get_or, length, w64, below_more, arith}
+use Rattle.std.proofs.Common.{◌≢◌, ◌+◌, ◌-◌, pos, ◌+ℤ◌, get_or, length, w64, below_more, arith}
 use Rattle.std.proofs.lemmas.Int.{to_z-of_z}
-use Rattle.gj_shape.specs.FunctionData.{at}
 use Rattle.gj_theory.proofs.Values.{at_within}
 use Rattle.gj_minimal.specs.AtIndices.{IsSymmetricAt}
 use Rattle.gj_minimal.proofs.Entries.{same_read, apart_read, at_is}
