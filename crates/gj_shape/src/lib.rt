@@ -4,6 +4,7 @@
 mod denominators;
 mod faces;
 mod faults;
+mod laws;
 mod list;
 mod numerators;
 mod shape;
@@ -11,6 +12,10 @@ mod violations;
 
 pub use faces::{Face, FaceKind};
 pub use faults::ShapeFault;
+pub use laws::one_function_is_given;
 pub use list::List;
 pub use shape::Shape;
 pub use violations::Violation;
+
+#[cfg(test)]
+mod tests;

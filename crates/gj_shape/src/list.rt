@@ -1,10 +1,11 @@
 //! Vectors that compare and that contracts see as their list.
 ghost use Rattle.std.specs.Prelude.{◌≡◌};
 
+use std::alloc::AllocError;
 use std::marker::Model;
 
 /// A vector that contracts see as its list.
-#[derive(Drop)]
+#[derive(Debug, Drop)]
 pub struct List<T> {
     items: Vec<T>,
 }
@@ -37,5 +38,35 @@ impl<T> List<T> {
         ensures { result.items ≡ self }
     {
         self.items
+    }
+}
+
+impl<T: PartialEq> PartialEq for List<T> {
+    ghost use Rattle.std.specs.Cmp.Lexicographic.{pointwise, lists_per};
+
+    ghost eq = { pointwise T.eq };
+
+    ghost laws = { lists_per T.laws };
+
+    fn eq(&self, other: &Self) -> bool {
+        self.items == other.items
+    }
+}
+
+impl<T: Eq> Eq for List<T> {
+    ghost use Rattle.std.specs.Cmp.Lexicographic.{lists_equiv};
+
+    ghost laws = { lists_equiv T.Eq.laws };
+}
+
+impl<T: Clone> Clone for List<T> {
+    ghost use Rattle.std.specs.List.{AllZip};
+
+    ghost is_clone = { λ xs ys. AllZip T.is_clone xs ys };
+
+    fn clone(&self) -> Result<Self, AllocError> {
+        Ok(List {
+            items: self.items.clone()?,
+        })
     }
 }

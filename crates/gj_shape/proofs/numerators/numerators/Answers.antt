@@ -1,4 +1,4 @@
-use Rattle.std.proofs.Common.{◌≡◌, ◌++◌, ◌∷◌, [], map, take, w64, to_z, of_z, sym, ap, ◌∙◌, rules}
+use Rattle.std.proofs.Common.{◌≡◌, ◌++◌, ◌∷◌, [], map, take, get_or, ◌+◌, w64, to_z, of_z, sym, ap, ◌∙◌, rules}
 use Rattle.std.proofs.lemmas.Int.{to_z-of_z}
 use Rattle.std.proofs.lemmas.List.{map_more}
 use Rattle.gj_shape.specs.Given.{numerator_over as over_scale}
@@ -9,10 +9,11 @@ numerator_over-requires-clause-multiple c = rw c.x-item.is (c.requires.common c.
 
 pub loop-x-preserved : goal.loop-x-preserved
 loop-x-preserved c =
+    let n = c.loop-x.x-index in
+    let xs = c.args.xs.now in
     let f = over_scale c.args.scale in
-    let done = map f (take c.loop-x.x-index c.args.xs.now) in
-    let next : to_z w64 (of_z w64 c.numerator_over.result) ≡ f c.x-item.result =
-    to_z-of_z w64 c.numerator_over.result (search rules) ∙ c.numerator_over.ensures in
-    c.in_ok-push.ensures.items ∙ ap (λ ys. ys ++ to_z w64 (of_z w64 c.numerator_over.result) ∷ []) c.loop-x.invariant
-    ∙ ap (λ y. done ++ y ∷ []) (next ∙ ap f c.x-item.is)
-    ∙ sym (map_more f c.args.xs.now c.loop-x.x-index c.x-item.result c.loop-x-test.true)
+    let read : to_z w64 (of_z w64 c.numerator_over.result) ≡ c.numerator_over.result = to_z-of_z w64 c.numerator_over.result (search rules) in
+    let next = read ∙ c.numerator_over.ensures ∙ ap f c.x-item.is in
+    let more : map f (take n xs) ++ f (get_or xs n c.x-item.result) ∷ [] ≡ map f (take (n + 1) xs) =
+    sym (map_more f xs n c.x-item.result c.loop-x-test.true) in
+    rw (c.in_ok-push.ensures.items, c.loop-x.invariant, next) more

@@ -1,0 +1,97 @@
+//! Examples with values by hand.
+use crate::faults::ShapeFault;
+use crate::list::List;
+use crate::shape::Shape;
+use gj_frac::Frac;
+use std::test::Fail;
+
+/// The fraction n/d.
+fn fraction(n: i128, d: i128) -> Result<Frac, &'static str> {
+    Frac::new(n, d).ok_or("no fraction")
+}
+
+/// The function of order 2 with f = 1/2 and these values, and no jump.
+fn of_order_two(rt: &HostRuntime, at_zero: Frac, at_half: Frac) -> Result<Shape, ShapeFault> {
+    let values = [at_zero, at_half];
+    Shape::new(rt.alloc(), 2, 1, &values, &values, &values)
+}
+
+/// A continuous function.
+#[test]
+fn continuous(rt: HostRuntime) -> Result<(), Fail> {
+    let values = [
+        fraction(0, 1)?,
+        fraction(1, 3)?,
+        fraction(2, 3)?,
+        fraction(1, 1)?,
+        fraction(1, 2)?,
+    ];
+    let shape = Shape::new(rt.alloc(), 5, 3, &values, &values, &values)?;
+    assert_eq!(rt; shape.order(), 5);
+    assert_eq!(rt; shape.place(), 3);
+    assert_eq!(rt; shape.common_denominator(), 6);
+    assert_eq!(rt; shape.value(4), fraction(1, 2)?);
+    assert_eq!(rt; shape.value_numerators(), [0, 2, 4, 6, 3].as_slice());
+    assert!(rt; shape.is_continuous());
+    assert_eq!(rt; shape.first_jump(), None);
+    Ok(())
+}
+
+/// A function that jumps at 0 and at 1/2.
+#[test]
+fn discontinuous(rt: HostRuntime) -> Result<(), Fail> {
+    let zero = fraction(0, 1)?;
+    let half = fraction(1, 2)?;
+    let one = fraction(1, 1)?;
+    let shape = Shape::new(rt.alloc(), 2, 1, &[one, half], &[zero, one], &[half, zero])?;
+    assert_eq!(rt; shape.first_jump(), Some(0));
+    assert!(rt; !shape.is_continuous());
+    assert_eq!(rt; shape.left(0), one);
+    assert_eq!(rt; shape.right(0), half);
+    assert_eq!(rt; shape.left_numerators(), [2, 1].as_slice());
+    assert_eq!(rt; shape.right_numerators(), [1, 0].as_slice());
+    Ok(())
+}
+
+/// The limits on values and on the common denominator.
+#[test]
+fn limits_of_values(rt: HostRuntime) -> Result<(), Fail> {
+    let zero = fraction(0, 1)?;
+    let large = of_order_two(&rt, zero, fraction(-1_048_577, 1)?);
+    assert_eq!(rt; large.err(), Some(ShapeFault::TooLarge(1)));
+    let fine = of_order_two(&rt, zero, fraction(1, 2_147_483_648)?);
+    assert_eq!(rt; fine.err(), Some(ShapeFault::TooFine(1)));
+    let most = of_order_two(&rt, zero, fraction(1_048_576, 1)?)?;
+    assert_eq!(rt; most.common_denominator(), 1);
+    let finest = of_order_two(&rt, zero, fraction(1, 2_147_483_647)?)?;
+    assert_eq!(rt; finest.common_denominator(), 2_147_483_647);
+    Ok(())
+}
+
+/// The limits on the order, the place and the lengths.
+#[test]
+fn limits_of_shape(rt: HostRuntime) -> Result<(), Fail> {
+    let two = [fraction(0, 1)?, fraction(1, 1)?];
+    let one = [fraction(0, 1)?];
+    let many = Shape::new(rt.alloc(), 1001, 1, &two, &two, &two);
+    assert_eq!(rt; many.err(), Some(ShapeFault::Order));
+    let few = Shape::new(rt.alloc(), 1, 1, &one, &one, &one);
+    assert_eq!(rt; few.err(), Some(ShapeFault::Order));
+    let low = Shape::new(rt.alloc(), 2, 0, &two, &two, &two);
+    assert_eq!(rt; low.err(), Some(ShapeFault::Place));
+    let high = Shape::new(rt.alloc(), 2, 2, &two, &two, &two);
+    assert_eq!(rt; high.err(), Some(ShapeFault::Place));
+    let short = Shape::new(rt.alloc(), 2, 1, &two, &two, &one);
+    assert_eq!(rt; short.err(), Some(ShapeFault::Count));
+    Ok(())
+}
+
+/// A list is the vector that it was made of.
+#[test]
+fn lists(rt: HostRuntime) -> Result<(), Fail> {
+    let list = List::of(vec![in rt.alloc(); 3u32, 1, 2]?);
+    assert_eq!(rt; list.as_slice(), [3, 1, 2].as_slice());
+    assert_eq!(rt; list.clone()?, list);
+    assert_eq!(rt; list.into_vec().as_slice(), [3, 1, 2].as_slice());
+    Ok(())
+}
