@@ -1,15 +1,15 @@
 -- What the code reads of a list of numerators.
-use Rattle.std.proofs.Common.{◌≡◌, ◌≢◌, ℕ, ◌+◌, ◌%◌, ◌<◌, ◌^◌, ℤ, pos, ◌+ℤ◌, ◌<ℤ◌, ◌≤ℤ◌, unsigned_abs, List, length, get_or, true, false, refl, ap, sym, subst, ◌∙◌, to_z, of_z, FitsSigned, w64, arith}
+use Rattle.std.proofs.Common.{◌≡◌, ◌≢◌, ℕ, ◌%◌, ◌<◌, ◌^◌, ℤ, pos, ◌+ℤ◌, ◌<ℤ◌, ◌≤ℤ◌, unsigned_abs, List, length, get_or, true, false, ap, sym, ◌∙◌, to_z, of_z, FitsSigned, w64, arith}
 use Rattle.std.proofs.lemmas.Int.{ints, to_z-of_z}
 use Rattle.gj_shape.specs.FunctionData.{at}
-use Rattle.gj_theory.proofs.Values.{at_within}
+use Rattle.gj_shape.proofs.AtLemmas.{at_below}
 use lib.Signed.{lt_z}
 use mir.Syntax.{w128}
 
 -- an entry that is read
 pub read_is : (xs : List ℤ) (i : ℕ) → i < length xs → FitsSigned w64 (get_or xs i (pos 0)) →
     to_z w64 (of_z w64 (get_or xs i (pos 0))) ≡ at xs i
-read_is xs i below fits = to_z-of_z w64 (get_or xs i (pos 0)) fits ∙ sym (at_within xs i below)
+read_is xs i below fits = to_z-of_z w64 (get_or xs i (pos 0)) fits ∙ sym (at_below xs i below)
 
 -- an entry that is found to be less than 0, or not
 pub negative_read : (xs : List ℤ) (i : ℕ) → i < length xs → FitsSigned w64 (get_or xs i (pos 0)) →

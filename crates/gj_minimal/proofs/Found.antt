@@ -1,5 +1,5 @@
 -- From what the walks find to the first violation.
-use Rattle.std.proofs.Common.{◌≡◌, ◌≢◌, ℕ, ◌+◌, ◌-◌, ◌*◌, ◌<◌, ◌≤◌, ◌^◌, ℤ, pos, ◌+ℤ◌, ◌-ℤ◌, ◌<ℤ◌, ◌≤ℤ◌, unsigned_abs, List, length, get_or, refl, ap, sym, subst, subst₂, ◌∙◌, to_z, of_z, FitsSigned, w64, arith}
+use Rattle.std.proofs.Common.{◌≡◌, ◌≢◌, ℕ, ◌+◌, ◌<◌, ℤ, pos, ◌+ℤ◌, ◌-ℤ◌, ◌<ℤ◌, ◌≤ℤ◌, List, length, get_or, ap, sym, subst, ◌∙◌, to_z, of_z, FitsSigned, w64, arith}
 use Rattle.std.proofs.lemmas.Int.{ints, to_z-of_z, by_lt_z}
 use Rattle.gj_frac.specs.declared.Frac.{Frac}
 use Rattle.gj_frac.specs.Fraction.{Is}
@@ -11,10 +11,10 @@ use Rattle.gj_shape.specs.FirstViolation.Test.{nonnegative_at, symmetric_at, sub
 use Rattle.gj_shape.specs.declared.faces.FaceKind.TheVariants.{Vertex}
 use Rattle.gj_shape.specs.declared.violations.Violation.{Violation}
 use Rattle.gj_shape.specs.declared.violations.Violation.TheVariants as violation
-use Rattle.gj_theory.specs.GridPoints.{PassesAtGridPoints, IsSubadditiveBefore}
-use Rattle.gj_theory.proofs.Values.{at_within}
+use Rattle.gj_theory.specs.GridPoints.{IsSubadditiveBefore}
+use Rattle.gj_shape.proofs.AtLemmas.{at_below}
 use Rattle.gj_theory.proofs.Continuous.{grid_points_suffice}
-use Rattle.gj_theory.proofs.Minimal.{tests_from_minimal, minimal_from_tests}
+use Rattle.gj_theory.proofs.Minimal.{tests_from_minimal}
 use Rattle.gj_theory.proofs.Points.{shows_zero, shows_negative, shows_asymmetric, shows_superadditive}
 use Rattle.gj_theory.proofs.FirstFailed.{first_at_zero, first_negative, first_asymmetric, first_superadditive, first_violation_fails}
 use Rattle.gj_minimal.specs.FirstFailure.{IsFirstFailure, HoldsBelow}
@@ -51,7 +51,7 @@ zero_read : (f : FunctionData) (xs : List ℤ) → IsReadFrom f xs → at f.valu
 zero_read f xs r =
     let l = r.limits in
     let len = length_read f xs r in
-    ap (λ ys. at ys 0) (sym r.values) ∙ at_within xs 0 (omega arith)
+    ap (λ ys. at ys 0) (sym r.values) ∙ at_below xs 0 (omega arith)
 
 pub zero_passes : (f : FunctionData) (xs : List ℤ) → IsReadFrom f xs → FitsSigned w64 (get_or xs 0 (pos 0)) →
     of_z w64 (get_or xs 0 (pos 0)) ≡ 0 → at f.value 0 ≡ pos 0

@@ -1,10 +1,10 @@
 -- A row of slacks read in two halves: up to where the sum of the indices reaches the length, and from there on.
-use Rattle.std.proofs.Common.{◌≡◌, ℕ, ◌+◌, ◌-◌, ◌%◌, ◌<◌, ◌≤◌, ℤ, pos, ◌+ℤ◌, ◌-ℤ◌, ◌≤ℤ◌, List, length, get_or, take, drop, refl, ap, sym, subst, ◌∙◌, ⊎_elim, arith}
+use Rattle.std.proofs.Common.{◌≡◌, ℕ, ◌+◌, ◌-◌, ◌<◌, ◌≤◌, ℤ, pos, List, length, get_or, take, drop, ap, sym, subst, ◌∙◌, ⊎_elim, arith}
 use Rattle.std.proofs.lemmas.Bool.{cases_lt}
 use Rattle.std.proofs.lemmas.Int.{ints}
 use Rattle.std.proofs.lemmas.List.{get_or-take, get_or-drop, length-take-le, length-drop}
 use Rattle.gj_shape.specs.FunctionData.{at}
-use Rattle.gj_theory.proofs.Values.{at_within, at_periodic}
+use Rattle.gj_shape.proofs.AtLemmas.{at_below, at_plus_length}
 use Rattle.gj_minimal.specs.FirstFailure.{IsFirstFailure, HoldsBelow}
 use Rattle.gj_minimal.specs.AtIndices.{IsWithin, IsSubadditiveAt, IsSubadditiveRow}
 
@@ -46,17 +46,17 @@ back_length xs a m t front back low high s =
 -- in the first half
 front_entry : (xs : List ℤ) (m b : ℕ) (front : List ℤ) → m ≤ length xs → b < m → front ≡ take m xs → get_or front b (pos 0) ≡ at xs b
 front_entry xs m b front fits below e =
-    ap (λ l. get_or l b (pos 0)) e ∙ get_or-take m xs b (pos 0) below ∙ sym (at_within xs b (omega arith))
+    ap (λ l. get_or l b (pos 0)) e ∙ get_or-take m xs b (pos 0) below ∙ sym (at_below xs b (omega arith))
 
 high_entry : (xs : List ℤ) (a b : ℕ) (high : List ℤ) → a + b < length xs → high ≡ drop a xs → get_or high b (pos 0) ≡ at xs (a + b)
 high_entry xs a b high below e =
-    ap (λ l. get_or l b (pos 0)) e ∙ get_or-drop a xs b (pos 0) ∙ sym (at_within xs (a + b) below)
+    ap (λ l. get_or l b (pos 0)) e ∙ get_or-drop a xs b (pos 0) ∙ sym (at_below xs (a + b) below)
 
 -- in the second half the sum of the indices begins again at 0
 wrapped_entry : (xs : List ℤ) (a m c : ℕ) → a + m ≡ length xs → at xs (a + (m + c)) ≡ at xs c
 wrapped_entry xs a m c whole =
     let total : a + (m + c) ≡ c + length xs = omega arith in
-    ap (at xs) total ∙ at_periodic xs c (length xs) refl
+    ap (at xs) total ∙ at_plus_length xs c
 
 -- a test that passes in the first half
 pub front_holds : (xs : List ℤ) (a m b : ℕ) (t : ℤ) (front back low high : List ℤ) →

@@ -1,5 +1,5 @@
 -- The first index at which a property fails (own).
-use Rattle.std.specs.Prelude.{ℕ, ℤ, ◌<◌, List}
+use Rattle.std.specs.Prelude.{ℕ, ◌<◌}
 
 -- i is the first index below n at which the property fails
 pub record IsFirstFailure (P : ℕ → Type 0) (n i : ℕ) : Type 0 where

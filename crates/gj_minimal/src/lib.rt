@@ -2,6 +2,8 @@
 #![tactic(auto)]
 
 mod points;
+#[cfg(test)]
+mod tests;
 mod violation_search;
 mod walks;
 

@@ -5,10 +5,9 @@ ghost use Rattle.gj_shape.specs.FirstViolation.{IsFirstViolation, PassesAll};
 ghost use Rattle.gj_shape.specs.Table.{IsMinimalOnGrid};
 ghost use Rattle.gj_shape.specs.Violation.{ShowsViolation};
 
-use gj_shape::{Shape, Violation};
-
 use crate::points::grid_point;
 use crate::walks::{first_asymmetric, first_negative, first_superadditive};
+use gj_shape::{Shape, Violation};
 
 /// The first violation of minimality of a continuous function, or None where there is none: then its table on its
 /// own grid is minimal.

@@ -1,5 +1,5 @@
 //! Walks over the values of a function, each to the first index that fails a test.
-ghost use Rattle.std.specs.Prelude.{ℕ, ℤ, pos, ◌≡◌, ◌+◌, ◌-◌, ◌%◌, ◌<◌, ◌≤◌, ◌^◌, ◌+ℤ◌, ◌≤ℤ◌, length, IfSome, IfNone, unsigned_abs};
+ghost use Rattle.std.specs.Prelude.{◌≡◌, ◌+◌, ◌-◌, ◌%◌, ◌<◌, ◌^◌, length, IfSome, IfNone, unsigned_abs};
 ghost use Rattle.gj_minimal.specs.FirstFailure.{IsFirstFailure, HoldsBelow};
 ghost use Rattle.gj_minimal.specs.AtIndices.{FitSums, IsNonnegativeAt, IsSymmetricAt, IsSubadditiveAt, IsSubadditiveRow, IsFirstPair, IsWithin};
 

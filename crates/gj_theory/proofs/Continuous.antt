@@ -1,13 +1,16 @@
 -- On a continuous function the tests at grid points carry all others.
-use Rattle.std.proofs.Common.{◌≡◌, ℕ, ◌+◌, ◌-◌, ◌%◌, ◌<◌, ℤ, pos, ◌+ℤ◌, ◌-ℤ◌, ◌≤ℤ◌, List, [], ◌∷◌, ◌++◌, map, refl, ap, ◌∙◌, arith}
+use Rattle.std.proofs.Common.{◌≡◌, ℕ, ◌+◌, ◌-◌, ◌%◌, ◌<◌, ℤ, pos, ◌+ℤ◌, ◌-ℤ◌, ◌≤ℤ◌, List, [], ◌∷◌, ◌++◌, length, get_or, map, refl, ap, sym, subst, ◌∙◌, arith}
 use Rattle.std.specs.List.{range_with_len, flat_map, All}
+use Rattle.std.proofs.lemmas.List.{get_or-map}
 use Rattle.std.proofs.lemmas.List.Elements.{All-nil, All-cons, All-head}
 use Rattle.std.proofs.Math.Nat.{add-mod_right}
 use Rattle.gj_shape.specs.FunctionData.{FunctionData, IsWithinLimits, IsContinuous, at}
+use Rattle.gj_shape.specs.Faces.{corners_of, limits_of}
 use Rattle.gj_shape.specs.FirstViolation.{Test, Passes, PassesAll, tests_of_face, over_squares}
 use Rattle.gj_shape.specs.FirstViolation.Test.{zero_at_zero, nonnegative_at, nonnegative_after, nonnegative_before, symmetric_at, symmetric_between, subadditive_at}
 use Rattle.gj_shape.specs.declared.faces.FaceKind.{FaceKind}
 use Rattle.gj_shape.specs.declared.faces.FaceKind.TheVariants.{Vertex, Horizontal, Vertical, Diagonal, Lower, Upper}
+use Rattle.gj_shape.proofs.TableLemmas.{slack_at, limits_are_slacks}
 use Rattle.gj_theory.specs.GridPoints.{PassesAtGridPoints}
 use Rattle.gj_theory.proofs.Lists.{All-front, All-back, All-made, All-joined, All_joined_seven, flat_map_pass, made_has, joined_has}
 use Rattle.gj_theory.proofs.Everywhere.{nonnegative_everywhere, symmetric_everywhere, subadditive_everywhere}
@@ -54,44 +57,18 @@ symmetry_between f l c h =
 abbrev HasNoNegativeSlack : List ℤ → Type 0
 HasNoNegativeSlack xs = (a b s : ℕ) → a + b ≡ s → pos 0 ≤ℤ (at xs a +ℤ at xs b -ℤ at xs s)
 
--- the tests of a face with two corners, and of one with three
-both_corners : (f : FunctionData) (kind : FaceKind) (a b : ℕ) → Passes f (subadditive_at kind a b 0) →
-    Passes f (subadditive_at kind a b 1) →
-    All (Passes f) (subadditive_at kind a b 0 ∷ subadditive_at kind a b 1 ∷ [])
-both_corners f kind a b p q =
-    All-cons (Passes f) (subadditive_at kind a b 0) (subadditive_at kind a b 1 ∷ []) p
-    (All-cons (Passes f) (subadditive_at kind a b 1) [] q (All-nil (Passes f)))
-
-all_corners : (f : FunctionData) (kind : FaceKind) (a b : ℕ) → Passes f (subadditive_at kind a b 0) →
-    Passes f (subadditive_at kind a b 1) → Passes f (subadditive_at kind a b 2) →
-    All (Passes f) (subadditive_at kind a b 0 ∷ subadditive_at kind a b 1 ∷ subadditive_at kind a b 2 ∷ [])
-all_corners f kind a b p q r =
-    All-cons (Passes f) (subadditive_at kind a b 0) (subadditive_at kind a b 1 ∷ subadditive_at kind a b 2 ∷ []) p
-    (All-cons (Passes f) (subadditive_at kind a b 1) (subadditive_at kind a b 2 ∷ []) q
-    (All-cons (Passes f) (subadditive_at kind a b 2) [] r (All-nil (Passes f))))
-
 -- where no slack of values is negative, no limit on a face is
 limits_pass : (f : FunctionData) → IsContinuous f → HasNoNegativeSlack f.value → (kind : FaceKind) (a b : ℕ) →
     All (Passes f) (tests_of_face kind a b)
-limits_pass f c h Vertex a b =
-    All-cons (Passes f) (subadditive_at Vertex a b 0) [] (h a b (a + b) refl) (All-nil (Passes f))
-limits_pass f c h Horizontal a b =
-    both_corners f Horizontal a b (simp (c.0, c.1) (h a b (a + b) refl))
-    (simp (c.0, c.1) (h (a + 1) b (a + b + 1) (omega arith)))
-limits_pass f c h Vertical a b =
-    both_corners f Vertical a b (simp (c.0, c.1) (h a b (a + b) refl))
-    (simp (c.0, c.1) (h a (b + 1) (a + b + 1) (omega arith)))
-limits_pass f c h Diagonal a b =
-    both_corners f Diagonal a b (simp (c.0, c.1) (h (a + 1) b (a + b + 1) (omega arith)))
-    (simp (c.0, c.1) (h a (b + 1) (a + b + 1) (omega arith)))
-limits_pass f c h Lower a b =
-    all_corners f Lower a b (simp (c.0, c.1) (h a b (a + b) refl))
-    (simp (c.0, c.1) (h (a + 1) b (a + b + 1) (omega arith)))
-    (simp (c.0, c.1) (h a (b + 1) (a + b + 1) (omega arith)))
-limits_pass f c h Upper a b =
-    all_corners f Upper a b (simp (c.0, c.1) (h (a + 1) b (a + b + 1) (omega arith)))
-    (simp (c.0, c.1) (h a (b + 1) (a + b + 1) (omega arith)))
-    (simp (c.0, c.1) (h (a + 1) (b + 1) (a + b + 1 + 1) (omega arith)))
+limits_pass f c h kind a b =
+    All-made (Passes f) (subadditive_at kind a b) 0 (length (corners_of kind a b)) (λ i below.
+    let corners = corners_of kind a b in
+    let corner = get_or corners i (0, 0) in
+    let slack : get_or (map (slack_at f) corners) i (pos 0) ≡ slack_at f corner =
+    get_or-map (slack_at f) corners i (0, 0) (pos 0) (omega arith) in
+    let limit : get_or (limits_of f kind a b) i (pos 0) ≡ slack_at f corner =
+    ap (λ l. get_or l i (pos 0)) (limits_are_slacks f kind a b c) ∙ slack in
+    subst (λ z. pos 0 ≤ℤ z) (sym limit) (h corner.0 corner.1 (corner.0 + corner.1) refl))
 
 -- all limits of all squares, where those at the vertices pass
 pub limits_between : (f : FunctionData) → IsWithinLimits f → IsContinuous f →

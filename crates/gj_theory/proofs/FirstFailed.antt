@@ -14,7 +14,7 @@ use Rattle.gj_shape.specs.declared.violations.Violation.{Violation}
 use Rattle.gj_shape.specs.declared.violations.Violation.TheVariants as violation
 use Rattle.gj_theory.specs.GridPoints.{IsSubadditiveBefore}
 use Rattle.gj_theory.proofs.Lists.{All-back, All-made, All-joined, made_at, joined_at, placed_after, placed_before}
-use Rattle.gj_theory.proofs.Values.{table_one}
+use Rattle.gj_shape.proofs.TableLemmas.{table_of_order}
 use Rattle.gj_theory.proofs.Continuous.{sign_tests, sign_tests_between, symmetry_tests, symmetry_tests_between, vertex_tests, other_tests, signs_between, symmetry_between}
 
 -- a fraction equal to i/order, on the function's own grid
@@ -105,7 +105,7 @@ vertex_passes f a b h = All-cons (Passes f) (subadditive_at Vertex a b 0) [] h (
 -- a negative slack of values is one on the function's own grid
 slack_on_own_grid : (f : FunctionData) (i j a b : ℕ) → i ≡ a → j ≡ b → (at f.value a +ℤ at f.value b) <ℤ at f.value (a + b) →
     IsSuperadditiveOnGrid f 1 i j
-slack_on_own_grid f i j a b e d h = rw (e, d, table_one f a, table_one f b, table_one f (a + b)) h
+slack_on_own_grid f i j a b e d h = rw (e, d, table_of_order f a, table_of_order f b, table_of_order f (a + b)) h
 
 -- what a negative slack at a vertex shows
 shows_at_vertex : (f : FunctionData) (a b : ℕ) (x y : Frac) → Is x (pos a) (pos f.order) → Is y (pos b) (pos f.order) →

@@ -6,7 +6,8 @@ use Rattle.gj_shape.specs.FunctionData.{FunctionData, IsWithinLimits, IsContinuo
 use Rattle.gj_shape.specs.Table.{table, IsMinimalTable, IsMinimalOnGrid}
 use Rattle.gj_shape.specs.FirstViolation.{PassesAll}
 use Rattle.gj_theory.specs.GridPoints.{PassesAtGridPoints}
-use Rattle.gj_theory.proofs.Values.{table_one, at_periodic}
+use Rattle.gj_shape.proofs.TableLemmas.{table_of_order}
+use Rattle.gj_theory.proofs.Values.{at_periodic}
 use Rattle.gj_theory.proofs.Everywhere.{nonnegative_everywhere, symmetric_everywhere, subadditive_everywhere}
 use Rattle.gj_theory.proofs.Continuous.{grid_points_suffice, grid_points_pass}
 
@@ -47,13 +48,13 @@ values_pass f l h = record {
 -- the table on the function's own grid is that of its values
 pub own_table : (f : FunctionData) → IsMinimalTable (at f.value) f.order f.place f.scale → IsMinimalOnGrid f 1
 own_table f h =
-    let t = same_minimal_table (at f.value) (table f 1) f.order f.place f.scale (table_one f) h in
+    let t = same_minimal_table (at f.value) (table f 1) f.order f.place f.scale (table_of_order f) h in
     rw (mul-one f.order, mul-one f.place, mul-one f.scale) t
 
 pub own_values : (f : FunctionData) → IsMinimalOnGrid f 1 → IsMinimalTable (at f.value) f.order f.place f.scale
 own_values f h =
     let t = rw (mul-one f.order, mul-one f.place, mul-one f.scale) at h in
-    same_minimal_table (table f 1) (at f.value) f.order f.place f.scale (λ i. sym (table_one f i)) t
+    same_minimal_table (table f 1) (at f.value) f.order f.place f.scale (λ i. sym (table_of_order f i)) t
 
 -- on the function's own grid: where all tests pass its table is minimal
 pub minimal_from_tests : (f : FunctionData) → IsWithinLimits f → PassesAll f → IsMinimalOnGrid f 1

@@ -9,11 +9,11 @@ use Rattle.gj_shape.specs.FunctionData.{FunctionData, at}
 use Rattle.gj_shape.specs.Table.{table}
 use Rattle.gj_shape.specs.Violation.{IsPoint, value_of, ShowsViolation}
 use Rattle.gj_shape.specs.declared.violations.Violation.TheVariants as violation
-use Rattle.gj_theory.proofs.Values.{table_at_multiple}
+use Rattle.gj_shape.proofs.TableLemmas.{table_at}
 
 -- the value at a grid point, whose fraction n/d may be in lower terms
 pub value_at_grid_point : (f : FunctionData) (i n d : ℕ) → 0 < d → n * f.order ≡ i * d → value_of f n d ≡ pos d *ℤ at f.value i
-value_at_grid_point f i n d some e = ap (table f d) e ∙ table_at_multiple f d i some
+value_at_grid_point f i n d some e = ap (table f d) e ∙ table_at f d i some
 
 -- the parts of a fraction equal to i/q are not negative
 parts_of : (n d : ℤ) (i q : ℕ) → 0 < q → pos 0 <ℤ d → n *ℤ pos q ≡ pos i *ℤ d →
@@ -79,7 +79,7 @@ shows_asymmetric f i x below is h =
     let (n, d, p) = point_of x i f.order some is in
     let j = f.place + (f.order - i) in
     let value = value_at_grid_point f i n d p.point.positive p.equal in
-    let opposite = table_at_multiple f d j p.point.positive in
+    let opposite = table_at f d j p.point.positive in
     let together = mul_add_z (pos d) (at f.value i) (at f.value j) in
     let scale : pos (f.scale * d) ≡ pos d *ℤ pos f.scale = ap pos (mul_comm f.scale d) in
     let whole : i + j ≡ f.place + f.order = omega arith in

@@ -39,7 +39,6 @@ pub fn tests_say_minimal()
 
 /// The table on the function's own grid has the values, and the value at i/order, whose fraction n/d may be in
 /// lower terms, is found on each grid that holds n/d.
-#[tactic(auto, using(crate::proofs::Values::table_one, crate::proofs::Points::value_at_grid_point))]
 pub fn values_at_grid_points()
     ensures own { (f : FunctionData) → (i : ℕ) → table f 1 i ≡ at f.value i }
     ensures any { (f : FunctionData) → (i n d : ℕ) → 0 < d → n * f.order ≡ i * d

@@ -1,4 +1,4 @@
-use Rattle.std.proofs.Common.{rules, pos, ◌<ℤ◌, get_or, w64, FitsSigned, below_more, arith}
+use Rattle.std.proofs.Common.{rules, pos, get_or, w64, FitsSigned, below_more, arith}
 use Rattle.std.proofs.lemmas.Int.{ints, to_z-of_z}
 use Rattle.gj_minimal.specs.AtIndices.{IsWithin}
 use Rattle.gj_minimal.proofs.Entries.{below_read, not_below_read}

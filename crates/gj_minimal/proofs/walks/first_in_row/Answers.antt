@@ -1,4 +1,4 @@
-use Rattle.std.proofs.Common.{rules, ◌-◌, pos, get_or, length, to_z, of_z, w64, FitsSigned, arith}
+use Rattle.std.proofs.Common.{rules, ◌-◌, pos, get_or, length, to_z, of_z, w64, FitsSigned}
 use Rattle.gj_minimal.proofs.Entries.{read_is}
 use Rattle.gj_minimal.proofs.RowHalves.{split_row, found_in_front, found_in_back, row_holds}
 use Rattle.gj_minimal.proofs.walks.first_in_row.Goals as goal

@@ -1,6 +1,5 @@
-use Rattle.std.proofs.Common.{rules, pos, ◌<ℤ◌, ◌≤ℤ◌, get_or, w64, FitsSigned, below_more, arith}
+use Rattle.std.proofs.Common.{rules, pos, get_or, w64, FitsSigned, below_more, arith}
 use Rattle.std.proofs.lemmas.Int.{ints}
-use Rattle.gj_shape.specs.FunctionData.{at}
 use Rattle.gj_minimal.proofs.Entries.{negative_read, nonnegative_read}
 use Rattle.gj_minimal.proofs.walks.first_negative.Goals as goal
 
