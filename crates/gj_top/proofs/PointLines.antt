@@ -108,16 +108,15 @@ pub all_pushed : (scale : ℕ) (values : List ℤ) (n : ℕ) (before now : List 
 all_pushed scale values n before now most (xs, are, now_is) =
     (xs, subst (AllZip (λ x v. Is x v (pos scale)) xs) (take_all n values most) are, now_is)
 
--- the lines of a function, pushed one part after another
-pub lines_pushed : {E : Type 0} (f : FunctionData) (order : ℕ) (place : Frac) (r : Result (Unit {0}) E) (before first second now : List ℕ) →
-    order ≡ f.order → Is place (pos f.place) (pos f.order) → first ≡ before ++ order_line order → second ≡ first ++ place_line place →
-    OnOk r ((xs : List Frac) × AllZip (λ x v. Is x v (pos f.scale)) xs f.value × (now ≡ second ++ flat_map point_line xs)) →
+-- the lines of a function: the head is pushed, and then the point lines
+pub lines_pushed : {E : Type 0} (f : FunctionData) (order : ℕ) (place : Frac) (r : Result (Unit {0}) E) (before head now : List ℕ) →
+    order ≡ f.order → Is place (pos f.place) (pos f.order) → head ≡ before ++ (order_line order ++ place_line place) →
+    OnOk r ((xs : List Frac) × AllZip (λ x v. Is x v (pos f.scale)) xs f.value × (now ≡ head ++ flat_map point_line xs)) →
     OnOk r ((lines : List ℕ) × AreFunctionLines f lines × (now ≡ before ++ lines))
-lines_pushed f order place (Err e) before first second now order_is place_is first_is second_is h = tt
-lines_pushed f order place (Ok u) before first second now order_is place_is first_is second_is (xs, are, now_is) = (
+lines_pushed f order place (Err e) before head now order_is place_is head_is h = tt
+lines_pushed f order place (Ok u) before head now order_is place_is head_is (xs, are, now_is) = (
   lines_of f.order place xs,
   record { place = place; values = xs; place_is = place_is; values_are = are; spelled = refl },
-  now_is ∙ ap (λ t. t ++ flat_map point_line xs) (second_is ∙ ap (λ t. t ++ place_line place) (first_is ∙ ap (λ q. before ++ order_line q) order_is)
-      ∙ append_assoc before (order_line f.order) (place_line place))
+  now_is ∙ ap (λ t. t ++ flat_map point_line xs) (head_is ∙ ap (λ q. before ++ (order_line q ++ place_line place)) order_is)
       ∙ append_assoc before (order_line f.order ++ place_line place) (flat_map point_line xs),
 )

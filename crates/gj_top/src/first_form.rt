@@ -50,7 +50,8 @@ impl From<ShapeFault> for FormError {
 /// `Refused` says that it spells none, and nothing else gives it.
 pub(crate) fn read_first_form(alloc: Global, text: &[u8]) -> Result<Shape, FormError>
     ensures found { IfOk result (IsFirstForm text.now) }
-    ensures refused { IsErrOf result FormError.Refused → (f : FunctionData) → IsFirstForm text.now f → ⊥ }
+    ensures refused { IsErrOf result FormError.Refused →
+        (f : FunctionData) → IsFirstForm text.now f → ⊥ }
 {
     let lines = read_lines(alloc, text)?;
     function_of(alloc, &lines)
@@ -58,8 +59,10 @@ pub(crate) fn read_first_form(alloc: Global, text: &[u8]) -> Result<Shape, FormE
 
 /// The lines of the function between the first and the last line of the text.
 fn read_lines(alloc: Global, text: &[u8]) -> Result<FunctionLines, FormError>
-    ensures found { IfOk result (λ lines. HasFormLines text.now lines.order lines.place lines.values.items) }
-    ensures refused { IsErrOf result FormError.Refused → (order : ℕ) (place : Frac) (values : List Frac) →
+    ensures found { IfOk result (λ lines.
+        HasFormLines text.now lines.order lines.place lines.values.items) }
+    ensures refused { IsErrOf result FormError.Refused →
+        (order : ℕ) (place : Frac) (values : List Frac) →
         HasFormLines text.now order place values → ⊥ }
     ensures only { IfOk result (λ lines. (order : ℕ) (place : Frac) (values : List Frac) →
         HasFormLines text.now order place values →
@@ -80,7 +83,8 @@ fn read_lines(alloc: Global, text: &[u8]) -> Result<FunctionLines, FormError>
 /// The continuous function whose lines these are.
 fn function_of(alloc: Global, lines: &FunctionLines) -> Result<Shape, FormError>
     requires { 0 < lines.now.order }
-    ensures found { IfOk result (IsFunctionOf lines.now.order lines.now.place lines.now.values.items) }
+    ensures found { IfOk result
+        (IsFunctionOf lines.now.order lines.now.place lines.now.values.items) }
     ensures refused { IsErrOf result FormError.Refused → (f : FunctionData) →
         IsFunctionOf lines.now.order lines.now.place lines.now.values.items f → ⊥ }
 {

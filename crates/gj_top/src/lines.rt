@@ -1,11 +1,12 @@
-//! The lines of a continuous function in canonical form: `order Q`, `f F`, and a line `point V` for each value.
+//! The lines of a continuous function in canonical form: `order Q`, `f F`, and a line `point V` for
+//! each value.
 
 ghost use Rattle.std.specs.Prelude.{◌≡◌, ◌≢◌, ◌<◌, ◌^◌, ◌++◌, ℕ, List, pos, Some, IfSome, IsSomeAnd, IfOk, OnOk, All, length, flat_map};
 ghost use Rattle.std.specs.List.{AllZip};
 ghost use Rattle.gj_frac.specs.declared.Frac.{Frac};
 ghost use Rattle.gj_frac.specs.Fraction.{Is};
 ghost use Rattle.gj_shape.specs.FunctionData.{IsContinuous};
-ghost use Rattle.gj_top.specs.FunctionLines.{line, fraction_line, order_line, point_line, BeginsWithLines, BeginsWithHead, AreFunctionLines};
+ghost use Rattle.gj_top.specs.FunctionLines.{line, fraction_line, order_line, place_line, point_line, BeginsWithLines, BeginsWithHead, AreFunctionLines};
 
 use gj_frac::Frac;
 use gj_lex::{print_count, print_frac, read_canonical, read_count};
@@ -26,7 +27,8 @@ pub(crate) struct FunctionLines {
 /// What follows the expected bytes, where the text begins with them.
 pub(crate) fn after<'a>(text: &'a [u8], expected: &[u8]) -> Option<&'a [u8]>
     ensures found { IfSome result (λ rest. text.now ≡ expected.now ++ rest.now) }
-    ensures only { (rest : List ℕ) → text.now ≡ expected.now ++ rest → IsSomeAnd result (λ r. r.now ≡ rest) }
+    ensures only { (rest : List ℕ) → text.now ≡ expected.now ++ rest →
+        IsSomeAnd result (λ r. r.now ≡ rest) }
 {
     text.strip_prefix(expected)
 }
@@ -41,10 +43,12 @@ fn first_line(text: &[u8]) -> Option<(&[u8], &[u8])>
     Some((&text[..end], &text[end + 1..]))
 }
 
-/// What stands behind the word in the first line, where that begins with it, and what follows the line.
+/// What stands behind the word in the first line, where that begins with it, and what follows the
+/// line.
 fn line_after<'a>(text: &'a [u8], word: &[u8]) -> Option<(&'a [u8], &'a [u8])>
     ensures found { IfSome result (λ r. text.now ≡ line (word.now ++ r.0.now) ++ r.1.now) }
-    ensures only { (bytes rest : List ℕ) → All (λ b. b ≢ 10) bytes → text.now ≡ line (word.now ++ bytes) ++ rest →
+    ensures only { (bytes rest : List ℕ) → All (λ b. b ≢ 10) bytes →
+        text.now ≡ line (word.now ++ bytes) ++ rest →
         IsSomeAnd result (λ r. (r.0.now ≡ bytes) × (r.1.now ≡ rest)) }
 {
     first_line(after(text, word)?)
@@ -78,8 +82,8 @@ fn points_at(
 ) -> Result<Option<(Vec<Frac>, &[u8])>, AllocError>
     ensures found { IfOk result (λ found. IfSome found (λ r.
         (length r.0.items ≡ count) × (text.now ≡ flat_map point_line r.0.items ++ r.1.now))) }
-    ensures only { IfOk result (λ found. (values : List Frac) (rest : List ℕ) → length values ≡ count →
-        text.now ≡ flat_map point_line values ++ rest →
+    ensures only { IfOk result (λ found. (values : List Frac) (rest : List ℕ) →
+        length values ≡ count → text.now ≡ flat_map point_line values ++ rest →
         IsSomeAnd found (λ r. (r.0.items ≡ values) × (r.1.now ≡ rest))) }
 {
     let mut values = Vec::new(alloc);
@@ -97,7 +101,8 @@ fn points_at(
 /// The order, from 2 to 1,000, and the place in the two lines at the front, and what follows them.
 fn head_at(text: &[u8]) -> Option<(u32, Frac, &[u8])>
     ensures found { IfSome result (λ r. BeginsWithHead text.now r.0 r.1 r.2.now) }
-    ensures only { (order : ℕ) (place : Frac) (rest : List ℕ) → BeginsWithHead text.now order place rest →
+    ensures only { (order : ℕ) (place : Frac) (rest : List ℕ) →
+        BeginsWithHead text.now order place rest →
         IsSomeAnd result (λ r. (r.0 ≡ order) × (r.1 ≡ place) × (r.2.now ≡ rest)) }
 {
     let (order, rest) = order_at(text)?;
@@ -110,17 +115,19 @@ fn head_at(text: &[u8]) -> Option<(u32, Frac, &[u8])>
 
 /// What the lines of a function at the front spell, and what follows them.
 ///
-/// None where the text does not begin with such lines. An order outside 2 to 1,000 is refused before a point is
-/// read.
+/// None where the text does not begin with such lines. An order outside 2 to 1,000 is refused before
+/// a point is read.
 pub(crate) fn function_lines_at(
     alloc: Global,
     text: &[u8],
 ) -> Result<Option<(FunctionLines, &[u8])>, AllocError>
     ensures found { IfOk result (λ found. IfSome found (λ r.
         BeginsWithLines text.now r.0.order r.0.place r.0.values.items r.1.now)) }
-    ensures only { IfOk result (λ found. (order : ℕ) (place : Frac) (values : List Frac) (rest : List ℕ) →
+    ensures only { IfOk result (λ found.
+        (order : ℕ) (place : Frac) (values : List Frac) (rest : List ℕ) →
         BeginsWithLines text.now order place values rest →
-        IsSomeAnd found (λ r. (r.0.order ≡ order) × (r.0.place ≡ place) × (r.0.values.items ≡ values) × (r.1.now ≡ rest))) }
+        IsSomeAnd found (λ r. (r.0.order ≡ order) × (r.0.place ≡ place)
+        × (r.0.values.items ≡ values) × (r.1.now ≡ rest))) }
 {
     let Some((order, place, rest)) = head_at(text) else {
         return Ok(None);
@@ -186,10 +193,19 @@ pub(crate) fn push_fraction_line(out: &mut Vec<u8>, word: &[u8], x: Frac) -> Res
     Ok(())
 }
 
+/// Appends the lines of an order and a place.
+fn push_head(out: &mut Vec<u8>, order: u32, place: Frac) -> Result<(), AllocError>
+    ensures { OnOk result (out.new.items ≡ out.old.items ++ (order_line order ++ place_line place)) }
+{
+    push_order_line(out, order)?;
+    push_fraction_line(out, b"f ", place)
+}
+
 /// Appends a point line for each value of the function.
 fn push_point_lines(out: &mut Vec<u8>, shape: &Shape) -> Result<(), AllocError>
-    ensures { OnOk result ((values : List Frac) × AllZip (λ x n. Is x n (pos shape.now.scale)) values shape.now.value ×
-        (out.new.items ≡ out.old.items ++ flat_map point_line values)) }
+    ensures { OnOk result ((values : List Frac)
+        × AllZip (λ x n. Is x n (pos shape.now.scale)) values shape.now.value
+        × (out.new.items ≡ out.old.items ++ flat_map point_line values)) }
 {
     for i in 0..shape.order() {
         push_fraction_line(out, b"point ", shape.value(i))?;
@@ -202,9 +218,9 @@ fn push_point_lines(out: &mut Vec<u8>, shape: &Shape) -> Result<(), AllocError>
 /// An error says that memory ran out; `out` may then have a part of the lines.
 pub(crate) fn push_function_lines(out: &mut Vec<u8>, shape: &Shape) -> Result<(), AllocError>
     requires { IsContinuous shape.now }
-    ensures { OnOk result ((lines : List ℕ) × AreFunctionLines shape.now lines × (out.new.items ≡ out.old.items ++ lines)) }
+    ensures { OnOk result ((lines : List ℕ) × AreFunctionLines shape.now lines
+        × (out.new.items ≡ out.old.items ++ lines)) }
 {
-    push_order_line(out, shape.order())?;
-    push_fraction_line(out, b"f ", ratio(shape.place(), shape.order()))?;
+    push_head(out, shape.order(), ratio(shape.place(), shape.order()))?;
     push_point_lines(out, shape)
 }

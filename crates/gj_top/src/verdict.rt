@@ -19,7 +19,8 @@ pub(crate) fn write_verdict(
 ) -> Result<Vec<u8>, AllocError>
     requires { IsContinuous shape.now }
     ensures minimal { violation ≡ None → IfOk result (λ text. IsMinimalText shape.now text.items) }
-    ensures not_minimal { (v : Violation) → violation ≡ Some v → IfOk result (λ text. IsNotMinimalText shape.now v text.items) }
+    ensures not_minimal { (v : Violation) → violation ≡ Some v →
+        IfOk result (λ text. IsNotMinimalText shape.now v text.items) }
 {
     match violation {
         None => write_minimal(alloc, shape),
@@ -55,8 +56,8 @@ fn write_not_minimal(
 /// The first lines of a proof text: its form, its claim and the lines of the function.
 fn start_text(alloc: Global, claim: &[u8], shape: &Shape) -> Result<Vec<u8>, AllocError>
     requires { IsContinuous shape.now }
-    ensures { IfOk result (λ text. (lines : List ℕ) × AreFunctionLines shape.now lines ×
-        (text.items ≡ line (codes "gj-proof 1") ++ line (codes "claim " ++ claim.now) ++ lines)) }
+    ensures { IfOk result (λ text. (lines : List ℕ) × AreFunctionLines shape.now lines
+        × (text.items ≡ line (codes "gj-proof 1") ++ line (codes "claim " ++ claim.now) ++ lines)) }
 {
     let mut text = Vec::new(alloc);
     text.extend_from_slice(b"gj-proof 1\nclaim ")?;

@@ -5,6 +5,6 @@ use Rattle.gj_top.proofs.lines.push_function_lines.Goals as goal
 
 pub returns : goal.returns
 returns c =
-    lines_pushed c.args.shape.now _ c.ratio.result c.push_point_lines.result _ _ _ _ c.order.ensures.value
+    lines_pushed c.args.shape.now _ c.ratio.result c.push_point_lines.result _ _ _ c.order.ensures.value
     (subst₂ (λ k q. Is c.ratio.result (pos k) (pos q)) c.place.ensures.value c.order-2.ensures.value c.ratio.ensures)
-    c.in_ok-push_order_line.ensures c.in_ok-push_fraction_line.ensures c.push_point_lines.ensures
+    c.in_ok-push_head.ensures c.push_point_lines.ensures
