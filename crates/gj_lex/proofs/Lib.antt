@@ -1,3 +1,5 @@
 pub mod Decimals
+pub mod LineEnds
+pub mod Places
 pub mod Spelling
 pub mod WordBytes
