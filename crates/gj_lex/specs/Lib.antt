@@ -2,3 +2,4 @@ pub mod Lines
 pub mod Name
 pub mod NumberText
 pub mod Reason
+pub mod Words
