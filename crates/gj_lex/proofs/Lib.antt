@@ -4,4 +4,5 @@ pub mod Places
 pub mod SignedNumbers
 pub mod Spelling
 pub mod WordBytes
+pub mod WordRuns
 pub mod WrittenNumbers

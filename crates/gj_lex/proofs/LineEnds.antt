@@ -2,9 +2,9 @@
 use Rattle.std.proofs.Common.{◌≡◌, ℕ, ◌+◌, ◌-◌, ◌<◌, ◌≤◌, min, Bool, List, length, get_or, drop, ◌==◌, refl, sym, ◌∙◌, ap, subst, arith, length-drop, get_or-drop}
 use Rattle.std.specs.List.{position_or_len}
 use Rattle.std.proofs.lemmas.Bool.Decides.{nat_tests}
-use Rattle.std.proofs.lemmas.List.Sums.{prefix_len-le-length, fails_before_first, passes_at_first}
 use Rattle.gj_lex.specs.declared.cursor.LineSpan.{LineSpan}
 use Rattle.gj_lex.specs.Lines.{CursorState, IsLine, GivesLine}
+use Rattle.gj_lex.proofs.Places.{fails_until, passes_there, place_within}
 
 -- whether a byte is an LF
 abbrev is_feed : ℕ → Bool
@@ -12,20 +12,12 @@ is_feed b = b == 10
 
 -- the first LF from a place on, or the end of the source, ends the line that begins there
 line_at_feed : (source : List ℕ) (start : ℕ) → start ≤ length source → IsLine source start (start + position_or_len is_feed (drop start source))
-line_at_feed source start h =
-    let len : position_or_len is_feed (drop start source) ≤ length (drop start source) = prefix_len-le-length _ (drop start source) in
-    record {
-      ordered = omega arith;
-      within = omega (arith, length-drop start source);
-      unbroken = λ k low high e.
-        let fails = fails_before_first is_feed (drop start source) (k - start) 0 (omega arith) in
-        let same : get_or (drop start source) (k - start) 0 ≡ get_or source k 0 = get_or-drop start source (k - start) 0 ∙ ap (λ i. get_or source i 0) (omega arith) in
-        grind (arith, nat_tests);
-      ended = λ high.
-        let passes = passes_at_first is_feed (drop start source) 0 (omega (arith, length-drop start source)) in
-        let same = get_or-drop start source (position_or_len is_feed (drop start source)) 0 in
-        grind (arith, nat_tests);
-    }
+line_at_feed source start h = record {
+  ordered = omega arith;
+  within = place_within is_feed source start h;
+  unbroken = λ k low high e. let fails = fails_until is_feed source start k low high in grind (arith, nat_tests);
+  ended = λ high. let passes = passes_there is_feed source start high in grind (arith, nat_tests);
+}
 
 pub line_at : (source : List ℕ) (start end : ℕ) → start ≤ length source → end ≡ start + position_or_len is_feed (drop start source) → IsLine source start end
 line_at source start end h e = subst (IsLine source start) (sym e) (line_at_feed source start h)
