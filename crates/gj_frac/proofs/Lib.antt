@@ -1,3 +1,4 @@
+pub mod Crosswise
 pub mod Divisors
 pub mod Integers
 pub mod OneDenominator

@@ -8,6 +8,7 @@ ghost use Rattle.gj_frac.specs.Lowest.{IsLowest};
 mod comparison;
 mod operators;
 mod parts;
+mod products;
 
 pub use operators::fits_over_one_denominator;
 use parts::{common_divisor, quotient};
