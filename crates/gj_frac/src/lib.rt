@@ -9,6 +9,8 @@ mod comparison;
 mod operators;
 mod parts;
 mod products;
+#[cfg(test)]
+mod tests;
 
 pub use operators::fits_over_one_denominator;
 use parts::{common_divisor, quotient};
