@@ -1,5 +1,6 @@
 pub mod Crosswise
 pub mod Divisors
+pub mod Floors
 pub mod Integers
 pub mod OneDenominator
 pub mod Ratios

@@ -2,6 +2,7 @@ pub mod Lowest
 pub mod Fraction
 pub mod Fits
 pub mod CompareValues
+pub mod Floor
 pub mod Products
 pub mod Coprime
 pub mod SameParts

@@ -9,6 +9,7 @@ mod comparison;
 mod operators;
 mod parts;
 mod products;
+mod rounding;
 #[cfg(test)]
 mod tests;
 
