@@ -6,6 +6,7 @@ ghost use Rattle.std.specs.Int.{IsGcd};
 ghost use Rattle.gj_frac.specs.Lowest.{IsLowest};
 
 mod comparison;
+mod negation;
 mod operators;
 mod parts;
 mod products;

@@ -1,12 +1,12 @@
-//! The product of two fractions.
+//! The product and the quotient of two fractions.
 ghost use Rattle.std.specs.Prelude.{unsigned_abs};
 ghost use Rattle.std.specs.Int.{IsGcd};
-ghost use Rattle.gj_frac.specs.Fraction.{SameValue, fraction_of, product_of, numerator, denominator};
-ghost use Rattle.gj_frac.specs.Fits.{FitsProduct};
+ghost use Rattle.gj_frac.specs.Fraction.{SameValue, fraction_of, product_of, quotient_of, numerator, denominator};
+ghost use Rattle.gj_frac.specs.Fits.{FitsProduct, FitsQuotient};
 
 use crate::Frac;
 use crate::parts::product;
-use std::ops::Mul;
+use std::ops::{Div, Mul};
 
 /// The product of two fractions, where no number but 1 divides a numerator and the other's
 /// denominator. So it is in lowest terms at once.
@@ -30,6 +30,21 @@ impl Mul for Frac {
         crosswise_coprime_product(
             Frac::reduced(self.num, other.den),
             Frac::reduced(other.num, self.den),
+        )
+    }
+}
+
+impl Div for Frac {
+    type Output = Frac;
+
+    ghost can_div = { FitsQuotient };
+
+    ghost div_gives = { λ x y z. SameValue (fraction_of z) (quotient_of (fraction_of x) (fraction_of y)) };
+
+    fn div(self, other: Frac) -> Frac {
+        crosswise_coprime_product(
+            Frac::reduced(self.num, other.num),
+            Frac::reduced(other.den, self.den),
         )
     }
 }
