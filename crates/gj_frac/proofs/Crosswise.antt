@@ -5,7 +5,7 @@ use Rattle.std.proofs.lemmas.Int.{unsigned_abs-mul}
 use Rattle.std.proofs.lemmas.Nat.Gcd.{IsGcd-swap}
 use Rattle.std.specs.Int.{IsGcd, ◌∣◌}
 use Rattle.gj_frac.specs.declared.Frac.{Frac}
-use Rattle.gj_frac.specs.Fraction.{Is, SameValue, fraction_of, product_of}
+use Rattle.gj_frac.specs.Fraction.{FitsPart, Is, SameValue, fraction_of, product_of}
 use Rattle.gj_frac.specs.Fits.{FitsProduct}
 use Rattle.gj_frac.proofs.Divisors.{gauss, coprime_product, coprime_divisor}
 use Rattle.gj_frac.proofs.Integers.{mul_comm_z, mul_positive_z, abs_positive_z}
@@ -33,6 +33,22 @@ pub product_parts : (x y z : Frac) → IsGcd (unsigned_abs x.num) (unsigned_abs 
 product_parts x y z h k same =
     parts_from_is z (x.num *ℤ y.num) (x.den *ℤ y.den) (mul_positive_z x.den y.den x.lowest.positive y.lowest.positive) (product_lowest x y h k) same
 
+-- and where the product fits, they fit
+pub numerators_fit : (x y : Frac) → IsGcd (unsigned_abs x.num) (unsigned_abs y.den) 1 → IsGcd (unsigned_abs y.num) (unsigned_abs x.den) 1 → FitsProduct x y → FitsPart (x.num *ℤ y.num)
+numerators_fit x y h k fits =
+    subst FitsPart ((product_parts x y fits.0 h k fits.1).0) fits.0.lowest.num_fits
+
+pub denominators_fit : (x y : Frac) → IsGcd (unsigned_abs x.num) (unsigned_abs y.den) 1 → IsGcd (unsigned_abs y.num) (unsigned_abs x.den) 1 → FitsProduct x y → FitsPart (x.den *ℤ y.den)
+denominators_fit x y h k fits =
+    subst FitsPart ((product_parts x y fits.0 h k fits.1).1) fits.0.lowest.den_fits
+
+-- the product of two denominators is not 0
+pub denominators_some : (x y : Frac) → unsigned_abs (x.den *ℤ y.den) ≢ 0
+denominators_some x y =
+    let x_some = abs_positive_z x.den x.lowest.positive in
+    let y_some = abs_positive_z y.den y.lowest.positive in
+    product_some x.den y.den (omega arith) (omega arith)
+
 -- the numerator in lowest terms divides each numerator
 numerator_divides_each : (x : Frac) (n d : ℤ) → Is x n d → unsigned_abs x.num ∣ unsigned_abs n
 numerator_divides_each x n d h =
@@ -58,9 +74,7 @@ crossed_products x y n m k l x_is y_is =
 -- what is the product of x and y is the product of n/m and k/l
 pub product_is_along : (x y z : Frac) (n m k l : ℤ) → Is x n m → Is y k l → SameValue (fraction_of z) (product_of (fraction_of x) (fraction_of y)) → Is z (n *ℤ k) (l *ℤ m)
 product_is_along x y z n m k l x_is y_is h =
-    let x_some = abs_positive_z x.den x.lowest.positive in
-    let y_some = abs_positive_z y.den y.lowest.positive in
-    is_along z (x.num *ℤ y.num) (x.den *ℤ y.den) (n *ℤ k) (l *ℤ m) (product_some x.den y.den (omega arith) (omega arith)) h
+    is_along z (x.num *ℤ y.num) (x.den *ℤ y.den) (n *ℤ k) (l *ℤ m) (denominators_some x y) h
     (crossed_products x y n m k l x_is y_is)
 
 -- and the other way round

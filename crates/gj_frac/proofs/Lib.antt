@@ -5,6 +5,7 @@ pub mod Integers
 pub mod OneDenominator
 pub mod Ratios
 pub mod Reduced
+pub mod Refusals
 pub mod SameValues
 pub mod Signs
 pub mod Sums

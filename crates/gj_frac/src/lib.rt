@@ -5,6 +5,7 @@ ghost use Rattle.std.specs.Prelude.{◌≡◌, ◌≢◌, ◌⊎◌, ◌↔◌, 
 ghost use Rattle.std.specs.Int.{IsGcd};
 ghost use Rattle.gj_frac.specs.Lowest.{IsLowest};
 
+mod checked;
 mod comparison;
 mod negation;
 mod operators;
@@ -14,6 +15,7 @@ mod rounding;
 #[cfg(test)]
 mod tests;
 
+pub use checked::{DivFault, Wide};
 pub use operators::fits_over_one_denominator;
 use parts::{common_divisor, quotient};
 
