@@ -8,10 +8,10 @@ use Rattle.gj_frac.specs.declared.Frac.{Frac}
 use Rattle.gj_frac.specs.Fraction.{FitsPart, Is, SameValue, fraction_of, product_of}
 use Rattle.gj_frac.specs.Fits.{FitsProduct}
 use Rattle.gj_frac.proofs.Divisors.{gauss, coprime_product, coprime_divisor}
-use Rattle.gj_frac.proofs.Integers.{mul_comm_z, mul_positive_z, abs_positive_z}
+use Rattle.gj_frac.proofs.Integers.{mul_comm_z, mul_mul_comm_z, mul_positive_z, abs_positive_z}
 use Rattle.gj_frac.proofs.OneDenominator.{denominator_divides_each}
 use Rattle.gj_frac.proofs.SameValues.{is_along, parts_from_is}
-use Rattle.gj_frac.proofs.Sums.{product_some, swap_middle_z}
+use Rattle.gj_frac.proofs.Sums.{product_some}
 
 -- ---- lowest terms
 
@@ -69,7 +69,7 @@ crosswise_coprime x y n m k l x_is y_is h =
 crossed_products : (x y : Frac) (n m k l : ℤ) → Is x n m → Is y k l → (x.num *ℤ y.num) *ℤ (l *ℤ m) ≡ (n *ℤ k) *ℤ (x.den *ℤ y.den)
 crossed_products x y n m k l x_is y_is =
     ap (λ z. (x.num *ℤ y.num) *ℤ z) (mul_comm_z l m)
-    ∙ swap_middle_z x.num y.num m l ∙ (λ i. x_is i *ℤ y_is i) ∙ sym (swap_middle_z n k x.den y.den)
+    ∙ mul_mul_comm_z x.num y.num m l ∙ (λ i. x_is i *ℤ y_is i) ∙ sym (mul_mul_comm_z n k x.den y.den)
 
 -- what is the product of x and y is the product of n/m and k/l
 pub product_is_along : (x y z : Frac) (n m k l : ℤ) → Is x n m → Is y k l → SameValue (fraction_of z) (product_of (fraction_of x) (fraction_of y)) → Is z (n *ℤ k) (l *ℤ m)

@@ -26,6 +26,14 @@ ruleset parts_of = (up_mul, down_mul, up_neg, down_neg)
 
 -- ---- products
 
+-- two factors change places before a third
+pub mul_left_comm_z : (x y z : ℤ) → x *ℤ (y *ℤ z) ≡ y *ℤ (x *ℤ z)
+mul_left_comm_z x y z = same_in _ _ (simp parts_of (omega arith))
+
+-- two products of two factors regrouped
+pub mul_mul_comm_z : (x y z w : ℤ) → (x *ℤ y) *ℤ (z *ℤ w) ≡ (x *ℤ z) *ℤ (y *ℤ w)
+mul_mul_comm_z x y z w = same_in _ _ (simp parts_of (omega arith))
+
 -- a factor goes over a sum, on the left
 pub mul_add_z : (x y z : ℤ) → x *ℤ (y +ℤ z) ≡ x *ℤ y +ℤ x *ℤ z
 mul_add_z x y z =
@@ -57,6 +65,10 @@ mul_sub_z x y z = mul_add_z x y (neg_ℤ z) ∙ ap (λ w. x *ℤ y +ℤ w) (mul_
 -- a factor goes over a difference, on the right
 pub sub_mul_z : (x y z : ℤ) → (x -ℤ y) *ℤ z ≡ x *ℤ z -ℤ y *ℤ z
 sub_mul_z x y z = add_mul_z x (neg_ℤ y) z ∙ ap (λ w. x *ℤ z +ℤ w) (neg_mul_z y z)
+
+-- one times a number is the number
+pub one_mul_z : (x : ℤ) → pos 1 *ℤ x ≡ x
+one_mul_z x = omega (arith, ints)
 
 -- ---- cancelling a factor
 

@@ -3,9 +3,11 @@ pub mod Divisors
 pub mod Floors
 pub mod Integers
 pub mod OneDenominator
+pub mod Quotients
 pub mod Ratios
 pub mod Reduced
 pub mod Refusals
+pub mod Ring
 pub mod SameValues
 pub mod Signs
 pub mod Sums

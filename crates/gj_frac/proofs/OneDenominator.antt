@@ -7,10 +7,10 @@ use Rattle.std.specs.Int.{◌∣◌}
 use Rattle.gj_frac.specs.declared.Frac.{Frac}
 use Rattle.gj_frac.specs.Fraction.{Is, FitsPart}
 use Rattle.gj_frac.specs.Fits.{IsDenominatorGcd, scaled_numerator, common_denominator, FitsSum, FitsDifference, FitsOverOneDenominator}
-use Rattle.gj_frac.proofs.Integers.{mul_assoc_z, mul_add_z, mul_sub_z, mul_cancel_right_z, abs_add_z, abs_sub_z, abs_positive_z}
+use Rattle.gj_frac.proofs.Integers.{mul_assoc_z, mul_left_comm_z, mul_add_z, mul_sub_z, mul_cancel_right_z, abs_add_z, abs_sub_z, abs_positive_z}
 use Rattle.gj_frac.proofs.Divisors.{gauss, gcd_positive, lcm_from_gcd}
 use Rattle.gj_frac.proofs.Reduced.{quotient_of_divisor}
-use Rattle.gj_frac.proofs.Sums.{swap_first_z, factor_some, first_is, second_is}
+use Rattle.gj_frac.proofs.Sums.{factor_some, first_is, second_is}
 
 -- the denominator of x divides each denominator that x has
 pub denominator_divides_each : (x : Frac) (n d : ℤ) → Is x n d → unsigned_abs x.den ∣ unsigned_abs d
@@ -31,7 +31,7 @@ multiple_of : (x : Frac) (s c n d k : ℤ) → Is x s c → Is x n d → k *ℤ 
 multiple_of x s c n d k over h d_is =
     let some = abs_positive_z x.den x.lowest.positive in
     let same : (k *ℤ s) *ℤ x.den ≡ n *ℤ x.den =
-    mul_assoc_z k s x.den ∙ ap (λ z. k *ℤ z) (sym over) ∙ swap_first_z k x.num c ∙ ap (λ z. x.num *ℤ z) d_is ∙ h in
+    mul_assoc_z k s x.den ∙ ap (λ z. k *ℤ z) (sym over) ∙ mul_left_comm_z k x.num c ∙ ap (λ z. x.num *ℤ z) d_is ∙ h in
     mul_cancel_right_z (k *ℤ s) n x.den same (omega arith)
 
 -- a factor is no larger than a product that is not 0 by the other

@@ -7,17 +7,9 @@ use Rattle.std.specs.Int.{IsGcd, ◌∣◌}
 use Rattle.gj_frac.specs.declared.Frac.{Frac}
 use Rattle.gj_frac.specs.Fraction.{Is}
 use Rattle.gj_frac.specs.Fits.{IsDenominatorGcd, scaled_numerator, common_denominator}
-use Rattle.gj_frac.proofs.Integers.{mul_assoc_z, swap_last_z, mul_comm_z, add_mul_z, neg_mul_z, mul_lt_cancel_right_z, mul_cancel_right_z, mul_zero_z, abs_zero_z, abs_positive_z, pos_abs_z}
+use Rattle.gj_frac.proofs.Integers.{mul_assoc_z, mul_left_comm_z, mul_mul_comm_z, swap_last_z, mul_comm_z, add_mul_z, neg_mul_z, mul_lt_cancel_right_z, mul_cancel_right_z, mul_zero_z, abs_zero_z, abs_positive_z, pos_abs_z}
 
--- ---- products in another order
-
--- the first two of three factors change places
-pub swap_first_z : (x y z : ℤ) → x *ℤ (y *ℤ z) ≡ y *ℤ (x *ℤ z)
-swap_first_z x y z = sym (mul_assoc_z x y z) ∙ ap (λ w. w *ℤ z) (mul_comm_z x y) ∙ mul_assoc_z y x z
-
--- the middle two of four factors change places
-pub swap_middle_z : (x y z w : ℤ) → (x *ℤ y) *ℤ (z *ℤ w) ≡ (x *ℤ z) *ℤ (y *ℤ w)
-swap_middle_z x y z w = mul_assoc_z x y (z *ℤ w) ∙ ap (λ v. x *ℤ v) (swap_first_z y z w) ∙ sym (mul_assoc_z x z (y *ℤ w))
+-- ---- the common denominator
 
 -- a product of two numbers that are not 0 is not 0
 pub product_some : (p e : ℤ) → unsigned_abs p ≢ 0 → unsigned_abs e ≢ 0 → unsigned_abs (p *ℤ e) ≢ 0
@@ -28,8 +20,6 @@ product_some p e p_some e_some h =
 pub factor_some : (p d n : ℤ) → p *ℤ d ≡ n → unsigned_abs n ≢ 0 → unsigned_abs p ≢ 0
 factor_some p d n e some h =
     some (sym (ap unsigned_abs e) ∙ unsigned_abs-mul p d ∙ ap (λ m. m * unsigned_abs d) h ∙ zero-mul (unsigned_abs d))
-
--- ---- the common denominator
 
 -- the quotient of a positive number by a positive divisor
 pub quotient_is : (n d q : ℤ) → pos 0 <ℤ n → pos 0 <ℤ d → q *ℤ d ≡ n → q ≡ pos (unsigned_abs n / unsigned_abs d)
@@ -55,7 +45,7 @@ first_is x y g h =
     let p = pos (unsigned_abs x.den / g) in
     let q = pos (unsigned_abs y.den / g) in
     let crossed : p *ℤ y.den ≡ q *ℤ x.den =
-    ap (λ w. p *ℤ w) (sym (whole y.den g y.lowest.positive h.1)) ∙ swap_first_z p q (pos g) ∙ ap (λ w. q *ℤ w) (whole x.den g x.lowest.positive h.0) in
+    ap (λ w. p *ℤ w) (sym (whole y.den g y.lowest.positive h.1)) ∙ mul_left_comm_z p q (pos g) ∙ ap (λ w. q *ℤ w) (whole x.den g x.lowest.positive h.0) in
     ap (λ w. x.num *ℤ w) crossed ∙ sym (mul_assoc_z x.num q x.den)
 
 -- y over the common denominator of x and y
@@ -77,7 +67,7 @@ part_over_one a b e f v w h =
     let moved : a *ℤ (w *ℤ (v *ℤ e)) ≡ ((a *ℤ e) *ℤ v) *ℤ w =
     ap (λ z. a *ℤ z) (mul_comm_z w (v *ℤ e) ∙ ap (λ z. z *ℤ w) (mul_comm_z v e))
     ∙ sym (mul_assoc_z a (e *ℤ v) w) ∙ ap (λ z. z *ℤ w) (sym (mul_assoc_z a e v)) in
-    swap_middle_z f v b e ∙ ap (λ z. z *ℤ (v *ℤ e)) (sym h) ∙ mul_assoc_z a w (v *ℤ e) ∙ moved
+    mul_mul_comm_z f v b e ∙ ap (λ z. z *ℤ (v *ℤ e)) (sym h) ∙ mul_assoc_z a w (v *ℤ e) ∙ moved
 
 -- where a/b is f/w and c/e is s/w, what is (f + s)/w is a/b + c/e
 pub sum_over_one : (n d a b c e f s w : ℤ) → unsigned_abs w ≢ 0 → a *ℤ w ≡ f *ℤ b → c *ℤ w ≡ s *ℤ e → n *ℤ w ≡ (f +ℤ s) *ℤ d → n *ℤ (b *ℤ e) ≡ (a *ℤ e +ℤ c *ℤ b) *ℤ d

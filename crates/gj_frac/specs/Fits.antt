@@ -16,12 +16,13 @@ scaled_numerator x y g = numerator x *ℤ pos (unsigned_abs (denominator y) / g)
 abbrev pub common_denominator : Frac → Frac → ℕ → ℤ
 common_denominator x y g = pos (unsigned_abs (denominator x) / g) *ℤ denominator y
 
--- x and y can be brought over their common denominator
+-- both scaled numerators and the common denominator fit
 pub record FitsTogetherOver (x y : Frac) (g : ℕ) : Type 0 where
   pub first : FitsPart (scaled_numerator x y g)
   pub second : FitsPart (scaled_numerator y x g)
   pub bottom : FitsPart (common_denominator x y g)
 
+-- x and y can be brought over their common denominator
 abbrev pub FitsTogether : Frac → Frac → Type 0
 FitsTogether x y = (g : ℕ) → IsDenominatorGcd x y g → FitsTogetherOver x y g
 

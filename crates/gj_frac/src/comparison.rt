@@ -1,14 +1,14 @@
 //! The order of fractions by value.
-ghost use Rattle.std.specs.Prelude.{◌≡◌, ◌≢◌, ◌*◌, unsigned_abs};
+ghost use Rattle.std.specs.Prelude.{◌≡◌, ◌≢◌, ◌*◌, unsigned_abs, refl};
 ghost use Rattle.gj_frac.specs.Fraction.{numerator, denominator};
 ghost use Rattle.gj_frac.specs.CompareValues.{compare_values};
 ghost use Rattle.gj_frac.specs.TotalOrder.{compare_values_total, compare_values_partial, compare_values_ties};
-ghost use Rattle.std.proofs.Common.{refl};
 ghost use Rattle.std.specs.Ordering.{nat_cmp, as_partial_cmp};
 
 use crate::Frac;
 use std::cmp::Ordering;
 
+/// Fractions are ordered by value: `x < y` holds exactly where the value of x is less than that of y.
 impl Ord for Frac {
     ghost cmp = { compare_values };
 
@@ -40,7 +40,9 @@ impl PartialOrd for Frac {
 
 /// Compares the absolute values of two fractions.
 fn compare_sizes(x: Frac, y: Frac) -> Ordering
-    ensures { result ≡ nat_cmp (unsigned_abs (numerator x) * unsigned_abs (denominator y)) (unsigned_abs (numerator y) * unsigned_abs (denominator x)) }
+    ensures { result ≡ nat_cmp
+        (unsigned_abs (numerator x) * unsigned_abs (denominator y))
+        (unsigned_abs (numerator y) * unsigned_abs (denominator x)) }
 {
     compare_ratios(
         x.num.unsigned_abs(),
@@ -50,8 +52,8 @@ fn compare_sizes(x: Frac, y: Frac) -> Ordering
     )
 }
 
-/// Compares `a/b` with `c/d`: by the whole parts, and where these are equal by the rests turned
-/// upside down, the other way round. No product is formed, so nothing can overflow.
+/// Compares `a/b` with `c/d`, by their whole parts, and where these are equal by the reciprocals of
+/// the rests the other way round. No product is formed, so nothing can overflow.
 fn compare_ratios(a: u128, b: u128, c: u128, d: u128) -> Ordering
     requires b_some { b ≢ 0 }
     requires d_some { d ≢ 0 }

@@ -1,7 +1,8 @@
 //! The sum and the difference of two fractions.
 ghost use Rattle.std.specs.Prelude.{◌≡◌, ℕ};
 ghost use Rattle.gj_frac.specs.Fraction.{SameValue, fraction_of, sum_of, difference_of};
-ghost use Rattle.gj_frac.specs.Fits.{FitsTogether, FitsSum, FitsDifference, IsDenominatorGcd, scaled_numerator, common_denominator, FitsOverOneDenominator};
+ghost use Rattle.gj_frac.specs.Fits.{FitsTogether, FitsSum, FitsDifference, FitsOverOneDenominator};
+ghost use Rattle.gj_frac.specs.Fits.{IsDenominatorGcd, scaled_numerator, common_denominator};
 
 use crate::Frac;
 use crate::parts::{coprime_quotients, difference, product, total};
@@ -29,6 +30,9 @@ fn over_common_denominator(x: Frac, y: Frac) -> Together
     }
 }
 
+/// The exact sum. With g the greatest common divisor of the denominators b and d, the sum of a/b and
+/// c/d can be formed where a (d/g), c (b/g), their sum and (b/g) d are each at most 2^127 - 1 in
+/// absolute value.
 impl Add for Frac {
     type Output = Frac;
 
@@ -46,6 +50,8 @@ impl Add for Frac {
     }
 }
 
+/// The exact difference. It can be formed where the same holds with the difference of the two scaled
+/// numerators in place of their sum.
 impl Sub for Frac {
     type Output = Frac;
 

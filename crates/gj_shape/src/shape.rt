@@ -1,0 +1,150 @@
+//! Functions of period 1 that are affine between neighbouring multiples of 1/q.
+ghost use Rattle.std.specs.Prelude.{◌≡◌, ◌<◌, ℕ, pos, IfOk, IfErr, IfSome, IfNone, IsTrue, ◌↔◌, ⊥};
+ghost use Rattle.gj_frac.specs.Fraction.{Is};
+ghost use Rattle.gj_shape.specs.FunctionData.{IsWithinLimits, IsContinuous, IsJump, at};
+
+use gj_frac::Frac;
+use std::alloc::Global;
+use std::marker::Model;
+
+use crate::faults::ShapeFault;
+
+/// A function of period 1 that is affine between neighbouring multiples of 1/q, with its limits from the left
+/// and from the right at each of them, and the place k of f = k/q.
+///
+/// It keeps whole numbers over the least common denominator of all values and limits.
+#[derive(Drop)]
+pub struct Shape {
+    order: u32,
+    place: u32,
+    scale: u32,
+    left: Vec<i64>,
+    value: Vec<i64>,
+    right: Vec<i64>,
+}
+
+impl Model for Shape {
+    ghost use Rattle.gj_shape.specs.FunctionData.{FunctionData};
+
+    ghost Value = { FunctionData };
+
+    ghost use Rattle.gj_shape.specs.Kept.{function_of, IsKept};
+
+    ghost view = { function_of };
+
+    ghost invariant = { IsKept };
+}
+
+impl Shape {
+    ghost use Rattle.gj_shape.specs.Given.{HasFault, IsGivenBy};
+
+    /// The function of order `q` with f = `k/q` and, at i/q, the limit `left[i]` from the left, the value
+    /// `value[i]` and the limit `right[i]` from the right.
+    ///
+    /// The tests come in this order, and the first that fails is the error: `q` from 2 to 1,000; `k` from 1 to
+    /// `q - 1`; each list of length `q`; then for each index the limit from the left, the value and the limit from
+    /// the right, each at most 2^20 in absolute value, and then with a common denominator of all so far that is at
+    /// most 2^31 - 1. Memory is taken last.
+    pub fn new(
+        alloc: Global,
+        q: u32,
+        k: u32,
+        left: &[Frac],
+        value: &[Frac],
+        right: &[Frac],
+    ) -> Result<Shape, ShapeFault>
+        ensures given { IfOk result (IsGivenBy q k left.now value.now right.now) }
+        ensures fault { IfErr result (HasFault q k left.now value.now right.now) }
+    {
+        todo
+    }
+
+    /// The order q, from 2 to 1,000.
+    pub fn order(&self) -> u32
+        ensures value { result ≡ self.now.order }
+        ensures limits { IsWithinLimits self.now }
+    {
+        self.order
+    }
+
+    /// The place k of f = k/q, from 1 to q - 1.
+    pub fn place(&self) -> u32
+        ensures value { result ≡ self.now.place }
+        ensures limits { IsWithinLimits self.now }
+    {
+        self.place
+    }
+
+    /// The least common denominator of all values and limits, from 1 to 2^31 - 1.
+    pub fn common_denominator(&self) -> i128
+        ensures value { result ≡ pos self.now.scale }
+        ensures limits { IsWithinLimits self.now }
+    {
+        i128::from(self.scale)
+    }
+
+    /// The limit from the left at i/q.
+    pub fn left(&self, i: u32) -> Frac
+        requires { i < self.now.order }
+        ensures { Is result (at self.now.left i) (pos self.now.scale) }
+    {
+        over(self.left[i as usize], self.scale)
+    }
+
+    /// The value at i/q.
+    pub fn value(&self, i: u32) -> Frac
+        requires { i < self.now.order }
+        ensures { Is result (at self.now.value i) (pos self.now.scale) }
+    {
+        over(self.value[i as usize], self.scale)
+    }
+
+    /// The limit from the right at i/q.
+    pub fn right(&self, i: u32) -> Frac
+        requires { i < self.now.order }
+        ensures { Is result (at self.now.right i) (pos self.now.scale) }
+    {
+        over(self.right[i as usize], self.scale)
+    }
+
+    /// The limits from the left at 0, 1/q, .., (q - 1)/q, each times the common denominator.
+    pub fn left_numerators(&self) -> &[i64]
+        ensures value { result.now ≡ self.now.left }
+        ensures limits { IsWithinLimits self.now }
+    {
+        self.left.as_slice()
+    }
+
+    /// The values at 0, 1/q, .., (q - 1)/q, each times the common denominator.
+    pub fn value_numerators(&self) -> &[i64]
+        ensures value { result.now ≡ self.now.value }
+        ensures limits { IsWithinLimits self.now }
+    {
+        self.value.as_slice()
+    }
+
+    /// The limits from the right at 0, 1/q, .., (q - 1)/q, each times the common denominator.
+    pub fn right_numerators(&self) -> &[i64]
+        ensures value { result.now ≡ self.now.right }
+        ensures limits { IsWithinLimits self.now }
+    {
+        self.right.as_slice()
+    }
+
+    /// The least i for which the limits and the value at i/q are not all equal, where there is one.
+    pub fn first_jump(&self) -> Option<u32>
+        ensures within { IfSome result (λ i. i < self.now.order) }
+        ensures jump { IfSome result (IsJump self.now) }
+        ensures first { IfSome result (λ i. (j : ℕ) → j < i → IsJump self.now j → ⊥) }
+        ensures none { IfNone result (IsContinuous self.now) }
+    {
+        todo
+    }
+
+    /// Whether the limits are the value at each multiple of 1/q.
+    pub fn is_continuous(&self) -> bool
+        ensures { IsTrue result ↔ IsContinuous self.now }
+    {
+        self.left == self.value && self.right == self.value
+    }
+}

@@ -1,0 +1,16 @@
+-- The number of each status (own).
+use Rattle.std.specs.Prelude.{ℕ}
+use Rattle.gj_top.specs.declared.status.Status.{Status}
+use Rattle.gj_top.specs.declared.status.Status.TheVariants.{Done, Rejected, Words, Input, ReadFault, WriteFault, Memory, Wide, NotContinuous, NoFunction}
+
+abbrev pub code_of : Status → ℕ
+code_of Done = 0
+code_of Rejected = 1
+code_of Words = 2
+code_of Input = 3
+code_of ReadFault = 4
+code_of WriteFault = 5
+code_of Memory = 6
+code_of Wide = 7
+code_of NotContinuous = 8
+code_of NoFunction = 9

@@ -1,0 +1,6 @@
+pub mod FunctionLines
+pub mod FirstForm
+pub mod Verdict
+pub mod Answer
+pub mod Code
+pub mod Outcome

@@ -1,0 +1,1 @@
+//! The first form of an input: a continuous function in its one spelling.

@@ -1,0 +1,38 @@
+//! How a run of the program ended.
+ghost use Rattle.std.specs.Prelude.{◌≡◌};
+ghost use Rattle.gj_top.specs.Code.{code_of};
+
+/// How a run of the program ended. The command `minimal` gives `Done`, `Words`, `Input`, `ReadFault`,
+/// `WriteFault` and `Memory`; the others are for the commands to come.
+#[derive(Clone, Copy, Debug, PartialEq, Eq)]
+pub enum Status {
+    /// The answer was written.
+    Done,
+    /// A rule of the checker failed.
+    Rejected,
+    /// The words are no command.
+    Words,
+    /// The input is outside its form or a limit.
+    Input,
+    /// The source failed.
+    ReadFault,
+    /// The sink failed.
+    WriteFault,
+    /// There was no memory.
+    Memory,
+    /// A number passed its bound.
+    Wide,
+    /// The function is not continuous.
+    NotContinuous,
+    /// The function is not minimal.
+    NoFunction,
+}
+
+impl Status {
+    /// The status with which the program ends: 0 to 9, in the order of the variants.
+    pub fn code(self) -> u8
+        ensures { result ≡ code_of self }
+    {
+        self as u8
+    }
+}

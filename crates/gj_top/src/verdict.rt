@@ -1,0 +1,1 @@
+//! The proof text of a verdict on minimality.
