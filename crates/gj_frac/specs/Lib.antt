@@ -7,3 +7,4 @@ pub mod Products
 pub mod Coprime
 pub mod SameParts
 pub mod TotalOrder
+pub mod ExactLaws

@@ -4,6 +4,7 @@ ghost use Rattle.gj_frac.specs.Fraction.{SameValue, fraction_of, negation_of};
 use crate::Frac;
 use std::ops::Neg;
 
+/// The fraction with its sign turned, which always fits.
 impl Neg for Frac {
     type Output = Frac;
 

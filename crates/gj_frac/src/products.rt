@@ -19,6 +19,7 @@ fn crosswise_coprime_product(x: Frac, y: Frac) -> Frac
     Frac::coprime(product(x.num, y.num), product(x.den, y.den))
 }
 
+/// The exact product. It can be formed exactly where it fits in lowest terms.
 impl Mul for Frac {
     type Output = Frac;
 
@@ -34,6 +35,8 @@ impl Mul for Frac {
     }
 }
 
+/// The exact quotient. It can be formed exactly where the divisor is not 0 and the quotient fits in
+/// lowest terms.
 impl Div for Frac {
     type Output = Frac;
 
