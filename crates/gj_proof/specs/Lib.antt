@@ -1,2 +1,4 @@
 pub mod FunctionLines
 pub mod ProofText
+pub mod Rules
+pub mod Meaning

@@ -1,0 +1,3 @@
+pub mod RuleWords
+pub mod FirstFailure
+pub mod Values
