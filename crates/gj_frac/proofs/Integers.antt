@@ -1,11 +1,12 @@
 -- The everyday laws of whole numbers: products, orders, absolute values.
 use Rattle.std.proofs.Common.{◌≡◌, ℕ, zero, suc, ◌+◌, ◌*◌, ◌<◌, ◌≤◌, ◌≢◌, ◌⊎◌, inl, inr, ℤ, pos, negsuc, ◌+ℤ◌, ◌-ℤ◌, ◌*ℤ◌, neg_ℤ, ◌<ℤ◌, ◌≤ℤ◌, unsigned_abs, refl, ap, ◌∙◌, arith}
-use Rattle.std.proofs.Math.Nat.{eq_of_mul-eq-mul_right, mul-le-mul_right, mul-lt-mul_of_pos_right, le_of_mul-le-mul_right, lt_of_mul-lt-mul_right, pos_of_ne-zero}
+use Rattle.std.proofs.Math.Nat.{mul-le-mul_right, le_of_mul-le-mul_right}
 use Rattle.std.proofs.lemmas.Int.{ints, by_lt_z}
-use borrow.Author.Differences.{up, down, same_in, same_out, sum_is_lem, neg_is, product_is}
+use borrow.Author.Differences.{up, down, same_in, sum_is_lem, neg_is, product_is}
 pub use Rattle.std.proofs.lemmas.Int.{unsigned_abs-mul}
+pub use Rattle.gj_frac.specs.Products.{mul_assoc_z, mul_comm_z, swap_last_z, mul_cancel_right_z, mul_lt_mul_right_z, mul_lt_cancel_right_z, abs_positive_z}
 use lib.IntN.{ℤ_discrete}
-pub use lib.IntN.{+ℤ_assoc as add_assoc_z, +ℤ_comm as add_comm_z, *ℤ_comm as mul_comm_z, pos-+ℤ-pos, pos-*ℤ-pos}
+pub use lib.IntN.{+ℤ_assoc as add_assoc_z, +ℤ_comm as add_comm_z, pos-+ℤ-pos, pos-*ℤ-pos}
 
 -- ---- the two parts of a product and of a number turned in sign, for `simp`
 
@@ -24,10 +25,6 @@ down_neg x = (neg_is x).1
 ruleset parts_of = (up_mul, down_mul, up_neg, down_neg)
 
 -- ---- products
-
--- a product of three factors, bracketed either way
-pub mul_assoc_z : (x y z : ℤ) → (x *ℤ y) *ℤ z ≡ x *ℤ (y *ℤ z)
-mul_assoc_z x y z = same_in _ _ (simp parts_of (omega arith))
 
 -- two factors change places before a third
 pub mul_left_comm_z : (x y z : ℤ) → x *ℤ (y *ℤ z) ≡ y *ℤ (x *ℤ z)
@@ -75,17 +72,6 @@ one_mul_z x = omega (arith, ints)
 
 -- ---- cancelling a factor
 
--- equal products with one factor that is not zero
-pub mul_cancel_right_z : (x y z : ℤ) → x *ℤ z ≡ y *ℤ z → unsigned_abs z ≢ 0 → x ≡ y
-mul_cancel_right_z x y (pos n) e some =
-    let p = same_out _ _ e in
-    let q : (up x + down y) * n ≡ (up y + down x) * n = omega (arith, product_is) in
-    same_in x y (eq_of_mul-eq-mul_right n (pos_of_ne-zero some) _ _ q)
-mul_cancel_right_z x y (negsuc n) e some =
-    let p = same_out _ _ e in
-    let q : (up x + down y) * suc n ≡ (up y + down x) * suc n = omega (arith, product_is) in
-    same_in x y (eq_of_mul-eq-mul_right (suc n) (omega arith) _ _ q)
-
 -- the same, with the common factor on the left
 pub mul_cancel_left_z : (x y z : ℤ) → z *ℤ x ≡ z *ℤ y → unsigned_abs z ≢ 0 → x ≡ y
 mul_cancel_left_z x y z e some = mul_cancel_right_z x y z (mul_comm_z x z ∙ e ∙ mul_comm_z z y) some
@@ -110,15 +96,6 @@ mul_le_mul_right_z x y (negsuc n) some h = omega (arith, ints)
 pub mul_le_mul_left_z : (x y z : ℤ) → pos 0 ≤ℤ z → x ≤ℤ y → (z *ℤ x) ≤ℤ (z *ℤ y)
 mul_le_mul_left_z x y z some h = let p = mul_le_mul_right_z x y z some h in omega (arith, ints)
 
--- both sides of x < y times a positive factor, on the right
-pub mul_lt_mul_right_z : (x y z : ℤ) → pos 0 <ℤ z → x <ℤ y → (x *ℤ z) <ℤ (y *ℤ z)
-mul_lt_mul_right_z x y (pos n) some h =
-    let l : up x + down y < up y + down x = omega (arith, ints) in
-    let k : 0 < n = omega (arith, ints) in
-    let p = mul-lt-mul_of_pos_right l k in
-    omega (arith, ints)
-mul_lt_mul_right_z x y (negsuc n) some h = omega (arith, ints)
-
 -- the same, with the factor on the left
 pub mul_lt_mul_left_z : (x y z : ℤ) → pos 0 <ℤ z → x <ℤ y → (z *ℤ x) <ℤ (z *ℤ y)
 mul_lt_mul_left_z x y z some h = let p = mul_lt_mul_right_z x y z some h in omega (arith, ints)
@@ -135,14 +112,6 @@ mul_le_cancel_right_z x y (negsuc n) some h = omega (arith, ints)
 -- the same, with the factor on the left
 pub mul_le_cancel_left_z : (x y z : ℤ) → pos 0 <ℤ z → (z *ℤ x) ≤ℤ (z *ℤ y) → x ≤ℤ y
 mul_le_cancel_left_z x y z some h = mul_le_cancel_right_z x y z some (omega (arith, ints))
-
--- a positive factor is cancelled from both sides of <, on the right
-pub mul_lt_cancel_right_z : (x y z : ℤ) → pos 0 <ℤ z → (x *ℤ z) <ℤ (y *ℤ z) → x <ℤ y
-mul_lt_cancel_right_z x y (pos n) some h =
-    let l : (up x + down y) * n < (up y + down x) * n = omega (arith, ints) in
-    let p = lt_of_mul-lt-mul_right n l in
-    omega (arith, ints)
-mul_lt_cancel_right_z x y (negsuc n) some h = omega (arith, ints)
 
 -- the same, with the factor on the left
 pub mul_lt_cancel_left_z : (x y z : ℤ) → pos 0 <ℤ z → (z *ℤ x) <ℤ (z *ℤ y) → x <ℤ y
@@ -194,10 +163,6 @@ abs_neg_z x = omega (arith, ints)
 -- only zero has the absolute value zero
 pub abs_zero_z : (x : ℤ) → unsigned_abs x ≡ 0 → x ≡ pos 0
 abs_zero_z x e = omega (arith, ints)
-
--- a positive number has a positive absolute value
-pub abs_positive_z : (x : ℤ) → pos 0 <ℤ x → 0 < unsigned_abs x
-abs_positive_z x h = omega (arith, ints)
 
 -- two whole numbers of which it is absurd that they differ are equal
 pub stable_z : (x y : ℤ) → ¬ (¬ (x ≡ y)) → x ≡ y

@@ -1,5 +1,10 @@
 pub mod Divisors
 pub mod Integers
+pub mod OneDenominator
 pub mod Quotients
+pub mod Ratios
 pub mod Reduced
 pub mod Ring
+pub mod SameValues
+pub mod Signs
+pub mod Sums

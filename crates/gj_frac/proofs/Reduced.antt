@@ -1,10 +1,11 @@
 -- What dividing both parts of a fraction by their greatest common divisor gives.
-use Rattle.std.proofs.Common.{◌≡◌, ◌≢◌, ℕ, ◌*◌, ◌<◌, ◌≤◌, ◌^◌, ℤ, pos, negsuc, ◌+ℤ◌, ◌-ℤ◌, ◌*ℤ◌, neg_ℤ, zero, suc, ◌<ℤ◌, unsigned_abs, int_div, int_rem, sym, ◌∙◌, ap, subst, refl, arith}
+use Rattle.std.proofs.Common.{◌≡◌, ◌≢◌, ℕ, ◌*◌, ◌<◌, ◌≤◌, ◌^◌, ℤ, pos, negsuc, ◌+ℤ◌, ◌-ℤ◌, ◌*ℤ◌, neg_ℤ, zero, suc, ◌<ℤ◌, unsigned_abs, int_div, int_rem, sym, ◌∙◌, ap, subst, refl, arith, to_z, of_z}
 use Rattle.std.specs.Int.{IsGcd, ◌∣◌}
 use Rattle.gj_frac.specs.Lowest.{IsLowest}
-use Rattle.std.proofs.lemmas.Int.{quot-rem, unsigned_abs-mul, ints}
+use Rattle.std.proofs.lemmas.Int.{quot-rem, unsigned_abs-mul, fits_signed_from_abs, to_z-of_z, ints}
 use Rattle.std.proofs.lemmas.Nat.Gcd.{mod-eq-zero_of_dvd, le_of_dvd}
 use Rattle.std.proofs.Math.Nat.{one-mul, zero-mul, mul-dvd-mul_right, dvd_of_mul-dvd-mul_right, one-dvd, le-mul_of_pos_right, eq-zero_of_zero-dvd}
+use mir.Syntax.{w128}
 use borrow.Author.Differences.{product_is, same_in}
 use lib.IntN.{*ℤ_comm}
 
@@ -90,3 +91,7 @@ lowest_negated num den h f g d =
       den_fits = rw den' g;
       coprime = gcd_along _ _ _ _ _ _ (sym num') (sym den') refl d;
     }
+
+-- a part of a fraction is read as it is
+pub read_part : (z : ℤ) → unsigned_abs z < 2 ^ 127 → to_z w128 (of_z w128 z) ≡ z
+read_part z h = to_z-of_z w128 z (fits_signed_from_abs w128 z h)

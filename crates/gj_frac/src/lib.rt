@@ -5,8 +5,13 @@ ghost use Rattle.std.specs.Prelude.{◌≡◌, ◌≢◌, ◌⊎◌, ◌↔◌, 
 ghost use Rattle.std.specs.Int.{IsGcd};
 ghost use Rattle.gj_frac.specs.Lowest.{IsLowest};
 
+mod comparison;
+mod operators;
 mod parts;
+#[cfg(test)]
+mod tests;
 
+pub use operators::fits_over_one_denominator;
 use parts::{common_divisor, quotient};
 
 /// A fraction in lowest terms with a positive denominator; zero is 0/1.

@@ -1,5 +1,5 @@
 //! Steps on the parts of a fraction, each with a contract of its own.
-ghost use Rattle.std.specs.Prelude.{◌≡◌, ◌≢◌, ◌<◌, ◌^◌, ◌*ℤ◌, ◌<ℤ◌, pos, unsigned_abs};
+ghost use Rattle.std.specs.Prelude.{◌≡◌, ◌≢◌, ℕ, ◌/◌, ◌<◌, ◌^◌, ◌*ℤ◌, ◌+ℤ◌, ◌-ℤ◌, ◌<ℤ◌, pos, unsigned_abs};
 ghost use Rattle.std.specs.Int.{IsGcd, ◌∣◌};
 
 /// The greatest common divisor of two whole numbers, by Euclid's algorithm.
@@ -33,4 +33,39 @@ pub(crate) fn quotient(n: i128, divisor: i128) -> i128
     ensures { result *ℤ divisor ≡ n }
 {
     n / divisor
+}
+
+/// Two positive numbers, each divided by their greatest common divisor.
+pub(crate) fn coprime_quotients(n: i128, d: i128) -> (i128, i128)
+    requires n_positive { pos 0 <ℤ n }
+    requires d_positive { pos 0 <ℤ d }
+    ensures first { (g : ℕ) → IsGcd (unsigned_abs n) (unsigned_abs d) g → result.0 ≡ pos (unsigned_abs n / g) }
+    ensures second { (g : ℕ) → IsGcd (unsigned_abs n) (unsigned_abs d) g → result.1 ≡ pos (unsigned_abs d / g) }
+{
+    let divisor = common_divisor(n, d);
+    (quotient(n, divisor), quotient(d, divisor))
+}
+
+/// The product of two whole numbers, which fits.
+pub(crate) fn product(n: i128, m: i128) -> i128
+    requires { unsigned_abs (n *ℤ m) < 2 ^ 127 }
+    ensures { result ≡ n *ℤ m }
+{
+    n * m
+}
+
+/// The sum of two whole numbers, which fits.
+pub(crate) fn total(n: i128, m: i128) -> i128
+    requires { unsigned_abs (n +ℤ m) < 2 ^ 127 }
+    ensures { result ≡ n +ℤ m }
+{
+    n + m
+}
+
+/// The difference of two whole numbers, which fits.
+pub(crate) fn difference(n: i128, m: i128) -> i128
+    requires { unsigned_abs (n -ℤ m) < 2 ^ 127 }
+    ensures { result ≡ n -ℤ m }
+{
+    n - m
 }

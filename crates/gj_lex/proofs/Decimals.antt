@@ -74,10 +74,11 @@ no_number_from_there word i front limit l is refuted (d, small) =
     let step : digits_value 10 (take (i + 1) word) ≡ front * 10 + digit_value (get_or word i 0) = digits_value_more 10 word i l ∙ ap (λ v. v * 10 + digit_value (get_or word i 0)) (sym is) in
     refuted (omega arith, omega (arith, step, digits_value-take-le 10 word (i + 1) (omega arith)))
 
--- a number of 128 bits has between 1 and 39 digits
+-- a number of 128 bits has a digit
 pub decimal_some : (n : ℕ) → n < 2 ^ 128 → 0 < length (decimal n)
 decimal_some n small = (decimal_is_IsNumeral_wide n (omega arith)).0.0
 
+-- and has at most 39
 pub decimal_at_most : (n : ℕ) → n < 2 ^ 128 → length (decimal n) ≤ 39
 decimal_at_most n small = length-decimal-le_wide 39 n (omega arith) (omega arith) (omega arith)
 

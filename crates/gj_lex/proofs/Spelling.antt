@@ -42,15 +42,18 @@ within_bits a n same small = omega (arith, ints)
 
 -- ---- the denominator
 
+-- nothing is written for a denominator below 2
 pub denominator_small : (d : ℕ) → d < 2 → denominator_text d ≡ []
 unfolding denominator_text
 denominator_small zero h = refl
 denominator_small (suc zero) h = refl
 denominator_small (suc (suc d)) h = absurd (omega arith)
 
+-- nor for 1
 pub denominator_one : denominator_text 1 ≡ []
 denominator_one = denominator_small 1 (omega arith)
 
+-- from 2 on a `/` and the digits are
 pub denominator_more : (d : ℕ) → 2 ≤ d → denominator_text d ≡ 47 ∷ decimal d
 unfolding denominator_text
 denominator_more d h = rw (le-leb 2 d h) refl
@@ -80,6 +83,7 @@ denominator_read word digits d slash rest some e =
     let h = denominator_some (unsigned_abs d) word (omega (arith, ints)) (omega (arith, ap length whole)) e in
     (h.0, rest ∙ ap (drop 1) h.1)
 
+-- a `/` and the digits of a number of at least 2 are a denominator
 pub denominator_found : (word digits : List ℕ) (d : ℕ) → pointwise eqb (take 1 word) (47 ∷ []) ≡ true → digits ≡ drop 1 word →
     digits ≡ decimal d → 2 ≤ d → word ≡ denominator_text d
 denominator_found word digits d slash rest spelled two =
@@ -177,6 +181,7 @@ parts_of_text word n d small some e =
 frac_of : (n d : ℤ) → IsLowest n d → Frac
 frac_of n d h = record { num = n; den = d; lowest = h }
 
+-- two parts are in lowest terms in one way
 lowest_prop : (n d : ℤ) (h k : IsLowest n d) → h ≡ k
 lowest_prop n d = hlevel props
 
@@ -187,6 +192,7 @@ same_parts n d m e h k p q =
     let Q : ℤ → Type 0 = λ z. (l : IsLowest n z) → frac_of n d h ≡ frac_of n z l in
     subst P p (subst Q q (λ l. ap (frac_of n d) (lowest_prop n d h l))) k
 
+-- the same, of any two fractions
 pub same_frac : (x y : Frac) → x.num ≡ y.num → x.den ≡ y.den → x ≡ y
 unfolding frac_of
 same_frac x y p q = same_parts x.num x.den y.num y.den x.lowest y.lowest p q

@@ -29,10 +29,12 @@ decimal_number_bytes n small = All-weaker IsAsciiDigit IsNumberByte (λ b h. inl
 
 -- ---- fractions
 
+-- the bytes of a numerator
 signed_bytes : (n : ℤ) → unsigned_abs n < 2 ^ 127 → All IsNumberByte (signed_decimal n)
 signed_bytes (pos n) small = decimal_number_bytes n (omega arith)
 signed_bytes (negsuc n) small = All-cons IsNumberByte 45 (decimal (suc n)) (inr (inl refl)) (decimal_number_bytes (suc n) (omega arith))
 
+-- the bytes of a denominator
 denominator_bytes : (d : ℕ) → d < 2 ^ 127 → All IsNumberByte (denominator_text d)
 denominator_bytes zero small = subst (All IsNumberByte) (sym (denominator_small 0 (omega arith))) (All-nil IsNumberByte)
 denominator_bytes (suc zero) small = subst (All IsNumberByte) (sym (denominator_small 1 (omega arith))) (All-nil IsNumberByte)
@@ -45,6 +47,7 @@ pub fraction_bytes : (x : Frac) → All IsNumberByte (fraction_text x)
 fraction_bytes x =
     All-append IsNumberByte (signed_decimal x.num) (denominator_text (unsigned_abs x.den)) (signed_bytes x.num x.lowest.num_fits) (denominator_bytes (unsigned_abs x.den) x.lowest.den_fits)
 
+-- a numerator is not empty
 signed_some : (n : ℤ) → unsigned_abs n < 2 ^ 127 → 0 < length (signed_decimal n)
 signed_some (pos n) small = decimal_some n (omega arith)
 signed_some (negsuc n) small = omega arith
@@ -55,6 +58,7 @@ fraction_some x = omega (arith, signed_some x.num x.lowest.num_fits, length-appe
 
 -- ---- words
 
+-- a digit parts no words
 digit_in_word : (b : ℕ) → IsAsciiDigit b → IsWordByte b
 digit_in_word b h = record {
   no_tab = λ e. omega (arith, h);
@@ -63,6 +67,7 @@ digit_in_word b h = record {
   no_space = λ e. omega (arith, h);
 }
 
+-- nor does a `-` or a `/`
 number_byte_in_word : (b : ℕ) → IsNumberByte b → IsWordByte b
 number_byte_in_word b (inl h) = digit_in_word b h
 number_byte_in_word b (inr (inl h)) = record {

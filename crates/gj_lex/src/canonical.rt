@@ -1,6 +1,6 @@
 //! Numbers read in their one spelling.
 
-ghost use Rattle.std.specs.Prelude.{◌≡◌, ◌≢◌, ◌+◌, ◌^◌, ◌<◌, ◌≤◌, ℕ, ℤ, pos, ◌<ℤ◌, ◌++◌, ◌∷◌, decimal, unsigned_abs, IfSome, IsSome, ◌==◌};
+ghost use Rattle.std.specs.Prelude.{◌≡◌, ◌==◌, ◌^◌, ◌<◌, ℕ, ℤ, pos, ◌<ℤ◌, decimal, unsigned_abs, IfSome, IsSome};
 ghost use Rattle.std.specs.List.{position, position_or_len};
 ghost use Rattle.std.specs.Fmt.{signed_decimal};
 ghost use Rattle.gj_frac.specs.Fraction.{numerator, denominator};
@@ -11,6 +11,8 @@ use crate::digits::read_digits;
 use gj_frac::Frac;
 
 /// The count below 2^32 that the word spells in canonical form: digits without a leading zero.
+///
+/// None where the word is no such number, or one from 2^32 on.
 pub fn read_count(word: &[u8]) -> Option<u32>
     ensures found { IfSome result (λ n. word.now ≡ decimal n) }
     ensures only { (n : ℕ) → n < 2 ^ 32 → word.now ≡ decimal n → result ≡ Some n }

@@ -1,6 +1,6 @@
 //! Numbers printed in their one spelling.
 
-ghost use Rattle.std.specs.Prelude.{◌≡◌, ◌+◌, ◌^◌, ◌<◌, ◌≤◌, ◌++◌, length, drop, decimal, unsigned_abs, pos, ◌<ℤ◌, OnOk, OnErr};
+ghost use Rattle.std.specs.Prelude.{◌≡◌, ◌≤◌, ◌++◌, length, drop, decimal, OnOk, OnErr};
 ghost use Rattle.std.specs.Fmt.{signed_decimal};
 ghost use Rattle.gj_lex.specs.NumberText.{fraction_text, denominator_text};
 

@@ -1,5 +1,6 @@
 pub mod AtLemmas
 pub mod Averages
+pub mod ContinuousGiven
 pub mod DerivedLemmas
 pub mod GivenLemmas
 pub mod InOrder

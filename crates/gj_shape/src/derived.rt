@@ -46,7 +46,8 @@ impl Shape {
         requires some { 0 < times }
         requires few { self.now.order * times ≤ 1000 }
         ensures length { IfOk result (λ v. length v.items ≡ self.now.order * times) }
-        ensures fractions { IfOk result (λ v. AreOver (refined self.now entries.now times) (self.now.scale * times) v.items) }
+        ensures fractions { IfOk result (λ v.
+            AreOver (refined self.now entries.now times) (self.now.scale * times) v.items) }
     {
         let count = self.order() * times;
         let scale = self.common_denominator() * i128::from(times);

@@ -10,7 +10,7 @@ use Rattle.gj_top.specs.declared.status.Status.TheVariants.{Done, Rejected, Word
 use Rattle.gj_top.specs.FunctionLines.{line}
 use Rattle.gj_top.specs.FirstForm.{IsFirstForm}
 use Rattle.gj_top.specs.Verdict.{IsVerdict}
-use Rattle.gj_top.specs.Answer.{IsMinimalCommand, IsAnswer, IsDecided, input_limit}
+use Rattle.gj_top.specs.Answer.{IsMinimalCommand, IsAnswer, IsOutside, input_limit}
 use Rattle.gj_top.specs.Told.{IsTold}
 use Rattle.gj_top.specs.Outcome.{IsOutcome, IsToBeWritten, IsLeft, IsReadInPart, IsTrueVerdict}
 
@@ -82,10 +82,12 @@ end_at input after s r d o w e =
     let read : IsReadInPart input after = (length input, omega arith, e ∙ ap Some (sym (drop_all (length input) input (omega arith)))) in
     let long : IsLeft input after Input = e ∙ ap Some (sym (drop_all (input_limit + 1) input (omega arith))) in
     elim o [
-      inl q ↦ elim d [
-        inl p ↦ subst (λ (x : Status). IsLeft input after x) (sym (q ∙ p)) e
-      | inr p ↦ subst (λ (x : Status). IsLeft input after x) (sym (q ∙ p)) long ]
-    | inr q ↦ subst (λ (x : Status). IsLeft input after x) (sym q) read ]
+      | inl q ↦ elim d [
+        | inl p ↦ subst (λ (x : Status). IsLeft input after x) (sym (q ∙ p)) e
+        | inr p ↦ subst (λ (x : Status). IsLeft input after x) (sym (q ∙ p)) long
+      ]
+      | inr q ↦ subst (λ (x : Status). IsLeft input after x) (sym q) read
+    ]
 
 -- what is left of an input that was read to its end
 pub left_at_end : (left after : Option (List ℕ)) (bytes : Vec ℕ Global) (s r : Status) → (s ≡ Done) ⊎ (s ≡ Input) → (r ≡ s) ⊎ (r ≡ WriteFault) → vec_len bytes ≤ input_limit → IfSome left (λ l. TakesAll input_limit l after (Ok bytes)) → IfSome left (λ input. IsLeft input after r)
@@ -111,3 +113,8 @@ headline_of_answer words (Some input) (Some before) written' sure r text a t e =
 pub not_in_form : (words : List (String Global)) (left : Option (List ℕ)) (P : List ℕ → Type 0) → IfSome left (λ input. IsAnswer words input Input (line (codes "refused"))) → IfSome left (λ input. (f : FunctionData) → IsMinimalCommand words → IsFirstForm input f → length input ≤ input_limit → P input)
 not_in_form words None P a = tt
 not_in_form words (Some input) P a = λ f m h l. absurd (elim a.1 [ inl q ↦ omega (arith, q.0) | inr q ↦ q.1 f h ])
+
+-- an input that is refused is outside the form or the limit
+pub outside_of_answer : (words : List (String Global)) (left : Option (List ℕ)) (r : Status) (text : List ℕ) → IfSome left (λ input. IsAnswer words input Input text) → IfSome left (λ input. r ≡ Input → IsOutside input)
+outside_of_answer words None r text a = tt
+outside_of_answer words (Some input) r text a = λ e. elim a.1 [ inl q ↦ inl q.0 | inr q ↦ inr q.1 ]

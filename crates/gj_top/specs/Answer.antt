@@ -20,6 +20,10 @@ IsMinimalCommand words = map string_bytes words ≡ codes "minimal" ∷ []
 abbrev pub IsDecided : List ℕ → List ℕ → Type 0
 IsDecided input text = (length input ≤ input_limit) × (f : FunctionData) × IsFirstForm input f × IsVerdict f text
 
+-- an input is too long, or is no function in the first form
+abbrev pub IsOutside : List ℕ → Type 0
+IsOutside input = (input_limit < length input) ⊎ ((f : FunctionData) → IsFirstForm input f → ⊥)
+
 -- an input is too long, or is no function in the first form, and the text says so
 abbrev pub IsRefused : List ℕ → List ℕ → Type 0
 IsRefused input text =

@@ -1,10 +1,11 @@
 -- The lines of a continuous function in canonical form (own).
-use Rattle.std.specs.Prelude.{ℕ, ℤ, pos, ◌≡◌, List, [], ◌∷◌, ◌++◌, codes, decimal, flat_map}
+use Rattle.std.specs.Prelude.{ℕ, pos, ◌≡◌, List, [], ◌∷◌, ◌++◌, length, codes, decimal, flat_map}
 use Rattle.std.specs.List.{AllZip}
 use Rattle.gj_frac.specs.declared.Frac.{Frac}
 use Rattle.gj_frac.specs.Fraction.{Is}
 use Rattle.gj_lex.specs.NumberText.{fraction_text}
 use Rattle.gj_shape.specs.FunctionData.{FunctionData}
+use Rattle.gj_shape.specs.Given.{IsOrder}
 
 -- a line: its bytes and a line feed
 abbrev pub line : List ℕ → List ℕ
@@ -34,3 +35,14 @@ pub record AreFunctionLines (f : FunctionData) (text : List ℕ) : Type 0 where
   pub place_is : Is place (pos f.place) (pos f.order)
   pub values_are : AllZip (λ x n. Is x n (pos f.scale)) values f.value
   pub spelled : text ≡ lines_of f.order place values
+
+-- the text begins with the lines of an order from 2 to 1,000 and of a place, and the rest follows
+pub record BeginsWithHead (text : List ℕ) (order : ℕ) (place : Frac) (rest : List ℕ) : Type 0 where
+  pub order_fits : IsOrder order
+  pub spelled : text ≡ order_line order ++ place_line place ++ rest
+
+-- the text begins with the lines of an order from 2 to 1,000, a place and as many values, and the rest follows
+pub record BeginsWithLines (text : List ℕ) (order : ℕ) (place : Frac) (values : List Frac) (rest : List ℕ) : Type 0 where
+  pub order_fits : IsOrder order
+  pub count : length values ≡ order
+  pub spelled : text ≡ lines_of order place values ++ rest

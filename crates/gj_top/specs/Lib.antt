@@ -1,5 +1,6 @@
 pub mod FunctionLines
 pub mod FirstForm
+pub mod FormErrors
 pub mod Verdict
 pub mod Answer
 pub mod Code

@@ -5,7 +5,7 @@ ghost use Rattle.std.specs.Prelude.{◌≡◌, ◌≢◌, ◌⊎◌, ◌≤◌, 
 ghost use Rattle.gj_port.specs.Faults.{HasFailed};
 ghost use Rattle.gj_shape.specs.FunctionData.{FunctionData};
 ghost use Rattle.gj_top.specs.FirstForm.{IsFirstForm};
-ghost use Rattle.gj_top.specs.Answer.{IsMinimalCommand, input_limit};
+ghost use Rattle.gj_top.specs.Answer.{IsMinimalCommand, IsOutside, input_limit};
 ghost use Rattle.gj_top.specs.Verdict.{IsVerdict};
 ghost use Rattle.gj_top.specs.Told.{IsTold};
 ghost use Rattle.gj_top.specs.Outcome.{IsOutcome, IsLeft, IsTrueVerdict};
@@ -16,16 +16,14 @@ use std::alloc::Global;
 
 mod first_form;
 mod lines;
-#[cfg(test)]
-mod run_tests;
 mod status;
 #[cfg(test)]
 mod tests;
 mod verdict;
 
 use first_form::{FormError, read_first_form};
-use verdict::write_verdict;
 pub use status::Status;
+use verdict::write_verdict;
 
 /// The most bytes that are read of an input.
 const INPUT_LIMIT: usize = 16_777_216;
@@ -53,6 +51,9 @@ pub fn run<S: Source, K: Sink>(
     // The words alone decide whether they are a command.
     ensures words { result ≡ Status.Words → IsMinimalCommand words.now → ⊥ }
     ensures command { (IsMinimalCommand words.now → ⊥) → (result ≡ Status.Words) ⊎ (result ≡ Status.WriteFault) }
+
+    // An input is refused only where it is too long or in no form.
+    ensures refused { IfSome (S.left source.old) (λ input. result ≡ Status.Input → IsOutside input) }
 
     // A fault of the source or the sink is answered only where there was one.
     ensures read_fault { result ≡ Status.ReadFault → HasFailed (S.faults source.old) (S.faults source.new) }

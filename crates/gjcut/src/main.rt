@@ -3,11 +3,10 @@
 
 use gj_port::{StdSink, StdSource};
 use gj_top::run;
-use std::env;
-use std::io;
 use std::io::ErrorKind;
 use std::process::ExitCode;
 use std::rt::Env;
+use std::{env, io};
 
 /// How the program ends where the system has no memory for the list of words.
 const NO_MEMORY_FOR_WORDS: u8 = 6;

@@ -15,13 +15,14 @@ one_element (y ∷ z ∷ zs) x l h e = absurd (omega arith)
 decides_command : (words : List (String Global)) (word : String Global) (bytes : List ℕ) (r : Bool) → words ≡ word ∷ [] → bytes ≡ string_bytes word → r ≡ bytes_eq bytes (codes "minimal") → IsTrue r ↔ IsMinimalCommand words
 decides_command words word bytes r e f h =
     let same = bytes_eq-Decides bytes (codes "minimal") in
-    let words_are : map string_bytes words ≡ string_bytes word ∷ [] = ap (map string_bytes) e in
-    (λ t. words_are ∙ ap (λ (b : List ℕ). b ∷ []) (sym f ∙ same.0 (sym h ∙ t)),
-     λ m. let one : string_bytes word ∷ [] ≡ codes "minimal" ∷ [] = sym words_are ∙ m in
+    let words_are : map string_bytes words ≡ string_bytes word ∷ [] = ap (map string_bytes) e in (
+      λ t. words_are ∙ ap (λ (b : List ℕ). b ∷ []) (sym f ∙ same.0 (sym h ∙ t)),
+      λ m. let one : string_bytes word ∷ [] ≡ codes "minimal" ∷ [] = sym words_are ∙ m in
           let is : string_bytes word ≡ codes "minimal" = cc in
-          h ∙ same.1 (f ∙ is))
+          h ∙ same.1 (f ∙ is),
+    )
 
 pub returns-in-len1 : goal.returns-in-len1
 returns-in-len1 c =
     decides_command c.args.words.now c.word-item.result c.as_str.result.now c.eq.result
-        (one_element c.args.words.now c.word-item.result c.in-len1.len_at_least c.in-len1.len_below c.word-item.is) c.as_str.ensures.value c.eq.ensures
+    (one_element c.args.words.now c.word-item.result c.in-len1.len_at_least c.in-len1.len_below c.word-item.is) c.as_str.ensures.value c.eq.ensures

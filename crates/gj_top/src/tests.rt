@@ -26,9 +26,11 @@ fn ran(
     Ok((status, sink))
 }
 
-const FIVE_PIECES: &str = "gj-function 1\norder 5\nf 3/5\npoint 0\npoint 1/3\npoint 2/3\npoint 1\npoint 1/2\nend\n";
+const FIVE_PIECES: &str =
+    "gj-function 1\norder 5\nf 3/5\npoint 0\npoint 1/3\npoint 2/3\npoint 1\npoint 1/2\nend\n";
 
-const FIVE_PIECES_MINIMAL: &str = "gj-proof 1\nclaim minimal\norder 5\nf 3/5\npoint 0\npoint 1/3\npoint 2/3\npoint 1\npoint 1/2\nend\n";
+const FIVE_PIECES_MINIMAL: &str =
+    "gj-proof 1\nclaim minimal\norder 5\nf 3/5\npoint 0\npoint 1/3\npoint 2/3\npoint 1\npoint 1/2\nend\n";
 
 #[test]
 fn verdicts_are_written(rt: HostRuntime) -> Result<(), Fail> {

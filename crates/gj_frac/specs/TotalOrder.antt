@@ -1,0 +1,72 @@
+-- The laws of the order of fractions, each proved: a total order by value, in which equal values are one fraction.
+use Rattle.std.proofs.Common.{◌≡◌, ◌&&◌, true, ℤ, pos, ◌*ℤ◌, ◌<ℤ◌, refl, ap, subst, subst₂, arith}
+use Rattle.std.proofs.lemmas.Int.{ints}
+use Rattle.std.proofs.lemmas.Cmp.{int_ranked, int_eq_equiv}
+use Rattle.std.specs.Bool.{Decides, one_answer}
+use Rattle.std.specs.Cmp.{IsTotalOrder, IsPartialOrder, strict, means, po, first_so, second_so, signed_Decides, Equal-is, tied_itself}
+use Rattle.std.specs.declared.cmp.Ordering.{Ordering}
+use Rattle.std.specs.declared.cmp.Ordering.TheVariants.{Less, Equal, Greater}
+use Rattle.std.specs.Ordering.{MatchOrdering, is_eq, int_eq, eq_by_cmp, as_partial_cmp}
+use Rattle.gj_frac.specs.declared.Frac.{Frac}
+use Rattle.gj_frac.specs.Fraction.{LessValue, fraction_of}
+use Rattle.gj_frac.specs.CompareValues.{compare_values}
+use Rattle.gj_frac.specs.Products.{swap_last_z, mul_lt_mul_right_z, mul_lt_cancel_right_z}
+use Rattle.gj_frac.specs.SameParts.{same_value_same, same_parts_same}
+
+-- x is less than y
+abbrev pub IsLess : Frac → Frac → Type 0
+IsLess x y = LessValue (fraction_of x) (fraction_of y)
+
+less_irrefl : (x : Frac) → ¬ (IsLess x x)
+less_irrefl x h = omega (arith, ints)
+
+less_trans : (x y z : ℤ) → x <ℤ y → y <ℤ z → x <ℤ z
+less_trans x y z h k = omega (arith, ints)
+
+-- a/b < c/d and c/d < e/f give a/b < e/f
+less_cross : (a b c d e f : ℤ) → pos 0 <ℤ b → pos 0 <ℤ d → pos 0 <ℤ f → (a *ℤ d) <ℤ (c *ℤ b) → (c *ℤ f) <ℤ (e *ℤ d) → (a *ℤ f) <ℤ (e *ℤ b)
+less_cross a b c d e f b_some d_some f_some h k =
+    let below : ((a *ℤ f) *ℤ d) <ℤ ((c *ℤ f) *ℤ b) =
+    subst₂ (λ u v. u <ℤ v) (swap_last_z a d f) (swap_last_z c b f) (mul_lt_mul_right_z (a *ℤ d) (c *ℤ b) f f_some h) in
+    let above : ((c *ℤ f) *ℤ b) <ℤ ((e *ℤ b) *ℤ d) =
+    subst (λ v. ((c *ℤ f) *ℤ b) <ℤ v) (swap_last_z e d b) (mul_lt_mul_right_z (c *ℤ f) (e *ℤ d) b b_some k) in
+    mul_lt_cancel_right_z (a *ℤ f) (e *ℤ b) d d_some (less_trans _ _ _ below above)
+
+less_chain : (x y z : Frac) → IsLess x y → IsLess y z → IsLess x z
+less_chain x y z = less_cross x.num x.den y.num y.den z.num z.den x.lowest.positive y.lowest.positive z.lowest.positive
+
+-- the second of three cases in other words
+ranked_as : (r : Ordering) (P Q Q' R : Type 0) → (Q → Q') → MatchOrdering r P Q R → MatchOrdering r P Q' R
+ranked_as Less P Q Q' R f h = h
+ranked_as Equal P Q Q' R f h = f h
+ranked_as Greater P Q Q' R f h = h
+
+-- what an answer says of the two fractions
+pub compare_values_ranks : (x y : Frac) → MatchOrdering (compare_values x y) (IsLess x y) (x ≡ y) (IsLess y x)
+compare_values_ranks x y =
+    ranked_as (compare_values x y) _ _ _ _ (same_value_same x y) (int_ranked (x.num *ℤ y.den) (y.num *ℤ x.den) (compare_values x y) refl)
+
+pub compare_values_total : IsTotalOrder compare_values
+compare_values_total = strict IsLess less_irrefl less_chain compare_values compare_values_ranks
+
+-- equal parts are told by `==`
+parts_Decides : (x y : Frac) → Decides (int_eq x.num y.num && int_eq x.den y.den) (x ≡ y)
+parts_Decides x y = (
+  λ e. same_parts_same x y ((signed_Decides x.num y.num).0 (first_so _ _ e)) ((signed_Decides x.den y.den).0 (second_so _ _ e)),
+  λ e. subst (λ (z : Frac). (int_eq x.num z.num && int_eq x.den z.den) ≡ true) e
+      (λ i. int_eq_equiv.refl x.num i && int_eq_equiv.refl x.den i),
+)
+
+-- so is the answer that they are equal
+ties_Decides : (x y : Frac) → Decides (eq_by_cmp compare_values x y) (x ≡ y)
+ties_Decides x y = (
+  λ e. means IsLess less_irrefl less_chain compare_values compare_values_ranks x y Equal ((Equal-is (compare_values x y)).0 e),
+  λ e. subst (λ (z : Frac). eq_by_cmp compare_values x z ≡ true) e (ap is_eq (tied_itself compare_values_total x)),
+)
+
+-- `==` holds exactly where neither is less
+pub compare_values_ties : (x y : Frac) → (int_eq x.num y.num && int_eq x.den y.den) ≡ eq_by_cmp compare_values x y
+compare_values_ties x y = one_answer _ _ (parts_Decides x y) (ties_Decides x y)
+
+pub compare_values_partial : IsPartialOrder (λ (x y : Frac). int_eq x.num y.num && int_eq x.den y.den) (as_partial_cmp compare_values)
+compare_values_partial = po compare_values_total compare_values_ties

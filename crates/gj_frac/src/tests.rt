@@ -1,0 +1,59 @@
+ghost use Rattle.std.specs.Prelude.{◌≢◌, ◌<◌, ◌^◌, ◌↔◌, IsTrue, unsigned_abs};
+ghost use Rattle.gj_frac.specs.Fraction.{Is, LessValue, fraction_of};
+
+use crate::Frac;
+
+/// The fraction `num/den`, which fits.
+fn fraction(num: i128, den: i128) -> Frac
+    requires zero { unsigned_abs den ≢ 0 }
+    requires num_fits { unsigned_abs num < 2 ^ 127 }
+    requires den_fits { unsigned_abs den < 2 ^ 127 }
+    ensures { Is result num den }
+{
+    Frac::new(num, den).unwrap()
+}
+
+/// `<` says exactly whether the one value is less than the other.
+fn is_less(x: Frac, y: Frac) -> bool
+    ensures { IsTrue result ↔ LessValue (fraction_of x) (fraction_of y) }
+{
+    x < y
+}
+
+#[test]
+fn a_fraction_is_in_lowest_terms(rt: HostRuntime) {
+    let half = fraction(-3, -6);
+    assert_eq!(rt; half.num(), 1);
+    assert_eq!(rt; half.den(), 2);
+    assert_eq!(rt; fraction(0, -5), fraction(0, 1));
+    assert!(rt; Frac::new(i128::MAX, 1).is_some());
+    assert!(rt; Frac::new(1, 0).is_none());
+    assert!(rt; Frac::new(i128::MIN, 1).is_none());
+    assert!(rt; Frac::new(1, i128::MIN).is_none());
+}
+
+#[test]
+fn a_sum_reaches_the_limit(rt: HostRuntime) {
+    let sum = fraction(i128::MAX - 1, 1) + fraction(1, 1);
+    assert_eq!(rt; sum, fraction(i128::MAX, 1));
+}
+
+#[test]
+fn sums_and_differences_are_in_lowest_terms(rt: HostRuntime) {
+    let sum = fraction(1, 6) + fraction(1, 3);
+    assert_eq!(rt; sum.num(), 1);
+    assert_eq!(rt; sum.den(), 2);
+    assert_eq!(rt; fraction(1, 2) - fraction(1, 3), fraction(1, 6));
+}
+
+#[test]
+fn comparisons_go_by_value(rt: HostRuntime) {
+    assert!(rt; is_less(fraction(-7, 3), fraction(-2, 1)));
+    assert!(rt; is_less(fraction(2, 1), fraction(7, 3)));
+    assert!(rt; is_less(fraction(-1, 3), fraction(0, 1)));
+    let low = fraction(i128::MAX, i128::MAX - 1);
+    let high = fraction(i128::MAX - 1, i128::MAX - 2);
+    assert!(rt; is_less(low, high));
+    assert!(rt; !is_less(high, low));
+    assert!(rt; !is_less(low, low));
+}

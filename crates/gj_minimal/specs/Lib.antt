@@ -1,0 +1,2 @@
+pub mod FirstFailure
+pub mod AtIndices
