@@ -2,7 +2,7 @@
 ghost use Rattle.std.specs.Prelude.{◌≡◌, ◌+◌, ◌-◌, ◌<◌, ◌^◌, ◌↔◌, length, IsTrue, unsigned_abs};
 ghost use Rattle.gj_shape.specs.FunctionData.{IsContinuous};
 ghost use Rattle.gj_shape.specs.FirstViolation.{PassesAll};
-ghost use Rattle.gj_check.specs.Values.{FitSums, AreNonnegative, IsMirrored, AreSymmetric, AreWithin, IsSubadditiveRow, AreSubadditive};
+ghost use Rattle.gj_check.specs.Values.{FitSums, AreNonnegative, IsMirrored, AreSymmetric, AreWithin, IsSubadditiveRow, AreSubadditive, AreMinimal};
 
 use gj_shape::Shape;
 
@@ -14,9 +14,18 @@ pub(crate) fn is_minimal(shape: &Shape) -> bool
     let values = shape.value_numerators();
     let place = shape.place() as usize;
     let scale = shape.common_denominator() as i64;
+    are_minimal(values, place, scale)
+}
+
+/// Whether the values are those of a minimal function, where f stands at the place and 1 is the total.
+fn are_minimal(values: &[i64], place: usize, total: i64) -> bool
+    requires small { FitSums values.now }
+    requires within { place < length values.now }
+    ensures { IsTrue result ↔ AreMinimal values.now place total }
+{
     values[0] == 0
         && are_nonnegative(values)
-        && are_symmetric(values, place, scale)
+        && are_symmetric(values, place, total)
         && are_subadditive(values)
 }
 
