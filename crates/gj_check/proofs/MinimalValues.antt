@@ -1,20 +1,14 @@
 -- The values of a continuous function are those of a minimal function exactly where all tests of minimality pass.
-use Rattle.std.proofs.Common.{◌≡◌, ℕ, ◌+◌, ◌-◌, ◌+ℤ◌, ◌<◌, ◌^◌, ◌*◌, ◌≤◌, ◌↔◌, ℤ, pos, ◌≤ℤ◌, List, length, get_or, unsigned_abs, sym, subst, ◌∙◌, to_z, of_z, w64, arith}
+use Rattle.std.proofs.Common.{◌≡◌, ℕ, ◌+◌, ◌-◌, ◌+ℤ◌, ◌<◌, ◌^◌, ◌↔◌, ℤ, pos, List, length, sym, subst, ◌∙◌, to_z, of_z, w64, arith}
 use Rattle.std.proofs.lemmas.Int.{ints}
 use mir.Syntax.{w128}
 use Rattle.gj_shape.specs.FunctionData.{FunctionData, IsWithinLimits, IsContinuous, at}
 use Rattle.gj_shape.specs.FirstViolation.{PassesAll}
 use Rattle.gj_shape.proofs.AtLemmas.{at_below}
 use Rattle.gj_theory.proofs.Continuous.{grid_points_suffice, grid_points_pass}
-use Rattle.gj_check.specs.Values.{FitSums, AreMinimal}
+use Rattle.gj_check.specs.Values.{AreMinimal}
 
--- values of a function are small enough
-pub values_fit : (f : FunctionData) → IsWithinLimits f → FitSums f.value
-values_fit f l k d below =
-    let small = l.value_small k d below in
-    let high = l.scale_high in
-    omega arith
-
+-- its values and the tests
 pub values_minimal : (f : FunctionData) → IsWithinLimits f → IsContinuous f →
     AreMinimal f.value f.place (pos f.scale) ↔ PassesAll f
 values_minimal f l c =

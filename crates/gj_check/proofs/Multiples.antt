@@ -1,5 +1,5 @@
 -- Common multiples, and coordinates with a common denominator.
-use Rattle.std.proofs.Common.{◌≡◌, ℕ, ◌*◌, ◌/◌, ◌<◌, ◌≤◌, ◌^◌, ◌↔◌, List, [], ◌∷◌, All, unsigned_abs, inl, sym, arith}
+use Rattle.std.proofs.Common.{◌≡◌, ℕ, ◌*◌, ◌/◌, ◌<◌, ◌≤◌, ◌^◌, ◌↔◌, [], ◌∷◌, unsigned_abs, inl, sym, arith}
 use Rattle.std.specs.Int.{◌∣◌, IsGcd}
 use Rattle.std.proofs.Math.Nat.{div-mul_cancel, one-dvd}
 use Rattle.std.proofs.lemmas.Nat.Gcd.{le_of_dvd}
@@ -7,7 +7,7 @@ use Rattle.std.proofs.lemmas.List.Elements.{All-nil, All-cons, All-head, All-tai
 use Rattle.gj_frac.specs.declared.Frac.{Frac}
 use Rattle.gj_frac.specs.Fraction.{denominator}
 use Rattle.gj_frac.proofs.Divisors.{gcd_positive, lcm_from_gcd, lcm_positive}
-use Rattle.gj_proof.specs.Rules.{IsCoordinate, HasFineDenominator}
+use Rattle.gj_proof.specs.Rules.{IsCoordinate}
 use Rattle.gj_check.specs.Coordinates.{HasFineMultiple, AreCoordinates}
 
 -- the least common multiple is the one to test

@@ -1,7 +1,8 @@
 -- What fractions over one denominator say of their numerators.
-use Rattle.std.proofs.Common.{◌≡◌, ◌≢◌, ℕ, ◌*◌, ◌+◌, ◌<◌, ◌≤◌, ◌^◌, ◌↔◌, ℤ, pos, ◌+ℤ◌, ◌*ℤ◌, ◌<ℤ◌, ◌≤ℤ◌, unsigned_abs, [], ◌∷◌, refl, sym, ap, ap₂, subst₂, ◌∙◌, arith}
+use Rattle.std.proofs.Common.{◌≡◌, ℕ, ◌<◌, ◌≤◌, ◌^◌, ◌↔◌, ℤ, pos, ◌+ℤ◌, ◌-ℤ◌, to_z, of_z, ◌*ℤ◌, ◌<ℤ◌, unsigned_abs, [], ◌∷◌, refl, sym, ap, ap₂, subst₂, ◌∙◌, arith}
 use Rattle.std.proofs.Math.Nat.{mul-pos}
-use Rattle.std.proofs.lemmas.Int.{ints, unsigned_abs-mul}
+use Rattle.std.proofs.lemmas.Int.{ints, unsigned_abs-mul, to_z-of_z}
+use mir.Syntax.{w128}
 use Rattle.gj_frac.specs.declared.Frac.{Frac}
 use Rattle.gj_frac.specs.Fraction.{Is, SameValue, LessValue, fraction_of, sum_of, numerator, denominator}
 use Rattle.gj_frac.proofs.Integers.{mul_cancel_right_z, mul_lt_mul_right_z, mul_lt_cancel_right_z, mul_positive_z, abs_positive_z}
@@ -31,8 +32,8 @@ sum_over x y s n m w x_is y_is h =
     (sum_left_z x.num y.num x.den y.den w ∙ ap₂ (λ a b. a *ℤ y.den +ℤ b *ℤ x.den) x_is y_is
     ∙ sum_right_z n m x.den y.den)
 
-less_left_z : (a d e w : ℤ) → (a *ℤ e) *ℤ w ≡ (a *ℤ w) *ℤ e
-less_left_z a d e w = by_ring (a ∷ d ∷ e ∷ w ∷ []) (search ring depth 30) refl
+less_left_z : (a e w : ℤ) → (a *ℤ e) *ℤ w ≡ (a *ℤ w) *ℤ e
+less_left_z a e w = by_ring (a ∷ e ∷ w ∷ []) (search ring depth 30) refl
 
 less_right_z : (n d e : ℤ) → (n *ℤ d) *ℤ e ≡ n *ℤ (d *ℤ e)
 less_right_z n d e = by_ring (n ∷ d ∷ e ∷ []) (search ring depth 30) refl
@@ -47,9 +48,9 @@ less_over x y n m w some x_is y_is =
     let positive : pos 0 <ℤ pos w = omega (arith, ints) in
     let both = mul_positive_z x.den y.den x.lowest.positive y.lowest.positive in
     let left : (x.num *ℤ y.den) *ℤ pos w ≡ n *ℤ (x.den *ℤ y.den) =
-    less_left_z x.num x.den y.den (pos w) ∙ ap (λ z. z *ℤ y.den) x_is ∙ less_right_z n x.den y.den in
+    less_left_z x.num y.den (pos w) ∙ ap (λ z. z *ℤ y.den) x_is ∙ less_right_z n x.den y.den in
     let right : (y.num *ℤ x.den) *ℤ pos w ≡ m *ℤ (x.den *ℤ y.den) =
-    less_left_z y.num y.den x.den (pos w) ∙ ap (λ z. z *ℤ x.den) y_is ∙ turned_right_z m x.den y.den in (
+    less_left_z y.num x.den (pos w) ∙ ap (λ z. z *ℤ x.den) y_is ∙ turned_right_z m x.den y.den in (
       λ h. mul_lt_cancel_right_z n m (x.den *ℤ y.den) both
           (subst₂ (λ a b. a <ℤ b) left right (mul_lt_mul_right_z (x.num *ℤ y.den) (y.num *ℤ x.den) (pos w) positive h)),
       λ h. mul_lt_cancel_right_z (x.num *ℤ y.den) (y.num *ℤ x.den) (pos w) positive
@@ -77,3 +78,11 @@ one_over x n w some x_is =
       λ h. mul_cancel_right_z n (pos w) x.den (sym x_is ∙ ap (λ z. z *ℤ pos w) h ∙ turned_z x.den w) (omega arith),
       λ h. mul_cancel_right_z x.num x.den (pos w) (x_is ∙ ap (λ z. z *ℤ x.den) h ∙ sym (turned_z x.den w)) (omega (arith, ints)),
     )
+
+-- a difference of two whole numbers of 94 bits, as the code has it
+pub difference_read : (x y : ℤ) → unsigned_abs x ≤ 2 ^ 94 → unsigned_abs y ≤ 2 ^ 94 →
+    to_z w128 (of_z w128 (to_z w128 (of_z w128 x) -ℤ to_z w128 (of_z w128 y))) ≡ x -ℤ y
+difference_read x y x_small y_small =
+    let first = to_z-of_z w128 x (omega (arith, ints)) in
+    let second = to_z-of_z w128 y (omega (arith, ints)) in
+    rw (first, second) (to_z-of_z w128 (x -ℤ y) (omega (arith, ints)))

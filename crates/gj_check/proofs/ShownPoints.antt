@@ -1,24 +1,26 @@
 -- What the values at the points of a violation say of it.
-use Rattle.std.proofs.Common.{◌≡◌, ◌≢◌, ℕ, zero, suc, subst₂, ◌+◌, ◌-◌, ◌*◌, ◌/◌, ◌%◌, ◌<◌, ◌≤◌, ◌^◌, ◌↔◌, ℤ, pos, ◌+ℤ◌, ◌-ℤ◌, ◌*ℤ◌, ◌<ℤ◌, ◌≤ℤ◌, unsigned_abs, [], ◌∷◌, refl, sym, ap, ap₂, subst, ◌∙◌, arith}
+use Rattle.std.proofs.Common.{◌≡◌, ◌≢◌, ℕ, zero, suc, subst₂, ◌+◌, ◌-◌, ◌*◌, ◌/◌, ◌%◌, ◌<◌, ◌≤◌, ◌^◌, ◌↔◌, ℤ, pos, ◌+ℤ◌, ◌-ℤ◌, ◌*ℤ◌, ◌<ℤ◌, unsigned_abs, get_or, [], ◌∷◌, sym, ap, subst, ◌∙◌, arith}
 use Rattle.std.specs.Int.{◌∣◌}
-use Rattle.std.proofs.Math.Nat.{mul-pos, mul_comm, div-mul_cancel, mul-le-mul_right, mul-lt-mul_of_pos_right, add-mod_right}
+use Rattle.std.proofs.Math.Nat.{mul-pos, mul_comm, div-mul_cancel, mul-le-mul_right, le_of_mul-le-mul_right, mul-lt-mul_of_pos_right, add-mod_right}
 use Rattle.std.proofs.lemmas.Nat.Gcd.{le_of_dvd}
-use Rattle.std.proofs.lemmas.Int.{ints}
-use Rattle.std.proofs.lemmas.List.Elements.{All-head, All-tail}
+use Rattle.std.proofs.lemmas.Int.{ints, unsigned_abs-mul}
+use Rattle.std.proofs.lemmas.List.Elements.{All-nil, All-head, All-tail}
 use Rattle.gj_frac.specs.declared.Frac.{Frac}
 use Rattle.gj_frac.specs.Fraction.{Is, SameValue, LessValue, fraction_of, sum_of, numerator, denominator}
 use Rattle.gj_frac.specs.Fits.{FitsSum}
 use Rattle.gj_frac.proofs.Integers.{sub_mul_z}
 use Rattle.gj_frac.proofs.OneDenominator.{denominator_divides_each, over_one_denominator}
 use Rattle.gj_frac.proofs.Quotients.{from_same_rest}
-use Rattle.gj_frac.proofs.Ring.{by_ring, ring}
-use Rattle.gj_shape.specs.FunctionData.{FunctionData, IsWithinLimits}
+use Rattle.gj_shape.specs.FunctionData.{FunctionData, IsWithinLimits, at}
 use Rattle.gj_shape.specs.Table.{table}
-use Rattle.gj_shape.specs.Values.{IsCongruent, IsValueAt}
-use Rattle.gj_shape.specs.Violation.{IsPoint, IsNegativeAt, IsAsymmetricAt, IsSuperadditiveAt, value_of, ShowsViolation}
+use Rattle.gj_shape.specs.Values.{IsValueAt}
+use Rattle.gj_shape.specs.Violation.{IsPoint, value_of, ShowsViolation}
+use Rattle.gj_shape.specs.declared.violations.Violation.{Violation}
 use Rattle.gj_shape.specs.declared.violations.Violation.TheVariants as violation
-use Rattle.gj_proof.specs.Rules.{IsCoordinate}
-use Rattle.gj_check.specs.Coordinates.{AreCoordinates}
+use Rattle.gj_shape.proofs.AtLemmas.{at_below}
+use Rattle.gj_theory.proofs.Points.{value_at_grid_point}
+use Rattle.gj_proof.specs.Rules.{IsCoordinate, MeetsPoint, coordinates_of}
+use Rattle.gj_check.specs.Coordinates.{AreCoordinates, IsScaledOpposite}
 use Rattle.gj_check.proofs.Ratios.{denominator_is, denominator_some, sum_over, less_over, negative_over, one_over}
 use Rattle.gj_check.proofs.SamePlaces.{value_over, value_on, values_fit_sum}
 
@@ -88,6 +90,12 @@ one_fine x h =
 pub one_within : (x : Frac) → AreCoordinates (x ∷ []) → IsCoordinate x
 one_within x h = All-head IsCoordinate x [] h.each
 
+pub one_small : (x : Frac) → AreCoordinates (x ∷ []) → unsigned_abs (numerator x) ≤ 2 ^ 62
+one_small x h =
+    let below = coordinate_below x (one_within x h) in
+    let fine = one_fine x h in
+    omega arith
+
 pub coordinate_small : (x : Frac) → IsCoordinate x → unsigned_abs (numerator x) ≤ 2 ^ 31 * unsigned_abs (denominator x)
 coordinate_small x h = let below = coordinate_below x h in omega arith
 
@@ -107,10 +115,6 @@ negative_shown f x y l x_is is =
 
 -- ---- values that do not add up to 1
 
--- z is q (f - x)
-abbrev pub IsScaledOpposite : FunctionData → Frac → Frac → Type 0
-IsScaledOpposite f x z = Is z (pos f.place *ℤ denominator x -ℤ numerator x *ℤ pos f.order) (denominator x)
-
 congruent_by : (j m n a b p : ℕ) → m + j + b * p ≡ n + a * p →
     pos j ≡ (pos n -ℤ pos m) +ℤ (pos a -ℤ pos b) *ℤ pos p
 congruent_by j m n a b p e = let parts = sub_mul_z (pos a) (pos b) (pos p) in omega (arith, ints)
@@ -121,7 +125,10 @@ opposite_value : (f : FunctionData) (x z y : Frac) (n d j : ℕ) → IsWithinLim
     (n * f.order + j) % (f.order * d) ≡ (f.place * d) % (f.order * d) → Is y (table f d j) (pos (f.scale * d))
 opposite_value f x z y n d j l p z_is is opposite =
     let t = pos (f.place * d) -ℤ pos (n * f.order) in
-    let over : Is z t (pos d) = subst₂ (λ a b. Is z (pos f.place *ℤ b -ℤ a *ℤ pos f.order) b) p.top p.bottom z_is in
+    let read : Is z (pos (d * f.place) -ℤ pos (n * f.order)) (pos d) =
+    subst₂ (λ a b. Is z (b *ℤ pos f.place -ℤ a *ℤ pos f.order) b) p.top p.bottom z_is in
+    let over : Is z t (pos d) =
+    subst (λ (k : ℕ). Is z (pos k -ℤ pos (n * f.order)) (pos d)) (mul_comm d f.place) read in
     let period = f.order * d in
     let rests = from_same_rest (n * f.order + j) (f.place * d) period opposite in
     value_over f (numerator z) t (unsigned_abs (denominator z)) d y l (denominator_some z) p.positive
@@ -229,6 +236,21 @@ sum_fine x y z h z_is =
     let (n, m, c, s) = stand_at x y h in
     fine_over z (n + m) c s.some s.fine (sum_over x y z (pos n) (pos m) (pos c) s.first.is s.second.is z_is)
 
+pub sum_small : (x y z : Frac) → AreCoordinates (x ∷ y ∷ []) → SameValue (fraction_of z) (sum_of (fraction_of x) (fraction_of y)) →
+    unsigned_abs (numerator z) ≤ 2 ^ 31 * unsigned_abs (denominator z)
+sum_small x y z h z_is =
+    let (n, m, c, s) = stand_at x y h in
+    let first = s.first.below in
+    let second = s.second.below in
+    let is = sum_over x y z (pos n) (pos m) (pos c) s.first.is s.second.is z_is in
+    let sizes : unsigned_abs (numerator z) * c ≡ (n + m) * unsigned_abs (denominator z) =
+    sym (unsigned_abs-mul (numerator z) (pos c)) ∙ ap unsigned_abs is ∙ unsigned_abs-mul (pos (n + m)) (denominator z) in
+    let less : (n + m) * unsigned_abs (denominator z) ≤ (2 * c) * unsigned_abs (denominator z) =
+    mul-le-mul_right (unsigned_abs (denominator z)) (let k : n + m ≤ 2 * c = omega arith in k) in
+    let twice : unsigned_abs (numerator z) * c ≤ (2 * unsigned_abs (denominator z)) * c = omega arith in
+    let within = le_of_mul-le-mul_right twice s.some in
+    omega arith
+
 -- the two values can be added
 pub values_fit : (f : FunctionData) (x y first second : Frac) → IsWithinLimits f → AreCoordinates (x ∷ y ∷ []) →
     IsValueOf f x first → IsValueOf f y second → FitsSum first second
@@ -264,4 +286,30 @@ superadditive_shown f x y z first second third sum l x_is y_is z_is first_is sec
         record { first = p; second = r; below = (at _ _ _ _ p r).0 h },
       ),
       λ (n, d, m, e, h). (at n d m e h.first h.second).1 h.below,
+    )
+
+-- ---- the rule as a whole
+
+-- a violation with its coordinates
+pub point_read : (f : FunctionData) (v w : Violation) → v ≡ w →
+    (AreCoordinates (coordinates_of w) × ShowsViolation f w) ↔ MeetsPoint f v
+point_read f v w e = rw e (
+  (λ h. record { coordinates = h.0.each; common = h.0.common; shown = h.1 }),
+  (λ h. (record { each = h.coordinates; common = h.common }, h.shown)),
+)
+
+-- a value at 0 that is not 0
+pub zero_read : (f : FunctionData) (v : Violation) (n : ℤ) → IsWithinLimits f → v ≡ violation.Zero → n ≡ get_or f.value 0 (pos 0) →
+    (n ≢ pos 0) ↔ MeetsPoint f v
+zero_read f v n l e n_is =
+    let len = l.value_length in
+    let some = l.order_low in
+    let value : value_of f 0 1 ≡ pos 1 *ℤ at f.value 0 = value_at_grid_point f 0 0 1 (omega arith) (omega arith) in
+    let same = at_below f.value 0 (omega arith) in
+    let rule = point_read f v violation.Zero e in (
+      λ h. rule.0 (
+        record { each = All-nil IsCoordinate; common = (1, omega arith, omega arith, All-nil (λ x. unsigned_abs (denominator x) ∣ 1)) },
+        λ z. h (omega (arith, ints)),
+      ),
+      λ h z. (rule.1 h).1 (omega (arith, ints)),
     )

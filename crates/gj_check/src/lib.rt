@@ -13,3 +13,6 @@ pub use checker::check;
 pub use faults::CheckFault;
 pub use laws::rules_give_meaning;
 pub use rules::CheckRule;
+
+#[cfg(test)]
+mod tests;

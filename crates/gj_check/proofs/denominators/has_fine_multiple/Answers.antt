@@ -1,4 +1,4 @@
-use Rattle.std.proofs.Common.{◌≤◌, ◌^◌, inl, arith}
+use Rattle.std.proofs.Common.{◌^◌, inl, arith}
 use Rattle.std.proofs.lemmas.Bool.{leb-true, le-leb}
 use Rattle.gj_frac.proofs.Divisors.{gcd_positive}
 use Rattle.gj_check.proofs.Multiples.{fine_product}

@@ -1,4 +1,4 @@
-use Rattle.std.proofs.Common.{◌≡◌, ◌<◌, unsigned_abs, rules, arith}
+use Rattle.std.proofs.Common.{◌≡◌, unsigned_abs, rules, arith}
 use Rattle.gj_frac.specs.Fraction.{denominator}
 use Rattle.gj_check.proofs.Ratios.{denominator_some}
 use Rattle.gj_check.proofs.denominators.positive_denominator.Goals as goal

@@ -1,5 +1,4 @@
-use Rattle.std.proofs.Common.{◌≡◌, ◌+◌, ◌-◌, ◌↔◌, ℤ, pos, List, length, get_or, take, drop, FitsSigned, to_z, of_z, w64, sym, rules, arith}
-use Rattle.gj_check.specs.Values.{AreWithin, IsSubadditiveRow}
+use Rattle.std.proofs.Common.{pos, get_or, FitsSigned, w64, rules}
 use Rattle.gj_check.proofs.Chains.{first_fails, first_passes}
 use Rattle.gj_check.proofs.Halves.{entry_read, row_read}
 use Rattle.gj_check.proofs.minimality.is_subadditive_row.Goals as goal
