@@ -31,7 +31,11 @@ fn signed(is_negative: bool, size: u128) -> i128
     requires { size < 2 ^ 127 }
     ensures { result ≡ (if is_negative then neg_ℤ (pos size) else pos size) }
 {
-    if is_negative { -(size as i128) } else { size as i128 }
+    if is_negative {
+        -(size as i128)
+    } else {
+        size as i128
+    }
 }
 
 /// The word without a sign at its front.
@@ -93,7 +97,7 @@ fn read_whole(word: &[u8]) -> Option<(u128, u128)>
 fn read_ratio(front: &[u8], back: &[u8]) -> Option<(u128, u128)>
     ensures { let top = digits_value 10 front.now in let bottom = digits_value 10 back.now in
         SomeIff result ((IsNumeral 10 front.now × (top < 2 ^ 127)) × (IsNumeral 10 back.now × (bottom < 2 ^ 127)))
-            (top, bottom) }
+        (top, bottom) }
 {
     Some((read_run(front)?, read_run(back)?))
 }
@@ -102,7 +106,7 @@ fn read_ratio(front: &[u8], back: &[u8]) -> Option<(u128, u128)>
 fn read_point(front: &[u8], back: &[u8]) -> Option<(u128, u128)>
     ensures { let top = digits_value 10 (front.now ++ back.now) in let bottom = 10 ^ length back.now in
         SomeIff result ((IsNumeral 10 front.now × IsNumeral 10 back.now) × ((top < 2 ^ 127) × (bottom < 2 ^ 127)))
-            (top, bottom) }
+        (top, bottom) }
 {
     if back.is_empty() {
         return None;
