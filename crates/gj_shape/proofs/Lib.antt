@@ -1,8 +1,13 @@
 pub mod AtLemmas
+pub mod Averages
 pub mod ContinuousGiven
+pub mod DerivedLemmas
 pub mod GivenLemmas
 pub mod InOrder
 pub mod LeastDenominator
 pub mod NumeratorBounds
 pub mod OneFunction
+pub mod Refinements
+pub mod SameFunctions
 pub mod TableLemmas
+pub mod ValueLemmas

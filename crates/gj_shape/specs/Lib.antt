@@ -6,3 +6,5 @@ pub mod Violation
 pub mod Faces
 pub mod FirstViolation
 pub mod Kept
+pub mod Values
+pub mod Derived

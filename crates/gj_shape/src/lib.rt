@@ -2,12 +2,14 @@
 #![tactic(auto)]
 
 mod denominators;
+mod derived;
 mod faces;
 mod faults;
 mod laws;
 mod list;
 mod numerators;
 mod shape;
+mod values;
 mod violations;
 
 pub use faces::{Face, FaceKind};

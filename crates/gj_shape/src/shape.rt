@@ -8,7 +8,7 @@ use crate::denominators::common_denominator;
 use crate::faults::ShapeFault;
 use crate::numerators::{numerators, over};
 use gj_frac::Frac;
-use std::alloc::Global;
+use std::alloc::{AllocError, Global};
 use std::marker::Model;
 
 /// A function of period 1 that is affine between neighbouring multiples of 1/q, with its limits from the left
@@ -172,6 +172,32 @@ impl Shape {
         ensures { IsTrue result ↔ IsContinuous self.now }
     {
         self.left == self.value && self.right == self.value
+    }
+
+    /// Whether the other function has the same order, place, limits and values.
+    pub fn same(&self, other: &Shape) -> bool
+        ensures { IsTrue result ↔ (self.now ≡ other.now) }
+    {
+        self.order == other.order
+            && self.place == other.place
+            && self.scale == other.scale
+            && self.left == other.left
+            && self.value == other.value
+            && self.right == other.right
+    }
+
+    /// A copy of the function.
+    pub fn copy(&self, alloc: Global) -> Result<Shape, AllocError>
+        ensures { IfOk result (λ copied. copied ≡ self.now) }
+    {
+        Ok(Shape {
+            order: self.order,
+            place: self.place,
+            scale: self.scale,
+            left: Vec::from_slice(alloc, self.left.as_slice())?,
+            value: Vec::from_slice(alloc, self.value.as_slice())?,
+            right: Vec::from_slice(alloc, self.right.as_slice())?,
+        })
     }
 }
 

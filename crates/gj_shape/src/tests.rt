@@ -16,6 +16,15 @@ fn of_order_two(rt: &HostRuntime, at_zero: Frac, at_half: Frac) -> Result<Shape,
     Shape::new(rt.alloc(), 2, 1, &values, &values, &values)
 }
 
+/// The value at n/d, where n and d are small and d is above 0.
+fn value_at(shape: &Shape, n: i128, d: i128) -> Option<Frac> {
+    let x = Frac::new(n, d)?;
+    if x.den() > 100 || x.num().unsigned_abs() > 100 {
+        return None;
+    }
+    Some(shape.value_at(x))
+}
+
 /// A continuous function.
 #[test]
 fn continuous(rt: HostRuntime) -> Result<(), Fail> {
@@ -93,5 +102,68 @@ fn lists(rt: HostRuntime) -> Result<(), Fail> {
     assert_eq!(rt; list.as_slice(), [3, 1, 2].as_slice());
     assert_eq!(rt; list.clone()?, list);
     assert_eq!(rt; list.into_vec().as_slice(), [3, 1, 2].as_slice());
+    Ok(())
+}
+
+/// Values between and outside the multiples of 1/5, and the function copied and compared.
+#[test]
+fn values_of_a_continuous_function(rt: HostRuntime) -> Result<(), Fail> {
+    let values = [
+        fraction(0, 1)?,
+        fraction(1, 3)?,
+        fraction(2, 3)?,
+        fraction(1, 1)?,
+        fraction(1, 2)?,
+    ];
+    let shape = Shape::new(rt.alloc(), 5, 3, &values, &values, &values)?;
+    assert_eq!(rt; value_at(&shape, 1, 10), Some(fraction(1, 6)?));
+    assert_eq!(rt; value_at(&shape, -1, 5), Some(fraction(1, 2)?));
+    assert_eq!(rt; value_at(&shape, 7, 5), Some(fraction(2, 3)?));
+    let other = Shape::new(rt.alloc(), 5, 2, &values, &values, &values)?;
+    assert!(rt; shape.copy(rt.alloc())?.same(&shape));
+    assert!(rt; !other.same(&shape));
+    Ok(())
+}
+
+/// Values between the limits of a function with jumps.
+#[test]
+fn values_of_a_function_with_jumps(rt: HostRuntime) -> Result<(), Fail> {
+    let zero = fraction(0, 1)?;
+    let half = fraction(1, 2)?;
+    let one = fraction(1, 1)?;
+    let shape = Shape::new(rt.alloc(), 2, 1, &[one, half], &[zero, one], &[half, zero])?;
+    assert_eq!(rt; value_at(&shape, 3, 10), Some(half));
+    assert_eq!(rt; value_at(&shape, 3, 5), Some(fraction(1, 5)?));
+    Ok(())
+}
+
+/// A function at twice its order, and one whose new order would be 1,002.
+#[test]
+fn refined(rt: HostRuntime) -> Result<(), Fail> {
+    let shape = of_order_two(&rt, fraction(0, 1)?, fraction(1, 1)?)?;
+    let finer = shape.refine(rt.alloc(), 2)?;
+    assert_eq!(rt; finer.order(), 4);
+    assert_eq!(rt; finer.place(), 2);
+    assert_eq!(rt; finer.common_denominator(), 2);
+    assert_eq!(rt; finer.value_numerators(), [0, 1, 2, 1].as_slice());
+    let high = shape.refine(rt.alloc(), 501);
+    assert_eq!(rt; high.err(), Some(ShapeFault::Order));
+    Ok(())
+}
+
+/// Half the sum of two functions of order 6.
+#[test]
+fn average(rt: HostRuntime) -> Result<(), Fail> {
+    let zero = fraction(0, 1)?;
+    let third = fraction(1, 3)?;
+    let two_thirds = fraction(2, 3)?;
+    let one = fraction(1, 1)?;
+    let slopes = [zero, third, two_thirds, one, two_thirds, third];
+    let teeth = [zero, one, zero, one, zero, one];
+    let first = Shape::new(rt.alloc(), 6, 3, &slopes, &slopes, &slopes)?;
+    let second = Shape::new(rt.alloc(), 6, 3, &teeth, &teeth, &teeth)?;
+    let expected = [zero, two_thirds, third, one, third, two_thirds];
+    let whole = Shape::new(rt.alloc(), 6, 3, &expected, &expected, &expected)?;
+    assert!(rt; first.average(rt.alloc(), &second)?.same(&whole));
     Ok(())
 }

@@ -1,0 +1,75 @@
+-- The value of a function at a fraction, read off its table at any index of the place.
+use Rattle.std.proofs.Common.{◌≡◌, ℕ, zero, suc, ◌+◌, ◌-◌, ◌*◌, ◌/◌, ◌%◌, ◌<◌, ℤ, pos, negsuc, ◌+ℤ◌, ◌*ℤ◌, List, length, get_or, unsigned_abs, sym, ap, ap₂, subst, subst₂, ◌∙◌, refl, arith}
+use Rattle.std.proofs.Math.Nat.{div-add-mod', mod-lt}
+use Rattle.std.proofs.lemmas.Int.{ints}
+use Rattle.std.specs.Int.{int_rem_euclid}
+use Rattle.gj_frac.specs.declared.Frac.{Frac}
+use Rattle.gj_frac.specs.Fraction.{Is, numerator, denominator}
+use Rattle.gj_frac.proofs.Integers.{add_mul_z}
+use Rattle.gj_frac.proofs.Quotients.{same_rest, same_at_rest}
+use Rattle.gj_shape.specs.FunctionData.{FunctionData, IsWithinLimits, at}
+use Rattle.gj_shape.specs.Derived.{entry_or_value}
+use Rattle.gj_shape.specs.Table.{table, entry}
+use Rattle.gj_shape.specs.Values.{IsCongruent, IsValueAt}
+use Rattle.gj_shape.specs.Violation.{IsPoint, value_of}
+use Rattle.gj_shape.proofs.AtLemmas.{at_below}
+use Rattle.gj_shape.proofs.TableLemmas.{table_period}
+
+-- a number is congruent to its rest
+pub congruent_to_rest : (n : ℤ) (p : ℕ) → 0 < p → IsCongruent n (int_rem_euclid n (pos p)) p
+congruent_to_rest (pos a) p some =
+    let split = div-add-mod' a p in
+    (pos (a / p), omega (arith, ints))
+congruent_to_rest (negsuc a) p some =
+    let split = div-add-mod' a p in
+    let below = mod-lt a some in
+    (negsuc (a / p), omega (arith, ints))
+
+congruent_join : (i n j : ℤ) (p : ℕ) → IsCongruent i n p → IsCongruent n j p → IsCongruent i j p
+congruent_join i n j p (k, e) (l, g) =
+    let both = add_mul_z k l (pos p) in
+    (k +ℤ l, omega (arith, ints))
+
+-- natural numbers that are congruent have one rest
+congruent_rests : (i j p : ℕ) → IsCongruent (pos i) (pos j) p → i % p ≡ j % p
+congruent_rests i j p (pos k, e) = same_rest i j 0 k p (omega (arith, ints))
+congruent_rests i j p (negsuc k, e) = same_rest i j (suc k) 0 p (omega (arith, ints))
+
+-- the entry of the list of values is the entry of the table
+pub entry_of_values : (f : FunctionData) (m a r : ℕ) → entry_or_value f f.value m a r ≡ entry f m a r
+entry_of_values f m a zero = refl
+entry_of_values f m a (suc r) = refl
+
+-- what the table has at one index that is congruent to n is the value at n/(order d)
+pub value_from_place : (f : FunctionData) (n : ℤ) (d i : ℕ) (x : Frac) → IsWithinLimits f → 0 < d →
+    IsCongruent n (pos i) (f.order * d) → Is x (table f d i) (pos (f.scale * d)) → IsValueAt f n d x
+value_from_place f n d i x h some e is j k =
+    let rests : j % (f.order * d) ≡ i % (f.order * d) = congruent_rests j i _ (congruent_join (pos j) n (pos i) _ k e) in
+    let same : table f d i ≡ table f d j =
+    same_at_rest (table f d) (f.order * d) (λ a. table_period f d a some h) i j (sym rests) in
+    subst (λ t. Is x t (pos (f.scale * d))) same is
+
+-- the value at a point that is not negative, at its own index
+pub value_at_point : (f : FunctionData) (x y : Frac) (n d : ℕ) → IsPoint x n d →
+    IsValueAt f (numerator x *ℤ pos f.order) (unsigned_abs (denominator x)) y → Is y (value_of f n d) (pos (f.scale * d))
+value_at_point f x y n d point is =
+    let at_point : IsValueAt f (pos n *ℤ pos f.order) d y =
+    subst₂ (λ a b. IsValueAt f (a *ℤ pos f.order) (unsigned_abs b) y) point.top point.bottom is in
+    at_point (n * f.order) (pos 0, omega (arith, ints))
+
+-- the entry of a list at a multiple of 1/order
+pub entry_of_list : (f : FunctionData) (xs : List ℤ) (m a r : ℕ) → r ≡ 0 → a < length xs →
+    entry_or_value f xs m a r ≡ pos m *ℤ get_or xs a (pos 0)
+entry_of_list f xs m a r e below = ap (entry_or_value f xs m a) e ∙ ap (λ z. pos m *ℤ z) (at_below xs a below)
+
+at_by_rest : (xs : List ℤ) (i n : ℕ) → length xs ≡ n → at xs i ≡ get_or xs (i % n) (pos 0)
+unfolding at
+at_by_rest xs i n e = ap (λ k. get_or xs (i % k) (pos 0)) e
+
+-- the value between two neighbouring multiples of 1/order
+pub entry_of_limits : (f : FunctionData) (xs : List ℤ) (m a r : ℕ) → IsWithinLimits f → 0 < r → a < f.order →
+    entry_or_value f xs m a r ≡ pos (m - r) *ℤ get_or f.right a (pos 0) +ℤ pos r *ℤ get_or f.left ((a + 1) % f.order) (pos 0)
+entry_of_limits f xs m a zero h some below = absurd (omega arith)
+entry_of_limits f xs m a (suc r) h some below =
+    let length_is = h.right_length in
+    ap₂ (λ x y. pos (m - suc r) *ℤ x +ℤ pos (suc r) *ℤ y) (at_below f.right a (omega arith)) (at_by_rest f.left (a + 1) f.order h.left_length)

@@ -1,0 +1,105 @@
+//! The value of a function at a fraction.
+ghost use Rattle.std.specs.Prelude.{◌≡◌, ◌<◌, ◌≤◌, ◌*◌, ◌^◌, ℕ, ◌≢◌, pos, ◌*ℤ◌, ◌+ℤ◌, length, unsigned_abs};
+ghost use Rattle.gj_frac.specs.Fraction.{Is, numerator, denominator};
+ghost use Rattle.gj_shape.specs.Derived.{entry_or_value};
+ghost use Rattle.gj_shape.specs.Table.{table};
+ghost use Rattle.gj_shape.specs.Values.{IsCongruent, IsValueAt};
+ghost use Rattle.gj_shape.specs.Violation.{IsPoint, value_of};
+
+use crate::shape::Shape;
+use gj_frac::Frac;
+
+impl Shape {
+    /// The value of the function at z/q, where q is the order.
+    ///
+    /// z has a denominator of at most 2^62. It may be negative and of any size, since the function has period 1.
+    /// Each point x of a shown violation has a denominator of at most 2^62, and so have q x and k - q x.
+    pub fn value_scaled(&self, z: Frac) -> Frac
+        requires { unsigned_abs (denominator z) ≤ 2 ^ 62 }
+        ensures { IsValueAt self.now (numerator z) (unsigned_abs (denominator z)) result }
+    {
+        self.value_on_grid(z.num(), z.den() as u64)
+    }
+
+    /// The value of the function at x.
+    ///
+    /// x has a denominator of at most 2^62 and is at most 2^31 in absolute value. Each point of a shown violation is
+    /// so: it is from 0 up to, not including, 1 and has a denominator of at most 2^62.
+    pub fn value_at(&self, x: Frac) -> Frac
+        requires fine { unsigned_abs (denominator x) ≤ 2 ^ 62 }
+        requires size { unsigned_abs (numerator x) ≤ 2 ^ 31 * unsigned_abs (denominator x) }
+        ensures value { IsValueAt self.now (numerator x *ℤ pos self.now.order) (unsigned_abs (denominator x)) result }
+        ensures not_negative { (n d : ℕ) → IsPoint x n d →
+            Is result (value_of self.now n d) (pos (self.now.scale * d)) }
+    {
+        self.value_on_grid(x.num() * i128::from(self.order()), x.den() as u64)
+    }
+
+    /// The value at n/(q steps), where q is the order.
+    fn value_on_grid(&self, n: i128, steps: u64) -> Frac
+        requires some { 0 < steps }
+        requires few { steps ≤ 2 ^ 62 }
+        ensures { IsValueAt self.now n steps result }
+    {
+        let period = u128::from(self.order()) * u128::from(steps);
+        let place = place_within(n, period);
+        let index = (place / u128::from(steps)) as usize;
+        let rest = (place % u128::from(steps)) as u64;
+        let numerator = self.entry_or_value(self.value_numerators(), index, rest, steps);
+        fraction(numerator, self.common_denominator() * i128::from(steps))
+    }
+
+    /// `steps` times what stands at index/q + rest/(q steps), where q is the order: the entry of the list where the
+    /// rest is 0, and else the value between the limits.
+    pub(crate) fn entry_or_value(
+        &self,
+        entries: &[i64],
+        index: usize,
+        rest: u64,
+        steps: u64,
+    ) -> i128
+        requires length { length entries.now ≡ self.now.order }
+        requires index { index < self.now.order }
+        requires rest { rest < steps }
+        requires few { steps ≤ 2 ^ 62 }
+        ensures value { result ≡ entry_or_value self.now entries.now steps index rest }
+        ensures fits { unsigned_abs result < 2 ^ 127 }
+    {
+        if rest == 0 {
+            return weighted(steps, entries[index]);
+        }
+        let next = (index + 1) % self.order() as usize;
+        let start = self.right_numerators()[index];
+        let end = self.left_numerators()[next];
+        weighted(steps - rest, start) + weighted(rest, end)
+    }
+}
+
+/// The least natural number that differs from n by a multiple of the period.
+fn place_within(n: i128, period: u128) -> u128
+    requires some { 0 < period }
+    requires fits { period < 2 ^ 127 }
+    ensures below { result < period }
+    ensures congruent { IsCongruent n (pos result) period }
+{
+    n.rem_euclid(period as i128) as u128
+}
+
+/// A weight of at most 2^62 times an entry.
+pub(crate) fn weighted(weight: u64, entry: i64) -> i128
+    requires { weight ≤ 2 ^ 62 }
+    ensures value { result ≡ pos weight *ℤ entry }
+    ensures fits { unsigned_abs result ≤ 2 ^ 125 }
+{
+    i128::from(weight) * i128::from(entry)
+}
+
+/// The fraction with this numerator and denominator.
+pub(crate) fn fraction(numerator: i128, denominator: i128) -> Frac
+    requires zero { unsigned_abs denominator ≢ 0 }
+    requires numerator_fits { unsigned_abs numerator < 2 ^ 127 }
+    requires denominator_fits { unsigned_abs denominator < 2 ^ 127 }
+    ensures { Is result numerator denominator }
+{
+    Frac::new(numerator, denominator).unwrap()
+}
