@@ -2,9 +2,9 @@
 use Rattle.std.proofs.Common.{◌≡◌, ℕ, zero, suc, ◌+◌, ◌*◌, ◌<◌, ◌≤◌, ◌≢◌, ◌⊎◌, inl, inr, ℤ, pos, negsuc, ◌+ℤ◌, ◌-ℤ◌, ◌*ℤ◌, neg_ℤ, ◌<ℤ◌, ◌≤ℤ◌, unsigned_abs, refl, ap, ◌∙◌, arith}
 use Rattle.std.proofs.Math.Nat.{mul-le-mul_right, le_of_mul-le-mul_right}
 use Rattle.std.proofs.lemmas.Int.{ints, by_lt_z}
-use borrow.Author.Differences.{up, down, same_in, sum_is_lem, neg_is, product_is}
+use borrow.Author.Differences.{up, down, same_in, neg_is, product_is}
 pub use Rattle.std.proofs.lemmas.Int.{unsigned_abs-mul}
-pub use Rattle.gj_frac.specs.Products.{mul_assoc_z, mul_comm_z, swap_last_z, mul_cancel_right_z, mul_lt_mul_right_z, mul_lt_cancel_right_z, abs_positive_z}
+pub use Rattle.gj_frac.specs.Products.{mul_assoc_z, mul_comm_z, mul_left_comm_z, mul_mul_comm_z, swap_last_z, mul_add_z, add_mul_z, mul_cancel_right_z, mul_lt_mul_right_z, mul_lt_cancel_right_z, abs_positive_z}
 use lib.IntN.{ℤ_discrete}
 pub use lib.IntN.{+ℤ_assoc as add_assoc_z, +ℤ_comm as add_comm_z, pos-+ℤ-pos, pos-*ℤ-pos}
 
@@ -25,30 +25,6 @@ down_neg x = (neg_is x).1
 ruleset parts_of = (up_mul, down_mul, up_neg, down_neg)
 
 -- ---- products
-
--- two factors change places before a third
-pub mul_left_comm_z : (x y z : ℤ) → x *ℤ (y *ℤ z) ≡ y *ℤ (x *ℤ z)
-mul_left_comm_z x y z = same_in _ _ (simp parts_of (omega arith))
-
--- two products of two factors regrouped
-pub mul_mul_comm_z : (x y z w : ℤ) → (x *ℤ y) *ℤ (z *ℤ w) ≡ (x *ℤ z) *ℤ (y *ℤ w)
-mul_mul_comm_z x y z w = same_in _ _ (simp parts_of (omega arith))
-
--- a factor goes over a sum, on the left
-pub mul_add_z : (x y z : ℤ) → x *ℤ (y +ℤ z) ≡ x *ℤ y +ℤ x *ℤ z
-mul_add_z x y z =
-    let e = sum_is_lem y z in
-    let u = ap (λ n. up x * n) e in
-    let d = ap (λ n. down x * n) e in
-    omega (arith, ints)
-
--- a factor goes over a sum, on the right
-pub add_mul_z : (x y z : ℤ) → (x +ℤ y) *ℤ z ≡ x *ℤ z +ℤ y *ℤ z
-add_mul_z x y z =
-    let e = sum_is_lem x y in
-    let u = ap (λ n. n * up z) e in
-    let d = ap (λ n. n * down z) e in
-    omega (arith, ints)
 
 -- a sign comes out of the left factor
 pub neg_mul_z : (x y : ℤ) → neg_ℤ x *ℤ y ≡ neg_ℤ (x *ℤ y)

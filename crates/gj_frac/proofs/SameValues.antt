@@ -1,22 +1,10 @@
 -- What determines a fraction.
-use Rattle.std.proofs.Common.{◌≡◌, ◌≢◌, ℤ, pos, ◌*ℤ◌, ◌<ℤ◌, unsigned_abs, sym, ap, ◌∙◌}
+use Rattle.std.proofs.Common.{◌≡◌, ℤ, pos, ◌<ℤ◌, unsigned_abs}
 use Rattle.std.specs.Int.{IsGcd}
 use Rattle.gj_frac.specs.declared.Frac.{Frac}
 use Rattle.gj_frac.specs.Fraction.{Is}
-pub use Rattle.gj_frac.specs.SameParts.{same_parts_same, same_value_same_parts, same_value_same}
-use Rattle.gj_frac.proofs.Integers.{swap_last_z, mul_cancel_right_z}
+pub use Rattle.gj_frac.specs.SameParts.{same_parts_same, same_value_same_parts, same_value_same, is_along, same_from_is}
 use Rattle.gj_frac.proofs.Divisors.{same_ratio}
-
--- n/d has no other value than m/e, so what is n/d is m/e
-pub is_along : (x : Frac) (n d m e : ℤ) → unsigned_abs d ≢ 0 → Is x n d → n *ℤ e ≡ m *ℤ d → Is x m e
-is_along x n d m e some h same =
-    mul_cancel_right_z (x.num *ℤ e) (m *ℤ x.den) d
-    (swap_last_z x.num e d ∙ ap (λ z. z *ℤ e) h ∙ swap_last_z n x.den e ∙ ap (λ z. z *ℤ x.den) same ∙ swap_last_z m d x.den) some
-
--- n/d is one fraction
-pub same_from_is : (x y : Frac) (n d : ℤ) → unsigned_abs d ≢ 0 → Is x n d → Is y n d → x ≡ y
-same_from_is x y n d some h k =
-    same_value_same x y (is_along x n d y.num y.den some h (sym k))
 
 -- its parts, where n and d are in lowest terms and d is positive
 pub parts_from_is : (x : Frac) (n d : ℤ) → pos 0 <ℤ d → IsGcd (unsigned_abs n) (unsigned_abs d) 1 → Is x n d → (x.num ≡ n) × (x.den ≡ d)

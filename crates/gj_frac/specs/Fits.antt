@@ -2,7 +2,7 @@
 use Rattle.std.specs.Prelude.{ℕ, ℤ, pos, ◌≢◌, ◌≤◌, ◌^◌, ◌/◌, ◌*ℤ◌, ◌+ℤ◌, ◌-ℤ◌, unsigned_abs}
 use Rattle.std.specs.Int.{IsGcd}
 use Rattle.gj_frac.specs.declared.Frac.{Frac}
-use Rattle.gj_frac.specs.Fraction.{FitsPart, Is, numerator, denominator}
+use Rattle.gj_frac.specs.Fraction.{FitsPart, Is, SameValue, fraction_of, product_of, quotient_of, numerator, denominator}
 
 -- g is the greatest common divisor of the two denominators
 abbrev pub IsDenominatorGcd : Frac → Frac → ℕ → Type 0
@@ -47,6 +47,15 @@ pub record FitsDifferenceOver (x y : Frac) (g : ℕ) : Type 0 where
 -- x - y can be computed
 abbrev pub FitsDifference : Frac → Frac → Type 0
 FitsDifference x y = (g : ℕ) → IsDenominatorGcd x y g → FitsDifferenceOver x y g
+
+-- x * y can be computed: some fraction, in lowest terms and within the limit, has its value
+abbrev pub FitsProduct : Frac → Frac → Type 0
+FitsProduct x y = (z : Frac) × SameValue (fraction_of z) (product_of (fraction_of x) (fraction_of y))
+
+-- x / y can be computed: y is not 0, and some fraction, in lowest terms and within the limit, has its value
+pub record FitsQuotient (x y : Frac) : Type 0 where
+  pub divisor : numerator y ≢ pos 0
+  pub fits : (z : Frac) × SameValue (fraction_of z) (quotient_of (fraction_of x) (fraction_of y))
 
 -- two fractions over one denominator d of at most 2^125, with numerators over d of at most 2^125 in
 -- absolute value, can be added and subtracted

@@ -1,5 +1,5 @@
 -- The value of a fraction, and what a `Frac` is (own; the usual cross products over whole numbers without bound).
-use Rattle.std.specs.Prelude.{ℤ, ◌≡◌, ◌*ℤ◌, ◌+ℤ◌, ◌-ℤ◌, ◌<ℤ◌, ◌^◌, ◌<◌, unsigned_abs}
+use Rattle.std.specs.Prelude.{ℤ, ◌≡◌, ◌*ℤ◌, ◌+ℤ◌, ◌-ℤ◌, neg_ℤ, ◌<ℤ◌, ◌^◌, ◌<◌, unsigned_abs}
 use Rattle.gj_frac.specs.declared.Frac.{Frac}
 
 -- a fraction of whole numbers without bound; its bottom is not 0
@@ -20,6 +20,16 @@ sum_of x y = record { top = x.top *ℤ y.bottom +ℤ y.top *ℤ x.bottom; bottom
 
 abbrev pub difference_of : Fraction → Fraction → Fraction
 difference_of x y = record { top = x.top *ℤ y.bottom -ℤ y.top *ℤ x.bottom; bottom = x.bottom *ℤ y.bottom }
+
+abbrev pub product_of : Fraction → Fraction → Fraction
+product_of x y = record { top = x.top *ℤ y.top; bottom = x.bottom *ℤ y.bottom }
+
+-- x times y turned upside down; its bottom has the sign of y's top, so it may be negative
+abbrev pub quotient_of : Fraction → Fraction → Fraction
+quotient_of x y = record { top = x.top *ℤ y.bottom; bottom = x.bottom *ℤ y.top }
+
+abbrev pub negation_of : Fraction → Fraction
+negation_of x = record { top = neg_ℤ x.top; bottom = x.bottom }
 
 -- the numerator of a `Frac`, in lowest terms
 abbrev pub numerator : Frac → ℤ

@@ -2,7 +2,9 @@ pub mod Lowest
 pub mod Fraction
 pub mod Fits
 pub mod CompareValues
+pub mod Floor
 pub mod Products
 pub mod Coprime
 pub mod SameParts
 pub mod TotalOrder
+pub mod ExactLaws

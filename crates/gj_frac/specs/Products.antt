@@ -1,8 +1,8 @@
--- Laws of products of whole numbers, each proved. They stand here since the order of fractions cites them.
-use Rattle.std.proofs.Common.{◌≡◌, suc, ◌+◌, ◌*◌, ◌<◌, ◌≢◌, ℤ, pos, negsuc, ◌*ℤ◌, ◌<ℤ◌, unsigned_abs, sym, ap, ◌∙◌, arith}
+-- Laws of products of whole numbers, each proved. They stand here since the order and the laws of fractions cite them.
+use Rattle.std.proofs.Common.{◌≡◌, suc, ◌+◌, ◌*◌, ◌<◌, ◌≢◌, ℤ, pos, negsuc, ◌+ℤ◌, ◌*ℤ◌, ◌<ℤ◌, unsigned_abs, sym, ap, ◌∙◌, arith}
 use Rattle.std.proofs.Math.Nat.{eq_of_mul-eq-mul_right, mul-lt-mul_of_pos_right, lt_of_mul-lt-mul_right, pos_of_ne-zero}
 use Rattle.std.proofs.lemmas.Int.{ints}
-use borrow.Author.Differences.{up, down, same_in, same_out, product_is}
+use borrow.Author.Differences.{up, down, same_in, same_out, sum_is_lem, product_is}
 pub use lib.IntN.{*ℤ_comm as mul_comm_z}
 
 -- the two parts of a product
@@ -19,6 +19,30 @@ mul_assoc_z x y z = same_in _ _ (simp (up_mul, down_mul) (omega arith))
 -- the last two of three factors change places
 pub swap_last_z : (x y z : ℤ) → (x *ℤ y) *ℤ z ≡ (x *ℤ z) *ℤ y
 swap_last_z x y z = mul_assoc_z x y z ∙ ap (λ w. x *ℤ w) (mul_comm_z y z) ∙ sym (mul_assoc_z x z y)
+
+-- two factors change places before a third
+pub mul_left_comm_z : (x y z : ℤ) → x *ℤ (y *ℤ z) ≡ y *ℤ (x *ℤ z)
+mul_left_comm_z x y z = same_in _ _ (simp (up_mul, down_mul) (omega arith))
+
+-- two products of two factors regrouped
+pub mul_mul_comm_z : (x y z w : ℤ) → (x *ℤ y) *ℤ (z *ℤ w) ≡ (x *ℤ z) *ℤ (y *ℤ w)
+mul_mul_comm_z x y z w = same_in _ _ (simp (up_mul, down_mul) (omega arith))
+
+-- a factor goes over a sum, on the left
+pub mul_add_z : (x y z : ℤ) → x *ℤ (y +ℤ z) ≡ x *ℤ y +ℤ x *ℤ z
+mul_add_z x y z =
+    let e = sum_is_lem y z in
+    let u = ap (λ n. up x * n) e in
+    let d = ap (λ n. down x * n) e in
+    omega (arith, ints)
+
+-- a factor goes over a sum, on the right
+pub add_mul_z : (x y z : ℤ) → (x +ℤ y) *ℤ z ≡ x *ℤ z +ℤ y *ℤ z
+add_mul_z x y z =
+    let e = sum_is_lem x y in
+    let u = ap (λ n. n * up z) e in
+    let d = ap (λ n. n * down z) e in
+    omega (arith, ints)
 
 -- equal products with one factor that is not zero
 pub mul_cancel_right_z : (x y z : ℤ) → x *ℤ z ≡ y *ℤ z → unsigned_abs z ≢ 0 → x ≡ y

@@ -1,8 +1,9 @@
--- Fractions of equal value are one, proved. It stands here since the order of fractions cites it.
-use Rattle.std.proofs.Common.{◌≡◌, ℤ}
+-- Fractions of equal value are one, proved. It stands here since the order and the laws of fractions cite it.
+use Rattle.std.proofs.Common.{◌≡◌, ◌≢◌, ℤ, ◌*ℤ◌, unsigned_abs, sym, ap, ◌∙◌}
 use Rattle.gj_frac.specs.declared.Frac.{Frac}
 use Rattle.gj_frac.specs.Lowest.{IsLowest}
-use Rattle.gj_frac.specs.Fraction.{SameValue, fraction_of}
+use Rattle.gj_frac.specs.Fraction.{Is, SameValue, fraction_of}
+use Rattle.gj_frac.specs.Products.{swap_last_z, mul_cancel_right_z}
 use Rattle.gj_frac.specs.Coprime.{same_ratio}
 use denote.Struct.Props.{props}
 use mathlib.Core.HLevel.{is_prop→PathP}
@@ -27,3 +28,14 @@ same_value_same_parts x y h =
 -- fractions of equal value are one
 pub same_value_same : (x y : Frac) → SameValue (fraction_of x) (fraction_of y) → x ≡ y
 same_value_same x y h = let parts = same_value_same_parts x y h in same_parts_same x y parts.0 parts.1
+
+-- n/d has no other value than m/e, so what is n/d is m/e
+pub is_along : (x : Frac) (n d m e : ℤ) → unsigned_abs d ≢ 0 → Is x n d → n *ℤ e ≡ m *ℤ d → Is x m e
+is_along x n d m e some h same =
+    mul_cancel_right_z (x.num *ℤ e) (m *ℤ x.den) d
+    (swap_last_z x.num e d ∙ ap (λ z. z *ℤ e) h ∙ swap_last_z n x.den e ∙ ap (λ z. z *ℤ x.den) same ∙ swap_last_z m d x.den) some
+
+-- n/d is one fraction
+pub same_from_is : (x y : Frac) (n d : ℤ) → unsigned_abs d ≢ 0 → Is x n d → Is y n d → x ≡ y
+same_from_is x y n d some h k =
+    same_value_same x y (is_along x n d y.num y.den some h (sym k))

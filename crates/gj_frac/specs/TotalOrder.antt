@@ -50,7 +50,7 @@ pub compare_values_total : IsTotalOrder compare_values
 compare_values_total = strict IsLess less_irrefl less_chain compare_values compare_values_ranks
 
 -- equal parts are told by `==`
-parts_Decides : (x y : Frac) → Decides (int_eq x.num y.num && int_eq x.den y.den) (x ≡ y)
+pub parts_Decides : (x y : Frac) → Decides (int_eq x.num y.num && int_eq x.den y.den) (x ≡ y)
 parts_Decides x y = (
   λ e. same_parts_same x y ((signed_Decides x.num y.num).0 (first_so _ _ e)) ((signed_Decides x.den y.den).0 (second_so _ _ e)),
   λ e. subst (λ (z : Frac). (int_eq x.num z.num && int_eq x.den z.den) ≡ true) e

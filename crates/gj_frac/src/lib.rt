@@ -5,12 +5,19 @@ ghost use Rattle.std.specs.Prelude.{◌≡◌, ◌≢◌, ◌⊎◌, ◌↔◌, 
 ghost use Rattle.std.specs.Int.{IsGcd};
 ghost use Rattle.gj_frac.specs.Lowest.{IsLowest};
 
+mod checked;
 mod comparison;
+mod laws;
+mod negation;
 mod operators;
 mod parts;
+mod products;
+mod rounding;
 #[cfg(test)]
 mod tests;
 
+pub use checked::{DivFault, Wide};
+pub use laws::{ExactNumber, equal_values_are_one};
 pub use operators::fits_over_one_denominator;
 use parts::{common_divisor, quotient};
 

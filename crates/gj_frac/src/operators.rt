@@ -9,10 +9,10 @@ use crate::parts::{coprime_quotients, difference, product, total};
 use std::ops::{Add, Sub};
 
 /// Two numerators over one denominator.
-struct Together {
-    first: i128,
-    second: i128,
-    bottom: i128,
+pub(crate) struct Together {
+    pub(crate) first: i128,
+    pub(crate) second: i128,
+    pub(crate) bottom: i128,
 }
 
 /// Two fractions over their common denominator.

@@ -1,7 +1,7 @@
-ghost use Rattle.std.specs.Prelude.{◌≢◌, ◌<◌, ◌^◌, ◌↔◌, IsTrue, unsigned_abs};
+ghost use Rattle.std.specs.Prelude.{◌≡◌, ◌≢◌, ◌<◌, ◌^◌, ◌↔◌, IsTrue, unsigned_abs};
 ghost use Rattle.gj_frac.specs.Fraction.{Is, LessValue, fraction_of};
 
-use crate::Frac;
+use crate::{DivFault, ExactNumber, Frac, Wide};
 
 /// The fraction `num/den`, which fits.
 fn fraction(num: i128, den: i128) -> Frac
@@ -18,6 +18,14 @@ fn is_less(x: Frac, y: Frac) -> bool
     ensures { IsTrue result ↔ LessValue (fraction_of x) (fraction_of y) }
 {
     x < y
+}
+
+/// Two numbers added in both orders, which gives one sum.
+fn sums_in_both_orders<T: ExactNumber>(x: T, y: T) -> (T, T)
+    requires { T.can_add x y }
+    ensures { result.0 ≡ result.1 }
+{
+    (x + y, y + x)
 }
 
 #[test]
@@ -56,4 +64,44 @@ fn comparisons_go_by_value(rt: HostRuntime) {
     assert!(rt; is_less(low, high));
     assert!(rt; !is_less(high, low));
     assert!(rt; !is_less(low, low));
+}
+
+#[test]
+fn products_are_cancelled_crosswise(rt: HostRuntime) {
+    let half = fraction(1, 2);
+    let one = fraction(1, 1);
+    assert_eq!(rt; fraction(2, 3) * fraction(3, 4), half);
+    assert_eq!(rt; fraction(i128::MAX, 2) * fraction(2, i128::MAX), one);
+    assert_eq!(rt; -half, fraction(-1, 2));
+}
+
+#[test]
+fn the_floor_is_at_most_the_value(rt: HostRuntime) {
+    assert_eq!(rt; fraction(-7, 3).floor(), -3);
+    assert_eq!(rt; fraction(-7, 3).fract(), fraction(2, 3));
+    assert_eq!(rt; fraction(7, 3).floor(), 2);
+    assert_eq!(rt; fraction(6, 3).fract(), fraction(0, 1));
+}
+
+#[test]
+fn checked_operators_say_what_does_not_fit(rt: HostRuntime) {
+    let greatest = fraction(i128::MAX, 1);
+    let one = fraction(1, 1);
+    assert_eq!(rt; greatest.checked_add(one), Err(Wide));
+    assert_eq!(rt; greatest.checked_sub(one), Ok(fraction(i128::MAX - 1, 1)));
+    assert_eq!(rt; greatest.checked_mul(fraction(2, 1)), Err(Wide));
+    assert_eq!(rt;
+        greatest.checked_mul(fraction(1, 2)),
+        Ok(fraction(i128::MAX, 2))
+    );
+    assert_eq!(rt; one.checked_div(fraction(-3, 4)), Ok(fraction(-4, 3)));
+    assert_eq!(rt; one.checked_div(fraction(0, 1)), Err(DivFault::Zero));
+    assert_eq!(rt; greatest.checked_div(fraction(1, 2)), Err(DivFault::Wide));
+}
+
+#[test]
+fn sums_commute(rt: HostRuntime) {
+    let (sum, turned) = sums_in_both_orders(fraction(1, 6), fraction(1, 3));
+    assert_eq!(rt; sum, fraction(1, 2));
+    assert_eq!(rt; turned, sum);
 }

@@ -1,17 +1,16 @@
 -- The digits of numbers of 128 bits: what std says of 64 bits, and reading from the left with a limit.
-use Rattle.std.proofs.Common.{◌≡◌, ℕ, zero, suc, ◌+◌, ◌-◌, ◌*◌, ◌/◌, ◌%◌, ◌^◌, ◌<◌, ◌≤◌, List, [], ◌∷◌, ◌++◌, length, get_or, take, drop, decimal, Option, None, Some, IfSome, sym, ◌∙◌, ap, subst, arith, append_assoc, append-nil, length-append}
+use Rattle.std.proofs.Common.{◌≡◌, ℕ, zero, suc, ◌+◌, ◌-◌, ◌*◌, ◌/◌, ◌%◌, ◌^◌, ◌<◌, ◌≤◌, List, [], ◌∷◌, ◌++◌, length, get_or, take, drop, decimal, Option, None, Some, IfSome, sym, ◌∙◌, ap, subst, arith, append_assoc, append-nil, length-append, add-one, refl, take-append-drop}
 use lib.ListN.{get_or-append, set}
 use Rattle.std.specs.Char.{digit_value}
 use Rattle.std.specs.Option.{SomeIff}
 use Rattle.std.specs.Str.Parse.{AllDigits, digits_value, digits_value_after}
 use Rattle.std.proofs.lemmas.Str.{digit_value_digit}
-use Rattle.std.proofs.lemmas.Str.Parse.{digit_from_value, digit_at, digits_value-take-le}
-use Rattle.std.proofs.lemmas.Int.Digits.{digits_value_more}
+use Rattle.std.proofs.lemmas.Str.Parse.{digit_from_value, digit_at}
 use Rattle.std.proofs.lemmas.Fmt.{decimal_digit, decimal_step_wide, decimal_by_steps_wide, decimal_is_IsNumeral_wide, length-decimal-le_wide}
 use Rattle.std.proofs.lemmas.List.{drop-set}
 
 -- digits after a number only add to it
-value_after_at_least : (n : ℕ) (ds : List ℕ) → n ≤ digits_value_after 10 n ds
+pub value_after_at_least : (n : ℕ) (ds : List ℕ) → n ≤ digits_value_after 10 n ds
 value_after_at_least n [] = omega arith
 value_after_at_least n (c ∷ cs) = omega (arith, value_after_at_least (n * 10 + digit_value c) cs)
 
@@ -63,16 +62,39 @@ value_of_decimal n small = (decimal_is_IsNumeral_wide n small).1
 pub same_from_decimal : (m n : ℕ) → m < 10 ^ 64 → n < 10 ^ 64 → decimal m ≡ decimal n → m ≡ n
 same_from_decimal m n p q e = sym (value_of_decimal m p) ∙ ap (digits_value 10) e ∙ value_of_decimal n q
 
+-- one digit more behind those of a number
+value_after_suc : (n : ℕ) (bs : List ℕ) (i : ℕ) → i < length bs →
+    digits_value_after 10 n (take (suc i) bs) ≡ digits_value_after 10 n (take i bs) * 10 + digit_value (get_or bs i 0)
+value_after_suc n [] i h = absurd (omega arith)
+value_after_suc n (c ∷ cs) zero h = refl
+value_after_suc n (c ∷ cs) (suc i) h = value_after_suc (n * 10 + digit_value c) cs i (omega arith)
+
+-- the same at the next index of a loop
+pub value_after_more : (n : ℕ) (bs : List ℕ) (i : ℕ) → i < length bs →
+    digits_value_after 10 n (take (i + 1) bs) ≡ digits_value_after 10 n (take i bs) * 10 + digit_value (get_or bs i 0)
+value_after_more n bs i h = rw add-one (value_after_suc n bs i h)
+
+-- the digits of two runs, one after the other
+pub value_after_append : (n : ℕ) (xs ys : List ℕ) → digits_value_after 10 n (xs ++ ys) ≡ digits_value_after 10 (digits_value_after 10 n xs) ys
+value_after_append n [] ys = refl
+value_after_append n (c ∷ cs) ys = value_after_append (n * 10 + digit_value c) cs ys
+
+-- the first digits make no larger number
+value_after_take_le : (n : ℕ) (bs : List ℕ) (i : ℕ) → digits_value_after 10 n (take i bs) ≤ digits_value_after 10 n bs
+value_after_take_le n bs i =
+    let parts : digits_value_after 10 n (take i bs ++ drop i bs) ≡ digits_value_after 10 n bs = ap (digits_value_after 10 n) (take-append-drop i bs) in
+    omega (arith, value_after_at_least (digits_value_after 10 n (take i bs)) (drop i bs), value_after_append n (take i bs) (drop i bs))
+
 -- where a byte is no digit, or the number so far is too large with it, the whole word is no number
 -- within the limit
-pub no_number_from_there : (word : List ℕ) (i front limit : ℕ) → i < length word → front ≡ digits_value 10 (take i word) →
+pub no_number_from_there : (start : ℕ) (word : List ℕ) (i front limit : ℕ) → i < length word → front ≡ digits_value_after 10 start (take i word) →
     ¬ ((digit_value (get_or word i 0) < 10) × (front * 10 + digit_value (get_or word i 0) < limit)) →
-    ¬ (AllDigits 10 word × (digits_value 10 word < limit))
-no_number_from_there word i front limit l is refuted (d, small) =
+    ¬ (AllDigits 10 word × (digits_value_after 10 start word < limit))
+no_number_from_there start word i front limit l is refuted (d, small) =
     let r = digit_at word i d l in
     let k = digit_value_digit (get_or word i 0) r in
-    let step : digits_value 10 (take (i + 1) word) ≡ front * 10 + digit_value (get_or word i 0) = digits_value_more 10 word i l ∙ ap (λ v. v * 10 + digit_value (get_or word i 0)) (sym is) in
-    refuted (omega arith, omega (arith, step, digits_value-take-le 10 word (i + 1) (omega arith)))
+    let step : digits_value_after 10 start (take (i + 1) word) ≡ front * 10 + digit_value (get_or word i 0) = value_after_more start word i l ∙ ap (λ v. v * 10 + digit_value (get_or word i 0)) (sym is) in
+    refuted (omega arith, omega (arith, step, value_after_take_le start word (i + 1)))
 
 -- a number of 128 bits has a digit
 pub decimal_some : (n : ℕ) → n < 2 ^ 128 → 0 < length (decimal n)

@@ -1,1 +1,5 @@
+pub mod Lines
+pub mod Name
 pub mod NumberText
+pub mod Reason
+pub mod Words

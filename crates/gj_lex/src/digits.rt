@@ -3,7 +3,7 @@
 ghost use Rattle.std.specs.Prelude.{◌≡◌, ◌↔◌, ◌+◌, ◌*◌, ◌^◌, ◌<◌, ◌≤◌, ℕ, ◌++◌, length, drop, slice_index, decimal, IfSome, IsTrue};
 ghost use Rattle.std.specs.Option.{SomeIff};
 ghost use Rattle.std.specs.Char.{digit_value};
-ghost use Rattle.std.specs.Str.Parse.{AllDigits, digits_value};
+ghost use Rattle.std.specs.Str.Parse.{AllDigits, IsNumeral, digits_value, digits_value_after};
 
 /// The greatest number that is read: 2^127 - 1.
 const LIMIT: u128 = 0x7fff_ffff_ffff_ffff_ffff_ffff_ffff_ffff;
@@ -28,12 +28,34 @@ fn has_leading_zero(word: &[u8]) -> bool
     word.len() > 1 && word[0] == b'0'
 }
 
+/// The number that the word spells in digits, where there is a digit and the number is at most
+/// `LIMIT`. Leading zeros are allowed.
+pub(crate) fn read_run(word: &[u8]) -> Option<u128>
+    ensures { let value = digits_value 10 word.now in
+        SomeIff result (IsNumeral 10 word.now × (value < 2 ^ 127)) value }
+{
+    if word.is_empty() {
+        return None;
+    }
+    value_of(word)
+}
+
 /// The number that the bytes spell, where each is a digit and the number is at most `LIMIT`.
 fn value_of(word: &[u8]) -> Option<u128>
     ensures { let value = digits_value 10 word.now in
         SomeIff result (AllDigits 10 word.now × (value < 2 ^ 127)) value }
 {
-    let mut value = 0;
+    value_after(0, word)
+}
+
+/// The number that the bytes spell behind the digits of `front`, where each is a digit and the
+/// number is at most `LIMIT`.
+pub(crate) fn value_after(front: u128, word: &[u8]) -> Option<u128>
+    requires { front < 2 ^ 127 }
+    ensures { let value = digits_value_after 10 front word.now in
+        SomeIff result (AllDigits 10 word.now × (value < 2 ^ 127)) value }
+{
+    let mut value = front;
     for byte in word {
         value = with_digit(value, *byte)?;
     }

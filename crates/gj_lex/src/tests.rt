@@ -1,6 +1,9 @@
-//! Outside examples of canonical numbers, and one call of each function that allocates.
+//! Outside examples of numbers, words, lines and names, and one call of each function that allocates.
 
-use crate::{print_count, print_frac, read_canonical, read_count};
+use crate::{
+    Cursor, LineSpan, Name, NameFault, print_count, print_frac, read_canonical, read_count,
+    read_number, words_of,
+};
 use std::test::Fail;
 
 #[test]
@@ -79,5 +82,88 @@ fn reads_and_prints_counts(rt: HostRuntime) -> Result<(), Fail> {
     let mut out = Vec::from_slice(rt.alloc(), b"x ")?;
     print_count(&mut out, 4_294_967_295)?;
     assert_eq!(rt; out.as_slice(), b"x 4294967295".as_slice());
+    Ok(())
+}
+
+#[test]
+fn reads_lenient_numbers(rt: HostRuntime) -> Result<(), Fail> {
+    let largest = i128::MAX;
+    let words: [(&[u8], i128, i128); 10] = [
+        (b"00012/00024", 1, 2),
+        (b"+3", 3, 1),
+        (b"-0", 0, 1),
+        (b"2.50", 5, 2),
+        (b"0.5", 1, 2),
+        (b"-7/3", -7, 3),
+        (b"+0.125", 1, 8),
+        (b"-170141183460469231731687303715884105727", -largest, 1),
+        (b"1/0170141183460469231731687303715884105727", 1, largest),
+        (b"0.00000000000000000000000000000000000000", 0, 1),
+    ];
+    for (word, num, den) in words {
+        let x = read_number(word).ok_or("a number")?;
+        assert_eq!(rt; x.num(), num);
+        assert_eq!(rt; x.den(), den);
+    }
+    Ok(())
+}
+
+#[test]
+fn refuses_what_is_no_number(rt: HostRuntime) {
+    let words: [&[u8]; 20] = [
+        b".5",
+        b"5.",
+        b"1/0",
+        b"1e3",
+        b"--1",
+        b"1/2/3",
+        b"",
+        b"+",
+        b"-",
+        b"+-1",
+        b"1/-2",
+        b"/2",
+        b"1/",
+        b"1.2.3",
+        b"1.5/2",
+        b" 1",
+        b"1\r",
+        b"170141183460469231731687303715884105728",
+        b"17014118346046923173168730371588410572.8",
+        b"0.000000000000000000000000000000000000000",
+    ];
+    for word in words {
+        assert!(rt; read_number(word).is_none());
+    }
+}
+
+#[test]
+fn finds_words(rt: HostRuntime) -> Result<(), Fail> {
+    let words = words_of(rt.alloc(), b"  a\tbc  d")?;
+    assert_eq!(rt; words.as_slice(), [(2, 3), (4, 6), (8, 9)].as_slice());
+    Ok(())
+}
+
+#[test]
+fn goes_over_lines(rt: HostRuntime) {
+    let mut cursor = Cursor::new(b"a\n\nb\r\nc");
+    for (number, start, end) in [(1, 0, 1), (2, 2, 2), (3, 3, 5), (4, 6, 7)] {
+        let line = LineSpan { number, start, end };
+        assert_eq!(rt; cursor.next_line(), Some(line));
+    }
+    assert_eq!(rt; cursor.next_line(), None);
+    assert_eq!(rt; cursor.next_line(), None);
+}
+
+#[test]
+fn makes_names(rt: HostRuntime) -> Result<(), Fail> {
+    let name = Name::new(rt.alloc(), b"x[1,2]~")?;
+    let copy = name.copy(rt.alloc())?;
+    assert_eq!(rt; copy.bytes(), b"x[1,2]~".as_slice());
+
+    let words: [&[u8]; 5] = [b"", b"a b", b"a\"", b"a\x7f", &[b'a'; 256]];
+    for word in words {
+        assert!(rt; matches!(Name::new(rt.alloc(), word), Err(NameFault::Form)));
+    }
     Ok(())
 }

@@ -13,7 +13,7 @@ use Rattle.gj_shape.proofs.ContinuousGiven.{IsMemory, continuous_from_given, val
 use Rattle.gj_top.specs.declared.first_form.FormError.{FormError}
 use Rattle.gj_top.specs.declared.first_form.FormError.TheVariants.{Refused}
 use Rattle.gj_top.specs.FormErrors.{form_error_of}
-use Rattle.gj_top.specs.FunctionLines.{line, lines_of, BeginsWithLines}
+use Rattle.gj_proof.specs.FunctionLines.{line, lines_of, BeginsWithLines}
 use Rattle.gj_top.specs.FirstForm.{IsFirstForm, HasFormLines, IsFunctionOf}
 
 -- the first line, and the rest

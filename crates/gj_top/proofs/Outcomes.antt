@@ -7,7 +7,7 @@ use Rattle.gj_port.specs.declared.fault.ReadError.TheVariants as read
 use Rattle.gj_shape.specs.FunctionData.{FunctionData}
 use Rattle.gj_top.specs.declared.status.Status.{Status}
 use Rattle.gj_top.specs.declared.status.Status.TheVariants.{Done, Rejected, Words, Input, ReadFault, WriteFault, Memory, Wide, NotContinuous, NoFunction}
-use Rattle.gj_top.specs.FunctionLines.{line}
+use Rattle.gj_proof.specs.FunctionLines.{line}
 use Rattle.gj_top.specs.FirstForm.{IsFirstForm}
 use Rattle.gj_top.specs.Verdict.{IsVerdict}
 use Rattle.gj_top.specs.Answer.{IsMinimalCommand, IsAnswer, IsOutside, input_limit}

@@ -4,7 +4,7 @@ use Rattle.std.specs.declared.alloc.Global.{Global}
 use Rattle.gj_shape.specs.FunctionData.{FunctionData}
 use Rattle.gj_top.specs.declared.status.Status.{Status}
 use Rattle.gj_top.specs.declared.status.Status.TheVariants as status
-use Rattle.gj_top.specs.FunctionLines.{line}
+use Rattle.gj_proof.specs.FunctionLines.{line}
 use Rattle.gj_top.specs.FirstForm.{IsFirstForm}
 use Rattle.gj_top.specs.Verdict.{IsVerdict}
 

@@ -5,7 +5,7 @@ use Rattle.gj_frac.specs.declared.Frac.{Frac}
 use Rattle.gj_frac.specs.Fraction.{Is}
 use Rattle.gj_shape.specs.FunctionData.{FunctionData, IsWithinLimits, IsContinuous}
 use Rattle.gj_shape.specs.Given.{IsOrder}
-use Rattle.gj_top.specs.FunctionLines.{line, lines_of, AreFunctionLines}
+use Rattle.gj_proof.specs.FunctionLines.{line, lines_of, AreFunctionLines}
 
 -- the text is `gj-function 1`, the lines of the continuous function f, and `end`, and nothing else
 pub record IsFirstForm (text : List ℕ) (f : FunctionData) : Type 0 where

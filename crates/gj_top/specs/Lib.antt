@@ -1,4 +1,3 @@
-pub mod FunctionLines
 pub mod FirstForm
 pub mod FormErrors
 pub mod Verdict

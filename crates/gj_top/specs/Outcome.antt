@@ -7,7 +7,7 @@ use Rattle.gj_shape.specs.FunctionData.{FunctionData}
 use Rattle.gj_shape.specs.Table.{IsMinimalOnGrid}
 use Rattle.gj_shape.specs.Violation.{ShowsViolation}
 use Rattle.gj_shape.specs.declared.violations.Violation.{Violation}
-use Rattle.gj_top.specs.FunctionLines.{line}
+use Rattle.gj_proof.specs.FunctionLines.{line}
 use Rattle.gj_top.specs.FirstForm.{IsFirstForm}
 use Rattle.gj_top.specs.Verdict.{IsMinimalText, IsNotMinimalText}
 use Rattle.gj_top.specs.Answer.{IsMinimalCommand, IsAnswer, input_limit}

@@ -7,7 +7,7 @@ ghost use Rattle.gj_top.specs.FirstForm.{IsFirstForm, HasFormLines, IsFunctionOf
 ghost use Rattle.gj_top.specs.FormErrors.{form_error_of};
 ghost use Rattle.gj_top.specs.declared.first_form.FormError.TheVariants.{Memory};
 
-use crate::lines::{FunctionLines, after, function_lines_at, place_of};
+use gj_proof::{FunctionLines, after, function_lines_at, place_of};
 use gj_shape::{Shape, ShapeFault};
 use std::alloc::{AllocError, Global};
 use thiserror::Error;

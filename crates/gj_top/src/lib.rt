@@ -3,27 +3,27 @@
 
 ghost use Rattle.std.specs.Prelude.{◌≡◌, ◌≢◌, ◌⊎◌, ◌≤◌, length, IfSome, IfOk, IsErrOf, IsTrue, ◌↔◌};
 ghost use Rattle.gj_port.specs.Faults.{HasFailed};
-ghost use Rattle.gj_shape.specs.FunctionData.{FunctionData};
+ghost use Rattle.gj_shape.specs.FunctionData.{FunctionData, IsContinuous};
+ghost use Rattle.gj_proof.specs.ProofText.{function_of};
 ghost use Rattle.gj_top.specs.FirstForm.{IsFirstForm};
 ghost use Rattle.gj_top.specs.Answer.{IsMinimalCommand, IsOutside, input_limit};
-ghost use Rattle.gj_top.specs.Verdict.{IsVerdict};
+ghost use Rattle.gj_top.specs.Verdict.{IsVerdict, IsTrueClaim};
 ghost use Rattle.gj_top.specs.Told.{IsTold};
 ghost use Rattle.gj_top.specs.Outcome.{IsOutcome, IsLeft, IsTrueVerdict};
 
 use gj_minimal::find_violation;
 use gj_port::{ReadError, Sink, Source, read_all, write_all};
+use gj_proof::{Claim, Proof, write_proof};
+use gj_shape::Shape;
 use std::alloc::Global;
 
 mod first_form;
-mod lines;
 mod status;
 #[cfg(test)]
 mod tests;
-mod verdict;
 
 use first_form::{FormError, read_first_form};
 pub use status::Status;
-use verdict::write_verdict;
 
 /// The most bytes that are read of an input.
 const INPUT_LIMIT: usize = 16_777_216;
@@ -89,8 +89,20 @@ fn decide(alloc: Global, input: &[u8]) -> Result<Vec<u8>, FormError>
     ensures refused { IsErrOf result FormError.Refused → (f : FunctionData) → IsFirstForm input.now f → ⊥ }
 {
     let shape = read_first_form(alloc, input)?;
-    let violation = find_violation(&shape);
-    Ok(write_verdict(alloc, &shape, violation)?)
+    let proof = Proof::new(claim_on(shape)).unwrap();
+    Ok(write_proof(alloc, &proof)?)
+}
+
+/// The claim that the function is minimal, or that it is not, with the first violation.
+fn claim_on(shape: Shape) -> Claim
+    requires { IsContinuous shape }
+    ensures claim { IsTrueClaim shape result }
+    ensures function { function_of result ≡ shape }
+{
+    match find_violation(&shape) {
+        None => Claim::Minimal(shape),
+        Some(violation) => Claim::NotMinimal(shape, violation),
+    }
 }
 
 /// Whether the words are the one word `minimal`.

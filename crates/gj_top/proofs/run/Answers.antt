@@ -1,6 +1,6 @@
 use Rattle.std.proofs.Common.{◌≡◌, ◌⊎◌, inl, inr, refl, ap, subst, sym, codes, ℕ, List, Err, IfSome}
 use Rattle.gj_top.specs.declared.status.Status.TheVariants.{Done, Words, Input}
-use Rattle.gj_top.specs.FunctionLines.{line}
+use Rattle.gj_proof.specs.FunctionLines.{line}
 use Rattle.gj_top.specs.FirstForm.{IsFirstForm}
 use Rattle.gj_top.specs.Verdict.{IsVerdict}
 use Rattle.gj_top.specs.Answer.{IsAnswer}

@@ -1,0 +1,38 @@
+use Rattle.std.proofs.Common.{arith}
+use Rattle.gj_frac.specs.Fraction.{Is}
+use Rattle.gj_frac.proofs.Crosswise.{crosswise_coprime, product_is_along, product_fits}
+use Rattle.gj_frac.proofs.Integers.{abs_positive_z}
+use Rattle.gj_frac.proofs.Reduced.{read_part}
+use Rattle.gj_frac.proofs.products.FracMul.mul.Goals as goal
+
+-- the first factor is the one numerator over the other denominator
+first : (c : goal.After-reduced-2) → Is c.reduced.result c.args.self.num c.args.other.den
+first c =
+    simp (read_part c.args.self.num c.args.self.lowest.num_fits, read_part c.args.other.den c.args.other.lowest.den_fits) at c.reduced.ensures
+
+-- the second factor the other way round
+second : (c : goal.After-reduced-2) → Is c.reduced-2.result c.args.other.num c.args.self.den
+second c =
+    simp (read_part c.args.other.num c.args.other.lowest.num_fits, read_part c.args.self.den c.args.self.lowest.den_fits) at c.reduced-2.ensures
+
+pub crosswise_coprime_product-requires-clause-first : goal.crosswise_coprime_product-requires-clause-first
+crosswise_coprime_product-requires-clause-first c =
+    crosswise_coprime c.reduced.result c.reduced-2.result _ _ _ _ (first c) (second c) c.args.self.lowest.coprime
+
+pub crosswise_coprime_product-requires-clause-second : goal.crosswise_coprime_product-requires-clause-second
+crosswise_coprime_product-requires-clause-second c =
+    crosswise_coprime c.reduced-2.result c.reduced.result _ _ _ _ (second c) (first c) c.args.other.lowest.coprime
+
+pub crosswise_coprime_product-requires-clause-fits : goal.crosswise_coprime_product-requires-clause-fits
+crosswise_coprime_product-requires-clause-fits c =
+    let some = abs_positive_z c.args.self.den c.args.self.lowest.positive in
+    let other_some = abs_positive_z c.args.other.den c.args.other.lowest.positive in
+    product_fits c.reduced.result c.reduced-2.result c.requires.0 _ _ _ _ (first c) (second c) (omega arith) (omega arith) c.requires.1
+
+pub returns : goal.returns
+returns c =
+    let first : Is c.reduced.result c.args.self.num c.args.other.den =
+    simp (read_part c.args.self.num c.args.self.lowest.num_fits, read_part c.args.other.den c.args.other.lowest.den_fits) at c.reduced.ensures in
+    let second : Is c.reduced-2.result c.args.other.num c.args.self.den =
+    simp (read_part c.args.other.num c.args.other.lowest.num_fits, read_part c.args.self.den c.args.self.lowest.den_fits) at c.reduced-2.ensures in
+    product_is_along c.reduced.result c.reduced-2.result c.crosswise_coprime_product.result _ _ _ _ first second c.crosswise_coprime_product.ensures

@@ -1,0 +1,29 @@
+//! The whole part of a fraction, and what is left of it.
+ghost use Rattle.std.specs.Prelude.{ℤ, pos, ◌-ℤ◌, ◌*ℤ◌, ◌≤ℤ◌, ◌<ℤ◌};
+
+use crate::Frac;
+
+impl Frac {
+    ghost use Rattle.gj_frac.specs.Fraction.{Is, numerator, denominator};
+    ghost use Rattle.gj_frac.specs.Floor.{IsFloor};
+
+    /// The greatest whole number that is at most this fraction: -3 for -7/3.
+    pub fn floor(self) -> i128
+        ensures { IsFloor self result }
+    {
+        self.num.div_euclid(self.den)
+    }
+
+    /// This fraction minus its floor, from 0 up to but not including 1: 2/3 for -7/3.
+    pub fn fract(self) -> Frac
+        ensures value { (n : ℤ) → IsFloor self n →
+            Is result (numerator self -ℤ n *ℤ denominator self) (denominator self) }
+        ensures not_negative { pos 0 ≤ℤ numerator result }
+        ensures below_one { numerator result <ℤ denominator result }
+    {
+        Frac {
+            num: self.num.rem_euclid(self.den),
+            den: self.den,
+        }
+    }
+}

@@ -1,0 +1,203 @@
+-- A word that writes a number without a sign, cut at its first mark.
+use Rattle.std.proofs.Common.{◌≡◌, ◌≢◌, ℕ, ◌^◌, ◌<◌, ◌≤◌, List, [], ◌∷◌, ◌++◌, length, get_or, take, drop, Option, None, Some, IfSome, Bool, true, false, ◌||◌, ◌==◌, refl, sym, ◌∙◌, ap, subst, arith, append-nil, take-append-drop, length-drop, get_or-drop, add-zero}
+use Rattle.std.specs.List.{position_or_len}
+use Rattle.std.specs.Option.{SomeIff}
+use Rattle.std.specs.Str.Parse.{AllDigits, IsNumeral, digits_value, digits_value_after}
+use Rattle.std.proofs.lemmas.List.Sums.{passes_at_first}
+use Rattle.std.proofs.Math.Seq.{take-append_seam, drop-append_seam}
+use Rattle.std.proofs.Math.Nat.{pow-le-pow_right}
+use Rattle.std.proofs.lemmas.Bool.Decides.{nat_tests}
+use Rattle.std.proofs.lemmas.Str.Parse.{digit_from_value}
+use Rattle.gj_lex.specs.NumberText.{IsWritten}
+use Rattle.gj_lex.specs.NumberText.IsWritten.{whole, ratio, point}
+use Rattle.gj_lex.proofs.Decimals.{value_after_append, value_after_at_least}
+
+-- whether a byte is a `/` or a `.`
+abbrev pub is_mark : ℕ → Bool
+is_mark b = (b == 47) || (b == 46)
+
+-- the two parts of a word, before its first mark and from it on
+pub data Cut (front back : List ℕ) (top bottom : ℕ) : Type 0 where
+  one : back ≡ [] → IsNumeral 10 front → top ≡ digits_value 10 front → bottom ≡ 1 → Cut front back top bottom
+  slash : (digits : List ℕ) → back ≡ 47 ∷ digits → IsNumeral 10 front → IsNumeral 10 digits →
+      top ≡ digits_value 10 front → bottom ≡ digits_value 10 digits → Cut front back top bottom
+  dot : (digits : List ℕ) → back ≡ 46 ∷ digits → IsNumeral 10 front → IsNumeral 10 digits →
+      top ≡ digits_value 10 (front ++ digits) → bottom ≡ 10 ^ length digits → Cut front back top bottom
+
+-- no digit is a mark
+digit_no_mark : (c : ℕ) → 48 ≤ c → is_mark c ≡ false
+digit_no_mark c h = grind (arith, nat_tests)
+
+-- digits have no mark among them
+mark_after_digits : (ds : List ℕ) (m : ℕ) (bs : List ℕ) → AllDigits 10 ds → is_mark m ≡ true → position_or_len is_mark (ds ++ m ∷ bs) ≡ length ds
+mark_after_digits [] m bs d h = rw h refl
+mark_after_digits (c ∷ cs) m bs d h =
+    let r = digit_from_value c d.0 in
+    rw (digit_no_mark c (omega arith)) (omega (arith, mark_after_digits cs m bs d.1 h))
+
+no_mark_in_digits : (ds : List ℕ) → AllDigits 10 ds → position_or_len is_mark ds ≡ length ds
+no_mark_in_digits [] d = refl
+no_mark_in_digits (c ∷ cs) d =
+    let r = digit_from_value c d.0 in
+    rw (digit_no_mark c (omega arith)) (omega (arith, no_mark_in_digits cs d.1))
+
+module _ (word front back : List ℕ) (k : ℕ) (at : k ≡ position_or_len is_mark word) (front_is : front ≡ take k word) (back_is : back ≡ drop k word) where
+  -- the two parts are those of the number that the word writes
+  parts_at : (xs ys : List ℕ) → word ≡ xs ++ ys → k ≡ length xs → (front ≡ xs) × (back ≡ ys)
+  parts_at xs ys e here = (
+    front_is ∙ ap (λ i. take i word) here ∙ ap (take (length xs)) e ∙ take-append_seam xs ys,
+    back_is ∙ ap (λ i. drop i word) here ∙ ap (drop (length xs)) e ∙ drop-append_seam xs ys,
+  )
+
+  cut : (n d : ℕ) → IsWritten word n d → Cut front back n d
+  cut n d (whole digits top bottom) =
+      let p = parts_at word [] (sym (append-nil word)) (at ∙ no_mark_in_digits word digits.1) in
+      one p.1 (subst (IsNumeral 10) (sym p.0) digits) (top ∙ ap (digits_value 10) (sym p.0)) bottom
+  cut n d (ratio xs ys e first second top bottom) =
+      let p = parts_at xs (47 ∷ ys) e (at ∙ ap (position_or_len is_mark) e ∙ mark_after_digits xs 47 ys first.1 refl) in
+      slash ys p.1 (subst (IsNumeral 10) (sym p.0) first) second (top ∙ ap (digits_value 10) (sym p.0)) bottom
+  cut n d (point xs ys e first second top bottom) =
+      let p = parts_at xs (46 ∷ ys) e (at ∙ ap (position_or_len is_mark) e ∙ mark_after_digits xs 46 ys first.1 refl) in
+      dot ys p.1 (subst (IsNumeral 10) (sym p.0) first) second (top ∙ ap (λ zs. digits_value 10 (zs ++ ys)) (sym p.0)) bottom
+
+  joined : word ≡ front ++ back
+  joined = sym (take-append-drop k word) ∙ ap (λ zs. zs ++ drop k word) (sym front_is) ∙ ap (λ zs. front ++ zs) (sym back_is)
+
+  uncut : (n d : ℕ) → Cut front back n d → IsWritten word n d
+  uncut n d (one none digits top bottom) =
+      let same : word ≡ front = joined ∙ ap (λ zs. front ++ zs) none ∙ append-nil front in
+      whole (subst (IsNumeral 10) (sym same) digits) (top ∙ ap (digits_value 10) (sym same)) bottom
+  uncut n d (slash digits e first second top bottom) =
+      ratio front digits (joined ∙ ap (λ zs. front ++ zs) e) first second top bottom
+  uncut n d (dot digits e first second top bottom) =
+      point front digits (joined ∙ ap (λ zs. front ++ zs) e) first second top bottom
+
+  -- what stands from the first mark on begins with a mark
+  begins_with_mark : (m : ℕ) (digits : List ℕ) → back ≡ m ∷ digits → is_mark m ≡ true
+  begins_with_mark m digits e =
+      let long : k < length word = omega (arith, ap length (sym back_is ∙ e), length-drop k word) in
+      let passes = passes_at_first is_mark word 0 (omega arith) in
+      let first : get_or word (position_or_len is_mark word) 0 ≡ m =
+      ap (λ i. get_or word i 0) (sym at) ∙ sym (get_or-drop k word 0 0 ∙ ap (λ i. get_or word i 0) (add-zero k)) ∙ ap (λ zs. get_or zs 0 0) (sym back_is ∙ e) in
+      ap is_mark (sym first) ∙ passes
+
+-- ---- the parts that are read
+
+-- powers of ten within the limit
+pub ten_small : (e : ℕ) → e ≤ 38 → 10 ^ e < 2 ^ 127
+ten_small e h =
+    let below : 10 ^ e ≤ 10 ^ 38 = pow-le-pow_right (omega arith) h in
+    omega arith
+
+pub ten_large : (e : ℕ) → 38 < e → ¬ (10 ^ e < 2 ^ 127)
+ten_large e h small =
+    let above : 10 ^ 39 ≤ 10 ^ e = pow-le-pow_right (omega arith) h in
+    omega arith
+
+-- the number of all the digits is within the limit only if that of the front is
+pub point_front : (front back : List ℕ) (e : ℕ) → ¬ (IsNumeral 10 front × (digits_value 10 front < 2 ^ 127)) →
+    ¬ ((IsNumeral 10 front × IsNumeral 10 back) × ((digits_value 10 (front ++ back) < 2 ^ 127) × (10 ^ e < 2 ^ 127)))
+point_front front back e refuted (digits, small) =
+    refuted (digits.0, omega (arith, small.0, value_after_append 0 front back, value_after_at_least (digits_value 10 front) back))
+
+pub point_back : (front back : List ℕ) (n e : ℕ) → n ≡ digits_value 10 front → ¬ (AllDigits 10 back × (digits_value_after 10 n back < 2 ^ 127)) →
+    ¬ ((IsNumeral 10 front × IsNumeral 10 back) × ((digits_value 10 (front ++ back) < 2 ^ 127) × (10 ^ e < 2 ^ 127)))
+point_back front back n e is refuted (digits, small) =
+    refuted (digits.1.1, omega (arith, small.0, value_after_append 0 front back, ap (λ k. digits_value_after 10 k back) is))
+
+-- the number of all the digits, read one run after the other
+pub point_value : (front back : List ℕ) (n top : ℕ) → n ≡ digits_value 10 front → top ≡ digits_value_after 10 n back → top ≡ digits_value 10 (front ++ back)
+point_value front back n top is e = e ∙ ap (λ k. digits_value_after 10 k back) is ∙ sym (value_after_append 0 front back)
+
+-- ---- what the parts tell
+
+-- a cut without a back
+one_parts : (front back : List ℕ) (n d : ℕ) → length back ≡ 0 → Cut front back n d → IsNumeral 10 front × (n ≡ digits_value 10 front) × (d ≡ 1)
+one_parts front back n d none (one e digits top bottom) = (digits, top, bottom)
+one_parts front back n d none (slash digits e first second top bottom) = absurd (omega (arith, ap length e))
+one_parts front back n d none (dot digits e first second top bottom) = absurd (omega (arith, ap length e))
+
+-- a cut at a `/`
+slash_parts : (front back digits : List ℕ) (n d : ℕ) → back ≡ 47 ∷ digits → Cut front back n d →
+    IsNumeral 10 front × IsNumeral 10 digits × (n ≡ digits_value 10 front) × (d ≡ digits_value 10 digits)
+slash_parts front back digits n d is (one e first top bottom) = absurd (omega (arith, ap length (sym is ∙ e)))
+slash_parts front back digits n d is (slash others e first second top bottom) =
+    let same : others ≡ digits = ap (drop 1) (sym e ∙ is) in
+    (first, subst (IsNumeral 10) same second, top, bottom ∙ ap (digits_value 10) same)
+slash_parts front back digits n d is (dot others e first second top bottom) =
+    absurd (omega (arith, ap (λ bs. get_or bs 0 0) (sym is ∙ e)))
+
+-- a cut at another mark
+dot_parts : (front back digits : List ℕ) (m n d : ℕ) → back ≡ m ∷ digits → m ≢ 47 → Cut front back n d →
+    IsNumeral 10 front × IsNumeral 10 digits × (n ≡ digits_value 10 (front ++ digits)) × (d ≡ 10 ^ length digits)
+dot_parts front back digits m n d is other (one e first top bottom) = absurd (omega (arith, ap length (sym is ∙ e)))
+dot_parts front back digits m n d is other (slash others e first second top bottom) =
+    absurd (other (ap (λ bs. get_or bs 0 0) (sym is ∙ e)))
+dot_parts front back digits m n d is other (dot others e first second top bottom) =
+    let same : others ≡ digits = ap (drop 1) (sym e ∙ is) in
+    (first, subst (IsNumeral 10) same second, top ∙ ap (λ bs. digits_value 10 (front ++ bs)) same, bottom ∙ ap (λ bs. 10 ^ length bs) same)
+
+-- the mark that is no `/` is a `.`
+other_mark : (m : ℕ) → is_mark m ≡ true → m ≢ 47 → m ≡ 46
+other_mark m h other = grind (arith, nat_tests)
+
+-- what was read of a word
+abbrev Found : List ℕ → Option (ℕ × ℕ) → Type 0
+Found word r = IfSome r (λ p. IsWritten word p.0 p.1 × (p.0 < 2 ^ 127) × (p.1 < 2 ^ 127))
+
+abbrev Only : List ℕ → Option (ℕ × ℕ) → Type 0
+Only word r = (n d : ℕ) → IsWritten word n d → n < 2 ^ 127 → d < 2 ^ 127 → r ≡ Some (n, d)
+
+module _ (word front back : List ℕ) (k : ℕ) (at : k ≡ position_or_len is_mark word) (front_is : front ≡ take k word) (back_is : back ≡ drop k word) where
+  pub whole_only : length back ≡ 0 → (r : Option (ℕ × ℕ)) → SomeIff r (IsNumeral 10 front × (digits_value 10 front < 2 ^ 127)) (digits_value 10 front, 1) → Only word r
+  whole_only none None h = λ n d written small low.
+      let p = one_parts front back n d none (cut word front back k at front_is back_is n d written) in
+      absurd (h (p.0, omega (arith, p.1)))
+  whole_only none (Some q) h = λ n d written small low.
+      let p = one_parts front back n d none (cut word front back k at front_is back_is n d written) in
+      let top = p.1 in let bottom = p.2 in let is = h.1 in cc
+
+  pub ratio_found : (digits : List ℕ) (m : ℕ) → back ≡ m ∷ digits → m ≡ 47 → (r : Option (ℕ × ℕ)) →
+      SomeIff r ((IsNumeral 10 front × (digits_value 10 front < 2 ^ 127)) × (IsNumeral 10 digits × (digits_value 10 digits < 2 ^ 127))) (digits_value 10 front, digits_value 10 digits) →
+      Found word r
+  ratio_found digits m is mark None h = tt
+  ratio_found digits m is mark (Some q) h =
+      let top : q.0 ≡ digits_value 10 front = ap (λ (p : ℕ × ℕ). p.0) h.1 in
+      let bottom : q.1 ≡ digits_value 10 digits = ap (λ (p : ℕ × ℕ). p.1) h.1 in (
+        uncut word front back k at front_is back_is q.0 q.1 (slash digits (is ∙ ap (λ b. b ∷ digits) mark) h.0.0.0 h.0.1.0 top bottom),
+        omega (arith, h.0.0.1),
+        omega (arith, h.0.1.1),
+      )
+
+  pub ratio_only : (digits : List ℕ) (m : ℕ) → back ≡ m ∷ digits → m ≡ 47 → (r : Option (ℕ × ℕ)) →
+      SomeIff r ((IsNumeral 10 front × (digits_value 10 front < 2 ^ 127)) × (IsNumeral 10 digits × (digits_value 10 digits < 2 ^ 127))) (digits_value 10 front, digits_value 10 digits) →
+      Only word r
+  ratio_only digits m is mark None h = λ n d written small low.
+      let p = slash_parts front back digits n d (is ∙ ap (λ b. b ∷ digits) mark) (cut word front back k at front_is back_is n d written) in
+      absurd (h ((p.0, omega (arith, p.2)), (p.1, omega (arith, p.3))))
+  ratio_only digits m is mark (Some q) h = λ n d written small low.
+      let p = slash_parts front back digits n d (is ∙ ap (λ b. b ∷ digits) mark) (cut word front back k at front_is back_is n d written) in
+      let top = p.2 in let bottom = p.3 in let value = h.1 in cc
+
+  pub point_found : (digits : List ℕ) (m : ℕ) → back ≡ m ∷ digits → m ≢ 47 → (r : Option (ℕ × ℕ)) →
+      SomeIff r ((IsNumeral 10 front × IsNumeral 10 digits) × ((digits_value 10 (front ++ digits) < 2 ^ 127) × (10 ^ length digits < 2 ^ 127))) (digits_value 10 (front ++ digits), 10 ^ length digits) →
+      Found word r
+  point_found digits m is other None h = tt
+  point_found digits m is other (Some q) h =
+      let mark = other_mark m (begins_with_mark word front back k at front_is back_is m digits is) other in
+      let top : q.0 ≡ digits_value 10 (front ++ digits) = ap (λ (p : ℕ × ℕ). p.0) h.1 in
+      let bottom : q.1 ≡ 10 ^ length digits = ap (λ (p : ℕ × ℕ). p.1) h.1 in (
+        uncut word front back k at front_is back_is q.0 q.1 (dot digits (is ∙ ap (λ b. b ∷ digits) mark) h.0.0.0 h.0.0.1 top bottom),
+        omega (arith, h.0.1.0),
+        omega (arith, h.0.1.1),
+      )
+
+  pub point_only : (digits : List ℕ) (m : ℕ) → back ≡ m ∷ digits → m ≢ 47 → (r : Option (ℕ × ℕ)) →
+      SomeIff r ((IsNumeral 10 front × IsNumeral 10 digits) × ((digits_value 10 (front ++ digits) < 2 ^ 127) × (10 ^ length digits < 2 ^ 127))) (digits_value 10 (front ++ digits), 10 ^ length digits) →
+      Only word r
+  point_only digits m is other None h = λ n d written small low.
+      let p = dot_parts front back digits m n d is other (cut word front back k at front_is back_is n d written) in
+      absurd (h ((p.0, p.1), (omega (arith, p.2), omega (arith, p.3))))
+  point_only digits m is other (Some q) h = λ n d written small low.
+      let p = dot_parts front back digits m n d is other (cut word front back k at front_is back_is n d written) in
+      let top = p.2 in let bottom = p.3 in let value = h.1 in cc

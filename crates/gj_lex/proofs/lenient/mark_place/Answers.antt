@@ -1,0 +1,7 @@
+use Rattle.std.proofs.Common.{ap, ◌∙◌, unwrap_or, length}
+use Rattle.gj_lex.proofs.Spelling.{position_unwrapped}
+use Rattle.gj_lex.proofs.lenient.mark_place.Goals as goal
+
+pub returns : goal.returns
+returns c =
+    c.unwrap_or.ensures ∙ ap (λ o. unwrap_or o (length c.args.word.now)) c.first_mark.ensures ∙ position_unwrapped _ c.args.word.now

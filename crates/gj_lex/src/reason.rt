@@ -1,0 +1,52 @@
+//! Why a line of a text is refused.
+
+ghost use Rattle.std.specs.Prelude.{◌≡◌};
+ghost use Rattle.gj_lex.specs.Reason.{reason_word};
+
+/// Why a line of a text is refused.
+#[derive(Clone, Copy, Debug, PartialEq, Eq, Hash)]
+pub enum Reason {
+    /// The line has not the words that belong in its place, or the text has ended.
+    Form,
+    /// A word is no number where a number belongs, or a number out of its range.
+    Number,
+    /// The order is not from 2 to 1,000.
+    Order,
+    /// The place of f is not on the grid, strictly between 0 and 1.
+    Place,
+    /// A value is above 2^20 in absolute value.
+    Large,
+    /// The common denominator of the values so far passes 2^31 - 1.
+    Fine,
+    /// f is not strictly between 0 and 1.
+    BadF,
+    /// The function would have more than 1,000 pieces.
+    Pieces,
+    /// There are fewer than two signs, or a byte among them is neither `+` nor `-`.
+    Signs,
+    /// No two slopes fit the signs.
+    Slopes,
+    /// Something follows the last line.
+    Tail,
+}
+
+impl Reason {
+    /// The word that names the reason.
+    pub fn word(self) -> &'static [u8]
+        ensures { result.now ≡ reason_word self }
+    {
+        match self {
+            Reason::Form => b"form",
+            Reason::Number => b"number",
+            Reason::Order => b"order",
+            Reason::Place => b"place",
+            Reason::Large => b"large",
+            Reason::Fine => b"fine",
+            Reason::BadF => b"bad-f",
+            Reason::Pieces => b"pieces",
+            Reason::Signs => b"signs",
+            Reason::Slopes => b"slopes",
+            Reason::Tail => b"tail",
+        }
+    }
+}

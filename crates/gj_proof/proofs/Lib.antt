@@ -1,0 +1,4 @@
+pub mod LineLemmas
+pub mod Places
+pub mod PointLines
+pub mod ViolationLines

@@ -1,0 +1,2 @@
+pub mod FunctionLines
+pub mod ProofText

@@ -1,0 +1,78 @@
+//! Proof texts, printed.
+
+ghost use Rattle.std.specs.Prelude.{◌≡◌, ◌++◌, ℕ, List, codes, IfOk, OnOk};
+ghost use Rattle.gj_shape.specs.FunctionData.{IsContinuous};
+ghost use Rattle.gj_proof.specs.declared.claim.Claim.TheVariants.{Minimal, NotMinimal};
+ghost use Rattle.gj_proof.specs.FunctionLines.{line, AreFunctionLines};
+ghost use Rattle.gj_proof.specs.ProofText.{violation_line, IsProofText};
+
+use crate::claim::{Claim, Proof};
+use crate::lines::{push_fraction_line, push_function_lines};
+use gj_lex::print_frac;
+use gj_shape::{Shape, Violation};
+use std::alloc::{AllocError, Global};
+
+/// The one text of the proof.
+pub fn write_proof(alloc: Global, proof: &Proof) -> Result<Vec<u8>, AllocError>
+    ensures { IfOk result (λ text. IsProofText proof.now text.items) }
+{
+    match proof.claim() {
+        Claim::Minimal(shape) => write_minimal(alloc, shape),
+        Claim::NotMinimal(shape, violation) => write_not_minimal(alloc, shape, *violation),
+    }
+}
+
+/// The proof text of the claim that the function is minimal.
+fn write_minimal(alloc: Global, shape: &Shape) -> Result<Vec<u8>, AllocError>
+    requires { IsContinuous shape.now }
+    ensures { IfOk result (λ text. IsProofText (Minimal shape.now) text.items) }
+{
+    let mut text = start_text(alloc, b"minimal", shape)?;
+    text.extend_from_slice(b"end\n")?;
+    Ok(text)
+}
+
+/// The proof text of the claim that the function is not minimal, as the violation shows.
+fn write_not_minimal(
+    alloc: Global,
+    shape: &Shape,
+    violation: Violation,
+) -> Result<Vec<u8>, AllocError>
+    requires { IsContinuous shape.now }
+    ensures { IfOk result (λ text. IsProofText (NotMinimal shape.now violation) text.items) }
+{
+    let mut text = start_text(alloc, b"not-minimal", shape)?;
+    push_violation_line(&mut text, violation)?;
+    text.extend_from_slice(b"end\n")?;
+    Ok(text)
+}
+
+/// The first lines of a proof text: its form, its claim and the lines of the function.
+fn start_text(alloc: Global, claim: &[u8], shape: &Shape) -> Result<Vec<u8>, AllocError>
+    requires { IsContinuous shape.now }
+    ensures { IfOk result (λ text. (lines : List ℕ) × AreFunctionLines shape.now lines
+        × (text.items ≡ line (codes "gj-proof 1") ++ line (codes "claim " ++ claim.now) ++ lines)) }
+{
+    let mut text = Vec::new(alloc);
+    text.extend_from_slice(b"gj-proof 1\nclaim ")?;
+    text.extend_from_slice(claim)?;
+    text.push(b'\n')?;
+    push_function_lines(&mut text, shape)?;
+    Ok(text)
+}
+
+/// Appends the line of a violation.
+fn push_violation_line(out: &mut Vec<u8>, violation: Violation) -> Result<(), AllocError>
+    ensures { OnOk result (out.new.items ≡ out.old.items ++ violation_line violation) }
+{
+    match violation {
+        Violation::Zero => out.extend_from_slice(b"zero\n"),
+        Violation::Negative(x) => push_fraction_line(out, b"negative ", x),
+        Violation::Asymmetric(x) => push_fraction_line(out, b"asymmetric ", x),
+        Violation::Superadditive(x, y) => {
+            out.extend_from_slice(b"superadditive ")?;
+            print_frac(out, x)?;
+            push_fraction_line(out, b" ", y)
+        }
+    }
+}
