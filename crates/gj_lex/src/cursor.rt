@@ -54,7 +54,8 @@ impl<'a> Cursor<'a> {
         ensures line { IfSome result (GivesLine self.old self.new) }
         ensures bytes { IfSome result (λ span. slice_range self.old.source span.start span.end ≡
             before_first is_line_feed (rest_of self.old)) }
-        ensures rest { OnSome result (rest_of self.new ≡ after_first is_line_feed (rest_of self.old)) }
+        ensures rest { OnSome result
+            (rest_of self.new ≡ after_first is_line_feed (rest_of self.old)) }
     {
         if self.position == self.bytes.len() {
             return None;

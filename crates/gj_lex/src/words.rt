@@ -10,7 +10,8 @@ use std::alloc::{AllocError, Global};
 /// and tab.
 pub fn words_of(alloc: Global, line: &[u8]) -> Result<Vec<(usize, usize)>, AllocError>
     ensures spans { IfOk result (λ words. AreWords line.now 0 words.items) }
-    ensures texts { IfOk result (λ words. map (word_text line.now) words.items ≡ word_texts line.now) }
+    ensures texts { IfOk result (λ words.
+        map (word_text line.now) words.items ≡ word_texts line.now) }
 {
     let mut words = Vec::new(alloc);
     let mut place = 0;
