@@ -10,6 +10,7 @@ mod numerators;
 mod shape;
 mod violations;
 
+pub use denominators::widened;
 pub use faces::{Face, FaceKind};
 pub use faults::ShapeFault;
 pub use laws::one_function_is_given;
