@@ -1,6 +1,6 @@
 //! The first lines of a proof text: its form, its claim, and the order and the place of its function.
 
-ghost use Rattle.std.specs.Prelude.{◌≡◌, ◌++◌, pos, decimal, codes, IfSome, IfNone, IfOk, IfErr};
+ghost use Rattle.std.specs.Prelude.{◌≡◌, ◌++◌, pos, decimal, codes, IfSome, IfNone, IfOk, IfErr, IsTrue, ◌↔◌};
 ghost use Rattle.gj_frac.specs.Fraction.{Is};
 ghost use Rattle.gj_shape.specs.Given.{IsOrder, IsPlace};
 ghost use Rattle.gj_proof.specs.FunctionLines.{line, order_line};
@@ -97,10 +97,17 @@ fn order_of(count: &[u8]) -> Option<u32>
     ensures none { IfNone result (IsOrder (count_value count.now) → ⊥) }
 {
     let order = read_count(count)?;
-    if !(2..=1000).contains(&order) {
+    if !is_order(order) {
         return None;
     }
     Some(order)
+}
+
+/// Whether the order is from 2 to 1,000.
+fn is_order(order: u32) -> bool
+    ensures { IsTrue result ↔ IsOrder order }
+{
+    (2..=1000).contains(&order)
 }
 
 /// The place of the order in the first line, and what follows the line.
