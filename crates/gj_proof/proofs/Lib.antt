@@ -5,3 +5,4 @@ pub mod PointLines
 pub mod ViolationLines
 pub mod WordLemmas
 pub mod ValuesRead
+pub mod ViolationFaults

@@ -11,14 +11,14 @@ use Rattle.gj_shape.specs.Denominators.{IsLeastDenominator, Widens}
 use Rattle.gj_shape.specs.declared.violations.Violation.{Violation}
 use Rattle.gj_shape.specs.declared.faults.ShapeFault.{ShapeFault}
 use Rattle.gj_shape.specs.declared.faults.ShapeFault.TheVariants as shape_fault
-use Rattle.gj_shape.proofs.ContinuousGiven.{IsMemory, values_given, at_place, up_to_place}
+use Rattle.gj_shape.proofs.ContinuousGiven.{values_given, at_place, up_to_place}
 use Rattle.gj_shape.proofs.InOrder.{all_in_order}
 use Rattle.gj_shape.proofs.LeastDenominator.{Divides, common_before, common_last}
 use Rattle.gj_proof.specs.FunctionLines.{line, order_line, place_line, point_line, lines_of, AreFunctionLines}
 use Rattle.gj_proof.specs.ProofText.{violation_line, IsProofText}
 use Rattle.gj_proof.specs.FirstFault.{claim_line, claim_lines, read_lines, lines_before, LinesRead, Expected, IsGood, IsFull, AreShown, BreaksLine, BreaksClaim, BreaksOrder, BreaksPlace, BreaksPoint, BreaksViolation, IsFaultAt}
 use Rattle.gj_proof.specs.FirstFault.Expected.{title, claim, order, place, point, violation, last, nothing}
-use Rattle.gj_proof.specs.Reading.{IsRefusedHere, IsRefusedIn, HasHead, HasValues, HasShown, BreaksPointOver, BreaksShown, IsPointFault, IsEndFault, claim_about}
+use Rattle.gj_proof.specs.Reading.{IsRefusedHere, IsRefusedIn, HasHead, HasValues, HasShown, BreaksPointOver, BreaksShown, IsPointFault, IsEndFault, IsWantOfMemory, claim_about}
 use Rattle.gj_proof.specs.declared.faults.Fault.{Fault}
 use Rattle.gj_proof.specs.declared.faults.Fault.TheVariants.{Refused, Memory}
 use Rattle.gj_proof.specs.declared.head.ClaimWord.{ClaimWord}
@@ -182,7 +182,7 @@ fault_in_end text here after rest c q k values v (Refused left a) h w count s f 
 
 -- values that pass all tests give a function
 pub no_fault_of_values : (q k : ℕ) (values : List Frac) (e : ShapeFault) → IsOrder q → (1 ≤ k) × (k < q) → length values ≡ q →
-    All IsSmall values → HasCommonDenominator values → HasFault q k values values values e → IsMemory e
+    All IsSmall values → HasCommonDenominator values → HasFault q k values values values e → IsWantOfMemory e
 no_fault_of_values q k values shape_fault.Order o p n s d h = h o
 no_fault_of_values q k values shape_fault.Place o p n s d h = h.1 p
 no_fault_of_values q k values shape_fault.Count o p n s d h = h.2 (n, n, n)

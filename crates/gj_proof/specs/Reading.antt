@@ -7,6 +7,8 @@ use Rattle.gj_lex.specs.declared.reason.Reason.{Reason}
 use Rattle.gj_lex.specs.declared.reason.Reason.TheVariants as reason
 use Rattle.gj_shape.specs.Given.{IsOrder, IsPlace, IsSmall, HasCommonDenominator}
 use Rattle.gj_shape.specs.FunctionData.{FunctionData}
+use Rattle.gj_shape.specs.declared.faults.ShapeFault.{ShapeFault}
+use Rattle.gj_shape.specs.declared.faults.ShapeFault.TheVariants as shape_fault
 use Rattle.gj_shape.specs.declared.violations.Violation.{Violation}
 use Rattle.gj_proof.specs.FunctionLines.{line, order_line, place_line, point_line}
 use Rattle.gj_proof.specs.ProofText.{violation_line}
@@ -39,6 +41,14 @@ NamesFirstFault text (proof_fault.Memory a) = Unit {0}
 abbrev pub IsMemoryFault : ProofFault → Type 0
 IsMemoryFault (proof_fault.Refused n e) = ⊥
 IsMemoryFault (proof_fault.Memory a) = Unit {0}
+
+abbrev pub IsWantOfMemory : ShapeFault → Type 0
+IsWantOfMemory (shape_fault.Memory a) = Unit {0}
+IsWantOfMemory shape_fault.Order = ⊥
+IsWantOfMemory shape_fault.Place = ⊥
+IsWantOfMemory shape_fault.Count = ⊥
+IsWantOfMemory (shape_fault.TooLarge i) = ⊥
+IsWantOfMemory (shape_fault.TooFine i) = ⊥
 
 -- no line of the front and one word; the word is no fraction
 abbrev pub BreaksFraction : List ℕ → List ℕ → Reason → Type 0

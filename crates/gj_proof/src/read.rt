@@ -4,7 +4,7 @@ ghost use Rattle.std.specs.Prelude.{◌≡◌, ◌≤◌, ◌+◌, ◌-◌, ◌=
 ghost use Rattle.gj_shape.specs.FunctionData.{FunctionData, IsContinuous};
 ghost use Rattle.gj_shape.specs.Given.{IsOrder, IsPlace, IsSmall, HasCommonDenominator, IsGivenBy};
 ghost use Rattle.gj_proof.specs.ProofText.{IsKept, IsProofText};
-ghost use Rattle.gj_proof.specs.Reading.{IsRefusedIn, NamesFirstFault, IsMemoryFault, claim_about};
+ghost use Rattle.gj_proof.specs.Reading.{IsRefusedIn, NamesFirstFault, IsMemoryFault, IsWantOfMemory, claim_about};
 ghost use Rattle.gj_proof.specs.declared.claim.Claim.{Claim};
 
 use crate::claim::{Claim, Proof};
@@ -76,8 +76,17 @@ fn shape_of(
 {
     match Shape::new(alloc, order, place, values, values, values) {
         Ok(shape) => Ok(shape),
-        Err(ShapeFault::Memory(error)) => Err(error),
-        Err(_) => unreachable!(),
+        Err(fault) => Err(memory_of(fault)),
+    }
+}
+
+/// The want of memory that the fault is.
+fn memory_of(fault: ShapeFault) -> AllocError
+    requires { IsWantOfMemory fault }
+{
+    match fault {
+        ShapeFault::Memory(error) => error,
+        _ => unreachable!(),
     }
 }
 

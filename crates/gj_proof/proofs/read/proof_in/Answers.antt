@@ -1,0 +1,25 @@
+use Rattle.std.proofs.Common.{◌≡◌, sym, subst}
+use Rattle.std.proofs.lemmas.Result.{err_from_is_err_and}
+use Rattle.gj_proof.specs.FirstFault.{BreaksViolation}
+use Rattle.gj_proof.specs.Reading.{IsRefusedIn, BreaksShown}
+use Rattle.gj_proof.proofs.WholeFaults.{passed_on, refused_from, fault_in_point, fault_in_shown, fault_in_end, proof_found}
+use Rattle.gj_proof.proofs.read.proof_in.Goals as goal
+
+pub returns-in_err-values-clause-fault : goal.returns-in_err-values-clause-fault
+returns-in_err-values-clause-fault c =
+    let p = err_from_is_err_and c.from_residual-in_err-values.result c.from_residual-in_err-values.ensures.1 in
+    passed_on (IsRefusedIn c.args.bytes.now) _ _ _ p.1 p.2
+    (fault_in_point _ _ _ _ _ _ c.in_ok-head.ensures.found c.in_err-values.ensures.fault)
+
+pub returns-in_err-violation-clause-fault : goal.returns-in_err-violation-clause-fault
+returns-in_err-violation-clause-fault c =
+    let p = err_from_is_err_and c.from_residual-in_err-violation.result c.from_residual-in_err-violation.ensures.1 in
+    refused_from (BreaksShown c.in_ok-head.head.claim c.in_ok-values.rest.now) _ _ _ _ _ p.1 p.2 c.in_err-violation.ensures.fault
+    (fault_in_shown _ _ _ _ _ _ _ c.in_ok-head.ensures.found c.in_ok-values.ensures.found c.in_ok-values.ensures.count)
+
+pub returns-in_err-end_at-clause-fault : goal.returns-in_err-end_at-clause-fault
+returns-in_err-end_at-clause-fault c =
+    let p = err_from_is_err_and c.from_residual-in_err-end_at.result c.from_residual-in_err-end_at.ensures.1 in
+    passed_on (IsRefusedIn c.args.bytes.now) _ _ _ p.1 p.2
+    (fault_in_end _ _ _ _ _ _ _ _ _ _ c.in_ok-head.ensures.found c.in_ok-values.ensures.found c.in_ok-values.ensures.count
+    c.in_ok-violation.ensures.found c.in_err-end_at.ensures.fault)
