@@ -6,3 +6,6 @@ pub mod ViolationLines
 pub mod WordLemmas
 pub mod ValuesRead
 pub mod ViolationFaults
+pub mod OneLine
+pub mod OneText
+pub mod FirstFaults

@@ -97,7 +97,7 @@ point_over values scale text least a (inr (inr (e, (x, rest, spelled, small, non
         spelled,
         small,
         λ has. none has.0 has.1 has.2
-        (least.least has.0 (common_before values x has.0 has.3)) (common_last values x has.0 has.3),
+            (least.least has.0 (common_before values x has.0 has.3)) (common_last values x has.0 has.3),
       ),
     )))
 

@@ -9,7 +9,8 @@ ghost use Rattle.gj_proof.specs.FirstFault.{IsFirstFault};
 /// A claim has one text, and a text is that of one claim: what was read is written as the same
 /// bytes, and what was written is read as the same proof.
 pub fn one_spelling()
-    ensures text { (c : Claim) (a b : List ℕ) → IsProofText c a → IsProofText c b → a ≡ b }
+    ensures text { (c : Claim) (a b : List ℕ) → IsKept c →
+        IsProofText c a → IsProofText c b → a ≡ b }
     ensures claim { (c d : Claim) (text : List ℕ) → IsKept c → IsKept d →
         IsProofText c text → IsProofText d text → c ≡ d }
 {}

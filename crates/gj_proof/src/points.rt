@@ -13,11 +13,7 @@ use gj_shape::{ShapeFault, widened};
 use std::alloc::Global;
 
 /// The values of the point lines at the front, as many as `count`, and what follows them.
-pub(crate) fn values_at(
-    alloc: Global,
-    text: &[u8],
-    count: u32,
-) -> Result<(Vec<Frac>, &[u8]), Fault>
+pub(crate) fn values_at(alloc: Global, text: &[u8], count: u32) -> Result<(Vec<Frac>, &[u8]), Fault>
     ensures found { IfOk result (λ r. HasValues text.now r.0.items r.1.now) }
     ensures count { IfOk result (λ r. length r.0.items ≡ count) }
     ensures fault { IfErr result (IsPointFault text.now count) }

@@ -61,12 +61,7 @@ fn proof_in(alloc: Global, bytes: &[u8]) -> Result<Proof, Fault>
 }
 
 /// The continuous function of these values, which pass all tests.
-fn shape_of(
-    alloc: Global,
-    order: u32,
-    place: u32,
-    values: &[Frac],
-) -> Result<Shape, AllocError>
+fn shape_of(alloc: Global, order: u32, place: u32, values: &[Frac]) -> Result<Shape, AllocError>
     requires order_fits { IsOrder order }
     requires place_fits { IsPlace order place }
     requires count { length values.now ≡ order }

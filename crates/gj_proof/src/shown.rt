@@ -14,10 +14,7 @@ use gj_lex::Reason;
 use gj_shape::Violation;
 
 /// The violation that the claim shows in the first line, where it has one, and what follows.
-pub(crate) fn shown_at(
-    text: &[u8],
-    claim: ClaimWord,
-) -> Result<(Option<Violation>, &[u8]), Fault>
+pub(crate) fn shown_at(text: &[u8], claim: ClaimWord) -> Result<(Option<Violation>, &[u8]), Fault>
     ensures found { IfOk result (λ r. HasShown claim text.now r.0 r.1.now) }
     ensures fault { IfErr result (IsRefusedHere (BreaksShown claim text.now) text.now) }
 {

@@ -39,5 +39,5 @@ returns-clause-found c =
       place_is = h.place_is;
       spelled = after_claim _ _ _ _ c.in_ok-rest.ensures.found c.in_ok-claim.ensures.found
           ∙ ap (λ t. claim_lines c.in_ok-claim.claim ++ t)
-              (c.in_ok-order.ensures.found.1 ∙ ap (λ t. order_line c.in_ok-order.order ++ t) h.spelled);
+          (c.in_ok-order.ensures.found.1 ∙ ap (λ t. order_line c.in_ok-order.order ++ t) h.spelled);
     }
