@@ -18,3 +18,6 @@ pub use laws::{no_fault_in_proof_text, one_spelling};
 pub use lines::{FunctionLines, after, function_lines_at, place_of};
 pub use read::read_proof;
 pub use write::write_proof;
+
+#[cfg(test)]
+mod tests;
