@@ -1,2 +1,5 @@
 pub mod FunctionLines
 pub mod ProofText
+pub mod Words
+pub mod FirstFault
+pub mod Reading
