@@ -1,5 +1,5 @@
 -- The number of the line of a fault.
-use Rattle.std.proofs.Common.{◌≡◌, ℕ, ◌+◌, ◌-◌, ◌≤◌, List, ◌++◌, length, take, count_by, ◌==◌, sym, ap, ◌∙◌, arith}
+use Rattle.std.proofs.Common.{◌≡◌, ℕ, ◌+◌, ◌-◌, ◌≤◌, List, length, take, count_by, ◌==◌, ap, ◌∙◌, arith}
 use Rattle.std.proofs.lemmas.List.{length-append, take_at}
 use Rattle.gj_lex.specs.declared.reason.Reason.{Reason}
 use Rattle.gj_proof.specs.FirstFault.{lines_before, IsFirstFault}

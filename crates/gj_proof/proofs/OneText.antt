@@ -1,7 +1,6 @@
 -- A proof text is that of one claim, and has no fault.
-use Rattle.std.proofs.Common.{◌≡◌, ◌≢◌, ℕ, ◌<◌, ◌≤◌, ℤ, pos, ◌*ℤ◌, unsigned_abs, List, [], ◌∷◌, ◌++◌, length, flat_map, codes, All, refl, sym, ap, subst, ◌∙◌, arith}
+use Rattle.std.proofs.Common.{◌≡◌, ℕ, ◌<◌, ℤ, pos, unsigned_abs, List, [], ◌∷◌, ◌++◌, length, flat_map, codes, refl, sym, ap, subst, ◌∙◌, arith}
 use Rattle.std.specs.List.{AllZip}
-use Rattle.std.proofs.lemmas.Int.{ints}
 use Rattle.std.proofs.lemmas.List.{append_assoc, append-nil, append_cancel_left}
 use Rattle.std.proofs.lemmas.Slice.Zip.{AllZip-long}
 use Rattle.gj_frac.specs.declared.Frac.{Frac}
@@ -10,15 +9,14 @@ use Rattle.gj_frac.proofs.Integers.{mul_cancel_right_z, abs_positive_z}
 use Rattle.gj_frac.proofs.SameValues.{same_from_is}
 use Rattle.gj_lex.specs.declared.reason.Reason.{Reason}
 use Rattle.gj_shape.specs.FunctionData.{FunctionData, IsWithinLimits, IsContinuous}
-use Rattle.gj_shape.specs.Given.{IsOrder, IsSmall, HasCommonDenominator, IsGivenBy}
-use Rattle.gj_shape.specs.declared.violations.Violation.{Violation}
+use Rattle.gj_shape.specs.Given.{IsOrder, IsSmall, IsGivenBy}
 use Rattle.gj_shape.proofs.ContinuousGiven.{given_by_values, all_small_given, at_place, up_to_place}
 use Rattle.gj_shape.proofs.InOrder.{all_from_in_order}
 use Rattle.gj_shape.proofs.LeastDenominator.{Divides}
 use Rattle.gj_shape.proofs.OneFunction.{same_from_given}
-use Rattle.gj_proof.specs.FunctionLines.{line, order_line, place_line, point_line, lines_of, AreFunctionLines}
+use Rattle.gj_proof.specs.FunctionLines.{line, order_line, place_line, point_line, lines_of}
 use Rattle.gj_proof.specs.ProofText.{function_of, claim_word, shown_lines, violation_line, IsKept, IsProofText}
-use Rattle.gj_proof.specs.FirstFault.{claim_line, claim_lines, read_lines, lines_before, LinesRead, Expected, IsGood, IsFull, IsPlaceFraction, AreShown, ComesNext, Breaks, IsFaultAt}
+use Rattle.gj_proof.specs.FirstFault.{claim_line, claim_lines, read_lines, lines_before, LinesRead, Expected, IsFull, IsPlaceFraction, AreShown, ComesNext, Breaks, IsFaultAt}
 use Rattle.gj_proof.specs.FirstFault.Expected.{title, claim, order, place, point, violation, last, nothing}
 use Rattle.gj_proof.specs.declared.claim.Claim.{Claim}
 use Rattle.gj_proof.specs.declared.claim.Claim.TheVariants as claims

@@ -2,7 +2,6 @@
 use Rattle.std.proofs.Common.{◌≡◌, ℕ, ◌+◌, ◌<◌, List, [], ◌∷◌, ◌++◌, length, flat_map, refl, sym, ap, ◌∙◌, arith}
 use Rattle.std.proofs.lemmas.List.{append_assoc, length_push, flat_map_more}
 use Rattle.gj_frac.specs.declared.Frac.{Frac}
-use Rattle.gj_lex.specs.declared.reason.Reason.{Reason}
 use Rattle.gj_shape.specs.Denominators.{IsLeastDenominator, Widens}
 use Rattle.gj_shape.proofs.LeastDenominator.{least_of_none, least_with_next}
 use Rattle.gj_proof.specs.FunctionLines.{point_line}

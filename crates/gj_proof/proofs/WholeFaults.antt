@@ -1,13 +1,12 @@
 -- How a fault of a part is the first fault of the whole text.
-use Rattle.std.proofs.Common.{◌≡◌, ◌⊎◌, inl, inr, ℕ, ◌<◌, ◌≤◌, ◌+◌, ◌-◌, pos, List, [], ◌∷◌, ◌++◌, length, flat_map, take, codes, All, Option, None, Some, Result, Ok, Err, IfErr, IfOk, refl, sym, ap, subst, ◌∙◌, arith}
-use Rattle.std.specs.List.{AllZip}
+use Rattle.std.proofs.Common.{◌≡◌, inl, inr, ℕ, ◌<◌, ◌≤◌, pos, List, [], ◌++◌, length, flat_map, codes, All, Option, Result, Err, IfErr, refl, sym, ap, subst, ◌∙◌}
 use Rattle.std.proofs.lemmas.List.{append_assoc, append-nil}
 use Rattle.gj_frac.specs.declared.Frac.{Frac}
 use Rattle.gj_frac.specs.Fraction.{Is}
 use Rattle.gj_lex.specs.declared.reason.Reason.{Reason}
 use Rattle.gj_shape.specs.FunctionData.{FunctionData}
 use Rattle.gj_shape.specs.Given.{IsOrder, IsSmall, HasCommonDenominator, IsGivenBy, in_order, HasFault}
-use Rattle.gj_shape.specs.Denominators.{IsLeastDenominator, Widens}
+use Rattle.gj_shape.specs.Denominators.{IsLeastDenominator}
 use Rattle.gj_shape.specs.declared.violations.Violation.{Violation}
 use Rattle.gj_shape.specs.declared.faults.ShapeFault.{ShapeFault}
 use Rattle.gj_shape.specs.declared.faults.ShapeFault.TheVariants as shape_fault
@@ -16,7 +15,7 @@ use Rattle.gj_shape.proofs.InOrder.{all_in_order}
 use Rattle.gj_shape.proofs.LeastDenominator.{Divides, common_before, common_last}
 use Rattle.gj_proof.specs.FunctionLines.{line, order_line, place_line, point_line, lines_of, AreFunctionLines}
 use Rattle.gj_proof.specs.ProofText.{violation_line, IsProofText}
-use Rattle.gj_proof.specs.FirstFault.{claim_line, claim_lines, read_lines, lines_before, LinesRead, Expected, IsGood, IsFull, AreShown, BreaksLine, BreaksClaim, BreaksOrder, BreaksPlace, BreaksPoint, BreaksViolation, IsFaultAt}
+use Rattle.gj_proof.specs.FirstFault.{claim_line, claim_lines, read_lines, LinesRead, IsGood, IsFull, AreShown, BreaksLine, BreaksClaim, BreaksOrder, BreaksPlace, BreaksPoint, IsFaultAt}
 use Rattle.gj_proof.specs.FirstFault.Expected.{title, claim, order, place, point, violation, last, nothing}
 use Rattle.gj_proof.specs.Reading.{IsRefusedHere, IsRefusedIn, HasHead, HasValues, HasShown, BreaksPointOver, BreaksShown, IsPointFault, IsEndFault, IsWantOfMemory, claim_about}
 use Rattle.gj_proof.specs.declared.faults.Fault.{Fault}

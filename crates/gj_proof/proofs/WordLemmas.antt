@@ -1,7 +1,7 @@
 -- Words of a line: what numbers are words, and how a line is split.
-use Rattle.std.proofs.Common.{◌≡◌, ◌≢◌, ℕ, ◌+◌, ◌-◌, ◌<◌, ◌≤◌, ◌^◌, List, [], ◌∷◌, ◌++◌, length, get_or, codes, decimal, All, Option, None, Some, IfNone, refl, sym, ap, subst, ◌∙◌, arith}
-use Rattle.std.specs.Char.{IsAsciiDigit, digit_value}
-use Rattle.std.specs.Str.Parse.{AllDigits, digits_value}
+use Rattle.std.proofs.Common.{◌≡◌, ◌≢◌, ℕ, ◌-◌, ◌<◌, ◌≤◌, List, [], ◌∷◌, ◌++◌, length, codes, decimal, All, Option, None, Some, IfNone, refl, sym, ap, ◌∙◌, arith}
+use Rattle.std.specs.Char.{IsAsciiDigit}
+use Rattle.std.specs.Str.Parse.{AllDigits}
 use Rattle.std.proofs.lemmas.Str.{digit_value_digit}
 use Rattle.std.proofs.lemmas.List.{append_assoc, append_cancel_left}
 use Rattle.std.proofs.lemmas.List.Elements.{All-nil, All-cons, All-head, All-tail, All-append, All-weaker}
@@ -10,7 +10,7 @@ use Rattle.gj_lex.specs.NumberText.{fraction_text, IsWordByte}
 use Rattle.gj_lex.proofs.Decimals.{decimal_of_value, decimal_leading_zero, decimal_some, value_of_decimal}
 use Rattle.gj_lex.proofs.WordBytes.{decimal_is_word, decimal_bytes, fraction_is_word, fraction_some}
 use Rattle.gj_proof.specs.FunctionLines.{line}
-use Rattle.gj_proof.specs.Words.{IsInWord, IsWord, IsLastWord, HasField, HasTwoFields, IsCount, count_value}
+use Rattle.gj_proof.specs.Words.{IsInWord, IsWord, IsLastWord, HasTwoFields, IsCount, count_value}
 
 -- ---- words
 

@@ -1,4 +1,4 @@
-use Rattle.std.proofs.Common.{◌≡◌, ◌++◌, codes, sym, ap, subst, ◌∙◌}
+use Rattle.std.proofs.Common.{◌++◌, codes, sym, subst}
 use Rattle.gj_proof.specs.Words.{IsWord, IsLastWord}
 use Rattle.gj_proof.proofs.WordLemmas.{none_anyway, no_space_in_word, no_feed_in_two_words, two_words_line}
 use Rattle.gj_proof.proofs.fields.two_fields_at.Goals as goal

@@ -1,4 +1,4 @@
-use Rattle.std.proofs.Common.{◌≡◌, ◌++◌, codes, ap, ◌∙◌}
+use Rattle.std.proofs.Common.{◌++◌, codes, ap, ◌∙◌}
 use Rattle.std.proofs.lemmas.Result.{err_from_is_err_and}
 use Rattle.gj_proof.specs.FunctionLines.{order_line}
 use Rattle.gj_proof.specs.FirstFault.{claim_lines, BreaksLine, BreaksClaim, BreaksOrder, BreaksPlace}

@@ -1,4 +1,4 @@
-use Rattle.std.proofs.Common.{inl, inr, refl}
+use Rattle.std.proofs.Common.{inr, refl}
 use Rattle.gj_proof.proofs.head.place_at.Goals as goal
 
 pub returns-in-Some-clause-found : goal.returns-in-Some-clause-found

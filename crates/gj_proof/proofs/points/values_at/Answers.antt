@@ -1,8 +1,8 @@
-use Rattle.std.proofs.Common.{◌≡◌, ◌<◌, ◌+◌, sym, subst, ◌∙◌, arith}
+use Rattle.std.proofs.Common.{arith}
 use Rattle.std.proofs.lemmas.Result.{err_from_is_err_and}
 use Rattle.gj_proof.specs.Reading.{IsPointFault}
 use Rattle.gj_proof.proofs.WholeFaults.{passed_on}
-use Rattle.gj_proof.proofs.ValuesRead.{HaveRead, none_read, one_read, values_read, fault_read}
+use Rattle.gj_proof.proofs.ValuesRead.{none_read, one_read, values_read, fault_read}
 use Rattle.gj_proof.proofs.points.values_at.Goals as goal
 
 pub loop-init : goal.loop-init
