@@ -3,3 +3,5 @@ pub mod ProofText
 pub mod Words
 pub mod FirstFault
 pub mod Reading
+pub mod Rules
+pub mod Meaning
