@@ -1,0 +1,4 @@
+pub mod RuleWords
+pub mod FirstFailure
+pub mod Values
+pub mod Coordinates

@@ -1,0 +1,15 @@
+//! Why a proof is not accepted.
+use crate::rules::CheckRule;
+use std::alloc::AllocError;
+use thiserror::Error;
+
+/// Why `check` does not accept a proof.
+#[derive(Clone, Copy, Debug, PartialEq, Eq, Error)]
+pub enum CheckFault {
+    /// The line at which the first rule fails, counted from 1, and the rule.
+    #[error("a rule fails at line {0}")]
+    Rejected(u64, CheckRule),
+    /// There was no memory.
+    #[error("out of memory")]
+    Memory(AllocError),
+}

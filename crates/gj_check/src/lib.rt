@@ -1,0 +1,18 @@
+//! The separate checker: every rule on a proof, by code that shares nothing with the search for proofs.
+#![tactic(auto)]
+
+mod checker;
+mod denominators;
+mod faults;
+mod laws;
+mod minimality;
+mod points;
+mod rules;
+
+pub use checker::check;
+pub use faults::CheckFault;
+pub use laws::rules_give_meaning;
+pub use rules::CheckRule;
+
+#[cfg(test)]
+mod tests;

@@ -1,0 +1,113 @@
+//! The rule `point`: a violation is shown at its points.
+ghost use Rattle.std.specs.Prelude.{pos, ◌≡◌, ◌≢◌, ◌↔◌, ◌<◌, ◌≤◌, ◌^◌, ◌*ℤ◌, ◌<ℤ◌, [], ◌∷◌, IsTrue, unsigned_abs};
+ghost use Rattle.gj_frac.specs.Fraction.{Is, numerator, denominator, LessValue, fraction_of};
+ghost use Rattle.gj_shape.specs.FunctionData.{IsWithinLimits};
+ghost use Rattle.gj_shape.specs.Violation.{ShowsViolation};
+ghost use Rattle.gj_shape.specs.declared.violations.Violation.TheVariants as violation;
+ghost use Rattle.gj_proof.specs.Rules.{MeetsPoint};
+ghost use Rattle.gj_check.specs.Coordinates.{AreCoordinates, IsScaledOpposite};
+
+use crate::denominators::{are_coordinates, is_coordinate};
+use gj_frac::Frac;
+use gj_shape::{Shape, Violation};
+
+/// Whether the violation's coordinates lie from 0 to below 1 and have a common denominator of at most 2^62, and
+/// the violation is shown there. It takes no memory.
+pub(crate) fn is_shown(shape: &Shape, violation: Violation) -> bool
+    ensures { IsTrue result ↔ MeetsPoint shape.now violation }
+{
+    let values = shape.value_numerators();
+    match violation {
+        Violation::Zero => is_nonzero(values[0]),
+        Violation::Negative(x) => is_coordinate(x) && is_negative_at(shape, x),
+        Violation::Asymmetric(x) => is_coordinate(x) && is_asymmetric_at(shape, x),
+        Violation::Superadditive(x, y) => {
+            are_coordinates(x, y) && is_superadditive_at(shape, x, y)
+        }
+    }
+}
+
+/// Whether the number is not 0.
+fn is_nonzero(n: i64) -> bool
+    ensures { IsTrue result ↔ (n ≢ pos 0) }
+{
+    n != 0
+}
+
+/// Whether the value at x is negative.
+fn is_negative_at(shape: &Shape, x: Frac) -> bool
+    requires limits { IsWithinLimits shape.now }
+    requires coordinates { AreCoordinates (x ∷ []) }
+    ensures { IsTrue result ↔ ShowsViolation shape.now (violation.Negative x) }
+{
+    is_negative(shape.value_at(x))
+}
+
+/// Whether the fraction is less than 0.
+fn is_negative(x: Frac) -> bool
+    ensures { IsTrue result ↔ (numerator x <ℤ pos 0) }
+{
+    x.num() < 0
+}
+
+/// Whether the values at x and at f - x do not add up to 1.
+fn is_asymmetric_at(shape: &Shape, x: Frac) -> bool
+    requires limits { IsWithinLimits shape.now }
+    requires coordinates { AreCoordinates (x ∷ []) }
+    ensures { IsTrue result ↔ ShowsViolation shape.now (violation.Asymmetric x) }
+{
+    let opposite = scaled_opposite(shape, x);
+    is_not_one(shape.value_at(x) + shape.value_scaled(opposite))
+}
+
+/// Whether the fraction is not 1.
+fn is_not_one(x: Frac) -> bool
+    ensures { IsTrue result ↔ (numerator x ≢ denominator x) }
+{
+    x.num() != x.den()
+}
+
+/// The number q (f - x), where q is the order.
+fn scaled_opposite(shape: &Shape, x: Frac) -> Frac
+    requires { AreCoordinates (x ∷ []) }
+    ensures { IsScaledOpposite shape.now x result }
+{
+    let num = times(x.den(), shape.place()) - times(x.num(), shape.order());
+    ratio(num, x.den())
+}
+
+/// The fraction `num/den`, which fits.
+fn ratio(num: i128, den: i128) -> Frac
+    requires zero { unsigned_abs den ≢ 0 }
+    requires num_fits { unsigned_abs num < 2 ^ 127 }
+    requires den_fits { unsigned_abs den < 2 ^ 127 }
+    ensures { Is result num den }
+{
+    Frac::new(num, den).unwrap()
+}
+
+/// The product of a whole number of at most 2^62 in absolute value and a natural number.
+fn times(n: i128, factor: u32) -> i128
+    requires { unsigned_abs n ≤ 2 ^ 62 }
+    ensures value { result ≡ n *ℤ pos factor }
+    ensures fits { unsigned_abs result ≤ 2 ^ 94 }
+{
+    n * i128::from(factor)
+}
+
+/// Whether the values at x and y add up to less than the value at x + y.
+fn is_superadditive_at(shape: &Shape, x: Frac, y: Frac) -> bool
+    requires limits { IsWithinLimits shape.now }
+    requires coordinates { AreCoordinates (x ∷ y ∷ []) }
+    ensures { IsTrue result ↔ ShowsViolation shape.now (violation.Superadditive x y) }
+{
+    let sum = shape.value_at(x) + shape.value_at(y);
+    is_less(sum, shape.value_at(x + y))
+}
+
+/// Whether the first fraction is less than the second.
+fn is_less(x: Frac, y: Frac) -> bool
+    ensures { IsTrue result ↔ LessValue (fraction_of x) (fraction_of y) }
+{
+    x < y
+}

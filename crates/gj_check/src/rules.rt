@@ -1,0 +1,76 @@
+//! The checker's rules.
+
+/// A rule of the checker. Its word is its name in lower case.
+#[derive(Clone, Copy, Debug, PartialEq, Eq)]
+pub enum CheckRule {
+    /// The function is minimal.
+    Minimal,
+    /// The function is continuous.
+    Continuous,
+    /// The coordinates of a violation lie from 0 to below 1, and the violation is shown there.
+    Point,
+    /// A line of a cover extends a component.
+    Cover,
+    /// The pair of a row is tight.
+    Row,
+    /// A row is reduced at a column where it has an entry and an earlier row has its pivot.
+    Reduce,
+    /// The numbers of a reduction fit 128 bits.
+    Size,
+    /// The pivot of a row is its first entry, in a column with no earlier pivot.
+    Pivot,
+    /// There are as many pivots as components.
+    Rank,
+    /// The order and the scale of the halves are multiples of the function's.
+    Scale,
+    /// The entries of the halves lie from 0 to their scale.
+    Range,
+    /// The halves average to the function.
+    Average,
+    /// The first half is minimal.
+    First,
+    /// The second half is minimal.
+    Second,
+    /// The halves differ.
+    Same,
+    /// The fractional part of a right side is the place of the function.
+    Fraction,
+    /// The numbers of a row are within the limits.
+    Limit,
+    /// The names of a row differ.
+    Name,
+    /// A coefficient is the value of the function.
+    Value,
+}
+
+impl CheckRule {
+    ghost use Rattle.std.specs.Prelude.{◌≡◌};
+    ghost use Rattle.gj_check.specs.RuleWords.{rule_word};
+
+    /// The word of the rule.
+    pub fn word(self) -> &'static [u8]
+        ensures { result.now ≡ rule_word self }
+    {
+        match self {
+            CheckRule::Minimal => b"minimal",
+            CheckRule::Continuous => b"continuous",
+            CheckRule::Point => b"point",
+            CheckRule::Cover => b"cover",
+            CheckRule::Row => b"row",
+            CheckRule::Reduce => b"reduce",
+            CheckRule::Size => b"size",
+            CheckRule::Pivot => b"pivot",
+            CheckRule::Rank => b"rank",
+            CheckRule::Scale => b"scale",
+            CheckRule::Range => b"range",
+            CheckRule::Average => b"average",
+            CheckRule::First => b"first",
+            CheckRule::Second => b"second",
+            CheckRule::Same => b"same",
+            CheckRule::Fraction => b"fraction",
+            CheckRule::Limit => b"limit",
+            CheckRule::Name => b"name",
+            CheckRule::Value => b"value",
+        }
+    }
+}
