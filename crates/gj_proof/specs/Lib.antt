@@ -1,7 +1,7 @@
-pub mod FirstFault
 pub mod FunctionLines
-pub mod Meaning
 pub mod ProofText
+pub mod Words
+pub mod FirstFault
 pub mod Reading
 pub mod Rules
-pub mod Words
+pub mod Meaning
