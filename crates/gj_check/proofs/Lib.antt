@@ -5,3 +5,4 @@ pub mod Multiples
 pub mod Ratios
 pub mod SamePlaces
 pub mod ShownPoints
+pub mod Meanings

@@ -5,4 +5,5 @@ pub mod SignedNumbers
 pub mod Spelling
 pub mod WordBytes
 pub mod WordRuns
+pub mod WordTexts
 pub mod WrittenNumbers

@@ -1,5 +1,6 @@
 -- The words of a line (own).
-use Rattle.std.specs.Prelude.{ℕ, ◌≡◌, ◌-◌, ◌<◌, ◌≤◌, Bool, true, false, ◌==◌, ◌||◌, List, [], ◌∷◌, length, slice_index}
+use Rattle.std.specs.Prelude.{ℕ, ◌≡◌, ◌<◌, ◌≤◌, Bool, true, false, nat_lt, ◌==◌, ◌||◌, List, [], ◌∷◌, length, slice_index}
+use Rattle.std.specs.List.{filter, slice_range, slice_split}
 
 -- a byte that parts words: a space or a tab
 abbrev pub is_blank : ℕ → Bool
@@ -24,3 +25,11 @@ pub record IsNextWord (line : List ℕ) (from start end : ℕ) : Type 0 where
 abbrev pub AreWords : List ℕ → ℕ → List (ℕ × ℕ) → Type 0
 AreWords line from [] = AllBlank line from (length line)
 AreWords line from (word ∷ words) = IsNextWord line from word.0 word.1 × AreWords line word.1 words
+
+-- the bytes of a word
+abbrev pub word_text : List ℕ → ℕ × ℕ → List ℕ
+word_text line word = slice_range line word.0 word.1
+
+-- the bytes of all words, in order: of the parts of the line between its blanks, those with a byte
+abbrev pub word_texts : List ℕ → List (List ℕ)
+word_texts line = filter (λ part. nat_lt 0 (length part)) (slice_split is_blank line)

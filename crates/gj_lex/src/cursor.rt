@@ -1,8 +1,8 @@
 //! Lines of a source, one after another.
 
-ghost use Rattle.std.specs.Prelude.{◌≡◌, ◌↔◌, ◌≤◌, ◌==◌, length, IfSome, IfNone, IsNone};
-ghost use Rattle.std.specs.List.{position};
-ghost use Rattle.gj_lex.specs.Lines.{GivesLine, IsLine};
+ghost use Rattle.std.specs.Prelude.{◌≡◌, ◌↔◌, ◌≤◌, length, IfSome, IfNone, IsNone, OnSome};
+ghost use Rattle.std.specs.List.{after_first, before_first, position, slice_range};
+ghost use Rattle.gj_lex.specs.Lines.{GivesLine, IsLine, is_line_feed, rest_of};
 
 use std::marker::Model;
 
@@ -52,6 +52,10 @@ impl<'a> Cursor<'a> {
         ensures none { IsNone result ↔ (self.old.position ≡ length self.old.source) }
         ensures ended { IfNone result (self.new ≡ self.old) }
         ensures line { IfSome result (GivesLine self.old self.new) }
+        ensures bytes { IfSome result (λ span. slice_range self.old.source span.start span.end ≡
+            before_first is_line_feed (rest_of self.old)) }
+        ensures rest { OnSome result
+            (rest_of self.new ≡ after_first is_line_feed (rest_of self.old)) }
     {
         if self.position == self.bytes.len() {
             return None;
@@ -81,7 +85,7 @@ fn line_end(bytes: &[u8], start: usize) -> usize
 
 /// Where the first LF stands.
 fn first_line_feed(bytes: &[u8]) -> Option<usize>
-    ensures { result ≡ position (λ b. b == 10) bytes.now }
+    ensures { result ≡ position is_line_feed bytes.now }
 {
     bytes.iter().position(|byte| *byte == b'\n')
 }

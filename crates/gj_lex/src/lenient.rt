@@ -19,8 +19,10 @@ const MOST_DECIMALS: usize = 38;
 /// leading zeros are allowed. None where the word has another form, where a number as it is written
 /// is above 2^127 - 1, or where the denominator is 0. It takes no memory.
 pub fn read_number(word: &[u8]) -> Option<Frac>
-    ensures found { IfSome result (λ x. (n : ℤ) × (d : ℕ) × IsNumberText word.now n d × Is x n (pos d)) }
-    ensures only { (n : ℤ) (d : ℕ) → IsNumberText word.now n d → IsSomeAnd result (λ x. Is x n (pos d)) }
+    ensures found { IfSome result (λ x.
+        (n : ℤ) × (d : ℕ) × IsNumberText word.now n d × Is x n (pos d)) }
+    ensures only { (n : ℤ) (d : ℕ) → IsNumberText word.now n d →
+        IsSomeAnd result (λ x. Is x n (pos d)) }
 {
     let (top, bottom) = read_written(without_sign(word))?;
     Frac::new(signed(begins_with(word, b'-'), top), bottom as i128)
@@ -31,7 +33,11 @@ fn signed(is_negative: bool, size: u128) -> i128
     requires { size < 2 ^ 127 }
     ensures { result ≡ (if is_negative then neg_ℤ (pos size) else pos size) }
 {
-    if is_negative { -(size as i128) } else { size as i128 }
+    if is_negative {
+        -(size as i128)
+    } else {
+        size as i128
+    }
 }
 
 /// The word without a sign at its front.
@@ -92,17 +98,20 @@ fn read_whole(word: &[u8]) -> Option<(u128, u128)>
 /// The numbers that the two runs of digits write.
 fn read_ratio(front: &[u8], back: &[u8]) -> Option<(u128, u128)>
     ensures { let top = digits_value 10 front.now in let bottom = digits_value 10 back.now in
-        SomeIff result ((IsNumeral 10 front.now × (top < 2 ^ 127)) × (IsNumeral 10 back.now × (bottom < 2 ^ 127)))
-            (top, bottom) }
+        SomeIff result
+        ((IsNumeral 10 front.now × (top < 2 ^ 127)) × (IsNumeral 10 back.now × (bottom < 2 ^ 127)))
+        (top, bottom) }
 {
     Some((read_run(front)?, read_run(back)?))
 }
 
 /// The number that all the digits write, over 10 to the number of those in the back.
 fn read_point(front: &[u8], back: &[u8]) -> Option<(u128, u128)>
-    ensures { let top = digits_value 10 (front.now ++ back.now) in let bottom = 10 ^ length back.now in
-        SomeIff result ((IsNumeral 10 front.now × IsNumeral 10 back.now) × ((top < 2 ^ 127) × (bottom < 2 ^ 127)))
-            (top, bottom) }
+    ensures { let top = digits_value 10 (front.now ++ back.now) in
+        let bottom = 10 ^ length back.now in
+        SomeIff result
+        ((IsNumeral 10 front.now × IsNumeral 10 back.now) × ((top < 2 ^ 127) × (bottom < 2 ^ 127)))
+        (top, bottom) }
 {
     if back.is_empty() {
         return None;

@@ -1,7 +1,9 @@
-//! Outside examples of numbers, words, lines and names, and one call of each function that allocates.
+//! Outside examples of numbers, words, lines and names; each function that allocates is called.
 
-use crate::{Cursor, LineSpan, Name, NameFault};
-use crate::{print_count, print_frac, read_canonical, read_count, read_number, words_of};
+use crate::{
+    Cursor, LineSpan, Name, NameFault, print_count, print_frac, read_canonical, read_count,
+    read_number, words_of,
+};
 use std::test::Fail;
 
 #[test]

@@ -1,15 +1,17 @@
 //! Words of a line.
 
-ghost use Rattle.std.specs.Prelude.{◌≡◌, ◌+◌, ◌≤◌, not, length, drop, IfOk, IfNone, IfSome};
+ghost use Rattle.std.specs.Prelude.{◌≡◌, ◌+◌, ◌≤◌, not, length, drop, map, IfOk, IfNone, IfSome};
 ghost use Rattle.std.specs.List.{position, position_or_len};
-ghost use Rattle.gj_lex.specs.Words.{AllBlank, AreWords, IsNextWord, is_blank};
+ghost use Rattle.gj_lex.specs.Words.{AllBlank, AreWords, IsNextWord, is_blank, word_text, word_texts};
 
 use std::alloc::{AllocError, Global};
 
 /// The start and the end of each word of the line, in order: of each run of bytes other than space
 /// and tab.
 pub fn words_of(alloc: Global, line: &[u8]) -> Result<Vec<(usize, usize)>, AllocError>
-    ensures { IfOk result (λ words. AreWords line.now 0 words.items) }
+    ensures spans { IfOk result (λ words. AreWords line.now 0 words.items) }
+    ensures texts { IfOk result (λ words.
+        map (word_text line.now) words.items ≡ word_texts line.now) }
 {
     let mut words = Vec::new(alloc);
     let mut place = 0;

@@ -11,7 +11,7 @@ use Rattle.gj_shape.specs.FirstViolation.Test.{nonnegative_at, symmetric_at, sub
 use Rattle.gj_shape.specs.declared.faces.FaceKind.TheVariants.{Vertex}
 use Rattle.gj_shape.specs.declared.violations.Violation.{Violation}
 use Rattle.gj_shape.specs.declared.violations.Violation.TheVariants as violation
-use Rattle.gj_theory.specs.GridPoints.{IsSubadditiveBefore}
+use Rattle.gj_theory.specs.GridPoints.{IsSubadditiveBefore, IsAtGridPoints}
 use Rattle.gj_shape.proofs.AtLemmas.{at_below}
 use Rattle.gj_theory.proofs.Continuous.{grid_points_suffice}
 use Rattle.gj_theory.proofs.Minimal.{tests_from_minimal}
@@ -26,17 +26,19 @@ pub record IsReadFrom (f : FunctionData) (xs : List ℤ) : Type 0 where
   pub limits : IsWithinLimits f
   pub continuous : IsContinuous f
 
--- the violation is the first, and shown
+-- the violation is the first, shown, and at grid points
 pub record IsFound (f : FunctionData) (v : Violation) : Type 0 where
   pub first : IsFirstViolation f v
   pub shown : ShowsViolation f v
+  pub grid : IsAtGridPoints f v
   pub only : IsMinimalOnGrid f 1 → ⊥
 
 -- a first violation that is shown
-found : (f : FunctionData) (v : Violation) → IsWithinLimits f → IsContinuous f → IsFirstViolation f v → ShowsViolation f v → IsFound f v
-found f v l c first shown = record {
+found : (f : FunctionData) (v : Violation) → IsWithinLimits f → IsContinuous f → IsFirstViolation f v → ShowsViolation f v → IsAtGridPoints f v → IsFound f v
+found f v l c first shown grid = record {
   first = first;
   shown = shown;
+  grid = grid;
   only = λ m. first_violation_fails f v first (tests_from_minimal f l c m);
 }
 
@@ -96,7 +98,7 @@ pub found_zero : (f : FunctionData) (xs : List ℤ) → IsReadFrom f xs →
     (of_z w64 (get_or xs 0 (pos 0)) ≡ 0 → ⊥) → IsFound f violation.Zero
 found_zero f xs r h =
     let fails : at f.value 0 ≢ pos 0 = λ e. h (ap (of_z w64) (sym (zero_read f xs r) ∙ e)) in
-    found f violation.Zero r.limits r.continuous (first_at_zero f fails) (shows_zero f fails)
+    found f violation.Zero r.limits r.continuous (first_at_zero f fails) (shows_zero f fails) tt
 
 pub found_negative : (f : FunctionData) (xs : List ℤ) (i : ℕ) (x : Frac) → IsReadFrom f xs → at f.value 0 ≡ pos 0 →
     IsFirstFailure (IsNonnegativeAt xs) (length xs) i → Is x (pos i) (pos (length xs)) → IsFound f (violation.Negative x)
@@ -109,7 +111,7 @@ found_negative f xs i x r zero h is =
     let negative : at f.value i <ℤ pos 0 = below_zero (at f.value i) (λ p. not_passed (subst (λ ys. pos 0 ≤ℤ at ys i) (sym r.values) p)) in
     found f (violation.Negative x) r.limits r.continuous
     (first_negative f i x below point zero (nonnegative_passes f xs i r h.before) negative)
-    (shows_negative f i x (omega arith) point negative)
+    (shows_negative f i x (omega arith) point negative) (i, below, point)
 
 pub found_asymmetric : (f : FunctionData) (xs : List ℤ) (k : ℕ) (s : ℤ) (i : ℕ) (x : Frac) → IsReadFrom f xs →
     k ≡ f.place → s ≡ pos f.scale → at f.value 0 ≡ pos 0 → HoldsBelow (IsNonnegativeAt xs) (length xs) →
@@ -124,7 +126,7 @@ found_asymmetric f xs k s i x r place scale zero signs h is =
     (first_asymmetric f i x r.limits r.continuous below point zero
     (λ j j_below. nonnegative_passes f xs (length xs) r signs j (omega arith))
     (λ j j_below. symmetric_passes f xs k s j r place scale (h.before j j_below)) fails)
-    (shows_asymmetric f i x below point fails)
+    (shows_asymmetric f i x below point fails) (i, below, point)
 
 pub found_superadditive : (f : FunctionData) (xs : List ℤ) (k : ℕ) (s : ℤ) (a b : ℕ) (x y : Frac) → IsReadFrom f xs →
     k ≡ f.place → s ≡ pos f.scale → at f.value 0 ≡ pos 0 → HoldsBelow (IsNonnegativeAt xs) (length xs) →
@@ -149,7 +151,7 @@ found_superadditive f xs k s a b x y r place scale zero signs symmetry h is_x is
     (first_superadditive f a b x y r.limits r.continuous a_below b_below first second zero
     (λ j j_below. nonnegative_passes f xs (length xs) r signs j (omega arith))
     (λ j j_below. symmetric_passes f xs k s j r place scale (symmetry j (omega arith))) passed negative)
-    (shows_superadditive f a b x y (omega arith) first second negative)
+    (shows_superadditive f a b x y (omega arith) first second negative) ((a, a_below, first), (b, b_below, second))
 
 pub none_found : (f : FunctionData) (xs : List ℤ) (k : ℕ) (s : ℤ) → IsReadFrom f xs → k ≡ f.place → s ≡ pos f.scale →
     at f.value 0 ≡ pos 0 → HoldsBelow (IsNonnegativeAt xs) (length xs) → HoldsBelow (IsSymmetricAt xs k s) (length xs) →

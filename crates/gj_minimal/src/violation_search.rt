@@ -4,6 +4,7 @@ ghost use Rattle.gj_shape.specs.FunctionData.{IsContinuous};
 ghost use Rattle.gj_shape.specs.FirstViolation.{IsFirstViolation, PassesAll};
 ghost use Rattle.gj_shape.specs.Table.{IsMinimalOnGrid};
 ghost use Rattle.gj_shape.specs.Violation.{ShowsViolation};
+ghost use Rattle.gj_theory.specs.GridPoints.{IsAtGridPoints};
 
 use crate::points::grid_point;
 use crate::walks::{first_asymmetric, first_negative, first_superadditive};
@@ -14,11 +15,12 @@ use gj_shape::{Shape, Violation};
 ///
 /// The tests come in this order: the value at 0 is 0; no value at i/q is negative; the values at i/q and at f less
 /// i/q add up to 1; the values at a/q and b/q add up to no less than the value at their sum, for a from 0 and then
-/// for b from 0. It takes no memory.
+/// for b from 0. The points shown are multiples of 1/q from 0 to below 1. It takes no memory.
 pub fn find_violation(shape: &Shape) -> Option<Violation>
     requires { IsContinuous shape.now }
     ensures first { IfSome result (IsFirstViolation shape.now) }
     ensures shown { IfSome result (ShowsViolation shape.now) }
+    ensures grid { IfSome result (IsAtGridPoints shape.now) }
     ensures none { IfNone result (PassesAll shape.now) }
     ensures minimal { IfNone result (IsMinimalOnGrid shape.now 1) }
     ensures only { IsMinimalOnGrid shape.now 1 → result ≡ None }

@@ -1,4 +1,7 @@
 pub mod FunctionLines
 pub mod ProofText
+pub mod Words
+pub mod FirstFault
+pub mod Reading
 pub mod Rules
 pub mod Meaning

@@ -34,6 +34,10 @@ shown_lines (NotMinimal f v) = violation_line v
 abbrev pub HasText : Claim → Type 0
 HasText c = IsContinuous (function_of c)
 
+-- the claim is about a function within the limits, and has a text
+abbrev pub IsKept : Claim → Type 0
+IsKept c = IsWithinLimits (function_of c) × HasText c
+
 -- the text is the proof text of the claim
 pub record IsProofText (c : Claim) (text : List ℕ) : Type 0 where
   pub lines : List ℕ

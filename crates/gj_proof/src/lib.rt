@@ -2,9 +2,22 @@
 #![tactic(auto)]
 
 mod claim;
+mod faults;
+mod fields;
+mod head;
+mod laws;
 mod lines;
+mod points;
+mod read;
+mod shown;
 mod write;
 
 pub use claim::{Claim, Proof};
+pub use faults::ProofFault;
+pub use laws::{no_fault_in_proof_text, one_spelling};
 pub use lines::{FunctionLines, after, function_lines_at, place_of};
+pub use read::read_proof;
 pub use write::write_proof;
+
+#[cfg(test)]
+mod tests;

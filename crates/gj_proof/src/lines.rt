@@ -45,7 +45,7 @@ fn first_line(text: &[u8]) -> Option<(&[u8], &[u8])>
 
 /// What stands behind the word in the first line, where that begins with it, and what follows the
 /// line.
-fn line_after<'a>(text: &'a [u8], word: &[u8]) -> Option<(&'a [u8], &'a [u8])>
+pub(crate) fn line_after<'a>(text: &'a [u8], word: &[u8]) -> Option<(&'a [u8], &'a [u8])>
     ensures found { IfSome result (λ r. text.now ≡ line (word.now ++ r.0.now) ++ r.1.now) }
     ensures only { (bytes rest : List ℕ) → All (λ b. b ≢ 10) bytes →
         text.now ≡ line (word.now ++ bytes) ++ rest →

@@ -105,7 +105,7 @@ lengths_given q k l v r f g =
       sym (length-map r num) ∙ sym (ap length g.right_is) ∙ g.within.right_length ∙ g.order,
     )
 
-all_small_given : (q k : ℕ) (l v r : List Frac) (f : FunctionData) → IsGivenBy q k l v r f → All IsSmall (in_order l v r)
+pub all_small_given : (q k : ℕ) (l v r : List Frac) (f : FunctionData) → IsGivenBy q k l v r f → All IsSmall (in_order l v r)
 all_small_given q k l v r f g =
     let n = lengths_given q k l v r f g in
     let value_length : length v ≡ length l = n.1 ∙ sym n.0 in
@@ -117,12 +117,12 @@ all_small_given q k l v r f g =
     (all_small f.scale r f.right g.within.scale_low g.right_is d.2 g.within.right_small)
 
 -- what holds of all holds of one of them
-at_place : (P : Frac → Type 0) (xs before after : List Frac) (x : Frac) → xs ≡ before ++ x ∷ after → All P xs → P x
+pub at_place : (P : Frac → Type 0) (xs before after : List Frac) (x : Frac) → xs ≡ before ++ x ∷ after → All P xs → P x
 at_place P xs before after x e h =
     let some : length before < length (before ++ x ∷ after) = omega (arith, length-append before (x ∷ after)) in
     subst P (get_or_at before x after x (length before) refl) (subst (All P) e h (length before) x some)
 
-up_to_place : (P : Frac → Type 0) (xs before after : List Frac) (x : Frac) → xs ≡ before ++ x ∷ after → All P xs → All P (before ++ x ∷ [])
+pub up_to_place : (P : Frac → Type 0) (xs before after : List Frac) (x : Frac) → xs ≡ before ++ x ∷ after → All P xs → All P (before ++ x ∷ [])
 up_to_place P xs before after x e h =
     let front = before ++ x ∷ [] in
     let split : xs ≡ front ++ after = e ∙ sym (append_assoc before (x ∷ []) after) in

@@ -33,12 +33,12 @@ least_of_none = record {
 abbrev pub Divides : ℕ → Frac → Type 0
 Divides m x = unsigned_abs (denominator x) ∣ m
 
-common_before : (xs : List Frac) (x : Frac) (m : ℕ) → IsCommonDenominator (xs ++ x ∷ []) m → IsCommonDenominator xs m
+pub common_before : (xs : List Frac) (x : Frac) (m : ℕ) → IsCommonDenominator (xs ++ x ∷ []) m → IsCommonDenominator xs m
 common_before xs x m h =
     All-same (Divides m) xs (take (length xs) (xs ++ x ∷ [])) (sym (take_at xs (x ∷ []) (length xs) refl))
     (All-take (Divides m) (length xs) (xs ++ x ∷ []) h)
 
-common_last : (xs : List Frac) (x : Frac) (m : ℕ) → IsCommonDenominator (xs ++ x ∷ []) m → unsigned_abs (denominator x) ∣ m
+pub common_last : (xs : List Frac) (x : Frac) (m : ℕ) → IsCommonDenominator (xs ++ x ∷ []) m → unsigned_abs (denominator x) ∣ m
 common_last xs x m h =
     All-head (Divides m) x []
     (All-same (Divides m) (x ∷ []) (drop (length xs) (xs ++ x ∷ [])) (sym (drop_at xs (x ∷ []) (length xs) refl))

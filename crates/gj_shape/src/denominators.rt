@@ -47,8 +47,11 @@ fn small_denominator(x: Frac) -> Option<u32>
         .filter(|d| *d <= i32::MAX as u32)
 }
 
-/// The least common denominator with one more fraction, which stands at the index.
-fn widened(scale: u32, x: Frac, index: u32) -> Result<u32, ShapeFault>
+/// The least common denominator of the fractions so far, `scale`, with one more fraction, which stands at the index.
+///
+/// `TooLarge` says that the fraction is above 2^20 in absolute value, and `TooFine` that it is not, but there is no
+/// common denominator up to 2^31 - 1; no other error comes.
+pub fn widened(scale: u32, x: Frac, index: u32) -> Result<u32, ShapeFault>
     requires low { 0 < scale }
     ensures least { IfOk result (Widens scale x) }
     ensures fault { IfErr result (IsRefused scale x index) }

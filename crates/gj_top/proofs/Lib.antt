@@ -1,2 +1,4 @@
+pub mod Accepted
 pub mod FormLines
+pub mod GridCoordinates
 pub mod Outcomes

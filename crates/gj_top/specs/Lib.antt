@@ -1,3 +1,4 @@
+pub mod Command
 pub mod FirstForm
 pub mod FormErrors
 pub mod Verdict

@@ -1,21 +1,28 @@
 -- What a run did, seen from the bytes that the source told and the sink took (own).
 use Rattle.std.specs.Prelude.{ℕ, ◌≡◌, ◌⊎◌, ◌+◌, ◌<◌, ◌≤◌, List, [], ◌++◌, length, take, drop, codes, String, Option, Some}
 use Rattle.std.specs.declared.alloc.Global.{Global}
-use Rattle.gj_top.specs.declared.status.Status.{Status}
-use Rattle.gj_top.specs.declared.status.Status.TheVariants as status
 use Rattle.gj_shape.specs.FunctionData.{FunctionData}
 use Rattle.gj_shape.specs.Table.{IsMinimalOnGrid}
 use Rattle.gj_shape.specs.Violation.{ShowsViolation}
 use Rattle.gj_shape.specs.declared.violations.Violation.{Violation}
 use Rattle.gj_proof.specs.FunctionLines.{line}
+use Rattle.gj_proof.specs.ProofText.{claim_word}
+use Rattle.gj_proof.specs.Meaning.{ClaimHolds}
+use Rattle.gj_proof.specs.declared.claim.Claim.{Claim}
+use Rattle.gj_top.specs.declared.command.Command.{Command}
+use Rattle.gj_top.specs.declared.command.Command.TheVariants as command
+use Rattle.gj_top.specs.declared.status.Status.{Status}
+use Rattle.gj_top.specs.declared.status.Status.TheVariants as status
+use Rattle.gj_top.specs.Command.{IsNamed}
 use Rattle.gj_top.specs.FirstForm.{IsFirstForm}
 use Rattle.gj_top.specs.Verdict.{IsMinimalText, IsNotMinimalText}
-use Rattle.gj_top.specs.Answer.{IsMinimalCommand, IsAnswer, input_limit}
+use Rattle.gj_top.specs.Answer.{IsAnswer, IsProofOf, input_limit}
 
 -- the text is what is to be written: the answer, or that the source failed
 abbrev pub IsToBeWritten : List (String Global) → List ℕ → List ℕ → Type 0
 IsToBeWritten words input text =
-    ((s : Status) × IsAnswer words input s text) ⊎ (IsMinimalCommand words × (text ≡ line (codes "read fault")))
+    ((s : Status) × IsAnswer words input s text)
+    ⊎ ((c : Command) × IsNamed words c × (text ≡ line (codes "read fault")))
 
 -- what the sink has taken after a run that began with the bytes `before`, and why it has no more: the whole
 -- answer, but nothing where there was no memory, the line `read fault` where the source failed, and a part of
@@ -23,7 +30,7 @@ IsToBeWritten words input text =
 abbrev pub IsOutcome : List (String Global) → List ℕ → List ℕ → ℕ → Option (List ℕ) → Status → Type 0
 IsOutcome words input before sure written status.Memory = written ≡ Some before
 IsOutcome words input before sure written status.ReadFault =
-    IsMinimalCommand words × (written ≡ Some (before ++ line (codes "read fault")))
+    (c : Command) × IsNamed words c × (written ≡ Some (before ++ line (codes "read fault")))
 IsOutcome words input before sure written status.WriteFault =
     (text : List ℕ) × IsToBeWritten words input text × (sure < length text)
     × (n : ℕ) × (n < length text) × (written ≡ Some (before ++ take n text))
@@ -38,14 +45,25 @@ IsReadInPart input left = (n : ℕ) × (n ≤ input_limit + 1) × (left ≡ Some
 -- answer to all of it; of an input that is too long no more was read than shows it
 abbrev pub IsLeft : List ℕ → Option (List ℕ) → Status → Type 0
 IsLeft input left status.Done = left ≡ Some []
+IsLeft input left status.Rejected = left ≡ Some []
 IsLeft input left status.Words = left ≡ Some input
 IsLeft input left status.Input = left ≡ Some (drop (input_limit + 1) input)
 IsLeft input left s = IsReadInPart input left
 
--- the headline: a function read from the input is called minimal only where its table is minimal, and is called
--- not minimal only with a violation that shows it; nothing else is written
+-- the headline of `minimal`: a function read from the input is called minimal only where its table is minimal, and
+-- is called not minimal only with a violation that shows it; nothing else is written
 abbrev pub IsTrueVerdict : List ℕ → List ℕ → Option (List ℕ) → Type 0
 IsTrueVerdict input before written =
     (f : FunctionData) × (text : List ℕ) × IsFirstForm input f × (written ≡ Some (before ++ text))
     × ((IsMinimalText f text × IsMinimalOnGrid f 1)
     ⊎ ((v : Violation) × IsNotMinimalText f v text × ShowsViolation f v))
+
+-- the headline of `check`: the input is the proof text of a claim, what it claims holds, and it is called accepted
+abbrev pub IsTrueAcceptance : List ℕ → List ℕ → Option (List ℕ) → Type 0
+IsTrueAcceptance input before written =
+    (c : Claim) × IsProofOf c input × ClaimHolds c × (written ≡ Some (before ++ line (codes "accepted " ++ claim_word c)))
+
+-- the headline, command by command
+abbrev pub IsTrueAnswer : Command → List ℕ → List ℕ → Option (List ℕ) → Type 0
+IsTrueAnswer command.Minimal input before written = IsTrueVerdict input before written
+IsTrueAnswer command.Check input before written = IsTrueAcceptance input before written

@@ -8,6 +8,7 @@ use Rattle.gj_shape.specs.declared.violations.Violation.{Violation}
 use Rattle.gj_proof.specs.declared.claim.Claim.{Claim}
 use Rattle.gj_proof.specs.declared.claim.Claim.TheVariants.{Minimal, NotMinimal}
 use Rattle.gj_proof.specs.ProofText.{IsProofText}
+use Rattle.gj_proof.specs.Rules.{MeetsRules}
 
 -- the text claims that f is minimal
 abbrev pub IsMinimalText : FunctionData → List ℕ → Type 0
@@ -17,13 +18,15 @@ IsMinimalText f text = IsProofText (Minimal f) text
 abbrev pub IsNotMinimalText : FunctionData → Violation → List ℕ → Type 0
 IsNotMinimalText f v text = IsProofText (NotMinimal f v) text
 
--- the text calls f minimal where its table is minimal, and otherwise gives the first violation
+-- the text calls f minimal where its table is minimal, and otherwise gives the first violation; every rule of the
+-- checker holds of the claim
 abbrev pub IsVerdict : FunctionData → List ℕ → Type 0
 IsVerdict f text =
-    (IsMinimalOnGrid f 1 × IsMinimalText f text)
-    ⊎ ((v : Violation) × IsFirstViolation f v × ShowsViolation f v × IsNotMinimalText f v text)
+    (IsMinimalOnGrid f 1 × MeetsRules (Minimal f) × IsMinimalText f text)
+    ⊎ ((v : Violation) × IsFirstViolation f v × ShowsViolation f v × MeetsRules (NotMinimal f v) × IsNotMinimalText f v text)
 
--- the claim is that f is minimal, where its table is minimal, and otherwise that it is not, with the first violation
+-- the claim is that f is minimal, where its table is minimal, and otherwise that it is not, with the first violation;
+-- every rule of the checker holds of it
 abbrev pub IsTrueClaim : FunctionData → Claim → Type 0
-IsTrueClaim f (Minimal g) = (g ≡ f) × IsMinimalOnGrid f 1
-IsTrueClaim f (NotMinimal g v) = (g ≡ f) × IsFirstViolation f v × ShowsViolation f v
+IsTrueClaim f (Minimal g) = (g ≡ f) × IsMinimalOnGrid f 1 × MeetsRules (Minimal f)
+IsTrueClaim f (NotMinimal g v) = (g ≡ f) × IsFirstViolation f v × ShowsViolation f v × MeetsRules (NotMinimal f v)

@@ -12,7 +12,7 @@ const ROOM: usize = 1 << 20;
 fn ran(
     alloc: Global,
     words: &[&str],
-    input: &str,
+    input: &[u8],
     failing_reads: &[u64],
     failing_writes: &[u64],
 ) -> Result<(Status, MemSink), AllocError> {
@@ -20,7 +20,7 @@ fn ran(
     for word in words {
         list.push(String::from_str(alloc, *word)?)?;
     }
-    let mut source = MemSource::new(alloc, input.as_bytes(), failing_reads)?;
+    let mut source = MemSource::new(alloc, input, failing_reads)?;
     let mut sink = MemSink::new(alloc, ROOM, failing_writes)?;
     let status = run(alloc, list.as_slice(), &mut source, &mut sink);
     Ok((status, sink))
@@ -53,19 +53,71 @@ fn verdicts_are_written(rt: HostRuntime) -> Result<(), Fail> {
             "gj-proof 1\nclaim not-minimal\norder 5\nf 3/5\npoint -1/3\npoint 1/3\npoint 2/3\npoint 1\npoint 1/2\nzero\nend\n",
         ),
     ] {
-        let (status, sink) = ran(rt.alloc(), &["minimal"], input, &[], &[])?;
+        let (status, sink) = ran(rt.alloc(), &["minimal"], input.as_bytes(), &[], &[])?;
         assert_eq!(rt; status, Status::Done, "on {input}");
         assert_eq!(rt; sink.taken(), output.as_bytes(), "on {input}");
     }
     Ok(())
 }
 
+/// A proof of a function of order 2 with f = 1/2 and a violation that is none.
+const NO_VIOLATION: &str =
+    "gj-proof 1\nclaim not-minimal\norder 2\nf 1/2\npoint 0\npoint 1\nsuperadditive 1/2 1/2\nend\n";
+
+#[test]
+fn proofs_are_judged(rt: HostRuntime) -> Result<(), Fail> {
+    for (input, status, output) in [
+        (FIVE_PIECES_MINIMAL, Status::Done, "accepted minimal\n"),
+        (
+            "gj-proof 1\nclaim minimal\norder 5\nf 3/5\npoint 0\npoint 1/10\npoint 9/10\npoint 1\npoint 1/2\nend\n",
+            Status::Rejected,
+            "rejected line 2 minimal\n",
+        ),
+        (NO_VIOLATION, Status::Rejected, "rejected line 7 point\n"),
+        (
+            "gj-proof 1\nclaim minimal\norder 5\nf 3/5\npoint 0\npoint 1/3\npoint 2/3\npoint 1\npoint 1/2\n",
+            Status::Input,
+            "refused line 10 form\n",
+        ),
+        (
+            "gj-proof 1\nclaim minimal\norder 2\nf 1/2\npoint 0\npoint 1\nend\nx\n",
+            Status::Input,
+            "refused line 8 tail\n",
+        ),
+    ] {
+        let (ended, sink) = ran(rt.alloc(), &["check"], input.as_bytes(), &[], &[])?;
+        assert_eq!(rt; ended, status, "on {input}");
+        assert_eq!(rt; sink.taken(), output.as_bytes(), "on {input}");
+    }
+    Ok(())
+}
+
+/// Functions of order 3 and 4, some of them minimal.
+const SMALL_FUNCTIONS: [&str; 6] = [
+    "gj-function 1\norder 3\nf 2/3\npoint 0\npoint 1/2\npoint 1\nend\n",
+    "gj-function 1\norder 3\nf 1/3\npoint 0\npoint 1\npoint 1/2\nend\n",
+    "gj-function 1\norder 3\nf 1/3\npoint 0\npoint 1\npoint 1/3\nend\n",
+    "gj-function 1\norder 4\nf 3/4\npoint 0\npoint 1/3\npoint 2/3\npoint 1\nend\n",
+    "gj-function 1\norder 4\nf 1/2\npoint 0\npoint 1/2\npoint 1\npoint 1/2\nend\n",
+    "gj-function 1\norder 4\nf 1/2\npoint 0\npoint -1\npoint 1\npoint 2\nend\n",
+];
+
+#[test]
+fn written_proofs_are_accepted(rt: HostRuntime) -> Result<(), Fail> {
+    for function in SMALL_FUNCTIONS {
+        let (_, proof) = ran(rt.alloc(), &["minimal"], function.as_bytes(), &[], &[])?;
+        let (status, _) = ran(rt.alloc(), &["check"], proof.taken(), &[], &[])?;
+        assert_eq!(rt; status, Status::Done, "on {function}");
+    }
+    Ok(())
+}
+
 #[test]
 fn other_words_and_inputs_are_refused(rt: HostRuntime) -> Result<(), Fail> {
-    let (status, sink) = ran(rt.alloc(), &["maximal"], FIVE_PIECES, &[], &[])?;
+    let (status, sink) = ran(rt.alloc(), &["maximal"], FIVE_PIECES.as_bytes(), &[], &[])?;
     assert_eq!(rt; status, Status::Words);
     assert_eq!(rt; sink.taken(), b"words refused\n".as_slice());
-    let (status, sink) = ran(rt.alloc(), &["minimal"], "", &[], &[])?;
+    let (status, sink) = ran(rt.alloc(), &["minimal"], b"", &[], &[])?;
     assert_eq!(rt; status, Status::Input);
     assert_eq!(rt; sink.taken(), b"refused\n".as_slice());
     Ok(())
@@ -73,10 +125,10 @@ fn other_words_and_inputs_are_refused(rt: HostRuntime) -> Result<(), Fail> {
 
 #[test]
 fn faults_are_told(rt: HostRuntime) -> Result<(), Fail> {
-    let (status, sink) = ran(rt.alloc(), &["minimal"], FIVE_PIECES, &[2], &[])?;
+    let (status, sink) = ran(rt.alloc(), &["minimal"], FIVE_PIECES.as_bytes(), &[2], &[])?;
     assert_eq!(rt; status, Status::ReadFault);
     assert_eq!(rt; sink.taken(), b"read fault\n".as_slice());
-    let (status, sink) = ran(rt.alloc(), &["minimal"], FIVE_PIECES, &[], &[1])?;
+    let (status, sink) = ran(rt.alloc(), &["minimal"], FIVE_PIECES.as_bytes(), &[], &[1])?;
     assert_eq!(rt; status, Status::WriteFault);
     assert_eq!(rt; sink.taken(), b"".as_slice());
     Ok(())

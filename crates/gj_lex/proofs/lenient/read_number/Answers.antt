@@ -1,4 +1,4 @@
-use Rattle.std.proofs.Common.{subst, sym, inl, arith}
+use Rattle.std.proofs.Common.{subst, sym, inl}
 use mir.Syntax.{w128}
 use Rattle.std.proofs.lemmas.Int.{to_z_pos}
 use Rattle.gj_lex.specs.NumberText.{IsWritten}

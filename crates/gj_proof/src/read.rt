@@ -1,0 +1,100 @@
+//! Proof texts, read.
+
+ghost use Rattle.std.specs.Prelude.{◌≡◌, ◌≤◌, ◌+◌, ◌-◌, ◌==◌, All, length, take, count_by, IfOk, IfErr, MatchResult};
+ghost use Rattle.gj_shape.specs.FunctionData.{FunctionData, IsContinuous};
+ghost use Rattle.gj_shape.specs.Given.{IsOrder, IsPlace, IsSmall, HasCommonDenominator, IsGivenBy};
+ghost use Rattle.gj_proof.specs.ProofText.{IsKept, IsProofText};
+ghost use Rattle.gj_proof.specs.Reading.{IsRefusedIn, NamesFirstFault, IsMemoryFault, IsWantOfMemory, claim_about};
+ghost use Rattle.gj_proof.specs.declared.claim.Claim.{Claim};
+
+use crate::claim::{Claim, Proof};
+use crate::faults::{Fault, ProofFault};
+use crate::head::head_at;
+use crate::points::values_at;
+use crate::shown::{end_at, shown_at};
+use gj_frac::Frac;
+use gj_shape::{Shape, ShapeFault, Violation};
+use std::alloc::{AllocError, Global};
+
+/// The proof that the bytes spell, all of them.
+///
+/// `Refused` has the line and the reason of the first fault, and comes exactly where the bytes are
+/// no proof text. Memory is taken only for the values and the function.
+pub fn read_proof(alloc: Global, bytes: &[u8]) -> Result<Proof, ProofFault>
+    // What is read is spelled so.
+    ensures found { IfOk result (λ p. IsKept p × IsProofText p bytes.now) }
+    // What is spelled so is read, unless there is no memory.
+    ensures only { (c : Claim) → IsKept c → IsProofText c bytes.now →
+        MatchResult result (λ p. p ≡ c) IsMemoryFault }
+    // A refusal names the first fault.
+    ensures refused { IfErr result (NamesFirstFault bytes.now) }
+{
+    match proof_in(alloc, bytes) {
+        Ok(proof) => Ok(proof),
+        Err(Fault::Refused(left, reason)) => {
+            Err(ProofFault::Refused(line_number(bytes, left), reason))
+        }
+        Err(Fault::Memory(error)) => Err(ProofFault::Memory(error)),
+    }
+}
+
+/// The number of the line before which so many bytes are left.
+fn line_number(bytes: &[u8], left: usize) -> u64
+    requires { left ≤ length bytes.now }
+    ensures { result ≡ count_by (λ b. b == 10) (take (length bytes.now - left) bytes.now) + 1 }
+{
+    let front = &bytes[..bytes.len() - left];
+    front.iter().filter(|byte| **byte == b'\n').count() as u64 + 1
+}
+
+/// The proof that the bytes spell.
+fn proof_in(alloc: Global, bytes: &[u8]) -> Result<Proof, Fault>
+    ensures found { IfOk result (λ p. IsKept p × IsProofText p bytes.now) }
+    ensures fault { IfErr result (IsRefusedIn bytes.now) }
+{
+    let (head, rest) = head_at(bytes)?;
+    let (values, rest) = values_at(alloc, rest, head.order)?;
+    let (violation, rest) = shown_at(rest, head.claim)?;
+    end_at(rest)?;
+    let shape = shape_of(alloc, head.order, head.place, values.as_slice())?;
+    Ok(proof_of(shape, violation))
+}
+
+/// The continuous function of these values, which pass all tests.
+fn shape_of(alloc: Global, order: u32, place: u32, values: &[Frac]) -> Result<Shape, AllocError>
+    requires order_fits { IsOrder order }
+    requires place_fits { IsPlace order place }
+    requires count { length values.now ≡ order }
+    requires small { All IsSmall values.now }
+    requires common { HasCommonDenominator values.now }
+    ensures { IfOk result (IsGivenBy order place values.now values.now values.now) }
+{
+    match Shape::new(alloc, order, place, values, values, values) {
+        Ok(shape) => Ok(shape),
+        Err(fault) => Err(memory_of(fault)),
+    }
+}
+
+/// The want of memory that the fault is.
+fn memory_of(fault: ShapeFault) -> AllocError
+    requires { IsWantOfMemory fault }
+{
+    match fault {
+        ShapeFault::Memory(error) => error,
+        _ => unreachable!(),
+    }
+}
+
+/// The proof that the continuous function is minimal, or not where there is a violation.
+fn proof_of(shape: Shape, violation: Option<Violation>) -> Proof
+    requires { IsContinuous shape }
+    ensures claim { result ≡ claim_about shape violation }
+    ensures kept { IsKept result }
+{
+    let _order = shape.order();
+    let claim = match violation {
+        None => Claim::Minimal(shape),
+        Some(violation) => Claim::NotMinimal(shape, violation),
+    };
+    Proof::new(claim).unwrap()
+}

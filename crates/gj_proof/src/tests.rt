@@ -1,0 +1,111 @@
+//! Proof texts by hand: read, written back, and refused at their first fault.
+
+use crate::{Claim, Proof, ProofFault, read_proof, write_proof};
+use gj_frac::Frac;
+use gj_lex::Reason;
+use gj_shape::Shape;
+use std::test::Fail;
+
+const MINIMAL: &[u8] =
+    b"gj-proof 1\nclaim minimal\norder 5\nf 3/5\npoint 0\npoint 1/3\npoint 2/3\npoint 1\npoint 1/2\nend\n";
+
+const NOT_MINIMAL: &[u8] =
+    b"gj-proof 1\nclaim not-minimal\norder 5\nf 3/5\npoint 0\npoint 1/10\npoint 9/10\npoint 1\npoint 1/2\nsuperadditive 1/5 1/5\nend\n";
+
+#[test]
+fn minimal_is_read_and_written(rt: HostRuntime) -> Result<(), Fail> {
+    let proof = read_proof(rt.alloc(), MINIMAL)?;
+    assert!(rt; matches!(proof.claim(), Claim::Minimal(_)));
+    let text = write_proof(rt.alloc(), &proof)?;
+    assert_eq!(rt; text.as_slice(), MINIMAL);
+    Ok(())
+}
+
+#[test]
+fn not_minimal_is_read_and_written(rt: HostRuntime) -> Result<(), Fail> {
+    let proof = read_proof(rt.alloc(), NOT_MINIMAL)?;
+    assert!(rt; matches!(proof.claim(), Claim::NotMinimal(_, _)));
+    let text = write_proof(rt.alloc(), &proof)?;
+    assert_eq!(rt; text.as_slice(), NOT_MINIMAL);
+    Ok(())
+}
+
+#[test]
+fn refused(rt: HostRuntime) {
+    let texts: [(&[u8], u64, Reason); 16] = [
+        (b"", 1, Reason::Form),
+        (b"gj-proof 1\nclaim extreme\norder 5\n", 2, Reason::Form),
+        (b"gj-proof 1\nclaim minimal\norder  5\n", 3, Reason::Form),
+        (b"gj-proof 1\nclaim minimal\norder 5\r\n", 3, Reason::Form),
+        (b"gj-proof 1\nclaim minimal\norder 05\n", 3, Reason::Number),
+        (b"gj-proof 1\nclaim minimal\norder 1001\n", 3, Reason::Order),
+        (
+            b"gj-proof 1\nclaim minimal\norder 99999999999999999999999999999999999999999\n",
+            3,
+            Reason::Order,
+        ),
+        (
+            b"gj-proof 1\nclaim minimal\norder 5\nf 6/10\n",
+            4,
+            Reason::Number,
+        ),
+        (
+            b"gj-proof 1\nclaim minimal\norder 5\nf 1/7\n",
+            4,
+            Reason::Place,
+        ),
+        (
+            b"gj-proof 1\nclaim minimal\norder 5\nf 3/5\npoint 0 0 0\n",
+            5,
+            Reason::Form,
+        ),
+        (
+            b"gj-proof 1\nclaim minimal\norder 5\nf 3/5\npoint 1048577\n",
+            5,
+            Reason::Large,
+        ),
+        (
+            b"gj-proof 1\nclaim minimal\norder 5\nf 3/5\npoint 1/3\npoint 1/2147483647\n",
+            6,
+            Reason::Fine,
+        ),
+        (
+            b"gj-proof 1\nclaim not-minimal\norder 2\nf 1/2\npoint 0\npoint 1\nnegative 1/2 \nend\n",
+            7,
+            Reason::Form,
+        ),
+        (
+            b"gj-proof 1\nclaim not-minimal\norder 2\nf 1/2\npoint 0\npoint 1\nsuperadditive 1\r 1/2\n",
+            7,
+            Reason::Number,
+        ),
+        (
+            b"gj-proof 1\nclaim minimal\norder 5\nf 3/5\npoint 0\npoint 1/3\npoint 2/3\npoint 1\npoint 1/2\n",
+            10,
+            Reason::Form,
+        ),
+        (
+            b"gj-proof 1\nclaim minimal\norder 5\nf 3/5\npoint 0\npoint 1/3\npoint 2/3\npoint 1\npoint 1/2\nend\nx\n",
+            11,
+            Reason::Tail,
+        ),
+    ];
+    for (text, line, reason) in texts {
+        match read_proof(rt.alloc(), text) {
+            Err(ProofFault::Refused(n, r)) => {
+                assert_eq!(rt; n, line);
+                assert_eq!(rt; r, reason);
+            }
+            _ => assert!(rt; false),
+        }
+    }
+}
+
+#[test]
+fn a_jump_has_no_text(rt: HostRuntime) -> Result<(), Fail> {
+    let zero = Frac::new(0, 1).ok_or("0")?;
+    let one = Frac::new(1, 1).ok_or("1")?;
+    let shape = Shape::new(rt.alloc(), 2, 1, &[one, one], &[zero, one], &[zero, one])?;
+    assert!(rt; Proof::new(Claim::Minimal(shape)).is_none());
+    Ok(())
+}

@@ -1,0 +1,8 @@
+use Rattle.std.proofs.Common.{refl}
+use Rattle.gj_top.proofs.GridCoordinates.{meets_point}
+use Rattle.gj_top.proofs.reply.claim_on.Goals as goal
+
+pub returns-in-Some-clause-claim : goal.returns-in-Some-clause-claim
+returns-in-Some-clause-claim c =
+    let found = c.in-Some.ensures in
+    (refl, found.first, found.shown, meets_point c.args.shape c.in-Some.violation c.requires.within found.grid found.shown)

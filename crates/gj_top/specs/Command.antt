@@ -1,0 +1,18 @@
+-- The commands by their words (own).
+use Rattle.std.specs.Prelude.{ℕ, ◌≡◌, List, [], ◌∷◌, map, codes, String, string_bytes}
+use Rattle.std.specs.declared.alloc.Global.{Global}
+use Rattle.gj_top.specs.declared.command.Command.{Command}
+use Rattle.gj_top.specs.declared.command.Command.TheVariants.{Minimal, Check}
+
+-- the word of a command
+abbrev pub command_word : Command → List ℕ
+command_word Minimal = codes "minimal"
+command_word Check = codes "check"
+
+-- the words are the one word of the command
+abbrev pub IsNamed : List (String Global) → Command → Type 0
+IsNamed words command = map string_bytes words ≡ command_word command ∷ []
+
+-- the words name no command
+abbrev pub NameNone : List (String Global) → Type 0
+NameNone words = (command : Command) → IsNamed words command → ⊥
