@@ -1,10 +1,10 @@
 -- The points of a violation on the grid are points that the rules of the checker take.
-use Rattle.std.proofs.Common.{◌≡◌, ℕ, ◌<◌, ◌≤◌, ◌^◌, ℤ, pos, ◌*ℤ◌, ◌<ℤ◌, ◌≤ℤ◌, List, [], ◌∷◌, All, unsigned_abs, sym, ap, subst, ◌∙◌, refl, arith}
+use Rattle.std.proofs.Common.{◌≡◌, ◌≤◌, ◌^◌, ℤ, pos, ◌*ℤ◌, ◌<ℤ◌, ◌≤ℤ◌, [], ◌∷◌, All, unsigned_abs, sym, ap, subst, ◌∙◌, arith}
 use Rattle.std.specs.Int.{◌∣◌}
 use Rattle.std.proofs.lemmas.Int.{ints}
 use Rattle.std.proofs.lemmas.List.Elements.{All-nil, All-cons}
 use Rattle.gj_frac.specs.declared.Frac.{Frac}
-use Rattle.gj_frac.specs.Fraction.{Is, numerator, denominator}
+use Rattle.gj_frac.specs.Fraction.{numerator, denominator}
 use Rattle.gj_frac.proofs.Divisors.{whole_multiple}
 use Rattle.gj_frac.proofs.Integers.{mul_le_cancel_right_z, mul_lt_cancel_right_z, mul_lt_mul_right_z, mul_nonnegative_z, mul_comm_z, pos_abs_z}
 use Rattle.gj_shape.specs.FunctionData.{FunctionData, IsWithinLimits}

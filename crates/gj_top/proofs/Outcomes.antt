@@ -1,10 +1,9 @@
 -- How the outcome of a run follows from what was read and what was written.
-use Rattle.std.proofs.Common.{◌≡◌, ◌≢◌, ◌⊎◌, ◌↔◌, inl, inr, ℕ, ◌+◌, ◌<◌, ◌≤◌, List, [], ◌∷◌, ◌++◌, length, take, drop, map, codes, subst, sym, ap, ◌∙◌, refl, arith, Option, None, Some, Ok, Err, IfSome, String, string_bytes, Vec, vec_len}
+use Rattle.std.proofs.Common.{◌≡◌, ◌≢◌, ◌⊎◌, ◌↔◌, inl, inr, ℕ, ◌+◌, ◌≤◌, List, [], ◌∷◌, ◌++◌, length, codes, subst, sym, ap, ◌∙◌, refl, arith, Option, None, Some, Ok, Err, IfSome, String, Vec, vec_len}
 use Rattle.std.proofs.lemmas.List.{drop_all}
 use Rattle.std.specs.declared.alloc.Global.{Global}
-use Rattle.gj_port.specs.Whole.{TakesAll, TakesUpTo}
+use Rattle.gj_port.specs.Whole.{TakesAll}
 use Rattle.gj_port.specs.declared.fault.ReadError.TheVariants as read
-use Rattle.gj_shape.specs.FunctionData.{FunctionData}
 use Rattle.gj_lex.specs.declared.reason.Reason.{Reason}
 use Rattle.gj_proof.specs.FunctionLines.{line}
 use Rattle.gj_proof.specs.FirstFault.{IsFirstFault}
@@ -13,11 +12,10 @@ use Rattle.gj_top.specs.declared.command.Command.{Command}
 use Rattle.gj_top.specs.declared.command.Command.TheVariants.{Minimal, Check}
 use Rattle.gj_top.specs.declared.status.Status.{Status}
 use Rattle.gj_top.specs.declared.status.Status.TheVariants.{Done, Rejected, Words, Input, ReadFault, WriteFault, Memory, Wide, NotContinuous, NoFunction}
-use Rattle.gj_top.specs.Command.{IsNamed, NameNone, command_word}
-use Rattle.gj_top.specs.FirstForm.{IsFirstForm}
-use Rattle.gj_top.specs.Answer.{IsAnswer, IsCommandAnswer, IsReply, IsLong, IsRefusedInput, IsRejectedInput, IsOutsideForm, IsInForm, IsProofOf, IsEndOf, input_limit}
+use Rattle.gj_top.specs.Command.{IsNamed, NameNone}
+use Rattle.gj_top.specs.Answer.{IsAnswer, IsReply, IsRefusedInput, IsRejectedInput, IsOutsideForm, IsInForm, IsProofOf, IsEndOf, input_limit}
 use Rattle.gj_top.specs.Told.{IsTold}
-use Rattle.gj_top.specs.Outcome.{IsOutcome, IsToBeWritten, IsLeft, IsReadInPart, IsTrueAnswer}
+use Rattle.gj_top.specs.Outcome.{IsOutcome, IsLeft, IsTrueAnswer}
 
 -- words name at most one command
 pub one_command : (words : List (String Global)) (c d : Command) → IsNamed words c → IsNamed words d → c ≡ d

@@ -1,10 +1,10 @@
-use Rattle.std.proofs.Common.{◌≡◌, ◌⊎◌, inl, inr, refl, ap, subst, sym, codes, ℕ, List, IfSome}
+use Rattle.std.proofs.Common.{subst, sym, codes, ℕ, List, IfSome}
 use Rattle.gj_proof.specs.FunctionLines.{line}
 use Rattle.gj_proof.proofs.OneText.{no_fault_at}
 use Rattle.gj_top.specs.declared.status.Status.TheVariants.{Words, Input}
 use Rattle.gj_top.specs.Command.{IsNamed, NameNone}
 use Rattle.gj_top.specs.Answer.{IsAnswer, IsReply}
-use Rattle.gj_top.proofs.Outcomes.{named_of, none_named, reply_is_no_fault, outcome_of_answer, outcome_of_fault, words_answer, long_answer, command_answer, left_at_end, left_of_long, headline_of_reply, refused_by_reply, refused_as_long, rejected_by_reply, complete_by_reply, long_not_rejected}
+use Rattle.gj_top.proofs.Outcomes.{named_of, none_named, outcome_of_answer, words_answer, long_answer, command_answer, left_at_end, left_of_long, headline_of_reply, refused_by_reply, rejected_by_reply, complete_by_reply, long_not_rejected}
 use Rattle.gj_top.proofs.run.Given.{Over}
 use Rattle.gj_top.proofs.run.Goals as goal
 

@@ -1,4 +1,4 @@
-use Rattle.std.proofs.Common.{refl, ap, ◌∙◌, ◌++◌, codes, List, ℕ}
+use Rattle.std.proofs.Common.{refl, ap, ◌∙◌, ◌++◌, codes}
 use Rattle.gj_proof.specs.FunctionLines.{line}
 use Rattle.gj_proof.specs.ProofText.{claim_word}
 use Rattle.gj_proof.specs.Rules.{MeetsRules}
