@@ -9,3 +9,4 @@ pub mod ViolationFaults
 pub mod OneLine
 pub mod OneText
 pub mod FirstFaults
+pub mod OneFault

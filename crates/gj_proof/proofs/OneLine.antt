@@ -26,8 +26,12 @@ pub field_same : (text front word rest w after : List ℕ) → HasField text fro
 field_same text front word rest w after h is e =
     word_same front word w rest after (no_feed_in_word word h.is_word.is_word) (no_feed_in_word w is.is_word) (sym h.spelled ∙ e)
 
+-- a line has one field behind a front
+pub one_field : (text front word rest other after : List ℕ) → HasField text front word rest → HasField text front other after → word ≡ other
+one_field text front word rest other after h k = (field_same text front word rest other after h k.is_word k.spelled).0
+
 -- a line of a fraction has that fraction as its field
-fraction_field : (text front rest : List ℕ) (x : Frac) → text ≡ fraction_line front x ++ rest → HasField text front (fraction_text x) rest
+pub fraction_field : (text front rest : List ℕ) (x : Frac) → text ≡ fraction_line front x ++ rest → HasField text front (fraction_text x) rest
 fraction_field text front rest x e = record { is_word = fraction_last_word x; spelled = e }
 
 -- lines of fractions with one front have one fraction

@@ -20,3 +20,9 @@ pub fn no_fault_in_proof_text()
     ensures { (c : Claim) (text : List ℕ) (n : ℕ) (e : Reason) → IsKept c → IsProofText c text →
         IsFirstFault text n e → ⊥ }
 {}
+
+/// A text has one first fault: a refusal says which.
+pub fn one_first_fault()
+    ensures { (text : List ℕ) (n m : ℕ) (e d : Reason) →
+        IsFirstFault text n e → IsFirstFault text m d → (n ≡ m) × (e ≡ d) }
+{}
