@@ -2,8 +2,8 @@
 ghost use Rattle.std.specs.Prelude.{◌≡◌};
 ghost use Rattle.gj_top.specs.Code.{code_of};
 
-/// How a run of the program ended. The command `minimal` gives `Done`, `Words`, `Input`, `ReadFault`,
-/// `WriteFault` and `Memory`; the others are for the commands to come.
+/// How a run of the program ended. `Rejected` comes with the command `check` alone; `Wide`, `NotContinuous` and
+/// `NoFunction` are for commands to come.
 #[derive(Clone, Copy, Debug, PartialEq, Eq)]
 pub enum Status {
     /// The answer was written.
