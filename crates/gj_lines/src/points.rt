@@ -1,0 +1,130 @@
+//! The points of a function, tested one after another.
+ghost use Rattle.std.specs.Prelude.{◌≡◌, ◌<◌, [], ◌∷◌, ◌++◌, length, IfOk, IfErr, OnOk, OnErr, alloc_error};
+ghost use Rattle.gj_lines.specs.declared.points.PointFault.TheVariants.{Memory};
+ghost use Rattle.gj_shape.specs.Given.{IsOrder, IsPlace, IsGivenBy};
+ghost use Rattle.gj_shape.specs.Denominators.{Widens};
+ghost use Rattle.gj_lines.specs.Points.{lefts, values, rights, IsPointFault, IsRefusedOver};
+
+use gj_frac::Frac;
+use gj_shape::{Shape, ShapeFault, widened};
+use std::alloc::{AllocError, AllocFailed, Global};
+use std::marker::Model;
+use thiserror::Error;
+
+/// The limits and the value of a function at a multiple of 1/q.
+#[derive(Clone, Copy, Debug, PartialEq, Eq)]
+pub struct Point {
+    /// The limit from the left.
+    pub left: Frac,
+    /// The value.
+    pub value: Frac,
+    /// The limit from the right.
+    pub right: Frac,
+}
+
+/// Why a point cannot follow others.
+#[derive(Debug, Drop, Error)]
+pub enum PointFault {
+    /// A fraction of it is above 2^20 in absolute value.
+    #[error("a value is above 2^20 in absolute value")]
+    Large,
+    /// The common denominator of the fractions so far passes 2^31 - 1.
+    #[error("the common denominator passes 2^31 - 1")]
+    Fine,
+    /// There was no memory.
+    #[error("out of memory")]
+    Memory(AllocError),
+}
+
+impl<T: Drop> From<AllocFailed<T>> for PointFault {
+    ghost from_gives = { λ _ f. f ≡ Memory alloc_error };
+
+    fn from(_error: AllocFailed<T>) -> PointFault {
+        PointFault::Memory(AllocError)
+    }
+}
+
+/// Points that pass all tests. Contracts see them as their list.
+#[derive(Drop)]
+pub struct Points {
+    points: Vec<Point>,
+    /// The least common denominator of all fractions.
+    scale: u32,
+}
+
+impl Model for Points {
+    ghost use Rattle.std.specs.Prelude.{List};
+    ghost use Rattle.gj_shape.specs.Denominators.{IsLeastDenominator};
+    ghost use Rattle.gj_lines.specs.Points.{all_fractions};
+    ghost use Rattle.gj_lines.specs.declared.points.Point.{Point};
+
+    ghost Value = { List Point };
+
+    ghost view = { λ p. p.points.items };
+
+    ghost invariant = { λ p. IsLeastDenominator (all_fractions p.points.items) p.scale };
+}
+
+impl Points {
+    /// No points.
+    pub fn new(alloc: Global) -> Points
+        ensures { result ≡ [] }
+    {
+        Points {
+            points: Vec::new(alloc),
+            scale: 1,
+        }
+    }
+
+    /// Adds a point behind the others. Its limit from the left, its value and its limit from the right are tested in
+    /// this order, each for `Large` and then for `Fine`. After an error the points are as they were.
+    pub fn push(&mut self, point: Point) -> Result<(), PointFault>
+        ensures ok { OnOk result (self.new ≡ self.old ++ point ∷ []) }
+        ensures err { OnErr result (self.new ≡ self.old) }
+        ensures fault { IfErr result (IsPointFault self.old point) }
+    {
+        let mut scale = self.scale;
+        for fraction in [point.left, point.value, point.right] {
+            scale = wider(scale, fraction)?;
+        }
+        self.points.push(point)?;
+        self.scale = scale;
+        Ok(())
+    }
+
+    /// The function of this order and place with these points.
+    pub fn shape(&self, alloc: Global, order: u32, place: u32) -> Result<Shape, AllocError>
+        requires order_fits { IsOrder order }
+        requires place_fits { IsPlace order place }
+        requires count { length self.now ≡ order }
+        ensures { IfOk result (IsGivenBy order place (lefts self.now) (values self.now) (rights self.now)) }
+    {
+        let mut left = Vec::with_capacity(alloc, self.points.len())?;
+        let mut value = Vec::with_capacity(alloc, self.points.len())?;
+        let mut right = Vec::with_capacity(alloc, self.points.len())?;
+        for point in self.points.iter() {
+            left.push(point.left)?;
+            value.push(point.value)?;
+            right.push(point.right)?;
+        }
+        match Shape::new(alloc, order, place, left.as_slice(), value.as_slice(), right.as_slice()) {
+            Ok(shape) => Ok(shape),
+            Err(ShapeFault::Memory(error)) => Err(error),
+            Err(_) => unreachable!(),
+        }
+    }
+}
+
+/// The least common denominator `scale` of some fractions with one more.
+fn wider(scale: u32, fraction: Frac) -> Result<u32, PointFault>
+    requires { 0 < scale }
+    ensures least { IfOk result (Widens scale fraction) }
+    ensures fault { IfErr result (IsRefusedOver scale fraction) }
+{
+    match widened(scale, fraction, 0) {
+        Ok(scale) => Ok(scale),
+        Err(ShapeFault::TooLarge(_)) => Err(PointFault::Large),
+        Err(ShapeFault::TooFine(_)) => Err(PointFault::Fine),
+        Err(_) => unreachable!(),
+    }
+}
