@@ -1,0 +1,4 @@
+pub mod Lines
+pub mod FunctionText
+pub mod FirstFault
+pub mod Reading

@@ -1,0 +1,15 @@
+//! Why a text gives no function.
+use gj_lex::Reason;
+use std::alloc::AllocError;
+use thiserror::Error;
+
+/// Why a text gives no function.
+#[derive(Debug, Drop, Error)]
+pub enum TextFault {
+    /// It is no function text: its first fault is in the line with this number, counted from 1.
+    #[error("line {0} is refused")]
+    Refused(u64, Reason),
+    /// There was no memory.
+    #[error("out of memory")]
+    Memory(AllocError),
+}

@@ -1,0 +1,32 @@
+//! Laws of function texts.
+ghost use Rattle.std.specs.Prelude.{◌≡◌, ◌++◌, ℕ, List};
+ghost use Rattle.gj_lex.specs.declared.reason.Reason.{Reason};
+ghost use Rattle.gj_shape.specs.FunctionData.{FunctionData, IsWithinLimits};
+ghost use Rattle.gj_ftext.specs.FunctionText.{IsFunctionText, IsWholeFunctionText, IsCanonicalText};
+ghost use Rattle.gj_ftext.specs.FirstFault.{IsFirstFault, IsFirstFaultOfWhole};
+
+/// A text begins with the function text of one function at most, and that ends at one place.
+pub fn one_function_text()
+    ensures { (text : List ℕ) (f g : FunctionData) (a b : List ℕ) →
+        IsFunctionText text f a → IsFunctionText text g b → (f ≡ g) × (a ≡ b) }
+{}
+
+/// Whatever follows the canonical text of a function, it is read as a function text of that function, all of it.
+pub fn canonical_text_is_function_text()
+    ensures { (f : FunctionData) (text after : List ℕ) → IsWithinLimits f → IsCanonicalText text f →
+        IsFunctionText (text ++ after) f after }
+{}
+
+/// A function text has no fault, so that a refused text is that of no function.
+pub fn no_fault_in_function_text()
+    ensures front { (text rest : List ℕ) (f : FunctionData) (n : ℕ) (e : Reason) →
+        IsFunctionText text f rest → IsFirstFault text n e → ⊥ }
+    ensures whole { (text : List ℕ) (f : FunctionData) (n : ℕ) (e : Reason) →
+        IsWholeFunctionText text f → IsFirstFaultOfWhole text n e → ⊥ }
+{}
+
+/// A text has one first fault: a refusal says which.
+pub fn one_first_fault()
+    ensures { (text : List ℕ) (n m : ℕ) (e d : Reason) →
+        IsFirstFaultOfWhole text n e → IsFirstFaultOfWhole text m d → (n ≡ m) × (e ≡ d) }
+{}

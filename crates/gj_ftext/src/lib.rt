@@ -1,0 +1,13 @@
+//! Function text: read in any of its spellings, and printed in one.
+#![tactic(auto)]
+
+mod faults;
+mod laws;
+mod lines;
+mod read;
+mod write;
+
+pub use faults::TextFault;
+pub use laws::{canonical_text_is_function_text, no_fault_in_function_text, one_first_fault, one_function_text};
+pub use read::{read_function, read_whole_function};
+pub use write::write_function;
