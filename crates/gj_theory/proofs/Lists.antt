@@ -97,3 +97,50 @@ joined_has P g i n h all =
     let rest = flat_map g (range_with_len (i + 1) (n - suc i)) in
     let split = subst (All P) (joined_at g i n h) all in
     All-front P (g i) rest (All-back P (flat_map g (range_with_len 0 i)) (g i ++ rest) split)
+
+-- ---- where an element stands behind elements that have a property
+
+-- the element stands in the list, and all elements before it have the property
+pub record IsPlaced {X : Type 0} (P : X → Type 0) (xs : List X) (t : X) : Type 0 where
+  pub before : List X
+  pub after : List X
+  pub place : xs ≡ before ++ t ∷ after
+  pub passed : All P before
+
+-- more elements after it
+pub placed_in_front : {X : Type 0} (P : X → Type 0) (xs ys : List X) (t : X) → IsPlaced P xs t → IsPlaced P (xs ++ ys) t
+placed_in_front P xs ys t h = record {
+  before = h.before;
+  after = h.after ++ ys;
+  place = placed_before ys xs h.before h.after t h.place;
+  passed = h.passed;
+}
+
+-- more elements before it, which have the property
+pub placed_in_back : {X : Type 0} (P : X → Type 0) (xs ys : List X) (t : X) → All P xs → IsPlaced P ys t → IsPlaced P (xs ++ ys) t
+placed_in_back P xs ys t all h = record {
+  before = xs ++ h.before;
+  after = h.after;
+  place = placed_after xs ys h.before h.after t h.place;
+  passed = All-append P xs h.before all h.passed;
+}
+
+-- the element made at an index, where those made before it have the property
+pub placed_made : {X : Type 0} (P : X → Type 0) (g : ℕ → X) (i n : ℕ) → i < n → ((j : ℕ) → j < i → P (g j)) →
+    IsPlaced P (map g (range_with_len 0 n)) (g i)
+placed_made P g i n below h = record {
+  before = map g (range_with_len 0 i);
+  after = map g (range_with_len (i + 1) (n - suc i));
+  place = made_at g i n below;
+  passed = All-made P g 0 i (λ j j_below. h j (omega arith));
+}
+
+-- an element of the list made at an index, where all elements of the lists made before have the property
+pub placed_joined : {X : Type 0} (P : X → Type 0) (g : ℕ → List X) (i n : ℕ) (t : X) → i < n →
+    ((j : ℕ) → j < i → All P (g j)) → IsPlaced P (g i) t → IsPlaced P (flat_map g (range_with_len 0 n)) t
+placed_joined P g i n t below h placed =
+    let earlier = flat_map g (range_with_len 0 i) in
+    let later = flat_map g (range_with_len (i + 1) (n - suc i)) in
+    let all = All-joined P g 0 i (λ j j_below. h j (omega arith)) in
+    let whole = placed_in_back P earlier (g i ++ later) t all (placed_in_front P (g i) later t placed) in
+    subst (λ l. IsPlaced P l t) (sym (joined_at g i n below)) whole
