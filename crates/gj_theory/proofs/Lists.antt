@@ -27,21 +27,24 @@ All_joined_seven P a b c d e f g pa pb pc pd pe pf pg =
 -- ---- each element of a list made by a range
 
 -- what holds at each index below a + n, holds of each element made from the indices from a on
-pub All-made : {X : Type 0} (P : X → Type 0) (g : ℕ → X) (a n : ℕ) → ((i : ℕ) → i < a + n → P (g i)) → All P (map g (range_with_len a n))
+pub All-made : {X : Type 0} (P : X → Type 0) (g : ℕ → X) (a n : ℕ) → ((i : ℕ) → i < a + n → P (g i)) →
+    All P (map g (range_with_len a n))
 All-made P g a zero h = All-nil P
 All-made P g a (suc n) h =
     All-cons P (g a) (map g (range_with_len (a + 1) n)) (h a (omega arith))
     (All-made P g (a + 1) n (λ i below. h i (omega arith)))
 
 -- the same where each index makes a list
-pub All-joined : {X : Type 0} (P : X → Type 0) (g : ℕ → List X) (a n : ℕ) → ((i : ℕ) → i < a + n → All P (g i)) → All P (flat_map g (range_with_len a n))
+pub All-joined : {X : Type 0} (P : X → Type 0) (g : ℕ → List X) (a n : ℕ) → ((i : ℕ) → i < a + n → All P (g i)) →
+    All P (flat_map g (range_with_len a n))
 All-joined P g a zero h = All-nil P
 All-joined P g a (suc n) h =
     All-append P (g a) (flat_map g (range_with_len (a + 1) n)) (h a (omega arith))
     (All-joined P g (a + 1) n (λ i below. h i (omega arith)))
 
 -- the same for each element of any list
-pub flat_map_pass : {X Y : Type 0} (P : X → Type 0) (g : Y → List X) (ys : List Y) → ((y : Y) → All P (g y)) → All P (flat_map g ys)
+pub flat_map_pass : {X Y : Type 0} (P : X → Type 0) (g : Y → List X) (ys : List Y) → ((y : Y) → All P (g y)) →
+    All P (flat_map g ys)
 flat_map_pass P g [] h = All-nil P
 flat_map_pass P g (y ∷ ys) h = All-append P (g y) (flat_map g ys) (h y) (flat_map_pass P g ys h)
 
@@ -62,37 +65,47 @@ range_split a (suc m) n =
 pub range_at : (i n : ℕ) → i < n → range_with_len 0 n ≡ range_with_len 0 i ++ i ∷ range_with_len (i + 1) (n - suc i)
 range_at i n h =
     let len : n ≡ i + suc (n - suc i) = omega arith in
-    ap (range_with_len 0) len ∙ range_split 0 i (suc (n - suc i)) ∙ ap (λ k. range_with_len 0 i ++ range_with_len k (suc (n - suc i))) (zero-add i)
+    ap (range_with_len 0) len ∙ range_split 0 i (suc (n - suc i))
+    ∙ ap (λ k. range_with_len 0 i ++ range_with_len k (suc (n - suc i))) (zero-add i)
 
 -- the list made by a range, split at an index
-pub made_at : {X : Type 0} (g : ℕ → X) (i n : ℕ) → i < n → map g (range_with_len 0 n) ≡ map g (range_with_len 0 i) ++ g i ∷ map g (range_with_len (i + 1) (n - suc i))
-made_at g i n h = ap (map g) (range_at i n h) ∙ map-append g (range_with_len 0 i) (i ∷ range_with_len (i + 1) (n - suc i))
+pub made_at : {X : Type 0} (g : ℕ → X) (i n : ℕ) → i < n →
+    map g (range_with_len 0 n) ≡ map g (range_with_len 0 i) ++ g i ∷ map g (range_with_len (i + 1) (n - suc i))
+made_at g i n h =
+    ap (map g) (range_at i n h) ∙ map-append g (range_with_len 0 i) (i ∷ range_with_len (i + 1) (n - suc i))
 
 -- the same where each index makes a list
-pub joined_at : {X : Type 0} (g : ℕ → List X) (i n : ℕ) → i < n → flat_map g (range_with_len 0 n) ≡ flat_map g (range_with_len 0 i) ++ (g i ++ flat_map g (range_with_len (i + 1) (n - suc i)))
-joined_at g i n h = ap (flat_map g) (range_at i n h) ∙ flat_map-append g (range_with_len 0 i) (i ∷ range_with_len (i + 1) (n - suc i))
+pub joined_at : {X : Type 0} (g : ℕ → List X) (i n : ℕ) → i < n →
+    flat_map g (range_with_len 0 n)
+    ≡ flat_map g (range_with_len 0 i) ++ (g i ++ flat_map g (range_with_len (i + 1) (n - suc i)))
+joined_at g i n h =
+    ap (flat_map g) (range_at i n h) ∙ flat_map-append g (range_with_len 0 i) (i ∷ range_with_len (i + 1) (n - suc i))
 
 -- ---- where an element stands among joined lists
 
 -- more before it
-pub placed_after : {X : Type 0} (ys xs before after : List X) (t : X) → xs ≡ before ++ t ∷ after → ys ++ xs ≡ (ys ++ before) ++ t ∷ after
+pub placed_after : {X : Type 0} (ys xs before after : List X) (t : X) → xs ≡ before ++ t ∷ after →
+    ys ++ xs ≡ (ys ++ before) ++ t ∷ after
 placed_after ys xs before after t e = ap (λ l. ys ++ l) e ∙ sym (append_assoc ys before (t ∷ after))
 
 -- more after it
-pub placed_before : {X : Type 0} (ys xs before after : List X) (t : X) → xs ≡ before ++ t ∷ after → xs ++ ys ≡ before ++ t ∷ (after ++ ys)
+pub placed_before : {X : Type 0} (ys xs before after : List X) (t : X) → xs ≡ before ++ t ∷ after →
+    xs ++ ys ≡ before ++ t ∷ (after ++ ys)
 placed_before ys xs before after t e = ap (λ l. l ++ ys) e ∙ append_assoc before (t ∷ after) ys
 
 -- ---- from all elements back to each
 
 -- an element made at an index below n has what all have
-pub made_has : {X : Type 0} (P : X → Type 0) (g : ℕ → X) (i n : ℕ) → i < n → All P (map g (range_with_len 0 n)) → P (g i)
+pub made_has : {X : Type 0} (P : X → Type 0) (g : ℕ → X) (i n : ℕ) → i < n →
+    All P (map g (range_with_len 0 n)) → P (g i)
 made_has P g i n h all =
     let rest = map g (range_with_len (i + 1) (n - suc i)) in
     let split = subst (All P) (made_at g i n h) all in
     All-head P (g i) rest (All-back P (map g (range_with_len 0 i)) (g i ∷ rest) split)
 
 -- all elements of the list made at an index below n have what all have
-pub joined_has : {X : Type 0} (P : X → Type 0) (g : ℕ → List X) (i n : ℕ) → i < n → All P (flat_map g (range_with_len 0 n)) → All P (g i)
+pub joined_has : {X : Type 0} (P : X → Type 0) (g : ℕ → List X) (i n : ℕ) → i < n →
+    All P (flat_map g (range_with_len 0 n)) → All P (g i)
 joined_has P g i n h all =
     let rest = flat_map g (range_with_len (i + 1) (n - suc i)) in
     let split = subst (All P) (joined_at g i n h) all in
@@ -117,7 +130,8 @@ placed_in_front P xs ys t h = record {
 }
 
 -- more elements before it, which have the property
-pub placed_in_back : {X : Type 0} (P : X → Type 0) (xs ys : List X) (t : X) → All P xs → IsPlaced P ys t → IsPlaced P (xs ++ ys) t
+pub placed_in_back : {X : Type 0} (P : X → Type 0) (xs ys : List X) (t : X) → All P xs → IsPlaced P ys t →
+    IsPlaced P (xs ++ ys) t
 placed_in_back P xs ys t all h = record {
   before = xs ++ h.before;
   after = h.after;
