@@ -1,197 +1,315 @@
--- On a continuous function the first grid point that fails its test gives the first violation.
-use Rattle.std.proofs.Common.{◌≡◌, ◌≢◌, ℕ, suc, ◌+◌, ◌-◌, ◌<◌, pos, ◌+ℤ◌, ◌<ℤ◌, ◌≤ℤ◌, List, [], ◌∷◌, ◌++◌, map, refl, sym, subst, ◌∙◌, arith}
+-- The first test of minimality that fails gives the first violation.
+use Rattle.std.proofs.Common.{ℕ, ◌<◌, List, [], ◌∷◌, ◌++◌, length, map, refl, subst, arith}
 use Rattle.std.specs.List.{range_with_len, flat_map, All}
-use Rattle.std.proofs.Math.Nat.{mul-one}
-use Rattle.std.proofs.lemmas.Int.{ints}
 use Rattle.std.proofs.lemmas.List.Elements.{All-nil, All-cons, All-append, All-head}
-use Rattle.gj_frac.specs.declared.Frac.{Frac}
-use Rattle.gj_frac.specs.Fraction.{Is}
-use Rattle.gj_shape.specs.FunctionData.{FunctionData, IsWithinLimits, IsContinuous, at}
-use Rattle.gj_shape.specs.FirstViolation.{Test, Passes, PassesAll, tests_of_face, near, IsOnGrid, IsSuperadditiveOnGrid, ShowsNearCorner, IsFirstViolation}
-use Rattle.gj_shape.specs.FirstViolation.Test.{zero_at_zero, nonnegative_at, symmetric_at, subadditive_at}
-use Rattle.gj_shape.specs.declared.faces.FaceKind.TheVariants.{Vertex}
+use Rattle.gj_shape.specs.FunctionData.{FunctionData}
+use Rattle.gj_shape.specs.Faces.{corners_of}
+use Rattle.gj_shape.specs.FirstViolation.{Test, Passes, PassesAll, Shows, IsFirstViolation, tests_of, tests_of_face, over_squares}
+use Rattle.gj_shape.specs.FirstViolation.Test.{zero_at_zero, nonnegative_at, nonnegative_after, nonnegative_before, symmetric_at, symmetric_between, subadditive_at}
+use Rattle.gj_shape.specs.declared.faces.FaceKind.{FaceKind}
+use Rattle.gj_shape.specs.declared.faces.FaceKind.TheVariants.{Vertex, Horizontal, Vertical, Diagonal, Lower, Upper}
 use Rattle.gj_shape.specs.declared.violations.Violation.{Violation}
-use Rattle.gj_shape.specs.declared.violations.Violation.TheVariants as violation
-use Rattle.gj_theory.specs.GridPoints.{IsSubadditiveBefore}
-use Rattle.gj_theory.proofs.Lists.{All-back, All-made, All-joined, made_at, joined_at, placed_after, placed_before}
-use Rattle.gj_shape.proofs.TableLemmas.{table_of_order}
-use Rattle.gj_theory.proofs.Continuous.{sign_tests, sign_tests_between, symmetry_tests, symmetry_tests_between, vertex_tests, other_tests, signs_between, symmetry_between}
+use Rattle.gj_theory.specs.Before.{IsTestOf, PassesBefore, PassesValues, PassesSigns, PassesMirrors, PassesSymmetry, PassesVertices, PassesFace, PassesSquare, PassesKindsBefore, HoldsBefore, PassesFacesBefore}
+use Rattle.gj_theory.proofs.Lists.{IsPlaced, All-back, All-made, All-joined, placed_in_front, placed_in_back, placed_made, placed_joined}
 
--- a fraction equal to i/order, on the function's own grid
-on_own_grid : (f : FunctionData) (i : ℕ) (x : Frac) → Is x (pos i) (pos f.order) → IsOnGrid f 1 i x
-on_own_grid f i x h = rw (mul-one f.order) h
+-- ---- the parts of the list of tests
 
--- the value at 0
-pub first_at_zero : (f : FunctionData) → at f.value 0 ≢ pos 0 → IsFirstViolation f violation.Zero
-first_at_zero f fails = record {
-  before = [];
-  test = zero_at_zero;
-  after = sign_tests f ++ sign_tests_between f ++ symmetry_tests f ++ symmetry_tests_between f ++ vertex_tests f ++ other_tests f;
-  place = refl;
-  passed = All-nil (Passes f);
-  fails = fails;
-  shows = refl;
-}
+abbrev indices : FunctionData → List ℕ
+indices f = range_with_len 0 f.order
 
--- the tests of signs pass where those at the grid points do
-signs_pass : (f : FunctionData) (i : ℕ) → at f.value 0 ≡ pos 0 → ((j : ℕ) → j < i → pos 0 ≤ℤ at f.value j) →
-    All (Passes f) (zero_at_zero ∷ [] ++ map nonnegative_at (range_with_len 0 i))
-signs_pass f i at_zero signs =
-    All-append (Passes f) (zero_at_zero ∷ []) (map nonnegative_at (range_with_len 0 i))
-    (All-cons (Passes f) zero_at_zero [] at_zero (All-nil (Passes f)))
-    (All-made (Passes f) nonnegative_at 0 i (λ j below. signs j (omega arith)))
+abbrev signs_at : FunctionData → List Test
+signs_at f = map nonnegative_at (indices f)
 
--- a negative value
-pub first_negative : (f : FunctionData) (i : ℕ) (x : Frac) → i < f.order → Is x (pos i) (pos f.order) →
-    at f.value 0 ≡ pos 0 → ((j : ℕ) → j < i → pos 0 ≤ℤ at f.value j) → at f.value i <ℤ pos 0 →
-    IsFirstViolation f (violation.Negative x)
-first_negative f i x below is at_zero signs fails =
-    let rest = map nonnegative_at (range_with_len (i + 1) (f.order - suc i)) in
-    let t = nonnegative_at i in
-    let before = zero_at_zero ∷ [] ++ map nonnegative_at (range_with_len 0 i) in
-    let p1 = placed_after (zero_at_zero ∷ []) (sign_tests f) (map nonnegative_at (range_with_len 0 i)) rest t (made_at nonnegative_at i f.order below) in
-    let p2 = placed_before (sign_tests_between f) (zero_at_zero ∷ [] ++ sign_tests f) before rest t p1 in
-    let p3 = placed_before (symmetry_tests f) _ before _ t p2 in
-    let p4 = placed_before (symmetry_tests_between f) _ before _ t p3 in
-    let p5 = placed_before (vertex_tests f) _ before _ t p4 in
-    let p6 = placed_before (other_tests f) _ before _ t p5 in
-    record {
-      before = before;
-      test = t;
-      after = rest ++ sign_tests_between f ++ symmetry_tests f ++ symmetry_tests_between f ++ vertex_tests f ++ other_tests f;
-      place = p6;
-      passed = signs_pass f i at_zero signs;
-      fails = λ h. omega (arith, ints);
-      shows = (x, on_own_grid f i x is, refl);
-    }
+abbrev interval_signs : ℕ → List Test
+interval_signs i = nonnegative_after i ∷ nonnegative_before i ∷ []
 
--- the tests up to those of symmetry pass, on a continuous function
-symmetry_pass : (f : FunctionData) (i : ℕ) → IsWithinLimits f → IsContinuous f → at f.value 0 ≡ pos 0 →
-    ((j : ℕ) → j < f.order → pos 0 ≤ℤ at f.value j) → ((j : ℕ) → j < i → Passes f (symmetric_at j)) →
-    All (Passes f) (zero_at_zero ∷ [] ++ sign_tests f ++ sign_tests_between f ++ map symmetric_at (range_with_len 0 i))
-symmetry_pass f i l c at_zero signs symmetry =
-    All-append (Passes f) (zero_at_zero ∷ [] ++ sign_tests f ++ sign_tests_between f) (map symmetric_at (range_with_len 0 i))
-    (All-append (Passes f) (zero_at_zero ∷ [] ++ sign_tests f) (sign_tests_between f) (signs_pass f f.order at_zero signs) (signs_between f l c signs))
-    (All-made (Passes f) symmetric_at 0 i (λ j below. symmetry j (omega arith)))
+abbrev signs_between : FunctionData → List Test
+signs_between f = flat_map interval_signs (indices f)
 
--- values that do not add up to 1
-pub first_asymmetric : (f : FunctionData) (i : ℕ) (x : Frac) → IsWithinLimits f → IsContinuous f → i < f.order →
-    Is x (pos i) (pos f.order) → at f.value 0 ≡ pos 0 → ((j : ℕ) → j < f.order → pos 0 ≤ℤ at f.value j) →
-    ((j : ℕ) → j < i → Passes f (symmetric_at j)) → (Passes f (symmetric_at i) → ⊥) →
-    IsFirstViolation f (violation.Asymmetric x)
-first_asymmetric f i x l c below is at_zero signs symmetry fails =
-    let rest = map symmetric_at (range_with_len (i + 1) (f.order - suc i)) in
-    let t = symmetric_at i in
-    let early = zero_at_zero ∷ [] ++ sign_tests f ++ sign_tests_between f in
-    let before = early ++ map symmetric_at (range_with_len 0 i) in
-    let p1 = placed_after early (symmetry_tests f) (map symmetric_at (range_with_len 0 i)) rest t (made_at symmetric_at i f.order below) in
-    let p2 = placed_before (symmetry_tests_between f) (early ++ symmetry_tests f) before rest t p1 in
-    let p3 = placed_before (vertex_tests f) _ before _ t p2 in
-    let p4 = placed_before (other_tests f) _ before _ t p3 in
-    record {
-      before = before;
-      test = t;
-      after = rest ++ symmetry_tests_between f ++ vertex_tests f ++ other_tests f;
-      place = p4;
-      passed = symmetry_pass f i l c at_zero signs symmetry;
-      fails = fails;
-      shows = (x, on_own_grid f i x is, refl);
-    }
+abbrev mirrors_at : FunctionData → List Test
+mirrors_at f = map symmetric_at (indices f)
 
--- a vertex passes alone
-vertex_passes : (f : FunctionData) (a b : ℕ) → Passes f (subadditive_at Vertex a b 0) → All (Passes f) (tests_of_face Vertex a b)
+abbrev mirrors_between : FunctionData → List Test
+mirrors_between f = map symmetric_between (indices f)
+
+abbrev vertices : FunctionData → List Test
+vertices f = over_squares f.order (tests_of_face Vertex)
+
+-- the faces of a square but its vertex, from each kind on
+abbrev from_upper : ℕ → ℕ → List Test
+from_upper a b = tests_of_face Upper a b ++ []
+
+abbrev from_lower : ℕ → ℕ → List Test
+from_lower a b = tests_of_face Lower a b ++ from_upper a b
+
+abbrev from_diagonal : ℕ → ℕ → List Test
+from_diagonal a b = tests_of_face Diagonal a b ++ from_lower a b
+
+abbrev from_vertical : ℕ → ℕ → List Test
+from_vertical a b = tests_of_face Vertical a b ++ from_diagonal a b
+
+abbrev square : ℕ → ℕ → List Test
+square a b = tests_of_face Horizontal a b ++ from_vertical a b
+
+abbrev other_faces : FunctionData → List Test
+other_faces f = over_squares f.order square
+
+-- the list up to each part
+abbrev to_signs_at : FunctionData → List Test
+to_signs_at f = zero_at_zero ∷ [] ++ signs_at f
+
+abbrev to_signs_between : FunctionData → List Test
+to_signs_between f = to_signs_at f ++ signs_between f
+
+abbrev to_mirrors_at : FunctionData → List Test
+to_mirrors_at f = to_signs_between f ++ mirrors_at f
+
+abbrev to_mirrors_between : FunctionData → List Test
+to_mirrors_between f = to_mirrors_at f ++ mirrors_between f
+
+abbrev to_vertices : FunctionData → List Test
+to_vertices f = to_mirrors_between f ++ vertices f
+
+-- ---- what passes of each part
+
+zero_passes : (f : FunctionData) → Passes f zero_at_zero → All (Passes f) (zero_at_zero ∷ [])
+zero_passes f h = All-cons (Passes f) zero_at_zero [] h (All-nil (Passes f))
+
+values_pass : (f : FunctionData) → PassesValues f → All (Passes f) (to_signs_at f)
+values_pass f h =
+    All-append (Passes f) (zero_at_zero ∷ []) (signs_at f) (zero_passes f h.zero)
+    (All-made (Passes f) nonnegative_at 0 f.order (λ i below. h.nonnegative i (omega arith)))
+
+interval_passes : (f : FunctionData) (i : ℕ) → Passes f (nonnegative_after i) → Passes f (nonnegative_before i) →
+    All (Passes f) (interval_signs i)
+interval_passes f i after before =
+    All-cons (Passes f) (nonnegative_after i) (nonnegative_before i ∷ []) after
+    (All-cons (Passes f) (nonnegative_before i) [] before (All-nil (Passes f)))
+
+signs_pass : (f : FunctionData) → PassesSigns f → All (Passes f) (to_signs_between f)
+signs_pass f h =
+    All-append (Passes f) (to_signs_at f) (signs_between f) (values_pass f h.values)
+    (All-joined (Passes f) interval_signs 0 f.order
+    (λ i below. interval_passes f i (h.after i (omega arith)) (h.before i (omega arith))))
+
+mirrors_pass : (f : FunctionData) → PassesMirrors f → All (Passes f) (to_mirrors_at f)
+mirrors_pass f h =
+    All-append (Passes f) (to_signs_between f) (mirrors_at f) (signs_pass f h.signs)
+    (All-made (Passes f) symmetric_at 0 f.order (λ i below. h.symmetric i (omega arith)))
+
+symmetry_passes : (f : FunctionData) → PassesSymmetry f → All (Passes f) (to_mirrors_between f)
+symmetry_passes f h =
+    All-append (Passes f) (to_mirrors_at f) (mirrors_between f) (mirrors_pass f h.mirrors)
+    (All-made (Passes f) symmetric_between 0 f.order (λ i below. h.between i (omega arith)))
+
+-- tests that pass at each square pass over all squares
+over_squares_pass : (f : FunctionData) (n : ℕ) (tests : ℕ → ℕ → List Test) →
+    ((a b : ℕ) → a < n → b < n → All (Passes f) (tests a b)) → All (Passes f) (over_squares n tests)
+over_squares_pass f n tests h =
+    All-joined (Passes f) (λ a. flat_map (λ b. tests a b) (range_with_len 0 n)) 0 n
+    (λ a a_below. All-joined (Passes f) (λ b. tests a b) 0 n (λ b b_below. h a b (omega arith) (omega arith)))
+
+vertex_passes : (f : FunctionData) (a b : ℕ) → Passes f (subadditive_at Vertex a b 0) → PassesFace f Vertex a b
 vertex_passes f a b h = All-cons (Passes f) (subadditive_at Vertex a b 0) [] h (All-nil (Passes f))
 
--- a negative slack of values is one on the function's own grid
-slack_on_own_grid : (f : FunctionData) (i j a b : ℕ) → i ≡ a → j ≡ b → (at f.value a +ℤ at f.value b) <ℤ at f.value (a + b) →
-    IsSuperadditiveOnGrid f 1 i j
-slack_on_own_grid f i j a b e d h = rw (e, d, table_of_order f a, table_of_order f b, table_of_order f (a + b)) h
+vertices_pass : (f : FunctionData) → PassesVertices f → All (Passes f) (to_vertices f)
+vertices_pass f h =
+    All-append (Passes f) (to_mirrors_between f) (vertices f) (symmetry_passes f h.symmetry)
+    (over_squares_pass f f.order (tests_of_face Vertex)
+    (λ a b a_below b_below. vertex_passes f a b (h.vertices a b a_below b_below)))
 
--- what a negative slack at a vertex shows
-shows_at_vertex : (f : FunctionData) (a b : ℕ) (x y : Frac) → Is x (pos a) (pos f.order) → Is y (pos b) (pos f.order) →
-    (at f.value a +ℤ at f.value b) <ℤ at f.value (a + b) → ShowsNearCorner f Vertex a b 0 (violation.Superadditive x y)
-shows_at_vertex f a b x y is_x is_y h =
-    let first : near 1 0 (a ∷ []) ≡ a = omega arith in
-    let second : near 1 0 (b ∷ []) ≡ b = omega arith in
-    record {
-      h = 1;
-      x = x;
-      y = y;
-      least = record {
-        from = omega arith;
-        holds = slack_on_own_grid f (near 1 0 (a ∷ [])) (near 1 0 (b ∷ [])) a b first second h;
-        least = λ k from below holds. omega arith;
-      };
-      first = subst (λ i. IsOnGrid f 1 i x) (sym first) (on_own_grid f a x is_x);
-      second = subst (λ i. IsOnGrid f 1 i y) (sym second) (on_own_grid f b y is_y);
-      shown = refl;
-    }
-
--- the tests at the vertices before (a, b)
-vertex_tests_before : FunctionData → ℕ → ℕ → List Test
-vertex_tests_before f a b =
-    flat_map (λ i. flat_map (λ j. tests_of_face Vertex i j) (range_with_len 0 f.order)) (range_with_len 0 a)
-    ++ flat_map (λ j. tests_of_face Vertex a j) (range_with_len 0 b)
-
--- and those after
-vertex_tests_after : FunctionData → ℕ → ℕ → List Test
-vertex_tests_after f a b =
-    flat_map (λ j. tests_of_face Vertex a j) (range_with_len (b + 1) (f.order - suc b))
-    ++ flat_map (λ i. flat_map (λ j. tests_of_face Vertex i j) (range_with_len 0 f.order)) (range_with_len (a + 1) (f.order - suc a))
-
--- where the test at (a, b) stands among the vertices
-vertex_place : (f : FunctionData) (a b : ℕ) → a < f.order → b < f.order →
-    vertex_tests f ≡ vertex_tests_before f a b ++ subadditive_at Vertex a b 0 ∷ vertex_tests_after f a b
-unfolding vertex_tests_before vertex_tests_after
-vertex_place f a b a_below b_below =
-    let square = λ (i j : ℕ). tests_of_face Vertex i j in
-    let row = λ (i : ℕ). flat_map (square i) (range_with_len 0 f.order) in
-    let earlier = flat_map row (range_with_len 0 a) in
-    let later = flat_map row (range_with_len (a + 1) (f.order - suc a)) in
-    let left = flat_map (square a) (range_with_len 0 b) in
-    let right = flat_map (square a) (range_with_len (b + 1) (f.order - suc b)) in
-    let t = subadditive_at Vertex a b 0 in
-    let p = placed_before later (row a) left right t (joined_at (square a) b f.order b_below) in
-    joined_at row a f.order a_below ∙ placed_after earlier (row a ++ later) left (right ++ later) t p
-
--- those before (a, b) pass
-vertices_pass : (f : FunctionData) (a b : ℕ) → IsSubadditiveBefore f a b → All (Passes f) (vertex_tests_before f a b)
-unfolding vertex_tests_before
-vertices_pass f a b h =
+square_passes : (f : FunctionData) (a b : ℕ) → PassesSquare f a b → All (Passes f) (square a b)
+square_passes f a b h =
     let P = Passes f in
-    let square = λ (i j : ℕ). tests_of_face Vertex i j in
-    let row = λ (i : ℕ). flat_map (square i) (range_with_len 0 f.order) in
-    All-append P (flat_map row (range_with_len 0 a)) (flat_map (square a) (range_with_len 0 b))
-    (All-joined P row 0 a (λ i i_below. All-joined P (square i) 0 f.order
-    (λ j j_below. vertex_passes f i j (h.rows i j (omega arith) (omega arith)))))
-    (All-joined P (square a) 0 b (λ j j_below. vertex_passes f a j (h.row j (omega arith))))
+    All-append P (tests_of_face Horizontal a b) (from_vertical a b) h.horizontal
+    (All-append P (tests_of_face Vertical a b) (from_diagonal a b) h.vertical
+    (All-append P (tests_of_face Diagonal a b) (from_lower a b) h.diagonal
+    (All-append P (tests_of_face Lower a b) (from_upper a b) h.lower
+    (All-append P (tests_of_face Upper a b) [] h.upper (All-nil P)))))
 
--- a slack that is negative
-pub first_superadditive : (f : FunctionData) (a b : ℕ) (x y : Frac) → IsWithinLimits f → IsContinuous f → a < f.order →
-    b < f.order → Is x (pos a) (pos f.order) → Is y (pos b) (pos f.order) → at f.value 0 ≡ pos 0 →
-    ((j : ℕ) → j < f.order → pos 0 ≤ℤ at f.value j) → ((j : ℕ) → j < f.order → Passes f (symmetric_at j)) →
-    IsSubadditiveBefore f a b → (at f.value a +ℤ at f.value b) <ℤ at f.value (a + b) →
-    IsFirstViolation f (violation.Superadditive x y)
-first_superadditive f a b x y l c a_below b_below is_x is_y at_zero signs symmetry passed fails =
-    let t = subadditive_at Vertex a b 0 in
-    let early = zero_at_zero ∷ [] ++ sign_tests f ++ sign_tests_between f ++ symmetry_tests f in
-    let all_early = early ++ symmetry_tests_between f in
-    let p1 = placed_after all_early (vertex_tests f) (vertex_tests_before f a b) (vertex_tests_after f a b) t (vertex_place f a b a_below b_below) in
-    let p2 = placed_before (other_tests f) (all_early ++ vertex_tests f) (all_early ++ vertex_tests_before f a b) (vertex_tests_after f a b) t p1 in
+-- ---- where a test stands in its part
+
+-- the test stands among these tests, and all tests before it pass
+abbrev Stands : FunctionData → List Test → Test → Type 0
+Stands f tests t = IsPlaced (Passes f) tests t
+
+in_front : (f : FunctionData) (xs ys : List Test) (t : Test) → Stands f xs t → Stands f (xs ++ ys) t
+in_front f xs ys t h = placed_in_front (Passes f) xs ys t h
+
+behind : (f : FunctionData) (xs ys : List Test) (t : Test) → All (Passes f) xs → Stands f ys t → Stands f (xs ++ ys) t
+behind f xs ys t pass h = placed_in_back (Passes f) xs ys t pass h
+
+-- a test of a square, where the tests of all squares before it pass
+in_squares : (f : FunctionData) (P : ℕ → ℕ → Type 0) (tests : ℕ → ℕ → List Test) (a b : ℕ) (t : Test) →
+    a < f.order → b < f.order → ((i j : ℕ) → P i j → All (Passes f) (tests i j)) → HoldsBefore f P a b →
+    Stands f (tests a b) t → Stands f (over_squares f.order tests) t
+in_squares f P tests a b t a_below b_below pass h stands =
+    placed_joined (Passes f) (λ i. flat_map (λ j. tests i j) (indices f)) a f.order t a_below
+    (λ i i_below. All-joined (Passes f) (λ j. tests i j) 0 f.order
+    (λ j j_below. pass i j (h.rows i j i_below (omega arith))))
+    (placed_joined (Passes f) (λ j. tests a j) b f.order t b_below (λ j j_below. pass a j (h.row j j_below)) stands)
+
+-- a limit of a face, where those at the corners before it pass
+in_face : (f : FunctionData) (kind : FaceKind) (a b c : ℕ) → c < length (corners_of kind a b) →
+    ((k : ℕ) → k < c → Passes f (subadditive_at kind a b k)) →
+    Stands f (tests_of_face kind a b) (subadditive_at kind a b c)
+in_face f kind a b c below h =
+    placed_made (Passes f) (subadditive_at kind a b) c (length (corners_of kind a b)) below h
+
+-- the face is no vertex
+abbrev IsNoVertex : FaceKind → Type 0
+IsNoVertex Vertex = ⊥
+IsNoVertex Horizontal = Unit {0}
+IsNoVertex Vertical = Unit {0}
+IsNoVertex Diagonal = Unit {0}
+IsNoVertex Lower = Unit {0}
+IsNoVertex Upper = Unit {0}
+
+-- a test of a face in the list of its square, where those of the faces before it pass
+in_square : (f : FunctionData) (kind : FaceKind) (a b : ℕ) (t : Test) → IsNoVertex kind → PassesKindsBefore f a b kind →
+    Stands f (tests_of_face kind a b) t → Stands f (square a b) t
+in_square f Vertex a b t other h stands = absurd other
+in_square f Horizontal a b t other h stands = in_front f (tests_of_face Horizontal a b) (from_vertical a b) t stands
+in_square f Vertical a b t other h stands =
+    behind f (tests_of_face Horizontal a b) (from_vertical a b) t h
+    (in_front f (tests_of_face Vertical a b) (from_diagonal a b) t stands)
+in_square f Diagonal a b t other h stands =
+    behind f (tests_of_face Horizontal a b) (from_vertical a b) t h.0
+    (behind f (tests_of_face Vertical a b) (from_diagonal a b) t h.1
+    (in_front f (tests_of_face Diagonal a b) (from_lower a b) t stands))
+in_square f Lower a b t other h stands =
+    behind f (tests_of_face Horizontal a b) (from_vertical a b) t h.0
+    (behind f (tests_of_face Vertical a b) (from_diagonal a b) t h.1
+    (behind f (tests_of_face Diagonal a b) (from_lower a b) t h.2
+    (in_front f (tests_of_face Lower a b) (from_upper a b) t stands)))
+in_square f Upper a b t other h stands =
+    behind f (tests_of_face Horizontal a b) (from_vertical a b) t h.0
+    (behind f (tests_of_face Vertical a b) (from_diagonal a b) t h.1
+    (behind f (tests_of_face Diagonal a b) (from_lower a b) t h.2
+    (behind f (tests_of_face Lower a b) (from_upper a b) t h.3
+    (in_front f (tests_of_face Upper a b) [] t stands))))
+
+-- ---- where a test stands in the whole list
+
+-- from the list up to each part to the whole list: only tests after it join
+whole_from_vertices : (f : FunctionData) (t : Test) → Stands f (to_vertices f) t → Stands f (tests_of f) t
+whole_from_vertices f t stands = in_front f (to_vertices f) (other_faces f) t stands
+
+whole_from_mirrors_between : (f : FunctionData) (t : Test) → Stands f (to_mirrors_between f) t → Stands f (tests_of f) t
+whole_from_mirrors_between f t stands =
+    whole_from_vertices f t (in_front f (to_mirrors_between f) (vertices f) t stands)
+
+whole_from_mirrors_at : (f : FunctionData) (t : Test) → Stands f (to_mirrors_at f) t → Stands f (tests_of f) t
+whole_from_mirrors_at f t stands =
+    whole_from_mirrors_between f t (in_front f (to_mirrors_at f) (mirrors_between f) t stands)
+
+whole_from_signs_between : (f : FunctionData) (t : Test) → Stands f (to_signs_between f) t → Stands f (tests_of f) t
+whole_from_signs_between f t stands =
+    whole_from_mirrors_at f t (in_front f (to_signs_between f) (mirrors_at f) t stands)
+
+whole_from_signs_at : (f : FunctionData) (t : Test) → Stands f (to_signs_at f) t → Stands f (tests_of f) t
+whole_from_signs_at f t stands = whole_from_signs_between f t (in_front f (to_signs_at f) (signs_between f) t stands)
+
+-- a test of an open interval, where the values and the intervals before it pass
+of_interval : (f : FunctionData) (i : ℕ) (t : Test) → i < f.order → PassesValues f →
+    ((j : ℕ) → j < i → Passes f (nonnegative_after j) × Passes f (nonnegative_before j)) →
+    Stands f (interval_signs i) t → Stands f (tests_of f) t
+of_interval f i t below values h stands =
+    let earlier = λ (j : ℕ) (j_below : j < i). interval_passes f j (h j j_below).0 (h j j_below).1 in
+    whole_from_signs_between f t
+    (behind f (to_signs_at f) (signs_between f) t (values_pass f values)
+    (placed_joined (Passes f) interval_signs i f.order t below earlier stands))
+
+-- the limit at a vertex, where those before it pass
+of_vertex : (f : FunctionData) (a b c : ℕ) → a < f.order → b < f.order → c < 1 → PassesSymmetry f →
+    HoldsBefore f (λ i j. Passes f (subadditive_at Vertex i j 0)) a b →
+    Stands f (tests_of f) (subadditive_at Vertex a b c)
+of_vertex f a b c a_below b_below c_below symmetry h =
+    let t = subadditive_at Vertex a b c in
+    let alone = in_face f Vertex a b c c_below (λ k k_below. absurd (omega arith)) in
+    whole_from_vertices f t
+    (behind f (to_mirrors_between f) (vertices f) t (symmetry_passes f symmetry)
+    (in_squares f (λ i j. Passes f (subadditive_at Vertex i j 0)) (tests_of_face Vertex) a b t a_below b_below
+    (vertex_passes f) h alone))
+
+-- a limit at a corner of another face, where those before it pass
+of_face : (f : FunctionData) (kind : FaceKind) (a b c : ℕ) → IsNoVertex kind → a < f.order → b < f.order →
+    c < length (corners_of kind a b) → PassesFacesBefore f kind a b c →
+    Stands f (tests_of f) (subadditive_at kind a b c)
+of_face f kind a b c other a_below b_below c_below h =
+    let t = subadditive_at kind a b c in
+    behind f (to_vertices f) (other_faces f) t (vertices_pass f h.vertices)
+    (in_squares f (PassesSquare f) square a b t a_below b_below (square_passes f) h.squares
+    (in_square f kind a b t other h.kinds (in_face f kind a b c c_below h.corners)))
+
+-- each test of the function stands in the list, behind the tests that come before it
+stands : (f : FunctionData) (t : Test) → IsTestOf f t → PassesBefore f t → Stands f (tests_of f) t
+stands f zero_at_zero is before =
+    whole_from_signs_at f zero_at_zero record {
+      before = [];
+      after = signs_at f;
+      place = refl;
+      passed = All-nil (Passes f);
+    }
+stands f (nonnegative_at i) is before =
+    whole_from_signs_at f (nonnegative_at i)
+    (behind f (zero_at_zero ∷ []) (signs_at f) (nonnegative_at i) (zero_passes f before.0)
+    (placed_made (Passes f) nonnegative_at i f.order is before.1))
+stands f (nonnegative_after i) is before =
+    of_interval f i (nonnegative_after i) is before.0 before.1 record {
+      before = [];
+      after = nonnegative_before i ∷ [];
+      place = refl;
+      passed = All-nil (Passes f);
+    }
+stands f (nonnegative_before i) is before =
+    of_interval f i (nonnegative_before i) is before.0 before.1 record {
+      before = nonnegative_after i ∷ [];
+      after = [];
+      place = refl;
+      passed = All-cons (Passes f) (nonnegative_after i) [] before.2 (All-nil (Passes f));
+    }
+stands f (symmetric_at i) is before =
+    whole_from_mirrors_at f (symmetric_at i)
+    (behind f (to_signs_between f) (mirrors_at f) (symmetric_at i) (signs_pass f before.0)
+    (placed_made (Passes f) symmetric_at i f.order is before.1))
+stands f (symmetric_between i) is before =
+    whole_from_mirrors_between f (symmetric_between i)
+    (behind f (to_mirrors_at f) (mirrors_between f) (symmetric_between i) (mirrors_pass f before.0)
+    (placed_made (Passes f) symmetric_between i f.order is before.1))
+stands f (subadditive_at Vertex a b c) is before = of_vertex f a b c is.0 is.1 is.2 before.0 before.1
+stands f (subadditive_at Horizontal a b c) is before = of_face f Horizontal a b c tt is.0 is.1 is.2 before
+stands f (subadditive_at Vertical a b c) is before = of_face f Vertical a b c tt is.0 is.1 is.2 before
+stands f (subadditive_at Diagonal a b c) is before = of_face f Diagonal a b c tt is.0 is.1 is.2 before
+stands f (subadditive_at Lower a b c) is before = of_face f Lower a b c tt is.0 is.1 is.2 before
+stands f (subadditive_at Upper a b c) is before = of_face f Upper a b c tt is.0 is.1 is.2 before
+
+-- ---- the three theorems
+
+-- all tests pass where those of all parts do
+pub tests_pass : (f : FunctionData) → PassesVertices f →
+    ((a b : ℕ) → a < f.order → b < f.order → PassesSquare f a b) → PassesAll f
+tests_pass f vertices_part squares =
+    All-append (Passes f) (to_vertices f) (other_faces f) (vertices_pass f vertices_part)
+    (over_squares_pass f f.order square (λ a b a_below b_below. square_passes f a b (squares a b a_below b_below)))
+
+-- where all tests before a test pass and it fails, what it shows is the first violation
+pub first_failed : (f : FunctionData) (t : Test) (v : Violation) → IsTestOf f t → PassesBefore f t → (Passes f t → ⊥) →
+    Shows f t v → IsFirstViolation f v
+first_failed f t v is before fails shows =
+    let p = stands f t is before in
     record {
-      before = all_early ++ vertex_tests_before f a b;
+      before = p.before;
       test = t;
-      after = vertex_tests_after f a b ++ other_tests f;
-      place = p2;
-      passed = All-append (Passes f) all_early (vertex_tests_before f a b)
-          (All-append (Passes f) early (symmetry_tests_between f) (symmetry_pass f f.order l c at_zero signs symmetry) (symmetry_between f l c symmetry))
-          (vertices_pass f a b passed);
-      fails = λ h. omega (arith, ints);
-      shows = shows_at_vertex f a b x y is_x is_y fails;
+      after = p.after;
+      place = p.place;
+      passed = p.passed;
+      fails = fails;
+      shows = shows;
     }
 
 -- where there is a first violation not all tests pass
-pub first_violation_fails : (f : FunctionData) (v : Violation) → IsFirstViolation f v → PassesAll f → ⊥
-first_violation_fails f v h all =
+pub first_denies : (f : FunctionData) (v : Violation) → IsFirstViolation f v → PassesAll f → ⊥
+first_denies f v h all =
     let split = subst (All (Passes f)) h.place all in
     h.fails (All-head (Passes f) h.test h.after (All-back (Passes f) h.before (h.test ∷ h.after) split))

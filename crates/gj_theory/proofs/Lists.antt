@@ -27,21 +27,24 @@ All_joined_seven P a b c d e f g pa pb pc pd pe pf pg =
 -- ---- each element of a list made by a range
 
 -- what holds at each index below a + n, holds of each element made from the indices from a on
-pub All-made : {X : Type 0} (P : X → Type 0) (g : ℕ → X) (a n : ℕ) → ((i : ℕ) → i < a + n → P (g i)) → All P (map g (range_with_len a n))
+pub All-made : {X : Type 0} (P : X → Type 0) (g : ℕ → X) (a n : ℕ) → ((i : ℕ) → i < a + n → P (g i)) →
+    All P (map g (range_with_len a n))
 All-made P g a zero h = All-nil P
 All-made P g a (suc n) h =
     All-cons P (g a) (map g (range_with_len (a + 1) n)) (h a (omega arith))
     (All-made P g (a + 1) n (λ i below. h i (omega arith)))
 
 -- the same where each index makes a list
-pub All-joined : {X : Type 0} (P : X → Type 0) (g : ℕ → List X) (a n : ℕ) → ((i : ℕ) → i < a + n → All P (g i)) → All P (flat_map g (range_with_len a n))
+pub All-joined : {X : Type 0} (P : X → Type 0) (g : ℕ → List X) (a n : ℕ) → ((i : ℕ) → i < a + n → All P (g i)) →
+    All P (flat_map g (range_with_len a n))
 All-joined P g a zero h = All-nil P
 All-joined P g a (suc n) h =
     All-append P (g a) (flat_map g (range_with_len (a + 1) n)) (h a (omega arith))
     (All-joined P g (a + 1) n (λ i below. h i (omega arith)))
 
 -- the same for each element of any list
-pub flat_map_pass : {X Y : Type 0} (P : X → Type 0) (g : Y → List X) (ys : List Y) → ((y : Y) → All P (g y)) → All P (flat_map g ys)
+pub flat_map_pass : {X Y : Type 0} (P : X → Type 0) (g : Y → List X) (ys : List Y) → ((y : Y) → All P (g y)) →
+    All P (flat_map g ys)
 flat_map_pass P g [] h = All-nil P
 flat_map_pass P g (y ∷ ys) h = All-append P (g y) (flat_map g ys) (h y) (flat_map_pass P g ys h)
 
@@ -62,38 +65,96 @@ range_split a (suc m) n =
 pub range_at : (i n : ℕ) → i < n → range_with_len 0 n ≡ range_with_len 0 i ++ i ∷ range_with_len (i + 1) (n - suc i)
 range_at i n h =
     let len : n ≡ i + suc (n - suc i) = omega arith in
-    ap (range_with_len 0) len ∙ range_split 0 i (suc (n - suc i)) ∙ ap (λ k. range_with_len 0 i ++ range_with_len k (suc (n - suc i))) (zero-add i)
+    ap (range_with_len 0) len ∙ range_split 0 i (suc (n - suc i))
+    ∙ ap (λ k. range_with_len 0 i ++ range_with_len k (suc (n - suc i))) (zero-add i)
 
 -- the list made by a range, split at an index
-pub made_at : {X : Type 0} (g : ℕ → X) (i n : ℕ) → i < n → map g (range_with_len 0 n) ≡ map g (range_with_len 0 i) ++ g i ∷ map g (range_with_len (i + 1) (n - suc i))
-made_at g i n h = ap (map g) (range_at i n h) ∙ map-append g (range_with_len 0 i) (i ∷ range_with_len (i + 1) (n - suc i))
+pub made_at : {X : Type 0} (g : ℕ → X) (i n : ℕ) → i < n →
+    map g (range_with_len 0 n) ≡ map g (range_with_len 0 i) ++ g i ∷ map g (range_with_len (i + 1) (n - suc i))
+made_at g i n h =
+    ap (map g) (range_at i n h) ∙ map-append g (range_with_len 0 i) (i ∷ range_with_len (i + 1) (n - suc i))
 
 -- the same where each index makes a list
-pub joined_at : {X : Type 0} (g : ℕ → List X) (i n : ℕ) → i < n → flat_map g (range_with_len 0 n) ≡ flat_map g (range_with_len 0 i) ++ (g i ++ flat_map g (range_with_len (i + 1) (n - suc i)))
-joined_at g i n h = ap (flat_map g) (range_at i n h) ∙ flat_map-append g (range_with_len 0 i) (i ∷ range_with_len (i + 1) (n - suc i))
+pub joined_at : {X : Type 0} (g : ℕ → List X) (i n : ℕ) → i < n →
+    flat_map g (range_with_len 0 n)
+    ≡ flat_map g (range_with_len 0 i) ++ (g i ++ flat_map g (range_with_len (i + 1) (n - suc i)))
+joined_at g i n h =
+    ap (flat_map g) (range_at i n h) ∙ flat_map-append g (range_with_len 0 i) (i ∷ range_with_len (i + 1) (n - suc i))
 
 -- ---- where an element stands among joined lists
 
 -- more before it
-pub placed_after : {X : Type 0} (ys xs before after : List X) (t : X) → xs ≡ before ++ t ∷ after → ys ++ xs ≡ (ys ++ before) ++ t ∷ after
+pub placed_after : {X : Type 0} (ys xs before after : List X) (t : X) → xs ≡ before ++ t ∷ after →
+    ys ++ xs ≡ (ys ++ before) ++ t ∷ after
 placed_after ys xs before after t e = ap (λ l. ys ++ l) e ∙ sym (append_assoc ys before (t ∷ after))
 
 -- more after it
-pub placed_before : {X : Type 0} (ys xs before after : List X) (t : X) → xs ≡ before ++ t ∷ after → xs ++ ys ≡ before ++ t ∷ (after ++ ys)
+pub placed_before : {X : Type 0} (ys xs before after : List X) (t : X) → xs ≡ before ++ t ∷ after →
+    xs ++ ys ≡ before ++ t ∷ (after ++ ys)
 placed_before ys xs before after t e = ap (λ l. l ++ ys) e ∙ append_assoc before (t ∷ after) ys
 
 -- ---- from all elements back to each
 
 -- an element made at an index below n has what all have
-pub made_has : {X : Type 0} (P : X → Type 0) (g : ℕ → X) (i n : ℕ) → i < n → All P (map g (range_with_len 0 n)) → P (g i)
+pub made_has : {X : Type 0} (P : X → Type 0) (g : ℕ → X) (i n : ℕ) → i < n →
+    All P (map g (range_with_len 0 n)) → P (g i)
 made_has P g i n h all =
     let rest = map g (range_with_len (i + 1) (n - suc i)) in
     let split = subst (All P) (made_at g i n h) all in
     All-head P (g i) rest (All-back P (map g (range_with_len 0 i)) (g i ∷ rest) split)
 
 -- all elements of the list made at an index below n have what all have
-pub joined_has : {X : Type 0} (P : X → Type 0) (g : ℕ → List X) (i n : ℕ) → i < n → All P (flat_map g (range_with_len 0 n)) → All P (g i)
+pub joined_has : {X : Type 0} (P : X → Type 0) (g : ℕ → List X) (i n : ℕ) → i < n →
+    All P (flat_map g (range_with_len 0 n)) → All P (g i)
 joined_has P g i n h all =
     let rest = flat_map g (range_with_len (i + 1) (n - suc i)) in
     let split = subst (All P) (joined_at g i n h) all in
     All-front P (g i) rest (All-back P (flat_map g (range_with_len 0 i)) (g i ++ rest) split)
+
+-- ---- where an element stands behind elements that have a property
+
+-- the element stands in the list, and all elements before it have the property
+pub record IsPlaced {X : Type 0} (P : X → Type 0) (xs : List X) (t : X) : Type 0 where
+  pub before : List X
+  pub after : List X
+  pub place : xs ≡ before ++ t ∷ after
+  pub passed : All P before
+
+-- more elements after it
+pub placed_in_front : {X : Type 0} (P : X → Type 0) (xs ys : List X) (t : X) → IsPlaced P xs t → IsPlaced P (xs ++ ys) t
+placed_in_front P xs ys t h = record {
+  before = h.before;
+  after = h.after ++ ys;
+  place = placed_before ys xs h.before h.after t h.place;
+  passed = h.passed;
+}
+
+-- more elements before it, which have the property
+pub placed_in_back : {X : Type 0} (P : X → Type 0) (xs ys : List X) (t : X) → All P xs → IsPlaced P ys t →
+    IsPlaced P (xs ++ ys) t
+placed_in_back P xs ys t all h = record {
+  before = xs ++ h.before;
+  after = h.after;
+  place = placed_after xs ys h.before h.after t h.place;
+  passed = All-append P xs h.before all h.passed;
+}
+
+-- the element made at an index, where those made before it have the property
+pub placed_made : {X : Type 0} (P : X → Type 0) (g : ℕ → X) (i n : ℕ) → i < n → ((j : ℕ) → j < i → P (g j)) →
+    IsPlaced P (map g (range_with_len 0 n)) (g i)
+placed_made P g i n below h = record {
+  before = map g (range_with_len 0 i);
+  after = map g (range_with_len (i + 1) (n - suc i));
+  place = made_at g i n below;
+  passed = All-made P g 0 i (λ j j_below. h j (omega arith));
+}
+
+-- an element of the list made at an index, where all elements of the lists made before have the property
+pub placed_joined : {X : Type 0} (P : X → Type 0) (g : ℕ → List X) (i n : ℕ) (t : X) → i < n →
+    ((j : ℕ) → j < i → All P (g j)) → IsPlaced P (g i) t → IsPlaced P (flat_map g (range_with_len 0 n)) t
+placed_joined P g i n t below h placed =
+    let earlier = flat_map g (range_with_len 0 i) in
+    let later = flat_map g (range_with_len (i + 1) (n - suc i)) in
+    let all = All-joined P g 0 i (λ j j_below. h j (omega arith)) in
+    let whole = placed_in_back P earlier (g i ++ later) t all (placed_in_front P (g i) later t placed) in
+    subst (λ l. IsPlaced P l t) (sym (joined_at g i n below)) whole

@@ -1,5 +1,5 @@
 -- The tests of minimality that come before a test pass (own).
-use Rattle.std.specs.Prelude.{ℕ, ◌≡◌, ◌≢◌, ◌<◌, All, length}
+use Rattle.std.specs.Prelude.{ℕ, ◌<◌, All, length}
 use Rattle.gj_shape.specs.FunctionData.{FunctionData}
 use Rattle.gj_shape.specs.Faces.{corners_of}
 use Rattle.gj_shape.specs.FirstViolation.{Test, Passes, tests_of_face}
