@@ -10,7 +10,7 @@ use Rattle.gj_check.specs.FirstFailure.{IsFirstFailure}
 use Rattle.gj_top.specs.declared.command.Command.TheVariants.{Minimal, Check}
 use Rattle.gj_top.specs.declared.status.Status.{Status}
 use Rattle.gj_top.specs.declared.status.Status.TheVariants.{Done, Rejected, Words, Input, ReadFault, WriteFault, Memory, Wide, NotContinuous, NoFunction}
-use Rattle.gj_top.specs.FirstForm.{IsFirstForm}
+use Rattle.gj_ftext.specs.FunctionText.{IsWholeFunctionText}
 use Rattle.gj_top.specs.Verdict.{IsVerdict}
 use Rattle.gj_top.specs.Answer.{IsProofOf, IsReply}
 
@@ -20,15 +20,15 @@ record IsGoodProof (text : List ℕ) : Type 0 where
   proof : IsProofOf about text
   rules : MeetsRules about
 
-good_proof : (f : FunctionData) (input text : List ℕ) → IsFirstForm input f → IsVerdict f text → IsGoodProof text
+good_proof : (f : FunctionData) (input text : List ℕ) → IsWholeFunctionText input f → IsVerdict f text → IsGoodProof text
 good_proof f input text form (inl v) = record {
   about = claim.Minimal f;
-  proof = record { kept = (form.within, form.continuous); spelled = v.2 };
+  proof = record { kept = (form.function_text.within, tt); spelled = v.2 };
   rules = v.1;
 }
 good_proof f input text form (inr v) = record {
   about = claim.NotMinimal f v.0;
-  proof = record { kept = (form.within, form.continuous); spelled = v.4 };
+  proof = record { kept = (form.function_text.within, tt); spelled = v.4 };
   rules = v.3;
 }
 

@@ -1,4 +1,4 @@
 pub mod Accepted
-pub mod FormLines
+pub mod Forms
 pub mod GridCoordinates
 pub mod Outcomes

@@ -5,41 +5,48 @@ use Rattle.std.specs.declared.alloc.Global.{Global}
 use Rattle.gj_port.specs.Whole.{TakesAll}
 use Rattle.gj_port.specs.declared.fault.ReadError.TheVariants as read
 use Rattle.gj_lex.specs.declared.reason.Reason.{Reason}
-use Rattle.gj_proof.specs.FunctionLines.{line}
-use Rattle.gj_proof.specs.FirstFault.{IsFirstFault}
-use Rattle.gj_proof.specs.declared.claim.Claim.{Claim}
+use Rattle.gj_lines.specs.FunctionLines.{line}
 use Rattle.gj_top.specs.declared.command.Command.{Command}
-use Rattle.gj_top.specs.declared.command.Command.TheVariants.{Minimal, Check}
+use Rattle.gj_top.specs.declared.command.Command.TheVariants.{Minimal, Show, Check}
 use Rattle.gj_top.specs.declared.status.Status.{Status}
 use Rattle.gj_top.specs.declared.status.Status.TheVariants.{Done, Rejected, Words, Input, ReadFault, WriteFault, Memory, Wide, NotContinuous, NoFunction}
 use Rattle.gj_top.specs.Command.{IsNamed, NameNone}
-use Rattle.gj_top.specs.Answer.{IsAnswer, IsReply, IsRefusedInput, IsRejectedInput, IsOutsideForm, IsInForm, IsProofOf, IsEndOf, input_limit}
+use Rattle.gj_top.specs.Answer.{IsAnswer, IsReply, IsRefusedInput, IsRejectedInput, IsOutsideForm, IsInForm, IsFault, IsEndOf, input_limit}
 use Rattle.gj_top.specs.Told.{IsTold}
 use Rattle.gj_top.specs.Outcome.{IsOutcome, IsLeft, IsTrueAnswer}
 
 -- words name at most one command
 pub one_command : (words : List (String Global)) (c d : Command) → IsNamed words c → IsNamed words d → c ≡ d
 one_command words Minimal Minimal m n = refl
+one_command words Show Show m n = refl
 one_command words Check Check m n = refl
+one_command words Minimal Show m n = absurd (let e : codes "minimal" ∷ [] ≡ codes "show" ∷ [] = sym m ∙ n in cc)
 one_command words Minimal Check m n = absurd (let e : codes "minimal" ∷ [] ≡ codes "check" ∷ [] = sym m ∙ n in cc)
+one_command words Show Minimal m n = absurd (let e : codes "show" ∷ [] ≡ codes "minimal" ∷ [] = sym m ∙ n in cc)
+one_command words Show Check m n = absurd (let e : codes "show" ∷ [] ≡ codes "check" ∷ [] = sym m ∙ n in cc)
 one_command words Check Minimal m n = absurd (let e : codes "check" ∷ [] ≡ codes "minimal" ∷ [] = sym m ∙ n in cc)
+one_command words Check Show m n = absurd (let e : codes "check" ∷ [] ≡ codes "show" ∷ [] = sym m ∙ n in cc)
 
 -- ---- no reply is a fault, a refusal of words or want of memory
 
 pub no_reply_words : (c : Command) (input text : List ℕ) → IsReply c input Words text → ⊥
 no_reply_words Minimal input text r = r
+no_reply_words Show input text r = r
 no_reply_words Check input text r = r
 
 pub no_reply_fault : (c : Command) (input text : List ℕ) → IsReply c input ReadFault text → ⊥
 no_reply_fault Minimal input text r = r
+no_reply_fault Show input text r = r
 no_reply_fault Check input text r = r
 
 pub no_reply_memory : (c : Command) (input text : List ℕ) → IsReply c input Memory text → ⊥
 no_reply_memory Minimal input text r = r
+no_reply_memory Show input text r = r
 no_reply_memory Check input text r = r
 
 no_reply_write_fault : (c : Command) (input text : List ℕ) → IsReply c input WriteFault text → ⊥
 no_reply_write_fault Minimal input text r = r
+no_reply_write_fault Show input text r = r
 no_reply_write_fault Check input text r = r
 
 pub reply_is_no_fault : (c : Command) (input text : List ℕ) (s : Status) → IsReply c input s text → s ≢ WriteFault
@@ -159,6 +166,7 @@ left_of_long (Some input) after r o t = elim o [
 true_reply : (words : List (String Global)) (c : Command) (input before text : List ℕ) (written : Option (List ℕ)) → IsReply c input Done text → written ≡ Some (before ++ text) → IsTrueAnswer c input before written
 true_reply words Minimal input before text written a e =
     (a.0, text, a.1, e, elim a.2 [ inl m ↦ inl (m.2, m.0) | inr v ↦ inr (v.0, v.4, v.2) ])
+true_reply words Show input before text written a e = (a.0, text, a.1, a.2, e)
 true_reply words Check input before text written a e =
     (a.0, a.1, a.2.holds, subst (λ (x : List ℕ). written ≡ Some (before ++ x)) a.2.spelled e)
 
@@ -172,7 +180,8 @@ headline_of_reply words c (Some input) after (Some before) written' bytes sure s
 
 -- a reply that refuses the input
 outside_form : (c : Command) (input text : List ℕ) → IsReply c input Input text → IsOutsideForm c input
-outside_form Minimal input text a = a.0
+outside_form Minimal input text a = (a.at_line, a.reason, a.first)
+outside_form Show input text a = (a.at_line, a.reason, a.first)
 outside_form Check input text a = (a.at_line, a.reason, a.first)
 
 pub refused_by_reply : (words : List (String Global)) (c : Command) (left after : Option (List ℕ)) (bytes : Vec ℕ Global) (s r : Status) (text : List ℕ) → IsNamed words c → IfSome left (λ l. TakesAll input_limit l after (Ok bytes)) → IsReply c bytes.items s text → (r ≡ s) ⊎ (r ≡ WriteFault) → IfSome left (λ input. r ≡ Input → IsRefusedInput words input)
@@ -189,6 +198,7 @@ refused_as_long words c (Some input) after r m t = λ e. (c, m, inl (let h = t.0
 -- a reply that rejects the proof
 rejected_at : (words : List (String Global)) (c : Command) (input text : List ℕ) → IsNamed words c → IsReply c input Rejected text → IsRejectedInput words input
 rejected_at words Minimal input text m a = absurd a
+rejected_at words Show input text m a = absurd a
 rejected_at words Check input text m a = (m, a.0, a.1, a.2.at_line, a.2.rule, a.2.first)
 
 pub rejected_by_reply : (words : List (String Global)) (c : Command) (left after : Option (List ℕ)) (bytes : Vec ℕ Global) (s r : Status) (text : List ℕ) → IsNamed words c → IfSome left (λ l. TakesAll input_limit l after (Ok bytes)) → IsReply c bytes.items s text → (r ≡ s) ⊎ (r ≡ WriteFault) → IfSome left (λ input. r ≡ Rejected → IsRejectedInput words input)
@@ -198,27 +208,16 @@ rejected_by_reply words c (Some input) after bytes s r text m t a o = λ e.
     let reply : IsReply c bytes.items Rejected text = subst (λ (x : Status). IsReply c bytes.items x text) is a in
     subst (λ (i : List ℕ). IsRejectedInput words i) t.0 (rejected_at words c bytes.items text m reply)
 
--- ---- the words
-
--- what is found names the words
-pub named_of : (words : List (String Global)) (c : Command) → ((Some c ≡ Some Minimal) ↔ IsNamed words Minimal) → ((Some c ≡ Some Check) ↔ IsNamed words Check) → IsNamed words c
-named_of words Minimal m k = m.0 refl
-named_of words Check m k = k.0 refl
-
--- where nothing is found the words name no command
-pub none_named : (words : List (String Global)) (o : Option Command) → o ≡ None → ((o ≡ Some Minimal) ↔ IsNamed words Minimal) → ((o ≡ Some Check) ↔ IsNamed words Check) → NameNone words
-none_named words o e m k Minimal n = absurd (let h = m.1 n in cc)
-none_named words o e m k Check n = absurd (let h = k.1 n in cc)
-
 -- ---- completeness
 
+-- no line of an input in the form of the command is at fault
+abbrev pub NoFaultInForm : List ℕ → Type 0
+NoFaultInForm input = (c : Command) (n : ℕ) (reason : Reason) → IsInForm c input → IsFault c input n reason → ⊥
+
 -- a reply to an input in the form of the command ends as it may
-end_in_form : (c : Command) (input text : List ℕ) (s : Status) → ((p : Claim) (n : ℕ) (reason : Reason) → IsProofOf p input → IsFirstFault input n reason → ⊥) → IsInForm c input → IsReply c input s text → IsEndOf c s
+end_in_form : (c : Command) (input text : List ℕ) (s : Status) → NoFaultInForm input → IsInForm c input → IsReply c input s text → IsEndOf c s
 end_in_form Minimal input text Done n f a = inl refl
-end_in_form Minimal input text Input n f a = absurd (a.0 f.0 f.1)
-end_in_form Check input text Done n f a = inl refl
-end_in_form Check input text Rejected n f a = inr (inl refl)
-end_in_form Check input text Input n f a = absurd (n f.0 a.at_line a.reason f.1 a.first)
+end_in_form Minimal input text Input n f a = absurd (n Minimal a.at_line a.reason f a.first)
 end_in_form Minimal input text Rejected n f a = absurd a
 end_in_form Minimal input text Words n f a = absurd a
 end_in_form Minimal input text ReadFault n f a = absurd a
@@ -227,6 +226,19 @@ end_in_form Minimal input text Memory n f a = absurd a
 end_in_form Minimal input text Wide n f a = absurd a
 end_in_form Minimal input text NotContinuous n f a = absurd a
 end_in_form Minimal input text NoFunction n f a = absurd a
+end_in_form Show input text Done n f a = inl refl
+end_in_form Show input text Input n f a = absurd (n Show a.at_line a.reason f a.first)
+end_in_form Show input text Rejected n f a = absurd a
+end_in_form Show input text Words n f a = absurd a
+end_in_form Show input text ReadFault n f a = absurd a
+end_in_form Show input text WriteFault n f a = absurd a
+end_in_form Show input text Memory n f a = absurd a
+end_in_form Show input text Wide n f a = absurd a
+end_in_form Show input text NotContinuous n f a = absurd a
+end_in_form Show input text NoFunction n f a = absurd a
+end_in_form Check input text Done n f a = inl refl
+end_in_form Check input text Input n f a = absurd (n Check a.at_line a.reason f a.first)
+end_in_form Check input text Rejected n f a = inr (inl refl)
 end_in_form Check input text Words n f a = absurd a
 end_in_form Check input text ReadFault n f a = absurd a
 end_in_form Check input text WriteFault n f a = absurd a
@@ -235,7 +247,7 @@ end_in_form Check input text Wide n f a = absurd a
 end_in_form Check input text NotContinuous n f a = absurd a
 end_in_form Check input text NoFunction n f a = absurd a
 
-pub complete_by_reply : (words : List (String Global)) (c : Command) (left after : Option (List ℕ)) (bytes : Vec ℕ Global) (s r : Status) (text : List ℕ) (X Fault : Type 0) → IsNamed words c → IfSome left (λ l. TakesAll input_limit l after (Ok bytes)) → IsReply c bytes.items s text → (r ≡ s) ⊎ (r ≡ WriteFault) → (r ≡ WriteFault → Fault) → ((p : Claim) (n : ℕ) (reason : Reason) → IsProofOf p bytes.items → IsFirstFault bytes.items n reason → ⊥) → IfSome left (λ input. (d : Command) → IsNamed words d → IsInForm d input → length input ≤ input_limit → (X → ⊥) → (Fault → ⊥) → IsEndOf d r)
+pub complete_by_reply : (words : List (String Global)) (c : Command) (left after : Option (List ℕ)) (bytes : Vec ℕ Global) (s r : Status) (text : List ℕ) (X Fault : Type 0) → IsNamed words c → IfSome left (λ l. TakesAll input_limit l after (Ok bytes)) → IsReply c bytes.items s text → (r ≡ s) ⊎ (r ≡ WriteFault) → (r ≡ WriteFault → Fault) → NoFaultInForm bytes.items → IfSome left (λ input. (d : Command) → IsNamed words d → IsInForm d input → length input ≤ input_limit → (X → ⊥) → (Fault → ⊥) → IsEndOf d r)
 complete_by_reply words c None after bytes s r text X Fault m t a o w n = tt
 complete_by_reply words c (Some input) after bytes s r text X Fault m t a o w n = λ d k f l x y.
     let same : c ≡ d = one_command words c d m k in

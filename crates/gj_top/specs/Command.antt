@@ -2,11 +2,12 @@
 use Rattle.std.specs.Prelude.{ℕ, ◌≡◌, List, [], ◌∷◌, map, codes, String, string_bytes}
 use Rattle.std.specs.declared.alloc.Global.{Global}
 use Rattle.gj_top.specs.declared.command.Command.{Command}
-use Rattle.gj_top.specs.declared.command.Command.TheVariants.{Minimal, Check}
+use Rattle.gj_top.specs.declared.command.Command.TheVariants.{Minimal, Show, Check}
 
 -- the word of a command
 abbrev pub command_word : Command → List ℕ
 command_word Minimal = codes "minimal"
+command_word Show = codes "show"
 command_word Check = codes "check"
 
 -- the words are the one word of the command

@@ -1,6 +1,4 @@
 pub mod Command
-pub mod FirstForm
-pub mod FormErrors
 pub mod Verdict
 pub mod Answer
 pub mod Code

@@ -2,10 +2,11 @@
 use Rattle.std.specs.Prelude.{ℕ, ◌≡◌, ◌⊎◌, ◌+◌, ◌<◌, ◌≤◌, List, [], ◌++◌, length, take, drop, codes, String, Option, Some}
 use Rattle.std.specs.declared.alloc.Global.{Global}
 use Rattle.gj_shape.specs.FunctionData.{FunctionData}
-use Rattle.gj_shape.specs.Table.{IsMinimalOnGrid}
+use Rattle.gj_shape.specs.Table.{IsMinimal}
 use Rattle.gj_shape.specs.Violation.{ShowsViolation}
 use Rattle.gj_shape.specs.declared.violations.Violation.{Violation}
-use Rattle.gj_proof.specs.FunctionLines.{line}
+use Rattle.gj_lines.specs.FunctionLines.{line}
+use Rattle.gj_ftext.specs.FunctionText.{IsWholeFunctionText, IsCanonicalText}
 use Rattle.gj_proof.specs.ProofText.{claim_word}
 use Rattle.gj_proof.specs.Meaning.{ClaimHolds}
 use Rattle.gj_proof.specs.declared.claim.Claim.{Claim}
@@ -14,7 +15,6 @@ use Rattle.gj_top.specs.declared.command.Command.TheVariants as command
 use Rattle.gj_top.specs.declared.status.Status.{Status}
 use Rattle.gj_top.specs.declared.status.Status.TheVariants as status
 use Rattle.gj_top.specs.Command.{IsNamed}
-use Rattle.gj_top.specs.FirstForm.{IsFirstForm}
 use Rattle.gj_top.specs.Verdict.{IsMinimalText, IsNotMinimalText}
 use Rattle.gj_top.specs.Answer.{IsAnswer, IsProofOf, input_limit}
 
@@ -50,13 +50,18 @@ IsLeft input left status.Words = left ≡ Some input
 IsLeft input left status.Input = left ≡ Some (drop (input_limit + 1) input)
 IsLeft input left s = IsReadInPart input left
 
--- the headline of `minimal`: a function read from the input is called minimal only where its table is minimal, and
--- is called not minimal only with a violation that shows it; nothing else is written
+-- the headline of `minimal`: a function read from the input is called minimal only where its table on every grid of order
+-- a multiple of its own is minimal, and is called not minimal only with a violation that shows it; nothing else is written
 abbrev pub IsTrueVerdict : List ℕ → List ℕ → Option (List ℕ) → Type 0
 IsTrueVerdict input before written =
-    (f : FunctionData) × (text : List ℕ) × IsFirstForm input f × (written ≡ Some (before ++ text))
-    × ((IsMinimalText f text × IsMinimalOnGrid f 1)
+    (f : FunctionData) × (text : List ℕ) × IsWholeFunctionText input f × (written ≡ Some (before ++ text))
+    × ((IsMinimalText f text × IsMinimal f)
     ⊎ ((v : Violation) × IsNotMinimalText f v text × ShowsViolation f v))
+
+-- the headline of `show`: the canonical text of the function that the input spells is written, and nothing else
+abbrev pub IsTrueShowing : List ℕ → List ℕ → Option (List ℕ) → Type 0
+IsTrueShowing input before written =
+    (f : FunctionData) × (text : List ℕ) × IsWholeFunctionText input f × IsCanonicalText text f × (written ≡ Some (before ++ text))
 
 -- the headline of `check`: the input is the proof text of a claim, what it claims holds, and it is called accepted
 abbrev pub IsTrueAcceptance : List ℕ → List ℕ → Option (List ℕ) → Type 0
@@ -66,4 +71,5 @@ IsTrueAcceptance input before written =
 -- the headline, command by command
 abbrev pub IsTrueAnswer : Command → List ℕ → List ℕ → Option (List ℕ) → Type 0
 IsTrueAnswer command.Minimal input before written = IsTrueVerdict input before written
+IsTrueAnswer command.Show input before written = IsTrueShowing input before written
 IsTrueAnswer command.Check input before written = IsTrueAcceptance input before written

@@ -1,7 +1,7 @@
 -- The proof text of a verdict on minimality (own).
 use Rattle.std.specs.Prelude.{ℕ, ◌≡◌, ◌⊎◌, List}
 use Rattle.gj_shape.specs.FunctionData.{FunctionData}
-use Rattle.gj_shape.specs.Table.{IsMinimalOnGrid}
+use Rattle.gj_shape.specs.Table.{IsMinimal}
 use Rattle.gj_shape.specs.Violation.{ShowsViolation}
 use Rattle.gj_shape.specs.FirstViolation.{IsFirstViolation}
 use Rattle.gj_shape.specs.declared.violations.Violation.{Violation}
@@ -18,15 +18,15 @@ IsMinimalText f text = IsProofText (Minimal f) text
 abbrev pub IsNotMinimalText : FunctionData → Violation → List ℕ → Type 0
 IsNotMinimalText f v text = IsProofText (NotMinimal f v) text
 
--- the text calls f minimal where its table is minimal, and otherwise gives the first violation; every rule of the
+-- the text calls f minimal where it is, its table on every grid, and otherwise gives the first violation; every rule of the
 -- checker holds of the claim
 abbrev pub IsVerdict : FunctionData → List ℕ → Type 0
 IsVerdict f text =
-    (IsMinimalOnGrid f 1 × MeetsRules (Minimal f) × IsMinimalText f text)
+    (IsMinimal f × MeetsRules (Minimal f) × IsMinimalText f text)
     ⊎ ((v : Violation) × IsFirstViolation f v × ShowsViolation f v × MeetsRules (NotMinimal f v) × IsNotMinimalText f v text)
 
--- the claim is that f is minimal, where its table is minimal, and otherwise that it is not, with the first violation;
+-- the claim is that f is minimal, where it is, its table on every grid, and otherwise that it is not, with the first violation;
 -- every rule of the checker holds of it
 abbrev pub IsTrueClaim : FunctionData → Claim → Type 0
-IsTrueClaim f (Minimal g) = (g ≡ f) × IsMinimalOnGrid f 1 × MeetsRules (Minimal f)
+IsTrueClaim f (Minimal g) = (g ≡ f) × IsMinimal f × MeetsRules (Minimal f)
 IsTrueClaim f (NotMinimal g v) = (g ≡ f) × IsFirstViolation f v × ShowsViolation f v × MeetsRules (NotMinimal f v)

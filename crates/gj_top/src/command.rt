@@ -1,21 +1,23 @@
 //! The words of the command line.
-ghost use Rattle.std.specs.Prelude.{◌≡◌, ◌↔◌, Some, codes};
-ghost use Rattle.gj_top.specs.Command.{IsNamed};
-ghost use Rattle.gj_top.specs.declared.command.Command.TheVariants.{Minimal, Check};
+ghost use Rattle.std.specs.Prelude.{◌≡◌, IfSome, IfNone};
+ghost use Rattle.gj_top.specs.Command.{command_word, IsNamed, NameNone};
+ghost use Rattle.gj_top.specs.declared.command.Command.{Command};
 
 /// A command of the program.
 #[derive(Clone, Copy, Debug, PartialEq, Eq)]
 pub enum Command {
     /// Decides whether a function is minimal.
     Minimal,
+    /// Prints a function in its canonical text.
+    Show,
     /// Judges a proof text.
     Check,
 }
 
-/// The command that the words name: the one word `minimal` or the one word `check`.
+/// The command that the words name: one word, which is `minimal`, `show` or `check`.
 pub(crate) fn command_of(words: &[String]) -> Option<Command>
-    ensures minimal { (result ≡ Some Minimal) ↔ IsNamed words.now Minimal }
-    ensures check { (result ≡ Some Check) ↔ IsNamed words.now Check }
+    ensures found { IfSome result (IsNamed words.now) }
+    ensures none { IfNone result (NameNone words.now) }
 {
     match words {
         [word] => command_named(word.as_str()),
@@ -25,11 +27,12 @@ pub(crate) fn command_of(words: &[String]) -> Option<Command>
 
 /// The command of this name.
 fn command_named(word: &str) -> Option<Command>
-    ensures minimal { (result ≡ Some Minimal) ↔ (word.now ≡ codes "minimal") }
-    ensures check { (result ≡ Some Check) ↔ (word.now ≡ codes "check") }
+    ensures found { IfSome result (λ c. word.now ≡ command_word c) }
+    ensures none { IfNone result ((c : Command) → word.now ≡ command_word c → ⊥) }
 {
     match word {
         "minimal" => Some(Command::Minimal),
+        "show" => Some(Command::Show),
         "check" => Some(Command::Check),
         _ => None,
     }

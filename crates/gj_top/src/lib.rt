@@ -13,7 +13,6 @@ use gj_port::{ReadError, Sink, Source, read_all, write_all};
 use std::alloc::Global;
 
 mod command;
-mod first_form;
 mod laws;
 mod reply;
 mod status;
@@ -21,7 +20,7 @@ mod status;
 mod tests;
 
 use command::command_of;
-pub use laws::written_proofs_are_accepted;
+pub use laws::{shown_text_is_read, written_proofs_are_accepted};
 use reply::reply_to;
 pub use status::Status;
 
@@ -30,9 +29,9 @@ const INPUT_LIMIT: usize = 16_777_216;
 
 /// Runs the command that the words name, over an input from the source, and writes the answer to the sink.
 ///
-/// `minimal` reads a continuous function in the first form and writes the proof text of the claim that it is
-/// minimal, or that it is not, with the first violation. `check` reads a proof text and says whether every rule of
-/// the checker holds. The whole input is read first, and the whole answer is made before its first byte is written.
+/// `minimal` reads a function text and writes the proof text of the claim that the function is minimal, or that it is
+/// not, with the first violation. `show` reads a function text and writes its canonical text. `check` reads a proof
+/// text and says whether every rule of the checker holds. The whole input is read first, and the whole answer is made before its first byte is written.
 pub fn run<S: Source, K: Sink>(
     alloc: Global,
     words: &[String],

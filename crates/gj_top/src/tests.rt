@@ -52,6 +52,22 @@ fn verdicts_are_written(rt: HostRuntime) -> Result<(), Fail> {
             "gj-function 1\norder 5\nf 3/5\npoint -1/3\npoint 1/3\npoint 2/3\npoint 1\npoint 1/2\nend\n",
             "gj-proof 1\nclaim not-minimal\norder 5\nf 3/5\npoint -1/3\npoint 1/3\npoint 2/3\npoint 1\npoint 1/2\nzero\nend\n",
         ),
+        (
+            "gj-function 1\norder 2\nf 1/2\npoint 1 0 1/2\npoint 1/2 1 0\nend\n",
+            "gj-proof 1\nclaim not-minimal\norder 2\nf 1/2\npoint 1 0 1/2\npoint 1/2 1 0\nsuperadditive 3/10 3/5\nend\n",
+        ),
+        (
+            "gj-function 1\norder 3\nf 1/3\npoint 1/4 0 0\npoint 1\npoint 1/4 1/2 1/2\nend\n",
+            "gj-proof 1\nclaim not-minimal\norder 3\nf 1/3\npoint 1/4 0 0\npoint 1\npoint 1/4 1/2 1/2\nasymmetric 5/12\nend\n",
+        ),
+        (
+            "gj-function 1\norder 2\nf 1/2\npoint 1 0 -1/2\npoint 1\nend\n",
+            "gj-proof 1\nclaim not-minimal\norder 2\nf 1/2\npoint 1 0 -1/2\npoint 1\nnegative 1/8\nend\n",
+        ),
+        (
+            "gj-function 1\norder 2\nf 1/2\npoint 1/2 0 1/2\npoint 1/2 1 1/2\nend\n",
+            "gj-proof 1\nclaim minimal\norder 2\nf 1/2\npoint 1/2 0 1/2\npoint 1/2 1 1/2\nend\n",
+        ),
     ] {
         let (status, sink) = ran(rt.alloc(), &["minimal"], input.as_bytes(), &[], &[])?;
         assert_eq!(rt; status, Status::Done, "on {input}");
@@ -92,8 +108,11 @@ fn proofs_are_judged(rt: HostRuntime) -> Result<(), Fail> {
     Ok(())
 }
 
-/// Functions of order 3 and 4, some of them minimal.
-const SMALL_FUNCTIONS: [&str; 6] = [
+/// Functions of order 2 to 4, some of them minimal, some with jumps.
+const SMALL_FUNCTIONS: [&str; 9] = [
+    "gj-function 1\norder 2\nf 1/2\npoint 1/2 0 1/2\npoint 1/2 1 1/2\nend\n",
+    "gj-function 1\norder 2\nf 1/2\npoint 1 0 1/2\npoint 1/2 1 0\nend\n",
+    "gj-function 1\norder 3\nf 1/3\npoint 1/4 0 0\npoint 1\npoint 1/4 1/2 1/2\nend\n",
     "gj-function 1\norder 3\nf 2/3\npoint 0\npoint 1/2\npoint 1\nend\n",
     "gj-function 1\norder 3\nf 1/3\npoint 0\npoint 1\npoint 1/2\nend\n",
     "gj-function 1\norder 3\nf 1/3\npoint 0\npoint 1\npoint 1/3\nend\n",
@@ -119,7 +138,40 @@ fn other_words_and_inputs_are_refused(rt: HostRuntime) -> Result<(), Fail> {
     assert_eq!(rt; sink.taken(), b"words refused\n".as_slice());
     let (status, sink) = ran(rt.alloc(), &["minimal"], b"", &[], &[])?;
     assert_eq!(rt; status, Status::Input);
-    assert_eq!(rt; sink.taken(), b"refused\n".as_slice());
+    assert_eq!(rt; sink.taken(), b"refused line 1 form\n".as_slice());
+    Ok(())
+}
+
+#[test]
+fn functions_are_shown(rt: HostRuntime) -> Result<(), Fail> {
+    for (input, status, output) in [
+        (
+            "# halves\n\ngj-function 1\norder 02\nf 0.5\r\n point\t-0 \npoint 2/4\nend\n\n# the end",
+            Status::Done,
+            "gj-function 1\norder 2\nf 1/2\npoint 0\npoint 1/2\nend\n",
+        ),
+        (
+            "gj-function 1\norder 2\nf 1/2\npoint 0\npoint 1/2147483647\nend\n",
+            Status::Done,
+            "gj-function 1\norder 2\nf 1/2\npoint 0\npoint 1/2147483647\nend\n",
+        ),
+        (
+            "gj-function 1\norder 2\nf 1/2\npoint 0\npoint 1/2147483648\nend\n",
+            Status::Input,
+            "refused line 5 fine\n",
+        ),
+        (
+            "gj-function 1\norder 2\nf 1/2\npoint 0\npoint 1048577\nend\n",
+            Status::Input,
+            "refused line 5 large\n",
+        ),
+        ("gj-function 1\norder 1001\n", Status::Input, "refused line 2 order\n"),
+        ("", Status::Input, "refused line 1 form\n"),
+    ] {
+        let (ended, sink) = ran(rt.alloc(), &["show"], input.as_bytes(), &[], &[])?;
+        assert_eq!(rt; ended, status, "on {input}");
+        assert_eq!(rt; sink.taken(), output.as_bytes(), "on {input}");
+    }
     Ok(())
 }
 

@@ -1,28 +1,28 @@
 use Rattle.std.proofs.Common.{subst, sym, codes, ℕ, List, IfSome}
-use Rattle.gj_proof.specs.FunctionLines.{line}
-use Rattle.gj_proof.proofs.OneText.{no_fault_at}
+use Rattle.gj_lines.specs.FunctionLines.{line}
 use Rattle.gj_top.specs.declared.status.Status.TheVariants.{Words, Input}
 use Rattle.gj_top.specs.Command.{IsNamed, NameNone}
 use Rattle.gj_top.specs.Answer.{IsAnswer, IsReply}
-use Rattle.gj_top.proofs.Outcomes.{named_of, none_named, outcome_of_answer, words_answer, long_answer, command_answer, left_at_end, left_of_long, headline_of_reply, refused_by_reply, rejected_by_reply, complete_by_reply, long_not_rejected}
+use Rattle.gj_top.proofs.Outcomes.{outcome_of_answer, words_answer, long_answer, command_answer, left_at_end, left_of_long, headline_of_reply, refused_by_reply, rejected_by_reply, complete_by_reply, long_not_rejected}
+use Rattle.gj_top.proofs.Forms.{no_fault_in_form}
 use Rattle.gj_top.proofs.run.Given.{Over}
 use Rattle.gj_top.proofs.run.Goals as goal
 
 -- the words name no command
 nothing_named : (g : Over) (c : goal.After-tell g) → NameNone c.args.words.now
-nothing_named g c = none_named c.args.words.now c.command_of.result c.in_default.is c.command_of.ensures.minimal c.command_of.ensures.check
+nothing_named g c = c.in_default.ensures.none
 
 pub returns-in_default-clause-answer : goal.returns-in_default-clause-answer
 returns-in_default-clause-answer g c =
     outcome_of_answer _ _ _ _ _ Words _ _ (words_answer c.args.words.now (g.S.Source.left c.args.source.now) (nothing_named g c)) c.tell.ensures.told
 
 pub returns-in-Err-ReadFault-clause-command : goal.returns-in-Err-ReadFault-clause-command
-returns-in-Err-ReadFault-clause-command g c = λ n. absurd (n _ (named_of _ _ c.in-Some.ensures.minimal c.in-Some.ensures.check))
+returns-in-Err-ReadFault-clause-command g c = λ n. absurd (n _ (c.in-Some.ensures.found))
 
 -- the input is too long
 long : (g : Over) (c : goal.After-tell-in-Err-TooLong g) → IfSome (g.S.Source.left c.args.source.now) (λ input. IsAnswer c.args.words.now input Input (line (codes "refused long")))
 long g c =
-    long_answer c.args.words.now c.in-Some.command (g.S.Source.left c.args.source.now) _ (named_of _ _ c.in-Some.ensures.minimal c.in-Some.ensures.check)
+    long_answer c.args.words.now c.in-Some.command (g.S.Source.left c.args.source.now) _ (c.in-Some.ensures.found)
     (rw c.in-Err-TooLong.field-0-is at c.in-Err-TooLong.ensures.told)
 
 pub returns-in-Err-TooLong-clause-answer : goal.returns-in-Err-TooLong-clause-answer
@@ -34,17 +34,17 @@ returns-in-Err-TooLong-clause-input g c =
     left_of_long _ _ _ c.tell-in-Err-TooLong.ensures.outcome (rw c.in-Err-TooLong.field-0-is at c.in-Err-TooLong.ensures.told)
 
 pub returns-in-Err-TooLong-clause-command : goal.returns-in-Err-TooLong-clause-command
-returns-in-Err-TooLong-clause-command g c = λ n. absurd (n _ (named_of _ _ c.in-Some.ensures.minimal c.in-Some.ensures.check))
+returns-in-Err-TooLong-clause-command g c = λ n. absurd (n _ (c.in-Some.ensures.found))
 
 pub returns-in-Err-TooLong-clause-rejected : goal.returns-in-Err-TooLong-clause-rejected
 returns-in-Err-TooLong-clause-rejected g c = long_not_rejected c.args.words.now _ _ c.tell-in-Err-TooLong.ensures.outcome
 
 pub returns-in-Err-Memory-clause-command : goal.returns-in-Err-Memory-clause-command
-returns-in-Err-Memory-clause-command g c = λ n. absurd (n _ (named_of _ _ c.in-Some.ensures.minimal c.in-Some.ensures.check))
+returns-in-Err-Memory-clause-command g c = λ n. absurd (n _ (c.in-Some.ensures.found))
 
 -- the words name the command
 named : (g : Over) (c : goal.After-drop-input g) → IsNamed c.args.words.now c.in-Some.command
-named g c = named_of _ _ c.in-Some.ensures.minimal c.in-Some.ensures.check
+named g c = c.in-Some.ensures.found
 
 -- the reply to the input that was read
 replied : (g : Over) (c : goal.After-drop-input g) → IsReply c.in-Some.command c.in-Ok.input.items c.in-Ok-reply_to.reply.status c.as_slice-in-Ok-reply_to.result.now
@@ -80,7 +80,7 @@ returns-in-Ok-reply_to-clause-rejected g c =
 pub returns-in-Ok-reply_to-clause-complete : goal.returns-in-Ok-reply_to-clause-complete
 returns-in-Ok-reply_to-clause-complete g c =
     complete_by_reply c.args.words.now c.in-Some.command _ _ c.in-Ok.input _ _ _ _ _ (named g c) c.in-Ok.ensures.told (replied g c) c.tell-in-Ok-reply_to.ensures.outcome c.tell-in-Ok-reply_to.ensures.cause
-    (λ p n reason is h. no_fault_at p _ h.rest reason is.kept is.spelled h.fault)
+    (no_fault_in_form c.in-Ok.input.items)
 
 pub returns-clause-command : goal.returns-clause-command
-returns-clause-command g c = λ n. absurd (n _ (named_of _ _ c.in-Some.ensures.minimal c.in-Some.ensures.check))
+returns-clause-command g c = λ n. absurd (n _ (c.in-Some.ensures.found))
