@@ -1,7 +1,5 @@
 pub mod Lists
 pub mod Values
 pub mod Everywhere
-pub mod Continuous
-pub mod Minimal
-pub mod Points
+pub mod Affine
 pub mod FirstFailed
