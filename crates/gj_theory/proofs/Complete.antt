@@ -5,7 +5,7 @@ use Rattle.std.proofs.lemmas.Int.{ints}
 use Rattle.gj_frac.proofs.Integers.{le_from_multiples_z}
 use Rattle.gj_shape.specs.FunctionData.{FunctionData, IsWithinLimits, at}
 use Rattle.gj_shape.specs.Faces.{corners_of, limits_of}
-use Rattle.gj_shape.specs.Table.{table, IsMinimal, IsMinimalOnGrid}
+use Rattle.gj_shape.specs.Table.{table, IsMinimal}
 use Rattle.gj_shape.specs.FirstViolation.{Test, Passes, PassesAll, near, first_coordinates, second_coordinates}
 use Rattle.gj_shape.specs.FirstViolation.Test.{zero_at_zero, nonnegative_at, nonnegative_after, nonnegative_before, symmetric_at, symmetric_between, subadditive_at}
 use Rattle.gj_shape.specs.declared.faces.FaceKind.{FaceKind}

@@ -5,4 +5,6 @@ pub mod Affine
 pub mod Tests
 pub mod Minimal
 pub mod Complete
+pub mod Points
+pub mod Violations
 pub mod FirstFailed

@@ -1,19 +1,19 @@
 -- The tests say that the table on every grid is minimal.
-use Rattle.std.proofs.Common.{◌≡◌, ℕ, zero, suc, ◌⊎◌, inl, inr, ◌+◌, ◌-◌, ◌*◌, ◌/◌, ◌%◌, ◌<◌, ◌≤◌, ℤ, pos, ◌+ℤ◌, ◌-ℤ◌, ◌*ℤ◌, ◌≤ℤ◌, List, [], ◌∷◌, length, get_or, refl, ap, ap₂, sym, subst, ◌∙◌, arith}
-use Rattle.std.proofs.Math.Nat.{add-mod_right, mod-lt, mod-mod, mul-mod_left, mul-div_left, div-add-mod', mod-add-mod, add-mod-mod, mul-pos}
+use Rattle.std.proofs.Common.{◌≡◌, ℕ, zero, suc, inl, inr, ◌+◌, ◌-◌, ◌*◌, ◌/◌, ◌%◌, ◌<◌, ◌≤◌, ℤ, pos, ◌+ℤ◌, ◌*ℤ◌, ◌≤ℤ◌, List, [], ◌∷◌, length, get_or, refl, ap, ap₂, sym, subst, ◌∙◌, arith}
+use Rattle.std.proofs.Math.Nat.{mod-lt, mod-mod, mul-mod_left, mul-div_left, div-add-mod', mod-add-mod, add-mod-mod}
 use Rattle.std.proofs.lemmas.Bool.{cases_lt, cases_order}
 use Rattle.std.proofs.lemmas.Int.{ints}
 use Rattle.gj_frac.proofs.Integers.{mul_nonnegative_z}
 use Rattle.gj_frac.proofs.Quotients.{same_at_rest, parts_of_rest, place_sum_low, place_sum_high}
 use Rattle.gj_frac.proofs.Ring.{by_ring, ring}
 use Rattle.gj_shape.specs.FunctionData.{FunctionData, IsWithinLimits, at}
-use Rattle.gj_shape.specs.Faces.{corners_of, limits_of}
-use Rattle.gj_shape.specs.Table.{table, entry, IsMinimalTable, IsMinimalOnGrid, IsMinimal}
+use Rattle.gj_shape.specs.Faces.{limits_of}
+use Rattle.gj_shape.specs.Table.{table, IsMinimalOnGrid, IsMinimal}
 use Rattle.gj_shape.specs.FirstViolation.{Test, Passes, PassesAll}
 use Rattle.gj_shape.specs.FirstViolation.Test.{zero_at_zero, nonnegative_at, nonnegative_after, nonnegative_before, symmetric_at, symmetric_between, subadditive_at}
 use Rattle.gj_shape.specs.declared.faces.FaceKind.{FaceKind}
 use Rattle.gj_shape.specs.declared.faces.FaceKind.TheVariants.{Vertex, Horizontal, Vertical, Diagonal, Lower, Upper}
-use Rattle.gj_shape.proofs.TableLemmas.{table_at, table_period}
+use Rattle.gj_shape.proofs.TableLemmas.{table_period}
 use Rattle.gj_theory.specs.Before.{IsTestOf}
 use Rattle.gj_theory.proofs.Values.{at_same, at_rest}
 use Rattle.gj_theory.proofs.Everywhere.{opposite_index, nonnegative_everywhere, symmetric_everywhere}
