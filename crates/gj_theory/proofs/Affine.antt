@@ -77,7 +77,8 @@ slack_on_vertex f m i j a b e g some =
     (table_at_place f m (i + j) (a + b) (omega arith) some)
     (vertex_z m (at f.value a) (at f.value b) (at f.value (a + b)))
 
-pub slack_on_horizontal : (f : FunctionData) (m i j a b u r : ℕ) → i ≡ a * m + r → j ≡ b * m → u + r ≡ m → 0 < u → 0 < r →
+pub slack_on_horizontal : (f : FunctionData) (m i j a b u r : ℕ) → i ≡ a * m + r → j ≡ b * m → u + r ≡ m →
+    0 < u → 0 < r →
     table f m i +ℤ table f m j ≡ table f m (i + j) +ℤ weighted (u ∷ r ∷ []) (limits_of f Horizontal a b)
 slack_on_horizontal f m i j a b u r e g whole u_some r_some =
     slack_by _ (table_inside f m i a u r e whole u_some r_some)
@@ -85,7 +86,8 @@ slack_on_horizontal f m i j a b u r e g whole u_some r_some =
     (table_inside f m (i + j) (a + b) u r (omega arith) whole u_some r_some)
     (horizontal_z u r (at f.right a) (at f.left (a + 1)) (at f.value b) (at f.right (a + b)) (at f.left (a + b + 1)))
 
-pub slack_on_vertical : (f : FunctionData) (m i j a b u r : ℕ) → i ≡ a * m → j ≡ b * m + r → u + r ≡ m → 0 < u → 0 < r →
+pub slack_on_vertical : (f : FunctionData) (m i j a b u r : ℕ) → i ≡ a * m → j ≡ b * m + r → u + r ≡ m →
+    0 < u → 0 < r →
     table f m i +ℤ table f m j ≡ table f m (i + j) +ℤ weighted (u ∷ r ∷ []) (limits_of f Vertical a b)
 slack_on_vertical f m i j a b u r e g whole u_some r_some =
     slack_by _ (table_at_place f m i a e (omega arith) ∙ ap (λ n. pos n *ℤ at f.value a) (sym whole))
@@ -93,7 +95,8 @@ slack_on_vertical f m i j a b u r e g whole u_some r_some =
     (table_inside f m (i + j) (a + b) u r (omega arith) whole u_some r_some)
     (vertical_z u r (at f.value a) (at f.right b) (at f.left (b + 1)) (at f.right (a + b)) (at f.left (a + b + 1)))
 
-pub slack_on_diagonal : (f : FunctionData) (m i j a b r s : ℕ) → i ≡ a * m + r → j ≡ b * m + s → r + s ≡ m → 0 < r → 0 < s →
+pub slack_on_diagonal : (f : FunctionData) (m i j a b r s : ℕ) → i ≡ a * m + r → j ≡ b * m + s → r + s ≡ m →
+    0 < r → 0 < s →
     table f m i +ℤ table f m j ≡ table f m (i + j) +ℤ weighted (r ∷ s ∷ []) (limits_of f Diagonal a b)
 slack_on_diagonal f m i j a b r s e g whole r_some s_some =
     slack_by _ (table_inside f m i a s r e (omega arith) s_some r_some) (table_inside f m j b r s g whole r_some s_some)
@@ -108,17 +111,19 @@ slack_on_lower f m i j a b w r s e g whole w_some r_some s_some =
     slack_by _ (table_inside f m i a (w + s) r e (omega arith) (omega arith) r_some)
     (table_inside f m j b (w + r) s g whole (omega arith) s_some)
     (table_inside f m (i + j) (a + b) w (r + s) (omega arith) (omega arith) w_some (omega arith))
-    (lower_z w r s (at f.right a) (at f.left (a + 1)) (at f.right b) (at f.left (b + 1)) (at f.right (a + b)) (at f.left (a + b + 1)))
+    (lower_z w r s (at f.right a) (at f.left (a + 1)) (at f.right b) (at f.left (b + 1))
+    (at f.right (a + b)) (at f.left (a + b + 1)))
 
 -- here the rests of i and j are u + w and v + w
-pub slack_on_upper : (f : FunctionData) (m i j a b u v w : ℕ) → i ≡ a * m + (u + w) → j ≡ b * m + (v + w) → u + v + w ≡ m →
-    0 < u → 0 < v → 0 < w →
+pub slack_on_upper : (f : FunctionData) (m i j a b u v w : ℕ) → i ≡ a * m + (u + w) → j ≡ b * m + (v + w) →
+    u + v + w ≡ m → 0 < u → 0 < v → 0 < w →
     table f m i +ℤ table f m j ≡ table f m (i + j) +ℤ weighted (u ∷ v ∷ w ∷ []) (limits_of f Upper a b)
 slack_on_upper f m i j a b u v w e g whole u_some v_some w_some =
     slack_by _ (table_inside f m i a v (u + w) e (omega arith) v_some (omega arith))
     (table_inside f m j b u (v + w) g (omega arith) u_some (omega arith))
     (table_inside f m (i + j) (a + b + 1) (u + v) w (omega arith) whole (omega arith) w_some)
-    (upper_z u v w (at f.right a) (at f.left (a + 1)) (at f.right b) (at f.left (b + 1)) (at f.right (a + b + 1)) (at f.left (a + b + 1 + 1)))
+    (upper_z u v w (at f.right a) (at f.left (a + 1)) (at f.right b) (at f.left (b + 1))
+    (at f.right (a + b + 1)) (at f.left (a + b + 1 + 1)))
 
 -- ---- near a corner: the weight 1 at each other corner and the rest at one
 
@@ -215,13 +220,15 @@ near_horizontal f a b zero h below low =
     let x = whole_place 2 h a low in
     let y = whole_place 2 h b low in
     by_weights f Horizontal a b 0 h ((h - 2 + 1) ∷ 1 ∷ [])
-    (slack_on_horizontal f h _ _ a b (h - 2 + 1) 1 (omega arith) (omega arith) (omega arith) (omega arith) (omega arith))
+    (slack_on_horizontal f h _ _ a b (h - 2 + 1) 1
+    (omega arith) (omega arith) (omega arith) (omega arith) (omega arith))
     (first_of_two h (limits_of f Horizontal a b) refl)
 near_horizontal f a b (suc zero) h below low =
     let x = whole_place 2 h a low in
     let y = whole_place 2 h b low in
     by_weights f Horizontal a b 1 h (1 ∷ (h - 2 + 1) ∷ [])
-    (slack_on_horizontal f h _ _ a b 1 (h - 2 + 1) (omega arith) (omega arith) (omega arith) (omega arith) (omega arith))
+    (slack_on_horizontal f h _ _ a b 1 (h - 2 + 1)
+    (omega arith) (omega arith) (omega arith) (omega arith) (omega arith))
     (second_of_two h (limits_of f Horizontal a b) refl)
 near_horizontal f a b (suc (suc c)) h below low = absurd (omega arith)
 
@@ -230,13 +237,15 @@ near_vertical f a b zero h below low =
     let x = whole_place 2 h a low in
     let y = whole_place 2 h b low in
     by_weights f Vertical a b 0 h ((h - 2 + 1) ∷ 1 ∷ [])
-    (slack_on_vertical f h _ _ a b (h - 2 + 1) 1 (omega arith) (omega arith) (omega arith) (omega arith) (omega arith))
+    (slack_on_vertical f h _ _ a b (h - 2 + 1) 1
+    (omega arith) (omega arith) (omega arith) (omega arith) (omega arith))
     (first_of_two h (limits_of f Vertical a b) refl)
 near_vertical f a b (suc zero) h below low =
     let x = whole_place 2 h a low in
     let y = whole_place 2 h b low in
     by_weights f Vertical a b 1 h (1 ∷ (h - 2 + 1) ∷ [])
-    (slack_on_vertical f h _ _ a b 1 (h - 2 + 1) (omega arith) (omega arith) (omega arith) (omega arith) (omega arith))
+    (slack_on_vertical f h _ _ a b 1 (h - 2 + 1)
+    (omega arith) (omega arith) (omega arith) (omega arith) (omega arith))
     (second_of_two h (limits_of f Vertical a b) refl)
 near_vertical f a b (suc (suc c)) h below low = absurd (omega arith)
 
@@ -245,13 +254,15 @@ near_diagonal f a b zero h below low =
     let x = whole_place 2 h a low in
     let y = whole_place 2 h b low in
     by_weights f Diagonal a b 0 h ((h - 2 + 1) ∷ 1 ∷ [])
-    (slack_on_diagonal f h _ _ a b (h - 2 + 1) 1 (omega arith) (omega arith) (omega arith) (omega arith) (omega arith))
+    (slack_on_diagonal f h _ _ a b (h - 2 + 1) 1
+    (omega arith) (omega arith) (omega arith) (omega arith) (omega arith))
     (first_of_two h (limits_of f Diagonal a b) refl)
 near_diagonal f a b (suc zero) h below low =
     let x = whole_place 2 h a low in
     let y = whole_place 2 h b low in
     by_weights f Diagonal a b 1 h (1 ∷ (h - 2 + 1) ∷ [])
-    (slack_on_diagonal f h _ _ a b 1 (h - 2 + 1) (omega arith) (omega arith) (omega arith) (omega arith) (omega arith))
+    (slack_on_diagonal f h _ _ a b 1 (h - 2 + 1)
+    (omega arith) (omega arith) (omega arith) (omega arith) (omega arith))
     (second_of_two h (limits_of f Diagonal a b) refl)
 near_diagonal f a b (suc (suc c)) h below low = absurd (omega arith)
 
@@ -260,19 +271,22 @@ near_lower f a b zero h below low =
     let x = whole_place 3 h a low in
     let y = whole_place 3 h b low in
     by_weights f Lower a b 0 h ((h - 3 + 1) ∷ 1 ∷ 1 ∷ [])
-    (slack_on_lower f h _ _ a b (h - 3 + 1) 1 1 (omega arith) (omega arith) (omega arith) (omega arith) (omega arith) (omega arith))
+    (slack_on_lower f h _ _ a b (h - 3 + 1) 1 1
+    (omega arith) (omega arith) (omega arith) (omega arith) (omega arith) (omega arith))
     (first_of_three h (limits_of f Lower a b) refl)
 near_lower f a b (suc zero) h below low =
     let x = whole_place 3 h a low in
     let y = whole_place 3 h b low in
     by_weights f Lower a b 1 h (1 ∷ (h - 3 + 1) ∷ 1 ∷ [])
-    (slack_on_lower f h _ _ a b 1 (h - 3 + 1) 1 (omega arith) (omega arith) (omega arith) (omega arith) (omega arith) (omega arith))
+    (slack_on_lower f h _ _ a b 1 (h - 3 + 1) 1
+    (omega arith) (omega arith) (omega arith) (omega arith) (omega arith) (omega arith))
     (second_of_three h (limits_of f Lower a b) refl)
 near_lower f a b (suc (suc zero)) h below low =
     let x = whole_place 3 h a low in
     let y = whole_place 3 h b low in
     by_weights f Lower a b 2 h (1 ∷ 1 ∷ (h - 3 + 1) ∷ [])
-    (slack_on_lower f h _ _ a b 1 1 (h - 3 + 1) (omega arith) (omega arith) (omega arith) (omega arith) (omega arith) (omega arith))
+    (slack_on_lower f h _ _ a b 1 1 (h - 3 + 1)
+    (omega arith) (omega arith) (omega arith) (omega arith) (omega arith) (omega arith))
     (third_of_three h (limits_of f Lower a b) refl)
 near_lower f a b (suc (suc (suc c))) h below low = absurd (omega arith)
 
@@ -281,19 +295,22 @@ near_upper f a b zero h below low =
     let x = whole_place 3 h a low in
     let y = whole_place 3 h b low in
     by_weights f Upper a b 0 h ((h - 3 + 1) ∷ 1 ∷ 1 ∷ [])
-    (slack_on_upper f h _ _ a b (h - 3 + 1) 1 1 (omega arith) (omega arith) (omega arith) (omega arith) (omega arith) (omega arith))
+    (slack_on_upper f h _ _ a b (h - 3 + 1) 1 1
+    (omega arith) (omega arith) (omega arith) (omega arith) (omega arith) (omega arith))
     (first_of_three h (limits_of f Upper a b) refl)
 near_upper f a b (suc zero) h below low =
     let x = whole_place 3 h a low in
     let y = whole_place 3 h b low in
     by_weights f Upper a b 1 h (1 ∷ (h - 3 + 1) ∷ 1 ∷ [])
-    (slack_on_upper f h _ _ a b 1 (h - 3 + 1) 1 (omega arith) (omega arith) (omega arith) (omega arith) (omega arith) (omega arith))
+    (slack_on_upper f h _ _ a b 1 (h - 3 + 1) 1
+    (omega arith) (omega arith) (omega arith) (omega arith) (omega arith) (omega arith))
     (second_of_three h (limits_of f Upper a b) refl)
 near_upper f a b (suc (suc zero)) h below low =
     let x = whole_place 3 h a low in
     let y = whole_place 3 h b low in
     by_weights f Upper a b 2 h (1 ∷ 1 ∷ (h - 3 + 1) ∷ [])
-    (slack_on_upper f h _ _ a b 1 1 (h - 3 + 1) (omega arith) (omega arith) (omega arith) (omega arith) (omega arith) (omega arith))
+    (slack_on_upper f h _ _ a b 1 1 (h - 3 + 1)
+    (omega arith) (omega arith) (omega arith) (omega arith) (omega arith) (omega arith))
     (third_of_three h (limits_of f Upper a b) refl)
 near_upper f a b (suc (suc (suc c))) h below low = absurd (omega arith)
 

@@ -44,7 +44,8 @@ left_limit f h i =
     subst (λ z. pos 0 ≤ℤ z) (near_before f i n low) ((h n some).nonnegative (i * n + n - 1)))
 
 -- a face has one limit for each corner
-pub limit_count : (f : FunctionData) (kind : FaceKind) (a b : ℕ) → length (limits_of f kind a b) ≡ length (corners_of kind a b)
+pub limit_count : (f : FunctionData) (kind : FaceKind) (a b : ℕ) →
+    length (limits_of f kind a b) ≡ length (corners_of kind a b)
 limit_count f Vertex a b = refl
 limit_count f Horizontal a b = refl
 limit_count f Vertical a b = refl
@@ -107,7 +108,8 @@ symmetric_values f h i below =
 
 passes_each : (f : FunctionData) → IsWithinLimits f → IsMinimal f → (t : Test) → IsTestOf f t → Passes f t
 passes_each f l h zero_at_zero i = sym (table_of_order f 0) ∙ (h 1 (omega arith)).zero_at_zero
-passes_each f l h (nonnegative_at k) i = subst (λ z. pos 0 ≤ℤ z) (table_of_order f k) ((h 1 (omega arith)).nonnegative k)
+passes_each f l h (nonnegative_at k) i =
+    subst (λ z. pos 0 ≤ℤ z) (table_of_order f k) ((h 1 (omega arith)).nonnegative k)
 passes_each f l h (nonnegative_after k) i = right_limit f h k
 passes_each f l h (nonnegative_before k) i = left_limit f h k
 passes_each f l h (symmetric_at k) i = symmetric_values f h k i

@@ -52,15 +52,18 @@ left_nonnegative f l h i =
     subst (λ z. pos 0 ≤ℤ z) (at_same f.left (i % f.order + 1) (i + 1) f.order l.left_length next)
     (h (nonnegative_before (i % f.order)) (mod-lt i some))
 
-sign_at : (f : FunctionData) → IsWithinLimits f → PassesEach f → (m i a : ℕ) → 0 < m → Place m i a → pos 0 ≤ℤ table f m i
+sign_at : (f : FunctionData) → IsWithinLimits f → PassesEach f → (m i a : ℕ) → 0 < m → Place m i a →
+    pos 0 ≤ℤ table f m i
 sign_at f l h m i a some (at_multiple e) =
     let any : 0 < f.order = omega arith in
-    let value = nonnegative_everywhere f.value f.order l.value_length any (λ k below. h (nonnegative_at k) below) a in
+    let value =
+    nonnegative_everywhere f.value f.order l.value_length any (λ k below. h (nonnegative_at k) below) a in
     subst (λ z. pos 0 ≤ℤ z) (sym (table_at_place f m i a e some))
     (mul_nonnegative_z (pos m) (at f.value a) (omega (arith, ints)) value)
 sign_at f l h m i a some (inside r u e whole u_some r_some) =
     let any : 0 < f.order = omega arith in
-    let right = nonnegative_everywhere f.right f.order l.right_length any (λ k below. h (nonnegative_after k) below) a in
+    let right =
+    nonnegative_everywhere f.right f.order l.right_length any (λ k below. h (nonnegative_after k) below) a in
     subst (λ z. pos 0 ≤ℤ z) (sym (table_inside f m i a u r e whole u_some r_some))
     (nonnegative_sum u r (at f.right a) (at f.left (a + 1)) right (left_nonnegative f l h a))
 
@@ -74,13 +77,15 @@ limits_symmetric f l h a b e =
     let c = a % f.order in
     let first : at f.right a ≡ at f.right c = sym (at_rest f.right a f.order l.right_length) in
     let second : at f.left (b + 1) ≡ at f.left (f.place + (f.order - c)) =
-    at_same f.left (b + 1) (f.place + (f.order - c)) f.order l.left_length (opposite_index a (b + 1) f.place f.order some e) in
+    at_same f.left (b + 1) (f.place + (f.order - c)) f.order l.left_length
+    (opposite_index a (b + 1) f.place f.order some e) in
     ap₂ (λ x y. x +ℤ y) first second ∙ (h (symmetric_between c) (mod-lt a some)).0
 
 values_symmetric : (f : FunctionData) → IsWithinLimits f → PassesEach f → (a b : ℕ) →
     (a + b) % f.order ≡ f.place % f.order → at f.value a +ℤ at f.value b ≡ pos f.scale
 values_symmetric f l h =
-    symmetric_everywhere f.value f.order f.place f.scale l.value_length (omega arith) (λ i below. h (symmetric_at i) below)
+    symmetric_everywhere f.value f.order f.place f.scale l.value_length (omega arith)
+    (λ i below. h (symmetric_at i) below)
 
 scaled_sum : (m s : ℕ) (x y : ℤ) → x +ℤ y ≡ pos s → pos m *ℤ x +ℤ pos m *ℤ y ≡ pos (s * m)
 scaled_sum m s x y e =
@@ -163,17 +168,23 @@ weighted_nonnegative (w ∷ ws) (x ∷ xs) h =
 face_nonnegative : (f : FunctionData) → PassesEach f → (kind : FaceKind) (a b : ℕ) → a < f.order → b < f.order →
     (weights : List ℕ) → pos 0 ≤ℤ weighted weights (limits_of f kind a b)
 face_nonnegative f h Vertex a b a_below b_below weights =
-    weighted_nonnegative weights (limits_of f Vertex a b) (λ k below. h (subadditive_at Vertex a b k) (a_below, b_below, below))
+    weighted_nonnegative weights (limits_of f Vertex a b)
+    (λ k below. h (subadditive_at Vertex a b k) (a_below, b_below, below))
 face_nonnegative f h Horizontal a b a_below b_below weights =
-    weighted_nonnegative weights (limits_of f Horizontal a b) (λ k below. h (subadditive_at Horizontal a b k) (a_below, b_below, below))
+    weighted_nonnegative weights (limits_of f Horizontal a b)
+    (λ k below. h (subadditive_at Horizontal a b k) (a_below, b_below, below))
 face_nonnegative f h Vertical a b a_below b_below weights =
-    weighted_nonnegative weights (limits_of f Vertical a b) (λ k below. h (subadditive_at Vertical a b k) (a_below, b_below, below))
+    weighted_nonnegative weights (limits_of f Vertical a b)
+    (λ k below. h (subadditive_at Vertical a b k) (a_below, b_below, below))
 face_nonnegative f h Diagonal a b a_below b_below weights =
-    weighted_nonnegative weights (limits_of f Diagonal a b) (λ k below. h (subadditive_at Diagonal a b k) (a_below, b_below, below))
+    weighted_nonnegative weights (limits_of f Diagonal a b)
+    (λ k below. h (subadditive_at Diagonal a b k) (a_below, b_below, below))
 face_nonnegative f h Lower a b a_below b_below weights =
-    weighted_nonnegative weights (limits_of f Lower a b) (λ k below. h (subadditive_at Lower a b k) (a_below, b_below, below))
+    weighted_nonnegative weights (limits_of f Lower a b)
+    (λ k below. h (subadditive_at Lower a b k) (a_below, b_below, below))
 face_nonnegative f h Upper a b a_below b_below weights =
-    weighted_nonnegative weights (limits_of f Upper a b) (λ k below. h (subadditive_at Upper a b k) (a_below, b_below, below))
+    weighted_nonnegative weights (limits_of f Upper a b)
+    (λ k below. h (subadditive_at Upper a b k) (a_below, b_below, below))
 
 -- a sum that exceeds another by what is not negative
 at_most_from : (s w : ℤ) {x : ℤ} → x ≡ s +ℤ w → pos 0 ≤ℤ w → s ≤ℤ x
@@ -200,7 +211,9 @@ subadditive_inside f h m i j a b r s a_below b_below e g r_some r_low s_some s_l
     let u = m - s in
     let v = m - r in
     let w = r + s - m in
-    at_most_from _ _ (slack_on_upper f m i j a b u v w (omega arith) (omega arith) (omega arith) (omega arith) (omega arith) (omega arith))
+    at_most_from _ _
+    (slack_on_upper f m i j a b u v w (omega arith) (omega arith) (omega arith)
+    (omega arith) (omega arith) (omega arith))
     (face_nonnegative f h Upper a b a_below b_below (u ∷ v ∷ w ∷ [])))
 
 subadditive_in_square : (f : FunctionData) → PassesEach f → (m i j a b : ℕ) → 0 < m → a < f.order → b < f.order →
@@ -213,8 +226,8 @@ subadditive_in_square f h m i j a b some a_below b_below (inside r u e whole u_s
 subadditive_in_square f h m i j a b some a_below b_below (at_multiple e) (inside s v g whole v_some s_some) =
     at_most_from _ _ (slack_on_vertical f m i j a b v s e g whole v_some s_some)
     (face_nonnegative f h Vertical a b a_below b_below (v ∷ s ∷ []))
-subadditive_in_square f h m i j a b some a_below b_below (inside r u e r_whole u_some r_some) (inside s v g s_whole v_some s_some) =
-    subadditive_inside f h m i j a b r s a_below b_below e g r_some (omega arith) s_some (omega arith)
+subadditive_in_square f h m i j a b some a_below b_below (inside r u e whole u_some low) (inside s v g sum v_some more) =
+    subadditive_inside f h m i j a b r s a_below b_below e g low (omega arith) more (omega arith)
 
 -- what holds at places below the order of the grid holds at all
 subadditive_from_below : (t : ℕ → ℤ) (n : ℕ) → ((i : ℕ) → t (i + n) ≡ t i) →
@@ -245,7 +258,8 @@ subadditive_places f l h m some =
 minimal_on_grid : (f : FunctionData) → IsWithinLimits f → PassesEach f → (m : ℕ) → 0 < m → IsMinimalOnGrid f m
 minimal_on_grid f l h m some = record {
   has_period = λ i. table_period f m i some l;
-  zero_at_zero = table_at_place f m 0 0 (omega arith) some ∙ ap (λ z. pos m *ℤ z) (h zero_at_zero tt) ∙ omega (arith, ints);
+  zero_at_zero =
+      table_at_place f m 0 0 (omega arith) some ∙ ap (λ z. pos m *ℤ z) (h zero_at_zero tt) ∙ omega (arith, ints);
   nonnegative = λ i. sign_at f l h m i (i / m) some (place_of m i some);
   subadditive = subadditive_places f l h m some;
   symmetric = λ i j opposite. symmetric_places f l h m i j some opposite;

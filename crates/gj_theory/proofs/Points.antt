@@ -26,12 +26,12 @@ parts_of (negsuc n) (pos d) i (suc q) some positive e = absurd (omega (arith, in
 parts_of n (negsuc d) i q some positive e = absurd (omega (arith, ints))
 
 -- x is the point n/d in lowest terms, and equal to i/q
-pub record IsGridPoint (x : Frac) (i q n d : ℕ) : Type 0 where
+pub record IsLowestPoint (x : Frac) (i q n d : ℕ) : Type 0 where
   pub point : IsPoint x n d
   pub equal : n * q ≡ i * d
 
 -- a fraction equal to i/q is a point n/d
-pub point_of : (x : Frac) (i q : ℕ) → 0 < q → Is x (pos i) (pos q) → (n d : ℕ) × IsGridPoint x i q n d
+pub point_of : (x : Frac) (i q : ℕ) → 0 < q → Is x (pos i) (pos q) → (n d : ℕ) × IsLowestPoint x i q n d
 point_of x i q some h =
     let parts = parts_of x.num x.den i q some x.lowest.positive h in (
       unsigned_abs x.num,
@@ -55,7 +55,8 @@ scaled_sum : (n d i m e j q : ℕ) → n * q ≡ i * d → m * q ≡ j * e → (
 scaled_sum n d i m e j q h k =
     let first = scaled_first n d i q e h in
     let second = scaled_second m e j q d k in
-    add-mul (n * e) (m * d) q ∙ ap (λ a. a + m * d * q) first ∙ ap (λ b. i * (d * e) + b) second ∙ sym (add-mul i j (d * e))
+    add-mul (n * e) (m * d) q ∙ ap (λ a. a + m * d * q) first ∙ ap (λ b. i * (d * e) + b) second
+    ∙ sym (add-mul i j (d * e))
 
 -- ---- one value at one point
 
@@ -100,11 +101,14 @@ shows_superadditive f h i j x y some h_some is_x is_y less =
     let bottom = mul-pos p.point.positive r.point.positive in
     let first = value_at_place f h i (n * e) (d * e) h_some bottom (scaled_first n d i (f.order * h) e p.equal) in
     let second = value_at_place f h j (m * d) (d * e) h_some bottom (scaled_second m e j (f.order * h) d r.equal) in
-    let sum = value_at_place f h (i + j) (n * e + m * d) (d * e) h_some bottom (scaled_sum n d i m e j (f.order * h) p.equal r.equal) in
+    let sum =
+    value_at_place f h (i + j) (n * e + m * d) (d * e) h_some bottom
+    (scaled_sum n d i m e j (f.order * h) p.equal r.equal) in
     let both = mul_add_z (pos h) (value_of f (n * e) (d * e)) (value_of f (m * d) (d * e))
     ∙ ap₂ (λ v w. v +ℤ w) first second ∙ sym (mul_add_z (pos (d * e)) (table f h i) (table f h j)) in
     let below = below_scaled h (d * e) (table f h i +ℤ table f h j) (table f h (i + j))
-    (value_of f (n * e) (d * e) +ℤ value_of f (m * d) (d * e)) (value_of f (n * e + m * d) (d * e)) h_some bottom both sum less in
+    (value_of f (n * e) (d * e) +ℤ value_of f (m * d) (d * e)) (value_of f (n * e + m * d) (d * e)) h_some bottom both
+    sum less in
     (n, d, m, e, record { first = p.point; second = r.point; below = below })
 
 -- n/d = i/(order h), so the place opposite to i/(order h) is on the grid of n/d
@@ -132,5 +136,7 @@ shows_asymmetric f h i j x some h_some is whole differs =
     let swapped : pos h *ℤ pos (f.scale * d) ≡ pos d *ℤ pos (f.scale * h) =
     by_ring (pos h ∷ pos f.scale ∷ pos d ∷ []) (search ring depth 20) refl in
     let differs_there : value_of f n d +ℤ table f d o ≢ pos (f.scale * d) = λ e.
-    differs (mul_cancel_left_z _ _ (pos d) (both ∙ ap (λ z. pos h *ℤ z) e ∙ swapped) (omega (arith, p.point.positive))) in
-    (n, d, o, record { point = p.point; opposite = opposite_on_grid f.place f.order d (n * f.order) o opposite; differs = differs_there })
+    differs
+    (mul_cancel_left_z _ _ (pos d) (both ∙ ap (λ z. pos h *ℤ z) e ∙ swapped) (omega (arith, p.point.positive))) in
+    let turned = opposite_on_grid f.place f.order d (n * f.order) o opposite in
+    (n, d, o, record { point = p.point; opposite = turned; differs = differs_there })

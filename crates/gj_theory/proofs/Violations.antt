@@ -66,9 +66,15 @@ pub shows_quarter : (f : FunctionData) (i : ℕ) (x : Frac) → 0 < f.order → 
 shows_quarter f i x some below is agree fails =
     let b = f.place + (f.order - (i + 1)) in
     let next : f.place + (f.order - i) ≡ b + 1 = omega arith in
-    let middle = pair_inside f 2 i b (2 * i + 1) (2 * (f.place + (f.order - i)) - 1) 1 1 (omega arith) (omega arith) (omega arith) (omega arith) (omega arith) in
-    let quarter = pair_inside f 4 i b (4 * i + 1) (4 * b + 3) 3 1 (omega arith) (omega arith) (omega arith) (omega arith) (omega arith) in
-    let differs = quarters_differ f.scale (at f.right i) (at f.left (i + 1)) (at f.right b) (at f.left (b + 1)) (sym middle ∙ agree)
+    let middle =
+    pair_inside f 2 i b (2 * i + 1) (2 * (f.place + (f.order - i)) - 1) 1 1
+    (omega arith) (omega arith) (omega arith) (omega arith) (omega arith) in
+    let quarter =
+    pair_inside f 4 i b (4 * i + 1) (4 * b + 3) 3 1
+    (omega arith) (omega arith) (omega arith) (omega arith) (omega arith) in
+    let differs =
+    quarters_differ f.scale (at f.right i) (at f.left (i + 1)) (at f.right b) (at f.left (b + 1))
+    (sym middle ∙ agree)
     (λ both. fails (ap (λ k. at f.right i +ℤ at f.left k) next ∙ both.0, both.1)) in
     shows_asymmetric f 4 (4 * i + 1) (4 * b + 3) x some (omega arith) is (omega arith) (λ e. differs (sym quarter ∙ e))
 
@@ -88,9 +94,11 @@ shown_by f (nonnegative_at k) v some i fails (x, is, e) =
     subst (ShowsViolation f) (sym e)
     (shows_negative f 1 k x some (omega arith) is (rw (table_of_order f k) (not_nonnegative (at f.value k) fails)))
 shown_by f (nonnegative_after k) v some i fails (h, x, least, is, e) =
-    subst (ShowsViolation f) (sym e) (shows_negative f h (k * h + 1) x some (omega (arith, least.from)) is least.holds)
+    subst (ShowsViolation f) (sym e)
+    (shows_negative f h (k * h + 1) x some (omega (arith, least.from)) is least.holds)
 shown_by f (nonnegative_before k) v some i fails (h, x, least, is, e) =
-    subst (ShowsViolation f) (sym e) (shows_negative f h (k * h + h - 1) x some (omega (arith, least.from)) is least.holds)
+    subst (ShowsViolation f) (sym e)
+    (shows_negative f h (k * h + h - 1) x some (omega (arith, least.from)) is least.holds)
 shown_by f (symmetric_at k) v some i fails (x, is, e) =
     subst (ShowsViolation f) (sym e) (shows_symmetric_at f k x some i is fails)
 shown_by f (symmetric_between k) v some i fails (x, e, inl (differ, is)) =
@@ -100,7 +108,8 @@ shown_by f (symmetric_between k) v some i fails (x, e, inr (agree, is)) =
 shown_by f (subadditive_at kind a b c) v some i fails s =
     let h_some : 0 < s.h = omega (arith, some_corner kind a b, s.least.from) in
     subst (ShowsViolation f) (sym s.shown)
-    (shows_superadditive f s.h (near s.h c (first_coordinates kind a b)) (near s.h c (second_coordinates kind a b)) s.x s.y some h_some s.first s.second s.least.holds)
+    (shows_superadditive f s.h (near s.h c (first_coordinates kind a b)) (near s.h c (second_coordinates kind a b))
+    s.x s.y some h_some s.first s.second s.least.holds)
 
 -- the first violation is shown at its points
 pub first_shown : (f : FunctionData) (v : Violation) → IsWithinLimits f → IsFirstViolation f v → ShowsViolation f v
@@ -121,5 +130,7 @@ violation_denies f (violation.Asymmetric x) l (n, d, j, s) h =
 violation_denies f (violation.Superadditive x y) l (n, d, m, e, s) h =
     let bottom = mul-pos s.first.positive s.second.positive in
     let less = (h (d * e) bottom).subadditive (n * e * f.order) (m * d * f.order) in
-    let below = subst (λ k. (value_of f (n * e) (d * e) +ℤ value_of f (m * d) (d * e)) <ℤ table f (d * e) k) (add-mul (n * e) (m * d) f.order) s.below in
+    let below =
+    subst (λ k. (value_of f (n * e) (d * e) +ℤ value_of f (m * d) (d * e)) <ℤ table f (d * e) k)
+    (add-mul (n * e) (m * d) f.order) s.below in
     omega (arith, ints)
