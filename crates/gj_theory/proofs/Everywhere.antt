@@ -1,6 +1,6 @@
 -- What holds at each index below the order holds at every index, since entries repeat.
-use Rattle.std.proofs.Common.{◌≡◌, ℕ, ◌+◌, ◌-◌, ◌%◌, ◌<◌, ℤ, pos, ◌+ℤ◌, ◌-ℤ◌, ◌≤ℤ◌, List, length, ap, sym, subst, ◌∙◌, arith}
-use Rattle.std.proofs.Math.Nat.{add-mod_right, mod-lt, mod-add-mod, add-mod-mod}
+use Rattle.std.proofs.Common.{◌≡◌, ℕ, ◌+◌, ◌-◌, ◌%◌, ◌<◌, ℤ, pos, ◌+ℤ◌, ◌≤ℤ◌, List, length, ap, sym, subst, ◌∙◌, arith}
+use Rattle.std.proofs.Math.Nat.{add-mod_right, mod-lt, mod-add-mod}
 use Rattle.gj_shape.specs.FunctionData.{at}
 use Rattle.gj_theory.proofs.Values.{at_same, at_rest}
 
@@ -12,7 +12,8 @@ opposite_index i j k n some e =
     let turned : (r + j) % n ≡ k % n = mod-add-mod i n j ∙ e in
     let more : ((r + j) % n + (n - r)) % n ≡ (k % n + (n - r)) % n = ap (λ x. (x + (n - r)) % n) turned in
     let whole : r + j + (n - r) ≡ j + n = omega arith in
-    sym (add-mod_right j n) ∙ ap (λ x. x % n) (sym whole) ∙ sym (mod-add-mod (r + j) n (n - r)) ∙ more ∙ mod-add-mod k n (n - r)
+    sym (add-mod_right j n) ∙ ap (λ x. x % n) (sym whole)
+    ∙ sym (mod-add-mod (r + j) n (n - r)) ∙ more ∙ mod-add-mod k n (n - r)
 
 -- signs
 pub nonnegative_everywhere : (xs : List ℤ) (n : ℕ) → length xs ≡ n → 0 < n →
@@ -25,16 +26,6 @@ pub symmetric_everywhere : (xs : List ℤ) (n k s : ℕ) → length xs ≡ n →
     (i j : ℕ) → (i + j) % n ≡ k % n → at xs i +ℤ at xs j ≡ pos s
 symmetric_everywhere xs n k s len some h i j e =
     let first : at xs i ≡ at xs (i % n) = sym (at_rest xs i n len) in
-    let second : at xs j ≡ at xs (k + (n - i % n)) = at_same xs j (k + (n - i % n)) n len (opposite_index i j k n some e) in
+    let second : at xs j ≡ at xs (k + (n - i % n)) =
+    at_same xs j (k + (n - i % n)) n len (opposite_index i j k n some e) in
     rw (first, second) (h (i % n) (mod-lt i some))
-
--- subadditivity
-pub subadditive_everywhere : (xs : List ℤ) (n : ℕ) → length xs ≡ n → 0 < n →
-    ((a b : ℕ) → a < n → b < n → pos 0 ≤ℤ (at xs a +ℤ at xs b -ℤ at xs (a + b))) →
-    (a b s : ℕ) → a + b ≡ s → pos 0 ≤ℤ (at xs a +ℤ at xs b -ℤ at xs s)
-subadditive_everywhere xs n len some h a b s e =
-    let first : at xs a ≡ at xs (a % n) = sym (at_rest xs a n len) in
-    let second : at xs b ≡ at xs (b % n) = sym (at_rest xs b n len) in
-    let rests : (a % n + b % n) % n ≡ (a + b) % n = mod-add-mod a n (b % n) ∙ add-mod-mod a b n in
-    let total : at xs s ≡ at xs (a % n + b % n) = at_same xs s (a % n + b % n) n len (ap (λ x. x % n) (sym e) ∙ sym rests) in
-    rw (first, second, total) (h (a % n) (b % n) (mod-lt a some) (mod-lt b some))

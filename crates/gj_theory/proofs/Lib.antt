@@ -1,7 +1,10 @@
 pub mod Lists
 pub mod Values
 pub mod Everywhere
-pub mod Continuous
+pub mod Affine
+pub mod Tests
 pub mod Minimal
+pub mod Complete
 pub mod Points
+pub mod Violations
 pub mod FirstFailed
