@@ -133,9 +133,10 @@ lines_compared text lines [] a b h k = inl (lines, refl, subst (λ t. HasLines t
 lines_compared text [] (words ∷ others) a b h k = inr (words ∷ others, refl, subst (λ t. HasLines t (words ∷ others) b) h k)
 lines_compared text (words ∷ lines) (words' ∷ others) a b h k =
     let same = one_next_line h.0 k.0 words words' h.1 k.1 text h.2 k.2 in
-    elim (lines_compared h.1 lines others a b h.3 (subst (λ t. HasLines t others b) (sym same.2) k.3))
-    [ inl w ↦ inl (w.0, (λ i. same.1 i ∷ w.1 i), w.2)
-    | inr w ↦ inr (w.0, (λ i. sym same.1 i ∷ w.1 i), w.2) ]
+    elim (lines_compared h.1 lines others a b h.3 (subst (λ t. HasLines t others b) (sym same.2) k.3)) [
+      | inl w ↦ inl (w.0, (λ i. same.1 i ∷ w.1 i), w.2)
+      | inr w ↦ inr (w.0, (λ i. sym same.1 i ∷ w.1 i), w.2)
+    ]
 
 -- lines, and the next one
 pub one_line_more : (text : List ℕ) (lines : List (List (List ℕ))) (rest s : List ℕ) (ws : List (List ℕ)) (r : List ℕ) →
