@@ -23,7 +23,8 @@ no_feeds bs h = All-weaker (λ b. is_line_feed b ≡ false) (λ b. b ≢ 10) no_
 -- ---- the CR at the end of a line
 
 -- one that stands there does not count
-pub return_dropped : (line front : List ℕ) (last : ℕ) → line ≡ front ++ last ∷ [] → last ≡ 13 → (rest : List ℕ) → AreBytesOf (line ++ 10 ∷ rest) line front
+pub return_dropped : (line front : List ℕ) (last : ℕ) → line ≡ front ++ last ∷ [] → last ≡ 13 → (rest : List ℕ) →
+    AreBytesOf (line ++ 10 ∷ rest) line front
 return_dropped line front last e is rest =
     let same : line ≡ front ++ 13 ∷ [] = e ∙ ap (λ b. front ++ b ∷ []) is in
     dropped rest (ap (λ bs. bs ++ 10 ∷ rest) same ∙ append_assoc front (13 ∷ []) (10 ∷ rest)) same
@@ -36,7 +37,9 @@ pub words_before_feed : (text bytes : List ℕ) (end : ℕ) → position is_line
     HasFirstWords text (word_texts bytes) (take (length text - (end + 1)) (drop (end + 1) text))
 words_before_feed text bytes end h bytes_of =
     let at = first_place is_line_feed text end h in
-    let whole : text ≡ take end text ++ 10 ∷ drop (end + 1) text = at.1 ∙ ap (λ b. take end text ++ b ∷ drop (end + 1) text) (feed_from_test (get_or text end 0) at.2) in
+    let feed = feed_from_test (get_or text end 0) at.2 in
+    let whole : text ≡ take end text ++ 10 ∷ drop (end + 1) text =
+    at.1 ∙ ap (λ b. take end text ++ b ∷ drop (end + 1) text) feed in
     subst (HasFirstWords text (word_texts bytes)) (sym (take_rest text (end + 1)))
     (record {
       line = take end text;
@@ -51,7 +54,8 @@ pub words_of_last_line : (text : List ℕ) → position is_line_feed text ≡ No
     HasFirstWords text (word_texts text) (take (length text - length text) (drop (length text) text))
 words_of_last_line text h some =
     let all = no_feeds text (no_place is_line_feed text h) in
-    subst (HasFirstWords text (word_texts text)) (sym (take_rest text (length text) ∙ drop_all (length text) text (omega arith)))
+    let nothing = take_rest text (length text) ∙ drop_all (length text) text (omega arith) in
+    subst (HasFirstWords text (word_texts text)) (sym nothing)
     (record {
       line = text;
       bytes = text;

@@ -8,20 +8,24 @@ use Rattle.std.proofs.lemmas.List.Sums.{prefix_len-le-length, fails_before_first
 
 -- the first element that passes, and what stands before and behind it
 pub first_place : (p : ℕ → Bool) (xs : List ℕ) (k : ℕ) → position p xs ≡ Some k →
-    (k < length xs) × (xs ≡ take k xs ++ get_or xs k 0 ∷ drop (k + 1) xs) × (p (get_or xs k 0) ≡ true) × All (λ x. p x ≡ false) (take k xs)
+    (k < length xs) × (xs ≡ take k xs ++ get_or xs k 0 ∷ drop (k + 1) xs) × (p (get_or xs k 0) ≡ true)
+    × All (λ x. p x ≡ false) (take k xs)
 first_place p xs k h =
     let at = position-Some p xs k 0 h in (
       at.0,
       sym (take-append-drop k xs) ∙ ap (λ ys. take k xs ++ ys) (drop_more xs k 0 at.0),
       at.1,
       All-from_get_or (λ x. p x ≡ false) (take k xs) 0
-          (λ i l. let short : i < k = omega (arith, length-take k xs) in ap p (get_or-take k xs i 0 short) ∙ at.2 i short),
+          (λ i l.
+          let short : i < k = omega (arith, length-take k xs) in
+          ap p (get_or-take k xs i 0 short) ∙ at.2 i short),
     )
 
 -- none passes
 pub no_place : (p : ℕ → Bool) (xs : List ℕ) → position p xs ≡ None → All (λ x. p x ≡ false) xs
 no_place p xs h =
-    let end : length xs ≡ position_or_len p xs = at_end (position_or_len p xs) (length xs) (prefix_len-le-length _ xs) h in
+    let end : length xs ≡ position_or_len p xs =
+    at_end (position_or_len p xs) (length xs) (prefix_len-le-length _ xs) h in
     All-from_get_or (λ x. p x ≡ false) xs 0 (λ i l. fails_before_first p xs i 0 (omega arith))
   where
     at_end : (k n : ℕ) → k ≤ n → cond (nat_lt k n) (Some k) None ≡ None → n ≡ k

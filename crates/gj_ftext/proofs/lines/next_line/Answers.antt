@@ -21,4 +21,6 @@ loop-rest-preserved c =
     }
 
 pub returns-clause-none : goal.returns-clause-none
-returns-clause-none c = c.loop-rest.invariant.skipped (nothing _ (nil_from_length _ (eqb-true _ _ (sym c.is_empty.ensures ∙ c.loop-rest-test.false))))
+returns-clause-none c =
+    let empty = eqb-true _ _ (sym c.is_empty.ensures ∙ c.loop-rest-test.false) in
+    c.loop-rest.invariant.skipped (nothing _ (nil_from_length _ empty))
