@@ -1,0 +1,4 @@
+pub mod FirstLines
+pub mod FirstPlaces
+pub mod FirstWords
+pub mod TextLines
