@@ -1,0 +1,3 @@
+mod Numerators
+mod SquareLemmas
+mod WalkLemmas
