@@ -67,48 +67,30 @@ impl Square {
         ensures value { result ≡ get_or (limits_in self.now kind) corner (pos 0) }
         ensures fits { unsigned_abs result < 2 ^ 53 }
     {
+        let (x, y, sum) = self.terms(kind, corner);
+        x + y - sum
+    }
+
+    /// The values or limits at x, at y and at their sum that make up the limit of the slack at a corner.
+    fn terms(&self, kind: FaceKind, corner: u32) -> (i64, i64, i64)
+        requires { corner < length (corners_of kind 0 0) }
+        ensures value { slack_from result.0 result.1 result.2 ≡ get_or (limits_in self.now kind) corner (pos 0) }
+        ensures fits { AreNumerators result.0 result.1 result.2 }
+    {
         match (kind, corner) {
-            (FaceKind::Vertex, _) => slack_from(
-                self.value_first,
-                self.value_second,
-                self.value_sum,
-            ),
-            (FaceKind::Horizontal, 0) => slack_from(
-                self.right_first,
-                self.value_second,
-                self.right_sum,
-            ),
-            (FaceKind::Horizontal, _) => slack_from(
-                self.left_first,
-                self.value_second,
-                self.left_next,
-            ),
-            (FaceKind::Vertical, 0) => slack_from(
-                self.value_first,
-                self.right_second,
-                self.right_sum,
-            ),
-            (FaceKind::Vertical, _) => slack_from(
-                self.value_first,
-                self.left_second,
-                self.left_next,
-            ),
-            (FaceKind::Diagonal, 0) => slack_from(
-                self.left_first,
-                self.right_second,
-                self.value_next,
-            ),
-            (FaceKind::Diagonal, _) => slack_from(
-                self.right_first,
-                self.left_second,
-                self.value_next,
-            ),
-            (FaceKind::Lower, 0) => slack_from(self.right_first, self.right_second, self.right_sum),
-            (FaceKind::Lower, 1) => slack_from(self.left_first, self.right_second, self.left_next),
-            (FaceKind::Lower, _) => slack_from(self.right_first, self.left_second, self.left_next),
-            (FaceKind::Upper, 0) => slack_from(self.left_first, self.right_second, self.right_next),
-            (FaceKind::Upper, 1) => slack_from(self.right_first, self.left_second, self.right_next),
-            (FaceKind::Upper, _) => slack_from(self.left_first, self.left_second, self.left_last),
+            (FaceKind::Vertex, _) => (self.value_first, self.value_second, self.value_sum),
+            (FaceKind::Horizontal, 0) => (self.right_first, self.value_second, self.right_sum),
+            (FaceKind::Horizontal, _) => (self.left_first, self.value_second, self.left_next),
+            (FaceKind::Vertical, 0) => (self.value_first, self.right_second, self.right_sum),
+            (FaceKind::Vertical, _) => (self.value_first, self.left_second, self.left_next),
+            (FaceKind::Diagonal, 0) => (self.left_first, self.right_second, self.value_next),
+            (FaceKind::Diagonal, _) => (self.right_first, self.left_second, self.value_next),
+            (FaceKind::Lower, 0) => (self.right_first, self.right_second, self.right_sum),
+            (FaceKind::Lower, 1) => (self.left_first, self.right_second, self.left_next),
+            (FaceKind::Lower, _) => (self.right_first, self.left_second, self.left_next),
+            (FaceKind::Upper, 0) => (self.left_first, self.right_second, self.right_next),
+            (FaceKind::Upper, 1) => (self.right_first, self.left_second, self.right_next),
+            (FaceKind::Upper, _) => (self.left_first, self.left_second, self.left_last),
         }
     }
 }
@@ -138,15 +120,4 @@ fn right_at(shape: &Shape, index: u32) -> i64
     ensures small { IsNumerator result }
 {
     shape.right_numerators()[index as usize]
-}
-
-/// The slack from the values or limits at x, at y and at their sum.
-fn slack_from(x: i64, y: i64, sum: i64) -> i64
-    requires first { IsNumerator x }
-    requires second { IsNumerator y }
-    requires sum { IsNumerator sum }
-    ensures value { result ≡ slack_from x y sum }
-    ensures fits { unsigned_abs result < 2 ^ 53 }
-{
-    x + y - sum
 }
