@@ -1,3 +1,4 @@
+mod AllFaces
 mod Numerators
 mod SquareLemmas
 mod WalkLemmas
