@@ -1,8 +1,10 @@
 //! The limits of the slack in one square of the complex.
 ghost use Rattle.std.specs.Prelude.{◌≡◌, ◌<◌, ◌^◌, length, get_or, pos, unsigned_abs};
-ghost use Rattle.gj_shape.specs.Faces.{corners_of};
-ghost use Rattle.gj_complex.specs.Squares.{limits_in, HasLimits};
+ghost use Rattle.gj_shape.specs.FunctionData.{at};
+ghost use Rattle.gj_shape.specs.Faces.{corners_of, slack_from};
+ghost use Rattle.gj_complex.specs.Bounds.{IsNumerator, AreNumerators};
 
+use crate::index::wrapped;
 use gj_shape::{FaceKind, Shape};
 
 /// The numbers that the limits of the slack in one square are made of, over the function's common denominator.
@@ -25,16 +27,38 @@ pub struct Square {
     right_next: i64,
     /// The limit from the left two further on.
     left_last: i64,
+    ghost around_first: { AreNumerators right_first value_first left_first },
+    ghost around_second: { AreNumerators right_second value_second left_second },
+    ghost at_sum: { AreNumerators value_sum right_sum left_last },
+    ghost around_next: { AreNumerators left_next value_next right_next },
 }
 
 impl Square {
+    ghost use Rattle.gj_complex.specs.Squares.{limits_in, HasLimits};
+
     /// The square whose lower left corner is (a/q, b/q).
     pub fn of(shape: &Shape, a: u32, b: u32) -> Square
         requires first { a < shape.now.order }
         requires second { b < shape.now.order }
         ensures { HasLimits result shape.now a b }
     {
-        unreachable!()
+        let order = shape.order();
+        let sum = wrapped(a + b, order);
+        let next = wrapped(sum + 1, order);
+        Square {
+            right_first: right_at(shape, a),
+            value_first: value_at(shape, a),
+            left_first: left_at(shape, wrapped(a + 1, order)),
+            right_second: right_at(shape, b),
+            value_second: value_at(shape, b),
+            left_second: left_at(shape, wrapped(b + 1, order)),
+            value_sum: value_at(shape, sum),
+            right_sum: right_at(shape, sum),
+            left_next: left_at(shape, next),
+            value_next: value_at(shape, next),
+            right_next: right_at(shape, next),
+            left_last: left_at(shape, wrapped(next + 1, order)),
+        }
     }
 
     /// The limit of the slack from inside the face of this kind at a corner, times the common denominator.
@@ -43,6 +67,57 @@ impl Square {
         ensures value { result ≡ get_or (limits_in self.now kind) corner (pos 0) }
         ensures fits { unsigned_abs result < 2 ^ 53 }
     {
-        unreachable!()
+        let (x, y, sum) = self.terms(kind, corner);
+        x + y - sum
     }
+
+    /// The values or limits at x, at y and at their sum that make up the limit of the slack at a corner.
+    fn terms(&self, kind: FaceKind, corner: u32) -> (i64, i64, i64)
+        requires { corner < length (corners_of kind 0 0) }
+        ensures value { slack_from result.0 result.1 result.2 ≡ get_or (limits_in self.now kind) corner (pos 0) }
+        ensures fits { AreNumerators result.0 result.1 result.2 }
+    {
+        match (kind, corner) {
+            (FaceKind::Vertex, _) => (self.value_first, self.value_second, self.value_sum),
+            (FaceKind::Horizontal, 0) => (self.right_first, self.value_second, self.right_sum),
+            (FaceKind::Horizontal, _) => (self.left_first, self.value_second, self.left_next),
+            (FaceKind::Vertical, 0) => (self.value_first, self.right_second, self.right_sum),
+            (FaceKind::Vertical, _) => (self.value_first, self.left_second, self.left_next),
+            (FaceKind::Diagonal, 0) => (self.left_first, self.right_second, self.value_next),
+            (FaceKind::Diagonal, _) => (self.right_first, self.left_second, self.value_next),
+            (FaceKind::Lower, 0) => (self.right_first, self.right_second, self.right_sum),
+            (FaceKind::Lower, 1) => (self.left_first, self.right_second, self.left_next),
+            (FaceKind::Lower, _) => (self.right_first, self.left_second, self.left_next),
+            (FaceKind::Upper, 0) => (self.left_first, self.right_second, self.right_next),
+            (FaceKind::Upper, 1) => (self.right_first, self.left_second, self.right_next),
+            (FaceKind::Upper, _) => (self.left_first, self.left_second, self.left_last),
+        }
+    }
+}
+
+/// The limit from the left at an index below the order, times the common denominator.
+fn left_at(shape: &Shape, index: u32) -> i64
+    requires { index < shape.now.order }
+    ensures value { result ≡ at shape.now.left index }
+    ensures small { IsNumerator result }
+{
+    shape.left_numerators()[index as usize]
+}
+
+/// The value at an index below the order, times the common denominator.
+fn value_at(shape: &Shape, index: u32) -> i64
+    requires { index < shape.now.order }
+    ensures value { result ≡ at shape.now.value index }
+    ensures small { IsNumerator result }
+{
+    shape.value_numerators()[index as usize]
+}
+
+/// The limit from the right at an index below the order, times the common denominator.
+fn right_at(shape: &Shape, index: u32) -> i64
+    requires { index < shape.now.order }
+    ensures value { result ≡ at shape.now.right index }
+    ensures small { IsNumerator result }
+{
+    shape.right_numerators()[index as usize]
 }

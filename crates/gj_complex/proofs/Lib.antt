@@ -1,0 +1,4 @@
+mod AllFaces
+mod Numerators
+mod SquareLemmas
+mod WalkLemmas
