@@ -1,1 +1,4 @@
+pub mod GivenPoints
+mod OverScale
 pub mod Places
+pub mod TestedPoints
