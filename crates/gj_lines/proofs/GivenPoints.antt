@@ -175,10 +175,12 @@ not_large_and_fine points p (a, x, at_x, large) (b, y, at_y, small, fine) = apar
   where
     same : a ++ x ∷ at_x.after ≡ b ++ y ∷ at_y.after
     same = sym at_x.place ∙ at_y.place
+
     one_place_in : length a ≡ length b → x ≡ y
     one_place_in equal =
         sym (get_or_at a x at_x.after x (length a) refl) ∙ ap (λ xs. get_or xs (length a) x) same
         ∙ get_or_at b y at_y.after x (length a) (sym equal)
+
     apart : (length a ≡ length b) ⊎ ((length a < length b) ⊎ (length b < length a)) → ⊥
     apart (inl equal) = large (subst IsSmall (sym (one_place_in equal)) small)
     apart (inr (inl less)) =

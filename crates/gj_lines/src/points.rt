@@ -101,7 +101,14 @@ impl Points {
         let left = lefts(alloc, self.points.as_slice())?;
         let value = values(alloc, self.points.as_slice())?;
         let right = rights(alloc, self.points.as_slice())?;
-        match Shape::new(alloc, order, place, left.as_slice(), value.as_slice(), right.as_slice()) {
+        match Shape::new(
+            alloc,
+            order,
+            place,
+            left.as_slice(),
+            value.as_slice(),
+            right.as_slice(),
+        ) {
             Ok(shape) => Ok(shape),
             Err(ShapeFault::Memory(error)) => Err(error),
             Err(_) => unreachable!(),
