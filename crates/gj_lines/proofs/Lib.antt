@@ -1,0 +1,5 @@
+pub mod GivenPoints
+mod OverScale
+pub mod Places
+mod PointLines
+pub mod TestedPoints

@@ -4,7 +4,7 @@ use Rattle.std.specs.Int.{◌∣◌}
 use Rattle.std.specs.List.{AllZip}
 use Rattle.gj_frac.specs.declared.Frac.{Frac}
 use Rattle.gj_frac.specs.Fraction.{Is, denominator}
-use Rattle.gj_shape.specs.FunctionData.{FunctionData}
+use Rattle.gj_shape.specs.FunctionData.{FunctionData, at}
 use Rattle.gj_shape.specs.Given.{IsPlace, IsSmall, HasCommonDenominator}
 use Rattle.gj_lines.specs.declared.points.Point.{Point}
 use Rattle.gj_lines.specs.declared.points.PointFault.{PointFault}
@@ -36,6 +36,12 @@ pub record ArePointsOf (f : FunctionData) (points : List Point) : Type 0 where
   pub left_are : AllZip (λ x n. Is x n (pos f.scale)) (lefts points) f.left
   pub value_are : AllZip (λ x n. Is x n (pos f.scale)) (values points) f.value
   pub right_are : AllZip (λ x n. Is x n (pos f.scale)) (rights points) f.right
+
+-- the point is that of the function at i/order, each fraction over its scale
+pub record IsPointAt (f : FunctionData) (i : ℕ) (p : Point) : Type 0 where
+  pub left_is : Is p.left (at f.left i) (pos f.scale)
+  pub value_is : Is p.value (at f.value i) (pos f.scale)
+  pub right_is : Is p.right (at f.right i) (pos f.scale)
 
 -- x is the first fraction of the point that fails a test; those before it go with the points
 pub record IsFirstRefused (points : List Point) (p : Point) (before : List Frac) (x : Frac) : Type 0 where

@@ -4,6 +4,8 @@
 mod place;
 mod points;
 mod print;
+#[cfg(test)]
+mod tests;
 
 pub use place::place_of;
 pub use points::{Point, PointFault, Points};

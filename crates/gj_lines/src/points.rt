@@ -83,12 +83,11 @@ impl Points {
         ensures err { OnErr result (self.new ≡ self.old) }
         ensures fault { IfErr result (IsPointFault self.old point) }
     {
-        let mut scale = self.scale;
-        for fraction in [point.left, point.value, point.right] {
-            scale = wider(scale, fraction)?;
-        }
+        let with_left = wider(self.scale, point.left)?;
+        let with_value = wider(with_left, point.value)?;
+        let with_right = wider(with_value, point.right)?;
         self.points.push(point)?;
-        self.scale = scale;
+        self.scale = with_right;
         Ok(())
     }
 
@@ -99,20 +98,43 @@ impl Points {
         requires count { length self.now ≡ order }
         ensures { IfOk result (IsGivenBy order place (lefts self.now) (values self.now) (rights self.now)) }
     {
-        let mut left = Vec::with_capacity(alloc, self.points.len())?;
-        let mut value = Vec::with_capacity(alloc, self.points.len())?;
-        let mut right = Vec::with_capacity(alloc, self.points.len())?;
-        for point in self.points.iter() {
-            left.push(point.left)?;
-            value.push(point.value)?;
-            right.push(point.right)?;
-        }
-        match Shape::new(alloc, order, place, left.as_slice(), value.as_slice(), right.as_slice()) {
+        let left = lefts(alloc, self.points.as_slice())?;
+        let value = values(alloc, self.points.as_slice())?;
+        let right = rights(alloc, self.points.as_slice())?;
+        match Shape::new(
+            alloc,
+            order,
+            place,
+            left.as_slice(),
+            value.as_slice(),
+            right.as_slice(),
+        ) {
             Ok(shape) => Ok(shape),
             Err(ShapeFault::Memory(error)) => Err(error),
             Err(_) => unreachable!(),
         }
     }
+}
+
+/// The limits from the left.
+fn lefts(alloc: Global, points: &[Point]) -> Result<Vec<Frac>, AllocError>
+    ensures { IfOk result (λ xs. xs.items ≡ lefts points.now) }
+{
+    points.iter().map(|point| point.left).collect(alloc)
+}
+
+/// The values.
+fn values(alloc: Global, points: &[Point]) -> Result<Vec<Frac>, AllocError>
+    ensures { IfOk result (λ xs. xs.items ≡ values points.now) }
+{
+    points.iter().map(|point| point.value).collect(alloc)
+}
+
+/// The limits from the right.
+fn rights(alloc: Global, points: &[Point]) -> Result<Vec<Frac>, AllocError>
+    ensures { IfOk result (λ xs. xs.items ≡ rights points.now) }
+{
+    points.iter().map(|point| point.right).collect(alloc)
 }
 
 /// The least common denominator `scale` of some fractions with one more.

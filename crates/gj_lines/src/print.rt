@@ -1,9 +1,10 @@
 //! The lines of a function, printed.
-ghost use Rattle.std.specs.Prelude.{◌≡◌, ◌<◌, ◌++◌, ℕ, List, pos, flat_map, OnOk};
-ghost use Rattle.std.specs.List.{AllZip};
+ghost use Rattle.std.specs.Prelude.{◌≡◌, ◌<◌, ◌++◌, ℕ, List, codes, pos, flat_map, OnOk};
 ghost use Rattle.gj_frac.specs.Fraction.{Is};
-ghost use Rattle.gj_shape.specs.FunctionData.{IsWithinLimits};
-ghost use Rattle.gj_lines.specs.FunctionLines.{fraction_line, order_line, place_line, point_line, AreFunctionLines};
+ghost use Rattle.gj_lex.specs.NumberText.{fraction_text};
+ghost use Rattle.gj_lines.specs.Points.{ArePointsOf, IsPointAt};
+ghost use Rattle.gj_lines.specs.FunctionLines.{fraction_line, order_line, place_line, has_no_jump, point_text, point_line, AreFunctionLines};
+ghost use Rattle.gj_lines.specs.declared.points.Point.{Point};
 
 use crate::points::Point;
 use gj_frac::Frac;
@@ -28,5 +29,94 @@ pub fn push_function_lines(out: &mut Vec<u8>, shape: &Shape) -> Result<(), Alloc
     ensures { OnOk result ((lines : List ℕ) × AreFunctionLines shape.now lines
         × (out.new.items ≡ out.old.items ++ lines)) }
 {
-    unreachable!()
+    push_head(out, shape.order(), ratio(shape.place(), shape.order()))?;
+    push_point_lines(out, shape)
+}
+
+/// Appends the lines of an order and a place.
+fn push_head(out: &mut Vec<u8>, order: u32, place: Frac) -> Result<(), AllocError>
+    ensures { OnOk result (out.new.items ≡ out.old.items ++ (order_line order ++ place_line place)) }
+{
+    push_order_line(out, order)?;
+    push_fraction_line(out, b"f ", place)
+}
+
+/// Appends the line of an order.
+fn push_order_line(out: &mut Vec<u8>, order: u32) -> Result<(), AllocError>
+    ensures { OnOk result (out.new.items ≡ out.old.items ++ order_line order) }
+{
+    out.extend_from_slice(b"order ")?;
+    print_count(out, order)?;
+    out.push(b'\n')?;
+    Ok(())
+}
+
+/// The fraction `n/d`.
+fn ratio(n: u32, d: u32) -> Frac
+    requires { 0 < d }
+    ensures { Is result (pos n) (pos d) }
+{
+    Frac::new(i128::from(n), i128::from(d)).unwrap()
+}
+
+/// Appends a point line for each multiple of 1/q.
+fn push_point_lines(out: &mut Vec<u8>, shape: &Shape) -> Result<(), AllocError>
+    ensures { OnOk result ((points : List Point) × ArePointsOf shape.now points
+        × (out.new.items ≡ out.old.items ++ flat_map point_line points)) }
+{
+    for i in 0..shape.order() {
+        push_point_line(out, point_at(shape, i))?;
+    }
+    Ok(())
+}
+
+/// The limits and the value at i/q.
+fn point_at(shape: &Shape, i: u32) -> Point
+    requires { i < shape.now.order }
+    ensures { IsPointAt shape.now i result }
+{
+    Point {
+        left: shape.left(i),
+        value: shape.value(i),
+        right: shape.right(i),
+    }
+}
+
+/// Appends the line of a point.
+fn push_point_line(out: &mut Vec<u8>, point: Point) -> Result<(), AllocError>
+    ensures { OnOk result (out.new.items ≡ out.old.items ++ point_line point) }
+{
+    out.extend_from_slice(b"point ")?;
+    push_point(out, point)?;
+    out.push(b'\n')?;
+    Ok(())
+}
+
+/// Appends the one fraction of a point, or the three where they are not equal.
+fn push_point(out: &mut Vec<u8>, point: Point) -> Result<(), AllocError>
+    ensures { OnOk result (out.new.items ≡ out.old.items ++ point_text point) }
+{
+    if has_no_jump(point) {
+        return print_frac(out, point.value);
+    }
+    push_three(out, point)
+}
+
+/// Appends the three fractions of a point, parted by blanks.
+fn push_three(out: &mut Vec<u8>, point: Point) -> Result<(), AllocError>
+    ensures { OnOk result (out.new.items ≡ out.old.items ++ (fraction_text point.left ++ codes " "
+        ++ fraction_text point.value ++ codes " " ++ fraction_text point.right)) }
+{
+    print_frac(out, point.left)?;
+    out.extend_from_slice(b" ")?;
+    print_frac(out, point.value)?;
+    out.extend_from_slice(b" ")?;
+    print_frac(out, point.right)
+}
+
+/// Whether the limits are the value.
+fn has_no_jump(point: Point) -> bool
+    ensures { result ≡ has_no_jump point }
+{
+    point.left == point.value && point.value == point.right
 }
