@@ -1,5 +1,6 @@
 -- How many faces there are, and where they lie.
-use Rattle.std.proofs.Common.{◌≡◌, ℕ, zero, suc, ◌+◌, ◌*◌, ◌<◌, List, [], ◌∷◌, length, refl, ap₂, sym, ◌∙◌, length-append, arith}
+use Rattle.std.proofs.Common.{◌≡◌, ℕ, zero, suc, ◌+◌, ◌*◌, ◌<◌, List, [], ◌∷◌, length, length-append}
+use Rattle.std.proofs.Common.{refl, ap₂, sym, ◌∙◌, arith}
 use Rattle.std.specs.List.{range_with_len, flat_map, All}
 use Rattle.std.proofs.Math.Nat.{suc-mul, mul_comm, mul_assoc}
 use Rattle.std.proofs.lemmas.List.Elements.{All-nil, All-cons, All-append}

@@ -3,7 +3,8 @@ use Rattle.std.proofs.Common.{◌≡◌, ℕ, suc, ◌+◌, ◌-◌, ◌<◌, �
 use Rattle.std.specs.List.{range_with_len, flat_map}
 use Rattle.gj_shape.specs.declared.faces.Face.{Face}
 use Rattle.gj_shape.specs.declared.faces.FaceKind.TheVariants.{Vertex}
-use Rattle.gj_complex.specs.Walk.{faces_of, faces_of_square, faces_after, faces_from, row_from, rows_from, kinds_after, faces_in}
+use Rattle.gj_complex.specs.Walk.{faces_of, faces_of_square, faces_in, row_from, rows_from}
+use Rattle.gj_complex.specs.Walk.{faces_after, faces_from, kinds_after}
 
 range_step : (i q : ℕ) → i < q → range_with_len i (q - i) ≡ i ∷ range_with_len (i + 1) (q - (i + 1))
 range_step i q h =

@@ -31,10 +31,11 @@ abbrev pub kinds_from : Option FaceKind → List FaceKind
 kinds_from (Some kind) = kind ∷ kinds_after kind
 kinds_from None = []
 
--- the faces of the row a from the square (a, b) on, and those of the rows from a on
+-- the faces of the row a from the square (a, b) on
 abbrev pub row_from : ℕ → ℕ → ℕ → List Face
 row_from q a b = flat_map (faces_of_square a) (range_with_len b (q - b))
 
+-- the faces of the rows from a on
 abbrev pub rows_from : ℕ → ℕ → List Face
 rows_from q a = flat_map (λ a. row_from q a 0) (range_with_len a (q - a))
 

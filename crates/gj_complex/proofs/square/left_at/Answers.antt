@@ -10,7 +10,8 @@ pub returns : goal.returns
 returns c =
     let f = c.args.shape.now in
     let limits = c.left_numerators.ensures.limits in
-    let read : to_z w64 (of_z w64 (get_or c.left_numerators.result.now c.args.index (pos 0))) ≡ at f.left c.args.index =
+    let read : to_z w64 (of_z w64 (get_or c.left_numerators.result.now c.args.index (pos 0))) ≡
+    at f.left c.args.index =
     to_z-of_z w64 _ (search rules)
     ∙ ap (λ xs. get_or xs c.args.index (pos 0)) c.left_numerators.ensures.value
     ∙ sym (at_below f.left c.args.index (omega (arith, limits.left_length))) in

@@ -10,7 +10,8 @@ pub returns : goal.returns
 returns c =
     let f = c.args.shape.now in
     let limits = c.right_numerators.ensures.limits in
-    let read : to_z w64 (of_z w64 (get_or c.right_numerators.result.now c.args.index (pos 0))) ≡ at f.right c.args.index =
+    let read : to_z w64 (of_z w64 (get_or c.right_numerators.result.now c.args.index (pos 0))) ≡
+    at f.right c.args.index =
     to_z-of_z w64 _ (search rules)
     ∙ ap (λ xs. get_or xs c.args.index (pos 0)) c.right_numerators.ensures.value
     ∙ sym (at_below f.right c.args.index (omega (arith, limits.right_length))) in
