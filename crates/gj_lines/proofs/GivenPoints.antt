@@ -3,9 +3,9 @@ use Rattle.std.proofs.Common.{◌≡◌, ℕ, ◌+◌, ◌<◌, ◌⊎◌, inl, 
 use Rattle.std.specs.List.{AllZip}
 use Rattle.std.proofs.lemmas.Bool.{cases_order}
 use Rattle.std.proofs.lemmas.Int.{ints}
-use Rattle.std.proofs.lemmas.List.{append_assoc, append-nil, length-append, length-map, get_or_at, take_at, take-append-le}
+use Rattle.std.proofs.lemmas.List.{append_assoc, length-append, length-map, get_or_at, take_at, take-append-le}
 use Rattle.std.proofs.lemmas.List.Concat.{flat_map-append}
-use Rattle.std.proofs.lemmas.List.Elements.{All-same, All-take, All-append}
+use Rattle.std.proofs.lemmas.List.Elements.{All-same, All-take}
 use Rattle.std.proofs.lemmas.Slice.Zip.{AllZip-long}
 use Rattle.gj_frac.specs.declared.Frac.{Frac}
 use Rattle.gj_frac.specs.Fraction.{Is}
@@ -15,9 +15,9 @@ use Rattle.gj_shape.specs.FunctionData.{FunctionData, IsWithinLimits}
 use Rattle.gj_shape.specs.Given.{IsSmall, HasCommonDenominator, IsGivenBy}
 use Rattle.gj_shape.proofs.ContinuousGiven.{all_small_given, at_place, up_to_place}
 use Rattle.gj_shape.proofs.InOrder.{all_in_order, all_from_in_order}
-use Rattle.gj_shape.proofs.LeastDenominator.{Divides, common_before}
+use Rattle.gj_shape.proofs.LeastDenominator.{Divides}
 use Rattle.gj_shape.proofs.OneFunction.{same_from_given}
-use Rattle.gj_lines.specs.Points.{lefts, values, rights, fractions_of, all_fractions, ArePointsOf, IsFirstRefused, IsPointFault}
+use Rattle.gj_lines.specs.Points.{lefts, values, rights, fractions_of, all_fractions, ArePointsOf, IsPointFault}
 use Rattle.gj_lines.specs.declared.points.Point.{Point}
 use Rattle.gj_lines.specs.declared.points.PointFault.{PointFault}
 use Rattle.gj_lines.specs.declared.points.PointFault.TheVariants.{Large, Fine, Memory}
@@ -40,7 +40,8 @@ given_by_points points f within are = record {
   place = refl;
   common = all_in_order (Divides f.scale) (lefts points) (values points) (rights points) (as_many_values points)
       (as_many_rights points) (all_divide f.scale (lefts points) f.left are.left_are)
-      (all_divide f.scale (values points) f.value are.value_are) (all_divide f.scale (rights points) f.right are.right_are);
+      (all_divide f.scale (values points) f.value are.value_are)
+      (all_divide f.scale (rights points) f.right are.right_are);
   left_is = all_numerators f.scale (lefts points) f.left are.left_are;
   value_is = all_numerators f.scale (values points) f.value are.value_are;
   right_is = all_numerators f.scale (rights points) f.right are.right_are;
@@ -54,9 +55,12 @@ points_given q k points f given =
     let d = all_from_in_order (Divides f.scale) (lefts points) (values points) (rights points) (as_many_values points)
     (as_many_rights points) given.common in
     record {
-      left_are = subst (AllZip (IsOver f.scale) (lefts points)) (sym given.left_is) (all_over f.scale (lefts points) d.0);
-      value_are = subst (AllZip (IsOver f.scale) (values points)) (sym given.value_is) (all_over f.scale (values points) d.1);
-      right_are = subst (AllZip (IsOver f.scale) (rights points)) (sym given.right_is) (all_over f.scale (rights points) d.2);
+      left_are = subst (AllZip (IsOver f.scale) (lefts points)) (sym given.left_is)
+          (all_over f.scale (lefts points) d.0);
+      value_are = subst (AllZip (IsOver f.scale) (values points)) (sym given.value_is)
+          (all_over f.scale (values points) d.1);
+      right_are = subst (AllZip (IsOver f.scale) (rights points)) (sym given.right_is)
+          (all_over f.scale (rights points) d.2);
     }
 
 -- the points of a function pass all tests
@@ -65,14 +69,17 @@ pub good_points : (points : List Point) (f : FunctionData) → IsWithinLimits f 
 good_points points f within are =
     let given = given_by_points points f within are in
     let order = fractions_in_order points in (
-      subst (All IsSmall) order (all_small_given f.order f.place (lefts points) (values points) (rights points) f given),
+      subst (All IsSmall) order
+          (all_small_given f.order f.place (lefts points) (values points) (rights points) f given),
       (f.scale, within.scale_low, within.scale_high, subst (All (Divides f.scale)) order given.common),
     )
 
 -- there are as many as the order
-pub count_of_points : (points : List Point) (f : FunctionData) → IsWithinLimits f → ArePointsOf f points → length points ≡ f.order
+pub count_of_points : (points : List Point) (f : FunctionData) → IsWithinLimits f → ArePointsOf f points →
+    length points ≡ f.order
 count_of_points points f within are =
-    sym (length-map points (λ p. p.left)) ∙ sym (AllZip-long (IsOver f.scale) (lefts points) f.left are.left_are) ∙ within.left_length
+    sym (length-map points (λ p. p.left)) ∙ sym (AllZip-long (IsOver f.scale) (lefts points) f.left are.left_are)
+    ∙ within.left_length
 
 -- ---- one list of points for a function, and one function for them
 
@@ -98,9 +105,11 @@ same_along scale (p ∷ ps) (q ∷ qs) (l ∷ ls) (v ∷ vs) (r ∷ rs) some a b
     λ i. first i ∷ rest i
 
 -- a function has one list of points
-pub one_list_of_points : (f : FunctionData) (ps qs : List Point) → IsWithinLimits f → ArePointsOf f ps → ArePointsOf f qs → ps ≡ qs
+pub one_list_of_points : (f : FunctionData) (ps qs : List Point) → IsWithinLimits f → ArePointsOf f ps →
+    ArePointsOf f qs → ps ≡ qs
 one_list_of_points f ps qs within p q =
-    same_along f.scale ps qs f.left f.value f.right within.scale_low p.left_are p.value_are p.right_are q.left_are q.value_are q.right_are
+    same_along f.scale ps qs f.left f.value f.right within.scale_low p.left_are p.value_are p.right_are q.left_are
+    q.value_are q.right_are
 
 -- an order, a place and points are those of one function
 pub one_function_of_points : (points : List Point) (f g : FunctionData) → f.order ≡ g.order → f.place ≡ g.place →
@@ -146,7 +155,8 @@ pub no_fault_follows : (points : List Point) (p : Point) (more : List Point) (e 
     All IsSmall (all_fractions (points ++ p ∷ more)) → HasCommonDenominator (all_fractions (points ++ p ∷ more)) →
     IsPointFault points p e → IsMemory e
 no_fault_follows points p more Large small common (before, x, first, large) =
-    large (at_place IsSmall (all_fractions (points ++ p ∷ more)) (all_fractions points ++ before) (first.after ++ all_fractions more) x
+    large (at_place IsSmall (all_fractions (points ++ p ∷ more)) (all_fractions points ++ before)
+    (first.after ++ all_fractions more) x
     (place_among points p more before first.after x first.place) small)
 no_fault_follows points p more Fine small common (before, x, first, is_small, fine) =
     fine (
@@ -166,11 +176,13 @@ up_to_earlier P a b s t x y same less h =
     let n = length front in
     let long : n ≡ length b + 1 = length-append b (y ∷ []) in
     let is : front ≡ take n a =
-    sym (take_at front t n refl) ∙ ap (take n) (append_assoc b (y ∷ []) t ∙ sym same) ∙ take-append-le n a (x ∷ s) (omega arith) in
+    sym (take_at front t n refl) ∙ ap (take n) (append_assoc b (y ∷ []) t ∙ sym same)
+    ∙ take-append-le n a (x ∷ s) (omega arith) in
     All-same P front (take n a) is (All-take P n a h)
 
 -- a fraction that is too large and one that leaves no common denominator are not both the first that fails
-pub not_large_and_fine : (points : List Point) (p : Point) → IsPointFault points p Large → IsPointFault points p Fine → ⊥
+pub not_large_and_fine : (points : List Point) (p : Point) → IsPointFault points p Large →
+    IsPointFault points p Fine → ⊥
 not_large_and_fine points p (a, x, at_x, large) (b, y, at_y, small, fine) = apart (cases_order (length a) (length b))
   where
     same : a ++ x ∷ at_x.after ≡ b ++ y ∷ at_y.after
@@ -184,13 +196,15 @@ not_large_and_fine points p (a, x, at_x, large) (b, y, at_y, small, fine) = apar
     apart : (length a ≡ length b) ⊎ ((length a < length b) ⊎ (length b < length a)) → ⊥
     apart (inl equal) = large (subst IsSmall (sym (one_place_in equal)) small)
     apart (inr (inl less)) =
-        large (at_place IsSmall (a ++ x ∷ []) a [] x refl (up_to_earlier IsSmall b a at_y.after at_x.after y x (sym same) less at_y.small))
+        large (at_place IsSmall (a ++ x ∷ []) a [] x refl
+        (up_to_earlier IsSmall b a at_y.after at_x.after y x (sym same) less at_y.small))
     apart (inr (inr less)) =
         let xs = all_fractions points in
         let d = at_x.common.0 in
         let all_same : xs ++ a ++ x ∷ at_x.after ≡ xs ++ b ++ y ∷ at_y.after =
         append_assoc xs a (x ∷ at_x.after) ∙ ap (λ ys. xs ++ ys) same ∙ sym (append_assoc xs b (y ∷ at_y.after)) in
-        let all_less : length (xs ++ b) < length (xs ++ a) = omega (arith, less, length-append xs a, length-append xs b) in
+        let all_less : length (xs ++ b) < length (xs ++ a) =
+        omega (arith, less, length-append xs a, length-append xs b) in
         fine (
           d,
           at_x.common.1,
@@ -199,7 +213,8 @@ not_large_and_fine points p (a, x, at_x, large) (b, y, at_y, small, fine) = apar
         )
 
 -- so a point that cannot follow others has one fault, unless memory is wanting
-pub one_point_fault : (points : List Point) (p : Point) (e d : PointFault) → IsPointFault points p e → IsPointFault points p d →
+pub one_point_fault : (points : List Point) (p : Point) (e d : PointFault) → IsPointFault points p e →
+    IsPointFault points p d →
     (IsMemory e → ⊥) → (IsMemory d → ⊥) → e ≡ d
 one_point_fault points p Large Large a b no_e no_d = refl
 one_point_fault points p Large Fine a b no_e no_d = absurd (not_large_and_fine points p a b)

@@ -25,7 +25,8 @@ over_scale : (scale : ℕ) (x : Frac) → Divides scale x → IsOver scale x (nu
 over_scale scale x h =
     let d = unsigned_abs (denominator x) in
     let whole : scale ≡ scale / d * d = sym (mul-div_cancel' d h) ∙ mul_comm d (scale / d) in
-    let split : pos scale ≡ pos (scale / d) *ℤ denominator x = ap pos whole ∙ ap (λ z. pos (scale / d) *ℤ z) (denominator_is x) in
+    let split : pos scale ≡ pos (scale / d) *ℤ denominator x =
+    ap pos whole ∙ ap (λ z. pos (scale / d) *ℤ z) (denominator_is x) in
     ap (λ z. numerator x *ℤ z) split ∙ sym (mul_assoc_z (numerator x) (pos (scale / d)) (denominator x))
 
 -- where a whole number over the scale is the fraction, the denominator divides the scale
@@ -43,17 +44,23 @@ numerator_from_over scale x n e =
 
 -- ---- a list of fractions over a common denominator
 
-pub all_over : (scale : ℕ) (xs : List Frac) → All (Divides scale) xs → AllZip (IsOver scale) xs (map (numerator_over scale) xs)
+pub all_over : (scale : ℕ) (xs : List Frac) → All (Divides scale) xs →
+    AllZip (IsOver scale) xs (map (numerator_over scale) xs)
 all_over scale [] h = tt
-all_over scale (x ∷ xs) h = (over_scale scale x (All-head (Divides scale) x xs h), all_over scale xs (All-tail (Divides scale) x xs h))
+all_over scale (x ∷ xs) h = (
+  over_scale scale x (All-head (Divides scale) x xs h),
+  all_over scale xs (All-tail (Divides scale) x xs h),
+)
 
 pub all_divide : (scale : ℕ) (xs : List Frac) (ns : List ℤ) → AllZip (IsOver scale) xs ns → All (Divides scale) xs
 all_divide scale [] [] h = All-nil (Divides scale)
 all_divide scale [] (n ∷ ns) h = absurd h
 all_divide scale (x ∷ xs) [] h = absurd h
-all_divide scale (x ∷ xs) (n ∷ ns) h = All-cons (Divides scale) x xs (divides_from_over scale x n h.0) (all_divide scale xs ns h.1)
+all_divide scale (x ∷ xs) (n ∷ ns) h =
+    All-cons (Divides scale) x xs (divides_from_over scale x n h.0) (all_divide scale xs ns h.1)
 
-pub all_numerators : (scale : ℕ) (xs : List Frac) (ns : List ℤ) → AllZip (IsOver scale) xs ns → ns ≡ map (numerator_over scale) xs
+pub all_numerators : (scale : ℕ) (xs : List Frac) (ns : List ℤ) → AllZip (IsOver scale) xs ns →
+    ns ≡ map (numerator_over scale) xs
 all_numerators scale [] [] h = refl
 all_numerators scale [] (n ∷ ns) h = absurd h
 all_numerators scale (x ∷ xs) [] h = absurd h

@@ -22,7 +22,8 @@ pub record IsPlaceOf (num den : ℤ) (order k : ℕ) : Type 0 where
   pub divides : order % d ≡ 0
   pub place_is : n * (order / d) ≡ k
 
-parts_of_place : (n d order k : ℕ) → 0 < d → 0 < order → d ∣ order → n * order ≡ k * d → IsPlaceOf (pos n) (pos d) order k
+parts_of_place : (n d order k : ℕ) → 0 < d → 0 < order → d ∣ order → n * order ≡ k * d →
+    IsPlaceOf (pos n) (pos d) order k
 parts_of_place n d order k some some_order h e =
     let whole : d * (order / d) ≡ order = mul-div_cancel' d h in
     let place : n * (order / d) ≡ k =
@@ -42,7 +43,8 @@ parts_of_place n d order k some some_order h e =
       place_is = place;
     }
 
-pub place_parts : (num den : ℤ) (order k : ℕ) → IsLowest num den → 0 < order → num *ℤ pos order ≡ pos k *ℤ den → IsPlaceOf num den order k
+pub place_parts : (num den : ℤ) (order k : ℕ) → IsLowest num den → 0 < order → num *ℤ pos order ≡ pos k *ℤ den →
+    IsPlaceOf num den order k
 place_parts (pos n) (pos d) order k low some e =
     parts_of_place n d order k (omega (arith, ints, low.positive)) some
     (whole_multiple (pos n) (pos k) d order low.coprime (mul_comm_z (pos order) (pos n) ∙ e)) (omega (arith, ints, e))
@@ -52,10 +54,13 @@ place_parts (negsuc n) (pos d) order k low some e =
 place_parts num (negsuc d) order k low some e = absurd (omega (arith, ints, low.positive))
 
 -- the number read for the place is the place
-pub place_found : (num den : ℤ) (n d order k : ℕ) → num ≡ pos n → den ≡ pos d → order % d ≡ 0 → k ≡ n * (order / d) → num *ℤ pos order ≡ pos k *ℤ den
+pub place_found : (num den : ℤ) (n d order k : ℕ) → num ≡ pos n → den ≡ pos d → order % d ≡ 0 → k ≡ n * (order / d) →
+    num *ℤ pos order ≡ pos k *ℤ den
 place_found num den n d order k num_is den_is divides k_is =
     let whole : d * (order / d) ≡ order = mul-div_cancel' d (dvd_of_mod-eq-zero d divides) in
-    let same : n * order ≡ k * d = ap (λ m. n * m) (sym whole ∙ mul_comm d (order / d)) ∙ sym (mul_assoc n (order / d) d) ∙ ap (λ m. m * d) (sym k_is) in
+    let same : n * order ≡ k * d =
+    ap (λ m. n * m) (sym whole ∙ mul_comm d (order / d)) ∙ sym (mul_assoc n (order / d) d)
+    ∙ ap (λ m. m * d) (sym k_is) in
     ap (λ z. z *ℤ pos order) num_is ∙ ap pos same ∙ ap (λ z. pos k *ℤ z) (sym den_is)
 
 -- a part of a fraction goes through a call as it is
@@ -66,7 +71,8 @@ pub some_order : (order : ℕ) → IsOrder order → 0 < order
 some_order order h = omega (arith, h.0)
 
 -- the product that is computed for the place is the place
-pub product_is : (num den : ℤ) (n d order k : ℕ) → num ≡ pos n → den ≡ pos d → IsPlaceOf num den order k → n * (order / d) ≡ k
+pub product_is : (num den : ℤ) (n d order k : ℕ) → num ≡ pos n → den ≡ pos d → IsPlaceOf num den order k →
+    n * (order / d) ≡ k
 product_is num den n d order k num_is den_is p =
     let same_n : n ≡ p.n = omega (arith, ints, num_is, p.num_is) in
     let same_d : d ≡ p.d = omega (arith, ints, den_is, p.den_is) in

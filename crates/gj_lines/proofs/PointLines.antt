@@ -1,5 +1,5 @@
 -- Point lines, printed one after another.
-use Rattle.std.proofs.Common.{◌≡◌, ℕ, ◌+◌, ◌<◌, ◌≤◌, ℤ, pos, List, [], ◌∷◌, ◌++◌, length, take, flat_map, codes, Bool, true, false, if◌then◌else◌, Result, Ok, Err, OnOk, refl, sym, ap, subst, subst₂, ◌∙◌, arith}
+use Rattle.std.proofs.Common.{◌≡◌, ℕ, ◌+◌, ◌<◌, ◌≤◌, ℤ, pos, List, [], ◌∷◌, ◌++◌, length, take, flat_map, codes, true, false, if◌then◌else◌, Result, Ok, Err, OnOk, refl, sym, ap, subst, ◌∙◌, arith}
 use Rattle.std.specs.List.{AllZip}
 use Rattle.std.proofs.lemmas.List.{append_assoc, append-nil, flat_map_more, map-append, take_more, take_all}
 use Rattle.std.proofs.lemmas.Slice.Zip.{all_zipped_more}
@@ -38,9 +38,11 @@ first_next : (scale : ℕ) (ns : List ℤ) (n : ℕ) (x : Frac) (xs : List Frac)
 first_next scale ns n x xs some are is =
     let next : take (n + 1) ns ≡ take n ns ++ at ns n ∷ [] =
     take_more ns n (pos 0) some ∙ ap (λ z. take n ns ++ z ∷ []) (sym (at_below ns n some)) in
-    subst (AllZip (IsOver scale) (xs ++ x ∷ [])) (sym next) (all_zipped_more (IsOver scale) xs (take n ns) x (at ns n) are is)
+    subst (AllZip (IsOver scale) (xs ++ x ∷ [])) (sym next)
+    (all_zipped_more (IsOver scale) xs (take n ns) x (at ns n) are is)
 
-first_all : (scale : ℕ) (ns : List ℤ) (n : ℕ) (xs : List Frac) → length ns ≤ n → AreFirst scale ns n xs → AllZip (IsOver scale) xs ns
+first_all : (scale : ℕ) (ns : List ℤ) (n : ℕ) (xs : List Frac) → length ns ≤ n → AreFirst scale ns n xs →
+    AllZip (IsOver scale) xs ns
 first_all scale ns n xs most are = subst (AllZip (IsOver scale) xs) (take_all n ns most) are
 
 -- the text before has gained the lines of the first n points of the function
@@ -52,7 +54,13 @@ pub record ArePushed (f : FunctionData) (n : ℕ) (before now : List ℕ) : Type
   spelled : now ≡ before ++ flat_map point_line points
 
 pub none_pushed : (f : FunctionData) (before : List ℕ) → ArePushed f 0 before before
-none_pushed f before = record { points = []; left_are = tt; value_are = tt; right_are = tt; spelled = sym (append-nil before) }
+none_pushed f before = record {
+  points = [];
+  left_are = tt;
+  value_are = tt;
+  right_are = tt;
+  spelled = sym (append-nil before);
+}
 
 pub one_pushed : (f : FunctionData) (n : ℕ) (p : Point) (before now next : List ℕ) → IsWithinLimits f → n < f.order →
     ArePushed f n before now → IsPointAt f n p → next ≡ now ++ point_line p → ArePushed f (n + 1) before next
@@ -61,14 +69,16 @@ one_pushed f n p before now next within some h is next_is = record {
   left_are = subst (AreFirst f.scale f.left (n + 1)) (sym (map-append (λ q. q.left) h.points (p ∷ [])))
       (first_next f.scale f.left n p.left (lefts h.points) (omega (arith, within.left_length)) h.left_are is.left_is);
   value_are = subst (AreFirst f.scale f.value (n + 1)) (sym (map-append (λ q. q.value) h.points (p ∷ [])))
-      (first_next f.scale f.value n p.value (values h.points) (omega (arith, within.value_length)) h.value_are is.value_is);
+      (first_next f.scale f.value n p.value (values h.points)
+      (omega (arith, within.value_length)) h.value_are is.value_is);
   right_are = subst (AreFirst f.scale f.right (n + 1)) (sym (map-append (λ q. q.right) h.points (p ∷ [])))
-      (first_next f.scale f.right n p.right (rights h.points) (omega (arith, within.right_length)) h.right_are is.right_is);
+      (first_next f.scale f.right n p.right (rights h.points)
+      (omega (arith, within.right_length)) h.right_are is.right_is);
   spelled = next_is ∙ ap (λ t. t ++ point_line p) h.spelled ∙ flat_map_more point_line before h.points p;
 }
 
-pub all_pushed : (f : FunctionData) (n : ℕ) (before now : List ℕ) → IsWithinLimits f → f.order ≤ n → ArePushed f n before now →
-    (points : List Point) × ArePointsOf f points × (now ≡ before ++ flat_map point_line points)
+pub all_pushed : (f : FunctionData) (n : ℕ) (before now : List ℕ) → IsWithinLimits f → f.order ≤ n →
+    ArePushed f n before now → (points : List Point) × ArePointsOf f points × (now ≡ before ++ flat_map point_line points)
 all_pushed f n before now within most h = (
   h.points,
   record {
@@ -80,7 +90,8 @@ all_pushed f n before now within most h = (
 )
 
 -- the lines of a function: the head is pushed, and then the point lines
-pub lines_pushed : {E : Type 0} (f : FunctionData) (order : ℕ) (place : Frac) (r : Result (Unit {0}) E) (before head now : List ℕ) →
+pub lines_pushed : {E : Type 0} (f : FunctionData) (order : ℕ) (place : Frac) (r : Result (Unit {0}) E)
+    (before head now : List ℕ) →
     order ≡ f.order → Is place (pos f.place) (pos f.order) → head ≡ before ++ (order_line order ++ place_line place) →
     OnOk r ((points : List Point) × ArePointsOf f points × (now ≡ head ++ flat_map point_line points)) →
     OnOk r ((lines : List ℕ) × AreFunctionLines f lines × (now ≡ before ++ lines))
@@ -88,6 +99,7 @@ lines_pushed f order place (Err e) before head now order_is place_is head_is h =
 lines_pushed f order place (Ok u) before head now order_is place_is head_is (points, are, now_is) = (
   lines_of f.order place points,
   record { place = place; points = points; place_is = place_is; points_are = are; spelled = refl },
-  now_is ∙ ap (λ t. t ++ flat_map point_line points) (head_is ∙ ap (λ q. before ++ (order_line q ++ place_line place)) order_is)
+  now_is ∙ ap (λ t. t ++ flat_map point_line points)
+      (head_is ∙ ap (λ q. before ++ (order_line q ++ place_line place)) order_is)
       ∙ append_assoc before (order_line f.order ++ place_line place) (flat_map point_line points),
 )

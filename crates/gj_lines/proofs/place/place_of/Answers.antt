@@ -9,13 +9,15 @@ pub returns-in_err-numerator-clause-none : goal.returns-in_err-numerator-clause-
 returns-in_err-numerator-clause-none c = rw c.from_residual.ensures (λ h.
     let p = place_parts _ _ _ h.0 c.args.fraction.lowest (some_order _ c.requires) h.2 in
     let is = passed_part _ _ c.num.ensures c.args.fraction.lowest.num_fits ∙ p.num_is in
-    absurd (none-some p.n (sym c.in_err-numerator.was ∙ c.count_of.ensures.only p.n (omega (arith, p.num_at_most, h.1, c.requires)) is)))
+    absurd (none-some p.n (sym c.in_err-numerator.was ∙ c.count_of.ensures.only p.n
+    (omega (arith, p.num_at_most, h.1, c.requires)) is)))
 
 pub returns-in_err-denominator-clause-none : goal.returns-in_err-denominator-clause-none
 returns-in_err-denominator-clause-none c = rw c.from_residual-in_err-denominator.ensures (λ h.
     let p = place_parts _ _ _ h.0 c.args.fraction.lowest (some_order _ c.requires) h.2 in
     let is = passed_part _ _ c.den.ensures c.args.fraction.lowest.den_fits ∙ p.den_is in
-    absurd (none-some p.d (sym c.in_err-denominator.was ∙ c.count_of-2.ensures.only p.d (omega (arith, p.den_at_most, c.requires)) is)))
+    absurd (none-some p.d (sym c.in_err-denominator.was ∙ c.count_of-2.ensures.only p.d
+    (omega (arith, p.den_at_most, c.requires)) is)))
 
 pub returns-then-order-denominator-ne0-clause-none : goal.returns-then-order-denominator-ne0-clause-none
 returns-then-order-denominator-ne0-clause-none c = λ h.

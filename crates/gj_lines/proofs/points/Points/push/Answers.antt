@@ -7,7 +7,8 @@ wider-requires-2 c = widened_some _ _ _ c.in_ok-with_left.ensures.least c.self.i
 
 pub wider-requires-3 : goal.wider-requires-3
 wider-requires-3 c =
-    widened_some _ _ _ c.in_ok-with_value.ensures.least (widened_some _ _ _ c.in_ok-with_left.ensures.least c.self.invariant.low)
+    widened_some _ _ _ c.in_ok-with_value.ensures.least
+    (widened_some _ _ _ c.in_ok-with_left.ensures.least c.self.invariant.low)
 
 pub returns-in_err-with_left-clause-fault : goal.returns-in_err-with_left-clause-fault
 returns-in_err-with_left-clause-fault c =
@@ -17,15 +18,19 @@ returns-in_err-with_left-clause-fault c =
 pub returns-in_err-with_value-clause-fault : goal.returns-in_err-with_value-clause-fault
 returns-in_err-with_value-clause-fault c =
     let p = err_from_is_err_and c.from_residual-in_err-with_value.result c.from_residual-in_err-with_value.ensures.1 in
-    rw (p.1, p.2, ← c.self.view_is) (refused_value _ c.args.point _ _ _ c.self.invariant c.in_ok-with_left.ensures.least c.in_err-with_value.ensures.fault)
+    rw (p.1, p.2, ← c.self.view_is)
+    (refused_value _ c.args.point _ _ _ c.self.invariant c.in_ok-with_left.ensures.least
+    c.in_err-with_value.ensures.fault)
 
 pub returns-in_err-with_right-clause-fault : goal.returns-in_err-with_right-clause-fault
 returns-in_err-with_right-clause-fault c =
     let p = err_from_is_err_and c.from_residual-in_err-with_right.result c.from_residual-in_err-with_right.ensures.1 in
     rw (p.1, p.2, ← c.self.view_is)
-    (refused_right _ c.args.point _ _ _ _ c.self.invariant c.in_ok-with_left.ensures.least c.in_ok-with_value.ensures.least c.in_err-with_right.ensures.fault)
+    (refused_right _ c.args.point _ _ _ _ c.self.invariant c.in_ok-with_left.ensures.least
+    c.in_ok-with_value.ensures.least c.in_err-with_right.ensures.fault)
 
 pub invariant_of-self-2 : goal.invariant_of-self-2
 invariant_of-self-2 c =
     rw c.in_ok-push.ensures.items
-    (least_with_point _ c.args.point _ _ _ _ c.self.invariant c.in_ok-with_left.ensures.least c.in_ok-with_value.ensures.least c.in_ok-with_right.ensures.least)
+    (least_with_point _ c.args.point _ _ _ _ c.self.invariant c.in_ok-with_left.ensures.least
+    c.in_ok-with_value.ensures.least c.in_ok-with_right.ensures.least)

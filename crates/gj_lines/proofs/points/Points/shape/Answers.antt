@@ -1,4 +1,4 @@
-use Rattle.std.proofs.Common.{◌≡◌, length, ap, ◌∙◌, rules}
+use Rattle.std.proofs.Common.{length, ap, ◌∙◌, rules}
 use Rattle.gj_lines.specs.Points.{lefts, values, rights}
 use Rattle.gj_lines.proofs.TestedPoints.{only_memory}
 use Rattle.gj_lines.proofs.points.Points.shape.Goals as goal
