@@ -13,7 +13,7 @@ use Rattle.gj_frac.proofs.Integers.{mul_cancel_right_z, abs_positive_z}
 use Rattle.gj_frac.proofs.SameValues.{same_from_is}
 use Rattle.gj_shape.specs.FunctionData.{FunctionData, IsWithinLimits}
 use Rattle.gj_shape.specs.Given.{IsSmall, HasCommonDenominator, IsGivenBy}
-use Rattle.gj_shape.proofs.ContinuousGiven.{all_small_given, at_place, up_to_place}
+use Rattle.gj_shape.proofs.GivenLists.{all_small_given, at_place, up_to_place}
 use Rattle.gj_shape.proofs.InOrder.{all_in_order, all_from_in_order}
 use Rattle.gj_shape.proofs.LeastDenominator.{Divides}
 use Rattle.gj_shape.proofs.OneFunction.{same_from_given}
@@ -21,7 +21,7 @@ use Rattle.gj_lines.specs.Points.{lefts, values, rights, fractions_of, all_fract
 use Rattle.gj_lines.specs.declared.points.Point.{Point}
 use Rattle.gj_lines.specs.declared.points.PointFault.{PointFault}
 use Rattle.gj_lines.specs.declared.points.PointFault.TheVariants.{Large, Fine, Memory}
-use Rattle.gj_lines.proofs.OverScale.{IsOver, all_over, all_divide, all_numerators}
+use Rattle.gj_shape.proofs.OverScale.{IsOver, all_over, all_divide, all_numerators}
 use Rattle.gj_lines.proofs.TestedPoints.{fractions_in_order}
 
 -- ---- the points give the function, and the function the points

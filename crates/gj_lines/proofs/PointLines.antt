@@ -11,7 +11,7 @@ use Rattle.gj_shape.proofs.AtLemmas.{at_below}
 use Rattle.gj_lines.specs.Points.{lefts, values, rights, ArePointsOf, IsPointAt}
 use Rattle.gj_lines.specs.FunctionLines.{order_line, place_line, has_no_jump, point_text, point_line, lines_of, AreFunctionLines}
 use Rattle.gj_lines.specs.declared.points.Point.{Point}
-use Rattle.gj_lines.proofs.OverScale.{IsOver}
+use Rattle.gj_shape.proofs.OverScale.{IsOver}
 
 -- ---- the fractions of a point
 

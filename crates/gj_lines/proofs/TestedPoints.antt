@@ -8,7 +8,7 @@ use Rattle.gj_frac.proofs.Divisors.{lcm_positive}
 use Rattle.gj_shape.specs.Given.{in_order, IsSmall, IsOrder, IsPlace, HaveLength, HasFault}
 use Rattle.gj_shape.specs.Denominators.{IsLeastDenominator, Widens}
 use Rattle.gj_shape.specs.declared.faults.ShapeFault.{ShapeFault}
-use Rattle.gj_shape.proofs.ContinuousGiven.{IsMemory, no_fault_given}
+use Rattle.gj_shape.proofs.GivenLists.{IsMemory, no_fault_given}
 use Rattle.gj_shape.proofs.GivenLemmas.{over_scale, given_over_scale}
 use Rattle.gj_shape.proofs.LeastDenominator.{denominator_some, least_with_next, common_before, common_last}
 use Rattle.gj_lines.specs.Points.{lefts, values, rights, fractions_of, all_fractions, IsFirstRefused, IsPointFault, IsRefusedOver}

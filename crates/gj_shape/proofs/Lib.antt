@@ -1,6 +1,7 @@
 pub mod AtLemmas
 pub mod Averages
-pub mod ContinuousGiven
+pub mod OverScale
+pub mod GivenLists
 pub mod DerivedLemmas
 pub mod GivenLemmas
 pub mod InOrder

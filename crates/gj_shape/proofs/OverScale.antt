@@ -1,14 +1,15 @@
 -- Fractions as whole numbers over a common denominator.
-use Rattle.std.proofs.Common.{◌≡◌, ℕ, ◌*◌, ◌/◌, List, [], ◌∷◌, map, All, ℤ, pos, ◌*ℤ◌, unsigned_abs, refl, sym, ap, ◌∙◌, arith}
+use Rattle.std.proofs.Common.{◌≡◌, ℕ, ◌*◌, ◌/◌, ◌<◌, ◌≤◌, ◌^◌, List, [], ◌∷◌, map, All, ℤ, pos, ◌*ℤ◌, unsigned_abs, refl, sym, ap, subst, ◌∙◌, arith}
 use Rattle.std.specs.List.{AllZip}
-use Rattle.std.proofs.Math.Nat.{mul_comm, mul-div_cancel'}
-use Rattle.std.proofs.lemmas.Int.{ints}
+use Rattle.std.proofs.Math.Nat.{mul_comm, mul_assoc, mul-div_cancel', le_of_mul-le-mul_right}
+use Rattle.std.proofs.lemmas.Int.{ints, unsigned_abs-mul}
 use Rattle.std.proofs.lemmas.List.Elements.{All-nil, All-cons, All-head, All-tail}
 use Rattle.gj_frac.specs.declared.Frac.{Frac}
 use Rattle.gj_frac.specs.Fraction.{Is, numerator, denominator}
 use Rattle.gj_frac.proofs.Divisors.{whole_multiple}
 use Rattle.gj_frac.proofs.Integers.{mul_assoc_z, mul_comm_z, mul_cancel_right_z, abs_positive_z, pos_abs_z}
-use Rattle.gj_shape.specs.Given.{numerator_over}
+use Rattle.gj_shape.specs.FunctionData.{IsSmallOver}
+use Rattle.gj_shape.specs.Given.{IsSmall, numerator_over}
 use Rattle.gj_shape.proofs.LeastDenominator.{Divides}
 
 -- the whole number n over the scale is the fraction
@@ -42,6 +43,20 @@ numerator_from_over scale x n e =
     mul_cancel_right_z n (numerator_over scale x) (denominator x)
     (sym e ∙ over_scale scale x (divides_from_over scale x n e)) (omega arith)
 
+-- a fraction is small where its numerator over the scale is
+small_from_over : (scale : ℕ) (x : Frac) → 1 ≤ scale → Divides scale x → IsSmallOver scale (numerator_over scale x) → IsSmall x
+small_from_over scale x low h small =
+    let n = unsigned_abs (numerator x) in
+    let d = unsigned_abs (denominator x) in
+    let c = scale / d in
+    let whole : d * c ≡ scale = mul-div_cancel' d h in
+    let no : c ≡ 0 → ⊥ = λ z. let none = ap (λ m. d * m) z in omega arith in
+    let some : 0 < c = omega (arith, no) in
+    let size : unsigned_abs (numerator_over scale x) ≡ n * c = unsigned_abs-mul (numerator x) (pos c) in
+    let bound : 2 ^ 20 * scale ≡ 2 ^ 20 * d * c = ap (λ m. 2 ^ 20 * m) (sym whole) ∙ sym (mul_assoc (2 ^ 20) d c) in
+    let le : n * c ≤ 2 ^ 20 * d * c = omega arith in
+    le_of_mul-le-mul_right le some
+
 -- ---- a list of fractions over a common denominator
 
 pub all_over : (scale : ℕ) (xs : List Frac) → All (Divides scale) xs →
@@ -65,3 +80,16 @@ all_numerators scale [] [] h = refl
 all_numerators scale [] (n ∷ ns) h = absurd h
 all_numerators scale (x ∷ xs) [] h = absurd h
 all_numerators scale (x ∷ xs) (n ∷ ns) h = (λ i. numerator_from_over scale x n h.0 i ∷ all_numerators scale xs ns h.1 i)
+
+pub all_small : (scale : ℕ) (xs : List Frac) (ns : List ℤ) → 1 ≤ scale → ns ≡ map (numerator_over scale) xs →
+    All (Divides scale) xs → All (IsSmallOver scale) ns → All IsSmall xs
+all_small scale xs ns low e h small = along xs h (subst (All (IsSmallOver scale)) e small)
+  where
+    along : (xs : List Frac) → All (Divides scale) xs → All (IsSmallOver scale) (map (numerator_over scale) xs) → All IsSmall xs
+    along [] h small = All-nil IsSmall
+    along (x ∷ xs) h small =
+        All-cons IsSmall x xs
+        (small_from_over scale x low (All-head (Divides scale) x xs h)
+        (All-head (IsSmallOver scale) (numerator_over scale x) (map (numerator_over scale) xs) small))
+        (along xs (All-tail (Divides scale) x xs h)
+        (All-tail (IsSmallOver scale) (numerator_over scale x) (map (numerator_over scale) xs) small))

@@ -1,0 +1,73 @@
+-- A function that is given by three lists of fractions: their lengths and sizes, and that they have no fault.
+use Rattle.std.proofs.Common.{◌≡◌, ℕ, ◌<◌, List, [], ◌∷◌, ◌++◌, length, take, All, refl, sym, ap, subst, ◌∙◌, arith}
+use Rattle.std.proofs.lemmas.List.{append_assoc, length-append, length-map, get_or_at, take_at}
+use Rattle.std.proofs.lemmas.List.Elements.{All-same, All-take}
+use Rattle.gj_frac.specs.declared.Frac.{Frac}
+use Rattle.gj_shape.specs.FunctionData.{FunctionData}
+use Rattle.gj_shape.specs.Given.{in_order, IsSmall, HaveLength, HasFault, numerator_over, IsGivenBy}
+use Rattle.gj_shape.specs.declared.faults.ShapeFault.{ShapeFault}
+use Rattle.gj_shape.specs.declared.faults.ShapeFault.TheVariants as fault
+use Rattle.gj_shape.proofs.InOrder.{all_in_order, all_from_in_order}
+use Rattle.gj_shape.proofs.LeastDenominator.{Divides}
+use Rattle.gj_shape.proofs.OverScale.{all_small}
+
+lengths_given : (q k : ℕ) (l v r : List Frac) (f : FunctionData) → IsGivenBy q k l v r f → HaveLength l v r q
+lengths_given q k l v r f g =
+    let num = numerator_over f.scale in (
+      sym (length-map l num) ∙ sym (ap length g.left_is) ∙ g.within.left_length ∙ g.order,
+      sym (length-map v num) ∙ sym (ap length g.value_is) ∙ g.within.value_length ∙ g.order,
+      sym (length-map r num) ∙ sym (ap length g.right_is) ∙ g.within.right_length ∙ g.order,
+    )
+
+pub all_small_given : (q k : ℕ) (l v r : List Frac) (f : FunctionData) → IsGivenBy q k l v r f → All IsSmall (in_order l v r)
+all_small_given q k l v r f g =
+    let n = lengths_given q k l v r f g in
+    let value_length : length v ≡ length l = n.1 ∙ sym n.0 in
+    let right_length : length r ≡ length l = n.2 ∙ sym n.0 in
+    let d = all_from_in_order (Divides f.scale) l v r value_length right_length g.common in
+    all_in_order IsSmall l v r value_length right_length
+    (all_small f.scale l f.left g.within.scale_low g.left_is d.0 g.within.left_small)
+    (all_small f.scale v f.value g.within.scale_low g.value_is d.1 g.within.value_small)
+    (all_small f.scale r f.right g.within.scale_low g.right_is d.2 g.within.right_small)
+
+-- what holds of all holds of one of them
+pub at_place : (P : Frac → Type 0) (xs before after : List Frac) (x : Frac) → xs ≡ before ++ x ∷ after → All P xs → P x
+at_place P xs before after x e h =
+    let some : length before < length (before ++ x ∷ after) = omega (arith, length-append before (x ∷ after)) in
+    subst P (get_or_at before x after x (length before) refl) (subst (All P) e h (length before) x some)
+
+pub up_to_place : (P : Frac → Type 0) (xs before after : List Frac) (x : Frac) → xs ≡ before ++ x ∷ after → All P xs → All P (before ++ x ∷ [])
+up_to_place P xs before after x e h =
+    let front = before ++ x ∷ [] in
+    let split : xs ≡ front ++ after = e ∙ sym (append_assoc before (x ∷ []) after) in
+    All-same P front (take (length front) xs) (sym (ap (take (length front)) split ∙ take_at front after (length front) refl))
+    (All-take P (length front) xs h)
+
+-- the fault is want of memory
+abbrev pub IsMemory : ShapeFault → Type 0
+IsMemory (fault.Memory e) = Unit {0}
+IsMemory fault.Order = ⊥
+IsMemory fault.Place = ⊥
+IsMemory fault.Count = ⊥
+IsMemory (fault.TooLarge i) = ⊥
+IsMemory (fault.TooFine i) = ⊥
+
+-- lists that give a function have no other fault
+pub no_fault_given : (q k : ℕ) (l v r : List Frac) (f : FunctionData) (e : ShapeFault) → IsGivenBy q k l v r f → HasFault q k l v r e → IsMemory e
+no_fault_given q k l v r f (fault.Memory e) g h = tt
+no_fault_given q k l v r f fault.Order g h =
+    absurd (h (omega (arith, g.order, g.within.order_low), omega (arith, g.order, g.within.order_high)))
+no_fault_given q k l v r f fault.Place g h =
+    absurd (h.1 (omega (arith, g.place, g.within.place_low), omega (arith, g.place, g.order, g.within.place_high)))
+no_fault_given q k l v r f fault.Count g h = absurd (h.2 (lengths_given q k l v r f g))
+no_fault_given q k l v r f (fault.TooLarge i) g h =
+    let (before, x, first, large) = h.3 in
+    absurd (large (at_place IsSmall (in_order l v r) before first.after x first.place (all_small_given q k l v r f g)))
+no_fault_given q k l v r f (fault.TooFine i) g h =
+    let (before, x, first, small, fine) = h.3 in
+    absurd (fine (
+      f.scale,
+      g.within.scale_low,
+      g.within.scale_high,
+      up_to_place (Divides f.scale) (in_order l v r) before first.after x first.place g.common,
+    ))
