@@ -14,15 +14,18 @@ abbrev pub ArePassed : List Point → Type 0
 ArePassed points = All IsSmall (all_fractions points) × HasCommonDenominator (all_fractions points)
 
 -- the fractions of two runs of points
-fractions_of_parts : (points more : List Point) → all_fractions (points ++ more) ≡ all_fractions points ++ all_fractions more
+fractions_of_parts : (points more : List Point) →
+    all_fractions (points ++ more) ≡ all_fractions points ++ all_fractions more
 fractions_of_parts points more = flat_map-append fractions_of points more
 
-front_all : (P : Frac → Type 0) (points more : List Point) → All P (all_fractions (points ++ more)) → All P (all_fractions points)
+front_all : (P : Frac → Type 0) (points more : List Point) → All P (all_fractions (points ++ more)) →
+    All P (all_fractions points)
 front_all P points more h =
     let front = all_fractions points in
     let both = front ++ all_fractions more in
     let all = subst (All P) (fractions_of_parts points more) h in
-    All-same P front (take (length front) both) (sym (take_at front (all_fractions more) (length front) refl)) (All-take P (length front) both all)
+    All-same P front (take (length front) both) (sym (take_at front (all_fractions more) (length front) refl))
+    (All-take P (length front) both all)
 
 -- the first ones of points that pass pass
 pub front_passed : (points more : List Point) → ArePassed (points ++ more) → ArePassed points

@@ -13,7 +13,7 @@ use Rattle.gj_lex.proofs.Spelling.{same_from_fraction_text}
 use Rattle.gj_lines.specs.FunctionLines.{line, is_same, has_no_jump, point_text, point_line}
 use Rattle.gj_lines.specs.declared.points.Point.{Point}
 use Rattle.gj_proof.specs.Words.{HasField, HasThreeFields, HasPointWords, IsFraction}
-use Rattle.gj_proof.proofs.WordLemmas.{no_feed_in_word, no_space_in_word, fraction_last_word, split_same, word_same, together, no_feed_in_three_words}
+use Rattle.gj_proof.proofs.WordLemmas.{no_feed_in_word, no_space_in_word, fraction_last_word, split_same, word_same, together, no_feed_in_three_words, three_words_line}
 
 -- ---- the fractions of a point
 
@@ -21,15 +21,19 @@ use Rattle.gj_proof.proofs.WordLemmas.{no_feed_in_word, no_space_in_word, fracti
 same_from_is_same : (x y : Frac) → is_same x y ≡ true → x ≡ y
 same_from_is_same x y h =
     let parts = and_parts (int_eq (numerator x) (numerator y)) (int_eq (denominator x) (denominator y)) h in
-    same_parts_same x y ((Decides-int_eq (numerator x) (numerator y)).0 parts.0) ((Decides-int_eq (denominator x) (denominator y)).0 parts.1)
+    same_parts_same x y ((Decides-int_eq (numerator x) (numerator y)).0 parts.0)
+    ((Decides-int_eq (denominator x) (denominator y)).0 parts.1)
 
 is_same_from : (x y : Frac) → x ≡ y → is_same x y ≡ true
 is_same_from x y e =
     and_from (int_eq (numerator x) (numerator y)) (int_eq (denominator x) (denominator y))
-    ((Decides-int_eq (numerator x) (numerator y)).1 (ap numerator e)) ((Decides-int_eq (denominator x) (denominator y)).1 (ap denominator e))
+    ((Decides-int_eq (numerator x) (numerator y)).1 (ap numerator e))
+    ((Decides-int_eq (denominator x) (denominator y)).1 (ap denominator e))
 
 no_jump_from : (p : Point) → p.left ≡ p.value → p.value ≡ p.right → has_no_jump p ≡ true
-no_jump_from p e f = and_from (is_same p.left p.value) (is_same p.value p.right) (is_same_from p.left p.value e) (is_same_from p.value p.right f)
+no_jump_from p e f =
+    and_from (is_same p.left p.value) (is_same p.value p.right) (is_same_from p.left p.value e)
+    (is_same_from p.value p.right f)
 
 same_where_no_jump : (p : Point) → has_no_jump p ≡ true → (p.left ≡ p.value) × (p.value ≡ p.right)
 same_where_no_jump p h =
@@ -43,16 +47,27 @@ point_of l v r = record { left = l; value = v; right = r }
 same_point : (p q : Point) → p.left ≡ q.left → p.value ≡ q.value → p.right ≡ q.right → p ≡ q
 unfolding point_of
 same_point p q e f g =
-    ap (λ x. point_of x p.value p.right) e ∙ ap (λ x. point_of q.left x p.right) f ∙ ap (λ x. point_of q.left q.value x) g
+    ap (λ x. point_of x p.value p.right) e ∙ ap (λ x. point_of q.left x p.right) f
+    ∙ ap (λ x. point_of q.left q.value x) g
 
 -- ---- its words
 
 abbrev pub three_words : Frac → Frac → Frac → List (List ℕ)
 three_words x y z = fraction_text x ∷ fraction_text y ∷ fraction_text z ∷ []
 
+-- the words of one fraction, or of three
+abbrev words_by : Bool → Point → List (List ℕ)
+words_by b p = cond b (fraction_text p.value ∷ []) (three_words p.left p.value p.right)
+
+-- and the text of them
+abbrev text_by : Bool → Point → List ℕ
+text_by b p =
+    cond b (fraction_text p.value)
+    (fraction_text p.left ++ codes " " ++ fraction_text p.value ++ codes " " ++ fraction_text p.right)
+
 -- the words behind `point ` in its line
 abbrev pub words_of : Point → List (List ℕ)
-words_of p = cond (has_no_jump p) (fraction_text p.value ∷ []) (three_words p.left p.value p.right)
+words_of p = words_by (has_no_jump p) p
 
 text_together : (x y z : List ℕ) → x ++ codes " " ++ y ++ codes " " ++ z ≡ x ++ codes " " ++ (y ++ codes " " ++ z)
 text_together x y z = simp append_assoc
@@ -62,7 +77,8 @@ parted_line : (front x y z rest : List ℕ) → line (front ++ (x ++ codes " " +
 parted_line front x y z rest =
     ap (λ t. line t ++ rest) (ap (λ t. front ++ t) (text_together x y z) ∙ sym (together front x y z))
 
-not_all_same : (p : Point) → has_no_jump p ≡ false → fraction_text p.left ≡ fraction_text p.value → fraction_text p.value ≡ fraction_text p.right → ⊥
+not_all_same : (p : Point) → has_no_jump p ≡ false → fraction_text p.left ≡ fraction_text p.value →
+    fraction_text p.value ≡ fraction_text p.right → ⊥
 not_all_same p none e f =
     let jumps = no_jump_from p (same_from_fraction_text p.left p.value e) (same_from_fraction_text p.value p.right f) in
     absurd (let b : false ≡ true = sym none ∙ jumps in cc)
@@ -73,27 +89,28 @@ unfolding point_text
 has_words p text rest is = by (has_no_jump p) refl is
   where
     by : (b : Bool) → has_no_jump p ≡ b →
-        text ≡ line (codes "point " ++ cond b (fraction_text p.value) (fraction_text p.left ++ codes " " ++ fraction_text p.value ++ codes " " ++ fraction_text p.right)) ++ rest →
-        HasPointWords text (cond b (fraction_text p.value ∷ []) (three_words p.left p.value p.right)) rest
+        text ≡ line (codes "point " ++ text_by b p) ++ rest →
+        HasPointWords text (words_by b p) rest
     by true e is = record { is_word = fraction_last_word p.value; spelled = is }
     by false e is = (
       record {
         is_first = (fraction_last_word p.left).is_word;
         is_second = (fraction_last_word p.value).is_word;
         is_third = fraction_last_word p.right;
-        spelled = is ∙ parted_line (codes "point ") (fraction_text p.left) (fraction_text p.value) (fraction_text p.right) rest;
+        spelled = is
+            ∙ parted_line (codes "point ") (fraction_text p.left) (fraction_text p.value) (fraction_text p.right) rest;
       },
       not_all_same p e,
     )
 
 -- one word that spells the value, which is both limits, is the line of the point
-pub one_fraction_line : (p : Point) (text word rest : List ℕ) → HasField text (codes "point ") word rest → word ≡ fraction_text p.value →
-    p.left ≡ p.value → p.value ≡ p.right → text ≡ point_line p ++ rest
+pub one_fraction_line : (p : Point) (text word rest : List ℕ) → HasField text (codes "point ") word rest →
+    word ≡ fraction_text p.value → p.left ≡ p.value → p.value ≡ p.right → text ≡ point_line p ++ rest
 unfolding point_text
 one_fraction_line p text word rest h is e f = by (has_no_jump p) (no_jump_from p e f)
   where
     by : (b : Bool) → b ≡ true →
-        text ≡ line (codes "point " ++ cond b (fraction_text p.value) (fraction_text p.left ++ codes " " ++ fraction_text p.value ++ codes " " ++ fraction_text p.right)) ++ rest
+        text ≡ line (codes "point " ++ text_by b p) ++ rest
     by true t = h.spelled ∙ ap (λ w. line (codes "point " ++ w) ++ rest) is
     by false t = cc
 
@@ -104,15 +121,17 @@ unfolding point_text
 three_fractions_line p text x y z rest h is_left is_value is_right = by (has_no_jump p) refl
   where
     by : (b : Bool) → has_no_jump p ≡ b →
-        text ≡ line (codes "point " ++ cond b (fraction_text p.value) (fraction_text p.left ++ codes " " ++ fraction_text p.value ++ codes " " ++ fraction_text p.right)) ++ rest
+        text ≡ line (codes "point " ++ text_by b p) ++ rest
     by true e =
         let same = same_where_no_jump p e in
-        absurd (h.1 (is_left ∙ ap fraction_text same.0 ∙ sym is_value) (is_value ∙ ap fraction_text same.1 ∙ sym is_right))
+        absurd (h.1 (is_left ∙ ap fraction_text same.0 ∙ sym is_value)
+        (is_value ∙ ap fraction_text same.1 ∙ sym is_right))
     by false e =
         h.0.spelled
         ∙ ap (λ w. line (codes "point " ++ w ++ codes " " ++ y ++ codes " " ++ z) ++ rest) is_left
         ∙ ap (λ w. line (codes "point " ++ fraction_text p.left ++ codes " " ++ w ++ codes " " ++ z) ++ rest) is_value
-        ∙ ap (λ w. line (codes "point " ++ fraction_text p.left ++ codes " " ++ fraction_text p.value ++ codes " " ++ w) ++ rest) is_right
+        ∙ ap (λ w. line (codes "point " ++ fraction_text p.left ++ codes " " ++ fraction_text p.value ++ codes " " ++ w) ++ rest)
+        is_right
         ∙ sym (parted_line (codes "point ") (fraction_text p.left) (fraction_text p.value) (fraction_text p.right) rest)
 
 -- ---- its words are those of the line
@@ -123,11 +142,12 @@ no_space_inside [] more h = All-head (λ b. b ≢ 32) 32 more h refl
 no_space_inside (b ∷ front) more h = no_space_inside front more (All-tail (λ c. c ≢ 32) b (front ++ 32 ∷ more) h)
 
 -- a line is not that of one word and that of three
-pub one_is_not_three : (text front w x y z rest after : List ℕ) → HasField text front w rest → HasThreeFields text front x y z after → ⊥
+pub one_is_not_three : (text front w x y z rest after : List ℕ) → HasField text front w rest →
+    HasThreeFields text front x y z after → ⊥
 one_is_not_three text front w x y z rest after h k =
     let same = word_same front w (x ++ codes " " ++ (y ++ codes " " ++ z)) rest after (no_feed_in_word w h.is_word.is_word)
     (no_feed_in_three_words x y z k.is_first k.is_second k.is_third.is_word)
-    (sym h.spelled ∙ k.spelled ∙ ap (λ t. line t ++ after) (together front x y z)) in
+    (sym h.spelled ∙ three_words_line text front x y z after k) in
     let apart : w ≡ x ++ 32 ∷ (y ++ codes " " ++ z) = same.0 ∙ append_assoc x (codes " ") (y ++ codes " " ++ z) in
     no_space_inside x (y ++ codes " " ++ z) (subst (All (λ b. b ≢ 32)) apart (no_space_in_word w h.is_word.is_word))
 
@@ -137,17 +157,21 @@ pub record SameThree (x y z a b c r s : List ℕ) : Type 0 where
   pub third : z ≡ c
   pub rest : r ≡ s
 
-pub three_same : (text front x y z a b c r s : List ℕ) → HasThreeFields text front x y z r → HasThreeFields text front a b c s → SameThree x y z a b c r s
+pub three_same : (text front x y z a b c r s : List ℕ) → HasThreeFields text front x y z r →
+    HasThreeFields text front a b c s → SameThree x y z a b c r s
 three_same text front x y z a b c r s h k =
     let same = word_same front (x ++ codes " " ++ (y ++ codes " " ++ z)) (a ++ codes " " ++ (b ++ codes " " ++ c)) r s
-    (no_feed_in_three_words x y z h.is_first h.is_second h.is_third.is_word) (no_feed_in_three_words a b c k.is_first k.is_second k.is_third.is_word)
-    (ap (λ t. line t ++ r) (sym (together front x y z)) ∙ sym h.spelled ∙ k.spelled ∙ ap (λ t. line t ++ s) (together front a b c)) in
-    let one = split_same 32 x a (y ++ codes " " ++ z) (b ++ codes " " ++ c) (no_space_in_word x h.is_first) (no_space_in_word a k.is_first) same.0 in
+    (no_feed_in_three_words x y z h.is_first h.is_second h.is_third.is_word)
+    (no_feed_in_three_words a b c k.is_first k.is_second k.is_third.is_word)
+    (sym (three_words_line text front x y z r h) ∙ three_words_line text front a b c s k) in
+    let one = split_same 32 x a (y ++ codes " " ++ z) (b ++ codes " " ++ c) (no_space_in_word x h.is_first)
+    (no_space_in_word a k.is_first) same.0 in
     let two = split_same 32 y b z c (no_space_in_word y h.is_second) (no_space_in_word b k.is_second) one.1 in
     record { first = one.0; second = two.0; third = two.1; rest = same.1 }
 
 -- a line of a point has its words in one way
-pub words_same : (text : List ℕ) (ws vs : List (List ℕ)) (r s : List ℕ) → HasPointWords text ws r → HasPointWords text vs s → (ws ≡ vs) × (r ≡ s)
+pub words_same : (text : List ℕ) (ws vs : List (List ℕ)) (r s : List ℕ) → HasPointWords text ws r →
+    HasPointWords text vs s → (ws ≡ vs) × (r ≡ s)
 words_same text [] vs r s h k = absurd h
 words_same text (x ∷ y ∷ []) vs r s h k = absurd h
 words_same text (x ∷ y ∷ z ∷ w ∷ more) vs r s h k = absurd h
@@ -155,19 +179,22 @@ words_same text ws [] r s h k = absurd k
 words_same text ws (a ∷ b ∷ []) r s h k = absurd k
 words_same text ws (a ∷ b ∷ c ∷ d ∷ more) r s h k = absurd k
 words_same text (x ∷ []) (a ∷ []) r s h k =
-    let same = word_same (codes "point ") x a r s (no_feed_in_word x h.is_word.is_word) (no_feed_in_word a k.is_word.is_word) (sym h.spelled ∙ k.spelled) in
+    let same = word_same (codes "point ") x a r s (no_feed_in_word x h.is_word.is_word)
+    (no_feed_in_word a k.is_word.is_word) (sym h.spelled ∙ k.spelled) in
     (ap (λ w. w ∷ []) same.0, same.1)
 words_same text (x ∷ []) (a ∷ b ∷ c ∷ []) r s h k = absurd (one_is_not_three text (codes "point ") x a b c r s h k.0)
 words_same text (x ∷ y ∷ z ∷ []) (a ∷ []) r s h k = absurd (one_is_not_three text (codes "point ") a x y z s r k h.0)
 words_same text (x ∷ y ∷ z ∷ []) (a ∷ b ∷ c ∷ []) r s h k =
-    let same = three_same text (codes "point ") x y z a b c r s h.0 k.0 in
-    (ap (λ w. w ∷ y ∷ z ∷ []) same.first ∙ ap (λ w. a ∷ w ∷ z ∷ []) same.second ∙ ap (λ w. a ∷ b ∷ w ∷ []) same.third, same.rest)
+    let same = three_same text (codes "point ") x y z a b c r s h.0 k.0 in (
+      ap (λ w. w ∷ y ∷ z ∷ []) same.first ∙ ap (λ w. a ∷ w ∷ z ∷ []) same.second ∙ ap (λ w. a ∷ b ∷ w ∷ []) same.third,
+      same.rest,
+    )
 
 -- the words of a point are fractions
 pub words_are_fractions : (p : Point) → All IsFraction (words_of p)
 words_are_fractions p = by (has_no_jump p)
   where
-    by : (b : Bool) → All IsFraction (cond b (fraction_text p.value ∷ []) (three_words p.left p.value p.right))
+    by : (b : Bool) → All IsFraction (words_by b p)
     by true = All-cons IsFraction (fraction_text p.value) [] (p.value, refl) (All-nil IsFraction)
     by false =
         All-cons IsFraction (fraction_text p.left) (fraction_text p.value ∷ fraction_text p.right ∷ []) (p.left, refl)
@@ -179,7 +206,7 @@ point_from_words : (p q : Point) → words_of p ≡ words_of q → p ≡ q
 point_from_words p q = by (has_no_jump p) (has_no_jump q) refl refl
   where
     by : (b c : Bool) → has_no_jump p ≡ b → has_no_jump q ≡ c →
-        cond b (fraction_text p.value ∷ []) (three_words p.left p.value p.right) ≡ cond c (fraction_text q.value ∷ []) (three_words q.left q.value q.right) → p ≡ q
+        words_by b p ≡ words_by c q → p ≡ q
     by true true h k e =
         let text : fraction_text p.value ≡ fraction_text q.value = cc in
         let value = same_from_fraction_text p.value q.value text in
@@ -192,10 +219,12 @@ point_from_words p q = by (has_no_jump p) (has_no_jump q) refl refl
         let l : fraction_text p.left ≡ fraction_text q.left = cc in
         let v : fraction_text p.value ≡ fraction_text q.value = cc in
         let r : fraction_text p.right ≡ fraction_text q.right = cc in
-        same_point p q (same_from_fraction_text p.left q.left l) (same_from_fraction_text p.value q.value v) (same_from_fraction_text p.right q.right r)
+        same_point p q (same_from_fraction_text p.left q.left l) (same_from_fraction_text p.value q.value v)
+        (same_from_fraction_text p.right q.right r)
 
 -- a line of a point is that of one
-pub one_point : (p q : Point) (text r s : List ℕ) → text ≡ point_line p ++ r → text ≡ point_line q ++ s → (p ≡ q) × (r ≡ s)
+pub one_point : (p q : Point) (text r s : List ℕ) → text ≡ point_line p ++ r → text ≡ point_line q ++ s →
+    (p ≡ q) × (r ≡ s)
 one_point p q text r s e f =
     let same = words_same text (words_of p) (words_of q) r s (has_words p text r e) (has_words q text s f) in
     (point_from_words p q same.0, same.1)

@@ -117,7 +117,8 @@ pub together : (front x y z : List ℕ) →
     front ++ x ++ codes " " ++ y ++ codes " " ++ z ≡ front ++ (x ++ codes " " ++ (y ++ codes " " ++ z))
 together front x y z = simp append_assoc
 
-pub no_feed_in_three_words : (x y z : List ℕ) → IsWord x → IsWord y → IsWord z → All (λ b. b ≢ 10) (x ++ codes " " ++ (y ++ codes " " ++ z))
+pub no_feed_in_three_words : (x y z : List ℕ) → IsWord x → IsWord y → IsWord z →
+    All (λ b. b ≢ 10) (x ++ codes " " ++ (y ++ codes " " ++ z))
 no_feed_in_three_words x y z p q r =
     let P : ℕ → Type 0 = λ b. b ≢ 10 in
     let blank = All-cons P 32 [] (λ e. omega arith) (All-nil P) in

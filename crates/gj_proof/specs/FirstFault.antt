@@ -124,7 +124,8 @@ HasNoPointWords text = (words : List (List ℕ)) (rest : List ℕ) → HasPointW
 
 -- it is, and one of the words is no fraction
 abbrev pub HasNoPointFractions : List ℕ → Type 0
-HasNoPointFractions text = (words : List (List ℕ)) × (rest : List ℕ) × HasPointWords text words rest × (All IsFraction words → ⊥)
+HasNoPointFractions text =
+    (words : List (List ℕ)) × (rest : List ℕ) × HasPointWords text words rest × (All IsFraction words → ⊥)
 
 -- no line `point V` or `point L V R`; a word of it is no fraction; the first of its fractions that does not go with
 -- the points before it is too large, or leaves no common denominator
@@ -132,8 +133,10 @@ abbrev pub BreaksPoint : List Point → List ℕ → Reason → Type 0
 BreaksPoint points text e =
     ((e ≡ reason.Form) × HasNoPointWords text)
     ⊎ ((e ≡ reason.Number) × HasNoPointFractions text)
-    ⊎ ((e ≡ reason.Large) × ((p : Point) × (rest : List ℕ) × (text ≡ point_line p ++ rest) × IsPointFault points p Large))
-    ⊎ ((e ≡ reason.Fine) × ((p : Point) × (rest : List ℕ) × (text ≡ point_line p ++ rest) × IsPointFault points p Fine))
+    ⊎ ((e ≡ reason.Large)
+    × ((p : Point) × (rest : List ℕ) × (text ≡ point_line p ++ rest) × IsPointFault points p Large))
+    ⊎ ((e ≡ reason.Fine)
+    × ((p : Point) × (rest : List ℕ) × (text ≡ point_line p ++ rest) × IsPointFault points p Fine))
 
 -- the first line has the words of a violation, with these words for its points
 abbrev pub HasPoints : List ℕ → List (List ℕ) → List ℕ → Type 0
