@@ -1,11 +1,12 @@
 pub mod WholeFaults
 pub mod LineLemmas
-pub mod Places
+pub mod PassedPoints
 pub mod PointLines
 pub mod ViolationLines
 pub mod WordLemmas
-pub mod ValuesRead
+pub mod PointsRead
 pub mod ViolationFaults
+pub mod PointFaults
 pub mod OneLine
 pub mod OneText
 pub mod FirstFaults

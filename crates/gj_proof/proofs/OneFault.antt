@@ -5,42 +5,46 @@ use Rattle.std.proofs.lemmas.Bool.{lt-ltb, le-ltb}
 use Rattle.std.proofs.lemmas.List.{append_assoc, append-nil, append_cancel_left, length-append, flat_map_more}
 use Rattle.gj_frac.specs.declared.Frac.{Frac}
 use Rattle.gj_lex.specs.declared.reason.Reason.{Reason}
-use Rattle.gj_shape.specs.Given.{IsOrder, IsSmall, HasCommonDenominator}
+use Rattle.gj_shape.specs.Given.{IsOrder}
 use Rattle.gj_shape.specs.declared.violations.Violation.{Violation}
-use Rattle.gj_shape.proofs.ContinuousGiven.{at_place, up_to_place}
-use Rattle.gj_shape.proofs.LeastDenominator.{Divides}
-use Rattle.gj_proof.specs.FunctionLines.{line, order_line, place_line, point_line, lines_of}
+use Rattle.gj_lines.specs.FunctionLines.{line, order_line, place_line, point_line, lines_of}
+use Rattle.gj_lines.specs.Points.{IsPlaceFraction, IsPointFault}
+use Rattle.gj_lines.specs.declared.points.Point.{Point}
+use Rattle.gj_lines.specs.declared.points.PointFault.TheVariants.{Large, Fine}
 use Rattle.gj_proof.specs.ProofText.{violation_line}
-use Rattle.gj_proof.specs.Words.{IsCount}
-use Rattle.gj_proof.specs.FirstFault.{claim_line, claim_lines, read_lines, lines_before, LinesRead, Expected, IsPlaceFraction, IsGood, IsFull, AreShown, ComesNext, HasNoField, HasNoFraction, BreaksOrder, BreaksPlace, BreaksPoint, BreaksViolation, Breaks, IsFirstFault}
+use Rattle.gj_proof.specs.Words.{IsCount, IsFraction}
+use Rattle.gj_proof.specs.FirstFault.{claim_line, claim_lines, read_lines, lines_before, LinesRead, Expected, IsGood, IsFull, AreShown, ComesNext, HasNoPointWords, HasNoPointFractions, BreaksOrder, BreaksPlace, BreaksPoint, BreaksViolation, Breaks, IsFirstFault}
 use Rattle.gj_proof.specs.FirstFault.Expected.{title, claim, order, place, point, violation, last, nothing}
 use Rattle.gj_proof.specs.declared.head.ClaimWord.{ClaimWord}
 use Rattle.gj_proof.specs.declared.head.ClaimWord.TheVariants.{Minimal, NotMinimal}
+use Rattle.gj_lines.proofs.GivenPoints.{not_large_and_fine}
+use Rattle.gj_proof.proofs.PassedPoints.{ArePassed, front_passed}
+use Rattle.gj_proof.proofs.PointLines.{words_of, has_words, words_same, words_are_fractions, one_point}
 use Rattle.gj_proof.proofs.OneLine.{one_field, fraction_field, fraction_same, order_same, claim_same, order_unbroken, place_unbroken, point_unbroken, violation_unbroken, violation_same}
 
 -- ---- the line that comes next, and what comes after it
 
-abbrev read : ClaimWord → ℕ → Frac → List Frac → LinesRead
-read c q x values = record { claim = c; order = q; place = x; values = values }
+abbrev read : ClaimWord → ℕ → Frac → List Point → LinesRead
+read c q x points = record { claim = c; order = q; place = x; points = points }
 
--- what comes next where all values were read
+-- what comes next where all points were read
 abbrev full_state : ClaimWord → LinesRead → Expected
 full_state Minimal r = last r []
 full_state NotMinimal r = violation r
 
--- what comes next after some values
-abbrev after_values : LinesRead → Expected
-after_values r = cond (ltb (length r.values) r.order) (point r) (full_state r.claim r)
+-- what comes next after some points
+abbrev after_points : LinesRead → Expected
+after_points r = cond (ltb (length r.points) r.order) (point r) (full_state r.claim r)
 
 -- the line t may come next, and then y
 abbrev Next : Expected → List ℕ → Expected → Type 0
 Next title t y = (t ≡ line (codes "gj-proof 1")) × (y ≡ claim)
 Next claim t y = (c : ClaimWord) × (t ≡ claim_line c) × (y ≡ order c)
 Next (order c) t y = (q : ℕ) × IsOrder q × (t ≡ order_line q) × (y ≡ place c q)
-Next (place c q) t y = (x : Frac) × IsPlaceFraction q x × (t ≡ place_line x) × (y ≡ after_values (read c q x []))
+Next (place c q) t y = (x : Frac) × IsPlaceFraction q x × (t ≡ place_line x) × (y ≡ after_points (read c q x []))
 Next (point r) t y =
-    (x : Frac) × IsSmall x × HasCommonDenominator (r.values ++ x ∷ []) × (t ≡ point_line x)
-    × (y ≡ after_values (read r.claim r.order r.place (r.values ++ x ∷ [])))
+    (p : Point) × ArePassed (r.points ++ p ∷ []) × (t ≡ point_line p)
+    × (y ≡ after_points (read r.claim r.order r.place (r.points ++ p ∷ [])))
 Next (violation r) t y = (v : Violation) × (t ≡ violation_line v) × (y ≡ last r (violation_line v))
 Next (last r shown) t y = (t ≡ line (codes "end")) × (y ≡ nothing r shown)
 Next (nothing r shown) t y = ⊥
@@ -51,7 +55,7 @@ next_unbroken title y t text rest e n is b = b.1 rest (is ∙ ap (λ u. u ++ res
 next_unbroken claim y t text rest e n is b = b.1 n.0 rest (is ∙ ap (λ u. u ++ rest) n.1)
 next_unbroken (order c) y t text rest e n is b = order_unbroken n.0 text rest e n.1 (is ∙ ap (λ u. u ++ rest) n.2) b
 next_unbroken (place c q) y t text rest e n is b = place_unbroken q n.0 text rest e n.1 (is ∙ ap (λ u. u ++ rest) n.2) b
-next_unbroken (point r) y t text rest e n is b = point_unbroken r.values n.0 text rest e n.1 n.2 (is ∙ ap (λ u. u ++ rest) n.3) b
+next_unbroken (point r) y t text rest e n is b = point_unbroken r.points n.0 text rest e n.1 (is ∙ ap (λ u. u ++ rest) n.2) b
 next_unbroken (violation r) y t text rest e n is b = violation_unbroken n.0 text rest e (is ∙ ap (λ u. u ++ rest) n.1) b
 next_unbroken (last r shown) y t text rest e n is b = b.1 rest (is ∙ ap (λ u. u ++ rest) n.0)
 next_unbroken (nothing r shown) y t text rest e n is b = n
@@ -70,10 +74,10 @@ next_same (order c) y z t u a b n m e =
     let same = order_same n.0 m.0 a b n.1.1 m.1.1 (along t u a b _ _ e n.2 m.2) in (n.3 ∙ ap (place c) same.0 ∙ sym m.3, same.1)
 next_same (place c q) y z t u a b n m e =
     let same = fraction_same (codes "f ") a b n.0 m.0 (along t u a b _ _ e n.2 m.2) in
-    (n.3 ∙ ap (λ x. after_values (read c q x [])) same.0 ∙ sym m.3, same.1)
+    (n.3 ∙ ap (λ x. after_points (read c q x [])) same.0 ∙ sym m.3, same.1)
 next_same (point r) y z t u a b n m e =
-    let same = fraction_same (codes "point ") a b n.0 m.0 (along t u a b _ _ e n.3 m.3) in
-    (n.4 ∙ ap (λ x. after_values (read r.claim r.order r.place (r.values ++ x ∷ []))) same.0 ∙ sym m.4, same.1)
+    let same = one_point n.0 m.0 (point_line n.0 ++ a) a b refl (along t u a b _ _ e n.2 m.2) in
+    (n.3 ∙ ap (λ (p : Point). after_points (read r.claim r.order r.place (r.points ++ p ∷ []))) same.0 ∙ sym m.3, same.1)
 next_same (violation r) y z t u a b n m e =
     let same = violation_same n.0 m.0 a b (along t u a b _ _ e n.1 m.1) in (n.2 ∙ ap (λ v. last r (violation_line v)) same.0 ∙ sym m.2, same.1)
 next_same (last r shown) y z t u a b n m e =
@@ -108,37 +112,40 @@ place_reason q text e d (inr (inl (h, (w, rest, has, none)))) (inr (inr (k, (x, 
 place_reason q text e d (inr (inr (k, (x, after, is, other)))) (inr (inl (h, (w, rest, has, none)))) =
     absurd (none (x, one_field text (codes "f ") w rest _ after has (fraction_field text (codes "f ") after x is)))
 
--- a line that spells the fraction of a point has a form and a number
-point_form : (text rest : List ℕ) (x : Frac) → text ≡ point_line x ++ rest → HasNoField (codes "point ") text → ⊥
-point_form text rest x is none = none _ rest (fraction_field text (codes "point ") rest x is)
+-- a line that spells a point has a form and numbers
+point_form : (text rest : List ℕ) (p : Point) → text ≡ point_line p ++ rest → HasNoPointWords text → ⊥
+point_form text rest p is none = none (words_of p) rest (has_words p text rest is)
 
-point_number : (text rest : List ℕ) (x : Frac) → text ≡ point_line x ++ rest → HasNoFraction (codes "point ") text → ⊥
-point_number text rest x is (w, after, has, none) =
-    none (x, one_field text (codes "point ") w after _ rest has (fraction_field text (codes "point ") rest x is))
+point_number : (text rest : List ℕ) (p : Point) → text ≡ point_line p ++ rest → HasNoPointFractions text → ⊥
+point_number text rest p is (ws, after, has, none) =
+    none (subst (All IsFraction) (sym (words_same text ws (words_of p) after rest has (has_words p text rest is)).0) (words_are_fractions p))
 
-point_small : (text rest after : List ℕ) (x y : Frac) → text ≡ point_line x ++ rest → text ≡ point_line y ++ after → IsSmall y → IsSmall x
-point_small text rest after x y is has small =
-    subst IsSmall (sym (fraction_same (codes "point ") rest after x y (sym is ∙ has)).0) small
+-- a line that spells a point is not too large and too fine
+one_test : (points : List Point) (text rest after : List ℕ) (p q : Point) → text ≡ point_line p ++ rest → text ≡ point_line q ++ after →
+    IsPointFault points p Large → IsPointFault points q Fine → ⊥
+one_test points text rest after p q is has large fine =
+    let same = one_point p q text rest after is has in
+    not_large_and_fine points q (subst (λ (x : Point). IsPointFault points x Large) same.0 large) fine
 
-point_reason : (values : List Frac) (text : List ℕ) (e d : Reason) → BreaksPoint values text e → BreaksPoint values text d → e ≡ d
-point_reason vs text e d (inl h) (inl k) = h.0 ∙ sym k.0
-point_reason vs text e d (inl h) (inr (inl (k, (w, rest, has, none)))) = absurd (h.1 w rest has)
-point_reason vs text e d (inl h) (inr (inr (inl (k, (x, rest, is, large))))) = absurd (point_form text rest x is h.1)
-point_reason vs text e d (inl h) (inr (inr (inr (k, (x, rest, is, small, fine))))) = absurd (point_form text rest x is h.1)
-point_reason vs text e d (inr (inl (k, (w, rest, has, none)))) (inl h) = absurd (h.1 w rest has)
-point_reason vs text e d (inr (inr (inl (k, (x, rest, is, large))))) (inl h) = absurd (point_form text rest x is h.1)
-point_reason vs text e d (inr (inr (inr (k, (x, rest, is, small, fine))))) (inl h) = absurd (point_form text rest x is h.1)
-point_reason vs text e d (inr (inl h)) (inr (inl k)) = h.0 ∙ sym k.0
-point_reason vs text e d (inr (inl h)) (inr (inr (inl (k, (x, rest, is, large))))) = absurd (point_number text rest x is h.1)
-point_reason vs text e d (inr (inl h)) (inr (inr (inr (k, (x, rest, is, small, fine))))) = absurd (point_number text rest x is h.1)
-point_reason vs text e d (inr (inr (inl (k, (x, rest, is, large))))) (inr (inl h)) = absurd (point_number text rest x is h.1)
-point_reason vs text e d (inr (inr (inr (k, (x, rest, is, small, fine))))) (inr (inl h)) = absurd (point_number text rest x is h.1)
-point_reason vs text e d (inr (inr (inl h))) (inr (inr (inl k))) = h.0 ∙ sym k.0
-point_reason vs text e d (inr (inr (inr h))) (inr (inr (inr k))) = h.0 ∙ sym k.0
-point_reason vs text e d (inr (inr (inl (h, (x, rest, is, large))))) (inr (inr (inr (k, (y, after, has, small, fine))))) =
-    absurd (large (point_small text rest after x y is has small))
-point_reason vs text e d (inr (inr (inr (k, (y, after, has, small, fine))))) (inr (inr (inl (h, (x, rest, is, large))))) =
-    absurd (large (point_small text rest after x y is has small))
+point_reason : (points : List Point) (text : List ℕ) (e d : Reason) → BreaksPoint points text e → BreaksPoint points text d → e ≡ d
+point_reason ps text e d (inl h) (inl k) = h.0 ∙ sym k.0
+point_reason ps text e d (inl h) (inr (inl (k, (ws, rest, has, none)))) = absurd (h.1 ws rest has)
+point_reason ps text e d (inl h) (inr (inr (inl (k, (p, rest, is, large))))) = absurd (point_form text rest p is h.1)
+point_reason ps text e d (inl h) (inr (inr (inr (k, (p, rest, is, fine))))) = absurd (point_form text rest p is h.1)
+point_reason ps text e d (inr (inl (k, (ws, rest, has, none)))) (inl h) = absurd (h.1 ws rest has)
+point_reason ps text e d (inr (inr (inl (k, (p, rest, is, large))))) (inl h) = absurd (point_form text rest p is h.1)
+point_reason ps text e d (inr (inr (inr (k, (p, rest, is, fine))))) (inl h) = absurd (point_form text rest p is h.1)
+point_reason ps text e d (inr (inl h)) (inr (inl k)) = h.0 ∙ sym k.0
+point_reason ps text e d (inr (inl h)) (inr (inr (inl (k, (p, rest, is, large))))) = absurd (point_number text rest p is h.1)
+point_reason ps text e d (inr (inl h)) (inr (inr (inr (k, (p, rest, is, fine))))) = absurd (point_number text rest p is h.1)
+point_reason ps text e d (inr (inr (inl (k, (p, rest, is, large))))) (inr (inl h)) = absurd (point_number text rest p is h.1)
+point_reason ps text e d (inr (inr (inr (k, (p, rest, is, fine))))) (inr (inl h)) = absurd (point_number text rest p is h.1)
+point_reason ps text e d (inr (inr (inl h))) (inr (inr (inl k))) = h.0 ∙ sym k.0
+point_reason ps text e d (inr (inr (inr h))) (inr (inr (inr k))) = h.0 ∙ sym k.0
+point_reason ps text e d (inr (inr (inl (h, (p, rest, is, large))))) (inr (inr (inr (k, (q, after, has, fine))))) =
+    absurd (one_test ps text rest after p q is has large fine)
+point_reason ps text e d (inr (inr (inr (k, (q, after, has, fine))))) (inr (inr (inl (h, (p, rest, is, large))))) =
+    absurd (one_test ps text rest after p q is has large fine)
 
 violation_reason : (text : List ℕ) (e d : Reason) → BreaksViolation text e → BreaksViolation text d → e ≡ d
 violation_reason text e d (inl h) (inl k) = h.0 ∙ sym k.0
@@ -151,7 +158,7 @@ one_reason title text e d h k = h.0 ∙ sym k.0
 one_reason claim text e d h k = h.0 ∙ sym k.0
 one_reason (order c) text e d h k = order_reason text e d h k
 one_reason (place c q) text e d h k = place_reason q text e d h k
-one_reason (point r) text e d h k = point_reason r.values text e d h k
+one_reason (point r) text e d h k = point_reason r.points text e d h k
 one_reason (violation r) text e d h k = violation_reason text e d h k
 one_reason (last r shown) text e d h k = h.0 ∙ sym k.0
 one_reason (nothing r shown) text e d h k = h.0 ∙ sym k.0
@@ -216,12 +223,12 @@ reach_order c = step claim (order c) (claim_line c) reach_claim (c, refl, refl) 
 reach_place : (c : ClaimWord) (q : ℕ) → IsOrder q → Reached (place c q)
 reach_place c q fits = step (order c) (place c q) (order_line q) (reach_order c) (q, fits, refl, refl) refl
 
--- where values are left to read a point comes next
-more_values : (r : LinesRead) → length r.values < r.order → after_values r ≡ point r
-more_values r fewer = rw (lt-ltb (length r.values) r.order fewer) refl
+-- where points are left to read a point comes next
+more_points : (r : LinesRead) → length r.points < r.order → after_points r ≡ point r
+more_points r fewer = rw (lt-ltb (length r.points) r.order fewer) refl
 
-no_more_values : (r : LinesRead) → length r.values ≡ r.order → after_values r ≡ full_state r.claim r
-no_more_values r count = rw (le-ltb (length r.values) r.order (omega arith)) refl
+no_more_points : (r : LinesRead) → length r.points ≡ r.order → after_points r ≡ full_state r.claim r
+no_more_points r count = rw (le-ltb (length r.points) r.order (omega arith)) refl
 
 full_lines : (c : ClaimWord) (r : LinesRead) → lines_before (full_state c r) ≡ read_lines r
 full_lines Minimal r = append-nil (read_lines r)
@@ -234,57 +241,54 @@ cond_lines c r more = by (ltb more r.order)
     by true = refl
     by false = full_lines c r
 
--- the lines with one more value
-one_more_line : (c : ClaimWord) (q : ℕ) (x y : Frac) (values : List Frac) →
-    read_lines (read c q x (values ++ y ∷ [])) ≡ read_lines (read c q x values) ++ point_line y
-one_more_line c q x y values =
-    ap (λ t. claim_lines c ++ (order_line q ++ place_line x ++ t)) (sym (flat_map_more point_line [] values y))
-    ∙ ap (λ t. claim_lines c ++ t) (sym (append_assoc (order_line q ++ place_line x) (flat_map point_line values) (point_line y)))
-    ∙ sym (append_assoc (claim_lines c) (lines_of q x values) (point_line y))
+-- the lines with one more point
+one_more_line : (c : ClaimWord) (q : ℕ) (x : Frac) (p : Point) (points : List Point) →
+    read_lines (read c q x (points ++ p ∷ [])) ≡ read_lines (read c q x points) ++ point_line p
+one_more_line c q x p points =
+    ap (λ t. claim_lines c ++ (order_line q ++ place_line x ++ t)) (sym (flat_map_more point_line [] points p))
+    ∙ ap (λ t. claim_lines c ++ t) (sym (append_assoc (order_line q ++ place_line x) (flat_map point_line points) (point_line p)))
+    ∙ sym (append_assoc (claim_lines c) (lines_of q x points) (point_line p))
 
-reach_values : (c : ClaimWord) (q : ℕ) (x : Frac) (done more : List Frac) → length (done ++ more) ≤ q → All IsSmall (done ++ more) →
-    HasCommonDenominator (done ++ more) → Reached (after_values (read c q x done)) → Reached (after_values (read c q x (done ++ more)))
-reach_values c q x done [] few small common r = subst (λ vs. Reached (after_values (read c q x vs))) (sym (append-nil done)) r
-reach_values c q x done (y ∷ more) few small common r =
-    let fewer : length done < q = omega (arith, length-append done (y ∷ more)) in
+reach_points : (c : ClaimWord) (q : ℕ) (x : Frac) (done more : List Point) → length (done ++ more) ≤ q → ArePassed (done ++ more) →
+    Reached (after_points (read c q x done)) → Reached (after_points (read c q x (done ++ more)))
+reach_points c q x done [] few passed r = subst (λ ps. Reached (after_points (read c q x ps))) (sym (append-nil done)) r
+reach_points c q x done (p ∷ more) few passed r =
+    let fewer : length done < q = omega (arith, length-append done (p ∷ more)) in
     let here = read c q x done in
-    let next = read c q x (done ++ y ∷ []) in
-    let r' = subst (λ (s : Expected). Reached s) (more_values here fewer) r in
-    let one_small = at_place IsSmall (done ++ y ∷ more) done more y refl small in
-    let one_common = up_to_place (Divides common.0) (done ++ y ∷ more) done more y refl common.3 in
-    let one = step (point here) (after_values next) (point_line y) r'
-    (y, one_small, (common.0, common.1, common.2, one_common), refl, refl)
-    (cond_lines c next (length next.values) ∙ one_more_line c q x y done) in
-    let parts = append_assoc done (y ∷ []) more in
-    subst (λ vs. Reached (after_values (read c q x vs))) parts
-    (reach_values c q x (done ++ y ∷ []) more (subst (λ vs. length vs ≤ q) (sym parts) few) (subst (All IsSmall) (sym parts) small)
-    (subst HasCommonDenominator (sym parts) common) one)
+    let next = read c q x (done ++ p ∷ []) in
+    let r' = subst (λ (s : Expected). Reached s) (more_points here fewer) r in
+    let parts = append_assoc done (p ∷ []) more in
+    let all_passed = subst ArePassed (sym parts) passed in
+    let one = step (point here) (after_points next) (point_line p) r' (p, front_passed (done ++ p ∷ []) more all_passed, refl, refl)
+    (cond_lines c next (length next.points) ∙ one_more_line c q x p done) in
+    subst (λ ps. Reached (after_points (read c q x ps))) parts
+    (reach_points c q x (done ++ p ∷ []) more (subst (λ ps. length ps ≤ q) (sym parts) few) all_passed one)
 
--- after any good values
-reach_good : (c : ClaimWord) (q : ℕ) (x : Frac) (values : List Frac) → IsGood (read c q x values) → length values ≤ q →
-    Reached (after_values (read c q x values))
-reach_good c q x values good few =
+-- after any good points
+reach_good : (c : ClaimWord) (q : ℕ) (x : Frac) (points : List Point) → IsGood (read c q x points) → length points ≤ q →
+    Reached (after_points (read c q x points))
+reach_good c q x points good few =
     let first = read c q x [] in
-    let start = step (place c q) (after_values first) (place_line x) (reach_place c q good.order_fits)
+    let start = step (place c q) (after_points first) (place_line x) (reach_place c q good.order_fits)
     (x, good.place_fits, refl, refl) (cond_lines c first 0 ∙ first_lines) in
-    reach_values c q x [] values few good.small good.common start
+    reach_points c q x [] points few (good.small, good.common) start
   where
     first_lines : read_lines (read c q x []) ≡ claim_lines c ++ order_line q ++ place_line x
     first_lines =
         ap (λ t. claim_lines c ++ t) (append-nil (order_line q ++ place_line x)) ∙ sym (append_assoc (claim_lines c) (order_line q) (place_line x))
 
-reach_full : (c : ClaimWord) (q : ℕ) (x : Frac) (values : List Frac) → IsFull (read c q x values) → Reached (full_state c (read c q x values))
-reach_full c q x values full =
-    subst (λ (s : Expected). Reached s) (no_more_values (read c q x values) full.count) (reach_good c q x values full.good (omega (arith, full.count)))
+reach_full : (c : ClaimWord) (q : ℕ) (x : Frac) (points : List Point) → IsFull (read c q x points) → Reached (full_state c (read c q x points))
+reach_full c q x points full =
+    subst (λ (s : Expected). Reached s) (no_more_points (read c q x points) full.count) (reach_good c q x points full.good (omega (arith, full.count)))
 
-reach_last : (c : ClaimWord) (q : ℕ) (x : Frac) (values : List Frac) (shown : List ℕ) → IsFull (read c q x values) → AreShown c shown →
-    Reached (last (read c q x values) shown)
-reach_last Minimal q x values shown full are =
-    subst (λ s. Reached (last (read Minimal q x values) s)) (sym are) (reach_full Minimal q x values full)
-reach_last NotMinimal q x values shown full (v, are) =
-    let r = read NotMinimal q x values in
+reach_last : (c : ClaimWord) (q : ℕ) (x : Frac) (points : List Point) (shown : List ℕ) → IsFull (read c q x points) → AreShown c shown →
+    Reached (last (read c q x points) shown)
+reach_last Minimal q x points shown full are =
+    subst (λ s. Reached (last (read Minimal q x points) s)) (sym are) (reach_full Minimal q x points full)
+reach_last NotMinimal q x points shown full (v, are) =
+    let r = read NotMinimal q x points in
     subst (λ s. Reached (last r s)) (sym are)
-    (step (violation r) (last r (violation_line v)) (violation_line v) (reach_full NotMinimal q x values full) (v, refl, refl) refl)
+    (step (violation r) (last r (violation_line v)) (violation_line v) (reach_full NotMinimal q x points full) (v, refl, refl) refl)
 
 reach : (x : Expected) → ComesNext x → Reached x
 reach title h = reach_title
@@ -292,12 +296,12 @@ reach claim h = reach_claim
 reach (order c) h = reach_order c
 reach (place c q) h = reach_place c q h
 reach (point r) h =
-    subst (λ (s : Expected). Reached s) (more_values r h.1) (reach_good r.claim r.order r.place r.values h.0 (omega (arith, h.1)))
+    subst (λ (s : Expected). Reached s) (more_points r h.1) (reach_good r.claim r.order r.place r.points h.0 (omega (arith, h.1)))
 reach (violation r) h =
-    subst (λ (s : Expected). Reached s) (ap (λ (c : ClaimWord). full_state c r) h.1) (reach_full r.claim r.order r.place r.values h.0)
-reach (last r shown) h = reach_last r.claim r.order r.place r.values shown h.0 h.1
+    subst (λ (s : Expected). Reached s) (ap (λ (c : ClaimWord). full_state c r) h.1) (reach_full r.claim r.order r.place r.points h.0)
+reach (last r shown) h = reach_last r.claim r.order r.place r.points shown h.0 h.1
 reach (nothing r shown) h =
-    step (last r shown) (nothing r shown) (line (codes "end")) (reach_last r.claim r.order r.place r.values shown h.0 h.1) (refl, refl) refl
+    step (last r shown) (nothing r shown) (line (codes "end")) (reach_last r.claim r.order r.place r.points shown h.0 h.1) (refl, refl) refl
 
 -- ---- one fault
 

@@ -7,15 +7,21 @@ use Rattle.gj_lex.specs.NumberText.{fraction_text}
 use Rattle.gj_lex.specs.declared.reason.Reason.{Reason}
 use Rattle.gj_lex.proofs.Decimals.{same_from_decimal}
 use Rattle.gj_lex.proofs.Spelling.{same_from_fraction_text}
-use Rattle.gj_shape.specs.Given.{IsOrder, IsSmall, HasCommonDenominator}
+use Rattle.gj_shape.specs.Given.{IsOrder}
 use Rattle.gj_shape.specs.declared.violations.Violation.{Violation}
 use Rattle.gj_shape.specs.declared.violations.Violation.TheVariants as v
-use Rattle.gj_proof.specs.FunctionLines.{line, fraction_line, order_line, place_line, point_line}
+use Rattle.gj_lines.specs.FunctionLines.{line, fraction_line, order_line, place_line, point_line}
+use Rattle.gj_lines.specs.Points.{IsPlaceFraction, IsPointFault}
+use Rattle.gj_lines.specs.declared.points.Point.{Point}
+use Rattle.gj_lines.specs.declared.points.PointFault.TheVariants.{Large, Fine}
 use Rattle.gj_proof.specs.ProofText.{violation_line}
 use Rattle.gj_proof.specs.Words.{IsWord, IsLastWord, HasField, IsCount, count_value, IsFraction}
-use Rattle.gj_proof.specs.FirstFault.{claim_line, IsPlaceFraction, HasPoints, BreaksOrder, BreaksPlace, BreaksPoint, BreaksViolation}
+use Rattle.gj_proof.specs.FirstFault.{claim_line, HasPoints, BreaksOrder, BreaksPlace, BreaksPoint, BreaksViolation}
 use Rattle.gj_proof.specs.declared.head.ClaimWord.{ClaimWord}
 use Rattle.gj_proof.specs.declared.head.ClaimWord.TheVariants.{Minimal, NotMinimal}
+use Rattle.gj_lines.proofs.GivenPoints.{no_fault_follows}
+use Rattle.gj_proof.proofs.PointLines.{words_of, has_words, words_same, words_are_fractions, one_point}
+use Rattle.gj_proof.proofs.PassedPoints.{ArePassed}
 use Rattle.gj_proof.proofs.WordLemmas.{no_feed_in_word, no_space_in_word, fraction_last_word, decimal_last_word, decimal_is_count, value_of_small, split_same, word_same, two_words, no_feed_in_two_words}
 
 -- ---- one line
@@ -73,15 +79,19 @@ place_unbroken q x text rest e fits is (inr (inl (w, (word, after, has, none))))
 place_unbroken q x text rest e fits is (inr (inr (w, (y, after, has, none)))) =
     none (subst (IsPlaceFraction q) (sym (fraction_same (codes "f ") after rest y x (sym has ∙ is)).0) fits)
 
-pub point_unbroken : (values : List Frac) (x : Frac) (text rest : List ℕ) (e : Reason) → IsSmall x →
-    HasCommonDenominator (values ++ x ∷ []) → text ≡ point_line x ++ rest → BreaksPoint values text e → ⊥
-point_unbroken values x text rest e small common is (inl h) = h.1 (fraction_text x) rest (fraction_field text (codes "point ") rest x is)
-point_unbroken values x text rest e small common is (inr (inl (w, (word, after, has, none)))) =
-    none (x, (field_same text (codes "point ") word after (fraction_text x) rest has (fraction_last_word x) is).0)
-point_unbroken values x text rest e small common is (inr (inr (inl (w, (y, after, has, none))))) =
-    none (subst IsSmall (sym (fraction_same (codes "point ") after rest y x (sym has ∙ is)).0) small)
-point_unbroken values x text rest e small common is (inr (inr (inr (w, (y, after, has, other, none))))) =
-    none (subst (λ z. HasCommonDenominator (values ++ z ∷ [])) (sym (fraction_same (codes "point ") after rest y x (sym has ∙ is)).0) common)
+-- a point that passes all tests with the points before it has no fault behind them
+pub point_unbroken : (points : List Point) (p : Point) (text rest : List ℕ) (e : Reason) → ArePassed (points ++ p ∷ []) →
+    text ≡ point_line p ++ rest → BreaksPoint points text e → ⊥
+point_unbroken points p text rest e passed is (inl h) = h.1 (words_of p) rest (has_words p text rest is)
+point_unbroken points p text rest e passed is (inr (inl (w, (words, after, has, none)))) =
+    let same = words_same text words (words_of p) after rest has (has_words p text rest is) in
+    none (subst (All IsFraction) (sym same.0) (words_are_fractions p))
+point_unbroken points p text rest e passed is (inr (inr (inl (w, (q, after, has, large))))) =
+    let same = one_point q p text after rest has is in
+    no_fault_follows points p [] Large passed.0 passed.1 (subst (λ (x : Point). IsPointFault points x Large) same.0 large)
+point_unbroken points p text rest e passed is (inr (inr (inr (w, (q, after, has, fine))))) =
+    let same = one_point q p text after rest has is in
+    no_fault_follows points p [] Fine passed.0 passed.1 (subst (λ (x : Point). IsPointFault points x Fine) same.0 fine)
 
 -- ---- the line of a violation
 

@@ -1,57 +1,54 @@
 -- A proof text is that of one claim, and has no fault.
-use Rattle.std.proofs.Common.{◌≡◌, ℕ, ◌<◌, ℤ, pos, unsigned_abs, List, [], ◌∷◌, ◌++◌, length, flat_map, codes, refl, sym, ap, subst, ◌∙◌, arith}
-use Rattle.std.specs.List.{AllZip}
+use Rattle.std.proofs.Common.{◌≡◌, ℕ, ◌<◌, pos, List, [], ◌∷◌, ◌++◌, length, flat_map, codes, refl, sym, ap, subst, subst₂, ◌∙◌, arith}
 use Rattle.std.proofs.lemmas.List.{append_assoc, append-nil, append_cancel_left}
-use Rattle.std.proofs.lemmas.Slice.Zip.{AllZip-long}
 use Rattle.gj_frac.specs.declared.Frac.{Frac}
 use Rattle.gj_frac.specs.Fraction.{Is}
-use Rattle.gj_frac.proofs.Integers.{mul_cancel_right_z, abs_positive_z}
-use Rattle.gj_frac.proofs.SameValues.{same_from_is}
 use Rattle.gj_lex.specs.declared.reason.Reason.{Reason}
-use Rattle.gj_shape.specs.FunctionData.{FunctionData, IsWithinLimits, IsContinuous}
-use Rattle.gj_shape.specs.Given.{IsOrder, IsSmall, IsGivenBy}
-use Rattle.gj_shape.proofs.ContinuousGiven.{given_by_values, all_small_given, at_place, up_to_place}
-use Rattle.gj_shape.proofs.InOrder.{all_from_in_order}
-use Rattle.gj_shape.proofs.LeastDenominator.{Divides}
-use Rattle.gj_shape.proofs.OneFunction.{same_from_given}
-use Rattle.gj_proof.specs.FunctionLines.{line, order_line, place_line, point_line, lines_of}
+use Rattle.gj_shape.specs.FunctionData.{FunctionData}
+use Rattle.gj_shape.specs.Given.{IsOrder}
+use Rattle.gj_lines.specs.FunctionLines.{line, order_line, place_line, point_line, lines_of}
+use Rattle.gj_lines.specs.Points.{IsPlaceFraction, ArePointsOf}
+use Rattle.gj_lines.specs.declared.points.Point.{Point}
 use Rattle.gj_proof.specs.ProofText.{function_of, claim_word, shown_lines, violation_line, IsKept, IsProofText}
-use Rattle.gj_proof.specs.FirstFault.{claim_line, claim_lines, read_lines, lines_before, LinesRead, Expected, IsFull, IsPlaceFraction, AreShown, ComesNext, Breaks, IsFaultAt}
+use Rattle.gj_proof.specs.FirstFault.{claim_line, claim_lines, read_lines, lines_before, LinesRead, Expected, IsFull, AreShown, ComesNext, Breaks, IsFaultAt}
 use Rattle.gj_proof.specs.FirstFault.Expected.{title, claim, order, place, point, violation, last, nothing}
 use Rattle.gj_proof.specs.declared.claim.Claim.{Claim}
 use Rattle.gj_proof.specs.declared.claim.Claim.TheVariants as claims
 use Rattle.gj_proof.specs.declared.head.ClaimWord.{ClaimWord}
 use Rattle.gj_proof.specs.declared.head.ClaimWord.TheVariants.{Minimal, NotMinimal}
+use Rattle.gj_lines.proofs.GivenPoints.{good_points, count_of_points, one_list_of_points, one_function_of_points, place_of_function, one_place}
+use Rattle.gj_proof.proofs.PassedPoints.{ArePassed, front_passed}
+use Rattle.gj_proof.proofs.PointLines.{one_point}
 use Rattle.gj_proof.proofs.OneLine.{fraction_same, order_same, claim_same, order_unbroken, place_unbroken, point_unbroken, violation_unbroken, violation_same}
 
 -- ---- the points
 
 -- fewer points that begin the same text are the first ones
-points_front : (xs ys : List Frac) (r s : List ℕ) → length xs < length ys →
+points_front : (xs ys : List Point) (r s : List ℕ) → length xs < length ys →
     flat_map point_line xs ++ r ≡ flat_map point_line ys ++ s →
-    (y : Frac) × (more : List Frac) × (ys ≡ xs ++ y ∷ more) × (r ≡ point_line y ++ (flat_map point_line more ++ s))
+    (y : Point) × (more : List Point) × (ys ≡ xs ++ y ∷ more) × (r ≡ point_line y ++ (flat_map point_line more ++ s))
 points_front [] [] r s below e = absurd (omega arith)
 points_front [] (y ∷ more) r s below e = (y, more, refl, e ∙ append_assoc (point_line y) (flat_map point_line more) s)
 points_front (x ∷ xs) [] r s below e = absurd (omega arith)
 points_front (x ∷ xs) (y ∷ ys) r s below e =
-    let same = fraction_same (codes "point ") (flat_map point_line xs ++ r) (flat_map point_line ys ++ s) x y
-    (sym (append_assoc (point_line x) (flat_map point_line xs) r) ∙ e ∙ append_assoc (point_line y) (flat_map point_line ys) s) in
+    let same = one_point x y (flat_map point_line (x ∷ xs) ++ r) (flat_map point_line xs ++ r) (flat_map point_line ys ++ s)
+    (append_assoc (point_line x) (flat_map point_line xs) r) (e ∙ append_assoc (point_line y) (flat_map point_line ys) s) in
     let fewer : length xs < length ys = omega arith in
     let (z, more, ys_is, r_is) = points_front xs ys r s fewer same.1 in
-    (z, more, ap (λ a. a ∷ ys) (sym same.0) ∙ ap (λ t. x ∷ t) ys_is, r_is)
+    (z, more, ap (λ (a : Point). a ∷ ys) (sym same.0) ∙ ap (λ t. x ∷ t) ys_is, r_is)
 
 -- as many points are the same
-points_same : (xs ys : List Frac) (r s : List ℕ) → length xs ≡ length ys →
+points_same : (xs ys : List Point) (r s : List ℕ) → length xs ≡ length ys →
     flat_map point_line xs ++ r ≡ flat_map point_line ys ++ s → (xs ≡ ys) × (r ≡ s)
 points_same [] [] r s long e = (refl, e)
 points_same [] (y ∷ ys) r s long e = absurd (omega arith)
 points_same (x ∷ xs) [] r s long e = absurd (omega arith)
 points_same (x ∷ xs) (y ∷ ys) r s long e =
-    let same = fraction_same (codes "point ") (flat_map point_line xs ++ r) (flat_map point_line ys ++ s) x y
-    (sym (append_assoc (point_line x) (flat_map point_line xs) r) ∙ e ∙ append_assoc (point_line y) (flat_map point_line ys) s) in
+    let same = one_point x y (flat_map point_line (x ∷ xs) ++ r) (flat_map point_line xs ++ r) (flat_map point_line ys ++ s)
+    (append_assoc (point_line x) (flat_map point_line xs) r) (e ∙ append_assoc (point_line y) (flat_map point_line ys) s) in
     let as_long : length xs ≡ length ys = omega arith in
     let rest = points_same xs ys r s as_long same.1 in
-    (ap (λ a. a ∷ xs) same.0 ∙ ap (λ t. y ∷ t) rest.0, rest.1)
+    (ap (λ (a : Point). a ∷ xs) same.0 ∙ ap (λ t. y ∷ t) rest.0, rest.1)
 
 -- ---- all lines
 
@@ -60,15 +57,15 @@ nested a b c d e f = simp append_assoc
 
 -- the lines that were read, one by one
 lines_nested : (r : LinesRead) (rest : List ℕ) → read_lines r ++ rest ≡
-    line (codes "gj-proof 1") ++ (claim_line r.claim ++ (order_line r.order ++ (place_line r.place ++ (flat_map point_line r.values ++ rest))))
+    line (codes "gj-proof 1") ++ (claim_line r.claim ++ (order_line r.order ++ (place_line r.place ++ (flat_map point_line r.points ++ rest))))
 lines_nested r rest =
-    nested (line (codes "gj-proof 1")) (claim_line r.claim) (order_line r.order) (place_line r.place) (flat_map point_line r.values) rest
+    nested (line (codes "gj-proof 1")) (claim_line r.claim) (order_line r.order) (place_line r.place) (flat_map point_line r.points) rest
 
 record SameFront (r s : LinesRead) (a b : List ℕ) : Type 0 where
   claim_same : r.claim ≡ s.claim
   order_same : r.order ≡ s.order
   place_same : r.place ≡ s.place
-  rest_same : flat_map point_line r.values ++ a ≡ flat_map point_line s.values ++ b
+  rest_same : flat_map point_line r.points ++ a ≡ flat_map point_line s.points ++ b
 
 same_front : (r s : LinesRead) (a b : List ℕ) → IsOrder r.order → IsOrder s.order → read_lines r ++ a ≡ read_lines s ++ b → SameFront r s a b
 same_front r s a b fits fits' e =
@@ -112,21 +109,21 @@ unbroken text rest r shown e w (place c q) good is h =
     place_unbroken q r.place rest _ e (subst (λ n. IsPlaceFraction n r.place) (sym q_is) w.full.good.place_fits) rest_is h
 unbroken text rest r shown e w (point l) good is h =
     let same = same_front l r rest (shown ++ line (codes "end")) good.0.order_fits w.full.good.order_fits (sym is ∙ w.spelled) in
-    let fewer : length l.values < length r.values = omega (arith, good.1, same.order_same, w.full.count) in
-    let (y, more, values_are, rest_is) = points_front l.values r.values rest (shown ++ line (codes "end")) fewer same.rest_same in
-    let d = w.full.good.common in
-    point_unbroken l.values y rest _ e (at_place IsSmall r.values l.values more y values_are w.full.good.small)
-    (d.0, d.1, d.2, up_to_place (Divides d.0) r.values l.values more y values_are d.3) rest_is h
+    let fewer : length l.points < length r.points = omega (arith, good.1, same.order_same, w.full.count) in
+    let (y, more, points_are, rest_is) = points_front l.points r.points rest (shown ++ line (codes "end")) fewer same.rest_same in
+    let parts = points_are ∙ sym (append_assoc l.points (y ∷ []) more) in
+    let passed = subst ArePassed parts (w.full.good.small, w.full.good.common) in
+    point_unbroken l.points y rest _ e (front_passed (l.points ++ y ∷ []) more passed) rest_is h
 unbroken text rest r shown e w (violation l) good is h =
     let same = same_front l r rest (shown ++ line (codes "end")) good.0.good.order_fits w.full.good.order_fits (sym is ∙ w.spelled) in
-    let (values_are, rest_is) = points_same l.values r.values rest (shown ++ line (codes "end"))
+    let (points_are, rest_is) = points_same l.points r.points rest (shown ++ line (codes "end"))
     (good.0.count ∙ same.order_same ∙ sym w.full.count) same.rest_same in
     let (v, shown_is) = subst (λ (c : ClaimWord). AreShown c shown) (sym same.claim_same ∙ good.1) w.are in
     violation_unbroken v rest (line (codes "end")) e (rest_is ∙ ap (λ t. t ++ line (codes "end")) shown_is) h
 unbroken text rest r shown e w (last l sh) good is h =
     let same = same_front l r (sh ++ rest) (shown ++ line (codes "end")) good.0.good.order_fits w.full.good.order_fits
     (sym (append_assoc (read_lines l) sh rest) ∙ sym is ∙ w.spelled) in
-    let (values_are, after) = points_same l.values r.values (sh ++ rest) (shown ++ line (codes "end"))
+    let (points_are, after) = points_same l.points r.points (sh ++ rest) (shown ++ line (codes "end"))
     (good.0.count ∙ same.order_same ∙ sym w.full.count) same.rest_same in
     let shows = subst (λ (c : ClaimWord). AreShown c sh) same.claim_same good.1 in
     let (sh_is, rest_is) = shown_same r.claim sh shown rest (line (codes "end")) shows w.are after in
@@ -134,7 +131,7 @@ unbroken text rest r shown e w (last l sh) good is h =
 unbroken text rest r shown e w (nothing l sh) good is h =
     let same = same_front l r (sh ++ (line (codes "end") ++ rest)) (shown ++ line (codes "end")) good.0.good.order_fits w.full.good.order_fits
     (sym (append_assoc (read_lines l) sh (line (codes "end") ++ rest)) ∙ sym (append_assoc (read_lines l ++ sh) (line (codes "end")) rest) ∙ sym is ∙ w.spelled) in
-    let (values_are, after) = points_same l.values r.values (sh ++ (line (codes "end") ++ rest)) (shown ++ line (codes "end"))
+    let (points_are, after) = points_same l.points r.points (sh ++ (line (codes "end") ++ rest)) (shown ++ line (codes "end"))
     (good.0.count ∙ same.order_same ∙ sym w.full.count) same.rest_same in
     let shows = subst (λ (c : ClaimWord). AreShown c sh) same.claim_same good.1 in
     let (sh_is, rest_is) = shown_same r.claim sh shown (line (codes "end") ++ rest) (line (codes "end")) shows w.are after in
@@ -148,24 +145,22 @@ word_of (claims.NotMinimal f v) = NotMinimal
 
 -- what the text of a claim gives, line by line
 read_of : (c : Claim) (text : List ℕ) → IsProofText c text → LinesRead
-read_of c text p = record { claim = word_of c; order = (function_of c).order; place = p.are_lines.place; values = p.are_lines.values }
+read_of c text p = record { claim = word_of c; order = (function_of c).order; place = p.are_lines.place; points = p.are_lines.points }
 
 good_of : (c : Claim) (text : List ℕ) → IsKept c → (p : IsProofText c text) → IsFull (read_of c text p)
 unfolding read_of
 good_of c text k p =
     let f = function_of c in
     let l = p.are_lines in
-    let given = given_by_values l.values f k.0 k.1 l.values_are in
-    let small = all_from_in_order IsSmall l.values l.values l.values refl refl (all_small_given f.order f.place l.values l.values l.values f given) in
-    let common = all_from_in_order (Divides f.scale) l.values l.values l.values refl refl given.common in
+    let passed = good_points l.points f k.0 l.points_are in
     record {
       good = record {
         order_fits = (k.0.order_low, k.0.order_high);
         place_fits = (f.place, (k.0.place_low, k.0.place_high), l.place_is);
-        small = small.0;
-        common = (f.scale, k.0.scale_low, k.0.scale_high, common.0);
+        small = passed.0;
+        common = passed.1;
       };
-      count = sym (AllZip-long _ _ _ l.values_are) ∙ k.0.value_length;
+      count = count_of_points l.points f k.0 l.points_are;
     }
 
 shown_of : (c : Claim) → AreShown (word_of c) (shown_lines c)
@@ -196,25 +191,6 @@ no_fault_at c text rest e k p f =
 
 -- ---- one claim
 
--- a place has one number over an order
-one_place : (x : Frac) (k n q : ℕ) → Is x (pos k) (pos q) → Is x (pos n) (pos q) → k ≡ n
-one_place x k n q is is' =
-    let some = abs_positive_z x.den x.lowest.positive in
-    ap unsigned_abs (mul_cancel_right_z (pos k) (pos n) x.den (sym is ∙ is') (omega arith))
-
--- the lines of a function are those of one
-same_function : (f g : FunctionData) (x : Frac) (values : List Frac) → IsWithinLimits f → IsContinuous f → IsWithinLimits g → IsContinuous g →
-    Is x (pos f.place) (pos f.order) → Is x (pos g.place) (pos g.order) →
-    AllZip (λ y n. Is y n (pos f.scale)) values f.value → AllZip (λ y n. Is y n (pos g.scale)) values g.value →
-    f.order ≡ g.order → f ≡ g
-same_function f g x values within continuous within' continuous' is is' are are' order_is =
-    let place_is = one_place x f.place g.place g.order (subst (λ n. Is x (pos f.place) (pos n)) order_is is) is' in
-    let h = given_by_values values g within' continuous' are' in
-    let P : ℕ → Type 0 = λ n. IsGivenBy n g.place values values values g in
-    let Q : ℕ → Type 0 = λ n. IsGivenBy f.order n values values values g in
-    same_from_given f.order f.place values values values f g (given_by_values values f within continuous are)
-    (subst Q (sym place_is) (subst P (sym order_is) h))
-
 -- claims of one word, one function and one shown line are one
 same_claim : (c d : Claim) → word_of c ≡ word_of d → function_of c ≡ function_of d → shown_lines c ≡ shown_lines d → c ≡ d
 unfolding word_of
@@ -232,35 +208,25 @@ one_claim c d text k j p q =
     let u = parts_of d text j q in
     let same = same_front (read_of c text p) (read_of d text q) (shown_lines c ++ line (codes "end")) (shown_lines d ++ line (codes "end"))
     w.full.good.order_fits u.full.good.order_fits (sym w.spelled ∙ u.spelled) in
-    let (values_are, after) = points_same p.are_lines.values q.are_lines.values (shown_lines c ++ line (codes "end")) (shown_lines d ++ line (codes "end"))
+    let (points_are, after) = points_same p.are_lines.points q.are_lines.points (shown_lines c ++ line (codes "end")) (shown_lines d ++ line (codes "end"))
     (w.full.count ∙ same.order_same ∙ sym u.full.count) same.rest_same in
     let shows = subst (λ (a : ClaimWord). AreShown a (shown_lines c)) same.claim_same w.are in
     let (shown_is, end_is) = shown_same (word_of d) (shown_lines c) (shown_lines d) (line (codes "end")) (line (codes "end")) shows u.are after in
     let f = function_of c in
-    let functions = same_function f (function_of d) q.are_lines.place q.are_lines.values k.0 k.1 j.0 j.1
-    (subst (λ (x : Frac). Is x (pos f.place) (pos f.order)) same.place_same p.are_lines.place_is) q.are_lines.place_is
-    (subst (λ (xs : List Frac). AllZip (λ y n. Is y n (pos f.scale)) xs f.value) values_are p.are_lines.values_are) q.are_lines.values_are
-    same.order_same in
+    let g = function_of d in
+    let place_is = one_place q.are_lines.place g.order f.place g.place
+    (subst₂ (λ (x : Frac) n. Is x (pos f.place) (pos n)) same.place_same same.order_same p.are_lines.place_is) q.are_lines.place_is in
+    let functions = one_function_of_points q.are_lines.points f g same.order_same place_is k.0 j.0
+    (subst (ArePointsOf f) points_are p.are_lines.points_are) q.are_lines.points_are in
     same_claim c d same.claim_same functions shown_is
 
 -- ---- one text
 
-same_values : (d : ℕ) (xs ys : List Frac) (ns : List ℤ) → 0 < d → AllZip (λ x n. Is x n (pos d)) xs ns → AllZip (λ x n. Is x n (pos d)) ys ns → xs ≡ ys
-same_values d [] [] ns some h k = refl
-same_values d [] (y ∷ ys) [] some h k = absurd k
-same_values d [] (y ∷ ys) (n ∷ ns) some h k = absurd h
-same_values d (x ∷ xs) [] [] some h k = absurd h
-same_values d (x ∷ xs) [] (n ∷ ns) some h k = absurd k
-same_values d (x ∷ xs) (y ∷ ys) [] some h k = absurd h
-same_values d (x ∷ xs) (y ∷ ys) (n ∷ ns) some h k =
-    let same = same_from_is x y n (pos d) (λ e. omega arith) h.0 k.0 in
-    ap (λ z. z ∷ xs) same ∙ ap (λ t. y ∷ t) (same_values d xs ys ns some h.1 k.1)
-
 pub one_text : (c : Claim) (a b : List ℕ) → IsKept c → IsProofText c a → IsProofText c b → a ≡ b
 one_text c a b k p q =
     let f = function_of c in
-    let place_is = same_from_is p.are_lines.place q.are_lines.place (pos f.place) (pos f.order) (λ e. omega (arith, k.0.order_low)) p.are_lines.place_is q.are_lines.place_is in
-    let values_are = same_values f.scale p.are_lines.values q.are_lines.values f.value k.0.scale_low p.are_lines.values_are q.are_lines.values_are in
+    let place_is = place_of_function p.are_lines.place q.are_lines.place f.order f.place (omega (arith, k.0.order_low)) p.are_lines.place_is q.are_lines.place_is in
+    let points_are = one_list_of_points f p.are_lines.points q.are_lines.points k.0 p.are_lines.points_are q.are_lines.points_are in
     let lines_are : p.lines ≡ q.lines =
-    p.are_lines.spelled ∙ ap (λ x. lines_of f.order x p.are_lines.values) place_is ∙ ap (lines_of f.order q.are_lines.place) values_are ∙ sym q.are_lines.spelled in
+    p.are_lines.spelled ∙ ap (λ x. lines_of f.order x p.are_lines.points) place_is ∙ ap (lines_of f.order q.are_lines.place) points_are ∙ sym q.are_lines.spelled in
     p.spelled ∙ ap (λ t. line (codes "gj-proof 1") ++ line (codes "claim " ++ claim_word c) ++ t ++ shown_lines c ++ line (codes "end")) lines_are ∙ sym q.spelled

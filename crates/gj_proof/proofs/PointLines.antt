@@ -1,122 +1,230 @@
--- Point lines, read and printed one after another.
-use Rattle.std.proofs.Common.{◌≡◌, ℕ, ◌+◌, ◌<◌, ◌≤◌, ℤ, pos, List, [], ◌∷◌, ◌++◌, length, take, flat_map, Result, Ok, Err, OnOk, refl, sym, ap, subst, ◌∙◌, arith}
-use Rattle.std.specs.List.{AllZip}
-use Rattle.std.proofs.lemmas.List.{append_assoc, append-nil, length-append, length_push, flat_map_more, take_more, take_all}
-use Rattle.std.proofs.lemmas.Slice.Zip.{all_zipped_more}
+-- The line of a point: its words, and that no other point has them.
+use Rattle.std.proofs.Common.{◌≡◌, ◌≢◌, ℕ, List, [], ◌∷◌, ◌++◌, codes, All, Bool, true, false, cond, refl, sym, ap, subst, ◌∙◌}
+use Rattle.std.specs.Ordering.{int_eq}
+use Rattle.std.proofs.lemmas.Bool.{and_from, and_parts}
+use Rattle.std.proofs.lemmas.Bool.Decides.{Decides-int_eq}
+use Rattle.std.proofs.lemmas.List.{append_assoc}
+use Rattle.std.proofs.lemmas.List.Elements.{All-nil, All-cons, All-head, All-tail}
 use Rattle.gj_frac.specs.declared.Frac.{Frac}
-use Rattle.gj_frac.specs.Fraction.{Is}
-use Rattle.gj_shape.specs.FunctionData.{FunctionData, at}
-use Rattle.gj_shape.proofs.AtLemmas.{at_below}
-use Rattle.gj_proof.specs.FunctionLines.{order_line, place_line, point_line, lines_of, AreFunctionLines}
+use Rattle.gj_frac.specs.Fraction.{numerator, denominator}
+use Rattle.gj_frac.proofs.SameValues.{same_parts_same}
+use Rattle.gj_lex.specs.NumberText.{fraction_text}
+use Rattle.gj_lex.proofs.Spelling.{same_from_fraction_text}
+use Rattle.gj_lines.specs.FunctionLines.{line, is_same, has_no_jump, point_text, point_line}
+use Rattle.gj_lines.specs.declared.points.Point.{Point}
+use Rattle.gj_proof.specs.Words.{HasField, HasThreeFields, HasPointWords, IsFraction}
+use Rattle.gj_proof.proofs.WordLemmas.{no_feed_in_word, no_space_in_word, fraction_last_word, split_same, word_same, together, no_feed_in_three_words, three_words_line}
 
--- ---- reading
+-- ---- the fractions of a point
 
--- the text begins with the point lines of these values, as many as read, and goes on with the rest; and it
--- begins with as many as count only where these are the first of them
-pub record HasRead (text : List ℕ) (count read : ℕ) (values : List Frac) (rest : List ℕ) : Type 0 where
-  pub long : length values ≡ read
-  pub found : text ≡ flat_map point_line values ++ rest
-  pub only : (all : List Frac) (after : List ℕ) → length all ≡ count → text ≡ flat_map point_line all ++ after →
-      (more : List Frac) × (all ≡ values ++ more) × (rest ≡ flat_map point_line more ++ after)
+-- fractions with the same parts are one
+same_from_is_same : (x y : Frac) → is_same x y ≡ true → x ≡ y
+same_from_is_same x y h =
+    let parts = and_parts (int_eq (numerator x) (numerator y)) (int_eq (denominator x) (denominator y)) h in
+    same_parts_same x y ((Decides-int_eq (numerator x) (numerator y)).0 parts.0)
+    ((Decides-int_eq (denominator x) (denominator y)).0 parts.1)
 
--- the fraction that a point line at the front of the text spells, and what follows
-pub record IsNext (text : List ℕ) (value : Frac) (rest : List ℕ) : Type 0 where
-  pub found : text ≡ point_line value ++ rest
-  pub only : (x : Frac) (after : List ℕ) → text ≡ point_line x ++ after → (value ≡ x) × (rest ≡ after)
+is_same_from : (x y : Frac) → x ≡ y → is_same x y ≡ true
+is_same_from x y e =
+    and_from (int_eq (numerator x) (numerator y)) (int_eq (denominator x) (denominator y))
+    ((Decides-int_eq (numerator x) (numerator y)).1 (ap numerator e))
+    ((Decides-int_eq (denominator x) (denominator y)).1 (ap denominator e))
 
-pub none_read : (text : List ℕ) (count : ℕ) → HasRead text count 0 [] text
-none_read text count = record { long = refl; found = refl; only = λ all after long e. (all, refl, e) }
+no_jump_from : (p : Point) → p.left ≡ p.value → p.value ≡ p.right → has_no_jump p ≡ true
+no_jump_from p e f =
+    and_from (is_same p.left p.value) (is_same p.value p.right) (is_same_from p.left p.value e)
+    (is_same_from p.value p.right f)
 
--- the next one, where some are left to read
-first_of_more : (all values more : List Frac) (count read : ℕ) → length all ≡ count → length values ≡ read → read < count →
-    all ≡ values ++ more → (x : Frac) × (xs : List Frac) × (more ≡ x ∷ xs)
-first_of_more all values [] count read long few some e = absurd (omega (arith, ap length (e ∙ append-nil values)))
-first_of_more all values (x ∷ xs) count read long few some e = (x, xs, refl)
+same_where_no_jump : (p : Point) → has_no_jump p ≡ true → (p.left ≡ p.value) × (p.value ≡ p.right)
+same_where_no_jump p h =
+    let parts = and_parts (is_same p.left p.value) (is_same p.value p.right) h in
+    (same_from_is_same p.left p.value parts.0, same_from_is_same p.value p.right parts.1)
 
-pub next_read : (text : List ℕ) (count read : ℕ) (values : List Frac) (rest : List ℕ) (value : Frac) (next : List ℕ) →
-    read < count → HasRead text count read values rest → IsNext rest value next →
-    HasRead text count (read + 1) (values ++ value ∷ []) next
-next_read text count read values rest value next some h n = record {
-  long = length_push values value ∙ ap (λ k. k + 1) h.long;
-  found = h.found ∙ ap (λ t. flat_map point_line values ++ t) n.found
-      ∙ sym (append_assoc (flat_map point_line values) (point_line value) next)
-      ∙ ap (λ t. t ++ next) (flat_map_more point_line [] values value);
-  only = only;
-}
+point_of : Frac → Frac → Frac → Point
+point_of l v r = record { left = l; value = v; right = r }
+
+-- points with the same fractions are one
+same_point : (p q : Point) → p.left ≡ q.left → p.value ≡ q.value → p.right ≡ q.right → p ≡ q
+unfolding point_of
+same_point p q e f g =
+    ap (λ x. point_of x p.value p.right) e ∙ ap (λ x. point_of q.left x p.right) f
+    ∙ ap (λ x. point_of q.left q.value x) g
+
+-- ---- its words
+
+abbrev pub three_words : Frac → Frac → Frac → List (List ℕ)
+three_words x y z = fraction_text x ∷ fraction_text y ∷ fraction_text z ∷ []
+
+-- the words of one fraction, or of three
+abbrev words_by : Bool → Point → List (List ℕ)
+words_by b p = cond b (fraction_text p.value ∷ []) (three_words p.left p.value p.right)
+
+-- and the text of them
+abbrev text_by : Bool → Point → List ℕ
+text_by b p =
+    cond b (fraction_text p.value)
+    (fraction_text p.left ++ codes " " ++ fraction_text p.value ++ codes " " ++ fraction_text p.right)
+
+-- the words behind `point ` in its line
+abbrev pub words_of : Point → List (List ℕ)
+words_of p = words_by (has_no_jump p) p
+
+text_together : (x y z : List ℕ) → x ++ codes " " ++ y ++ codes " " ++ z ≡ x ++ codes " " ++ (y ++ codes " " ++ z)
+text_together x y z = simp append_assoc
+
+parted_line : (front x y z rest : List ℕ) → line (front ++ (x ++ codes " " ++ y ++ codes " " ++ z)) ++ rest ≡
+    line (front ++ x ++ codes " " ++ y ++ codes " " ++ z) ++ rest
+parted_line front x y z rest =
+    ap (λ t. line t ++ rest) (ap (λ t. front ++ t) (text_together x y z) ∙ sym (together front x y z))
+
+not_all_same : (p : Point) → has_no_jump p ≡ false → fraction_text p.left ≡ fraction_text p.value →
+    fraction_text p.value ≡ fraction_text p.right → ⊥
+not_all_same p none e f =
+    let jumps = no_jump_from p (same_from_fraction_text p.left p.value e) (same_from_fraction_text p.value p.right f) in
+    absurd (let b : false ≡ true = sym none ∙ jumps in cc)
+
+-- the line of a point has its words
+pub has_words : (p : Point) (text rest : List ℕ) → text ≡ point_line p ++ rest → HasPointWords text (words_of p) rest
+unfolding point_text
+has_words p text rest is = by (has_no_jump p) refl is
   where
-    only : (all : List Frac) (after : List ℕ) → length all ≡ count → text ≡ flat_map point_line all ++ after →
-        (more : List Frac) × (all ≡ values ++ value ∷ [] ++ more) × (next ≡ flat_map point_line more ++ after)
-    only all after long e =
-        let (more, all_is, rest_is) = h.only all after long e in
-        let (x, xs, more_is) = first_of_more all values more count read long h.long some all_is in
-        let front = rest_is ∙ ap (λ m. flat_map point_line m ++ after) more_is ∙ append_assoc (point_line x) (flat_map point_line xs) after in
-        let same = n.only x (flat_map point_line xs ++ after) front in (
-          xs,
-          all_is ∙ ap (λ m. values ++ m) (more_is ∙ ap (λ y. y ∷ xs) (sym same.0)) ∙ sym (append_assoc values (value ∷ []) xs),
-          same.1,
-        )
+    by : (b : Bool) → has_no_jump p ≡ b →
+        text ≡ line (codes "point " ++ text_by b p) ++ rest →
+        HasPointWords text (words_by b p) rest
+    by true e is = record { is_word = fraction_last_word p.value; spelled = is }
+    by false e is = (
+      record {
+        is_first = (fraction_last_word p.left).is_word;
+        is_second = (fraction_last_word p.value).is_word;
+        is_third = fraction_last_word p.right;
+        spelled = is
+            ∙ parted_line (codes "point ") (fraction_text p.left) (fraction_text p.value) (fraction_text p.right) rest;
+      },
+      not_all_same p e,
+    )
 
--- no more can be read where no point line is at the front
-pub none_follows : (text : List ℕ) (count read : ℕ) (values : List Frac) (rest : List ℕ) → read < count →
-    HasRead text count read values rest → ((x : Frac) (after : List ℕ) → rest ≡ point_line x ++ after → ⊥) →
-    (all : List Frac) (after : List ℕ) → length all ≡ count → text ≡ flat_map point_line all ++ after → ⊥
-none_follows text count read values rest some h none all after long e =
-    let (more, all_is, rest_is) = h.only all after long e in
-    let (x, xs, more_is) = first_of_more all values more count read long h.long some all_is in
-    none x (flat_map point_line xs ++ after)
-    (rest_is ∙ ap (λ m. flat_map point_line m ++ after) more_is ∙ append_assoc (point_line x) (flat_map point_line xs) after)
-
--- all are read
-pub all_read : (text : List ℕ) (count read : ℕ) (values : List Frac) (rest : List ℕ) → count ≤ read →
-    HasRead text count read values rest → (all : List Frac) (after : List ℕ) → length all ≡ count →
-    text ≡ flat_map point_line all ++ after → (values ≡ all) × (rest ≡ after)
-all_read text count read values rest most h all after long e =
-    let (more, all_is, rest_is) = h.only all after long e in end more all_is rest_is
+-- one word that spells the value, which is both limits, is the line of the point
+pub one_fraction_line : (p : Point) (text word rest : List ℕ) → HasField text (codes "point ") word rest →
+    word ≡ fraction_text p.value → p.left ≡ p.value → p.value ≡ p.right → text ≡ point_line p ++ rest
+unfolding point_text
+one_fraction_line p text word rest h is e f = by (has_no_jump p) (no_jump_from p e f)
   where
-    end : (more : List Frac) → all ≡ values ++ more → rest ≡ flat_map point_line more ++ after → (values ≡ all) × (rest ≡ after)
-    end [] all_is rest_is = (sym (all_is ∙ append-nil values), rest_is)
-    end (x ∷ xs) all_is rest_is =
-        absurd (omega (arith, h.long, long, most, ap length all_is, length-append values (x ∷ xs)))
+    by : (b : Bool) → b ≡ true →
+        text ≡ line (codes "point " ++ text_by b p) ++ rest
+    by true t = h.spelled ∙ ap (λ w. line (codes "point " ++ w) ++ rest) is
+    by false t = cc
 
--- ---- printing
+-- three words that spell its fractions, and are not all the same, are the line of the point
+pub three_fractions_line : (p : Point) (text x y z rest : List ℕ) → HasPointWords text (x ∷ y ∷ z ∷ []) rest →
+    x ≡ fraction_text p.left → y ≡ fraction_text p.value → z ≡ fraction_text p.right → text ≡ point_line p ++ rest
+unfolding point_text
+three_fractions_line p text x y z rest h is_left is_value is_right = by (has_no_jump p) refl
+  where
+    by : (b : Bool) → has_no_jump p ≡ b →
+        text ≡ line (codes "point " ++ text_by b p) ++ rest
+    by true e =
+        let same = same_where_no_jump p e in
+        absurd (h.1 (is_left ∙ ap fraction_text same.0 ∙ sym is_value)
+        (is_value ∙ ap fraction_text same.1 ∙ sym is_right))
+    by false e =
+        h.0.spelled
+        ∙ ap (λ w. line (codes "point " ++ w ++ codes " " ++ y ++ codes " " ++ z) ++ rest) is_left
+        ∙ ap (λ w. line (codes "point " ++ fraction_text p.left ++ codes " " ++ w ++ codes " " ++ z) ++ rest) is_value
+        ∙ ap (λ w. line (codes "point " ++ fraction_text p.left ++ codes " " ++ fraction_text p.value ++ codes " " ++ w) ++ rest)
+        is_right
+        ∙ sym (parted_line (codes "point ") (fraction_text p.left) (fraction_text p.value) (fraction_text p.right) rest)
 
--- the text before has gained point lines of fractions that are the first of these values
-abbrev pub ArePushed : ℕ → List ℤ → ℕ → List ℕ → List ℕ → Type 0
-ArePushed scale values n before now =
-    (xs : List Frac) × AllZip (λ x v. Is x v (pos scale)) xs (take n values) × (now ≡ before ++ flat_map point_line xs)
+-- ---- its words are those of the line
 
-pub none_pushed : (scale : ℕ) (values : List ℤ) (before : List ℕ) → ArePushed scale values 0 before before
-none_pushed scale values before = ([], tt, sym (append-nil before))
+-- a word has no space in it
+no_space_inside : (front more : List ℕ) → All (λ b. b ≢ 32) (front ++ 32 ∷ more) → ⊥
+no_space_inside [] more h = All-head (λ b. b ≢ 32) 32 more h refl
+no_space_inside (b ∷ front) more h = no_space_inside front more (All-tail (λ c. c ≢ 32) b (front ++ 32 ∷ more) h)
 
-take_next : (values : List ℤ) (n : ℕ) → n < length values → take (n + 1) values ≡ take n values ++ at values n ∷ []
-take_next values n some =
-    take_more values n (pos 0) some ∙ ap (λ z. take n values ++ z ∷ []) (sym (at_below values n some))
+-- a line is not that of one word and that of three
+pub one_is_not_three : (text front w x y z rest after : List ℕ) → HasField text front w rest →
+    HasThreeFields text front x y z after → ⊥
+one_is_not_three text front w x y z rest after h k =
+    let same = word_same front w (x ++ codes " " ++ (y ++ codes " " ++ z)) rest after (no_feed_in_word w h.is_word.is_word)
+    (no_feed_in_three_words x y z k.is_first k.is_second k.is_third.is_word)
+    (sym h.spelled ∙ three_words_line text front x y z after k) in
+    let apart : w ≡ x ++ 32 ∷ (y ++ codes " " ++ z) = same.0 ∙ append_assoc x (codes " ") (y ++ codes " " ++ z) in
+    no_space_inside x (y ++ codes " " ++ z) (subst (All (λ b. b ≢ 32)) apart (no_space_in_word w h.is_word.is_word))
 
-pub one_pushed : (scale : ℕ) (values : List ℤ) (n : ℕ) (x : Frac) (before now next : List ℕ) → n < length values →
-    ArePushed scale values n before now → Is x (at values n) (pos scale) → next ≡ now ++ point_line x →
-    ArePushed scale values (n + 1) before next
-one_pushed scale values n x before now next some (xs, are, now_is) is next_is = (
-  xs ++ x ∷ [],
-  subst (AllZip (λ x v. Is x v (pos scale)) (xs ++ x ∷ [])) (sym (take_next values n some))
-      (all_zipped_more (λ x v. Is x v (pos scale)) xs (take n values) x (at values n) are is),
-  next_is ∙ ap (λ t. t ++ point_line x) now_is ∙ flat_map_more point_line before xs x,
-)
+pub record SameThree (x y z a b c r s : List ℕ) : Type 0 where
+  pub first : x ≡ a
+  pub second : y ≡ b
+  pub third : z ≡ c
+  pub rest : r ≡ s
 
-pub all_pushed : (scale : ℕ) (values : List ℤ) (n : ℕ) (before now : List ℕ) → length values ≤ n →
-    ArePushed scale values n before now →
-    (xs : List Frac) × AllZip (λ x v. Is x v (pos scale)) xs values × (now ≡ before ++ flat_map point_line xs)
-all_pushed scale values n before now most (xs, are, now_is) =
-    (xs, subst (AllZip (λ x v. Is x v (pos scale)) xs) (take_all n values most) are, now_is)
+pub three_same : (text front x y z a b c r s : List ℕ) → HasThreeFields text front x y z r →
+    HasThreeFields text front a b c s → SameThree x y z a b c r s
+three_same text front x y z a b c r s h k =
+    let same = word_same front (x ++ codes " " ++ (y ++ codes " " ++ z)) (a ++ codes " " ++ (b ++ codes " " ++ c)) r s
+    (no_feed_in_three_words x y z h.is_first h.is_second h.is_third.is_word)
+    (no_feed_in_three_words a b c k.is_first k.is_second k.is_third.is_word)
+    (sym (three_words_line text front x y z r h) ∙ three_words_line text front a b c s k) in
+    let one = split_same 32 x a (y ++ codes " " ++ z) (b ++ codes " " ++ c) (no_space_in_word x h.is_first)
+    (no_space_in_word a k.is_first) same.0 in
+    let two = split_same 32 y b z c (no_space_in_word y h.is_second) (no_space_in_word b k.is_second) one.1 in
+    record { first = one.0; second = two.0; third = two.1; rest = same.1 }
 
--- the lines of a function: the head is pushed, and then the point lines
-pub lines_pushed : {E : Type 0} (f : FunctionData) (order : ℕ) (place : Frac) (r : Result (Unit {0}) E) (before head now : List ℕ) →
-    order ≡ f.order → Is place (pos f.place) (pos f.order) → head ≡ before ++ (order_line order ++ place_line place) →
-    OnOk r ((xs : List Frac) × AllZip (λ x v. Is x v (pos f.scale)) xs f.value × (now ≡ head ++ flat_map point_line xs)) →
-    OnOk r ((lines : List ℕ) × AreFunctionLines f lines × (now ≡ before ++ lines))
-lines_pushed f order place (Err e) before head now order_is place_is head_is h = tt
-lines_pushed f order place (Ok u) before head now order_is place_is head_is (xs, are, now_is) = (
-  lines_of f.order place xs,
-  record { place = place; values = xs; place_is = place_is; values_are = are; spelled = refl },
-  now_is ∙ ap (λ t. t ++ flat_map point_line xs) (head_is ∙ ap (λ q. before ++ (order_line q ++ place_line place)) order_is)
-      ∙ append_assoc before (order_line f.order ++ place_line place) (flat_map point_line xs),
-)
+-- a line of a point has its words in one way
+pub words_same : (text : List ℕ) (ws vs : List (List ℕ)) (r s : List ℕ) → HasPointWords text ws r →
+    HasPointWords text vs s → (ws ≡ vs) × (r ≡ s)
+words_same text [] vs r s h k = absurd h
+words_same text (x ∷ y ∷ []) vs r s h k = absurd h
+words_same text (x ∷ y ∷ z ∷ w ∷ more) vs r s h k = absurd h
+words_same text ws [] r s h k = absurd k
+words_same text ws (a ∷ b ∷ []) r s h k = absurd k
+words_same text ws (a ∷ b ∷ c ∷ d ∷ more) r s h k = absurd k
+words_same text (x ∷ []) (a ∷ []) r s h k =
+    let same = word_same (codes "point ") x a r s (no_feed_in_word x h.is_word.is_word)
+    (no_feed_in_word a k.is_word.is_word) (sym h.spelled ∙ k.spelled) in
+    (ap (λ w. w ∷ []) same.0, same.1)
+words_same text (x ∷ []) (a ∷ b ∷ c ∷ []) r s h k = absurd (one_is_not_three text (codes "point ") x a b c r s h k.0)
+words_same text (x ∷ y ∷ z ∷ []) (a ∷ []) r s h k = absurd (one_is_not_three text (codes "point ") a x y z s r k h.0)
+words_same text (x ∷ y ∷ z ∷ []) (a ∷ b ∷ c ∷ []) r s h k =
+    let same = three_same text (codes "point ") x y z a b c r s h.0 k.0 in (
+      ap (λ w. w ∷ y ∷ z ∷ []) same.first ∙ ap (λ w. a ∷ w ∷ z ∷ []) same.second ∙ ap (λ w. a ∷ b ∷ w ∷ []) same.third,
+      same.rest,
+    )
+
+-- the words of a point are fractions
+pub words_are_fractions : (p : Point) → All IsFraction (words_of p)
+words_are_fractions p = by (has_no_jump p)
+  where
+    by : (b : Bool) → All IsFraction (words_by b p)
+    by true = All-cons IsFraction (fraction_text p.value) [] (p.value, refl) (All-nil IsFraction)
+    by false =
+        All-cons IsFraction (fraction_text p.left) (fraction_text p.value ∷ fraction_text p.right ∷ []) (p.left, refl)
+        (All-cons IsFraction (fraction_text p.value) (fraction_text p.right ∷ []) (p.value, refl)
+        (All-cons IsFraction (fraction_text p.right) [] (p.right, refl) (All-nil IsFraction)))
+
+-- points with the same words are one
+point_from_words : (p q : Point) → words_of p ≡ words_of q → p ≡ q
+point_from_words p q = by (has_no_jump p) (has_no_jump q) refl refl
+  where
+    by : (b c : Bool) → has_no_jump p ≡ b → has_no_jump q ≡ c →
+        words_by b p ≡ words_by c q → p ≡ q
+    by true true h k e =
+        let text : fraction_text p.value ≡ fraction_text q.value = cc in
+        let value = same_from_fraction_text p.value q.value text in
+        let one = same_where_no_jump p h in
+        let other = same_where_no_jump q k in
+        same_point p q (one.0 ∙ value ∙ sym other.0) value (sym one.1 ∙ value ∙ other.1)
+    by true false h k e = cc
+    by false true h k e = cc
+    by false false h k e =
+        let l : fraction_text p.left ≡ fraction_text q.left = cc in
+        let v : fraction_text p.value ≡ fraction_text q.value = cc in
+        let r : fraction_text p.right ≡ fraction_text q.right = cc in
+        same_point p q (same_from_fraction_text p.left q.left l) (same_from_fraction_text p.value q.value v)
+        (same_from_fraction_text p.right q.right r)
+
+-- a line of a point is that of one
+pub one_point : (p q : Point) (text r s : List ℕ) → text ≡ point_line p ++ r → text ≡ point_line q ++ s →
+    (p ≡ q) × (r ≡ s)
+one_point p q text r s e f =
+    let same = words_same text (words_of p) (words_of q) r s (has_words p text r e) (has_words q text s f) in
+    (point_from_words p q same.0, same.1)

@@ -1,6 +1,6 @@
 -- When a line is no line of a violation.
 use Rattle.std.proofs.Common.{◌≡◌, inl, inr, ℕ, List, [], ◌∷◌, ◌++◌, codes}
-use Rattle.gj_proof.specs.FunctionLines.{line}
+use Rattle.gj_lines.specs.FunctionLines.{line}
 use Rattle.gj_proof.specs.Words.{HasTwoFields}
 use Rattle.gj_proof.specs.FirstFault.{HasNoField, HasPoints}
 

@@ -1,27 +1,24 @@
 -- How a fault of a part is the first fault of the whole text.
-use Rattle.std.proofs.Common.{◌≡◌, inl, inr, ℕ, ◌<◌, ◌≤◌, pos, List, [], ◌++◌, length, flat_map, codes, All, Option, Result, Err, IfErr, refl, sym, ap, subst, ◌∙◌}
+use Rattle.std.proofs.Common.{◌≡◌, inl, inr, ℕ, pos, List, [], ◌++◌, length, flat_map, codes, Option, Result, Err, IfErr, refl, sym, ap, subst, ◌∙◌}
 use Rattle.std.proofs.lemmas.List.{append_assoc, append-nil}
 use Rattle.gj_frac.specs.declared.Frac.{Frac}
 use Rattle.gj_frac.specs.Fraction.{Is}
 use Rattle.gj_lex.specs.declared.reason.Reason.{Reason}
 use Rattle.gj_shape.specs.FunctionData.{FunctionData}
-use Rattle.gj_shape.specs.Given.{IsOrder, IsSmall, HasCommonDenominator, IsGivenBy, in_order, HasFault}
-use Rattle.gj_shape.specs.Denominators.{IsLeastDenominator}
+use Rattle.gj_shape.specs.Given.{IsOrder, IsGivenBy}
 use Rattle.gj_shape.specs.declared.violations.Violation.{Violation}
-use Rattle.gj_shape.specs.declared.faults.ShapeFault.{ShapeFault}
-use Rattle.gj_shape.specs.declared.faults.ShapeFault.TheVariants as shape_fault
-use Rattle.gj_shape.proofs.ContinuousGiven.{values_given, at_place, up_to_place}
-use Rattle.gj_shape.proofs.InOrder.{all_in_order}
-use Rattle.gj_shape.proofs.LeastDenominator.{Divides, common_before, common_last}
-use Rattle.gj_proof.specs.FunctionLines.{line, order_line, place_line, point_line, lines_of, AreFunctionLines}
+use Rattle.gj_lines.specs.FunctionLines.{line, order_line, place_line, point_line, lines_of, AreFunctionLines}
+use Rattle.gj_lines.specs.Points.{lefts, values, rights}
+use Rattle.gj_lines.specs.declared.points.Point.{Point}
 use Rattle.gj_proof.specs.ProofText.{violation_line, IsProofText}
-use Rattle.gj_proof.specs.FirstFault.{claim_line, claim_lines, read_lines, LinesRead, IsGood, IsFull, AreShown, BreaksLine, BreaksClaim, BreaksOrder, BreaksPlace, BreaksPoint, IsFaultAt}
+use Rattle.gj_proof.specs.FirstFault.{claim_line, claim_lines, read_lines, LinesRead, IsGood, IsFull, AreShown, BreaksLine, BreaksClaim, BreaksOrder, BreaksPlace, IsFaultAt}
 use Rattle.gj_proof.specs.FirstFault.Expected.{title, claim, order, place, point, violation, last, nothing}
-use Rattle.gj_proof.specs.Reading.{IsRefusedHere, IsRefusedIn, HasHead, HasValues, HasShown, BreaksPointOver, BreaksShown, IsPointFault, IsEndFault, IsWantOfMemory, claim_about}
+use Rattle.gj_proof.specs.Reading.{IsRefusedHere, IsRefusedIn, HasHead, HasPointLines, HasShown, BreaksShown, IsFaultInPoints, IsEndFault, claim_about}
 use Rattle.gj_proof.specs.declared.faults.Fault.{Fault}
 use Rattle.gj_proof.specs.declared.faults.Fault.TheVariants.{Refused, Memory}
 use Rattle.gj_proof.specs.declared.head.ClaimWord.{ClaimWord}
 use Rattle.gj_proof.specs.declared.head.ClaimWord.TheVariants.{Minimal, NotMinimal}
+use Rattle.gj_lines.proofs.GivenPoints.{points_given}
 
 -- ---- errors passed on
 
@@ -81,32 +78,13 @@ fault_in_place text here rest c q e f fits a h = record {
 
 -- ---- the points
 
--- one line of a point breaks the rule over the scale, and so with the values before it
-pub point_over : (values : List Frac) (scale : ℕ) (text : List ℕ) → IsLeastDenominator values scale → (a : Reason) →
-    BreaksPointOver scale text a → BreaksPoint values text a
-point_over values scale text least a (inl (inl h)) = inl h
-point_over values scale text least a (inl (inr h)) = inr (inl h)
-point_over values scale text least a (inr (inl h)) = inr (inr (inl h))
-point_over values scale text least a (inr (inr (e, (x, rest, spelled, small, none)))) =
-    inr (inr (inr (
-      e,
-      (
-        x,
-        rest,
-        spelled,
-        small,
-        λ has. none has.0 has.1 has.2
-            (least.least has.0 (common_before values x has.0 has.3)) (common_last values x has.0 has.3),
-      ),
-    )))
+-- the lines that were read, with these points
+abbrev lines_read : ClaimWord → ℕ → Frac → List Point → LinesRead
+lines_read c q x points = record { claim = c; order = q; place = x; points = points }
 
--- the lines that were read, with these values
-abbrev lines_read : ClaimWord → ℕ → Frac → List Frac → LinesRead
-lines_read c q x values = record { claim = c; order = q; place = x; values = values }
-
-good_lines : (text here rest : List ℕ) (c : ClaimWord) (q k : ℕ) (values : List Frac) → (h : HasHead text c q k here) →
-    HasValues here values rest → IsGood (lines_read c q h.place values)
-good_lines text here rest c q k values h v = record {
+good_lines : (text here rest : List ℕ) (c : ClaimWord) (q k : ℕ) (points : List Point) → (h : HasHead text c q k here) →
+    HasPointLines here points rest → IsGood (lines_read c q h.place points)
+good_lines text here rest c q k points h v = record {
   order_fits = h.order_fits;
   place_fits = (k, h.place_fits, h.place_is);
   small = v.small;
@@ -116,21 +94,21 @@ good_lines text here rest c q k values h v = record {
 regroup : (a b c d e : List ℕ) → a ++ (b ++ (c ++ (d ++ e))) ≡ a ++ (b ++ c ++ d) ++ e
 regroup a b c d e = simp append_assoc
 
-spelled_lines : (text here rest : List ℕ) (c : ClaimWord) (q k : ℕ) (values : List Frac) → (h : HasHead text c q k here) →
-    HasValues here values rest → text ≡ read_lines (lines_read c q h.place values) ++ rest
-spelled_lines text here rest c q k values h v =
+spelled_lines : (text here rest : List ℕ) (c : ClaimWord) (q k : ℕ) (points : List Point) → (h : HasHead text c q k here) →
+    HasPointLines here points rest → text ≡ read_lines (lines_read c q h.place points) ++ rest
+spelled_lines text here rest c q k points h v =
     h.spelled ∙ ap (λ t. claim_lines c ++ (order_line q ++ (place_line h.place ++ t))) v.spelled
-    ∙ regroup (claim_lines c) (order_line q) (place_line h.place) (flat_map point_line values) rest
+    ∙ regroup (claim_lines c) (order_line q) (place_line h.place) (flat_map point_line points) rest
 
-pub fault_in_point : (text here : List ℕ) (c : ClaimWord) (q k : ℕ) (e : Fault) → HasHead text c q k here → IsPointFault here q e →
+pub fault_in_point : (text here : List ℕ) (c : ClaimWord) (q k : ℕ) (e : Fault) → HasHead text c q k here → IsFaultInPoints here q e →
     IsRefusedIn text e
-fault_in_point text here c q k (Refused left a) h (values, rest, left_is, below, has, broken) = (
+fault_in_point text here c q k (Refused left a) h (points, rest, left_is, below, has, broken) = (
   rest,
   left_is,
   record {
-    expected = point (lines_read c q h.place values);
-    good = (good_lines text here rest c q k values h has, below);
-    place = spelled_lines text here rest c q k values h has;
+    expected = point (lines_read c q h.place points);
+    good = (good_lines text here rest c q k points h has, below);
+    place = spelled_lines text here rest c q k points h has;
     broken = broken;
   },
 )
@@ -138,12 +116,12 @@ fault_in_point text here c q k (Memory a) h f = tt
 
 -- ---- the lines behind the function
 
-pub fault_in_shown : (text here rest : List ℕ) (c : ClaimWord) (q k : ℕ) (values : List Frac) → HasHead text c q k here →
-    HasValues here values rest → length values ≡ q → (a : Reason) → BreaksShown c rest a → IsFaultAt text rest a
-fault_in_shown text here rest c q k values h v count a b = record {
-  expected = violation (lines_read c q h.place values);
-  good = (record { good = good_lines text here rest c q k values h v; count = count }, b.0);
-  place = spelled_lines text here rest c q k values h v;
+pub fault_in_shown : (text here rest : List ℕ) (c : ClaimWord) (q k : ℕ) (points : List Point) → HasHead text c q k here →
+    HasPointLines here points rest → length points ≡ q → (a : Reason) → BreaksShown c rest a → IsFaultAt text rest a
+fault_in_shown text here rest c q k points h v count a b = record {
+  expected = violation (lines_read c q h.place points);
+  good = (record { good = good_lines text here rest c q k points h v; count = count }, b.0);
+  place = spelled_lines text here rest c q k points h v;
   broken = b.1;
 }
 
@@ -153,16 +131,16 @@ shown_lines_of : (c : ClaimWord) (text rest : List ℕ) (v : Option Violation) �
 shown_lines_of Minimal text rest v h = ([], refl, h.1)
 shown_lines_of NotMinimal text rest v h = (violation_line h.0, (h.0, refl), h.2)
 
-pub fault_in_end : (text here after rest : List ℕ) (c : ClaimWord) (q k : ℕ) (values : List Frac) (v : Option Violation) (e : Fault) →
-    HasHead text c q k here → HasValues here values after → length values ≡ q → HasShown c after v rest → IsEndFault rest e →
+pub fault_in_end : (text here after rest : List ℕ) (c : ClaimWord) (q k : ℕ) (points : List Point) (v : Option Violation) (e : Fault) →
+    HasHead text c q k here → HasPointLines here points after → length points ≡ q → HasShown c after v rest → IsEndFault rest e →
     IsRefusedIn text e
-fault_in_end text here after rest c q k values v (Memory a) h w count s f = tt
-fault_in_end text here after rest c q k values v (Refused left a) h w count s f =
-    let r = lines_read c q h.place values in
-    let full : IsFull r = record { good = good_lines text here after c q k values h w; count = count } in
+fault_in_end text here after rest c q k points v (Memory a) h w count s f = tt
+fault_in_end text here after rest c q k points v (Refused left a) h w count s f =
+    let r = lines_read c q h.place points in
+    let full : IsFull r = record { good = good_lines text here after c q k points h w; count = count } in
     let (shown, are, after_is) = shown_lines_of c after rest v s in
     let spelled : text ≡ read_lines r ++ shown ++ rest =
-    spelled_lines text here after c q k values h w ∙ ap (λ t. read_lines r ++ t) after_is ∙ sym (append_assoc (read_lines r) shown rest) in
+    spelled_lines text here after c q k points h w ∙ ap (λ t. read_lines r ++ t) after_is ∙ sym (append_assoc (read_lines r) shown rest) in
     elim f [
       | inl b ↦ (rest, b.0, record { expected = last r shown; good = (full, are); place = spelled; broken = b.1 })
       | inr b ↦ (
@@ -179,60 +157,39 @@ fault_in_end text here after rest c q k values v (Refused left a) h w count s f 
 
 -- ---- the whole
 
--- values that pass all tests give a function
-pub no_fault_of_values : (q k : ℕ) (values : List Frac) (e : ShapeFault) → IsOrder q → (1 ≤ k) × (k < q) → length values ≡ q →
-    All IsSmall values → HasCommonDenominator values → HasFault q k values values values e → IsWantOfMemory e
-no_fault_of_values q k values shape_fault.Order o p n s d h = h o
-no_fault_of_values q k values shape_fault.Place o p n s d h = h.1 p
-no_fault_of_values q k values shape_fault.Count o p n s d h = h.2 (n, n, n)
-no_fault_of_values q k values (shape_fault.TooLarge i) o p n s d h =
-    let (before, x, first, large) = h.3 in
-    large (at_place IsSmall (in_order values values values) before first.after x first.place
-    (all_in_order IsSmall values values values refl refl s s s))
-no_fault_of_values q k values (shape_fault.TooFine i) o p n s d h =
-    let (before, x, first, small, fine) = h.3 in
-    fine (
-      d.0,
-      d.1,
-      d.2,
-      up_to_place (Divides d.0) (in_order values values values) before first.after x first.place
-          (all_in_order (Divides d.0) values values values refl refl d.3 d.3 d.3),
-    )
-no_fault_of_values q k values (shape_fault.Memory a) o p n s d h = tt
-
--- the lines of the function that the values give
-lines_given : (q k : ℕ) (x : Frac) (values : List Frac) (f : FunctionData) → Is x (pos k) (pos q) →
-    IsGivenBy q k values values values f → AreFunctionLines f (lines_of q x values)
-lines_given q k x values f is g = record {
+-- the lines of the function that the points give
+lines_given : (q k : ℕ) (x : Frac) (points : List Point) (f : FunctionData) → Is x (pos k) (pos q) →
+    IsGivenBy q k (lefts points) (values points) (rights points) f → AreFunctionLines f (lines_of q x points)
+lines_given q k x points f is g = record {
   place = x;
-  values = values;
+  points = points;
   place_is = subst (λ n. Is x (pos n) (pos f.order)) (sym g.place) (subst (λ n. Is x (pos k) (pos n)) (sym g.order) is);
-  values_are = values_given q k values f g;
-  spelled = ap (λ n. lines_of n x values) (sym g.order);
+  points_are = points_given q k points f g;
+  spelled = ap (λ n. lines_of n x points) (sym g.order);
 }
 
 regroup_text : (a b c d e : List ℕ) → a ++ b ++ c ++ (d ++ e) ≡ a ++ b ++ c ++ d ++ e
 regroup_text a b c d e = simp append_assoc
 
 -- all lines were read
-pub proof_found : (text here after rest : List ℕ) (c : ClaimWord) (q k : ℕ) (values : List Frac) (v : Option Violation) (f : FunctionData) →
-    HasHead text c q k here → HasValues here values after → HasShown c after v rest → rest ≡ line (codes "end") →
-    IsGivenBy q k values values values f → IsProofText (claim_about f v) text
-proof_found text here after rest Minimal q k values v f h w s e g =
-    let spelled = spelled_lines text here after Minimal q k values h w in
+pub proof_found : (text here after rest : List ℕ) (c : ClaimWord) (q k : ℕ) (points : List Point) (v : Option Violation) (f : FunctionData) →
+    HasHead text c q k here → HasPointLines here points after → HasShown c after v rest → rest ≡ line (codes "end") →
+    IsGivenBy q k (lefts points) (values points) (rights points) f → IsProofText (claim_about f v) text
+proof_found text here after rest Minimal q k points v f h w s e g =
+    let spelled = spelled_lines text here after Minimal q k points h w in
     let P : Option Violation → Type 0 = λ o. IsProofText (claim_about f o) text in
     subst P (sym s.0) (record {
-      lines = lines_of q h.place values;
-      are_lines = lines_given q k h.place values f h.place_is g;
-      spelled = spelled ∙ ap (λ t. claim_lines Minimal ++ lines_of q h.place values ++ t) (s.1 ∙ e)
-          ∙ ap (λ t. t ++ line (codes "end")) (sym (append-nil (claim_lines Minimal ++ lines_of q h.place values)));
+      lines = lines_of q h.place points;
+      are_lines = lines_given q k h.place points f h.place_is g;
+      spelled = spelled ∙ ap (λ t. claim_lines Minimal ++ lines_of q h.place points ++ t) (s.1 ∙ e)
+          ∙ ap (λ t. t ++ line (codes "end")) (sym (append-nil (claim_lines Minimal ++ lines_of q h.place points)));
     })
-proof_found text here after rest NotMinimal q k values v f h w s e g =
-    let spelled = spelled_lines text here after NotMinimal q k values h w in
+proof_found text here after rest NotMinimal q k points v f h w s e g =
+    let spelled = spelled_lines text here after NotMinimal q k points h w in
     let P : Option Violation → Type 0 = λ o. IsProofText (claim_about f o) text in
     subst P (sym s.1) (record {
-      lines = lines_of q h.place values;
-      are_lines = lines_given q k h.place values f h.place_is g;
-      spelled = spelled ∙ ap (λ t. claim_lines NotMinimal ++ lines_of q h.place values ++ t) (s.2 ∙ ap (λ t. violation_line s.0 ++ t) e)
-          ∙ sym (append_assoc (claim_lines NotMinimal ++ lines_of q h.place values) (violation_line s.0) (line (codes "end")));
+      lines = lines_of q h.place points;
+      are_lines = lines_given q k h.place points f h.place_is g;
+      spelled = spelled ∙ ap (λ t. claim_lines NotMinimal ++ lines_of q h.place points ++ t) (s.2 ∙ ap (λ t. violation_line s.0 ++ t) e)
+          ∙ sym (append_assoc (claim_lines NotMinimal ++ lines_of q h.place points) (violation_line s.0) (line (codes "end")));
     })

@@ -9,8 +9,8 @@ use Rattle.gj_frac.specs.declared.Frac.{Frac}
 use Rattle.gj_lex.specs.NumberText.{fraction_text, IsWordByte}
 use Rattle.gj_lex.proofs.Decimals.{decimal_of_value, decimal_leading_zero, decimal_some, value_of_decimal}
 use Rattle.gj_lex.proofs.WordBytes.{decimal_is_word, decimal_bytes, fraction_is_word, fraction_some}
-use Rattle.gj_proof.specs.FunctionLines.{line}
-use Rattle.gj_proof.specs.Words.{IsInWord, IsWord, IsLastWord, HasTwoFields, IsCount, count_value}
+use Rattle.gj_lines.specs.FunctionLines.{line}
+use Rattle.gj_proof.specs.Words.{IsInWord, IsWord, IsLastWord, HasTwoFields, HasThreeFields, IsCount, count_value}
 
 -- ---- words
 
@@ -111,3 +111,21 @@ pub two_words_line : (text front first second rest : List ℕ) → HasTwoFields 
     text ≡ line (front ++ (first ++ codes " " ++ second)) ++ rest
 two_words_line text front first second rest h =
     h.spelled ∙ ap (λ t. line t ++ rest) (two_words front first second)
+
+-- three words of a line behind a front, with those words together
+pub together : (front x y z : List ℕ) →
+    front ++ x ++ codes " " ++ y ++ codes " " ++ z ≡ front ++ (x ++ codes " " ++ (y ++ codes " " ++ z))
+together front x y z = simp append_assoc
+
+pub no_feed_in_three_words : (x y z : List ℕ) → IsWord x → IsWord y → IsWord z →
+    All (λ b. b ≢ 10) (x ++ codes " " ++ (y ++ codes " " ++ z))
+no_feed_in_three_words x y z p q r =
+    let P : ℕ → Type 0 = λ b. b ≢ 10 in
+    let blank = All-cons P 32 [] (λ e. omega arith) (All-nil P) in
+    All-append P (x ++ codes " ") (y ++ codes " " ++ z) (All-append P x (codes " ") (no_feed_in_word x p) blank)
+    (All-append P (y ++ codes " ") z (All-append P y (codes " ") (no_feed_in_word y q) blank) (no_feed_in_word z r))
+
+-- the line of three words, with those words together
+pub three_words_line : (text front x y z rest : List ℕ) → HasThreeFields text front x y z rest →
+    text ≡ line (front ++ (x ++ codes " " ++ (y ++ codes " " ++ z))) ++ rest
+three_words_line text front x y z rest h = h.spelled ∙ ap (λ t. line t ++ rest) (together front x y z)

@@ -1,14 +1,16 @@
 -- The first fault of a text that is no proof text: its line and its reason (own).
-use Rattle.std.specs.Prelude.{ℕ, pos, ◌≡◌, ◌≢◌, ◌⊎◌, ◌+◌, ◌<◌, ◌==◌, List, [], ◌∷◌, ◌++◌, All, length, count_by, codes}
+use Rattle.std.specs.Prelude.{ℕ, ◌≡◌, ◌≢◌, ◌⊎◌, ◌+◌, ◌<◌, ◌==◌, List, [], ◌∷◌, ◌++◌, All, length, count_by, codes}
 use Rattle.gj_frac.specs.declared.Frac.{Frac}
-use Rattle.gj_frac.specs.Fraction.{Is}
 use Rattle.gj_lex.specs.declared.reason.Reason.{Reason}
 use Rattle.gj_lex.specs.declared.reason.Reason.TheVariants as reason
-use Rattle.gj_shape.specs.Given.{IsOrder, IsPlace, IsSmall, HasCommonDenominator}
+use Rattle.gj_shape.specs.Given.{IsOrder, IsSmall, HasCommonDenominator}
 use Rattle.gj_shape.specs.declared.violations.Violation.{Violation}
-use Rattle.gj_proof.specs.FunctionLines.{line, order_line, place_line, point_line, lines_of}
+use Rattle.gj_lines.specs.FunctionLines.{line, order_line, place_line, point_line, lines_of}
+use Rattle.gj_lines.specs.Points.{IsPlaceFraction, all_fractions, IsPointFault}
+use Rattle.gj_lines.specs.declared.points.Point.{Point}
+use Rattle.gj_lines.specs.declared.points.PointFault.TheVariants.{Large, Fine}
 use Rattle.gj_proof.specs.ProofText.{violation_line}
-use Rattle.gj_proof.specs.Words.{HasField, HasTwoFields, IsCount, count_value, IsFraction}
+use Rattle.gj_proof.specs.Words.{HasField, HasTwoFields, HasPointWords, IsCount, count_value, IsFraction}
 use Rattle.gj_proof.specs.declared.head.ClaimWord.{ClaimWord}
 use Rattle.gj_proof.specs.declared.head.ClaimWord.TheVariants.{Minimal, NotMinimal}
 
@@ -24,7 +26,7 @@ pub record LinesRead : Type 0 where
   pub claim : ClaimWord
   pub order : ℕ
   pub place : Frac
-  pub values : List Frac
+  pub points : List Point
 
 -- what is to stand in the next line, with what was read before it
 pub data Expected : Type 0 where
@@ -41,9 +43,9 @@ pub data Expected : Type 0 where
 abbrev pub claim_lines : ClaimWord → List ℕ
 claim_lines c = line (codes "gj-proof 1") ++ claim_line c
 
--- the lines up to the values that were read
+-- the lines up to the points that were read
 abbrev pub read_lines : LinesRead → List ℕ
-read_lines r = claim_lines r.claim ++ lines_of r.order r.place r.values
+read_lines r = claim_lines r.claim ++ lines_of r.order r.place r.points
 
 -- the whole lines before the next one
 abbrev pub lines_before : Expected → List ℕ
@@ -56,21 +58,17 @@ lines_before (violation r) = read_lines r
 lines_before (last r shown) = read_lines r ++ shown
 lines_before (nothing r shown) = read_lines r ++ shown ++ line (codes "end")
 
--- the fraction is k/order with 1 ≤ k < order
-abbrev pub IsPlaceFraction : ℕ → Frac → Type 0
-IsPlaceFraction q x = (k : ℕ) × IsPlace q k × Is x (pos k) (pos q)
-
 -- the lines that were read pass all tests
 pub record IsGood (r : LinesRead) : Type 0 where
   pub order_fits : IsOrder r.order
   pub place_fits : IsPlaceFraction r.order r.place
-  pub small : All IsSmall r.values
-  pub common : HasCommonDenominator r.values
+  pub small : All IsSmall (all_fractions r.points)
+  pub common : HasCommonDenominator (all_fractions r.points)
 
--- all values were read
+-- all points were read
 pub record IsFull (r : LinesRead) : Type 0 where
   pub good : IsGood r
-  pub count : length r.values ≡ r.order
+  pub count : length r.points ≡ r.order
 
 -- the lines of the claim after its function
 abbrev pub AreShown : ClaimWord → List ℕ → Type 0
@@ -83,7 +81,7 @@ ComesNext title = Unit {0}
 ComesNext claim = Unit {0}
 ComesNext (order c) = Unit {0}
 ComesNext (place c q) = IsOrder q
-ComesNext (point r) = IsGood r × (length r.values < r.order)
+ComesNext (point r) = IsGood r × (length r.points < r.order)
 ComesNext (violation r) = IsFull r × (r.claim ≡ NotMinimal)
 ComesNext (last r shown) = IsFull r × AreShown r.claim shown
 ComesNext (nothing r shown) = IsFull r × AreShown r.claim shown
@@ -120,14 +118,25 @@ BreaksPlace q text e =
     ⊎ ((e ≡ reason.Number) × HasNoFraction (codes "f ") text)
     ⊎ ((e ≡ reason.Place) × ((x : Frac) × (rest : List ℕ) × (text ≡ place_line x ++ rest) × (IsPlaceFraction q x → ⊥)))
 
--- no line `point W`; W is no fraction; it is too large; it leaves no common denominator with the values before it
-abbrev pub BreaksPoint : List Frac → List ℕ → Reason → Type 0
-BreaksPoint values text e =
-    ((e ≡ reason.Form) × HasNoField (codes "point ") text)
-    ⊎ ((e ≡ reason.Number) × HasNoFraction (codes "point ") text)
-    ⊎ ((e ≡ reason.Large) × ((x : Frac) × (rest : List ℕ) × (text ≡ point_line x ++ rest) × (IsSmall x → ⊥)))
-    ⊎ ((e ≡ reason.Fine) × ((x : Frac) × (rest : List ℕ) × (text ≡ point_line x ++ rest) × IsSmall x
-    × (HasCommonDenominator (values ++ x ∷ []) → ⊥)))
+-- the first line is no `point ` with one word, nor with three words that are not all the same
+abbrev pub HasNoPointWords : List ℕ → Type 0
+HasNoPointWords text = (words : List (List ℕ)) (rest : List ℕ) → HasPointWords text words rest → ⊥
+
+-- it is, and one of the words is no fraction
+abbrev pub HasNoPointFractions : List ℕ → Type 0
+HasNoPointFractions text =
+    (words : List (List ℕ)) × (rest : List ℕ) × HasPointWords text words rest × (All IsFraction words → ⊥)
+
+-- no line `point V` or `point L V R`; a word of it is no fraction; the first of its fractions that does not go with
+-- the points before it is too large, or leaves no common denominator
+abbrev pub BreaksPoint : List Point → List ℕ → Reason → Type 0
+BreaksPoint points text e =
+    ((e ≡ reason.Form) × HasNoPointWords text)
+    ⊎ ((e ≡ reason.Number) × HasNoPointFractions text)
+    ⊎ ((e ≡ reason.Large)
+    × ((p : Point) × (rest : List ℕ) × (text ≡ point_line p ++ rest) × IsPointFault points p Large))
+    ⊎ ((e ≡ reason.Fine)
+    × ((p : Point) × (rest : List ℕ) × (text ≡ point_line p ++ rest) × IsPointFault points p Fine))
 
 -- the first line has the words of a violation, with these words for its points
 abbrev pub HasPoints : List ℕ → List (List ℕ) → List ℕ → Type 0
@@ -148,7 +157,7 @@ Breaks title text e = BreaksLine (codes "gj-proof 1") text e
 Breaks claim text e = BreaksClaim text e
 Breaks (order c) text e = BreaksOrder text e
 Breaks (place c q) text e = BreaksPlace q text e
-Breaks (point r) text e = BreaksPoint r.values text e
+Breaks (point r) text e = BreaksPoint r.points text e
 Breaks (violation r) text e = BreaksViolation text e
 Breaks (last r shown) text e = BreaksLine (codes "end") text e
 Breaks (nothing r shown) text e = (e ≡ reason.Tail) × (text ≢ [])

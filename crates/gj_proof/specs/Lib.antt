@@ -1,4 +1,3 @@
-pub mod FunctionLines
 pub mod ProofText
 pub mod Words
 pub mod FirstFault

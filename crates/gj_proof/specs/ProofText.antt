@@ -1,10 +1,10 @@
 -- The one spelling of a proof (own).
 use Rattle.std.specs.Prelude.{ℕ, ◌≡◌, List, [], ◌++◌, codes}
 use Rattle.gj_lex.specs.NumberText.{fraction_text}
-use Rattle.gj_shape.specs.FunctionData.{FunctionData, IsWithinLimits, IsContinuous}
+use Rattle.gj_shape.specs.FunctionData.{FunctionData, IsWithinLimits}
 use Rattle.gj_shape.specs.declared.violations.Violation.{Violation}
 use Rattle.gj_shape.specs.declared.violations.Violation.TheVariants as violation
-use Rattle.gj_proof.specs.FunctionLines.{line, fraction_line, AreFunctionLines}
+use Rattle.gj_lines.specs.FunctionLines.{line, fraction_line, AreFunctionLines}
 use Rattle.gj_proof.specs.declared.claim.Claim.{Claim}
 use Rattle.gj_proof.specs.declared.claim.Claim.TheVariants.{Minimal, NotMinimal}
 
@@ -30,9 +30,10 @@ abbrev pub shown_lines : Claim → List ℕ
 shown_lines (Minimal f) = []
 shown_lines (NotMinimal f v) = violation_line v
 
--- the claim has a text: its function is continuous
+-- the claim has a text: each of these two has one for every function
 abbrev pub HasText : Claim → Type 0
-HasText c = IsContinuous (function_of c)
+HasText (Minimal f) = Unit {0}
+HasText (NotMinimal f v) = Unit {0}
 
 -- the claim is about a function within the limits, and has a text
 abbrev pub IsKept : Claim → Type 0

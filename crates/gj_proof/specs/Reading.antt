@@ -1,18 +1,17 @@
 -- What the readers of the parts of a proof text find (own).
-use Rattle.std.specs.Prelude.{ℕ, pos, ◌≡◌, ◌≢◌, ◌⊎◌, ◌<◌, ◌≤◌, ◌^◌, List, [], ◌++◌, All, length, codes, flat_map, Option, None, Some, unsigned_abs}
-use Rattle.std.specs.Int.{◌∣◌}
+use Rattle.std.specs.Prelude.{ℕ, pos, ◌≡◌, ◌≢◌, ◌⊎◌, ◌<◌, List, [], ◌∷◌, ◌++◌, All, length, codes, flat_map, Option, None, Some}
 use Rattle.gj_frac.specs.declared.Frac.{Frac}
-use Rattle.gj_frac.specs.Fraction.{Is, denominator}
+use Rattle.gj_frac.specs.Fraction.{Is}
 use Rattle.gj_lex.specs.declared.reason.Reason.{Reason}
 use Rattle.gj_lex.specs.declared.reason.Reason.TheVariants as reason
 use Rattle.gj_shape.specs.Given.{IsOrder, IsPlace, IsSmall, HasCommonDenominator}
 use Rattle.gj_shape.specs.FunctionData.{FunctionData}
-use Rattle.gj_shape.specs.declared.faults.ShapeFault.{ShapeFault}
-use Rattle.gj_shape.specs.declared.faults.ShapeFault.TheVariants as shape_fault
 use Rattle.gj_shape.specs.declared.violations.Violation.{Violation}
-use Rattle.gj_proof.specs.FunctionLines.{line, order_line, place_line, point_line}
+use Rattle.gj_lines.specs.FunctionLines.{line, order_line, place_line, point_line}
+use Rattle.gj_lines.specs.Points.{all_fractions}
+use Rattle.gj_lines.specs.declared.points.Point.{Point}
 use Rattle.gj_proof.specs.ProofText.{violation_line}
-use Rattle.gj_proof.specs.FirstFault.{claim_lines, HasNoField, HasNoFraction, BreaksLine, BreaksPoint, BreaksViolation, IsFaultAt, IsFirstFault}
+use Rattle.gj_proof.specs.FirstFault.{claim_lines, HasNoField, HasNoFraction, HasNoPointWords, HasNoPointFractions, BreaksLine, BreaksPoint, BreaksViolation, IsFaultAt, IsFirstFault}
 use Rattle.gj_proof.specs.declared.claim.Claim.{Claim}
 use Rattle.gj_proof.specs.declared.claim.Claim.TheVariants as claim
 use Rattle.gj_proof.specs.declared.faults.Fault.{Fault}
@@ -42,14 +41,6 @@ abbrev pub IsMemoryFault : ProofFault → Type 0
 IsMemoryFault (proof_fault.Refused n e) = ⊥
 IsMemoryFault (proof_fault.Memory a) = Unit {0}
 
-abbrev pub IsWantOfMemory : ShapeFault → Type 0
-IsWantOfMemory (shape_fault.Memory a) = Unit {0}
-IsWantOfMemory shape_fault.Order = ⊥
-IsWantOfMemory shape_fault.Place = ⊥
-IsWantOfMemory shape_fault.Count = ⊥
-IsWantOfMemory (shape_fault.TooLarge i) = ⊥
-IsWantOfMemory (shape_fault.TooFine i) = ⊥
-
 -- no line of the front and one word; the word is no fraction
 abbrev pub BreaksFraction : List ℕ → List ℕ → Reason → Type 0
 BreaksFraction front text e =
@@ -70,26 +61,36 @@ pub record HasHead (text : List ℕ) (c : ClaimWord) (q k : ℕ) (rest : List �
   pub place_is : Is place (pos k) (pos q)
   pub spelled : text ≡ claim_lines c ++ (order_line q ++ (place_line place ++ rest))
 
--- the text begins with the point lines of these values, which pass all tests
-pub record HasValues (text : List ℕ) (values : List Frac) (rest : List ℕ) : Type 0 where
-  pub small : All IsSmall values
-  pub common : HasCommonDenominator values
-  pub spelled : text ≡ flat_map point_line values ++ rest
+-- the text begins with the point lines of these points, which pass all tests
+pub record HasPointLines (text : List ℕ) (points : List Point) (rest : List ℕ) : Type 0 where
+  pub small : All IsSmall (all_fractions points)
+  pub common : HasCommonDenominator (all_fractions points)
+  pub spelled : text ≡ flat_map point_line points ++ rest
 
--- no line of a point; its word is no fraction; it is too large; it leaves no common denominator with the scale
-abbrev pub BreaksPointOver : ℕ → List ℕ → Reason → Type 0
-BreaksPointOver scale text e =
-    BreaksFraction (codes "point ") text e
-    ⊎ ((e ≡ reason.Large) × ((x : Frac) × (rest : List ℕ) × (text ≡ point_line x ++ rest) × (IsSmall x → ⊥)))
-    ⊎ ((e ≡ reason.Fine) × ((x : Frac) × (rest : List ℕ) × (text ≡ point_line x ++ rest) × IsSmall x
-    × ((m : ℕ) → 1 ≤ m → m < 2 ^ 31 → scale ∣ m → unsigned_abs (denominator x) ∣ m → ⊥)))
+-- no line of a point; a word of it is no fraction
+abbrev pub BreaksPointLine : List ℕ → Reason → Type 0
+BreaksPointLine text e =
+    ((e ≡ reason.Form) × HasNoPointWords text) ⊎ ((e ≡ reason.Number) × HasNoPointFractions text)
+
+-- the points are those before and that of the first line, and pass all tests
+pub record HasNextPoint (text : List ℕ) (before points : List Point) (rest : List ℕ) : Type 0 where
+  pub point : Point
+  pub spelled : text ≡ point_line point ++ rest
+  pub points_are : points ≡ before ++ point ∷ []
+  pub small : All IsSmall (all_fractions points)
+  pub common : HasCommonDenominator (all_fractions points)
+
+-- the first line is no line of a point that can follow these points, or there was no memory
+abbrev pub IsFaultBehind : List Point → List ℕ → Fault → Type 0
+IsFaultBehind points text (Refused left e) = (left ≡ length text) × BreaksPoint points text e
+IsFaultBehind points text (Memory a) = Unit {0}
 
 -- the fault is in the line of a point behind fewer than `count` good ones, or want of memory
-abbrev pub IsPointFault : List ℕ → ℕ → Fault → Type 0
-IsPointFault text count (Refused left e) =
-    (values : List Frac) × (rest : List ℕ) × (left ≡ length rest) × (length values < count)
-    × HasValues text values rest × BreaksPoint values rest e
-IsPointFault text count (Memory a) = Unit {0}
+abbrev pub IsFaultInPoints : List ℕ → ℕ → Fault → Type 0
+IsFaultInPoints text count (Refused left e) =
+    (points : List Point) × (rest : List ℕ) × (left ≡ length rest) × (length points < count)
+    × HasPointLines text points rest × BreaksPoint points rest e
+IsFaultInPoints text count (Memory a) = Unit {0}
 
 -- what the claim shows, and what follows it
 abbrev pub HasShown : ClaimWord → List ℕ → Option Violation → List ℕ → Type 0

@@ -1,10 +1,10 @@
 -- The words of a line of a proof text (own).
-use Rattle.std.specs.Prelude.{ℕ, ◌≡◌, ◌≢◌, ◌-◌, ◌<◌, List, ◌++◌, All, length, slice_index, codes}
+use Rattle.std.specs.Prelude.{ℕ, ◌≡◌, ◌≢◌, ◌-◌, ◌<◌, List, [], ◌∷◌, ◌++◌, All, length, slice_index, codes}
 use Rattle.std.specs.Char.{IsAsciiDigit}
 use Rattle.std.specs.Str.Parse.{digits_value}
 use Rattle.gj_frac.specs.declared.Frac.{Frac}
 use Rattle.gj_lex.specs.NumberText.{fraction_text}
-use Rattle.gj_proof.specs.FunctionLines.{line}
+use Rattle.gj_lines.specs.FunctionLines.{line}
 
 -- a byte that neither parts words nor ends a line: no tab, no LF and no space
 pub record IsInWord (b : ℕ) : Type 0 where
@@ -32,6 +32,21 @@ pub record HasTwoFields (text front first second rest : List ℕ) : Type 0 where
   pub is_first : IsWord first
   pub is_second : IsLastWord second
   pub spelled : text ≡ line (front ++ first ++ codes " " ++ second) ++ rest
+
+-- the first line of the text is the front and three words, and the rest follows it
+pub record HasThreeFields (text front first second third rest : List ℕ) : Type 0 where
+  pub is_first : IsWord first
+  pub is_second : IsWord second
+  pub is_third : IsLastWord third
+  pub spelled : text ≡ line (front ++ first ++ codes " " ++ second ++ codes " " ++ third) ++ rest
+
+-- the first line of the text is `point ` and these words: one, or three that are not all the same
+abbrev pub HasPointWords : List ℕ → List (List ℕ) → List ℕ → Type 0
+HasPointWords text [] rest = ⊥
+HasPointWords text (x ∷ []) rest = HasField text (codes "point ") x rest
+HasPointWords text (x ∷ y ∷ []) rest = ⊥
+HasPointWords text (x ∷ y ∷ z ∷ []) rest = HasThreeFields text (codes "point ") x y z rest × (x ≡ y → y ≡ z → ⊥)
+HasPointWords text (x ∷ y ∷ z ∷ w ∷ more) rest = ⊥
 
 -- a count in digits, without a leading zero
 pub record IsCount (word : List ℕ) : Type 0 where

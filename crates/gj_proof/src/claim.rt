@@ -28,7 +28,7 @@ impl Claim {
     }
 }
 
-/// A claim that has a proof text: its function is continuous. Contracts see it as the claim.
+/// A claim that has a proof text. Contracts see it as the claim.
 #[derive(Drop)]
 pub struct Proof {
     claim: Claim,
@@ -49,15 +49,12 @@ impl Model for Proof {
 impl Proof {
     ghost use Rattle.gj_proof.specs.ProofText.{HasText};
 
-    /// The proof of a claim. None exactly where the claim has no text, since its function is not
-    /// continuous. It takes no memory.
+    /// The proof of a claim. None exactly where the claim has no text; these two claims have one for every function.
+    /// It takes no memory.
     pub fn new(claim: Claim) -> Option<Proof>
         ensures some { IsSome result ↔ HasText claim }
         ensures claim { IfSome result (λ p. p ≡ claim) }
     {
-        if !claim.shape().is_continuous() {
-            return None;
-        }
         Some(Proof { claim })
     }
 

@@ -3,8 +3,8 @@
 ghost use Rattle.std.specs.Prelude.{◌≡◌, ◌≢◌, ◌++◌, ◌↔◌, ℕ, List, All, IfSome, IfNone, IsSomeAnd, IfOk, IfErr, IsTrue, codes};
 ghost use Rattle.gj_lex.specs.NumberText.{fraction_text};
 ghost use Rattle.gj_lex.specs.declared.reason.Reason.TheVariants.{Number};
-ghost use Rattle.gj_proof.specs.FunctionLines.{fraction_line};
-ghost use Rattle.gj_proof.specs.Words.{IsWord, IsLastWord, HasField, HasTwoFields, IsCount, IsFraction};
+ghost use Rattle.gj_lines.specs.FunctionLines.{fraction_line};
+ghost use Rattle.gj_proof.specs.Words.{IsWord, IsLastWord, HasField, HasTwoFields, HasThreeFields, IsCount, IsFraction};
 ghost use Rattle.gj_proof.specs.FirstFault.{HasNoField};
 ghost use Rattle.gj_proof.specs.Reading.{IsRefusedHere, BreaksFraction};
 
@@ -12,6 +12,15 @@ use crate::faults::Fault;
 use crate::lines::line_after;
 use gj_frac::Frac;
 use gj_lex::{Reason, read_canonical};
+
+/// Three words of a line, and what follows the line.
+#[derive(Clone, Copy, Debug, PartialEq, Eq)]
+pub(crate) struct ThreeFields<'a> {
+    pub first: &'a [u8],
+    pub second: &'a [u8],
+    pub third: &'a [u8],
+    pub rest: &'a [u8],
+}
 
 /// Whether the bytes are a word: some bytes without tab, LF and space.
 fn is_word(word: &[u8]) -> bool
@@ -77,6 +86,27 @@ pub(crate) fn two_fields_at<'a>(
         return None;
     }
     Some((first, second, rest))
+}
+
+/// The three words behind the front in the first line, and what follows the line.
+pub(crate) fn three_fields_at<'a>(text: &'a [u8], front: &[u8]) -> Option<ThreeFields<'a>>
+    ensures found { IfSome result (λ w.
+        HasThreeFields text.now front.now w.first.now w.second.now w.third.now w.rest.now) }
+    ensures none { IfNone result ((first second third rest : List ℕ) →
+        HasThreeFields text.now front.now first second third rest → ⊥) }
+{
+    let (words, rest) = line_after(text, front)?;
+    let (first, behind) = split_at_space(words)?;
+    let (second, third) = split_at_space(behind)?;
+    if !is_word(first) || !is_word(second) || !is_last_word(third) {
+        return None;
+    }
+    Some(ThreeFields {
+        first,
+        second,
+        third,
+        rest,
+    })
 }
 
 /// The fraction that a word of the first line of the text spells.

@@ -1,18 +1,17 @@
 //! The first lines of a proof text: its form, its claim, and the order and the place of its function.
 
-ghost use Rattle.std.specs.Prelude.{◌≡◌, ◌++◌, pos, decimal, codes, IfSome, IfNone, IfOk, IfErr, IsTrue, ◌↔◌};
-ghost use Rattle.gj_frac.specs.Fraction.{Is};
-ghost use Rattle.gj_shape.specs.Given.{IsOrder, IsPlace};
-ghost use Rattle.gj_proof.specs.FunctionLines.{line, order_line};
+ghost use Rattle.std.specs.Prelude.{◌≡◌, ◌++◌, decimal, codes, IfSome, IfNone, IfOk, IfErr, IsTrue, ◌↔◌};
+ghost use Rattle.gj_shape.specs.Given.{IsOrder};
+ghost use Rattle.gj_lines.specs.FunctionLines.{line, order_line};
 ghost use Rattle.gj_proof.specs.Words.{IsCount, count_value};
-ghost use Rattle.gj_proof.specs.FirstFault.{claim_line, IsPlaceFraction, BreaksLine, BreaksClaim, BreaksOrder, BreaksPlace};
+ghost use Rattle.gj_proof.specs.FirstFault.{claim_line, BreaksLine, BreaksClaim, BreaksOrder, BreaksPlace};
 ghost use Rattle.gj_proof.specs.Reading.{IsRefusedHere, IsRefusedIn, HasPlace, HasHead};
 
 use crate::faults::Fault;
 use crate::fields::{field_at, fraction_at, is_count};
-use crate::lines::{after, place_of};
-use gj_frac::Frac;
+use crate::lines::after;
 use gj_lex::{Reason, read_count};
+use gj_lines::place_of;
 
 /// The word of a claim.
 #[derive(Clone, Copy, Debug, PartialEq, Eq)]
@@ -117,21 +116,8 @@ fn place_at(text: &[u8], order: u32) -> Result<(u32, &[u8]), Fault>
     ensures fault { IfErr result (IsRefusedHere (BreaksPlace order text.now) text.now) }
 {
     let (fraction, rest) = fraction_at(text, b"f ")?;
-    match inner_place(fraction, order) {
+    match place_of(fraction, order) {
         Some(place) => Ok((place, rest)),
         None => Err(Fault::at(text, Reason::Place)),
     }
-}
-
-/// The number k for which the fraction is k/order, where it is from 1 to the order less 1.
-fn inner_place(fraction: Frac, order: u32) -> Option<u32>
-    requires { IsOrder order }
-    ensures found { IfSome result (λ k. IsPlace order k × Is fraction (pos k) (pos order)) }
-    ensures none { IfNone result (IsPlaceFraction order fraction → ⊥) }
-{
-    let place = place_of(fraction, order)?;
-    if !(1..order).contains(&place) {
-        return None;
-    }
-    Some(place)
 }

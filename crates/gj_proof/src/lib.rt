@@ -15,7 +15,6 @@ mod write;
 pub use claim::{Claim, Proof};
 pub use faults::ProofFault;
 pub use laws::{no_fault_in_proof_text, one_first_fault, one_spelling};
-pub use lines::{FunctionLines, after, function_lines_at, place_of};
 pub use read::read_proof;
 pub use write::write_proof;
 

@@ -1,25 +1,22 @@
 //! Proof texts, read.
 
-ghost use Rattle.std.specs.Prelude.{◌≡◌, ◌≤◌, ◌+◌, ◌-◌, ◌==◌, All, length, take, count_by, IfOk, IfErr, MatchResult};
-ghost use Rattle.gj_shape.specs.FunctionData.{FunctionData, IsContinuous};
-ghost use Rattle.gj_shape.specs.Given.{IsOrder, IsPlace, IsSmall, HasCommonDenominator, IsGivenBy};
+ghost use Rattle.std.specs.Prelude.{◌≡◌, ◌≤◌, ◌+◌, ◌-◌, ◌==◌, length, take, count_by, IfOk, IfErr, MatchResult};
 ghost use Rattle.gj_proof.specs.ProofText.{IsKept, IsProofText};
-ghost use Rattle.gj_proof.specs.Reading.{IsRefusedIn, NamesFirstFault, IsMemoryFault, IsWantOfMemory, claim_about};
+ghost use Rattle.gj_proof.specs.Reading.{IsRefusedIn, NamesFirstFault, IsMemoryFault, claim_about};
 ghost use Rattle.gj_proof.specs.declared.claim.Claim.{Claim};
 
 use crate::claim::{Claim, Proof};
 use crate::faults::{Fault, ProofFault};
 use crate::head::head_at;
-use crate::points::values_at;
+use crate::points::points_at;
 use crate::shown::{end_at, shown_at};
-use gj_frac::Frac;
-use gj_shape::{Shape, ShapeFault, Violation};
-use std::alloc::{AllocError, Global};
+use gj_shape::{Shape, Violation};
+use std::alloc::Global;
 
 /// The proof that the bytes spell, all of them.
 ///
 /// `Refused` has the line and the reason of the first fault, and comes exactly where the bytes are
-/// no proof text. Memory is taken only for the values and the function.
+/// no proof text. Memory is taken only for the points and the function.
 pub fn read_proof(alloc: Global, bytes: &[u8]) -> Result<Proof, ProofFault>
     // What is read is spelled so.
     ensures found { IfOk result (λ p. IsKept p × IsProofText p bytes.now) }
@@ -53,41 +50,15 @@ fn proof_in(alloc: Global, bytes: &[u8]) -> Result<Proof, Fault>
     ensures fault { IfErr result (IsRefusedIn bytes.now) }
 {
     let (head, rest) = head_at(bytes)?;
-    let (values, rest) = values_at(alloc, rest, head.order)?;
+    let (points, rest) = points_at(alloc, rest, head.order)?;
     let (violation, rest) = shown_at(rest, head.claim)?;
     end_at(rest)?;
-    let shape = shape_of(alloc, head.order, head.place, values.as_slice())?;
+    let shape = points.shape(alloc, head.order, head.place)?;
     Ok(proof_of(shape, violation))
 }
 
-/// The continuous function of these values, which pass all tests.
-fn shape_of(alloc: Global, order: u32, place: u32, values: &[Frac]) -> Result<Shape, AllocError>
-    requires order_fits { IsOrder order }
-    requires place_fits { IsPlace order place }
-    requires count { length values.now ≡ order }
-    requires small { All IsSmall values.now }
-    requires common { HasCommonDenominator values.now }
-    ensures { IfOk result (IsGivenBy order place values.now values.now values.now) }
-{
-    match Shape::new(alloc, order, place, values, values, values) {
-        Ok(shape) => Ok(shape),
-        Err(fault) => Err(memory_of(fault)),
-    }
-}
-
-/// The want of memory that the fault is.
-fn memory_of(fault: ShapeFault) -> AllocError
-    requires { IsWantOfMemory fault }
-{
-    match fault {
-        ShapeFault::Memory(error) => error,
-        _ => unreachable!(),
-    }
-}
-
-/// The proof that the continuous function is minimal, or not where there is a violation.
+/// The proof that the function is minimal, or not where there is a violation.
 fn proof_of(shape: Shape, violation: Option<Violation>) -> Proof
-    requires { IsContinuous shape }
     ensures claim { result ≡ claim_about shape violation }
     ensures kept { IsKept result }
 {

@@ -1,7 +1,7 @@
 //! The lines of a proof text behind those of its function.
 
 ghost use Rattle.std.specs.Prelude.{◌≡◌, ◌++◌, codes, IfOk, OnOk, IfErr};
-ghost use Rattle.gj_proof.specs.FunctionLines.{line};
+ghost use Rattle.gj_lines.specs.FunctionLines.{line};
 ghost use Rattle.gj_proof.specs.ProofText.{violation_line};
 ghost use Rattle.gj_proof.specs.FirstFault.{BreaksViolation};
 ghost use Rattle.gj_proof.specs.Reading.{IsRefusedHere, HasShown, BreaksShown, IsEndFault};

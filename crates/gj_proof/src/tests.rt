@@ -1,9 +1,8 @@
 //! Proof texts by hand: read, written back, and refused at their first fault.
 
-use crate::{Claim, Proof, ProofFault, read_proof, write_proof};
+use crate::{Claim, ProofFault, read_proof, write_proof};
 use gj_frac::Frac;
 use gj_lex::Reason;
-use gj_shape::Shape;
 use std::test::Fail;
 
 const MINIMAL: &[u8] =
@@ -11,6 +10,9 @@ const MINIMAL: &[u8] =
 
 const NOT_MINIMAL: &[u8] =
     b"gj-proof 1\nclaim not-minimal\norder 5\nf 3/5\npoint 0\npoint 1/10\npoint 9/10\npoint 1\npoint 1/2\nsuperadditive 1/5 1/5\nend\n";
+
+const WITH_JUMPS: &[u8] =
+    b"gj-proof 1\nclaim minimal\norder 2\nf 1/2\npoint 1/2 0 1/2\npoint 1/2 1 1/2\nend\n";
 
 #[test]
 fn minimal_is_read_and_written(rt: HostRuntime) -> Result<(), Fail> {
@@ -31,8 +33,20 @@ fn not_minimal_is_read_and_written(rt: HostRuntime) -> Result<(), Fail> {
 }
 
 #[test]
+fn jumps_are_read_and_written(rt: HostRuntime) -> Result<(), Fail> {
+    let proof = read_proof(rt.alloc(), WITH_JUMPS)?;
+    let shape = proof.claim().shape();
+    assert!(rt; !shape.is_continuous());
+    assert_eq!(rt; shape.left(1), Frac::new(1, 2).ok_or("1/2")?);
+    assert_eq!(rt; shape.value(1), Frac::new(1, 1).ok_or("1")?);
+    let text = write_proof(rt.alloc(), &proof)?;
+    assert_eq!(rt; text.as_slice(), WITH_JUMPS);
+    Ok(())
+}
+
+#[test]
 fn refused(rt: HostRuntime) {
-    let texts: [(&[u8], u64, Reason); 16] = [
+    let texts: [(&[u8], u64, Reason); 20] = [
         (b"", 1, Reason::Form),
         (b"gj-proof 1\nclaim extreme\norder 5\n", 2, Reason::Form),
         (b"gj-proof 1\nclaim minimal\norder  5\n", 3, Reason::Form),
@@ -58,6 +72,26 @@ fn refused(rt: HostRuntime) {
             b"gj-proof 1\nclaim minimal\norder 5\nf 3/5\npoint 0 0 0\n",
             5,
             Reason::Form,
+        ),
+        (
+            b"gj-proof 1\nclaim minimal\norder 5\nf 3/5\npoint 1 2\n",
+            5,
+            Reason::Form,
+        ),
+        (
+            b"gj-proof 1\nclaim minimal\norder 5\nf 3/5\npoint 0\npoint 1 1 1\n",
+            6,
+            Reason::Form,
+        ),
+        (
+            b"gj-proof 1\nclaim minimal\norder 5\nf 3/5\npoint 1/2 x 1\n",
+            5,
+            Reason::Number,
+        ),
+        (
+            b"gj-proof 1\nclaim minimal\norder 5\nf 3/5\npoint 1/2147483648 2000000 0\n",
+            5,
+            Reason::Fine,
         ),
         (
             b"gj-proof 1\nclaim minimal\norder 5\nf 3/5\npoint 1048577\n",
@@ -99,13 +133,4 @@ fn refused(rt: HostRuntime) {
             _ => assert!(rt; false),
         }
     }
-}
-
-#[test]
-fn a_jump_has_no_text(rt: HostRuntime) -> Result<(), Fail> {
-    let zero = Frac::new(0, 1).ok_or("0")?;
-    let one = Frac::new(1, 1).ok_or("1")?;
-    let shape = Shape::new(rt.alloc(), 2, 1, &[one, one], &[zero, one], &[zero, one])?;
-    assert!(rt; Proof::new(Claim::Minimal(shape)).is_none());
-    Ok(())
 }

@@ -1,14 +1,13 @@
 //! Proof texts, printed.
 
 ghost use Rattle.std.specs.Prelude.{◌≡◌, ◌++◌, ℕ, List, codes, IfOk, OnOk};
-ghost use Rattle.gj_shape.specs.FunctionData.{IsContinuous};
 ghost use Rattle.gj_proof.specs.declared.claim.Claim.TheVariants.{Minimal, NotMinimal};
-ghost use Rattle.gj_proof.specs.FunctionLines.{line, AreFunctionLines};
+ghost use Rattle.gj_lines.specs.FunctionLines.{line, AreFunctionLines};
 ghost use Rattle.gj_proof.specs.ProofText.{violation_line, IsProofText};
 
 use crate::claim::{Claim, Proof};
-use crate::lines::{push_fraction_line, push_function_lines};
 use gj_lex::print_frac;
+use gj_lines::{push_fraction_line, push_function_lines};
 use gj_shape::{Shape, Violation};
 use std::alloc::{AllocError, Global};
 
@@ -24,7 +23,6 @@ pub fn write_proof(alloc: Global, proof: &Proof) -> Result<Vec<u8>, AllocError>
 
 /// The proof text of the claim that the function is minimal.
 fn write_minimal(alloc: Global, shape: &Shape) -> Result<Vec<u8>, AllocError>
-    requires { IsContinuous shape.now }
     ensures { IfOk result (λ text. IsProofText (Minimal shape.now) text.items) }
 {
     let mut text = start_text(alloc, b"minimal", shape)?;
@@ -38,7 +36,6 @@ fn write_not_minimal(
     shape: &Shape,
     violation: Violation,
 ) -> Result<Vec<u8>, AllocError>
-    requires { IsContinuous shape.now }
     ensures { IfOk result (λ text. IsProofText (NotMinimal shape.now violation) text.items) }
 {
     let mut text = start_text(alloc, b"not-minimal", shape)?;
@@ -49,7 +46,6 @@ fn write_not_minimal(
 
 /// The first lines of a proof text: its form, its claim and the lines of the function.
 fn start_text(alloc: Global, claim: &[u8], shape: &Shape) -> Result<Vec<u8>, AllocError>
-    requires { IsContinuous shape.now }
     ensures { IfOk result (λ text. (lines : List ℕ) × AreFunctionLines shape.now lines
         × (text.items ≡ line (codes "gj-proof 1") ++ line (codes "claim " ++ claim.now) ++ lines)) }
 {

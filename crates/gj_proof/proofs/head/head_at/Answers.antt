@@ -1,6 +1,6 @@
 use Rattle.std.proofs.Common.{◌++◌, codes, ap, ◌∙◌}
 use Rattle.std.proofs.lemmas.Result.{err_from_is_err_and}
-use Rattle.gj_proof.specs.FunctionLines.{order_line}
+use Rattle.gj_lines.specs.FunctionLines.{order_line}
 use Rattle.gj_proof.specs.FirstFault.{claim_lines, BreaksLine, BreaksClaim, BreaksOrder, BreaksPlace}
 use Rattle.gj_proof.proofs.WholeFaults.{refused_from, fault_in_title, fault_in_claim, after_claim, fault_in_order, fault_in_place}
 use Rattle.gj_proof.proofs.head.head_at.Goals as goal

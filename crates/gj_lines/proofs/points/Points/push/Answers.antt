@@ -34,3 +34,16 @@ invariant_of-self-2 c =
     rw c.in_ok-push.ensures.items
     (least_with_point _ c.args.point _ _ _ _ c.self.invariant c.in_ok-with_left.ensures.least
     c.in_ok-with_value.ensures.least c.in_ok-with_right.ensures.least)
+
+pub returns-clause-small : goal.returns-clause-small
+returns-clause-small c =
+    rw c.in_ok-push.ensures.items
+    (least_with_point _ c.args.point _ _ _ _ c.self.invariant c.in_ok-with_left.ensures.least
+    c.in_ok-with_value.ensures.least c.in_ok-with_right.ensures.least).small
+
+pub returns-clause-common : goal.returns-clause-common
+returns-clause-common c =
+    rw c.in_ok-push.ensures.items
+    (let all = least_with_point _ c.args.point _ _ _ _ c.self.invariant c.in_ok-with_left.ensures.least
+    c.in_ok-with_value.ensures.least c.in_ok-with_right.ensures.least in
+    (c.in_ok-with_right.with_right, all.low, all.high, all.common))
