@@ -19,8 +19,10 @@ second_decides v a b P Q e v_is p q = (λ h. (p.0 e, q.0 (sym v_is ∙ h)), λ r
 
 -- and it is false where the first failed
 pub first_decides : (v a : Bool) (P Q : Type 0) → a ≡ false → v ≡ a → IsTrue a ↔ P → IsTrue v ↔ (P × Q)
-first_decides v a P Q e v_is p =
-    (λ h. absurd (let k : false ≡ true = sym e ∙ sym v_is ∙ h in cc), λ r. absurd (let k : false ≡ true = sym e ∙ p.1 r.0 in cc))
+first_decides v a P Q e v_is p = (
+  λ h. absurd (let k : false ≡ true = sym e ∙ sym v_is ∙ h in cc),
+  λ r. absurd (let k : false ≡ true = sym e ∙ p.1 r.0 in cc),
+)
 
 -- one test of many failed
 pub one_fails : (a : Bool) (P R : Type 0) → a ≡ false → IsTrue a ↔ P → (R → P) → IsTrue false ↔ R

@@ -5,11 +5,11 @@ use Rattle.gj_shape.specs.FirstViolation.{Test, Passes, PassesAll}
 use Rattle.gj_shape.specs.FirstViolation.Test.{zero_at_zero, nonnegative_at, nonnegative_after, nonnegative_before, symmetric_at, symmetric_between, subadditive_at}
 use Rattle.gj_theory.specs.Before.{IsTestOf}
 use Rattle.gj_theory.proofs.Tests.{each_test, test_has}
-use Rattle.gj_check.specs.Tests.{HasSigns, IsSymmetric, IsSubadditive}
+use Rattle.gj_check.specs.Tests.{IsNonnegative, IsSymmetric, IsSubadditive}
 
 -- those, in the order in which they are tried
-abbrev MeetsTests : FunctionData → Type 0
-MeetsTests f = ((Passes f zero_at_zero × HasSigns f) × IsSymmetric f) × IsSubadditive f
+abbrev pub MeetsTests : FunctionData → Type 0
+MeetsTests f = ((Passes f zero_at_zero × IsNonnegative f) × IsSymmetric f) × IsSubadditive f
 
 test_passes : (f : FunctionData) → MeetsTests f → (t : Test) → IsTestOf f t → Passes f t
 test_passes f h zero_at_zero is = h.0.0.0
@@ -20,18 +20,24 @@ test_passes f h (symmetric_at i) is = (h.0.1 i is).0
 test_passes f h (symmetric_between i) is = (h.0.1 i is).1
 test_passes f h (subadditive_at kind a b c) is = h.1 a is.0 b is.1 kind c is.2
 
-pub all_tests : (f : FunctionData) → (((Passes f zero_at_zero × HasSigns f) × IsSymmetric f) × IsSubadditive f) ↔ PassesAll f
+passed_signs : (f : FunctionData) → PassesAll f → IsNonnegative f
+passed_signs f all i below =
+    let has = test_has f (Passes f) all in
+    (has (nonnegative_at i) below, has (nonnegative_after i) below, has (nonnegative_before i) below)
+
+passed_symmetry : (f : FunctionData) → PassesAll f → IsSymmetric f
+passed_symmetry f all i below =
+    let has = test_has f (Passes f) all in
+    (has (symmetric_at i) below, has (symmetric_between i) below)
+
+passed_squares : (f : FunctionData) → PassesAll f → IsSubadditive f
+passed_squares f all a a_below b b_below kind c c_below =
+    test_has f (Passes f) all (subadditive_at kind a b c) (a_below, b_below, c_below)
+
+pub all_tests : (f : FunctionData) → MeetsTests f ↔ PassesAll f
 all_tests f = (
   λ h. each_test f (Passes f) (test_passes f h),
   λ all.
-      let has = test_has f (Passes f) all in (
-        (
-          (
-            has zero_at_zero tt,
-            λ i below. (has (nonnegative_at i) below, has (nonnegative_after i) below, has (nonnegative_before i) below),
-          ),
-          λ i below. (has (symmetric_at i) below, has (symmetric_between i) below),
-        ),
-        λ a a_below b b_below kind c c_below. has (subadditive_at kind a b c) (a_below, b_below, c_below),
-      ),
+      let zero = test_has f (Passes f) all zero_at_zero tt in
+      (((zero, passed_signs f all), passed_symmetry f all), passed_squares f all),
 )

@@ -2,12 +2,12 @@
 use Rattle.std.proofs.Common.{◌≡◌, ◌↔◌, ℕ, ◌+◌, ◌<◌, ◌-◌, ℤ, pos, ◌+ℤ◌, refl, ap, ◌∙◌, below_none, below_more, arith}
 use Rattle.gj_shape.specs.FunctionData.{FunctionData, at}
 use Rattle.gj_shape.specs.FirstViolation.{Passes}
-use Rattle.gj_shape.specs.FirstViolation.Test.{subadditive_at}
+use Rattle.gj_shape.specs.FirstViolation.Test.{symmetric_at, symmetric_between, subadditive_at}
 use Rattle.gj_shape.specs.declared.faces.FaceKind.TheVariants.{Vertex, Horizontal, Vertical, Diagonal, Lower, Upper}
 use Rattle.gj_check.specs.declared.pieces.Piece.{Piece}
 use Rattle.gj_check.specs.declared.squares.Square.{Square}
 use Rattle.gj_check.specs.Pieces.{IsPieceAt, IsSquareAt, IsWithin, IsSubadditiveSquare, AreOpposite}
-use Rattle.gj_check.specs.Tests.{IsSubadditiveAt, IsSymmetricAt}
+use Rattle.gj_check.specs.Tests.{IsSubadditiveAt}
 
 -- the same slack of equal numbers
 same_slack : (x y sum x' y' sum' : ℤ) → x ≡ x' → y ≡ y' → sum ≡ sum' → IsWithin x y sum ↔ IsWithin x' y' sum'
@@ -24,7 +24,8 @@ three_corners : (P : ℕ → Type 0) → P 0 → P 1 → P 2 → (c : ℕ) → c
 three_corners P p q r = below_more P 2 (two_corners P p q) r
 
 -- where no limit from the pieces is negative, the tests pass
-limits_pass : (f : FunctionData) (a b : ℕ) (s : Square) → IsSquareAt f a b s → IsSubadditiveSquare s → IsSubadditiveAt f a b
+limits_pass : (f : FunctionData) (a b : ℕ) (s : Square) → IsSquareAt f a b s → IsSubadditiveSquare s →
+    IsSubadditiveAt f a b
 limits_pass f a b s q h Vertex =
     one_corner (λ c. Passes f (subadditive_at Vertex a b c))
     ((same_slack _ _ _ _ _ _ q.first.value q.second.value q.sum.value).0 h.vertex)
@@ -52,7 +53,8 @@ limits_pass f a b s q h Upper =
     ((same_slack _ _ _ _ _ _ q.first.left q.second.left q.next.left).0 h.upper.2)
 
 -- and where they pass, none is negative
-passed_limits : (f : FunctionData) (a b : ℕ) (s : Square) → IsSquareAt f a b s → IsSubadditiveAt f a b → IsSubadditiveSquare s
+passed_limits : (f : FunctionData) (a b : ℕ) (s : Square) → IsSquareAt f a b s → IsSubadditiveAt f a b →
+    IsSubadditiveSquare s
 passed_limits f a b s q h = record {
   vertex = (same_slack _ _ _ _ _ _ q.first.value q.second.value q.sum.value).1 (h Vertex 0 (omega arith));
   horizontal = (
@@ -80,23 +82,25 @@ passed_limits f a b s q h = record {
 }
 
 -- the tests in the square pass exactly where no limit from its pieces is negative
-pub square_read : (f : FunctionData) (a b : ℕ) (s : Square) → IsSquareAt f a b s → IsSubadditiveSquare s ↔ IsSubadditiveAt f a b
+pub square_read : (f : FunctionData) (a b : ℕ) (s : Square) → IsSquareAt f a b s →
+    IsSubadditiveSquare s ↔ IsSubadditiveAt f a b
 square_read f a b s q = (limits_pass f a b s q, passed_limits f a b s q)
 
 -- the same sum of equal numbers
 same_sum : (x y t x' y' t' : ℤ) → x ≡ x' → y ≡ y' → t ≡ t' → (x +ℤ y ≡ t) ↔ (x' +ℤ y' ≡ t')
 same_sum x y t x' y' t' x_is y_is t_is = (λ h. rw (x_is, y_is, t_is) at h, λ h. rw (x_is, y_is, t_is) h)
 
--- the tests of symmetry at i/q and after it, from the piece there, the one at f - i/q and the one before that
-pub symmetry_read : (f : FunctionData) (i : ℕ) (t : ℤ) (x opposite before : Piece) → i < f.order → IsPieceAt f i x →
-    IsPieceAt f (f.place + (f.order - i)) opposite → IsPieceAt f (f.place + (f.order - (i + 1))) before → t ≡ pos f.scale →
-    ((x.value +ℤ opposite.value ≡ pos f.scale) × AreOpposite x before t) ↔ IsSymmetricAt f i
-symmetry_read f i t x opposite before below x_is opposite_is before_is t_is =
-    let last : f.place + (f.order - (i + 1)) + 1 ≡ f.place + (f.order - i) = omega arith in
-    let left = before_is.left ∙ ap (at f.left) last in
-    let values = same_sum _ _ _ _ _ _ x_is.value opposite_is.value refl in
-    let first = same_sum _ _ _ _ _ _ x_is.right left t_is in
-    let second = same_sum _ _ _ _ _ _ x_is.left before_is.right t_is in (
-      λ h. (values.0 h.0, (first.0 h.1.0, second.0 h.1.1)),
-      λ h. (values.1 h.0, (first.1 h.1.0, second.1 h.1.1)),
-    )
+-- the test of symmetry at i/q, from the pieces there and at f - i/q
+pub symmetry_read : (f : FunctionData) (i j : ℕ) (x y : Piece) → IsPieceAt f i x → IsPieceAt f j y →
+    j ≡ f.place + (f.order - i) → (x.value +ℤ y.value ≡ pos f.scale) ↔ Passes f (symmetric_at i)
+symmetry_read f i j x y x_is y_is e = same_sum _ _ _ _ _ _ x_is.value (y_is.value ∙ ap (at f.value) e) refl
+
+-- the test of symmetry from i/q to the next grid point, from the piece there and the one that ends at f - i/q
+pub symmetry_after_read : (f : FunctionData) (i j : ℕ) (t : ℤ) (x y : Piece) → i < f.order → IsPieceAt f i x →
+    IsPieceAt f j y → j ≡ f.place + (f.order - (i + 1)) → t ≡ pos f.scale →
+    AreOpposite x y t ↔ Passes f (symmetric_between i)
+symmetry_after_read f i j t x y below x_is y_is e t_is =
+    let next : j + 1 ≡ f.place + (f.order - i) = omega arith in
+    let first = same_sum _ _ _ _ _ _ x_is.right (y_is.left ∙ ap (at f.left) next) t_is in
+    let second = same_sum _ _ _ _ _ _ x_is.left (y_is.right ∙ ap (at f.right) e) t_is in
+    (λ h. (first.0 h.0, second.0 h.1), λ h. (first.1 h.0, second.1 h.1))

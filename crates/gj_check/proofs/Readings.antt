@@ -15,7 +15,8 @@ pub scale_read : (z : ℤ) (s : ℕ) → z ≡ pos s → s < 2 ^ 31 → to_z w64
 scale_read z s e below = omega (arith, ints)
 
 -- a test of a slack
-pub within_read : (b : Bool) (x y sum : ℤ) → unsigned_abs x < 2 ^ 51 → unsigned_abs y < 2 ^ 51 → unsigned_abs sum < 2 ^ 51 →
+pub within_read : (b : Bool) (x y sum : ℤ) → unsigned_abs x < 2 ^ 51 → unsigned_abs y < 2 ^ 51 →
+    unsigned_abs sum < 2 ^ 51 →
     IsTrue b ↔ IsWithin (to_z w64 (of_z w64 x)) (to_z w64 (of_z w64 y)) (to_z w64 (of_z w64 sum)) →
     IsTrue b ↔ IsWithin x y sum
 within_read b x y sum x_small y_small sum_small h =

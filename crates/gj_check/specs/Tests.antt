@@ -7,12 +7,12 @@ use Rattle.gj_shape.specs.FirstViolation.Test.{nonnegative_at, nonnegative_after
 use Rattle.gj_shape.specs.declared.faces.FaceKind.{FaceKind}
 
 -- no value at i/q, and none from there to (i + 1)/q, is negative
-abbrev pub HasSignsAt : FunctionData → ℕ → Type 0
-HasSignsAt f i = Passes f (nonnegative_at i) × Passes f (nonnegative_after i) × Passes f (nonnegative_before i)
+abbrev pub IsNonnegativeAt : FunctionData → ℕ → Type 0
+IsNonnegativeAt f i = Passes f (nonnegative_at i) × Passes f (nonnegative_after i) × Passes f (nonnegative_before i)
 
 -- for each i
-abbrev pub HasSigns : FunctionData → Type 0
-HasSigns f = (i : ℕ) → i < f.order → HasSignsAt f i
+abbrev pub IsNonnegative : FunctionData → Type 0
+IsNonnegative f = (i : ℕ) → i < f.order → IsNonnegativeAt f i
 
 -- the values at x and f - x add up to 1 at i/q, and from there to (i + 1)/q
 abbrev pub IsSymmetricAt : FunctionData → ℕ → Type 0
@@ -24,7 +24,8 @@ IsSymmetric f = (i : ℕ) → i < f.order → IsSymmetricAt f i
 
 -- no limit of the slack at a corner of a face of the square (a, b) is negative
 abbrev pub IsSubadditiveAt : FunctionData → ℕ → ℕ → Type 0
-IsSubadditiveAt f a b = (kind : FaceKind) (c : ℕ) → c < length (corners_of kind a b) → Passes f (subadditive_at kind a b c)
+IsSubadditiveAt f a b =
+    (kind : FaceKind) (c : ℕ) → c < length (corners_of kind a b) → Passes f (subadditive_at kind a b c)
 
 -- for each b
 abbrev pub IsSubadditiveRow : FunctionData → ℕ → Type 0

@@ -1,8 +1,8 @@
 //! The rule `minimal`: all tests of minimality of a function.
 ghost use Rattle.std.specs.Prelude.{◌<◌, ◌↔◌, IsTrue};
 ghost use Rattle.gj_shape.specs.FirstViolation.{Passes, PassesAll};
-ghost use Rattle.gj_shape.specs.FirstViolation.Test.{zero_at_zero};
-ghost use Rattle.gj_check.specs.Tests.{HasSigns, IsSymmetricAt, IsSymmetric, IsSubadditiveRow, IsSubadditive};
+ghost use Rattle.gj_shape.specs.FirstViolation.Test.{zero_at_zero, symmetric_at, symmetric_between};
+ghost use Rattle.gj_check.specs.Tests.{IsNonnegative, IsSymmetric, IsSubadditiveRow, IsSubadditive};
 
 use crate::pieces::{Piece, adds_up};
 use crate::squares::Square;
@@ -24,7 +24,7 @@ fn is_zero_at_zero(shape: &Shape) -> bool
 
 /// Whether no value and no limit is negative.
 fn is_nonnegative(shape: &Shape) -> bool
-    ensures { IsTrue result ↔ HasSigns shape.now }
+    ensures { IsTrue result ↔ IsNonnegative shape.now }
 {
     for i in 0..shape.order() as usize {
         if !Piece::at(shape, i).is_nonnegative() {
@@ -39,25 +39,35 @@ fn is_symmetric(shape: &Shape) -> bool
     ensures { IsTrue result ↔ IsSymmetric shape.now }
 {
     for i in 0..shape.order() as usize {
-        if !is_symmetric_at(shape, i) {
+        if !is_symmetric_at(shape, i) || !is_symmetric_after(shape, i) {
             return false;
         }
     }
     true
 }
 
-/// Whether they do at i/q, and from there to the next grid point.
+/// Whether they do at i/q.
 fn is_symmetric_at(shape: &Shape, i: usize) -> bool
     requires { i < shape.now.order }
-    ensures { IsTrue result ↔ IsSymmetricAt shape.now i }
+    ensures { IsTrue result ↔ Passes shape.now (symmetric_at i) }
 {
-    let order = shape.order() as usize;
-    let place = shape.place() as usize;
+    let opposite = shape.place() as usize + (shape.order() as usize - i);
     let total = shape.common_denominator() as i64;
-    let piece = Piece::at(shape, i);
-    let opposite = Piece::at(shape, place + (order - i));
-    adds_up(piece.value, opposite.value, total)
-        && piece.is_opposite(Piece::at(shape, place + (order - (i + 1))), total)
+    adds_up(
+        Piece::at(shape, i).value,
+        Piece::at(shape, opposite).value,
+        total,
+    )
+}
+
+/// Whether they do from i/q to the next grid point.
+fn is_symmetric_after(shape: &Shape, i: usize) -> bool
+    requires { i < shape.now.order }
+    ensures { IsTrue result ↔ Passes shape.now (symmetric_between i) }
+{
+    let opposite = shape.place() as usize + (shape.order() as usize - (i + 1));
+    let total = shape.common_denominator() as i64;
+    Piece::at(shape, i).is_opposite(Piece::at(shape, opposite), total)
 }
 
 /// Whether no limit of the slack is negative in any square.

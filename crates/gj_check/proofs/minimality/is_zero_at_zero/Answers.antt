@@ -9,5 +9,6 @@ returns c =
     let len = l.value_length in
     let some = l.order_low in
     let read : at c.args.shape.now.value 0 ≡ get_or c.value_numerators.result.now 0 (pos 0) =
-    at_below c.args.shape.now.value 0 (omega arith) ∙ sym (ap (λ xs. get_or xs 0 (pos 0)) c.value_numerators.ensures.value) in
+    at_below c.args.shape.now.value 0 (omega arith)
+    ∙ sym (ap (λ xs. get_or xs 0 (pos 0)) c.value_numerators.ensures.value) in
     rw read (search rules)

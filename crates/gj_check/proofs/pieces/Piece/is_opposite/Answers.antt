@@ -10,5 +10,6 @@ returns-then-adds_up c =
     let y = c.args.other in
     let total = to_z-of_z w64 c.args.total c.ranges.total in
     let first = sum_read _ x.right y.left _ c.args.total x.right_small y.left_small total c.adds_up.ensures in
-    let second = sum_read _ x.left y.right _ c.args.total x.left_small y.right_small total c.adds_up-then-adds_up.ensures in
+    let second =
+    sum_read _ x.left y.right _ c.args.total x.left_small y.right_small total c.adds_up-then-adds_up.ensures in
     first_passes _ _ _ _ _ c.if-adds_up.true first second (as_they_are _ _)
