@@ -1,8 +1,9 @@
 pub mod Chains
-pub mod Halves
-pub mod MinimalValues
 pub mod Multiples
 pub mod Ratios
+pub mod Readings
+pub mod PassedTests
 pub mod SamePlaces
 pub mod ShownPoints
+pub mod PieceTests
 pub mod Meanings

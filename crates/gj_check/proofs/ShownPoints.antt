@@ -18,7 +18,7 @@ use Rattle.gj_shape.specs.Violation.{IsPoint, value_of, ShowsViolation}
 use Rattle.gj_shape.specs.declared.violations.Violation.{Violation}
 use Rattle.gj_shape.specs.declared.violations.Violation.TheVariants as violation
 use Rattle.gj_shape.proofs.AtLemmas.{at_below}
-use Rattle.gj_theory.proofs.Points.{value_at_grid_point}
+use Rattle.gj_shape.proofs.TableLemmas.{table_of_order}
 use Rattle.gj_proof.specs.Rules.{IsCoordinate, MeetsPoint, coordinates_of}
 use Rattle.gj_check.specs.Coordinates.{AreCoordinates, IsScaledOpposite}
 use Rattle.gj_check.proofs.Ratios.{denominator_is, denominator_some, sum_over, less_over, negative_over, one_over}
@@ -304,7 +304,8 @@ pub zero_read : (f : FunctionData) (v : Violation) (n : ℤ) → IsWithinLimits 
 zero_read f v n l e n_is =
     let len = l.value_length in
     let some = l.order_low in
-    let value : value_of f 0 1 ≡ pos 1 *ℤ at f.value 0 = value_at_grid_point f 0 0 1 (omega arith) (omega arith) in
+    let origin : 0 * f.order ≡ 0 = omega arith in
+    let value : value_of f 0 1 ≡ at f.value 0 = ap (table f 1) origin ∙ table_of_order f 0 in
     let same = at_below f.value 0 (omega arith) in
     let rule = point_read f v violation.Zero e in (
       λ h. rule.0 (

@@ -1,4 +1,5 @@
 pub mod RuleWords
 pub mod FirstFailure
-pub mod Values
+pub mod Pieces
+pub mod Tests
 pub mod Coordinates

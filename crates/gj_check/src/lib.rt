@@ -6,8 +6,10 @@ mod denominators;
 mod faults;
 mod laws;
 mod minimality;
+mod pieces;
 mod points;
 mod rules;
+mod squares;
 
 pub use checker::check;
 pub use faults::CheckFault;

@@ -1,98 +1,94 @@
-//! The rule `minimal`: the values of a continuous function at its grid points.
-ghost use Rattle.std.specs.Prelude.{◌≡◌, ◌+◌, ◌-◌, ◌<◌, ◌^◌, ◌↔◌, length, IsTrue, unsigned_abs};
-ghost use Rattle.gj_shape.specs.FunctionData.{IsContinuous};
-ghost use Rattle.gj_shape.specs.FirstViolation.{PassesAll};
-ghost use Rattle.gj_check.specs.Values.{FitSums, AreNonnegative, IsMirrored, AreSymmetric, AreWithin, IsSubadditiveRow, AreSubadditive, AreMinimal};
+//! The rule `minimal`: all tests of minimality of a function.
+ghost use Rattle.std.specs.Prelude.{◌<◌, ◌↔◌, IsTrue};
+ghost use Rattle.gj_shape.specs.FirstViolation.{Passes, PassesAll};
+ghost use Rattle.gj_shape.specs.FirstViolation.Test.{zero_at_zero, symmetric_at, symmetric_between};
+ghost use Rattle.gj_check.specs.Tests.{IsNonnegative, IsSymmetric, IsSubadditiveRow, IsSubadditive};
 
+use crate::pieces::{Piece, adds_up};
+use crate::squares::Square;
 use gj_shape::Shape;
 
-/// Whether all tests of minimality pass on a continuous function. It takes no memory.
+/// Whether all tests of minimality pass. It takes no memory.
 pub(crate) fn is_minimal(shape: &Shape) -> bool
-    requires { IsContinuous shape.now }
     ensures { IsTrue result ↔ PassesAll shape.now }
 {
-    let values = shape.value_numerators();
-    let place = shape.place() as usize;
-    let scale = shape.common_denominator() as i64;
-    are_minimal(values, place, scale)
+    is_zero_at_zero(shape) && is_nonnegative(shape) && is_symmetric(shape) && is_subadditive(shape)
 }
 
-/// Whether the values are those of a minimal function, where f stands at the place and 1 is the total.
-fn are_minimal(values: &[i64], place: usize, total: i64) -> bool
-    requires small { FitSums values.now }
-    requires within { place < length values.now }
-    ensures { IsTrue result ↔ AreMinimal values.now place total }
+/// Whether the value at 0 is 0.
+fn is_zero_at_zero(shape: &Shape) -> bool
+    ensures { IsTrue result ↔ Passes shape.now zero_at_zero }
 {
-    values[0] == 0
-        && are_nonnegative(values)
-        && are_symmetric(values, place, total)
-        && are_subadditive(values)
+    shape.value_numerators()[0] == 0
 }
 
-/// Whether no value is negative.
-fn are_nonnegative(values: &[i64]) -> bool
-    ensures { IsTrue result ↔ AreNonnegative values.now }
+/// Whether no value and no limit is negative.
+fn is_nonnegative(shape: &Shape) -> bool
+    ensures { IsTrue result ↔ IsNonnegative shape.now }
 {
-    values.iter().all(|value| *value >= 0)
-}
-
-/// Whether the values at i and at the place less i add up to the total, for each i.
-fn are_symmetric(values: &[i64], place: usize, total: i64) -> bool
-    requires small { FitSums values.now }
-    requires within { place < length values.now }
-    ensures { IsTrue result ↔ AreSymmetric values.now place total }
-{
-    let (up_to_place, after_place) = values.split_at(place + 1);
-    is_mirrored(up_to_place, total) && is_mirrored(after_place, total)
-}
-
-/// Whether each value and the one as far from the end add up to the total.
-fn is_mirrored(values: &[i64], total: i64) -> bool
-    requires { FitSums values.now }
-    ensures { IsTrue result ↔ IsMirrored values.now total }
-{
-    for (i, value) in values.iter().enumerate() {
-        if *value + values[values.len() - (i + 1)] != total {
+    for i in 0..shape.order() as usize {
+        if !Piece::at(shape, i).is_nonnegative() {
             return false;
         }
     }
     true
 }
 
-/// Whether the value at the sum of two indices is at most the sum of the two values, for each two indices.
-fn are_subadditive(values: &[i64]) -> bool
-    requires { FitSums values.now }
-    ensures { IsTrue result ↔ AreSubadditive values.now }
+/// Whether the values at x and f - x add up to 1, at grid points and between them.
+fn is_symmetric(shape: &Shape) -> bool
+    ensures { IsTrue result ↔ IsSymmetric shape.now }
 {
-    for a in 0..values.len() {
-        if !is_subadditive_row(values, a) {
+    for i in 0..shape.order() as usize {
+        if !is_symmetric_at(shape, i) || !is_symmetric_after(shape, i) {
             return false;
         }
     }
     true
 }
 
-/// Whether the value at a + b is at most the sum of those at a and b, for each b.
-fn is_subadditive_row(values: &[i64], a: usize) -> bool
-    requires small { FitSums values.now }
-    requires within { a < length values.now }
-    ensures { IsTrue result ↔ IsSubadditiveRow values.now a }
+/// Whether they do at i/q.
+fn is_symmetric_at(shape: &Shape, i: usize) -> bool
+    requires { i < shape.now.order }
+    ensures { IsTrue result ↔ Passes shape.now (symmetric_at i) }
 {
-    let wraps_at = values.len() - a;
-    let (front, back) = values.split_at(wraps_at);
-    let (low, high) = values.split_at(a);
-    are_within(values[a], front, high) && are_within(values[a], back, low)
+    let opposite = shape.place() as usize + (shape.order() as usize - i);
+    let total = shape.common_denominator() as i64;
+    adds_up(
+        Piece::at(shape, i).value,
+        Piece::at(shape, opposite).value,
+        total,
+    )
 }
 
-/// Whether each of the sums is at most the term plus the other term there.
-fn are_within(term: i64, terms: &[i64], sums: &[i64]) -> bool
-    requires small { unsigned_abs term < 2 ^ 51 }
-    requires all_small { FitSums terms.now }
-    requires same_length { length terms.now ≡ length sums.now }
-    ensures { IsTrue result ↔ AreWithin term terms.now sums.now }
+/// Whether they do from i/q to the next grid point.
+fn is_symmetric_after(shape: &Shape, i: usize) -> bool
+    requires { i < shape.now.order }
+    ensures { IsTrue result ↔ Passes shape.now (symmetric_between i) }
 {
-    for (i, other) in terms.iter().enumerate() {
-        if term + *other < sums[i] {
+    let opposite = shape.place() as usize + (shape.order() as usize - (i + 1));
+    let total = shape.common_denominator() as i64;
+    Piece::at(shape, i).is_opposite(Piece::at(shape, opposite), total)
+}
+
+/// Whether no limit of the slack is negative in any square.
+fn is_subadditive(shape: &Shape) -> bool
+    ensures { IsTrue result ↔ IsSubadditive shape.now }
+{
+    for a in 0..shape.order() as usize {
+        if !is_subadditive_row(shape, a) {
+            return false;
+        }
+    }
+    true
+}
+
+/// Whether none is negative in any square of row a.
+fn is_subadditive_row(shape: &Shape, a: usize) -> bool
+    requires { a < shape.now.order }
+    ensures { IsTrue result ↔ IsSubadditiveRow shape.now a }
+{
+    for b in 0..shape.order() as usize {
+        if !Square::at(shape, a, b).is_subadditive() {
             return false;
         }
     }

@@ -1,4 +1,5 @@
 //! Small functions with claims that hold or fail by hand.
+use crate::minimality::is_minimal;
 use crate::{CheckFault, CheckRule, check};
 use gj_frac::Frac;
 use gj_proof::{Claim, Proof};
@@ -56,6 +57,25 @@ fn minimal(rt: HostRuntime) -> Result<(), Fail> {
     let other = function(&rt, 5, 3, &values)?;
     let violation = Violation::Superadditive(fifth, fifth);
     assert_eq!(rt; checked(&rt, Claim::NotMinimal(other, violation))?, Ok(()));
+    Ok(())
+}
+
+/// A minimal function with jumps, one with a negative limit of the slack, and one with limits that are not symmetric.
+#[test]
+fn jumps(rt: HostRuntime) -> Result<(), Fail> {
+    let zero = fraction(0, 1)?;
+    let quarter = fraction(1, 4)?;
+    let half = fraction(1, 2)?;
+    let one = fraction(1, 1)?;
+    let values = [zero, one];
+    let shape = Shape::new(rt.alloc(), 2, 1, &[half, half], &values, &[half, half])?;
+    assert_eq!(rt; is_minimal(&shape), true);
+    let shape = Shape::new(rt.alloc(), 2, 1, &[one, half], &values, &[half, zero])?;
+    assert_eq!(rt; is_minimal(&shape), false);
+    let left = [quarter, one, quarter];
+    let right = [zero, one, half];
+    let shape = Shape::new(rt.alloc(), 3, 1, &left, &[zero, one, half], &right)?;
+    assert_eq!(rt; is_minimal(&shape), false);
     Ok(())
 }
 

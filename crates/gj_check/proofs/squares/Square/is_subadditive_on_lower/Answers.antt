@@ -1,0 +1,41 @@
+use Rattle.gj_check.proofs.Chains.{first_passes, first_fails, second_decides, first_decides, first_two_and_third}
+use Rattle.gj_check.proofs.Readings.{within_read}
+use Rattle.gj_check.proofs.squares.Square.is_subadditive_on_lower.Goals as goal
+use Rattle.gj_check.proofs.squares.Square.is_subadditive_on_lower.Goals.{then-is_within, else-is_within}
+
+pub returns-then-is_within-2 : goal.returns-then-is_within-2
+returns-then-is_within-2 c =
+    let s = c.args.self.now in
+    let first =
+    within_read _ s.first.right s.second.right s.sum.right s.first.right_small s.second.right_small s.sum.right_small
+    c.is_within.ensures in
+    let third =
+    within_read _ s.first.right s.second.left s.sum.left s.first.right_small s.second.left_small s.sum.left_small
+    c.is_within-then-is_within-2.ensures in
+    elim c.if-is_within.branch [
+      | then-is_within w ↦
+          let second =
+          within_read _ s.first.left s.second.right s.sum.left s.first.left_small s.second.right_small s.sum.left_small
+          w.is_within-then-is_within.ensures in
+          let two = second_decides _ _ _ _ _ w.if-is_within.true w.value-is first second in
+          first_passes _ _ _ _ _ c.if-is_within-2.true two third (first_two_and_third _ _ _)
+      | else-is_within w ↦ absurd (cc)
+    ]
+
+pub returns-else-is_within-2 : goal.returns-else-is_within-2
+returns-else-is_within-2 c =
+    let s = c.args.self.now in
+    let first =
+    within_read _ s.first.right s.second.right s.sum.right s.first.right_small s.second.right_small s.sum.right_small
+    c.is_within.ensures in
+    elim c.if-is_within.branch [
+      | then-is_within w ↦
+          let second =
+          within_read _ s.first.left s.second.right s.sum.left s.first.left_small s.second.right_small s.sum.left_small
+          w.is_within-then-is_within.ensures in
+          let two = second_decides _ _ _ _ _ w.if-is_within.true w.value-is first second in
+          first_fails _ _ _ _ c.if-is_within-2.false two (first_two_and_third _ _ _)
+      | else-is_within w ↦
+          let two = first_decides _ _ _ _ w.if-is_within.false w.value-is first in
+          first_fails _ _ _ _ c.if-is_within-2.false two (first_two_and_third _ _ _)
+    ]
