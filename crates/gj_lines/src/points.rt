@@ -1,9 +1,9 @@
 //! The points of a function, tested one after another.
-ghost use Rattle.std.specs.Prelude.{◌≡◌, ◌<◌, [], ◌∷◌, ◌++◌, length, IfOk, IfErr, OnOk, OnErr, alloc_error};
+ghost use Rattle.std.specs.Prelude.{◌≡◌, ◌<◌, [], ◌∷◌, ◌++◌, All, length, IfOk, IfErr, OnOk, OnErr, alloc_error};
 ghost use Rattle.gj_lines.specs.declared.points.PointFault.TheVariants.{Memory};
-ghost use Rattle.gj_shape.specs.Given.{IsOrder, IsPlace, IsGivenBy};
+ghost use Rattle.gj_shape.specs.Given.{IsOrder, IsPlace, IsSmall, HasCommonDenominator, IsGivenBy};
 ghost use Rattle.gj_shape.specs.Denominators.{Widens};
-ghost use Rattle.gj_lines.specs.Points.{lefts, values, rights, IsPointFault, IsRefusedOver};
+ghost use Rattle.gj_lines.specs.Points.{lefts, values, rights, all_fractions, IsPointFault, IsRefusedOver};
 
 use gj_frac::Frac;
 use gj_shape::{Shape, ShapeFault, widened};
@@ -80,6 +80,8 @@ impl Points {
     /// this order, each for `Large` and then for `Fine`. After an error the points are as they were.
     pub fn push(&mut self, point: Point) -> Result<(), PointFault>
         ensures ok { OnOk result (self.new ≡ self.old ++ point ∷ []) }
+        ensures small { OnOk result (All IsSmall (all_fractions self.new)) }
+        ensures common { OnOk result (HasCommonDenominator (all_fractions self.new)) }
         ensures err { OnErr result (self.new ≡ self.old) }
         ensures fault { IfErr result (IsPointFault self.old point) }
     {

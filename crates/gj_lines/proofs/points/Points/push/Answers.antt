@@ -34,3 +34,15 @@ invariant_of-self-2 c =
     rw c.in_ok-push.ensures.items
     (least_with_point _ c.args.point _ _ _ _ c.self.invariant c.in_ok-with_left.ensures.least
     c.in_ok-with_value.ensures.least c.in_ok-with_right.ensures.least)
+
+pub returns-clause-small : goal.returns-clause-small
+returns-clause-small c =
+    let least = least_with_point _ c.args.point _ _ _ _ c.self.invariant c.in_ok-with_left.ensures.least
+    c.in_ok-with_value.ensures.least c.in_ok-with_right.ensures.least in
+    rw c.in_ok-push.ensures.items least.small
+
+pub returns-clause-common : goal.returns-clause-common
+returns-clause-common c =
+    let least = least_with_point _ c.args.point _ _ _ _ c.self.invariant c.in_ok-with_left.ensures.least
+    c.in_ok-with_value.ensures.least c.in_ok-with_right.ensures.least in
+    rw c.in_ok-push.ensures.items (_, least.low, least.high, least.common)
