@@ -1,9 +1,9 @@
 -- The number of the line of a fault.
-use Rattle.std.proofs.Common.{◌≡◌, inl, inr, ℕ, ◌+◌, ◌-◌, ◌≤◌, List, [], ◌++◌, length, take, drop, count_by, ◌==◌, refl, sym, ap, subst, ◌∙◌, arith}
+use Rattle.std.proofs.Common.{◌≡◌, inl, inr, ℕ, ◌+◌, ◌-◌, ◌≤◌, List, ◌++◌, length, take, drop, count_by, ◌==◌, refl, sym, ap, ◌∙◌, arith}
 use Rattle.std.proofs.lemmas.List.{append_assoc, append-nil, length-append, take_at, drop_at}
 use Rattle.gj_lex.specs.declared.reason.Reason.{Reason}
 use Rattle.gj_shape.specs.FunctionData.{FunctionData}
-use Rattle.gj_ftext.specs.Lines.{HasNextLine, HasLines, IsLineNumber}
+use Rattle.gj_ftext.specs.Lines.{HasLines, IsLineNumber}
 use Rattle.gj_ftext.specs.FunctionText.{IsFunctionText}
 use Rattle.gj_ftext.specs.FirstFault.{Expected, BreaksAt, IsFaultAt, IsFirstFault, IsFirstFaultOfWhole}
 use Rattle.gj_ftext.specs.FirstFault.BreaksAt.{in_line, ended}

@@ -1,3 +1,4 @@
+pub mod Canonical
 pub mod Counts
 pub mod FirstFaults
 pub mod FirstLines

@@ -2,12 +2,12 @@
 use Rattle.std.proofs.Common.{◌≡◌, inl, inr, ℕ, ◌<◌, ◌^◌, pos, neg_ℤ, if◌then◌else◌, List, [], ◌∷◌, ◌++◌, length, refl, sym, ap, subst, ◌∙◌, arith}
 use Rattle.std.specs.List.{AllZip}
 use Rattle.std.specs.Char.{digit_value}
-use Rattle.std.specs.Str.Parse.{AllDigits, IsNumeral, digits_value, starts_with_minus, without_leading_sign}
+use Rattle.std.specs.Str.Parse.{AllDigits, digits_value, starts_with_minus, without_leading_sign}
 use Rattle.std.proofs.lemmas.Str.Parse.{digit_from_value}
 use Rattle.gj_frac.specs.declared.Frac.{Frac}
 use Rattle.gj_frac.specs.Fraction.{Is}
 use Rattle.gj_frac.proofs.SameValues.{same_from_is}
-use Rattle.gj_lex.specs.NumberText.{IsNumberText, IsWritten}
+use Rattle.gj_lex.specs.NumberText.{IsWritten}
 use Rattle.gj_lex.specs.NumberText.IsWritten.{whole, ratio, point}
 use Rattle.gj_lines.specs.declared.points.Point.{Point}
 use Rattle.gj_ftext.specs.FunctionText.{IsFractionWord, IsCountWord, ArePointWords}

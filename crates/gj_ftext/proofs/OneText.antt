@@ -1,18 +1,15 @@
 -- A text begins with one function text, and where it does it has no fault; else it has one first fault.
-use Rattle.std.proofs.Common.{◌≡◌, inl, inr, ℕ, ◌+◌, ◌<◌, pos, List, [], ◌∷◌, ◌++◌, get_or, map, codes, refl, sym, ap, subst, ◌∙◌, arith}
+use Rattle.std.proofs.Common.{◌≡◌, inl, inr, ℕ, pos, List, [], ◌∷◌, ◌++◌, get_or, map, refl, sym, ap, subst, ◌∙◌, arith}
 use Rattle.std.specs.List.{AllZip}
 use Rattle.std.proofs.lemmas.List.{append-nil}
-use Rattle.gj_frac.specs.declared.Frac.{Frac}
 use Rattle.gj_frac.specs.Fraction.{Is}
 use Rattle.gj_lex.specs.declared.reason.Reason.{Reason}
-use Rattle.gj_lex.specs.declared.reason.Reason.TheVariants as reason
 use Rattle.gj_shape.specs.FunctionData.{FunctionData, IsWithinLimits}
 use Rattle.gj_lines.specs.Points.{ArePointsOf}
-use Rattle.gj_lines.specs.declared.points.Point.{Point}
 use Rattle.gj_lines.proofs.GivenPoints.{one_function_of_points, one_place}
 use Rattle.gj_ftext.specs.Lines.{HasNextLine, IsSkippedText, HasLines, IsLineNumber}
 use Rattle.gj_ftext.specs.FunctionText.{IsFractionWord, IsCountWord, ArePointWords, title_words, order_words, place_words, point_words, end_words, AreLinesOf, IsFunctionText, IsWholeFunctionText}
-use Rattle.gj_ftext.specs.FirstFault.{Expected, BreaksRule, BreaksAt, IsFaultAt, IsFirstFault, IsTail, IsFirstFaultOfWhole}
+use Rattle.gj_ftext.specs.FirstFault.{Expected, BreaksRule, BreaksAt, IsFaultAt, IsFirstFaultOfWhole}
 use Rattle.gj_ftext.specs.FirstFault.Expected.{title}
 use Rattle.gj_ftext.specs.FirstFault.BreaksAt.{in_line, ended}
 use Rattle.gj_ftext.specs.Reading.{IsRefusedInWhole}

@@ -1,5 +1,5 @@
 -- Point lines that pass all tests, read one after another.
-use Rattle.std.proofs.Common.{◌≡◌, inl, inr, ℤ, ℕ, ◌+◌, ◌<◌, ◌≤◌, List, [], ◌∷◌, ◌++◌, length, map, refl, sym, ap, subst, ◌∙◌, arith}
+use Rattle.std.proofs.Common.{◌≡◌, inl, inr, ℤ, ℕ, ◌+◌, ◌<◌, List, [], ◌∷◌, ◌++◌, length, map, refl, sym, ap, subst, ◌∙◌, arith}
 use Rattle.std.specs.List.{AllZip}
 use Rattle.std.proofs.lemmas.List.{length_push, map-append}
 use Rattle.std.proofs.lemmas.List.Elements.{All-nil}
@@ -13,8 +13,7 @@ use Rattle.gj_shape.proofs.LeastDenominator.{least_of_none}
 use Rattle.gj_lines.specs.declared.points.Point.{Point}
 use Rattle.gj_ftext.specs.Lines.{HasNextLine, HasLines}
 use Rattle.gj_ftext.specs.FunctionText.{ArePointWords, point_words, end_words}
-use Rattle.gj_ftext.specs.FirstFault.{IsOneOrThree, BreaksPoint, BreaksAt}
-use Rattle.gj_ftext.specs.FirstFault.Expected.{point}
+use Rattle.gj_ftext.specs.FirstFault.{IsOneOrThree, BreaksPoint}
 use Rattle.gj_ftext.specs.FirstFault.BreaksAt.{in_line, ended}
 use Rattle.gj_ftext.specs.Reading.{words_of_point, HasPointLine, HasPoints, IsEnded, IsRefusedPoint, IsRefusedPoints, IsRefusedEnd}
 use Rattle.gj_ftext.specs.declared.faults.Fault.{Fault}

@@ -1,5 +1,5 @@
 -- How the lines that were read make a function text, and how a fault of a part is the first fault of the whole text.
-use Rattle.std.proofs.Common.{◌≡◌, inl, inr, ℕ, pos, List, [], ◌∷◌, ◌++◌, length, map, Result, Err, IfErr, refl, sym, ap, subst}
+use Rattle.std.proofs.Common.{◌≡◌, inl, inr, ℕ, pos, List, [], ◌∷◌, ◌++◌, length, map, Result, Err, IfErr, refl, sym, subst}
 use Rattle.gj_shape.specs.FunctionData.{FunctionData}
 use Rattle.gj_shape.specs.Given.{IsGivenBy}
 use Rattle.gj_frac.specs.Fraction.{Is}
@@ -10,7 +10,7 @@ use Rattle.gj_ftext.specs.Lines.{HasNextLine, HasLines}
 use Rattle.gj_ftext.specs.FunctionText.{IsCountWord, title_words, order_words, point_words, end_words, IsFunctionText}
 use Rattle.gj_ftext.specs.FirstFault.{Expected, ArePointLines, ComesNext}
 use Rattle.gj_ftext.specs.FirstFault.Expected.{point, last}
-use Rattle.gj_ftext.specs.Reading.{HasLine, HasOrderLine, HasPlaceLine, HasHead, HasPoints, head_lines, IsRefusedAt, IsRefusedPoints, IsRefusedEnd, IsRefusedIn, IsTailAt, IsRefusedInWhole}
+use Rattle.gj_ftext.specs.Reading.{HasLine, HasOrderLine, HasPlaceLine, HasHead, HasPoints, head_lines, IsRefusedAt, IsRefusedPoints, IsRefusedEnd, IsRefusedIn, IsRefusedInWhole}
 use Rattle.gj_ftext.specs.declared.faults.Fault.{Fault}
 use Rattle.gj_ftext.specs.declared.faults.Fault.TheVariants.{Refused, Memory}
 use Rattle.gj_ftext.proofs.TextLines.{one_line_more}
