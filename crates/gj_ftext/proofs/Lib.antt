@@ -1,4 +1,14 @@
+pub mod Canonical
+pub mod Counts
+pub mod FirstFaults
 pub mod FirstLines
 pub mod FirstPlaces
 pub mod FirstWords
+pub mod LineFaults
+pub mod LineWords
+pub mod NextLines
+pub mod OneNumber
+pub mod OneText
+pub mod PointsRead
 pub mod TextLines
+pub mod WholeFaults

@@ -1,12 +1,11 @@
 -- The first fault of a text that is no function text: its line and its reason (own).
-use Rattle.std.specs.Prelude.{ℕ, pos, ◌≡◌, ◌≢◌, ◌⊎◌, ◌<◌, List, [], ◌∷◌, ◌++◌, All, length, map, codes}
+use Rattle.std.specs.Prelude.{ℕ, ◌≡◌, ◌≢◌, ◌⊎◌, ◌<◌, List, [], ◌∷◌, ◌++◌, All, length, map}
 use Rattle.std.specs.List.{AllZip}
 use Rattle.gj_frac.specs.declared.Frac.{Frac}
-use Rattle.gj_frac.specs.Fraction.{Is}
 use Rattle.gj_lex.specs.declared.reason.Reason.{Reason}
 use Rattle.gj_lex.specs.declared.reason.Reason.TheVariants as reason
 use Rattle.gj_shape.specs.FunctionData.{FunctionData}
-use Rattle.gj_shape.specs.Given.{IsOrder, IsPlace, IsSmall, HasCommonDenominator}
+use Rattle.gj_shape.specs.Given.{IsOrder, IsSmall, HasCommonDenominator}
 use Rattle.gj_lines.specs.Points.{IsPlaceFraction, all_fractions, IsPointFault}
 use Rattle.gj_lines.specs.declared.points.Point.{Point}
 use Rattle.gj_lines.specs.declared.points.PointFault.TheVariants as point_fault

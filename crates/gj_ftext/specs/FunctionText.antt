@@ -1,5 +1,5 @@
 -- Function text: the lines of a function in their lenient and in their one canonical spelling (own).
-use Rattle.std.specs.Prelude.{ℕ, ℤ, pos, ◌≡◌, List, [], ◌∷◌, ◌++◌, All, length, map, codes}
+use Rattle.std.specs.Prelude.{ℕ, ℤ, pos, ◌≡◌, List, [], ◌∷◌, ◌++◌, map, codes}
 use Rattle.std.specs.List.{AllZip}
 use Rattle.std.specs.Str.Parse.{IsNumeral, digits_value}
 use Rattle.gj_frac.specs.declared.Frac.{Frac}

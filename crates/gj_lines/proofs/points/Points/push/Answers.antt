@@ -37,13 +37,12 @@ invariant_of-self-2 c =
 
 pub returns-clause-small : goal.returns-clause-small
 returns-clause-small c =
-    rw c.in_ok-push.ensures.items
-    (least_with_point _ c.args.point _ _ _ _ c.self.invariant c.in_ok-with_left.ensures.least
-    c.in_ok-with_value.ensures.least c.in_ok-with_right.ensures.least).small
+    let least = least_with_point _ c.args.point _ _ _ _ c.self.invariant c.in_ok-with_left.ensures.least
+    c.in_ok-with_value.ensures.least c.in_ok-with_right.ensures.least in
+    rw c.in_ok-push.ensures.items least.small
 
 pub returns-clause-common : goal.returns-clause-common
 returns-clause-common c =
-    rw c.in_ok-push.ensures.items
-    (let all = least_with_point _ c.args.point _ _ _ _ c.self.invariant c.in_ok-with_left.ensures.least
+    let least = least_with_point _ c.args.point _ _ _ _ c.self.invariant c.in_ok-with_left.ensures.least
     c.in_ok-with_value.ensures.least c.in_ok-with_right.ensures.least in
-    (c.in_ok-with_right.with_right, all.low, all.high, all.common))
+    rw c.in_ok-push.ensures.items (_, least.low, least.high, least.common)

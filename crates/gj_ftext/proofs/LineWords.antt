@@ -1,0 +1,98 @@
+-- The first word of a line, and the words behind it.
+use Rattle.std.proofs.Common.{◌≡◌, ℕ, ◌+◌, ◌<◌, Bool, true, false, not, List, [], ◌∷◌, ◌++◌, length, get_or, take, drop, nat_lt, None, Some, refl, sym, ◌∙◌, ap, arith, append-nil, take-append-drop, length-take, length-drop, get_or-take, get_or-drop}
+use Rattle.std.specs.List.{All, filter, slice_split, position, position_or_len}
+use Rattle.std.proofs.lemmas.Bool.Decides.{nat_tests}
+use Rattle.std.proofs.lemmas.List.{drop_more}
+use Rattle.std.proofs.lemmas.List.Elements.{All-head, All-tail, All-weaker, All-from_get_or}
+use Rattle.std.proofs.lemmas.List.Splits.{slice_split-cons_yes, slice_split_none, slice_split_at}
+use Rattle.std.proofs.lemmas.List.Sums.{fails_before_first, passes_at_first}
+use Rattle.gj_lex.specs.Words.{is_blank, word_texts}
+use Rattle.gj_ftext.proofs.FirstPlaces.{first_place, no_place}
+
+-- whether a part is no empty one
+abbrev has_bytes : List ℕ → Bool
+has_bytes bs = nat_lt 0 (length bs)
+
+-- whether a byte is no blank
+abbrev pub is_word_byte : ℕ → Bool
+is_word_byte b = not (is_blank b)
+
+blank_from_not : (x : Bool) → not x ≡ false → x ≡ true
+blank_from_not true h = refl
+blank_from_not false h = sym h
+
+not_blank : (x : Bool) → not x ≡ true → x ≡ false
+not_blank true h = sym h
+not_blank false h = refl
+
+-- a blank makes no word
+pub skip_blank : (b : ℕ) (bs : List ℕ) → is_blank b ≡ true → word_texts (b ∷ bs) ≡ word_texts bs
+skip_blank b bs h = ap (filter has_bytes) (slice_split-cons_yes is_blank b bs h)
+
+skip_blanks : (bs xs : List ℕ) → All (λ b. is_blank b ≡ true) bs → word_texts (bs ++ xs) ≡ word_texts xs
+skip_blanks [] xs h = refl
+skip_blanks (b ∷ bs) xs h =
+    skip_blank b (bs ++ xs) (All-head (λ c. is_blank c ≡ true) b bs h)
+    ∙ skip_blanks bs xs (All-tail (λ c. is_blank c ≡ true) b bs h)
+
+-- a run without a blank is a part, and a word if it has a byte
+keep_word : (word : List ℕ) (parts : List (List ℕ)) → 0 < length word → filter has_bytes (word ∷ parts) ≡ word ∷ filter has_bytes parts
+keep_word word parts some = let yes : has_bytes word ≡ true = grind (arith, nat_tests) in rw yes refl
+
+pub take_word : (word rest : List ℕ) → 0 < length word → All (λ b. is_blank b ≡ false) word → (0 < length rest → is_blank (get_or rest 0 0) ≡ true) →
+    word_texts (word ++ rest) ≡ word ∷ word_texts rest
+take_word word [] some whole ended =
+    ap word_texts (append-nil word) ∙ ap (filter has_bytes) (slice_split_none is_blank word whole) ∙ keep_word word [] some
+take_word word (b ∷ bs) some whole ended =
+    ap (filter has_bytes) (slice_split_at is_blank word b bs whole (ended (omega arith)))
+    ∙ keep_word word (slice_split is_blank bs) some
+    ∙ ap (λ ws. word ∷ ws) (sym (skip_blank b bs (ended (omega arith))))
+
+-- a line that has only blanks has no word
+pub no_words : (line : List ℕ) → position is_word_byte line ≡ None → word_texts line ≡ []
+no_words line h =
+    ap word_texts (sym (append-nil line))
+    ∙ skip_blanks line [] (All-weaker (λ b. is_word_byte b ≡ false) (λ b. is_blank b ≡ true) (λ b. blank_from_not (is_blank b)) line (no_place is_word_byte line h))
+
+-- the bytes up to the first blank
+whole_word : (rest : List ℕ) → All (λ b. is_blank b ≡ false) (take (position_or_len is_blank rest) rest)
+whole_word rest =
+    let end = position_or_len is_blank rest in
+    All-from_get_or (λ b. is_blank b ≡ false) (take end rest) 0
+    (λ i l.
+    let short : i < end = omega (arith, length-take end rest) in
+    ap is_blank (get_or-take end rest i 0 short) ∙ fails_before_first is_blank rest i 0 short)
+
+-- behind it stands a blank
+word_ended : (rest : List ℕ) → 0 < length (drop (position_or_len is_blank rest) rest) →
+    is_blank (get_or (drop (position_or_len is_blank rest) rest) 0 0) ≡ true
+word_ended rest h =
+    let end = position_or_len is_blank rest in
+    ap is_blank (get_or-drop end rest 0 0 ∙ ap (λ k. get_or rest k 0) (omega arith))
+    ∙ passes_at_first is_blank rest 0 (omega (arith, length-drop end rest))
+
+-- it is not empty where it begins with no blank
+word_some : (b : ℕ) (bs : List ℕ) → is_blank b ≡ false → 0 < length (take (position_or_len is_blank (b ∷ bs)) (b ∷ bs))
+word_some b bs h =
+    let at : position_or_len is_blank (b ∷ bs) ≡ 1 + position_or_len is_blank bs = rw h refl in
+    omega (arith, length-take (position_or_len is_blank (b ∷ bs)) (b ∷ bs))
+
+-- the first word of a line that begins with no blank
+word_at_front : (b : ℕ) (bs rest : List ℕ) (end : ℕ) → is_blank b ≡ false → rest ≡ b ∷ bs → end ≡ position_or_len is_blank rest →
+    word_texts rest ≡ take end rest ∷ word_texts (drop end rest)
+word_at_front b bs rest end h is at =
+    rw (at, is)
+    (ap word_texts (sym (take-append-drop (position_or_len is_blank (b ∷ bs)) (b ∷ bs)))
+    ∙ take_word (take (position_or_len is_blank (b ∷ bs)) (b ∷ bs)) (drop (position_or_len is_blank (b ∷ bs)) (b ∷ bs)) (word_some b bs h)
+    (whole_word (b ∷ bs)) (word_ended (b ∷ bs)))
+
+-- the first word of a line, and the words behind it
+pub first_word : (line rest : List ℕ) (k end : ℕ) → position is_word_byte line ≡ Some k → rest ≡ drop k line → end ≡ position_or_len is_blank rest →
+    word_texts line ≡ take end rest ∷ word_texts (drop end rest)
+first_word line rest k end h is at =
+    let place = first_place is_word_byte line k h in
+    let same : rest ≡ get_or line k 0 ∷ drop (k + 1) line = is ∙ drop_more line k 0 place.0 in
+    ap word_texts (sym (take-append-drop k line) ∙ ap (λ t. take k line ++ t) (sym is))
+    ∙ skip_blanks (take k line) rest
+    (All-weaker (λ b. is_word_byte b ≡ false) (λ b. is_blank b ≡ true) (λ b. blank_from_not (is_blank b)) (take k line) place.3)
+    ∙ word_at_front (get_or line k 0) (drop (k + 1) line) rest end (not_blank (is_blank (get_or line k 0)) place.2) same at

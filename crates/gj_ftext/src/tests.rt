@@ -1,0 +1,145 @@
+//! Function texts by hand: spellings that are read, and the first faults of others.
+
+use crate::{TextFault, read_function, read_whole_function, write_function};
+use gj_lex::Reason;
+use std::test::Fail;
+
+/// The function of order 2 with f = 1/2 that is 0 at 0 and 1 at 1/2.
+const CANONICAL: &[u8] = b"gj-function 1\norder 2\nf 1/2\npoint 0\npoint 1\nend\n";
+
+#[test]
+fn reads_every_spelling(rt: HostRuntime) -> Result<(), Fail> {
+    let texts: [&[u8]; 5] = [
+        CANONICAL,
+        b"gj-function 1\r\norder 2\r\nf 1/2\r\npoint 0\r\npoint 1\r\nend\r\n",
+        b"# a comment\n\n \t\n  gj-function\t1 \norder 02\n  # order 3\nf 2/4\npoint -0\n\npoint +1.0 1 3/3\nend",
+        b"gj-function 1\norder 2\nf 0.5\npoint 0/7\r\npoint\t01/1\r\n\r\nend\r\n#",
+        b"gj-function 1\norder 2\nf 1/2\npoint 0 0 0\npoint 1 1.000 1\nend\n# the end\n\n\t",
+    ];
+    for text in texts {
+        let shape = read_whole_function(rt.alloc(), text)?;
+        assert_eq!(rt; write_function(rt.alloc(), &shape)?.as_slice(), CANONICAL);
+    }
+    Ok(())
+}
+
+#[test]
+fn keeps_jumps(rt: HostRuntime) -> Result<(), Fail> {
+    let text = b"gj-function 1\norder 2\nf 1/2\npoint -1/2 0 0.75\npoint 1\nend\n";
+    let shape = read_whole_function(rt.alloc(), text)?;
+    let written = b"gj-function 1\norder 2\nf 1/2\npoint -1/2 0 3/4\npoint 1\nend\n";
+    assert_eq!(rt;
+        write_function(rt.alloc(), &shape)?.as_slice(),
+        written.as_slice()
+    );
+    Ok(())
+}
+
+#[test]
+fn counts_the_bytes_up_to_the_end(rt: HostRuntime) -> Result<(), Fail> {
+    let texts: [(&[u8], usize); 4] = [
+        (
+            b"gj-function 1\norder 2\nf 1/2\npoint 0\npoint 1\nend\norder 3\n",
+            48,
+        ),
+        (
+            b"gj-function 1\norder 2\nf 1/2\npoint 0\npoint 1\nend\r\nmore",
+            49,
+        ),
+        (b"gj-function 1\norder 2\nf 1/2\npoint 0\npoint 1\nend", 47),
+        (
+            b"#\ngj-function 1\norder 2\nf 1/2\npoint 0\npoint 1\nend \n#",
+            51,
+        ),
+    ];
+    for (text, len) in texts {
+        assert_eq!(rt; read_function(rt.alloc(), text)?.1, len);
+    }
+    Ok(())
+}
+
+#[test]
+fn names_the_first_fault(rt: HostRuntime) -> Result<(), Fail> {
+    let texts: [(&[u8], u64, Reason); 30] = [
+        (b"", 1, Reason::Form),
+        (b"# nothing\n\n", 3, Reason::Form),
+        (b"gj-function 2\n", 1, Reason::Form),
+        (b"gj-function\n", 1, Reason::Form),
+        (b"gj-function 1 # first\n", 1, Reason::Form),
+        (b"gj-function 1\n", 2, Reason::Form),
+        (b"gj-function 1", 1, Reason::Form),
+        (b"gj-function 1\nfamily gmic 1/2\n", 2, Reason::Form),
+        (b"gj-function 1\norder 2 3\n", 2, Reason::Form),
+        (b"gj-function 1\norder two\n", 2, Reason::Number),
+        (b"gj-function 1\norder -2\n", 2, Reason::Number),
+        (b"gj-function 1\norder 1001\n", 2, Reason::Order),
+        (b"gj-function 1\norder 1\n", 2, Reason::Order),
+        (b"gj-function 1\norder 4294967298\n", 2, Reason::Order),
+        (b"gj-function 1\norder 2\nf\n", 3, Reason::Form),
+        (b"gj-function 1\norder 2\nf half\n", 3, Reason::Number),
+        (b"gj-function 1\norder 2\nf 1/3\n", 3, Reason::Place),
+        (b"gj-function 1\norder 2\nf 1\n", 3, Reason::Place),
+        (
+            b"gj-function 1\norder 2\nf 1/2\npoint 0 1\n",
+            4,
+            Reason::Form,
+        ),
+        (b"gj-function 1\norder 2\nf 1/2\npoint\n", 4, Reason::Form),
+        (
+            b"gj-function 1\norder 2\nf 1/2\npoint 0 1 2 3\n",
+            4,
+            Reason::Form,
+        ),
+        (
+            b"gj-function 1\norder 2\nf 1/2\npoint 0\n\n# one\npoint x 1048577 0\n",
+            7,
+            Reason::Number,
+        ),
+        (
+            b"gj-function 1\norder 2\nf 1/2\npoint 0\npoint 1/2147483648\n",
+            5,
+            Reason::Fine,
+        ),
+        (
+            b"gj-function 1\norder 2\nf 1/2\npoint 0\npoint 1048577\n",
+            5,
+            Reason::Large,
+        ),
+        (
+            b"gj-function 1\norder 2\nf 1/2\npoint 0\npoint 1/2147483648 1048577 0\n",
+            5,
+            Reason::Fine,
+        ),
+        (
+            b"gj-function 1\norder 2\nf 1/2\npoint 0\npoint 0 1048577 1/2147483648\n",
+            5,
+            Reason::Large,
+        ),
+        (b"gj-function 1\norder 2\nf 1/2\npoint 0\n", 5, Reason::Form),
+        (
+            b"gj-function 1\norder 2\nf 1/2\npoint 0\npoint 1\n",
+            6,
+            Reason::Form,
+        ),
+        (
+            b"gj-function 1\norder 2\nf 1/2\npoint 0\npoint 1\npoint 0\nend\n",
+            6,
+            Reason::Form,
+        ),
+        (
+            b"gj-function 1\r\norder 2\r\nf 1/2\r\npoint 0\r\npoint 1\r\nend\r\n\r\n#\r\nend\r\n",
+            9,
+            Reason::Tail,
+        ),
+    ];
+    for (text, number, reason) in texts {
+        match read_whole_function(rt.alloc(), text) {
+            Err(TextFault::Refused(n, why)) => {
+                assert_eq!(rt; n, number);
+                assert_eq!(rt; why, reason);
+            }
+            _ => assert!(rt; false),
+        }
+    }
+    Ok(())
+}
