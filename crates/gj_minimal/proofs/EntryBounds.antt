@@ -10,6 +10,7 @@ use Rattle.gj_shape.proofs.AtLemmas.{at_rest, at_plus_length}
 use Rattle.gj_theory.specs.Before.{PassesSymmetry, PassesBefore}
 use Rattle.gj_theory.specs.NearCorners.{total}
 use Rattle.gj_shape.specs.FirstViolation.Test.{subadditive_at}
+use Rattle.gj_minimal.proofs.NearPoints.{fine_grid}
 use Rattle.gj_minimal.proofs.NearPairs.{one_of, two_of, three_of, total_at_most, as_many_limits, some_corners}
 
 -- what holds of each entry below the length holds of each entry
@@ -105,6 +106,17 @@ total_small f kind a b l h =
     let corners : length (limits_of f kind a b) ≤ 3 = omega arith in
     let product : length (limits_of f kind a b) * (2 * f.scale) ≤ 3 * (2 * f.scale) = mul-le-mul_right (2 * f.scale) corners in
     omega (arith, ints)
+
+-- so the grid near a corner is within 2^62
+pub fine_near_corner : (f : FunctionData) (kind : FaceKind) (a b q h n : ℕ) (total_limits : ℤ) → IsWithinLimits f →
+    PassesSymmetry f → q ≡ f.order → n ≡ length (corners_of kind a b) → total_limits ≡ total (limits_of f kind a b) →
+    ((t : ℕ) → total_limits ≤ℤ pos t → h ≤ n + t + 1) → q * h ≤ 2 ^ 62
+fine_near_corner f kind a b q h n total_limits l symmetry order many total_is bounded =
+    let small = total_small f kind a b l symmetry in
+    let few = (some_corners kind a b).1 in
+    let high = l.order_high in
+    let most = bounded (2 ^ 34) (subst (λ z. z ≤ℤ pos (2 ^ 34)) (sym total_is) small) in
+    fine_grid q h (omega arith) (omega arith)
 
 -- the tests of symmetry come before those of all faces
 pub symmetry_before : (f : FunctionData) (kind : FaceKind) (a b c : ℕ) → PassesBefore f (subadditive_at kind a b c) →

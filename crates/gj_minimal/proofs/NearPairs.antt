@@ -1,5 +1,5 @@
 -- The pair of points near a corner of a face.
-use Rattle.std.proofs.Common.{◌≡◌, ℕ, zero, suc, ◌+◌, ◌-◌, ◌*◌, ◌<◌, ◌≤◌, ℤ, pos, ◌+ℤ◌, ◌*ℤ◌, ◌<ℤ◌, ◌≤ℤ◌, List, [], ◌∷◌, length, get_or, map, sum, take, All, refl, sym, ap, subst, ◌∙◌, arith}
+use Rattle.std.proofs.Common.{◌≡◌, ℕ, zero, suc, ◌+◌, ◌-◌, ◌*◌, ◌<◌, ◌≤◌, ℤ, pos, ◌+ℤ◌, ◌*ℤ◌, ◌<ℤ◌, ◌≤ℤ◌, List, [], ◌∷◌, length, get_or, map, sum, take, All, refl, sym, ap, subst, subst₂, ◌∙◌, arith}
 use Rattle.std.proofs.lemmas.Int.{ints}
 use Rattle.std.proofs.Math.ListN.{get_or-map}
 use Rattle.std.proofs.lemmas.List.Elements.{All-nil, All-cons, All-get_or, All-head, All-tail}
@@ -189,3 +189,25 @@ shows_pair f kind a b c h limit total_limits x y limits within limit_is total_is
       second = subst (λ (n : ℕ). Is y (pos n) (pos (f.order * h))) (near_second h c kind a b) second;
       shown = refl;
     }
+
+-- the same from the numbers of the code
+pub pair_shown : (f : FunctionData) (kind : FaceKind) (a b c h n q i j sum_i sum_j : ℕ) (limit total_limits : ℤ) (x y : Frac) →
+    IsWithinLimits f → c < length (corners_of kind a b) → q ≡ f.order → n ≡ length (corners_of kind a b) →
+    (i, j) ≡ get_or (corners_of kind a b) c (0, 0) → sum_i ≡ sum (first_coordinates kind a b) →
+    sum_j ≡ sum (second_coordinates kind a b) → limit ≡ get_or (limits_of f kind a b) c (pos 0) →
+    total_limits ≡ total (limits_of f kind a b) →
+    IsLeastFrom n (λ m. (pos (m - n) *ℤ limit +ℤ total_limits) <ℤ pos 0) h →
+    Is x (pos ((h - n) * i + sum_i)) (pos (q * h)) → Is y (pos ((h - n) * j + sum_j)) (pos (q * h)) →
+    ShowsNearCorner f kind a b c (violation.Superadditive x y)
+pair_shown f kind a b c h n q i j sum_i sum_j limit total_limits x y limits within order many corner first_sum second_sum limit_is total_is least first second =
+    let m = length (corners_of kind a b) in
+    let at_first : i ≡ (get_or (corners_of kind a b) c (0, 0)).0 = ap (λ (p : ℕ × ℕ). p.0) corner in
+    let at_second : j ≡ (get_or (corners_of kind a b) c (0, 0)).1 = ap (λ (p : ℕ × ℕ). p.1) corner in
+    let first_index : (h - n) * i + sum_i
+    ≡ (h - length (corners_of kind a b)) * (get_or (corners_of kind a b) c (0, 0)).0 + sum (first_coordinates kind a b) = cc in
+    let second_index : (h - n) * j + sum_j
+    ≡ (h - length (corners_of kind a b)) * (get_or (corners_of kind a b) c (0, 0)).1 + sum (second_coordinates kind a b) = cc in
+    shows_pair f kind a b c h limit total_limits x y limits within limit_is total_is
+    (subst (λ (k : ℕ). IsLeastFrom k (λ m. (pos (m - k) *ℤ limit +ℤ total_limits) <ℤ pos 0) h) many least)
+    (subst₂ (λ (k d : ℕ). Is x (pos k) (pos (d * h))) first_index order first)
+    (subst₂ (λ (k d : ℕ). Is y (pos k) (pos (d * h))) second_index order second)

@@ -1,5 +1,5 @@
 -- What the code reads of a list of numerators.
-use Rattle.std.proofs.Common.{◌≡◌, ◌≢◌, ℕ, ◌%◌, ◌<◌, ◌^◌, ℤ, pos, ◌+ℤ◌, ◌<ℤ◌, ◌≤ℤ◌, unsigned_abs, List, length, get_or, true, false, ap, sym, ◌∙◌, to_z, of_z, FitsSigned, w64, arith}
+use Rattle.std.proofs.Common.{◌≡◌, ◌≢◌, ℕ, ◌%◌, ◌<◌, ◌^◌, ℤ, pos, ◌+ℤ◌, ◌<ℤ◌, ◌≤ℤ◌, unsigned_abs, List, length, get_or, true, false, IsTrue, ◌↔◌, eqb, eqb-true, eq-eqb, ◌*ℤ◌, ap, sym, ◌∙◌, to_z, of_z, FitsSigned, w64, arith}
 use Rattle.std.proofs.lemmas.Int.{ints, to_z-of_z}
 use Rattle.gj_shape.specs.FunctionData.{at}
 use Rattle.gj_shape.proofs.AtLemmas.{at_below}
@@ -21,7 +21,7 @@ pub nonnegative_read : (xs : List ℤ) (i : ℕ) → i < length xs → FitsSigne
 nonnegative_read xs i below fits e = let same = read_is xs i below fits in grind (arith, ints)
 
 -- a number of 51 bits, as the code has it
-small_fits : (x : ℤ) → unsigned_abs x < 2 ^ 51 → to_z w64 (of_z w64 x) ≡ x
+pub small_fits : (x : ℤ) → unsigned_abs x < 2 ^ 51 → to_z w64 (of_z w64 x) ≡ x
 small_fits x h = to_z-of_z w64 x (omega (arith, ints))
 
 -- the sum of two such numbers, as the code has it
@@ -71,3 +71,32 @@ at_is xs i j e = ap (λ k. get_or xs k (pos 0)) (sym e)
 -- a number that was cast from 128 bits
 pub cast_read : (z : ℤ) (n : ℕ) → z ≡ pos n → n < 2 ^ 31 → to_z w64 (of_z w64 (to_z w128 (of_z w128 z))) ≡ pos n
 cast_read z n e small = omega (arith, ints)
+
+-- ---- tests of equality
+
+-- whether a number of 64 bits is another
+pub same_bits : (x s : ℤ) → FitsSigned w64 x → FitsSigned w64 s → IsTrue (eqb (of_z w64 x) (of_z w64 s)) ↔ (x ≡ s)
+same_bits x s fits s_fits = (
+    λ e. sym (to_z-of_z w64 x fits) ∙ ap (to_z w64) (eqb-true (of_z w64 x) (of_z w64 s) e) ∙ to_z-of_z w64 s s_fits,
+    λ e. eq-eqb (of_z w64 x) (of_z w64 s) (ap (of_z w64) e),
+  )
+
+-- whether the sum of two numbers is a third
+pub sum_bits : (x y s : ℤ) → unsigned_abs x < 2 ^ 51 → unsigned_abs y < 2 ^ 51 → FitsSigned w64 s →
+    IsTrue (eqb (of_z w64 (to_z w64 (of_z w64 x) +ℤ to_z w64 (of_z w64 y))) (of_z w64 s)) ↔ (x +ℤ y ≡ s)
+sum_bits x y s h k fits =
+    let first = small_fits x h in
+    let second = small_fits y k in
+    rw (first, second) (same_bits (x +ℤ y) s (omega (arith, ints)) fits)
+
+-- whether the sum of four is twice a fifth
+pub double_bits : (x y u v s : ℤ) → unsigned_abs x < 2 ^ 51 → unsigned_abs y < 2 ^ 51 → unsigned_abs u < 2 ^ 51 →
+    unsigned_abs v < 2 ^ 51 → unsigned_abs s < 2 ^ 51 →
+    IsTrue (eqb (of_z w64 (to_z w64 (of_z w64 (to_z w64 (of_z w64 x) +ℤ to_z w64 (of_z w64 y)))
+    +ℤ to_z w64 (of_z w64 (to_z w64 (of_z w64 u) +ℤ to_z w64 (of_z w64 v))))) (of_z w64 (pos 2 *ℤ to_z w64 (of_z w64 s))))
+    ↔ (x +ℤ y +ℤ (u +ℤ v) ≡ pos 2 *ℤ s)
+double_bits x y u v s hx hy hu hv hs =
+    let first = sum_read x y hx hy in
+    let second = sum_read u v hu hv in
+    let third = small_fits s hs in
+    rw (first, second, third) (same_bits (x +ℤ y +ℤ (u +ℤ v)) (pos 2 *ℤ s) (omega (arith, ints)) (omega (arith, ints)))

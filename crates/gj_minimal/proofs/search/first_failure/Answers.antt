@@ -1,12 +1,14 @@
-use Rattle.std.proofs.Common.{rules, ℕ, ◌≡◌, ◌*◌, ◌<◌, ◌≤◌, ◌^◌, IfSome, IfNone, ◌+◌, ◌-◌, length, ◌/◌, ◌%◌, Bool, true, false, nat_eq, nat_lt, List, [], ◌∷◌, ◌++◌, slice_index_or, slice_set, bit_and, bit_or, Fits, w8, w32, w64, Bor, MutBor}
-use Rattle.gj_shape.specs.FunctionData.{IsWithinLimits}
-use Rattle.gj_shape.specs.FirstViolation.{IsFirstViolation, PassesAll}
-use Rattle.gj_shape.specs.Table.{IsMinimal}
-use Rattle.gj_shape.specs.Violation.{ShowsViolation}
-use Rattle.gj_theory.specs.GridPoints.{IsAtGridPoints}
-use Rattle.gj_minimal.specs.Failures.{FailsFirst}
+use Rattle.std.proofs.Common.{Some, None, IfNone}
+use Rattle.gj_shape.specs.FirstViolation.{PassesAll}
+use Rattle.gj_minimal.specs.FirstFailure.{HoldsBelow}
+use Rattle.gj_minimal.specs.Failures.{PassesRow}
+use Rattle.gj_minimal.proofs.Theory.{tests_pass}
 use Rattle.gj_minimal.proofs.search.first_failure.Goals as goal
 
--- src/search.rt:42:1
 pub returns-clause-none : goal.returns-clause-none
-returns-clause-none c = ?
+returns-clause-none c =
+    let f = c.args.shape.now in
+    elim c.failed_face.result as (λ r. IfNone r (HoldsBelow (PassesRow f) f.order) → IfNone r (PassesAll f)) [
+      None ↦ λ rows. tests_pass f c.in_default-failed_vertex.ensures.none (λ a b a_below b_below. rows a a_below b b_below)
+      | Some x ↦ λ _. tt
+    ] c.failed_face.ensures.none

@@ -1,22 +1,30 @@
-use Rattle.std.proofs.Common.{rules, ℕ, ℤ, pos, ◌≡◌, ◌<◌, ◌*◌, ◌<ℤ◌, length, sum, get_or, unsigned_abs, ◌^◌, ◌+◌, ◌↔◌, IsTrue, ◌-◌, ◌≤◌, ◌/◌, ◌%◌, Bool, true, false, nat_eq, nat_lt, List, [], ◌∷◌, ◌++◌, slice_set, bit_and, bit_or, Fits, w8, w32, w64, Bor, MutBor}
-use Rattle.gj_shape.specs.FunctionData.{at}
-use Rattle.gj_shape.specs.Faces.{corners_of, limits_of}
-use Rattle.gj_shape.specs.FirstViolation.{Shows, ShowsNearCorner, MidpointsAgree, first_coordinates, second_coordinates}
-use Rattle.gj_shape.specs.FirstViolation.Test.{nonnegative_after, nonnegative_before, symmetric_between}
-use Rattle.gj_complex.specs.Squares.{limits_in}
-use Rattle.gj_theory.specs.Before.{PassesSymmetry}
-use Rattle.gj_theory.specs.NearCorners.{total}
-use Rattle.gj_minimal.specs.Failures.{FailsFirst, test_of, HasGridPoints}
+use Rattle.std.proofs.Common.{◌*◌, ℕ, pos, lit<, refl, sym, subst, subst₂, arith}
+use Rattle.gj_frac.specs.Fraction.{Is}
+use Rattle.gj_shape.specs.FirstViolation.{Shows}
+use Rattle.gj_shape.specs.declared.violations.Violation.TheVariants as violation
+use Rattle.gj_minimal.specs.Failures.{test_of}
 use Rattle.gj_minimal.proofs.shown.shown.Goals as goal
 
--- src/shown.rt:20:1
 pub returns-in-Zero-clause-points : goal.returns-in-Zero-clause-points
-returns-in-Zero-clause-points c = ?
+returns-in-Zero-clause-points c =
+    let high = c.order-order.ensures.limits.order_high in (1, lit< tt, omega arith, tt)
 
--- src/shown.rt:20:1
 pub returns-in-Value-clause-shows : goal.returns-in-Value-clause-shows
-returns-in-Value-clause-shows c = ?
+returns-in-Value-clause-shows c =
+    let f = c.args.shape.now in
+    let x = c.grid_point.result in
+    subst (λ failure. Shows f (test_of failure) (violation.Negative x)) (sym c.in-Value.is) (
+      x,
+      subst₂ (λ (n q : ℕ). Is x (pos n) (pos (q * 1))) c.from.ensures c.order-order.ensures.value c.grid_point.ensures,
+      refl,
+    )
 
--- src/shown.rt:20:1
 pub returns-in-Mirror-clause-shows : goal.returns-in-Mirror-clause-shows
-returns-in-Mirror-clause-shows c = ?
+returns-in-Mirror-clause-shows c =
+    let f = c.args.shape.now in
+    let x = c.grid_point-in-Mirror.result in
+    subst (λ failure. Shows f (test_of failure) (violation.Asymmetric x)) (sym c.in-Mirror.is) (
+      x,
+      subst₂ (λ (n q : ℕ). Is x (pos n) (pos (q * 1))) c.from-in-Mirror.ensures c.order-order.ensures.value c.grid_point-in-Mirror.ensures,
+      refl,
+    )
