@@ -1,6 +1,10 @@
-use Rattle.std.proofs.Common.{◌*◌, ℕ, pos, lit<, refl, sym, subst, subst₂, arith}
+use Rattle.std.proofs.Common.{◌*◌, ℕ, pos, get_or, lit<, refl, sym, subst, subst₂, arith}
 use Rattle.gj_frac.specs.Fraction.{Is}
-use Rattle.gj_shape.specs.FirstViolation.{Shows}
+use Rattle.std.proofs.lemmas.Int.{by_lt_z}
+use Rattle.gj_shape.specs.Faces.{limits_of}
+use Rattle.gj_shape.specs.FirstViolation.{Passes, Shows}
+use Rattle.gj_theory.specs.Before.{PassesBefore}
+use Rattle.gj_minimal.proofs.EntryBounds.{symmetry_before}
 use Rattle.gj_shape.specs.declared.violations.Violation.TheVariants as violation
 use Rattle.gj_minimal.specs.Failures.{test_of}
 use Rattle.gj_minimal.proofs.shown.shown.Goals as goal
@@ -28,3 +32,18 @@ returns-in-Mirror-clause-shows c =
       subst₂ (λ (n q : ℕ). Is x (pos n) (pos (q * 1))) c.from-in-Mirror.ensures c.order-order.ensures.value c.grid_point-in-Mirror.ensures,
       refl,
     )
+
+pub pair_near-requires-clause-symmetry : goal.pair_near-requires-clause-symmetry
+pair_near-requires-clause-symmetry c =
+    let f = c.args.shape.now in
+    let face = c.in-Corner.face in
+    symmetry_before f face.kind face.a face.b c.in-Corner.corner
+    (subst (λ failure. PassesBefore f (test_of failure)) c.in-Corner.is c.requires.before)
+
+pub pair_near-requires-clause-negative : goal.pair_near-requires-clause-negative
+pair_near-requires-clause-negative c =
+    let f = c.args.shape.now in
+    let face = c.in-Corner.face in
+    let limit = get_or (limits_of f face.kind face.a face.b) c.in-Corner.corner (pos 0) in
+    let fails = subst (λ failure. Passes f (test_of failure) → ⊥) c.in-Corner.is c.requires.fails in
+    by_lt_z limit (pos 0) (λ less. less) (λ passes. absurd (fails passes))
