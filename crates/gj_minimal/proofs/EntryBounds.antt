@@ -30,7 +30,8 @@ each_below P xs n len h (suc i) below =
     let next : i + 1 ≡ suc i = omega arith in
     subst P (ap (at xs) next) (h i (omega arith))
 
-everywhere_after : (P : ℤ → Type 0) (xs : List ℤ) (n : ℕ) → length xs ≡ n → 0 < n → ((i : ℕ) → i < n → P (at xs (i + 1))) →
+everywhere_after : (P : ℤ → Type 0) (xs : List ℤ) (n : ℕ) → length xs ≡ n → 0 < n →
+    ((i : ℕ) → i < n → P (at xs (i + 1))) →
     (i : ℕ) → P (at xs i)
 everywhere_after P xs n len some h = everywhere P xs n len some (each_below P xs n len h)
 
@@ -71,7 +72,8 @@ slack_at_most s x y z first second third = omega (arith, ints)
 limits_at_most : (f : FunctionData) (kind : FaceKind) (a b : ℕ) → AreBounded f →
     All (λ n. n ≤ℤ pos (2 * f.scale)) (limits_of f kind a b)
 limits_at_most f Vertex a b h =
-    one_of (λ n. n ≤ℤ pos (2 * f.scale)) _ (slack_at_most f.scale _ _ _ (h.value_high a) (h.value_high b) (h.value_low (a + b)))
+    one_of (λ n. n ≤ℤ pos (2 * f.scale)) _ (slack_at_most f.scale _ _ _ (h.value_high a) (h.value_high b)
+    (h.value_low (a + b)))
 limits_at_most f Horizontal a b h =
     two_of (λ n. n ≤ℤ pos (2 * f.scale)) _ _
     (slack_at_most f.scale _ _ _ (h.right_high a) (h.value_high b) (h.right_low (a + b)))
@@ -104,7 +106,8 @@ total_small f kind a b l h =
     let few = (some_corners kind a b).1 in
     let scale = l.scale_high in
     let corners : length (limits_of f kind a b) ≤ 3 = omega arith in
-    let product : length (limits_of f kind a b) * (2 * f.scale) ≤ 3 * (2 * f.scale) = mul-le-mul_right (2 * f.scale) corners in
+    let product : length (limits_of f kind a b) * (2 * f.scale) ≤ 3 * (2 * f.scale) = mul-le-mul_right (2 * f.scale)
+    corners in
     omega (arith, ints)
 
 -- so the grid near a corner is within 2^62

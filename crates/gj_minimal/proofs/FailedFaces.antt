@@ -44,11 +44,16 @@ tests_of_three P s t u p q r = All-cons P s (t ∷ u ∷ []) p (tests_of_two P t
 pub face_passes : (f : FunctionData) (kind : FaceKind) (a b : ℕ) →
     ((c : ℕ) → c < length (corners_of kind a b) → Passes f (subadditive_at kind a b c)) → PassesFace f kind a b
 face_passes f Vertex a b h = All-cons (Passes f) (subadditive_at Vertex a b 0) [] (h 0 (lit< tt)) (All-nil (Passes f))
-face_passes f Horizontal a b h = tests_of_two (Passes f) (subadditive_at Horizontal a b 0) (subadditive_at Horizontal a b 1) (h 0 (lit< tt)) (h 1 (lit< tt))
-face_passes f Vertical a b h = tests_of_two (Passes f) (subadditive_at Vertical a b 0) (subadditive_at Vertical a b 1) (h 0 (lit< tt)) (h 1 (lit< tt))
-face_passes f Diagonal a b h = tests_of_two (Passes f) (subadditive_at Diagonal a b 0) (subadditive_at Diagonal a b 1) (h 0 (lit< tt)) (h 1 (lit< tt))
-face_passes f Lower a b h = tests_of_three (Passes f) (subadditive_at Lower a b 0) (subadditive_at Lower a b 1) (subadditive_at Lower a b 2) (h 0 (lit< tt)) (h 1 (lit< tt)) (h 2 (lit< tt))
-face_passes f Upper a b h = tests_of_three (Passes f) (subadditive_at Upper a b 0) (subadditive_at Upper a b 1) (subadditive_at Upper a b 2) (h 0 (lit< tt)) (h 1 (lit< tt)) (h 2 (lit< tt))
+face_passes f Horizontal a b h = tests_of_two (Passes f) (subadditive_at Horizontal a b 0)
+    (subadditive_at Horizontal a b 1) (h 0 (lit< tt)) (h 1 (lit< tt))
+face_passes f Vertical a b h = tests_of_two (Passes f) (subadditive_at Vertical a b 0) (subadditive_at Vertical a b 1)
+    (h 0 (lit< tt)) (h 1 (lit< tt))
+face_passes f Diagonal a b h = tests_of_two (Passes f) (subadditive_at Diagonal a b 0) (subadditive_at Diagonal a b 1)
+    (h 0 (lit< tt)) (h 1 (lit< tt))
+face_passes f Lower a b h = tests_of_three (Passes f) (subadditive_at Lower a b 0) (subadditive_at Lower a b 1)
+    (subadditive_at Lower a b 2) (h 0 (lit< tt)) (h 1 (lit< tt)) (h 2 (lit< tt))
+face_passes f Upper a b h = tests_of_three (Passes f) (subadditive_at Upper a b 0) (subadditive_at Upper a b 1)
+    (subadditive_at Upper a b 2) (h 0 (lit< tt)) (h 1 (lit< tt)) (h 2 (lit< tt))
 
 -- a face of the square with no negative limit passes
 pub face_in_square : (f : FunctionData) (s : Square) (kind : FaceKind) (a b : ℕ) → HasLimits s f a b →
@@ -98,10 +103,16 @@ IsNoVertex Lower = Unit {0}
 IsNoVertex Upper = Unit {0}
 
 pub first_at : (f : FunctionData) (kind : FaceKind) (a b c : ℕ) (x : Failure) →
-    x ≡ failure.Corner (record { kind = kind; a = a; b = b }) c → IsNoVertex kind → FailsAt f kind a b c → FailsFirst f x
+    x ≡ failure.Corner (record { kind = kind; a = a; b = b }) c → IsNoVertex kind → FailsAt f kind a b c →
+    FailsFirst f x
 first_at f Vertex a b c x is none h = absurd none
-first_at f Horizontal a b c x is none h = subst (FailsFirst f) (sym is) (record { test = h.test; before = h.before; fails = h.fails })
-first_at f Vertical a b c x is none h = subst (FailsFirst f) (sym is) (record { test = h.test; before = h.before; fails = h.fails })
-first_at f Diagonal a b c x is none h = subst (FailsFirst f) (sym is) (record { test = h.test; before = h.before; fails = h.fails })
-first_at f Lower a b c x is none h = subst (FailsFirst f) (sym is) (record { test = h.test; before = h.before; fails = h.fails })
-first_at f Upper a b c x is none h = subst (FailsFirst f) (sym is) (record { test = h.test; before = h.before; fails = h.fails })
+first_at f Horizontal a b c x is none h = subst (FailsFirst f) (sym is)
+    (record { test = h.test; before = h.before; fails = h.fails })
+first_at f Vertical a b c x is none h = subst (FailsFirst f) (sym is)
+    (record { test = h.test; before = h.before; fails = h.fails })
+first_at f Diagonal a b c x is none h = subst (FailsFirst f) (sym is)
+    (record { test = h.test; before = h.before; fails = h.fails })
+first_at f Lower a b c x is none h = subst (FailsFirst f) (sym is)
+    (record { test = h.test; before = h.before; fails = h.fails })
+first_at f Upper a b c x is none h = subst (FailsFirst f) (sym is)
+    (record { test = h.test; before = h.before; fails = h.fails })

@@ -43,23 +43,14 @@ least_from_quotient n limit total negative positive =
     let t = unsigned_abs total in
     let d = unsigned_abs limit in
     let some : 0 < unsigned_abs limit = omega (arith, ints) in
-    let steps : unsigned_abs total / unsigned_abs limit + 1 ≡ n + unsigned_abs total / unsigned_abs limit + 1 - n = omega arith in
+    let steps : unsigned_abs total / unsigned_abs limit + 1 ≡ n + unsigned_abs total / unsigned_abs limit + 1 - n
+    = omega arith in
     record {
       from = omega arith;
       holds = subst (λ (k : ℕ). (pos k *ℤ limit +ℤ total) <ℤ pos 0) steps
-      (negative_beyond (t / d + 1) limit total negative positive (quotient_beyond t d some));
+          (negative_beyond (t / d + 1) limit total negative positive (quotient_beyond t d some));
       least = λ k from below h.
           let few = quotient_within t d (k - n) (omega arith) in
           let many = beyond_negative (k - n) limit total negative positive h in
           omega arith;
-    }
-
-pub least_from_start : (n : ℕ) (limit total : ℤ) → total <ℤ pos 0 →
-    IsLeastFrom n (λ h. (pos (h - n) *ℤ limit +ℤ total) <ℤ pos 0) n
-least_from_start n limit total negative =
-    let steps : 0 ≡ n - n = omega arith in
-    record {
-      from = omega arith;
-      holds = subst (λ (k : ℕ). (pos k *ℤ limit +ℤ total) <ℤ pos 0) steps (omega (arith, ints));
-      least = λ k from below h. omega arith;
     }

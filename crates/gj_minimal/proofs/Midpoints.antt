@@ -13,7 +13,8 @@ midpoint f i =
 
 pub midpoints : (f : FunctionData) (i : ℕ) → i < f.order →
     table f 2 (2 * i + 1) +ℤ table f 2 (2 * (f.place + (f.order - i)) - 1)
-    ≡ at f.right i +ℤ at f.left (i + 1) +ℤ (at f.right (f.place + (f.order - (i + 1))) +ℤ at f.left (f.place + (f.order - i)))
+    ≡ at f.right i +ℤ at f.left (i + 1) +ℤ (at f.right (f.place + (f.order - (i + 1))) +ℤ at f.left
+    (f.place + (f.order - i)))
 midpoints f i below =
     let start = f.place + (f.order - (i + 1)) in
     let index : 2 * (f.place + (f.order - i)) - 1 ≡ 2 * (f.place + (f.order - (i + 1))) + 1 = omega arith in

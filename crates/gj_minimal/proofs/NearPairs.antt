@@ -31,7 +31,8 @@ as_many_coordinates Diagonal a b = (refl, refl)
 as_many_coordinates Lower a b = (refl, refl)
 as_many_coordinates Upper a b = (refl, refl)
 
-pub as_many_limits : (f : FunctionData) (kind : FaceKind) (a b : ℕ) → length (limits_of f kind a b) ≡ length (corners_of kind a b)
+pub as_many_limits : (f : FunctionData) (kind : FaceKind) (a b : ℕ) → length (limits_of f kind a b)
+    ≡ length (corners_of kind a b)
 as_many_limits f Vertex a b = refl
 as_many_limits f Horizontal a b = refl
 as_many_limits f Vertical a b = refl
@@ -78,9 +79,11 @@ corners_up_to Vertical a b q first second =
 corners_up_to Diagonal a b q first second =
     two_of (IsUpTo q) (a + 1, b) (a, b + 1) (omega arith, omega arith) (omega arith, omega arith)
 corners_up_to Lower a b q first second =
-    three_of (IsUpTo q) (a, b) (a + 1, b) (a, b + 1) (omega arith, omega arith) (omega arith, omega arith) (omega arith, omega arith)
+    three_of (IsUpTo q) (a, b) (a + 1, b) (a, b + 1) (omega arith, omega arith) (omega arith, omega arith)
+    (omega arith, omega arith)
 corners_up_to Upper a b q first second =
-    three_of (IsUpTo q) (a + 1, b) (a, b + 1) (a + 1, b + 1) (omega arith, omega arith) (omega arith, omega arith) (omega arith, omega arith)
+    three_of (IsUpTo q) (a + 1, b) (a, b + 1) (a + 1, b + 1) (omega arith, omega arith) (omega arith, omega arith)
+    (omega arith, omega arith)
 
 pub corner_up_to : (kind : FaceKind) (a b c q : ℕ) → a < q → b < q → c < length (corners_of kind a b) →
     IsUpTo q (get_or (corners_of kind a b) c (0, 0))
@@ -119,7 +122,8 @@ near_second h c kind a b =
 
 -- ---- the total of the limits
 
-pub total_more : (ns : List ℤ) (c : ℕ) → c < length ns → total (take (c + 1) ns) ≡ total (take c ns) +ℤ get_or ns c (pos 0)
+pub total_more : (ns : List ℤ) (c : ℕ) → c < length ns → total (take (c + 1) ns)
+    ≡ total (take c ns) +ℤ get_or ns c (pos 0)
 total_more [] c below = absurd (omega arith)
 total_more (n ∷ ns) zero below = omega (arith, ints)
 total_more (n ∷ ns) (suc c) below =
@@ -144,7 +148,8 @@ slack_by_below s t u v e below = omega (arith, ints)
 
 -- the slack near a corner is negative where k times it is
 superadditive_near : (f : FunctionData) (kind : FaceKind) (a b c k : ℕ) → IsWithinLimits f →
-    c < length (corners_of kind a b) → length (corners_of kind a b) ≤ k → near_value k c (limits_of f kind a b) <ℤ pos 0 →
+    c < length (corners_of kind a b) → length (corners_of kind a b) ≤ k →
+    near_value k c (limits_of f kind a b) <ℤ pos 0 →
     IsSuperadditiveOnGrid f k (near k c (first_coordinates kind a b)) (near k c (second_coordinates kind a b))
 superadditive_near f kind a b c k limits within fits negative =
     let i = near k c (first_coordinates kind a b) in
@@ -166,14 +171,19 @@ negative_near f kind a b c k limits within fits below =
 pub shows_pair : (f : FunctionData) (kind : FaceKind) (a b c h : ℕ) (limit total_limits : ℤ) (x y : Frac) →
     IsWithinLimits f → c < length (corners_of kind a b) → limit ≡ get_or (limits_of f kind a b) c (pos 0) →
     total_limits ≡ total (limits_of f kind a b) →
-    IsLeastFrom (length (corners_of kind a b)) (λ n. (pos (n - length (corners_of kind a b)) *ℤ limit +ℤ total_limits) <ℤ pos 0) h →
-    Is x (pos ((h - length (corners_of kind a b)) * (get_or (corners_of kind a b) c (0, 0)).0 + sum (first_coordinates kind a b))) (pos (f.order * h)) →
-    Is y (pos ((h - length (corners_of kind a b)) * (get_or (corners_of kind a b) c (0, 0)).1 + sum (second_coordinates kind a b))) (pos (f.order * h)) →
+    IsLeastFrom (length (corners_of kind a b))
+    (λ n. (pos (n - length (corners_of kind a b)) *ℤ limit +ℤ total_limits) <ℤ pos 0) h →
+    Is x (pos ((h - length (corners_of kind a b)) * (get_or (corners_of kind a b) c (0, 0)).0
+    + sum (first_coordinates kind a b))) (pos (f.order * h)) →
+    Is y (pos ((h - length (corners_of kind a b)) * (get_or (corners_of kind a b) c (0, 0)).1
+    + sum (second_coordinates kind a b))) (pos (f.order * h)) →
     ShowsNearCorner f kind a b c (violation.Superadditive x y)
 shows_pair f kind a b c h limit total_limits x y limits within limit_is total_is least first second =
     let m = length (corners_of kind a b) in
-    let value : (k : ℕ) → near_value k c (limits_of f kind a b) ≡ pos (k - length (corners_of kind a b)) *ℤ limit +ℤ total_limits = λ k.
-    ap (λ (n : ℕ). pos (k - n) *ℤ get_or (limits_of f kind a b) c (pos 0) +ℤ total (limits_of f kind a b)) (as_many_limits f kind a b)
+    let value : (k : ℕ) → near_value k c (limits_of f kind a b)
+    ≡ pos (k - length (corners_of kind a b)) *ℤ limit +ℤ total_limits = λ k.
+    ap (λ (n : ℕ). pos (k - n) *ℤ get_or (limits_of f kind a b) c (pos 0) +ℤ total (limits_of f kind a b))
+    (as_many_limits f kind a b)
     ∙ ap (λ z. pos (k - m) *ℤ z +ℤ total (limits_of f kind a b)) (sym limit_is)
     ∙ ap (λ z. pos (k - m) *ℤ limit +ℤ z) (sym total_is) in
     record {
@@ -181,9 +191,12 @@ shows_pair f kind a b c h limit total_limits x y limits within limit_is total_is
       x = x;
       y = y;
       least = least_along m (λ n. (pos (n - m) *ℤ limit +ℤ total_limits) <ℤ pos 0)
-          (λ n. IsSuperadditiveOnGrid f n (near n c (first_coordinates kind a b)) (near n c (second_coordinates kind a b))) h
-          (λ k fits negative. superadditive_near f kind a b c k limits within fits (subst (λ z. z <ℤ pos 0) (sym (value k)) negative))
-          (λ k fits negative. subst (λ z. z <ℤ pos 0) (value k) (negative_near f kind a b c k limits within fits negative))
+          (λ n. IsSuperadditiveOnGrid f n (near n c (first_coordinates kind a b))
+          (near n c (second_coordinates kind a b))) h
+          (λ k fits negative. superadditive_near f kind a b c k limits within fits
+          (subst (λ z. z <ℤ pos 0) (sym (value k)) negative))
+          (λ k fits negative. subst (λ z. z <ℤ pos 0) (value k)
+          (negative_near f kind a b c k limits within fits negative))
           least;
       first = subst (λ (n : ℕ). Is x (pos n) (pos (f.order * h))) (near_first h c kind a b) first;
       second = subst (λ (n : ℕ). Is y (pos n) (pos (f.order * h))) (near_second h c kind a b) second;
@@ -191,7 +204,8 @@ shows_pair f kind a b c h limit total_limits x y limits within limit_is total_is
     }
 
 -- the same from the numbers of the code
-pub pair_shown : (f : FunctionData) (kind : FaceKind) (a b c h n q i j sum_i sum_j : ℕ) (limit total_limits : ℤ) (x y : Frac) →
+pub pair_shown : (f : FunctionData) (kind : FaceKind) (a b c h n q i j sum_i sum_j : ℕ) (limit total_limits : ℤ)
+    (x y : Frac) →
     IsWithinLimits f → c < length (corners_of kind a b) → q ≡ f.order → n ≡ length (corners_of kind a b) →
     (i, j) ≡ get_or (corners_of kind a b) c (0, 0) → sum_i ≡ sum (first_coordinates kind a b) →
     sum_j ≡ sum (second_coordinates kind a b) → limit ≡ get_or (limits_of f kind a b) c (pos 0) →
@@ -199,14 +213,17 @@ pub pair_shown : (f : FunctionData) (kind : FaceKind) (a b c h n q i j sum_i sum
     IsLeastFrom n (λ m. (pos (m - n) *ℤ limit +ℤ total_limits) <ℤ pos 0) h →
     Is x (pos ((h - n) * i + sum_i)) (pos (q * h)) → Is y (pos ((h - n) * j + sum_j)) (pos (q * h)) →
     ShowsNearCorner f kind a b c (violation.Superadditive x y)
-pair_shown f kind a b c h n q i j sum_i sum_j limit total_limits x y limits within order many corner first_sum second_sum limit_is total_is least first second =
+pair_shown f kind a b c h n q i j sum_i sum_j limit total_limits x y limits within order many corner first_sum
+    second_sum limit_is total_is least first second =
     let m = length (corners_of kind a b) in
     let at_first : i ≡ (get_or (corners_of kind a b) c (0, 0)).0 = ap (λ (p : ℕ × ℕ). p.0) corner in
     let at_second : j ≡ (get_or (corners_of kind a b) c (0, 0)).1 = ap (λ (p : ℕ × ℕ). p.1) corner in
     let first_index : (h - n) * i + sum_i
-    ≡ (h - length (corners_of kind a b)) * (get_or (corners_of kind a b) c (0, 0)).0 + sum (first_coordinates kind a b) = cc in
+    ≡ (h - length (corners_of kind a b)) * (get_or (corners_of kind a b) c (0, 0)).0
+    + sum (first_coordinates kind a b) = cc in
     let second_index : (h - n) * j + sum_j
-    ≡ (h - length (corners_of kind a b)) * (get_or (corners_of kind a b) c (0, 0)).1 + sum (second_coordinates kind a b) = cc in
+    ≡ (h - length (corners_of kind a b)) * (get_or (corners_of kind a b) c (0, 0)).1
+    + sum (second_coordinates kind a b) = cc in
     shows_pair f kind a b c h limit total_limits x y limits within limit_is total_is
     (subst (λ (k : ℕ). IsLeastFrom k (λ m. (pos (m - k) *ℤ limit +ℤ total_limits) <ℤ pos 0) h) many least)
     (subst₂ (λ (k d : ℕ). Is x (pos k) (pos (d * h))) first_index order first)

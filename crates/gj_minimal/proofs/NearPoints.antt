@@ -36,25 +36,25 @@ fine_near_end q h total few small bounded =
 pub one_point : (f : FunctionData) (q h i : ℕ) (x : Frac) → q ≡ f.order → 0 < h → q * h ≤ 2 ^ 62 → i < q * h →
     Is x (pos i) (pos (q * h)) → (h : ℕ) × (0 < h) × (f.order * h ≤ 2 ^ 62) × IsGridPoint f h x
 one_point f q h i x order some fine below point = (
-    h,
-    some,
-    subst (λ (n : ℕ). n * h ≤ 2 ^ 62) order fine,
-    (i, subst (λ (n : ℕ). i < n * h) order below, subst (λ (n : ℕ). Is x (pos i) (pos (n * h))) order point),
-  )
+  h,
+  some,
+  subst (λ (n : ℕ). n * h ≤ 2 ^ 62) order fine,
+  (i, subst (λ (n : ℕ). i < n * h) order below, subst (λ (n : ℕ). Is x (pos i) (pos (n * h))) order point),
+)
 
 -- and two on one grid
 pub two_points : (f : FunctionData) (q h i j : ℕ) (x y : Frac) → q ≡ f.order → 0 < h → q * h ≤ 2 ^ 62 → i < q * h →
     j < q * h → Is x (pos i) (pos (q * h)) → Is y (pos j) (pos (q * h)) →
     (h : ℕ) × (0 < h) × (f.order * h ≤ 2 ^ 62) × (IsGridPoint f h x × IsGridPoint f h y)
 two_points f q h i j x y order some fine below_i below_j first second = (
-    h,
-    some,
-    subst (λ (n : ℕ). n * h ≤ 2 ^ 62) order fine,
-    (
-      (i, subst (λ (n : ℕ). i < n * h) order below_i, subst (λ (n : ℕ). Is x (pos i) (pos (n * h))) order first),
-      (j, subst (λ (n : ℕ). j < n * h) order below_j, subst (λ (n : ℕ). Is y (pos j) (pos (n * h))) order second),
-    ),
-  )
+  h,
+  some,
+  subst (λ (n : ℕ). n * h ≤ 2 ^ 62) order fine,
+  (
+    (i, subst (λ (n : ℕ). i < n * h) order below_i, subst (λ (n : ℕ). Is x (pos i) (pos (n * h))) order first),
+    (j, subst (λ (n : ℕ). j < n * h) order below_j, subst (λ (n : ℕ). Is y (pos j) (pos (n * h))) order second),
+  ),
+)
 
 -- near the start of an open interval
 after_index : (i h : ℕ) → 2 ≤ h → (h - 2) * i + (2 * i + 1) ≡ i * h + 1
@@ -68,14 +68,16 @@ pub shows_after : (f : FunctionData) (i h : ℕ) (limit total : ℤ) (x : Frac) 
     IsLeastFrom 2 (λ n. (pos (n - 2) *ℤ limit +ℤ total) <ℤ pos 0) h →
     Is x (pos ((h - 2) * i + (2 * i + 1))) (pos (f.order * h)) → Shows f (nonnegative_after i) (violation.Negative x)
 shows_after f i h limit total x limit_is total_is least point = (
-    h,
-    x,
-    least_along 2 (λ n. (pos (n - 2) *ℤ limit +ℤ total) <ℤ pos 0) (λ n. IsNegativeOnGrid f n (i * n + 1)) h
-    (λ k two negative. let value = near_after f i k two in let weighted = ap (λ z. pos (k - 2) *ℤ z) limit_is in omega (arith, ints))
-    (λ k two negative. let value = near_after f i k two in let weighted = ap (λ z. pos (k - 2) *ℤ z) limit_is in omega (arith, ints)) least,
-    subst (λ (n : ℕ). Is x (pos n) (pos (f.order * h))) (after_index i h least.from) point,
-    refl,
-  )
+  h,
+  x,
+  least_along 2 (λ n. (pos (n - 2) *ℤ limit +ℤ total) <ℤ pos 0) (λ n. IsNegativeOnGrid f n (i * n + 1)) h
+      (λ k two negative. let value = near_after f i k two in let weighted = ap (λ z. pos (k - 2) *ℤ z) limit_is in
+      omega (arith, ints))
+      (λ k two negative. let value = near_after f i k two in let weighted = ap (λ z. pos (k - 2) *ℤ z) limit_is in
+      omega (arith, ints)) least,
+  subst (λ (n : ℕ). Is x (pos n) (pos (f.order * h))) (after_index i h least.from) point,
+  refl,
+)
 
 -- near its end
 before_index : (i h : ℕ) → 2 ≤ h → (h - 2) * (i + 1) + (2 * i + 1) ≡ i * h + h - 1
@@ -87,13 +89,16 @@ before_index i h two =
 pub shows_before : (f : FunctionData) (i h : ℕ) (limit total : ℤ) (x : Frac) → limit ≡ at f.left (i + 1) →
     total ≡ at f.right i +ℤ at f.left (i + 1) →
     IsLeastFrom 2 (λ n. (pos (n - 2) *ℤ limit +ℤ total) <ℤ pos 0) h →
-    Is x (pos ((h - 2) * (i + 1) + (2 * i + 1))) (pos (f.order * h)) → Shows f (nonnegative_before i) (violation.Negative x)
+    Is x (pos ((h - 2) * (i + 1) + (2 * i + 1))) (pos (f.order * h)) →
+    Shows f (nonnegative_before i) (violation.Negative x)
 shows_before f i h limit total x limit_is total_is least point = (
-    h,
-    x,
-    least_along 2 (λ n. (pos (n - 2) *ℤ limit +ℤ total) <ℤ pos 0) (λ n. IsNegativeOnGrid f n (i * n + n - 1)) h
-    (λ k two negative. let value = near_before f i k two in let weighted = ap (λ z. pos (k - 2) *ℤ z) limit_is in omega (arith, ints))
-    (λ k two negative. let value = near_before f i k two in let weighted = ap (λ z. pos (k - 2) *ℤ z) limit_is in omega (arith, ints)) least,
-    subst (λ (n : ℕ). Is x (pos n) (pos (f.order * h))) (before_index i h least.from) point,
-    refl,
-  )
+  h,
+  x,
+  least_along 2 (λ n. (pos (n - 2) *ℤ limit +ℤ total) <ℤ pos 0) (λ n. IsNegativeOnGrid f n (i * n + n - 1)) h
+      (λ k two negative. let value = near_before f i k two in let weighted = ap (λ z. pos (k - 2) *ℤ z) limit_is in
+      omega (arith, ints))
+      (λ k two negative. let value = near_before f i k two in let weighted = ap (λ z. pos (k - 2) *ℤ z) limit_is in
+      omega (arith, ints)) least,
+  subst (λ (n : ℕ). Is x (pos n) (pos (f.order * h))) (before_index i h least.from) point,
+  refl,
+)

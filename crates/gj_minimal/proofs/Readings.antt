@@ -11,15 +11,6 @@ pub read_is : (xs : List ℤ) (i : ℕ) → i < length xs → FitsSigned w64 (ge
     to_z w64 (of_z w64 (get_or xs i (pos 0))) ≡ at xs i
 read_is xs i below fits = to_z-of_z w64 (get_or xs i (pos 0)) fits ∙ sym (at_below xs i below)
 
--- an entry that is found to be less than 0, or not
-pub negative_read : (xs : List ℤ) (i : ℕ) → i < length xs → FitsSigned w64 (get_or xs i (pos 0)) →
-    lt_z (to_z w64 (of_z w64 (get_or xs i (pos 0)))) (pos 0) ≡ true → at xs i <ℤ pos 0
-negative_read xs i below fits e = let same = read_is xs i below fits in grind (arith, ints)
-
-pub nonnegative_read : (xs : List ℤ) (i : ℕ) → i < length xs → FitsSigned w64 (get_or xs i (pos 0)) →
-    lt_z (to_z w64 (of_z w64 (get_or xs i (pos 0)))) (pos 0) ≡ false → pos 0 ≤ℤ at xs i
-nonnegative_read xs i below fits e = let same = read_is xs i below fits in grind (arith, ints)
-
 -- a number of 51 bits, as the code has it
 pub small_fits : (x : ℤ) → unsigned_abs x < 2 ^ 51 → to_z w64 (of_z w64 x) ≡ x
 small_fits x h = to_z-of_z w64 x (omega (arith, ints))
@@ -56,30 +47,14 @@ pub same_read : (x y s : ℤ) → unsigned_abs x < 2 ^ 51 → unsigned_abs y < 2
     of_z w64 (to_z w64 (of_z w64 x) +ℤ to_z w64 (of_z w64 y)) ≡ of_z w64 s → x +ℤ y ≡ s
 same_read x y s h k fits e = sym (sum_read x y h k) ∙ ap (to_z w64) e ∙ to_z-of_z w64 s fits
 
-pub apart_read : (x y s : ℤ) → unsigned_abs x < 2 ^ 51 → unsigned_abs y < 2 ^ 51 →
-    (of_z w64 (to_z w64 (of_z w64 x) +ℤ to_z w64 (of_z w64 y)) ≡ of_z w64 s → ⊥) → x +ℤ y ≢ s
-apart_read x y s h k apart e =
-    let first = small_fits x h in
-    let second = small_fits y k in
-    apart (rw (first, second) (ap (of_z w64) e))
-
--- the entry at an index that is read modulo the length
-pub at_is : (xs : List ℤ) (i j : ℕ) → i ≡ j % length xs → at xs j ≡ get_or xs i (pos 0)
-unfolding at
-at_is xs i j e = ap (λ k. get_or xs k (pos 0)) (sym e)
-
--- a number that was cast from 128 bits
-pub cast_read : (z : ℤ) (n : ℕ) → z ≡ pos n → n < 2 ^ 31 → to_z w64 (of_z w64 (to_z w128 (of_z w128 z))) ≡ pos n
-cast_read z n e small = omega (arith, ints)
-
 -- ---- tests of equality
 
 -- whether a number of 64 bits is another
 pub same_bits : (x s : ℤ) → FitsSigned w64 x → FitsSigned w64 s → IsTrue (eqb (of_z w64 x) (of_z w64 s)) ↔ (x ≡ s)
 same_bits x s fits s_fits = (
-    λ e. sym (to_z-of_z w64 x fits) ∙ ap (to_z w64) (eqb-true (of_z w64 x) (of_z w64 s) e) ∙ to_z-of_z w64 s s_fits,
-    λ e. eq-eqb (of_z w64 x) (of_z w64 s) (ap (of_z w64) e),
-  )
+  λ e. sym (to_z-of_z w64 x fits) ∙ ap (to_z w64) (eqb-true (of_z w64 x) (of_z w64 s) e) ∙ to_z-of_z w64 s s_fits,
+  λ e. eq-eqb (of_z w64 x) (of_z w64 s) (ap (of_z w64) e),
+)
 
 -- whether the sum of two numbers is a third
 pub sum_bits : (x y s : ℤ) → unsigned_abs x < 2 ^ 51 → unsigned_abs y < 2 ^ 51 → FitsSigned w64 s →
@@ -93,7 +68,8 @@ sum_bits x y s h k fits =
 pub double_bits : (x y u v s : ℤ) → unsigned_abs x < 2 ^ 51 → unsigned_abs y < 2 ^ 51 → unsigned_abs u < 2 ^ 51 →
     unsigned_abs v < 2 ^ 51 → unsigned_abs s < 2 ^ 51 →
     IsTrue (eqb (of_z w64 (to_z w64 (of_z w64 (to_z w64 (of_z w64 x) +ℤ to_z w64 (of_z w64 y)))
-    +ℤ to_z w64 (of_z w64 (to_z w64 (of_z w64 u) +ℤ to_z w64 (of_z w64 v))))) (of_z w64 (pos 2 *ℤ to_z w64 (of_z w64 s))))
+    +ℤ to_z w64 (of_z w64 (to_z w64 (of_z w64 u) +ℤ to_z w64 (of_z w64 v)))))
+    (of_z w64 (pos 2 *ℤ to_z w64 (of_z w64 s))))
     ↔ (x +ℤ y +ℤ (u +ℤ v) ≡ pos 2 *ℤ s)
 double_bits x y u v s hx hy hu hv hs =
     let first = sum_read x y hx hy in

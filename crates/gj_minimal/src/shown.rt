@@ -1,17 +1,18 @@
 //! The violation that a failed test shows.
-ghost use Rattle.std.specs.Prelude.{ℕ, ℤ, pos, ◌≡◌, ◌<◌, ◌*◌, ◌<ℤ◌, length, sum, get_or, unsigned_abs, ◌^◌, ◌+◌, ◌↔◌, IsTrue};
+ghost use Rattle.std.specs.Prelude.{ℕ, ℤ, pos, ◌≡◌, ◌<◌, ◌*◌, ◌<ℤ◌, length, sum, get_or, unsigned_abs, ◌^◌, ◌+◌};
 ghost use Rattle.gj_shape.specs.FunctionData.{at};
 ghost use Rattle.gj_shape.specs.Faces.{corners_of, limits_of};
-ghost use Rattle.gj_shape.specs.FirstViolation.{Shows, ShowsNearCorner, MidpointsAgree, first_coordinates, second_coordinates};
+ghost use Rattle.gj_shape.specs.FirstViolation.{Shows, ShowsNearCorner, first_coordinates, second_coordinates};
 ghost use Rattle.gj_shape.specs.FirstViolation.Test.{nonnegative_after, nonnegative_before, symmetric_between};
 ghost use Rattle.gj_complex.specs.Squares.{limits_in};
 ghost use Rattle.gj_theory.specs.Before.{PassesSymmetry};
 ghost use Rattle.gj_theory.specs.NearCorners.{total};
 ghost use Rattle.gj_minimal.specs.Failures.{FailsFirst, test_of, HasGridPoints};
 
-use crate::entries::{left_at, right_at, scale};
+use crate::entries::{left_at, right_at};
 use crate::failures::Failure;
 use crate::points::{grid_point, least_denominator, point_near};
+use crate::symmetry::midpoints_agree;
 use gj_complex::{Square, corner, corners};
 use gj_frac::Frac;
 use gj_shape::{Face, FaceKind, Shape, Violation};
@@ -78,18 +79,6 @@ fn point_between(shape: &Shape, i: u32) -> Frac
     }
 }
 
-/// Whether the values at (i + 1/2)/q and at f less that add up to 1.
-fn midpoints_agree(shape: &Shape, i: u32) -> bool
-    requires { i < shape.now.order }
-    ensures { IsTrue result ↔ MidpointsAgree shape.now i }
-{
-    let opposite_end = shape.place() + (shape.order() - i);
-    let opposite_start = shape.place() + (shape.order() - (i + 1));
-    let double = right_at(shape, i) + left_at(shape, i + 1);
-    let opposite_double = right_at(shape, opposite_start) + left_at(shape, opposite_end);
-    double + opposite_double == 2 * scale(shape)
-}
-
 /// The pair of points near a corner of the face where the slack is negative, as its limit at the corner is.
 fn pair_near(shape: &Shape, face: Face, at_corner: u32) -> (Frac, Frac)
     requires first { face.a < shape.now.order }
@@ -97,7 +86,8 @@ fn pair_near(shape: &Shape, face: Face, at_corner: u32) -> (Frac, Frac)
     requires corner { at_corner < length (corners_of face.kind face.a face.b) }
     requires symmetry { PassesSymmetry shape.now }
     requires negative { get_or (limits_of shape.now face.kind face.a face.b) at_corner (pos 0) <ℤ pos 0 }
-    ensures shows { ShowsNearCorner shape.now face.kind face.a face.b at_corner (Violation.Superadditive result.0 result.1) }
+    ensures shows { ShowsNearCorner shape.now face.kind face.a face.b at_corner
+        (Violation.Superadditive result.0 result.1) }
     ensures points { HasGridPoints shape.now (Violation.Superadditive result.0 result.1) }
 {
     let order = shape.order();

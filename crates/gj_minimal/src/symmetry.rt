@@ -1,6 +1,6 @@
 //! The tests of symmetry.
 ghost use Rattle.std.specs.Prelude.{◌<◌, ◌↔◌, IsTrue, IfSome, IfNone};
-ghost use Rattle.gj_shape.specs.FirstViolation.{Passes};
+ghost use Rattle.gj_shape.specs.FirstViolation.{Passes, MidpointsAgree};
 ghost use Rattle.gj_shape.specs.FirstViolation.Test.{symmetric_at, symmetric_between};
 ghost use Rattle.gj_theory.specs.Before.{PassesSigns, PassesMirrors, PassesSymmetry};
 ghost use Rattle.gj_minimal.specs.Failures.{FailsFirst};
@@ -55,4 +55,16 @@ fn is_interval_mirrored(shape: &Shape, i: u32) -> bool
     let opposite_start = shape.place() + (shape.order() - (i + 1));
     right_at(shape, i) + left_at(shape, opposite_end) == scale(shape)
         && left_at(shape, i + 1) + right_at(shape, opposite_start) == scale(shape)
+}
+
+/// Whether the values at (i + 1/2)/q and at f less that add up to 1.
+pub(crate) fn midpoints_agree(shape: &Shape, i: u32) -> bool
+    requires { i < shape.now.order }
+    ensures { IsTrue result ↔ MidpointsAgree shape.now i }
+{
+    let opposite_end = shape.place() + (shape.order() - i);
+    let opposite_start = shape.place() + (shape.order() - (i + 1));
+    let double = right_at(shape, i) + left_at(shape, i + 1);
+    let opposite_double = right_at(shape, opposite_start) + left_at(shape, opposite_end);
+    double + opposite_double == 2 * scale(shape)
 }

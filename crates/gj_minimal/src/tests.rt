@@ -1,4 +1,6 @@
 //! Small functions with the first violation by hand, and a slow search by the definition.
+mod slow;
+
 use crate::find_violation;
 use gj_frac::Frac;
 use gj_shape::{Shape, Violation};
@@ -70,7 +72,12 @@ fn order_six(rt: HostRuntime) -> Result<(), Fail> {
     let three_quarters = fraction(3, 4)?;
     let five_sixths = fraction(5, 6)?;
 
-    let minimal = continuous(&rt, 6, 3, &[zero, two_thirds, third, one, third, two_thirds])?;
+    let minimal = continuous(
+        &rt,
+        6,
+        3,
+        &[zero, two_thirds, third, one, third, two_thirds],
+    )?;
     assert_eq!(rt; minimal, None);
     let superadditive = continuous(&rt, 6, 3, &[zero, half, half, one, three_quarters, quarter])?;
     assert_eq!(rt;
@@ -102,5 +109,26 @@ fn jumps(rt: HostRuntime) -> Result<(), Fail> {
     assert_eq!(rt; negative, Some(Violation::Negative(fraction(1, 8)?)));
     let minimal = violation_of(&rt, 2, 1, &[half, half], &[zero, one], &[half, half])?;
     assert_eq!(rt; minimal, None);
+    Ok(())
+}
+
+/// The search agrees with the slow one on functions of order 3 with f = 2/3 and limits from -1/4 to 5/4, most of them
+/// symmetric.
+#[test]
+fn agrees_with_the_definition(rt: HostRuntime) -> Result<(), Fail> {
+    let (zero, half, one) = (fraction(0, 1)?, fraction(1, 2)?, fraction(1, 1)?);
+    let quarters = [-1, 0, 1, 2, 5];
+    let mut some_minimal = false;
+    for n in 0usize..125 {
+        let (x, y, z) = (quarters[n % 5], quarters[n / 5 % 5], quarters[n / 25 % 5]);
+        let parts = if n % 10 == 0 { 5 } else { 4 };
+        let left = [fraction(4 - z, 4)?, fraction(y, 4)?, fraction(4 - x, 4)?];
+        let right = [fraction(x, 4)?, fraction(4 - y, parts)?, fraction(z, 4)?];
+        let shape = Shape::new(rt.alloc(), 3, 2, &left, &[zero, half, one], &right)?;
+        let found = find_violation(&shape);
+        assert_eq!(rt; found, slow::first_violation(&shape)?);
+        some_minimal |= found.is_none();
+    }
+    assert!(rt; some_minimal);
     Ok(())
 }

@@ -2,9 +2,6 @@ use Rattle.gj_shape.specs.declared.faces.FaceKind.TheVariants.{Horizontal, Verti
 use Rattle.gj_minimal.proofs.FailedFaces.{IsReached, face_in_square, fails_at, first_at}
 use Rattle.gj_minimal.proofs.faces.failed_in_square.Goals as goal
 
-pub of-square-requires-clause-bogus : goal.of-square-requires-clause-bogus
-of-square-requires-clause-bogus c = ?
-
 pub returns-in-Some-clause-found : goal.returns-in-Some-clause-found
 returns-in-Some-clause-found c =
     let f = c.args.shape.now in
@@ -36,7 +33,8 @@ returns-in-Some-first_negative-clause-found c =
     let horizontal = face_in_square f s Horizontal a b has c.in_default.ensures.none in
     first_at f Vertical a b c.in-Some-first_negative.corner c.corner_of-in-Some-first_negative.result
     c.corner_of-in-Some-first_negative.ensures tt
-    (fails_at f s Vertical a b c.in-Some-first_negative.corner reached horizontal c.in-Some-first_negative.ensures.found)
+    (fails_at f s Vertical a b c.in-Some-first_negative.corner reached horizontal
+    c.in-Some-first_negative.ensures.found)
 
 pub returns-in-Some-first_negative-2-clause-found :
     goal.returns-in-Some-first_negative-2-clause-found
@@ -57,7 +55,8 @@ returns-in-Some-first_negative-2-clause-found c =
     let vertical = face_in_square f s Vertical a b has c.in_default-first_negative.ensures.none in
     first_at f Diagonal a b c.in-Some-first_negative-2.corner c.corner_of-in-Some-first_negative-2.result
     c.corner_of-in-Some-first_negative-2.ensures tt
-    (fails_at f s Diagonal a b c.in-Some-first_negative-2.corner reached (horizontal, vertical) c.in-Some-first_negative-2.ensures.found)
+    (fails_at f s Diagonal a b c.in-Some-first_negative-2.corner reached (horizontal, vertical)
+    c.in-Some-first_negative-2.ensures.found)
 
 pub returns-in-Some-first_negative-3-clause-found :
     goal.returns-in-Some-first_negative-3-clause-found
@@ -79,7 +78,8 @@ returns-in-Some-first_negative-3-clause-found c =
     let diagonal = face_in_square f s Diagonal a b has c.in_default-first_negative-2.ensures.none in
     first_at f Lower a b c.in-Some-first_negative-3.corner c.corner_of-in-Some-first_negative-3.result
     c.corner_of-in-Some-first_negative-3.ensures tt
-    (fails_at f s Lower a b c.in-Some-first_negative-3.corner reached (horizontal, vertical, diagonal) c.in-Some-first_negative-3.ensures.found)
+    (fails_at f s Lower a b c.in-Some-first_negative-3.corner reached (horizontal, vertical, diagonal)
+    c.in-Some-first_negative-3.ensures.found)
 
 pub returns-in-Some-first_negative-4-clause-found :
     goal.returns-in-Some-first_negative-4-clause-found
@@ -102,7 +102,8 @@ returns-in-Some-first_negative-4-clause-found c =
     let lower = face_in_square f s Lower a b has c.in_default-first_negative-3.ensures.none in
     first_at f Upper a b c.in-Some-first_negative-4.corner c.corner_of-in-Some-first_negative-4.result
     c.corner_of-in-Some-first_negative-4.ensures tt
-    (fails_at f s Upper a b c.in-Some-first_negative-4.corner reached (horizontal, vertical, diagonal, lower) c.in-Some-first_negative-4.ensures.found)
+    (fails_at f s Upper a b c.in-Some-first_negative-4.corner reached (horizontal, vertical, diagonal, lower)
+    c.in-Some-first_negative-4.ensures.found)
 
 pub returns-clause-none : goal.returns-clause-none
 returns-clause-none c =

@@ -13,12 +13,14 @@ returns-in_err-failure-clause-minimal c =
 pub returns-clause-first : goal.returns-clause-first
 returns-clause-first c =
     let found = c.in_ok-failure.ensures.found in
-    first_failed c.args.shape.now (test_of c.in_ok-failure.failure) c.shown.result found.test found.before found.fails c.shown.ensures.shows
+    first_failed c.args.shape.now (test_of c.in_ok-failure.failure) c.shown.result found.test found.before found.fails
+    c.shown.ensures.shows
 
 pub returns-clause-shown : goal.returns-clause-shown
 returns-clause-shown c =
     let found = c.in_ok-failure.ensures.found in
-    let first = first_failed c.args.shape.now (test_of c.in_ok-failure.failure) c.shown.result found.test found.before found.fails c.shown.ensures.shows in
+    let first = first_failed c.args.shape.now (test_of c.in_ok-failure.failure) c.shown.result found.test found.before
+    found.fails c.shown.ensures.shows in
     first_shown c.args.shape.now c.shown.result c.first_failure.ensures.limits first
 
 pub returns-clause-only : goal.returns-clause-only
@@ -26,5 +28,6 @@ returns-clause-only c =
     let f = c.args.shape.now in
     let limits = c.first_failure.ensures.limits in
     let found = c.in_ok-failure.ensures.found in
-    let first = first_failed f (test_of c.in_ok-failure.failure) c.shown.result found.test found.before found.fails c.shown.ensures.shows in
+    let first = first_failed f (test_of c.in_ok-failure.failure) c.shown.result found.test found.before found.fails
+    c.shown.ensures.shows in
     λ minimal. absurd (violation_denies f c.shown.result limits (first_shown f c.shown.result limits first) minimal)

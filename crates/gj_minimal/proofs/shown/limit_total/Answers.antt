@@ -1,13 +1,8 @@
-use Rattle.std.proofs.Common.{◌≡◌, ◌<◌, ◌≤◌, pos, ◌+ℤ◌, length, get_or, take, ap₂, ap, sym, ◌∙◌, w64, to_z, of_z, arith}
+use Rattle.std.proofs.Common.{◌≡◌, ◌<◌, ◌≤◌, ◌+ℤ◌, length, ap₂, sym, ◌∙◌, w64, to_z, of_z, arith}
 use Rattle.std.proofs.lemmas.Int.{ints, to_z-of_z}
 use Rattle.gj_complex.specs.Squares.{limits_in}
-use Rattle.gj_shape.specs.Faces.{corners_of}
-use Rattle.gj_theory.specs.NearCorners.{total}
 use Rattle.gj_minimal.proofs.NearPairs.{as_many_limits_in, some_corners, total_more}
 use Rattle.gj_minimal.proofs.shown.limit_total.Goals as goal
-
-pub limit-total-requires-clause-bogus : goal.limit-total-requires-clause-bogus
-limit-total-requires-clause-bogus c = ?
 
 pub loop-corner-preserved : goal.loop-corner-preserved
 loop-corner-preserved c =
@@ -25,6 +20,7 @@ loop-corner-preserved c =
     ≡ to_z w64 c.loop-corner.total-bits +ℤ c.limit-total.result =
     rw limit_is (to_z-of_z w64 (so_far +ℤ c.limit-total.result) (omega (arith, ints))) in
     record {
-      so_far = whole ∙ ap₂ (λ x y. x +ℤ y) c.loop-corner.invariant.so_far c.limit-total.ensures.value ∙ sym (total_more limits corner below);
+      so_far = whole ∙ ap₂ (λ x y. x +ℤ y) c.loop-corner.invariant.so_far c.limit-total.ensures.value
+          ∙ sym (total_more limits corner below);
       fits = rw whole (omega (arith, ints));
     }

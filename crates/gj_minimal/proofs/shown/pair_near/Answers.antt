@@ -8,14 +8,8 @@ use Rattle.gj_minimal.proofs.NearPairs.{some_corners, corner_up_to, sums_below, 
 use Rattle.gj_minimal.proofs.EntryBounds.{fine_near_corner}
 use Rattle.gj_minimal.proofs.shown.pair_near.Goals as goal
 
-pub of-square-requires-clause-bogus : goal.of-square-requires-clause-bogus
-of-square-requires-clause-bogus c = ?
-
-pub limit-limit-requires-clause-bogus : goal.limit-limit-requires-clause-bogus
-limit-limit-requires-clause-bogus c = ?
-
-pub limit-limit-requires-clause-corner : goal.limit-limit-requires-clause-corner
-limit-limit-requires-clause-corner c =
+pub limit-limit-requires : goal.limit-limit-requires
+limit-limit-requires c =
     let many = same_corners c.args.face.kind c.args.face.a c.args.face.b in
     let within = c.requires.corner in
     omega arith

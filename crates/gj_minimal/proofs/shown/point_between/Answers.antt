@@ -9,7 +9,8 @@ returns-then-midpoints_agree-clause-shows c =
       refl,
       inr (
         c.if-midpoints_agree.ensures.0 refl,
-        subst₂ (λ (n q : ℕ). Is x (pos (4 * n + 1)) (pos (q * 4))) c.from-index.ensures c.order.ensures.value c.grid_point.ensures,
+        subst₂ (λ (n q : ℕ). Is x (pos (4 * n + 1)) (pos (q * 4))) c.from-index.ensures c.order.ensures.value
+            c.grid_point.ensures,
       ),
     )
 
@@ -21,6 +22,6 @@ returns-else-midpoints_agree-clause-shows c =
       inl (
         λ agree. let e = c.if-midpoints_agree.ensures.1 agree in cc,
         subst₂ (λ (n q : ℕ). Is x (pos (2 * n + 1)) (pos (q * 2))) c.from-index.ensures
-        c.order-else-midpoints_agree.ensures.value c.grid_point-else-midpoints_agree.ensures,
+            c.order-else-midpoints_agree.ensures.value c.grid_point-else-midpoints_agree.ensures,
       ),
     )

@@ -29,7 +29,8 @@ returns-in-Mirror-clause-shows c =
     let x = c.grid_point-in-Mirror.result in
     subst (λ failure. Shows f (test_of failure) (violation.Asymmetric x)) (sym c.in-Mirror.is) (
       x,
-      subst₂ (λ (n q : ℕ). Is x (pos n) (pos (q * 1))) c.from-in-Mirror.ensures c.order-order.ensures.value c.grid_point-in-Mirror.ensures,
+      subst₂ (λ (n q : ℕ). Is x (pos n) (pos (q * 1))) c.from-in-Mirror.ensures c.order-order.ensures.value
+          c.grid_point-in-Mirror.ensures,
       refl,
     )
 

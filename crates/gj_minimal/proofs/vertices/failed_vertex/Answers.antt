@@ -14,7 +14,8 @@ returns-in-Some-clause-found c =
 
 pub loop-a-preserved : goal.loop-a-preserved
 loop-a-preserved c =
-    below_more (IsSubadditiveRow c.value_numerators-values.result.now) c.loop-a.a c.loop-a.invariant c.in_default.ensures.none
+    below_more (IsSubadditiveRow c.value_numerators-values.result.now) c.loop-a.a c.loop-a.invariant
+    c.in_default.ensures.none
 
 pub returns-clause-none : goal.returns-clause-none
 returns-clause-none c =

@@ -11,8 +11,14 @@ returns-then-term-other-clause-found c =
     let other = get_or c.args.terms.now i (pos 0) in
     let total = get_or c.args.sums.now i (pos 0) in
     let fits : FitsSigned w64 (get_or c.args.sums.now c.loop-i.i (pos 0)) = search rules in
-    let less = below_read c.args.term other total c.requires.small (c.requires.all_small i (pos 0) (omega arith)) fits c.if-term-other.true in
-    record { within = omega arith; fails = λ kept. omega (arith, ints, kept, less); before = simp term at c.loop-i.invariant }
+    let less = below_read c.args.term other total c.requires.small (c.requires.all_small i (pos 0) (omega arith)) fits
+    c.if-term-other.true in
+    record {
+      within = omega arith;
+      fails = λ kept. omega (arith, ints, kept, less);
+      before = simp term at
+          c.loop-i.invariant;
+    }
 
 pub loop-i-preserved : goal.loop-i-preserved
 loop-i-preserved c =
@@ -23,4 +29,5 @@ loop-i-preserved c =
     let fits : FitsSigned w64 (get_or c.args.sums.now c.loop-i.i (pos 0)) = search rules in
     simp term
     (below_more (IsWithin c.args.term c.args.terms.now c.args.sums.now) i (simp term at c.loop-i.invariant)
-    (not_below_read c.args.term other total c.requires.small (c.requires.all_small i (pos 0) (omega arith)) fits c.if-term-other.false))
+    (not_below_read c.args.term other total c.requires.small (c.requires.all_small i (pos 0) (omega arith)) fits
+    c.if-term-other.false))
