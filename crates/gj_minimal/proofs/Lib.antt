@@ -1,3 +1,10 @@
-pub mod Entries
-pub mod Found
+pub mod Theory
+pub mod Readings
 pub mod RowHalves
+pub mod LeastDenominators
+pub mod FailedVertices
+pub mod FailedFaces
+pub mod NearPoints
+pub mod NearPairs
+pub mod EntryBounds
+pub mod Midpoints

@@ -44,11 +44,13 @@ back_length xs a m t front back low high s =
     let whole = s.whole in ap length s.back_is ∙ length-drop m xs ∙ omega arith
 
 -- in the first half
-front_entry : (xs : List ℤ) (m b : ℕ) (front : List ℤ) → m ≤ length xs → b < m → front ≡ take m xs → get_or front b (pos 0) ≡ at xs b
+front_entry : (xs : List ℤ) (m b : ℕ) (front : List ℤ) → m ≤ length xs → b < m → front ≡ take m xs →
+    get_or front b (pos 0) ≡ at xs b
 front_entry xs m b front fits below e =
     ap (λ l. get_or l b (pos 0)) e ∙ get_or-take m xs b (pos 0) below ∙ sym (at_below xs b (omega arith))
 
-high_entry : (xs : List ℤ) (a b : ℕ) (high : List ℤ) → a + b < length xs → high ≡ drop a xs → get_or high b (pos 0) ≡ at xs (a + b)
+high_entry : (xs : List ℤ) (a b : ℕ) (high : List ℤ) → a + b < length xs → high ≡ drop a xs → get_or high b (pos 0)
+    ≡ at xs (a + b)
 high_entry xs a b high below e =
     ap (λ l. get_or l b (pos 0)) e ∙ get_or-drop a xs b (pos 0) ∙ sym (at_below xs (a + b) below)
 
@@ -122,7 +124,8 @@ pub both_hold : (xs : List ℤ) (a m c : ℕ) (t : ℤ) (front back low high : L
 both_hold xs a m c t front back low high s c_fits f g j j_below =
     ⊎_elim (λ below. front_holds xs a m j t front back low high s below (f j below))
     (λ above. let split : m + (j - m) ≡ j = omega arith in
-    subst (IsSubadditiveAt xs a) split (back_holds xs a m (j - m) t front back low high s (omega arith) (g (j - m) (omega arith))))
+    subst (IsSubadditiveAt xs a) split (back_holds xs a m (j - m) t front back low high s (omega arith)
+    (g (j - m) (omega arith))))
     (cases_lt j m)
 
 -- the first failure in the second half is the row's, where the first half passes
@@ -149,4 +152,5 @@ row_holds xs a m t front back low high s h k j j_below =
     let whole = s.whole in
     let len = front_length xs a m t front back low high s in
     let back_len = back_length xs a m t front back low high s in
-    both_hold xs a m a t front back low high s (omega arith) (λ i i_below. h i (omega arith)) (λ i i_below. k i (omega arith)) j (omega arith)
+    both_hold xs a m a t front back low high s (omega arith) (λ i i_below. h i (omega arith))
+    (λ i i_below. k i (omega arith)) j (omega arith)

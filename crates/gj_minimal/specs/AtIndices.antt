@@ -1,20 +1,12 @@
 -- What is asked of a list of numerators at its indices (own).
-use Rattle.std.specs.Prelude.{ℕ, ℤ, pos, ◌≡◌, ◌+◌, ◌-◌, ◌<◌, ◌^◌, ◌+ℤ◌, ◌≤ℤ◌, List, length, get_or, All, unsigned_abs}
+use Rattle.std.specs.Prelude.{ℕ, ℤ, pos, ◌+◌, ◌<◌, ◌^◌, ◌+ℤ◌, ◌≤ℤ◌, List, length, get_or, All, unsigned_abs}
 use Rattle.gj_shape.specs.FunctionData.{at}
 use Rattle.gj_shape.specs.Faces.{slack_from}
-use Rattle.gj_minimal.specs.FirstFailure.{IsFirstFailure, HoldsBelow}
+use Rattle.gj_minimal.specs.FirstFailure.{HoldsBelow}
 
 -- sums of a few of the entries fit 64 bits
 abbrev pub FitSums : List ℤ → Type 0
 FitSums xs = All (λ n. unsigned_abs n < 2 ^ 51) xs
-
--- the entry is not negative
-abbrev pub IsNonnegativeAt : List ℤ → ℕ → Type 0
-IsNonnegativeAt xs i = pos 0 ≤ℤ at xs i
-
--- the entries at i and at the place less i add up to the scale
-abbrev pub IsSymmetricAt : List ℤ → ℕ → ℤ → ℕ → Type 0
-IsSymmetricAt xs place scale i = at xs i +ℤ at xs (place + (length xs - i)) ≡ scale
 
 -- the slack at a and b is not negative
 abbrev pub IsSubadditiveAt : List ℤ → ℕ → ℕ → Type 0
@@ -27,9 +19,3 @@ IsWithin term terms sums i = get_or sums i (pos 0) ≤ℤ (term +ℤ get_or term
 -- no slack of row a is negative
 abbrev pub IsSubadditiveRow : List ℤ → ℕ → Type 0
 IsSubadditiveRow xs a = HoldsBelow (IsSubadditiveAt xs a) (length xs)
-
--- the pair is the first with a negative slack, row by row
-pub record IsFirstPair (xs : List ℤ) (a b : ℕ) : Type 0 where
-  pub within : a < length xs
-  pub rows : HoldsBelow (IsSubadditiveRow xs) a
-  pub row : IsFirstFailure (IsSubadditiveAt xs a) (length xs) b

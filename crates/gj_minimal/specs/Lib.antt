@@ -1,2 +1,3 @@
 pub mod FirstFailure
 pub mod AtIndices
+pub mod Failures

@@ -1,10 +1,16 @@
 //! The violation search: why a function is not minimal.
 #![tactic(auto)]
 
+mod entries;
+mod faces;
+mod failures;
 mod points;
+mod search;
+mod shown;
+mod signs;
+mod symmetry;
 #[cfg(test)]
 mod tests;
-mod violation_search;
-mod walks;
+mod vertices;
 
-pub use violation_search::find_violation;
+pub use search::find_violation;

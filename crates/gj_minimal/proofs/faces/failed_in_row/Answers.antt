@@ -1,0 +1,13 @@
+use Rattle.std.proofs.Common.{below_more}
+use Rattle.gj_theory.specs.Before.{PassesSquare}
+use Rattle.gj_minimal.proofs.faces.failed_in_row.Goals as goal
+
+pub failed_in_square-requires-clause-squares : goal.failed_in_square-requires-clause-squares
+failed_in_square-requires-clause-squares c = record {
+  rows = λ i j i_below j_below. c.requires.rows i i_below j j_below;
+  row = c.loop-b.invariant;
+}
+
+pub loop-b-preserved : goal.loop-b-preserved
+loop-b-preserved c =
+    below_more (PassesSquare c.args.shape.now c.args.a) c.loop-b.b c.loop-b.invariant c.in_default.ensures.none

@@ -1,6 +1,0 @@
-use Rattle.gj_minimal.specs.FirstFailure.{HoldsBelow}
-use Rattle.gj_minimal.specs.AtIndices.{IsSubadditiveRow}
-use Rattle.gj_minimal.proofs.walks.first_superadditive.Given as goal
-
-abbrev pub invariant-loop-a : goal.invariant-loop-a
-invariant-loop-a l = HoldsBelow (IsSubadditiveRow l.values) l.a

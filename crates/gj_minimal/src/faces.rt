@@ -1,0 +1,88 @@
+//! The tests of the slack on the faces that are no vertices.
+ghost use Rattle.std.specs.Prelude.{ℕ, ◌≡◌, ◌<◌, length, IfSome, IfNone};
+ghost use Rattle.gj_shape.specs.Faces.{corners_of};
+ghost use Rattle.gj_theory.specs.Before.{PassesVertices, PassesSquare, HoldsBefore};
+ghost use Rattle.gj_minimal.specs.FirstFailure.{IsFirstFailure, HoldsBelow};
+ghost use Rattle.gj_minimal.specs.Failures.{FailsFirst, PassesRow, IsNonnegativeIn};
+
+use crate::failures::Failure;
+use gj_complex::{Square, corners};
+use gj_shape::{Face, FaceKind, Shape};
+
+/// The first failed test of the slack on the faces that are no vertices, square by square.
+pub(crate) fn failed_face(shape: &Shape) -> Option<Failure>
+    requires { PassesVertices shape.now }
+    ensures found { IfSome result (FailsFirst shape.now) }
+    ensures none { IfNone result (HoldsBelow (PassesRow shape.now) shape.now.order) }
+{
+    for a in 0..shape.order() {
+        if let Some(failure) = failed_in_row(shape, a) {
+            return Some(failure);
+        }
+    }
+    None
+}
+
+/// The first failed test in the squares of row a.
+fn failed_in_row(shape: &Shape, a: u32) -> Option<Failure>
+    requires within { a < shape.now.order }
+    requires vertices { PassesVertices shape.now }
+    requires rows { HoldsBelow (PassesRow shape.now) a }
+    ensures found { IfSome result (FailsFirst shape.now) }
+    ensures none { IfNone result (PassesRow shape.now a) }
+{
+    for b in 0..shape.order() {
+        if let Some(failure) = failed_in_square(shape, a, b) {
+            return Some(failure);
+        }
+    }
+    None
+}
+
+/// The first failed test in the square (a, b).
+fn failed_in_square(shape: &Shape, a: u32, b: u32) -> Option<Failure>
+    requires first { a < shape.now.order }
+    requires second { b < shape.now.order }
+    requires vertices { PassesVertices shape.now }
+    requires squares { HoldsBefore shape.now (PassesSquare shape.now) a b }
+    ensures found { IfSome result (FailsFirst shape.now) }
+    ensures none { IfNone result (PassesSquare shape.now a b) }
+{
+    let square = Square::of(shape, a, b);
+    if let Some(corner) = first_negative(&square, FaceKind::Horizontal) {
+        return Some(corner_of(FaceKind::Horizontal, a, b, corner));
+    }
+    if let Some(corner) = first_negative(&square, FaceKind::Vertical) {
+        return Some(corner_of(FaceKind::Vertical, a, b, corner));
+    }
+    if let Some(corner) = first_negative(&square, FaceKind::Diagonal) {
+        return Some(corner_of(FaceKind::Diagonal, a, b, corner));
+    }
+    if let Some(corner) = first_negative(&square, FaceKind::Lower) {
+        return Some(corner_of(FaceKind::Lower, a, b, corner));
+    }
+    if let Some(corner) = first_negative(&square, FaceKind::Upper) {
+        return Some(corner_of(FaceKind::Upper, a, b, corner));
+    }
+    None
+}
+
+/// The failed test of the slack at a corner of a face of the square (a, b).
+fn corner_of(kind: FaceKind, a: u32, b: u32, corner: u32) -> Failure
+    ensures { result ≡ Failure.Corner (record { kind = kind; a = a; b = b }) corner }
+{
+    Failure::Corner(Face { kind, a, b }, corner)
+}
+
+/// The first corner of the square's face of this kind at which the limit of the slack is negative.
+fn first_negative(square: &Square, kind: FaceKind) -> Option<u32>
+    ensures found { IfSome result (IsFirstFailure (IsNonnegativeIn square.now kind) (length (corners_of kind 0 0))) }
+    ensures none { IfNone result (HoldsBelow (IsNonnegativeIn square.now kind) (length (corners_of kind 0 0))) }
+{
+    for corner in 0..corners(kind) {
+        if square.limit(kind, corner) < 0 {
+            return Some(corner);
+        }
+    }
+    None
+}

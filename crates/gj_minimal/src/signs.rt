@@ -1,0 +1,43 @@
+//! The tests of signs.
+ghost use Rattle.std.specs.Prelude.{IfSome, IfNone};
+ghost use Rattle.gj_shape.specs.FunctionData.{IsWithinLimits};
+ghost use Rattle.gj_theory.specs.Before.{PassesValues, PassesSigns};
+ghost use Rattle.gj_minimal.specs.Failures.{FailsFirst};
+
+use crate::entries::{left_at, right_at, value_at};
+use crate::failures::Failure;
+use gj_shape::Shape;
+
+/// The first failed test of the values at grid points: at 0 the value is 0, and at i/q it is not negative.
+pub(crate) fn failed_value(shape: &Shape) -> Option<Failure>
+    ensures found { IfSome result (FailsFirst shape.now) }
+    ensures none { IfNone result (PassesValues shape.now) }
+    ensures limits { IsWithinLimits shape.now }
+{
+    if value_at(shape, 0) != 0 {
+        return Some(Failure::Zero);
+    }
+    for i in 0..shape.order() {
+        if value_at(shape, i) < 0 {
+            return Some(Failure::Value(i));
+        }
+    }
+    None
+}
+
+/// The first failed test of the signs on open intervals: the limits at both ends are not negative.
+pub(crate) fn failed_interval_sign(shape: &Shape) -> Option<Failure>
+    requires { PassesValues shape.now }
+    ensures found { IfSome result (FailsFirst shape.now) }
+    ensures none { IfNone result (PassesSigns shape.now) }
+{
+    for i in 0..shape.order() {
+        if right_at(shape, i) < 0 {
+            return Some(Failure::Start(i));
+        }
+        if left_at(shape, i + 1) < 0 {
+            return Some(Failure::End(i));
+        }
+    }
+    None
+}

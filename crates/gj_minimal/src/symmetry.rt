@@ -1,0 +1,70 @@
+//! The tests of symmetry.
+ghost use Rattle.std.specs.Prelude.{◌<◌, ◌↔◌, IsTrue, IfSome, IfNone};
+ghost use Rattle.gj_shape.specs.FirstViolation.{Passes, MidpointsAgree};
+ghost use Rattle.gj_shape.specs.FirstViolation.Test.{symmetric_at, symmetric_between};
+ghost use Rattle.gj_theory.specs.Before.{PassesSigns, PassesMirrors, PassesSymmetry};
+ghost use Rattle.gj_minimal.specs.Failures.{FailsFirst};
+
+use crate::entries::{left_at, right_at, scale, value_at};
+use crate::failures::Failure;
+use gj_shape::Shape;
+
+/// The first failed test of symmetry at grid points.
+pub(crate) fn failed_mirror(shape: &Shape) -> Option<Failure>
+    requires { PassesSigns shape.now }
+    ensures found { IfSome result (FailsFirst shape.now) }
+    ensures none { IfNone result (PassesMirrors shape.now) }
+{
+    for i in 0..shape.order() {
+        if !is_mirrored(shape, i) {
+            return Some(Failure::Mirror(i));
+        }
+    }
+    None
+}
+
+/// The first failed test of symmetry on open intervals.
+pub(crate) fn failed_interval_mirror(shape: &Shape) -> Option<Failure>
+    requires { PassesMirrors shape.now }
+    ensures found { IfSome result (FailsFirst shape.now) }
+    ensures none { IfNone result (PassesSymmetry shape.now) }
+{
+    for i in 0..shape.order() {
+        if !is_interval_mirrored(shape, i) {
+            return Some(Failure::Interval(i));
+        }
+    }
+    None
+}
+
+/// Whether the values at i/q and at f - i/q add up to 1.
+fn is_mirrored(shape: &Shape, i: u32) -> bool
+    requires { i < shape.now.order }
+    ensures { IsTrue result ↔ Passes shape.now (symmetric_at i) }
+{
+    let opposite = shape.place() + (shape.order() - i);
+    value_at(shape, i) + value_at(shape, opposite) == scale(shape)
+}
+
+/// Whether on the open interval from i/q to (i + 1)/q the values at x and at f - x add up to 1.
+fn is_interval_mirrored(shape: &Shape, i: u32) -> bool
+    requires { i < shape.now.order }
+    ensures { IsTrue result ↔ Passes shape.now (symmetric_between i) }
+{
+    let opposite_end = shape.place() + (shape.order() - i);
+    let opposite_start = shape.place() + (shape.order() - (i + 1));
+    right_at(shape, i) + left_at(shape, opposite_end) == scale(shape)
+        && left_at(shape, i + 1) + right_at(shape, opposite_start) == scale(shape)
+}
+
+/// Whether the values at (i + 1/2)/q and at f less that add up to 1.
+pub(crate) fn midpoints_agree(shape: &Shape, i: u32) -> bool
+    requires { i < shape.now.order }
+    ensures { IsTrue result ↔ MidpointsAgree shape.now i }
+{
+    let opposite_end = shape.place() + (shape.order() - i);
+    let opposite_start = shape.place() + (shape.order() - (i + 1));
+    let double = right_at(shape, i) + left_at(shape, i + 1);
+    let opposite_double = right_at(shape, opposite_start) + left_at(shape, opposite_end);
+    double + opposite_double == 2 * scale(shape)
+}
