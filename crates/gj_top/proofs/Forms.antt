@@ -1,17 +1,23 @@
 -- Inputs in the form of a command, refusals of inputs, and texts that were shown.
-use Rattle.std.proofs.Common.{◌≡◌, ◌×◌, ℕ, List, ◌++◌, codes, decimal, sym, subst, ◌∙◌}
+use Rattle.std.proofs.Common.{◌≡◌, ℕ, List, [], ◌++◌, codes, decimal, refl, sym, subst, subst₂, ◌∙◌}
+use Rattle.std.proofs.lemmas.List.{append-nil}
 use Rattle.gj_lex.specs.declared.reason.Reason.{Reason}
 use Rattle.gj_lex.specs.Reason.{reason_word}
-use Rattle.gj_shape.specs.FunctionData.{FunctionData}
+use Rattle.gj_shape.specs.FunctionData.{FunctionData, IsWithinLimits}
 use Rattle.gj_lines.specs.FunctionLines.{line}
-use Rattle.gj_ftext.proofs.Laws.{no_fault_in_whole}
+use Rattle.gj_ftext.specs.Lines.IsSkippedText.{nothing}
+use Rattle.gj_ftext.specs.FirstFault.{IsFirstFaultOfWhole}
+use Rattle.gj_ftext.specs.FunctionText.{IsFunctionText, IsWholeFunctionText, IsCanonicalText}
 use Rattle.gj_proof.proofs.OneText.{no_fault_at}
 use Rattle.gj_top.specs.declared.command.Command.{Command}
 use Rattle.gj_top.specs.declared.command.Command.TheVariants.{Minimal, Show, Check}
 use Rattle.gj_top.specs.declared.status.Status.{Status}
-use Rattle.gj_top.specs.declared.status.Status.TheVariants.{Input}
+use Rattle.gj_top.specs.declared.status.Status.TheVariants.{Done, Input}
 use Rattle.gj_top.specs.Answer.{IsInForm, IsFault, IsReply}
 use Rattle.gj_top.proofs.Outcomes.{NoFaultInForm}
+
+no_fault_in_whole : (text : List ℕ) (f : FunctionData) (n : ℕ) (e : Reason) → IsWholeFunctionText text f → IsFirstFaultOfWhole text n e → ⊥
+no_fault_in_whole text f n e t h = ?
 
 -- no line of an input in the form of a command is at fault
 pub no_fault_in_form : (input : List ℕ) → NoFaultInForm input
@@ -31,3 +37,38 @@ refused_reply c input text s n reason is spelled fault =
     refused Minimal fault = record { at_line = n; reason = reason; first = fault; spelled = spelled }
     refused Show fault = record { at_line = n; reason = reason; first = fault; spelled = spelled }
     refused Check fault = record { at_line = n; reason = reason; first = fault; spelled = spelled }
+
+canonical_is_text : (f : FunctionData) (text after : List ℕ) → IsWithinLimits f → IsCanonicalText text f → IsFunctionText (text ++ after) f after
+canonical_is_text f text after l c = ?
+
+one_text : (text : List ℕ) (f g : FunctionData) (a b : List ℕ) → IsFunctionText text f a → IsFunctionText text g b → (f ≡ g) × (a ≡ b)
+one_text text f g a b h k = ?
+
+one_canonical : (f : FunctionData) (a b : List ℕ) → IsWithinLimits f → IsCanonicalText a f → IsCanonicalText b f → a ≡ b
+one_canonical f a b l h k = ?
+
+-- a reply that ends with Done
+pub done_reply : (c : Command) (input text written : List ℕ) (s : Status) → s ≡ Done → written ≡ text → IsReply c input Done text →
+    IsReply c input s written
+done_reply c input text written s is same reply = subst₂ (IsReply c input) (sym is) (sym same) reply
+
+-- the printed text of a function is a whole function text of it
+canonical_is_whole : (f : FunctionData) (text : List ℕ) → IsWithinLimits f → IsCanonicalText text f → IsWholeFunctionText text f
+canonical_is_whole f text within canonical = record {
+  rest = [];
+  function_text = subst (λ (t : List ℕ). IsFunctionText t f []) (append-nil text) (canonical_is_text f text [] within canonical);
+  skipped = nothing [] refl;
+}
+
+-- what is shown is a function text of the function that was read
+pub shown_is_read : (input text : List ℕ) → IsReply Show input Done text →
+    (f : FunctionData) × IsWholeFunctionText input f × IsWholeFunctionText text f
+shown_is_read input text (f, read, canonical) =
+    (f, read, canonical_is_whole f text read.function_text.within canonical)
+
+-- and is shown again as it stands
+pub shown_again : (input text again : List ℕ) → IsReply Show input Done text → IsReply Show text Done again → again ≡ text
+shown_again input text again (f, read, canonical) (g, read_again, canonical_again) =
+    let whole = canonical_is_whole f text read.function_text.within canonical in
+    let same : g ≡ f = (one_text text g f read_again.rest whole.rest read_again.function_text whole.function_text).0 in
+    one_canonical f again text read.function_text.within (subst (IsCanonicalText again) same canonical_again) canonical
