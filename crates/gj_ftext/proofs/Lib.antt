@@ -12,3 +12,4 @@ pub mod OneText
 pub mod PointsRead
 pub mod TextLines
 pub mod WholeFaults
+pub mod OneCanonical

@@ -17,6 +17,11 @@ pub fn canonical_text_is_function_text()
         IsFunctionText (text ++ after) f after }
 {}
 
+/// A function has one canonical text.
+pub fn one_canonical_text()
+    ensures { (f : FunctionData) (a b : List ℕ) → IsWithinLimits f → IsCanonicalText a f → IsCanonicalText b f → a ≡ b }
+{}
+
 /// A function text has no fault, so that a refused text is that of no function.
 pub fn no_fault_in_function_text()
     ensures front { (text rest : List ℕ) (f : FunctionData) (n : ℕ) (e : Reason) →

@@ -18,6 +18,7 @@ use Rattle.gj_shape.proofs.InOrder.{all_in_order, all_from_in_order}
 use Rattle.gj_shape.proofs.LeastDenominator.{Divides}
 use Rattle.gj_shape.proofs.OneFunction.{same_from_given}
 use Rattle.gj_lines.specs.Points.{lefts, values, rights, fractions_of, all_fractions, ArePointsOf, IsPointFault}
+use Rattle.gj_lines.specs.FunctionLines.{lines_of, AreFunctionLines}
 use Rattle.gj_lines.specs.declared.points.Point.{Point}
 use Rattle.gj_lines.specs.declared.points.PointFault.{PointFault}
 use Rattle.gj_lines.specs.declared.points.PointFault.TheVariants.{Large, Fine, Memory}
@@ -223,3 +224,12 @@ one_point_fault points p Fine Large a b no_e no_d = absurd (not_large_and_fine p
 one_point_fault points p Fine Fine a b no_e no_d = refl
 one_point_fault points p Fine (Memory m) a b no_e no_d = absurd (no_d tt)
 one_point_fault points p (Memory m) d a b no_e no_d = absurd (no_e tt)
+
+-- a function has one text of its lines
+pub one_text_of_lines : (f : FunctionData) (a b : List ℕ) → IsWithinLimits f → AreFunctionLines f a → AreFunctionLines f b →
+    a ≡ b
+one_text_of_lines f a b within p q =
+    let low = within.order_low in
+    let place_is = place_of_function p.place q.place f.order f.place (omega arith) p.place_is q.place_is in
+    let points_are = one_list_of_points f p.points q.points within p.points_are q.points_are in
+    p.spelled ∙ ap (λ x. lines_of f.order x p.points) place_is ∙ ap (lines_of f.order q.place) points_are ∙ sym q.spelled

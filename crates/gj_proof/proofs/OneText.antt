@@ -16,7 +16,7 @@ use Rattle.gj_proof.specs.declared.claim.Claim.{Claim}
 use Rattle.gj_proof.specs.declared.claim.Claim.TheVariants as claims
 use Rattle.gj_proof.specs.declared.head.ClaimWord.{ClaimWord}
 use Rattle.gj_proof.specs.declared.head.ClaimWord.TheVariants.{Minimal, NotMinimal}
-use Rattle.gj_lines.proofs.GivenPoints.{good_points, count_of_points, one_list_of_points, one_function_of_points, place_of_function, one_place}
+use Rattle.gj_lines.proofs.GivenPoints.{good_points, count_of_points, one_function_of_points, one_place, one_text_of_lines}
 use Rattle.gj_proof.proofs.PassedPoints.{ArePassed, front_passed}
 use Rattle.gj_proof.proofs.PointLines.{one_point}
 use Rattle.gj_proof.proofs.OneLine.{fraction_same, order_same, claim_same, order_unbroken, place_unbroken, point_unbroken, violation_unbroken, violation_same}
@@ -224,9 +224,5 @@ one_claim c d text k j p q =
 
 pub one_text : (c : Claim) (a b : List ℕ) → IsKept c → IsProofText c a → IsProofText c b → a ≡ b
 one_text c a b k p q =
-    let f = function_of c in
-    let place_is = place_of_function p.are_lines.place q.are_lines.place f.order f.place (omega (arith, k.0.order_low)) p.are_lines.place_is q.are_lines.place_is in
-    let points_are = one_list_of_points f p.are_lines.points q.are_lines.points k.0 p.are_lines.points_are q.are_lines.points_are in
-    let lines_are : p.lines ≡ q.lines =
-    p.are_lines.spelled ∙ ap (λ x. lines_of f.order x p.are_lines.points) place_is ∙ ap (lines_of f.order q.are_lines.place) points_are ∙ sym q.are_lines.spelled in
+    let lines_are = one_text_of_lines (function_of c) p.lines q.lines k.0 p.are_lines q.are_lines in
     p.spelled ∙ ap (λ t. line (codes "gj-proof 1") ++ line (codes "claim " ++ claim_word c) ++ t ++ shown_lines c ++ line (codes "end")) lines_are ∙ sym q.spelled

@@ -6,8 +6,10 @@ use Rattle.gj_lex.specs.Reason.{reason_word}
 use Rattle.gj_shape.specs.FunctionData.{FunctionData, IsWithinLimits}
 use Rattle.gj_lines.specs.FunctionLines.{line}
 use Rattle.gj_ftext.specs.Lines.IsSkippedText.{nothing}
-use Rattle.gj_ftext.specs.FirstFault.{IsFirstFaultOfWhole}
 use Rattle.gj_ftext.specs.FunctionText.{IsFunctionText, IsWholeFunctionText, IsCanonicalText}
+use Rattle.gj_ftext.proofs.OneText.{no_fault_of_whole, one_function_text}
+use Rattle.gj_ftext.proofs.Canonical.{canonical_text_is_function_text}
+use Rattle.gj_ftext.proofs.OneCanonical.{one_canonical_text}
 use Rattle.gj_proof.proofs.OneText.{no_fault_at}
 use Rattle.gj_top.specs.declared.command.Command.{Command}
 use Rattle.gj_top.specs.declared.command.Command.TheVariants.{Minimal, Show, Check}
@@ -16,13 +18,10 @@ use Rattle.gj_top.specs.declared.status.Status.TheVariants.{Done, Input}
 use Rattle.gj_top.specs.Answer.{IsInForm, IsFault, IsReply}
 use Rattle.gj_top.proofs.Outcomes.{NoFaultInForm}
 
-no_fault_in_whole : (text : List ℕ) (f : FunctionData) (n : ℕ) (e : Reason) → IsWholeFunctionText text f → IsFirstFaultOfWhole text n e → ⊥
-no_fault_in_whole text f n e t h = ?
-
 -- no line of an input in the form of a command is at fault
 pub no_fault_in_form : (input : List ℕ) → NoFaultInForm input
-no_fault_in_form input Minimal n reason form fault = no_fault_in_whole input form.0 n reason form.1 fault
-no_fault_in_form input Show n reason form fault = no_fault_in_whole input form.0 n reason form.1 fault
+no_fault_in_form input Minimal n reason form fault = no_fault_of_whole input form.0 n reason form.1 fault
+no_fault_in_form input Show n reason form fault = no_fault_of_whole input form.0 n reason form.1 fault
 no_fault_in_form input Check n reason form fault =
     no_fault_at form.0 input fault.rest reason form.1.kept form.1.spelled fault.fault
 
@@ -38,15 +37,6 @@ refused_reply c input text s n reason is spelled fault =
     refused Show fault = record { at_line = n; reason = reason; first = fault; spelled = spelled }
     refused Check fault = record { at_line = n; reason = reason; first = fault; spelled = spelled }
 
-canonical_is_text : (f : FunctionData) (text after : List ℕ) → IsWithinLimits f → IsCanonicalText text f → IsFunctionText (text ++ after) f after
-canonical_is_text f text after l c = ?
-
-one_text : (text : List ℕ) (f g : FunctionData) (a b : List ℕ) → IsFunctionText text f a → IsFunctionText text g b → (f ≡ g) × (a ≡ b)
-one_text text f g a b h k = ?
-
-one_canonical : (f : FunctionData) (a b : List ℕ) → IsWithinLimits f → IsCanonicalText a f → IsCanonicalText b f → a ≡ b
-one_canonical f a b l h k = ?
-
 -- a reply that ends with Done
 pub done_reply : (c : Command) (input text written : List ℕ) (s : Status) → s ≡ Done → written ≡ text → IsReply c input Done text →
     IsReply c input s written
@@ -56,7 +46,7 @@ done_reply c input text written s is same reply = subst₂ (IsReply c input) (sy
 canonical_is_whole : (f : FunctionData) (text : List ℕ) → IsWithinLimits f → IsCanonicalText text f → IsWholeFunctionText text f
 canonical_is_whole f text within canonical = record {
   rest = [];
-  function_text = subst (λ (t : List ℕ). IsFunctionText t f []) (append-nil text) (canonical_is_text f text [] within canonical);
+  function_text = subst (λ (t : List ℕ). IsFunctionText t f []) (append-nil text) (canonical_text_is_function_text f text [] within canonical);
   skipped = nothing [] refl;
 }
 
@@ -70,5 +60,5 @@ shown_is_read input text (f, read, canonical) =
 pub shown_again : (input text again : List ℕ) → IsReply Show input Done text → IsReply Show text Done again → again ≡ text
 shown_again input text again (f, read, canonical) (g, read_again, canonical_again) =
     let whole = canonical_is_whole f text read.function_text.within canonical in
-    let same : g ≡ f = (one_text text g f read_again.rest whole.rest read_again.function_text whole.function_text).0 in
-    one_canonical f again text read.function_text.within (subst (IsCanonicalText again) same canonical_again) canonical
+    let same : g ≡ f = (one_function_text text g f read_again.rest whole.rest read_again.function_text whole.function_text).0 in
+    one_canonical_text f again text read.function_text.within (subst (IsCanonicalText again) same canonical_again) canonical
