@@ -49,13 +49,16 @@ written_whole a small = let n = decimal_is_IsNumeral_wide a (omega arith) in who
 written_ratio : (a d : ℕ) → a < 2 ^ 127 → d < 2 ^ 127 → 0 < d → IsWritten (decimal a ++ denominator_text d) a d
 written_ratio a zero small small' some = absurd (omega arith)
 written_ratio a (suc zero) small small' some =
-    subst (λ w. IsWritten w a 1) (sym (ap (λ t. decimal a ++ t) denominator_one ∙ append-nil (decimal a))) (written_whole a small)
+    subst (λ w. IsWritten w a 1) (sym (ap (λ t. decimal a ++ t) denominator_one ∙ append-nil (decimal a)))
+    (written_whole a small)
 written_ratio a (suc (suc d)) small small' some =
     let n = decimal_is_IsNumeral_wide a (omega arith) in
     let m = decimal_is_IsNumeral_wide (suc (suc d)) (omega arith) in
-    ratio (decimal a) (decimal (suc (suc d))) (ap (λ t. decimal a ++ t) (denominator_more (suc (suc d)) (omega arith))) n.0 m.0 (sym n.1) (sym m.1)
+    ratio (decimal a) (decimal (suc (suc d)))
+    (ap (λ t. decimal a ++ t) (denominator_more (suc (suc d)) (omega arith))) n.0 m.0 (sym n.1) (sym m.1)
 
-number_text : (n : ℤ) (d : ℕ) → unsigned_abs n < 2 ^ 127 → d < 2 ^ 127 → 0 < d → IsNumberText (signed_decimal n ++ denominator_text d) n d
+number_text : (n : ℤ) (d : ℕ) → unsigned_abs n < 2 ^ 127 → d < 2 ^ 127 → 0 < d →
+    IsNumberText (signed_decimal n ++ denominator_text d) n d
 number_text (pos n) d small small' some =
     let s = no_sign (decimal n) (denominator_text d) (decimal_some n (omega arith)) (decimal_bytes n small) in
     record {
@@ -111,7 +114,8 @@ place_texts x = ap (λ ws. codes "f" ∷ ws) (one_word (fraction_text x) (fracti
 three_regrouped : (l v r : List ℕ) → l ++ codes " " ++ v ++ codes " " ++ r ≡ l ++ 32 ∷ (v ++ 32 ∷ r)
 three_regrouped l v r = simp append_assoc
 
-three_words : (x y z : Frac) → word_texts (fraction_text x ++ codes " " ++ fraction_text y ++ codes " " ++ fraction_text z)
+three_words : (x y z : Frac) →
+    word_texts (fraction_text x ++ codes " " ++ fraction_text y ++ codes " " ++ fraction_text z)
     ≡ fraction_text x ∷ fraction_text y ∷ fraction_text z ∷ []
 three_words x y z =
     ap word_texts (three_regrouped (fraction_text x) (fraction_text y) (fraction_text z))
@@ -129,10 +133,12 @@ abbrev plain : List ℕ → Bool
 plain [] = true
 plain (b ∷ bs) = cond (eqb b 10) false (cond (eqb b 13) false (plain bs))
 
-plain_parts : (b : ℕ) (more : Bool) → cond (eqb b 10) false (cond (eqb b 13) false more) ≡ true → IsPlain b × (more ≡ true)
+plain_parts : (b : ℕ) (more : Bool) → cond (eqb b 10) false (cond (eqb b 13) false more) ≡ true →
+    IsPlain b × (more ≡ true)
 plain_parts b more h =
     let feed : b ≢ 10 = λ e. false≢true (subst (λ c. cond (eqb c 10) false (cond (eqb c 13) false more) ≡ true) e h) in
-    let return : b ≢ 13 = λ e. false≢true (subst (λ c. cond (eqb c 10) false (cond (eqb c 13) false more) ≡ true) e h) in
+    let return : b ≢ 13 = λ e. false≢true (subst (λ c. cond (eqb c 10) false (cond (eqb c 13) false more) ≡ true) e
+    h) in
     ((feed, return), rw (ne_eqb b 10 feed, ne_eqb b 13 return) at h)
 
 by_test : (bs : List ℕ) → plain bs ≡ true → All IsPlain bs
@@ -145,10 +151,12 @@ word_plain w h = All-weaker IsWordByte IsPlain (λ b i. (i.no_line_feed, i.no_ca
 both_plain : (front back : List ℕ) → plain front ≡ true → All IsPlain back → All IsPlain (front ++ back)
 both_plain front back h k = All-append IsPlain front back (by_test front h) k
 
-three_plain : (x y z : Frac) → All IsPlain (fraction_text x ++ codes " " ++ fraction_text y ++ codes " " ++ fraction_text z)
+three_plain : (x y z : Frac) →
+    All IsPlain (fraction_text x ++ codes " " ++ fraction_text y ++ codes " " ++ fraction_text z)
 three_plain x y z =
     subst (All IsPlain) (sym (three_regrouped (fraction_text x) (fraction_text y) (fraction_text z)))
-    (All-append IsPlain (fraction_text x) (32 ∷ (fraction_text y ++ 32 ∷ fraction_text z)) (word_plain (fraction_text x) (fraction_is_word x))
+    (All-append IsPlain (fraction_text x) (32 ∷ (fraction_text y ++ 32 ∷ fraction_text z))
+    (word_plain (fraction_text x) (fraction_is_word x))
     (both_plain (codes " ") (fraction_text y ++ 32 ∷ fraction_text z) refl
     (All-append IsPlain (fraction_text y) (32 ∷ fraction_text z) (word_plain (fraction_text y) (fraction_is_word y))
     (both_plain (codes " ") (fraction_text z) refl (word_plain (fraction_text z) (fraction_is_word z))))))
@@ -188,9 +196,15 @@ point_of_text p true e =
     let text = text_of_one p e in
     record {
       words = fraction_text p.value ∷ [];
-      spelled = (fraction_word p.value, same_fraction p.left p.value parts.0, sym (same_fraction p.value p.right parts.1));
+      spelled = (
+        fraction_word p.value,
+        same_fraction p.left p.value parts.0,
+        sym
+            (same_fraction p.value p.right parts.1),
+      );
       texts = ap (λ t. word_texts (codes "point " ++ t)) text
-          ∙ ap (λ ws. codes "point" ∷ ws) (one_word (fraction_text p.value) (fraction_some p.value) (fraction_is_word p.value));
+          ∙ ap (λ ws. codes "point" ∷ ws) (one_word (fraction_text p.value) (fraction_some p.value)
+          (fraction_is_word p.value));
       plain_bytes = subst (All IsPlain) (sym text) (word_plain (fraction_text p.value) (fraction_is_word p.value));
     }
 point_of_text p false e =
@@ -198,14 +212,16 @@ point_of_text p false e =
     record {
       words = fraction_text p.left ∷ fraction_text p.value ∷ fraction_text p.right ∷ [];
       spelled = (fraction_word p.left, fraction_word p.value, fraction_word p.right);
-      texts = ap (λ t. word_texts (codes "point " ++ t)) text ∙ ap (λ ws. codes "point" ∷ ws) (three_words p.left p.value p.right);
+      texts = ap (λ t. word_texts (codes "point " ++ t)) text ∙ ap (λ ws. codes "point" ∷ ws)
+          (three_words p.left p.value p.right);
       plain_bytes = subst (All IsPlain) (sym text) (three_plain p.left p.value p.right);
     }
 
 -- ---- the lines
 
 -- a line whose first word is known and begins with no `#` is the next
-next_line : (bytes rest word : List ℕ) (words : List (List ℕ)) → All IsPlain bytes → 0 < length bytes → word_texts bytes ≡ word ∷ words →
+next_line : (bytes rest word : List ℕ) (words : List (List ℕ)) → All IsPlain bytes → 0 < length bytes →
+    word_texts bytes ≡ word ∷ words →
     get_or word 0 0 ≢ 35 → HasNextLine (line bytes ++ rest) (word ∷ words) rest (line bytes ++ rest)
 next_line bytes rest word words h some are other =
     let counts : IsSkipped (word ∷ words) → ⊥ = λ s. other (ap (λ w. get_or w 0 0) s.1) in
@@ -225,18 +241,21 @@ points_of_text (p ∷ points) rest =
     let after = flat_map point_line points ++ rest in
     let bytes = codes "point " ++ point_text p in
     let first : HasNextLine (point_line p ++ after) (point_words t.words) after (point_line p ++ after) =
-    next_line bytes after (codes "point") t.words (both_plain (codes "point ") (point_text p) refl t.plain_bytes) (omega arith) t.texts (λ e. omega arith) in
+    next_line bytes after (codes "point") t.words (both_plain (codes "point ") (point_text p) refl t.plain_bytes)
+    (omega arith) t.texts (λ e. omega arith) in
     record {
       fractions = t.words ∷ more.fractions;
       spelled = (t.spelled, more.spelled);
       lines = subst (λ u. HasLines u (map point_words (t.words ∷ more.fractions)) rest)
-          (sym (append_assoc (point_line p) (flat_map point_line points) rest)) (point_line p ++ after, after, first, more.lines);
+          (sym (append_assoc (point_line p) (flat_map point_line points) rest))
+          (point_line p ++ after, after, first, more.lines);
     }
 
 regrouped : (t o f ps e after : List ℕ) → t ++ (o ++ f ++ ps) ++ e ++ after ≡ t ++ (o ++ (f ++ (ps ++ (e ++ after))))
 regrouped t o f ps e after = simp append_assoc
 
-pub canonical_text_is_function_text : (f : FunctionData) (text after : List ℕ) → IsWithinLimits f → IsCanonicalText text f →
+pub canonical_text_is_function_text : (f : FunctionData) (text after : List ℕ) → IsWithinLimits f →
+    IsCanonicalText text f →
     IsFunctionText (text ++ after) f after
 canonical_text_is_function_text f text after within h =
     let are = h.are_lines in
@@ -245,27 +264,38 @@ canonical_text_is_function_text f text after within h =
     let end = line (codes "end") ++ after in
     let p = points_of_text are.points end in
     let there = flat_map point_line are.points ++ end in
-    let last : HasLines end (end_words ∷ []) after =
-    (end, after, next_line (codes "end") after (codes "end") [] (by_test (codes "end") refl) (omega arith) refl (λ e. omega arith), refl) in
+    let last : HasLines end (end_words ∷ []) after = (
+      end,
+      after,
+      next_line (codes "end") after (codes "end") [] (by_test (codes "end") refl) (omega arith) refl
+          (λ e. omega arith),
+      refl,
+    ) in
     let points = lines_joined there (map point_words p.fractions) (end_words ∷ []) end after p.lines last in
     let place_next : HasNextLine (place_line x ++ there) (place_words (fraction_text x)) there (place_line x ++ there) =
     next_line (codes "f " ++ fraction_text x) there (codes "f") (fraction_text x ∷ [])
-    (both_plain (codes "f ") (fraction_text x) refl (word_plain (fraction_text x) (fraction_is_word x))) (omega arith) (place_texts x) (λ e. omega arith) in
+    (both_plain (codes "f ") (fraction_text x) refl (word_plain (fraction_text x) (fraction_is_word x)))
+    (omega arith) (place_texts x) (λ e. omega arith) in
     let here = place_line x ++ there in
     let order_next : HasNextLine (order_line q ++ here) (order_words (decimal q)) here (order_line q ++ here) =
     next_line (codes "order " ++ decimal q) here (codes "order") (decimal q ∷ [])
-    (both_plain (codes "order ") (decimal q) refl (word_plain (decimal q) (decimal_is_word q (omega (arith, within.order_high))))) (omega arith)
+    (both_plain (codes "order ") (decimal q) refl
+    (word_plain (decimal q) (decimal_is_word q (omega (arith, within.order_high))))) (omega arith)
     (order_texts q within.order_high) (λ e. omega arith) in
     let behind = order_line q ++ here in
-    let title_next : HasNextLine (line (codes "gj-function 1") ++ behind) title_words behind (line (codes "gj-function 1") ++ behind) =
-    next_line (codes "gj-function 1") behind (codes "gj-function") (codes "1" ∷ []) (by_test (codes "gj-function 1") refl) (omega arith) refl (λ e. omega arith) in
-    let lines = title_words ∷ order_words (decimal q) ∷ place_words (fraction_text x) ∷ map point_words p.fractions ++ end_words ∷ [] in
+    let title_next : HasNextLine (line (codes "gj-function 1") ++ behind) title_words behind
+    (line (codes "gj-function 1") ++ behind) =
+    next_line (codes "gj-function 1") behind (codes "gj-function") (codes "1" ∷ [])
+    (by_test (codes "gj-function 1") refl) (omega arith) refl (λ e. omega arith) in
+    let lines = title_words ∷ order_words (decimal q) ∷ place_words (fraction_text x) ∷ map point_words
+    p.fractions ++ end_words ∷ [] in
     let whole_text = line (codes "gj-function 1") ++ behind in
     let all : HasLines whole_text lines after =
     (whole_text, behind, title_next, (behind, here, order_next, (here, there, place_next, points))) in
     let text_is : text ++ after ≡ whole_text =
     ap (λ t. t ++ after) (h.spelled ∙ ap (λ t. line (codes "gj-function 1") ++ t ++ line (codes "end")) are.spelled)
-    ∙ regrouped (line (codes "gj-function 1")) (order_line q) (place_line x) (flat_map point_line are.points) (line (codes "end")) after in
+    ∙ regrouped (line (codes "gj-function 1")) (order_line q) (place_line x) (flat_map point_line are.points)
+    (line (codes "end")) after in
     record {
       within = within;
       lines = lines;

@@ -24,7 +24,8 @@ pub digit_low : (ds : List ℕ) (i : ℕ) → AllDigits 10 ds → i < length ds 
 digit_low ds i d l = let r = digit_at ds i d l in omega (arith, r)
 
 -- one digit more, with the limit
-pub limit_more : (ds : List ℕ) (i count next : ℕ) → AllDigits 10 ds → i < length ds → count ≡ min (digits_value 10 (take i ds)) 1001 →
+pub limit_more : (ds : List ℕ) (i count next : ℕ) → AllDigits 10 ds → i < length ds →
+    count ≡ min (digits_value 10 (take i ds)) 1001 →
     next ≡ min (count * 10 + (get_or ds i 0 - 48)) 1001 → next ≡ min (digits_value 10 (take (i + 1) ds)) 1001
 limit_more ds i count next d l e f =
     let r = digit_at ds i d l in

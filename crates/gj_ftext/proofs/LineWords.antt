@@ -36,13 +36,16 @@ skip_blanks (b ∷ bs) xs h =
     ∙ skip_blanks bs xs (All-tail (λ c. is_blank c ≡ true) b bs h)
 
 -- a run without a blank is a part, and a word if it has a byte
-keep_word : (word : List ℕ) (parts : List (List ℕ)) → 0 < length word → filter has_bytes (word ∷ parts) ≡ word ∷ filter has_bytes parts
+keep_word : (word : List ℕ) (parts : List (List ℕ)) → 0 < length word → filter has_bytes
+    (word ∷ parts) ≡ word ∷ filter has_bytes parts
 keep_word word parts some = let yes : has_bytes word ≡ true = grind (arith, nat_tests) in rw yes refl
 
-pub take_word : (word rest : List ℕ) → 0 < length word → All (λ b. is_blank b ≡ false) word → (0 < length rest → is_blank (get_or rest 0 0) ≡ true) →
+pub take_word : (word rest : List ℕ) → 0 < length word → All (λ b. is_blank b ≡ false) word →
+    (0 < length rest → is_blank (get_or rest 0 0) ≡ true) →
     word_texts (word ++ rest) ≡ word ∷ word_texts rest
 take_word word [] some whole ended =
-    ap word_texts (append-nil word) ∙ ap (filter has_bytes) (slice_split_none is_blank word whole) ∙ keep_word word [] some
+    ap word_texts (append-nil word) ∙ ap (filter has_bytes) (slice_split_none is_blank word whole)
+    ∙ keep_word word [] some
 take_word word (b ∷ bs) some whole ended =
     ap (filter has_bytes) (slice_split_at is_blank word b bs whole (ended (omega arith)))
     ∙ keep_word word (slice_split is_blank bs) some
@@ -52,7 +55,8 @@ take_word word (b ∷ bs) some whole ended =
 pub no_words : (line : List ℕ) → position is_word_byte line ≡ None → word_texts line ≡ []
 no_words line h =
     ap word_texts (sym (append-nil line))
-    ∙ skip_blanks line [] (All-weaker (λ b. is_word_byte b ≡ false) (λ b. is_blank b ≡ true) (λ b. blank_from_not (is_blank b)) line (no_place is_word_byte line h))
+    ∙ skip_blanks line [] (All-weaker (λ b. is_word_byte b ≡ false) (λ b. is_blank b ≡ true)
+    (λ b. blank_from_not (is_blank b)) line (no_place is_word_byte line h))
 
 -- the bytes up to the first blank
 whole_word : (rest : List ℕ) → All (λ b. is_blank b ≡ false) (take (position_or_len is_blank rest) rest)
@@ -78,21 +82,26 @@ word_some b bs h =
     omega (arith, length-take (position_or_len is_blank (b ∷ bs)) (b ∷ bs))
 
 -- the first word of a line that begins with no blank
-word_at_front : (b : ℕ) (bs rest : List ℕ) (end : ℕ) → is_blank b ≡ false → rest ≡ b ∷ bs → end ≡ position_or_len is_blank rest →
+word_at_front : (b : ℕ) (bs rest : List ℕ) (end : ℕ) → is_blank b ≡ false → rest ≡ b ∷ bs →
+    end ≡ position_or_len is_blank rest →
     word_texts rest ≡ take end rest ∷ word_texts (drop end rest)
 word_at_front b bs rest end h is at =
     rw (at, is)
     (ap word_texts (sym (take-append-drop (position_or_len is_blank (b ∷ bs)) (b ∷ bs)))
-    ∙ take_word (take (position_or_len is_blank (b ∷ bs)) (b ∷ bs)) (drop (position_or_len is_blank (b ∷ bs)) (b ∷ bs)) (word_some b bs h)
+    ∙ take_word (take (position_or_len is_blank (b ∷ bs)) (b ∷ bs))
+    (drop (position_or_len is_blank (b ∷ bs)) (b ∷ bs)) (word_some b bs h)
     (whole_word (b ∷ bs)) (word_ended (b ∷ bs)))
 
 -- the first word of a line, and the words behind it
-pub first_word : (line rest : List ℕ) (k end : ℕ) → position is_word_byte line ≡ Some k → rest ≡ drop k line → end ≡ position_or_len is_blank rest →
+pub first_word : (line rest : List ℕ) (k end : ℕ) → position is_word_byte line ≡ Some k → rest ≡ drop k line →
+    end ≡ position_or_len is_blank rest →
     word_texts line ≡ take end rest ∷ word_texts (drop end rest)
 first_word line rest k end h is at =
     let place = first_place is_word_byte line k h in
     let same : rest ≡ get_or line k 0 ∷ drop (k + 1) line = is ∙ drop_more line k 0 place.0 in
     ap word_texts (sym (take-append-drop k line) ∙ ap (λ t. take k line ++ t) (sym is))
     ∙ skip_blanks (take k line) rest
-    (All-weaker (λ b. is_word_byte b ≡ false) (λ b. is_blank b ≡ true) (λ b. blank_from_not (is_blank b)) (take k line) place.3)
-    ∙ word_at_front (get_or line k 0) (drop (k + 1) line) rest end (not_blank (is_blank (get_or line k 0)) place.2) same at
+    (All-weaker (λ b. is_word_byte b ≡ false) (λ b. is_blank b ≡ true) (λ b. blank_from_not (is_blank b))
+    (take k line) place.3)
+    ∙ word_at_front (get_or line k 0) (drop (k + 1) line) rest end (not_blank (is_blank (get_or line k 0)) place.2)
+    same at

@@ -37,10 +37,12 @@ Next (before title) ws y = (ws ≡ title_words) × (y ≡ before order)
 Next (before order) ws y =
     (word : List ℕ) × (q : ℕ) × IsOrder q × IsCountWord word q × (ws ≡ order_words word) × (y ≡ before (place q))
 Next (before (place q)) ws y =
-    (word : List ℕ) × (x : Frac) × IsPlaceFraction q x × IsFractionWord word x × (ws ≡ place_words word) × (y ≡ after_points q [])
+    (word : List ℕ) × (x : Frac) × IsPlaceFraction q x × IsFractionWord word
+    x × (ws ≡ place_words word) × (y ≡ after_points q [])
 Next (before (point q points)) ws y =
     (fs : List (List ℕ)) × (p : Point) × ArePointWords fs p × All IsSmall (all_fractions (points ++ p ∷ []))
-    × HasCommonDenominator (all_fractions (points ++ p ∷ [])) × (ws ≡ point_words fs) × (y ≡ after_points q (points ++ p ∷ []))
+    × HasCommonDenominator (all_fractions (points ++ p ∷ [])) × (ws ≡ point_words fs) × (y ≡ after_points q
+    (points ++ p ∷ []))
 Next (before (last q points)) ws y = (ws ≡ end_words) × (y ≡ done)
 Next done ws y = ⊥
 
@@ -61,7 +63,8 @@ next_same (before order) y z ws (w, q, fits, count, is, y_is) (v, k, fits', coun
     let same = one_count v q k (subst (λ t. IsCountWord t q) word count) count' in
     y_is ∙ ap (λ n. before (place n)) same ∙ sym z_is
 next_same (before (place q)) y z ws (w, a, fits, spelled, is, y_is) (v, b, fits', spelled', is', z_is) = y_is ∙ sym z_is
-next_same (before (point q ps)) y z ws (fs, a, spelled, small, common, is, y_is) (gs, b, spelled', small', common', is', z_is) =
+next_same (before (point q ps)) y z ws (fs, a, spelled, small, common, is, y_is)
+    (gs, b, spelled', small', common', is', z_is) =
     let words = other_fields fs gs (sym is ∙ is') in
     let same = one_point gs a b (subst (λ t. ArePointWords t a) words spelled) spelled' in
     y_is ∙ ap (λ p. after_points q (ps ++ p ∷ [])) same ∙ sym z_is
@@ -70,41 +73,51 @@ next_same done y z ws n m = absurd n
 
 -- ---- a line that may come next breaks no rule
 
-order_unbroken : (w : List ℕ) (q : ℕ) (ws : List (List ℕ)) (e : Reason) → IsOrder q → IsCountWord w q → ws ≡ order_words w → BreaksOrder ws e → ⊥
+order_unbroken : (w : List ℕ) (q : ℕ) (ws : List (List ℕ)) (e : Reason) → IsOrder q → IsCountWord w q →
+    ws ≡ order_words w → BreaksOrder ws e → ⊥
 order_unbroken w q ws e fits count is (inl b) = b.1 w is
 order_unbroken w q ws e fits count is (inr (inl (b, (v, is', none)))) =
     none q (subst (λ t. IsCountWord t q) (one_field (codes "order") w v (sym is ∙ is')) count)
 order_unbroken w q ws e fits count is (inr (inr (b, (v, k, is', count', none)))) =
-    let same = one_count v q k (subst (λ t. IsCountWord t q) (one_field (codes "order") w v (sym is ∙ is')) count) count' in
+    let same = one_count v q k (subst (λ t. IsCountWord t q) (one_field (codes "order") w v (sym is ∙ is')) count)
+    count' in
     none (subst IsOrder same fits)
 
-place_unbroken : (q : ℕ) (w : List ℕ) (x : Frac) (ws : List (List ℕ)) (e : Reason) → IsPlaceFraction q x → IsFractionWord w x →
+place_unbroken : (q : ℕ) (w : List ℕ) (x : Frac) (ws : List (List ℕ)) (e : Reason) → IsPlaceFraction q x →
+    IsFractionWord w x →
     ws ≡ place_words w → BreaksPlace q ws e → ⊥
 place_unbroken q w x ws e fits spelled is (inl b) = b.1 w is
 place_unbroken q w x ws e fits spelled is (inr (inl (b, (v, is', none)))) =
     none x (subst (λ t. IsFractionWord t x) (one_field (codes "f") w v (sym is ∙ is')) spelled)
 place_unbroken q w x ws e fits spelled is (inr (inr (b, (v, y, is', spelled', none)))) =
-    let same = one_fraction v x y (subst (λ t. IsFractionWord t x) (one_field (codes "f") w v (sym is ∙ is')) spelled) spelled' in
+    let same = one_fraction v x y (subst (λ t. IsFractionWord t x) (one_field (codes "f") w v (sym is ∙ is'))
+    spelled) spelled' in
     none (subst (IsPlaceFraction q) same fits)
 
-point_unbroken : (ps : List Point) (fs : List (List ℕ)) (p : Point) (ws : List (List ℕ)) (e : Reason) → ArePointWords fs p →
-    All IsSmall (all_fractions (ps ++ p ∷ [])) → HasCommonDenominator (all_fractions (ps ++ p ∷ [])) → ws ≡ point_words fs →
+point_unbroken : (ps : List Point) (fs : List (List ℕ)) (p : Point) (ws : List (List ℕ)) (e : Reason) →
+    ArePointWords fs p →
+    All IsSmall (all_fractions (ps ++ p ∷ [])) → HasCommonDenominator (all_fractions (ps ++ p ∷ [])) →
+    ws ≡ point_words fs →
     BreaksPoint ps ws e → ⊥
 point_unbroken ps fs p ws e spelled small common is (inl b) = b.1 fs is (point_count fs p spelled)
 point_unbroken ps fs p ws e spelled small common is (inr (inl (b, (gs, is', count, none)))) =
     none p (subst (λ t. ArePointWords t p) (other_fields fs gs (sym is ∙ is')) spelled)
 point_unbroken ps fs p ws e spelled small common is (inr (inr (inl (b, (gs, q, is', spelled', fault))))) =
     let same = one_point gs p q (subst (λ t. ArePointWords t p) (other_fields fs gs (sym is ∙ is')) spelled) spelled' in
-    no_fault_follows ps p [] point_fault.Large small common (subst (λ r. IsPointFault ps r point_fault.Large) (sym same) fault)
+    no_fault_follows ps p [] point_fault.Large small common
+    (subst (λ r. IsPointFault ps r point_fault.Large) (sym same) fault)
 point_unbroken ps fs p ws e spelled small common is (inr (inr (inr (b, (gs, q, is', spelled', fault))))) =
     let same = one_point gs p q (subst (λ t. ArePointWords t p) (other_fields fs gs (sym is ∙ is')) spelled) spelled' in
-    no_fault_follows ps p [] point_fault.Fine small common (subst (λ r. IsPointFault ps r point_fault.Fine) (sym same) fault)
+    no_fault_follows ps p [] point_fault.Fine small common
+    (subst (λ r. IsPointFault ps r point_fault.Fine) (sym same) fault)
 
-pub next_unbroken : (x : Expected) (y : State) (ws : List (List ℕ)) (e : Reason) → Next (before x) ws y → BreaksRule x ws e → ⊥
+pub next_unbroken : (x : Expected) (y : State) (ws : List (List ℕ)) (e : Reason) → Next (before x) ws y →
+    BreaksRule x ws e → ⊥
 next_unbroken title y ws e n b = b.1 n.0
 next_unbroken order y ws e (w, q, fits, count, is, y_is) b = order_unbroken w q ws e fits count is b
 next_unbroken (place q) y ws e (w, x, fits, spelled, is, y_is) b = place_unbroken q w x ws e fits spelled is b
-next_unbroken (point q ps) y ws e (fs, p, spelled, small, common, is, y_is) b = point_unbroken ps fs p ws e spelled small common is b
+next_unbroken (point q ps) y ws e (fs, p, spelled, small, common, is, y_is) b = point_unbroken ps fs p ws e spelled
+    small common is b
 next_unbroken (last q ps) y ws e n b = b.1 n.0
 
 -- ---- one line breaks one rule
@@ -142,9 +155,11 @@ point_form ws fs p is spelled none = none fs is (point_count fs p spelled)
 
 point_number : (ws fs gs : List (List ℕ)) (p : Point) → ws ≡ point_words fs → ArePointWords fs p → ws ≡ point_words gs →
     ((r : Point) → ArePointWords gs r → ⊥) → ⊥
-point_number ws fs gs p is spelled is' none = none p (subst (λ t. ArePointWords t p) (other_fields fs gs (sym is ∙ is')) spelled)
+point_number ws fs gs p is spelled is' none = none p
+    (subst (λ t. ArePointWords t p) (other_fields fs gs (sym is ∙ is')) spelled)
 
-point_once : (ps : List Point) (ws fs gs : List (List ℕ)) (p r : Point) → ws ≡ point_words fs → ArePointWords fs p → ws ≡ point_words gs →
+point_once : (ps : List Point) (ws fs gs : List (List ℕ)) (p r : Point) → ws ≡ point_words fs → ArePointWords fs p →
+    ws ≡ point_words gs →
     ArePointWords gs r → IsPointFault ps p point_fault.Large → IsPointFault ps r point_fault.Fine → ⊥
 point_once ps ws fs gs p r is spelled is' spelled' large fine =
     let same = one_point gs p r (subst (λ t. ArePointWords t p) (other_fields fs gs (sym is ∙ is')) spelled) spelled' in
@@ -153,11 +168,15 @@ point_once ps ws fs gs p r is spelled is' spelled' large fine =
 point_reason : (ps : List Point) (ws : List (List ℕ)) (e d : Reason) → BreaksPoint ps ws e → BreaksPoint ps ws d → e ≡ d
 point_reason ps ws e d (inl h) (inl k) = h.0 ∙ sym k.0
 point_reason ps ws e d (inl h) (inr (inl (k, (fs, is, count, none)))) = absurd (h.1 fs is count)
-point_reason ps ws e d (inl h) (inr (inr (inl (k, (fs, p, is, spelled, fault))))) = absurd (point_form ws fs p is spelled h.1)
-point_reason ps ws e d (inl h) (inr (inr (inr (k, (fs, p, is, spelled, fault))))) = absurd (point_form ws fs p is spelled h.1)
+point_reason ps ws e d (inl h) (inr (inr (inl (k, (fs, p, is, spelled, fault))))) = absurd
+    (point_form ws fs p is spelled h.1)
+point_reason ps ws e d (inl h) (inr (inr (inr (k, (fs, p, is, spelled, fault))))) = absurd
+    (point_form ws fs p is spelled h.1)
 point_reason ps ws e d (inr (inl (k, (fs, is, count, none)))) (inl h) = absurd (h.1 fs is count)
-point_reason ps ws e d (inr (inr (inl (k, (fs, p, is, spelled, fault))))) (inl h) = absurd (point_form ws fs p is spelled h.1)
-point_reason ps ws e d (inr (inr (inr (k, (fs, p, is, spelled, fault))))) (inl h) = absurd (point_form ws fs p is spelled h.1)
+point_reason ps ws e d (inr (inr (inl (k, (fs, p, is, spelled, fault))))) (inl h) = absurd
+    (point_form ws fs p is spelled h.1)
+point_reason ps ws e d (inr (inr (inr (k, (fs, p, is, spelled, fault))))) (inl h) = absurd
+    (point_form ws fs p is spelled h.1)
 point_reason ps ws e d (inr (inl h)) (inr (inl k)) = h.0 ∙ sym k.0
 point_reason ps ws e d (inr (inl (h, (gs, is', count, none)))) (inr (inr (inl (k, (fs, p, is, spelled, fault))))) =
     absurd (point_number ws fs gs p is spelled is' none)
@@ -169,9 +188,11 @@ point_reason ps ws e d (inr (inr (inr (k, (fs, p, is, spelled, fault))))) (inr (
     absurd (point_number ws fs gs p is spelled is' none)
 point_reason ps ws e d (inr (inr (inl h))) (inr (inr (inl k))) = h.0 ∙ sym k.0
 point_reason ps ws e d (inr (inr (inr h))) (inr (inr (inr k))) = h.0 ∙ sym k.0
-point_reason ps ws e d (inr (inr (inl (h, (fs, p, is, spelled, large))))) (inr (inr (inr (k, (gs, r, is', spelled', fine))))) =
+point_reason ps ws e d (inr (inr (inl (h, (fs, p, is, spelled, large)))))
+    (inr (inr (inr (k, (gs, r, is', spelled', fine))))) =
     absurd (point_once ps ws fs gs p r is spelled is' spelled' large fine)
-point_reason ps ws e d (inr (inr (inr (k, (gs, r, is', spelled', fine))))) (inr (inr (inl (h, (fs, p, is, spelled, large))))) =
+point_reason ps ws e d (inr (inr (inr (k, (gs, r, is', spelled', fine)))))
+    (inr (inr (inl (h, (fs, p, is, spelled, large))))) =
     absurd (point_once ps ws fs gs p r is spelled is' spelled' large fine)
 
 pub one_reason : (x : Expected) (ws : List (List ℕ)) (e d : Reason) → BreaksRule x ws e → BreaksRule x ws d → e ≡ d
@@ -208,7 +229,8 @@ leads_same (ws ∷ lines) x y z (w, n, h) (v, m, k) =
 -- what holds of all holds of the first ones
 front_all : (P : Frac → Type 0) (xs ys : List Frac) → All P (xs ++ ys) → All P xs
 front_all P xs ys h =
-    All-same P xs (take (length xs) (xs ++ ys)) (sym (take_at xs ys (length xs) refl)) (All-take P (length xs) (xs ++ ys) h)
+    All-same P xs (take (length xs) (xs ++ ys)) (sym (take_at xs ys (length xs) refl))
+    (All-take P (length xs) (xs ++ ys) h)
 
 first_fractions : (read more : List Point) (p : Point) →
     all_fractions (read ++ p ∷ more) ≡ all_fractions (read ++ p ∷ []) ++ all_fractions more
@@ -222,9 +244,12 @@ pub no_more_points : (q : ℕ) (ps : List Point) → length ps ≡ q → after_p
 no_more_points q ps count = rw (le-ltb (length ps) q (omega arith)) refl
 
 -- the lines of further points lead on
-lead_points : (q : ℕ) (lines : List (List (List ℕ))) (read : List Point) (fs : List (List (List ℕ))) (ps : List Point) → AllZip ArePointWords fs ps →
-    length (read ++ ps) ≤ q → All IsSmall (all_fractions (read ++ ps)) → HasCommonDenominator (all_fractions (read ++ ps)) →
-    Leads (before title) lines (after_points q read) → Leads (before title) (lines ++ map point_words fs) (after_points q (read ++ ps))
+lead_points : (q : ℕ) (lines : List (List (List ℕ))) (read : List Point) (fs : List (List (List ℕ)))
+    (ps : List Point) → AllZip ArePointWords fs ps →
+    length (read ++ ps) ≤ q → All IsSmall (all_fractions (read ++ ps)) → HasCommonDenominator
+    (all_fractions (read ++ ps)) →
+    Leads (before title) lines (after_points q read) → Leads (before title) (lines ++ map point_words fs)
+    (after_points q (read ++ ps))
 lead_points q lines read [] [] spelled few small common h =
     subst (λ ls. Leads (before title) ls (after_points q (read ++ []))) (sym (append-nil lines))
     (subst (λ ps. Leads (before title) lines (after_points q ps)) (sym (append-nil read)) h)
@@ -234,21 +259,27 @@ lead_points q lines read (f ∷ fs) (p ∷ ps) spelled few small common h =
     let fewer : length read < q = omega (arith, length-append read (p ∷ ps)) in
     let parts = append_assoc read (p ∷ []) ps in
     let first = first_fractions read ps p in
-    let one_small = front_all IsSmall (all_fractions (read ++ p ∷ [])) (all_fractions ps) (subst (All IsSmall) first small) in
-    let one_common = front_all (Divides common.0) (all_fractions (read ++ p ∷ [])) (all_fractions ps) (subst (All (Divides common.0)) first common.3) in
+    let one_small = front_all IsSmall (all_fractions (read ++ p ∷ [])) (all_fractions ps)
+    (subst (All IsSmall) first small) in
+    let one_common = front_all (Divides common.0) (all_fractions (read ++ p ∷ [])) (all_fractions ps)
+    (subst (All (Divides common.0)) first common.3) in
     let here = subst (λ (s : State). Leads (before title) lines s) (more_points q read fewer) h in
     let next : Next (before (point q read)) (point_words f) (after_points q (read ++ p ∷ [])) =
     (f, p, spelled.0, one_small, (common.0, common.1, common.2, one_common), refl, refl) in
-    let one = leads_more lines (before title) (before (point q read)) (after_points q (read ++ p ∷ [])) (point_words f) here next in
+    let one = leads_more lines (before title) (before (point q read)) (after_points q (read ++ p ∷ []))
+    (point_words f) here next in
     let all = lead_points q (lines ++ point_words f ∷ []) (read ++ p ∷ []) fs ps spelled.1
     (subst (λ rs. length rs ≤ q) (sym parts) few) (subst (λ rs. All IsSmall (all_fractions rs)) (sym parts) small)
     (subst (λ rs. HasCommonDenominator (all_fractions rs)) (sym parts) common) one in
-    subst (λ ls. Leads (before title) ls (after_points q (read ++ p ∷ ps))) (append_assoc lines (point_words f ∷ []) (map point_words fs))
-    (subst (λ rs. Leads (before title) (lines ++ point_words f ∷ [] ++ map point_words fs) (after_points q rs)) parts all)
+    subst (λ ls. Leads (before title) ls (after_points q (read ++ p ∷ ps)))
+    (append_assoc lines (point_words f ∷ []) (map point_words fs))
+    (subst (λ rs. Leads (before title) (lines ++ point_words f ∷ [] ++ map point_words fs) (after_points q rs))
+    parts all)
 
 -- ---- each state that may come next is reached
 
-lead_head : (q : ℕ) (lines : List (List (List ℕ))) → AreHeadLines q lines → Leads (before title) lines (after_points q [])
+lead_head : (q : ℕ) (lines : List (List (List ℕ))) → AreHeadLines q lines → Leads (before title) lines
+    (after_points q [])
 lead_head q lines h =
     subst (λ ls. Leads (before title) ls (after_points q [])) (sym h.lines_are) (
       before order,
@@ -275,10 +306,12 @@ reach (place q) lines (fits, (word, count, is)) =
 reach (point q ps) lines (h, fewer) =
     subst (λ (s : State). Leads (before title) lines s) (more_points q ps fewer) (lead_all q ps lines h (omega arith))
 reach (last q ps) lines (h, count) =
-    subst (λ (s : State). Leads (before title) lines s) (no_more_points q ps count) (lead_all q ps lines h (omega arith))
+    subst (λ (s : State). Leads (before title) lines s) (no_more_points q ps count)
+    (lead_all q ps lines h (omega arith))
 
 -- and a function text reaches its end
-pub lead_function : (f : FunctionData) (lines : List (List (List ℕ))) → IsWithinLimits f → AreLinesOf f lines → Leads (before title) lines done
+pub lead_function : (f : FunctionData) (lines : List (List (List ℕ))) → IsWithinLimits f → AreLinesOf f lines →
+    Leads (before title) lines done
 lead_function f lines within h =
     let good = good_points h.points f within h.points_are in
     let count = count_of_points h.points f within h.points_are in

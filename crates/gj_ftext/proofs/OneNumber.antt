@@ -28,7 +28,8 @@ mark_in_digits [] back m d = d.0
 mark_in_digits (c ∷ front) back m d = mark_in_digits front back m d.1
 
 -- and digits end at the first of them
-cut_same : (a b r s : List ℕ) (m k : ℕ) → AllDigits 10 a → AllDigits 10 b → (digit_value m < 10 → ⊥) → (digit_value k < 10 → ⊥) →
+cut_same : (a b r s : List ℕ) (m k : ℕ) → AllDigits 10 a → AllDigits 10 b → (digit_value m < 10 → ⊥) →
+    (digit_value k < 10 → ⊥) →
     a ++ m ∷ r ≡ b ++ k ∷ s → (a ≡ b) × (m ≡ k) × (r ≡ s)
 cut_same [] [] r s m k p q nm nk e = (refl, cc, cc)
 cut_same [] (y ∷ b) r s m k p q nm nk e =
@@ -73,8 +74,10 @@ one_written w n d m e (point a r is first second top bottom) (point b s is' firs
 pub one_fraction : (w : List ℕ) (x y : Frac) → IsFractionWord w x → IsFractionWord w y → x ≡ y
 one_fraction w x y (n, d, text, is) (m, e, text', is') =
     let same = one_written (without_leading_sign w) text.top d text'.top e text.written text'.written in
-    let value : n ≡ m = text.value ∙ ap (λ t. if starts_with_minus w then neg_ℤ (pos t) else pos t) same.0 ∙ sym text'.value in
-    let along : Is y n (pos d) = subst (λ k. Is y k (pos d)) (sym value) (subst (λ k. Is y m (pos k)) (sym same.1) is') in
+    let value : n ≡ m = text.value ∙ ap (λ t. if starts_with_minus w then neg_ℤ (pos t) else pos t) same.0
+    ∙ sym text'.value in
+    let along : Is y n (pos d) = subst (λ k. Is y k (pos d)) (sym value)
+    (subst (λ k. Is y m (pos k)) (sym same.1) is') in
     same_from_is x y n (pos d) (λ z. omega (arith, text.bottom_some)) is along
 
 pub one_count : (w : List ℕ) (n m : ℕ) → IsCountWord w n → IsCountWord w m → n ≡ m
@@ -86,10 +89,12 @@ same_point p q l v r = λ i. record { left = l i; value = v i; right = r i }
 pub one_point : (ws : List (List ℕ)) (p q : Point) → ArePointWords ws p → ArePointWords ws q → p ≡ q
 one_point [] p q h k = absurd h
 one_point (w ∷ []) p q h k =
-    let same = one_fraction w p.value q.value h.0 k.0 in same_point p q (h.1 ∙ same ∙ sym k.1) same (h.2 ∙ same ∙ sym k.2)
+    let same = one_fraction w p.value q.value h.0 k.0 in same_point p q (h.1 ∙ same ∙ sym k.1) same
+    (h.2 ∙ same ∙ sym k.2)
 one_point (w ∷ v ∷ []) p q h k = absurd h
 one_point (w ∷ v ∷ u ∷ []) p q h k =
-    same_point p q (one_fraction w p.left q.left h.0 k.0) (one_fraction v p.value q.value h.1 k.1) (one_fraction u p.right q.right h.2 k.2)
+    same_point p q (one_fraction w p.left q.left h.0 k.0) (one_fraction v p.value q.value h.1 k.1)
+    (one_fraction u p.right q.right h.2 k.2)
 one_point (w ∷ v ∷ u ∷ t ∷ ws) p q h k = absurd h
 
 pub point_count : (ws : List (List ℕ)) (p : Point) → ArePointWords ws p → IsOneOrThree ws
@@ -99,7 +104,8 @@ point_count (w ∷ v ∷ []) p h = absurd h
 point_count (w ∷ v ∷ u ∷ []) p h = inr refl
 point_count (w ∷ v ∷ u ∷ t ∷ ws) p h = absurd h
 
-pub one_list : (fs : List (List (List ℕ))) (ps qs : List Point) → AllZip ArePointWords fs ps → AllZip ArePointWords fs qs → ps ≡ qs
+pub one_list : (fs : List (List (List ℕ))) (ps qs : List Point) → AllZip ArePointWords fs ps →
+    AllZip ArePointWords fs qs → ps ≡ qs
 one_list [] [] [] h k = refl
 one_list [] [] (q ∷ qs) h k = absurd k
 one_list [] (p ∷ ps) qs h k = absurd h

@@ -22,7 +22,8 @@ use Rattle.gj_ftext.proofs.NextLines.State.{before, done}
 -- ---- the lines of one function
 
 -- the lines of the points end at `end`
-one_fractions : (fs gs : List (List (List ℕ))) → map point_words fs ++ end_words ∷ [] ≡ map point_words gs ++ end_words ∷ [] → fs ≡ gs
+one_fractions : (fs gs : List (List (List ℕ))) →
+    map point_words fs ++ end_words ∷ [] ≡ map point_words gs ++ end_words ∷ [] → fs ≡ gs
 one_fractions [] [] e = refl
 one_fractions [] (g ∷ gs) e =
     absurd (let first : 101 ≡ 112 = ap (λ ls. get_or (get_or (get_or ls 0 []) 0 []) 0 0) e in omega arith)
@@ -48,15 +49,22 @@ same_words a b c d fs gs e =
     let rest : map point_words fs ++ end_words ∷ [] ≡ map point_words gs ++ end_words ∷ [] = cc in
     record { order_same = cc; place_same = cc; fractions_same = one_fractions fs gs rest }
 
-one_function : (f g : FunctionData) (lines : List (List (List ℕ))) → IsWithinLimits f → IsWithinLimits g → AreLinesOf f lines →
+one_function : (f g : FunctionData) (lines : List (List (List ℕ))) → IsWithinLimits f → IsWithinLimits g →
+    AreLinesOf f lines →
     AreLinesOf g lines → f ≡ g
 one_function f g lines within within' h k =
-    let same = same_words h.order_word k.order_word h.place_word k.place_word h.fractions k.fractions (sym h.lines_are ∙ k.lines_are) in
-    let orders = one_count k.order_word f.order g.order (subst (λ w. IsCountWord w f.order) same.order_same h.order_is) k.order_is in
-    let x = one_fraction k.place_word h.place k.place (subst (λ w. IsFractionWord w h.place) same.place_same h.place_spelled) k.place_spelled in
-    let place_is = subst (λ n. Is k.place (pos f.place) (pos n)) orders (subst (λ y. Is y (pos f.place) (pos f.order)) x h.place_is) in
-    let points = one_list k.fractions h.points k.points (subst (λ fs. AllZip ArePointWords fs h.points) same.fractions_same h.points_spelled) k.points_spelled in
-    one_function_of_points k.points f g orders (one_place k.place g.order f.place g.place place_is k.place_is) within within'
+    let same = same_words h.order_word k.order_word h.place_word k.place_word h.fractions k.fractions
+    (sym h.lines_are ∙ k.lines_are) in
+    let orders = one_count k.order_word f.order g.order
+    (subst (λ w. IsCountWord w f.order) same.order_same h.order_is) k.order_is in
+    let x = one_fraction k.place_word h.place k.place
+    (subst (λ w. IsFractionWord w h.place) same.place_same h.place_spelled) k.place_spelled in
+    let place_is = subst (λ n. Is k.place (pos f.place) (pos n)) orders
+    (subst (λ y. Is y (pos f.place) (pos f.order)) x h.place_is) in
+    let points = one_list k.fractions h.points k.points
+    (subst (λ fs. AllZip ArePointWords fs h.points) same.fractions_same h.points_spelled) k.points_spelled in
+    one_function_of_points k.points f g orders (one_place k.place g.order f.place g.place place_is k.place_is)
+    within within'
     (subst (ArePointsOf f) points h.points_are) k.points_are
 
 -- ---- one function text
@@ -75,7 +83,8 @@ all_lines f lines more y within are h =
     (none, sym (subst (λ ls. Leads z ls y) none b) ∙ end)
 
 -- the same where the other lines are more
-continued : (text : List ℕ) (f g : FunctionData) (a b : List ℕ) (x : List (List (List ℕ))) → (h : IsFunctionText text f a) →
+continued : (text : List ℕ) (f g : FunctionData) (a b : List ℕ) (x : List (List (List ℕ))) →
+    (h : IsFunctionText text f a) →
     (k : IsFunctionText text g b) → h.lines ≡ k.lines ++ x → HasLines b x a → (f ≡ g) × (a ≡ b)
 continued text f g a b x h k more has =
     let leads = subst (λ ls. Leads (before title) ls done) more (lead_function f h.lines h.within h.are_lines) in
@@ -84,7 +93,8 @@ continued text f g a b x h k more has =
     let rest : b ≡ a = subst (λ t. HasLines b t a) none has in
     (one_function f g k.lines h.within k.within (subst (AreLinesOf f) lines h.are_lines) k.are_lines, sym rest)
 
-pub one_function_text : (text : List ℕ) (f g : FunctionData) (a b : List ℕ) → IsFunctionText text f a → IsFunctionText text g b →
+pub one_function_text : (text : List ℕ) (f g : FunctionData) (a b : List ℕ) → IsFunctionText text f a →
+    IsFunctionText text g b →
     (f ≡ g) × (a ≡ b)
 one_function_text text f g a b h k =
     elim (lines_compared text h.lines k.lines a b h.has_lines k.has_lines) [
@@ -95,7 +105,8 @@ one_function_text text f g a b h k =
 -- ---- no fault
 
 -- where a line may come next the text breaks no rule there
-broken_next : (x : Expected) (y : State) (text start rest s : List ℕ) (ws : List (List ℕ)) (e : Reason) → HasNextLine start ws rest text →
+broken_next : (x : Expected) (y : State) (text start rest s : List ℕ) (ws : List (List ℕ)) (e : Reason) →
+    HasNextLine start ws rest text →
     Next (before x) ws y → BreaksAt x text s e → ⊥
 broken_next x y text start rest s ws e next n (in_line vs after next' broken) =
     let same = one_next_line start s ws vs rest after text next next' in
@@ -106,23 +117,29 @@ not_done : (x : Expected) → before x ≡ done → ⊥
 not_done x e = cc
 
 -- lines that lead on from where a rule is broken
-lead_on : (x : Expected) (z y : State) (text s rest : List ℕ) (more : List (List (List ℕ))) (e : Reason) → z ≡ before x → Leads z more y →
+lead_on : (x : Expected) (z y : State) (text s rest : List ℕ) (more : List (List (List ℕ))) (e : Reason) →
+    z ≡ before x → Leads z more y →
     HasLines text more rest → BreaksAt x text s e → (more ≡ []) × (y ≡ before x)
 lead_on x z y text s rest [] e is h has broken = (refl, sym h ∙ is)
 lead_on x z y text s rest (ws ∷ more) e is (w, n, h) (start, after, next, has) broken =
     absurd (broken_next x w text start after s ws e next (subst (λ (t : State). Next t ws w) is n) broken)
 
 -- the same, from the first line on
-lead_past : (text : List ℕ) (lines more : List (List (List ℕ))) (s rest : List ℕ) (e : Reason) (y : State) → (f : IsFaultAt text s e) →
-    lines ≡ f.lines ++ more → Leads (before title) lines y → HasLines f.rest more rest → (more ≡ []) × (y ≡ before f.expected)
+lead_past : (text : List ℕ) (lines more : List (List (List ℕ))) (s rest : List ℕ) (e : Reason) (y : State) →
+    (f : IsFaultAt text s e) →
+    lines ≡ f.lines ++ more → Leads (before title) lines y → HasLines f.rest more rest →
+    (more ≡ []) × (y ≡ before f.expected)
 lead_past text lines more s rest e y f is h has =
     let (z, a, b) = leads_split f.lines more (before title) y (subst (λ ls. Leads (before title) ls y) is h) in
-    lead_on f.expected z y f.rest s rest more e (leads_same f.lines (before title) z (before f.expected) a (reach f.expected f.lines f.good)) b has f.broken
+    lead_on f.expected z y f.rest s rest more e (leads_same f.lines (before title) z (before f.expected) a
+    (reach f.expected f.lines f.good)) b has f.broken
 
-pub no_fault_at : (text rest s : List ℕ) (f : FunctionData) (e : Reason) → IsFunctionText text f rest → IsFaultAt text s e → ⊥
+pub no_fault_at : (text rest s : List ℕ) (f : FunctionData) (e : Reason) → IsFunctionText text f rest →
+    IsFaultAt text s e → ⊥
 no_fault_at text rest s f e h g =
     elim (lines_compared text h.lines g.lines rest g.rest h.has_lines g.has_lines) [
-      | inl w ↦ not_done g.expected (sym (lead_past text h.lines w.0 s rest e done g w.1 (lead_function f h.lines h.within h.are_lines) w.2).1)
+      | inl w ↦ not_done g.expected
+          (sym (lead_past text h.lines w.0 s rest e done g w.1 (lead_function f h.lines h.within h.are_lines) w.2).1)
       | inr w ↦
           let leads = subst (λ ls. Leads (before title) ls (before g.expected)) w.1 (reach g.expected g.lines g.good) in
           not_done g.expected (all_lines f h.lines w.0 (before g.expected) h.within h.are_lines leads).1
@@ -130,25 +147,30 @@ no_fault_at text rest s f e h g =
 
 -- ---- one fault
 
-same_break : (x : Expected) (text s t : List ℕ) (e d : Reason) → BreaksAt x text s e → BreaksAt x text t d → (s ≡ t) × (e ≡ d)
+same_break : (x : Expected) (text s t : List ℕ) (e d : Reason) → BreaksAt x text s e → BreaksAt x text t d →
+    (s ≡ t) × (e ≡ d)
 same_break x text s t e d (in_line ws rest next broken) (in_line vs after next' broken') =
     let same = one_next_line s t ws vs rest after text next next' in
     (same.0, one_reason x vs e d (subst (λ us. BreaksRule x us e) same.1 broken) broken')
-same_break x text s t e d (in_line ws rest next broken) (ended skipped is form) = absurd (next_not_skipped s ws rest text next skipped)
-same_break x text s t e d (ended skipped is form) (in_line ws rest next broken) = absurd (next_not_skipped t ws rest text next skipped)
+same_break x text s t e d (in_line ws rest next broken) (ended skipped is form) = absurd
+    (next_not_skipped s ws rest text next skipped)
+same_break x text s t e d (ended skipped is form) (in_line ws rest next broken) = absurd
+    (next_not_skipped t ws rest text next skipped)
 same_break x text s t e d (ended skipped is form) (ended skipped' is' form') = (is ∙ sym is', form ∙ sym form')
 
 same_expected : (x y : Expected) → before x ≡ before y → x ≡ y
 same_expected x y e = cc
 
-further_fault : (text s t : List ℕ) (e d : Reason) (more : List (List (List ℕ))) → (f : IsFaultAt text s e) → (g : IsFaultAt text t d) →
+further_fault : (text s t : List ℕ) (e d : Reason) (more : List (List (List ℕ))) → (f : IsFaultAt text s e) →
+    (g : IsFaultAt text t d) →
     f.lines ≡ g.lines ++ more → HasLines g.rest more f.rest → (s ≡ t) × (e ≡ d)
 further_fault text s t e d more f g is has =
     let past = lead_past text f.lines more t f.rest d (before f.expected) g is (reach f.expected f.lines f.good) has in
     let expected = same_expected f.expected g.expected past.1 in
     let rest : g.rest ≡ f.rest = subst (λ ls. HasLines g.rest ls f.rest) past.0 has in
     same_break g.expected g.rest s t e d
-    (subst (λ r. BreaksAt g.expected r s e) (sym rest) (subst (λ (x : Expected). BreaksAt x f.rest s e) expected f.broken)) g.broken
+    (subst (λ r. BreaksAt g.expected r s e) (sym rest)
+    (subst (λ (x : Expected). BreaksAt x f.rest s e) expected f.broken)) g.broken
 
 one_fault : (text s t : List ℕ) (e d : Reason) → IsFaultAt text s e → IsFaultAt text t d → (s ≡ t) × (e ≡ d)
 one_fault text s t e d f g =
@@ -163,30 +185,37 @@ one_fault text s t e d f g =
 one_number : (text s t : List ℕ) (n m : ℕ) → s ≡ t → IsLineNumber text s n → IsLineNumber text t m → n ≡ m
 one_number text s t n m same h k = let there = subst (λ u. IsLineNumber text u n) same h in omega arith
 
-pub no_fault_of_whole : (text : List ℕ) (f : FunctionData) (n : ℕ) (e : Reason) → IsWholeFunctionText text f → IsFirstFaultOfWhole text n e → ⊥
+pub no_fault_of_whole : (text : List ℕ) (f : FunctionData) (n : ℕ) (e : Reason) → IsWholeFunctionText text f →
+    IsFirstFaultOfWhole text n e → ⊥
 no_fault_of_whole text f n e w (inl h) = no_fault_at text w.rest h.start f e w.function_text h.fault
 no_fault_of_whole text f n e w (inr (is, t)) =
     let same = one_function_text text f t.function w.rest t.rest w.function_text t.function_text in
     next_not_skipped t.start t.words t.after t.rest t.next (subst IsSkippedText same.1 w.skipped)
 
-pub one_first_fault : (text : List ℕ) (n m : ℕ) (e d : Reason) → IsFirstFaultOfWhole text n e → IsFirstFaultOfWhole text m d → (n ≡ m) × (e ≡ d)
+pub one_first_fault : (text : List ℕ) (n m : ℕ) (e d : Reason) → IsFirstFaultOfWhole text n e →
+    IsFirstFaultOfWhole text m d → (n ≡ m) × (e ≡ d)
 one_first_fault text n m e d (inl h) (inl k) =
     let same = one_fault text h.start k.start e d h.fault k.fault in
     (one_number text h.start k.start n m same.0 h.number k.number, same.1)
-one_first_fault text n m e d (inl h) (inr (is, t)) = absurd (no_fault_at text t.rest h.start t.function e t.function_text h.fault)
-one_first_fault text n m e d (inr (is, t)) (inl h) = absurd (no_fault_at text t.rest h.start t.function d t.function_text h.fault)
+one_first_fault text n m e d (inl h) (inr (is, t)) = absurd
+    (no_fault_at text t.rest h.start t.function e t.function_text h.fault)
+one_first_fault text n m e d (inr (is, t)) (inl h) = absurd
+    (no_fault_at text t.rest h.start t.function d t.function_text h.fault)
 one_first_fault text n m e d (inr (is, t)) (inr (is', u)) =
     let same = one_function_text text t.function u.function t.rest u.rest t.function_text u.function_text in
-    let next = one_next_line t.start u.start t.words u.words t.after u.after u.rest (subst (HasNextLine t.start t.words t.after) same.1 t.next) u.next in
+    let next = one_next_line t.start u.start t.words u.words t.after u.after u.rest
+    (subst (HasNextLine t.start t.words t.after) same.1 t.next) u.next in
     (one_number text t.start u.start n m next.0 t.number u.number, is ∙ sym is')
 
 -- ---- the whole text
 
-pub one_whole_function : (text : List ℕ) (f g : FunctionData) → IsWholeFunctionText text f → IsWholeFunctionText text g → f ≡ g
+pub one_whole_function : (text : List ℕ) (f g : FunctionData) → IsWholeFunctionText text f →
+    IsWholeFunctionText text g → f ≡ g
 one_whole_function text f g h k = (one_function_text text f g h.rest k.rest h.function_text k.function_text).0
 
 -- what is refused is no function text
-pub refused_whole : (text : List ℕ) (left : ℕ) (f : FunctionData) (e : Reason) → IsWholeFunctionText text f → IsRefusedInWhole text (Refused left e) → ⊥
+pub refused_whole : (text : List ℕ) (left : ℕ) (f : FunctionData) (e : Reason) → IsWholeFunctionText text f →
+    IsRefusedInWhole text (Refused left e) → ⊥
 refused_whole text left f e w (s, left_is, inl g) = no_fault_at text w.rest s f e w.function_text g
 refused_whole text left f e w (s, left_is, inr (is, t)) =
     let same = one_function_text text f t.function w.rest t.rest w.function_text t.function_text in

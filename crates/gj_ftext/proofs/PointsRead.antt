@@ -24,9 +24,12 @@ use Rattle.gj_ftext.proofs.TextLines.{one_line_more}
 
 -- ---- the next line is no point
 
-pub refused_point : (points : List Point) (text start : List ℕ) (words : List (List ℕ)) (rest : List ℕ) (e : Reason) (f : Fault) →
-    HasNextLine start words rest text → BreaksPoint points words e → f ≡ Refused (length start) e → IsRefusedPoint text points f
-refused_point points text start words rest e f next broken is = rw is (λ q. (start, refl, in_line words rest next broken))
+pub refused_point : (points : List Point) (text start : List ℕ) (words : List (List ℕ)) (rest : List ℕ) (e : Reason)
+    (f : Fault) →
+    HasNextLine start words rest text → BreaksPoint points words e → f ≡ Refused (length start) e →
+    IsRefusedPoint text points f
+refused_point points text start words rest e f next broken is = rw is
+    (λ q. (start, refl, in_line words rest next broken))
 
 pub no_point : (points : List Point) (text : List ℕ) (f : Fault) → IsEnded text f → IsRefusedPoint text points f
 no_point points text (Refused left e) h = λ q. ([], h.0, ended h.2 refl h.1)
@@ -38,7 +41,8 @@ one_or_three (One word) = inl refl
 one_or_three (Three first second third) = inr refl
 
 -- where one of them is no number they are those of no point
-pub no_value : (words : PointWords) (word : Bor (List ℕ)) → words ≡ One word → ((n : ℤ) (d : ℕ) → IsNumberText word.now n d → ⊥) →
+pub no_value : (words : PointWords) (word : Bor (List ℕ)) → words ≡ One word →
+    ((n : ℤ) (d : ℕ) → IsNumberText word.now n d → ⊥) →
     (p : Point) → ArePointWords (words_of_point words) p → ⊥
 no_value words word is none p h =
     let spelled = subst (λ (w : PointWords). ArePointWords (words_of_point w) p) is h in
@@ -75,12 +79,21 @@ none_read text = record {
   has = record {
     fractions = [];
     spelled = tt;
-    passed = record { small = All-nil IsSmall; common = (1, least_of_none.low, least_of_none.high, least_of_none.common) };
+    passed = record {
+      small = All-nil IsSmall;
+      common = (
+        1,
+        least_of_none.low,
+        least_of_none.high,
+        least_of_none.common,
+      );
+    };
     lines = refl;
   };
 }
 
-pub one_read : (text : List ℕ) (read : ℕ) (points new : List Point) (rest next : List ℕ) → HaveRead text read points rest →
+pub one_read : (text : List ℕ) (read : ℕ) (points new : List Point) (rest next : List ℕ) →
+    HaveRead text read points rest →
     HasPointLine rest points new next → HaveRead text (read + 1) new next
 one_read text read points new rest next h p = record {
   count = ap length p.new_is ∙ length_push points p.added ∙ ap (λ n. n + 1) h.count;
@@ -90,12 +103,14 @@ one_read text read points new rest next h p = record {
         (all_zipped_more ArePointWords h.has.fractions points p.words p.added h.has.spelled p.spelled);
     passed = p.passed;
     lines = subst (λ ls. HasLines text ls next) (sym (map-append point_words h.has.fractions (p.words ∷ [])))
-        (one_line_more text (map point_words h.has.fractions) rest p.line.start (point_words p.words) next h.has.lines p.line.next);
+        (one_line_more text (map point_words h.has.fractions) rest p.line.start (point_words p.words) next
+        h.has.lines p.line.next);
   };
 }
 
 -- the next line is at fault
-pub fault_read : (text : List ℕ) (read count : ℕ) (points : List Point) (rest : List ℕ) (e : Fault) → HaveRead text read points rest →
+pub fault_read : (text : List ℕ) (read count : ℕ) (points : List Point) (rest : List ℕ) (e : Fault) →
+    HaveRead text read points rest →
     read < count → IsRefusedPoint rest points e → IsRefusedPoints text count e
 fault_read text read count points rest (Refused left a) h some r =
     let f = r count in (points, rest, f.0, f.1, omega (arith, h.count), h.has, f.2)
@@ -103,9 +118,11 @@ fault_read text read count points rest (Memory a) h some r = tt
 
 -- ---- the end
 
-pub refused_last : (text start : List ℕ) (words : List (List ℕ)) (rest : List ℕ) (f : Fault) → HasNextLine start words rest text →
+pub refused_last : (text start : List ℕ) (words : List (List ℕ)) (rest : List ℕ) (f : Fault) →
+    HasNextLine start words rest text →
     (words ≡ end_words → ⊥) → f ≡ Refused (length start) reason.Form → IsRefusedEnd text f
-refused_last text start words rest f next other is = rw is (λ q points. (start, refl, in_line words rest next (refl, other)))
+refused_last text start words rest f next other is = rw is
+    (λ q points. (start, refl, in_line words rest next (refl, other)))
 
 pub no_last : (text : List ℕ) (f : Fault) → IsEnded text f → IsRefusedEnd text f
 no_last text (Refused left e) h = λ q points. ([], h.0, ended h.2 refl h.1)

@@ -114,10 +114,12 @@ IsRefusedAt x text (Memory a) = ⊥
 
 -- the next line is no point that can follow these points, or there is no memory
 abbrev pub IsRefusedPoint : List ℕ → List Point → Fault → Type 0
-IsRefusedPoint text points (Refused left e) = (q : ℕ) → (start : List ℕ) × (left ≡ length start) × BreaksAt (point q points) text start e
+IsRefusedPoint text points (Refused left e) =
+    (q : ℕ) → (start : List ℕ) × (left ≡ length start) × BreaksAt (point q points) text start e
 IsRefusedPoint text points (Memory a) = Unit {0}
 
--- fewer than `count` points that pass all tests are followed by a line that is no point after them, or there is no memory
+-- fewer than `count` points that pass all tests are followed by a line that is no point after them, or there is no
+-- memory
 abbrev pub IsRefusedPoints : List ℕ → ℕ → Fault → Type 0
 IsRefusedPoints text count (Refused left e) =
     (points : List Point) × (rest start : List ℕ) × (left ≡ length start) × (length points < count)

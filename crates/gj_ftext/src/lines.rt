@@ -1,9 +1,11 @@
 //! The lines of a lenient text that are not skipped.
-ghost use Rattle.std.specs.Prelude.{◌≡◌, ◌<◌, ◌↔◌, ◌∷◌, ◌++◌, ℕ, List, not, length, IfSome, IfNone, IsTrue};
+ghost use Rattle.std.specs.Prelude.{◌≡◌, ◌<◌, ◌↔◌, ◌∷◌, ◌++◌, ℕ, List, length, IfSome, IfNone, IsTrue};
 ghost use Rattle.std.specs.List.{position};
 ghost use Rattle.gj_lex.specs.Lines.{is_line_feed};
-ghost use Rattle.gj_lex.specs.Words.{is_blank, word_texts};
+ghost use Rattle.gj_lex.specs.Words.{word_texts};
 ghost use Rattle.gj_ftext.specs.Lines.{AreBytesOf, HasFirstWords, HasNextLine, IsSkipped, IsSkippedText};
+
+use crate::words::first_byte;
 
 /// A line of a text that is not skipped.
 #[derive(Clone, Copy, Debug, PartialEq, Eq)]
@@ -78,11 +80,4 @@ fn is_skipped(bytes: &[u8]) -> bool
         Some(place) => bytes[place] == b'#',
         None => true,
     }
-}
-
-/// Where the first byte other than space and tab stands.
-fn first_byte(bytes: &[u8]) -> Option<usize>
-    ensures { result ≡ position (λ b. not (is_blank b)) bytes.now }
-{
-    bytes.iter().position(|byte| !matches!(*byte, b' ' | b'\t'))
 }

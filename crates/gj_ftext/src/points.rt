@@ -60,7 +60,8 @@ fn point_at<'a>(text: &'a [u8], points: &mut Points) -> Result<&'a [u8], Fault>
 /// The words behind `point` in the line, where there are one or three.
 fn point_words(line: &[u8]) -> Option<PointWords<'_>>
     ensures found { IfSome result (λ p. word_texts line.now ≡ point_words (words_of_point p)) }
-    ensures none { IfNone result ((words : List (List ℕ)) → word_texts line.now ≡ point_words words → IsOneOrThree words → ⊥) }
+    ensures none { IfNone result ((words : List (List ℕ)) →
+        word_texts line.now ≡ point_words words → IsOneOrThree words → ⊥) }
 {
     let (first, rest) = next_word(behind_name(line, b"point")?)?;
     let Some((second, rest)) = next_word(rest) else {

@@ -21,7 +21,7 @@ fn first_blank(bytes: &[u8]) -> Option<usize>
 }
 
 /// Where the first byte other than space and tab stands.
-fn first_byte(bytes: &[u8]) -> Option<usize>
+pub(crate) fn first_byte(bytes: &[u8]) -> Option<usize>
     ensures { result ≡ position (λ b. not (is_blank b)) bytes.now }
 {
     bytes.iter().position(|byte| !matches!(*byte, b' ' | b'\t'))

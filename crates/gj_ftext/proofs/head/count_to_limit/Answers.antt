@@ -7,5 +7,6 @@ overflow_sub-digit c = digit_low _ _ c.requires c.loop-digit-test.true
 
 pub loop-digit-preserved : goal.loop-digit-preserved
 loop-digit-preserved c =
-    limit_more c.args.digits.now c.loop-digit.digit-index c.loop-digit.count _ c.requires c.loop-digit-test.true c.loop-digit.invariant
+    limit_more c.args.digits.now c.loop-digit.digit-index c.loop-digit.count _ c.requires c.loop-digit-test.true
+    c.loop-digit.invariant
     (c.min-count.ensures ∙ ap (λ d. min (c.loop-digit.count * 10 + d) 1001) c.from.ensures)

@@ -20,4 +20,13 @@ returns-in-None-clause-fault c =
     let word = c.in-Some.word.now in
     let is_count = c.if-not-is_count.ensures.0 refl in
     refused_line order _ _ _ _ _ _ c.in_ok-line.ensures.found
-    (inr (inr (refl, (word, digits_value 10 word, c.in-Some.ensures.found, (is_count, refl), c.in-None.ensures.none)))) c.at-in-None.ensures
+    (inr (inr (
+      refl,
+      (
+        word,
+        digits_value 10 word,
+        c.in-Some.ensures.found,
+        (is_count, refl),
+        c.in-None.ensures.none,
+      ),
+    ))) c.at-in-None.ensures

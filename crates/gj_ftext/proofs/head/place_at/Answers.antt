@@ -5,12 +5,21 @@ use Rattle.gj_ftext.proofs.head.place_at.Goals as goal
 
 pub returns-in_default-clause-fault : goal.returns-in_default-clause-fault
 returns-in_default-clause-fault c =
-    refused_line (place c.args.order) _ _ _ _ _ _ c.in_ok-line.ensures.found (inl (refl, c.in_default.ensures.none)) c.at.ensures
+    refused_line (place c.args.order) _ _ _ _ _ _ c.in_ok-line.ensures.found (inl (refl, c.in_default.ensures.none))
+    c.at.ensures
 
 pub returns-in_default-read_number-clause-fault : goal.returns-in_default-read_number-clause-fault
 returns-in_default-read_number-clause-fault c =
     refused_line (place c.args.order) _ _ _ _ _ _ c.in_ok-line.ensures.found
-    (inr (inl (refl, (c.in-Some.word.now, c.in-Some.ensures.found, λ x h. c.in_default-read_number.ensures.only h.0 h.1 h.2))))
+    (inr (inl (
+      refl,
+      (
+        c.in-Some.word.now,
+        c.in-Some.ensures.found,
+        λ x h. c.in_default-read_number.ensures.only h.0
+            h.1 h.2,
+      ),
+    )))
     c.at-in_default-read_number.ensures
 
 pub returns-in-Some-place_of-clause-found : goal.returns-in-Some-place_of-clause-found

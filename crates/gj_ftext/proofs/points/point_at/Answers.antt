@@ -11,7 +11,15 @@ returns-in_default-clause-fault c =
 pub returns-in_default-point_of-clause-fault : goal.returns-in_default-point_of-clause-fault
 returns-in_default-point_of-clause-fault c =
     refused_point _ _ _ _ _ _ _ c.in_ok-line.ensures.found
-    (inr (inl (refl, (words_of_point c.in-Some.words, c.in-Some.ensures.found, one_or_three c.in-Some.words, c.in_default-point_of.ensures.none))))
+    (inr (inl (
+      refl,
+      (
+        words_of_point c.in-Some.words,
+        c.in-Some.ensures.found,
+        one_or_three c.in-Some.words,
+        c.in_default-point_of.ensures.none,
+      ),
+    )))
     c.at-in_default-point_of.ensures
 
 pub returns-in-Ok-clause-found : goal.returns-in-Ok-clause-found
@@ -30,7 +38,13 @@ returns-in-Err-Large-clause-fault c =
     refused_point _ _ _ _ _ _ _ c.in_ok-line.ensures.found
     (inr (inr (inl (
       refl,
-      (words_of_point c.in-Some.words, c.in-Some-point_of.point, c.in-Some.ensures.found, c.in-Some-point_of.ensures.found, f),
+      (
+        words_of_point c.in-Some.words,
+        c.in-Some-point_of.point,
+        c.in-Some.ensures.found,
+        c.in-Some-point_of.ensures.found,
+        f,
+      ),
     ))))
     c.at-in-Err-Large.ensures
 
@@ -40,6 +54,12 @@ returns-in-Err-Fine-clause-fault c =
     refused_point _ _ _ _ _ _ _ c.in_ok-line.ensures.found
     (inr (inr (inr (
       refl,
-      (words_of_point c.in-Some.words, c.in-Some-point_of.point, c.in-Some.ensures.found, c.in-Some-point_of.ensures.found, f),
+      (
+        words_of_point c.in-Some.words,
+        c.in-Some-point_of.point,
+        c.in-Some.ensures.found,
+        c.in-Some-point_of.ensures.found,
+        f,
+      ),
     ))))
     c.at-in-Err-Fine.ensures

@@ -14,7 +14,8 @@ line_number-requires c =
 pub returns-in-Ok-clause-found : goal.returns-in-Ok-clause-found
 returns-in-Ok-clause-found c = (
   omega arith,
-  subst (IsFunctionText c.args.bytes.now c.in-Ok.shape) (sym (rest_at _ _ _ c.in-Ok.ensures.found)) c.in-Ok.ensures.found,
+  subst (IsFunctionText c.args.bytes.now c.in-Ok.shape) (sym (rest_at _ _ _ c.in-Ok.ensures.found))
+      c.in-Ok.ensures.found,
 )
 
 pub returns-in-Ok-clause-only : goal.returns-in-Ok-clause-only

@@ -15,4 +15,5 @@ returns-in-Err-Refused-clause-only c = λ f h.
 
 pub returns-in-Err-Refused-clause-refused : goal.returns-in-Err-Refused-clause-refused
 returns-in-Err-Refused-clause-refused c =
-    first_fault_of_whole _ _ _ _ (rw c.in-Err-Refused.field-0-is at c.in-Err-Refused.ensures.fault) c.line_number.ensures
+    first_fault_of_whole _ _ _ _ (rw c.in-Err-Refused.field-0-is at c.in-Err-Refused.ensures.fault)
+    c.line_number.ensures

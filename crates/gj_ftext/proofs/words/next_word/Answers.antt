@@ -14,6 +14,7 @@ returns-clause-found c =
     let k = c.in_ok-line.field-0 in
     let end = c.unwrap_or-end.result in
     let rest = take (length line - k) (drop k line) in
-    let at = c.unwrap_or-end.ensures ∙ ap (λ o. unwrap_or o (length rest)) c.first_blank.ensures ∙ position_unwrapped _ rest in
+    let at = c.unwrap_or-end.ensures ∙ ap (λ o. unwrap_or o (length rest)) c.first_blank.ensures
+    ∙ position_unwrapped _ rest in
     first_word line rest k end (sym c.in_ok-line.ensures) (take_rest line k) at
     ∙ ap (λ t. take end rest ∷ word_texts t) (sym (take_rest rest end))
