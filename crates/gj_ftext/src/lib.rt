@@ -12,7 +12,8 @@ mod write;
 
 pub use faults::TextFault;
 pub use laws::{
-    canonical_text_is_function_text, no_fault_in_function_text, one_canonical_text, one_first_fault, one_function_text,
+    canonical_text_is_function_text, no_fault_in_function_text, one_canonical_text,
+    one_first_fault, one_function_text,
 };
 pub use read::{read_function, read_whole_function};
 pub use write::write_function;

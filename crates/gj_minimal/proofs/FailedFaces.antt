@@ -1,15 +1,14 @@
 -- From the limits of one square to the tests of its faces.
-use Rattle.std.proofs.Common.{◌≡◌, ℕ, ◌+◌, ◌<◌, ℤ, pos, ◌≤ℤ◌, List, [], ◌∷◌, length, get_or, All, lit<, ap, sym, subst, refl, ⊎_elim, below_more, arith}
-use Rattle.std.proofs.lemmas.Int.{ints}
+use Rattle.std.proofs.Common.{◌≡◌, ℕ, ◌<◌, pos, ◌≤ℤ◌, [], ◌∷◌, length, get_or, All, lit<, sym, subst, refl, arith}
 use Rattle.std.proofs.lemmas.List.Elements.{All-nil, All-cons}
 use Rattle.gj_shape.specs.FunctionData.{FunctionData}
-use Rattle.gj_shape.specs.Faces.{corners_of, limits_of}
-use Rattle.gj_shape.specs.FirstViolation.{Test, Passes, tests_of_face}
+use Rattle.gj_shape.specs.Faces.{corners_of}
+use Rattle.gj_shape.specs.FirstViolation.{Test, Passes}
 use Rattle.gj_shape.specs.FirstViolation.Test.{subadditive_at}
 use Rattle.gj_shape.specs.declared.faces.FaceKind.{FaceKind}
 use Rattle.gj_shape.specs.declared.faces.FaceKind.TheVariants.{Vertex, Horizontal, Vertical, Diagonal, Lower, Upper}
 use Rattle.gj_complex.specs.declared.square.Square.{Square}
-use Rattle.gj_complex.specs.Squares.{limits_in, HasLimits}
+use Rattle.gj_complex.specs.Squares.{HasLimits}
 use Rattle.gj_theory.specs.Before.{PassesVertices, PassesFace, PassesSquare, HoldsBefore, PassesKindsBefore, PassesFacesBefore}
 use Rattle.gj_minimal.specs.FirstFailure.{IsFirstFailure, HoldsBelow}
 use Rattle.gj_minimal.specs.declared.failures.Failure.{Failure}

@@ -1,5 +1,5 @@
 -- The values at the midpoint of an open interval and at f less it.
-use Rattle.std.proofs.Common.{◌≡◌, ℕ, ◌+◌, ◌-◌, ◌*◌, ◌<◌, ℤ, pos, ◌+ℤ◌, ap, ap₂, ◌∙◌, lit≤, arith}
+use Rattle.std.proofs.Common.{◌≡◌, ℕ, ◌+◌, ◌-◌, ◌*◌, ◌<◌, ◌+ℤ◌, ap, ap₂, ◌∙◌, lit≤, arith}
 use Rattle.std.proofs.lemmas.Int.{ints}
 use Rattle.gj_shape.specs.FunctionData.{FunctionData, at}
 use Rattle.gj_shape.specs.Table.{table}

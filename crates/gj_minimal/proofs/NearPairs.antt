@@ -1,11 +1,11 @@
 -- The pair of points near a corner of a face.
-use Rattle.std.proofs.Common.{◌≡◌, ℕ, zero, suc, ◌+◌, ◌-◌, ◌*◌, ◌<◌, ◌≤◌, ℤ, pos, ◌+ℤ◌, ◌*ℤ◌, ◌<ℤ◌, ◌≤ℤ◌, List, [], ◌∷◌, length, get_or, map, sum, take, All, refl, sym, ap, subst, subst₂, ◌∙◌, arith}
+use Rattle.std.proofs.Common.{◌≡◌, ℕ, zero, suc, ◌+◌, ◌-◌, ◌*◌, ◌<◌, ◌≤◌, ℤ, pos, ◌+ℤ◌, ◌*ℤ◌, ◌<ℤ◌, ◌≤ℤ◌, List, [], ◌∷◌, length, get_or, sum, take, All, refl, sym, ap, subst, subst₂, ◌∙◌, arith}
 use Rattle.std.proofs.lemmas.Int.{ints}
 use Rattle.std.proofs.Math.ListN.{get_or-map}
 use Rattle.std.proofs.lemmas.List.Elements.{All-nil, All-cons, All-get_or, All-head, All-tail}
 use Rattle.gj_frac.specs.declared.Frac.{Frac}
 use Rattle.gj_frac.specs.Fraction.{Is}
-use Rattle.gj_shape.specs.FunctionData.{FunctionData, IsWithinLimits, at}
+use Rattle.gj_shape.specs.FunctionData.{FunctionData, IsWithinLimits}
 use Rattle.gj_shape.specs.Faces.{corners_of, limits_of}
 use Rattle.gj_shape.specs.Table.{table}
 use Rattle.gj_shape.specs.FirstViolation.{near, first_coordinates, second_coordinates, IsLeastFrom, IsSuperadditiveOnGrid, ShowsNearCorner}

@@ -1,11 +1,10 @@
 -- Points near the ends of an open interval and near the corners of a face, on the coarsest grid that shows a failure.
-use Rattle.std.proofs.Common.{◌≡◌, ℕ, ◌+◌, ◌-◌, ◌*◌, ◌<◌, ◌≤◌, ◌^◌, ℤ, pos, ◌+ℤ◌, ◌*ℤ◌, ◌<ℤ◌, ◌≤ℤ◌, refl, sym, ap, subst, subst₂, ◌∙◌, arith}
+use Rattle.std.proofs.Common.{◌≡◌, ℕ, ◌+◌, ◌-◌, ◌*◌, ◌<◌, ◌≤◌, ◌^◌, ℤ, pos, ◌+ℤ◌, ◌*ℤ◌, ◌<ℤ◌, ◌≤ℤ◌, refl, sym, ap, subst, ◌∙◌, arith}
 use Rattle.std.proofs.Math.Nat.{mul-le-mul}
 use Rattle.std.proofs.lemmas.Int.{ints}
 use Rattle.gj_frac.specs.declared.Frac.{Frac}
 use Rattle.gj_frac.specs.Fraction.{Is}
 use Rattle.gj_shape.specs.FunctionData.{FunctionData, at}
-use Rattle.gj_shape.specs.Table.{table}
 use Rattle.gj_shape.specs.FirstViolation.{Shows, IsLeastFrom, IsNegativeOnGrid}
 use Rattle.gj_shape.specs.FirstViolation.Test.{nonnegative_after, nonnegative_before}
 use Rattle.gj_shape.specs.declared.violations.Violation.TheVariants as violation

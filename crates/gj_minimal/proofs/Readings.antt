@@ -1,10 +1,9 @@
 -- What the code reads of a list of numerators.
-use Rattle.std.proofs.Common.{◌≡◌, ◌≢◌, ℕ, ◌%◌, ◌<◌, ◌^◌, ℤ, pos, ◌+ℤ◌, ◌<ℤ◌, ◌≤ℤ◌, unsigned_abs, List, length, get_or, true, false, IsTrue, ◌↔◌, eqb, eqb-true, eq-eqb, ◌*ℤ◌, ap, sym, ◌∙◌, to_z, of_z, FitsSigned, w64, arith}
+use Rattle.std.proofs.Common.{◌≡◌, ℕ, ◌<◌, ◌^◌, ℤ, pos, ◌+ℤ◌, ◌<ℤ◌, ◌≤ℤ◌, unsigned_abs, List, length, get_or, true, false, IsTrue, ◌↔◌, eqb, eqb-true, eq-eqb, ◌*ℤ◌, ap, sym, ◌∙◌, to_z, of_z, FitsSigned, w64, arith}
 use Rattle.std.proofs.lemmas.Int.{ints, to_z-of_z}
 use Rattle.gj_shape.specs.FunctionData.{at}
 use Rattle.gj_shape.proofs.AtLemmas.{at_below}
 use lib.Signed.{lt_z}
-use mir.Syntax.{w128}
 
 -- an entry that is read
 pub read_is : (xs : List ℤ) (i : ℕ) → i < length xs → FitsSigned w64 (get_or xs i (pos 0)) →

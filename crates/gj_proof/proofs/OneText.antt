@@ -6,7 +6,7 @@ use Rattle.gj_frac.specs.Fraction.{Is}
 use Rattle.gj_lex.specs.declared.reason.Reason.{Reason}
 use Rattle.gj_shape.specs.FunctionData.{FunctionData}
 use Rattle.gj_shape.specs.Given.{IsOrder}
-use Rattle.gj_lines.specs.FunctionLines.{line, order_line, place_line, point_line, lines_of}
+use Rattle.gj_lines.specs.FunctionLines.{line, order_line, place_line, point_line}
 use Rattle.gj_lines.specs.Points.{IsPlaceFraction, ArePointsOf}
 use Rattle.gj_lines.specs.declared.points.Point.{Point}
 use Rattle.gj_proof.specs.ProofText.{function_of, claim_word, shown_lines, violation_line, IsKept, IsProofText}

@@ -1,5 +1,5 @@
 -- Inputs in the form of a command, refusals of inputs, and texts that were shown.
-use Rattle.std.proofs.Common.{◌≡◌, ℕ, List, [], ◌++◌, codes, decimal, refl, sym, subst, subst₂, ◌∙◌}
+use Rattle.std.proofs.Common.{◌≡◌, ℕ, List, [], ◌++◌, codes, decimal, refl, sym, subst, subst₂}
 use Rattle.std.proofs.lemmas.List.{append-nil}
 use Rattle.gj_lex.specs.declared.reason.Reason.{Reason}
 use Rattle.gj_lex.specs.Reason.{reason_word}
@@ -15,7 +15,7 @@ use Rattle.gj_top.specs.declared.command.Command.{Command}
 use Rattle.gj_top.specs.declared.command.Command.TheVariants.{Minimal, Show, Check}
 use Rattle.gj_top.specs.declared.status.Status.{Status}
 use Rattle.gj_top.specs.declared.status.Status.TheVariants.{Done, Input}
-use Rattle.gj_top.specs.Answer.{IsInForm, IsFault, IsReply}
+use Rattle.gj_top.specs.Answer.{IsFault, IsReply}
 use Rattle.gj_top.proofs.Outcomes.{NoFaultInForm}
 
 -- no line of an input in the form of a command is at fault

@@ -67,7 +67,11 @@ meets_point f (violation.Asymmetric x) h fine (i, below, is) s = record {
 }
 meets_point f (violation.Superadditive x y) h fine ((i, below, is), (j, less, at_j)) s = record {
   coordinates = all_two IsCoordinate x y (coordinate (f.order * h) i x below is) (coordinate (f.order * h) j y less at_j);
-  common = (f.order * h, omega arith, fine,
-  all_two (λ z. unsigned_abs (denominator z) ∣ f.order * h) x y (divides (f.order * h) i x is) (divides (f.order * h) j y at_j));
+  common = (
+    f.order * h,
+    omega arith,
+    fine,
+    all_two (λ z. unsigned_abs (denominator z) ∣ f.order * h) x y (divides (f.order * h) i x is) (divides (f.order * h) j y at_j),
+  );
   shown = s;
 }

@@ -1,5 +1,5 @@
 -- How the outcome of a run follows from what was read and what was written.
-use Rattle.std.proofs.Common.{◌≡◌, ◌≢◌, ◌⊎◌, ◌↔◌, inl, inr, ℕ, ◌+◌, ◌≤◌, List, [], ◌∷◌, ◌++◌, length, codes, subst, sym, ap, ◌∙◌, refl, arith, Option, None, Some, Ok, Err, IfSome, String, Vec, vec_len}
+use Rattle.std.proofs.Common.{◌≡◌, ◌≢◌, ◌⊎◌, inl, inr, ℕ, ◌+◌, ◌≤◌, List, [], ◌∷◌, ◌++◌, length, codes, subst, sym, ap, ◌∙◌, refl, arith, Option, None, Some, Ok, Err, IfSome, String, Vec, vec_len}
 use Rattle.std.proofs.lemmas.List.{drop_all}
 use Rattle.std.specs.declared.alloc.Global.{Global}
 use Rattle.gj_port.specs.Whole.{TakesAll}

@@ -165,7 +165,11 @@ fn functions_are_shown(rt: HostRuntime) -> Result<(), Fail> {
             Status::Input,
             "refused line 5 large\n",
         ),
-        ("gj-function 1\norder 1001\n", Status::Input, "refused line 2 order\n"),
+        (
+            "gj-function 1\norder 1001\n",
+            Status::Input,
+            "refused line 2 order\n",
+        ),
         ("", Status::Input, "refused line 1 form\n"),
     ] {
         let (ended, sink) = ran(rt.alloc(), &["show"], input.as_bytes(), &[], &[])?;

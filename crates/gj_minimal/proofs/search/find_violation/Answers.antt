@@ -1,4 +1,4 @@
-use Rattle.std.proofs.Common.{IfNone, None, sym, subst}
+use Rattle.std.proofs.Common.{IfNone, sym, subst}
 use Rattle.gj_shape.specs.Table.{IsMinimal}
 use Rattle.gj_minimal.specs.Failures.{test_of}
 use Rattle.gj_minimal.proofs.Theory.{first_failed, minimal_from_tests, first_shown, violation_denies}

@@ -1,9 +1,8 @@
-use Rattle.std.proofs.Common.{◌≡◌, ◌+◌, ◌*◌, ◌-◌, ◌<◌, ◌≤◌, ◌^◌, ℕ, pos, ◌+ℤ◌, ◌<ℤ◌, ◌≤ℤ◌, length, get_or, sum, ap, sym, subst, ◌∙◌, w64, to_z, of_z, arith}
+use Rattle.std.proofs.Common.{◌≡◌, ℕ, pos, ◌<ℤ◌, get_or, ap, sym, subst, ◌∙◌, w64, to_z, of_z, arith}
 use Rattle.std.proofs.lemmas.Int.{ints}
-use Rattle.gj_shape.specs.Faces.{corners_of, limits_of}
 use Rattle.gj_theory.specs.NearCorners.{total}
 use Rattle.gj_minimal.proofs.FailedFaces.{same_corners}
-use Rattle.gj_minimal.proofs.NearPoints.{fine_grid, two_points}
+use Rattle.gj_minimal.proofs.NearPoints.{two_points}
 use Rattle.gj_minimal.proofs.NearPairs.{some_corners, corner_up_to, sums_below, pair_shown}
 use Rattle.gj_minimal.proofs.EntryBounds.{fine_near_corner}
 use Rattle.gj_minimal.proofs.shown.pair_near.Goals as goal
