@@ -1,12 +1,11 @@
 -- A canonical text is a function text.
-use Rattle.std.proofs.Common.{◌≡◌, ◌≢◌, ℕ, zero, suc, ◌^◌, ◌<◌, ◌≤◌, ℤ, pos, negsuc, unsigned_abs, List, [], ◌∷◌, ◌++◌, length, get_or, map, flat_map, codes, decimal, All, Bool, true, false, cond, ◌&&◌, if◌then◌else◌, refl, sym, ap, subst, ◌∙◌, arith}
+use Rattle.std.proofs.Common.{◌≡◌, ◌≢◌, ℕ, zero, suc, ◌^◌, ◌<◌, ◌≤◌, ℤ, pos, negsuc, unsigned_abs, List, [], ◌∷◌, ◌++◌, length, get_or, map, flat_map, codes, decimal, All, Bool, true, false, cond, refl, sym, ap, subst, ◌∙◌, arith}
 use Rattle.std.specs.List.{AllZip}
 use Rattle.std.specs.Char.{IsAsciiDigit}
 use Rattle.std.specs.Fmt.{signed_decimal}
 use Rattle.std.specs.Str.Parse.{starts_with_minus, without_leading_sign}
 use Rattle.std.proofs.Math.Dec.{eqb}
 use Rattle.std.proofs.lemmas.Bool.{false≢true, ne_eqb}
-use Rattle.std.proofs.lemmas.Bool.Decides.{Decides-int_eq}
 use Rattle.std.proofs.lemmas.Fmt.{decimal_is_IsNumeral_wide}
 use Rattle.std.proofs.lemmas.Int.{ints}
 use Rattle.std.proofs.lemmas.List.{append_assoc, append-nil}
@@ -15,7 +14,6 @@ use Rattle.std.proofs.lemmas.Str.Parse.{without_leading_plus_none}
 use Rattle.gj_frac.specs.declared.Frac.{Frac}
 use Rattle.gj_frac.specs.Fraction.{Is, denominator}
 use Rattle.gj_frac.proofs.Integers.{pos_abs_z}
-use Rattle.gj_frac.proofs.SameValues.{same_parts_same}
 use Rattle.gj_lex.specs.NumberText.{denominator_text, fraction_text, IsWordByte, IsWritten, IsNumberText}
 use Rattle.gj_lex.specs.NumberText.IsWritten.{whole, ratio}
 use Rattle.gj_lex.specs.Words.{is_blank, word_texts}
@@ -23,11 +21,12 @@ use Rattle.gj_lex.proofs.Decimals.{decimal_some}
 use Rattle.gj_lex.proofs.Spelling.{denominator_one, denominator_more}
 use Rattle.gj_lex.proofs.WordBytes.{decimal_bytes, decimal_is_word, fraction_is_word, fraction_some}
 use Rattle.gj_shape.specs.FunctionData.{FunctionData, IsWithinLimits}
-use Rattle.gj_lines.specs.FunctionLines.{line, order_line, place_line, is_same, has_no_jump, point_text, point_line}
+use Rattle.gj_lines.specs.FunctionLines.{line, order_line, place_line, has_no_jump, point_text, point_line}
 use Rattle.gj_lines.specs.declared.points.Point.{Point}
+use Rattle.gj_lines.proofs.PointLines.{text_of_one, text_of_three, same_where_no_jump}
 use Rattle.gj_ftext.specs.Lines.{IsSkipped, HasNextLine, HasLines}
 use Rattle.gj_ftext.specs.FunctionText.{IsFractionWord, IsCountWord, ArePointWords, title_words, order_words, place_words, point_words, end_words, IsFunctionText, IsCanonicalText}
-use Rattle.gj_ftext.proofs.LineWords.{skip_blank, take_word}
+use Rattle.gj_lex.proofs.WordTexts.{skip_blank, take_word}
 use Rattle.gj_ftext.proofs.TextLines.{canonical_line}
 use Rattle.gj_ftext.proofs.WholeFaults.{lines_joined}
 
@@ -163,27 +162,6 @@ three_plain x y z =
 
 -- ---- the words of a point
 
--- the limit from the left, the value and the limit from the right
-abbrev three_texts : Point → List ℕ
-three_texts p = fraction_text p.left ++ codes " " ++ fraction_text p.value ++ codes " " ++ fraction_text p.right
-
-text_of_one : (p : Point) → has_no_jump p ≡ true → point_text p ≡ fraction_text p.value
-unfolding point_text
-text_of_one p e = ap (λ b. if b then fraction_text p.value else three_texts p) e
-
-text_of_three : (p : Point) → has_no_jump p ≡ false → point_text p ≡ three_texts p
-unfolding point_text
-text_of_three p e = ap (λ b. if b then fraction_text p.value else three_texts p) e
-
-both_true : (a b : Bool) → a && b ≡ true → (a ≡ true) × (b ≡ true)
-both_true true b h = (refl, h)
-both_true false b h = absurd (false≢true h)
-
-same_fraction : (x y : Frac) → is_same x y ≡ true → x ≡ y
-same_fraction x y h =
-    let parts = both_true _ _ h in
-    same_parts_same x y ((Decides-int_eq x.num y.num).0 parts.0) ((Decides-int_eq x.den y.den).0 parts.1)
-
 record PointText (p : Point) : Type 0 where
   words : List (List ℕ)
   spelled : ArePointWords words p
@@ -192,16 +170,11 @@ record PointText (p : Point) : Type 0 where
 
 point_of_text : (p : Point) (b : Bool) → has_no_jump p ≡ b → PointText p
 point_of_text p true e =
-    let parts = both_true _ _ e in
+    let same = same_where_no_jump p e in
     let text = text_of_one p e in
     record {
       words = fraction_text p.value ∷ [];
-      spelled = (
-        fraction_word p.value,
-        same_fraction p.left p.value parts.0,
-        sym
-            (same_fraction p.value p.right parts.1),
-      );
+      spelled = (fraction_word p.value, same.0, sym same.1);
       texts = ap (λ t. word_texts (codes "point " ++ t)) text
           ∙ ap (λ ws. codes "point" ∷ ws) (one_word (fraction_text p.value) (fraction_some p.value)
           (fraction_is_word p.value));

@@ -8,17 +8,6 @@ use Rattle.std.proofs.lemmas.Str.{digit_value_digit}
 use Rattle.std.proofs.lemmas.Str.Parse.{digit_from_value, digit_at}
 use Rattle.std.proofs.lemmas.List.Elements.{All-nil, All-cons, All-head, All-tail}
 
-pub digits_from_all : (ds : List ℕ) → All IsAsciiDigit ds → AllDigits 10 ds
-digits_from_all [] h = tt
-digits_from_all (c ∷ cs) h =
-    let d = All-head IsAsciiDigit c cs h in
-    let v = digit_value_digit c d in
-    (omega (arith, d), digits_from_all cs (All-tail IsAsciiDigit c cs h))
-
-pub all_from_digits : (ds : List ℕ) → AllDigits 10 ds → All IsAsciiDigit ds
-all_from_digits [] h = All-nil IsAsciiDigit
-all_from_digits (c ∷ cs) h = All-cons IsAsciiDigit c cs (digit_from_value c h.0) (all_from_digits cs h.1)
-
 -- a digit is no byte below `0`
 pub digit_low : (ds : List ℕ) (i : ℕ) → AllDigits 10 ds → i < length ds → 48 ≤ get_or ds i 0
 digit_low ds i d l = let r = digit_at ds i d l in omega (arith, r)

@@ -9,7 +9,7 @@ use Rattle.gj_lex.specs.Words.{word_texts}
 use Rattle.gj_ftext.specs.Lines.{AreBytesOf, HasFirstWords}
 use Rattle.gj_ftext.specs.Lines.IsFirstLine.{ended, unended}
 use Rattle.gj_ftext.specs.Lines.AreBytesOf.{dropped, kept}
-use Rattle.gj_ftext.proofs.FirstPlaces.{first_place, no_place}
+use Rattle.gj_lex.proofs.FirstPlaces.{first_place, no_place}
 
 feed_from_test : (b : ℕ) → is_line_feed b ≡ true → b ≡ 10
 feed_from_test b h = grind (arith, nat_tests)

@@ -2,10 +2,7 @@ pub mod Canonical
 pub mod Counts
 pub mod FirstFaults
 pub mod FirstLines
-pub mod FirstPlaces
-pub mod FirstWords
 pub mod LineFaults
-pub mod LineWords
 pub mod NextLines
 pub mod OneNumber
 pub mod OneText

@@ -10,6 +10,7 @@ use Rattle.gj_frac.proofs.SameValues.{same_from_is}
 use Rattle.gj_lex.specs.NumberText.{IsWritten}
 use Rattle.gj_lex.specs.NumberText.IsWritten.{whole, ratio, point}
 use Rattle.gj_lines.specs.declared.points.Point.{Point}
+use Rattle.gj_lines.proofs.GivenPoints.{same_points}
 use Rattle.gj_ftext.specs.FunctionText.{IsFractionWord, IsCountWord, ArePointWords}
 use Rattle.gj_ftext.specs.FirstFault.{IsOneOrThree}
 
@@ -83,17 +84,14 @@ one_fraction w x y (n, d, text, is) (m, e, text', is') =
 pub one_count : (w : List ℕ) (n m : ℕ) → IsCountWord w n → IsCountWord w m → n ≡ m
 one_count w n m h k = h.1 ∙ sym k.1
 
-same_point : (p q : Point) → p.left ≡ q.left → p.value ≡ q.value → p.right ≡ q.right → p ≡ q
-same_point p q l v r = λ i. record { left = l i; value = v i; right = r i }
-
 pub one_point : (ws : List (List ℕ)) (p q : Point) → ArePointWords ws p → ArePointWords ws q → p ≡ q
 one_point [] p q h k = absurd h
 one_point (w ∷ []) p q h k =
-    let same = one_fraction w p.value q.value h.0 k.0 in same_point p q (h.1 ∙ same ∙ sym k.1) same
+    let same = one_fraction w p.value q.value h.0 k.0 in same_points p q (h.1 ∙ same ∙ sym k.1) same
     (h.2 ∙ same ∙ sym k.2)
 one_point (w ∷ v ∷ []) p q h k = absurd h
 one_point (w ∷ v ∷ u ∷ []) p q h k =
-    same_point p q (one_fraction w p.left q.left h.0 k.0) (one_fraction v p.value q.value h.1 k.1)
+    same_points p q (one_fraction w p.left q.left h.0 k.0) (one_fraction v p.value q.value h.1 k.1)
     (one_fraction u p.right q.right h.2 k.2)
 one_point (w ∷ v ∷ u ∷ t ∷ ws) p q h k = absurd h
 

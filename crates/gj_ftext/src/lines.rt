@@ -5,7 +5,7 @@ ghost use Rattle.gj_lex.specs.Lines.{is_line_feed};
 ghost use Rattle.gj_lex.specs.Words.{word_texts};
 ghost use Rattle.gj_ftext.specs.Lines.{AreBytesOf, HasFirstWords, HasNextLine, IsSkipped, IsSkippedText};
 
-use crate::words::first_byte;
+use gj_lex::split_word;
 
 /// A line of a text that is not skipped.
 #[derive(Clone, Copy, Debug, PartialEq, Eq)]
@@ -72,12 +72,12 @@ fn without_return(line: &[u8]) -> &[u8]
     }
 }
 
-/// Whether a line is skipped: it has no byte but blanks, or the first other one is `#`.
+/// Whether a line is skipped: it has no word, or its first word begins with `#`.
 fn is_skipped(bytes: &[u8]) -> bool
     ensures { IsTrue result ↔ IsSkipped (word_texts bytes.now) }
 {
-    match first_byte(bytes) {
-        Some(place) => bytes[place] == b'#',
+    match split_word(bytes) {
+        Some((word, _)) => word.starts_with(b"#"),
         None => true,
     }
 }

@@ -9,8 +9,8 @@ ghost use Rattle.gj_lines.specs.declared.points.Point.{Point};
 
 use crate::faults::Fault;
 use crate::head::line_at;
-use crate::words::{behind_name, has_no_word, next_word};
-use gj_lex::{Reason, read_number};
+use crate::words::{behind_name, has_no_word};
+use gj_lex::{Reason, read_number, split_word};
 use gj_lines::{Point, PointFault, Points};
 use std::alloc::Global;
 
@@ -63,11 +63,11 @@ fn point_words(line: &[u8]) -> Option<PointWords<'_>>
     ensures none { IfNone result ((words : List (List ℕ)) →
         word_texts line.now ≡ point_words words → IsOneOrThree words → ⊥) }
 {
-    let (first, rest) = next_word(behind_name(line, b"point")?)?;
-    let Some((second, rest)) = next_word(rest) else {
+    let (first, rest) = split_word(behind_name(line, b"point")?)?;
+    let Some((second, rest)) = split_word(rest) else {
         return Some(PointWords::One(first));
     };
-    let (third, rest) = next_word(rest)?;
+    let (third, rest) = split_word(rest)?;
     if !has_no_word(rest) {
         return None;
     }

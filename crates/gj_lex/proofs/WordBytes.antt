@@ -4,7 +4,8 @@ use Rattle.std.specs.List.{All}
 use Rattle.std.specs.Char.{IsAsciiDigit}
 use Rattle.std.specs.Str.Parse.{AllDigits}
 use Rattle.std.specs.Fmt.{signed_decimal}
-use Rattle.std.proofs.lemmas.List.Elements.{All-append, All-cons, All-nil, All-weaker}
+use Rattle.std.proofs.lemmas.List.Elements.{All-append, All-cons, All-head, All-nil, All-tail, All-weaker}
+use Rattle.std.proofs.lemmas.Str.{digit_value_digit}
 use Rattle.std.proofs.lemmas.Str.Parse.{digit_from_value}
 use Rattle.std.proofs.lemmas.Fmt.{decimal_is_IsNumeral_wide}
 use Rattle.gj_frac.specs.declared.Frac.{Frac}
@@ -12,16 +13,24 @@ use Rattle.gj_lex.specs.NumberText.{denominator_text, fraction_text, IsNumberByt
 use Rattle.gj_lex.proofs.Decimals.{decimal_some}
 use Rattle.gj_lex.proofs.Spelling.{denominator_small, denominator_more}
 
--- a run of digits
-digits_are_digits : (ds : List ℕ) → AllDigits 10 ds → All IsAsciiDigit ds
-digits_are_digits [] d = All-nil IsAsciiDigit
-digits_are_digits (c ∷ cs) d = All-cons IsAsciiDigit c cs (digit_from_value c d.0) (digits_are_digits cs d.1)
+-- bytes whose values are those of digits are digits
+pub all_from_digits : (ds : List ℕ) → AllDigits 10 ds → All IsAsciiDigit ds
+all_from_digits [] d = All-nil IsAsciiDigit
+all_from_digits (c ∷ cs) d = All-cons IsAsciiDigit c cs (digit_from_value c d.0) (all_from_digits cs d.1)
+
+-- and digits have such values
+pub digits_from_all : (ds : List ℕ) → All IsAsciiDigit ds → AllDigits 10 ds
+digits_from_all [] h = tt
+digits_from_all (c ∷ cs) h =
+    let d = All-head IsAsciiDigit c cs h in
+    let v = digit_value_digit c d in
+    (omega (arith, d), digits_from_all cs (All-tail IsAsciiDigit c cs h))
 
 -- ---- counts
 
 -- the digits of a number are digits
 pub decimal_bytes : (n : ℕ) → n < 2 ^ 127 → All IsAsciiDigit (decimal n)
-decimal_bytes n small = digits_are_digits (decimal n) (decimal_is_IsNumeral_wide n (omega arith)).0.1
+decimal_bytes n small = all_from_digits (decimal n) (decimal_is_IsNumeral_wide n (omega arith)).0.1
 
 -- and so bytes of a canonical text
 decimal_number_bytes : (n : ℕ) → n < 2 ^ 127 → All IsNumberByte (decimal n)

@@ -8,11 +8,13 @@ use Rattle.gj_lex.proofs.Places.{fails_until, passes_there, place_within}
 abbrev pub is_word_byte : ℕ → Bool
 is_word_byte b = not (is_blank b)
 
-blank_from_not : (x : Bool) → not x ≡ false → x ≡ true
+-- what is not such a byte is a blank
+pub blank_from_not : (x : Bool) → not x ≡ false → x ≡ true
 blank_from_not true h = refl
 blank_from_not false h = sym h
 
-not_blank : (x : Bool) → not x ≡ true → x ≡ false
+-- and what is one is no blank
+pub not_blank : (x : Bool) → not x ≡ true → x ≡ false
 not_blank true h = sym h
 not_blank false h = refl
 

@@ -12,10 +12,11 @@ abbrev has_bytes : List ℕ → Bool
 has_bytes bs = nat_lt 0 (length bs)
 
 -- a blank makes no word
-skip_blank : (b : ℕ) (bs : List ℕ) → is_blank b ≡ true → word_texts (b ∷ bs) ≡ word_texts bs
+pub skip_blank : (b : ℕ) (bs : List ℕ) → is_blank b ≡ true → word_texts (b ∷ bs) ≡ word_texts bs
 skip_blank b bs h = ap (filter has_bytes) (slice_split-cons_yes is_blank b bs h)
 
-skip_blanks : (bs xs : List ℕ) → All (λ b. is_blank b ≡ true) bs → word_texts (bs ++ xs) ≡ word_texts xs
+-- nor do several
+pub skip_blanks : (bs xs : List ℕ) → All (λ b. is_blank b ≡ true) bs → word_texts (bs ++ xs) ≡ word_texts xs
 skip_blanks [] xs h = refl
 skip_blanks (b ∷ bs) xs h =
     skip_blank b (bs ++ xs) (All-head (λ c. is_blank c ≡ true) b bs h)
@@ -25,7 +26,8 @@ skip_blanks (b ∷ bs) xs h =
 keep_word : (word : List ℕ) (parts : List (List ℕ)) → 0 < length word → filter has_bytes (word ∷ parts) ≡ word ∷ filter has_bytes parts
 keep_word word parts some = let yes : has_bytes word ≡ true = grind (arith, nat_tests) in rw yes refl
 
-take_word : (word rest : List ℕ) → 0 < length word → All (λ b. is_blank b ≡ false) word → (0 < length rest → is_blank (get_or rest 0 0) ≡ true) →
+-- and the first word, where no blank stands before it
+pub take_word : (word rest : List ℕ) → 0 < length word → All (λ b. is_blank b ≡ false) word → (0 < length rest → is_blank (get_or rest 0 0) ≡ true) →
     word_texts (word ++ rest) ≡ word ∷ word_texts rest
 take_word word [] some whole ended =
     ap word_texts (append-nil word) ∙ ap (filter has_bytes) (slice_split_none is_blank word whole) ∙ keep_word word [] some

@@ -18,7 +18,7 @@ pub use lenient::read_number;
 pub use name::{Name, NameFault};
 pub use print::{print_count, print_frac};
 pub use reason::Reason;
-pub use words::words_of;
+pub use words::{split_word, words_of};
 
 #[cfg(test)]
 mod tests;

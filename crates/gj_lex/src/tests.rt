@@ -2,7 +2,7 @@
 
 use crate::{
     Cursor, LineSpan, Name, NameFault, print_count, print_frac, read_canonical, read_count,
-    read_number, words_of,
+    read_number, split_word, words_of,
 };
 use std::test::Fail;
 
@@ -141,6 +141,7 @@ fn refuses_what_is_no_number(rt: HostRuntime) {
 fn finds_words(rt: HostRuntime) -> Result<(), Fail> {
     let words = words_of(rt.alloc(), b"  a\tbc  d")?;
     assert_eq!(rt; words.as_slice(), [(2, 3), (4, 6), (8, 9)].as_slice());
+    assert_eq!(rt; split_word(b"  a\tbc").ok_or("a word")?, (b"a".as_slice(), b"\tbc".as_slice()));
     Ok(())
 }
 

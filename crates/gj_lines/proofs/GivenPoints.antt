@@ -84,7 +84,8 @@ count_of_points points f within are =
 
 -- ---- one list of points for a function, and one function for them
 
-same_points : (p q : Point) → p.left ≡ q.left → p.value ≡ q.value → p.right ≡ q.right → p ≡ q
+-- points with the same fractions are one
+pub same_points : (p q : Point) → p.left ≡ q.left → p.value ≡ q.value → p.right ≡ q.right → p ≡ q
 same_points p q e f g = λ i. record { left = e i; value = f i; right = g i }
 
 same_along : (scale : ℕ) (ps qs : List Point) (ls vs rs : List ℤ) → 0 < scale → AllZip (IsOver scale) (lefts ps) ls →

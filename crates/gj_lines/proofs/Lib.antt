@@ -1,4 +1,4 @@
 pub mod GivenPoints
 pub mod Places
-mod PointLines
+pub mod PointLines
 pub mod TestedPoints

@@ -63,10 +63,6 @@ place_found num den n d order k num_is den_is divides k_is =
     ∙ ap (λ m. m * d) (sym k_is) in
     ap (λ z. z *ℤ pos order) num_is ∙ ap pos same ∙ ap (λ z. pos k *ℤ z) (sym den_is)
 
--- a part of a fraction goes through a call as it is
-pub passed_part : (z part : ℤ) → z ≡ part → unsigned_abs part < 2 ^ 127 → to_z w128 (of_z w128 z) ≡ part
-passed_part z part e fits = omega (arith, ints)
-
 pub some_order : (order : ℕ) → IsOrder order → 0 < order
 some_order order h = omega (arith, h.0)
 

@@ -1,15 +1,19 @@
 -- Point lines, printed one after another.
 use Rattle.std.proofs.Common.{◌≡◌, ℕ, ◌+◌, ◌<◌, ◌≤◌, ℤ, pos, List, [], ◌∷◌, ◌++◌, length, take, flat_map, codes, true, false, if◌then◌else◌, Result, Ok, Err, OnOk, refl, sym, ap, subst, ◌∙◌, arith}
 use Rattle.std.specs.List.{AllZip}
+use Rattle.std.specs.Ordering.{int_eq}
+use Rattle.std.proofs.lemmas.Bool.{and_parts}
+use Rattle.std.proofs.lemmas.Bool.Decides.{Decides-int_eq}
 use Rattle.std.proofs.lemmas.List.{append_assoc, append-nil, flat_map_more, map-append, take_more, take_all}
 use Rattle.std.proofs.lemmas.Slice.Zip.{all_zipped_more}
 use Rattle.gj_frac.specs.declared.Frac.{Frac}
-use Rattle.gj_frac.specs.Fraction.{Is}
+use Rattle.gj_frac.specs.Fraction.{Is, numerator, denominator}
+use Rattle.gj_frac.proofs.SameValues.{same_parts_same}
 use Rattle.gj_lex.specs.NumberText.{fraction_text}
 use Rattle.gj_shape.specs.FunctionData.{FunctionData, IsWithinLimits, at}
 use Rattle.gj_shape.proofs.AtLemmas.{at_below}
 use Rattle.gj_lines.specs.Points.{lefts, values, rights, ArePointsOf, IsPointAt}
-use Rattle.gj_lines.specs.FunctionLines.{order_line, place_line, has_no_jump, point_text, point_line, lines_of, AreFunctionLines}
+use Rattle.gj_lines.specs.FunctionLines.{order_line, place_line, is_same, has_no_jump, point_text, point_line, lines_of, AreFunctionLines}
 use Rattle.gj_lines.specs.declared.points.Point.{Point}
 use Rattle.gj_shape.proofs.OverScale.{IsOver}
 
@@ -19,13 +23,28 @@ use Rattle.gj_shape.proofs.OverScale.{IsOver}
 abbrev pub three_texts : Point → List ℕ
 three_texts p = fraction_text p.left ++ codes " " ++ fraction_text p.value ++ codes " " ++ fraction_text p.right
 
+-- a point without a jump is written by its value
 pub text_of_one : (p : Point) → has_no_jump p ≡ true → point_text p ≡ fraction_text p.value
 unfolding point_text
 text_of_one p e = ap (λ b. if b then fraction_text p.value else three_texts p) e
 
+-- and one with a jump by its three fractions
 pub text_of_three : (p : Point) → has_no_jump p ≡ false → point_text p ≡ three_texts p
 unfolding point_text
 text_of_three p e = ap (λ b. if b then fraction_text p.value else three_texts p) e
+
+-- fractions with the same parts are one
+same_from_is_same : (x y : Frac) → is_same x y ≡ true → x ≡ y
+same_from_is_same x y h =
+    let parts = and_parts (int_eq (numerator x) (numerator y)) (int_eq (denominator x) (denominator y)) h in
+    same_parts_same x y ((Decides-int_eq (numerator x) (numerator y)).0 parts.0)
+    ((Decides-int_eq (denominator x) (denominator y)).0 parts.1)
+
+-- where a point has no jump, its value is both limits
+pub same_where_no_jump : (p : Point) → has_no_jump p ≡ true → (p.left ≡ p.value) × (p.value ≡ p.right)
+same_where_no_jump p h =
+    let parts = and_parts (is_same p.left p.value) (is_same p.value p.right) h in
+    (same_from_is_same p.left p.value parts.0, same_from_is_same p.value p.right parts.1)
 
 -- ---- the lines of the points
 

@@ -1,29 +1,24 @@
 -- The line of a point: its words, and that no other point has them.
 use Rattle.std.proofs.Common.{◌≡◌, ◌≢◌, ℕ, List, [], ◌∷◌, ◌++◌, codes, All, Bool, true, false, cond, refl, sym, ap, subst, ◌∙◌}
 use Rattle.std.specs.Ordering.{int_eq}
-use Rattle.std.proofs.lemmas.Bool.{and_from, and_parts}
+use Rattle.std.proofs.lemmas.Bool.{and_from}
 use Rattle.std.proofs.lemmas.Bool.Decides.{Decides-int_eq}
 use Rattle.std.proofs.lemmas.List.{append_assoc}
 use Rattle.std.proofs.lemmas.List.Elements.{All-nil, All-cons, All-head, All-tail}
 use Rattle.gj_frac.specs.declared.Frac.{Frac}
 use Rattle.gj_frac.specs.Fraction.{numerator, denominator}
-use Rattle.gj_frac.proofs.SameValues.{same_parts_same}
 use Rattle.gj_lex.specs.NumberText.{fraction_text}
 use Rattle.gj_lex.proofs.Spelling.{same_from_fraction_text}
 use Rattle.gj_lines.specs.FunctionLines.{line, is_same, has_no_jump, point_text, point_line}
 use Rattle.gj_lines.specs.declared.points.Point.{Point}
+use Rattle.gj_lines.proofs.GivenPoints.{same_points}
+use Rattle.gj_lines.proofs.PointLines.{same_where_no_jump}
 use Rattle.gj_proof.specs.Words.{HasField, HasThreeFields, HasPointWords, IsFraction}
 use Rattle.gj_proof.proofs.WordLemmas.{no_feed_in_word, no_space_in_word, fraction_last_word, split_same, word_same, together, no_feed_in_three_words, three_words_line}
 
 -- ---- the fractions of a point
 
--- fractions with the same parts are one
-same_from_is_same : (x y : Frac) → is_same x y ≡ true → x ≡ y
-same_from_is_same x y h =
-    let parts = and_parts (int_eq (numerator x) (numerator y)) (int_eq (denominator x) (denominator y)) h in
-    same_parts_same x y ((Decides-int_eq (numerator x) (numerator y)).0 parts.0)
-    ((Decides-int_eq (denominator x) (denominator y)).0 parts.1)
-
+-- the same fraction has the same parts
 is_same_from : (x y : Frac) → x ≡ y → is_same x y ≡ true
 is_same_from x y e =
     and_from (int_eq (numerator x) (numerator y)) (int_eq (denominator x) (denominator y))
@@ -34,21 +29,6 @@ no_jump_from : (p : Point) → p.left ≡ p.value → p.value ≡ p.right → ha
 no_jump_from p e f =
     and_from (is_same p.left p.value) (is_same p.value p.right) (is_same_from p.left p.value e)
     (is_same_from p.value p.right f)
-
-same_where_no_jump : (p : Point) → has_no_jump p ≡ true → (p.left ≡ p.value) × (p.value ≡ p.right)
-same_where_no_jump p h =
-    let parts = and_parts (is_same p.left p.value) (is_same p.value p.right) h in
-    (same_from_is_same p.left p.value parts.0, same_from_is_same p.value p.right parts.1)
-
-point_of : Frac → Frac → Frac → Point
-point_of l v r = record { left = l; value = v; right = r }
-
--- points with the same fractions are one
-same_point : (p q : Point) → p.left ≡ q.left → p.value ≡ q.value → p.right ≡ q.right → p ≡ q
-unfolding point_of
-same_point p q e f g =
-    ap (λ x. point_of x p.value p.right) e ∙ ap (λ x. point_of q.left x p.right) f
-    ∙ ap (λ x. point_of q.left q.value x) g
 
 -- ---- its words
 
@@ -212,14 +192,14 @@ point_from_words p q = by (has_no_jump p) (has_no_jump q) refl refl
         let value = same_from_fraction_text p.value q.value text in
         let one = same_where_no_jump p h in
         let other = same_where_no_jump q k in
-        same_point p q (one.0 ∙ value ∙ sym other.0) value (sym one.1 ∙ value ∙ other.1)
+        same_points p q (one.0 ∙ value ∙ sym other.0) value (sym one.1 ∙ value ∙ other.1)
     by true false h k e = cc
     by false true h k e = cc
     by false false h k e =
         let l : fraction_text p.left ≡ fraction_text q.left = cc in
         let v : fraction_text p.value ≡ fraction_text q.value = cc in
         let r : fraction_text p.right ≡ fraction_text q.right = cc in
-        same_point p q (same_from_fraction_text p.left q.left l) (same_from_fraction_text p.value q.value v)
+        same_points p q (same_from_fraction_text p.left q.left l) (same_from_fraction_text p.value q.value v)
         (same_from_fraction_text p.right q.right r)
 
 -- a line of a point is that of one

@@ -1,14 +1,12 @@
 -- Words of a line: what numbers are words, and how a line is split.
 use Rattle.std.proofs.Common.{◌≡◌, ◌≢◌, ℕ, ◌-◌, ◌<◌, ◌≤◌, List, [], ◌∷◌, ◌++◌, length, codes, decimal, All, Option, None, Some, IfNone, refl, sym, ap, ◌∙◌, arith}
 use Rattle.std.specs.Char.{IsAsciiDigit}
-use Rattle.std.specs.Str.Parse.{AllDigits}
-use Rattle.std.proofs.lemmas.Str.{digit_value_digit}
 use Rattle.std.proofs.lemmas.List.{append_assoc, append_cancel_left}
 use Rattle.std.proofs.lemmas.List.Elements.{All-nil, All-cons, All-head, All-tail, All-append, All-weaker}
 use Rattle.gj_frac.specs.declared.Frac.{Frac}
 use Rattle.gj_lex.specs.NumberText.{fraction_text, IsWordByte}
 use Rattle.gj_lex.proofs.Decimals.{decimal_of_value, decimal_leading_zero, decimal_some, value_of_decimal}
-use Rattle.gj_lex.proofs.WordBytes.{decimal_is_word, decimal_bytes, fraction_is_word, fraction_some}
+use Rattle.gj_lex.proofs.WordBytes.{decimal_is_word, decimal_bytes, digits_from_all, fraction_is_word, fraction_some}
 use Rattle.gj_lines.specs.FunctionLines.{line}
 use Rattle.gj_proof.specs.Words.{IsInWord, IsWord, IsLastWord, HasTwoFields, HasThreeFields, IsCount, count_value}
 
@@ -43,17 +41,10 @@ decimal_last_word n few = last_word_of_bytes (decimal n) (decimal_some n (omega 
 
 -- ---- counts
 
-digits_of_all : (ds : List ℕ) → All IsAsciiDigit ds → AllDigits 10 ds
-digits_of_all [] h = tt
-digits_of_all (c ∷ cs) h =
-    let d = All-head IsAsciiDigit c cs h in
-    let v = digit_value_digit c d in
-    (omega (arith, d), digits_of_all cs (All-tail IsAsciiDigit c cs h))
-
 -- a count of a small value is its digits
 pub count_is_decimal : (w : List ℕ) → IsCount w → count_value w ≤ 1000 → w ≡ decimal (count_value w)
 count_is_decimal w h few =
-    sym (decimal_of_value w (digits_of_all w h.digits) h.some h.no_leading_zero (omega arith))
+    sym (decimal_of_value w (digits_from_all w h.digits) h.some h.no_leading_zero (omega arith))
 
 -- the digits of a number are a count, of that value
 pub decimal_is_count : (n : ℕ) → n ≤ 1000 → IsCount (decimal n)

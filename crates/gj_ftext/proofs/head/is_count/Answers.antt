@@ -1,4 +1,5 @@
-use Rattle.gj_ftext.proofs.Counts.{some_from_test, digits_from_all, all_from_digits}
+use Rattle.gj_lex.proofs.WordBytes.{all_from_digits, digits_from_all}
+use Rattle.gj_ftext.proofs.Counts.{some_from_test}
 use Rattle.gj_ftext.proofs.head.is_count.Goals as goal
 
 pub returns-then-not-is_empty : goal.returns-then-not-is_empty

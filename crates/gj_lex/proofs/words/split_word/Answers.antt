@@ -2,8 +2,8 @@ use Rattle.std.proofs.Common.{◌-◌, ◌∷◌, ◌∙◌, length, take, drop,
 use Rattle.std.proofs.lemmas.List.{take_rest}
 use Rattle.gj_lex.specs.Words.{word_texts}
 use Rattle.gj_lex.proofs.Spelling.{position_unwrapped}
-use Rattle.gj_ftext.proofs.LineWords.{first_word, no_words}
-use Rattle.gj_ftext.proofs.words.next_word.Goals as goal
+use Rattle.gj_lex.proofs.LineWords.{first_word, no_words}
+use Rattle.gj_lex.proofs.words.split_word.Goals as goal
 
 pub returns-in_err-line-clause-none : goal.returns-in_err-line-clause-none
 returns-in_err-line-clause-none c = rw c.from_residual.ensures (no_words c.args.line.now (sym c.in_err-line.ensures))

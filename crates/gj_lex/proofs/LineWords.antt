@@ -1,55 +1,13 @@
 -- The first word of a line, and the words behind it.
-use Rattle.std.proofs.Common.{◌≡◌, ℕ, ◌+◌, ◌<◌, Bool, true, false, not, List, [], ◌∷◌, ◌++◌, length, get_or, take, drop, nat_lt, None, Some, refl, sym, ◌∙◌, ap, arith, append-nil, take-append-drop, length-take, length-drop, get_or-take, get_or-drop}
-use Rattle.std.specs.List.{All, filter, slice_split, position, position_or_len}
-use Rattle.std.proofs.lemmas.Bool.Decides.{nat_tests}
+use Rattle.std.proofs.Common.{◌≡◌, ℕ, ◌+◌, ◌<◌, false, true, List, [], ◌∷◌, ◌++◌, length, get_or, take, drop, None, Some, sym, ◌∙◌, ap, refl, arith, append-nil, take-append-drop, length-take, length-drop, get_or-take, get_or-drop}
+use Rattle.std.specs.List.{All, position, position_or_len}
 use Rattle.std.proofs.lemmas.List.{drop_more}
-use Rattle.std.proofs.lemmas.List.Elements.{All-head, All-tail, All-weaker, All-from_get_or}
-use Rattle.std.proofs.lemmas.List.Splits.{slice_split-cons_yes, slice_split_none, slice_split_at}
+use Rattle.std.proofs.lemmas.List.Elements.{All-weaker, All-from_get_or}
 use Rattle.std.proofs.lemmas.List.Sums.{fails_before_first, passes_at_first}
 use Rattle.gj_lex.specs.Words.{is_blank, word_texts}
-use Rattle.gj_ftext.proofs.FirstPlaces.{first_place, no_place}
-
--- whether a part is no empty one
-abbrev has_bytes : List ℕ → Bool
-has_bytes bs = nat_lt 0 (length bs)
-
--- whether a byte is no blank
-abbrev pub is_word_byte : ℕ → Bool
-is_word_byte b = not (is_blank b)
-
-blank_from_not : (x : Bool) → not x ≡ false → x ≡ true
-blank_from_not true h = refl
-blank_from_not false h = sym h
-
-not_blank : (x : Bool) → not x ≡ true → x ≡ false
-not_blank true h = sym h
-not_blank false h = refl
-
--- a blank makes no word
-pub skip_blank : (b : ℕ) (bs : List ℕ) → is_blank b ≡ true → word_texts (b ∷ bs) ≡ word_texts bs
-skip_blank b bs h = ap (filter has_bytes) (slice_split-cons_yes is_blank b bs h)
-
-skip_blanks : (bs xs : List ℕ) → All (λ b. is_blank b ≡ true) bs → word_texts (bs ++ xs) ≡ word_texts xs
-skip_blanks [] xs h = refl
-skip_blanks (b ∷ bs) xs h =
-    skip_blank b (bs ++ xs) (All-head (λ c. is_blank c ≡ true) b bs h)
-    ∙ skip_blanks bs xs (All-tail (λ c. is_blank c ≡ true) b bs h)
-
--- a run without a blank is a part, and a word if it has a byte
-keep_word : (word : List ℕ) (parts : List (List ℕ)) → 0 < length word → filter has_bytes
-    (word ∷ parts) ≡ word ∷ filter has_bytes parts
-keep_word word parts some = let yes : has_bytes word ≡ true = grind (arith, nat_tests) in rw yes refl
-
-pub take_word : (word rest : List ℕ) → 0 < length word → All (λ b. is_blank b ≡ false) word →
-    (0 < length rest → is_blank (get_or rest 0 0) ≡ true) →
-    word_texts (word ++ rest) ≡ word ∷ word_texts rest
-take_word word [] some whole ended =
-    ap word_texts (append-nil word) ∙ ap (filter has_bytes) (slice_split_none is_blank word whole)
-    ∙ keep_word word [] some
-take_word word (b ∷ bs) some whole ended =
-    ap (filter has_bytes) (slice_split_at is_blank word b bs whole (ended (omega arith)))
-    ∙ keep_word word (slice_split is_blank bs) some
-    ∙ ap (λ ws. word ∷ ws) (sym (skip_blank b bs (ended (omega arith))))
+use Rattle.gj_lex.proofs.FirstPlaces.{first_place, no_place}
+use Rattle.gj_lex.proofs.WordRuns.{is_word_byte, blank_from_not, not_blank}
+use Rattle.gj_lex.proofs.WordTexts.{skip_blanks, take_word}
 
 -- a line that has only blanks has no word
 pub no_words : (line : List ℕ) → position is_word_byte line ≡ None → word_texts line ≡ []
