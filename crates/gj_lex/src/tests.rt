@@ -141,7 +141,10 @@ fn refuses_what_is_no_number(rt: HostRuntime) {
 fn finds_words(rt: HostRuntime) -> Result<(), Fail> {
     let words = words_of(rt.alloc(), b"  a\tbc  d")?;
     assert_eq!(rt; words.as_slice(), [(2, 3), (4, 6), (8, 9)].as_slice());
-    assert_eq!(rt; split_word(b"  a\tbc").ok_or("a word")?, (b"a".as_slice(), b"\tbc".as_slice()));
+    assert_eq!(rt;
+        split_word(b"  a\tbc").ok_or("a word")?,
+        (b"a".as_slice(), b"\tbc".as_slice())
+    );
     Ok(())
 }
 

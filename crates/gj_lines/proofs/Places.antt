@@ -1,11 +1,9 @@
 -- When a fraction in lowest terms is k/order.
-use Rattle.std.proofs.Common.{◌≡◌, ℕ, ◌*◌, ◌/◌, ◌%◌, ◌<◌, ◌≤◌, ◌^◌, ℤ, pos, negsuc, ◌*ℤ◌, unsigned_abs, refl, sym, ap, ◌∙◌, arith}
+use Rattle.std.proofs.Common.{◌≡◌, ℕ, ◌*◌, ◌/◌, ◌%◌, ◌<◌, ◌≤◌, ℤ, pos, negsuc, ◌*ℤ◌, refl, sym, ap, ◌∙◌, arith}
 use Rattle.std.proofs.Math.Nat.{mul_comm, mul_assoc, eq_of_mul-eq-mul_right, mul-div_cancel', mul-le-mul_left}
 use Rattle.std.proofs.lemmas.Nat.Gcd.{mod-eq-zero_of_dvd, dvd_of_mod-eq-zero, le_of_dvd}
 use Rattle.std.proofs.lemmas.Int.{ints}
 use Rattle.std.specs.Int.{◌∣◌}
-use mir.Val.{to_z, of_z}
-use mir.Syntax.{w128}
 use Rattle.gj_shape.specs.Given.{IsOrder}
 use Rattle.gj_frac.specs.Lowest.{IsLowest}
 use Rattle.gj_frac.proofs.Divisors.{whole_multiple}

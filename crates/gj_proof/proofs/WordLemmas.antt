@@ -1,6 +1,5 @@
 -- Words of a line: what numbers are words, and how a line is split.
 use Rattle.std.proofs.Common.{◌≡◌, ◌≢◌, ℕ, ◌-◌, ◌<◌, ◌≤◌, List, [], ◌∷◌, ◌++◌, length, codes, decimal, All, Option, None, Some, IfNone, refl, sym, ap, ◌∙◌, arith}
-use Rattle.std.specs.Char.{IsAsciiDigit}
 use Rattle.std.proofs.lemmas.List.{append_assoc, append_cancel_left}
 use Rattle.std.proofs.lemmas.List.Elements.{All-nil, All-cons, All-head, All-tail, All-append, All-weaker}
 use Rattle.gj_frac.specs.declared.Frac.{Frac}
