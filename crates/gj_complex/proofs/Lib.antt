@@ -1,4 +1,3 @@
 mod AllFaces
-mod Numerators
 mod SquareLemmas
 mod WalkLemmas

@@ -1,26 +1,20 @@
 -- Where the tests of signs and of symmetry pass, all values and limits lie from 0 to 1.
-use Rattle.std.proofs.Common.{◌≡◌, ℕ, zero, suc, ◌+◌, ◌-◌, ◌*◌, ◌%◌, ◌<◌, ◌≤◌, ◌^◌, ℤ, pos, ◌+ℤ◌, ◌≤ℤ◌, List, length, All, sym, ap, subst, ◌∙◌, arith}
-use Rattle.std.proofs.Math.Nat.{mod-lt, mul-le-mul_right}
+use Rattle.std.proofs.Common.{◌≡◌, ℕ, zero, suc, ◌+◌, ◌-◌, ◌*◌, ◌<◌, ◌≤◌, ◌^◌, ℤ, pos, ◌+ℤ◌, ◌≤ℤ◌, List, length, All, sym, ap, subst, ◌∙◌, arith}
+use Rattle.std.proofs.Math.Nat.{mul-le-mul_right}
 use Rattle.std.proofs.lemmas.Int.{ints}
 use Rattle.gj_shape.specs.FunctionData.{FunctionData, IsWithinLimits, at}
 use Rattle.gj_shape.specs.Faces.{corners_of, limits_of, slack_from}
 use Rattle.gj_shape.specs.declared.faces.FaceKind.{FaceKind}
 use Rattle.gj_shape.specs.declared.faces.FaceKind.TheVariants.{Vertex, Horizontal, Vertical, Diagonal, Lower, Upper}
-use Rattle.gj_shape.proofs.AtLemmas.{at_rest, at_plus_length}
+use Rattle.gj_shape.proofs.AtLemmas.{at_plus_length}
 use Rattle.gj_theory.specs.Before.{PassesSymmetry, PassesBefore}
 use Rattle.gj_theory.specs.NearCorners.{total}
 use Rattle.gj_shape.specs.FirstViolation.Test.{subadditive_at}
+use Rattle.gj_minimal.proofs.Theory.{limit_count, some_corners, everywhere}
 use Rattle.gj_minimal.proofs.NearPoints.{fine_grid}
-use Rattle.gj_minimal.proofs.NearPairs.{one_of, two_of, three_of, total_at_most, as_many_limits, some_corners}
+use Rattle.gj_minimal.proofs.NearPairs.{one_of, two_of, three_of, total_at_most}
 
--- what holds of each entry below the length holds of each entry
-everywhere : (P : ℤ → Type 0) (xs : List ℤ) (n : ℕ) → length xs ≡ n → 0 < n → ((i : ℕ) → i < n → P (at xs i)) →
-    (i : ℕ) → P (at xs i)
-everywhere P xs n len some h i =
-    let below = mod-lt i some in
-    subst P (ap (λ (m : ℕ). at xs (i % m)) (sym len) ∙ at_rest xs i) (h (i % n) below)
-
--- the same where each entry is one further on
+-- what holds of each entry one further on than an index below the length
 each_below : (P : ℤ → Type 0) (xs : List ℤ) (n : ℕ) → length xs ≡ n → ((i : ℕ) → i < n → P (at xs (i + 1))) →
     (i : ℕ) → i < n → P (at xs i)
 each_below P xs n len h zero below =
@@ -102,7 +96,7 @@ pub total_small : (f : FunctionData) (kind : FaceKind) (a b : ℕ) → IsWithinL
     total (limits_of f kind a b) ≤ℤ pos (2 ^ 34)
 total_small f kind a b l h =
     let most = total_at_most (2 * f.scale) (limits_of f kind a b) (limits_at_most f kind a b (are_bounded f l h)) in
-    let many = as_many_limits f kind a b in
+    let many = limit_count f kind a b in
     let few = (some_corners kind a b).1 in
     let scale = l.scale_high in
     let corners : length (limits_of f kind a b) ≤ 3 = omega arith in

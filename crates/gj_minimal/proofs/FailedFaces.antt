@@ -10,6 +10,7 @@ use Rattle.gj_shape.specs.declared.faces.FaceKind.TheVariants.{Vertex, Horizonta
 use Rattle.gj_complex.specs.declared.square.Square.{Square}
 use Rattle.gj_complex.specs.Squares.{HasLimits}
 use Rattle.gj_theory.specs.Before.{PassesVertices, PassesFace, PassesSquare, HoldsBefore, PassesKindsBefore, PassesFacesBefore}
+use Rattle.gj_theory.proofs.FirstFailed.{IsNoVertex}
 use Rattle.gj_minimal.specs.FirstFailure.{IsFirstFailure, HoldsBelow}
 use Rattle.gj_minimal.specs.declared.failures.Failure.{Failure}
 use Rattle.gj_minimal.specs.declared.failures.Failure.TheVariants as failure
@@ -92,15 +93,7 @@ fails_at f s kind a b c reached kinds found =
       fails = λ h. found.fails (passes_limit f s kind a b c reached.limits h);
     }
 
--- the kind is that of a face that is no vertex
-abbrev pub IsNoVertex : FaceKind → Type 0
-IsNoVertex Vertex = ⊥
-IsNoVertex Horizontal = Unit {0}
-IsNoVertex Vertical = Unit {0}
-IsNoVertex Diagonal = Unit {0}
-IsNoVertex Lower = Unit {0}
-IsNoVertex Upper = Unit {0}
-
+-- a corner of a face that is no vertex fails first
 pub first_at : (f : FunctionData) (kind : FaceKind) (a b c : ℕ) (x : Failure) →
     x ≡ failure.Corner (record { kind = kind; a = a; b = b }) c → IsNoVertex kind → FailsAt f kind a b c →
     FailsFirst f x

@@ -15,12 +15,12 @@ use Rattle.gj_shape.specs.declared.violations.Violation.TheVariants as violation
 use Rattle.gj_complex.specs.declared.square.Square.{Square}
 use Rattle.gj_complex.specs.Squares.{limits_in}
 use Rattle.gj_theory.specs.NearCorners.{total, near_value}
-use Rattle.gj_minimal.proofs.Theory.{near_corner}
+use Rattle.gj_minimal.proofs.Theory.{limit_count, near_corner}
 use Rattle.gj_minimal.proofs.NearPoints.{least_along}
 
 -- ---- coordinates
 
--- a face has one coordinate and one limit for each corner
+-- a face has one coordinate for each corner
 pub as_many_coordinates : (kind : FaceKind) (a b : ℕ) →
     (length (first_coordinates kind a b) ≡ length (corners_of kind a b))
     × (length (second_coordinates kind a b) ≡ length (corners_of kind a b))
@@ -31,15 +31,7 @@ as_many_coordinates Diagonal a b = (refl, refl)
 as_many_coordinates Lower a b = (refl, refl)
 as_many_coordinates Upper a b = (refl, refl)
 
-pub as_many_limits : (f : FunctionData) (kind : FaceKind) (a b : ℕ) → length (limits_of f kind a b)
-    ≡ length (corners_of kind a b)
-as_many_limits f Vertex a b = refl
-as_many_limits f Horizontal a b = refl
-as_many_limits f Vertical a b = refl
-as_many_limits f Diagonal a b = refl
-as_many_limits f Lower a b = refl
-as_many_limits f Upper a b = refl
-
+-- and one limit in a square
 pub as_many_limits_in : (s : Square) (kind : FaceKind) → length (limits_in s kind) ≡ length (corners_of kind 0 0)
 as_many_limits_in s Vertex = refl
 as_many_limits_in s Horizontal = refl
@@ -47,15 +39,6 @@ as_many_limits_in s Vertical = refl
 as_many_limits_in s Diagonal = refl
 as_many_limits_in s Lower = refl
 as_many_limits_in s Upper = refl
-
--- a face has one to three corners
-pub some_corners : (kind : FaceKind) (a b : ℕ) → (0 < length (corners_of kind a b)) × (length (corners_of kind a b) ≤ 3)
-some_corners Vertex a b = (omega arith, omega arith)
-some_corners Horizontal a b = (omega arith, omega arith)
-some_corners Vertical a b = (omega arith, omega arith)
-some_corners Diagonal a b = (omega arith, omega arith)
-some_corners Lower a b = (omega arith, omega arith)
-some_corners Upper a b = (omega arith, omega arith)
 
 -- the coordinates are up to the order
 abbrev IsUpTo : ℕ → ℕ × ℕ → Type 0
@@ -183,7 +166,7 @@ shows_pair f kind a b c h limit total_limits x y limits within limit_is total_is
     let value : (k : ℕ) → near_value k c (limits_of f kind a b)
     ≡ pos (k - length (corners_of kind a b)) *ℤ limit +ℤ total_limits = λ k.
     ap (λ (n : ℕ). pos (k - n) *ℤ get_or (limits_of f kind a b) c (pos 0) +ℤ total (limits_of f kind a b))
-    (as_many_limits f kind a b)
+    (limit_count f kind a b)
     ∙ ap (λ z. pos (k - m) *ℤ z +ℤ total (limits_of f kind a b)) (sym limit_is)
     ∙ ap (λ z. pos (k - m) *ℤ limit +ℤ z) (sym total_is) in
     record {

@@ -1,25 +1,15 @@
--- What the code reads of a list of numerators.
-use Rattle.std.proofs.Common.{◌≡◌, ℕ, ◌<◌, ◌^◌, ℤ, pos, ◌+ℤ◌, ◌<ℤ◌, ◌≤ℤ◌, unsigned_abs, List, length, get_or, true, false, IsTrue, ◌↔◌, eqb, eqb-true, eq-eqb, ◌*ℤ◌, ap, sym, ◌∙◌, to_z, of_z, FitsSigned, w64, arith}
+-- What tests on numerators of the code say of them.
+use Rattle.std.proofs.Common.{◌≡◌, ◌<◌, ◌^◌, ℤ, pos, ◌+ℤ◌, ◌<ℤ◌, ◌≤ℤ◌, unsigned_abs, true, false, IsTrue, ◌↔◌, eqb, eqb-true, eq-eqb, ◌*ℤ◌, ap, sym, ◌∙◌, to_z, of_z, FitsSigned, w64, arith}
 use Rattle.std.proofs.lemmas.Int.{ints, to_z-of_z}
-use Rattle.gj_shape.specs.FunctionData.{at}
-use Rattle.gj_shape.proofs.AtLemmas.{at_below}
+use Rattle.gj_shape.proofs.NumeratorReadings.{small_read}
 use lib.Signed.{lt_z}
 
--- an entry that is read
-pub read_is : (xs : List ℤ) (i : ℕ) → i < length xs → FitsSigned w64 (get_or xs i (pos 0)) →
-    to_z w64 (of_z w64 (get_or xs i (pos 0))) ≡ at xs i
-read_is xs i below fits = to_z-of_z w64 (get_or xs i (pos 0)) fits ∙ sym (at_below xs i below)
-
--- a number of 51 bits, as the code has it
-pub small_fits : (x : ℤ) → unsigned_abs x < 2 ^ 51 → to_z w64 (of_z w64 x) ≡ x
-small_fits x h = to_z-of_z w64 x (omega (arith, ints))
-
--- the sum of two such numbers, as the code has it
+-- the sum of two numbers of 51 bits, as the code has it
 pub sum_read : (x y : ℤ) → unsigned_abs x < 2 ^ 51 → unsigned_abs y < 2 ^ 51 →
     to_z w64 (of_z w64 (to_z w64 (of_z w64 x) +ℤ to_z w64 (of_z w64 y))) ≡ x +ℤ y
 sum_read x y h k =
-    let first = small_fits x h in
-    let second = small_fits y k in
+    let first = small_read x h in
+    let second = small_read y k in
     rw (first, second) (to_z-of_z w64 (x +ℤ y) (omega (arith, ints)))
 
 -- a sum that is found to be less than a number, or not
@@ -59,8 +49,8 @@ same_bits x s fits s_fits = (
 pub sum_bits : (x y s : ℤ) → unsigned_abs x < 2 ^ 51 → unsigned_abs y < 2 ^ 51 → FitsSigned w64 s →
     IsTrue (eqb (of_z w64 (to_z w64 (of_z w64 x) +ℤ to_z w64 (of_z w64 y))) (of_z w64 s)) ↔ (x +ℤ y ≡ s)
 sum_bits x y s h k fits =
-    let first = small_fits x h in
-    let second = small_fits y k in
+    let first = small_read x h in
+    let second = small_read y k in
     rw (first, second) (same_bits (x +ℤ y) s (omega (arith, ints)) fits)
 
 -- whether the sum of four is twice a fifth
@@ -73,5 +63,5 @@ pub double_bits : (x y u v s : ℤ) → unsigned_abs x < 2 ^ 51 → unsigned_abs
 double_bits x y u v s hx hy hu hv hs =
     let first = sum_read x y hx hy in
     let second = sum_read u v hu hv in
-    let third = small_fits s hs in
+    let third = small_read s hs in
     rw (first, second, third) (same_bits (x +ℤ y +ℤ (u +ℤ v)) (pos 2 *ℤ s) (omega (arith, ints)) (omega (arith, ints)))

@@ -1,5 +1,5 @@
 -- Half the sum of two functions.
-use Rattle.std.proofs.Common.{◌≡◌, ℕ, ◌*◌, ◌%◌, ◌<◌, ◌≤◌, ◌^◌, ℤ, pos, ◌+ℤ◌, ◌*ℤ◌, List, length, All, unsigned_abs, to_z, of_z, sym, ap, ap₂, subst, ◌∙◌, arith}
+use Rattle.std.proofs.Common.{◌≡◌, ℕ, ◌*◌, ◌%◌, ◌<◌, ◌≤◌, ◌^◌, ℤ, pos, ◌+ℤ◌, ◌*ℤ◌, List, length, All, unsigned_abs, to_z, of_z, refl, sym, ap, ap₂, subst, ◌∙◌, arith}
 use Rattle.std.proofs.Math.Nat.{mul-le-mul_right, mul-le-mul_left, mul-pos}
 use Rattle.std.proofs.lemmas.Int.{ints, unsigned_abs-mul}
 use Rattle.gj_frac.specs.declared.Frac.{Frac}
@@ -7,7 +7,7 @@ use Rattle.gj_frac.proofs.Integers.{abs_add_z}
 use Rattle.gj_shape.specs.FunctionData.{FunctionData, IsWithinLimits, at}
 use Rattle.gj_shape.specs.Given.{IsSmall, IsGivenBy}
 use Rattle.gj_shape.specs.Derived.{half_sum, AreHalfSums, IsAverageOf, AreOver}
-use Rattle.gj_shape.proofs.AtLemmas.{at_rest, at_left_small, at_value_small, at_right_small}
+use Rattle.gj_shape.proofs.AtLemmas.{at_wrapped, at_left_small, at_value_small, at_right_small}
 use Rattle.gj_shape.proofs.DerivedLemmas.{all_small, list_is_at}
 use Rattle.gj_shape.proofs.InOrder.{all_from_in_order}
 use Rattle.gj_shape.proofs.LeastDenominator.{Divides}
@@ -35,8 +35,8 @@ double_product x y s o e g h k =
 half_sum_rest : (f g : FunctionData) (xs ys : List ℤ) (i n : ℕ) → length xs ≡ n → length ys ≡ n →
     half_sum f g xs ys (i % n) ≡ half_sum f g xs ys i
 half_sum_rest f g xs ys i n e h =
-    ap₂ (λ x y. pos g.scale *ℤ x +ℤ pos f.scale *ℤ y) (ap (λ m. at xs (i % m)) (sym e) ∙ at_rest xs i)
-    (ap (λ m. at ys (i % m)) (sym h) ∙ at_rest ys i)
+    ap₂ (λ x y. pos g.scale *ℤ x +ℤ pos f.scale *ℤ y) (at_wrapped xs i (i % n) n e refl)
+    (at_wrapped ys i (i % n) n h refl)
 
 -- half a sum of small numbers is small
 weighted_small : (x y : ℤ) (s o : ℕ) → unsigned_abs x ≤ 2 ^ 20 * s → unsigned_abs y ≤ 2 ^ 20 * o →

@@ -83,34 +83,37 @@ first_fault ls vs rs xs ys x i scale fault.Place place index least refused = ref
 first_fault ls vs rs xs ys x i scale fault.Count place index least refused = refused
 first_fault ls vs rs xs ys x i scale (fault.Memory e) place index least refused = refused
 
--- the same for the three fractions at an index
+-- the same for the fraction that stands k places after those before the index
+fault_after : (ls vs rs : List Frac) (i : ℕ) (l v r : Frac) (scale : ℕ) (e : ShapeFault) (xs ys : List Frac) (x : Frac)
+    (k : ℕ) → StandAt ls vs rs i l v r → k < 3 → length xs ≡ length (before ls vs rs i) + k →
+    before ls vs rs i ++ l ∷ v ∷ r ∷ in_order (drop (i + 1) ls) (drop (i + 1) vs) (drop (i + 1) rs) ≡ xs ++ x ∷ ys →
+    IsLeastDenominator xs scale → IsRefused scale x i e → IsFaultIn ls vs rs e
+fault_after ls vs rs i l v r scale e xs ys x k h few many split least refused =
+    let count : length (before ls vs rs i) ≡ 3 * i =
+    length-before ls vs rs i h.value_length h.right_length (omega (arith, h.within)) in
+    first_fault ls vs rs xs ys x i scale e (place_of_index ls vs rs i l v r h ∙ split) (omega arith) least refused
+
+-- the same for each of the three fractions at an index
 pub fault_left : (ls vs rs : List Frac) (i : ℕ) (l v r : Frac) (scale : ℕ) (e : ShapeFault) → StandAt ls vs rs i l v r →
     IsLeastDenominator (before ls vs rs i) scale → IsRefused scale l i e → IsFaultIn ls vs rs e
-fault_left ls vs rs i l v r scale e h least refused =
-    let count = length-before ls vs rs i h.value_length h.right_length (omega (arith, h.within)) in
-    first_fault ls vs rs (before ls vs rs i) _ l i scale e (place_of_index ls vs rs i l v r h) (omega arith) least refused
+fault_left ls vs rs i l v r scale e h =
+    fault_after ls vs rs i l v r scale e (before ls vs rs i) _ l 0 h (omega arith) (omega arith) refl
 
 pub fault_value : (ls vs rs : List Frac) (i : ℕ) (l v r : Frac) (scale : ℕ) (e : ShapeFault) → StandAt ls vs rs i l v r →
     IsLeastDenominator (before ls vs rs i ++ l ∷ []) scale → IsRefused scale v i e → IsFaultIn ls vs rs e
-fault_value ls vs rs i l v r scale e h least refused =
+fault_value ls vs rs i l v r scale e h =
     let xs = before ls vs rs i in
-    let count : length xs ≡ 3 * i = length-before ls vs rs i h.value_length h.right_length (omega (arith, h.within)) in
-    let more = length_push xs l in
-    let rest = r ∷ in_order (drop (i + 1) ls) (drop (i + 1) vs) (drop (i + 1) rs) in
-    first_fault ls vs rs (xs ++ l ∷ []) rest v i scale e
-    (place_of_index ls vs rs i l v r h ∙ sym (append_assoc xs (l ∷ []) (v ∷ rest))) (omega arith) least refused
+    fault_after ls vs rs i l v r scale e (xs ++ l ∷ []) _ v 1 h (omega arith) (length_push xs l)
+    (sym (append_assoc xs (l ∷ []) _))
 
 pub fault_right : (ls vs rs : List Frac) (i : ℕ) (l v r : Frac) (scale : ℕ) (e : ShapeFault) → StandAt ls vs rs i l v r →
     IsLeastDenominator (before ls vs rs i ++ l ∷ [] ++ v ∷ []) scale → IsRefused scale r i e → IsFaultIn ls vs rs e
-fault_right ls vs rs i l v r scale e h least refused =
+fault_right ls vs rs i l v r scale e h =
     let xs = before ls vs rs i in
-    let count : length xs ≡ 3 * i = length-before ls vs rs i h.value_length h.right_length (omega (arith, h.within)) in
     let more = length_push xs l in
     let most = length_push (xs ++ l ∷ []) v in
-    let rest = in_order (drop (i + 1) ls) (drop (i + 1) vs) (drop (i + 1) rs) in
-    first_fault ls vs rs (xs ++ l ∷ [] ++ v ∷ []) rest r i scale e
-    (place_of_index ls vs rs i l v r h ∙ sym (append_assoc xs (l ∷ []) (v ∷ r ∷ rest))
-    ∙ sym (append_assoc (xs ++ l ∷ []) (v ∷ []) (r ∷ rest))) (omega arith) least refused
+    fault_after ls vs rs i l v r scale e (xs ++ l ∷ [] ++ v ∷ []) _ r 2 h (omega arith) (omega arith)
+    (sym (append_assoc xs (l ∷ []) _) ∙ sym (append_assoc (xs ++ l ∷ []) (v ∷ []) _))
 
 -- the fractions before the next index have a least common denominator
 pub least_at_next : (ls vs rs : List Frac) (i : ℕ) (l v r : Frac) (m : ℕ) → StandAt ls vs rs i l v r →

@@ -7,6 +7,7 @@ pub mod GivenLemmas
 pub mod InOrder
 pub mod LeastDenominator
 pub mod NumeratorBounds
+pub mod NumeratorReadings
 pub mod OneFunction
 pub mod Refinements
 pub mod SameFunctions

@@ -33,7 +33,8 @@ refined_rest f xs m i some h e =
     (λ j. period_of_parts (entry_or_value f xs m) f.order m j some (λ a r. entry_or_value_period f xs m a r h e))
     (i % n) i (mod-mod i n)
 
-product_small : (m k : ℕ) (x : ℤ) → unsigned_abs x ≤ k → unsigned_abs (pos m *ℤ x) ≤ m * k
+-- m times a number of at most k is at most m k
+pub product_small : (m k : ℕ) (x : ℤ) → unsigned_abs x ≤ k → unsigned_abs (pos m *ℤ x) ≤ m * k
 product_small m k x h =
     let size = unsigned_abs-mul (pos m) x in
     let scaled = mul-le-mul_left m h in
@@ -59,6 +60,14 @@ refined_small f xs m i some h small =
     let size = entry_small f xs m (i / m) (i % m) h small (mod-lt i some) in
     let turned : m * (2 ^ 20 * f.scale) ≡ 2 ^ 20 * (f.scale * m) = omega arith in
     omega arith
+
+-- the table on the grid of order m is at most 2^20 over the scale times m
+pub table_small : (f : FunctionData) (m i : ℕ) → 0 < m → IsWithinLimits f →
+    unsigned_abs (table f m i) ≤ 2 ^ 20 * (f.scale * m)
+unfolding table
+table_small f m i some h =
+    subst (λ z. unsigned_abs z ≤ 2 ^ 20 * (f.scale * m)) (entry_of_values f m (i / m) (i % m))
+    (refined_small f f.value m i some h (λ j. at_value_small f j h))
 
 -- the refined lists of a function are small
 pub refined_all_small : (f : FunctionData) (m : ℕ) (l v r : List Frac) → 0 < m → IsWithinLimits f → AreRefined f m l v r →

@@ -3,7 +3,7 @@ use Rattle.std.proofs.Common.{◌≡◌, ℕ, Bool, true, false, T, eqb, eqb→e
 use Rattle.std.specs.Bool.{Decides}
 use Rattle.gj_shape.specs.FunctionData.{FunctionData}
 
-true_false : true ≡ false → ⊥
+pub true_false : true ≡ false → ⊥
 true_false e = cc
 
 -- a test of two numbers

@@ -1,8 +1,8 @@
 -- Tables of functions, and limits of continuous functions.
 use Rattle.std.proofs.Common.{◌≡◌, ℕ, zero, suc, ◌+◌, ◌-◌, ◌*◌, ◌/◌, ◌%◌, ◌<◌, ℤ, pos, ◌+ℤ◌, ◌*ℤ◌, List, [], ◌∷◌, length, map, sym, ap, ap₂, subst, ◌∙◌, refl, arith}
-use Rattle.std.proofs.lemmas.Int.{ints}
 use Rattle.std.proofs.lemmas.Nat.{div-mul-add, mod-mul-add}
 use Rattle.std.proofs.Math.Nat.{div-one, mod-one, mul-div_left, mul-mod_left, div-add-mod', mod-lt, zero-mul, mul-lt-mul_of_pos_right}
+use Rattle.gj_frac.proofs.Integers.{one_mul_z}
 use Rattle.gj_frac.proofs.Quotients.{parts_of_place}
 use Rattle.gj_frac.proofs.Ring.{by_ring, ring}
 use Rattle.gj_shape.proofs.AtLemmas.{at_plus_length}
@@ -12,13 +12,10 @@ use Rattle.gj_shape.specs.Faces.{corners_of, slack_from, limits_of}
 use Rattle.gj_shape.specs.declared.faces.FaceKind.{FaceKind}
 use Rattle.gj_shape.specs.declared.faces.FaceKind.TheVariants.{Vertex, Horizontal, Vertical, Diagonal, Lower, Upper}
 
-one_times : (z : ℤ) → pos 1 *ℤ z ≡ z
-one_times z = omega (arith, ints)
-
 -- the table of the function's own order has its values
 pub table_of_order : (f : FunctionData) (i : ℕ) → table f 1 i ≡ at f.value i
 unfolding table
-table_of_order f i = ap (λ a. entry f 1 a (i % 1)) (div-one i) ∙ ap (λ r. entry f 1 i r) (mod-one i) ∙ one_times (at f.value i)
+table_of_order f i = ap (λ a. entry f 1 a (i % 1)) (div-one i) ∙ ap (λ r. entry f 1 i r) (mod-one i) ∙ one_mul_z (at f.value i)
 
 -- the table at a multiple of 1/order
 pub table_at : (f : FunctionData) (m a : ℕ) → 0 < m → table f m (a * m) ≡ pos m *ℤ at f.value a

@@ -31,7 +31,7 @@ congruent_join i n j p (k, e) (l, g) =
     (k +ℤ l, omega (arith, ints))
 
 -- natural numbers that are congruent have one rest
-congruent_rests : (i j p : ℕ) → IsCongruent (pos i) (pos j) p → i % p ≡ j % p
+pub congruent_rests : (i j p : ℕ) → IsCongruent (pos i) (pos j) p → i % p ≡ j % p
 congruent_rests i j p (pos k, e) = same_rest i j 0 k p (omega (arith, ints))
 congruent_rests i j p (negsuc k, e) = same_rest i j (suc k) 0 p (omega (arith, ints))
 

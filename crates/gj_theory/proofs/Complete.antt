@@ -53,6 +53,16 @@ limit_count f Diagonal a b = refl
 limit_count f Lower a b = refl
 limit_count f Upper a b = refl
 
+-- a face has one to three corners
+pub some_corners : (kind : FaceKind) (a b : ℕ) →
+    (0 < length (corners_of kind a b)) × (length (corners_of kind a b) ≤ 3)
+some_corners Vertex a b = (omega arith, omega arith)
+some_corners Horizontal a b = (omega arith, omega arith)
+some_corners Vertical a b = (omega arith, omega arith)
+some_corners Diagonal a b = (omega arith, omega arith)
+some_corners Lower a b = (omega arith, omega arith)
+some_corners Upper a b = (omega arith, omega arith)
+
 -- what a sum exceeds another by where it is not less
 excess : (s w : ℤ) {x : ℤ} → x ≡ s +ℤ w → s ≤ℤ x → pos 0 ≤ℤ w
 excess s w e h = omega (arith, ints)

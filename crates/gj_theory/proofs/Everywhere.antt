@@ -1,8 +1,9 @@
 -- What holds at each index below the order holds at every index, since entries repeat.
-use Rattle.std.proofs.Common.{◌≡◌, ℕ, ◌+◌, ◌-◌, ◌%◌, ◌<◌, ℤ, pos, ◌+ℤ◌, ◌≤ℤ◌, List, length, ap, sym, subst, ◌∙◌, arith}
+use Rattle.std.proofs.Common.{◌≡◌, ℕ, ◌+◌, ◌-◌, ◌%◌, ◌<◌, ℤ, pos, ◌+ℤ◌, List, length, refl, ap, sym, subst, ◌∙◌, arith}
 use Rattle.std.proofs.Math.Nat.{add-mod_right, mod-lt, mod-add-mod}
 use Rattle.gj_shape.specs.FunctionData.{at}
-use Rattle.gj_theory.proofs.Values.{at_same, at_rest}
+use Rattle.gj_shape.proofs.AtLemmas.{at_wrapped}
+use Rattle.gj_theory.proofs.Values.{at_same}
 
 -- the index opposite to i, up to multiples of n
 pub opposite_index : (i j k n : ℕ) → 0 < n → (i + j) % n ≡ k % n → j % n ≡ (k + (n - i % n)) % n
@@ -15,17 +16,17 @@ opposite_index i j k n some e =
     sym (add-mod_right j n) ∙ ap (λ x. x % n) (sym whole)
     ∙ sym (mod-add-mod (r + j) n (n - r)) ∙ more ∙ mod-add-mod k n (n - r)
 
--- signs
-pub nonnegative_everywhere : (xs : List ℤ) (n : ℕ) → length xs ≡ n → 0 < n →
-    ((i : ℕ) → i < n → pos 0 ≤ℤ at xs i) → (i : ℕ) → pos 0 ≤ℤ at xs i
-nonnegative_everywhere xs n len some h i = subst (λ z. pos 0 ≤ℤ z) (at_rest xs i n len) (h (i % n) (mod-lt i some))
+-- what holds of each entry below the length holds of each entry
+pub everywhere : (P : ℤ → Type 0) (xs : List ℤ) (n : ℕ) → length xs ≡ n → 0 < n → ((i : ℕ) → i < n → P (at xs i)) →
+    (i : ℕ) → P (at xs i)
+everywhere P xs n len some h i = subst P (at_wrapped xs i (i % n) n len refl) (h (i % n) (mod-lt i some))
 
 -- symmetry
 pub symmetric_everywhere : (xs : List ℤ) (n k s : ℕ) → length xs ≡ n → 0 < n →
     ((i : ℕ) → i < n → at xs i +ℤ at xs (k + (n - i)) ≡ pos s) →
     (i j : ℕ) → (i + j) % n ≡ k % n → at xs i +ℤ at xs j ≡ pos s
 symmetric_everywhere xs n k s len some h i j e =
-    let first : at xs i ≡ at xs (i % n) = sym (at_rest xs i n len) in
+    let first : at xs i ≡ at xs (i % n) = sym (at_wrapped xs i (i % n) n len refl) in
     let second : at xs j ≡ at xs (k + (n - i % n)) =
     at_same xs j (k + (n - i % n)) n len (opposite_index i j k n some e) in
     rw (first, second) (h (i % n) (mod-lt i some))

@@ -157,7 +157,7 @@ in_face f kind a b c below h =
     placed_made (Passes f) (subadditive_at kind a b) c (length (corners_of kind a b)) below h
 
 -- the face is no vertex
-abbrev IsNoVertex : FaceKind → Type 0
+abbrev pub IsNoVertex : FaceKind → Type 0
 IsNoVertex Vertex = ⊥
 IsNoVertex Horizontal = Unit {0}
 IsNoVertex Vertical = Unit {0}

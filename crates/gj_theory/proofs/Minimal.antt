@@ -13,10 +13,11 @@ use Rattle.gj_shape.specs.FirstViolation.{Test, Passes, PassesAll}
 use Rattle.gj_shape.specs.FirstViolation.Test.{zero_at_zero, nonnegative_at, nonnegative_after, nonnegative_before, symmetric_at, symmetric_between, subadditive_at}
 use Rattle.gj_shape.specs.declared.faces.FaceKind.{FaceKind}
 use Rattle.gj_shape.specs.declared.faces.FaceKind.TheVariants.{Vertex, Horizontal, Vertical, Diagonal, Lower, Upper}
+use Rattle.gj_shape.proofs.AtLemmas.{at_wrapped}
 use Rattle.gj_shape.proofs.TableLemmas.{table_period}
 use Rattle.gj_theory.specs.Before.{IsTestOf}
-use Rattle.gj_theory.proofs.Values.{at_same, at_rest}
-use Rattle.gj_theory.proofs.Everywhere.{opposite_index, nonnegative_everywhere, symmetric_everywhere}
+use Rattle.gj_theory.proofs.Values.{at_same}
+use Rattle.gj_theory.proofs.Everywhere.{opposite_index, everywhere, symmetric_everywhere}
 use Rattle.gj_theory.proofs.Affine.{weighted, table_at_place, table_inside, slack_on_vertex, slack_on_horizontal, slack_on_vertical, slack_on_diagonal, slack_on_lower, slack_on_upper}
 use Rattle.gj_theory.proofs.Tests.{test_has}
 
@@ -57,13 +58,13 @@ sign_at : (f : FunctionData) → IsWithinLimits f → PassesEach f → (m i a : 
 sign_at f l h m i a some (at_multiple e) =
     let any : 0 < f.order = omega arith in
     let value =
-    nonnegative_everywhere f.value f.order l.value_length any (λ k below. h (nonnegative_at k) below) a in
+    everywhere (λ z. pos 0 ≤ℤ z) f.value f.order l.value_length any (λ k below. h (nonnegative_at k) below) a in
     subst (λ z. pos 0 ≤ℤ z) (sym (table_at_place f m i a e some))
     (mul_nonnegative_z (pos m) (at f.value a) (omega (arith, ints)) value)
 sign_at f l h m i a some (inside r u e whole u_some r_some) =
     let any : 0 < f.order = omega arith in
     let right =
-    nonnegative_everywhere f.right f.order l.right_length any (λ k below. h (nonnegative_after k) below) a in
+    everywhere (λ z. pos 0 ≤ℤ z) f.right f.order l.right_length any (λ k below. h (nonnegative_after k) below) a in
     subst (λ z. pos 0 ≤ℤ z) (sym (table_inside f m i a u r e whole u_some r_some))
     (nonnegative_sum u r (at f.right a) (at f.left (a + 1)) right (left_nonnegative f l h a))
 
@@ -75,7 +76,7 @@ limits_symmetric : (f : FunctionData) → IsWithinLimits f → PassesEach f → 
 limits_symmetric f l h a b e =
     let some : 0 < f.order = omega arith in
     let c = a % f.order in
-    let first : at f.right a ≡ at f.right c = sym (at_rest f.right a f.order l.right_length) in
+    let first : at f.right a ≡ at f.right c = sym (at_wrapped f.right a c f.order l.right_length refl) in
     let second : at f.left (b + 1) ≡ at f.left (f.place + (f.order - c)) =
     at_same f.left (b + 1) (f.place + (f.order - c)) f.order l.left_length
     (opposite_index a (b + 1) f.place f.order some e) in

@@ -60,11 +60,17 @@ scaled_sum n d i m e j q h k =
 
 -- ---- one value at one point
 
--- two tables at one point: k/(order d) = i/(order h)
+-- two tables at places where the table of the grid that holds both has one entry
+pub same_on_both : (f : FunctionData) (h d i k : ℕ) → 0 < h → 0 < d → table f (h * d) (k * h) ≡ table f (h * d) (i * d) →
+    pos h *ℤ table f d k ≡ pos d *ℤ table f h i
+same_on_both f h d i k h_some d_some e =
+    sym (table_finer f d h k d_some h_some) ∙ ap (λ n. table f n (k * h)) (mul_comm d h) ∙ e
+    ∙ table_finer f h d i h_some d_some
+
+-- so at one point: k/(order d) = i/(order h)
 pub same_place : (f : FunctionData) (h d i k : ℕ) → 0 < h → 0 < d → k * h ≡ i * d →
     pos h *ℤ table f d k ≡ pos d *ℤ table f h i
-same_place f h d i k h_some d_some e =
-    sym (table_finer f d h k d_some h_some) ∙ ap₂ (table f) (mul_comm d h) e ∙ table_finer f h d i h_some d_some
+same_place f h d i k h_some d_some e = same_on_both f h d i k h_some d_some (ap (table f (h * d)) e)
 
 -- the value at n/d = i/(order h)
 pub value_at_place : (f : FunctionData) (h i n d : ℕ) → 0 < h → 0 < d → n * (f.order * h) ≡ i * d →

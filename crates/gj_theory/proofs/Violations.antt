@@ -1,23 +1,21 @@
 -- The first violation is shown at its points, and a shown violation denies minimality.
-use Rattle.std.proofs.Common.{◌≡◌, ◌≢◌, ℕ, inl, inr, ◌+◌, ◌-◌, ◌*◌, ◌<◌, ℤ, pos, ◌+ℤ◌, ◌*ℤ◌, ◌<ℤ◌, ◌≤ℤ◌, ◌∷◌, length, ap, ap₂, sym, subst, ◌∙◌, arith}
+use Rattle.std.proofs.Common.{◌≡◌, ◌≢◌, ℕ, inl, inr, ◌+◌, ◌-◌, ◌*◌, ◌<◌, ℤ, pos, ◌+ℤ◌, ◌*ℤ◌, ◌<ℤ◌, ◌≤ℤ◌, ◌∷◌, ap, ap₂, sym, subst, ◌∙◌, arith}
 use Rattle.std.specs.List.{All}
 use Rattle.std.proofs.Math.Nat.{mul-pos, add-mul}
 use Rattle.std.proofs.lemmas.Int.{ints}
 use Rattle.std.proofs.lemmas.List.Elements.{All-head}
 use Rattle.gj_frac.specs.declared.Frac.{Frac}
 use Rattle.gj_shape.specs.FunctionData.{FunctionData, IsWithinLimits, at}
-use Rattle.gj_shape.specs.Faces.{corners_of}
 use Rattle.gj_shape.specs.Table.{table, IsMinimal}
 use Rattle.gj_shape.specs.FirstViolation.{Test, Passes, Shows, IsOnGrid, MidpointsAgree, IsFirstViolation, near, first_coordinates, second_coordinates}
 use Rattle.gj_shape.specs.FirstViolation.Test.{zero_at_zero, nonnegative_at, nonnegative_after, nonnegative_before, symmetric_at, symmetric_between, subadditive_at}
 use Rattle.gj_shape.specs.Violation.{value_of, ShowsViolation}
-use Rattle.gj_shape.specs.declared.faces.FaceKind.{FaceKind}
-use Rattle.gj_shape.specs.declared.faces.FaceKind.TheVariants.{Vertex, Horizontal, Vertical, Diagonal, Lower, Upper}
 use Rattle.gj_shape.specs.declared.violations.Violation.{Violation}
 use Rattle.gj_shape.specs.declared.violations.Violation.TheVariants as violation
 use Rattle.gj_shape.proofs.TableLemmas.{table_of_order}
 use Rattle.gj_theory.specs.Before.{IsTestOf}
 use Rattle.gj_theory.proofs.Affine.{table_inside}
+use Rattle.gj_theory.proofs.Complete.{some_corners}
 use Rattle.gj_theory.proofs.Lists.{All-back}
 use Rattle.gj_theory.proofs.Tests.{each_test}
 use Rattle.gj_theory.proofs.Points.{shows_zero, shows_negative, shows_asymmetric, shows_superadditive}
@@ -78,15 +76,6 @@ shows_quarter f i x some below is agree fails =
     (λ both. fails (ap (λ k. at f.right i +ℤ at f.left k) next ∙ both.0, both.1)) in
     shows_asymmetric f 4 (4 * i + 1) (4 * b + 3) x some (omega arith) is (omega arith) (λ e. differs (sym quarter ∙ e))
 
--- every face has a corner
-some_corner : (kind : FaceKind) (a b : ℕ) → 0 < length (corners_of kind a b)
-some_corner Vertex a b = omega arith
-some_corner Horizontal a b = omega arith
-some_corner Vertical a b = omega arith
-some_corner Diagonal a b = omega arith
-some_corner Lower a b = omega arith
-some_corner Upper a b = omega arith
-
 shown_by : (f : FunctionData) (t : Test) (v : Violation) → 0 < f.order → IsTestOf f t → (Passes f t → ⊥) →
     Shows f t v → ShowsViolation f v
 shown_by f zero_at_zero v some i fails e = subst (ShowsViolation f) (sym e) (shows_zero f fails)
@@ -106,7 +95,7 @@ shown_by f (symmetric_between k) v some i fails (x, e, inl (differ, is)) =
 shown_by f (symmetric_between k) v some i fails (x, e, inr (agree, is)) =
     subst (ShowsViolation f) (sym e) (shows_quarter f k x some i is agree fails)
 shown_by f (subadditive_at kind a b c) v some i fails s =
-    let h_some : 0 < s.h = omega (arith, some_corner kind a b, s.least.from) in
+    let h_some : 0 < s.h = omega (arith, (some_corners kind a b).0, s.least.from) in
     subst (ShowsViolation f) (sym s.shown)
     (shows_superadditive f s.h (near s.h c (first_coordinates kind a b)) (near s.h c (second_coordinates kind a b))
     s.x s.y some h_some s.first s.second s.least.holds)

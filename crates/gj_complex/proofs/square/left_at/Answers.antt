@@ -1,18 +1,14 @@
-use Rattle.std.proofs.Common.{◌≡◌, get_or, pos, w64, to_z, of_z, ap, subst, sym, ◌∙◌, rules, arith}
-use Rattle.std.proofs.lemmas.Int.{to_z-of_z}
+use Rattle.std.proofs.Common.{◌≡◌, get_or, pos, w64, to_z, of_z, subst, sym, rules, arith}
 use Rattle.gj_shape.specs.FunctionData.{at}
-use Rattle.gj_shape.proofs.AtLemmas.{at_below}
-use Rattle.gj_complex.proofs.Numerators.{left_numerator}
+use Rattle.gj_shape.proofs.NumeratorReadings.{entry_read, left_below}
 use Rattle.gj_complex.specs.Bounds.{IsNumerator}
 use Rattle.gj_complex.proofs.square.left_at.Goals as goal
 
 pub returns : goal.returns
 returns c =
     let f = c.args.shape.now in
+    let i = c.args.index in
     let limits = c.left_numerators.ensures.limits in
-    let read : to_z w64 (of_z w64 (get_or c.left_numerators.result.now c.args.index (pos 0))) ≡
-    at f.left c.args.index =
-    to_z-of_z w64 _ (search rules)
-    ∙ ap (λ xs. get_or xs c.args.index (pos 0)) c.left_numerators.ensures.value
-    ∙ sym (at_below f.left c.args.index (omega (arith, limits.left_length))) in
-    record { value = read; small = subst IsNumerator (sym read) (left_numerator f c.args.index limits) }
+    let read : to_z w64 (of_z w64 (get_or c.left_numerators.result.now i (pos 0))) ≡ at f.left i =
+    entry_read _ f.left i c.left_numerators.ensures.value (omega (arith, limits.left_length)) (search rules) in
+    record { value = read; small = subst IsNumerator (sym read) (left_below f i limits) }

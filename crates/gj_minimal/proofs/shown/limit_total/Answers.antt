@@ -1,7 +1,8 @@
 use Rattle.std.proofs.Common.{◌≡◌, ◌<◌, ◌≤◌, ◌+ℤ◌, length, ap₂, sym, ◌∙◌, w64, to_z, of_z, arith}
 use Rattle.std.proofs.lemmas.Int.{ints, to_z-of_z}
 use Rattle.gj_complex.specs.Squares.{limits_in}
-use Rattle.gj_minimal.proofs.NearPairs.{as_many_limits_in, some_corners, total_more}
+use Rattle.gj_minimal.proofs.Theory.{some_corners}
+use Rattle.gj_minimal.proofs.NearPairs.{as_many_limits_in, total_more}
 use Rattle.gj_minimal.proofs.shown.limit_total.Goals as goal
 
 pub loop-corner-preserved : goal.loop-corner-preserved

@@ -3,7 +3,8 @@ use Rattle.std.proofs.lemmas.Int.{ints}
 use Rattle.gj_theory.specs.NearCorners.{total}
 use Rattle.gj_minimal.proofs.FailedFaces.{same_corners}
 use Rattle.gj_minimal.proofs.NearPoints.{two_points}
-use Rattle.gj_minimal.proofs.NearPairs.{some_corners, corner_up_to, sums_below, pair_shown}
+use Rattle.gj_minimal.proofs.Theory.{some_corners}
+use Rattle.gj_minimal.proofs.NearPairs.{corner_up_to, sums_below, pair_shown}
 use Rattle.gj_minimal.proofs.EntryBounds.{fine_near_corner}
 use Rattle.gj_minimal.proofs.shown.pair_near.Goals as goal
 

@@ -1,7 +1,8 @@
 use Rattle.std.proofs.Common.{◌+◌, ◌*◌, ◌-◌, ℕ, pos, ◌+ℤ◌, ap₂, subst, ◌∙◌, arith}
 use Rattle.std.proofs.lemmas.Int.{ints}
 use Rattle.gj_frac.specs.Fraction.{Is}
-use Rattle.gj_minimal.proofs.Readings.{small_fits, sum_read}
+use Rattle.gj_shape.proofs.NumeratorReadings.{small_read}
+use Rattle.gj_minimal.proofs.Readings.{sum_read}
 use Rattle.gj_minimal.proofs.NearPoints.{fine_near_end, one_point, shows_after}
 use Rattle.gj_minimal.proofs.shown.point_after.Goals as goal
 
@@ -22,7 +23,7 @@ returns-clause-shows c =
     let f = c.args.shape.now in
     let h = c.least_denominator-h.result in
     let index = (h - 2) * c.args.i + (2 * c.args.i + 1) in
-    let limit_is = small_fits c.right_at-limit.result c.right_at-limit.ensures.small ∙ c.right_at-limit.ensures.value in
+    let limit_is = small_read c.right_at-limit.result c.right_at-limit.ensures.small ∙ c.right_at-limit.ensures.value in
     let total_is = sum_read c.right_at-limit.result c.left_at.result c.right_at-limit.ensures.small
     c.left_at.ensures.small
     ∙ ap₂ (λ x y. x +ℤ y) c.right_at-limit.ensures.value c.left_at.ensures.value in

@@ -1,7 +1,8 @@
 use Rattle.std.proofs.Common.{◌≡◌, ◌+◌, ◌%◌, ℤ, w64, to_z, of_z, ap, ap₂, ◌∙◌, rules}
+use Rattle.std.proofs.Math.Nat.{mod-add-mod}
 use Rattle.std.proofs.lemmas.Int.{to_z-of_z}
 use Rattle.gj_complex.specs.declared.square.Square.{Square}
-use Rattle.gj_complex.proofs.Numerators.{next_rest, at_wrapped}
+use Rattle.gj_shape.proofs.AtLemmas.{at_wrapped}
 use Rattle.gj_complex.proofs.SquareLemmas.{limits_from}
 use Rattle.gj_complex.proofs.square.Square.of.Goals as goal
 
@@ -18,9 +19,9 @@ returns c =
     let second : c.wrapped-2.result ≡ (b + 1) % q = c.wrapped-2.ensures.value ∙ ap (λ m. (b + 1) % m) order in
     let sum : c.wrapped-sum.result ≡ (a + b) % q = c.wrapped-sum.ensures.value ∙ ap (λ m. (a + b) % m) order in
     let next : c.wrapped-next.result ≡ (a + b + 1) % q =
-    c.wrapped-next.ensures.value ∙ ap₂ (λ i m. (i + 1) % m) sum order ∙ next_rest (a + b) q in
+    c.wrapped-next.ensures.value ∙ ap₂ (λ i m. (i + 1) % m) sum order ∙ mod-add-mod (a + b) q 1 in
     let last : c.wrapped-3.result ≡ (a + b + 1 + 1) % q =
-    c.wrapped-3.ensures.value ∙ ap₂ (λ i m. (i + 1) % m) next order ∙ next_rest (a + b + 1) q in
+    c.wrapped-3.ensures.value ∙ ap₂ (λ i m. (i + 1) % m) next order ∙ mod-add-mod (a + b + 1) q 1 in
     let square : Square = record {
       right_first = kept c.right_at.result;
       value_first = kept c.value_at.result;

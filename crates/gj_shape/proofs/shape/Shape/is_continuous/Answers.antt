@@ -1,6 +1,7 @@
-use Rattle.std.proofs.Common.{◌≡◌, IsTrue, true, false, sym, subst, ◌∙◌}
+use Rattle.std.proofs.Common.{IsTrue, sym, subst, ◌∙◌}
 use Rattle.std.specs.Cmp.Rules.{signed_items}
 use Rattle.gj_shape.specs.FunctionData.{FunctionData, IsContinuous}
+use Rattle.gj_shape.proofs.SameFunctions.{true_false}
 use Rattle.gj_shape.proofs.shape.Shape.is_continuous.Goals as goal
 
 pub returns-then-eq : goal.returns-then-eq
@@ -9,9 +10,6 @@ returns-then-eq c =
     let right = signed_items c.self.inside.right.items c.self.inside.value.items in
     subst (λ (f : FunctionData). (IsTrue c.eq-then-eq.result → IsContinuous f) × (IsContinuous f → IsTrue c.eq-then-eq.result)) c.self.view_is
     (λ t. (left.0 (sym c.if-eq.ensures), right.0 (sym c.eq-then-eq.ensures ∙ t)), λ h. c.eq-then-eq.ensures ∙ right.1 h.1)
-
-true_false : true ≡ false → ⊥
-true_false e = cc
 
 pub returns-else-eq : goal.returns-else-eq
 returns-else-eq c =
