@@ -18,10 +18,11 @@ use Rattle.gj_shape.specs.Violation.{IsPoint, value_of, ShowsViolation}
 use Rattle.gj_shape.specs.declared.violations.Violation.{Violation}
 use Rattle.gj_shape.specs.declared.violations.Violation.TheVariants as violation
 use Rattle.gj_shape.proofs.AtLemmas.{at_below}
+use Rattle.gj_shape.proofs.LeastDenominator.{denominator_some}
 use Rattle.gj_shape.proofs.TableLemmas.{table_of_order}
 use Rattle.gj_proof.specs.Rules.{IsCoordinate, MeetsPoint, coordinates_of}
 use Rattle.gj_check.specs.Coordinates.{AreCoordinates, IsScaledOpposite}
-use Rattle.gj_check.proofs.Ratios.{denominator_is, denominator_some, sum_over, less_over, negative_over, one_over}
+use Rattle.gj_check.proofs.Ratios.{denominator_is, sum_over, less_over, negative_over, one_over}
 use Rattle.gj_check.proofs.SamePlaces.{value_over, value_on, values_fit_sum}
 
 -- y is the value of f at x, as `value_at` gives it
