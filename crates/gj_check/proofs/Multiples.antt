@@ -30,7 +30,8 @@ fine_product a b g a_some b_some h =
     )
 
 -- one coordinate, whose denominator has a multiple with 1
-pub one_coordinate : (x : Frac) → (IsCoordinate x × HasFineMultiple (unsigned_abs (denominator x)) 1) ↔ AreCoordinates (x ∷ [])
+pub one_coordinate : (x : Frac) → (IsCoordinate x × HasFineMultiple (unsigned_abs (denominator x)) 1)
+    ↔ AreCoordinates (x ∷ [])
 one_coordinate x = (
   λ h. record {
     each = All-cons IsCoordinate x [] h.0 (All-nil IsCoordinate);

@@ -39,7 +39,8 @@ less_over x y n m w some x_is y_is =
     let left : (x.num *ℤ y.den) *ℤ pos w ≡ n *ℤ (x.den *ℤ y.den) =
     swap_last_z x.num y.den (pos w) ∙ ap (λ z. z *ℤ y.den) x_is ∙ mul_assoc_z n x.den y.den in
     let right : (y.num *ℤ x.den) *ℤ pos w ≡ m *ℤ (x.den *ℤ y.den) =
-    swap_last_z y.num x.den (pos w) ∙ ap (λ z. z *ℤ x.den) y_is ∙ swap_last_z m y.den x.den ∙ mul_assoc_z m x.den y.den in (
+    swap_last_z y.num x.den (pos w) ∙ ap (λ z. z *ℤ x.den) y_is ∙ swap_last_z m y.den x.den
+    ∙ mul_assoc_z m x.den y.den in (
       λ h. mul_lt_cancel_right_z n m (x.den *ℤ y.den) both
           (subst₂ (λ a b. a <ℤ b) left right (mul_lt_mul_right_z (x.num *ℤ y.den) (y.num *ℤ x.den) (pos w) positive h)),
       λ h. mul_lt_cancel_right_z (x.num *ℤ y.den) (y.num *ℤ x.den) (pos w) positive
@@ -61,8 +62,10 @@ negative_over x n w some x_is =
 pub one_over : (x : Frac) (n : ℤ) (w : ℕ) → 0 < w → Is x n (pos w) → (numerator x ≡ denominator x) ↔ (n ≡ pos w)
 one_over x n w some x_is =
     let den = denominator_some x in (
-      λ h. mul_cancel_right_z n (pos w) x.den (sym x_is ∙ ap (λ z. z *ℤ pos w) h ∙ mul_comm_z x.den (pos w)) (omega arith),
-      λ h. mul_cancel_right_z x.num x.den (pos w) (x_is ∙ ap (λ z. z *ℤ x.den) h ∙ sym (mul_comm_z x.den (pos w))) (omega (arith, ints)),
+      λ h. mul_cancel_right_z n (pos w) x.den (sym x_is ∙ ap (λ z. z *ℤ pos w) h ∙ mul_comm_z x.den (pos w))
+          (omega arith),
+      λ h. mul_cancel_right_z x.num x.den (pos w) (x_is ∙ ap (λ z. z *ℤ x.den) h ∙ sym (mul_comm_z x.den (pos w)))
+          (omega (arith, ints)),
     )
 
 -- a difference of two whole numbers of 94 bits, as the code has it

@@ -58,8 +58,10 @@ pub value_over : (f : FunctionData) (a t : ℤ) (e d : ℕ) (y : Frac) → IsWit
 value_over f a t e d y l e_some d_some same is j at_t =
     let low = l.order_low in
     let (i, at_a) = natural_index a (f.order * e) (mul-pos (omega arith) e_some) in
-    let rests = congruent_rests (i * d) (j * e) (f.order * (d * e)) (places_congruent f.order i j d e a t same at_a at_t) in
-    let both = same_at_rest (table f (d * e)) (f.order * (d * e)) (λ k. table_period f (d * e) k (mul-pos d_some e_some) l) (i * d) (j * e) rests in
+    let rests = congruent_rests (i * d) (j * e) (f.order * (d * e))
+    (places_congruent f.order i j d e a t same at_a at_t) in
+    let both = same_at_rest (table f (d * e)) (f.order * (d * e))
+    (λ k. table_period f (d * e) k (mul-pos d_some e_some) l) (i * d) (j * e) rests in
     let scaled = same_on_both f d e j i d_some e_some both in
     let scale = mul-pos l.scale_low e_some in
     is_along y (table f e i) (pos (f.scale * e)) (table f d j) (pos (f.scale * d)) (omega (arith, ints)) (is i at_a)
@@ -71,7 +73,8 @@ point_right_z n q d = by_ring (pos n ∷ pos q ∷ d ∷ []) (search ring depth 
 
 -- the value at x = n/c, over the scale times c
 pub value_on : (f : FunctionData) (x y : Frac) (n c : ℕ) → IsWithinLimits f → 0 < c → Is x (pos n) (pos c) →
-    IsValueAt f (numerator x *ℤ pos f.order) (unsigned_abs (denominator x)) y → Is y (value_of f n c) (pos (f.scale * c))
+    IsValueAt f (numerator x *ℤ pos f.order) (unsigned_abs (denominator x)) y →
+    Is y (value_of f n c) (pos (f.scale * c))
 value_on f x y n c l some x_is is =
     let same = swap_last_z x.num (pos f.order) (pos c) ∙ ap (λ z. z *ℤ pos f.order) x_is ∙ point_right_z n f.order x.den
     ∙ ap (λ z. pos (n * f.order) *ℤ z) (denominator_is x) in
@@ -89,4 +92,5 @@ values_fit_sum f x y i j c l some fine x_is y_is =
     let scale_small : f.scale * c ≤ 2 ^ 31 * 2 ^ 62 = (let s : f.scale ≤ 2 ^ 31 = omega arith in mul-le-mul s fine) in
     let first = table_small f c i some l in
     let second = table_small f c j some l in
-    (over_one_denominator x y (table f c i) (table f c j) (pos (f.scale * c)) x_is y_is (omega (arith, ints)) (omega (arith, ints)) (omega arith) (omega arith)).0
+    (over_one_denominator x y (table f c i) (table f c j) (pos (f.scale * c)) x_is y_is (omega (arith, ints))
+    (omega (arith, ints)) (omega arith) (omega arith)).0
