@@ -1,12 +1,13 @@
 -- Common multiples, and coordinates with a common denominator.
 use Rattle.std.proofs.Common.{◌≡◌, ℕ, ◌*◌, ◌/◌, ◌<◌, ◌≤◌, ◌^◌, ◌↔◌, [], ◌∷◌, unsigned_abs, inl, sym, arith}
-use Rattle.std.specs.Int.{◌∣◌, IsGcd}
+use Rattle.std.specs.Int.{IsGcd}
 use Rattle.std.proofs.Math.Nat.{div-mul_cancel, one-dvd}
 use Rattle.std.proofs.lemmas.Nat.Gcd.{le_of_dvd}
 use Rattle.std.proofs.lemmas.List.Elements.{All-nil, All-cons, All-head, All-tail}
 use Rattle.gj_frac.specs.declared.Frac.{Frac}
 use Rattle.gj_frac.specs.Fraction.{denominator}
 use Rattle.gj_frac.proofs.Divisors.{gcd_positive, lcm_from_gcd, lcm_positive}
+use Rattle.gj_shape.proofs.LeastDenominator.{Divides}
 use Rattle.gj_proof.specs.Rules.{IsCoordinate}
 use Rattle.gj_check.specs.Coordinates.{HasFineMultiple, AreCoordinates}
 
@@ -28,12 +29,9 @@ fine_product a b g a_some b_some h =
           omega arith,
     )
 
--- the denominator divides
-abbrev Divides : ℕ → Frac → Type 0
-Divides d x = unsigned_abs (denominator x) ∣ d
-
 -- one coordinate, whose denominator has a multiple with 1
-pub one_coordinate : (x : Frac) → (IsCoordinate x × HasFineMultiple (unsigned_abs (denominator x)) 1) ↔ AreCoordinates (x ∷ [])
+pub one_coordinate : (x : Frac) → (IsCoordinate x × HasFineMultiple (unsigned_abs (denominator x)) 1)
+    ↔ AreCoordinates (x ∷ [])
 one_coordinate x = (
   λ h. record {
     each = All-cons IsCoordinate x [] h.0 (All-nil IsCoordinate);

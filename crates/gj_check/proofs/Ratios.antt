@@ -5,16 +5,14 @@ use Rattle.std.proofs.lemmas.Int.{ints, unsigned_abs-mul, to_z-of_z}
 use mir.Syntax.{w128}
 use Rattle.gj_frac.specs.declared.Frac.{Frac}
 use Rattle.gj_frac.specs.Fraction.{Is, SameValue, LessValue, fraction_of, sum_of, numerator, denominator}
-use Rattle.gj_frac.proofs.Integers.{mul_cancel_right_z, mul_lt_mul_right_z, mul_lt_cancel_right_z, mul_positive_z, abs_positive_z}
+use Rattle.gj_frac.proofs.Integers.{mul_assoc_z, mul_comm_z, swap_last_z, mul_cancel_right_z, mul_lt_mul_right_z, mul_lt_cancel_right_z, mul_positive_z}
 use Rattle.gj_frac.proofs.Ring.{by_ring, ring}
 use Rattle.gj_frac.proofs.SameValues.{is_along}
+use Rattle.gj_shape.proofs.LeastDenominator.{denominator_some}
 
--- a denominator is above 0, and the natural number that it is
+-- a denominator is a natural number
 pub denominator_is : (x : Frac) → denominator x ≡ pos (unsigned_abs (denominator x))
 denominator_is x = let positive = x.lowest.positive in omega (arith, ints)
-
-pub denominator_some : (x : Frac) → 0 < unsigned_abs (denominator x)
-denominator_some x = abs_positive_z (denominator x) x.lowest.positive
 
 sum_left_z : (a b d e w : ℤ) → (a *ℤ e +ℤ b *ℤ d) *ℤ w ≡ (a *ℤ w) *ℤ e +ℤ (b *ℤ w) *ℤ d
 sum_left_z a b d e w = by_ring (a ∷ b ∷ d ∷ e ∷ w ∷ []) (search ring depth 30) refl
@@ -32,15 +30,6 @@ sum_over x y s n m w x_is y_is h =
     (sum_left_z x.num y.num x.den y.den w ∙ ap₂ (λ a b. a *ℤ y.den +ℤ b *ℤ x.den) x_is y_is
     ∙ sum_right_z n m x.den y.den)
 
-less_left_z : (a e w : ℤ) → (a *ℤ e) *ℤ w ≡ (a *ℤ w) *ℤ e
-less_left_z a e w = by_ring (a ∷ e ∷ w ∷ []) (search ring depth 30) refl
-
-less_right_z : (n d e : ℤ) → (n *ℤ d) *ℤ e ≡ n *ℤ (d *ℤ e)
-less_right_z n d e = by_ring (n ∷ d ∷ e ∷ []) (search ring depth 30) refl
-
-turned_right_z : (n d e : ℤ) → (n *ℤ e) *ℤ d ≡ n *ℤ (d *ℤ e)
-turned_right_z n d e = by_ring (n ∷ d ∷ e ∷ []) (search ring depth 30) refl
-
 -- n/w is less than m/w exactly where n is less than m
 pub less_over : (x y : Frac) (n m : ℤ) (w : ℕ) → 0 < w → Is x n (pos w) → Is y m (pos w) →
     LessValue (fraction_of x) (fraction_of y) ↔ (n <ℤ m)
@@ -48,9 +37,10 @@ less_over x y n m w some x_is y_is =
     let positive : pos 0 <ℤ pos w = omega (arith, ints) in
     let both = mul_positive_z x.den y.den x.lowest.positive y.lowest.positive in
     let left : (x.num *ℤ y.den) *ℤ pos w ≡ n *ℤ (x.den *ℤ y.den) =
-    less_left_z x.num y.den (pos w) ∙ ap (λ z. z *ℤ y.den) x_is ∙ less_right_z n x.den y.den in
+    swap_last_z x.num y.den (pos w) ∙ ap (λ z. z *ℤ y.den) x_is ∙ mul_assoc_z n x.den y.den in
     let right : (y.num *ℤ x.den) *ℤ pos w ≡ m *ℤ (x.den *ℤ y.den) =
-    less_left_z y.num x.den (pos w) ∙ ap (λ z. z *ℤ x.den) y_is ∙ turned_right_z m x.den y.den in (
+    swap_last_z y.num x.den (pos w) ∙ ap (λ z. z *ℤ x.den) y_is ∙ swap_last_z m y.den x.den
+    ∙ mul_assoc_z m x.den y.den in (
       λ h. mul_lt_cancel_right_z n m (x.den *ℤ y.den) both
           (subst₂ (λ a b. a <ℤ b) left right (mul_lt_mul_right_z (x.num *ℤ y.den) (y.num *ℤ x.den) (pos w) positive h)),
       λ h. mul_lt_cancel_right_z (x.num *ℤ y.den) (y.num *ℤ x.den) (pos w) positive
@@ -68,15 +58,14 @@ negative_over x n w some x_is =
           mul_lt_cancel_right_z x.num (pos 0) (pos w) positive (omega (arith, ints)),
     )
 
-turned_z : (d : ℤ) (w : ℕ) → d *ℤ pos w ≡ pos w *ℤ d
-turned_z d w = by_ring (d ∷ pos w ∷ []) (search ring depth 30) refl
-
 -- n/w is 1 exactly where n is w
 pub one_over : (x : Frac) (n : ℤ) (w : ℕ) → 0 < w → Is x n (pos w) → (numerator x ≡ denominator x) ↔ (n ≡ pos w)
 one_over x n w some x_is =
     let den = denominator_some x in (
-      λ h. mul_cancel_right_z n (pos w) x.den (sym x_is ∙ ap (λ z. z *ℤ pos w) h ∙ turned_z x.den w) (omega arith),
-      λ h. mul_cancel_right_z x.num x.den (pos w) (x_is ∙ ap (λ z. z *ℤ x.den) h ∙ sym (turned_z x.den w)) (omega (arith, ints)),
+      λ h. mul_cancel_right_z n (pos w) x.den (sym x_is ∙ ap (λ z. z *ℤ pos w) h ∙ mul_comm_z x.den (pos w))
+          (omega arith),
+      λ h. mul_cancel_right_z x.num x.den (pos w) (x_is ∙ ap (λ z. z *ℤ x.den) h ∙ sym (mul_comm_z x.den (pos w)))
+          (omega (arith, ints)),
     )
 
 -- a difference of two whole numbers of 94 bits, as the code has it

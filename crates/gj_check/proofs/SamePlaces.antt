@@ -1,22 +1,25 @@
 -- The value of a function at a fraction, read off the table of any grid that holds the fraction.
-use Rattle.std.proofs.Common.{◌≡◌, ℕ, zero, suc, ◌+◌, ◌-◌, ◌*◌, ◌/◌, ◌%◌, ◌<◌, ◌≤◌, ◌^◌, ℤ, pos, negsuc, ◌+ℤ◌, ◌-ℤ◌, ◌*ℤ◌, unsigned_abs, [], ◌∷◌, refl, sym, ap, ◌∙◌, arith}
-use Rattle.std.proofs.Math.Nat.{mul-pos, mul_comm, mul-le-mul, mul-le-mul_left, le-mul_of_pos_right, mod-lt}
-use Rattle.std.proofs.lemmas.Int.{ints, unsigned_abs-mul}
+use Rattle.std.proofs.Common.{◌≡◌, ℕ, suc, ◌-◌, ◌*◌, ◌<◌, ◌≤◌, ◌^◌, ℤ, pos, negsuc, ◌+ℤ◌, ◌-ℤ◌, ◌*ℤ◌, unsigned_abs, [], ◌∷◌, refl, sym, ap, ◌∙◌, arith}
+use Rattle.std.proofs.Math.Nat.{mul-pos, mul-le-mul, le-mul_of_pos_right}
+use Rattle.std.proofs.lemmas.Int.{ints}
 use Rattle.gj_frac.specs.declared.Frac.{Frac}
 use Rattle.gj_frac.specs.Fraction.{Is, numerator, denominator}
 use Rattle.gj_frac.specs.Fits.{FitsSum}
-use Rattle.gj_frac.proofs.Integers.{abs_add_z}
+use Rattle.gj_frac.proofs.Integers.{swap_last_z}
 use Rattle.gj_frac.proofs.OneDenominator.{over_one_denominator}
-use Rattle.gj_frac.proofs.Quotients.{same_rest, same_at_rest}
+use Rattle.gj_frac.proofs.Quotients.{same_at_rest}
 use Rattle.gj_frac.proofs.Ring.{by_ring, ring}
 use Rattle.gj_frac.proofs.SameValues.{is_along}
-use Rattle.gj_shape.specs.FunctionData.{FunctionData, IsWithinLimits, at}
-use Rattle.gj_shape.specs.Table.{table, entry}
+use Rattle.gj_shape.specs.FunctionData.{FunctionData, IsWithinLimits}
+use Rattle.gj_shape.specs.Table.{table}
 use Rattle.gj_shape.specs.Values.{IsCongruent, IsValueAt}
 use Rattle.gj_shape.specs.Violation.{value_of}
-use Rattle.gj_shape.proofs.AtLemmas.{at_left_small, at_value_small, at_right_small}
-use Rattle.gj_shape.proofs.TableLemmas.{table_period, table_finer}
-use Rattle.gj_check.proofs.Ratios.{denominator_is, denominator_some}
+use Rattle.gj_shape.proofs.LeastDenominator.{denominator_some}
+use Rattle.gj_shape.proofs.Refinements.{table_small}
+use Rattle.gj_shape.proofs.TableLemmas.{table_period}
+use Rattle.gj_shape.proofs.ValueLemmas.{congruent_rests}
+use Rattle.gj_theory.proofs.Points.{same_on_both}
+use Rattle.gj_check.proofs.Ratios.{denominator_is}
 
 -- ---- one place on two grids
 
@@ -26,11 +29,6 @@ natural_index (pos a) p some = (a, (pos 0, omega (arith, ints)))
 natural_index (negsuc a) p some =
     let large = le-mul_of_pos_right (suc a) some in
     (suc a * p - suc a, (pos (suc a), omega (arith, ints)))
-
--- natural numbers that are congruent have one rest
-congruent_rests : (i j p : ℕ) → IsCongruent (pos i) (pos j) p → i % p ≡ j % p
-congruent_rests i j p (pos k, e) = same_rest i j 0 k p (omega (arith, ints))
-congruent_rests i j p (negsuc k, e) = same_rest i j (suc k) 0 p (omega (arith, ints))
 
 place_z : (a h : ℤ) (q d e : ℕ) → (a +ℤ h *ℤ pos (q * e)) *ℤ pos d ≡ a *ℤ pos d +ℤ h *ℤ pos (q * (d * e))
 place_z a h q d e = by_ring (a ∷ h ∷ pos q ∷ pos d ∷ pos e ∷ []) (search ring depth 30) refl
@@ -60,58 +58,30 @@ pub value_over : (f : FunctionData) (a t : ℤ) (e d : ℕ) (y : Frac) → IsWit
 value_over f a t e d y l e_some d_some same is j at_t =
     let low = l.order_low in
     let (i, at_a) = natural_index a (f.order * e) (mul-pos (omega arith) e_some) in
-    let rests = congruent_rests (i * d) (j * e) (f.order * (d * e)) (places_congruent f.order i j d e a t same at_a at_t) in
-    let both = same_at_rest (table f (d * e)) (f.order * (d * e)) (λ k. table_period f (d * e) k (mul-pos d_some e_some) l) (i * d) (j * e) rests in
-    let scaled : pos d *ℤ table f e i ≡ pos e *ℤ table f d j =
-    sym (table_finer f e d i e_some d_some) ∙ ap (λ n. table f n (i * d)) (mul_comm e d) ∙ both
-    ∙ table_finer f d e j d_some e_some in
+    let rests = congruent_rests (i * d) (j * e) (f.order * (d * e))
+    (places_congruent f.order i j d e a t same at_a at_t) in
+    let both = same_at_rest (table f (d * e)) (f.order * (d * e))
+    (λ k. table_period f (d * e) k (mul-pos d_some e_some) l) (i * d) (j * e) rests in
+    let scaled = same_on_both f d e j i d_some e_some both in
     let scale = mul-pos l.scale_low e_some in
     is_along y (table f e i) (pos (f.scale * e)) (table f d j) (pos (f.scale * d)) (omega (arith, ints)) (is i at_a)
     (scaled_left_z f.scale d (table f e i) ∙ ap (λ z. pos f.scale *ℤ z) scaled
     ∙ sym (scaled_left_z f.scale e (table f d j)))
-
-point_left_z : (x : ℤ) (q c : ℕ) → (x *ℤ pos q) *ℤ pos c ≡ (x *ℤ pos c) *ℤ pos q
-point_left_z x q c = by_ring (x ∷ pos q ∷ pos c ∷ []) (search ring depth 30) refl
 
 point_right_z : (n q : ℕ) (d : ℤ) → (pos n *ℤ d) *ℤ pos q ≡ pos (n * q) *ℤ d
 point_right_z n q d = by_ring (pos n ∷ pos q ∷ d ∷ []) (search ring depth 30) refl
 
 -- the value at x = n/c, over the scale times c
 pub value_on : (f : FunctionData) (x y : Frac) (n c : ℕ) → IsWithinLimits f → 0 < c → Is x (pos n) (pos c) →
-    IsValueAt f (numerator x *ℤ pos f.order) (unsigned_abs (denominator x)) y → Is y (value_of f n c) (pos (f.scale * c))
+    IsValueAt f (numerator x *ℤ pos f.order) (unsigned_abs (denominator x)) y →
+    Is y (value_of f n c) (pos (f.scale * c))
 value_on f x y n c l some x_is is =
-    let same = point_left_z x.num f.order c ∙ ap (λ z. z *ℤ pos f.order) x_is ∙ point_right_z n f.order x.den
+    let same = swap_last_z x.num (pos f.order) (pos c) ∙ ap (λ z. z *ℤ pos f.order) x_is ∙ point_right_z n f.order x.den
     ∙ ap (λ z. pos (n * f.order) *ℤ z) (denominator_is x) in
     value_over f (x.num *ℤ pos f.order) (pos (n * f.order)) (unsigned_abs x.den) c y l (denominator_some x) some same is
     (n * f.order) (pos 0, omega (arith, ints))
 
 -- ---- sizes
-
-product_small : (m k : ℕ) (x : ℤ) → unsigned_abs x ≤ k → unsigned_abs (pos m *ℤ x) ≤ m * k
-product_small m k x h =
-    let size = unsigned_abs-mul (pos m) x in
-    let scaled = mul-le-mul_left m h in
-    omega arith
-
-entry_small : (f : FunctionData) (m a r : ℕ) → IsWithinLimits f → r < m →
-    unsigned_abs (entry f m a r) ≤ m * (2 ^ 20 * f.scale)
-entry_small f m a zero l below = product_small m _ (at f.value a) (at_value_small f a l)
-entry_small f m a (suc r) l below =
-    let k = 2 ^ 20 * f.scale in
-    let x = pos (m - suc r) *ℤ at f.right a in
-    let y = pos (suc r) *ℤ at f.left (a + 1) in
-    let first : unsigned_abs x ≤ (m - suc r) * k = product_small (m - suc r) k (at f.right a) (at_right_small f a l) in
-    let second : unsigned_abs y ≤ suc r * k = product_small (suc r) k (at f.left (a + 1)) (at_left_small f (a + 1) l) in
-    let parts : (m - suc r) * k + suc r * k ≡ m * k = let w : m ≡ m - suc r + suc r = omega arith in sym (ap (λ n. n * k) w ∙ omega arith) in
-    let sum = abs_add_z x y in
-    omega arith
-
-table_small : (f : FunctionData) (m i : ℕ) → IsWithinLimits f → 0 < m → unsigned_abs (table f m i) ≤ 2 ^ 20 * (f.scale * m)
-unfolding table
-table_small f m i l some =
-    let size = entry_small f m (i / m) (i % m) l (mod-lt i some) in
-    let turned : m * (2 ^ 20 * f.scale) ≡ 2 ^ 20 * (f.scale * m) = omega arith in
-    omega arith
 
 -- the values at two fractions of one denominator of at most 2^62 can be added
 pub values_fit_sum : (f : FunctionData) (x y : Frac) (i j c : ℕ) → IsWithinLimits f → 0 < c → c ≤ 2 ^ 62 →
@@ -120,6 +90,7 @@ values_fit_sum f x y i j c l some fine x_is y_is =
     let high = l.scale_high in
     let scale = mul-pos l.scale_low some in
     let scale_small : f.scale * c ≤ 2 ^ 31 * 2 ^ 62 = (let s : f.scale ≤ 2 ^ 31 = omega arith in mul-le-mul s fine) in
-    let first = table_small f c i l some in
-    let second = table_small f c j l some in
-    (over_one_denominator x y (table f c i) (table f c j) (pos (f.scale * c)) x_is y_is (omega (arith, ints)) (omega (arith, ints)) (omega arith) (omega arith)).0
+    let first = table_small f c i some l in
+    let second = table_small f c j some l in
+    (over_one_denominator x y (table f c i) (table f c j) (pos (f.scale * c)) x_is y_is (omega (arith, ints))
+    (omega (arith, ints)) (omega arith) (omega arith)).0

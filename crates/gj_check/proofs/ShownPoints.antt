@@ -18,10 +18,11 @@ use Rattle.gj_shape.specs.Violation.{IsPoint, value_of, ShowsViolation}
 use Rattle.gj_shape.specs.declared.violations.Violation.{Violation}
 use Rattle.gj_shape.specs.declared.violations.Violation.TheVariants as violation
 use Rattle.gj_shape.proofs.AtLemmas.{at_below}
+use Rattle.gj_shape.proofs.LeastDenominator.{denominator_some}
 use Rattle.gj_shape.proofs.TableLemmas.{table_of_order}
 use Rattle.gj_proof.specs.Rules.{IsCoordinate, MeetsPoint, coordinates_of}
 use Rattle.gj_check.specs.Coordinates.{AreCoordinates, IsScaledOpposite}
-use Rattle.gj_check.proofs.Ratios.{denominator_is, denominator_some, sum_over, less_over, negative_over, one_over}
+use Rattle.gj_check.proofs.Ratios.{denominator_is, sum_over, less_over, negative_over, one_over}
 use Rattle.gj_check.proofs.SamePlaces.{value_over, value_on, values_fit_sum}
 
 -- y is the value of f at x, as `value_at` gives it
@@ -31,7 +32,8 @@ IsValueOf f x y = IsValueAt f (numerator x *ℤ pos f.order) (unsigned_abs (deno
 -- ---- coordinates as points
 
 -- a coordinate is a point
-pub coordinate_point : (x : Frac) → IsCoordinate x → IsPoint x (unsigned_abs (numerator x)) (unsigned_abs (denominator x))
+pub coordinate_point : (x : Frac) → IsCoordinate x →
+    IsPoint x (unsigned_abs (numerator x)) (unsigned_abs (denominator x))
 coordinate_point x h =
     let low = h.not_negative in
     record { top = omega (arith, ints); bottom = denominator_is x; positive = denominator_some x }
@@ -120,7 +122,8 @@ congruent_by : (j m n a b p : ℕ) → m + j + b * p ≡ n + a * p →
 congruent_by j m n a b p e = let parts = sub_mul_z (pos a) (pos b) (pos p) in omega (arith, ints)
 
 -- the value at f - x, at each index that is opposite to x
-opposite_value : (f : FunctionData) (x z y : Frac) (n d j : ℕ) → IsWithinLimits f → IsPoint x n d → IsScaledOpposite f x z →
+opposite_value : (f : FunctionData) (x z y : Frac) (n d j : ℕ) → IsWithinLimits f → IsPoint x n d →
+    IsScaledOpposite f x z →
     IsValueAt f (numerator z) (unsigned_abs (denominator z)) y →
     (n * f.order + j) % (f.order * d) ≡ (f.place * d) % (f.order * d) → Is y (table f d j) (pos (f.scale * d))
 opposite_value f x z y n d j l p z_is is opposite =
@@ -132,14 +135,18 @@ opposite_value f x z y n d j l p z_is is opposite =
     let period = f.order * d in
     let rests = from_same_rest (n * f.order + j) (f.place * d) period opposite in
     value_over f (numerator z) t (unsigned_abs (denominator z)) d y l (denominator_some z) p.positive
-    (over ∙ ap (λ k. t *ℤ k) (denominator_is z)) is j
-    (pos ((n * f.order + j) / period) -ℤ pos (f.place * d / period), congruent_by j (n * f.order) (f.place * d) ((n * f.order + j) / period) (f.place * d / period) period rests)
+    (over ∙ ap (λ k. t *ℤ k) (denominator_is z)) is j (
+      pos ((n * f.order + j) / period) -ℤ pos (f.place * d / period),
+      congruent_by j (n * f.order) (f.place * d) ((n * f.order + j) / period) (f.place * d / period) period rests,
+    )
 
 -- an index that is opposite to a coordinate
 opposite_index : (f : FunctionData) (n d : ℕ) → n < d →
     (n * f.order + (f.place * d + (d - n) * f.order)) % (f.order * d) ≡ (f.place * d) % (f.order * d)
 opposite_index f n d below =
-    let whole : n * f.order + (d - n) * f.order ≡ f.order * d = let w : n + (d - n) ≡ d = omega arith in omega arith ∙ ap (λ k. k * f.order) w ∙ mul_comm d f.order in
+    let parts : n + (d - n) ≡ d = omega arith in
+    let whole : n * f.order + (d - n) * f.order ≡ f.order * d =
+    omega arith ∙ ap (λ k. k * f.order) parts ∙ mul_comm d f.order in
     let sum : n * f.order + (f.place * d + (d - n) * f.order) ≡ f.place * d + f.order * d = omega arith in
     ap (λ k. k % (f.order * d)) sum ∙ add-mod_right (f.place * d) (f.order * d)
 
@@ -198,8 +205,10 @@ pub stand_at : (x y : Frac) → AreCoordinates (x ∷ y ∷ []) → (n m c : ℕ
 stand_at x y h =
     let c = h.common.0 in
     let P : Frac → Type 0 = λ z. unsigned_abs (denominator z) ∣ c in
-    let (n, first) = stands_at x c (All-head IsCoordinate x (y ∷ []) h.each) (All-head P x (y ∷ []) h.common.3) h.common.1 in
-    let (m, second) = stands_at y c (All-head IsCoordinate y [] (All-tail IsCoordinate x (y ∷ []) h.each)) (All-head P y [] (All-tail P x (y ∷ []) h.common.3)) h.common.1 in
+    let (n, first) = stands_at x c (All-head IsCoordinate x (y ∷ []) h.each)
+    (All-head P x (y ∷ []) h.common.3) h.common.1 in
+    let (m, second) = stands_at y c (All-head IsCoordinate y [] (All-tail IsCoordinate x (y ∷ []) h.each))
+    (All-head P y [] (All-tail P x (y ∷ []) h.common.3)) h.common.1 in
     (n, m, c, record { some = h.common.1; fine = h.common.2; first = first; second = second })
 
 pub first_within : (x y : Frac) → AreCoordinates (x ∷ y ∷ []) → IsCoordinate x
@@ -227,16 +236,19 @@ coordinates_fit_sum x y h =
     let fine = s.fine in
     let first = s.first.below in
     let second = s.second.below in
-    (over_one_denominator x y (pos n) (pos m) (pos c) s.first.is s.second.is (omega arith) (omega arith) (omega arith) (omega arith)).0
+    (over_one_denominator x y (pos n) (pos m) (pos c) s.first.is s.second.is (omega arith) (omega arith) (omega arith)
+    (omega arith)).0
 
 -- what the sum of two coordinates is
-pub sum_fine : (x y z : Frac) → AreCoordinates (x ∷ y ∷ []) → SameValue (fraction_of z) (sum_of (fraction_of x) (fraction_of y)) →
+pub sum_fine : (x y z : Frac) → AreCoordinates (x ∷ y ∷ []) →
+    SameValue (fraction_of z) (sum_of (fraction_of x) (fraction_of y)) →
     unsigned_abs (denominator z) ≤ 2 ^ 62
 sum_fine x y z h z_is =
     let (n, m, c, s) = stand_at x y h in
     fine_over z (n + m) c s.some s.fine (sum_over x y z (pos n) (pos m) (pos c) s.first.is s.second.is z_is)
 
-pub sum_small : (x y z : Frac) → AreCoordinates (x ∷ y ∷ []) → SameValue (fraction_of z) (sum_of (fraction_of x) (fraction_of y)) →
+pub sum_small : (x y z : Frac) → AreCoordinates (x ∷ y ∷ []) →
+    SameValue (fraction_of z) (sum_of (fraction_of x) (fraction_of y)) →
     unsigned_abs (numerator z) ≤ 2 ^ 31 * unsigned_abs (denominator z)
 sum_small x y z h z_is =
     let (n, m, c, s) = stand_at x y h in
@@ -244,7 +256,8 @@ sum_small x y z h z_is =
     let second = s.second.below in
     let is = sum_over x y z (pos n) (pos m) (pos c) s.first.is s.second.is z_is in
     let sizes : unsigned_abs (numerator z) * c ≡ (n + m) * unsigned_abs (denominator z) =
-    sym (unsigned_abs-mul (numerator z) (pos c)) ∙ ap unsigned_abs is ∙ unsigned_abs-mul (pos (n + m)) (denominator z) in
+    sym (unsigned_abs-mul (numerator z) (pos c)) ∙ ap unsigned_abs is
+    ∙ unsigned_abs-mul (pos (n + m)) (denominator z) in
     let less : (n + m) * unsigned_abs (denominator z) ≤ (2 * c) * unsigned_abs (denominator z) =
     mul-le-mul_right (unsigned_abs (denominator z)) (let k : n + m ≤ 2 * c = omega arith in k) in
     let twice : unsigned_abs (numerator z) * c ≤ (2 * unsigned_abs (denominator z)) * c = omega arith in
@@ -261,20 +274,26 @@ values_fit f x y first second l h first_is second_is =
 
 pub superadditive_shown : (f : FunctionData) (x y z first second third sum : Frac) → IsWithinLimits f → IsCoordinate x →
     IsCoordinate y → SameValue (fraction_of z) (sum_of (fraction_of x) (fraction_of y)) → IsValueOf f x first →
-    IsValueOf f y second → IsValueOf f z third → SameValue (fraction_of sum) (sum_of (fraction_of first) (fraction_of second)) →
+    IsValueOf f y second → IsValueOf f z third →
+    SameValue (fraction_of sum) (sum_of (fraction_of first) (fraction_of second)) →
     LessValue (fraction_of sum) (fraction_of third) ↔ ShowsViolation f (violation.Superadditive x y)
 superadditive_shown f x y z first second third sum l x_is y_is z_is first_is second_is third_is sum_is =
     let at : (n d m e : ℕ) → IsPoint x n d → IsPoint y m e →
     LessValue (fraction_of sum) (fraction_of third)
-    ↔ ((value_of f (n * e) (d * e) +ℤ value_of f (m * d) (d * e)) <ℤ value_of f (n * e + m * d) (d * e)) = λ n d m e p r.
+    ↔ ((value_of f (n * e) (d * e) +ℤ value_of f (m * d) (d * e)) <ℤ value_of f (n * e + m * d) (d * e)) =
+    λ n d m e p r.
     let c = d * e in
     let some = mul-pos p.positive r.positive in
     let x_over : Is x (pos (n * e)) (pos c) = point_over x n d e p in
-    let y_over : Is y (pos (m * d)) (pos c) = subst (λ (k : ℕ). Is y (pos (m * d)) (pos k)) (mul_comm e d) (point_over y m e d r) in
-    let z_over : Is z (pos (n * e + m * d)) (pos c) = sum_over x y z (pos (n * e)) (pos (m * d)) (pos c) x_over y_over z_is in
-    less_over sum third (value_of f (n * e) c +ℤ value_of f (m * d) c) (value_of f (n * e + m * d) c) (f.scale * c) (mul-pos l.scale_low some)
+    let y_over : Is y (pos (m * d)) (pos c) =
+    subst (λ (k : ℕ). Is y (pos (m * d)) (pos k)) (mul_comm e d) (point_over y m e d r) in
+    let z_over : Is z (pos (n * e + m * d)) (pos c) =
+    sum_over x y z (pos (n * e)) (pos (m * d)) (pos c) x_over y_over z_is in
+    less_over sum third (value_of f (n * e) c +ℤ value_of f (m * d) c) (value_of f (n * e + m * d) c) (f.scale * c)
+    (mul-pos l.scale_low some)
     (sum_over first second sum (value_of f (n * e) c) (value_of f (m * d) c) (pos (f.scale * c))
-    (value_on f x first (n * e) c l some x_over first_is) (value_on f y second (m * d) c l some y_over second_is) sum_is)
+    (value_on f x first (n * e) c l some x_over first_is)
+    (value_on f y second (m * d) c l some y_over second_is) sum_is)
     (value_on f z third (n * e + m * d) c l some z_over third_is) in
     let p = coordinate_point x x_is in
     let r = coordinate_point y y_is in (
@@ -299,7 +318,8 @@ point_read f v w e = rw e (
 )
 
 -- a value at 0 that is not 0
-pub zero_read : (f : FunctionData) (v : Violation) (n : ℤ) → IsWithinLimits f → v ≡ violation.Zero → n ≡ get_or f.value 0 (pos 0) →
+pub zero_read : (f : FunctionData) (v : Violation) (n : ℤ) → IsWithinLimits f → v ≡ violation.Zero →
+    n ≡ get_or f.value 0 (pos 0) →
     (n ≢ pos 0) ↔ MeetsPoint f v
 zero_read f v n l e n_is =
     let len = l.value_length in
@@ -309,7 +329,10 @@ zero_read f v n l e n_is =
     let same = at_below f.value 0 (omega arith) in
     let rule = point_read f v violation.Zero e in (
       λ h. rule.0 (
-        record { each = All-nil IsCoordinate; common = (1, omega arith, omega arith, All-nil (λ x. unsigned_abs (denominator x) ∣ 1)) },
+        record {
+          each = All-nil IsCoordinate;
+          common = (1, omega arith, omega arith, All-nil (λ x. unsigned_abs (denominator x) ∣ 1));
+        },
         λ z. h (omega (arith, ints)),
       ),
       λ h z. (rule.1 h).1 (omega (arith, ints)),

@@ -11,12 +11,18 @@ nonzero_div-a c =
 
 pub returns-in-Some : goal.returns-in-Some
 returns-in-Some c =
-    let both = fine_product c.args.a c.args.b c.greatest_common_divisor.result c.requires.first c.requires.second c.greatest_common_divisor.ensures in
-    let is = c.in-Some.ensures.1 in
-    (λ h. both.0 (let k = leb-true c.in-Some.multiple (2 ^ 62) h in omega arith), λ h. le-leb _ _ (let k = both.1 h in omega arith))
+    let both =
+    fine_product c.args.a c.args.b c.greatest_common_divisor.result c.requires.first c.requires.second
+    c.greatest_common_divisor.ensures in
+    let is = c.in-Some.ensures.1 in (
+      λ h. both.0 (let k = leb-true c.in-Some.multiple (2 ^ 62) h in omega arith),
+      λ h. le-leb _ _ (let k = both.1 h in omega arith),
+    )
 
 pub returns-in-None : goal.returns-in-None
 returns-in-None c =
-    let both = fine_product c.args.a c.args.b c.greatest_common_divisor.result c.requires.first c.requires.second c.greatest_common_divisor.ensures in
+    let both =
+    fine_product c.args.a c.args.b c.greatest_common_divisor.result c.requires.first c.requires.second
+    c.greatest_common_divisor.ensures in
     let wide = c.in-None.ensures in
     (λ h. absurd (cc), λ h. absurd (wide (let k = both.1 h in omega arith)))

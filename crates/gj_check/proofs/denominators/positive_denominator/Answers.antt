@@ -1,6 +1,6 @@
 use Rattle.std.proofs.Common.{◌≡◌, unsigned_abs, rules, arith}
 use Rattle.gj_frac.specs.Fraction.{denominator}
-use Rattle.gj_check.proofs.Ratios.{denominator_some}
+use Rattle.gj_shape.proofs.LeastDenominator.{denominator_some}
 use Rattle.gj_check.proofs.denominators.positive_denominator.Goals as goal
 
 pub returns-clause-some : goal.returns-clause-some

@@ -10,16 +10,19 @@ value_at-requires-clause-size c = coordinate_small c.args.x (one_within c.args.x
 
 pub value_scaled-requires : goal.value_scaled-requires
 value_scaled-requires c =
-    opposite_fine c.args.shape.now c.args.x c.scaled_opposite-opposite.result c.requires.coordinates c.scaled_opposite-opposite.ensures
+    opposite_fine c.args.shape.now c.args.x c.scaled_opposite-opposite.result c.requires.coordinates
+    c.scaled_opposite-opposite.ensures
 
 pub add-requires : goal.add-requires
 add-requires c =
     asymmetric_fits c.args.shape.now c.args.x c.scaled_opposite-opposite.result c.value_at.result c.value_scaled.result
-    c.requires.limits c.requires.coordinates c.scaled_opposite-opposite.ensures c.value_at.ensures.value c.value_scaled.ensures
+    c.requires.limits c.requires.coordinates c.scaled_opposite-opposite.ensures c.value_at.ensures.value
+    c.value_scaled.ensures
 
 pub returns : goal.returns
 returns c =
     in_other_words _ _ _ c.is_not_one.ensures
-    (asymmetric_shown c.args.shape.now c.args.x c.scaled_opposite-opposite.result c.value_at.result c.value_scaled.result
+    (asymmetric_shown c.args.shape.now c.args.x c.scaled_opposite-opposite.result c.value_at.result
+    c.value_scaled.result
     c.add.result c.requires.limits (one_within c.args.x c.requires.coordinates) c.scaled_opposite-opposite.ensures
     c.value_at.ensures.value c.value_scaled.ensures c.add.ensures)

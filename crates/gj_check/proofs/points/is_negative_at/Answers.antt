@@ -8,4 +8,5 @@ value_at-requires-clause-fine c = one_fine c.args.x c.requires.coordinates
 pub returns : goal.returns
 returns c =
     in_other_words _ _ _ c.is_negative.ensures
-    (negative_shown c.args.shape.now c.args.x c.value_at.result c.requires.limits (one_within c.args.x c.requires.coordinates) c.value_at.ensures.value)
+    (negative_shown c.args.shape.now c.args.x c.value_at.result c.requires.limits
+    (one_within c.args.x c.requires.coordinates) c.value_at.ensures.value)

@@ -23,5 +23,6 @@ returns c =
     let first = c.times.ensures.value ∙ ap₂ (λ a b. a *ℤ pos b) den c.place.ensures.value in
     let second = c.times-2.ensures.value ∙ ap₂ (λ a b. a *ℤ pos b) num c.order.ensures.value in
     subst₂ (λ a b. Is c.ratio.result a b)
-    (difference_read c.times.result c.times-2.result c.times.ensures.fits c.times-2.ensures.fits ∙ ap₂ (λ a b. a -ℤ b) first second)
+    (difference_read c.times.result c.times-2.result c.times.ensures.fits c.times-2.ensures.fits
+    ∙ ap₂ (λ a b. a -ℤ b) first second)
     bottom c.ratio.ensures

@@ -1,5 +1,6 @@
 use Rattle.std.proofs.Common.{◌≡◌, ◌+◌, ◌%◌, rules, ap, ◌∙◌}
-use Rattle.gj_check.proofs.Readings.{entry_read, next_index}
+use Rattle.gj_shape.proofs.NumeratorReadings.{rest_read}
+use Rattle.gj_check.proofs.Readings.{next_index}
 use Rattle.gj_check.proofs.pieces.Piece.at.Goals as goal
 
 pub returns : goal.returns
@@ -11,7 +12,7 @@ returns c =
     c.wrapped-next.ensures ∙ ap (λ n. (c.wrapped-here.result + 1) % n) c.order-order.ensures.value in
     let last = next_index c.args.i _ _ _ here next in
     record {
-      value = entry_read _ _ c.args.i _ _ c.value_numerators.ensures.value l.value_length here (search rules);
-      right = entry_read _ _ c.args.i _ _ c.right_numerators.ensures.value l.right_length here (search rules);
-      left = entry_read _ _ (c.args.i + 1) _ _ c.left_numerators.ensures.value l.left_length last (search rules);
+      value = rest_read _ _ c.args.i _ _ c.value_numerators.ensures.value l.value_length here (search rules);
+      right = rest_read _ _ c.args.i _ _ c.right_numerators.ensures.value l.right_length here (search rules);
+      left = rest_read _ _ (c.args.i + 1) _ _ c.left_numerators.ensures.value l.left_length last (search rules);
     }
