@@ -4,7 +4,7 @@ use Rattle.std.specs.List.{All, position, position_or_len}
 use Rattle.std.proofs.lemmas.List.{drop_more}
 use Rattle.std.proofs.lemmas.List.Elements.{All-weaker, All-from_get_or}
 use Rattle.std.proofs.lemmas.List.Sums.{fails_before_first, passes_at_first}
-use Rattle.gj_lex.specs.Words.{is_blank, word_texts}
+use Rattle.gj_lex.specs.Words.{HasAtFront, is_blank, word_texts}
 use Rattle.gj_lex.proofs.FirstPlaces.{first_place, no_place}
 use Rattle.gj_lex.proofs.WordRuns.{is_word_byte, blank_from_not, not_blank}
 use Rattle.gj_lex.proofs.WordTexts.{skip_blanks, take_word}
@@ -63,3 +63,13 @@ first_word line rest k end h is at =
     (take k line) place.3)
     ∙ word_at_front (get_or line k 0) (drop (k + 1) line) rest end (not_blank (is_blank (get_or line k 0)) place.2)
     same at
+
+-- and the line is the blanks before it, the word, and what stands behind it
+pub word_parts : (line rest : List ℕ) (k end : ℕ) → position is_word_byte line ≡ Some k → rest ≡ drop k line →
+    HasAtFront line (take end rest) (drop end rest)
+word_parts line rest k end h is =
+    let place = first_place is_word_byte line k h in (
+      take k line,
+      All-weaker (λ b. is_word_byte b ≡ false) (λ b. is_blank b ≡ true) (λ b. blank_from_not (is_blank b)) (take k line) place.3,
+      sym (take-append-drop k line) ∙ ap (λ t. take k line ++ t) (sym is ∙ sym (take-append-drop end rest)),
+    )

@@ -1,5 +1,5 @@
 -- The words of a line (own).
-use Rattle.std.specs.Prelude.{ℕ, ◌≡◌, ◌<◌, ◌≤◌, Bool, true, false, nat_lt, ◌==◌, ◌||◌, List, [], ◌∷◌, length, slice_index}
+use Rattle.std.specs.Prelude.{ℕ, ◌≡◌, ◌<◌, ◌≤◌, Bool, true, false, nat_lt, ◌==◌, ◌||◌, List, [], ◌∷◌, ◌++◌, All, length, slice_index}
 use Rattle.std.specs.List.{filter, slice_range, slice_split}
 
 -- a byte that parts words: a space or a tab
@@ -33,3 +33,8 @@ word_text line word = slice_range line word.0 word.1
 -- the bytes of all words, in order: of the parts of the line between its blanks, those with a byte
 abbrev pub word_texts : List ℕ → List (List ℕ)
 word_texts line = filter (λ part. nat_lt 0 (length part)) (slice_split is_blank line)
+
+-- the line is blanks, or none, then the word, and then the rest
+abbrev pub HasAtFront : List ℕ → List ℕ → List ℕ → Type 0
+HasAtFront line word rest =
+    (blanks : List ℕ) × All (λ b. is_blank b ≡ true) blanks × (line ≡ blanks ++ (word ++ rest))

@@ -2,7 +2,7 @@
 
 ghost use Rattle.std.specs.Prelude.{◌≡◌, ◌+◌, ◌≤◌, [], ◌∷◌, not, length, drop, map, IfOk, IfNone, IfSome};
 ghost use Rattle.std.specs.List.{position, position_or_len};
-ghost use Rattle.gj_lex.specs.Words.{AllBlank, AreWords, IsNextWord, is_blank, word_text, word_texts};
+ghost use Rattle.gj_lex.specs.Words.{AllBlank, AreWords, HasAtFront, IsNextWord, is_blank, word_text, word_texts};
 
 use std::alloc::{AllocError, Global};
 
@@ -25,6 +25,7 @@ pub fn words_of(alloc: Global, line: &[u8]) -> Result<Vec<(usize, usize)>, Alloc
 /// The first word of the line, and what stands behind it. It takes no memory.
 pub fn split_word(line: &[u8]) -> Option<(&[u8], &[u8])>
     ensures found { IfSome result (λ r. word_texts line.now ≡ r.0.now ∷ word_texts r.1.now) }
+    ensures parts { IfSome result (λ r. HasAtFront line.now r.0.now r.1.now) }
     ensures none { IfNone result (word_texts line.now ≡ []) }
 {
     let line = &line[first_byte(line)?..];
