@@ -1,8 +1,8 @@
 //! The violation search.
 ghost use Rattle.std.specs.Prelude.{ℕ, ◌≡◌, ◌*◌, ◌<◌, ◌≤◌, ◌^◌, IfSome, IfNone};
-ghost use Rattle.gj_shape.specs.FunctionData.{IsWithinLimits};
+ghost use Rattle.gj_shape.specs.FunctionData.{IsWithinLimits, IsContinuous};
 ghost use Rattle.gj_shape.specs.FirstViolation.{IsFirstViolation, PassesAll};
-ghost use Rattle.gj_shape.specs.Table.{IsMinimal};
+ghost use Rattle.gj_shape.specs.Table.{IsMinimal, IsMinimalOnGrid};
 ghost use Rattle.gj_shape.specs.Violation.{ShowsViolation};
 ghost use Rattle.gj_theory.specs.GridPoints.{IsAtGridPoints};
 ghost use Rattle.gj_minimal.specs.Failures.{FailsFirst};
@@ -23,6 +23,8 @@ use gj_shape::{Shape, Violation};
 /// the slack is not negative, for a from 0 and then for b from 0; and square by square in that order, on the faces in
 /// the order horizontal, vertical, diagonal, lower and upper, the limit of the slack at each corner is not negative.
 ///
+/// A continuous function is minimal, and so gives None, where its table on its own grid is.
+///
 /// Where a limit fails, the violation is shown at a point near the end or the corner, at the multiples of 1/(q h) with
 /// the least h. All points shown are from 0 to below 1, and q h is at most 2^62. It takes no memory.
 pub fn find_violation(shape: &Shape) -> Option<Violation>
@@ -33,6 +35,7 @@ pub fn find_violation(shape: &Shape) -> Option<Violation>
     ensures none { IfNone result (PassesAll shape.now) }
     ensures minimal { IfNone result (IsMinimal shape.now) }
     ensures only { IsMinimal shape.now → result ≡ None }
+    ensures own_grid { IsContinuous shape.now → IsMinimalOnGrid shape.now 1 → result ≡ None }
 {
     let failure = first_failure(shape)?;
     Some(shown(shape, failure))

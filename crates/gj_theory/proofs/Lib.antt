@@ -8,3 +8,4 @@ pub mod Complete
 pub mod Points
 pub mod Violations
 pub mod FirstFailed
+pub mod Continuous

@@ -1,9 +1,9 @@
 //! The tests of minimality, and the tables on all grids.
 ghost use Rattle.std.specs.Prelude.{ℕ, pos, ◌≡◌, ◌+◌, ◌-◌, ◌*◌, ◌<◌, ◌≤◌, ◌+ℤ◌, [], ◌∷◌, length};
-ghost use Rattle.gj_shape.specs.FunctionData.{FunctionData, IsWithinLimits, at};
+ghost use Rattle.gj_shape.specs.FunctionData.{FunctionData, IsWithinLimits, IsContinuous, at};
 ghost use Rattle.gj_shape.specs.Faces.{corners_of, limits_of};
 ghost use Rattle.gj_shape.specs.FirstViolation.{PassesAll, near, first_coordinates, second_coordinates};
-ghost use Rattle.gj_shape.specs.Table.{table, IsMinimal};
+ghost use Rattle.gj_shape.specs.Table.{table, IsMinimalOnGrid, IsMinimal};
 ghost use Rattle.gj_shape.specs.declared.faces.FaceKind.{FaceKind};
 ghost use Rattle.gj_theory.specs.NearCorners.{near_value};
 
@@ -11,6 +11,11 @@ ghost use Rattle.gj_theory.specs.NearCorners.{near_value};
 pub fn tests_say_minimal()
     ensures sound { (f : FunctionData) → IsWithinLimits f → PassesAll f → IsMinimal f }
     ensures complete { (f : FunctionData) → IsWithinLimits f → IsMinimal f → PassesAll f }
+{}
+
+/// A continuous function is minimal where the table on its own grid is: then the tables on all grids are.
+pub fn own_grid_suffices()
+    ensures { (f : FunctionData) → IsWithinLimits f → IsContinuous f → IsMinimalOnGrid f 1 → IsMinimal f }
 {}
 
 /// Near the end of an open interval the values are affine between the limits at its ends.
