@@ -4,9 +4,9 @@ use Rattle.std.proofs.Math.Nat.{mul-pos}
 use Rattle.std.proofs.lemmas.Int.{ints, unsigned_abs-mul, to_z-of_z}
 use mir.Syntax.{w128}
 use Rattle.gj_frac.specs.declared.Frac.{Frac}
-use Rattle.gj_frac.specs.Fraction.{Is, SameValue, LessValue, fraction_of, sum_of, numerator, denominator}
-use Rattle.gj_frac.proofs.Integers.{mul_assoc_z, mul_comm_z, swap_last_z, mul_cancel_right_z, mul_lt_mul_right_z, mul_lt_cancel_right_z, mul_positive_z}
-use Rattle.gj_frac.proofs.Ring.{by_ring, ring}
+use Rattle.gj_frac.specs.Fraction.{IsRatio, SameValue, LessValue, fraction_of, sum_of, numerator, denominator}
+use Rattle.gj_tools.proofs.Integers.{mul_assoc_z, mul_comm_z, swap_last_z, mul_cancel_right_z, mul_lt_mul_right_z, mul_lt_cancel_right_z, mul_positive_z}
+use Rattle.gj_tools.proofs.Ring.{by_ring, ring}
 use Rattle.gj_frac.proofs.SameValues.{is_along}
 use Rattle.gj_shape.proofs.LeastDenominator.{denominator_some}
 
@@ -21,8 +21,8 @@ sum_right_z : (n m d e : ℤ) → (n *ℤ d) *ℤ e +ℤ (m *ℤ e) *ℤ d ≡ (
 sum_right_z n m d e = by_ring (n ∷ m ∷ d ∷ e ∷ []) (search ring depth 30) refl
 
 -- the sum of n/w and m/w
-pub sum_over : (x y s : Frac) (n m w : ℤ) → Is x n w → Is y m w →
-    SameValue (fraction_of s) (sum_of (fraction_of x) (fraction_of y)) → Is s (n +ℤ m) w
+pub sum_over : (x y s : Frac) (n m w : ℤ) → IsRatio x n w → IsRatio y m w →
+    SameValue (fraction_of s) (sum_of (fraction_of x) (fraction_of y)) → IsRatio s (n +ℤ m) w
 sum_over x y s n m w x_is y_is h =
     let size = unsigned_abs-mul x.den y.den in
     let some = mul-pos (denominator_some x) (denominator_some y) in
@@ -31,7 +31,7 @@ sum_over x y s n m w x_is y_is h =
     ∙ sum_right_z n m x.den y.den)
 
 -- n/w is less than m/w exactly where n is less than m
-pub less_over : (x y : Frac) (n m : ℤ) (w : ℕ) → 0 < w → Is x n (pos w) → Is y m (pos w) →
+pub less_over : (x y : Frac) (n m : ℤ) (w : ℕ) → 0 < w → IsRatio x n (pos w) → IsRatio y m (pos w) →
     LessValue (fraction_of x) (fraction_of y) ↔ (n <ℤ m)
 less_over x y n m w some x_is y_is =
     let positive : pos 0 <ℤ pos w = omega (arith, ints) in
@@ -48,7 +48,7 @@ less_over x y n m w some x_is y_is =
     )
 
 -- n/w is negative exactly where n is
-pub negative_over : (x : Frac) (n : ℤ) (w : ℕ) → 0 < w → Is x n (pos w) → (numerator x <ℤ pos 0) ↔ (n <ℤ pos 0)
+pub negative_over : (x : Frac) (n : ℤ) (w : ℕ) → 0 < w → IsRatio x n (pos w) → (numerator x <ℤ pos 0) ↔ (n <ℤ pos 0)
 negative_over x n w some x_is =
     let positive : pos 0 <ℤ pos w = omega (arith, ints) in
     let is : x.num *ℤ pos w ≡ n *ℤ x.den = x_is in (
@@ -59,7 +59,7 @@ negative_over x n w some x_is =
     )
 
 -- n/w is 1 exactly where n is w
-pub one_over : (x : Frac) (n : ℤ) (w : ℕ) → 0 < w → Is x n (pos w) → (numerator x ≡ denominator x) ↔ (n ≡ pos w)
+pub one_over : (x : Frac) (n : ℤ) (w : ℕ) → 0 < w → IsRatio x n (pos w) → (numerator x ≡ denominator x) ↔ (n ≡ pos w)
 one_over x n w some x_is =
     let den = denominator_some x in (
       λ h. mul_cancel_right_z n (pos w) x.den (sym x_is ∙ ap (λ z. z *ℤ pos w) h ∙ mul_comm_z x.den (pos w))

@@ -3,14 +3,14 @@ use Rattle.std.proofs.Common.{◌≡◌, ℕ, suc, ◌-◌, ◌*◌, ◌<◌, �
 use Rattle.std.proofs.Math.Nat.{mul-pos, mul-le-mul, le-mul_of_pos_right}
 use Rattle.std.proofs.lemmas.Int.{ints}
 use Rattle.gj_frac.specs.declared.Frac.{Frac}
-use Rattle.gj_frac.specs.Fraction.{Is, numerator, denominator}
+use Rattle.gj_frac.specs.Fraction.{IsRatio, numerator, denominator}
 use Rattle.gj_frac.specs.Fits.{FitsSum}
-use Rattle.gj_frac.proofs.Integers.{swap_last_z}
+use Rattle.gj_tools.proofs.Integers.{swap_last_z}
 use Rattle.gj_frac.proofs.OneDenominator.{over_one_denominator}
-use Rattle.gj_frac.proofs.Quotients.{same_at_rest}
-use Rattle.gj_frac.proofs.Ring.{by_ring, ring}
+use Rattle.gj_tools.proofs.Quotients.{same_at_remainder}
+use Rattle.gj_tools.proofs.Ring.{by_ring, ring}
 use Rattle.gj_frac.proofs.SameValues.{is_along}
-use Rattle.gj_shape.specs.FunctionData.{FunctionData, IsWithinLimits}
+use Rattle.gj_shape.specs.FunctionData.{FunctionData, IsWithinBounds}
 use Rattle.gj_shape.specs.Table.{table}
 use Rattle.gj_shape.specs.Values.{IsCongruent, IsValueAt}
 use Rattle.gj_shape.specs.Violation.{value_of}
@@ -53,14 +53,14 @@ scaled_left_z : (s d : ℕ) (x : ℤ) → x *ℤ pos (s * d) ≡ pos s *ℤ (pos
 scaled_left_z s d x = by_ring (pos s ∷ pos d ∷ x ∷ []) (search ring depth 30) refl
 
 -- the value at a/e is the value at t/d where the two are one number
-pub value_over : (f : FunctionData) (a t : ℤ) (e d : ℕ) (y : Frac) → IsWithinLimits f → 0 < e → 0 < d →
+pub value_over : (f : FunctionData) (a t : ℤ) (e d : ℕ) (y : Frac) → IsWithinBounds f → 0 < e → 0 < d →
     a *ℤ pos d ≡ t *ℤ pos e → IsValueAt f a e y → IsValueAt f t d y
 value_over f a t e d y l e_some d_some same is j at_t =
     let low = l.order_low in
     let (i, at_a) = natural_index a (f.order * e) (mul-pos (omega arith) e_some) in
     let rests = congruent_rests (i * d) (j * e) (f.order * (d * e))
     (places_congruent f.order i j d e a t same at_a at_t) in
-    let both = same_at_rest (table f (d * e)) (f.order * (d * e))
+    let both = same_at_remainder (table f (d * e)) (f.order * (d * e))
     (λ k. table_period f (d * e) k (mul-pos d_some e_some) l) (i * d) (j * e) rests in
     let scaled = same_on_both f d e j i d_some e_some both in
     let scale = mul-pos l.scale_low e_some in
@@ -72,9 +72,9 @@ point_right_z : (n q : ℕ) (d : ℤ) → (pos n *ℤ d) *ℤ pos q ≡ pos (n *
 point_right_z n q d = by_ring (pos n ∷ pos q ∷ d ∷ []) (search ring depth 30) refl
 
 -- the value at x = n/c, over the scale times c
-pub value_on : (f : FunctionData) (x y : Frac) (n c : ℕ) → IsWithinLimits f → 0 < c → Is x (pos n) (pos c) →
+pub value_on : (f : FunctionData) (x y : Frac) (n c : ℕ) → IsWithinBounds f → 0 < c → IsRatio x (pos n) (pos c) →
     IsValueAt f (numerator x *ℤ pos f.order) (unsigned_abs (denominator x)) y →
-    Is y (value_of f n c) (pos (f.scale * c))
+    IsRatio y (value_of f n c) (pos (f.scale * c))
 value_on f x y n c l some x_is is =
     let same = swap_last_z x.num (pos f.order) (pos c) ∙ ap (λ z. z *ℤ pos f.order) x_is ∙ point_right_z n f.order x.den
     ∙ ap (λ z. pos (n * f.order) *ℤ z) (denominator_is x) in
@@ -84,8 +84,8 @@ value_on f x y n c l some x_is is =
 -- ---- sizes
 
 -- the values at two fractions of one denominator of at most 2^62 can be added
-pub values_fit_sum : (f : FunctionData) (x y : Frac) (i j c : ℕ) → IsWithinLimits f → 0 < c → c ≤ 2 ^ 62 →
-    Is x (table f c i) (pos (f.scale * c)) → Is y (table f c j) (pos (f.scale * c)) → FitsSum x y
+pub values_fit_sum : (f : FunctionData) (x y : Frac) (i j c : ℕ) → IsWithinBounds f → 0 < c → c ≤ 2 ^ 62 →
+    IsRatio x (table f c i) (pos (f.scale * c)) → IsRatio y (table f c j) (pos (f.scale * c)) → FitsSum x y
 values_fit_sum f x y i j c l some fine x_is y_is =
     let high = l.scale_high in
     let scale = mul-pos l.scale_low some in

@@ -6,12 +6,12 @@ use Rattle.std.proofs.lemmas.Nat.Gcd.{le_of_dvd}
 use Rattle.std.proofs.lemmas.Int.{ints, unsigned_abs-mul}
 use Rattle.std.proofs.lemmas.List.Elements.{All-nil, All-head, All-tail}
 use Rattle.gj_frac.specs.declared.Frac.{Frac}
-use Rattle.gj_frac.specs.Fraction.{Is, SameValue, LessValue, fraction_of, sum_of, numerator, denominator}
+use Rattle.gj_frac.specs.Fraction.{IsRatio, SameValue, LessValue, fraction_of, sum_of, numerator, denominator}
 use Rattle.gj_frac.specs.Fits.{FitsSum}
-use Rattle.gj_frac.proofs.Integers.{sub_mul_z}
+use Rattle.gj_tools.proofs.Integers.{sub_mul_z}
 use Rattle.gj_frac.proofs.OneDenominator.{denominator_divides_each, over_one_denominator}
-use Rattle.gj_frac.proofs.Quotients.{from_same_rest}
-use Rattle.gj_shape.specs.FunctionData.{FunctionData, IsWithinLimits, at}
+use Rattle.gj_tools.proofs.Quotients.{from_same_remainder}
+use Rattle.gj_shape.specs.FunctionData.{FunctionData, IsWithinBounds, at}
 use Rattle.gj_shape.specs.Table.{table}
 use Rattle.gj_shape.specs.Values.{IsValueAt}
 use Rattle.gj_shape.specs.Violation.{IsPoint, value_of, ShowsViolation}
@@ -46,18 +46,18 @@ coordinate_below x h =
     omega (arith, ints)
 
 -- a point, as a fraction
-point_is : (x : Frac) (n d : ℕ) → IsPoint x n d → Is x (pos n) (pos d)
+point_is : (x : Frac) (n d : ℕ) → IsPoint x n d → IsRatio x (pos n) (pos d)
 point_is x n d p = ap (λ z. z *ℤ pos d) p.top ∙ sym (ap (λ z. pos n *ℤ z) p.bottom)
 
 -- a point, over a multiple of its denominator
-point_over : (x : Frac) (n d e : ℕ) → IsPoint x n d → Is x (pos (n * e)) (pos (d * e))
+point_over : (x : Frac) (n d e : ℕ) → IsPoint x n d → IsRatio x (pos (n * e)) (pos (d * e))
 point_over x n d e p =
     let turned : n * (d * e) ≡ n * e * d = omega arith in
     ap (λ z. z *ℤ pos (d * e)) p.top ∙ ap pos turned ∙ sym (ap (λ z. pos (n * e) *ℤ z) p.bottom)
 
 -- x is n/c and below 1
 pub record StandsAt (x : Frac) (n c : ℕ) : Type 0 where
-  pub is : Is x (pos n) (pos c)
+  pub is : IsRatio x (pos n) (pos c)
   pub below : n < c
 
 factor_some : (d e c : ℕ) → d * e ≡ c → 0 < c → 0 < e
@@ -75,7 +75,7 @@ stands_at x c h divides some =
     let less = mul-lt-mul_of_pos_right (coordinate_below x h) e_some in (
       n * e,
       record {
-        is = subst (λ (k : ℕ). Is x (pos (n * e)) (pos k)) whole (point_over x n d e (coordinate_point x h));
+        is = subst (λ (k : ℕ). IsRatio x (pos (n * e)) (pos k)) whole (point_over x n d e (coordinate_point x h));
         below = omega arith;
       },
     )
@@ -103,7 +103,7 @@ coordinate_small x h = let below = coordinate_below x h in omega arith
 
 -- ---- a negative value
 
-pub negative_shown : (f : FunctionData) (x y : Frac) → IsWithinLimits f → IsCoordinate x → IsValueOf f x y →
+pub negative_shown : (f : FunctionData) (x y : Frac) → IsWithinBounds f → IsCoordinate x → IsValueOf f x y →
     (numerator y <ℤ pos 0) ↔ ShowsViolation f (violation.Negative x)
 negative_shown f x y l x_is is =
     let at : (n d : ℕ) → IsPoint x n d → (numerator y <ℤ pos 0) ↔ (value_of f n d <ℤ pos 0) = λ n d p.
@@ -122,18 +122,18 @@ congruent_by : (j m n a b p : ℕ) → m + j + b * p ≡ n + a * p →
 congruent_by j m n a b p e = let parts = sub_mul_z (pos a) (pos b) (pos p) in omega (arith, ints)
 
 -- the value at f - x, at each index that is opposite to x
-opposite_value : (f : FunctionData) (x z y : Frac) (n d j : ℕ) → IsWithinLimits f → IsPoint x n d →
+opposite_value : (f : FunctionData) (x z y : Frac) (n d j : ℕ) → IsWithinBounds f → IsPoint x n d →
     IsScaledOpposite f x z →
     IsValueAt f (numerator z) (unsigned_abs (denominator z)) y →
-    (n * f.order + j) % (f.order * d) ≡ (f.place * d) % (f.order * d) → Is y (table f d j) (pos (f.scale * d))
+    (n * f.order + j) % (f.order * d) ≡ (f.place * d) % (f.order * d) → IsRatio y (table f d j) (pos (f.scale * d))
 opposite_value f x z y n d j l p z_is is opposite =
     let t = pos (f.place * d) -ℤ pos (n * f.order) in
-    let read : Is z (pos (d * f.place) -ℤ pos (n * f.order)) (pos d) =
-    subst₂ (λ a b. Is z (b *ℤ pos f.place -ℤ a *ℤ pos f.order) b) p.top p.bottom z_is in
-    let over : Is z t (pos d) =
-    subst (λ (k : ℕ). Is z (pos k -ℤ pos (n * f.order)) (pos d)) (mul_comm d f.place) read in
+    let read : IsRatio z (pos (d * f.place) -ℤ pos (n * f.order)) (pos d) =
+    subst₂ (λ a b. IsRatio z (b *ℤ pos f.place -ℤ a *ℤ pos f.order) b) p.top p.bottom z_is in
+    let over : IsRatio z t (pos d) =
+    subst (λ (k : ℕ). IsRatio z (pos k -ℤ pos (n * f.order)) (pos d)) (mul_comm d f.place) read in
     let period = f.order * d in
-    let rests = from_same_rest (n * f.order + j) (f.place * d) period opposite in
+    let rests = from_same_remainder (n * f.order + j) (f.place * d) period opposite in
     value_over f (numerator z) t (unsigned_abs (denominator z)) d y l (denominator_some z) p.positive
     (over ∙ ap (λ k. t *ℤ k) (denominator_is z)) is j (
       pos ((n * f.order + j) / period) -ℤ pos (f.place * d / period),
@@ -150,7 +150,7 @@ opposite_index f n d below =
     let sum : n * f.order + (f.place * d + (d - n) * f.order) ≡ f.place * d + f.order * d = omega arith in
     ap (λ k. k % (f.order * d)) sum ∙ add-mod_right (f.place * d) (f.order * d)
 
-pub asymmetric_shown : (f : FunctionData) (x z first second sum : Frac) → IsWithinLimits f → IsCoordinate x →
+pub asymmetric_shown : (f : FunctionData) (x z first second sum : Frac) → IsWithinBounds f → IsCoordinate x →
     IsScaledOpposite f x z → IsValueOf f x first → IsValueAt f (numerator z) (unsigned_abs (denominator z)) second →
     SameValue (fraction_of sum) (sum_of (fraction_of first) (fraction_of second)) →
     (numerator sum ≢ denominator sum) ↔ ShowsViolation f (violation.Asymmetric x)
@@ -171,7 +171,7 @@ asymmetric_shown f x z first second sum l x_is z_is first_is second_is sum_is =
     )
 
 -- the two values can be added
-pub asymmetric_fits : (f : FunctionData) (x z first second : Frac) → IsWithinLimits f → AreCoordinates (x ∷ []) →
+pub asymmetric_fits : (f : FunctionData) (x z first second : Frac) → IsWithinBounds f → AreCoordinates (x ∷ []) →
     IsScaledOpposite f x z → IsValueOf f x first → IsValueAt f (numerator z) (unsigned_abs (denominator z)) second →
     FitsSum first second
 asymmetric_fits f x z first second l x_is z_is first_is second_is =
@@ -217,7 +217,7 @@ first_within x y h = All-head IsCoordinate x (y ∷ []) h.each
 pub second_within : (x y : Frac) → AreCoordinates (x ∷ y ∷ []) → IsCoordinate y
 second_within x y h = All-head IsCoordinate y [] (All-tail IsCoordinate x (y ∷ []) h.each)
 
-fine_over : (x : Frac) (n c : ℕ) → 0 < c → c ≤ 2 ^ 62 → Is x (pos n) (pos c) → unsigned_abs (denominator x) ≤ 2 ^ 62
+fine_over : (x : Frac) (n c : ℕ) → 0 < c → c ≤ 2 ^ 62 → IsRatio x (pos n) (pos c) → unsigned_abs (denominator x) ≤ 2 ^ 62
 fine_over x n c some fine is =
     let within = le_of_dvd some (denominator_divides_each x (pos n) (pos c) is) in
     omega arith
@@ -265,14 +265,14 @@ sum_small x y z h z_is =
     omega arith
 
 -- the two values can be added
-pub values_fit : (f : FunctionData) (x y first second : Frac) → IsWithinLimits f → AreCoordinates (x ∷ y ∷ []) →
+pub values_fit : (f : FunctionData) (x y first second : Frac) → IsWithinBounds f → AreCoordinates (x ∷ y ∷ []) →
     IsValueOf f x first → IsValueOf f y second → FitsSum first second
 values_fit f x y first second l h first_is second_is =
     let (n, m, c, s) = stand_at x y h in
     values_fit_sum f first second (n * f.order) (m * f.order) c l s.some s.fine
     (value_on f x first n c l s.some s.first.is first_is) (value_on f y second m c l s.some s.second.is second_is)
 
-pub superadditive_shown : (f : FunctionData) (x y z first second third sum : Frac) → IsWithinLimits f → IsCoordinate x →
+pub superadditive_shown : (f : FunctionData) (x y z first second third sum : Frac) → IsWithinBounds f → IsCoordinate x →
     IsCoordinate y → SameValue (fraction_of z) (sum_of (fraction_of x) (fraction_of y)) → IsValueOf f x first →
     IsValueOf f y second → IsValueOf f z third →
     SameValue (fraction_of sum) (sum_of (fraction_of first) (fraction_of second)) →
@@ -284,10 +284,10 @@ superadditive_shown f x y z first second third sum l x_is y_is z_is first_is sec
     λ n d m e p r.
     let c = d * e in
     let some = mul-pos p.positive r.positive in
-    let x_over : Is x (pos (n * e)) (pos c) = point_over x n d e p in
-    let y_over : Is y (pos (m * d)) (pos c) =
-    subst (λ (k : ℕ). Is y (pos (m * d)) (pos k)) (mul_comm e d) (point_over y m e d r) in
-    let z_over : Is z (pos (n * e + m * d)) (pos c) =
+    let x_over : IsRatio x (pos (n * e)) (pos c) = point_over x n d e p in
+    let y_over : IsRatio y (pos (m * d)) (pos c) =
+    subst (λ (k : ℕ). IsRatio y (pos (m * d)) (pos k)) (mul_comm e d) (point_over y m e d r) in
+    let z_over : IsRatio z (pos (n * e + m * d)) (pos c) =
     sum_over x y z (pos (n * e)) (pos (m * d)) (pos c) x_over y_over z_is in
     less_over sum third (value_of f (n * e) c +ℤ value_of f (m * d) c) (value_of f (n * e + m * d) c) (f.scale * c)
     (mul-pos l.scale_low some)
@@ -318,7 +318,7 @@ point_read f v w e = rw e (
 )
 
 -- a value at 0 that is not 0
-pub zero_read : (f : FunctionData) (v : Violation) (n : ℤ) → IsWithinLimits f → v ≡ violation.Zero →
+pub zero_read : (f : FunctionData) (v : Violation) (n : ℤ) → IsWithinBounds f → v ≡ violation.Zero →
     n ≡ get_or f.value 0 (pos 0) →
     (n ≢ pos 0) ↔ MeetsPoint f v
 zero_read f v n l e n_is =

@@ -2,7 +2,7 @@
 use Rattle.std.specs.Prelude.{ℕ, pos, ◌-ℤ◌, ◌*ℤ◌, ◌≤◌, ◌^◌, List, All}
 use Rattle.std.specs.Int.{◌∣◌}
 use Rattle.gj_frac.specs.declared.Frac.{Frac}
-use Rattle.gj_frac.specs.Fraction.{Is, numerator, denominator}
+use Rattle.gj_frac.specs.Fraction.{IsRatio, numerator, denominator}
 use Rattle.gj_shape.specs.FunctionData.{FunctionData}
 use Rattle.gj_proof.specs.Rules.{IsCoordinate, HasFineDenominator}
 
@@ -21,4 +21,4 @@ pub record AreCoordinates (xs : List Frac) : Type 0 where
 
 -- z is q (f - x), where q is the order
 abbrev pub IsScaledOpposite : FunctionData → Frac → Frac → Type 0
-IsScaledOpposite f x z = Is z (denominator x *ℤ pos f.place -ℤ numerator x *ℤ pos f.order) (denominator x)
+IsScaledOpposite f x z = IsRatio z (denominator x *ℤ pos f.place -ℤ numerator x *ℤ pos f.order) (denominator x)

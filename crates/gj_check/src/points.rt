@@ -1,7 +1,7 @@
 //! The rule `point`: a violation is shown at its points.
 ghost use Rattle.std.specs.Prelude.{pos, ◌≡◌, ◌≢◌, ◌↔◌, ◌<◌, ◌≤◌, ◌^◌, ◌*ℤ◌, ◌<ℤ◌, [], ◌∷◌, IsTrue, unsigned_abs};
-ghost use Rattle.gj_frac.specs.Fraction.{Is, numerator, denominator, LessValue, fraction_of};
-ghost use Rattle.gj_shape.specs.FunctionData.{IsWithinLimits};
+ghost use Rattle.gj_frac.specs.Fraction.{IsRatio, numerator, denominator, LessValue, fraction_of};
+ghost use Rattle.gj_shape.specs.FunctionData.{IsWithinBounds};
 ghost use Rattle.gj_shape.specs.Violation.{ShowsViolation};
 ghost use Rattle.gj_shape.specs.declared.violations.Violation.TheVariants as violation;
 ghost use Rattle.gj_proof.specs.Rules.{MeetsPoint};
@@ -36,7 +36,7 @@ fn is_nonzero(n: i64) -> bool
 
 /// Whether the value at x is negative.
 fn is_negative_at(shape: &Shape, x: Frac) -> bool
-    requires limits { IsWithinLimits shape.now }
+    requires limits { IsWithinBounds shape.now }
     requires coordinates { AreCoordinates (x ∷ []) }
     ensures { IsTrue result ↔ ShowsViolation shape.now (violation.Negative x) }
 {
@@ -52,7 +52,7 @@ fn is_negative(x: Frac) -> bool
 
 /// Whether the values at x and at f - x do not add up to 1.
 fn is_asymmetric_at(shape: &Shape, x: Frac) -> bool
-    requires limits { IsWithinLimits shape.now }
+    requires limits { IsWithinBounds shape.now }
     requires coordinates { AreCoordinates (x ∷ []) }
     ensures { IsTrue result ↔ ShowsViolation shape.now (violation.Asymmetric x) }
 {
@@ -81,7 +81,7 @@ fn ratio(num: i128, den: i128) -> Frac
     requires zero { unsigned_abs den ≢ 0 }
     requires num_fits { unsigned_abs num < 2 ^ 127 }
     requires den_fits { unsigned_abs den < 2 ^ 127 }
-    ensures { Is result num den }
+    ensures { IsRatio result num den }
 {
     Frac::new(num, den).unwrap()
 }
@@ -97,7 +97,7 @@ fn times(n: i128, factor: u32) -> i128
 
 /// Whether the values at x and y add up to less than the value at x + y.
 fn is_superadditive_at(shape: &Shape, x: Frac, y: Frac) -> bool
-    requires limits { IsWithinLimits shape.now }
+    requires limits { IsWithinBounds shape.now }
     requires coordinates { AreCoordinates (x ∷ y ∷ []) }
     ensures { IsTrue result ↔ ShowsViolation shape.now (violation.Superadditive x y) }
 {

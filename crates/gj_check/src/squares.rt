@@ -1,6 +1,6 @@
 //! The limits of the subadditivity slack in a square of the grid.
 ghost use Rattle.std.specs.Prelude.{◌<◌, ◌^◌, ◌↔◌, IsTrue, unsigned_abs};
-ghost use Rattle.gj_shape.specs.FunctionData.{IsWithinLimits};
+ghost use Rattle.gj_shape.specs.FunctionData.{IsWithinBounds};
 ghost use Rattle.gj_shape.specs.declared.faces.FaceKind.TheVariants.{Vertex, Horizontal, Vertical, Diagonal, Lower, Upper};
 ghost use Rattle.gj_check.specs.Pieces.{IsSquareAt, IsWithin, IsSubadditiveOn, IsSubadditiveSquare};
 
@@ -23,7 +23,7 @@ pub(crate) struct Square {
 impl Square {
     /// The square whose lower left corner is (a/q, b/q).
     pub(crate) fn at(shape: &Shape, a: usize, b: usize) -> Square
-        requires limits { IsWithinLimits shape.now }
+        requires limits { IsWithinBounds shape.now }
         requires first { a < shape.now.order }
         requires second { b < shape.now.order }
         ensures { IsSquareAt shape.now a b result }

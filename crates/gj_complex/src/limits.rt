@@ -1,6 +1,6 @@
 //! The limits of the slack at the corners of faces.
 ghost use Rattle.std.specs.Prelude.{◌≡◌, ◌<◌, ◌^◌, length, get_or, pos, unsigned_abs};
-ghost use Rattle.gj_frac.specs.Fraction.{Is};
+ghost use Rattle.gj_frac.specs.Fraction.{IsRatio};
 ghost use Rattle.gj_shape.specs.Faces.{corners_of, limits_of};
 
 use crate::square::Square;
@@ -27,7 +27,7 @@ pub fn slack(shape: &Shape, face: Face, corner: u32) -> Frac
     requires first { face.a < shape.now.order }
     requires second { face.b < shape.now.order }
     requires corner { corner < length (corners_of face.kind face.a face.b) }
-    ensures { Is result (get_or (limits_of shape.now face.kind face.a face.b) corner (pos 0)) (pos shape.now.scale) }
+    ensures { IsRatio result (get_or (limits_of shape.now face.kind face.a face.b) corner (pos 0)) (pos shape.now.scale) }
 {
     Frac::new(slack_num(shape, face, corner), shape.common_denominator()).unwrap()
 }

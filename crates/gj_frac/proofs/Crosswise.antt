@@ -5,10 +5,10 @@ use Rattle.std.proofs.lemmas.Int.{unsigned_abs-mul}
 use Rattle.std.proofs.lemmas.Nat.Gcd.{IsGcd-swap}
 use Rattle.std.specs.Int.{IsGcd, ◌∣◌}
 use Rattle.gj_frac.specs.declared.Frac.{Frac}
-use Rattle.gj_frac.specs.Fraction.{FitsPart, Is, SameValue, fraction_of, product_of}
+use Rattle.gj_frac.specs.Fraction.{FitsPart, IsRatio, SameValue, fraction_of, product_of}
 use Rattle.gj_frac.specs.Fits.{FitsProduct}
-use Rattle.gj_frac.proofs.Divisors.{gauss, coprime_product, coprime_divisor}
-use Rattle.gj_frac.proofs.Integers.{mul_comm_z, mul_mul_comm_z, mul_positive_z, abs_positive_z}
+use Rattle.gj_tools.proofs.Divisors.{gauss, coprime_product, coprime_divisor}
+use Rattle.gj_tools.proofs.Integers.{mul_comm_z, mul_mul_comm_z, mul_positive_z, abs_positive_z}
 use Rattle.gj_frac.proofs.OneDenominator.{denominator_divides_each}
 use Rattle.gj_frac.proofs.SameValues.{is_along, parts_from_is}
 use Rattle.gj_frac.proofs.Sums.{product_some}
@@ -50,7 +50,7 @@ denominators_some x y =
     product_some x.den y.den (omega arith) (omega arith)
 
 -- the numerator in lowest terms divides each numerator
-numerator_divides_each : (x : Frac) (n d : ℤ) → Is x n d → unsigned_abs x.num ∣ unsigned_abs n
+numerator_divides_each : (x : Frac) (n d : ℤ) → IsRatio x n d → unsigned_abs x.num ∣ unsigned_abs n
 numerator_divides_each x n d h =
     let sizes : unsigned_abs x.num * unsigned_abs d ≡ unsigned_abs x.den * unsigned_abs n =
     sym (unsigned_abs-mul x.num d) ∙ ap unsigned_abs h ∙ unsigned_abs-mul n x.den ∙ mul_comm (unsigned_abs n) (unsigned_abs x.den) in
@@ -58,7 +58,7 @@ numerator_divides_each x n d h =
     (subst (λ (m : ℕ). unsigned_abs x.num ∣ m) sizes (dvd-mul_right (unsigned_abs x.num) (unsigned_abs d)))
 
 -- where x is n/m and y is k/l, and n and l have only 1 in common, so have the numerator of x and the denominator of y
-pub crosswise_coprime : (x y : Frac) (n m k l : ℤ) → Is x n m → Is y k l → IsGcd (unsigned_abs n) (unsigned_abs l) 1 → IsGcd (unsigned_abs x.num) (unsigned_abs y.den) 1
+pub crosswise_coprime : (x y : Frac) (n m k l : ℤ) → IsRatio x n m → IsRatio y k l → IsGcd (unsigned_abs n) (unsigned_abs l) 1 → IsGcd (unsigned_abs x.num) (unsigned_abs y.den) 1
 crosswise_coprime x y n m k l x_is y_is h =
     let above : IsGcd (unsigned_abs x.num) (unsigned_abs l) 1 = coprime_divisor _ _ _ h (numerator_divides_each x n m x_is) in
     IsGcd-swap _ _ _ (coprime_divisor _ _ _ (IsGcd-swap _ _ _ above) (denominator_divides_each y k l y_is))
@@ -66,18 +66,18 @@ crosswise_coprime x y n m k l x_is y_is h =
 -- ---- values
 
 -- x is n/m and y is k/l, so their products by the parts of each are equal
-crossed_products : (x y : Frac) (n m k l : ℤ) → Is x n m → Is y k l → (x.num *ℤ y.num) *ℤ (l *ℤ m) ≡ (n *ℤ k) *ℤ (x.den *ℤ y.den)
+crossed_products : (x y : Frac) (n m k l : ℤ) → IsRatio x n m → IsRatio y k l → (x.num *ℤ y.num) *ℤ (l *ℤ m) ≡ (n *ℤ k) *ℤ (x.den *ℤ y.den)
 crossed_products x y n m k l x_is y_is =
     ap (λ z. (x.num *ℤ y.num) *ℤ z) (mul_comm_z l m)
     ∙ mul_mul_comm_z x.num y.num m l ∙ (λ i. x_is i *ℤ y_is i) ∙ sym (mul_mul_comm_z n k x.den y.den)
 
 -- what is the product of x and y is the product of n/m and k/l
-pub product_is_along : (x y z : Frac) (n m k l : ℤ) → Is x n m → Is y k l → SameValue (fraction_of z) (product_of (fraction_of x) (fraction_of y)) → Is z (n *ℤ k) (l *ℤ m)
+pub product_is_along : (x y z : Frac) (n m k l : ℤ) → IsRatio x n m → IsRatio y k l → SameValue (fraction_of z) (product_of (fraction_of x) (fraction_of y)) → IsRatio z (n *ℤ k) (l *ℤ m)
 product_is_along x y z n m k l x_is y_is h =
     is_along z (x.num *ℤ y.num) (x.den *ℤ y.den) (n *ℤ k) (l *ℤ m) (denominators_some x y) h
     (crossed_products x y n m k l x_is y_is)
 
 -- and the other way round
-pub product_fits : (x y z : Frac) (n m k l : ℤ) → Is x n m → Is y k l → unsigned_abs l ≢ 0 → unsigned_abs m ≢ 0 → Is z (n *ℤ k) (l *ℤ m) → FitsProduct x y
+pub product_fits : (x y z : Frac) (n m k l : ℤ) → IsRatio x n m → IsRatio y k l → unsigned_abs l ≢ 0 → unsigned_abs m ≢ 0 → IsRatio z (n *ℤ k) (l *ℤ m) → FitsProduct x y
 product_fits x y z n m k l x_is y_is l_some m_some h =
     (z, is_along z (n *ℤ k) (l *ℤ m) (x.num *ℤ y.num) (x.den *ℤ y.den) (product_some l m l_some m_some) h (sym (crossed_products x y n m k l x_is y_is)))

@@ -1,13 +1,9 @@
 pub mod Crosswise
-pub mod Divisors
 pub mod Floors
-pub mod Integers
 pub mod OneDenominator
-pub mod Quotients
 pub mod Ratios
 pub mod Reduced
 pub mod Refusals
-pub mod Ring
 pub mod SameValues
 pub mod Signs
 pub mod Sums

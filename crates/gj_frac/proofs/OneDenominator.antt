@@ -5,29 +5,29 @@ use Rattle.std.proofs.lemmas.Int.{unsigned_abs-mul}
 use Rattle.std.proofs.lemmas.Nat.Gcd.{IsGcd-swap}
 use Rattle.std.specs.Int.{◌∣◌}
 use Rattle.gj_frac.specs.declared.Frac.{Frac}
-use Rattle.gj_frac.specs.Fraction.{Is, FitsPart}
+use Rattle.gj_frac.specs.Fraction.{IsRatio, FitsPart}
 use Rattle.gj_frac.specs.Fits.{IsDenominatorGcd, scaled_numerator, common_denominator, FitsSum, FitsDifference, FitsOverOneDenominator}
-use Rattle.gj_frac.proofs.Integers.{mul_assoc_z, mul_left_comm_z, mul_add_z, mul_sub_z, mul_cancel_right_z, abs_add_z, abs_sub_z, abs_positive_z}
-use Rattle.gj_frac.proofs.Divisors.{gauss, gcd_positive, lcm_from_gcd}
+use Rattle.gj_tools.proofs.Integers.{mul_assoc_z, mul_left_comm_z, mul_add_z, mul_sub_z, mul_cancel_right_z, abs_add_z, abs_sub_z, abs_positive_z}
+use Rattle.gj_tools.proofs.Divisors.{gauss, gcd_positive, lcm_from_gcd}
 use Rattle.gj_frac.proofs.Reduced.{quotient_of_divisor}
 use Rattle.gj_frac.proofs.Sums.{factor_some, first_is, second_is}
 
 -- the denominator of x divides each denominator that x has
-pub denominator_divides_each : (x : Frac) (n d : ℤ) → Is x n d → unsigned_abs x.den ∣ unsigned_abs d
+pub denominator_divides_each : (x : Frac) (n d : ℤ) → IsRatio x n d → unsigned_abs x.den ∣ unsigned_abs d
 denominator_divides_each x n d h =
     let sizes = sym (unsigned_abs-mul x.num d) ∙ ap unsigned_abs h ∙ unsigned_abs-mul n x.den in
     gauss (unsigned_abs x.den) (unsigned_abs x.num) (unsigned_abs d) (IsGcd-swap _ _ _ x.lowest.coprime)
     (subst (λ (m : ℕ). unsigned_abs x.den ∣ m) (sym sizes) (dvd-mul_left (unsigned_abs x.den) (unsigned_abs n)))
 
 -- the common denominator of two fractions divides each denominator that both have
-pub common_divides : (x y : Frac) (g : ℕ) (n m d : ℤ) → IsDenominatorGcd x y g → Is x n d → Is y m d → unsigned_abs x.den / g * unsigned_abs y.den ∣ unsigned_abs d
+pub common_divides : (x y : Frac) (g : ℕ) (n m d : ℤ) → IsDenominatorGcd x y g → IsRatio x n d → IsRatio y m d → unsigned_abs x.den / g * unsigned_abs y.den ∣ unsigned_abs d
 common_divides x y g n m d h x_is y_is =
     let some = gcd_positive _ _ g h (inl (abs_positive_z x.den x.lowest.positive)) in
     (lcm_from_gcd _ _ g (unsigned_abs x.den / g) h (sym (div-mul_cancel g h.0)) some).2 (unsigned_abs d)
     (denominator_divides_each x n d x_is) (denominator_divides_each y m d y_is)
 
 -- where x is s/c and n/d, and d is c times k, n is s times k
-multiple_of : (x : Frac) (s c n d k : ℤ) → Is x s c → Is x n d → k *ℤ c ≡ d → k *ℤ s ≡ n
+multiple_of : (x : Frac) (s c n d k : ℤ) → IsRatio x s c → IsRatio x n d → k *ℤ c ≡ d → k *ℤ s ≡ n
 multiple_of x s c n d k over h d_is =
     let some = abs_positive_z x.den x.lowest.positive in
     let same : (k *ℤ s) *ℤ x.den ≡ n *ℤ x.den =
@@ -49,7 +49,7 @@ pub record MultipliedBy (x y : Frac) (g : ℕ) (n m d k : ℤ) : Type 0 where
   pub second : k *ℤ scaled_numerator y x g ≡ m
   pub bottom : k *ℤ common_denominator x y g ≡ d
 
-pub multiplier : (x y : Frac) (g : ℕ) (n m d : ℤ) → IsDenominatorGcd x y g → Is x n d → Is y m d → unsigned_abs d ≢ 0 → (k : ℤ) × MultipliedBy x y g n m d k
+pub multiplier : (x y : Frac) (g : ℕ) (n m d : ℤ) → IsDenominatorGcd x y g → IsRatio x n d → IsRatio y m d → unsigned_abs d ≢ 0 → (k : ℤ) × MultipliedBy x y g n m d k
 multiplier x y g n m d h x_is y_is some =
     let c = common_denominator x y g in
     let size = unsigned_abs-mul (pos (unsigned_abs x.den / g)) y.den in
@@ -66,7 +66,7 @@ multiplier x y g n m d h x_is y_is some =
     )
 
 -- two fractions over one denominator can be added where their parts and the sum of the numerators fit there
-pub fits_sum_over : (x y : Frac) (n m d : ℤ) → Is x n d → Is y m d → unsigned_abs d ≢ 0 → FitsPart d → FitsPart n → FitsPart m → FitsPart (n +ℤ m) → FitsSum x y
+pub fits_sum_over : (x y : Frac) (n m d : ℤ) → IsRatio x n d → IsRatio y m d → unsigned_abs d ≢ 0 → FitsPart d → FitsPart n → FitsPart m → FitsPart (n +ℤ m) → FitsSum x y
 fits_sum_over x y n m d x_is y_is some d_fits n_fits m_fits total_fits g h =
     let (k, by) = multiplier x y g n m d h x_is y_is some in
     let total = mul_add_z k (scaled_numerator x y g) (scaled_numerator y x g) ∙ (λ i. by.first i +ℤ by.second i) in
@@ -77,7 +77,7 @@ fits_sum_over x y n m d x_is y_is some d_fits n_fits m_fits total_fits g h =
     record { first = omega arith; second = omega arith; total = omega arith; bottom = omega arith }
 
 -- they can be subtracted where their parts and the difference of the numerators fit
-pub fits_difference_over : (x y : Frac) (n m d : ℤ) → Is x n d → Is y m d → unsigned_abs d ≢ 0 → FitsPart d → FitsPart n → FitsPart m → FitsPart (n -ℤ m) → FitsDifference x y
+pub fits_difference_over : (x y : Frac) (n m d : ℤ) → IsRatio x n d → IsRatio y m d → unsigned_abs d ≢ 0 → FitsPart d → FitsPart n → FitsPart m → FitsPart (n -ℤ m) → FitsDifference x y
 fits_difference_over x y n m d x_is y_is some d_fits n_fits m_fits difference_fits g h =
     let (k, by) = multiplier x y g n m d h x_is y_is some in
     let difference = mul_sub_z k (scaled_numerator x y g) (scaled_numerator y x g) ∙ (λ i. by.first i -ℤ by.second i) in

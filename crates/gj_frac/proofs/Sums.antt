@@ -5,9 +5,9 @@ use Rattle.std.proofs.lemmas.Int.{ints, unsigned_abs-mul}
 use Rattle.std.proofs.lemmas.Nat.Gcd.{same_from_IsGcd}
 use Rattle.std.specs.Int.{IsGcd, ◌∣◌}
 use Rattle.gj_frac.specs.declared.Frac.{Frac}
-use Rattle.gj_frac.specs.Fraction.{Is}
+use Rattle.gj_frac.specs.Fraction.{IsRatio}
 use Rattle.gj_frac.specs.Fits.{IsDenominatorGcd, scaled_numerator, common_denominator}
-use Rattle.gj_frac.proofs.Integers.{mul_assoc_z, mul_left_comm_z, mul_mul_comm_z, swap_last_z, mul_comm_z, add_mul_z, neg_mul_z, mul_lt_cancel_right_z, mul_cancel_right_z, mul_zero_z, abs_zero_z, abs_positive_z, pos_abs_z}
+use Rattle.gj_tools.proofs.Integers.{mul_assoc_z, mul_left_comm_z, mul_mul_comm_z, swap_last_z, mul_comm_z, add_mul_z, neg_mul_z, mul_lt_cancel_right_z, mul_cancel_right_z, mul_zero_z, abs_zero_z, abs_positive_z, pos_abs_z}
 
 -- ---- the common denominator
 
@@ -40,7 +40,7 @@ whole : (n : ℤ) (g : ℕ) → pos 0 <ℤ n → g ∣ unsigned_abs n → pos (u
 whole n g some h = ap pos (div-mul_cancel g h) ∙ pos_abs_z n (omega (arith, ints))
 
 -- x over the common denominator of x and y
-pub first_is : (x y : Frac) (g : ℕ) → IsDenominatorGcd x y g → Is x (scaled_numerator x y g) (common_denominator x y g)
+pub first_is : (x y : Frac) (g : ℕ) → IsDenominatorGcd x y g → IsRatio x (scaled_numerator x y g) (common_denominator x y g)
 first_is x y g h =
     let p = pos (unsigned_abs x.den / g) in
     let q = pos (unsigned_abs y.den / g) in
@@ -49,7 +49,7 @@ first_is x y g h =
     ap (λ w. x.num *ℤ w) crossed ∙ sym (mul_assoc_z x.num q x.den)
 
 -- y over the common denominator of x and y
-pub second_is : (x y : Frac) (g : ℕ) → Is y (scaled_numerator y x g) (common_denominator x y g)
+pub second_is : (x y : Frac) (g : ℕ) → IsRatio y (scaled_numerator y x g) (common_denominator x y g)
 second_is x y g = sym (mul_assoc_z y.num (pos (unsigned_abs x.den / g)) y.den)
 
 -- the common denominator is not 0

@@ -2,7 +2,7 @@
 use Rattle.std.specs.Prelude.{ℕ, ℤ, pos, ◌≢◌, ◌≤◌, ◌^◌, ◌/◌, ◌*ℤ◌, ◌+ℤ◌, ◌-ℤ◌, unsigned_abs}
 use Rattle.std.specs.Int.{IsGcd}
 use Rattle.gj_frac.specs.declared.Frac.{Frac}
-use Rattle.gj_frac.specs.Fraction.{FitsPart, Is, SameValue, fraction_of, product_of, quotient_of, numerator, denominator}
+use Rattle.gj_frac.specs.Fraction.{FitsPart, IsRatio, SameValue, fraction_of, product_of, quotient_of, numerator, denominator}
 
 -- g is the greatest common divisor of the two denominators
 abbrev pub IsDenominatorGcd : Frac → Frac → ℕ → Type 0
@@ -60,6 +60,6 @@ pub record FitsQuotient (x y : Frac) : Type 0 where
 -- two fractions over one denominator d of at most 2^125, with numerators over d of at most 2^125 in
 -- absolute value, can be added and subtracted
 abbrev pub FitsOverOneDenominator : Type 0
-FitsOverOneDenominator = (x y : Frac) (n m d : ℤ) → Is x n d → Is y m d → unsigned_abs d ≢ 0 →
+FitsOverOneDenominator = (x y : Frac) (n m d : ℤ) → IsRatio x n d → IsRatio y m d → unsigned_abs d ≢ 0 →
     unsigned_abs d ≤ 2 ^ 125 → unsigned_abs n ≤ 2 ^ 125 → unsigned_abs m ≤ 2 ^ 125 →
     FitsSum x y × FitsDifference x y

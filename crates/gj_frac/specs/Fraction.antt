@@ -43,8 +43,8 @@ abbrev pub fraction_of : Frac → Fraction
 fraction_of x = record { top = x.num; bottom = x.den }
 
 -- x is n/d
-abbrev pub Is : Frac → ℤ → ℤ → Type 0
-Is x n d = SameValue (fraction_of x) (record { top = n; bottom = d })
+abbrev pub IsRatio : Frac → ℤ → ℤ → Type 0
+IsRatio x n d = SameValue (fraction_of x) (record { top = n; bottom = d })
 
 -- a whole number that fits a part of a `Frac`: at most 2^127 - 1 in absolute value
 abbrev pub FitsPart : ℤ → Type 0

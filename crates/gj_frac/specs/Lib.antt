@@ -3,8 +3,6 @@ pub mod Fraction
 pub mod Fits
 pub mod CompareValues
 pub mod Floor
-pub mod Products
-pub mod Coprime
 pub mod SameParts
 pub mod TotalOrder
 pub mod ExactLaws

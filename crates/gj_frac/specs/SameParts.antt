@@ -2,9 +2,9 @@
 use Rattle.std.proofs.Common.{◌≡◌, ◌≢◌, ℤ, ◌*ℤ◌, unsigned_abs, sym, ap, ◌∙◌}
 use Rattle.gj_frac.specs.declared.Frac.{Frac}
 use Rattle.gj_frac.specs.Lowest.{IsLowest}
-use Rattle.gj_frac.specs.Fraction.{Is, SameValue, fraction_of}
-use Rattle.gj_frac.specs.Products.{swap_last_z, mul_cancel_right_z}
-use Rattle.gj_frac.specs.Coprime.{same_ratio}
+use Rattle.gj_frac.specs.Fraction.{IsRatio, SameValue, fraction_of}
+use Rattle.gj_tools.proofs.Products.{swap_last_z, mul_cancel_right_z}
+use Rattle.gj_tools.proofs.Coprime.{same_ratio}
 use denote.Struct.Props.{props}
 use mathlib.Core.HLevel.{is_prop→PathP}
 
@@ -30,12 +30,12 @@ pub same_value_same : (x y : Frac) → SameValue (fraction_of x) (fraction_of y)
 same_value_same x y h = let parts = same_value_same_parts x y h in same_parts_same x y parts.0 parts.1
 
 -- n/d has no other value than m/e, so what is n/d is m/e
-pub is_along : (x : Frac) (n d m e : ℤ) → unsigned_abs d ≢ 0 → Is x n d → n *ℤ e ≡ m *ℤ d → Is x m e
+pub is_along : (x : Frac) (n d m e : ℤ) → unsigned_abs d ≢ 0 → IsRatio x n d → n *ℤ e ≡ m *ℤ d → IsRatio x m e
 is_along x n d m e some h same =
     mul_cancel_right_z (x.num *ℤ e) (m *ℤ x.den) d
     (swap_last_z x.num e d ∙ ap (λ z. z *ℤ e) h ∙ swap_last_z n x.den e ∙ ap (λ z. z *ℤ x.den) same ∙ swap_last_z m d x.den) some
 
 -- n/d is one fraction
-pub same_from_is : (x y : Frac) (n d : ℤ) → unsigned_abs d ≢ 0 → Is x n d → Is y n d → x ≡ y
+pub same_from_is : (x y : Frac) (n d : ℤ) → unsigned_abs d ≢ 0 → IsRatio x n d → IsRatio y n d → x ≡ y
 same_from_is x y n d some h k =
     same_value_same x y (is_along x n d y.num y.den some h (sym k))

@@ -10,7 +10,7 @@ use Rattle.std.specs.Ordering.{MatchOrdering, is_eq, int_eq, eq_by_cmp, as_parti
 use Rattle.gj_frac.specs.declared.Frac.{Frac}
 use Rattle.gj_frac.specs.Fraction.{LessValue, fraction_of}
 use Rattle.gj_frac.specs.CompareValues.{compare_values}
-use Rattle.gj_frac.specs.Products.{swap_last_z, mul_lt_mul_right_z, mul_lt_cancel_right_z}
+use Rattle.gj_tools.proofs.Products.{swap_last_z, mul_lt_mul_right_z, mul_lt_cancel_right_z}
 use Rattle.gj_frac.specs.SameParts.{same_value_same, same_parts_same}
 
 -- x is less than y

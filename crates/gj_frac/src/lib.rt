@@ -32,14 +32,14 @@ pub struct Frac {
 }
 
 impl Frac {
-    ghost use Rattle.gj_frac.specs.Fraction.{Is, numerator, denominator};
+    ghost use Rattle.gj_frac.specs.Fraction.{IsRatio, numerator, denominator};
 
     /// The fraction `num/den` in lowest terms.
     ///
     /// None where `den` is 0, or where one of the two is -2^127, whose absolute value does not fit.
     pub fn new(num: i128, den: i128) -> Option<Frac>
         ensures none { IsNone result ↔ ((den ≡ pos 0) ⊎ (unsigned_abs num ≡ 2 ^ 127) ⊎ (unsigned_abs den ≡ 2 ^ 127)) }
-        ensures value { IfSome result (λ x. Is x num den) }
+        ensures value { IfSome result (λ x. IsRatio x num den) }
     {
         if den == 0 || num == i128::MIN || den == i128::MIN {
             return None;
@@ -66,7 +66,7 @@ impl Frac {
         requires zero { unsigned_abs den ≢ 0 }
         requires num_fits { unsigned_abs num < 2 ^ 127 }
         requires den_fits { unsigned_abs den < 2 ^ 127 }
-        ensures { Is result num den }
+        ensures { IsRatio result num den }
     {
         let divisor = common_divisor(num, den);
         Frac::coprime(quotient(num, divisor), quotient(den, divisor))
@@ -78,7 +78,7 @@ impl Frac {
         requires num_fits { unsigned_abs num < 2 ^ 127 }
         requires den_fits { unsigned_abs den < 2 ^ 127 }
         requires coprime { IsGcd (unsigned_abs num) (unsigned_abs den) 1 }
-        ensures { Is result num den }
+        ensures { IsRatio result num den }
     {
         if den > 0 {
             return Frac { num, den };

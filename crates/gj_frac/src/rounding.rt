@@ -4,7 +4,7 @@ ghost use Rattle.std.specs.Prelude.{ℤ, pos, ◌-ℤ◌, ◌*ℤ◌, ◌≤ℤ�
 use crate::Frac;
 
 impl Frac {
-    ghost use Rattle.gj_frac.specs.Fraction.{Is, numerator, denominator};
+    ghost use Rattle.gj_frac.specs.Fraction.{IsRatio, numerator, denominator};
     ghost use Rattle.gj_frac.specs.Floor.{IsFloor};
 
     /// The greatest whole number that is at most this fraction: -3 for -7/3.
@@ -17,7 +17,7 @@ impl Frac {
     /// This fraction minus its floor, from 0 up to but not including 1: 2/3 for -7/3.
     pub fn fract(self) -> Frac
         ensures value { (n : ℤ) → IsFloor self n →
-            Is result (numerator self -ℤ n *ℤ denominator self) (denominator self) }
+            IsRatio result (numerator self -ℤ n *ℤ denominator self) (denominator self) }
         ensures not_negative { pos 0 ≤ℤ numerator result }
         ensures below_one { numerator result <ℤ denominator result }
     {

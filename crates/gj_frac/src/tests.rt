@@ -1,5 +1,5 @@
 ghost use Rattle.std.specs.Prelude.{◌≡◌, ◌≢◌, ◌<◌, ◌^◌, ◌↔◌, IsTrue, unsigned_abs};
-ghost use Rattle.gj_frac.specs.Fraction.{Is, LessValue, fraction_of};
+ghost use Rattle.gj_frac.specs.Fraction.{IsRatio, LessValue, fraction_of};
 
 use crate::{DivFault, ExactNumber, Frac, Wide};
 
@@ -8,7 +8,7 @@ fn fraction(num: i128, den: i128) -> Frac
     requires zero { unsigned_abs den ≢ 0 }
     requires num_fits { unsigned_abs num < 2 ^ 127 }
     requires den_fits { unsigned_abs den < 2 ^ 127 }
-    ensures { Is result num den }
+    ensures { IsRatio result num den }
 {
     Frac::new(num, den).unwrap()
 }

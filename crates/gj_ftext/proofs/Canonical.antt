@@ -12,15 +12,15 @@ use Rattle.std.proofs.lemmas.List.{append_assoc, append-nil}
 use Rattle.std.proofs.lemmas.List.Elements.{All-nil, All-cons, All-head, All-append, All-weaker}
 use Rattle.std.proofs.lemmas.Str.Parse.{without_leading_plus_none}
 use Rattle.gj_frac.specs.declared.Frac.{Frac}
-use Rattle.gj_frac.specs.Fraction.{Is, denominator}
-use Rattle.gj_frac.proofs.Integers.{pos_abs_z}
+use Rattle.gj_frac.specs.Fraction.{IsRatio, denominator}
+use Rattle.gj_tools.proofs.Integers.{pos_abs_z}
 use Rattle.gj_lex.specs.NumberText.{denominator_text, fraction_text, IsWordByte, IsWritten, IsNumberText}
 use Rattle.gj_lex.specs.NumberText.IsWritten.{whole, ratio}
 use Rattle.gj_lex.specs.Words.{is_blank, word_texts}
 use Rattle.gj_lex.proofs.Decimals.{decimal_some}
 use Rattle.gj_lex.proofs.Spelling.{denominator_one, denominator_more}
 use Rattle.gj_lex.proofs.WordBytes.{decimal_bytes, decimal_is_word, fraction_is_word, fraction_some}
-use Rattle.gj_shape.specs.FunctionData.{FunctionData, IsWithinLimits}
+use Rattle.gj_shape.specs.FunctionData.{FunctionData, IsWithinBounds}
 use Rattle.gj_lines.specs.FunctionLines.{line, order_line, place_line, has_no_jump, point_text, point_line}
 use Rattle.gj_lines.specs.declared.points.Point.{Point}
 use Rattle.gj_lines.proofs.PointLines.{text_of_one, text_of_three, same_where_no_jump}
@@ -82,7 +82,7 @@ fraction_word x =
     let d = unsigned_abs (denominator x) in
     let some : 0 < d = omega (arith, ints, x.lowest.positive) in
     let is : pos d ≡ denominator x = pos_abs_z (denominator x) (omega (arith, ints, x.lowest.positive)) in
-    (x.num, d, number_text x.num d x.lowest.num_fits x.lowest.den_fits some, subst (λ z. Is x x.num z) (sym is) refl)
+    (x.num, d, number_text x.num d x.lowest.num_fits x.lowest.den_fits some, subst (λ z. IsRatio x x.num z) (sym is) refl)
 
 count_word : (n : ℕ) → n ≤ 1000 → IsCountWord (decimal n) n
 count_word n few = let h = decimal_is_IsNumeral_wide n (omega arith) in (h.0, sym h.1)
@@ -227,7 +227,7 @@ points_of_text (p ∷ points) rest =
 regrouped : (t o f ps e after : List ℕ) → t ++ (o ++ f ++ ps) ++ e ++ after ≡ t ++ (o ++ (f ++ (ps ++ (e ++ after))))
 regrouped t o f ps e after = simp append_assoc
 
-pub canonical_text_is_function_text : (f : FunctionData) (text after : List ℕ) → IsWithinLimits f →
+pub canonical_text_is_function_text : (f : FunctionData) (text after : List ℕ) → IsWithinBounds f →
     IsCanonicalText text f →
     IsFunctionText (text ++ after) f after
 canonical_text_is_function_text f text after within h =

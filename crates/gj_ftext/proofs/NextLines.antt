@@ -8,7 +8,7 @@ use Rattle.std.proofs.lemmas.List.{append_assoc, append-nil, length-append, take
 use Rattle.std.proofs.lemmas.List.Elements.{All-same, All-take}
 use Rattle.gj_frac.specs.declared.Frac.{Frac}
 use Rattle.gj_lex.specs.declared.reason.Reason.{Reason}
-use Rattle.gj_shape.specs.FunctionData.{FunctionData, IsWithinLimits}
+use Rattle.gj_shape.specs.FunctionData.{FunctionData, IsWithinBounds}
 use Rattle.gj_shape.specs.Given.{IsOrder, IsSmall, HasCommonDenominator}
 use Rattle.gj_shape.proofs.LeastDenominator.{Divides}
 use Rattle.gj_lines.specs.Points.{IsPlaceFraction, fractions_of, all_fractions, IsPointFault}
@@ -310,7 +310,7 @@ reach (last q ps) lines (h, count) =
     (lead_all q ps lines h (omega arith))
 
 -- and a function text reaches its end
-pub lead_function : (f : FunctionData) (lines : List (List (List ℕ))) → IsWithinLimits f → AreLinesOf f lines →
+pub lead_function : (f : FunctionData) (lines : List (List (List ℕ))) → IsWithinBounds f → AreLinesOf f lines →
     Leads (before title) lines done
 lead_function f lines within h =
     let good = good_points h.points f within h.points_are in

@@ -5,7 +5,7 @@ use Rattle.std.specs.Char.{digit_value}
 use Rattle.std.specs.Str.Parse.{AllDigits, digits_value, starts_with_minus, without_leading_sign}
 use Rattle.std.proofs.lemmas.Str.Parse.{digit_from_value}
 use Rattle.gj_frac.specs.declared.Frac.{Frac}
-use Rattle.gj_frac.specs.Fraction.{Is}
+use Rattle.gj_frac.specs.Fraction.{IsRatio}
 use Rattle.gj_frac.proofs.SameValues.{same_from_is}
 use Rattle.gj_lex.specs.NumberText.{IsWritten}
 use Rattle.gj_lex.specs.NumberText.IsWritten.{whole, ratio, point}
@@ -77,8 +77,8 @@ one_fraction w x y (n, d, text, is) (m, e, text', is') =
     let same = one_written (without_leading_sign w) text.top d text'.top e text.written text'.written in
     let value : n ≡ m = text.value ∙ ap (λ t. if starts_with_minus w then neg_ℤ (pos t) else pos t) same.0
     ∙ sym text'.value in
-    let along : Is y n (pos d) = subst (λ k. Is y k (pos d)) (sym value)
-    (subst (λ k. Is y m (pos k)) (sym same.1) is') in
+    let along : IsRatio y n (pos d) = subst (λ k. IsRatio y k (pos d)) (sym value)
+    (subst (λ k. IsRatio y m (pos k)) (sym same.1) is') in
     same_from_is x y n (pos d) (λ z. omega (arith, text.bottom_some)) is along
 
 pub one_count : (w : List ℕ) (n m : ℕ) → IsCountWord w n → IsCountWord w m → n ≡ m

@@ -2,9 +2,9 @@
 use Rattle.std.proofs.Common.{◌≡◌, inl, inr, ℕ, pos, List, [], ◌∷◌, ◌++◌, get_or, map, refl, sym, ap, subst, ◌∙◌, arith}
 use Rattle.std.specs.List.{AllZip}
 use Rattle.std.proofs.lemmas.List.{append-nil}
-use Rattle.gj_frac.specs.Fraction.{Is}
+use Rattle.gj_frac.specs.Fraction.{IsRatio}
 use Rattle.gj_lex.specs.declared.reason.Reason.{Reason}
-use Rattle.gj_shape.specs.FunctionData.{FunctionData, IsWithinLimits}
+use Rattle.gj_shape.specs.FunctionData.{FunctionData, IsWithinBounds}
 use Rattle.gj_lines.specs.Points.{ArePointsOf}
 use Rattle.gj_lines.proofs.GivenPoints.{one_function_of_points, one_place}
 use Rattle.gj_ftext.specs.Lines.{HasNextLine, IsSkippedText, HasLines, IsLineNumber}
@@ -49,7 +49,7 @@ same_words a b c d fs gs e =
     let rest : map point_words fs ++ end_words ∷ [] ≡ map point_words gs ++ end_words ∷ [] = cc in
     record { order_same = cc; place_same = cc; fractions_same = one_fractions fs gs rest }
 
-one_function : (f g : FunctionData) (lines : List (List (List ℕ))) → IsWithinLimits f → IsWithinLimits g →
+one_function : (f g : FunctionData) (lines : List (List (List ℕ))) → IsWithinBounds f → IsWithinBounds g →
     AreLinesOf f lines →
     AreLinesOf g lines → f ≡ g
 one_function f g lines within within' h k =
@@ -59,8 +59,8 @@ one_function f g lines within within' h k =
     (subst (λ w. IsCountWord w f.order) same.order_same h.order_is) k.order_is in
     let x = one_fraction k.place_word h.place k.place
     (subst (λ w. IsFractionWord w h.place) same.place_same h.place_spelled) k.place_spelled in
-    let place_is = subst (λ n. Is k.place (pos f.place) (pos n)) orders
-    (subst (λ y. Is y (pos f.place) (pos f.order)) x h.place_is) in
+    let place_is = subst (λ n. IsRatio k.place (pos f.place) (pos n)) orders
+    (subst (λ y. IsRatio y (pos f.place) (pos f.order)) x h.place_is) in
     let points = one_list k.fractions h.points k.points
     (subst (λ fs. AllZip ArePointWords fs h.points) same.fractions_same h.points_spelled) k.points_spelled in
     one_function_of_points k.points f g orders (one_place k.place g.order f.place g.place place_is k.place_is)
@@ -74,7 +74,7 @@ nothing_behind [] x y e h = refl
 nothing_behind (ws ∷ more) x y e (z, n, h) = absurd (subst (λ (s : State). Next s ws z) e n)
 
 -- nothing follows the lines of a function
-all_lines : (f : FunctionData) (lines more : List (List (List ℕ))) (y : State) → IsWithinLimits f → AreLinesOf f lines →
+all_lines : (f : FunctionData) (lines more : List (List (List ℕ))) (y : State) → IsWithinBounds f → AreLinesOf f lines →
     Leads (before title) (lines ++ more) y → (more ≡ []) × (y ≡ done)
 all_lines f lines more y within are h =
     let (z, a, b) = leads_split lines more (before title) y h in

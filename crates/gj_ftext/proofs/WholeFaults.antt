@@ -2,7 +2,7 @@
 use Rattle.std.proofs.Common.{◌≡◌, inl, inr, ℕ, pos, List, [], ◌∷◌, ◌++◌, length, map, Result, Err, IfErr, refl, sym, subst}
 use Rattle.gj_shape.specs.FunctionData.{FunctionData}
 use Rattle.gj_shape.specs.Given.{IsGivenBy}
-use Rattle.gj_frac.specs.Fraction.{Is}
+use Rattle.gj_frac.specs.Fraction.{IsRatio}
 use Rattle.gj_lex.specs.declared.reason.Reason.TheVariants as reason
 use Rattle.gj_lines.specs.Points.{lefts, values, rights}
 use Rattle.gj_lines.specs.declared.points.Point.{Point}
@@ -141,8 +141,8 @@ function_found text here there rest q k points f h p e g =
         points = points;
         order_is = subst (λ n. IsCountWord h.order_word n) (sym g.order) h.order_is;
         place_spelled = h.place_spelled;
-        place_is = subst (λ n. Is h.place (pos n) (pos f.order)) (sym g.place)
-            (subst (λ n. Is h.place (pos k) (pos n)) (sym g.order) h.place_is);
+        place_is = subst (λ n. IsRatio h.place (pos n) (pos f.order)) (sym g.place)
+            (subst (λ n. IsRatio h.place (pos k) (pos n)) (sym g.order) h.place_is);
         points_spelled = p.spelled;
         points_are = points_given q k points f g;
         lines_are = refl;

@@ -3,9 +3,9 @@ use Rattle.std.specs.Prelude.{ℕ, ℤ, pos, ◌≡◌, List, [], ◌∷◌, ◌
 use Rattle.std.specs.List.{AllZip}
 use Rattle.std.specs.Str.Parse.{IsNumeral, digits_value}
 use Rattle.gj_frac.specs.declared.Frac.{Frac}
-use Rattle.gj_frac.specs.Fraction.{Is}
+use Rattle.gj_frac.specs.Fraction.{IsRatio}
 use Rattle.gj_lex.specs.NumberText.{IsNumberText}
-use Rattle.gj_shape.specs.FunctionData.{FunctionData, IsWithinLimits}
+use Rattle.gj_shape.specs.FunctionData.{FunctionData, IsWithinBounds}
 use Rattle.gj_lines.specs.Points.{ArePointsOf}
 use Rattle.gj_lines.specs.FunctionLines.{line, AreFunctionLines}
 use Rattle.gj_lines.specs.declared.points.Point.{Point}
@@ -13,7 +13,7 @@ use Rattle.gj_ftext.specs.Lines.{HasLines, IsSkippedText}
 
 -- the word writes the fraction in lenient form
 abbrev pub IsFractionWord : List ℕ → Frac → Type 0
-IsFractionWord word x = (n : ℤ) × (d : ℕ) × IsNumberText word n d × Is x n (pos d)
+IsFractionWord word x = (n : ℤ) × (d : ℕ) × IsNumberText word n d × IsRatio x n (pos d)
 
 -- the word writes the number in digits, of which the first may be zeros
 abbrev pub IsCountWord : List ℕ → ℕ → Type 0
@@ -52,14 +52,14 @@ pub record AreLinesOf (f : FunctionData) (lines : List (List (List ℕ))) : Type
   pub points : List Point
   pub order_is : IsCountWord order_word f.order
   pub place_spelled : IsFractionWord place_word place
-  pub place_is : Is place (pos f.place) (pos f.order)
+  pub place_is : IsRatio place (pos f.place) (pos f.order)
   pub points_spelled : AllZip ArePointWords fractions points
   pub points_are : ArePointsOf f points
   pub lines_are : lines ≡ title_words ∷ order_words order_word ∷ place_words place_word ∷ map point_words fractions ++ end_words ∷ []
 
 -- the text begins with a function text of f, and the rest follows the line `end`
 pub record IsFunctionText (text : List ℕ) (f : FunctionData) (rest : List ℕ) : Type 0 where
-  pub within : IsWithinLimits f
+  pub within : IsWithinBounds f
   pub lines : List (List (List ℕ))
   pub has_lines : HasLines text lines rest
   pub are_lines : AreLinesOf f lines

@@ -2,7 +2,7 @@
 use Rattle.std.specs.Prelude.{ℕ, pos, ◌≡◌, ◌⊎◌, ◌<◌, List, [], ◌∷◌, ◌++◌, All, length, map}
 use Rattle.std.specs.List.{AllZip}
 use Rattle.gj_frac.specs.declared.Frac.{Frac}
-use Rattle.gj_frac.specs.Fraction.{Is}
+use Rattle.gj_frac.specs.Fraction.{IsRatio}
 use Rattle.gj_lex.specs.declared.reason.Reason.TheVariants as reason
 use Rattle.gj_shape.specs.Given.{IsOrder, IsPlace, IsSmall, HasCommonDenominator}
 use Rattle.gj_lines.specs.Points.{all_fractions}
@@ -55,7 +55,7 @@ pub record HasPlaceLine (text : List ℕ) (q k : ℕ) (rest : List ℕ) : Type 0
   pub place : Frac
   pub place_spelled : IsFractionWord word place
   pub place_fits : IsPlace q k
-  pub place_is : Is place (pos k) (pos q)
+  pub place_is : IsRatio place (pos k) (pos q)
   pub line : HasLine text (place_words word) rest
 
 -- the words of the first three lines
@@ -71,7 +71,7 @@ pub record HasHead (text : List ℕ) (q k : ℕ) (rest : List ℕ) : Type 0 wher
   pub order_is : IsCountWord order_word q
   pub place_spelled : IsFractionWord place_word place
   pub place_fits : IsPlace q k
-  pub place_is : Is place (pos k) (pos q)
+  pub place_is : IsRatio place (pos k) (pos q)
   pub lines : HasLines text (head_lines order_word place_word) rest
 
 -- the words of a point, one or three

@@ -1,7 +1,7 @@
 //! Laws of function texts.
 ghost use Rattle.std.specs.Prelude.{◌≡◌, ◌++◌, ℕ, List};
 ghost use Rattle.gj_lex.specs.declared.reason.Reason.{Reason};
-ghost use Rattle.gj_shape.specs.FunctionData.{FunctionData, IsWithinLimits};
+ghost use Rattle.gj_shape.specs.FunctionData.{FunctionData, IsWithinBounds};
 ghost use Rattle.gj_ftext.specs.FunctionText.{IsFunctionText, IsWholeFunctionText, IsCanonicalText};
 ghost use Rattle.gj_ftext.specs.FirstFault.{IsFirstFault, IsFirstFaultOfWhole};
 
@@ -13,13 +13,13 @@ pub fn one_function_text()
 
 /// Whatever follows the canonical text of a function, it is read as a function text of that function, all of it.
 pub fn canonical_text_is_function_text()
-    ensures { (f : FunctionData) (text after : List ℕ) → IsWithinLimits f → IsCanonicalText text f →
+    ensures { (f : FunctionData) (text after : List ℕ) → IsWithinBounds f → IsCanonicalText text f →
         IsFunctionText (text ++ after) f after }
 {}
 
 /// A function has one canonical text.
 pub fn one_canonical_text()
-    ensures { (f : FunctionData) (a b : List ℕ) → IsWithinLimits f → IsCanonicalText a f → IsCanonicalText b f → a ≡ b }
+    ensures { (f : FunctionData) (a b : List ℕ) → IsWithinBounds f → IsCanonicalText a f → IsCanonicalText b f → a ≡ b }
 {}
 
 /// A function text has no fault, so that a refused text is that of no function.

@@ -3,7 +3,7 @@ use Rattle.std.proofs.Common.{◌≡◌, ◌⊎◌, inl, inr, ℕ, ◌^◌, ◌<
 use Rattle.std.specs.Str.Parse.{starts_with_minus, without_leading_sign}
 use Rattle.std.proofs.lemmas.Int.{ints}
 use Rattle.gj_frac.specs.declared.Frac.{Frac}
-use Rattle.gj_frac.specs.Fraction.{Is}
+use Rattle.gj_frac.specs.Fraction.{IsRatio}
 use Rattle.gj_lex.specs.NumberText.{IsNumberText, IsWritten}
 
 -- a number with a sign
@@ -25,8 +25,8 @@ makes_fraction a b d small is some low (inr (inr large)) = omega (arith, ints)
 -- what was read is spelled so
 pub number_found : (word rest : List ℕ) (minus : Bool) (top bottom : ℕ) (a b : ℤ) (r : Option Frac) →
     rest ≡ without_leading_sign word → minus ≡ starts_with_minus word → IsWritten rest top bottom → top < 2 ^ 127 → bottom < 2 ^ 127 →
-    a ≡ with_sign minus top → b ≡ pos bottom → (b ≡ pos 0 → IsNone r) → IfSome r (λ x. Is x a b) →
-    IfSome r (λ x. (n : ℤ) × (d : ℕ) × IsNumberText word n d × Is x n (pos d))
+    a ≡ with_sign minus top → b ≡ pos bottom → (b ≡ pos 0 → IsNone r) → IfSome r (λ x. IsRatio x a b) →
+    IfSome r (λ x. (n : ℤ) × (d : ℕ) × IsNumberText word n d × IsRatio x n (pos d))
 number_found word rest minus top bottom a b None rest_is minus_is written small low top_is bottom_is none is = tt
 number_found word rest minus top bottom a b (Some x) rest_is minus_is written small low top_is bottom_is none is =
     let not_zero : bottom ≡ 0 → ⊥ = λ e. let gone = none (bottom_is ∙ ap pos e) in cc in
@@ -38,19 +38,19 @@ number_found word rest minus top bottom a b (Some x) rest_is minus_is written sm
       bottom_some = omega arith;
       value = top_is ∙ ap (λ m. with_sign m top) minus_is;
     } in
-    (a, bottom, text, subst (Is x a) bottom_is is)
+    (a, bottom, text, subst (IsRatio x a) bottom_is is)
 
 -- what is spelled so is read
 pub number_only : (word : List ℕ) (minus : Bool) (top bottom : ℕ) (a b : ℤ) (r : Option Frac) → minus ≡ starts_with_minus word →
     a ≡ with_sign minus top → b ≡ pos bottom → (IsNone r → (b ≡ pos 0) ⊎ ((unsigned_abs a ≡ 2 ^ 127) ⊎ (unsigned_abs b ≡ 2 ^ 127))) →
-    IfSome r (λ x. Is x a b) → (n : ℤ) (d : ℕ) (t : IsNumberText word n d) → top ≡ t.top → bottom ≡ d → IsSomeAnd r (λ x. Is x n (pos d))
+    IfSome r (λ x. IsRatio x a b) → (n : ℤ) (d : ℕ) (t : IsNumberText word n d) → top ≡ t.top → bottom ≡ d → IsSomeAnd r (λ x. IsRatio x n (pos d))
 number_only word minus top bottom a b None minus_is top_is bottom_is none is n d t same same' =
     let small = with_sign_small minus t.top t.top_fits in
     absurd
     (makes_fraction a b d (subst (λ z. unsigned_abs z < 2 ^ 127) (sym (top_is ∙ ap (with_sign minus) same)) small) (bottom_is ∙ ap pos same') t.bottom_some t.bottom_fits (none refl))
 number_only word minus top bottom a b (Some x) minus_is top_is bottom_is none is n d t same same' =
     let top_same : a ≡ n = top_is ∙ ap (with_sign minus) same ∙ ap (λ m. with_sign m t.top) minus_is ∙ sym t.value in
-    subst (λ z. Is x z (pos d)) top_same (subst (Is x a) (bottom_is ∙ ap pos same') is)
+    subst (λ z. IsRatio x z (pos d)) top_same (subst (IsRatio x a) (bottom_is ∙ ap pos same') is)
 
 -- equal pairs have equal parts
 pub same_numbers : (p q : ℕ × ℕ) → Some p ≡ Some q → (p.0 ≡ q.0) × (p.1 ≡ q.1)

@@ -16,9 +16,9 @@ use Rattle.std.proofs.lemmas.List.Sums.{prefix_len-le-length}
 use Rattle.std.proofs.lemmas.Str.Parse.{digit_from_value}
 use Rattle.std.proofs.lemmas.Fmt.{decimal_is_IsNumeral_wide}
 use Rattle.gj_frac.specs.declared.Frac.{Frac}
-use Rattle.gj_frac.specs.Fraction.{Is}
+use Rattle.gj_frac.specs.Fraction.{IsRatio}
 use Rattle.gj_frac.specs.Lowest.{IsLowest}
-use Rattle.gj_frac.proofs.Divisors.{same_ratio}
+use Rattle.gj_tools.proofs.Divisors.{same_ratio}
 use Rattle.gj_lex.specs.NumberText.{denominator_text, ratio_text, fraction_text}
 use Rattle.gj_lex.proofs.Decimals.{same_from_decimal}
 
@@ -198,7 +198,7 @@ unfolding frac_of
 same_frac x y p q = same_parts x.num x.den y.num y.den x.lowest y.lowest p q
 
 -- a fraction that is n/d in lowest terms has the parts n and d
-pub lowest_parts : (x : Frac) (n d : ℤ) → Is x n d → IsLowest n d → (x.num ≡ n) × (x.den ≡ d)
+pub lowest_parts : (x : Frac) (n d : ℤ) → IsRatio x n d → IsLowest n d → (x.num ≡ n) × (x.den ≡ d)
 lowest_parts x n d is h =
     same_ratio x.num x.den n d x.lowest.coprime h.coprime x.lowest.positive h.positive is
 

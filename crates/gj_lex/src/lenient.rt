@@ -4,7 +4,7 @@ ghost use Rattle.std.specs.Prelude.{◌≡◌, ◌+◌, ◌^◌, ◌<◌, ◌||�
 ghost use Rattle.std.specs.List.{position, position_or_len};
 ghost use Rattle.std.specs.Option.{SomeIff};
 ghost use Rattle.std.specs.Str.Parse.{IsNumeral, digits_value, starts_with_minus, without_leading_sign};
-ghost use Rattle.gj_frac.specs.Fraction.{Is};
+ghost use Rattle.gj_frac.specs.Fraction.{IsRatio};
 ghost use Rattle.gj_lex.specs.NumberText.{IsNumberText, IsWritten};
 
 use crate::digits::{read_run, value_after};
@@ -20,9 +20,9 @@ const MOST_DECIMALS: usize = 38;
 /// is above 2^127 - 1, or where the denominator is 0. It takes no memory.
 pub fn read_number(word: &[u8]) -> Option<Frac>
     ensures found { IfSome result (λ x.
-        (n : ℤ) × (d : ℕ) × IsNumberText word.now n d × Is x n (pos d)) }
+        (n : ℤ) × (d : ℕ) × IsNumberText word.now n d × IsRatio x n (pos d)) }
     ensures only { (n : ℤ) (d : ℕ) → IsNumberText word.now n d →
-        IsSomeAnd result (λ x. Is x n (pos d)) }
+        IsSomeAnd result (λ x. IsRatio x n (pos d)) }
 {
     let (top, bottom) = read_written(without_sign(word))?;
     Frac::new(signed(begins_with(word, b'-'), top), bottom as i128)

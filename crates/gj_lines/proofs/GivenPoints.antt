@@ -8,10 +8,10 @@ use Rattle.std.proofs.lemmas.List.Concat.{flat_map-append}
 use Rattle.std.proofs.lemmas.List.Elements.{All-same, All-take}
 use Rattle.std.proofs.lemmas.Slice.Zip.{AllZip-long}
 use Rattle.gj_frac.specs.declared.Frac.{Frac}
-use Rattle.gj_frac.specs.Fraction.{Is}
-use Rattle.gj_frac.proofs.Integers.{mul_cancel_right_z, abs_positive_z}
+use Rattle.gj_frac.specs.Fraction.{IsRatio}
+use Rattle.gj_tools.proofs.Integers.{mul_cancel_right_z, abs_positive_z}
 use Rattle.gj_frac.proofs.SameValues.{same_from_is}
-use Rattle.gj_shape.specs.FunctionData.{FunctionData, IsWithinLimits}
+use Rattle.gj_shape.specs.FunctionData.{FunctionData, IsWithinBounds}
 use Rattle.gj_shape.specs.Given.{IsSmall, HasCommonDenominator, IsGivenBy}
 use Rattle.gj_shape.proofs.GivenLists.{all_small_given, at_place, up_to_place}
 use Rattle.gj_shape.proofs.InOrder.{all_in_order, all_from_in_order}
@@ -34,7 +34,7 @@ as_many_rights : (points : List Point) → length (rights points) ≡ length (le
 as_many_rights points = length-map points (λ p. p.right) ∙ sym (length-map points (λ p. p.left))
 
 -- a function is given by its points
-pub given_by_points : (points : List Point) (f : FunctionData) → IsWithinLimits f → ArePointsOf f points →
+pub given_by_points : (points : List Point) (f : FunctionData) → IsWithinBounds f → ArePointsOf f points →
     IsGivenBy f.order f.place (lefts points) (values points) (rights points) f
 given_by_points points f within are = record {
   order = refl;
@@ -65,7 +65,7 @@ points_given q k points f given =
     }
 
 -- the points of a function pass all tests
-pub good_points : (points : List Point) (f : FunctionData) → IsWithinLimits f → ArePointsOf f points →
+pub good_points : (points : List Point) (f : FunctionData) → IsWithinBounds f → ArePointsOf f points →
     All IsSmall (all_fractions points) × HasCommonDenominator (all_fractions points)
 good_points points f within are =
     let given = given_by_points points f within are in
@@ -76,7 +76,7 @@ good_points points f within are =
     )
 
 -- there are as many as the order
-pub count_of_points : (points : List Point) (f : FunctionData) → IsWithinLimits f → ArePointsOf f points →
+pub count_of_points : (points : List Point) (f : FunctionData) → IsWithinBounds f → ArePointsOf f points →
     length points ≡ f.order
 count_of_points points f within are =
     sym (length-map points (λ p. p.left)) ∙ sym (AllZip-long (IsOver f.scale) (lefts points) f.left are.left_are)
@@ -107,7 +107,7 @@ same_along scale (p ∷ ps) (q ∷ qs) (l ∷ ls) (v ∷ vs) (r ∷ rs) some a b
     λ i. first i ∷ rest i
 
 -- a function has one list of points
-pub one_list_of_points : (f : FunctionData) (ps qs : List Point) → IsWithinLimits f → ArePointsOf f ps →
+pub one_list_of_points : (f : FunctionData) (ps qs : List Point) → IsWithinBounds f → ArePointsOf f ps →
     ArePointsOf f qs → ps ≡ qs
 one_list_of_points f ps qs within p q =
     same_along f.scale ps qs f.left f.value f.right within.scale_low p.left_are p.value_are p.right_are q.left_are
@@ -115,7 +115,7 @@ one_list_of_points f ps qs within p q =
 
 -- an order, a place and points are those of one function
 pub one_function_of_points : (points : List Point) (f g : FunctionData) → f.order ≡ g.order → f.place ≡ g.place →
-    IsWithinLimits f → IsWithinLimits g → ArePointsOf f points → ArePointsOf g points → f ≡ g
+    IsWithinBounds f → IsWithinBounds g → ArePointsOf f points → ArePointsOf g points → f ≡ g
 one_function_of_points points f g order place within_f within_g of_f of_g =
     let ls = lefts points in
     let vs = values points in
@@ -124,11 +124,11 @@ one_function_of_points points f g order place within_f within_g of_f of_g =
     (subst₂ (λ q k. IsGivenBy q k ls vs rs g) (sym order) (sym place) (given_by_points points g within_g of_g))
 
 -- a place of an order stands for one fraction
-pub place_of_function : (x y : Frac) (q k : ℕ) → 0 < q → Is x (pos k) (pos q) → Is y (pos k) (pos q) → x ≡ y
+pub place_of_function : (x y : Frac) (q k : ℕ) → 0 < q → IsRatio x (pos k) (pos q) → IsRatio y (pos k) (pos q) → x ≡ y
 place_of_function x y q k some a b = same_from_is x y (pos k) (pos q) (λ z. omega arith) a b
 
 -- and a fraction has one place of an order
-pub one_place : (x : Frac) (q k m : ℕ) → Is x (pos k) (pos q) → Is x (pos m) (pos q) → k ≡ m
+pub one_place : (x : Frac) (q k m : ℕ) → IsRatio x (pos k) (pos q) → IsRatio x (pos m) (pos q) → k ≡ m
 one_place x q k m a b =
     let some = abs_positive_z x.den x.lowest.positive in
     let same : pos k ≡ pos m = mul_cancel_right_z (pos k) (pos m) x.den (sym a ∙ b) (omega arith) in
@@ -227,7 +227,7 @@ one_point_fault points p Fine (Memory m) a b no_e no_d = absurd (no_d tt)
 one_point_fault points p (Memory m) d a b no_e no_d = absurd (no_e tt)
 
 -- a function has one text of its lines
-pub one_text_of_lines : (f : FunctionData) (a b : List ℕ) → IsWithinLimits f → AreFunctionLines f a → AreFunctionLines f b →
+pub one_text_of_lines : (f : FunctionData) (a b : List ℕ) → IsWithinBounds f → AreFunctionLines f a → AreFunctionLines f b →
     a ≡ b
 one_text_of_lines f a b within p q =
     let low = within.order_low in

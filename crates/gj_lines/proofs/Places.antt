@@ -6,8 +6,8 @@ use Rattle.std.proofs.lemmas.Int.{ints}
 use Rattle.std.specs.Int.{◌∣◌}
 use Rattle.gj_shape.specs.Given.{IsOrder}
 use Rattle.gj_frac.specs.Lowest.{IsLowest}
-use Rattle.gj_frac.proofs.Divisors.{whole_multiple}
-use Rattle.gj_frac.proofs.Integers.{mul_comm_z, mul_lt_mul_right_z}
+use Rattle.gj_tools.proofs.Divisors.{whole_multiple}
+use Rattle.gj_tools.proofs.Integers.{mul_comm_z, mul_lt_mul_right_z}
 
 -- the parts of a fraction in lowest terms that is k/order
 pub record IsPlaceOf (num den : ℤ) (order k : ℕ) : Type 0 where

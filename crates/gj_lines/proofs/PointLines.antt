@@ -7,10 +7,10 @@ use Rattle.std.proofs.lemmas.Bool.Decides.{Decides-int_eq}
 use Rattle.std.proofs.lemmas.List.{append_assoc, append-nil, flat_map_more, map-append, take_more, take_all}
 use Rattle.std.proofs.lemmas.Slice.Zip.{all_zipped_more}
 use Rattle.gj_frac.specs.declared.Frac.{Frac}
-use Rattle.gj_frac.specs.Fraction.{Is, numerator, denominator}
+use Rattle.gj_frac.specs.Fraction.{IsRatio, numerator, denominator}
 use Rattle.gj_frac.proofs.SameValues.{same_parts_same}
 use Rattle.gj_lex.specs.NumberText.{fraction_text}
-use Rattle.gj_shape.specs.FunctionData.{FunctionData, IsWithinLimits, at}
+use Rattle.gj_shape.specs.FunctionData.{FunctionData, IsWithinBounds, at}
 use Rattle.gj_shape.proofs.AtLemmas.{at_below}
 use Rattle.gj_lines.specs.Points.{lefts, values, rights, ArePointsOf, IsPointAt}
 use Rattle.gj_lines.specs.FunctionLines.{order_line, place_line, is_same, has_no_jump, point_text, point_line, lines_of, AreFunctionLines}
@@ -81,7 +81,7 @@ none_pushed f before = record {
   spelled = sym (append-nil before);
 }
 
-pub one_pushed : (f : FunctionData) (n : ℕ) (p : Point) (before now next : List ℕ) → IsWithinLimits f → n < f.order →
+pub one_pushed : (f : FunctionData) (n : ℕ) (p : Point) (before now next : List ℕ) → IsWithinBounds f → n < f.order →
     ArePushed f n before now → IsPointAt f n p → next ≡ now ++ point_line p → ArePushed f (n + 1) before next
 one_pushed f n p before now next within some h is next_is = record {
   points = h.points ++ p ∷ [];
@@ -96,7 +96,7 @@ one_pushed f n p before now next within some h is next_is = record {
   spelled = next_is ∙ ap (λ t. t ++ point_line p) h.spelled ∙ flat_map_more point_line before h.points p;
 }
 
-pub all_pushed : (f : FunctionData) (n : ℕ) (before now : List ℕ) → IsWithinLimits f → f.order ≤ n →
+pub all_pushed : (f : FunctionData) (n : ℕ) (before now : List ℕ) → IsWithinBounds f → f.order ≤ n →
     ArePushed f n before now → (points : List Point) × ArePointsOf f points × (now ≡ before ++ flat_map point_line points)
 all_pushed f n before now within most h = (
   h.points,
@@ -111,7 +111,7 @@ all_pushed f n before now within most h = (
 -- the lines of a function: the head is pushed, and then the point lines
 pub lines_pushed : {E : Type 0} (f : FunctionData) (order : ℕ) (place : Frac) (r : Result (Unit {0}) E)
     (before head now : List ℕ) →
-    order ≡ f.order → Is place (pos f.place) (pos f.order) → head ≡ before ++ (order_line order ++ place_line place) →
+    order ≡ f.order → IsRatio place (pos f.place) (pos f.order) → head ≡ before ++ (order_line order ++ place_line place) →
     OnOk r ((points : List Point) × ArePointsOf f points × (now ≡ head ++ flat_map point_line points)) →
     OnOk r ((lines : List ℕ) × AreFunctionLines f lines × (now ≡ before ++ lines))
 lines_pushed f order place (Err e) before head now order_is place_is head_is h = tt

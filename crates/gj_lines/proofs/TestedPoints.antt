@@ -4,9 +4,9 @@ use Rattle.std.proofs.lemmas.List.{append_assoc, append-nil, drop_at, flat_map_m
 use Rattle.std.proofs.lemmas.List.Elements.{All-same, All-drop}
 use Rattle.gj_frac.specs.declared.Frac.{Frac}
 use Rattle.gj_frac.specs.Fraction.{denominator}
-use Rattle.gj_frac.proofs.Divisors.{lcm_positive}
+use Rattle.gj_tools.proofs.Divisors.{lcm_positive}
 use Rattle.gj_shape.specs.Given.{in_order, IsSmall, IsOrder, IsPlace, HaveLength, HasFault}
-use Rattle.gj_shape.specs.Denominators.{IsLeastDenominator, Widens}
+use Rattle.gj_shape.specs.Denominators.{IsLeastDenominator, Extends}
 use Rattle.gj_shape.specs.declared.faults.ShapeFault.{ShapeFault}
 use Rattle.gj_shape.proofs.GivenLists.{IsMemory, no_fault_given}
 use Rattle.gj_shape.proofs.GivenLemmas.{over_scale, given_over_scale}
@@ -32,11 +32,11 @@ fractions_with_next : (points : List Point) (p : Point) →
 fractions_with_next points p = sym (flat_map_more fractions_of [] points p)
 
 -- a least common denominator is not 0
-pub widened_some : (scale : ℕ) (x : Frac) (m : ℕ) → Widens scale x m → 0 < scale → 0 < m
+pub widened_some : (scale : ℕ) (x : Frac) (m : ℕ) → Extends scale x m → 0 < scale → 0 < m
 widened_some scale x m w some = lcm_positive scale (unsigned_abs (denominator x)) m w.least some (denominator_some x)
 
 pub least_with_point : (points : List Point) (p : Point) (scale a b c : ℕ) →
-    IsLeastDenominator (all_fractions points) scale → Widens scale p.left a → Widens a p.value b → Widens b p.right c →
+    IsLeastDenominator (all_fractions points) scale → Extends scale p.left a → Extends a p.value b → Extends b p.right c →
     IsLeastDenominator (all_fractions (points ++ p ∷ [])) c
 least_with_point points p scale a b c least l v r =
     let xs = all_fractions points in
@@ -89,14 +89,14 @@ refused_left points p scale e least refused =
 
 pub refused_value : (points : List Point) (p : Point) (scale a : ℕ) (e : PointFault) →
     IsLeastDenominator (all_fractions points) scale →
-    Widens scale p.left a → IsRefusedOver a p.value e → IsPointFault points p e
+    Extends scale p.left a → IsRefusedOver a p.value e → IsPointFault points p e
 refused_value points p scale a e least l refused =
     refused_at points p (p.left ∷ []) (p.right ∷ []) p.value a e refl
     (least_with_next (all_fractions points) p.left scale a least l) refused
 
 pub refused_right : (points : List Point) (p : Point) (scale a b : ℕ) (e : PointFault) →
     IsLeastDenominator (all_fractions points) scale →
-    Widens scale p.left a → Widens a p.value b → IsRefusedOver b p.right e → IsPointFault points p e
+    Extends scale p.left a → Extends a p.value b → IsRefusedOver b p.right e → IsPointFault points p e
 refused_right points p scale a b e least l v refused =
     let xs = all_fractions points in
     let second = least_with_next (xs ++ p.left ∷ []) p.value a b (least_with_next xs p.left scale a least l) v in

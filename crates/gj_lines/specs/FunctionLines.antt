@@ -2,7 +2,7 @@
 use Rattle.std.specs.Prelude.{ℕ, pos, ◌≡◌, Bool, ◌&&◌, if◌then◌else◌, List, [], ◌∷◌, ◌++◌, codes, decimal, flat_map}
 use Rattle.std.specs.Ordering.{int_eq}
 use Rattle.gj_frac.specs.declared.Frac.{Frac}
-use Rattle.gj_frac.specs.Fraction.{Is, numerator, denominator}
+use Rattle.gj_frac.specs.Fraction.{IsRatio, numerator, denominator}
 use Rattle.gj_lex.specs.NumberText.{fraction_text}
 use Rattle.gj_shape.specs.FunctionData.{FunctionData}
 use Rattle.gj_lines.specs.Points.{ArePointsOf}
@@ -48,6 +48,6 @@ lines_of order place points = order_line order ++ place_line place ++ flat_map p
 pub record AreFunctionLines (f : FunctionData) (text : List ℕ) : Type 0 where
   pub place : Frac
   pub points : List Point
-  pub place_is : Is place (pos f.place) (pos f.order)
+  pub place_is : IsRatio place (pos f.place) (pos f.order)
   pub points_are : ArePointsOf f points
   pub spelled : text ≡ lines_of f.order place points

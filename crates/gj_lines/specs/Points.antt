@@ -3,7 +3,7 @@ use Rattle.std.specs.Prelude.{ℕ, pos, ◌≡◌, ◌<◌, ◌≤◌, ◌^◌, 
 use Rattle.std.specs.Int.{◌∣◌}
 use Rattle.std.specs.List.{AllZip}
 use Rattle.gj_frac.specs.declared.Frac.{Frac}
-use Rattle.gj_frac.specs.Fraction.{Is, denominator}
+use Rattle.gj_frac.specs.Fraction.{IsRatio, denominator}
 use Rattle.gj_shape.specs.FunctionData.{FunctionData, at}
 use Rattle.gj_shape.specs.Given.{IsPlace, IsSmall, HasCommonDenominator}
 use Rattle.gj_lines.specs.declared.points.Point.{Point}
@@ -12,7 +12,7 @@ use Rattle.gj_lines.specs.declared.points.PointFault.TheVariants.{Large, Fine, M
 
 -- the fraction is k/order with 1 ≤ k < order
 abbrev pub IsPlaceFraction : ℕ → Frac → Type 0
-IsPlaceFraction q x = (k : ℕ) × IsPlace q k × Is x (pos k) (pos q)
+IsPlaceFraction q x = (k : ℕ) × IsPlace q k × IsRatio x (pos k) (pos q)
 
 -- the limits from the left, the values and the limits from the right
 abbrev pub lefts : List Point → List Frac
@@ -33,15 +33,15 @@ all_fractions points = flat_map fractions_of points
 
 -- the points are those of the function, each fraction over its scale
 pub record ArePointsOf (f : FunctionData) (points : List Point) : Type 0 where
-  pub left_are : AllZip (λ x n. Is x n (pos f.scale)) (lefts points) f.left
-  pub value_are : AllZip (λ x n. Is x n (pos f.scale)) (values points) f.value
-  pub right_are : AllZip (λ x n. Is x n (pos f.scale)) (rights points) f.right
+  pub left_are : AllZip (λ x n. IsRatio x n (pos f.scale)) (lefts points) f.left
+  pub value_are : AllZip (λ x n. IsRatio x n (pos f.scale)) (values points) f.value
+  pub right_are : AllZip (λ x n. IsRatio x n (pos f.scale)) (rights points) f.right
 
 -- the point is that of the function at i/order, each fraction over its scale
 pub record IsPointAt (f : FunctionData) (i : ℕ) (p : Point) : Type 0 where
-  pub left_is : Is p.left (at f.left i) (pos f.scale)
-  pub value_is : Is p.value (at f.value i) (pos f.scale)
-  pub right_is : Is p.right (at f.right i) (pos f.scale)
+  pub left_is : IsRatio p.left (at f.left i) (pos f.scale)
+  pub value_is : IsRatio p.value (at f.value i) (pos f.scale)
+  pub right_is : IsRatio p.right (at f.right i) (pos f.scale)
 
 -- x is the first fraction of the point that fails a test; those before it go with the points
 pub record IsFirstRefused (points : List Point) (p : Point) (before : List Frac) (x : Frac) : Type 0 where

@@ -1,6 +1,6 @@
 //! The place of a function.
 ghost use Rattle.std.specs.Prelude.{◌≡◌, ◌<◌, ◌^◌, ℕ, pos, Some, IfSome, IfNone, IsTrue, ◌↔◌};
-ghost use Rattle.gj_frac.specs.Fraction.{Is};
+ghost use Rattle.gj_frac.specs.Fraction.{IsRatio};
 ghost use Rattle.gj_shape.specs.Given.{IsOrder, IsPlace};
 ghost use Rattle.gj_lines.specs.Points.{IsPlaceFraction};
 
@@ -9,7 +9,7 @@ use gj_frac::Frac;
 /// The number k from 1 to the order less 1 for which the fraction is k/order, where there is one.
 pub fn place_of(fraction: Frac, order: u32) -> Option<u32>
     requires { IsOrder order }
-    ensures found { IfSome result (λ k. IsPlace order k × Is fraction (pos k) (pos order)) }
+    ensures found { IfSome result (λ k. IsPlace order k × IsRatio fraction (pos k) (pos order)) }
     ensures none { IfNone result (IsPlaceFraction order fraction → ⊥) }
 {
     let numerator = count_of(fraction.num())?;

@@ -2,11 +2,11 @@
 ghost use Rattle.std.specs.Prelude.{◌≡◌, ◌<◌, [], ◌∷◌, ◌++◌, All, length, IfOk, IfErr, OnOk, OnErr, alloc_error};
 ghost use Rattle.gj_lines.specs.declared.points.PointFault.TheVariants.{Memory};
 ghost use Rattle.gj_shape.specs.Given.{IsOrder, IsPlace, IsSmall, HasCommonDenominator, IsGivenBy};
-ghost use Rattle.gj_shape.specs.Denominators.{Widens};
+ghost use Rattle.gj_shape.specs.Denominators.{Extends};
 ghost use Rattle.gj_lines.specs.Points.{lefts, values, rights, all_fractions, IsPointFault, IsRefusedOver};
 
 use gj_frac::Frac;
-use gj_shape::{Shape, ShapeFault, widened};
+use gj_shape::{Shape, ShapeFault, extended};
 use std::alloc::{AllocError, AllocFailed, Global};
 use std::marker::Model;
 use thiserror::Error;
@@ -143,10 +143,10 @@ fn rights(alloc: Global, points: &[Point]) -> Result<Vec<Frac>, AllocError>
 /// The least common denominator `scale` of some fractions with one more.
 fn wider(scale: u32, fraction: Frac) -> Result<u32, PointFault>
     requires { 0 < scale }
-    ensures least { IfOk result (Widens scale fraction) }
+    ensures least { IfOk result (Extends scale fraction) }
     ensures fault { IfErr result (IsRefusedOver scale fraction) }
 {
-    match widened(scale, fraction, 0) {
+    match extended(scale, fraction, 0) {
         Ok(scale) => Ok(scale),
         Err(ShapeFault::TooLarge(_)) => Err(PointFault::Large),
         Err(ShapeFault::TooFine(_)) => Err(PointFault::Fine),

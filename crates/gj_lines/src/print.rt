@@ -1,6 +1,6 @@
 //! The lines of a function, printed.
 ghost use Rattle.std.specs.Prelude.{◌≡◌, ◌<◌, ◌++◌, ℕ, List, codes, pos, flat_map, OnOk};
-ghost use Rattle.gj_frac.specs.Fraction.{Is};
+ghost use Rattle.gj_frac.specs.Fraction.{IsRatio};
 ghost use Rattle.gj_lex.specs.NumberText.{fraction_text};
 ghost use Rattle.gj_lines.specs.Points.{ArePointsOf, IsPointAt};
 ghost use Rattle.gj_lines.specs.FunctionLines.{fraction_line, order_line, place_line, has_no_jump, point_text, point_line, AreFunctionLines};
@@ -54,7 +54,7 @@ fn push_order_line(out: &mut Vec<u8>, order: u32) -> Result<(), AllocError>
 /// The fraction `n/d`.
 fn ratio(n: u32, d: u32) -> Frac
     requires { 0 < d }
-    ensures { Is result (pos n) (pos d) }
+    ensures { IsRatio result (pos n) (pos d) }
 {
     Frac::new(i128::from(n), i128::from(d)).unwrap()
 }

@@ -2,7 +2,7 @@
 use Rattle.std.proofs.Common.{◌≡◌, ℕ, zero, suc, ◌+◌, ◌-◌, ◌*◌, ◌<◌, ◌≤◌, ◌^◌, ℤ, pos, ◌+ℤ◌, ◌≤ℤ◌, List, length, All, sym, ap, subst, ◌∙◌, arith}
 use Rattle.std.proofs.Math.Nat.{mul-le-mul_right}
 use Rattle.std.proofs.lemmas.Int.{ints}
-use Rattle.gj_shape.specs.FunctionData.{FunctionData, IsWithinLimits, at}
+use Rattle.gj_shape.specs.FunctionData.{FunctionData, IsWithinBounds, at}
 use Rattle.gj_shape.specs.Faces.{corners_of, limits_of, slack_from}
 use Rattle.gj_shape.specs.declared.faces.FaceKind.{FaceKind}
 use Rattle.gj_shape.specs.declared.faces.FaceKind.TheVariants.{Vertex, Horizontal, Vertical, Diagonal, Lower, Upper}
@@ -41,7 +41,7 @@ record AreBounded (f : FunctionData) : Type 0 where
 at_most : (x y : ℤ) (s : ℕ) → x +ℤ y ≡ pos s → pos 0 ≤ℤ y → x ≤ℤ pos s
 at_most x y s e low = omega (arith, ints)
 
-are_bounded : (f : FunctionData) → IsWithinLimits f → PassesSymmetry f → AreBounded f
+are_bounded : (f : FunctionData) → IsWithinBounds f → PassesSymmetry f → AreBounded f
 are_bounded f l h =
     let some : 0 < f.order = omega arith in
     let values = everywhere (λ z. pos 0 ≤ℤ z) f.value f.order l.value_length some h.mirrors.signs.values.nonnegative in
@@ -92,7 +92,7 @@ limits_at_most f Upper a b h =
     (slack_at_most f.scale _ _ _ (h.left_high (a + 1)) (h.left_high (b + 1)) (h.left_low (a + b + 1 + 1)))
 
 -- and their total at a face is below 2^34
-pub total_small : (f : FunctionData) (kind : FaceKind) (a b : ℕ) → IsWithinLimits f → PassesSymmetry f →
+pub total_small : (f : FunctionData) (kind : FaceKind) (a b : ℕ) → IsWithinBounds f → PassesSymmetry f →
     total (limits_of f kind a b) ≤ℤ pos (2 ^ 34)
 total_small f kind a b l h =
     let most = total_at_most (2 * f.scale) (limits_of f kind a b) (limits_at_most f kind a b (are_bounded f l h)) in
@@ -105,7 +105,7 @@ total_small f kind a b l h =
     omega (arith, ints)
 
 -- so the grid near a corner is within 2^62
-pub fine_near_corner : (f : FunctionData) (kind : FaceKind) (a b q h n : ℕ) (total_limits : ℤ) → IsWithinLimits f →
+pub fine_near_corner : (f : FunctionData) (kind : FaceKind) (a b q h n : ℕ) (total_limits : ℤ) → IsWithinBounds f →
     PassesSymmetry f → q ≡ f.order → n ≡ length (corners_of kind a b) → total_limits ≡ total (limits_of f kind a b) →
     ((t : ℕ) → total_limits ≤ℤ pos t → h ≤ n + t + 1) → q * h ≤ 2 ^ 62
 fine_near_corner f kind a b q h n total_limits l symmetry order many total_is bounded =

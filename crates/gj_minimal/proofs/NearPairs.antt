@@ -4,8 +4,8 @@ use Rattle.std.proofs.lemmas.Int.{ints}
 use Rattle.std.proofs.Math.ListN.{get_or-map}
 use Rattle.std.proofs.lemmas.List.Elements.{All-nil, All-cons, All-get_or, All-head, All-tail}
 use Rattle.gj_frac.specs.declared.Frac.{Frac}
-use Rattle.gj_frac.specs.Fraction.{Is}
-use Rattle.gj_shape.specs.FunctionData.{FunctionData, IsWithinLimits}
+use Rattle.gj_frac.specs.Fraction.{IsRatio}
+use Rattle.gj_shape.specs.FunctionData.{FunctionData, IsWithinBounds}
 use Rattle.gj_shape.specs.Faces.{corners_of, limits_of}
 use Rattle.gj_shape.specs.Table.{table}
 use Rattle.gj_shape.specs.FirstViolation.{near, first_coordinates, second_coordinates, IsLeastFrom, IsSuperadditiveOnGrid, ShowsNearCorner}
@@ -130,7 +130,7 @@ slack_by_below : (s t u v : ℤ) → s +ℤ t ≡ u +ℤ v → (s +ℤ t) <ℤ u
 slack_by_below s t u v e below = omega (arith, ints)
 
 -- the slack near a corner is negative where k times it is
-superadditive_near : (f : FunctionData) (kind : FaceKind) (a b c k : ℕ) → IsWithinLimits f →
+superadditive_near : (f : FunctionData) (kind : FaceKind) (a b c k : ℕ) → IsWithinBounds f →
     c < length (corners_of kind a b) → length (corners_of kind a b) ≤ k →
     near_value k c (limits_of f kind a b) <ℤ pos 0 →
     IsSuperadditiveOnGrid f k (near k c (first_coordinates kind a b)) (near k c (second_coordinates kind a b))
@@ -141,7 +141,7 @@ superadditive_near f kind a b c k limits within fits negative =
     (near_corner f kind a b c k limits within fits) negative
 
 -- and only there
-negative_near : (f : FunctionData) (kind : FaceKind) (a b c k : ℕ) → IsWithinLimits f →
+negative_near : (f : FunctionData) (kind : FaceKind) (a b c k : ℕ) → IsWithinBounds f →
     c < length (corners_of kind a b) → length (corners_of kind a b) ≤ k →
     IsSuperadditiveOnGrid f k (near k c (first_coordinates kind a b)) (near k c (second_coordinates kind a b)) →
     near_value k c (limits_of f kind a b) <ℤ pos 0
@@ -152,13 +152,13 @@ negative_near f kind a b c k limits within fits below =
     (near_corner f kind a b c k limits within fits) below
 
 pub shows_pair : (f : FunctionData) (kind : FaceKind) (a b c h : ℕ) (limit total_limits : ℤ) (x y : Frac) →
-    IsWithinLimits f → c < length (corners_of kind a b) → limit ≡ get_or (limits_of f kind a b) c (pos 0) →
+    IsWithinBounds f → c < length (corners_of kind a b) → limit ≡ get_or (limits_of f kind a b) c (pos 0) →
     total_limits ≡ total (limits_of f kind a b) →
     IsLeastFrom (length (corners_of kind a b))
     (λ n. (pos (n - length (corners_of kind a b)) *ℤ limit +ℤ total_limits) <ℤ pos 0) h →
-    Is x (pos ((h - length (corners_of kind a b)) * (get_or (corners_of kind a b) c (0, 0)).0
+    IsRatio x (pos ((h - length (corners_of kind a b)) * (get_or (corners_of kind a b) c (0, 0)).0
     + sum (first_coordinates kind a b))) (pos (f.order * h)) →
-    Is y (pos ((h - length (corners_of kind a b)) * (get_or (corners_of kind a b) c (0, 0)).1
+    IsRatio y (pos ((h - length (corners_of kind a b)) * (get_or (corners_of kind a b) c (0, 0)).1
     + sum (second_coordinates kind a b))) (pos (f.order * h)) →
     ShowsNearCorner f kind a b c (violation.Superadditive x y)
 shows_pair f kind a b c h limit total_limits x y limits within limit_is total_is least first second =
@@ -181,20 +181,20 @@ shows_pair f kind a b c h limit total_limits x y limits within limit_is total_is
           (λ k fits negative. subst (λ z. z <ℤ pos 0) (value k)
           (negative_near f kind a b c k limits within fits negative))
           least;
-      first = subst (λ (n : ℕ). Is x (pos n) (pos (f.order * h))) (near_first h c kind a b) first;
-      second = subst (λ (n : ℕ). Is y (pos n) (pos (f.order * h))) (near_second h c kind a b) second;
+      first = subst (λ (n : ℕ). IsRatio x (pos n) (pos (f.order * h))) (near_first h c kind a b) first;
+      second = subst (λ (n : ℕ). IsRatio y (pos n) (pos (f.order * h))) (near_second h c kind a b) second;
       shown = refl;
     }
 
 -- the same from the numbers of the code
 pub pair_shown : (f : FunctionData) (kind : FaceKind) (a b c h n q i j sum_i sum_j : ℕ) (limit total_limits : ℤ)
     (x y : Frac) →
-    IsWithinLimits f → c < length (corners_of kind a b) → q ≡ f.order → n ≡ length (corners_of kind a b) →
+    IsWithinBounds f → c < length (corners_of kind a b) → q ≡ f.order → n ≡ length (corners_of kind a b) →
     (i, j) ≡ get_or (corners_of kind a b) c (0, 0) → sum_i ≡ sum (first_coordinates kind a b) →
     sum_j ≡ sum (second_coordinates kind a b) → limit ≡ get_or (limits_of f kind a b) c (pos 0) →
     total_limits ≡ total (limits_of f kind a b) →
     IsLeastFrom n (λ m. (pos (m - n) *ℤ limit +ℤ total_limits) <ℤ pos 0) h →
-    Is x (pos ((h - n) * i + sum_i)) (pos (q * h)) → Is y (pos ((h - n) * j + sum_j)) (pos (q * h)) →
+    IsRatio x (pos ((h - n) * i + sum_i)) (pos (q * h)) → IsRatio y (pos ((h - n) * j + sum_j)) (pos (q * h)) →
     ShowsNearCorner f kind a b c (violation.Superadditive x y)
 pair_shown f kind a b c h n q i j sum_i sum_j limit total_limits x y limits within order many corner first_sum
     second_sum limit_is total_is least first second =
@@ -209,5 +209,5 @@ pair_shown f kind a b c h n q i j sum_i sum_j limit total_limits x y limits with
     + sum (second_coordinates kind a b) = cc in
     shows_pair f kind a b c h limit total_limits x y limits within limit_is total_is
     (subst (λ (k : ℕ). IsLeastFrom k (λ m. (pos (m - k) *ℤ limit +ℤ total_limits) <ℤ pos 0) h) many least)
-    (subst₂ (λ (k d : ℕ). Is x (pos k) (pos (d * h))) first_index order first)
-    (subst₂ (λ (k d : ℕ). Is y (pos k) (pos (d * h))) second_index order second)
+    (subst₂ (λ (k d : ℕ). IsRatio x (pos k) (pos (d * h))) first_index order first)
+    (subst₂ (λ (k d : ℕ). IsRatio y (pos k) (pos (d * h))) second_index order second)

@@ -3,7 +3,7 @@ use Rattle.std.proofs.Common.{◌≡◌, ℕ, ◌+◌, ◌-◌, ◌*◌, ◌<◌
 use Rattle.std.proofs.Math.Nat.{mul-le-mul}
 use Rattle.std.proofs.lemmas.Int.{ints}
 use Rattle.gj_frac.specs.declared.Frac.{Frac}
-use Rattle.gj_frac.specs.Fraction.{Is}
+use Rattle.gj_frac.specs.Fraction.{IsRatio}
 use Rattle.gj_shape.specs.FunctionData.{FunctionData, at}
 use Rattle.gj_shape.specs.FirstViolation.{Shows, IsLeastFrom, IsNegativeOnGrid}
 use Rattle.gj_shape.specs.FirstViolation.Test.{nonnegative_after, nonnegative_before}
@@ -33,25 +33,25 @@ fine_near_end q h total few small bounded =
 
 -- one point on a grid
 pub one_point : (f : FunctionData) (q h i : ℕ) (x : Frac) → q ≡ f.order → 0 < h → q * h ≤ 2 ^ 62 → i < q * h →
-    Is x (pos i) (pos (q * h)) → (h : ℕ) × (0 < h) × (f.order * h ≤ 2 ^ 62) × IsGridPoint f h x
+    IsRatio x (pos i) (pos (q * h)) → (h : ℕ) × (0 < h) × (f.order * h ≤ 2 ^ 62) × IsGridPoint f h x
 one_point f q h i x order some fine below point = (
   h,
   some,
   subst (λ (n : ℕ). n * h ≤ 2 ^ 62) order fine,
-  (i, subst (λ (n : ℕ). i < n * h) order below, subst (λ (n : ℕ). Is x (pos i) (pos (n * h))) order point),
+  (i, subst (λ (n : ℕ). i < n * h) order below, subst (λ (n : ℕ). IsRatio x (pos i) (pos (n * h))) order point),
 )
 
 -- and two on one grid
 pub two_points : (f : FunctionData) (q h i j : ℕ) (x y : Frac) → q ≡ f.order → 0 < h → q * h ≤ 2 ^ 62 → i < q * h →
-    j < q * h → Is x (pos i) (pos (q * h)) → Is y (pos j) (pos (q * h)) →
+    j < q * h → IsRatio x (pos i) (pos (q * h)) → IsRatio y (pos j) (pos (q * h)) →
     (h : ℕ) × (0 < h) × (f.order * h ≤ 2 ^ 62) × (IsGridPoint f h x × IsGridPoint f h y)
 two_points f q h i j x y order some fine below_i below_j first second = (
   h,
   some,
   subst (λ (n : ℕ). n * h ≤ 2 ^ 62) order fine,
   (
-    (i, subst (λ (n : ℕ). i < n * h) order below_i, subst (λ (n : ℕ). Is x (pos i) (pos (n * h))) order first),
-    (j, subst (λ (n : ℕ). j < n * h) order below_j, subst (λ (n : ℕ). Is y (pos j) (pos (n * h))) order second),
+    (i, subst (λ (n : ℕ). i < n * h) order below_i, subst (λ (n : ℕ). IsRatio x (pos i) (pos (n * h))) order first),
+    (j, subst (λ (n : ℕ). j < n * h) order below_j, subst (λ (n : ℕ). IsRatio y (pos j) (pos (n * h))) order second),
   ),
 )
 
@@ -65,7 +65,7 @@ after_index i h two =
 pub shows_after : (f : FunctionData) (i h : ℕ) (limit total : ℤ) (x : Frac) → limit ≡ at f.right i →
     total ≡ at f.right i +ℤ at f.left (i + 1) →
     IsLeastFrom 2 (λ n. (pos (n - 2) *ℤ limit +ℤ total) <ℤ pos 0) h →
-    Is x (pos ((h - 2) * i + (2 * i + 1))) (pos (f.order * h)) → Shows f (nonnegative_after i) (violation.Negative x)
+    IsRatio x (pos ((h - 2) * i + (2 * i + 1))) (pos (f.order * h)) → Shows f (nonnegative_after i) (violation.Negative x)
 shows_after f i h limit total x limit_is total_is least point = (
   h,
   x,
@@ -74,7 +74,7 @@ shows_after f i h limit total x limit_is total_is least point = (
       omega (arith, ints))
       (λ k two negative. let value = near_after f i k two in let weighted = ap (λ z. pos (k - 2) *ℤ z) limit_is in
       omega (arith, ints)) least,
-  subst (λ (n : ℕ). Is x (pos n) (pos (f.order * h))) (after_index i h least.from) point,
+  subst (λ (n : ℕ). IsRatio x (pos n) (pos (f.order * h))) (after_index i h least.from) point,
   refl,
 )
 
@@ -88,7 +88,7 @@ before_index i h two =
 pub shows_before : (f : FunctionData) (i h : ℕ) (limit total : ℤ) (x : Frac) → limit ≡ at f.left (i + 1) →
     total ≡ at f.right i +ℤ at f.left (i + 1) →
     IsLeastFrom 2 (λ n. (pos (n - 2) *ℤ limit +ℤ total) <ℤ pos 0) h →
-    Is x (pos ((h - 2) * (i + 1) + (2 * i + 1))) (pos (f.order * h)) →
+    IsRatio x (pos ((h - 2) * (i + 1) + (2 * i + 1))) (pos (f.order * h)) →
     Shows f (nonnegative_before i) (violation.Negative x)
 shows_before f i h limit total x limit_is total_is least point = (
   h,
@@ -98,6 +98,6 @@ shows_before f i h limit total x limit_is total_is least point = (
       omega (arith, ints))
       (λ k two negative. let value = near_before f i k two in let weighted = ap (λ z. pos (k - 2) *ℤ z) limit_is in
       omega (arith, ints)) least,
-  subst (λ (n : ℕ). Is x (pos n) (pos (f.order * h))) (before_index i h least.from) point,
+  subst (λ (n : ℕ). IsRatio x (pos n) (pos (f.order * h))) (before_index i h least.from) point,
   refl,
 )

@@ -1,6 +1,6 @@
 //! Values and limits at indices that are read modulo the order, each times the common denominator.
 ghost use Rattle.std.specs.Prelude.{◌≡◌, ◌<◌, ◌^◌, pos, length, unsigned_abs};
-ghost use Rattle.gj_shape.specs.FunctionData.{IsWithinLimits, at};
+ghost use Rattle.gj_shape.specs.FunctionData.{IsWithinBounds, at};
 ghost use Rattle.gj_minimal.specs.AtIndices.{FitSums};
 
 use gj_shape::Shape;
@@ -17,7 +17,7 @@ pub(crate) fn left_at(shape: &Shape, i: u32) -> i64
 pub(crate) fn value_at(shape: &Shape, i: u32) -> i64
     ensures value { result ≡ at shape.now.value i }
     ensures small { unsigned_abs result < 2 ^ 51 }
-    ensures limits { IsWithinLimits shape.now }
+    ensures limits { IsWithinBounds shape.now }
 {
     entry(shape.value_numerators(), i)
 }
@@ -33,7 +33,7 @@ pub(crate) fn right_at(shape: &Shape, i: u32) -> i64
 /// The number that stands for 1.
 pub(crate) fn scale(shape: &Shape) -> i64
     ensures value { result ≡ pos shape.now.scale }
-    ensures limits { IsWithinLimits shape.now }
+    ensures limits { IsWithinBounds shape.now }
 {
     shape.common_denominator() as i64
 }

@@ -1,6 +1,6 @@
 //! Points on grids, and the coarsest grid with a point near a corner at which a number is negative.
 ghost use Rattle.std.specs.Prelude.{ℕ, ℤ, pos, ◌≡◌, ◌+◌, ◌-◌, ◌*◌, ◌<◌, ◌≤◌, ◌^◌, ◌+ℤ◌, ◌*ℤ◌, ◌<ℤ◌, ◌≤ℤ◌, unsigned_abs};
-ghost use Rattle.gj_frac.specs.Fraction.{Is};
+ghost use Rattle.gj_frac.specs.Fraction.{IsRatio};
 ghost use Rattle.gj_shape.specs.FirstViolation.{IsLeastFrom};
 
 use gj_frac::Frac;
@@ -10,7 +10,7 @@ pub(crate) fn grid_point(index: u64, order: u32, h: u64) -> Frac
     requires order { 0 < order }
     requires some { 0 < h }
     requires fine { order * h ≤ 2 ^ 62 }
-    ensures { Is result (pos index) (pos (order * h)) }
+    ensures { IsRatio result (pos index) (pos (order * h)) }
 {
     Frac::new(i128::from(index), i128::from(u64::from(order) * h)).unwrap()
 }
@@ -24,7 +24,7 @@ pub(crate) fn point_near(order: u32, h: u64, n: u32, coordinate: u32, sum: u32) 
     requires sum { sum < order * n }
     requires fine { order * h ≤ 2 ^ 62 }
     ensures below { (h - n) * coordinate + sum < order * h }
-    ensures value { Is result (pos ((h - n) * coordinate + sum)) (pos (order * h)) }
+    ensures value { IsRatio result (pos ((h - n) * coordinate + sum)) (pos (order * h)) }
 {
     let index = (h - u64::from(n)) * u64::from(coordinate) + u64::from(sum);
     grid_point(index, order, h)

@@ -1,6 +1,6 @@
 //! The violation search.
 ghost use Rattle.std.specs.Prelude.{ℕ, ◌≡◌, ◌*◌, ◌<◌, ◌≤◌, ◌^◌, IfSome, IfNone};
-ghost use Rattle.gj_shape.specs.FunctionData.{IsWithinLimits, IsContinuous};
+ghost use Rattle.gj_shape.specs.FunctionData.{IsWithinBounds, IsContinuous};
 ghost use Rattle.gj_shape.specs.FirstViolation.{IsFirstViolation, PassesAll};
 ghost use Rattle.gj_shape.specs.Table.{IsMinimal, IsMinimalOnGrid};
 ghost use Rattle.gj_shape.specs.Violation.{ShowsViolation};
@@ -45,7 +45,7 @@ pub fn find_violation(shape: &Shape) -> Option<Violation>
 fn first_failure(shape: &Shape) -> Option<Failure>
     ensures found { IfSome result (FailsFirst shape.now) }
     ensures none { IfNone result (PassesAll shape.now) }
-    ensures limits { IsWithinLimits shape.now }
+    ensures limits { IsWithinBounds shape.now }
 {
     if let Some(failure) = failed_value(shape) {
         return Some(failure);

@@ -1,6 +1,6 @@
 //! The tests of signs.
 ghost use Rattle.std.specs.Prelude.{IfSome, IfNone};
-ghost use Rattle.gj_shape.specs.FunctionData.{IsWithinLimits};
+ghost use Rattle.gj_shape.specs.FunctionData.{IsWithinBounds};
 ghost use Rattle.gj_theory.specs.Before.{PassesValues, PassesSigns};
 ghost use Rattle.gj_minimal.specs.Failures.{FailsFirst};
 
@@ -12,7 +12,7 @@ use gj_shape::Shape;
 pub(crate) fn failed_value(shape: &Shape) -> Option<Failure>
     ensures found { IfSome result (FailsFirst shape.now) }
     ensures none { IfNone result (PassesValues shape.now) }
-    ensures limits { IsWithinLimits shape.now }
+    ensures limits { IsWithinBounds shape.now }
 {
     if value_at(shape, 0) != 0 {
         return Some(Failure::Zero);

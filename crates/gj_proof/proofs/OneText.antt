@@ -2,7 +2,7 @@
 use Rattle.std.proofs.Common.{◌≡◌, ℕ, ◌<◌, pos, List, [], ◌∷◌, ◌++◌, length, flat_map, codes, refl, sym, ap, subst, subst₂, ◌∙◌, arith}
 use Rattle.std.proofs.lemmas.List.{append_assoc, append-nil, append_cancel_left}
 use Rattle.gj_frac.specs.declared.Frac.{Frac}
-use Rattle.gj_frac.specs.Fraction.{Is}
+use Rattle.gj_frac.specs.Fraction.{IsRatio}
 use Rattle.gj_lex.specs.declared.reason.Reason.{Reason}
 use Rattle.gj_shape.specs.FunctionData.{FunctionData}
 use Rattle.gj_shape.specs.Given.{IsOrder}
@@ -215,7 +215,7 @@ one_claim c d text k j p q =
     let f = function_of c in
     let g = function_of d in
     let place_is = one_place q.are_lines.place g.order f.place g.place
-    (subst₂ (λ (x : Frac) n. Is x (pos f.place) (pos n)) same.place_same same.order_same p.are_lines.place_is) q.are_lines.place_is in
+    (subst₂ (λ (x : Frac) n. IsRatio x (pos f.place) (pos n)) same.place_same same.order_same p.are_lines.place_is) q.are_lines.place_is in
     let functions = one_function_of_points q.are_lines.points f g same.order_same place_is k.0 j.0
     (subst (ArePointsOf f) points_are p.are_lines.points_are) q.are_lines.points_are in
     same_claim c d same.claim_same functions shown_is

@@ -2,7 +2,7 @@
 use Rattle.std.proofs.Common.{◌≡◌, inl, inr, ℕ, pos, List, [], ◌++◌, length, flat_map, codes, Option, Result, Err, IfErr, refl, sym, ap, subst, ◌∙◌}
 use Rattle.std.proofs.lemmas.List.{append_assoc, append-nil}
 use Rattle.gj_frac.specs.declared.Frac.{Frac}
-use Rattle.gj_frac.specs.Fraction.{Is}
+use Rattle.gj_frac.specs.Fraction.{IsRatio}
 use Rattle.gj_lex.specs.declared.reason.Reason.{Reason}
 use Rattle.gj_shape.specs.FunctionData.{FunctionData}
 use Rattle.gj_shape.specs.Given.{IsOrder, IsGivenBy}
@@ -158,12 +158,12 @@ fault_in_end text here after rest c q k points v (Refused left a) h w count s f 
 -- ---- the whole
 
 -- the lines of the function that the points give
-lines_given : (q k : ℕ) (x : Frac) (points : List Point) (f : FunctionData) → Is x (pos k) (pos q) →
+lines_given : (q k : ℕ) (x : Frac) (points : List Point) (f : FunctionData) → IsRatio x (pos k) (pos q) →
     IsGivenBy q k (lefts points) (values points) (rights points) f → AreFunctionLines f (lines_of q x points)
 lines_given q k x points f is g = record {
   place = x;
   points = points;
-  place_is = subst (λ n. Is x (pos n) (pos f.order)) (sym g.place) (subst (λ n. Is x (pos k) (pos n)) (sym g.order) is);
+  place_is = subst (λ n. IsRatio x (pos n) (pos f.order)) (sym g.place) (subst (λ n. IsRatio x (pos k) (pos n)) (sym g.order) is);
   points_are = points_given q k points f g;
   spelled = ap (λ n. lines_of n x points) (sym g.order);
 }

@@ -1,7 +1,7 @@
 -- The one spelling of a proof (own).
 use Rattle.std.specs.Prelude.{ℕ, ◌≡◌, List, [], ◌++◌, codes}
 use Rattle.gj_lex.specs.NumberText.{fraction_text}
-use Rattle.gj_shape.specs.FunctionData.{FunctionData, IsWithinLimits}
+use Rattle.gj_shape.specs.FunctionData.{FunctionData, IsWithinBounds}
 use Rattle.gj_shape.specs.declared.violations.Violation.{Violation}
 use Rattle.gj_shape.specs.declared.violations.Violation.TheVariants as violation
 use Rattle.gj_lines.specs.FunctionLines.{line, fraction_line, AreFunctionLines}
@@ -37,7 +37,7 @@ HasText (NotMinimal f v) = Unit {0}
 
 -- the claim is about a function within the limits, and has a text
 abbrev pub IsKept : Claim → Type 0
-IsKept c = IsWithinLimits (function_of c) × HasText c
+IsKept c = IsWithinBounds (function_of c) × HasText c
 
 -- the text is the proof text of the claim
 pub record IsProofText (c : Claim) (text : List ℕ) : Type 0 where

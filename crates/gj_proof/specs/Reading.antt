@@ -1,7 +1,7 @@
 -- What the readers of the parts of a proof text find (own).
 use Rattle.std.specs.Prelude.{ℕ, pos, ◌≡◌, ◌≢◌, ◌⊎◌, ◌<◌, List, [], ◌∷◌, ◌++◌, All, length, codes, flat_map, Option, None, Some}
 use Rattle.gj_frac.specs.declared.Frac.{Frac}
-use Rattle.gj_frac.specs.Fraction.{Is}
+use Rattle.gj_frac.specs.Fraction.{IsRatio}
 use Rattle.gj_lex.specs.declared.reason.Reason.{Reason}
 use Rattle.gj_lex.specs.declared.reason.Reason.TheVariants as reason
 use Rattle.gj_shape.specs.Given.{IsOrder, IsPlace, IsSmall, HasCommonDenominator}
@@ -50,7 +50,7 @@ BreaksFraction front text e =
 pub record HasPlace (text : List ℕ) (q k : ℕ) (rest : List ℕ) : Type 0 where
   pub place : Frac
   pub place_fits : IsPlace q k
-  pub place_is : Is place (pos k) (pos q)
+  pub place_is : IsRatio place (pos k) (pos q)
   pub spelled : text ≡ place_line place ++ rest
 
 -- the text begins with the lines of a claim, an order and a place
@@ -58,7 +58,7 @@ pub record HasHead (text : List ℕ) (c : ClaimWord) (q k : ℕ) (rest : List �
   pub order_fits : IsOrder q
   pub place : Frac
   pub place_fits : IsPlace q k
-  pub place_is : Is place (pos k) (pos q)
+  pub place_is : IsRatio place (pos k) (pos q)
   pub spelled : text ≡ claim_lines c ++ (order_line q ++ (place_line place ++ rest))
 
 -- the text begins with the point lines of these points, which pass all tests

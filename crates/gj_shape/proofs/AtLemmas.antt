@@ -4,7 +4,7 @@ use Rattle.std.proofs.lemmas.List.{get_or_read}
 use Rattle.std.proofs.Math.Nat.{mod-eq_of_lt, mod-mod, add-mod_right, add-mul-mod_self_right}
 use Rattle.std.proofs.lemmas.Nat.{mod_below}
 use Rattle.std.proofs.lemmas.List.Elements.{All-get_or}
-use Rattle.gj_shape.specs.FunctionData.{FunctionData, IsWithinLimits, IsSmallOver, at}
+use Rattle.gj_shape.specs.FunctionData.{FunctionData, IsWithinBounds, IsSmallOver, at}
 
 -- at an index below the length it is the entry there
 pub at_below : (xs : List ℤ) (i : ℕ) → i < length xs → at xs i ≡ get_or xs i (pos 0)
@@ -38,17 +38,17 @@ unfolding at
 all_at P xs i some h = All-get_or P xs (i % length xs) (pos 0) (mod_below i (length xs) some) h
 
 -- limits and values are at most 2^20 in absolute value, at any index
-pub at_left_small : (f : FunctionData) (i : ℕ) → IsWithinLimits f → unsigned_abs (at f.left i) ≤ 2 ^ 20 * f.scale
+pub at_left_small : (f : FunctionData) (i : ℕ) → IsWithinBounds f → unsigned_abs (at f.left i) ≤ 2 ^ 20 * f.scale
 at_left_small f i h =
     let some : 0 < length f.left = omega (arith, h.left_length, h.order_low) in
     all_at (IsSmallOver f.scale) f.left i some h.left_small
 
-pub at_value_small : (f : FunctionData) (i : ℕ) → IsWithinLimits f → unsigned_abs (at f.value i) ≤ 2 ^ 20 * f.scale
+pub at_value_small : (f : FunctionData) (i : ℕ) → IsWithinBounds f → unsigned_abs (at f.value i) ≤ 2 ^ 20 * f.scale
 at_value_small f i h =
     let some : 0 < length f.value = omega (arith, h.value_length, h.order_low) in
     all_at (IsSmallOver f.scale) f.value i some h.value_small
 
-pub at_right_small : (f : FunctionData) (i : ℕ) → IsWithinLimits f → unsigned_abs (at f.right i) ≤ 2 ^ 20 * f.scale
+pub at_right_small : (f : FunctionData) (i : ℕ) → IsWithinBounds f → unsigned_abs (at f.right i) ≤ 2 ^ 20 * f.scale
 at_right_small f i h =
     let some : 0 < length f.right = omega (arith, h.right_length, h.order_low) in
     all_at (IsSmallOver f.scale) f.right i some h.right_small

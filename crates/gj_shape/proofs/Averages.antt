@@ -3,8 +3,8 @@ use Rattle.std.proofs.Common.{◌≡◌, ℕ, ◌*◌, ◌%◌, ◌<◌, ◌≤�
 use Rattle.std.proofs.Math.Nat.{mul-le-mul_right, mul-le-mul_left, mul-pos}
 use Rattle.std.proofs.lemmas.Int.{ints, unsigned_abs-mul}
 use Rattle.gj_frac.specs.declared.Frac.{Frac}
-use Rattle.gj_frac.proofs.Integers.{abs_add_z}
-use Rattle.gj_shape.specs.FunctionData.{FunctionData, IsWithinLimits, at}
+use Rattle.gj_tools.proofs.Integers.{abs_add_z}
+use Rattle.gj_shape.specs.FunctionData.{FunctionData, IsWithinBounds, at}
 use Rattle.gj_shape.specs.Given.{IsSmall, IsGivenBy}
 use Rattle.gj_shape.specs.Derived.{half_sum, AreHalfSums, IsAverageOf, AreOver}
 use Rattle.gj_shape.proofs.AtLemmas.{at_wrapped, at_left_small, at_value_small, at_right_small}
@@ -50,7 +50,7 @@ weighted_small x y s o h k =
     omega arith
 
 -- the half sums of two functions are small
-pub half_sums_small : (f g : FunctionData) (l v r : List Frac) → IsWithinLimits f → IsWithinLimits g → AreHalfSums f g l v r →
+pub half_sums_small : (f g : FunctionData) (l v r : List Frac) → IsWithinBounds f → IsWithinBounds g → AreHalfSums f g l v r →
     All IsSmall l × All IsSmall v × All IsSmall r
 half_sums_small f g l v r h k are =
     let some : 0 < 2 * (f.scale * g.scale) = let p = mul-pos h.scale_low k.scale_low in omega arith in (
@@ -60,7 +60,7 @@ half_sums_small f g l v r h k are =
     )
 
 -- the function that the half sums give is the average
-pub average_from_given : (f g h : FunctionData) (l v r : List Frac) → IsWithinLimits f → IsWithinLimits g → f.order ≡ g.order →
+pub average_from_given : (f g h : FunctionData) (l v r : List Frac) → IsWithinBounds f → IsWithinBounds g → f.order ≡ g.order →
     AreHalfSums f g l v r → IsGivenBy f.order f.place l v r h → IsAverageOf f g h
 average_from_given f g h l v r first second same are given =
     let n = f.order in

@@ -7,9 +7,9 @@ use Rattle.std.proofs.lemmas.List.{length-map, get_or-map, get_or_default, get_o
 use Rattle.std.proofs.lemmas.List.Elements.{All-head, All-same, All-drop}
 use Rattle.std.specs.Int.{◌∣◌}
 use Rattle.gj_frac.specs.declared.Frac.{Frac}
-use Rattle.gj_frac.specs.Fraction.{Is, numerator, denominator}
-use Rattle.gj_frac.proofs.Integers.{mul_assoc_z, pos_abs_z}
-use Rattle.gj_frac.proofs.Ring.{by_ring, ring}
+use Rattle.gj_frac.specs.Fraction.{IsRatio, numerator, denominator}
+use Rattle.gj_tools.proofs.Integers.{mul_assoc_z, pos_abs_z}
+use Rattle.gj_tools.proofs.Ring.{by_ring, ring}
 use Rattle.gj_shape.specs.FunctionData.{FunctionData, at}
 use Rattle.gj_shape.specs.Given.{in_order, IsSmall, IsCommonDenominator, IsOrder, IsPlace, HaveLength, IsTooLarge, HasFault, IsGivenBy, numerator_over}
 use Rattle.gj_shape.specs.Derived.{AreOver, IsTooFineOf}
@@ -22,18 +22,18 @@ use Rattle.gj_shape.proofs.InOrder.{all_in_order}
 
 -- one more fraction
 pub are_over_push : (t : ℕ → ℤ) (s : ℕ) (xs : List Frac) (x : Frac) (n : ℕ) → length xs ≡ n → AreOver t s xs →
-    Is x (t n) (pos s) → AreOver t s (xs ++ x ∷ [])
+    IsRatio x (t n) (pos s) → AreOver t s (xs ++ x ∷ [])
 are_over_push t s xs x n e are is i d within =
     let more = length_push xs x in
-    let P : ℕ → Type 0 = λ k. (y : Frac) → Is (get_or (xs ++ x ∷ []) k y) (t k) (pos s) in
+    let P : ℕ → Type 0 = λ k. (y : Frac) → IsRatio (get_or (xs ++ x ∷ []) k y) (t k) (pos s) in
     let before : (k : ℕ) → k < n → P k = λ k h y.
     let small : k < length xs = omega arith in
-    subst (λ z. Is z (t k) (pos s)) (sym (get_or_append_left xs (x ∷ []) y k small)) (are k y small) in
-    let here : P n = λ y. subst (λ z. Is z (t n) (pos s)) (sym (ap (λ k. get_or (xs ++ x ∷ []) k y) (sym e) ∙ get_or-append_seam xs x [] y)) is in
+    subst (λ z. IsRatio z (t k) (pos s)) (sym (get_or_append_left xs (x ∷ []) y k small)) (are k y small) in
+    let here : P n = λ y. subst (λ z. IsRatio z (t n) (pos s)) (sym (ap (λ k. get_or (xs ++ x ∷ []) k y) (sym e) ∙ get_or-append_seam xs x [] y)) is in
     below_more P n before here i (omega arith) d
 
 -- a fraction n/d is small where n is at most 2^20 d
-is_small : (x : Frac) (n : ℤ) (d : ℕ) → 0 < d → unsigned_abs n ≤ 2 ^ 20 * d → Is x n (pos d) → IsSmall x
+is_small : (x : Frac) (n : ℤ) (d : ℕ) → 0 < d → unsigned_abs n ≤ 2 ^ 20 * d → IsRatio x n (pos d) → IsSmall x
 is_small x n d some small is =
     let b = unsigned_abs (denominator x) in
     let sizes : unsigned_abs (numerator x) * d ≡ unsigned_abs n * b =
@@ -77,7 +77,7 @@ move_factor_z : (x c d : ℤ) → x *ℤ c *ℤ d ≡ x *ℤ d *ℤ c
 move_factor_z x c d = by_ring (x ∷ c ∷ d ∷ []) (search ring depth 20) refl
 
 -- the numerator of n/d over a common denominator
-numerator_is : (x : Frac) (n : ℤ) (d scale : ℕ) → unsigned_abs (denominator x) ∣ scale → Is x n (pos d) →
+numerator_is : (x : Frac) (n : ℤ) (d scale : ℕ) → unsigned_abs (denominator x) ∣ scale → IsRatio x n (pos d) →
     numerator_over scale x *ℤ pos d ≡ n *ℤ pos scale
 numerator_is x n d scale divides is =
     let b = unsigned_abs (denominator x) in

@@ -7,10 +7,10 @@ use Rattle.std.proofs.lemmas.List.{take_at, drop_at, append_assoc, length_push}
 use Rattle.std.specs.Int.{◌∣◌}
 use Rattle.gj_frac.specs.declared.Frac.{Frac}
 use Rattle.gj_frac.specs.Fraction.{denominator}
-use Rattle.gj_frac.proofs.Integers.{abs_positive_z}
-use Rattle.gj_frac.proofs.Divisors.{lcm_positive}
+use Rattle.gj_tools.proofs.Integers.{abs_positive_z}
+use Rattle.gj_tools.proofs.Divisors.{lcm_positive}
 use Rattle.gj_shape.specs.Given.{in_order, IsSmall, IsCommonDenominator, IsFirstFault}
-use Rattle.gj_shape.specs.Denominators.{Widens, IsLeastDenominator, IsRefused, IsFaultIn}
+use Rattle.gj_shape.specs.Denominators.{Extends, IsLeastDenominator, IsRefused, IsFaultIn}
 use Rattle.gj_shape.proofs.InOrder.{before, length-before, before_next, place_of_index, StandAt}
 use Rattle.gj_shape.specs.declared.faults.ShapeFault.{ShapeFault}
 use Rattle.gj_shape.specs.declared.faults.ShapeFault.TheVariants as fault
@@ -45,7 +45,7 @@ common_last xs x m h =
     (All-drop (Divides m) (length xs) (xs ++ x ∷ []) h))
 
 -- one more fraction
-pub least_with_next : (xs : List Frac) (x : Frac) (scale m : ℕ) → IsLeastDenominator xs scale → Widens scale x m →
+pub least_with_next : (xs : List Frac) (x : Frac) (scale m : ℕ) → IsLeastDenominator xs scale → Extends scale x m →
     IsLeastDenominator (xs ++ x ∷ []) m
 least_with_next xs x scale m h next = record {
   small = All-push IsSmall xs x h.small next.small;

@@ -1,7 +1,7 @@
 -- How the code reads the numerators of a function.
 use Rattle.std.proofs.Common.{◌≡◌, ℕ, ◌%◌, ◌<◌, ◌^◌, ℤ, pos, List, length, get_or, unsigned_abs, FitsSigned, to_z, of_z, w64, sym, ap, ap₂, ◌∙◌, arith}
 use Rattle.std.proofs.lemmas.Int.{ints, to_z-of_z}
-use Rattle.gj_shape.specs.FunctionData.{FunctionData, IsWithinLimits, IsSmallOver, at}
+use Rattle.gj_shape.specs.FunctionData.{FunctionData, IsWithinBounds, IsSmallOver, at}
 use Rattle.gj_shape.proofs.AtLemmas.{at_below, at_left_small, at_value_small, at_right_small}
 
 -- ---- a numerator has 51 bits
@@ -10,13 +10,13 @@ small_below : (n : ℤ) (scale : ℕ) → IsSmallOver scale n → scale < 2 ^ 31
 small_below n scale small high = omega arith
 
 -- so has each at any index
-pub left_below : (f : FunctionData) (i : ℕ) → IsWithinLimits f → unsigned_abs (at f.left i) < 2 ^ 51
+pub left_below : (f : FunctionData) (i : ℕ) → IsWithinBounds f → unsigned_abs (at f.left i) < 2 ^ 51
 left_below f i h = small_below (at f.left i) f.scale (at_left_small f i h) h.scale_high
 
-pub value_below : (f : FunctionData) (i : ℕ) → IsWithinLimits f → unsigned_abs (at f.value i) < 2 ^ 51
+pub value_below : (f : FunctionData) (i : ℕ) → IsWithinBounds f → unsigned_abs (at f.value i) < 2 ^ 51
 value_below f i h = small_below (at f.value i) f.scale (at_value_small f i h) h.scale_high
 
-pub right_below : (f : FunctionData) (i : ℕ) → IsWithinLimits f → unsigned_abs (at f.right i) < 2 ^ 51
+pub right_below : (f : FunctionData) (i : ℕ) → IsWithinBounds f → unsigned_abs (at f.right i) < 2 ^ 51
 right_below f i h = small_below (at f.right i) f.scale (at_right_small f i h) h.scale_high
 
 -- ---- as the code has it

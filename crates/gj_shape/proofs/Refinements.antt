@@ -3,10 +3,10 @@ use Rattle.std.proofs.Common.{◌≡◌, ℕ, zero, suc, ◌+◌, ◌-◌, ◌*�
 use Rattle.std.proofs.Math.Nat.{mul-le-mul_right, mul-le-mul_left, mul-lt-mul_of_pos_right, mul-pos, mod-lt, mod-mod, div-add-mod'}
 use Rattle.std.proofs.lemmas.Int.{unsigned_abs-mul}
 use Rattle.gj_frac.specs.declared.Frac.{Frac}
-use Rattle.gj_frac.proofs.Integers.{abs_add_z}
-use Rattle.gj_frac.proofs.Quotients.{same_at_rest, next_place_low, next_place_high}
-use Rattle.gj_frac.proofs.Ring.{by_ring, ring}
-use Rattle.gj_shape.specs.FunctionData.{FunctionData, IsWithinLimits, at}
+use Rattle.gj_tools.proofs.Integers.{abs_add_z}
+use Rattle.gj_tools.proofs.Quotients.{same_at_remainder, next_place_low, next_place_high}
+use Rattle.gj_tools.proofs.Ring.{by_ring, ring}
+use Rattle.gj_shape.specs.FunctionData.{FunctionData, IsWithinBounds, at}
 use Rattle.gj_shape.specs.Table.{table}
 use Rattle.gj_shape.specs.Given.{IsSmall, IsOrder, IsPlace, IsGivenBy}
 use Rattle.gj_shape.specs.Derived.{entry_or_value, refined, AreRefined, IsRefinement}
@@ -19,17 +19,17 @@ use Rattle.gj_shape.proofs.ValueLemmas.{entry_of_values}
 
 -- ---- a refined list
 
-entry_or_value_period : (f : FunctionData) (xs : List ℤ) (m a r : ℕ) → IsWithinLimits f → length xs ≡ f.order →
+entry_or_value_period : (f : FunctionData) (xs : List ℤ) (m a r : ℕ) → IsWithinBounds f → length xs ≡ f.order →
     entry_or_value f xs m (a + f.order) r ≡ entry_or_value f xs m a r
 entry_or_value_period f xs m a zero h e = ap (λ z. pos m *ℤ z) (at_plus_order xs a f.order e)
 entry_or_value_period f xs m a (suc r) h e = entry_period f m a (suc r) h
 
 -- it goes by the rest of the index
-refined_rest : (f : FunctionData) (xs : List ℤ) (m i : ℕ) → 0 < m → IsWithinLimits f → length xs ≡ f.order →
+refined_rest : (f : FunctionData) (xs : List ℤ) (m i : ℕ) → 0 < m → IsWithinBounds f → length xs ≡ f.order →
     refined f xs m (i % (f.order * m)) ≡ refined f xs m i
 refined_rest f xs m i some h e =
     let n = f.order * m in
-    same_at_rest (refined f xs m) n
+    same_at_remainder (refined f xs m) n
     (λ j. period_of_parts (entry_or_value f xs m) f.order m j some (λ a r. entry_or_value_period f xs m a r h e))
     (i % n) i (mod-mod i n)
 
@@ -40,7 +40,7 @@ product_small m k x h =
     let scaled = mul-le-mul_left m h in
     omega arith
 
-entry_small : (f : FunctionData) (xs : List ℤ) (m a r : ℕ) → IsWithinLimits f →
+entry_small : (f : FunctionData) (xs : List ℤ) (m a r : ℕ) → IsWithinBounds f →
     ((i : ℕ) → unsigned_abs (at xs i) ≤ 2 ^ 20 * f.scale) → r < m →
     unsigned_abs (entry_or_value f xs m a r) ≤ m * (2 ^ 20 * f.scale)
 entry_small f xs m a zero h small below = product_small m _ (at xs a) (small a)
@@ -54,7 +54,7 @@ entry_small f xs m a (suc r) h small below =
     let sum = abs_add_z x y in
     omega arith
 
-refined_small : (f : FunctionData) (xs : List ℤ) (m i : ℕ) → 0 < m → IsWithinLimits f →
+refined_small : (f : FunctionData) (xs : List ℤ) (m i : ℕ) → 0 < m → IsWithinBounds f →
     ((j : ℕ) → unsigned_abs (at xs j) ≤ 2 ^ 20 * f.scale) → unsigned_abs (refined f xs m i) ≤ 2 ^ 20 * (f.scale * m)
 refined_small f xs m i some h small =
     let size = entry_small f xs m (i / m) (i % m) h small (mod-lt i some) in
@@ -62,7 +62,7 @@ refined_small f xs m i some h small =
     omega arith
 
 -- the table on the grid of order m is at most 2^20 over the scale times m
-pub table_small : (f : FunctionData) (m i : ℕ) → 0 < m → IsWithinLimits f →
+pub table_small : (f : FunctionData) (m i : ℕ) → 0 < m → IsWithinBounds f →
     unsigned_abs (table f m i) ≤ 2 ^ 20 * (f.scale * m)
 unfolding table
 table_small f m i some h =
@@ -70,7 +70,7 @@ table_small f m i some h =
     (refined_small f f.value m i some h (λ j. at_value_small f j h))
 
 -- the refined lists of a function are small
-pub refined_all_small : (f : FunctionData) (m : ℕ) (l v r : List Frac) → 0 < m → IsWithinLimits f → AreRefined f m l v r →
+pub refined_all_small : (f : FunctionData) (m : ℕ) (l v r : List Frac) → 0 < m → IsWithinBounds f → AreRefined f m l v r →
     All IsSmall l × All IsSmall v × All IsSmall r
 refined_all_small f m l v r m_some h are =
     let some : 0 < f.scale * m = mul-pos h.scale_low m_some in (
@@ -218,7 +218,7 @@ same_everywhere f g t m i t_some m_some lists =
     (some_or_none (i % m))
 
 -- the function that the refined lists give is the refinement
-pub refinement_from_given : (f g : FunctionData) (t : ℕ) (l v r : List Frac) → 0 < t → IsWithinLimits f → AreRefined f t l v r →
+pub refinement_from_given : (f g : FunctionData) (t : ℕ) (l v r : List Frac) → 0 < t → IsWithinBounds f → AreRefined f t l v r →
     IsGivenBy (f.order * t) (f.place * t) l v r g → IsRefinement f t g
 refinement_from_given f g t l v r t_some h are given =
     let n = f.order * t in

@@ -2,11 +2,11 @@
 use Rattle.std.proofs.Common.{◌≡◌, ℕ, zero, suc, ◌+◌, ◌-◌, ◌*◌, ◌/◌, ◌%◌, ◌<◌, ℤ, pos, ◌+ℤ◌, ◌*ℤ◌, List, [], ◌∷◌, length, map, sym, ap, ap₂, subst, ◌∙◌, refl, arith}
 use Rattle.std.proofs.lemmas.Nat.{div-mul-add, mod-mul-add}
 use Rattle.std.proofs.Math.Nat.{div-one, mod-one, mul-div_left, mul-mod_left, div-add-mod', mod-lt, zero-mul, mul-lt-mul_of_pos_right}
-use Rattle.gj_frac.proofs.Integers.{one_mul_z}
-use Rattle.gj_frac.proofs.Quotients.{parts_of_place}
-use Rattle.gj_frac.proofs.Ring.{by_ring, ring}
+use Rattle.gj_tools.proofs.Integers.{one_mul_z}
+use Rattle.gj_tools.proofs.Quotients.{parts_of_place}
+use Rattle.gj_tools.proofs.Ring.{by_ring, ring}
 use Rattle.gj_shape.proofs.AtLemmas.{at_plus_length}
-use Rattle.gj_shape.specs.FunctionData.{FunctionData, IsWithinLimits, IsContinuous, at}
+use Rattle.gj_shape.specs.FunctionData.{FunctionData, IsWithinBounds, IsContinuous, at}
 use Rattle.gj_shape.specs.Table.{table, entry}
 use Rattle.gj_shape.specs.Faces.{corners_of, slack_from, limits_of}
 use Rattle.gj_shape.specs.declared.faces.FaceKind.{FaceKind}
@@ -43,7 +43,7 @@ table_parts f m i a r e below = let parts = parts_of_place i a m r e below in ap
 pub at_plus_order : (xs : List ℤ) (i n : ℕ) → length xs ≡ n → at xs (i + n) ≡ at xs i
 at_plus_order xs i n e = subst (λ (k : ℕ). at xs (i + k) ≡ at xs i) e (at_plus_length xs i)
 
-pub entry_period : (f : FunctionData) (m a r : ℕ) → IsWithinLimits f → entry f m (a + f.order) r ≡ entry f m a r
+pub entry_period : (f : FunctionData) (m a r : ℕ) → IsWithinBounds f → entry f m (a + f.order) r ≡ entry f m a r
 entry_period f m a zero h = ap (λ z. pos m *ℤ z) (at_plus_order f.value a f.order h.value_length)
 entry_period f m a (suc r) h =
     let next : a + f.order + 1 ≡ a + 1 + f.order = omega arith in
@@ -59,7 +59,7 @@ period_of_parts e q m i some step =
     ap₂ e parts.0 parts.1 ∙ step (i / m) (i % m)
 
 -- the table has the order of its grid as a period
-pub table_period : (f : FunctionData) (m i : ℕ) → 0 < m → IsWithinLimits f → table f m (i + f.order * m) ≡ table f m i
+pub table_period : (f : FunctionData) (m i : ℕ) → 0 < m → IsWithinBounds f → table f m (i + f.order * m) ≡ table f m i
 unfolding table
 table_period f m i some h = period_of_parts (entry f m) f.order m i some (λ a r. entry_period f m a r h)
 

@@ -4,10 +4,10 @@ use Rattle.std.proofs.Math.Nat.{div-add-mod', mod-lt}
 use Rattle.std.proofs.lemmas.Int.{ints}
 use Rattle.std.specs.Int.{int_rem_euclid}
 use Rattle.gj_frac.specs.declared.Frac.{Frac}
-use Rattle.gj_frac.specs.Fraction.{Is, numerator, denominator}
-use Rattle.gj_frac.proofs.Integers.{add_mul_z}
-use Rattle.gj_frac.proofs.Quotients.{same_rest, same_at_rest}
-use Rattle.gj_shape.specs.FunctionData.{FunctionData, IsWithinLimits, at}
+use Rattle.gj_frac.specs.Fraction.{IsRatio, numerator, denominator}
+use Rattle.gj_tools.proofs.Integers.{add_mul_z}
+use Rattle.gj_tools.proofs.Quotients.{same_remainder, same_at_remainder}
+use Rattle.gj_shape.specs.FunctionData.{FunctionData, IsWithinBounds, at}
 use Rattle.gj_shape.specs.Derived.{entry_or_value}
 use Rattle.gj_shape.specs.Table.{table, entry}
 use Rattle.gj_shape.specs.Values.{IsCongruent, IsValueAt}
@@ -32,8 +32,8 @@ congruent_join i n j p (k, e) (l, g) =
 
 -- natural numbers that are congruent have one rest
 pub congruent_rests : (i j p : ℕ) → IsCongruent (pos i) (pos j) p → i % p ≡ j % p
-congruent_rests i j p (pos k, e) = same_rest i j 0 k p (omega (arith, ints))
-congruent_rests i j p (negsuc k, e) = same_rest i j (suc k) 0 p (omega (arith, ints))
+congruent_rests i j p (pos k, e) = same_remainder i j 0 k p (omega (arith, ints))
+congruent_rests i j p (negsuc k, e) = same_remainder i j (suc k) 0 p (omega (arith, ints))
 
 -- the entry of the list of values is the entry of the table
 pub entry_of_values : (f : FunctionData) (m a r : ℕ) → entry_or_value f f.value m a r ≡ entry f m a r
@@ -41,17 +41,17 @@ entry_of_values f m a zero = refl
 entry_of_values f m a (suc r) = refl
 
 -- what the table has at one index that is congruent to n is the value at n/(order d)
-pub value_from_place : (f : FunctionData) (n : ℤ) (d i : ℕ) (x : Frac) → IsWithinLimits f → 0 < d →
-    IsCongruent n (pos i) (f.order * d) → Is x (table f d i) (pos (f.scale * d)) → IsValueAt f n d x
+pub value_from_place : (f : FunctionData) (n : ℤ) (d i : ℕ) (x : Frac) → IsWithinBounds f → 0 < d →
+    IsCongruent n (pos i) (f.order * d) → IsRatio x (table f d i) (pos (f.scale * d)) → IsValueAt f n d x
 value_from_place f n d i x h some e is j k =
     let rests : j % (f.order * d) ≡ i % (f.order * d) = congruent_rests j i _ (congruent_join (pos j) n (pos i) _ k e) in
     let same : table f d i ≡ table f d j =
-    same_at_rest (table f d) (f.order * d) (λ a. table_period f d a some h) i j (sym rests) in
-    subst (λ t. Is x t (pos (f.scale * d))) same is
+    same_at_remainder (table f d) (f.order * d) (λ a. table_period f d a some h) i j (sym rests) in
+    subst (λ t. IsRatio x t (pos (f.scale * d))) same is
 
 -- the value at a point that is not negative, at its own index
 pub value_at_point : (f : FunctionData) (x y : Frac) (n d : ℕ) → IsPoint x n d →
-    IsValueAt f (numerator x *ℤ pos f.order) (unsigned_abs (denominator x)) y → Is y (value_of f n d) (pos (f.scale * d))
+    IsValueAt f (numerator x *ℤ pos f.order) (unsigned_abs (denominator x)) y → IsRatio y (value_of f n d) (pos (f.scale * d))
 value_at_point f x y n d point is =
     let at_point : IsValueAt f (pos n *ℤ pos f.order) d y =
     subst₂ (λ a b. IsValueAt f (a *ℤ pos f.order) (unsigned_abs b) y) point.top point.bottom is in
@@ -67,7 +67,7 @@ unfolding at
 at_by_rest xs i n e = ap (λ k. get_or xs (i % k) (pos 0)) e
 
 -- the value between two neighbouring multiples of 1/order
-pub entry_of_limits : (f : FunctionData) (xs : List ℤ) (m a r : ℕ) → IsWithinLimits f → 0 < r → a < f.order →
+pub entry_of_limits : (f : FunctionData) (xs : List ℤ) (m a r : ℕ) → IsWithinBounds f → 0 < r → a < f.order →
     entry_or_value f xs m a r ≡ pos (m - r) *ℤ get_or f.right a (pos 0) +ℤ pos r *ℤ get_or f.left ((a + 1) % f.order) (pos 0)
 entry_of_limits f xs m a zero h some below = absurd (omega arith)
 entry_of_limits f xs m a (suc r) h some below =

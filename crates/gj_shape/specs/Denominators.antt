@@ -20,7 +20,7 @@ pub record IsLeastDenominator (xs : List Frac) (m : ℕ) : Type 0 where
   pub least : (c : ℕ) → IsCommonDenominator xs c → m ∣ c
 
 -- m is the least common denominator of fractions with the least common denominator `scale` and of x
-pub record Widens (scale : ℕ) (x : Frac) (m : ℕ) : Type 0 where
+pub record Extends (scale : ℕ) (x : Frac) (m : ℕ) : Type 0 where
   pub small : IsSmall x
   pub least : IsLcm scale (unsigned_abs (denominator x)) m
   pub high : m < 2 ^ 31

@@ -1,7 +1,7 @@
 -- Functions made of other functions: the same function on a finer grid, and half the sum of two (own).
 use Rattle.std.specs.Prelude.{ℕ, ℤ, zero, suc, pos, ◌≡◌, ◌*◌, ◌/◌, ◌%◌, ◌<◌, ◌+ℤ◌, ◌*ℤ◌, List, length, slice_index_or}
 use Rattle.gj_frac.specs.declared.Frac.{Frac}
-use Rattle.gj_frac.specs.Fraction.{Is}
+use Rattle.gj_frac.specs.Fraction.{IsRatio}
 use Rattle.gj_shape.specs.FunctionData.{FunctionData, at}
 use Rattle.gj_shape.specs.Table.{table, entry}
 use Rattle.gj_shape.specs.Given.{HaveLength, IsTooFine}
@@ -10,7 +10,7 @@ use Rattle.gj_shape.specs.declared.faults.ShapeFault.TheVariants as fault
 
 -- the fraction at each index i is t i over s
 abbrev pub AreOver : (ℕ → ℤ) → ℕ → List Frac → Type 0
-AreOver t s xs = (i : ℕ) (x : Frac) → i < length xs → Is (slice_index_or xs i x) (t i) (pos s)
+AreOver t s xs = (i : ℕ) (x : Frac) → i < length xs → IsRatio (slice_index_or xs i x) (t i) (pos s)
 
 -- m times what stands at a/order + r/(order m): where r is 0 the entry of the list, else the value
 abbrev pub entry_or_value : FunctionData → List ℤ → ℕ → ℕ → ℕ → ℤ

@@ -2,7 +2,7 @@
 use Rattle.std.specs.Prelude.{ℕ, pos, ◌≡◌, ◌⊎◌, ◌+◌, ◌-◌, ◌*◌, ◌<◌, ◌≤◌, ◌+ℤ◌, ◌<ℤ◌, ◌≤ℤ◌, List, [], ◌∷◌, ◌++◌, length, map, sum, flat_map, get_or, All}
 use Rattle.std.specs.List.{range_with_len}
 use Rattle.gj_frac.specs.declared.Frac.{Frac}
-use Rattle.gj_frac.specs.Fraction.{Is}
+use Rattle.gj_frac.specs.Fraction.{IsRatio}
 use Rattle.gj_shape.specs.FunctionData.{FunctionData, at}
 use Rattle.gj_shape.specs.Table.{table}
 use Rattle.gj_shape.specs.Faces.{corners_of, limits_of}
@@ -69,7 +69,7 @@ pub record IsLeastFrom (m : ℕ) (P : ℕ → Type 0) (n : ℕ) : Type 0 where
 
 -- x is the point n/(order h)
 abbrev pub IsOnGrid : FunctionData → ℕ → ℕ → Frac → Type 0
-IsOnGrid f h n x = Is x (pos n) (pos (f.order * h))
+IsOnGrid f h n x = IsRatio x (pos n) (pos (f.order * h))
 
 -- the function is negative at the point n/(order h)
 abbrev pub IsNegativeOnGrid : FunctionData → ℕ → ℕ → Type 0

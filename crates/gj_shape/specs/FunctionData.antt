@@ -23,7 +23,7 @@ IsSmallOver scale n = unsigned_abs n ≤ 2 ^ 20 * scale
 
 -- what holds of each function: 2 to 1,000 pieces, f strictly between 0 and 1, values and limits of
 -- at most 2^20 over a common denominator of at most 2^31 - 1, and no smaller denominator serves
-pub record IsWithinLimits (f : FunctionData) : Type 0 where
+pub record IsWithinBounds (f : FunctionData) : Type 0 where
   pub order_low : 2 ≤ f.order
   pub order_high : f.order ≤ 1000
   pub place_low : 1 ≤ f.place

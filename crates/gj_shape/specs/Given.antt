@@ -3,7 +3,7 @@ use Rattle.std.specs.Prelude.{ℕ, ℤ, pos, ◌≡◌, ◌<◌, ◌≤◌, ◌*
 use Rattle.std.specs.Int.{◌∣◌}
 use Rattle.gj_frac.specs.declared.Frac.{Frac}
 use Rattle.gj_frac.specs.Fraction.{numerator, denominator}
-use Rattle.gj_shape.specs.FunctionData.{FunctionData, IsWithinLimits}
+use Rattle.gj_shape.specs.FunctionData.{FunctionData, IsWithinBounds}
 use Rattle.gj_shape.specs.declared.faults.ShapeFault.{ShapeFault}
 use Rattle.gj_shape.specs.declared.faults.ShapeFault.TheVariants as fault
 
@@ -73,4 +73,4 @@ pub record IsGivenBy (q k : ℕ) (left value right : List Frac) (f : FunctionDat
   pub left_is : f.left ≡ map (numerator_over f.scale) left
   pub value_is : f.value ≡ map (numerator_over f.scale) value
   pub right_is : f.right ≡ map (numerator_over f.scale) right
-  pub within : IsWithinLimits f
+  pub within : IsWithinBounds f

@@ -1,5 +1,5 @@
 -- How a `Shape` keeps a function: whole numbers over the least common denominator.
-use Rattle.gj_shape.specs.FunctionData.{FunctionData, IsWithinLimits}
+use Rattle.gj_shape.specs.FunctionData.{FunctionData, IsWithinBounds}
 use Rattle.gj_shape.specs.declared.shape.Shape.TheInside.{Inside}
 
 abbrev pub function_of : Inside → FunctionData
@@ -13,4 +13,4 @@ function_of s = record {
 }
 
 abbrev pub IsKept : Inside → Type 0
-IsKept s = IsWithinLimits (function_of s)
+IsKept s = IsWithinBounds (function_of s)

@@ -3,7 +3,7 @@ ghost use Rattle.std.specs.Prelude.{◌≡◌, ◌<◌, ◌≤◌, ◌^◌, ◌�
 ghost use Rattle.std.specs.Int.{IsGcd};
 ghost use Rattle.gj_frac.specs.Fraction.{denominator};
 ghost use Rattle.gj_shape.specs.Given.{in_order, IsSmall};
-ghost use Rattle.gj_shape.specs.Denominators.{IsLcm, Widens, IsLeastDenominator, IsRefused, IsFaultIn};
+ghost use Rattle.gj_shape.specs.Denominators.{IsLcm, Extends, IsLeastDenominator, IsRefused, IsFaultIn};
 
 use crate::faults::ShapeFault;
 use gj_frac::Frac;
@@ -51,9 +51,9 @@ fn small_denominator(x: Frac) -> Option<u32>
 ///
 /// `TooLarge` says that the fraction is above 2^20 in absolute value, and `TooFine` that it is not, but there is no
 /// common denominator up to 2^31 - 1; no other error comes.
-pub fn widened(scale: u32, x: Frac, index: u32) -> Result<u32, ShapeFault>
+pub fn extended(scale: u32, x: Frac, index: u32) -> Result<u32, ShapeFault>
     requires low { 0 < scale }
-    ensures least { IfOk result (Widens scale x) }
+    ensures least { IfOk result (Extends scale x) }
     ensures fault { IfErr result (IsRefused scale x index) }
 {
     if !is_small(x) {
@@ -86,9 +86,9 @@ pub(crate) fn common_denominator(
     let mut scale = 1;
     for i in 0..left.len() {
         let index = i as u32;
-        scale = widened(scale, left[i], index)?;
-        scale = widened(scale, value[i], index)?;
-        scale = widened(scale, right[i], index)?;
+        scale = extended(scale, left[i], index)?;
+        scale = extended(scale, value[i], index)?;
+        scale = extended(scale, right[i], index)?;
     }
     Ok(scale)
 }

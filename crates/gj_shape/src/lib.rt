@@ -12,7 +12,7 @@ mod shape;
 mod values;
 mod violations;
 
-pub use denominators::widened;
+pub use denominators::extended;
 pub use faces::{Face, FaceKind};
 pub use faults::ShapeFault;
 pub use laws::one_function_is_given;

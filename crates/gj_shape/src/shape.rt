@@ -1,7 +1,7 @@
 //! Functions of period 1 that are affine between neighbouring multiples of 1/q.
 ghost use Rattle.std.specs.Prelude.{◌≡◌, ◌<◌, ℕ, pos, IfOk, IfErr, IfSome, IfNone, IsTrue, ◌↔◌};
-ghost use Rattle.gj_frac.specs.Fraction.{Is};
-ghost use Rattle.gj_shape.specs.FunctionData.{IsWithinLimits, IsContinuous, IsJump, at};
+ghost use Rattle.gj_frac.specs.Fraction.{IsRatio};
+ghost use Rattle.gj_shape.specs.FunctionData.{IsWithinBounds, IsContinuous, IsJump, at};
 ghost use Rattle.gj_shape.specs.Given.{IsOrder, IsPlace};
 
 use crate::denominators::common_denominator;
@@ -82,7 +82,7 @@ impl Shape {
     /// The order q, from 2 to 1,000.
     pub fn order(&self) -> u32
         ensures value { result ≡ self.now.order }
-        ensures limits { IsWithinLimits self.now }
+        ensures limits { IsWithinBounds self.now }
     {
         self.order
     }
@@ -90,7 +90,7 @@ impl Shape {
     /// The place k of f = k/q, from 1 to q - 1.
     pub fn place(&self) -> u32
         ensures value { result ≡ self.now.place }
-        ensures limits { IsWithinLimits self.now }
+        ensures limits { IsWithinBounds self.now }
     {
         self.place
     }
@@ -98,7 +98,7 @@ impl Shape {
     /// The least common denominator of all values and limits, from 1 to 2^31 - 1.
     pub fn common_denominator(&self) -> i128
         ensures value { result ≡ pos self.now.scale }
-        ensures limits { IsWithinLimits self.now }
+        ensures limits { IsWithinBounds self.now }
     {
         i128::from(self.scale)
     }
@@ -106,7 +106,7 @@ impl Shape {
     /// The limit from the left at i/q.
     pub fn left(&self, i: u32) -> Frac
         requires { i < self.now.order }
-        ensures { Is result (at self.now.left i) (pos self.now.scale) }
+        ensures { IsRatio result (at self.now.left i) (pos self.now.scale) }
     {
         over(self.left[i as usize], self.scale)
     }
@@ -114,7 +114,7 @@ impl Shape {
     /// The value at i/q.
     pub fn value(&self, i: u32) -> Frac
         requires { i < self.now.order }
-        ensures { Is result (at self.now.value i) (pos self.now.scale) }
+        ensures { IsRatio result (at self.now.value i) (pos self.now.scale) }
     {
         over(self.value[i as usize], self.scale)
     }
@@ -122,7 +122,7 @@ impl Shape {
     /// The limit from the right at i/q.
     pub fn right(&self, i: u32) -> Frac
         requires { i < self.now.order }
-        ensures { Is result (at self.now.right i) (pos self.now.scale) }
+        ensures { IsRatio result (at self.now.right i) (pos self.now.scale) }
     {
         over(self.right[i as usize], self.scale)
     }
@@ -130,7 +130,7 @@ impl Shape {
     /// The limits from the left at 0, 1/q, .., (q - 1)/q, each times the common denominator.
     pub fn left_numerators(&self) -> &[i64]
         ensures value { result.now ≡ self.now.left }
-        ensures limits { IsWithinLimits self.now }
+        ensures limits { IsWithinBounds self.now }
     {
         self.left.as_slice()
     }
@@ -138,7 +138,7 @@ impl Shape {
     /// The values at 0, 1/q, .., (q - 1)/q, each times the common denominator.
     pub fn value_numerators(&self) -> &[i64]
         ensures value { result.now ≡ self.now.value }
-        ensures limits { IsWithinLimits self.now }
+        ensures limits { IsWithinBounds self.now }
     {
         self.value.as_slice()
     }
@@ -146,7 +146,7 @@ impl Shape {
     /// The limits from the right at 0, 1/q, .., (q - 1)/q, each times the common denominator.
     pub fn right_numerators(&self) -> &[i64]
         ensures value { result.now ≡ self.now.right }
-        ensures limits { IsWithinLimits self.now }
+        ensures limits { IsWithinBounds self.now }
     {
         self.right.as_slice()
     }

@@ -1,6 +1,6 @@
 //! The value of a function at a fraction.
 ghost use Rattle.std.specs.Prelude.{◌≡◌, ◌<◌, ◌≤◌, ◌*◌, ◌^◌, ℕ, ◌≢◌, pos, ◌*ℤ◌, ◌+ℤ◌, length, unsigned_abs};
-ghost use Rattle.gj_frac.specs.Fraction.{Is, numerator, denominator};
+ghost use Rattle.gj_frac.specs.Fraction.{IsRatio, numerator, denominator};
 ghost use Rattle.gj_shape.specs.Derived.{entry_or_value};
 ghost use Rattle.gj_shape.specs.Table.{table};
 ghost use Rattle.gj_shape.specs.Values.{IsCongruent, IsValueAt};
@@ -30,7 +30,7 @@ impl Shape {
         requires size { unsigned_abs (numerator x) ≤ 2 ^ 31 * unsigned_abs (denominator x) }
         ensures value { IsValueAt self.now (numerator x *ℤ pos self.now.order) (unsigned_abs (denominator x)) result }
         ensures not_negative { (n d : ℕ) → IsPoint x n d →
-            Is result (value_of self.now n d) (pos (self.now.scale * d)) }
+            IsRatio result (value_of self.now n d) (pos (self.now.scale * d)) }
     {
         self.value_on_grid(x.num() * i128::from(self.order()), x.den() as u64)
     }
@@ -99,7 +99,7 @@ pub(crate) fn fraction(numerator: i128, denominator: i128) -> Frac
     requires zero { unsigned_abs denominator ≢ 0 }
     requires numerator_fits { unsigned_abs numerator < 2 ^ 127 }
     requires denominator_fits { unsigned_abs denominator < 2 ^ 127 }
-    ensures { Is result numerator denominator }
+    ensures { IsRatio result numerator denominator }
 {
     Frac::new(numerator, denominator).unwrap()
 }

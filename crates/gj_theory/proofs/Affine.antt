@@ -1,7 +1,7 @@
 -- On each face of a grid the slack is the sum of its limits at the corners, each with a weight.
 use Rattle.std.proofs.Common.{◌≡◌, ℕ, zero, suc, ◌+◌, ◌-◌, ◌*◌, ◌<◌, ◌≤◌, ℤ, pos, ◌+ℤ◌, ◌-ℤ◌, ◌*ℤ◌, List, [], ◌∷◌, length, refl, ap, ap₂, sym, ◌∙◌, arith}
-use Rattle.gj_frac.proofs.Ring.{by_ring, ring}
-use Rattle.gj_shape.specs.FunctionData.{FunctionData, IsWithinLimits, at}
+use Rattle.gj_tools.proofs.Ring.{by_ring, ring}
+use Rattle.gj_shape.specs.FunctionData.{FunctionData, IsWithinBounds, at}
 use Rattle.gj_shape.specs.Table.{table}
 use Rattle.gj_shape.specs.Faces.{corners_of, limits_of}
 use Rattle.gj_shape.specs.FirstViolation.{near, first_coordinates, second_coordinates}
@@ -315,7 +315,7 @@ near_upper f a b (suc (suc zero)) h below low =
 near_upper f a b (suc (suc (suc c))) h below low = absurd (omega arith)
 
 -- on every face
-pub near_corner : (f : FunctionData) (kind : FaceKind) (a b c h : ℕ) → IsWithinLimits f →
+pub near_corner : (f : FunctionData) (kind : FaceKind) (a b c h : ℕ) → IsWithinBounds f →
     c < length (corners_of kind a b) → length (corners_of kind a b) ≤ h →
     table f h (near h c (first_coordinates kind a b)) +ℤ table f h (near h c (second_coordinates kind a b))
     ≡ table f h (near h c (first_coordinates kind a b) + near h c (second_coordinates kind a b))

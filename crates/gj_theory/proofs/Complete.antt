@@ -2,8 +2,8 @@
 use Rattle.std.proofs.Common.{◌≡◌, ℕ, ◌+◌, ◌-◌, ◌*◌, ◌%◌, ◌<◌, ◌≤◌, ℤ, pos, ◌+ℤ◌, ◌*ℤ◌, ◌≤ℤ◌, [], ◌∷◌, length, get_or, refl, ap, ap₂, sym, subst, ◌∙◌, arith}
 use Rattle.std.proofs.Math.Nat.{add-mod_right}
 use Rattle.std.proofs.lemmas.Int.{ints}
-use Rattle.gj_frac.proofs.Integers.{le_from_multiples_z}
-use Rattle.gj_shape.specs.FunctionData.{FunctionData, IsWithinLimits, at}
+use Rattle.gj_tools.proofs.Integers.{le_from_multiples_z}
+use Rattle.gj_shape.specs.FunctionData.{FunctionData, IsWithinBounds, at}
 use Rattle.gj_shape.specs.Faces.{corners_of, limits_of}
 use Rattle.gj_shape.specs.Table.{table, IsMinimal}
 use Rattle.gj_shape.specs.FirstViolation.{Test, Passes, PassesAll, near, first_coordinates, second_coordinates}
@@ -67,7 +67,7 @@ some_corners Upper a b = (omega arith, omega arith)
 excess : (s w : ℤ) {x : ℤ} → x ≡ s +ℤ w → s ≤ℤ x → pos 0 ≤ℤ w
 excess s w e h = omega (arith, ints)
 
-slack_limit : (f : FunctionData) → IsWithinLimits f → IsMinimal f → (kind : FaceKind) (a b c : ℕ) →
+slack_limit : (f : FunctionData) → IsWithinBounds f → IsMinimal f → (kind : FaceKind) (a b c : ℕ) →
     c < length (corners_of kind a b) → pos 0 ≤ℤ get_or (limits_of f kind a b) c (pos 0)
 slack_limit f l h kind a b c below =
     limit_from_near (length (limits_of f kind a b)) (get_or (limits_of f kind a b) c (pos 0))
@@ -116,7 +116,7 @@ symmetric_values f h i below =
 
 -- ---- all tests
 
-passes_each : (f : FunctionData) → IsWithinLimits f → IsMinimal f → (t : Test) → IsTestOf f t → Passes f t
+passes_each : (f : FunctionData) → IsWithinBounds f → IsMinimal f → (t : Test) → IsTestOf f t → Passes f t
 passes_each f l h zero_at_zero i = sym (table_of_order f 0) ∙ (h 1 (omega arith)).zero_at_zero
 passes_each f l h (nonnegative_at k) i =
     subst (λ z. pos 0 ≤ℤ z) (table_of_order f k) ((h 1 (omega arith)).nonnegative k)
@@ -126,5 +126,5 @@ passes_each f l h (symmetric_at k) i = symmetric_values f h k i
 passes_each f l h (symmetric_between k) i = symmetric_limits f h k i
 passes_each f l h (subadditive_at kind a b c) i = slack_limit f l h kind a b c i.2
 
-pub tests_from_minimal : (f : FunctionData) → IsWithinLimits f → IsMinimal f → PassesAll f
+pub tests_from_minimal : (f : FunctionData) → IsWithinBounds f → IsMinimal f → PassesAll f
 tests_from_minimal f l h = each_test f (Passes f) (passes_each f l h)

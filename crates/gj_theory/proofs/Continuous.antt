@@ -3,7 +3,7 @@ use Rattle.std.proofs.Common.{◌≡◌, ℕ, ◌+◌, ◌-◌, ◌%◌, ◌<◌
 use Rattle.std.proofs.Math.Nat.{mul-one, add-mod_right}
 use Rattle.std.proofs.lemmas.Int.{ints}
 use Rattle.std.proofs.lemmas.List.{get_or-map}
-use Rattle.gj_shape.specs.FunctionData.{FunctionData, IsWithinLimits, IsContinuous, at}
+use Rattle.gj_shape.specs.FunctionData.{FunctionData, IsWithinBounds, IsContinuous, at}
 use Rattle.gj_shape.specs.Faces.{corners_of, limits_of}
 use Rattle.gj_shape.specs.FirstViolation.{Test, Passes}
 use Rattle.gj_shape.specs.FirstViolation.Test.{zero_at_zero, nonnegative_at, nonnegative_after, nonnegative_before, symmetric_at, symmetric_between, subadditive_at}
@@ -67,5 +67,5 @@ test_passes f c h (symmetric_between i) below = (
 test_passes f c h (subadditive_at kind a b corner) below = limit_passes f c h kind a b corner below.2
 
 -- its table on every grid is minimal
-pub minimal_from_own_grid : (f : FunctionData) → IsWithinLimits f → IsContinuous f → IsMinimalOnGrid f 1 → IsMinimal f
+pub minimal_from_own_grid : (f : FunctionData) → IsWithinBounds f → IsContinuous f → IsMinimalOnGrid f 1 → IsMinimal f
 minimal_from_own_grid f l c h = minimal_from_tests f l (each_test f (Passes f) (test_passes f c (own_values f h)))

@@ -3,10 +3,10 @@ use Rattle.std.proofs.Common.{◌≡◌, ℕ, zero, suc, inl, inr, ◌+◌, ◌-
 use Rattle.std.proofs.Math.Nat.{mod-lt, mod-mod, mul-mod_left, mul-div_left, div-add-mod', mod-add-mod, add-mod-mod}
 use Rattle.std.proofs.lemmas.Bool.{cases_lt, cases_order}
 use Rattle.std.proofs.lemmas.Int.{ints}
-use Rattle.gj_frac.proofs.Integers.{mul_nonnegative_z}
-use Rattle.gj_frac.proofs.Quotients.{same_at_rest, parts_of_rest, place_sum_low, place_sum_high}
-use Rattle.gj_frac.proofs.Ring.{by_ring, ring}
-use Rattle.gj_shape.specs.FunctionData.{FunctionData, IsWithinLimits, at}
+use Rattle.gj_tools.proofs.Integers.{mul_nonnegative_z}
+use Rattle.gj_tools.proofs.Quotients.{same_at_remainder, parts_of_remainder, place_sum_low, place_sum_high}
+use Rattle.gj_tools.proofs.Ring.{by_ring, ring}
+use Rattle.gj_shape.specs.FunctionData.{FunctionData, IsWithinBounds, at}
 use Rattle.gj_shape.specs.Faces.{limits_of}
 use Rattle.gj_shape.specs.Table.{table, IsMinimalOnGrid, IsMinimal}
 use Rattle.gj_shape.specs.FirstViolation.{Test, Passes, PassesAll}
@@ -46,14 +46,14 @@ nonnegative_sum u r x y p q =
     omega (arith, ints)
 
 -- the limit from the left at every index but the first is that at an index below the order
-left_nonnegative : (f : FunctionData) → IsWithinLimits f → PassesEach f → (i : ℕ) → pos 0 ≤ℤ at f.left (i + 1)
+left_nonnegative : (f : FunctionData) → IsWithinBounds f → PassesEach f → (i : ℕ) → pos 0 ≤ℤ at f.left (i + 1)
 left_nonnegative f l h i =
     let some : 0 < f.order = omega arith in
     let next : (i % f.order + 1) % f.order ≡ (i + 1) % f.order = mod-add-mod i f.order 1 in
     subst (λ z. pos 0 ≤ℤ z) (at_same f.left (i % f.order + 1) (i + 1) f.order l.left_length next)
     (h (nonnegative_before (i % f.order)) (mod-lt i some))
 
-sign_at : (f : FunctionData) → IsWithinLimits f → PassesEach f → (m i a : ℕ) → 0 < m → Place m i a →
+sign_at : (f : FunctionData) → IsWithinBounds f → PassesEach f → (m i a : ℕ) → 0 < m → Place m i a →
     pos 0 ≤ℤ table f m i
 sign_at f l h m i a some (at_multiple e) =
     let any : 0 < f.order = omega arith in
@@ -71,7 +71,7 @@ sign_at f l h m i a some (inside r u e whole u_some r_some) =
 -- ---- symmetry
 
 -- the limits at opposite places add up to 1: b + 1 is opposite to a
-limits_symmetric : (f : FunctionData) → IsWithinLimits f → PassesEach f → (a b : ℕ) →
+limits_symmetric : (f : FunctionData) → IsWithinBounds f → PassesEach f → (a b : ℕ) →
     (a + (b + 1)) % f.order ≡ f.place % f.order → at f.right a +ℤ at f.left (b + 1) ≡ pos f.scale
 limits_symmetric f l h a b e =
     let some : 0 < f.order = omega arith in
@@ -82,7 +82,7 @@ limits_symmetric f l h a b e =
     (opposite_index a (b + 1) f.place f.order some e) in
     ap₂ (λ x y. x +ℤ y) first second ∙ (h (symmetric_between c) (mod-lt a some)).0
 
-values_symmetric : (f : FunctionData) → IsWithinLimits f → PassesEach f → (a b : ℕ) →
+values_symmetric : (f : FunctionData) → IsWithinBounds f → PassesEach f → (a b : ℕ) →
     (a + b) % f.order ≡ f.place % f.order → at f.value a +ℤ at f.value b ≡ pos f.scale
 values_symmetric f l h =
     symmetric_everywhere f.value f.order f.place f.scale l.value_length (omega arith)
@@ -105,14 +105,14 @@ weighted_sum u r m s x x' y y' whole e g =
 opposite_parts : (i j k q m : ℕ) → 0 < q → 0 < m → (i + j) % (q * m) ≡ (k * m) % (q * m) →
     ((i + j) / m % q ≡ k % q) × ((i + j) % m ≡ 0)
 opposite_parts i j k q m q_some m_some e =
-    let sum = parts_of_rest (i + j) q m q_some m_some in
-    let place = parts_of_rest (k * m) q m q_some m_some in (
+    let sum = parts_of_remainder (i + j) q m q_some m_some in
+    let place = parts_of_remainder (k * m) q m q_some m_some in (
       sym sum.0 ∙ ap (λ n. n / m) e ∙ place.0 ∙ ap (λ n. n % q) (mul-div_left k m_some),
       sym sum.1 ∙ ap (λ n. n % m) e ∙ place.1 ∙ mul-mod_left k m,
     )
 
 -- opposite places are both at multiples of 1/order or both between them
-symmetric_low : (f : FunctionData) → IsWithinLimits f → PassesEach f → (m i j : ℕ) → 0 < m →
+symmetric_low : (f : FunctionData) → IsWithinBounds f → PassesEach f → (m i j : ℕ) → 0 < m →
     (i + j) / m % f.order ≡ f.place % f.order → (i + j) % m ≡ 0 → i % m + j % m < m →
     table f m i +ℤ table f m j ≡ pos (f.scale * m)
 symmetric_low f l h m i j some e rest low =
@@ -122,7 +122,7 @@ symmetric_low f l h m i j some e rest low =
     ap₂ (λ x y. x +ℤ y) (table_at_place f m i (i / m) first some) (table_at_place f m j (j / m) second some)
     ∙ scaled_sum m f.scale _ _ (values_symmetric f l h (i / m) (j / m) (ap (λ n. n % f.order) (sym parts.0) ∙ e))
 
-symmetric_high : (f : FunctionData) → IsWithinLimits f → PassesEach f → (m i j : ℕ) → 0 < m →
+symmetric_high : (f : FunctionData) → IsWithinBounds f → PassesEach f → (m i j : ℕ) → 0 < m →
     (i + j) / m % f.order ≡ f.place % f.order → (i + j) % m ≡ 0 → m ≤ i % m + j % m →
     table f m i +ℤ table f m j ≡ pos (f.scale * m)
 symmetric_high f l h m i j some e rest high =
@@ -144,7 +144,7 @@ symmetric_high f l h m i j some e rest high =
     ∙ weighted_sum s r m f.scale (at f.right a) (at f.left (a + 1)) (at f.right b) (at f.left (b + 1)) whole
     (limits_symmetric f l h a b there) (limits_symmetric f l h b a back)
 
-symmetric_places : (f : FunctionData) → IsWithinLimits f → PassesEach f → (m i j : ℕ) → 0 < m →
+symmetric_places : (f : FunctionData) → IsWithinBounds f → PassesEach f → (m i j : ℕ) → 0 < m →
     (i + j) % (f.order * m) ≡ (f.place * m) % (f.order * m) → table f m i +ℤ table f m j ≡ pos (f.scale * m)
 symmetric_places f l h m i j some e =
     let parts = opposite_parts i j f.place f.order m (omega arith) some e in
@@ -234,20 +234,20 @@ subadditive_in_square f h m i j a b some a_below b_below (inside r u e whole u_s
 subadditive_from_below : (t : ℕ → ℤ) (n : ℕ) → ((i : ℕ) → t (i + n) ≡ t i) →
     ((i j : ℕ) → t (i % n + j % n) ≤ℤ (t (i % n) +ℤ t (j % n))) → (i j : ℕ) → t (i + j) ≤ℤ (t i +ℤ t j)
 subadditive_from_below t n period h i j =
-    let first : t (i % n) ≡ t i = same_at_rest t n period (i % n) i (mod-mod i n) in
-    let second : t (j % n) ≡ t j = same_at_rest t n period (j % n) j (mod-mod j n) in
+    let first : t (i % n) ≡ t i = same_at_remainder t n period (i % n) i (mod-mod i n) in
+    let second : t (j % n) ≡ t j = same_at_remainder t n period (j % n) j (mod-mod j n) in
     let both : t (i % n + j % n) ≡ t (i + j) =
-    same_at_rest t n period (i % n + j % n) (i + j) (mod-add-mod i n (j % n) ∙ add-mod-mod i j n) in
+    same_at_remainder t n period (i % n + j % n) (i + j) (mod-add-mod i n (j % n) ∙ add-mod-mod i j n) in
     rw (← first, ← second, ← both) (h i j)
 
 -- the quotient of a place below the order of the grid
 square_of : (i q m : ℕ) → 0 < q → 0 < m → i % (q * m) / m < q
 square_of i q m q_some m_some =
-    let part = (parts_of_rest i q m q_some m_some).0 in
+    let part = (parts_of_remainder i q m q_some m_some).0 in
     let below = mod-lt (i / m) q_some in
     omega arith
 
-subadditive_places : (f : FunctionData) → IsWithinLimits f → PassesEach f → (m : ℕ) → 0 < m →
+subadditive_places : (f : FunctionData) → IsWithinBounds f → PassesEach f → (m : ℕ) → 0 < m →
     (i j : ℕ) → table f m (i + j) ≤ℤ (table f m i +ℤ table f m j)
 subadditive_places f l h m some =
     let n = f.order * m in
@@ -256,7 +256,7 @@ subadditive_places f l h m some =
     subadditive_in_square f h m (i % n) (j % n) (i % n / m) (j % n / m) some (square_of i f.order m any some)
     (square_of j f.order m any some) (place_of m (i % n) some) (place_of m (j % n) some))
 
-minimal_on_grid : (f : FunctionData) → IsWithinLimits f → PassesEach f → (m : ℕ) → 0 < m → IsMinimalOnGrid f m
+minimal_on_grid : (f : FunctionData) → IsWithinBounds f → PassesEach f → (m : ℕ) → 0 < m → IsMinimalOnGrid f m
 minimal_on_grid f l h m some = record {
   has_period = λ i. table_period f m i some l;
   zero_at_zero =
@@ -267,5 +267,5 @@ minimal_on_grid f l h m some = record {
 }
 
 -- where all tests pass the table on every grid is minimal
-pub minimal_from_tests : (f : FunctionData) → IsWithinLimits f → PassesAll f → IsMinimal f
+pub minimal_from_tests : (f : FunctionData) → IsWithinBounds f → PassesAll f → IsMinimal f
 minimal_from_tests f l h m some = minimal_on_grid f l (test_has f (Passes f) h) m some

@@ -3,9 +3,9 @@ use Rattle.std.proofs.Common.{◌≡◌, ◌≢◌, ℕ, zero, suc, ◌+◌, ◌
 use Rattle.std.proofs.Math.Nat.{mul_assoc, mul_comm, mul_right_comm, mul-pos, add-mul, le_of_mul-le-mul_right}
 use Rattle.std.proofs.lemmas.Int.{ints}
 use Rattle.gj_frac.specs.declared.Frac.{Frac}
-use Rattle.gj_frac.specs.Fraction.{Is}
-use Rattle.gj_frac.proofs.Integers.{mul_add_z, mul_cancel_left_z, mul_lt_mul_left_z, mul_lt_cancel_left_z}
-use Rattle.gj_frac.proofs.Ring.{by_ring, ring}
+use Rattle.gj_frac.specs.Fraction.{IsRatio}
+use Rattle.gj_tools.proofs.Integers.{mul_add_z, mul_cancel_left_z, mul_lt_mul_left_z, mul_lt_cancel_left_z}
+use Rattle.gj_tools.proofs.Ring.{by_ring, ring}
 use Rattle.gj_shape.specs.FunctionData.{FunctionData, at}
 use Rattle.gj_shape.specs.Table.{table}
 use Rattle.gj_shape.specs.FirstViolation.{IsOnGrid, IsNegativeOnGrid, IsSuperadditiveOnGrid}
@@ -31,7 +31,7 @@ pub record IsLowestPoint (x : Frac) (i q n d : ℕ) : Type 0 where
   pub equal : n * q ≡ i * d
 
 -- a fraction equal to i/q is a point n/d
-pub point_of : (x : Frac) (i q : ℕ) → 0 < q → Is x (pos i) (pos q) → (n d : ℕ) × IsLowestPoint x i q n d
+pub point_of : (x : Frac) (i q : ℕ) → 0 < q → IsRatio x (pos i) (pos q) → (n d : ℕ) × IsLowestPoint x i q n d
 point_of x i q some h =
     let parts = parts_of x.num x.den i q some x.lowest.positive h in (
       unsigned_abs x.num,

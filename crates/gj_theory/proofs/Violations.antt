@@ -5,7 +5,7 @@ use Rattle.std.proofs.Math.Nat.{mul-pos, add-mul}
 use Rattle.std.proofs.lemmas.Int.{ints}
 use Rattle.std.proofs.lemmas.List.Elements.{All-head}
 use Rattle.gj_frac.specs.declared.Frac.{Frac}
-use Rattle.gj_shape.specs.FunctionData.{FunctionData, IsWithinLimits, at}
+use Rattle.gj_shape.specs.FunctionData.{FunctionData, IsWithinBounds, at}
 use Rattle.gj_shape.specs.Table.{table, IsMinimal}
 use Rattle.gj_shape.specs.FirstViolation.{Test, Passes, Shows, IsOnGrid, MidpointsAgree, IsFirstViolation, near, first_coordinates, second_coordinates}
 use Rattle.gj_shape.specs.FirstViolation.Test.{zero_at_zero, nonnegative_at, nonnegative_after, nonnegative_before, symmetric_at, symmetric_between, subadditive_at}
@@ -101,13 +101,13 @@ shown_by f (subadditive_at kind a b c) v some i fails s =
     s.x s.y some h_some s.first s.second s.least.holds)
 
 -- the first violation is shown at its points
-pub first_shown : (f : FunctionData) (v : Violation) → IsWithinLimits f → IsFirstViolation f v → ShowsViolation f v
+pub first_shown : (f : FunctionData) (v : Violation) → IsWithinBounds f → IsFirstViolation f v → ShowsViolation f v
 first_shown f v l h = shown_by f h.test v (omega arith) (test_is_of f v h) h.fails h.shows
 
 -- ---- a violation denies minimality
 
 -- a function with a shown violation is not minimal
-pub violation_denies : (f : FunctionData) (v : Violation) → IsWithinLimits f → ShowsViolation f v → IsMinimal f → ⊥
+pub violation_denies : (f : FunctionData) (v : Violation) → IsWithinBounds f → ShowsViolation f v → IsMinimal f → ⊥
 violation_denies f violation.Zero l s h =
     s (ap (table f 1) (omega arith) ∙ (h 1 (omega arith)).zero_at_zero)
 violation_denies f (violation.Negative x) l (n, d, s) h =

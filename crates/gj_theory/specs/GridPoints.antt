@@ -1,14 +1,14 @@
 -- Points on a grid (own).
 use Rattle.std.specs.Prelude.{ℕ, pos, ◌*◌, ◌<◌}
 use Rattle.gj_frac.specs.declared.Frac.{Frac}
-use Rattle.gj_frac.specs.Fraction.{Is}
+use Rattle.gj_frac.specs.Fraction.{IsRatio}
 use Rattle.gj_shape.specs.FunctionData.{FunctionData}
 use Rattle.gj_shape.specs.declared.violations.Violation.{Violation}
 use Rattle.gj_shape.specs.declared.violations.Violation.TheVariants as violation
 
 -- x is one of the multiples of 1/(order h) from 0 to below 1
 abbrev pub IsGridPoint : FunctionData → ℕ → Frac → Type 0
-IsGridPoint f h x = (i : ℕ) × (i < f.order * h) × Is x (pos i) (pos (f.order * h))
+IsGridPoint f h x = (i : ℕ) × (i < f.order * h) × IsRatio x (pos i) (pos (f.order * h))
 
 -- the points of the violation are such multiples
 abbrev pub IsAtGridPoints : FunctionData → ℕ → Violation → Type 0

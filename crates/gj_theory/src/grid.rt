@@ -1,6 +1,6 @@
 //! The tests of minimality, and the tables on all grids.
 ghost use Rattle.std.specs.Prelude.{ℕ, pos, ◌≡◌, ◌+◌, ◌-◌, ◌*◌, ◌<◌, ◌≤◌, ◌+ℤ◌, [], ◌∷◌, length};
-ghost use Rattle.gj_shape.specs.FunctionData.{FunctionData, IsWithinLimits, IsContinuous, at};
+ghost use Rattle.gj_shape.specs.FunctionData.{FunctionData, IsWithinBounds, IsContinuous, at};
 ghost use Rattle.gj_shape.specs.Faces.{corners_of, limits_of};
 ghost use Rattle.gj_shape.specs.FirstViolation.{PassesAll, near, first_coordinates, second_coordinates};
 ghost use Rattle.gj_shape.specs.Table.{table, IsMinimalOnGrid, IsMinimal};
@@ -9,13 +9,13 @@ ghost use Rattle.gj_theory.specs.NearCorners.{near_value};
 
 /// The thirteen limits: all tests of minimality pass exactly where the function is minimal, its table on every grid.
 pub fn tests_say_minimal()
-    ensures sound { (f : FunctionData) → IsWithinLimits f → PassesAll f → IsMinimal f }
-    ensures complete { (f : FunctionData) → IsWithinLimits f → IsMinimal f → PassesAll f }
+    ensures sound { (f : FunctionData) → IsWithinBounds f → PassesAll f → IsMinimal f }
+    ensures complete { (f : FunctionData) → IsWithinBounds f → IsMinimal f → PassesAll f }
 {}
 
 /// A continuous function is minimal where the table on its own grid is: then the tables on all grids are.
 pub fn own_grid_suffices()
-    ensures { (f : FunctionData) → IsWithinLimits f → IsContinuous f → IsMinimalOnGrid f 1 → IsMinimal f }
+    ensures { (f : FunctionData) → IsWithinBounds f → IsContinuous f → IsMinimalOnGrid f 1 → IsMinimal f }
 {}
 
 /// Near the end of an open interval the values are affine between the limits at its ends.
@@ -28,7 +28,7 @@ pub fn values_near_ends()
 
 /// Near a corner of a face the slack is affine between the limits at its corners.
 pub fn slack_near_corners()
-    ensures { (f : FunctionData) (kind : FaceKind) (a b c h : ℕ) → IsWithinLimits f →
+    ensures { (f : FunctionData) (kind : FaceKind) (a b c h : ℕ) → IsWithinBounds f →
         c < length (corners_of kind a b) → length (corners_of kind a b) ≤ h →
         table f h (near h c (first_coordinates kind a b)) +ℤ table f h (near h c (second_coordinates kind a b))
         ≡ table f h (near h c (first_coordinates kind a b) + near h c (second_coordinates kind a b))

@@ -3,7 +3,7 @@ use Rattle.std.proofs.Common.{◌≡◌, ℕ, List, [], ◌++◌, codes, decimal
 use Rattle.std.proofs.lemmas.List.{append-nil}
 use Rattle.gj_lex.specs.declared.reason.Reason.{Reason}
 use Rattle.gj_lex.specs.Reason.{reason_word}
-use Rattle.gj_shape.specs.FunctionData.{FunctionData, IsWithinLimits}
+use Rattle.gj_shape.specs.FunctionData.{FunctionData, IsWithinBounds}
 use Rattle.gj_lines.specs.FunctionLines.{line}
 use Rattle.gj_ftext.specs.Lines.IsSkippedText.{nothing}
 use Rattle.gj_ftext.specs.FunctionText.{IsFunctionText, IsWholeFunctionText, IsCanonicalText}
@@ -43,7 +43,7 @@ pub done_reply : (c : Command) (input text written : List ℕ) (s : Status) → 
 done_reply c input text written s is same reply = subst₂ (IsReply c input) (sym is) (sym same) reply
 
 -- the printed text of a function is a whole function text of it
-canonical_is_whole : (f : FunctionData) (text : List ℕ) → IsWithinLimits f → IsCanonicalText text f → IsWholeFunctionText text f
+canonical_is_whole : (f : FunctionData) (text : List ℕ) → IsWithinBounds f → IsCanonicalText text f → IsWholeFunctionText text f
 canonical_is_whole f text within canonical = record {
   rest = [];
   function_text = subst (λ (t : List ℕ). IsFunctionText t f []) (append-nil text) (canonical_text_is_function_text f text [] within canonical);

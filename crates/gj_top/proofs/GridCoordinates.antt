@@ -4,9 +4,9 @@ use Rattle.std.specs.Int.{◌∣◌}
 use Rattle.std.proofs.lemmas.Int.{ints}
 use Rattle.std.proofs.lemmas.List.Elements.{All-nil, All-cons}
 use Rattle.gj_frac.specs.declared.Frac.{Frac}
-use Rattle.gj_frac.specs.Fraction.{Is, numerator, denominator}
-use Rattle.gj_frac.proofs.Divisors.{whole_multiple}
-use Rattle.gj_frac.proofs.Integers.{mul_le_cancel_right_z, mul_lt_cancel_right_z, mul_lt_mul_right_z, mul_nonnegative_z, mul_comm_z, pos_abs_z}
+use Rattle.gj_frac.specs.Fraction.{IsRatio, numerator, denominator}
+use Rattle.gj_tools.proofs.Divisors.{whole_multiple}
+use Rattle.gj_tools.proofs.Integers.{mul_le_cancel_right_z, mul_lt_cancel_right_z, mul_lt_mul_right_z, mul_nonnegative_z, mul_comm_z, pos_abs_z}
 use Rattle.gj_shape.specs.FunctionData.{FunctionData}
 use Rattle.gj_shape.specs.Violation.{ShowsViolation}
 use Rattle.gj_shape.specs.declared.violations.Violation.{Violation}
@@ -15,7 +15,7 @@ use Rattle.gj_theory.specs.GridPoints.{IsAtGridPoints}
 use Rattle.gj_proof.specs.Rules.{IsCoordinate, MeetsPoint}
 
 -- a multiple i/n with i below n is a coordinate
-coordinate : (n i : ℕ) (x : Frac) → i < n → Is x (pos i) (pos n) → IsCoordinate x
+coordinate : (n i : ℕ) (x : Frac) → i < n → IsRatio x (pos i) (pos n) → IsCoordinate x
 coordinate n i x below is =
     let some : pos 0 <ℤ pos n = omega (arith, ints) in
     let bottom = x.lowest.positive in
@@ -34,7 +34,7 @@ coordinate n i x below is =
     }
 
 -- its denominator divides n
-divides : (n i : ℕ) (x : Frac) → Is x (pos i) (pos n) → unsigned_abs (denominator x) ∣ n
+divides : (n i : ℕ) (x : Frac) → IsRatio x (pos i) (pos n) → unsigned_abs (denominator x) ∣ n
 divides n i x is =
     let bottom = x.lowest.positive in
     let bottom_le : pos 0 ≤ℤ denominator x = omega (arith, ints) in

@@ -1,6 +1,6 @@
 //! The answer to a command over an input that was read, before it is written.
 ghost use Rattle.std.specs.Prelude.{◌≡◌, ◌++◌, ℕ, List, codes, decimal, IfOk};
-ghost use Rattle.gj_shape.specs.FunctionData.{IsWithinLimits};
+ghost use Rattle.gj_shape.specs.FunctionData.{IsWithinBounds};
 ghost use Rattle.gj_lines.specs.FunctionLines.{line};
 ghost use Rattle.gj_proof.specs.ProofText.{IsKept, claim_word, function_of};
 ghost use Rattle.gj_top.specs.declared.command.Command.{Command};
@@ -77,7 +77,7 @@ fn show(alloc: Global, input: &[u8]) -> Result<Reply, AllocError>
 
 /// The claim that the function is minimal, or that it is not, with the first violation.
 fn claim_on(shape: Shape) -> Claim
-    requires { IsWithinLimits shape }
+    requires { IsWithinBounds shape }
     ensures claim { IsTrueClaim shape result }
     ensures function { function_of result ≡ shape }
 {

@@ -1,6 +1,6 @@
 use Rattle.std.proofs.Common.{◌≡◌, pos, ◌-ℤ◌, ◌*ℤ◌, to_z, of_z, ap₂, subst₂, ◌∙◌, rules}
 use mir.Syntax.{w128}
-use Rattle.gj_frac.specs.Fraction.{Is, numerator, denominator}
+use Rattle.gj_frac.specs.Fraction.{IsRatio, numerator, denominator}
 use Rattle.gj_check.proofs.ShownPoints.{one_fine, one_small}
 use Rattle.gj_check.proofs.Ratios.{difference_read}
 use Rattle.gj_check.proofs.points.scaled_opposite.Goals as goal
@@ -22,7 +22,7 @@ returns c =
     let bottom : to_z w128 (of_z w128 c.den-2.result) ≡ denominator c.args.x = search rules in
     let first = c.times.ensures.value ∙ ap₂ (λ a b. a *ℤ pos b) den c.place.ensures.value in
     let second = c.times-2.ensures.value ∙ ap₂ (λ a b. a *ℤ pos b) num c.order.ensures.value in
-    subst₂ (λ a b. Is c.ratio.result a b)
+    subst₂ (λ a b. IsRatio c.ratio.result a b)
     (difference_read c.times.result c.times-2.result c.times.ensures.fits c.times-2.ensures.fits
     ∙ ap₂ (λ a b. a -ℤ b) first second)
     bottom c.ratio.ensures

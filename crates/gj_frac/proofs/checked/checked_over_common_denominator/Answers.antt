@@ -1,7 +1,7 @@
 use Rattle.std.proofs.Common.{rules, ◌≡◌, ◌/◌, pos, unsigned_abs, to_z, of_z, ◌∙◌}
 use Rattle.std.proofs.lemmas.Int.{to_z-of_z}
 use Rattle.gj_frac.specs.Fits.{FitsTogether}
-use Rattle.gj_frac.proofs.Divisors.{gcd_exists}
+use Rattle.gj_tools.proofs.Divisors.{gcd_exists}
 use Rattle.gj_frac.proofs.Reduced.{read_part}
 use Rattle.gj_frac.proofs.Refusals.{on_err}
 use Rattle.gj_frac.proofs.checked.checked_over_common_denominator.Goals as goal

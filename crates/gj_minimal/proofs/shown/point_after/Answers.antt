@@ -1,6 +1,6 @@
 use Rattle.std.proofs.Common.{◌+◌, ◌*◌, ◌-◌, ℕ, pos, ◌+ℤ◌, ap₂, subst, ◌∙◌, arith}
 use Rattle.std.proofs.lemmas.Int.{ints}
-use Rattle.gj_frac.specs.Fraction.{Is}
+use Rattle.gj_frac.specs.Fraction.{IsRatio}
 use Rattle.gj_shape.proofs.NumeratorReadings.{small_read}
 use Rattle.gj_minimal.proofs.Readings.{sum_read}
 use Rattle.gj_minimal.proofs.NearPoints.{fine_near_end, one_point, shows_after}
@@ -28,7 +28,7 @@ returns-clause-shows c =
     c.left_at.ensures.small
     ∙ ap₂ (λ x y. x +ℤ y) c.right_at-limit.ensures.value c.left_at.ensures.value in
     shows_after f c.args.i h _ _ c.point_near.result limit_is total_is c.least_denominator-h.ensures.least
-    (subst (λ (q : ℕ). Is c.point_near.result (pos index) (pos (q * h))) c.order-order.ensures.value
+    (subst (λ (q : ℕ). IsRatio c.point_near.result (pos index) (pos (q * h))) c.order-order.ensures.value
     c.point_near.ensures.value)
 
 pub returns-clause-points : goal.returns-clause-points

@@ -1,5 +1,5 @@
 use Rattle.std.proofs.Common.{◌*◌, ℕ, pos, get_or, lit<, refl, sym, subst, subst₂, arith}
-use Rattle.gj_frac.specs.Fraction.{Is}
+use Rattle.gj_frac.specs.Fraction.{IsRatio}
 use Rattle.std.proofs.lemmas.Int.{by_lt_z}
 use Rattle.gj_shape.specs.Faces.{limits_of}
 use Rattle.gj_shape.specs.FirstViolation.{Passes, Shows}
@@ -19,7 +19,7 @@ returns-in-Value-clause-shows c =
     let x = c.grid_point.result in
     subst (λ failure. Shows f (test_of failure) (violation.Negative x)) (sym c.in-Value.is) (
       x,
-      subst₂ (λ (n q : ℕ). Is x (pos n) (pos (q * 1))) c.from.ensures c.order-order.ensures.value c.grid_point.ensures,
+      subst₂ (λ (n q : ℕ). IsRatio x (pos n) (pos (q * 1))) c.from.ensures c.order-order.ensures.value c.grid_point.ensures,
       refl,
     )
 
@@ -29,7 +29,7 @@ returns-in-Mirror-clause-shows c =
     let x = c.grid_point-in-Mirror.result in
     subst (λ failure. Shows f (test_of failure) (violation.Asymmetric x)) (sym c.in-Mirror.is) (
       x,
-      subst₂ (λ (n q : ℕ). Is x (pos n) (pos (q * 1))) c.from-in-Mirror.ensures c.order-order.ensures.value
+      subst₂ (λ (n q : ℕ). IsRatio x (pos n) (pos (q * 1))) c.from-in-Mirror.ensures c.order-order.ensures.value
           c.grid_point-in-Mirror.ensures,
       refl,
     )

@@ -16,8 +16,8 @@ returns-in_err-scale-clause-fault c =
     let p = err_from_is_err_and c.from_residual.result c.from_residual.ensures.1 in
     rw (p.1, p.2) (fault_left _ _ _ c.loop-i.i _ _ _ c.loop-i.scale _ at c.loop-i.invariant c.in_err-scale.ensures.fault)
 
-pub widened-requires-in-loop-i : goal.widened-requires-in-loop-i
-widened-requires-in-loop-i c =
+pub extended-requires-in-loop-i : goal.extended-requires-in-loop-i
+extended-requires-in-loop-i c =
     let a = least_with_next _ c.index-left-i.result _ _ c.loop-i.invariant c.in_ok-scale.ensures.least in
     record { low = a.low }
 
@@ -30,8 +30,8 @@ returns-in_err-scale-2-clause-fault c =
     let p = err_from_is_err_and c.from_residual-in_err-scale-2.result c.from_residual-in_err-scale-2.ensures.1 in
     rw (p.1, p.2) (fault_value _ _ _ c.loop-i.i _ _ _ _ _ at a c.in_err-scale-2.ensures.fault)
 
-pub widened-requires-in-loop-i-2 : goal.widened-requires-in-loop-i-2
-widened-requires-in-loop-i-2 c =
+pub extended-requires-in-loop-i-2 : goal.extended-requires-in-loop-i-2
+extended-requires-in-loop-i-2 c =
     let a = least_with_next _ c.index-left-i.result _ _ c.loop-i.invariant c.in_ok-scale.ensures.least in
     let b = least_with_next _ c.index-value-i.result _ _ a c.in_ok-scale-2.ensures.least in
     record { low = b.low }

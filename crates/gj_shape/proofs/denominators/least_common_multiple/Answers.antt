@@ -1,6 +1,6 @@
 use Rattle.std.proofs.Common.{inl, ◌≡◌, ◌*◌, ◌/◌, sym}
 use Rattle.std.proofs.Math.Nat.{div-mul_cancel}
-use Rattle.gj_frac.proofs.Divisors.{gcd_positive, lcm_from_gcd}
+use Rattle.gj_tools.proofs.Divisors.{gcd_positive, lcm_from_gcd}
 use Rattle.gj_shape.proofs.denominators.least_common_multiple.Goals as goal
 
 pub nonzero_div-quotient : goal.nonzero_div-quotient

@@ -2,7 +2,7 @@ use Rattle.std.proofs.Common.{refl, sym, subst, arith}
 use Rattle.std.proofs.lemmas.Nat.Gcd.{le_of_dvd}
 use Rattle.std.specs.Int.{◌∣◌}
 use Rattle.gj_shape.specs.Denominators.{IsLcm}
-use Rattle.gj_shape.proofs.denominators.widened.Goals as goal
+use Rattle.gj_shape.proofs.denominators.extended.Goals as goal
 
 pub returns-in_default-clause-fault : goal.returns-in_default-clause-fault
 returns-in_default-clause-fault c =

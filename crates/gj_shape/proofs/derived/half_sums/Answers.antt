@@ -2,7 +2,7 @@ use Rattle.std.proofs.Common.{◌≡◌, ◌+◌, ◌*◌, ◌<◌, pos, ◌+ℤ
 use Rattle.std.proofs.Math.Nat.{mul-pos}
 use Rattle.std.proofs.lemmas.Int.{ints, to_z-of_z}
 use Rattle.std.proofs.lemmas.List.{length_push}
-use Rattle.gj_frac.specs.Fraction.{Is}
+use Rattle.gj_frac.specs.Fraction.{IsRatio}
 use Rattle.gj_shape.specs.FunctionData.{at}
 use Rattle.gj_shape.specs.Derived.{AreOver}
 use Rattle.gj_shape.proofs.AtLemmas.{at_below}
@@ -42,8 +42,8 @@ loop-i-preserved c =
     let numerator = sum ∙ ap₂ (λ a b. a +ℤ b) (c.weighted.ensures.value ∙ ap (λ z. pos o *ℤ z) x)
     (c.weighted-in-loop-i.ensures.value ∙ ap (λ z. pos s *ℤ z) y) in
     let denominator = double_product _ _ s o c.from.ensures c.from-2.ensures c.requires.high c.requires.other_high in
-    let is : Is c.fraction.result (pos o *ℤ at xs i +ℤ pos s *ℤ at ys i) (pos (2 * (s * o))) =
-    subst₂ (λ a b. Is c.fraction.result a b) numerator denominator c.fraction.ensures in
+    let is : IsRatio c.fraction.result (pos o *ℤ at xs i +ℤ pos s *ℤ at ys i) (pos (2 * (s * o))) =
+    subst₂ (λ a b. IsRatio c.fraction.result a b) numerator denominator c.fraction.ensures in
     let pushed = c.in_ok-push.ensures.items in
     record {
       count = ap length pushed ∙ length_push _ _ ∙ ap (λ n. n + 1) c.loop-i.invariant.count;

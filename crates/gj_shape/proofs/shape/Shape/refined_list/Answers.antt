@@ -1,7 +1,7 @@
 use Rattle.std.proofs.Common.{◌≡◌, ◌≤◌, ◌+◌, ◌*◌, ◌/◌, ◌^◌, pos, ◌*ℤ◌, length, FitsSigned, to_z, of_z, sym, ap, ap₂, subst, subst₂, ◌∙◌, rules, arith}
 use Rattle.std.proofs.lemmas.Int.{to_z-of_z, fits_signed_mul}
 use Rattle.std.proofs.lemmas.List.{length_push}
-use Rattle.gj_frac.specs.Fraction.{Is}
+use Rattle.gj_frac.specs.Fraction.{IsRatio}
 use Rattle.gj_shape.specs.Derived.{AreOver, entry_or_value, refined}
 use Rattle.gj_shape.proofs.DerivedLemmas.{are_over_push}
 use Rattle.gj_shape.proofs.shape.Shape.refined_list.Goals as goal
@@ -27,8 +27,8 @@ loop-i-preserved c =
     let fits : FitsSigned w128 (pos f.scale *ℤ pos m) = fits_signed_mul w128 (pos f.scale) (pos m) (2 ^ 31) (2 ^ 32) low few (omega arith) in
     let denominator : to_z w128 (of_z w128 (to_z w128 (of_z w128 c.common_denominator.result) *ℤ to_z w128 (of_z w128 c.from.result))) ≡ pos (f.scale * m) =
     ap₂ (λ x y. to_z w128 (of_z w128 (x *ℤ y))) scale times ∙ to_z-of_z w128 _ fits in
-    let is : Is c.fraction.result (refined f xs m i) (pos (f.scale * m)) =
-    subst₂ (λ a b. Is c.fraction.result a b) numerator denominator c.fraction.ensures in
+    let is : IsRatio c.fraction.result (refined f xs m i) (pos (f.scale * m)) =
+    subst₂ (λ a b. IsRatio c.fraction.result a b) numerator denominator c.fraction.ensures in
     let pushed = c.in_ok-push.ensures.items in
     record {
       count = ap length pushed ∙ length_push _ _ ∙ ap (λ n. n + 1) c.loop-i.invariant.count;

@@ -1,6 +1,6 @@
 use Rattle.std.proofs.Common.{◌≡◌, ◌<◌, length, pos, w64, to_z, of_z, ap, subst, sym, ◌∙◌, rules, arith}
 use Rattle.std.proofs.lemmas.Int.{to_z-of_z}
-use Rattle.gj_frac.specs.Fraction.{Is}
+use Rattle.gj_frac.specs.Fraction.{IsRatio}
 use Rattle.gj_shape.specs.FunctionData.{FunctionData, at}
 use Rattle.gj_shape.proofs.AtLemmas.{at_read}
 use Rattle.gj_shape.proofs.shape.Shape.value.Goals as goal
@@ -12,5 +12,5 @@ returns c =
     let within : c.args.i < length xs = omega (arith, c.self.invariant.value_length) in
     let read : to_z w64 (of_z w64 c.index.result.now) ≡ at xs c.args.i =
     to_z-of_z w64 c.index.result.now (search rules) ∙ sym (at_read xs c.args.i c.index.result.now within c.index.ensures) in
-    let over = subst (λ n. Is c.over.result n (pos c.self.inside.scale)) read c.over.ensures in
-    subst (λ (f : FunctionData). Is c.over.result (at f.value c.args.i) (pos f.scale)) c.self.view_is over
+    let over = subst (λ n. IsRatio c.over.result n (pos c.self.inside.scale)) read c.over.ensures in
+    subst (λ (f : FunctionData). IsRatio c.over.result (at f.value c.args.i) (pos f.scale)) c.self.view_is over

@@ -1,6 +1,6 @@
 use Rattle.std.proofs.Common.{◌≡◌, ◌≤◌, ◌*◌, ◌/◌, ◌%◌, ◌^◌, pos, ◌*ℤ◌, FitsSigned, to_z, of_z, ap, ap₂, subst₂, ◌∙◌, rules, arith}
 use Rattle.std.proofs.lemmas.Int.{to_z-of_z, fits_signed_mul}
-use Rattle.gj_frac.specs.Fraction.{Is}
+use Rattle.gj_frac.specs.Fraction.{IsRatio}
 use Rattle.gj_shape.specs.Derived.{entry_or_value}
 use Rattle.gj_shape.specs.Table.{table}
 use Rattle.gj_shape.proofs.ValueLemmas.{entry_of_values, value_from_place}
@@ -29,4 +29,4 @@ returns c =
     let denominator : to_z w128 (of_z w128 (to_z w128 (of_z w128 c.common_denominator.result) *ℤ to_z w128 (of_z w128 c.from-5.result))) ≡ pos (f.scale * d) =
     ap₂ (λ x y. to_z w128 (of_z w128 (x *ℤ y))) scale steps ∙ to_z-of_z w128 _ fits in
     value_from_place f c.args.n d place c.fraction.result c.order.ensures.limits c.requires.some (search rules)
-    (subst₂ (λ x y. Is c.fraction.result x y) numerator denominator c.fraction.ensures)
+    (subst₂ (λ x y. IsRatio c.fraction.result x y) numerator denominator c.fraction.ensures)

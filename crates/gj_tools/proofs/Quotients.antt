@@ -7,58 +7,58 @@ use Rattle.std.proofs.lemmas.Nat.{div-mul-add, mod-mul-add}
 -- ---- equal rests
 
 -- two numbers that differ by multiples of q have one rest
-pub same_rest : (a b x y q : ℕ) → a + x * q ≡ b + y * q → a % q ≡ b % q
-same_rest a b x y q e =
+pub same_remainder : (a b x y q : ℕ) → a + x * q ≡ b + y * q → a % q ≡ b % q
+same_remainder a b x y q e =
     sym (add-mul-mod_self_right a x q) ∙ ap (λ n. n % q) e ∙ add-mul-mod_self_right b y q
 
 -- two numbers that have one rest differ by multiples of q
-pub from_same_rest : (a b q : ℕ) → a % q ≡ b % q → a + b / q * q ≡ b + a / q * q
-from_same_rest a b q e =
+pub from_same_remainder : (a b q : ℕ) → a % q ≡ b % q → a + b / q * q ≡ b + a / q * q
+from_same_remainder a b q e =
     let first = div-add-mod' a q in
     let second = div-add-mod' b q in
     omega arith
 
 -- a summand is cancelled modulo q
-pub rest_cancel : (a b c q : ℕ) → (a + b) % q ≡ (c + b) % q → a % q ≡ c % q
-rest_cancel a b c q e =
-    let apart = from_same_rest (a + b) (c + b) q e in
-    same_rest a c ((c + b) / q) ((a + b) / q) q (omega arith)
+pub remainder_cancel : (a b c q : ℕ) → (a + b) % q ≡ (c + b) % q → a % q ≡ c % q
+remainder_cancel a b c q e =
+    let apart = from_same_remainder (a + b) (c + b) q e in
+    same_remainder a c ((c + b) / q) ((a + b) / q) q (omega arith)
 
 -- the same, with the common summand on the left
-pub rest_cancel_left : (a b c q : ℕ) → (b + a) % q ≡ (b + c) % q → a % q ≡ c % q
-rest_cancel_left a b c q e =
-    rest_cancel a b c q (ap (λ n. n % q) (add_comm a b) ∙ e ∙ ap (λ n. n % q) (add_comm b c))
+pub remainder_cancel_left : (a b c q : ℕ) → (b + a) % q ≡ (b + c) % q → a % q ≡ c % q
+remainder_cancel_left a b c q e =
+    remainder_cancel a b c q (ap (λ n. n % q) (add_comm a b) ∙ e ∙ ap (λ n. n % q) (add_comm b c))
 
 -- a summand is added modulo q
-pub rest_add : (a b c q : ℕ) → a % q ≡ c % q → (a + b) % q ≡ (c + b) % q
-rest_add a b c q e =
-    let apart = from_same_rest a c q e in
-    same_rest (a + b) (c + b) (c / q) (a / q) q (omega arith)
+pub remainder_add : (a b c q : ℕ) → a % q ≡ c % q → (a + b) % q ≡ (c + b) % q
+remainder_add a b c q e =
+    let apart = from_same_remainder a c q e in
+    same_remainder (a + b) (c + b) (c / q) (a / q) q (omega arith)
 
 -- sums of numbers with equal rests have equal rests
-pub rest_sum : (a b c d q : ℕ) → a % q ≡ c % q → b % q ≡ d % q → (a + b) % q ≡ (c + d) % q
-rest_sum a b c d q e h =
-    let first = from_same_rest a c q e in
-    let second = from_same_rest b d q h in
-    same_rest (a + b) (c + d) (c / q + d / q) (a / q + b / q) q (omega arith)
+pub remainder_sum : (a b c d q : ℕ) → a % q ≡ c % q → b % q ≡ d % q → (a + b) % q ≡ (c + d) % q
+remainder_sum a b c d q e h =
+    let first = from_same_remainder a c q e in
+    let second = from_same_remainder b d q h in
+    same_remainder (a + b) (c + d) (c / q + d / q) (a / q + b / q) q (omega arith)
 
 -- a factor is multiplied modulo q
-pub rest_mul : (a b c q : ℕ) → a % q ≡ c % q → (a * b) % q ≡ (c * b) % q
-rest_mul a b c q e =
-    let apart = ap (λ n. n * b) (from_same_rest a c q e) in
-    same_rest (a * b) (c * b) (c / q * b) (a / q * b) q (omega arith)
+pub remainder_mul : (a b c q : ℕ) → a % q ≡ c % q → (a * b) % q ≡ (c * b) % q
+remainder_mul a b c q e =
+    let apart = ap (λ n. n * b) (from_same_remainder a c q e) in
+    same_remainder (a * b) (c * b) (c / q * b) (a / q * b) q (omega arith)
 
 -- a number and what its rest lacks to q give a multiple of q
-pub rest_opposite : (a q : ℕ) → 0 < q → (a + (q - a % q)) % q ≡ 0
-rest_opposite a q some =
+pub remainder_opposite : (a q : ℕ) → 0 < q → (a + (q - a % q)) % q ≡ 0
+remainder_opposite a q some =
     let split = div-add-mod' a q in
     let small = mod-lt a some in
     let is : a + (q - a % q) ≡ (a / q + 1) * q = omega arith in
     ap (λ n. n % q) is ∙ mul-mod_left (a / q + 1) q
 
 -- a number from q on and below q + q loses q
-pub rest_past : (a q : ℕ) → q ≤ a → a < q + q → a % q + q ≡ a
-rest_past a q low high =
+pub remainder_past : (a q : ℕ) → q ≤ a → a < q + q → a % q + q ≡ a
+remainder_past a q low high =
     let is : a ≡ 1 * q + (a - q) = omega arith in
     let rest : a % q ≡ a - q = ap (λ n. n % q) is ∙ mod-mul-add 1 q (a - q) (omega arith) in
     omega arith
@@ -73,10 +73,10 @@ periods p q step i (suc k) =
     ap p is ∙ step (i + k * q) ∙ periods p q step i k
 
 -- it has one value at numbers with one rest
-pub same_at_rest : {A : Type 0} (p : ℕ → A) (q : ℕ) → ((i : ℕ) → p (i + q) ≡ p i) →
+pub same_at_remainder : {A : Type 0} (p : ℕ → A) (q : ℕ) → ((i : ℕ) → p (i + q) ≡ p i) →
     (a b : ℕ) → a % q ≡ b % q → p a ≡ p b
-same_at_rest p q step a b e =
-    sym (periods p q step a (b / q)) ∙ ap p (from_same_rest a b q e) ∙ periods p q step b (a / q)
+same_at_remainder p q step a b e =
+    sym (periods p q step a (b / q)) ∙ ap p (from_same_remainder a b q e) ∙ periods p q step b (a / q)
 
 -- ---- places: a m + r with r below m
 
@@ -126,15 +126,15 @@ next_place_high i m high =
 -- ---- two divisors
 
 -- a number and the divisor k times over have the rest k times over
-pub rest_scaled : (a m k : ℕ) → 0 < m → 0 < k → (a * k) % (m * k) ≡ a % m * k
-rest_scaled a m k m_some k_some =
+pub remainder_scaled : (a m k : ℕ) → 0 < m → 0 < k → (a * k) % (m * k) ≡ a % m * k
+remainder_scaled a m k m_some k_some =
     let split = ap (λ n. n * k) (div-add-mod' a m) in
     let small : a % m * k < m * k = mul-lt-mul_of_pos_right (mod-lt a m_some) k_some in
     let is : a * k ≡ a / m * (m * k) + a % m * k = omega arith in
     (parts_of_place (a * k) (a / m) (m * k) (a % m * k) is small).1
 
 -- the quotient and the rest by m of a rest by q m
-pub parts_of_rest : (i q m : ℕ) → 0 < q → 0 < m →
+pub parts_of_remainder : (i q m : ℕ) → 0 < q → 0 < m →
     (i % (q * m) / m ≡ i / m % q) × (i % (q * m) % m ≡ i % m)
-parts_of_rest i q m q_some m_some =
+parts_of_remainder i q m q_some m_some =
     parts_of_place (i % (q * m)) (i / m % q) m (i % m) (mod-mul i q_some m_some) (mod-lt i m_some)

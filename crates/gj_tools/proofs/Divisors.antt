@@ -4,8 +4,8 @@ use Rattle.std.proofs.Math.Nat.{mul_comm, mul_assoc, mul_right_comm, one-mul, po
 use Rattle.std.specs.Int.{IsGcd, ◌∣◌}
 use Rattle.std.proofs.lemmas.Nat.Gcd.{IsGcd-swap, dvd_trans, dvd_antisymm}
 use Rattle.std.proofs.lemmas.Int.{unsigned_abs-mul}
-pub use Rattle.gj_frac.specs.Coprime.{cofactor, gcd_exists, gcd_scaled, gauss, same_ratio_nat, same_ratio}
-use Rattle.gj_frac.proofs.Integers.{mul_assoc_z, mul_comm_z}
+pub use Rattle.gj_tools.proofs.Coprime.{cofactor, gcd_exists, gcd_scaled, gauss, same_ratio_nat, same_ratio}
+use Rattle.gj_tools.proofs.Integers.{mul_assoc_z, mul_comm_z}
 
 -- ---- divisors
 

@@ -4,7 +4,7 @@ use Rattle.std.proofs.Math.Nat.{mul_comm, one-mul, mul-zero, eq_of_mul-eq-mul_ri
 use Rattle.std.specs.Int.{IsGcd, ◌∣◌}
 use Rattle.std.proofs.lemmas.Nat.Gcd.{IsGcd-from_zero, IsGcd-from_mod, IsGcd-swap, dvd-zero, dvd_trans, dvd_antisymm}
 use Rattle.std.proofs.lemmas.Int.{ints, unsigned_abs-mul}
-use Rattle.gj_frac.specs.Products.{mul_cancel_right_z, abs_positive_z}
+use Rattle.gj_tools.proofs.Products.{mul_cancel_right_z, abs_positive_z}
 
 -- what a divisor is times to give the number
 pub cofactor : (a b : ℕ) → a ∣ b → (c : ℕ) × (b ≡ a * c)

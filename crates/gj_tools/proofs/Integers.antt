@@ -4,7 +4,7 @@ use Rattle.std.proofs.Math.Nat.{mul-le-mul_right, le_of_mul-le-mul_right}
 use Rattle.std.proofs.lemmas.Int.{ints, by_lt_z}
 use borrow.Author.Differences.{up, down, same_in, neg_is, product_is}
 pub use Rattle.std.proofs.lemmas.Int.{unsigned_abs-mul}
-pub use Rattle.gj_frac.specs.Products.{mul_assoc_z, mul_comm_z, mul_left_comm_z, mul_mul_comm_z, swap_last_z, mul_add_z, add_mul_z, mul_cancel_right_z, mul_lt_mul_right_z, mul_lt_cancel_right_z, abs_positive_z}
+pub use Rattle.gj_tools.proofs.Products.{mul_assoc_z, mul_comm_z, mul_left_comm_z, mul_mul_comm_z, swap_last_z, mul_add_z, add_mul_z, mul_cancel_right_z, mul_lt_mul_right_z, mul_lt_cancel_right_z, abs_positive_z}
 use lib.IntN.{ℤ_discrete}
 pub use lib.IntN.{+ℤ_assoc as add_assoc_z, +ℤ_comm as add_comm_z, pos-+ℤ-pos, pos-*ℤ-pos}
 

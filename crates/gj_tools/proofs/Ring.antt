@@ -8,7 +8,7 @@
 --     `refl` does not fit              the two sides differ: the message shows the two normal forms
 use Rattle.std.proofs.Common.{◌≡◌, ℕ, zero, suc, ◌+◌, ◌*◌, Bool, true, false, T, eqb, ltb, leb, List, [], ◌∷◌, ℤ, pos, negsuc, ◌+ℤ◌, ◌-ℤ◌, ◌*ℤ◌, neg_ℤ, ◌≤ℤ◌, ◌<ℤ◌, refl, sym, ap, ap₂, subst, ◌∙◌, arith, eqb→eq, add-one}
 use Rattle.std.proofs.lemmas.Int.{ints}
-use Rattle.gj_frac.proofs.Integers.{mul_le_mul_left_z, mul_lt_mul_left_z, mul_assoc_z, mul_left_comm_z, mul_mul_comm_z, one_mul_z, mul_add_z, add_mul_z, neg_mul_z, add_assoc_z}
+use Rattle.gj_tools.proofs.Integers.{mul_le_mul_left_z, mul_lt_mul_left_z, mul_assoc_z, mul_left_comm_z, mul_mul_comm_z, one_mul_z, mul_add_z, add_mul_z, neg_mul_z, add_assoc_z}
 use lib.IntN.{+ℤ_idl, *ℤ-zero, zero-*ℤ, neg_ℤ-+ℤ}
 
 -- ---- expressions

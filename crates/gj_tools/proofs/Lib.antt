@@ -1,0 +1,6 @@
+pub mod Products
+pub mod Coprime
+pub mod Integers
+pub mod Ring
+pub mod Divisors
+pub mod Quotients
