@@ -1,13 +1,12 @@
 -- When a step of a sum or a product does not fit.
 use Rattle.std.proofs.Common.{ℕ, ℤ, ◌+ℤ◌, ◌-ℤ◌, FitsSigned, Option, Some, None, Result, Ok, Err, sym, subst, ◌∙◌}
 use Rattle.std.proofs.lemmas.Int.{fits_signed_from_abs}
-use Rattle.std.proofs.lemmas.Nat.Gcd.{same_from_IsGcd}
 use Rattle.std.specs.Option.{SomeIff}
 use Rattle.std.specs.Result.{OkIff}
 use Rattle.std.specs.Prelude.{MatchOption, IsErr, IfOk, OnErr}
 use Rattle.gj_frac.specs.declared.Frac.{Frac}
 use Rattle.gj_frac.specs.Fraction.{FitsPart}
-use Rattle.gj_frac.specs.Fits.{IsDenominatorGcd, FitsTogether, FitsTogetherOver, FitsSum, FitsDifference, scaled_numerator}
+use Rattle.gj_frac.specs.Fits.{IsDenominatorGcd, FitsTogether, FitsSum, FitsDifference, scaled_numerator}
 use mir.Syntax.{w128}
 
 -- ---- one step
@@ -36,10 +35,6 @@ on_err_along (Ok x) P Q f h = h
 on_err_along (Err e) P Q f h = f h
 
 -- ---- the common denominator
-
--- what fits over one name of the greatest common divisor fits over each
-pub together_from : (x y : Frac) (g : ℕ) → IsDenominatorGcd x y g → FitsTogetherOver x y g → FitsTogether x y
-together_from x y g h fits m k = subst (FitsTogetherOver x y) (same_from_IsGcd _ _ _ _ h k) fits
 
 -- the condition of a sum and of a difference contains that of the common denominator
 pub sum_together : (x y : Frac) → FitsSum x y → FitsTogether x y
