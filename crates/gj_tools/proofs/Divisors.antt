@@ -1,11 +1,11 @@
 -- Greatest common divisors and least common multiples.
-use Rattle.std.proofs.Common.{◌≡◌, ℕ, zero, suc, ◌*◌, ◌/◌, ◌%◌, ◌<◌, ◌≤◌, ◌⊎◌, inl, ⊎_elim, ℤ, pos, ◌*ℤ◌, ◌<ℤ◌, unsigned_abs, refl, sym, ap, subst, subst₂, ◌∙◌, arith}
+use Rattle.std.proofs.Common.{◌≡◌, ℕ, zero, suc, ◌*◌, ◌/◌, ◌%◌, ◌<◌, ◌≤◌, ◌⊎◌, ⊎_elim, ℤ, pos, ◌*ℤ◌, ◌<ℤ◌, unsigned_abs, refl, sym, ap, subst, subst₂, ◌∙◌, arith}
 use Rattle.std.proofs.Math.Nat.{mul_comm, mul_assoc, mul_right_comm, one-mul, mul-zero, eq_of_mul-eq-mul_right, pos_of_dvd_of_pos, dvd-mul_left, dvd-mul_right, mul-dvd-mul_right, dvd_of_mul-dvd-mul_right, mul-div_cancel', div-mul_cancel, one-dvd, mul-pos}
 use Rattle.std.specs.Int.{IsGcd, ◌∣◌}
 use Rattle.std.proofs.lemmas.Nat.Gcd.{IsGcd-from_zero, IsGcd-from_mod, IsGcd-swap, dvd-zero, dvd_trans, dvd_antisymm}
 use Rattle.std.proofs.lemmas.Int.{ints, unsigned_abs-mul}
 pub use Rattle.gj_tools.specs.Divisors.{IsLcm}
-use Rattle.gj_tools.proofs.Integers.{mul_assoc_z, mul_comm_z, mul_left_comm_z, mul_cancel_right_z, abs_positive_z, pos_abs_z}
+use Rattle.gj_tools.proofs.Integers.{mul_left_comm_z, mul_cancel_right_z, abs_positive_z, pos_abs_z}
 
 -- ---- divisors
 
@@ -115,15 +115,6 @@ whole_multiple n q d k h e =
     sym (unsigned_abs-mul (pos k) n) ∙ ap unsigned_abs e ∙ unsigned_abs-mul q (pos d) in
     denominator_divides n d k h (subst (λ m. d ∣ m) (sym sizes) (dvd-mul_left d (unsigned_abs q)))
 
--- where d divides k, k n/d is a whole number
-pub multiple_is_whole : (n : ℤ) (d k : ℕ) → d ∣ k → (q : ℤ) × (pos k *ℤ n ≡ q *ℤ pos d)
-multiple_is_whole n d k p =
-    let (c, k_is) = cofactor d k p in
-    let split : pos k *ℤ n ≡ pos c *ℤ (pos d *ℤ n) =
-    ap (λ m. pos m *ℤ n) (k_is ∙ mul_comm d c) ∙ mul_assoc_z (pos c) (pos d) n in
-    let turned = ap (λ z. pos c *ℤ z) (mul_comm_z (pos d) n) in
-    (pos c *ℤ n, split ∙ turned ∙ sym (mul_assoc_z (pos c) n (pos d)))
-
 -- ---- lowest terms
 
 -- equal fractions in lowest terms have equal parts
@@ -170,22 +161,7 @@ lcm_from_gcd a b g a' h a_is some =
           (common_multiple a' b' g c apart some (subst (λ n. n ∣ c) a_is p) (subst (λ n. n ∣ c) b_is q)),
     )
 
--- two numbers of which the first is positive have a least common multiple
-pub lcm_exists : (a b : ℕ) → 0 < a → (m : ℕ) × IsLcm a b m
-lcm_exists a b some =
-    let (g, h) = gcd_exists a b in
-    let (c, e) = cofactor g a h.0 in
-    (c * b, lcm_from_gcd a b g c h (e ∙ mul_comm g c) (gcd_positive a b g h (inl some)))
-
 -- it is positive where both are
 pub lcm_positive : (a b m : ℕ) → IsLcm a b m → 0 < a → 0 < b → 0 < m
 lcm_positive a b m h a_some b_some =
     pos_of_dvd_of_pos (h.2 (a * b) (dvd-mul_right a b) (dvd-mul_left b a)) (mul-pos a_some b_some)
-
--- two numbers have one least common multiple
-pub same_from_IsLcm : (a b m n : ℕ) → IsLcm a b m → IsLcm a b n → m ≡ n
-same_from_IsLcm a b m n h k = dvd_antisymm (h.2 n k.0 k.1) (k.2 m h.0 h.1)
-
--- the order of the two numbers is free
-pub IsLcm-swap : (a b m : ℕ) → IsLcm a b m → IsLcm b a m
-IsLcm-swap a b m h = (h.1, h.0, λ c p q. h.2 c q p)

@@ -1,5 +1,5 @@
 -- The everyday laws of whole numbers: products, orders, absolute values.
-use Rattle.std.proofs.Common.{◌≡◌, ℕ, zero, suc, ◌+◌, ◌*◌, ◌<◌, ◌≤◌, ◌≢◌, ◌⊎◌, inl, inr, ℤ, pos, negsuc, ◌+ℤ◌, ◌-ℤ◌, ◌*ℤ◌, neg_ℤ, ◌<ℤ◌, ◌≤ℤ◌, unsigned_abs, refl, sym, ap, ◌∙◌, arith}
+use Rattle.std.proofs.Common.{◌≡◌, ℕ, suc, ◌+◌, ◌*◌, ◌<◌, ◌≤◌, ◌≢◌, ◌⊎◌, inl, inr, ℤ, pos, negsuc, ◌+ℤ◌, ◌-ℤ◌, ◌*ℤ◌, neg_ℤ, ◌<ℤ◌, ◌≤ℤ◌, unsigned_abs, sym, ap, ◌∙◌, arith}
 use Rattle.std.proofs.Math.Nat.{mul-le-mul_right, le_of_mul-le-mul_right, eq_of_mul-eq-mul_right, mul-lt-mul_of_pos_right, lt_of_mul-lt-mul_right, mul-pos, pos_of_ne-zero}
 use Rattle.std.proofs.lemmas.Int.{ints, by_lt_z}
 use borrow.Author.Differences.{up, down, same_in, same_out, sum_is_lem, neg_is, product_is}
@@ -94,12 +94,6 @@ mul_cancel_right_z x y (negsuc n) e some =
 pub mul_cancel_left_z : (x y z : ℤ) → z *ℤ x ≡ z *ℤ y → unsigned_abs z ≢ 0 → x ≡ y
 mul_cancel_left_z x y z e some = mul_cancel_right_z x y z (mul_comm_z x z ∙ e ∙ mul_comm_z z y) some
 
--- a product is zero only where a factor is
-pub mul_zero_z : (x y : ℤ) → x *ℤ y ≡ pos 0 → (x ≡ pos 0) ⊎ (y ≡ pos 0)
-mul_zero_z x (pos zero) e = inr refl
-mul_zero_z x (pos (suc n)) e = inl (mul_cancel_right_z x (pos 0) (pos (suc n)) (omega (arith, ints)) (omega arith))
-mul_zero_z x (negsuc n) e = inl (mul_cancel_right_z x (pos 0) (negsuc n) (omega (arith, ints)) (omega arith))
-
 -- ---- orders and products
 
 -- both sides of x < y times a positive factor, on the right
@@ -145,10 +139,6 @@ mul_le_cancel_right_z x y (pos n) some h =
 mul_le_cancel_right_z x y (negsuc n) some h = omega (arith, ints)
 
 -- the same, with the factor on the left
-pub mul_le_cancel_left_z : (x y z : ℤ) → pos 0 <ℤ z → (z *ℤ x) ≤ℤ (z *ℤ y) → x ≤ℤ y
-mul_le_cancel_left_z x y z some h = mul_le_cancel_right_z x y z some (omega (arith, ints))
-
--- the same, with the factor on the left
 pub mul_lt_cancel_left_z : (x y z : ℤ) → pos 0 <ℤ z → (z *ℤ x) <ℤ (z *ℤ y) → x <ℤ y
 mul_lt_cancel_left_z x y z some h = mul_lt_cancel_right_z x y z some (omega (arith, ints))
 
@@ -159,10 +149,6 @@ mul_positive_z x y p q = let h = mul_lt_mul_right_z (pos 0) x y q p in omega (ar
 -- the product of two numbers that are not negative is not negative
 pub mul_nonnegative_z : (x y : ℤ) → pos 0 ≤ℤ x → pos 0 ≤ℤ y → pos 0 ≤ℤ (x *ℤ y)
 mul_nonnegative_z x y p q = let h = mul_le_mul_right_z (pos 0) x y q p in omega (arith, ints)
-
--- one of x < y, x ≡ y and y < x holds
-pub trichotomy_z : (x y : ℤ) → (x <ℤ y) ⊎ ((x ≡ y) ⊎ (y <ℤ x))
-trichotomy_z x y = grind (arith, ints)
 
 -- from all large multiples, up to a fixed difference, to the numbers themselves
 pub le_from_multiples_z : (x y d : ℤ) → ((k : ℕ) → 0 < k → (pos k *ℤ x) ≤ℤ (pos k *ℤ y +ℤ d)) → x ≤ℤ y
@@ -206,17 +192,9 @@ abs_add_z x y = omega (arith, ints)
 pub abs_sub_z : (x y : ℤ) → unsigned_abs (x -ℤ y) ≤ unsigned_abs x + unsigned_abs y
 abs_sub_z x y = omega (arith, ints)
 
--- the absolute value does not know the sign
-pub abs_neg_z : (x : ℤ) → unsigned_abs (neg_ℤ x) ≡ unsigned_abs x
-abs_neg_z x = omega (arith, ints)
-
 -- only zero has the absolute value zero
 pub abs_zero_z : (x : ℤ) → unsigned_abs x ≡ 0 → x ≡ pos 0
 abs_zero_z x e = omega (arith, ints)
-
--- two whole numbers of which it is absurd that they differ are equal
-pub stable_z : (x y : ℤ) → ¬ (¬ (x ≡ y)) → x ≡ y
-stable_z x y h = elim (ℤ_discrete x y) [ yes e ↦ e | no n ↦ absurd (h n) ]
 
 -- two whole numbers are equal or not
 pub same_or_apart_z : (x y : ℤ) → (x ≡ y) ⊎ (x ≢ y)
