@@ -9,3 +9,4 @@ pub mod Points
 pub mod Violations
 pub mod FirstFailed
 pub mod Continuous
+pub mod Lanes
