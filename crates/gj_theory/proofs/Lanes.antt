@@ -12,7 +12,7 @@ use Rattle.gj_shape.specs.declared.faces.FaceKind.{FaceKind}
 use Rattle.gj_shape.specs.declared.faces.FaceKind.TheVariants.{Vertex, Horizontal, Vertical, Diagonal, Lower, Upper}
 use Rattle.gj_shape.proofs.AtLemmas.{at_plus_length, at_wrapped}
 use Rattle.gj_shape.proofs.TableLemmas.{slack_at, limits_are_slacks}
-use Rattle.gj_theory.specs.Before.{PassesSymmetry}
+use Rattle.gj_theory.specs.EarlierTests.{PassesSymmetry}
 use Rattle.gj_theory.proofs.Everywhere.{everywhere}
 
 -- ---- from 0 to the scale

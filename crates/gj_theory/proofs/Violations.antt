@@ -13,12 +13,12 @@ use Rattle.gj_shape.specs.Violation.{value_of, ShowsViolation}
 use Rattle.gj_shape.specs.declared.violations.Violation.{Violation}
 use Rattle.gj_shape.specs.declared.violations.Violation.TheVariants as violation
 use Rattle.gj_shape.proofs.TableLemmas.{table_of_order}
-use Rattle.gj_theory.specs.Before.{IsTestOf}
+use Rattle.gj_theory.specs.EarlierTests.{IsTestOf}
 use Rattle.gj_theory.proofs.Affine.{table_inside}
-use Rattle.gj_theory.proofs.Complete.{some_corners}
-use Rattle.gj_theory.proofs.Lists.{All-back}
-use Rattle.gj_theory.proofs.Tests.{each_test}
-use Rattle.gj_theory.proofs.Points.{shows_zero, shows_negative, shows_asymmetric, shows_superadditive}
+use Rattle.gj_theory.proofs.TestsFromMinimal.{some_corners}
+use Rattle.gj_tools.proofs.Lists.{All-back}
+use Rattle.gj_theory.proofs.EachTest.{each_test}
+use Rattle.gj_theory.proofs.ShownPoints.{shows_zero, shows_negative, shows_asymmetric, shows_superadditive}
 
 -- ---- what the test that fails shows
 

@@ -11,10 +11,10 @@ use Rattle.gj_shape.specs.FirstViolation.Test.{zero_at_zero, nonnegative_at, non
 use Rattle.gj_shape.specs.declared.faces.FaceKind.{FaceKind}
 use Rattle.gj_shape.specs.declared.faces.FaceKind.TheVariants.{Vertex, Horizontal, Vertical, Diagonal, Lower, Upper}
 use Rattle.gj_shape.proofs.TableLemmas.{table_of_order}
-use Rattle.gj_theory.specs.Before.{IsTestOf}
+use Rattle.gj_theory.specs.EarlierTests.{IsTestOf}
 use Rattle.gj_theory.specs.NearCorners.{near_value, total}
 use Rattle.gj_theory.proofs.Affine.{table_inside, near_after, near_before, near_corner}
-use Rattle.gj_theory.proofs.Tests.{each_test}
+use Rattle.gj_theory.proofs.EachTest.{each_test}
 
 -- indices that add up to f, one turn on, are opposite on the grid
 pub opposite_on_grid : (k q m i j : ℕ) → i + j ≡ (k + q) * m → (i + j) % (q * m) ≡ (k * m) % (q * m)

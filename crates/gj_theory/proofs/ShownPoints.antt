@@ -12,7 +12,7 @@ use Rattle.gj_shape.specs.FirstViolation.{IsOnGrid, IsNegativeOnGrid, IsSuperadd
 use Rattle.gj_shape.specs.Violation.{IsPoint, value_of, ShowsViolation}
 use Rattle.gj_shape.specs.declared.violations.Violation.TheVariants as violation
 use Rattle.gj_shape.proofs.TableLemmas.{table_of_order, table_finer}
-use Rattle.gj_theory.proofs.Complete.{opposite_on_grid}
+use Rattle.gj_theory.proofs.TestsFromMinimal.{opposite_on_grid}
 
 -- ---- points in lowest terms
 

@@ -15,11 +15,11 @@ use Rattle.gj_shape.specs.declared.faces.FaceKind.{FaceKind}
 use Rattle.gj_shape.specs.declared.faces.FaceKind.TheVariants.{Vertex, Horizontal, Vertical, Diagonal, Lower, Upper}
 use Rattle.gj_shape.proofs.AtLemmas.{at_wrapped}
 use Rattle.gj_shape.proofs.TableLemmas.{table_period}
-use Rattle.gj_theory.specs.Before.{IsTestOf}
-use Rattle.gj_theory.proofs.Values.{at_same}
+use Rattle.gj_theory.specs.EarlierTests.{IsTestOf}
+use Rattle.gj_theory.proofs.Everywhere.{at_same}
 use Rattle.gj_theory.proofs.Everywhere.{opposite_index, everywhere, symmetric_everywhere}
 use Rattle.gj_theory.proofs.Affine.{weighted, table_at_place, table_inside, slack_on_vertex, slack_on_horizontal, slack_on_vertical, slack_on_diagonal, slack_on_lower, slack_on_upper}
-use Rattle.gj_theory.proofs.Tests.{test_has}
+use Rattle.gj_theory.proofs.EachTest.{test_has}
 
 -- each test of the function passes
 abbrev PassesEach : FunctionData → Type 0
