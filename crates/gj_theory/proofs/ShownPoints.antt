@@ -77,10 +77,26 @@ pub value_at_place : (f : FunctionData) (h i n d : ℕ) → 0 < h → 0 < d → 
     pos h *ℤ value_of f n d ≡ pos d *ℤ table f h i
 value_at_place f h i n d h_some d_some e = same_place f h d i (n * f.order) h_some d_some (mul_assoc n f.order h ∙ e)
 
+-- the values at n/d = i/(order h) and m/e = j/(order h), and at their sum
+pub pair_at_places : (f : FunctionData) (h i j n d m e : ℕ) → 0 < h → 0 < d → 0 < e →
+    n * (f.order * h) ≡ i * d → m * (f.order * h) ≡ j * e →
+    (pos h *ℤ (value_of f (n * e) (d * e) +ℤ value_of f (m * d) (d * e))
+    ≡ pos (d * e) *ℤ (table f h i +ℤ table f h j))
+    × (pos h *ℤ value_of f (n * e + m * d) (d * e) ≡ pos (d * e) *ℤ table f h (i + j))
+pair_at_places f h i j n d m e h_some d_some e_some x_place y_place =
+    let bottom = mul-pos d_some e_some in
+    let first = value_at_place f h i (n * e) (d * e) h_some bottom (scaled_first n d i (f.order * h) e x_place) in
+    let second = value_at_place f h j (m * d) (d * e) h_some bottom (scaled_second m e j (f.order * h) d y_place) in (
+      mul_add_z (pos h) (value_of f (n * e) (d * e)) (value_of f (m * d) (d * e))
+          ∙ ap₂ (λ v w. v +ℤ w) first second ∙ sym (mul_add_z (pos (d * e)) (table f h i) (table f h j)),
+      value_at_place f h (i + j) (n * e + m * d) (d * e) h_some bottom
+          (scaled_sum n d i m e j (f.order * h) x_place y_place),
+    )
+
 -- ---- what fails on a grid is shown at points
 
 -- from k x < y, where k x ≡ d x' and so on, to x' < y'
-below_scaled : (h d : ℕ) (x y x' y' : ℤ) → 0 < h → 0 < d → pos h *ℤ x' ≡ pos d *ℤ x → pos h *ℤ y' ≡ pos d *ℤ y →
+pub below_scaled : (h d : ℕ) (x y x' y' : ℤ) → 0 < h → 0 < d → pos h *ℤ x' ≡ pos d *ℤ x → pos h *ℤ y' ≡ pos d *ℤ y →
     x <ℤ y → x' <ℤ y'
 below_scaled h d x y x' y' h_some d_some e g less =
     let scaled = mul_lt_mul_left_z x y (pos d) (omega (arith, ints)) less in
@@ -104,17 +120,10 @@ shows_superadditive f h i j x y some h_some is_x is_y less =
     let grid = mul-pos some h_some in
     let (n, d, p) = point_of x i (f.order * h) grid is_x in
     let (m, e, r) = point_of y j (f.order * h) grid is_y in
-    let bottom = mul-pos p.point.positive r.point.positive in
-    let first = value_at_place f h i (n * e) (d * e) h_some bottom (scaled_first n d i (f.order * h) e p.equal) in
-    let second = value_at_place f h j (m * d) (d * e) h_some bottom (scaled_second m e j (f.order * h) d r.equal) in
-    let sum =
-    value_at_place f h (i + j) (n * e + m * d) (d * e) h_some bottom
-    (scaled_sum n d i m e j (f.order * h) p.equal r.equal) in
-    let both = mul_add_z (pos h) (value_of f (n * e) (d * e)) (value_of f (m * d) (d * e))
-    ∙ ap₂ (λ v w. v +ℤ w) first second ∙ sym (mul_add_z (pos (d * e)) (table f h i) (table f h j)) in
+    let places = pair_at_places f h i j n d m e h_some p.point.positive r.point.positive p.equal r.equal in
     let below = below_scaled h (d * e) (table f h i +ℤ table f h j) (table f h (i + j))
-    (value_of f (n * e) (d * e) +ℤ value_of f (m * d) (d * e)) (value_of f (n * e + m * d) (d * e)) h_some bottom both
-    sum less in
+    (value_of f (n * e) (d * e) +ℤ value_of f (m * d) (d * e)) (value_of f (n * e + m * d) (d * e)) h_some
+    (mul-pos p.point.positive r.point.positive) places.0 places.1 less in
     (n, d, m, e, record { first = p.point; second = r.point; below = below })
 
 -- n/d = i/(order h), so the place opposite to i/(order h) is on the grid of n/d
@@ -129,6 +138,9 @@ opposite_place n d i j q k h some e whole =
     let together : n * q + o ≡ (k + q) * d = omega arith in
     (o, together, omega (arith, ap (λ x. x * h) together))
 
+pub scales_swapped : (h d s : ℕ) → pos h *ℤ pos (s * d) ≡ pos d *ℤ pos (s * h)
+scales_swapped h d s = by_ring (pos h ∷ pos d ∷ pos s ∷ []) (search ring depth 20) refl
+
 pub shows_asymmetric : (f : FunctionData) (h i j : ℕ) (x : Frac) → 0 < f.order → 0 < h → IsOnGrid f h i x →
     i + j ≡ (f.place + f.order) * h → table f h i +ℤ table f h j ≢ pos (f.scale * h) →
     ShowsViolation f (violation.Asymmetric x)
@@ -139,10 +151,8 @@ shows_asymmetric f h i j x some h_some is whole differs =
     let second = same_place f h d j o h_some p.point.positive same in
     let both = mul_add_z (pos d) (table f h i) (table f h j) ∙ ap₂ (λ v w. v +ℤ w) (sym first) (sym second)
     ∙ sym (mul_add_z (pos h) (value_of f n d) (table f d o)) in
-    let swapped : pos h *ℤ pos (f.scale * d) ≡ pos d *ℤ pos (f.scale * h) =
-    by_ring (pos h ∷ pos f.scale ∷ pos d ∷ []) (search ring depth 20) refl in
     let differs_there : value_of f n d +ℤ table f d o ≢ pos (f.scale * d) = λ e.
     differs
-    (mul_cancel_left_z _ _ (pos d) (both ∙ ap (λ z. pos h *ℤ z) e ∙ swapped) (omega (arith, p.point.positive))) in
+    (mul_cancel_left_z _ _ (pos d) (both ∙ ap (λ z. pos h *ℤ z) e ∙ scales_swapped h d f.scale) (omega (arith, p.point.positive))) in
     let turned = opposite_on_grid f.place f.order d (n * f.order) o opposite in
     (n, d, o, record { point = p.point; opposite = turned; differs = differs_there })
