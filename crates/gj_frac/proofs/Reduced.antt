@@ -42,7 +42,8 @@ divisor_of_positive g n h k =
 pub same_from_multiples : (n d p q g num den : ℤ) → p *ℤ g ≡ num → q *ℤ g ≡ den → n *ℤ q ≡ p *ℤ d → n *ℤ den ≡ num *ℤ d
 same_from_multiples n d p q g num den e f h =
     subst (λ (z : ℤ). n *ℤ z ≡ num *ℤ d) f
-    (sym (mul_assoc_z n q g) ∙ ap (λ z. z *ℤ g) h ∙ mul_assoc_z p d g ∙ ap (λ z. p *ℤ z) (mul_comm_z d g) ∙ sym (mul_assoc_z p g d) ∙ ap (λ z. z *ℤ d) e)
+    (sym (mul_assoc_z n q g) ∙ ap (λ z. z *ℤ g) h ∙ mul_assoc_z p d g
+    ∙ ap (λ z. p *ℤ z) (mul_comm_z d g) ∙ sym (mul_assoc_z p g d) ∙ ap (λ z. z *ℤ d) e)
 
 -- the same greatest common divisor, of numbers that are equal
 pub gcd_along : (a b g m n k : ℕ) → m ≡ a → n ≡ b → k ≡ g → IsGcd m n k → IsGcd a b g
@@ -56,7 +57,8 @@ unsigned_abs-negated (pos (suc n)) =
 unsigned_abs-negated (negsuc n) = omega arith
 
 -- with both signs turned the parts of a fraction in lowest terms stay so, where the denominator was negative
-pub lowest_negated : (num den : ℤ) → pos 0 <ℤ (pos 0 -ℤ den) → unsigned_abs num < 2 ^ 127 → unsigned_abs den < 2 ^ 127 → IsGcd (unsigned_abs num) (unsigned_abs den) 1 → IsLowest (pos 0 -ℤ num) (pos 0 -ℤ den)
+pub lowest_negated : (num den : ℤ) → pos 0 <ℤ (pos 0 -ℤ den) → unsigned_abs num < 2 ^ 127 → unsigned_abs den < 2 ^ 127 →
+    IsGcd (unsigned_abs num) (unsigned_abs den) 1 → IsLowest (pos 0 -ℤ num) (pos 0 -ℤ den)
 lowest_negated num den h f g d =
     let num' = unsigned_abs-negated num in
     let den' = unsigned_abs-negated den in

@@ -28,7 +28,9 @@ quotient_is n d q some d_some e =
     sym (pos_abs_z q (omega (arith, ints))) ∙ ap pos (sym size)
 
 -- the same by any name of the greatest common divisor
-pub quotient_by_gcd : (n d e q : ℤ) (g : ℕ) → pos 0 <ℤ n → pos 0 <ℤ d → q *ℤ d ≡ n → IsGcd (unsigned_abs n) (unsigned_abs e) (unsigned_abs d) → IsGcd (unsigned_abs n) (unsigned_abs e) g → q ≡ pos (unsigned_abs n / g)
+pub quotient_by_gcd : (n d e q : ℤ) (g : ℕ) → pos 0 <ℤ n → pos 0 <ℤ d → q *ℤ d ≡ n →
+    IsGcd (unsigned_abs n) (unsigned_abs e) (unsigned_abs d) → IsGcd (unsigned_abs n) (unsigned_abs e) g →
+    q ≡ pos (unsigned_abs n / g)
 quotient_by_gcd n d e q g some d_some is h k =
     quotient_is n d q some d_some is ∙ ap (λ (m : ℕ). pos (unsigned_abs n / m)) (same_from_IsGcd _ _ _ _ h k)
 
@@ -53,13 +55,17 @@ common_some x y g h =
 -- ---- sums over the common denominator
 
 -- what has the value of the scaled numerators' sum over the common denominator is x + y
-pub sum_is : (x y : Frac) (g : ℕ) (n d : ℤ) → IsDenominatorGcd x y g → n *ℤ common_denominator x y g ≡ (scaled_numerator x y g +ℤ scaled_numerator y x g) *ℤ d → n *ℤ (x.den *ℤ y.den) ≡ (x.num *ℤ y.den +ℤ y.num *ℤ x.den) *ℤ d
+pub sum_is : (x y : Frac) (g : ℕ) (n d : ℤ) → IsDenominatorGcd x y g →
+    n *ℤ common_denominator x y g ≡ (scaled_numerator x y g +ℤ scaled_numerator y x g) *ℤ d →
+    n *ℤ (x.den *ℤ y.den) ≡ (x.num *ℤ y.den +ℤ y.num *ℤ x.den) *ℤ d
 sum_is x y g n d h same =
     ratio_along n d _ _ _ _ (common_some x y g h) same
     (sym (ratio_sum x.num x.den y.num y.den _ _ _ (first_is x y g h) (second_is x y g)))
 
 -- what has the value of their difference over it is x - y
-pub difference_is : (x y : Frac) (g : ℕ) (n d : ℤ) → IsDenominatorGcd x y g → n *ℤ common_denominator x y g ≡ (scaled_numerator x y g -ℤ scaled_numerator y x g) *ℤ d → n *ℤ (x.den *ℤ y.den) ≡ (x.num *ℤ y.den -ℤ y.num *ℤ x.den) *ℤ d
+pub difference_is : (x y : Frac) (g : ℕ) (n d : ℤ) → IsDenominatorGcd x y g →
+    n *ℤ common_denominator x y g ≡ (scaled_numerator x y g -ℤ scaled_numerator y x g) *ℤ d →
+    n *ℤ (x.den *ℤ y.den) ≡ (x.num *ℤ y.den -ℤ y.num *ℤ x.den) *ℤ d
 difference_is x y g n d h same =
     ratio_along n d _ _ _ _ (common_some x y g h) same
     (sym (ratio_difference x.num x.den y.num y.den _ _ _ (first_is x y g h) (second_is x y g)))

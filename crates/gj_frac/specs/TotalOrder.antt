@@ -55,5 +55,6 @@ ties_Decides x y = (
 pub compare_values_ties : (x y : Frac) → (int_eq x.num y.num && int_eq x.den y.den) ≡ eq_by_cmp compare_values x y
 compare_values_ties x y = one_answer _ _ (parts_Decides x y) (ties_Decides x y)
 
-pub compare_values_partial : IsPartialOrder (λ (x y : Frac). int_eq x.num y.num && int_eq x.den y.den) (as_partial_cmp compare_values)
+pub compare_values_partial :
+    IsPartialOrder (λ (x y : Frac). int_eq x.num y.num && int_eq x.den y.den) (as_partial_cmp compare_values)
 compare_values_partial = po compare_values_total compare_values_ties
