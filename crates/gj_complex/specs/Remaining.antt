@@ -5,5 +5,5 @@ use Rattle.gj_complex.specs.declared.face_walk.FaceWalk.{FaceWalk}
 use Rattle.gj_complex.specs.Walk.{faces_from}
 
 -- the faces that are left, in their order
-abbrev pub left : FaceWalk → List Face
-left walk = faces_from walk.order walk.next
+abbrev pub faces_left : FaceWalk → List Face
+faces_left walk = faces_from walk.order walk.next
