@@ -16,9 +16,8 @@ use Rattle.gj_shape.specs.declared.faces.FaceKind.TheVariants.{Vertex, Horizonta
 use Rattle.gj_shape.proofs.AtLemmas.{at_wrapped}
 use Rattle.gj_shape.proofs.TableLemmas.{table_period}
 use Rattle.gj_theory.specs.EarlierTests.{IsTestOf}
-use Rattle.gj_theory.proofs.Everywhere.{at_same}
-use Rattle.gj_theory.proofs.Everywhere.{opposite_index, everywhere, symmetric_everywhere}
-use Rattle.gj_theory.proofs.Affine.{weighted, table_at_place, table_inside, slack_on_vertex, slack_on_horizontal, slack_on_vertical, slack_on_diagonal, slack_on_lower, slack_on_upper}
+use Rattle.gj_theory.proofs.Everywhere.{at_same, opposite_index, everywhere, symmetric_everywhere}
+use Rattle.gj_theory.proofs.Affine.{limit_count, weighted, table_at_place, table_inside, slack_on_vertex, slack_on_horizontal, slack_on_vertical, slack_on_diagonal, slack_on_lower, slack_on_upper}
 use Rattle.gj_theory.proofs.EachTest.{test_has}
 
 -- each test of the function passes
@@ -168,24 +167,9 @@ weighted_nonnegative (w ∷ ws) (x ∷ xs) h =
 -- on each face of a square
 face_nonnegative : (f : FunctionData) → PassesEach f → (kind : FaceKind) (a b : ℕ) → a < f.order → b < f.order →
     (weights : List ℕ) → pos 0 ≤ℤ weighted weights (limits_of f kind a b)
-face_nonnegative f h Vertex a b a_below b_below weights =
-    weighted_nonnegative weights (limits_of f Vertex a b)
-    (λ k below. h (subadditive_at Vertex a b k) (a_below, b_below, below))
-face_nonnegative f h Horizontal a b a_below b_below weights =
-    weighted_nonnegative weights (limits_of f Horizontal a b)
-    (λ k below. h (subadditive_at Horizontal a b k) (a_below, b_below, below))
-face_nonnegative f h Vertical a b a_below b_below weights =
-    weighted_nonnegative weights (limits_of f Vertical a b)
-    (λ k below. h (subadditive_at Vertical a b k) (a_below, b_below, below))
-face_nonnegative f h Diagonal a b a_below b_below weights =
-    weighted_nonnegative weights (limits_of f Diagonal a b)
-    (λ k below. h (subadditive_at Diagonal a b k) (a_below, b_below, below))
-face_nonnegative f h Lower a b a_below b_below weights =
-    weighted_nonnegative weights (limits_of f Lower a b)
-    (λ k below. h (subadditive_at Lower a b k) (a_below, b_below, below))
-face_nonnegative f h Upper a b a_below b_below weights =
-    weighted_nonnegative weights (limits_of f Upper a b)
-    (λ k below. h (subadditive_at Upper a b k) (a_below, b_below, below))
+face_nonnegative f h kind a b a_below b_below weights =
+    weighted_nonnegative weights (limits_of f kind a b) (λ k below.
+    h (subadditive_at kind a b k) (a_below, b_below, subst (λ n. k < n) (limit_count f kind a b) below))
 
 -- a sum that exceeds another by what is not negative
 at_most_from : (s w : ℤ) {x : ℤ} → x ≡ s +ℤ w → pos 0 ≤ℤ w → s ≤ℤ x

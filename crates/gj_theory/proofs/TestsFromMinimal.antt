@@ -9,11 +9,10 @@ use Rattle.gj_shape.specs.Table.{table, IsMinimal}
 use Rattle.gj_shape.specs.FirstViolation.{Test, Passes, PassesAll, near, first_coordinates, second_coordinates}
 use Rattle.gj_shape.specs.FirstViolation.Test.{zero_at_zero, nonnegative_at, nonnegative_after, nonnegative_before, symmetric_at, symmetric_between, subadditive_at}
 use Rattle.gj_shape.specs.declared.faces.FaceKind.{FaceKind}
-use Rattle.gj_shape.specs.declared.faces.FaceKind.TheVariants.{Vertex, Horizontal, Vertical, Diagonal, Lower, Upper}
 use Rattle.gj_shape.proofs.TableLemmas.{table_of_order}
 use Rattle.gj_theory.specs.EarlierTests.{IsTestOf}
 use Rattle.gj_theory.specs.NearCorners.{near_value, total}
-use Rattle.gj_theory.proofs.Affine.{table_inside, near_after, near_before, near_corner}
+use Rattle.gj_theory.proofs.Affine.{limit_count, table_inside, near_after, near_before, near_corner}
 use Rattle.gj_theory.proofs.EachTest.{each_test}
 
 -- indices that add up to f, one turn on, are opposite on the grid
@@ -42,26 +41,6 @@ left_limit : (f : FunctionData) → IsMinimal f → (i : ℕ) → pos 0 ≤ℤ a
 left_limit f h i =
     limit_from_near 2 (at f.left (i + 1)) (total (at f.right i ∷ at f.left (i + 1) ∷ [])) (λ n low some.
     subst (λ z. pos 0 ≤ℤ z) (near_before f i n low) ((h n some).nonnegative (i * n + n - 1)))
-
--- a face has one limit for each corner
-pub limit_count : (f : FunctionData) (kind : FaceKind) (a b : ℕ) →
-    length (limits_of f kind a b) ≡ length (corners_of kind a b)
-limit_count f Vertex a b = refl
-limit_count f Horizontal a b = refl
-limit_count f Vertical a b = refl
-limit_count f Diagonal a b = refl
-limit_count f Lower a b = refl
-limit_count f Upper a b = refl
-
--- a face has one to three corners
-pub some_corners : (kind : FaceKind) (a b : ℕ) →
-    (0 < length (corners_of kind a b)) × (length (corners_of kind a b) ≤ 3)
-some_corners Vertex a b = (omega arith, omega arith)
-some_corners Horizontal a b = (omega arith, omega arith)
-some_corners Vertical a b = (omega arith, omega arith)
-some_corners Diagonal a b = (omega arith, omega arith)
-some_corners Lower a b = (omega arith, omega arith)
-some_corners Upper a b = (omega arith, omega arith)
 
 -- what a sum exceeds another by where it is not less
 excess : (s w : ℤ) {x : ℤ} → x ≡ s +ℤ w → s ≤ℤ x → pos 0 ≤ℤ w

@@ -17,8 +17,7 @@ use Rattle.gj_shape.specs.declared.violations.Violation.TheVariants as violation
 use Rattle.gj_shape.proofs.TableLemmas.{table_of_order, table_period}
 use Rattle.gj_theory.specs.EarlierTests.{IsTestOf}
 use Rattle.gj_theory.specs.GridPoints.{IsMultiple, HoldsPoints}
-use Rattle.gj_theory.proofs.Affine.{table_inside}
-use Rattle.gj_theory.proofs.TestsFromMinimal.{some_corners}
+use Rattle.gj_theory.proofs.Affine.{table_inside, some_corners}
 use Rattle.gj_tools.proofs.Lists.{All-back}
 use Rattle.gj_theory.proofs.EachTest.{each_test}
 use Rattle.gj_theory.proofs.ShownPoints.{value_at_place, same_on_both, below_scaled, pair_at_places, scales_swapped, shows_zero, shows_negative, shows_asymmetric, shows_superadditive}
