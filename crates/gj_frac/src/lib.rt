@@ -7,6 +7,7 @@ ghost use Rattle.gj_frac.specs.Lowest.{IsLowest};
 
 mod checked;
 mod comparison;
+mod divisors;
 mod laws;
 mod negation;
 mod operators;
@@ -17,6 +18,7 @@ mod rounding;
 mod tests;
 
 pub use checked::{DivFault, Wide};
+pub use divisors::gcd;
 pub use laws::{ExactNumber, equal_values_are_one};
 pub use operators::fits_over_one_denominator;
 use parts::{common_divisor, quotient};

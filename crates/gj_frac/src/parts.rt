@@ -2,19 +2,7 @@
 ghost use Rattle.std.specs.Prelude.{◌≡◌, ◌≢◌, ℕ, ◌/◌, ◌<◌, ◌^◌, ◌*ℤ◌, ◌+ℤ◌, ◌-ℤ◌, ◌<ℤ◌, pos, unsigned_abs};
 ghost use Rattle.std.specs.Int.{IsGcd, ◌∣◌};
 
-/// The greatest common divisor of two whole numbers, by Euclid's algorithm.
-pub(crate) fn greatest_common_divisor(a: u128, b: u128) -> u128
-    ensures { IsGcd a b result }
-{
-    let mut x = a;
-    let mut y = b;
-    while y != 0 {
-        let rest = x % y;
-        x = y;
-        y = rest;
-    }
-    x
-}
+use crate::divisors::gcd;
 
 /// The greatest common divisor of the absolute values of two whole numbers, the second not 0.
 pub(crate) fn common_divisor(n: i128, d: i128) -> i128
@@ -23,7 +11,7 @@ pub(crate) fn common_divisor(n: i128, d: i128) -> i128
     ensures positive { pos 0 <ℤ result }
     ensures greatest { IsGcd (unsigned_abs n) (unsigned_abs d) (unsigned_abs result) }
 {
-    greatest_common_divisor(n.unsigned_abs(), d.unsigned_abs()) as i128
+    gcd(n.unsigned_abs(), d.unsigned_abs()) as i128
 }
 
 /// A whole number divided by one of its divisors.
@@ -32,6 +20,9 @@ pub(crate) fn quotient(n: i128, divisor: i128) -> i128
     requires divides { unsigned_abs divisor ∣ unsigned_abs n }
     ensures { result *ℤ divisor ≡ n }
 {
+    if divisor == 1 {
+        return n;
+    }
     n / divisor
 }
 

@@ -4,6 +4,7 @@ use Rattle.std.proofs.Math.Nat.{mul_comm, mul_assoc, mul_right_comm, one-mul, po
 use Rattle.std.specs.Int.{IsGcd, ◌∣◌}
 use Rattle.std.proofs.lemmas.Nat.Gcd.{IsGcd-swap, dvd_trans, dvd_antisymm}
 use Rattle.std.proofs.lemmas.Int.{unsigned_abs-mul}
+pub use Rattle.gj_tools.specs.Divisors.{IsLcm}
 pub use Rattle.gj_tools.proofs.Coprime.{cofactor, gcd_exists, gcd_scaled, gauss, same_ratio_nat, same_ratio}
 use Rattle.gj_tools.proofs.Integers.{mul_assoc_z, mul_comm_z}
 
@@ -69,13 +70,7 @@ multiple_is_whole n d k p =
     let turned = ap (λ z. pos c *ℤ z) (mul_comm_z (pos d) n) in
     (pos c *ℤ n, split ∙ turned ∙ sym (mul_assoc_z (pos c) n (pos d)))
 
--- ---- one fraction in lowest terms
-
 -- ---- the least common multiple
-
--- m is the least common multiple of a and b: both divide it, and it divides each number that both divide
-abbrev pub IsLcm : ℕ → ℕ → ℕ → Type 0
-IsLcm a b m = (a ∣ m) × (b ∣ m) × ((c : ℕ) → a ∣ c → b ∣ c → m ∣ c)
 
 -- what a' g and b' g divide, a' b' g divides, where a' and b' have only 1 in common
 common_multiple : (a b g c : ℕ) → IsGcd a b 1 → 0 < g → a * g ∣ c → b * g ∣ c → a * b * g ∣ c

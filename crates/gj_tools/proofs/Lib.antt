@@ -4,3 +4,5 @@ pub mod Integers
 pub mod Ring
 pub mod Divisors
 pub mod Quotients
+pub mod Lists
+pub mod FirstThatFails

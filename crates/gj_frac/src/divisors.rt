@@ -1,0 +1,36 @@
+//! The greatest common divisor.
+ghost use Rattle.std.specs.Int.{IsGcd};
+
+/// The greatest common divisor of two whole numbers, by Euclid's algorithm; that of 0 and 0 is 0.
+///
+/// From the first divisor below 2^64 on, all remainders are taken in 64 bits, which is much faster.
+pub fn gcd(a: u128, b: u128) -> u128
+    ensures { IsGcd a b result }
+{
+    let mut x = a;
+    let mut y = b;
+    while y >= 1 << 64 {
+        let rest = x % y;
+        x = y;
+        y = rest;
+    }
+    if y == 0 {
+        return x;
+    }
+    let rest = x % y;
+    u128::from(gcd_in_64_bits(y as u64, rest as u64))
+}
+
+/// The greatest common divisor of two whole numbers below 2^64, by Euclid's algorithm.
+fn gcd_in_64_bits(a: u64, b: u64) -> u64
+    ensures { IsGcd a b result }
+{
+    let mut x = a;
+    let mut y = b;
+    while y != 0 {
+        let rest = x % y;
+        x = y;
+        y = rest;
+    }
+    x
+}
