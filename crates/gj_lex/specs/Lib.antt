@@ -5,3 +5,4 @@ pub mod Reason
 pub mod Words
 pub mod TextLines
 pub mod Parts
+pub mod SpelledNumbers
