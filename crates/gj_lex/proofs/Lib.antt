@@ -4,7 +4,7 @@ pub mod LineEnds
 pub mod LineWords
 pub mod Places
 pub mod SignedNumbers
-pub mod Spelling
+pub mod CanonicalTexts
 pub mod WordBytes
 pub mod WordRuns
 pub mod WordTexts
