@@ -9,3 +9,9 @@ pub mod WordBytes
 pub mod WordRuns
 pub mod WordTexts
 pub mod WrittenNumbers
+pub mod LenientLines
+pub mod StrictLines
+pub mod LineNumbers
+pub mod PartLaws
+pub mod SpelledWords
+pub mod CursorLines
