@@ -15,3 +15,4 @@ pub mod LineNumbers
 pub mod PartLaws
 pub mod SpelledWords
 pub mod CursorLines
+pub mod LoopLaws

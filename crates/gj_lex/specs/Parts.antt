@@ -51,6 +51,25 @@ then_part {A} p next = record {
 abbrev pub made_part : {A B : Type 0} → (A → B → Type 0) → Part A → Part B
 made_part {A} Makes p = record { Reads = λ text b rest. (a : A) × p.Reads text a rest × Makes a b; Faults = p.Faults }
 
+-- the part of each state is read in turn: it leads to a next state, or ends with what the whole spells
+pub data ReadsInTurn {S A : Type 0} (Reads : S → List ℕ → S ⊎ A → List ℕ → Type 0) (a : A) (rest : List ℕ) : S → List ℕ → Type 0 where
+  last : (s : S) (text : List ℕ) → Reads s text (inr a) rest → ReadsInTurn Reads a rest s text
+  onward : (s : S) (text : List ℕ) (next : S) (middle : List ℕ) → Reads s text (inl next) middle →
+      ReadsInTurn Reads a rest next middle → ReadsInTurn Reads a rest s text
+
+-- and the first that has a fault is at fault
+pub data FaultsInTurn {S A : Type 0} (Reads : S → List ℕ → S ⊎ A → List ℕ → Type 0) (Faults : S → List ℕ → List ℕ → Reason → Type 0)
+    (start : List ℕ) (e : Reason) : S → List ℕ → Type 0 where
+  here : (s : S) (text : List ℕ) → Faults s text start e → FaultsInTurn Reads Faults start e s text
+  later : (s : S) (text : List ℕ) (next : S) (middle : List ℕ) → Reads s text (inl next) middle →
+      FaultsInTurn Reads Faults start e next middle → FaultsInTurn Reads Faults start e s text
+
+abbrev pub loop_part : {S A : Type 0} → (S → Part (S ⊎ A)) → S → Part A
+loop_part part s = record {
+  Reads = λ text a rest. ReadsInTurn (λ t. (part t).Reads) a rest s text;
+  Faults = λ text start e. FaultsInTurn (λ t. (part t).Reads) (λ t. (part t).Faults) start e s text;
+}
+
 -- nothing follows
 abbrev pub end_part : {A : Type 0} → Spelling → A → Part A
 end_part s a = record {
