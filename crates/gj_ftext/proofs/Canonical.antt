@@ -18,7 +18,7 @@ use Rattle.gj_lex.specs.NumberText.{denominator_text, fraction_text, IsWordByte,
 use Rattle.gj_lex.specs.NumberText.IsWritten.{whole, ratio}
 use Rattle.gj_lex.specs.Words.{is_blank, word_texts}
 use Rattle.gj_lex.proofs.Decimals.{decimal_some}
-use Rattle.gj_lex.proofs.Spelling.{denominator_one, denominator_more}
+use Rattle.gj_lex.proofs.CanonicalTexts.{denominator_one, denominator_more}
 use Rattle.gj_lex.proofs.WordBytes.{decimal_bytes, decimal_is_word, fraction_is_word, fraction_some}
 use Rattle.gj_shape.specs.FunctionData.{FunctionData, IsWithinBounds}
 use Rattle.gj_lines.specs.FunctionLines.{line, order_line, place_line, has_no_jump, point_text, point_line}

@@ -4,8 +4,15 @@ pub mod LineEnds
 pub mod LineWords
 pub mod Places
 pub mod SignedNumbers
-pub mod Spelling
+pub mod CanonicalTexts
 pub mod WordBytes
 pub mod WordRuns
 pub mod WordTexts
 pub mod WrittenNumbers
+pub mod LenientLines
+pub mod StrictLines
+pub mod LineNumbers
+pub mod PartLaws
+pub mod SpelledWords
+pub mod CursorLines
+pub mod LoopLaws

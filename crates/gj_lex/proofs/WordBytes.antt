@@ -11,7 +11,7 @@ use Rattle.std.proofs.lemmas.Fmt.{decimal_is_IsNumeral_wide}
 use Rattle.gj_frac.specs.declared.Frac.{Frac}
 use Rattle.gj_lex.specs.NumberText.{denominator_text, fraction_text, IsNumberByte, IsWordByte}
 use Rattle.gj_lex.proofs.Decimals.{decimal_some}
-use Rattle.gj_lex.proofs.Spelling.{denominator_small, denominator_more}
+use Rattle.gj_lex.proofs.CanonicalTexts.{denominator_small, denominator_more}
 
 -- bytes whose values are those of digits are digits
 pub all_from_digits : (ds : List ℕ) → AllDigits 10 ds → All IsAsciiDigit ds

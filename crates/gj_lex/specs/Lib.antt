@@ -3,3 +3,6 @@ pub mod Name
 pub mod NumberText
 pub mod Reason
 pub mod Words
+pub mod TextLines
+pub mod Parts
+pub mod SpelledNumbers

@@ -6,7 +6,7 @@ use Rattle.gj_frac.specs.declared.Frac.{Frac}
 use Rattle.gj_lex.specs.NumberText.{fraction_text}
 use Rattle.gj_lex.specs.declared.reason.Reason.{Reason}
 use Rattle.gj_lex.proofs.Decimals.{same_from_decimal}
-use Rattle.gj_lex.proofs.Spelling.{same_from_fraction_text}
+use Rattle.gj_lex.proofs.CanonicalTexts.{same_from_fraction_text}
 use Rattle.gj_shape.specs.Given.{IsOrder}
 use Rattle.gj_shape.specs.declared.violations.Violation.{Violation}
 use Rattle.gj_shape.specs.declared.violations.Violation.TheVariants as v

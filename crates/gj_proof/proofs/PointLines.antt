@@ -8,7 +8,7 @@ use Rattle.std.proofs.lemmas.List.Elements.{All-nil, All-cons, All-head, All-tai
 use Rattle.gj_frac.specs.declared.Frac.{Frac}
 use Rattle.gj_frac.specs.Fraction.{numerator, denominator}
 use Rattle.gj_lex.specs.NumberText.{fraction_text}
-use Rattle.gj_lex.proofs.Spelling.{same_from_fraction_text}
+use Rattle.gj_lex.proofs.CanonicalTexts.{same_from_fraction_text}
 use Rattle.gj_lines.specs.FunctionLines.{line, is_same, has_no_jump, point_text, point_line}
 use Rattle.gj_lines.specs.declared.points.Point.{Point}
 use Rattle.gj_lines.proofs.GivenPoints.{same_points}

@@ -2,7 +2,7 @@ use Rattle.std.proofs.Common.{ap, ◌∙◌}
 use mir.Val.{of_z}
 use mir.Syntax.{w128}
 use Rattle.std.proofs.lemmas.Int.{to_z-of_z}
-use Rattle.gj_lex.proofs.Spelling.{lowest_parts}
+use Rattle.gj_lex.proofs.CanonicalTexts.{lowest_parts}
 use Rattle.gj_lex.proofs.canonical.in_lowest_terms.Goals as goal
 use Rattle.gj_lex.proofs.canonical.in_lowest_terms.Goals.{then-num-via-then-num, then-num-via-else-num+then-den}
 

@@ -1,4 +1,4 @@
-use Rattle.gj_lex.proofs.Spelling.{canonical_only, same_pair, within_bits}
+use Rattle.gj_lex.proofs.CanonicalTexts.{canonical_only, same_pair, within_bits}
 use Rattle.gj_lex.proofs.canonical.read_canonical.Goals as goal
 
 pub returns-clause-only : goal.returns-clause-only

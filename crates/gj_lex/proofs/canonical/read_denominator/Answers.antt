@@ -2,7 +2,7 @@ use Rattle.std.proofs.Common.{◌≡◌, ◌≤◌, Some, ap, sym, ◌∙◌, ar
 use Rattle.std.proofs.lemmas.Int.{ints, to_z_pos}
 use mir.Syntax.{w128}
 use Rattle.gj_lex.specs.NumberText.{denominator_text}
-use Rattle.gj_lex.proofs.Spelling.{empty_word, denominator_one, denominator_none, denominator_found, denominator_read, denominator_refused}
+use Rattle.gj_lex.proofs.CanonicalTexts.{empty_word, denominator_one, denominator_none, denominator_found, denominator_read, denominator_refused}
 use Rattle.gj_lex.proofs.canonical.read_denominator.Goals as goal
 
 pub returns-in_default-clause-found : goal.returns-in_default-clause-found

@@ -1,6 +1,6 @@
 use Rattle.std.proofs.Common.{◌≡◌, Some, ap, arith, unwrap_or, unsigned_abs}
 use Rattle.std.proofs.lemmas.Int.{ints}
-use Rattle.gj_lex.proofs.Spelling.{negative_read}
+use Rattle.gj_lex.proofs.CanonicalTexts.{negative_read}
 use Rattle.gj_lex.proofs.canonical.read_numerator.Goals as goal
 
 pub returns-in_err-n-in-Some-clause-only : goal.returns-in_err-n-in-Some-clause-only

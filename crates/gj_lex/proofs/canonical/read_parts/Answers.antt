@@ -1,6 +1,6 @@
 use Rattle.std.proofs.Common.{ap, ◌∙◌, take, drop, unwrap_or, pos}
 use Rattle.std.proofs.lemmas.List.Sums.{prefix_len-le-length}
-use Rattle.gj_lex.proofs.Spelling.{parts_of_text, within_bits}
+use Rattle.gj_lex.proofs.CanonicalTexts.{parts_of_text, within_bits}
 use Rattle.gj_lex.proofs.canonical.read_parts.Goals as goal
 
 pub split_at-requires : goal.split_at-requires

@@ -1,5 +1,5 @@
 use Rattle.std.proofs.Common.{ap, ◌∙◌, unwrap_or, length}
-use Rattle.gj_lex.proofs.Spelling.{position_unwrapped}
+use Rattle.gj_lex.proofs.CanonicalTexts.{position_unwrapped}
 use Rattle.gj_lex.proofs.lenient.mark_place.Goals as goal
 
 pub returns : goal.returns

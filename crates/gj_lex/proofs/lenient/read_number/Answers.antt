@@ -2,7 +2,7 @@ use Rattle.std.proofs.Common.{subst, sym, inl}
 use mir.Syntax.{w128}
 use Rattle.std.proofs.lemmas.Int.{to_z_pos}
 use Rattle.gj_lex.specs.NumberText.{IsWritten}
-use Rattle.gj_lex.proofs.Spelling.{within_bits}
+use Rattle.gj_lex.proofs.CanonicalTexts.{within_bits}
 use Rattle.gj_lex.proofs.SignedNumbers.{with_sign_small, number_found, number_only, same_numbers}
 use Rattle.gj_lex.proofs.lenient.read_number.Goals as goal
 

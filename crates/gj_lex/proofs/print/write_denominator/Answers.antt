@@ -1,7 +1,7 @@
 use Rattle.std.proofs.Common.{ap, sym, ◌∙◌, ◌++◌, ◌∷◌, decimal, append-nil, arith}
 use Rattle.std.proofs.Math.Seq.{drop-length}
 use Rattle.gj_lex.proofs.Decimals.{written_before}
-use Rattle.gj_lex.proofs.Spelling.{denominator_small, denominator_more}
+use Rattle.gj_lex.proofs.CanonicalTexts.{denominator_small, denominator_more}
 use Rattle.gj_lex.proofs.print.write_denominator.Goals as goal
 
 pub returns-then-den-lt2-clause-written : goal.returns-then-den-lt2-clause-written

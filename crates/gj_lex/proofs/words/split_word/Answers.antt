@@ -1,7 +1,7 @@
 use Rattle.std.proofs.Common.{◌-◌, ◌∷◌, ◌∙◌, length, take, drop, unwrap_or, sym, ap, subst}
 use Rattle.std.proofs.lemmas.List.{take_rest}
 use Rattle.gj_lex.specs.Words.{HasAtFront, word_texts}
-use Rattle.gj_lex.proofs.Spelling.{position_unwrapped}
+use Rattle.gj_lex.proofs.CanonicalTexts.{position_unwrapped}
 use Rattle.gj_lex.proofs.LineWords.{first_word, no_words, word_parts}
 use Rattle.gj_lex.proofs.words.split_word.Goals as goal
 

@@ -2,7 +2,7 @@ use Rattle.std.proofs.Common.{◌≡◌, ◌%◌, refl, sym, ap, ◌∙◌, arit
 use Rattle.std.proofs.lemmas.Option.{none-some}
 use Rattle.std.proofs.lemmas.Int.{ints}
 use Rattle.std.proofs.lemmas.Bool.{false≢true}
-use Rattle.gj_lex.proofs.Spelling.{within_bits}
+use Rattle.gj_lex.proofs.CanonicalTexts.{within_bits}
 use Rattle.gj_lines.proofs.Places.{some_order, place_parts, place_found, product_is}
 use Rattle.gj_lines.proofs.place.place_of.Goals as goal
 
