@@ -235,18 +235,8 @@ pub first_failed : (f : FunctionData) (t : Test) (v : Violation) → IsTestOf f 
     Shows f t v → IsFirstViolation f v
 first_failed f t v is before fails shows =
     let (passed, first) = fails_first f t is before fails in
-    record {
-      before = passed;
-      test = t;
-      after = first.after;
-      place = first.place;
-      passed = first.good;
-      fails = fails;
-      shows = shows;
-    }
+    record { before = passed; test = t; first = first; shows = shows }
 
 -- where there is a first violation not all tests pass
 pub first_denies : (f : FunctionData) (v : Violation) → IsFirstViolation f v → PassesAll f → ⊥
-first_denies f v h =
-    first_failing_denies_all (Passes f) (tests_of f) h.before h.test
-    (first_failing (Passes f) (tests_of f) h.before h.after h.test h.place h.passed h.fails)
+first_denies f v h = first_failing_denies_all (Passes f) (tests_of f) h.before h.test h.first

@@ -37,7 +37,7 @@ point_of x i q some h =
       unsigned_abs x.num,
       unsigned_abs x.den,
       record {
-        point = record { top = parts.0; bottom = parts.1; positive = parts.2 };
+        point = record { numerator_is = parts.0; denominator_is = parts.1; positive = parts.2 };
         equal = parts.3;
       },
     )

@@ -9,7 +9,7 @@ use Rattle.std.proofs.lemmas.List.Elements.{All-head}
 use Rattle.gj_frac.specs.declared.Frac.{Frac}
 use Rattle.gj_shape.specs.FunctionData.{FunctionData, IsWithinBounds, at}
 use Rattle.gj_shape.specs.Table.{table, IsMinimalOnGrid, IsMinimal}
-use Rattle.gj_shape.specs.FirstViolation.{Test, Passes, Shows, IsOnGrid, MidpointsAgree, IsFirstViolation, near, first_coordinates, second_coordinates}
+use Rattle.gj_shape.specs.FirstViolation.{Test, Passes, Shows, IsOnGrid, MidpointsAgree, IsFirstViolation, tests_of, near, first_coordinates, second_coordinates}
 use Rattle.gj_shape.specs.FirstViolation.Test.{zero_at_zero, nonnegative_at, nonnegative_after, nonnegative_before, symmetric_at, symmetric_between, subadditive_at}
 use Rattle.gj_shape.specs.Violation.{IsPoint, IsNegativeAt, IsAsymmetricAt, IsSuperadditiveAt, value_of, ShowsViolation}
 use Rattle.gj_shape.specs.declared.violations.Violation.{Violation}
@@ -19,6 +19,7 @@ use Rattle.gj_theory.specs.EarlierTests.{IsTestOf}
 use Rattle.gj_theory.specs.GridPoints.{IsMultiple, HoldsPoints}
 use Rattle.gj_theory.proofs.Affine.{table_inside, some_corners}
 use Rattle.gj_tools.proofs.Lists.{All-back}
+use Rattle.gj_tools.proofs.FirstThatFails.{first_failing_fails}
 use Rattle.gj_theory.proofs.EachTest.{each_test}
 use Rattle.gj_theory.proofs.ShownPoints.{value_at_place, same_on_both, below_scaled, pair_at_places, scales_swapped, shows_zero, shows_negative, shows_asymmetric, shows_superadditive}
 
@@ -27,8 +28,8 @@ use Rattle.gj_theory.proofs.ShownPoints.{value_at_place, same_on_both, below_sca
 -- the test that gives the first violation is one of the function's
 test_is_of : (f : FunctionData) (v : Violation) → (h : IsFirstViolation f v) → IsTestOf f h.test
 test_is_of f v h =
-    let all = subst (All (IsTestOf f)) h.place (each_test f (IsTestOf f) (λ t i. i)) in
-    All-head (IsTestOf f) h.test h.after (All-back (IsTestOf f) h.before (h.test ∷ h.after) all)
+    let all = subst (All (IsTestOf f)) h.first.place (each_test f (IsTestOf f) (λ t i. i)) in
+    All-head (IsTestOf f) h.test h.first.after (All-back (IsTestOf f) h.before (h.test ∷ h.first.after) all)
 
 -- a number that is not at least 0 is less
 not_nonnegative : (x : ℤ) → (pos 0 ≤ℤ x → ⊥) → x <ℤ pos 0
@@ -104,7 +105,9 @@ shown_by f (subadditive_at kind a b c) v some i fails s =
 
 -- the first violation is shown at its points
 pub first_shown : (f : FunctionData) (v : Violation) → IsWithinBounds f → IsFirstViolation f v → ShowsViolation f v
-first_shown f v l h = shown_by f h.test v (omega arith) (test_is_of f v h) h.fails h.shows
+first_shown f v l h =
+    let fails = first_failing_fails (Passes f) (tests_of f) h.before h.test h.first in
+    shown_by f h.test v (omega arith) (test_is_of f v h) fails h.shows
 
 -- ---- a violation denies minimality
 
@@ -113,7 +116,7 @@ index_on : (f : FunctionData) (m : ℕ) (x : Frac) (n d : ℕ) → IsPoint x n d
     (i : ℕ) × (n * (f.order * m) ≡ i * d)
 index_on f m x n d point (i, is) =
     let whole : pos n *ℤ pos (f.order * m) ≡ i *ℤ pos d =
-    ap (λ z. z *ℤ pos (f.order * m)) (sym point.top) ∙ is ∙ ap (λ z. i *ℤ z) point.bottom in
+    ap (λ z. z *ℤ pos (f.order * m)) (sym point.numerator_is) ∙ is ∙ ap (λ z. i *ℤ z) point.denominator_is in
     (unsigned_abs i, ap unsigned_abs whole ∙ unsigned_abs-mul i (pos d))
 
 -- the function's value at 0 is that of each table
@@ -192,7 +195,7 @@ multiple_on f x n d c point =
     let top = pos (n * c * f.order) in
     let swapped : n * (f.order * (d * c)) ≡ n * c * f.order * d = omega arith in (
       top,
-      ap (λ z. z *ℤ pos (f.order * (d * c))) point.top ∙ ap pos swapped ∙ ap (λ z. top *ℤ z) (sym point.bottom),
+      ap (λ z. z *ℤ pos (f.order * (d * c))) point.numerator_is ∙ ap pos swapped ∙ ap (λ z. top *ℤ z) (sym point.denominator_is),
     )
 
 -- some grid holds the points of a violation that is shown
