@@ -1,6 +1,8 @@
 -- What dividing both parts of a fraction by their greatest common divisor gives.
 use Rattle.std.proofs.Common.{◌≡◌, ◌≢◌, ℕ, ◌<◌, ◌≤◌, ◌^◌, ℤ, pos, negsuc, ◌+ℤ◌, ◌-ℤ◌, ◌*ℤ◌, neg_ℤ, zero, suc, ◌<ℤ◌, unsigned_abs, int_div, int_rem, sym, ◌∙◌, ap, subst, subst₂, refl, arith, to_z, of_z}
 use Rattle.std.specs.Int.{IsGcd, ◌∣◌}
+use Rattle.gj_frac.specs.declared.Frac.{Frac}
+use Rattle.gj_frac.specs.Fraction.{IsRatio}
 use Rattle.gj_frac.specs.Lowest.{IsLowest}
 use Rattle.std.proofs.lemmas.Int.{quot-rem, unsigned_abs-mul, fits_signed_from_abs, to_z-of_z, ints}
 use Rattle.std.proofs.lemmas.Nat.Gcd.{mod-eq-zero_of_dvd, le_of_dvd}
@@ -72,3 +74,16 @@ lowest_negated num den h f g d =
 -- a part of a fraction is read as it is
 pub read_part : (z : ℤ) → unsigned_abs z < 2 ^ 127 → to_z w128 (of_z w128 z) ≡ z
 read_part z h = to_z-of_z w128 z (fits_signed_from_abs w128 z h)
+
+-- so is a ratio of parts
+pub num_over_den : (x y z : Frac) → IsRatio z (to_z w128 (of_z w128 x.num)) (to_z w128 (of_z w128 y.den)) →
+    IsRatio z x.num y.den
+num_over_den x y z = subst₂ (IsRatio z) (read_part x.num x.lowest.num_fits) (read_part y.den y.lowest.den_fits)
+
+pub num_over_num : (x y z : Frac) → IsRatio z (to_z w128 (of_z w128 x.num)) (to_z w128 (of_z w128 y.num)) →
+    IsRatio z x.num y.num
+num_over_num x y z = subst₂ (IsRatio z) (read_part x.num x.lowest.num_fits) (read_part y.num y.lowest.num_fits)
+
+pub den_over_den : (x y z : Frac) → IsRatio z (to_z w128 (of_z w128 x.den)) (to_z w128 (of_z w128 y.den)) →
+    IsRatio z x.den y.den
+den_over_den x y z = subst₂ (IsRatio z) (read_part x.den x.lowest.den_fits) (read_part y.den y.lowest.den_fits)

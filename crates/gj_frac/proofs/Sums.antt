@@ -1,7 +1,7 @@
 -- Two fractions over their common denominator, and what adding their numerators there gives.
-use Rattle.std.proofs.Common.{◌≡◌, ◌≢◌, ℕ, ◌*◌, ◌/◌, ℤ, pos, ◌+ℤ◌, ◌-ℤ◌, ◌*ℤ◌, ◌<ℤ◌, unsigned_abs, sym, ap, ◌∙◌, arith}
+use Rattle.std.proofs.Common.{◌≡◌, ◌≢◌, ℕ, ◌*◌, ◌/◌, ℤ, pos, ◌+ℤ◌, ◌-ℤ◌, ◌*ℤ◌, ◌<ℤ◌, unsigned_abs, sym, ap, ◌∙◌, arith, to_z, of_z, FitsSigned}
 use Rattle.std.proofs.Math.Nat.{mul-div_cancel, zero-mul}
-use Rattle.std.proofs.lemmas.Int.{ints, unsigned_abs-mul}
+use Rattle.std.proofs.lemmas.Int.{ints, unsigned_abs-mul, to_z-of_z}
 use Rattle.std.proofs.lemmas.Nat.Gcd.{same_from_IsGcd}
 use Rattle.std.specs.Int.{IsGcd}
 use Rattle.gj_frac.specs.declared.Frac.{Frac}
@@ -9,6 +9,8 @@ use Rattle.gj_frac.specs.Fraction.{IsRatio}
 use Rattle.gj_frac.specs.Fits.{IsDenominatorGcd, scaled_numerator, common_denominator}
 use Rattle.gj_tools.proofs.Integers.{mul_assoc_z, mul_lt_cancel_right_z, mul_some_z, abs_positive_z, positive_some_z, pos_abs_z}
 use Rattle.gj_tools.proofs.Divisors.{quotient_times, crossed_quotients}
+use Rattle.gj_frac.proofs.Reduced.{read_part}
+use mir.Syntax.{w128}
 use Rattle.gj_tools.proofs.Ratios.{ratio_along, ratio_sum, ratio_difference}
 
 -- ---- the common denominator
@@ -33,6 +35,25 @@ pub quotient_by_gcd : (n d e q : ℤ) (g : ℕ) → pos 0 <ℤ n → pos 0 <ℤ 
     q ≡ pos (unsigned_abs n / g)
 quotient_by_gcd n d e q g some d_some is h k =
     quotient_is n d q some d_some is ∙ ap (λ (m : ℕ). pos (unsigned_abs n / m)) (same_from_IsGcd _ _ _ _ h k)
+
+-- the quotients of the denominators of x and y as the code reads them
+pub first_quotient : (x y : Frac) (r : ℤ) → FitsSigned w128 r →
+    ((g : ℕ) → IsGcd (unsigned_abs (to_z w128 (of_z w128 x.den))) (unsigned_abs (to_z w128 (of_z w128 y.den))) g →
+    r ≡ pos (unsigned_abs (to_z w128 (of_z w128 x.den)) / g)) →
+    (g : ℕ) → IsDenominatorGcd x y g → to_z w128 (of_z w128 r) ≡ pos (unsigned_abs x.den / g)
+first_quotient x y r fits is =
+    let first = read_part x.den x.lowest.den_fits in
+    let second = read_part y.den y.lowest.den_fits in
+    λ g h. to_z-of_z w128 r fits ∙ (simp (first, second) at is) g h
+
+pub second_quotient : (x y : Frac) (r : ℤ) → FitsSigned w128 r →
+    ((g : ℕ) → IsGcd (unsigned_abs (to_z w128 (of_z w128 x.den))) (unsigned_abs (to_z w128 (of_z w128 y.den))) g →
+    r ≡ pos (unsigned_abs (to_z w128 (of_z w128 y.den)) / g)) →
+    (g : ℕ) → IsDenominatorGcd x y g → to_z w128 (of_z w128 r) ≡ pos (unsigned_abs y.den / g)
+second_quotient x y r fits is =
+    let first = read_part x.den x.lowest.den_fits in
+    let second = read_part y.den y.lowest.den_fits in
+    λ g h. to_z-of_z w128 r fits ∙ (simp (first, second) at is) g h
 
 -- x over the common denominator of x and y
 pub first_is : (x y : Frac) (g : ℕ) → IsDenominatorGcd x y g →
