@@ -46,7 +46,11 @@ returns-clause-fits c =
     let divisor : c.args.other.num ≢ pos 0 = λ e. c.if-other-eq0.false (ap (of_z w128) e) in
     record {
       divisor = divisor;
-      fits = (c.in_ok-quotient.quotient, product_is_along c.reduced.result c.reduced-2.result c.in_ok-quotient.quotient _ _ _ _ first second c.in_ok-quotient.ensures.value);
+      fits = (
+        c.in_ok-quotient.quotient,
+        product_is_along c.reduced.result c.reduced-2.result c.in_ok-quotient.quotient
+            _ _ _ _ first second c.in_ok-quotient.ensures.value,
+      );
     }
 
 pub returns-clause-value : goal.returns-clause-value
