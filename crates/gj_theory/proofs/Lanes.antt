@@ -1,6 +1,6 @@
 -- Values and limits as lanes: once the tests of signs and of symmetry pass they are naturals up to the scale, and the
 -- limits of the slack in a square are sums of such naturals.
-use Rattle.std.proofs.Common.{◌≡◌, ◌↔◌, ℕ, zero, suc, ◌+◌, ◌-◌, ◌%◌, ◌<◌, ◌≤◌, ℤ, pos, ◌+ℤ◌, ◌≤ℤ◌, List, length, get_or, map, lit<, refl, sym, ap, subst, ◌∙◌, below_none, below_more, arith}
+use Rattle.std.proofs.Common.{◌≡◌, ◌↔◌, ℕ, zero, suc, ◌+◌, ◌-◌, ◌%◌, ◌<◌, ◌≤◌, min, max, ℤ, pos, ◌+ℤ◌, ◌≤ℤ◌, List, length, get_or, map, lit<, refl, sym, ap, subst, ◌∙◌, below_none, below_more, arith}
 use Rattle.std.proofs.Math.Nat.{add_comm, add-mod, mod-lt}
 use Rattle.std.proofs.lemmas.Int.{ints}
 use Rattle.std.proofs.lemmas.List.{get_or-map}
@@ -144,6 +144,39 @@ pub record FitLanes (left value right : ℕ → ℕ) (a b : ℕ) : Type 0 where
       × (left (a + b + 1) ≤ right a + left (b + 1))
   pub upper : (right (a + b + 1) ≤ left (a + 1) + right b) × (right (a + b + 1) ≤ right a + left (b + 1))
       × (left (a + b + 1 + 1) ≤ left (a + 1) + left (b + 1))
+
+-- the same, by where the sum is: at the sum of the indices, before and at the next index, and before the one after that
+pub record FitSums (left value right : ℕ → ℕ) (a b : ℕ) : Type 0 where
+  pub at_sum : (right (a + b) ≤ right a + value b) × (right (a + b) ≤ min (right a) (value a) + right b)
+  pub before_next : (left (a + b + 1) ≤ left (a + 1) + min (value b) (right b))
+      × (left (a + b + 1) ≤ min (right a) (value a) + left (b + 1))
+  pub at_next : (max (value (a + b + 1)) (right (a + b + 1)) ≤ left (a + 1) + right b)
+      × (max (value (a + b + 1)) (right (a + b + 1)) ≤ right a + left (b + 1))
+  pub before_last : left (a + b + 1 + 1) ≤ left (a + 1) + left (b + 1)
+
+min_below : (s t x y : ℕ) → s ≤ t + min x y → (s ≤ t + x) × (s ≤ t + y)
+min_below s t x y h = (omega arith, omega arith)
+
+min_below_left : (s t x y : ℕ) → s ≤ min x y + t → (s ≤ x + t) × (s ≤ y + t)
+min_below_left s t x y h = (omega arith, omega arith)
+
+max_below : (x y t : ℕ) → max x y ≤ t → (x ≤ t) × (y ≤ t)
+max_below x y t h = (omega arith, omega arith)
+
+pub sums_fit : (left value right : ℕ → ℕ) (a b : ℕ) → FitSums left value right a b → FitLanes left value right a b
+sums_fit left value right a b h =
+    let sum = min_below_left _ _ _ _ h.at_sum.1 in
+    let next = min_below _ _ _ _ h.before_next.0 in
+    let next_left = min_below_left _ _ _ _ h.before_next.1 in
+    let across = max_below _ _ _ h.at_next.0 in
+    let across_left = max_below _ _ _ h.at_next.1 in
+    record {
+      horizontal = (h.at_sum.0, next.0);
+      vertical = (sum.1, next_left.1);
+      diagonal = (across.0, across_left.0);
+      lower = (sum.0, next.1, next_left.0);
+      upper = (across.1, across_left.1, h.before_last);
+    }
 
 slack_of_lanes : (x y s : ℕ) (u v t : ℤ) → pos x ≡ u → pos y ≡ v → pos s ≡ t →
     (s ≤ x + y) ↔ (pos 0 ≤ℤ slack_from u v t)
