@@ -13,7 +13,7 @@ use Rattle.gj_complex.specs.Squares.{HasLimits}
 use Rattle.gj_theory.specs.Before.{PassesVertices, PassesFace, PassesSquare, HoldsBefore, PassesKindsBefore, PassesFacesBefore}
 use Rattle.gj_theory.proofs.FirstFailed.{IsNoVertex}
 use Rattle.gj_theory.proofs.Lists.{made_has}
-use Rattle.gj_theory.proofs.Lanes.{PassesAt, FitSums, mirrored_square, continuous_square, square_passes, sums_fit}
+use Rattle.gj_theory.proofs.Lanes.{PassesAt, HasLanes, FitAtSums, mirrored_square, continuous_square, square_passes, fit_from_sums}
 use Rattle.gj_minimal.specs.FirstFailure.{IsFirstFailure, HoldsBelow}
 use Rattle.gj_minimal.specs.declared.failures.Failure.{Failure}
 use Rattle.gj_minimal.specs.declared.failures.Failure.TheVariants as failure
@@ -111,16 +111,21 @@ continuous_passes f a b l continuous v = square_passes_at f a b (continuous_squa
 
 -- a square passes where no limit in it is negative over lanes
 pub square_from_lanes : (f : FunctionData) (l : Lanes) (a b : ℕ) → AreLanesOf f l → PassesVertices f → a < f.order →
-    b < f.order → FitSums (λ i. get_or l.left i 0) (λ i. get_or l.value i 0) (λ i. get_or l.right i 0) a b →
+    b < f.order → FitAtSums (λ i. get_or l.left (i + 1) 0) (λ i. get_or l.value i 0) (λ i. get_or l.right i 0) a b →
     PassesSquare f a b
 square_from_lanes f l a b lanes v a_below b_below sums =
-    let left = λ (i : ℕ). get_or l.left i 0 in
+    let left = λ (i : ℕ). get_or l.left (i + 1) 0 in
     let value = λ (i : ℕ). get_or l.value i 0 in
     let right = λ (i : ℕ). get_or l.right i 0 in
+    let has : HasLanes f (λ i. get_or l.left (i + 1) 0) (λ i. get_or l.value i 0) (λ i. get_or l.right i 0) (2 * f.order)
+    = record {
+      lefts = λ i below. lanes.left.entry (i + 1) (omega arith);
+      values = λ i below. lanes.value.entry i (omega arith);
+      rights = λ i below. lanes.right.entry i (omega arith);
+    } in
     square_passes_at f a b
-    (square_passes f left value right (2 * f.order + 2) a b
-    (record { lefts = lanes.left.entry; values = lanes.value.entry; rights = lanes.right.entry }) (omega arith)
-    (v.vertices a b a_below b_below) (sums_fit left value right a b sums))
+    (square_passes f left value right (2 * f.order) a b has (omega arith) (v.vertices a b a_below b_below)
+    (fit_from_sums left value right a b sums))
 
 -- ---- the first failed limit
 

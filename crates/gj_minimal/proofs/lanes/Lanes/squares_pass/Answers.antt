@@ -1,7 +1,7 @@
 use Rattle.std.proofs.Common.{◌≡◌, ◌+◌, ◌<◌, ◌≤◌, eqb-true, below_more, arith}
 use Rattle.gj_theory.specs.Before.{PassesSquare}
 use Rattle.gj_minimal.proofs.FailedFaces.{square_from_lanes}
-use Rattle.gj_minimal.proofs.LaneReadings.{lane_sum, lesser_lane, max_zero, no_excess}
+use Rattle.gj_theory.proofs.Lanes.{lane_sum, lesser_lane, max_zero, no_excess}
 use Rattle.gj_minimal.proofs.lanes.Lanes.squares_pass.Goals as goal
 
 pub overflow_add-right_first : goal.overflow_add-right_first
@@ -44,10 +44,10 @@ overflow_add-left_first-in-loop-b-3 c =
 pub loop-b-preserved : goal.loop-b-preserved
 loop-b-preserved c none =
     let f = c.args.shape.now in
-    let four = max_zero _ _ _ c.max-excess.ensures none in
-    let three = max_zero _ _ _ c.max-in-loop-b-3.ensures four.0 in
-    let two = max_zero _ _ _ c.max-in-loop-b-2.ensures three.0 in
-    let one = max_zero _ _ _ c.max-in-loop-b.ensures two.0 in
+    let four = (max_zero _ _ _ c.max-excess.ensures).0 none in
+    let three = (max_zero _ _ _ c.max-in-loop-b-3.ensures).0 four.0 in
+    let two = (max_zero _ _ _ c.max-in-loop-b-2.ensures).0 three.0 in
+    let one = (max_zero _ _ _ c.max-in-loop-b.ensures).0 two.0 in
     let at_sum = c.above-at_sum.ensures one.1 in
     let before_next = c.above-before_next.ensures two.1 in
     let at_next = c.above-at_next.ensures three.1 in
@@ -57,7 +57,7 @@ loop-b-preserved c none =
       at_sum = rw c.min-least_first.ensures at at_sum;
       before_next = rw (c.min.ensures, c.min-least_first.ensures) at before_next;
       at_next = rw c.max.ensures at at_next;
-      before_last = no_excess _ _ _ c.saturating_sub-before_last.ensures four.1;
+      before_last = (no_excess _ _ _ c.saturating_sub-before_last.ensures).0 four.1;
     }))
 
 pub returns : goal.returns
