@@ -1,6 +1,12 @@
 pub mod Command
-pub mod Verdict
-pub mod Answer
 pub mod Code
+pub mod Reply
+pub mod Task
+pub mod Forms
+pub mod Minimal
+pub mod Show
+pub mod Check
+pub mod Tasks
+pub mod Answer
 pub mod Outcome
-pub mod Told
+pub mod Causes
