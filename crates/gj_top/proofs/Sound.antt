@@ -10,7 +10,7 @@ use Rattle.gj_top.specs.declared.reply.End.TheVariants.{Done}
 use Rattle.gj_top.specs.Task.{Form, Spells, Refuses, Work, Task}
 use Rattle.gj_top.specs.Forms.{function_text, proof_text}
 use Rattle.gj_top.specs.Minimal.{IsVerdict, IsTrueVerdict}
-use Rattle.gj_top.specs.Tasks.{task_for}
+use Rattle.gj_top.specs.Command.{task_for}
 
 -- no input is both in the form and refused
 abbrev pub RefusesOnlyOthers : {Thing : Type 0} → Form Thing → Type 0

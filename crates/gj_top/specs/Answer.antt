@@ -1,6 +1,7 @@
 -- The answer of the program: its status and its text, and what it read for them (own).
 use Rattle.std.specs.Prelude.{ℕ, ◌≡◌, ◌+◌, ◌<◌, ◌≤◌, Bool, true, false, List, [], drop, length, codes, IsTrue, IfSome, Option, Some, String}
 use Rattle.std.specs.declared.alloc.Global.{Global}
+use Rattle.gj_port.specs.Faults.{HasFailed}
 use Rattle.gj_port.specs.Whole.{TakesUpTo}
 use Rattle.gj_lines.specs.FunctionLines.{line}
 use Rattle.gj_top.specs.declared.command.Command.{Command}
@@ -9,10 +10,9 @@ use Rattle.gj_top.specs.declared.answer.Answer.TheVariants as answer
 use Rattle.gj_top.specs.declared.reply.End.{End}
 use Rattle.gj_top.specs.declared.status.Status.{Status}
 use Rattle.gj_top.specs.declared.status.Status.TheVariants.{Words, Input, ReadFault}
-use Rattle.gj_top.specs.Command.{IsNamed, NameNone}
+use Rattle.gj_top.specs.Command.{IsNamed, NameNone, task_for}
 use Rattle.gj_top.specs.Reply.{status_of}
 use Rattle.gj_top.specs.Task.{Task, reads, Refuses, IsReply}
-use Rattle.gj_top.specs.Tasks.{task_for}
 
 -- the most bytes that are read of an input
 abbrev pub input_limit : ℕ
@@ -62,6 +62,10 @@ pub data IsAnswerTo (task : Task) (input : List ℕ) (status : Status) (text : L
 
 -- ---- the answer to words, and what the source, where it tells its bytes, has left
 
+-- the source failed: its count of faults rose, or stands at its last value, and it is not steady
+abbrev pub IsSourceFault : Bool → ℕ → ℕ → Type 0
+IsSourceFault steady before after = HasFailed before after × (IsTrue steady → ⊥)
+
 -- the input is all that the source had, of which it has left what stands behind the limit and one byte more; or the
 -- source is as it was, where nothing is read
 abbrev pub IsReadWhole : Bool → List ℕ → Option (List ℕ) → Option (List ℕ) → Type 0
@@ -80,11 +84,12 @@ pub record IsWordsAnswer (words : List (String Global)) (left after : Option (Li
   pub status_is : status ≡ Words
   pub spelled : text ≡ words_line
 
--- the words name a command, and the source failed
-pub record IsFaultAnswer (words : List (String Global)) (left after : Option (List ℕ)) (status : Status) (text : List ℕ) : Type 0 where
+-- the words name a command, and the source failed: at most the limit was read
+pub record IsFaultAnswer (words : List (String Global)) (Fault : Type 0) (left after : Option (List ℕ)) (status : Status) (text : List ℕ) : Type 0 where
   pub command : Command
   pub named : IsNamed words command
   pub read : IsTrue (reads (task_for command).form)
+  pub failed : Fault
   pub part : IsReadInPart true left after
   pub status_is : status ≡ ReadFault
   pub spelled : text ≡ fault_line
@@ -97,11 +102,11 @@ pub record IsCommandAnswer (words : List (String Global)) (left after : Option (
   pub whole : IsReadWhole (reads (task_for command).form) input left after
   pub answer : IsAnswerTo (task_for command) input status text
 
--- the status and the text are the answer to the words
-pub data IsAnswer (words : List (String Global)) (left after : Option (List ℕ)) (status : Status) (text : List ℕ) : Type 0 where
-  no_command : IsWordsAnswer words left after status text → IsAnswer words left after status text
-  read_fault : IsFaultAnswer words left after status text → IsAnswer words left after status text
-  of_command : IsCommandAnswer words left after status text → IsAnswer words left after status text
+-- the status and the text are the answer to the words, where `Fault` says that the source failed
+pub data IsAnswer (words : List (String Global)) (Fault : Type 0) (left after : Option (List ℕ)) (status : Status) (text : List ℕ) : Type 0 where
+  no_command : IsWordsAnswer words left after status text → IsAnswer words Fault left after status text
+  read_fault : IsFaultAnswer words Fault left after status text → IsAnswer words Fault left after status text
+  of_command : IsCommandAnswer words left after status text → IsAnswer words Fault left after status text
 
 -- the words name a command, and there is no answer for want of memory
 pub record IsUnanswered (words : List (String Global)) (left after : Option (List ℕ)) : Type 0 where

@@ -5,10 +5,9 @@ use Rattle.gj_top.specs.declared.command.Command.{Command}
 use Rattle.gj_top.specs.declared.reply.End.{End}
 use Rattle.gj_top.specs.declared.status.Status.{Status}
 use Rattle.gj_top.specs.declared.status.Status.TheVariants.{Words, Input, ReadFault, WriteFault, Memory}
-use Rattle.gj_top.specs.Command.{IsNamed, NameNone}
+use Rattle.gj_top.specs.Command.{IsNamed, NameNone, task_for}
 use Rattle.gj_top.specs.Reply.{status_of}
 use Rattle.gj_top.specs.Task.{Task, reads, IsInForm, IsReply, IsTrueReply, HasEnd}
-use Rattle.gj_top.specs.Tasks.{task_for}
 use Rattle.gj_top.specs.Answer.{IsAnswerTo}
 
 -- the headline: the words name a command, the input is in its form, and what was written keeps what the command promises

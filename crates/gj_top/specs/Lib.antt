@@ -1,12 +1,11 @@
-pub mod Command
-pub mod Code
-pub mod Reply
 pub mod Task
 pub mod Forms
 pub mod Minimal
 pub mod Show
 pub mod Check
-pub mod Tasks
+pub mod Command
+pub mod Reply
 pub mod Answer
 pub mod Outcome
 pub mod Causes
+pub mod Code

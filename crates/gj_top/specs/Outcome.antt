@@ -20,22 +20,22 @@ pub record IsSilent (words : List (String Global)) (left left' written written' 
   pub unwritten : written' ≡ written
 
 -- the answer was written, and the status is its status
-pub record IsTold (words : List (String Global)) (left left' written written' : Option (List ℕ)) (result : Status) : Type 0 where
+pub record IsTold (words : List (String Global)) (Fault : Type 0) (left left' written written' : Option (List ℕ)) (result : Status) : Type 0 where
   pub text : List ℕ
-  pub answer : IsAnswer words left left' result text
+  pub answer : IsAnswer words Fault left left' result text
   pub gain : Gains written written' text
 
 -- the sink, which was not sure of the whole text of the answer, failed and took a front of it
-pub record IsCutOff (words : List (String Global)) (left left' written written' : Option (List ℕ)) (sure : ℕ) (result : Status) : Type 0 where
+pub record IsCutOff (words : List (String Global)) (Fault : Type 0) (left left' written written' : Option (List ℕ)) (sure : ℕ) (result : Status) : Type 0 where
   pub status_is : result ≡ WriteFault
   pub status : Status
   pub text : List ℕ
-  pub answer : IsAnswer words left left' status text
+  pub answer : IsAnswer words Fault left left' status text
   pub unsure : sure < length text
   pub gain : GainsFront written written' text
 
--- one of these
-pub data IsOutcome (words : List (String Global)) (left left' written written' : Option (List ℕ)) (sure : ℕ) (result : Status) : Type 0 where
-  silent : IsSilent words left left' written written' result → IsOutcome words left left' written written' sure result
-  told : IsTold words left left' written written' result → IsOutcome words left left' written written' sure result
-  cut_off : IsCutOff words left left' written written' sure result → IsOutcome words left left' written written' sure result
+-- one of these, where `Fault` says that the source failed
+pub data IsOutcome (words : List (String Global)) (Fault : Type 0) (left left' written written' : Option (List ℕ)) (sure : ℕ) (result : Status) : Type 0 where
+  silent : IsSilent words left left' written written' result → IsOutcome words Fault left left' written written' sure result
+  told : IsTold words Fault left left' written written' result → IsOutcome words Fault left left' written written' sure result
+  cut_off : IsCutOff words Fault left left' written written' sure result → IsOutcome words Fault left left' written written' sure result

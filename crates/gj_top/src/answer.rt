@@ -1,9 +1,7 @@
 //! The answer to words and an input, before it is written.
-ghost use Rattle.std.specs.Prelude.{◌≡◌, ◌≢◌, ◌≤◌, length, IfOk, OnErr, IsTrue};
-ghost use Rattle.gj_port.specs.Faults.{HasFailed};
-ghost use Rattle.gj_top.specs.declared.status.Status.TheVariants as status;
-ghost use Rattle.gj_top.specs.Tasks.{task_for};
-ghost use Rattle.gj_top.specs.Answer.{IsAnswer, IsAnswerTo, IsUnanswered, answer_status, answer_text, input_limit};
+ghost use Rattle.std.specs.Prelude.{◌≡◌, ◌≤◌, length, IfOk, OnErr};
+ghost use Rattle.gj_top.specs.Command.{task_for};
+ghost use Rattle.gj_top.specs.Answer.{IsAnswer, IsAnswerTo, IsSourceFault, IsUnanswered, answer_status, answer_text, input_limit};
 
 use crate::command::{Command, command_of, reads_input, reply_to};
 use crate::reply::{Reply, Unanswered};
@@ -63,12 +61,9 @@ pub(crate) fn answer_to<S: Source>(
     source: &mut S,
 ) -> Result<Answer, AllocError>
     ensures answer { IfOk result (λ answer.
-        IsAnswer words.now (S.left source.old) (S.left source.new) (answer_status answer) (answer_text answer)) }
+        IsAnswer words.now (IsSourceFault (S.steady source.old) (S.faults source.old) (S.faults source.new))
+            (S.left source.old) (S.left source.new) (answer_status answer) (answer_text answer)) }
     ensures memory { OnErr result (IsUnanswered words.now (S.left source.old) (S.left source.new)) }
-
-    ensures read_fault { IfOk result (λ answer.
-        answer_status answer ≡ status.ReadFault → HasFailed (S.faults source.old) (S.faults source.new)) }
-    ensures steady { IsTrue (S.steady source.old) → IfOk result (λ answer. answer_status answer ≢ status.ReadFault) }
     ensures count { S.faults source.old ≤ S.faults source.new }
 {
     let Some(command) = command_of(words) else {

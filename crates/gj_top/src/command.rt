@@ -1,8 +1,7 @@
 //! The commands of the program: their words, and how each answers an input.
 ghost use Rattle.std.specs.Prelude.{◌≡◌, IfSome, IfNone};
-ghost use Rattle.gj_top.specs.Command.{command_word, IsNamed, NameNone};
+ghost use Rattle.gj_top.specs.Command.{command_word, IsNamed, NameNone, task_for};
 ghost use Rattle.gj_top.specs.Task.{reads, IsAnswering};
-ghost use Rattle.gj_top.specs.Tasks.{task_for};
 ghost use Rattle.gj_top.specs.declared.command.Command.{Command};
 
 use crate::reply::{Reply, Unanswered};

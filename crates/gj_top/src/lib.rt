@@ -1,13 +1,12 @@
 //! The top call: words and an input in, an answer and a status out.
 #![tactic(auto)]
 
-ghost use Rattle.std.specs.Prelude.{◌≡◌, ◌≢◌, ◌⊎◌, ◌<◌, ◌≤◌, List, ℕ, length, IfSome, IsTrue};
+ghost use Rattle.std.specs.Prelude.{◌≡◌, ◌≢◌, ◌⊎◌, ◌<◌, ◌≤◌, ℕ, List, [], length, Some, IfSome, IsTrue};
 ghost use Rattle.gj_port.specs.Faults.{HasFailed};
 ghost use Rattle.gj_top.specs.declared.command.Command.{Command};
-ghost use Rattle.gj_top.specs.Command.{IsNamed, NameNone};
-ghost use Rattle.gj_top.specs.Task.{IsInForm};
-ghost use Rattle.gj_top.specs.Tasks.{task_for};
-ghost use Rattle.gj_top.specs.Answer.{IsAnswer, IsWithinLimit, words_line, fault_line};
+ghost use Rattle.gj_top.specs.Command.{IsNamed, NameNone, task_for};
+ghost use Rattle.gj_top.specs.Task.{reads, IsInForm};
+ghost use Rattle.gj_top.specs.Answer.{IsAnswer, IsSourceFault, IsWithinLimit, input_limit, words_line, fault_line};
 ghost use Rattle.gj_top.specs.Outcome.{IsOutcome, Gains};
 ghost use Rattle.gj_top.specs.Causes.{IsTrueRun, ReadNothing, IsStatusOf, IsCause, IsStatusOfReply};
 
@@ -48,8 +47,8 @@ pub fn run<S: Source, K: Sink>(
         IsTrueRun words.now input before (K.written sink.new))) }
 
     // What was written is the answer, all of it, or as far as the sink took it, or nothing for want of memory.
-    ensures outcome { IsOutcome words.now (S.left source.old) (S.left source.new)
-        (K.written sink.old) (K.written sink.new) (K.sure sink.old) result }
+    ensures outcome { IsOutcome words.now (IsSourceFault (S.steady source.old) (S.faults source.old) (S.faults source.new))
+        (S.left source.old) (S.left source.new) (K.written sink.old) (K.written sink.new) (K.sure sink.old) result }
 
     // The words alone decide whether they are a command, and then which statuses there can be.
     ensures words { result ≡ Status.Words → NameNone words.now }
@@ -57,8 +56,13 @@ pub fn run<S: Source, K: Sink>(
     ensures ends { (c : Command) → IsNamed words.now c → IsStatusOf (task_for c) result }
     ensures unread { ReadNothing words.now → S.left source.new ≡ S.left source.old }
 
-    // Where the source tells its bytes, each status has its cause in them.
+    // Where the source tells its bytes, each status has its cause in them, and an input within the limit is read to its
+    // end, whether or not the sink took the answer, unless there was no memory or the source failed.
     ensures cause { IfSome (S.left source.old) (λ input. IsCause words.now input result) }
+    ensures input { IfSome (S.left source.old) (λ input. (c : Command) → IsNamed words.now c → IsTrue (reads (task_for c).form) →
+        length input ≤ input_limit → result ≢ Status.Memory → result ≢ Status.ReadFault →
+        (result ≡ Status.WriteFault → HasFailed (S.faults source.old) (S.faults source.new) → ⊥) →
+        S.left source.new ≡ Some []) }
 
     // A fault of the source is answered only where there was one.
     ensures read_fault { result ≡ Status.ReadFault → HasFailed (S.faults source.old) (S.faults source.new) }
@@ -68,7 +72,8 @@ pub fn run<S: Source, K: Sink>(
     // So is a fault of the sink, and only where it was not sure of the whole answer.
     ensures write_fault { result ≡ Status.WriteFault → HasFailed (K.faults sink.old) (K.faults sink.new) }
     ensures sure { result ≡ Status.WriteFault → (s : Status) × (text : List ℕ)
-        × IsAnswer words.now (S.left source.old) (S.left source.new) s text × (K.sure sink.old < length text) }
+        × IsAnswer words.now (IsSourceFault (S.steady source.old) (S.faults source.old) (S.faults source.new))
+            (S.left source.old) (S.left source.new) s text × (K.sure sink.old < length text) }
     ensures write_count { K.faults sink.old ≤ K.faults sink.new }
 
     // What is written where no input was answered.
