@@ -1,4 +1,4 @@
--- The proof text of a verdict on minimality (own).
+-- The command `minimal`: a function text is answered with the proof text of a verdict on minimality (own).
 use Rattle.std.specs.Prelude.{ℕ, ◌≡◌, ◌⊎◌, List}
 use Rattle.gj_shape.specs.FunctionData.{FunctionData}
 use Rattle.gj_shape.specs.Table.{IsMinimal}
@@ -9,6 +9,10 @@ use Rattle.gj_proof.specs.declared.claim.Claim.{Claim}
 use Rattle.gj_proof.specs.declared.claim.Claim.TheVariants.{Minimal, NotMinimal}
 use Rattle.gj_proof.specs.ProofText.{IsProofText}
 use Rattle.gj_proof.specs.Rules.{MeetsRules}
+use Rattle.gj_top.specs.declared.reply.End.{End}
+use Rattle.gj_top.specs.declared.reply.End.TheVariants.{Done}
+use Rattle.gj_top.specs.Task.{Task}
+use Rattle.gj_top.specs.Forms.{function_text}
 
 -- the text claims that f is minimal
 abbrev pub IsMinimalText : FunctionData → List ℕ → Type 0
@@ -30,3 +34,21 @@ IsVerdict f text =
 abbrev pub IsTrueClaim : FunctionData → Claim → Type 0
 IsTrueClaim f (Minimal g) = (g ≡ f) × IsMinimal f × MeetsRules (Minimal f)
 IsTrueClaim f (NotMinimal g v) = (g ≡ f) × IsFirstViolation f v × ShowsViolation f v × MeetsRules (NotMinimal f v)
+
+-- the reply to a function is the verdict on it, and ends with Done
+abbrev pub IsDecision : FunctionData → End → List ℕ → Type 0
+IsDecision f Done text = IsVerdict f text
+IsDecision f end text = ⊥
+
+-- the headline: the text calls f minimal, and then its table on every grid of order a multiple of its own is minimal; or it
+-- calls f not minimal, with a violation that shows it
+abbrev pub IsTrueVerdict : FunctionData → List ℕ → Type 0
+IsTrueVerdict f text =
+    (IsMinimalText f text × IsMinimal f) ⊎ ((v : Violation) × IsNotMinimalText f v text × ShowsViolation f v)
+
+abbrev pub minimal : Task
+minimal = record {
+  Thing = FunctionData;
+  form = function_text;
+  work = record { replies = IsDecision; headline = IsTrueVerdict };
+}
