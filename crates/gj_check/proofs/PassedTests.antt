@@ -3,8 +3,8 @@ use Rattle.std.proofs.Common.{◌↔◌}
 use Rattle.gj_shape.specs.FunctionData.{FunctionData}
 use Rattle.gj_shape.specs.FirstViolation.{Test, Passes, PassesAll}
 use Rattle.gj_shape.specs.FirstViolation.Test.{zero_at_zero, nonnegative_at, nonnegative_after, nonnegative_before, symmetric_at, symmetric_between, subadditive_at}
-use Rattle.gj_theory.specs.Before.{IsTestOf, PassesSymmetry}
-use Rattle.gj_theory.proofs.Tests.{each_test, test_has}
+use Rattle.gj_theory.specs.EarlierTests.{IsTestOf, PassesSymmetry}
+use Rattle.gj_theory.proofs.EachTest.{each_test, test_has}
 use Rattle.gj_check.specs.Tests.{IsNonnegative, IsSymmetric, IsSubadditive}
 
 -- those, in the order in which they are tried

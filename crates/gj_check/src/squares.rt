@@ -1,7 +1,7 @@
 //! Rows of squares, whose limits of the subadditivity slack are tested all at once over lanes of 32 bits.
 ghost use Rattle.std.specs.Prelude.{◌≡◌, ◌<◌, ◌≤◌, ◌↔◌, IsTrue};
 ghost use Rattle.gj_shape.specs.FunctionData.{IsWithinBounds};
-ghost use Rattle.gj_theory.specs.Before.{PassesSymmetry};
+ghost use Rattle.gj_theory.specs.EarlierTests.{PassesSymmetry};
 ghost use Rattle.gj_check.specs.Tests.{IsSubadditiveRow, HasSubadditiveVertices};
 
 use crate::pieces::Piece;

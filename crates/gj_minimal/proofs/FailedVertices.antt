@@ -4,7 +4,7 @@ use Rattle.std.proofs.lemmas.Bool.{cases_lt}
 use Rattle.gj_shape.specs.FunctionData.{FunctionData}
 use Rattle.gj_shape.specs.declared.faces.Face.{Face}
 use Rattle.gj_shape.specs.declared.faces.FaceKind.TheVariants.{Vertex}
-use Rattle.gj_theory.specs.Before.{PassesSymmetry, PassesVertices}
+use Rattle.gj_theory.specs.EarlierTests.{PassesSymmetry, PassesVertices}
 use Rattle.gj_theory.proofs.Lanes.{mirrored_vertex}
 use Rattle.gj_minimal.specs.declared.failures.Failure.TheVariants as failure
 use Rattle.gj_minimal.specs.FirstFailure.{IsFirstFailure, HoldsBelow}

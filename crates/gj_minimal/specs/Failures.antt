@@ -8,7 +8,7 @@ use Rattle.gj_shape.specs.declared.faces.FaceKind.TheVariants.{Vertex}
 use Rattle.gj_shape.specs.declared.violations.Violation.{Violation}
 use Rattle.gj_complex.specs.declared.square.Square.{Square}
 use Rattle.gj_complex.specs.Squares.{limits_in}
-use Rattle.gj_theory.specs.Before.{IsTestOf, PassesBefore, PassesSquare}
+use Rattle.gj_theory.specs.EarlierTests.{IsTestOf, PassesBefore, PassesSquare}
 use Rattle.gj_theory.specs.GridPoints.{IsAtGridPoints}
 use Rattle.gj_minimal.specs.declared.failures.Failure.{Failure}
 use Rattle.gj_minimal.specs.declared.failures.Failure.TheVariants as failure

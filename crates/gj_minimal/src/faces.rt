@@ -1,7 +1,7 @@
 //! The tests of the slack on the faces that are no vertices.
 ghost use Rattle.std.specs.Prelude.{ℕ, ◌≡◌, ◌<◌, length, IfSome, IfNone};
 ghost use Rattle.gj_shape.specs.Faces.{corners_of};
-ghost use Rattle.gj_theory.specs.Before.{PassesVertices, PassesSquare, HoldsBefore};
+ghost use Rattle.gj_theory.specs.EarlierTests.{PassesVertices, PassesSquare, HoldsBefore};
 ghost use Rattle.gj_minimal.specs.FirstFailure.{IsFirstFailure, HoldsBelow};
 ghost use Rattle.gj_minimal.specs.Failures.{FailsFirst, PassesRow, IsNonnegativeIn};
 ghost use Rattle.gj_minimal.specs.Lanes.{AreLanesOf};

@@ -2,7 +2,7 @@
 ghost use Rattle.std.specs.Prelude.{ℕ, ◌≡◌, ◌+◌, ◌*◌, ◌<◌, ◌≤◌, length, IsTrue};
 ghost use Rattle.gj_shape.specs.FunctionData.{at};
 ghost use Rattle.gj_minimal.specs.Failures.{PassesVertex};
-ghost use Rattle.gj_theory.specs.Before.{PassesSymmetry, PassesVertices, PassesSquare};
+ghost use Rattle.gj_theory.specs.EarlierTests.{PassesSymmetry, PassesVertices, PassesSquare};
 ghost use Rattle.gj_minimal.specs.Lanes.{FitsLane, AreEntries};
 
 use gj_shape::Shape;

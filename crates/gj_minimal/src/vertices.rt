@@ -1,6 +1,6 @@
 //! The tests of the slack at grid points.
 ghost use Rattle.std.specs.Prelude.{◌≡◌, ◌<◌, IfSome, IfNone};
-ghost use Rattle.gj_theory.specs.Before.{PassesSymmetry, PassesVertices};
+ghost use Rattle.gj_theory.specs.EarlierTests.{PassesSymmetry, PassesVertices};
 ghost use Rattle.gj_minimal.specs.FirstFailure.{IsFirstFailure, HoldsBelow};
 ghost use Rattle.gj_minimal.specs.Failures.{FailsFirst, PassesVertex, PassesVertexRow};
 ghost use Rattle.gj_minimal.specs.Lanes.{AreLanesOf};

@@ -1,5 +1,5 @@
 use Rattle.std.proofs.Common.{below_more}
-use Rattle.gj_theory.specs.Before.{PassesSquare}
+use Rattle.gj_theory.specs.EarlierTests.{PassesSquare}
 use Rattle.gj_minimal.proofs.FailedFaces.{squares_from_diagonal}
 use Rattle.gj_minimal.proofs.faces.failed_in_row.Goals as goal
 

@@ -1,5 +1,5 @@
 use Rattle.std.proofs.Common.{◌≡◌, ℕ, ◌<◌, ◌≤◌}
-use Rattle.gj_theory.specs.Before.{PassesSquare}
+use Rattle.gj_theory.specs.EarlierTests.{PassesSquare}
 use Rattle.gj_minimal.proofs.lanes.Lanes.squares_pass.Given as goal
 
 abbrev pub invariant-loop-b : goal.invariant-loop-b
