@@ -4,19 +4,10 @@ use mir.Syntax.{w128}
 use Rattle.std.proofs.lemmas.Int.{ints}
 use Rattle.std.proofs.Math.Nat.{mod-add-mod}
 use Rattle.gj_shape.proofs.NumeratorReadings.{small_read}
-use Rattle.gj_check.specs.Pieces.{IsWithin}
 
 -- the scale, as the code has it
 pub scale_read : (z : ℤ) (s : ℕ) → z ≡ pos s → s < 2 ^ 31 → to_z w64 (of_z w64 (to_z w128 (of_z w128 z))) ≡ pos s
 scale_read z s e below = omega (arith, ints)
-
--- a test of a slack
-pub within_read : (b : Bool) (x y sum : ℤ) → unsigned_abs x < 2 ^ 51 → unsigned_abs y < 2 ^ 51 →
-    unsigned_abs sum < 2 ^ 51 →
-    IsTrue b ↔ IsWithin (to_z w64 (of_z w64 x)) (to_z w64 (of_z w64 y)) (to_z w64 (of_z w64 sum)) →
-    IsTrue b ↔ IsWithin x y sum
-within_read b x y sum x_small y_small sum_small h =
-    rw (small_read x x_small, small_read y y_small, small_read sum sum_small) at h
 
 -- a test of a sum
 pub sum_read : (b : Bool) (x y total t : ℤ) → unsigned_abs x < 2 ^ 51 → unsigned_abs y < 2 ^ 51 → total ≡ t →

@@ -1,9 +1,8 @@
 //! The values and limits in lanes of 32 bits, over which a whole row of squares is tested at once.
 ghost use Rattle.std.specs.Prelude.{ℕ, ◌≡◌, ◌+◌, ◌*◌, ◌<◌, ◌≤◌, length, IsTrue};
 ghost use Rattle.gj_shape.specs.FunctionData.{at};
-ghost use Rattle.gj_shape.specs.FirstViolation.{Passes};
-ghost use Rattle.gj_shape.specs.FirstViolation.Test.{subadditive_at};
-ghost use Rattle.gj_theory.specs.Before.{PassesSymmetry, PassesVertices, PassesSquare};
+ghost use Rattle.gj_minimal.specs.Failures.{PassesVertex};
+ghost use Rattle.gj_theory.specs.EarlierTests.{PassesSymmetry, PassesVertices, PassesSquare};
 ghost use Rattle.gj_minimal.specs.Lanes.{FitsLane, AreEntries};
 
 use gj_shape::Shape;
@@ -29,9 +28,9 @@ impl Lanes {
         ensures { AreLanesOf shape.now result }
     {
         Lanes {
-            left: lanes(shape.left_numerators()),
-            value: lanes(shape.value_numerators()),
-            right: lanes(shape.right_numerators()),
+            left: unrolled(shape.left_numerators()),
+            value: unrolled(shape.value_numerators()),
+            right: unrolled(shape.right_numerators()),
         }
     }
 
@@ -40,11 +39,12 @@ impl Lanes {
         requires lanes { AreLanesOf shape.now self.now }
         requires within { a < shape.now.order }
         ensures { IsTrue result →
-            (b : ℕ) → a ≤ b → b < shape.now.order → Passes shape.now (subadditive_at Vertex a b 0) }
+            (b : ℕ) → a ≤ b → b < shape.now.order → PassesVertex shape.now a b }
     {
+        let order = shape.order() as usize;
         let first = self.value[a];
         let mut excess = 0u32;
-        for b in a..shape.order() as usize {
+        for b in a..order {
             let sum = self.value[a + b];
             excess = excess.max(sum.saturating_sub(first + self.value[b]));
         }
@@ -59,11 +59,12 @@ impl Lanes {
         requires vertices { PassesVertices shape.now }
         ensures { IsTrue result → (b : ℕ) → a ≤ b → b < shape.now.order → PassesSquare shape.now a b }
     {
+        let order = shape.order() as usize;
         let right_first = self.right[a];
         let left_first = self.left[a + 1];
         let least_first = right_first.min(self.value[a]);
         let mut excess = 0u32;
-        for b in a..shape.order() as usize {
+        for b in a..order {
             let sum = a + b;
             let value = self.value[b];
             let right = self.right[b];
@@ -98,7 +99,7 @@ fn above(sum: u32, first: u32, second: u32) -> u32
 }
 
 /// The entries at the indices below twice the length and 2, which are read modulo the length.
-fn lanes(numerators: &[i64]) -> [u32; COUNT]
+fn unrolled(numerators: &[i64]) -> [u32; COUNT]
     requires some { 0 < length numerators.now }
     requires few { length numerators.now ≤ 1000 }
     requires fit { (i : ℕ) → FitsLane (at numerators.now i) }
