@@ -7,7 +7,7 @@ use Rattle.gj_lex.specs.declared.reason.Reason.TheVariants.{Form, Tail}
 use Rattle.gj_lex.specs.declared.fault.PartFault.{PartFault}
 use Rattle.gj_lex.specs.declared.fault.PartFault.TheVariants.{Refused, Memory}
 use Rattle.gj_lex.specs.TextLines.{HasLine, HasNoLine, HasNothing, HasSomething}
-use Rattle.gj_lex.specs.Parts.{LineRule, words_rule, Part, line_part, empty_part, then_part, made_part, end_part, IsExactRule, IsExactPart, IsFaultOf, IsNoLine, IsTail}
+use Rattle.gj_lex.specs.Parts.{LineRule, words_rule, Part, line_part, empty_part, then_part, made_part, framed_part, end_part, IsExactRule, IsExactPart, IsFaultOf, IsNoLine, IsTail}
 use Rattle.gj_lex.proofs.LenientLines.{one_next_line, next_not_skipped, next_suffix}
 use Rattle.gj_lex.proofs.StrictLines.{one_strict_line, strict_suffix}
 
@@ -172,6 +172,16 @@ module _ {A B : Type 0} (Makes : A → B → Type 0) (one : (a : A) (b c : B) �
     rest_ends = λ text b r h. exact.rest_ends text h.0 r h.1;
     fault_ends = exact.fault_ends;
   }
+
+pub framed_part_is_exact : {A : Type 0} (s : Spelling) (title : List (List ℕ)) (p : Part A) (end : List (List ℕ)) →
+    IsExactPart p.Reads p.Faults → IsExactPart (framed_part s title p end).Reads (framed_part s title p end).Faults
+framed_part_is_exact s title p end exact =
+    let end_line = line_part s (words_rule end) in
+    then_part_is_exact (line_part s (words_rule title)) (λ t. then_part p (λ a. then_part end_line (λ t. empty_part a)))
+    (line_part_is_exact s (words_rule title) (words_rule_is_exact title))
+    (λ t. then_part_is_exact p (λ a. then_part end_line (λ t. empty_part a)) exact
+    (λ a. then_part_is_exact end_line (λ t. empty_part a) (line_part_is_exact s (words_rule end) (words_rule_is_exact end))
+    (λ t. empty_part_is_exact a)))
 
 -- ---- the end of a text
 
