@@ -1,5 +1,5 @@
 -- Laws of parts: each is exact that is made of exact ones.
-use Rattle.std.proofs.Common.{◌≡◌, ◌≢◌, inl, inr, ℕ, List, [], ◌∷◌, ◌++◌, length, refl, sym, ap, subst, ◌∙◌, append-nil, append_assoc}
+use Rattle.std.proofs.Common.{◌≡◌, ◌≢◌, inl, inr, ℕ, List, [], ◌∷◌, ◌++◌, length, Result, Err, IfErr, refl, sym, ap, subst, ◌∙◌, append-nil, append_assoc}
 use Rattle.gj_lex.specs.declared.spelling.Spelling.{Spelling}
 use Rattle.gj_lex.specs.declared.spelling.Spelling.TheVariants.{Lenient, Strict}
 use Rattle.gj_lex.specs.declared.reason.Reason.{Reason}
@@ -210,6 +210,11 @@ end_part_is_exact sp a = record {
 }
 
 -- ---- what readers answer
+
+-- an error that is passed on has what the callee's has
+pub passed_on : {T : Type 0} (Q : PartFault → Type 0) (e y : PartFault) (r : Result T PartFault) → r ≡ Err y → y ≡ e → Q e →
+    IfErr r Q
+passed_on Q e y r is same h = rw (is, same) h
 
 module _ {A : Type 0} (sp : Spelling) (rule : LineRule A) where
   -- a line breaks the rule
