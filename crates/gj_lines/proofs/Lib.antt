@@ -1,4 +1,3 @@
-pub mod GivenPoints
+pub mod OneTextOfLines
 pub mod Places
 pub mod PointLines
-pub mod TestedPoints

@@ -1,3 +1,3 @@
-pub mod Points
+pub mod PlaceFraction
 pub mod FunctionLines
 pub mod FunctionGrammar

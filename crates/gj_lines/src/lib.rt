@@ -2,11 +2,9 @@
 #![tactic(auto)]
 
 mod place;
-mod points;
 mod print;
 #[cfg(test)]
 mod tests;
 
 pub use place::place_of;
-pub use points::{Point, PointFault, Points};
 pub use print::{push_fraction_line, push_function_lines};

@@ -2,14 +2,13 @@
 ghost use Rattle.std.specs.Prelude.{◌≡◌, ◌<◌, ◌++◌, ℕ, List, codes, pos, flat_map, OnOk};
 ghost use Rattle.gj_frac.specs.Fraction.{IsRatio};
 ghost use Rattle.gj_lex.specs.NumberText.{fraction_text};
-ghost use Rattle.gj_lines.specs.Points.{ArePointsOf, IsPointAt};
+ghost use Rattle.gj_shape.specs.Points.{ArePointsOf, IsPointAt};
 ghost use Rattle.gj_lines.specs.FunctionLines.{fraction_line, order_line, place_line, has_no_jump, point_text, point_line, AreFunctionLines};
-ghost use Rattle.gj_lines.specs.declared.points.Point.{Point};
+ghost use Rattle.gj_shape.specs.declared.points.Point.{Point};
 
-use crate::points::Point;
 use gj_frac::Frac;
 use gj_lex::{print_count, print_frac};
-use gj_shape::Shape;
+use gj_shape::{Point, Shape};
 use std::alloc::AllocError;
 
 /// Appends the line of a word and a fraction. An error says that memory ran out; `out` may then have a part of it.

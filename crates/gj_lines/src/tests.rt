@@ -1,7 +1,8 @@
-//! Points, places and lines by hand.
+//! Places and lines by hand.
 
-use crate::{Point, PointFault, Points, place_of, push_function_lines};
+use crate::{place_of, push_function_lines};
 use gj_frac::Frac;
+use gj_shape::{Point, Points};
 use std::test::Fail;
 
 /// The fraction n/d.
@@ -54,25 +55,6 @@ fn continuous_functions_are_printed(rt: HostRuntime) -> Result<(), Fail> {
     assert_eq!(rt;
         text.as_slice(),
         b"order 2\nf 1/2\npoint 0\npoint -3/4\n".as_slice()
-    );
-    Ok(())
-}
-
-#[test]
-fn points_are_refused(rt: HostRuntime) -> Result<(), Fail> {
-    let mut points = Points::new(rt.alloc());
-    let large = fraction(1_048_577, 1)?;
-    let fine = fraction(1, 2_147_483_648)?;
-    assert!(rt; matches!(points.push(even(large)), Err(PointFault::Large)));
-    assert!(rt; matches!(points.push(even(fine)), Err(PointFault::Fine)));
-    assert!(rt; matches!(points.push(jump(fine, large)), Err(PointFault::Fine)));
-    assert!(rt; matches!(points.push(jump(large, fine)), Err(PointFault::Large)));
-    points.push(even(fraction(1, 65_536)?))?;
-    assert!(rt;
-        matches!(
-            points.push(even(fraction(1, 65_535)?)),
-            Err(PointFault::Fine)
-        )
     );
     Ok(())
 }
