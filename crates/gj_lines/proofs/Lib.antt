@@ -1,3 +1,4 @@
+pub mod ExactFunctions
 pub mod FunctionRead
 pub mod OneTextOfLines
 pub mod Places
