@@ -1,3 +1,4 @@
+pub mod CanonicalFunctions
 pub mod ExactFunctions
 pub mod FunctionRead
 pub mod OneTextOfLines
