@@ -53,7 +53,7 @@ texts_are_words Strict false p e = λ first second.
     false≢true (sym e ∙ same)
 
 -- the line of the point has them
-line_has_texts : (b : Bool) (p : Point) (rest : List ℕ) → has_no_jump p ≡ b →
+pub line_has_texts : (b : Bool) (p : Point) (rest : List ℕ) → has_no_jump p ≡ b →
     point_line p ++ rest ≡ join_with_byte 32 (point_words (texts_by b p)) ++ 10 ∷ rest
 line_has_texts true p rest e =
     ap (λ t. line (codes "point " ++ t) ++ rest) (text_of_one p e) ∙ append_assoc (codes "point " ++ fraction_text p.value) (10 ∷ []) rest

@@ -4,4 +4,5 @@ pub mod FunctionRead
 pub mod OneTextOfLines
 pub mod Places
 pub mod PointsRead
+pub mod StrictFunctions
 pub mod PointLines
