@@ -1,8 +1,7 @@
 -- What tests on numerators of the code say of them.
-use Rattle.std.proofs.Common.{◌≡◌, ◌<◌, ◌^◌, ℤ, pos, ◌+ℤ◌, ◌<ℤ◌, ◌≤ℤ◌, unsigned_abs, true, false, IsTrue, ◌↔◌, eqb, eqb-true, eq-eqb, ◌*ℤ◌, ap, sym, ◌∙◌, to_z, of_z, FitsSigned, w64, arith}
+use Rattle.std.proofs.Common.{◌≡◌, ◌<◌, ◌^◌, ℤ, pos, ◌+ℤ◌, unsigned_abs, IsTrue, ◌↔◌, eqb, eqb-true, eq-eqb, ◌*ℤ◌, ap, sym, ◌∙◌, to_z, of_z, FitsSigned, w64, arith}
 use Rattle.std.proofs.lemmas.Int.{ints, to_z-of_z}
 use Rattle.gj_shape.proofs.NumeratorReadings.{small_read}
-use lib.Signed.{lt_z}
 
 -- the sum of two numbers of 51 bits, as the code has it
 pub sum_read : (x y : ℤ) → unsigned_abs x < 2 ^ 51 → unsigned_abs y < 2 ^ 51 →

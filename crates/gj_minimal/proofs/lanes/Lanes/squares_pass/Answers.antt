@@ -1,4 +1,4 @@
-use Rattle.std.proofs.Common.{◌≡◌, ◌+◌, ◌<◌, ◌≤◌, eqb-true, below_more, arith}
+use Rattle.std.proofs.Common.{◌≤◌, eqb-true, below_more, arith}
 use Rattle.gj_theory.specs.Before.{PassesSquare}
 use Rattle.gj_minimal.proofs.FailedFaces.{square_from_lanes}
 use Rattle.gj_theory.proofs.Lanes.{lane_sum, lesser_lane, max_zero, no_excess}
