@@ -1,9 +1,9 @@
 -- The tests of the limits of the slack in rows of squares, over lanes.
 use Rattle.std.proofs.Common.{◌≡◌, ◌↔◌, ℕ, ◌+◌, ◌*◌, ◌-◌, ◌<◌, ◌≤◌, ◌^◌, ℤ, pos, List, get_or, set, max, min, length, lit<, ⊎_elim, to_z, of_z, w64, unsigned_abs, below_more, arith}
 use Rattle.std.proofs.lemmas.Bool.{cases_lt}
-use Rattle.gj_shape.specs.FunctionData.{FunctionData, IsWithinBounds, IsContinuous, at}
+use Rattle.gj_shape.specs.FunctionData.{FunctionData, IsWithinBounds, IsContinuous}
 use Rattle.gj_shape.specs.declared.faces.FaceKind.TheVariants.{Vertex}
-use Rattle.gj_theory.proofs.Lanes.{IsLane, lane_read, one_more_lane, max_zero, no_excess, HasLanes, FitAtSums, fit_from_sums, fit_at_sums, vertex_of_lanes, square_passes, square_fits, continuous_square, mirrored_vertex, mirrored_square}
+use Rattle.gj_theory.proofs.Lanes.{IsLane, lane_read, one_more_lane, max_zero, no_excess, HasLanes, fit_from_sums, fit_at_sums, vertex_of_lanes, square_passes, square_fits, continuous_square}
 use Rattle.gj_check.specs.declared.squares.Lanes.{Lanes}
 use Rattle.gj_check.specs.Lanes.{AreNumbers, AreLanesOf}
 use Rattle.gj_check.specs.Tests.{IsSubadditiveAt, IsSubadditiveVertex, IsSubadditive, IsSubadditiveOnGrid}
