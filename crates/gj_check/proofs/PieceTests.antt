@@ -1,5 +1,5 @@
 -- The tests of symmetry, from pieces.
-use Rattle.std.proofs.Common.{◌≡◌, ◌↔◌, ℕ, ◌+◌, ◌<◌, ◌-◌, ℤ, pos, ◌+ℤ◌, refl, ap, ◌∙◌, below_none, below_more, arith}
+use Rattle.std.proofs.Common.{◌≡◌, ◌↔◌, ℕ, ◌+◌, ◌<◌, ◌-◌, ℤ, pos, ◌+ℤ◌, refl, ap, ◌∙◌, arith}
 use Rattle.gj_shape.specs.FunctionData.{FunctionData, at}
 use Rattle.gj_shape.specs.FirstViolation.{Passes}
 use Rattle.gj_shape.specs.FirstViolation.Test.{symmetric_at, symmetric_between}

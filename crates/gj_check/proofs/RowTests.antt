@@ -1,26 +1,26 @@
 -- The tests of the limits of the slack in rows of squares, over lanes.
-use Rattle.std.proofs.Common.{◌≡◌, ◌↔◌, ℕ, ◌+◌, ◌*◌, ◌-◌, ◌<◌, ◌≤◌, ◌^◌, ℤ, pos, List, get_or, set, max, min, length, lit<, ⊎_elim, sym, subst, ◌∙◌, below_more, arith}
+use Rattle.std.proofs.Common.{◌≡◌, ◌↔◌, ℕ, ◌+◌, ◌*◌, ◌-◌, ◌<◌, ◌≤◌, ◌^◌, ℤ, pos, List, get_or, set, max, min, length, lit<, ⊎_elim, to_z, of_z, w64, unsigned_abs, below_more, arith}
 use Rattle.std.proofs.lemmas.Bool.{cases_lt}
-use Rattle.gj_shape.specs.FunctionData.{FunctionData, IsWithinBounds, IsContinuous, at}
+use Rattle.gj_shape.specs.FunctionData.{FunctionData, IsWithinBounds, IsContinuous}
 use Rattle.gj_shape.specs.declared.faces.FaceKind.TheVariants.{Vertex}
-use Rattle.gj_theory.proofs.Lanes.{IsLane, one_more_lane, max_zero, no_excess, HasLanes, FitAtSums, fit_from_sums, fit_at_sums, vertex_of_lanes, square_passes, square_fits, continuous_square, mirrored_vertex, mirrored_square}
+use Rattle.gj_theory.proofs.Lanes.{IsLane, lane_read, one_more_lane, max_zero, no_excess, HasLanes, fit_from_sums, fit_at_sums, vertex_of_lanes, square_passes, square_fits, continuous_square}
 use Rattle.gj_check.specs.declared.squares.Lanes.{Lanes}
 use Rattle.gj_check.specs.Lanes.{AreNumbers, AreLanesOf}
 use Rattle.gj_check.specs.Tests.{IsSubadditiveAt, IsSubadditiveVertex, IsSubadditive, IsSubadditiveOnGrid}
 
 -- ---- lanes of the code
 
--- a number that was read
-pub same_lane : (n m : ℤ) → n ≡ m → IsLane m → IsLane n
-same_lane n m e h = subst IsLane (sym e) h
-
 -- one number more
-pub one_more_number : (lanes : List ℕ) (number : ℕ → ℤ) (i x : ℕ) (n : ℤ) → i < length lanes →
-    AreNumbers lanes number i → n ≡ number i → (pos x ≡ n) × (x < 2 ^ 31) → AreNumbers (set lanes i x) number (i + 1)
-one_more_number lanes number i x n within h n_is lane = record {
-  same = one_more_lane (λ k y. pos y ≡ number k) lanes i x within h.same (lane.0 ∙ n_is);
-  small = one_more_lane (λ k y. y < 2 ^ 31) lanes i x within h.small lane.1;
-}
+pub one_more_number : (lanes : List ℕ) (number : ℕ → ℤ) (i : ℕ) (n : ℤ) → i < length lanes →
+    AreNumbers lanes number i → n ≡ number i → IsLane (number i) →
+    AreNumbers (set lanes i (unsigned_abs (to_z w64 (of_z w64 n)))) number (i + 1)
+one_more_number lanes number i n within h n_is is_lane =
+    let x = unsigned_abs (to_z w64 (of_z w64 n)) in
+    let lane = lane_read n (number i) n_is is_lane in
+    record {
+      same = one_more_lane (λ k y. pos y ≡ number k) lanes i x within h.same lane.0;
+      small = one_more_lane (λ k y. y < 2 ^ 31) lanes i x within h.small lane.1;
+    }
 
 -- ---- one more square in a row
 
@@ -28,8 +28,7 @@ pub row_more : (P : ℕ → Type 0) (a i e x m : ℕ) → a ≤ i → m ≡ max 
     (e ≡ 0) ↔ ((b : ℕ) → b < i → a ≤ b → P b) → (x ≡ 0) ↔ P i →
     (m ≡ 0) ↔ ((b : ℕ) → b < i + 1 → a ≤ b → P b)
 row_more P a i e x m from m_is h here =
-    let both = max_zero e x m m_is in
-    (
+    let both = max_zero e x m m_is in (
       λ none. below_more (λ b. a ≤ b → P b) i (h.0 (both.0 none).0) (λ low. here.0 (both.0 none).1),
       λ all. both.1 (h.1 (λ b below. all b (omega arith)), here.1 (all i (omega arith) from)),
     )
@@ -65,8 +64,7 @@ five_zero v s t n w x1 x2 x3 x e1 e2 e3 e =
     let one = max_zero v s x1 e1 in
     let two = max_zero x1 t x2 e2 in
     let three = max_zero x2 n x3 e3 in
-    let four = max_zero x3 w x e in
-    (
+    let four = max_zero x3 w x e in (
       λ h.
           let k4 = four.0 h in
           let k3 = three.0 k4.0 in
@@ -85,8 +83,7 @@ square_read f l a b v s t n w x h a_below b_below q five =
     let right = λ (i : ℕ). get_or l.right i 0 in
     let below : a + b + 1 < 2 * f.order = omega arith in
     let vertex = vertex_read f l a b v h a_below b_below q.at_vertex in
-    let last = no_excess _ _ w q.after_next in
-    (
+    let last = no_excess _ _ w q.after_next in (
       λ none.
           let zero = five.0 none in
           square_passes f left value right (2 * f.order) a b (has_lanes f l h) below (vertex.0 zero.0)
@@ -98,7 +95,7 @@ square_read f l a b v s t n w x h a_below b_below q five =
           })),
       λ all.
           let fit = fit_at_sums left value right a b
-              (square_fits f left value right (2 * f.order) a b (has_lanes f l h) below all) in
+          (square_fits f left value right (2 * f.order) a b (has_lanes f l h) below all) in
           five.1 (
             vertex.1 (all Vertex 0 (lit< tt)),
             q.from_sum.1 fit.at_sum,

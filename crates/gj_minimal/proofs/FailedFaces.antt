@@ -1,5 +1,5 @@
 -- From the limits of one square to the tests of its faces.
-use Rattle.std.proofs.Common.{◌≡◌, ℕ, ◌+◌, ◌*◌, ◌<◌, ◌≤◌, pos, ◌≤ℤ◌, [], ◌∷◌, length, get_or, All, lit<, sym, subst, refl, ⊎_elim, below_none, below_more, arith}
+use Rattle.std.proofs.Common.{◌≡◌, ℕ, ◌*◌, ◌<◌, ◌≤◌, pos, ◌≤ℤ◌, [], ◌∷◌, length, get_or, All, lit<, sym, subst, refl, ⊎_elim, below_none, below_more, arith}
 use Rattle.std.proofs.lemmas.Bool.{cases_lt}
 use Rattle.std.proofs.lemmas.List.Elements.{All-nil, All-cons}
 use Rattle.gj_shape.specs.FunctionData.{FunctionData, IsWithinBounds, IsContinuous}
@@ -13,7 +13,7 @@ use Rattle.gj_complex.specs.Squares.{HasLimits}
 use Rattle.gj_theory.specs.EarlierTests.{PassesVertices, PassesFace, PassesSquare, HoldsBefore, PassesKindsBefore, PassesFacesBefore}
 use Rattle.gj_theory.proofs.FirstFailed.{IsNoVertex}
 use Rattle.gj_tools.proofs.Lists.{made_has}
-use Rattle.gj_theory.proofs.Lanes.{PassesAt, HasLanes, FitAtSums, mirrored_square, continuous_square, square_passes, fit_from_sums}
+use Rattle.gj_theory.proofs.Lanes.{PassesAt, FitAtSums, mirrored_square, continuous_square, square_passes, fit_from_sums}
 use Rattle.gj_minimal.specs.FirstFailure.{IsFirstFailure, HoldsBelow}
 use Rattle.gj_minimal.specs.declared.failures.Failure.{Failure}
 use Rattle.gj_minimal.specs.declared.failures.Failure.TheVariants as failure
@@ -60,13 +60,6 @@ face_passes f Lower a b h = tests_of_three (Passes f) (subadditive_at Lower a b 
 face_passes f Upper a b h = tests_of_three (Passes f) (subadditive_at Upper a b 0) (subadditive_at Upper a b 1)
     (subadditive_at Upper a b 2) (h 0 (lit< tt)) (h 1 (lit< tt)) (h 2 (lit< tt))
 
--- a face of the square with no negative limit passes
-pub face_in_square : (f : FunctionData) (s : Square) (kind : FaceKind) (a b : ℕ) → HasLimits s f a b →
-    HoldsBelow (IsNonnegativeIn s kind) (length (corners_of kind 0 0)) → PassesFace f kind a b
-face_in_square f s kind a b has h =
-    let same = same_corners kind a b in
-    face_passes f kind a b (λ c below. limit_passes f s kind a b c has (h c (omega arith)))
-
 -- ---- rows of squares
 
 -- the square passes where all limits in it do
@@ -111,21 +104,16 @@ continuous_passes f a b l continuous v = square_passes_at f a b (continuous_squa
 
 -- a square passes where no limit in it is negative over lanes
 pub square_from_lanes : (f : FunctionData) (l : Lanes) (a b : ℕ) → AreLanesOf f l → PassesVertices f → a < f.order →
-    b < f.order → FitAtSums (λ i. get_or l.left (i + 1) 0) (λ i. get_or l.value i 0) (λ i. get_or l.right i 0) a b →
+    b < f.order → FitAtSums (λ i. get_or l.left i 0) (λ i. get_or l.value i 0) (λ i. get_or l.right i 0) a b →
     PassesSquare f a b
 square_from_lanes f l a b lanes v a_below b_below sums =
-    let left = λ (i : ℕ). get_or l.left (i + 1) 0 in
+    let left = λ (i : ℕ). get_or l.left i 0 in
     let value = λ (i : ℕ). get_or l.value i 0 in
     let right = λ (i : ℕ). get_or l.right i 0 in
-    let has : HasLanes f (λ i. get_or l.left (i + 1) 0) (λ i. get_or l.value i 0) (λ i. get_or l.right i 0) (2 * f.order)
-    = record {
-      lefts = λ i below. lanes.left.entry (i + 1) (omega arith);
-      values = λ i below. lanes.value.entry i (omega arith);
-      rights = λ i below. lanes.right.entry i (omega arith);
-    } in
     square_passes_at f a b
-    (square_passes f left value right (2 * f.order) a b has (omega arith) (v.vertices a b a_below b_below)
-    (fit_from_sums left value right a b sums))
+    (square_passes f left value right (2 * f.order) a b
+    (record { lefts = lanes.lefts.same; values = lanes.values.same; rights = lanes.rights.same }) (omega arith)
+    (v.vertices a b a_below b_below) (fit_from_sums left value right a b sums))
 
 -- ---- the first failed limit
 
@@ -137,13 +125,25 @@ pub record IsReached (f : FunctionData) (s : Square) (a b : ℕ) : Type 0 where
   pub squares : HoldsBefore f (PassesSquare f) a b
   pub limits : HasLimits s f a b
 
+pub reached : (f : FunctionData) (s : Square) (a b : ℕ) → a < f.order → b < f.order → PassesVertices f →
+    HoldsBefore f (PassesSquare f) a b → HasLimits s f a b → IsReached f s a b
+reached f s a b first second vertices squares limits =
+    record { first = first; second = second; vertices = vertices; squares = squares; limits = limits }
+
+-- a face of the square with no negative limit passes
+pub face_in_square : {f : FunctionData} {s : Square} {a b : ℕ} → IsReached f s a b → (kind : FaceKind) →
+    HoldsBelow (IsNonnegativeIn s kind) (length (corners_of kind 0 0)) → PassesFace f kind a b
+face_in_square {f} {s} {a} {b} r kind h =
+    let same = same_corners kind a b in
+    face_passes f kind a b (λ c below. limit_passes f s kind a b c r.limits (h c (omega arith)))
+
 -- the first negative limit in a face is the first failed test, where the faces before it pass
-pub record FailsAt (f : FunctionData) (kind : FaceKind) (a b c : ℕ) : Type 0 where
+record FailsAt (f : FunctionData) (kind : FaceKind) (a b c : ℕ) : Type 0 where
   pub test : (a < f.order) × (b < f.order) × (c < length (corners_of kind a b))
   pub before : PassesFacesBefore f kind a b c
   pub fails : Passes f (subadditive_at kind a b c) → ⊥
 
-pub fails_at : (f : FunctionData) (s : Square) (kind : FaceKind) (a b c : ℕ) → IsReached f s a b →
+fails_at : (f : FunctionData) (s : Square) (kind : FaceKind) (a b c : ℕ) → IsReached f s a b →
     PassesKindsBefore f a b kind →
     IsFirstFailure (IsNonnegativeIn s kind) (length (corners_of kind 0 0)) c → FailsAt f kind a b c
 fails_at f s kind a b c reached kinds found =
@@ -161,17 +161,19 @@ fails_at f s kind a b c reached kinds found =
     }
 
 -- a corner of a face that is no vertex fails first
-pub first_at : (f : FunctionData) (kind : FaceKind) (a b c : ℕ) (x : Failure) →
-    x ≡ failure.Corner (record { kind = kind; a = a; b = b }) c → IsNoVertex kind → FailsAt f kind a b c →
-    FailsFirst f x
-first_at f Vertex a b c x is none h = absurd none
-first_at f Horizontal a b c x is none h = subst (FailsFirst f) (sym is)
-    (record { test = h.test; before = h.before; fails = h.fails })
-first_at f Vertical a b c x is none h = subst (FailsFirst f) (sym is)
-    (record { test = h.test; before = h.before; fails = h.fails })
-first_at f Diagonal a b c x is none h = subst (FailsFirst f) (sym is)
-    (record { test = h.test; before = h.before; fails = h.fails })
-first_at f Lower a b c x is none h = subst (FailsFirst f) (sym is)
-    (record { test = h.test; before = h.before; fails = h.fails })
-first_at f Upper a b c x is none h = subst (FailsFirst f) (sym is)
-    (record { test = h.test; before = h.before; fails = h.fails })
+first_at : (f : FunctionData) (kind : FaceKind) (a b c : ℕ) → IsNoVertex kind → FailsAt f kind a b c →
+    FailsFirst f (failure.Corner (record { kind = kind; a = a; b = b }) c)
+first_at f Vertex a b c none h = absurd none
+first_at f Horizontal a b c none h = record { test = h.test; before = h.before; fails = h.fails }
+first_at f Vertical a b c none h = record { test = h.test; before = h.before; fails = h.fails }
+first_at f Diagonal a b c none h = record { test = h.test; before = h.before; fails = h.fails }
+first_at f Lower a b c none h = record { test = h.test; before = h.before; fails = h.fails }
+first_at f Upper a b c none h = record { test = h.test; before = h.before; fails = h.fails }
+
+-- as the code finds it
+pub corner_fails : {f : FunctionData} {s : Square} {a b : ℕ} → IsReached f s a b → (kind : FaceKind) (c : ℕ)
+    (x : Failure) → IsNoVertex kind → PassesKindsBefore f a b kind →
+    IsFirstFailure (IsNonnegativeIn s kind) (length (corners_of kind 0 0)) c →
+    x ≡ failure.Corner (record { kind = kind; a = a; b = b }) c → FailsFirst f x
+corner_fails {f} {s} {a} {b} reached kind c x none kinds found x_is =
+    subst (FailsFirst f) (sym x_is) (first_at f kind a b c none (fails_at f s kind a b c reached kinds found))

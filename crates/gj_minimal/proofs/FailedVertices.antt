@@ -1,10 +1,10 @@
 -- From rows of slacks at grid points to the tests there.
-use Rattle.std.proofs.Common.{◌≡◌, ℕ, ◌<◌, ◌≤◌, lit<, sym, subst, ⊎_elim, arith}
+use Rattle.std.proofs.Common.{◌≡◌, ℕ, ◌<◌, ◌≤◌, lit<, sym, subst, ⊎_elim}
 use Rattle.std.proofs.lemmas.Bool.{cases_lt}
 use Rattle.gj_shape.specs.FunctionData.{FunctionData}
 use Rattle.gj_shape.specs.declared.faces.Face.{Face}
 use Rattle.gj_shape.specs.declared.faces.FaceKind.TheVariants.{Vertex}
-use Rattle.gj_theory.specs.EarlierTests.{PassesSymmetry, PassesVertices}
+use Rattle.gj_theory.specs.EarlierTests.{PassesSymmetry}
 use Rattle.gj_theory.proofs.Lanes.{mirrored_vertex}
 use Rattle.gj_minimal.specs.declared.failures.Failure.TheVariants as failure
 use Rattle.gj_minimal.specs.FirstFailure.{IsFirstFailure, HoldsBelow}

@@ -1,16 +1,15 @@
 //! The values and limits in lanes of 32 bits, over which a whole row of squares is tested at once.
-ghost use Rattle.std.specs.Prelude.{ℕ, ◌≡◌, ◌+◌, ◌*◌, ◌<◌, ◌≤◌, length, IsTrue};
-ghost use Rattle.gj_shape.specs.FunctionData.{at};
-ghost use Rattle.gj_minimal.specs.Failures.{PassesVertex};
+ghost use Rattle.std.specs.Prelude.{ℕ, ◌≡◌, ◌<◌, ◌≤◌, IsTrue};
 ghost use Rattle.gj_theory.specs.EarlierTests.{PassesSymmetry, PassesVertices, PassesSquare};
-ghost use Rattle.gj_minimal.specs.Lanes.{FitsLane, AreEntries};
+ghost use Rattle.gj_minimal.specs.Failures.{PassesVertex};
 
+use crate::entries::{left_at, right_at, value_at};
 use gj_shape::Shape;
 
-/// How many lanes there are: one for each index below 2 q + 2, where the order q is at most 1,000.
-const COUNT: usize = 2_002;
+/// How many lanes there are: one for each index below 2 q, where the order q is at most 1,000.
+const COUNT: usize = 2_000;
 
-/// The limits from the left, the values and the limits from the right of a function at i/q for each i below 2 q + 2,
+/// The values at i/q, the limits from the right there and the limits from the left at (i + 1)/q for each i below 2 q,
 /// each times the common denominator.
 #[derive(Drop)]
 pub(crate) struct Lanes {
@@ -27,11 +26,16 @@ impl Lanes {
         requires { PassesSymmetry shape.now }
         ensures { AreLanesOf shape.now result }
     {
-        Lanes {
-            left: unrolled(shape.left_numerators()),
-            value: unrolled(shape.value_numerators()),
-            right: unrolled(shape.right_numerators()),
+        let mut left = [0u32; COUNT];
+        let mut value = [0u32; COUNT];
+        let mut right = [0u32; COUNT];
+        for i in 0..2 * shape.order() {
+            let lane = i as usize;
+            left[lane] = left_at(shape, i + 1) as u32;
+            value[lane] = value_at(shape, i) as u32;
+            right[lane] = right_at(shape, i) as u32;
         }
+        Lanes { left, value, right }
     }
 
     /// Whether no slack at (a/q, b/q) is found to be negative, for each b from a to below q.
@@ -61,26 +65,27 @@ impl Lanes {
     {
         let order = shape.order() as usize;
         let right_first = self.right[a];
-        let left_first = self.left[a + 1];
+        let left_first = self.left[a];
         let least_first = right_first.min(self.value[a]);
         let mut excess = 0u32;
         for b in a..order {
             let sum = a + b;
+            let next = sum + 1;
             let value = self.value[b];
             let right = self.right[b];
-            let left = self.left[b + 1];
+            let left = self.left[b];
             let at_sum = above(self.right[sum], right_first + value, least_first + right);
             let before_next = above(
-                self.left[sum + 1],
+                self.left[sum],
                 left_first + value.min(right),
                 least_first + left,
             );
             let at_next = above(
-                self.value[sum + 1].max(self.right[sum + 1]),
+                self.value[next].max(self.right[next]),
                 left_first + right,
                 right_first + left,
             );
-            let before_last = self.left[sum + 1 + 1].saturating_sub(left_first + left);
+            let before_last = self.left[next].saturating_sub(left_first + left);
             excess = excess
                 .max(at_sum)
                 .max(before_next)
@@ -96,18 +101,4 @@ fn above(sum: u32, first: u32, second: u32) -> u32
     ensures { result ≡ 0 → (sum ≤ first) × (sum ≤ second) }
 {
     sum.saturating_sub(first.min(second))
-}
-
-/// The entries at the indices below twice the length and 2, which are read modulo the length.
-fn unrolled(numerators: &[i64]) -> [u32; COUNT]
-    requires some { 0 < length numerators.now }
-    requires few { length numerators.now ≤ 1000 }
-    requires fit { (i : ℕ) → FitsLane (at numerators.now i) }
-    ensures { AreEntries result numerators.now (2 * length numerators.now + 2) }
-{
-    let mut lanes = [0u32; COUNT];
-    for i in 0..2 * numerators.len() + 2 {
-        lanes[i] = numerators[i % numerators.len()] as u32;
-    }
-    lanes
 }

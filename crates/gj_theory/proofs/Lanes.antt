@@ -89,17 +89,17 @@ have_lanes f l h =
     }
 
 -- such a number, as the code has it and puts it into a lane
-pub lane_cast : (n : ℤ) → IsLane n →
+pub lane_cast : (n m : ℤ) → n ≡ m → IsLane m →
     T (non_neg (to_z w64 (of_z w64 n))) × Fits w32 (unsigned_abs (to_z w64 (of_z w64 n)))
-lane_cast n h =
+lane_cast n m e h =
     let low = h.0 in
     let high = h.1 in
     let read = to_z-of_z w64 n (omega (arith, ints)) in
     rw read (omega (arith, ints), omega (arith, ints))
 
-pub lane_read : (n : ℤ) → IsLane n →
-    (pos (unsigned_abs (to_z w64 (of_z w64 n))) ≡ n) × (unsigned_abs (to_z w64 (of_z w64 n)) < 2 ^ 31)
-lane_read n h =
+pub lane_read : (n m : ℤ) → n ≡ m → IsLane m →
+    (pos (unsigned_abs (to_z w64 (of_z w64 n))) ≡ m) × (unsigned_abs (to_z w64 (of_z w64 n)) < 2 ^ 31)
+lane_read n m e h =
     let low = h.0 in
     let high = h.1 in
     let read = to_z-of_z w64 n (omega (arith, ints)) in

@@ -1,4 +1,3 @@
-use Rattle.std.proofs.Common.{below_more, arith}
 use Rattle.gj_minimal.proofs.FailedVertices.{row_from_diagonal}
 use Rattle.gj_minimal.proofs.vertices.failed_in_row.Goals as goal
 

@@ -1,5 +1,4 @@
-use Rattle.std.proofs.Common.{◌≡◌, ◌-◌, eqb-true, eq-eqb, arith}
-use Rattle.gj_theory.proofs.Lanes.{lane_sum, lesser_lane}
+use Rattle.std.proofs.Common.{eqb-true, eq-eqb, arith}
 use Rattle.gj_check.specs.Tests.{IsSubadditiveAt}
 use Rattle.gj_check.proofs.RowTests.{five_zero, square_read, row_more}
 use Rattle.gj_check.proofs.squares.Lanes.is_subadditive_row.Goals as goal

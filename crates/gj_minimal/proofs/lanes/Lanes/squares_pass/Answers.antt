@@ -1,45 +1,19 @@
-use Rattle.std.proofs.Common.{◌≡◌, ◌+◌, ◌<◌, ◌≤◌, eqb-true, below_more, arith}
+use Rattle.std.proofs.Common.{◌≤◌, eqb-true, below_more, arith}
 use Rattle.gj_theory.specs.EarlierTests.{PassesSquare}
 use Rattle.gj_minimal.proofs.FailedFaces.{square_from_lanes}
 use Rattle.gj_theory.proofs.Lanes.{lane_sum, lesser_lane, max_zero, no_excess}
 use Rattle.gj_minimal.proofs.lanes.Lanes.squares_pass.Goals as goal
 
-pub overflow_add-right_first : goal.overflow_add-right_first
-overflow_add-right_first c =
-    lane_sum _ _ (c.requires.lanes.right.small c.args.a (omega arith))
-    (c.requires.lanes.value.small c.loop-b.b (omega arith))
-
-pub overflow_add-least_first : goal.overflow_add-least_first
-overflow_add-least_first c =
-    lane_sum _ _
-    (lesser_lane _ _ _ c.min-least_first.ensures (c.requires.lanes.right.small c.args.a (omega arith)))
-    (c.requires.lanes.right.small c.loop-b.b (omega arith))
-
-pub overflow_add-left_first-in-loop-b : goal.overflow_add-left_first-in-loop-b
-overflow_add-left_first-in-loop-b c =
-    lane_sum _ _ (c.requires.lanes.left.small (c.args.a + 1) (omega arith))
-    (lesser_lane _ _ _ c.min.ensures (c.requires.lanes.value.small c.loop-b.b (omega arith)))
+pub overflow_add-left_first : goal.overflow_add-left_first
+overflow_add-left_first c =
+    lane_sum _ _ (c.requires.lanes.lefts.small c.args.a (omega arith))
+    (lesser_lane _ _ _ c.min.ensures (c.requires.lanes.values.small c.loop-b.b (omega arith)))
 
 pub overflow_add-least_first-in-loop-b : goal.overflow_add-least_first-in-loop-b
 overflow_add-least_first-in-loop-b c =
     lane_sum _ _
-    (lesser_lane _ _ _ c.min-least_first.ensures (c.requires.lanes.right.small c.args.a (omega arith)))
-    (c.requires.lanes.left.small (c.loop-b.b + 1) (omega arith))
-
-pub overflow_add-left_first-in-loop-b-2 : goal.overflow_add-left_first-in-loop-b-2
-overflow_add-left_first-in-loop-b-2 c =
-    lane_sum _ _ (c.requires.lanes.left.small (c.args.a + 1) (omega arith))
-    (c.requires.lanes.right.small c.loop-b.b (omega arith))
-
-pub overflow_add-right_first-in-loop-b : goal.overflow_add-right_first-in-loop-b
-overflow_add-right_first-in-loop-b c =
-    lane_sum _ _ (c.requires.lanes.right.small c.args.a (omega arith))
-    (c.requires.lanes.left.small (c.loop-b.b + 1) (omega arith))
-
-pub overflow_add-left_first-in-loop-b-3 : goal.overflow_add-left_first-in-loop-b-3
-overflow_add-left_first-in-loop-b-3 c =
-    lane_sum _ _ (c.requires.lanes.left.small (c.args.a + 1) (omega arith))
-    (c.requires.lanes.left.small (c.loop-b.b + 1) (omega arith))
+    (lesser_lane _ _ _ c.min-least_first.ensures (c.requires.lanes.rights.small c.args.a (omega arith)))
+    (c.requires.lanes.lefts.small c.loop-b.b (omega arith))
 
 pub loop-b-preserved : goal.loop-b-preserved
 loop-b-preserved c none =
