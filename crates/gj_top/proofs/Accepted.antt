@@ -59,7 +59,8 @@ accepted text answer s g (too_long a) =
     absurd (omega arith)
 accepted text answer s g (refused a) = absurd ((sound Check).form text answer g.about g.proof a.refused)
 accepted text answer s g (replied a) =
-    let same : g.about ≡ a.reply.thing = one_claim g.about a.reply.thing text g.proof.kept a.reply.spelled.kept g.proof.spelled a.reply.spelled.spelled in
+    let same : g.about ≡ a.reply.thing =
+    one_claim g.about a.reply.thing text g.proof.kept a.reply.spelled.kept g.proof.spelled a.reply.spelled.spelled in
     let ended : a.end ≡ end.Done = good_end a.reply.thing a.end answer (subst MeetsRules same g.rules) a.reply.replied in
     let is = a.status_is in
     rw ended at is

@@ -1,5 +1,6 @@
 -- What follows from the outcome of a run.
-use Rattle.std.proofs.Common.{◌≡◌, ◌≢◌, ◌⊎◌, inl, inr, ℕ, ◌+◌, ◌<◌, ◌≤◌, Bool, true, false, List, [], ◌++◌, length, IsTrue, IfSome, Option, None, Some, String, refl, sym, ap, subst, ◌∙◌, arith}
+use Rattle.std.proofs.Common.{◌≡◌, ◌≢◌, ◌⊎◌, inl, inr, ℕ, ◌+◌, ◌<◌, ◌≤◌, Bool, true, false, List, [], ◌++◌, length, IsTrue, IfSome, Option}
+use Rattle.std.proofs.Common.{None, Some, String, refl, sym, ap, subst, ◌∙◌, arith}
 use Rattle.std.proofs.lemmas.List.{drop_all}
 use Rattle.std.specs.declared.alloc.Global.{Global}
 use Rattle.gj_top.specs.declared.command.Command.{Command}
@@ -100,7 +101,9 @@ ends_clause words Fault left left' written written' sure r (cut_off o) c n = inr
 ends_clause words Fault left left' written written' sure r (told o) c n = elim o.answer [
   | no_command a ↦ absurd (a.unnamed c n)
   | read_fault a ↦ inr (inr (inl (
-      subst (λ (d : Command). IsTrue (reads (task_for d).form)) (one_command words a.command c a.named n) a.read, inl a.status_is)))
+    subst (λ (d : Command). IsTrue (reads (task_for d).form)) (one_command words a.command c a.named n) a.read,
+    inl a.status_is,
+  )))
   | of_command a ↦ subst (λ (d : Command). IsStatusOf (task_for d) r) (one_command words a.command c a.named n)
       (status_of_answer (task_for a.command) a.input o.text r a.answer)
 ]
@@ -119,8 +122,10 @@ unread_by_answer words Fault left left' s text (read_fault a) nothing =
 unread_by_answer words Fault left left' s text (of_command a) nothing =
     subst (λ (b : Bool). IsReadWhole b a.input left left') (reads_not words a.command a.named nothing) a.whole
 
-pub unread_unanswered : (words : List (String Global)) (left left' : Option (List ℕ)) → IsUnanswered words left left' → ReadNothing words → left' ≡ left
-unread_unanswered words left left' u nothing = subst (λ (b : Bool). IsReadInPart b left left') (reads_not words u.command u.named nothing) u.part
+pub unread_unanswered : (words : List (String Global)) (left left' : Option (List ℕ)) → IsUnanswered words left left' → ReadNothing words →
+    left' ≡ left
+unread_unanswered words left left' u nothing =
+    subst (λ (b : Bool). IsReadInPart b left left') (reads_not words u.command u.named nothing) u.part
 
 -- ---- the clauses over an input that the source told
 
@@ -131,8 +136,12 @@ module _ (words : List (String Global)) (Fault : Type 0) (input : List ℕ) (lef
   cause_at written (told o) = elim o.answer [
     | no_command a ↦ inr (inr (inr (inl (a.status_is, a.unnamed))))
     | read_fault a ↦ inr (inl a.status_is)
-    | of_command a ↦ inr (inr (inr (inr (a.command, a.named, o.text,
-        told_answer (task_for a.command) (reads (task_for a.command).form) a.input input left' r o.text refl a.whole a.answer))))
+    | of_command a ↦ inr (inr (inr (inr (
+      a.command,
+      a.named,
+      o.text,
+      told_answer (task_for a.command) (reads (task_for a.command).form) a.input input left' r o.text refl a.whole a.answer,
+    ))))
   ]
 
   headline_at : (before : List ℕ) → IsOutcome words Fault (Some input) left' (Some before) written' sure r → r ≡ Done →
@@ -170,7 +179,7 @@ module _ (words : List (String Global)) (Fault : Type 0) (input : List ℕ) (lef
     | of_command a ↦
         let answer = told_answer (task_for a.command) (reads (task_for a.command).form) a.input input left' r o.text refl a.whole a.answer in
         inr (status_in_form c input o.text r form within
-            (subst (λ (d : Command). IsAnswerTo (task_for d) input r o.text) (one_command words a.command c a.named n) answer))
+        (subst (λ (d : Command). IsAnswerTo (task_for d) input r o.text) (one_command words a.command c a.named n) answer))
   ]
 
   -- an input within the limit that was read whole was read to its end
@@ -209,7 +218,8 @@ headline_clause words Fault None left' written written' sure r o e = tt
 headline_clause words Fault (Some input) left' None written' sure r o e = tt
 headline_clause words Fault (Some input) left' (Some before) written' sure r o e = headline_at words Fault input left' written' sure r before o e
 
-pub complete_clause : (words : List (String Global)) (Fault : Type 0) (left left' written written' : Option (List ℕ)) (sure : ℕ) (r : Status) (Unread Unwritten : Type 0) →
+pub complete_clause : (words : List (String Global)) (Fault : Type 0) (left left' written written' : Option (List ℕ)) (sure : ℕ)
+    (r : Status) (Unread Unwritten : Type 0) →
     IsOutcome words Fault left left' written written' sure r → (Fault → Unread) → (r ≡ WriteFault → Unwritten) →
     IfSome left (λ input. (c : Command) → IsNamed words c → IsInForm (task_for c) input → IsWithinLimit (task_for c) input →
     (Unread → ⊥) → (Unwritten → ⊥) → (r ≡ Memory) ⊎ IsStatusOfReply (task_for c) input r)

@@ -85,7 +85,8 @@ pub record IsWordsAnswer (words : List (String Global)) (left after : Option (Li
   pub spelled : text ≡ words_line
 
 -- the words name a command, and the source failed: at most the limit was read
-pub record IsFaultAnswer (words : List (String Global)) (Fault : Type 0) (left after : Option (List ℕ)) (status : Status) (text : List ℕ) : Type 0 where
+pub record IsFaultAnswer (words : List (String Global)) (Fault : Type 0) (left after : Option (List ℕ)) (status : Status) (text : List ℕ) :
+    Type 0 where
   pub command : Command
   pub named : IsNamed words command
   pub read : IsTrue (reads (task_for command).form)

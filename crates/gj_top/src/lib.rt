@@ -1,13 +1,13 @@
 //! The top call: words and an input in, an answer and a status out.
 #![tactic(auto)]
 
-ghost use Rattle.std.specs.Prelude.{◌≡◌, ◌≢◌, ◌⊎◌, ◌<◌, ◌≤◌, ℕ, List, [], length, Some, IfSome, IsTrue};
+ghost use Rattle.std.specs.Prelude.{◌≡◌, ◌≢◌, ◌⊎◌, ◌≤◌, [], length, Some, IfSome, IsTrue};
 ghost use Rattle.gj_port.specs.Faults.{HasFailed};
 ghost use Rattle.gj_top.specs.declared.command.Command.{Command};
 ghost use Rattle.gj_top.specs.Command.{IsNamed, NameNone, task_for};
 ghost use Rattle.gj_top.specs.Task.{reads, IsInForm};
-ghost use Rattle.gj_top.specs.Answer.{IsAnswer, IsSourceFault, IsWithinLimit, input_limit, words_line, fault_line};
-ghost use Rattle.gj_top.specs.Outcome.{IsOutcome, Gains};
+ghost use Rattle.gj_top.specs.Answer.{IsSourceFault, IsWithinLimit, input_limit, words_line, fault_line};
+ghost use Rattle.gj_top.specs.Outcome.{IsOutcome, IsUnsure, Gains};
 ghost use Rattle.gj_top.specs.Causes.{IsTrueRun, ReadNothing, IsStatusOf, IsCause, IsStatusOfReply};
 
 use gj_port::{Sink, Source, write_all};
@@ -71,9 +71,9 @@ pub fn run<S: Source, K: Sink>(
 
     // So is a fault of the sink, and only where it was not sure of the whole answer.
     ensures write_fault { result ≡ Status.WriteFault → HasFailed (K.faults sink.old) (K.faults sink.new) }
-    ensures sure { result ≡ Status.WriteFault → (s : Status) × (text : List ℕ)
-        × IsAnswer words.now (IsSourceFault (S.steady source.old) (S.faults source.old) (S.faults source.new))
-            (S.left source.old) (S.left source.new) s text × (K.sure sink.old < length text) }
+    ensures sure { result ≡ Status.WriteFault →
+        IsUnsure words.now (IsSourceFault (S.steady source.old) (S.faults source.old) (S.faults source.new))
+        (S.left source.old) (S.left source.new) (K.sure sink.old) }
     ensures write_count { K.faults sink.old ≤ K.faults sink.new }
 
     // What is written where no input was answered.
