@@ -1,5 +1,5 @@
 -- The answer to an input that was read whole, and to one that is too long.
-use Rattle.std.proofs.Common.{◌≡◌, ℕ, ◌+◌, ◌<◌, ◌≤◌, Bool, true, List, [], length, drop, replicate, IfSome, Option, None, Some, Ok, Err}
+use Rattle.std.proofs.Common.{◌≡◌, ℕ, ◌+◌, ◌<◌, ◌≤◌, Bool, true, List, length, replicate, IfSome, Option, None, Some, Ok, Err}
 use Rattle.std.proofs.Common.{IfOk, Result, String, Vec, vec_len, refl, sym, ap, subst, ◌∙◌, arith}
 use Rattle.std.proofs.lemmas.List.{drop_all, length-replicate}
 use Rattle.std.proofs.lemmas.Result.{IfOk-weaker}

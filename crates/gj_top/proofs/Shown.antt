@@ -1,5 +1,5 @@
 -- What `show` writes is a function text of the function that it read, and `show` writes it again as it stands.
-use Rattle.std.proofs.Common.{◌≡◌, ℕ, ◌≤◌, List, length, refl, subst, arith}
+use Rattle.std.proofs.Common.{◌≡◌, ℕ, List, refl, subst, arith}
 use Rattle.gj_shape.specs.FunctionData.{FunctionData, IsWithinBounds}
 use Rattle.gj_ftext.specs.FunctionText.{IsWholeFunctionText, IsCanonicalText}
 use Rattle.gj_top.specs.declared.command.Command.TheVariants.{Show}

@@ -1,7 +1,6 @@
 -- What holds of every task: no input in its form is refused, and a reply that ends with Done keeps the headline.
-use Rattle.std.proofs.Common.{◌≡◌, inl, inr, ℕ, List}
+use Rattle.std.proofs.Common.{inl, inr, ℕ, List}
 use Rattle.gj_shape.specs.FunctionData.{FunctionData}
-use Rattle.gj_proof.specs.declared.claim.Claim.{Claim}
 use Rattle.gj_top.specs.declared.command.Command.{Command}
 use Rattle.gj_top.specs.declared.command.Command.TheVariants.{Minimal, Show, Check}
 use Rattle.gj_top.specs.declared.reply.End.TheVariants.{Done}

@@ -1,5 +1,5 @@
 -- The answer of the program: its status and its text, and what it read for them (own).
-use Rattle.std.specs.Prelude.{ℕ, ◌≡◌, ◌+◌, ◌<◌, ◌≤◌, Bool, true, false, List, [], drop, length, codes, IsTrue, IfSome, Option, Some, String}
+use Rattle.std.specs.Prelude.{ℕ, ◌≡◌, ◌+◌, ◌<◌, ◌≤◌, Bool, true, false, List, drop, length, codes, IsTrue, IfSome, Option, Some, String}
 use Rattle.std.specs.declared.alloc.Global.{Global}
 use Rattle.gj_port.specs.Faults.{HasFailed}
 use Rattle.gj_port.specs.Whole.{TakesUpTo}

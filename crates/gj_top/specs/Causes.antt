@@ -1,5 +1,5 @@
 -- What the status of a run says of its words and its input (own).
-use Rattle.std.specs.Prelude.{ℕ, ◌≡◌, ◌⊎◌, ◌≤◌, ◌<◌, Bool, false, List, ◌++◌, length, IsTrue, Option, Some, String}
+use Rattle.std.specs.Prelude.{ℕ, ◌≡◌, ◌⊎◌, false, List, ◌++◌, IsTrue, Option, Some, String}
 use Rattle.std.specs.declared.alloc.Global.{Global}
 use Rattle.gj_top.specs.declared.command.Command.{Command}
 use Rattle.gj_top.specs.declared.reply.End.{End}
@@ -7,7 +7,7 @@ use Rattle.gj_top.specs.declared.status.Status.{Status}
 use Rattle.gj_top.specs.declared.status.Status.TheVariants.{Words, Input, ReadFault, WriteFault, Memory}
 use Rattle.gj_top.specs.Command.{IsNamed, NameNone, task_for}
 use Rattle.gj_top.specs.Reply.{status_of}
-use Rattle.gj_top.specs.Task.{Task, reads, IsInForm, IsReply, IsTrueReply, HasEnd}
+use Rattle.gj_top.specs.Task.{Task, reads, IsReply, IsTrueReply, HasEnd}
 use Rattle.gj_top.specs.Answer.{IsAnswerTo}
 
 -- the headline: the words name a command, the input is in its form, and what was written keeps what the command promises

@@ -1,6 +1,5 @@
-use Rattle.std.proofs.Common.{◌≡◌, inl, inr, refl, sym, subst, ◌∙◌}
+use Rattle.std.proofs.Common.{inl, inr, refl, sym, subst}
 use Rattle.gj_top.specs.declared.status.Status.{Status}
-use Rattle.gj_top.specs.declared.status.Status.TheVariants.{WriteFault}
 use Rattle.gj_top.specs.Answer.{IsAnswer, IsSourceFault, answer_text}
 use Rattle.gj_top.specs.Outcome.{IsOutcome, Gains}
 use Rattle.gj_top.specs.Outcome.IsOutcome.{told}
