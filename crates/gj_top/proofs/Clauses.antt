@@ -1,21 +1,22 @@
 -- What follows from the outcome of a run.
-use Rattle.std.proofs.Common.{◌≡◌, ◌≢◌, ◌⊎◌, inl, inr, ℕ, ◌+◌, ◌<◌, ◌≤◌, Bool, true, false, List, [], ◌++◌, length, IsTrue, IfSome, Option, None, Some, String, refl, sym, ap, subst, ◌∙◌, arith}
+use Rattle.std.proofs.Common.{◌≡◌, ◌≢◌, ◌⊎◌, inl, inr, ℕ, ◌+◌, ◌≤◌, Bool, true, false, List, [], ◌++◌, length, IsTrue, IfSome, Option}
+use Rattle.std.proofs.Common.{None, Some, String, refl, sym, ap, subst, ◌∙◌, arith}
 use Rattle.std.proofs.lemmas.List.{drop_all}
 use Rattle.std.specs.declared.alloc.Global.{Global}
 use Rattle.gj_top.specs.declared.command.Command.{Command}
 use Rattle.gj_top.specs.declared.reply.End.{End}
 use Rattle.gj_top.specs.declared.reply.End.TheVariants as end
 use Rattle.gj_top.specs.declared.status.Status.{Status}
-use Rattle.gj_top.specs.declared.status.Status.TheVariants.{Done, Words, Input, ReadFault, WriteFault, Memory}
-use Rattle.gj_top.specs.Command.{IsNamed, NameNone, task_for}
+use Rattle.gj_top.specs.declared.status.Status.TheVariants.{Done, ReadFault, WriteFault, Memory}
+use Rattle.gj_top.specs.Command.{IsNamed, task_for}
 use Rattle.gj_top.specs.Task.{Form, Task, reads, Spells, Refuses, IsInForm, IsReply}
 use Rattle.gj_top.specs.Task.Form.{reading, reading_nothing}
-use Rattle.gj_top.specs.Answer.{IsAnswerTo, IsAnswer, IsUnanswered, IsWithinLimit, IsReadWhole, IsReadInPart, input_limit}
+use Rattle.gj_top.specs.Answer.{IsAnswerTo, IsCommandAnswer, IsAnswer, IsUnanswered, IsWithinLimit, IsReadWhole, IsReadInPart, input_limit}
 use Rattle.gj_top.specs.Answer.IsAnswerTo.{too_long, refused, replied}
 use Rattle.gj_top.specs.Answer.IsAnswer.{no_command, read_fault, of_command}
 use Rattle.gj_top.specs.Outcome.{IsOutcome}
 use Rattle.gj_top.specs.Outcome.IsOutcome.{silent, told, cut_off}
-use Rattle.gj_top.specs.Causes.{IsTrueRun, ReadNothing, IsStatusOf, IsCause, IsStatusOfReply}
+use Rattle.gj_top.specs.Causes.{IsTrueRun, IsInput, IsGoodInput, ReadNothing, IsStatusOf, IsCause, IsStatusOfReply}
 use Rattle.gj_top.proofs.Commands.{one_command}
 use Rattle.gj_top.proofs.Ends.{done_end, not_answered}
 use Rattle.gj_top.proofs.Sound.{sound}
@@ -49,11 +50,18 @@ unread_answer task a b s text e (replied x) = replied (record {
   };
 })
 
--- the answer is one to the input that the source told
-told_answer : (task : Task) (b : Bool) (input all : List ℕ) (after : Option (List ℕ)) (s : Status) (text : List ℕ) → reads task.form ≡ b →
-    IsReadWhole b input (Some all) after → IsAnswerTo task input s text → IsAnswerTo task all s text
-told_answer task true input all after s text e whole a = subst (λ (i : List ℕ). IsAnswerTo task i s text) (sym whole.0) a
-told_answer task false input all after s text e whole a = unread_answer task input all s text e a
+-- where an input is read, the answer is one to the input that the source told
+moved : (task : Task) (b : Bool) (own input : List ℕ) (left after : Option (List ℕ)) (s : Status) (text : List ℕ) → reads task.form ≡ b →
+    (IsTrue b → left ≡ Some input) → IsReadWhole b own left after → IsAnswerTo task own s text → IsAnswerTo task input s text
+moved task true own input left after s text e given whole a =
+    let read : IsReadWhole true own (Some input) after = subst (λ (l : Option (List ℕ)). IsReadWhole true own l after) (given refl) whole in
+    subst (λ (i : List ℕ). IsAnswerTo task i s text) (sym read.0) a
+moved task false own input left after s text e given whole a = unread_answer task own input s text e a
+
+answer_to_input : (words : List (String Global)) (left after : Option (List ℕ)) (s : Status) (text input : List ℕ) → IsInput words left input →
+    (a : IsCommandAnswer words left after s text) → IsAnswerTo (task_for a.command) input s text
+answer_to_input words left after s text input given a =
+    moved (task_for a.command) (reads (task_for a.command).form) a.input input left after s text refl (given a.command a.named) a.whole a.answer
 
 -- ---- answers to an input
 
@@ -100,7 +108,9 @@ ends_clause words Fault left left' written written' sure r (cut_off o) c n = inr
 ends_clause words Fault left left' written written' sure r (told o) c n = elim o.answer [
   | no_command a ↦ absurd (a.unnamed c n)
   | read_fault a ↦ inr (inr (inl (
-      subst (λ (d : Command). IsTrue (reads (task_for d).form)) (one_command words a.command c a.named n) a.read, inl a.status_is)))
+    subst (λ (d : Command). IsTrue (reads (task_for d).form)) (one_command words a.command c a.named n) a.read,
+    inl a.status_is,
+  )))
   | of_command a ↦ subst (λ (d : Command). IsStatusOf (task_for d) r) (one_command words a.command c a.named n)
       (status_of_answer (task_for a.command) a.input o.text r a.answer)
 ]
@@ -119,33 +129,39 @@ unread_by_answer words Fault left left' s text (read_fault a) nothing =
 unread_by_answer words Fault left left' s text (of_command a) nothing =
     subst (λ (b : Bool). IsReadWhole b a.input left left') (reads_not words a.command a.named nothing) a.whole
 
-pub unread_unanswered : (words : List (String Global)) (left left' : Option (List ℕ)) → IsUnanswered words left left' → ReadNothing words → left' ≡ left
-unread_unanswered words left left' u nothing = subst (λ (b : Bool). IsReadInPart b left left') (reads_not words u.command u.named nothing) u.part
+pub unread_unanswered : (words : List (String Global)) (left left' : Option (List ℕ)) → IsUnanswered words left left' → ReadNothing words →
+    left' ≡ left
+unread_unanswered words left left' u nothing =
+    subst (λ (b : Bool). IsReadInPart b left left') (reads_not words u.command u.named nothing) u.part
 
--- ---- the clauses over an input that the source told
+-- ---- the clauses over an input
 
-module _ (words : List (String Global)) (Fault : Type 0) (input : List ℕ) (left' written' : Option (List ℕ)) (sure : ℕ) (r : Status) where
-  cause_at : (written : Option (List ℕ)) → IsOutcome words Fault (Some input) left' written written' sure r → IsCause words input r
-  cause_at written (silent o) = inl o.status_is
-  cause_at written (cut_off o) = inr (inr (inl o.status_is))
-  cause_at written (told o) = elim o.answer [
+-- what holds of a value follows from a stronger fact
+weaker : {A : Type 0} (o : Option A) (P Q : A → Type 0) → ((x : A) → P x → Q x) → IfSome o P → IfSome o Q
+weaker None P Q f h = tt
+weaker (Some x) P Q f h = f x h
+
+module _ (words : List (String Global)) (Fault : Type 0) (left left' written written' : Option (List ℕ)) (sure : ℕ) (r : Status) where
+  pub cause_clause : IsOutcome words Fault left left' written written' sure r → (input : List ℕ) → IsInput words left input → IsCause words input r
+  cause_clause (silent o) input t = inl o.status_is
+  cause_clause (cut_off o) input t = inr (inr (inl o.status_is))
+  cause_clause (told o) input t = elim o.answer [
     | no_command a ↦ inr (inr (inr (inl (a.status_is, a.unnamed))))
     | read_fault a ↦ inr (inl a.status_is)
-    | of_command a ↦ inr (inr (inr (inr (a.command, a.named, o.text,
-        told_answer (task_for a.command) (reads (task_for a.command).form) a.input input left' r o.text refl a.whole a.answer))))
+    | of_command a ↦ inr (inr (inr (inr (a.command, a.named, o.text, answer_to_input words left left' r o.text input t a))))
   ]
 
-  headline_at : (before : List ℕ) → IsOutcome words Fault (Some input) left' (Some before) written' sure r → r ≡ Done →
-      IsTrueRun words input before written'
-  headline_at before (silent o) e = absurd (let is = o.status_is in cc)
-  headline_at before (cut_off o) e = absurd (let is = o.status_is in cc)
-  headline_at before (told o) e = elim o.answer [
+  pub headline_clause : IsOutcome words Fault left left' written written' sure r → r ≡ Done → (input : List ℕ) → IsInput words left input →
+      IfSome written (λ before. IsTrueRun words input before written')
+  headline_clause (silent o) e input t = absurd (let is = o.status_is in cc)
+  headline_clause (cut_off o) e input t = absurd (let is = o.status_is in cc)
+  headline_clause (told o) e input t = elim o.answer [
     | no_command a ↦ absurd (let is = a.status_is in cc)
     | read_fault a ↦ absurd (let is = a.status_is in cc)
     | of_command a ↦
-        let answer = told_answer (task_for a.command) (reads (task_for a.command).form) a.input input left' r o.text refl a.whole a.answer in
+        let answer = answer_to_input words left left' r o.text input t a in
         let reply = done_reply (task_for a.command) input o.text (subst (λ (s : Status). IsAnswerTo (task_for a.command) input s o.text) e answer) in
-        record {
+        weaker written (λ before. written' ≡ Some (before ++ o.text)) (λ before. IsTrueRun words input before written') (λ before gain. record {
           command = a.command;
           named = a.named;
           text = o.text;
@@ -154,25 +170,31 @@ module _ (words : List (String Global)) (Fault : Type 0) (input : List ℕ) (lef
             spelled = reply.spelled;
             holds = (sound a.command).work reply.thing o.text reply.replied;
           };
-          gain = o.gain;
-        }
+          gain = gain;
+        }) o.gain
   ]
 
-  complete_at : (written : Option (List ℕ)) (Unread Unwritten : Type 0) → IsOutcome words Fault (Some input) left' written written' sure r →
-      (Fault → Unread) → (r ≡ WriteFault → Unwritten) → (c : Command) →
-      IsNamed words c → IsInForm (task_for c) input → IsWithinLimit (task_for c) input → (Unread → ⊥) → (Unwritten → ⊥) →
-      (r ≡ Memory) ⊎ IsStatusOfReply (task_for c) input r
-  complete_at written Unread Unwritten (silent o) f g c n form within x y = inl o.status_is
-  complete_at written Unread Unwritten (cut_off o) f g c n form within x y = absurd (y (g o.status_is))
-  complete_at written Unread Unwritten (told o) f g c n form within x y = elim o.answer [
+  pub complete_clause : (Unread Unwritten : Type 0) → IsOutcome words Fault left left' written written' sure r → (Fault → Unread) →
+      (r ≡ WriteFault → Unwritten) → (c : Command) (input : List ℕ) → IsNamed words c → IsGoodInput (task_for c) left input →
+      (IsTrue (reads (task_for c).form) → Unread → ⊥) → (Unwritten → ⊥) → (r ≡ Memory) ⊎ IsStatusOfReply (task_for c) input r
+  complete_clause Unread Unwritten (silent o) f g c input n i x y = inl o.status_is
+  complete_clause Unread Unwritten (cut_off o) f g c input n i x y = absurd (y (g o.status_is))
+  complete_clause Unread Unwritten (told o) f g c input n i x y = elim o.answer [
     | no_command a ↦ absurd (a.unnamed c n)
-    | read_fault a ↦ absurd (x (f a.failed))
+    | read_fault a ↦
+        let read = subst (λ (d : Command). IsTrue (reads (task_for d).form)) (one_command words a.command c a.named n) a.read in
+        absurd (x read (f a.failed))
     | of_command a ↦
-        let answer = told_answer (task_for a.command) (reads (task_for a.command).form) a.input input left' r o.text refl a.whole a.answer in
-        inr (status_in_form c input o.text r form within
-            (subst (λ (d : Command). IsAnswerTo (task_for d) input r o.text) (one_command words a.command c a.named n) answer))
+        let told_input : IsInput words left input = λ d m read.
+        i.told (subst (λ (e : Command). IsTrue (reads (task_for e).form)) (one_command words d c m n) read) in
+        let answer = answer_to_input words left left' r o.text input told_input a in
+        inr (status_in_form c input o.text r i.form i.within
+        (subst (λ (d : Command). IsAnswerTo (task_for d) input r o.text) (one_command words a.command c a.named n) answer))
   ]
 
+-- ---- the input is read to its end
+
+module _ (words : List (String Global)) (Fault : Type 0) (input : List ℕ) (left' : Option (List ℕ)) where
   -- an input within the limit that was read whole was read to its end
   read_to_end : (b : Bool) (all : List ℕ) → IsTrue b → length input ≤ input_limit → IsReadWhole b all (Some input) left' → left' ≡ Some []
   read_to_end true all t within whole =
@@ -194,25 +216,5 @@ pub input_clause : (words : List (String Global)) (Fault : Type 0) (left left' :
     r ≢ Memory → r ≢ ReadFault → (r ≡ WriteFault → Unread → ⊥) → left' ≡ Some [])
 input_clause words Fault None left' s r text Unread a fault = tt
 input_clause words Fault (Some input) left' s r text Unread a fault = λ c n read within m f w.
-    end_at words Fault input left' None 0 r s text a
+    end_at words Fault input left' s text a
     (λ e failed. elim (fault e failed) [ inl q ↦ f q | inr q ↦ w q.0 q.1 ]) c n read within
-
-pub cause_clause : (words : List (String Global)) (Fault : Type 0) (left left' written written' : Option (List ℕ)) (sure : ℕ) (r : Status) →
-    IsOutcome words Fault left left' written written' sure r → IfSome left (λ input. IsCause words input r)
-cause_clause words Fault None left' written written' sure r o = tt
-cause_clause words Fault (Some input) left' written written' sure r o = cause_at words Fault input left' written' sure r written o
-
-pub headline_clause : (words : List (String Global)) (Fault : Type 0) (left left' written written' : Option (List ℕ)) (sure : ℕ) (r : Status) →
-    IsOutcome words Fault left left' written written' sure r → r ≡ Done →
-    IfSome left (λ input. IfSome written (λ before. IsTrueRun words input before written'))
-headline_clause words Fault None left' written written' sure r o e = tt
-headline_clause words Fault (Some input) left' None written' sure r o e = tt
-headline_clause words Fault (Some input) left' (Some before) written' sure r o e = headline_at words Fault input left' written' sure r before o e
-
-pub complete_clause : (words : List (String Global)) (Fault : Type 0) (left left' written written' : Option (List ℕ)) (sure : ℕ) (r : Status) (Unread Unwritten : Type 0) →
-    IsOutcome words Fault left left' written written' sure r → (Fault → Unread) → (r ≡ WriteFault → Unwritten) →
-    IfSome left (λ input. (c : Command) → IsNamed words c → IsInForm (task_for c) input → IsWithinLimit (task_for c) input →
-    (Unread → ⊥) → (Unwritten → ⊥) → (r ≡ Memory) ⊎ IsStatusOfReply (task_for c) input r)
-complete_clause words Fault None left' written written' sure r Unread Unwritten o f g = tt
-complete_clause words Fault (Some input) left' written written' sure r Unread Unwritten o f g =
-    complete_at words Fault input left' written' sure r written Unread Unwritten o f g

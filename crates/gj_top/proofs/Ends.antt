@@ -3,7 +3,8 @@ use Rattle.std.proofs.Common.{◌≡◌, ℕ, Bool, true, false, List, Option, N
 use Rattle.gj_top.specs.declared.reply.End.{End}
 use Rattle.gj_top.specs.declared.reply.End.TheVariants as end
 use Rattle.gj_top.specs.declared.status.Status.{Status}
-use Rattle.gj_top.specs.declared.status.Status.TheVariants.{Done, Rejected, Words, Input, ReadFault, WriteFault, Memory, Wide, NotContinuous, NoFunction}
+use Rattle.gj_top.specs.declared.status.Status.TheVariants.{Done, Rejected, Words, ReadFault, WriteFault, Memory, Wide}
+use Rattle.gj_top.specs.declared.status.Status.TheVariants.{NotContinuous, NoFunction}
 use Rattle.gj_top.specs.Reply.{status_of}
 use Rattle.gj_top.specs.Task.{Task}
 use Rattle.gj_top.specs.Answer.{IsAnswerTo}

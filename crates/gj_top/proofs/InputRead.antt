@@ -1,5 +1,6 @@
 -- The answer to an input that was read whole, and to one that is too long.
-use Rattle.std.proofs.Common.{◌≡◌, ℕ, ◌+◌, ◌<◌, ◌≤◌, Bool, true, List, [], length, drop, replicate, IfSome, Option, None, Some, Ok, Err, IfOk, Result, String, Vec, vec_len, refl, sym, ap, subst, ◌∙◌, arith}
+use Rattle.std.proofs.Common.{◌≡◌, ℕ, ◌+◌, ◌<◌, ◌≤◌, Bool, true, List, length, replicate, IfSome, Option, None, Some, Ok, Err}
+use Rattle.std.proofs.Common.{IfOk, Result, String, Vec, vec_len, refl, sym, ap, subst, ◌∙◌, arith}
 use Rattle.std.proofs.lemmas.List.{drop_all, length-replicate}
 use Rattle.std.proofs.lemmas.Result.{IfOk-weaker}
 use Rattle.std.specs.declared.alloc.Global.{Global}
@@ -49,6 +50,7 @@ module _ (words : List (String Global)) (Fault : Type 0) (c : Command) (named : 
   longer : (n : ℕ) → (input : List ℕ) × (n < length input)
   longer n = (replicate (n + 1) 0, omega (arith, length-replicate {A = ℕ}))
 
-  pub answer_of_long : (left after : Option (List ℕ)) → IfSome left (λ l. TakesAll input_limit l after (Err TooLong)) → IsAnswer words Fault left after Input long_line
+  pub answer_of_long : (left after : Option (List ℕ)) → IfSome left (λ l. TakesAll input_limit l after (Err TooLong)) →
+      IsAnswer words Fault left after Input long_line
   answer_of_long None after t = long_answer (longer input_limit).0 None after (longer input_limit).1 tt
   answer_of_long (Some all) after t = long_answer all (Some all) after (let more = t.0 in omega arith) (refl, t.1)

@@ -4,6 +4,6 @@ pub mod Commands
 pub mod Ends
 pub mod InputRead
 pub mod GridCoordinates
-pub mod ShortTexts
 pub mod Shown
 pub mod Sound
+pub mod TextLaws

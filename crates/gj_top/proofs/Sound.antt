@@ -1,9 +1,6 @@
 -- What holds of every task: no input in its form is refused, and a reply that ends with Done keeps the headline.
-use Rattle.std.proofs.Common.{◌≡◌, inl, inr, ℕ, List}
+use Rattle.std.proofs.Common.{inl, inr, ℕ, List}
 use Rattle.gj_shape.specs.FunctionData.{FunctionData}
-use Rattle.gj_ftext.proofs.OneText.{no_fault_of_whole}
-use Rattle.gj_proof.specs.declared.claim.Claim.{Claim}
-use Rattle.gj_proof.proofs.OneText.{no_fault_at}
 use Rattle.gj_top.specs.declared.command.Command.{Command}
 use Rattle.gj_top.specs.declared.command.Command.TheVariants.{Minimal, Show, Check}
 use Rattle.gj_top.specs.declared.reply.End.TheVariants.{Done}
@@ -11,6 +8,7 @@ use Rattle.gj_top.specs.Task.{Form, Spells, Refuses, Work, Task}
 use Rattle.gj_top.specs.Forms.{function_text, proof_text}
 use Rattle.gj_top.specs.Minimal.{IsVerdict, IsTrueVerdict}
 use Rattle.gj_top.specs.Command.{task_for}
+use Rattle.gj_top.proofs.TextLaws.{function_text_has_no_fault, proof_text_has_no_fault}
 
 -- no input is both in the form and refused
 abbrev pub RefusesOnlyOthers : {Thing : Type 0} → Form Thing → Type 0
@@ -25,11 +23,10 @@ pub record IsSound (task : Task) : Type 0 where
   pub work : KeepsHeadline task.work
 
 function_text_sound : RefusesOnlyOthers function_text
-function_text_sound input text f spelled refused = no_fault_of_whole input f refused.at_line refused.reason spelled refused.first
+function_text_sound input text f spelled refused = function_text_has_no_fault input f refused.at_line refused.reason spelled refused.first
 
 proof_text_sound : RefusesOnlyOthers proof_text
-proof_text_sound input text c spelled refused =
-    no_fault_at c input refused.first.rest refused.reason spelled.kept spelled.spelled refused.first.fault
+proof_text_sound input text c spelled refused = proof_text_has_no_fault input c refused.at_line refused.reason spelled refused.first
 
 verdict_true : (f : FunctionData) (text : List ℕ) → IsVerdict f text → IsTrueVerdict f text
 verdict_true f text (inl m) = inl (m.2, m.0)

@@ -1,5 +1,5 @@
 -- The answer of the program: its status and its text, and what it read for them (own).
-use Rattle.std.specs.Prelude.{ℕ, ◌≡◌, ◌+◌, ◌<◌, ◌≤◌, Bool, true, false, List, [], drop, length, codes, IsTrue, IfSome, Option, Some, String}
+use Rattle.std.specs.Prelude.{ℕ, ◌≡◌, ◌+◌, ◌<◌, ◌≤◌, Bool, true, false, List, drop, length, codes, IsTrue, IfSome, Option, Some, String}
 use Rattle.std.specs.declared.alloc.Global.{Global}
 use Rattle.gj_port.specs.Faults.{HasFailed}
 use Rattle.gj_port.specs.Whole.{TakesUpTo}
@@ -85,7 +85,8 @@ pub record IsWordsAnswer (words : List (String Global)) (left after : Option (Li
   pub spelled : text ≡ words_line
 
 -- the words name a command, and the source failed: at most the limit was read
-pub record IsFaultAnswer (words : List (String Global)) (Fault : Type 0) (left after : Option (List ℕ)) (status : Status) (text : List ℕ) : Type 0 where
+pub record IsFaultAnswer (words : List (String Global)) (Fault : Type 0) (left after : Option (List ℕ)) (status : Status) (text : List ℕ) :
+    Type 0 where
   pub command : Command
   pub named : IsNamed words command
   pub read : IsTrue (reads (task_for command).form)

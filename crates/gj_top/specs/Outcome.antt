@@ -26,7 +26,8 @@ pub record IsTold (words : List (String Global)) (Fault : Type 0) (left left' wr
   pub gain : Gains written written' text
 
 -- the sink, which was not sure of the whole text of the answer, failed and took a front of it
-pub record IsCutOff (words : List (String Global)) (Fault : Type 0) (left left' written written' : Option (List ℕ)) (sure : ℕ) (result : Status) : Type 0 where
+pub record IsCutOff (words : List (String Global)) (Fault : Type 0) (left left' written written' : Option (List ℕ)) (sure : ℕ)
+    (result : Status) : Type 0 where
   pub status_is : result ≡ WriteFault
   pub status : Status
   pub text : List ℕ
@@ -35,7 +36,13 @@ pub record IsCutOff (words : List (String Global)) (Fault : Type 0) (left left' 
   pub gain : GainsFront written written' text
 
 -- one of these, where `Fault` says that the source failed
-pub data IsOutcome (words : List (String Global)) (Fault : Type 0) (left left' written written' : Option (List ℕ)) (sure : ℕ) (result : Status) : Type 0 where
+pub data IsOutcome (words : List (String Global)) (Fault : Type 0) (left left' written written' : Option (List ℕ)) (sure : ℕ)
+    (result : Status) : Type 0 where
   silent : IsSilent words left left' written written' result → IsOutcome words Fault left left' written written' sure result
   told : IsTold words Fault left left' written written' result → IsOutcome words Fault left left' written written' sure result
   cut_off : IsCutOff words Fault left left' written written' sure result → IsOutcome words Fault left left' written written' sure result
+
+-- the sink was not sure of the whole text of an answer that the run can have had
+abbrev pub IsUnsure : List (String Global) → Type 0 → Option (List ℕ) → Option (List ℕ) → ℕ → Type 0
+IsUnsure words Fault left left' sure =
+    (status : Status) × (text : List ℕ) × IsAnswer words Fault left left' status text × (sure < length text)

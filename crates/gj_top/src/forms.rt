@@ -1,6 +1,4 @@
 //! The forms of input: each is read whole, or refused with the line that says why.
-ghost use Rattle.std.specs.Prelude.{◌≡◌, ◌++◌, ℕ, List, codes, decimal};
-ghost use Rattle.gj_lex.specs.Reason.{reason_word};
 ghost use Rattle.gj_lines.specs.FunctionLines.{line};
 ghost use Rattle.gj_top.specs.Task.{IsReadingOf};
 ghost use Rattle.gj_top.specs.Forms.{function_text, proof_text, IsRefusalOf};

@@ -1,14 +1,14 @@
 //! The top call: words and an input in, an answer and a status out.
 #![tactic(auto)]
 
-ghost use Rattle.std.specs.Prelude.{◌≡◌, ◌≢◌, ◌⊎◌, ◌<◌, ◌≤◌, ℕ, List, [], length, Some, IfSome, IsTrue};
+ghost use Rattle.std.specs.Prelude.{◌≡◌, ◌≢◌, ◌⊎◌, ◌≤◌, ℕ, List, [], length, Some, IfSome, IsTrue};
 ghost use Rattle.gj_port.specs.Faults.{HasFailed};
 ghost use Rattle.gj_top.specs.declared.command.Command.{Command};
 ghost use Rattle.gj_top.specs.Command.{IsNamed, NameNone, task_for};
-ghost use Rattle.gj_top.specs.Task.{reads, IsInForm};
-ghost use Rattle.gj_top.specs.Answer.{IsAnswer, IsSourceFault, IsWithinLimit, input_limit, words_line, fault_line};
-ghost use Rattle.gj_top.specs.Outcome.{IsOutcome, Gains};
-ghost use Rattle.gj_top.specs.Causes.{IsTrueRun, ReadNothing, IsStatusOf, IsCause, IsStatusOfReply};
+ghost use Rattle.gj_top.specs.Task.{reads};
+ghost use Rattle.gj_top.specs.Answer.{IsSourceFault, input_limit, words_line, fault_line};
+ghost use Rattle.gj_top.specs.Outcome.{IsOutcome, IsUnsure, Gains};
+ghost use Rattle.gj_top.specs.Causes.{IsInput, IsGoodInput, IsTrueRun, ReadNothing, IsStatusOf, IsCause, IsStatusOfReply};
 
 use gj_port::{Sink, Source, write_all};
 use std::alloc::Global;
@@ -43,8 +43,8 @@ pub fn run<S: Source, K: Sink>(
     sink: &mut K,
 ) -> Status
     // The headline.
-    ensures headline { result ≡ Status.Done → IfSome (S.left source.old) (λ input. IfSome (K.written sink.old) (λ before.
-        IsTrueRun words.now input before (K.written sink.new))) }
+    ensures headline { result ≡ Status.Done → (input : List ℕ) → IsInput words.now (S.left source.old) input →
+        IfSome (K.written sink.old) (λ before. IsTrueRun words.now input before (K.written sink.new)) }
 
     // What was written is the answer, all of it, or as far as the sink took it, or nothing for want of memory.
     ensures outcome { IsOutcome words.now (IsSourceFault (S.steady source.old) (S.faults source.old) (S.faults source.new))
@@ -58,7 +58,7 @@ pub fn run<S: Source, K: Sink>(
 
     // Where the source tells its bytes, each status has its cause in them, and an input within the limit is read to its
     // end, whether or not the sink took the answer, unless there was no memory or the source failed.
-    ensures cause { IfSome (S.left source.old) (λ input. IsCause words.now input result) }
+    ensures cause { (input : List ℕ) → IsInput words.now (S.left source.old) input → IsCause words.now input result }
     ensures input { IfSome (S.left source.old) (λ input. (c : Command) → IsNamed words.now c → IsTrue (reads (task_for c).form) →
         length input ≤ input_limit → result ≢ Status.Memory → result ≢ Status.ReadFault →
         (result ≡ Status.WriteFault → HasFailed (S.faults source.old) (S.faults source.new) → ⊥) →
@@ -71,9 +71,9 @@ pub fn run<S: Source, K: Sink>(
 
     // So is a fault of the sink, and only where it was not sure of the whole answer.
     ensures write_fault { result ≡ Status.WriteFault → HasFailed (K.faults sink.old) (K.faults sink.new) }
-    ensures sure { result ≡ Status.WriteFault → (s : Status) × (text : List ℕ)
-        × IsAnswer words.now (IsSourceFault (S.steady source.old) (S.faults source.old) (S.faults source.new))
-            (S.left source.old) (S.left source.new) s text × (K.sure sink.old < length text) }
+    ensures sure { result ≡ Status.WriteFault →
+        IsUnsure words.now (IsSourceFault (S.steady source.old) (S.faults source.old) (S.faults source.new))
+        (S.left source.old) (S.left source.new) (K.sure sink.old) }
     ensures write_count { K.faults sink.old ≤ K.faults sink.new }
 
     // What is written where no input was answered.
@@ -82,11 +82,11 @@ pub fn run<S: Source, K: Sink>(
     ensures words_told { result ≡ Status.Words → Gains (K.written sink.old) (K.written sink.new) words_line }
 
     // A command over an input in its form, with no fault, is answered unless there is no memory.
-    ensures complete { IfSome (S.left source.old) (λ input. (c : Command) →
-        IsNamed words.now c → IsInForm (task_for c) input → IsWithinLimit (task_for c) input →
-        (HasFailed (S.faults source.old) (S.faults source.new) → ⊥) →
+    ensures complete { (c : Command) (input : List ℕ) →
+        IsNamed words.now c → IsGoodInput (task_for c) (S.left source.old) input →
+        (IsTrue (reads (task_for c).form) → HasFailed (S.faults source.old) (S.faults source.new) → ⊥) →
         (HasFailed (K.faults sink.old) (K.faults sink.new) → ⊥) →
-        (result ≡ Status.Memory) ⊎ IsStatusOfReply (task_for c) input result) }
+        (result ≡ Status.Memory) ⊎ IsStatusOfReply (task_for c) input result }
 {
     let Ok(answer) = answer_to(alloc, words, source) else {
         return Status::Memory;

@@ -1,5 +1,4 @@
 //! The command `minimal`: whether a function is minimal, as a proof text.
-ghost use Rattle.std.specs.Prelude.{◌≡◌};
 ghost use Rattle.gj_shape.specs.FunctionData.{IsWithinBounds};
 ghost use Rattle.gj_top.specs.Task.{IsAnswering};
 ghost use Rattle.gj_top.specs.Minimal.{IsTrueClaim, minimal};

@@ -1,10 +1,10 @@
-use Rattle.std.proofs.Common.{◌≡◌, inl, inr, refl, sym, subst, ◌∙◌}
+use Rattle.std.proofs.Common.{inl, inr, refl, sym, subst}
 use Rattle.gj_top.specs.declared.status.Status.{Status}
-use Rattle.gj_top.specs.declared.status.Status.TheVariants.{WriteFault}
 use Rattle.gj_top.specs.Answer.{IsAnswer, IsSourceFault, answer_text}
 use Rattle.gj_top.specs.Outcome.{IsOutcome, Gains}
 use Rattle.gj_top.specs.Outcome.IsOutcome.{told}
-use Rattle.gj_top.proofs.Clauses.{no_write_fault, failed_source, input_clause, unread_by_answer, unread_unanswered, headline_clause, ends_clause, cause_clause, complete_clause}
+use Rattle.gj_top.proofs.Clauses.{no_write_fault, failed_source, input_clause, unread_by_answer, unread_unanswered, headline_clause}
+use Rattle.gj_top.proofs.Clauses.{ends_clause, cause_clause, complete_clause}
 use Rattle.gj_top.proofs.run.Given.{Over}
 use Rattle.gj_top.proofs.run.Goals as goal
 
@@ -14,7 +14,8 @@ fault g c = IsSourceFault (g.S.Source.steady c.args.source.now) (g.S.Source.faul
 
 -- the answer that was written
 answer : (g : Over) (c : goal.Joined-answer g) →
-    IsAnswer c.args.words.now (fault g c) (g.S.Source.left c.args.source.now) (g.S.Source.left c.answer_to.new.source) c.status.result (answer_text c.in-Ok.answer)
+    IsAnswer c.args.words.now (fault g c) (g.S.Source.left c.args.source.now) (g.S.Source.left c.answer_to.new.source) c.status.result
+    (answer_text c.in-Ok.answer)
 answer g c = subst (λ (s : Status).
     IsAnswer c.args.words.now (fault g c) (g.S.Source.left c.args.source.now) (g.S.Source.left c.answer_to.new.source) s (answer_text c.in-Ok.answer))
     (sym c.status.ensures) c.in-Ok.ensures.answer
