@@ -6,4 +6,5 @@ pub mod PassedTests
 pub mod SamePlaces
 pub mod ShownPoints
 pub mod PieceTests
-pub mod Meanings
+pub mod DemandsOfClaims
+pub mod RulesGiveMeaning

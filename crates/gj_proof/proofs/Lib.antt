@@ -9,5 +9,6 @@ pub mod ViolationFaults
 pub mod PointFaults
 pub mod OneLine
 pub mod OneText
+pub mod LineNumbers
 pub mod FirstFaults
 pub mod OneFault

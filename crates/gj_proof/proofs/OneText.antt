@@ -4,12 +4,13 @@ use Rattle.std.proofs.lemmas.List.{append_assoc, append-nil, append_cancel_left}
 use Rattle.gj_frac.specs.declared.Frac.{Frac}
 use Rattle.gj_frac.specs.Fraction.{IsRatio}
 use Rattle.gj_lex.specs.declared.reason.Reason.{Reason}
-use Rattle.gj_shape.specs.FunctionData.{FunctionData}
+use Rattle.gj_shape.specs.FunctionData.{FunctionData, IsWithinBounds}
 use Rattle.gj_shape.specs.Given.{IsOrder}
-use Rattle.gj_lines.specs.FunctionLines.{line, order_line, place_line, point_line}
+use Rattle.gj_lines.specs.FunctionLines.{line, order_line, place_line, point_line, AreFunctionLines}
 use Rattle.gj_lines.specs.Points.{IsPlaceFraction, ArePointsOf}
 use Rattle.gj_lines.specs.declared.points.Point.{Point}
-use Rattle.gj_proof.specs.ProofText.{function_of, claim_word, shown_lines, violation_line, IsKept, IsProofText}
+use Rattle.gj_proof.specs.ProofText.{Subject, subject_of, IsBounded, claim_word, AreSubjectLines, own_lines, violation_line, IsProofText}
+use Rattle.gj_proof.specs.ProofText.Subject.{function}
 use Rattle.gj_proof.specs.FirstFault.{claim_line, claim_lines, read_lines, lines_before, LinesRead, Expected, IsFull, AreShown, ComesNext, Breaks, IsFaultAt}
 use Rattle.gj_proof.specs.FirstFault.Expected.{title, claim, order, place, point, violation, last, nothing}
 use Rattle.gj_proof.specs.declared.claim.Claim.{Claim}
@@ -143,49 +144,71 @@ word_of : Claim → ClaimWord
 word_of (claims.Minimal f) = Minimal
 word_of (claims.NotMinimal f v) = NotMinimal
 
+function_of : Claim → FunctionData
+function_of (claims.Minimal f) = f
+function_of (claims.NotMinimal f v) = f
+
+bounds_of : (c : Claim) → IsBounded c → IsWithinBounds (function_of c)
+unfolding function_of
+bounds_of (claims.Minimal f) b = b
+bounds_of (claims.NotMinimal f v) b = b
+
+function_lines : (c : Claim) (bytes : List ℕ) → AreSubjectLines (subject_of c) bytes → AreFunctionLines (function_of c) bytes
+unfolding function_of
+function_lines (claims.Minimal f) bytes l = l
+function_lines (claims.NotMinimal f v) bytes l = l
+
+-- the bytes of the claim's own lines
+abbrev shown_lines : Claim → List ℕ
+shown_lines c = flat_map (λ l. l.bytes) (own_lines c)
+
 -- what the text of a claim gives, line by line
 read_of : (c : Claim) (text : List ℕ) → IsProofText c text → LinesRead
-read_of c text p = record { claim = word_of c; order = (function_of c).order; place = p.are_lines.place; points = p.are_lines.points }
+read_of c text p =
+    let l = function_lines c p.subject p.are_subject_lines in
+    record { claim = word_of c; order = (function_of c).order; place = l.place; points = l.points }
 
-good_of : (c : Claim) (text : List ℕ) → IsKept c → (p : IsProofText c text) → IsFull (read_of c text p)
+good_of : (c : Claim) (text : List ℕ) → IsBounded c → (p : IsProofText c text) → IsFull (read_of c text p)
 unfolding read_of
 good_of c text k p =
     let f = function_of c in
-    let l = p.are_lines in
-    let passed = good_points l.points f k.0 l.points_are in
+    let b = bounds_of c k in
+    let l = function_lines c p.subject p.are_subject_lines in
+    let passed = good_points l.points f b l.points_are in
     record {
       good = record {
-        order_fits = (k.0.order_low, k.0.order_high);
-        place_fits = (f.place, (k.0.place_low, k.0.place_high), l.place_is);
+        order_fits = (b.order_low, b.order_high);
+        place_fits = (f.place, (b.place_low, b.place_high), l.place_is);
         small = passed.0;
         common = passed.1;
       };
-      count = count_of_points l.points f k.0 l.points_are;
+      count = count_of_points l.points f b l.points_are;
     }
 
 shown_of : (c : Claim) → AreShown (word_of c) (shown_lines c)
 unfolding word_of
 shown_of (claims.Minimal f) = refl
-shown_of (claims.NotMinimal f v) = (v, refl)
+shown_of (claims.NotMinimal f v) = (v, append-nil (violation_line v))
 
 claim_line_of : (c : Claim) → line (codes "claim " ++ claim_word c) ≡ claim_line (word_of c)
 unfolding word_of
 claim_line_of (claims.Minimal f) = refl
 claim_line_of (claims.NotMinimal f v) = refl
 
-parts_of : (c : Claim) (text : List ℕ) → IsKept c → (p : IsProofText c text) → Parts text (read_of c text p) (shown_lines c)
+parts_of : (c : Claim) (text : List ℕ) → IsBounded c → (p : IsProofText c text) → Parts text (read_of c text p) (shown_lines c)
 unfolding read_of
 parts_of c text k p = record {
   full = good_of c text k p;
   are = shown_of c;
   spelled = p.spelled
-      ∙ ap (λ t. line (codes "gj-proof 1") ++ t ++ p.lines ++ shown_lines c ++ line (codes "end")) (claim_line_of c)
-      ∙ ap (λ t. claim_lines (word_of c) ++ t ++ shown_lines c ++ line (codes "end")) p.are_lines.spelled
+      ∙ ap (λ t. line (codes "gj-proof 1") ++ t ++ p.subject ++ shown_lines c ++ line (codes "end")) (claim_line_of c)
+      ∙ ap (λ t. claim_lines (word_of c) ++ t ++ shown_lines c ++ line (codes "end"))
+      (function_lines c p.subject p.are_subject_lines).spelled
       ∙ append_assoc (read_lines (read_of c text p)) (shown_lines c) (line (codes "end"));
 }
 
 -- the text of a claim has no fault
-pub no_fault_at : (c : Claim) (text rest : List ℕ) (e : Reason) → IsKept c → IsProofText c text → IsFaultAt text rest e → ⊥
+pub no_fault_at : (c : Claim) (text rest : List ℕ) (e : Reason) → IsBounded c → IsProofText c text → IsFaultAt text rest e → ⊥
 no_fault_at c text rest e k p f =
     unbroken text rest (read_of c text p) (shown_lines c) e (parts_of c text k p) f.expected f.good f.place f.broken
 
@@ -193,36 +216,41 @@ no_fault_at c text rest e k p f =
 
 -- claims of one word, one function and one shown line are one
 same_claim : (c d : Claim) → word_of c ≡ word_of d → function_of c ≡ function_of d → shown_lines c ≡ shown_lines d → c ≡ d
-unfolding word_of
+unfolding word_of function_of
 same_claim (claims.Minimal f) (claims.Minimal g) w e s = ap claims.Minimal e
 same_claim (claims.Minimal f) (claims.NotMinimal g v) w e s = cc
 same_claim (claims.NotMinimal f v) (claims.Minimal g) w e s = cc
 same_claim (claims.NotMinimal f v) (claims.NotMinimal g u) w e s =
-    let same = violation_same v u [] [] (append-nil (violation_line v) ∙ s ∙ sym (append-nil (violation_line u))) in
+    let same = violation_same v u [] [] s in
     ap (λ (h : FunctionData). claims.NotMinimal h v) e ∙ ap (claims.NotMinimal g) same.0
 
-pub one_claim : (c d : Claim) (text : List ℕ) → IsKept c → IsKept d → IsProofText c text → IsProofText d text → c ≡ d
+pub one_claim : (c d : Claim) (text : List ℕ) → IsBounded c → IsBounded d → IsProofText c text → IsProofText d text → c ≡ d
 unfolding read_of
 one_claim c d text k j p q =
     let w = parts_of c text k p in
     let u = parts_of d text j q in
+    let l = function_lines c p.subject p.are_subject_lines in
+    let m = function_lines d q.subject q.are_subject_lines in
     let same = same_front (read_of c text p) (read_of d text q) (shown_lines c ++ line (codes "end")) (shown_lines d ++ line (codes "end"))
     w.full.good.order_fits u.full.good.order_fits (sym w.spelled ∙ u.spelled) in
-    let (points_are, after) = points_same p.are_lines.points q.are_lines.points (shown_lines c ++ line (codes "end")) (shown_lines d ++ line (codes "end"))
+    let (points_are, after) = points_same l.points m.points (shown_lines c ++ line (codes "end")) (shown_lines d ++ line (codes "end"))
     (w.full.count ∙ same.order_same ∙ sym u.full.count) same.rest_same in
     let shows = subst (λ (a : ClaimWord). AreShown a (shown_lines c)) same.claim_same w.are in
     let (shown_is, end_is) = shown_same (word_of d) (shown_lines c) (shown_lines d) (line (codes "end")) (line (codes "end")) shows u.are after in
     let f = function_of c in
     let g = function_of d in
-    let place_is = one_place q.are_lines.place g.order f.place g.place
-    (subst₂ (λ (x : Frac) n. IsRatio x (pos f.place) (pos n)) same.place_same same.order_same p.are_lines.place_is) q.are_lines.place_is in
-    let functions = one_function_of_points q.are_lines.points f g same.order_same place_is k.0 j.0
-    (subst (ArePointsOf f) points_are p.are_lines.points_are) q.are_lines.points_are in
+    let place_is = one_place m.place g.order f.place g.place
+    (subst₂ (λ (x : Frac) n. IsRatio x (pos f.place) (pos n)) same.place_same same.order_same l.place_is) m.place_is in
+    let functions = one_function_of_points m.points f g same.order_same place_is (bounds_of c k) (bounds_of d j)
+    (subst (ArePointsOf f) points_are l.points_are) m.points_are in
     same_claim c d same.claim_same functions shown_is
 
 -- ---- one text
 
-pub one_text : (c : Claim) (a b : List ℕ) → IsKept c → IsProofText c a → IsProofText c b → a ≡ b
+pub one_text : (c : Claim) (a b : List ℕ) → IsBounded c → IsProofText c a → IsProofText c b → a ≡ b
 one_text c a b k p q =
-    let lines_are = one_text_of_lines (function_of c) p.lines q.lines k.0 p.are_lines q.are_lines in
-    p.spelled ∙ ap (λ t. line (codes "gj-proof 1") ++ line (codes "claim " ++ claim_word c) ++ t ++ shown_lines c ++ line (codes "end")) lines_are ∙ sym q.spelled
+    let subjects_are = one_text_of_lines (function_of c) p.subject q.subject (bounds_of c k)
+    (function_lines c p.subject p.are_subject_lines) (function_lines c q.subject q.are_subject_lines) in
+    p.spelled
+    ∙ ap (λ t. line (codes "gj-proof 1") ++ line (codes "claim " ++ claim_word c) ++ t ++ shown_lines c ++ line (codes "end")) subjects_are
+    ∙ sym q.spelled

@@ -179,8 +179,9 @@ proof_found text here after rest Minimal q k points v f h w s e g =
     let spelled = spelled_lines text here after Minimal q k points h w in
     let P : Option Violation → Type 0 = λ o. IsProofText (claim_about f o) text in
     subst P (sym s.0) (record {
-      lines = lines_of q h.place points;
-      are_lines = lines_given q k h.place points f h.place_is g;
+      has_text = tt;
+      subject = lines_of q h.place points;
+      are_subject_lines = lines_given q k h.place points f h.place_is g;
       spelled = spelled ∙ ap (λ t. claim_lines Minimal ++ lines_of q h.place points ++ t) (s.1 ∙ e)
           ∙ ap (λ t. t ++ line (codes "end")) (sym (append-nil (claim_lines Minimal ++ lines_of q h.place points)));
     })
@@ -188,8 +189,10 @@ proof_found text here after rest NotMinimal q k points v f h w s e g =
     let spelled = spelled_lines text here after NotMinimal q k points h w in
     let P : Option Violation → Type 0 = λ o. IsProofText (claim_about f o) text in
     subst P (sym s.1) (record {
-      lines = lines_of q h.place points;
-      are_lines = lines_given q k h.place points f h.place_is g;
+      has_text = tt;
+      subject = lines_of q h.place points;
+      are_subject_lines = lines_given q k h.place points f h.place_is g;
       spelled = spelled ∙ ap (λ t. claim_lines NotMinimal ++ lines_of q h.place points ++ t) (s.2 ∙ ap (λ t. violation_line s.0 ++ t) e)
-          ∙ sym (append_assoc (claim_lines NotMinimal ++ lines_of q h.place points) (violation_line s.0) (line (codes "end")));
+          ∙ sym (append_assoc (claim_lines NotMinimal ++ lines_of q h.place points) (violation_line s.0) (line (codes "end")))
+          ∙ ap (λ t. claim_lines NotMinimal ++ lines_of q h.place points ++ t ++ line (codes "end")) (sym (append-nil (violation_line s.0)));
     })

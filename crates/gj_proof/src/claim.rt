@@ -14,20 +14,6 @@ pub enum Claim {
     NotMinimal(Shape, Violation),
 }
 
-impl Claim {
-    ghost use Rattle.gj_proof.specs.ProofText.{function_of};
-
-    /// The function that the claim is about.
-    pub fn shape(&self) -> &Shape
-        ensures { result.now ≡ function_of self.now }
-    {
-        match self {
-            Claim::Minimal(shape) => shape,
-            Claim::NotMinimal(shape, _) => shape,
-        }
-    }
-}
-
 /// A claim that has a proof text. Contracts see it as the claim.
 #[derive(Drop)]
 pub struct Proof {

@@ -14,7 +14,7 @@ mod write;
 
 pub use claim::{Claim, Proof};
 pub use faults::ProofFault;
-pub use laws::{no_fault_in_proof_text, one_first_fault, one_spelling};
+pub use laws::{no_fault_in_proof_text, numbers_of_lines, one_first_fault, one_spelling};
 pub use read::read_proof;
 pub use write::write_proof;
 

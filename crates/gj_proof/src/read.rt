@@ -1,7 +1,7 @@
 //! Proof texts, read.
 
 ghost use Rattle.std.specs.Prelude.{◌≡◌, ◌≤◌, ◌+◌, ◌-◌, ◌==◌, length, take, count_by, IfOk, IfErr, MatchResult};
-ghost use Rattle.gj_proof.specs.ProofText.{IsKept, IsProofText};
+ghost use Rattle.gj_proof.specs.ProofText.{IsBounded, IsProofText};
 ghost use Rattle.gj_proof.specs.Reading.{IsRefusedIn, NamesFirstFault, IsMemoryFault, claim_about};
 ghost use Rattle.gj_proof.specs.declared.claim.Claim.{Claim};
 
@@ -19,9 +19,9 @@ use std::alloc::Global;
 /// no proof text. Memory is taken only for the points and the function.
 pub fn read_proof(alloc: Global, bytes: &[u8]) -> Result<Proof, ProofFault>
     // What is read is spelled so.
-    ensures found { IfOk result (λ p. IsKept p × IsProofText p bytes.now) }
+    ensures found { IfOk result (λ p. IsBounded p × IsProofText p bytes.now) }
     // What is spelled so is read, unless there is no memory.
-    ensures only { (c : Claim) → IsKept c → IsProofText c bytes.now →
+    ensures only { (c : Claim) → IsBounded c → IsProofText c bytes.now →
         MatchResult result (λ p. p ≡ c) IsMemoryFault }
     // A refusal names the first fault.
     ensures refused { IfErr result (NamesFirstFault bytes.now) }
@@ -46,7 +46,7 @@ fn line_number(bytes: &[u8], left: usize) -> u64
 
 /// The proof that the bytes spell.
 fn proof_in(alloc: Global, bytes: &[u8]) -> Result<Proof, Fault>
-    ensures found { IfOk result (λ p. IsKept p × IsProofText p bytes.now) }
+    ensures found { IfOk result (λ p. IsBounded p × IsProofText p bytes.now) }
     ensures fault { IfErr result (IsRefusedIn bytes.now) }
 {
     let (head, rest) = head_at(bytes)?;
@@ -60,7 +60,7 @@ fn proof_in(alloc: Global, bytes: &[u8]) -> Result<Proof, Fault>
 /// The proof that the function is minimal, or not where there is a violation.
 fn proof_of(shape: Shape, violation: Option<Violation>) -> Proof
     ensures claim { result ≡ claim_about shape violation }
-    ensures kept { IsKept result }
+    ensures bounded { IsBounded result }
 {
     let _order = shape.order();
     let claim = match violation {

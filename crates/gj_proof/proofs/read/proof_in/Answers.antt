@@ -29,4 +29,4 @@ pub returns-clause-found : goal.returns-clause-found
 returns-clause-found c =
     let text = proof_found _ _ _ _ c.in_ok-head.head.claim _ _ _ c.in_ok-violation.violation _ c.in_ok-head.ensures.found c.in_ok-points.ensures.found
     c.in_ok-violation.ensures.found c.in_ok-end_at.ensures.found c.in_ok-shape.ensures in
-    (c.proof_of.ensures.kept, subst (λ (d : Claim). IsProofText d c.args.bytes.now) (sym c.proof_of.ensures.claim) text)
+    (c.proof_of.ensures.bounded, subst (λ (d : Claim). IsProofText d c.args.bytes.now) (sym c.proof_of.ensures.claim) text)
