@@ -1,10 +1,42 @@
 -- A list, cut at the first element that passes a test.
-use Rattle.std.proofs.Common.{◌≡◌, ℕ, ◌+◌, ◌<◌, ◌≤◌, Bool, true, false, List, ◌∷◌, ◌++◌, length, get_or, take, drop, None, Some, cond, nat_lt, sym, ◌∙◌, ap, arith, length-take, get_or-take, take-append-drop}
+use Rattle.std.proofs.Common.{◌≡◌, ℕ, ◌+◌, ◌<◌, ◌≤◌, Bool, true, false, Option, List, ◌∷◌, ◌++◌, length, get_or, take, drop, None, Some, cond, nat_lt, refl, subst, sym, ◌∙◌, ap, arith, length-take, get_or-take, take-append-drop}
 use Rattle.std.specs.List.{All, position, position_or_len}
+use Rattle.std.proofs.lemmas.Bool.{lt-ltb, le-ltb}
 use Rattle.std.proofs.lemmas.List.{drop_more}
 use Rattle.std.proofs.lemmas.List.Elements.{All-from_get_or}
 use Rattle.std.proofs.lemmas.List.Quantifiers.{position-Some}
-use Rattle.std.proofs.lemmas.List.Sums.{prefix_len-le-length, fails_before_first}
+use Rattle.std.proofs.lemmas.List.Sums.{prefix_len-le-length, fails_before_first, position_or_len_is}
+use Rattle.memchr.specs.Find.{IsFirstByte}
+
+-- the place where the test first passes
+pub position_is : (p : ℕ → Bool) (xs : List ℕ) (k : ℕ) → position_or_len p xs ≡ k → k < length xs → position p xs ≡ Some k
+position_is p xs k e h =
+    subst (λ j. cond (nat_lt j (length xs)) (Some j) None ≡ Some k) (sym e) (rw (lt-ltb k (length xs) h) refl)
+
+-- it passes nowhere
+pub position_none : (p : ℕ → Bool) (xs : List ℕ) → length xs ≤ position_or_len p xs → position p xs ≡ None
+position_none p xs h = rw (le-ltb (position_or_len p xs) (length xs) h) refl
+
+-- as a search for a byte tells it
+pub position_of_search : (p : ℕ → Bool) (xs : List ℕ) (r : Option ℕ) → IsFirstByte p xs r → r ≡ position p xs
+position_of_search p xs None h =
+    sym (position_none p xs (omega (
+      arith,
+      position_or_len_is p xs (length xs) 0 (omega arith)
+          (λ k l. fails (p (get_or xs k 0)) (h k (omega arith) l)) (λ l. absurd (omega arith)),
+    )))
+  where
+    fails : (b : Bool) → (b ≡ true → ⊥) → b ≡ false
+    fails true h = absurd (h refl)
+    fails false h = refl
+position_of_search p xs (Some k) h =
+    sym (position_is p xs k
+    (position_or_len_is p xs k 0 (omega (arith, h.0.high)) (λ j l. fails (p (get_or xs j 0)) (h.0.before j (omega arith) l))
+    (λ l. h.1)) h.0.high)
+  where
+    fails : (b : Bool) → (b ≡ true → ⊥) → b ≡ false
+    fails true h = absurd (h refl)
+    fails false h = refl
 
 -- the first element that passes, and what stands before and behind it
 pub first_place : (p : ℕ → Bool) (xs : List ℕ) (k : ℕ) → position p xs ≡ Some k →

@@ -9,3 +9,10 @@ pub mod WordBytes
 pub mod WordRuns
 pub mod WordTexts
 pub mod WrittenNumbers
+pub mod LenientLines
+pub mod StrictLines
+pub mod LineNumbers
+pub mod PartLaws
+pub mod SpelledWords
+pub mod CursorLines
+pub mod LoopLaws

@@ -40,6 +40,28 @@ gives_line old source position lines end next is left within line goes =
       lines = refl;
     })
 
+no_feed : (b : ℕ) → b ≢ 10 → (c : ℕ) → c ≡ b → is_line_feed c ≡ false
+no_feed b h c e = ne_eqb c 10 (λ t. h (sym e ∙ t))
+
+feed_at : (source : List ℕ) (start end : ℕ) → IsLine source start end → position_or_len is_line_feed (drop start source) ≡ end - start
+feed_at source start end line =
+    position_or_len_is is_line_feed (drop start source) (end - start) 0
+    (omega (arith, length-drop start source, line.ordered, line.within))
+    (λ k low. no_feed (get_or source (start + k) 0) (line.unbroken (start + k) (omega arith) (omega (arith, line.ordered))) (get_or (drop start source) k 0) (get_or-drop start source k 0))
+    (λ high.
+    let same : start + (end - start) ≡ end = omega (arith, line.ordered) in
+    let last : get_or (drop start source) (end - start) 0 ≡ 10 =
+    get_or-drop start source (end - start) 0 ∙ ap (λ k. get_or source k 0) same ∙ line.ended (omega (arith, length-drop start source)) in
+    rw last refl)
+
+-- how long the line is
+pub span_len : (old new : CursorState) (span : LineSpan) → GivesLine old new span →
+    position_or_len is_line_feed (rest_of old) ≡ span.end - span.start
+span_len old new span given =
+    let start = given.start in
+    let line : IsLine old.source old.position span.end = subst (λ k. IsLine old.source k span.end) start given.line in
+    feed_at old.source old.position span.end line ∙ ap (λ k. span.end - k) (sym start)
+
 -- the bytes of a line are those before the first LF of what was left, and what stands behind that
 -- is left
 pub line_parts : (old new : CursorState) (span : LineSpan) → GivesLine old new span →
@@ -56,17 +78,3 @@ line_parts old new span given =
           ∙ sym (drop-drop (span.end - old.position + 1) old.position old.source)
           ∙ ap (λ n. drop (n + 1) (rest_of old)) (sym at),
     )
-  where
-    no_feed : (b : ℕ) → b ≢ 10 → (c : ℕ) → c ≡ b → is_line_feed c ≡ false
-    no_feed b h c e = ne_eqb c 10 (λ t. h (sym e ∙ t))
-
-    feed_at : (source : List ℕ) (start end : ℕ) → IsLine source start end → position_or_len is_line_feed (drop start source) ≡ end - start
-    feed_at source start end line =
-        position_or_len_is is_line_feed (drop start source) (end - start) 0
-        (omega (arith, length-drop start source, line.ordered, line.within))
-        (λ k low. no_feed (get_or source (start + k) 0) (line.unbroken (start + k) (omega arith) (omega (arith, line.ordered))) (get_or (drop start source) k 0) (get_or-drop start source k 0))
-        (λ high.
-        let same : start + (end - start) ≡ end = omega (arith, line.ordered) in
-        let last : get_or (drop start source) (end - start) 0 ≡ 10 =
-        get_or-drop start source (end - start) 0 ∙ ap (λ k. get_or source k 0) same ∙ line.ended (omega (arith, length-drop start source)) in
-        rw last refl)

@@ -1,10 +1,12 @@
 -- The first word of a line, and the words behind it.
-use Rattle.std.proofs.Common.{◌≡◌, ℕ, ◌+◌, ◌<◌, false, true, List, [], ◌∷◌, ◌++◌, length, get_or, take, drop, None, Some, sym, ◌∙◌, ap, refl, arith, append-nil, take-append-drop, length-take, length-drop, get_or-take, get_or-drop}
+use Rattle.std.proofs.Common.{◌≡◌, ◌↔◌, ℕ, suc, ◌+◌, ◌<◌, ◌==◌, IsTrue, false, true, List, [], ◌∷◌, ◌++◌, length, get_or, take, drop, None, Some, sym, ◌∙◌, ap, refl, subst, arith, append-nil, take-append-drop, length-take, length-drop, get_or-take, get_or-drop}
 use Rattle.std.specs.List.{All, position, position_or_len}
+use Rattle.std.proofs.lemmas.Bool.{eqb-true, eq-eqb}
 use Rattle.std.proofs.lemmas.List.{drop_more}
 use Rattle.std.proofs.lemmas.List.Elements.{All-weaker, All-from_get_or}
 use Rattle.std.proofs.lemmas.List.Sums.{fails_before_first, passes_at_first}
 use Rattle.gj_lex.specs.Words.{HasAtFront, is_blank, word_texts}
+use Rattle.gj_lex.specs.TextLines.{IsSkipped}
 use Rattle.gj_lex.proofs.FirstPlaces.{first_place, no_place}
 use Rattle.gj_lex.proofs.WordRuns.{is_word_byte, blank_from_not, not_blank}
 use Rattle.gj_lex.proofs.WordTexts.{skip_blanks, take_word}
@@ -72,4 +74,30 @@ word_parts line rest k end h is =
       take k line,
       All-weaker (λ b. is_word_byte b ≡ false) (λ b. is_blank b ≡ true) (λ b. blank_from_not (is_blank b)) (take k line) place.3,
       sym (take-append-drop k line) ∙ ap (λ t. take k line ++ t) (sym is ∙ sym (take-append-drop end rest)),
+    )
+
+-- the first byte that is no blank is the first of the first word
+first_word_begins : (line : List ℕ) (k : ℕ) → position is_word_byte line ≡ Some k →
+    (more : List ℕ) × (words : List (List ℕ)) × (word_texts line ≡ (get_or line k 0 ∷ more) ∷ words)
+first_word_begins line k h =
+    let place = first_place is_word_byte line k h in
+    let b = get_or line k 0 in
+    let bs = drop (k + 1) line in
+    let rest : drop k line ≡ b ∷ bs = drop_more line k 0 place.0 in
+    let blank = not_blank (is_blank b) place.2 in
+    let end : position_or_len is_blank (b ∷ bs) ≡ suc (position_or_len is_blank bs) = rw blank (omega arith) in
+    let at = ap (position_or_len is_blank) rest ∙ end in (
+      take (position_or_len is_blank bs) bs,
+      word_texts (drop (suc (position_or_len is_blank bs)) (drop k line)),
+      first_word line (drop k line) k (suc (position_or_len is_blank bs)) h refl (sym at)
+          ∙ ap (λ t. take (suc (position_or_len is_blank bs)) t ∷ word_texts (drop (suc (position_or_len is_blank bs)) (drop k line))) rest,
+    )
+
+-- it tells whether the line is skipped
+pub skipped_by_first : (line : List ℕ) (k : ℕ) → position is_word_byte line ≡ Some k →
+    IsTrue (get_or line k 0 == 35) ↔ IsSkipped (word_texts line)
+skipped_by_first line k h =
+    let (more, words, is) = first_word_begins line k h in (
+      λ e. subst IsSkipped (sym is) (more, ap (λ b. b ∷ more) (eqb-true (get_or line k 0) 35 e)),
+      λ s. eq-eqb (get_or line k 0) 35 (let r = (subst IsSkipped is s).1 in cc),
     )

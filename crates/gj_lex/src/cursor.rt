@@ -4,6 +4,7 @@ ghost use Rattle.std.specs.Prelude.{◌≡◌, ◌↔◌, ◌≤◌, length, IfS
 ghost use Rattle.std.specs.List.{after_first, before_first, position, slice_range};
 ghost use Rattle.gj_lex.specs.Lines.{GivesLine, IsLine, is_line_feed, rest_of};
 
+use memchr::memchr;
 use std::marker::Model;
 
 /// A line of a source: the bytes from `start` up to `end`. Lines are numbered from 1.
@@ -46,6 +47,13 @@ impl<'a> Cursor<'a> {
         }
     }
 
+    /// What is left of the source.
+    pub fn rest(&self) -> &'a [u8]
+        ensures { result.now ≡ rest_of self.now }
+    {
+        &self.bytes[self.position..]
+    }
+
     /// The next line of the source. It ends before its LF or at the end of the source, and keeps a
     /// CR. None exactly where no byte is left. It takes no memory.
     pub fn next_line(&mut self) -> Option<LineSpan>
@@ -84,8 +92,8 @@ fn line_end(bytes: &[u8], start: usize) -> usize
 }
 
 /// Where the first LF stands.
-fn first_line_feed(bytes: &[u8]) -> Option<usize>
+pub(crate) fn first_line_feed(bytes: &[u8]) -> Option<usize>
     ensures { result ≡ position is_line_feed bytes.now }
 {
-    bytes.iter().position(|byte| *byte == b'\n')
+    memchr(b'\n', bytes)
 }

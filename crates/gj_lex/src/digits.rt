@@ -22,7 +22,7 @@ pub(crate) fn read_digits(word: &[u8]) -> Option<u128>
 }
 
 /// Whether the word begins with a zero and goes on.
-fn has_leading_zero(word: &[u8]) -> bool
+pub(crate) fn has_leading_zero(word: &[u8]) -> bool
     ensures { IsTrue result ↔ ((1 < length word.now) × (slice_index word.now 0 ≡ 48)) }
 {
     word.len() > 1 && word[0] == b'0'

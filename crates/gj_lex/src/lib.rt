@@ -4,25 +4,32 @@
 mod canonical;
 mod cursor;
 mod digits;
+mod fault;
 mod laws;
 mod lenient;
-mod fault;
 mod name;
 mod print;
 mod reason;
+mod spelled;
 mod spelling;
+mod text_lines;
 mod words;
 
 pub use canonical::{read_canonical, read_count};
 pub use cursor::{Cursor, LineSpan};
-pub use laws::{count_is_one_word, fraction_is_one_word, one_fraction_for_a_text};
 pub use fault::PartFault;
+pub use laws::{
+    canonical_text_is_a_word, canonical_texts_are_short, count_is_one_word, fraction_is_one_word,
+    one_fraction_for_a_text, strict_line_is_lenient,
+};
 pub use lenient::read_number;
 pub use name::{Name, NameFault};
 pub use print::{print_count, print_frac};
 pub use reason::Reason;
+pub use spelled::{count_of, fraction_of, is_count};
 pub use spelling::Spelling;
-pub use words::{split_word, words_of};
+pub use text_lines::{TextLine, end_at, line_at, line_number, words_at};
+pub use words::{behind_name, field_of, has_no_word, has_words, only_word, split_word, words_of};
 
 #[cfg(test)]
 mod tests;

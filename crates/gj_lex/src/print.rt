@@ -6,7 +6,7 @@ ghost use Rattle.gj_lex.specs.NumberText.{fraction_text, denominator_text};
 
 use crate::digits::write_digits;
 use gj_frac::Frac;
-use std::alloc::AllocError;
+use std::alloc::{AllocError, Global};
 
 /// The length of the longest text: a sign, a `/`, and twice the 39 digits of a number of 128 bits.
 const SPACE: usize = 80;
@@ -25,8 +25,9 @@ pub fn print_count(out: &mut Vec<u8>, n: u32) -> Result<(), AllocError>
 
 /// Appends a fraction in canonical form, as `-1/2` or `3`.
 ///
-/// An error says that memory ran out; `out` is then as it was.
-pub fn print_frac(out: &mut Vec<u8>, x: Frac) -> Result<(), AllocError>
+/// It takes an allocator first, as every call that may run out of memory does, though `out` grows by its own. An error
+/// says that memory ran out; `out` is then as it was.
+pub fn print_frac(_alloc: Global, out: &mut Vec<u8>, x: Frac) -> Result<(), AllocError>
     ensures ok { OnOk result (out.new.items ≡ out.old.items ++ fraction_text x) }
     ensures err { OnErr result (out.new.items ≡ out.old.items) }
 {

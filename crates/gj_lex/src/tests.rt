@@ -26,7 +26,7 @@ fn reads_and_prints_fractions(rt: HostRuntime) -> Result<(), Fail> {
         assert_eq!(rt; x.den(), den);
 
         let mut out = Vec::new(rt.alloc());
-        print_frac(&mut out, x)?;
+        print_frac(rt.alloc(), &mut out, x)?;
         assert_eq!(rt; out.as_slice(), word);
     }
     Ok(())

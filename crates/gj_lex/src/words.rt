@@ -1,6 +1,6 @@
 //! Words of a line.
 
-ghost use Rattle.std.specs.Prelude.{◌≡◌, ◌+◌, ◌≤◌, [], ◌∷◌, not, length, drop, map, IfOk, IfNone, IfSome};
+ghost use Rattle.std.specs.Prelude.{◌≡◌, ◌↔◌, ◌+◌, ◌≤◌, ℕ, List, [], ◌∷◌, not, length, drop, map, IfOk, IfNone, IfSome, IsTrue};
 ghost use Rattle.std.specs.List.{position, position_or_len};
 ghost use Rattle.gj_lex.specs.Words.{AllBlank, AreWords, HasAtFront, IsNextWord, is_blank, word_text, word_texts};
 
@@ -62,8 +62,63 @@ fn first_blank(bytes: &[u8]) -> Option<usize>
 }
 
 /// Where the first byte other than space and tab stands.
-fn first_byte(bytes: &[u8]) -> Option<usize>
+pub(crate) fn first_byte(bytes: &[u8]) -> Option<usize>
     ensures { result ≡ position (λ b. not (is_blank b)) bytes.now }
 {
     bytes.iter().position(|byte| !matches!(*byte, b' ' | b'\t'))
+}
+
+/// Whether the line has no word.
+pub fn has_no_word(line: &[u8]) -> bool
+    ensures { IsTrue result ↔ (word_texts line.now ≡ []) }
+{
+    split_word(line).is_none()
+}
+
+/// What stands behind the first word of the line, where that word is the name.
+pub fn behind_name<'a>(line: &'a [u8], name: &[u8]) -> Option<&'a [u8]>
+    ensures found { IfSome result (λ r. word_texts line.now ≡ name.now ∷ word_texts r.now) }
+    ensures none { IfNone result ((words : List (List ℕ)) → word_texts line.now ≡ name.now ∷ words → ⊥) }
+{
+    let (word, rest) = split_word(line)?;
+    if word != name {
+        return None;
+    }
+    Some(rest)
+}
+
+/// The word of the line, where it has one word.
+pub fn only_word(line: &[u8]) -> Option<&[u8]>
+    ensures found { IfSome result (λ w. word_texts line.now ≡ w.now ∷ []) }
+    ensures none { IfNone result ((word : List ℕ) → word_texts line.now ≡ word ∷ [] → ⊥) }
+{
+    let (word, rest) = split_word(line)?;
+    if !has_no_word(rest) {
+        return None;
+    }
+    Some(word)
+}
+
+/// The word behind the name, where the line has these two words.
+pub fn field_of<'a>(line: &'a [u8], name: &[u8]) -> Option<&'a [u8]>
+    ensures found { IfSome result (λ w. word_texts line.now ≡ name.now ∷ w.now ∷ []) }
+    ensures none { IfNone result ((word : List ℕ) → word_texts line.now ≡ name.now ∷ word ∷ [] → ⊥) }
+{
+    only_word(behind_name(line, name)?)
+}
+
+/// Whether the line has the words of the other, in their order, and no more.
+pub fn has_words(line: &[u8], other: &[u8]) -> bool
+    ensures { IsTrue result ↔ (word_texts line.now ≡ word_texts other.now) }
+{
+    let mut left = line;
+    let mut wanted = other;
+    while let Some((word, more)) = split_word(wanted) {
+        let Some(rest) = behind_name(left, word) else {
+            return false;
+        };
+        left = rest;
+        wanted = more;
+    }
+    has_no_word(left)
 }

@@ -1,0 +1,203 @@
+-- The lines of a strict text: each is determined, has its words, and is a lenient line.
+use Rattle.std.proofs.Common.{◌≡◌, ◌≢◌, ℕ, zero, suc, ◌+◌, ◌-◌, ◌<◌, ◌≤◌, Bool, true, false, List, [], ◌∷◌, ◌++◌, length, get_or, take, drop, None, Some, refl, sym, ◌∙◌, ap, subst, arith, append-nil, append_assoc, length-append}
+use Rattle.std.specs.List.{All, join_with_byte, slice_split, position}
+use Rattle.std.proofs.Math.Dec.{eqb}
+use Rattle.std.proofs.lemmas.Bool.{ne_eqb, eq-eqb}
+use Rattle.std.proofs.Math.Seq.{get_or-append_seam}
+use Rattle.std.proofs.lemmas.List.Elements.{All-nil, All-cons, All-head, All-tail, All-append, All-same, All-weaker}
+use Rattle.std.proofs.lemmas.List.Splits.{slice_split_none, slice_split_at, length-slice_split, join_with_byte-slice_split}
+use Rattle.gj_lex.specs.Lines.{is_line_feed}
+use Rattle.gj_lex.specs.Words.{is_blank, word_texts}
+use Rattle.gj_lex.specs.NumberText.{IsWordByte}
+use Rattle.gj_lex.specs.TextLines.{IsInWord, IsWord, HasStrictLine, HasNextLine, IsSkipped, HasFirstWords}
+use Rattle.gj_lex.specs.TextLines.IsFirstLine.{ended}
+use Rattle.gj_lex.specs.TextLines.AreBytesOf.{kept}
+use Rattle.gj_lex.specs.TextLines.HasNextLine.{here}
+use Rattle.gj_lex.proofs.FirstPlaces.{first_place, no_place}
+use Rattle.gj_lex.proofs.WordTexts.{skip_blank, take_word}
+use Rattle.gj_lex.proofs.LenientLines.{one_cut, feed_within, uncut}
+
+-- whether a byte is a space
+abbrev pub is_space : ℕ → Bool
+is_space b = eqb b 32
+
+-- ---- the words of a line
+
+no_space : (w : List ℕ) → All IsInWord w → All (λ b. is_space b ≡ false) w
+no_space w h = All-weaker IsInWord (λ b. is_space b ≡ false) (λ b i. ne_eqb b 32 i.no_space) w h
+
+no_blank : (w : List ℕ) → All IsInWord w → All (λ b. is_blank b ≡ false) w
+no_blank w h = All-weaker IsInWord (λ b. is_blank b ≡ false) (λ b i. rw (ne_eqb b 32 i.no_space, ne_eqb b 9 i.no_tab) refl) w h
+
+no_feed : (w : List ℕ) → All IsInWord w → All (λ b. b ≢ 10) w
+no_feed w h = All-weaker IsInWord (λ b. b ≢ 10) (λ b i. i.no_line_feed) w h
+
+-- words with one space between them are the parts between the spaces
+pub parts_of_words : (w : List ℕ) (ws : List (List ℕ)) → All IsWord (w ∷ ws) →
+    slice_split is_space (join_with_byte 32 (w ∷ ws)) ≡ w ∷ ws
+parts_of_words w [] h = slice_split_none is_space w (no_space w (All-head IsWord w [] h).bytes)
+parts_of_words w (v ∷ ws) h =
+    slice_split_at is_space w 32 (join_with_byte 32 (v ∷ ws)) (no_space w (All-head IsWord w (v ∷ ws) h).bytes) refl
+    ∙ ap (λ vs. w ∷ vs) (parts_of_words v ws (All-tail IsWord w (v ∷ ws) h))
+
+-- and the words of the line
+pub texts_of_words : (w : List ℕ) (ws : List (List ℕ)) → All IsWord (w ∷ ws) → word_texts (join_with_byte 32 (w ∷ ws)) ≡ w ∷ ws
+texts_of_words w [] h =
+    let is = All-head IsWord w [] h in
+    ap word_texts (sym (append-nil w)) ∙ take_word w [] is.some (no_blank w is.bytes) (λ l. absurd (omega arith))
+texts_of_words w (v ∷ ws) h =
+    let is = All-head IsWord w (v ∷ ws) h in
+    take_word w (32 ∷ join_with_byte 32 (v ∷ ws)) is.some (no_blank w is.bytes) (λ l. refl)
+    ∙ ap (λ vs. w ∷ vs)
+    (skip_blank 32 (join_with_byte 32 (v ∷ ws)) refl ∙ texts_of_words v ws (All-tail IsWord w (v ∷ ws) h))
+
+-- no LF is among them
+pub words_no_feed : (w : List ℕ) (ws : List (List ℕ)) → All IsWord (w ∷ ws) → All (λ b. b ≢ 10) (join_with_byte 32 (w ∷ ws))
+words_no_feed w [] h = no_feed w (All-head IsWord w [] h).bytes
+words_no_feed w (v ∷ ws) h =
+    All-append (λ b. b ≢ 10) w (32 ∷ join_with_byte 32 (v ∷ ws)) (no_feed w (All-head IsWord w (v ∷ ws) h).bytes)
+    (All-cons (λ b. b ≢ 10) 32 (join_with_byte 32 (v ∷ ws)) (λ e. omega arith) (words_no_feed v ws (All-tail IsWord w (v ∷ ws) h)))
+
+-- ---- a strict line
+
+-- its words are those of its bytes
+pub strict_words : (text : List ℕ) (ws : List (List ℕ)) (r : List ℕ) → HasStrictLine text ws r →
+    word_texts (join_with_byte 32 ws) ≡ ws
+strict_words text [] r h = absurd (h.some refl)
+strict_words text (w ∷ ws) r h = texts_of_words w ws h.are_words
+
+-- it has no LF within
+pub strict_no_feed : (text : List ℕ) (ws : List (List ℕ)) (r : List ℕ) → HasStrictLine text ws r →
+    All (λ b. b ≢ 10) (join_with_byte 32 ws)
+strict_no_feed text [] r h = absurd (h.some refl)
+strict_no_feed text (w ∷ ws) r h = words_no_feed w ws h.are_words
+
+-- a text begins with one
+pub one_strict_line : (text : List ℕ) (ws vs : List (List ℕ)) (r q : List ℕ) → HasStrictLine text ws r → HasStrictLine text vs q →
+    (ws ≡ vs) × (r ≡ q)
+one_strict_line text ws vs r q h k =
+    let same = one_cut (join_with_byte 32 ws) (join_with_byte 32 vs) r q (strict_no_feed text ws r h) (strict_no_feed text vs q k)
+    (sym h.spelled ∙ k.spelled) in
+    (sym (strict_words text ws r h) ∙ ap word_texts same.0 ∙ strict_words text vs q k, same.1)
+
+-- the rest ends the text
+pub strict_suffix : (text : List ℕ) (ws : List (List ℕ)) (r : List ℕ) → HasStrictLine text ws r →
+    (front : List ℕ) × (text ≡ front ++ r)
+strict_suffix text ws r h =
+    (join_with_byte 32 ws ++ 10 ∷ [], h.spelled ∙ sym (append_assoc (join_with_byte 32 ws) (10 ∷ []) r))
+
+-- ---- found by its parts
+
+-- the line up to the first LF, where its parts between spaces are words and no CR is at its end
+pub strict_found : (text line rest : List ℕ) → text ≡ line ++ 10 ∷ rest → All IsWord (slice_split is_space line) →
+    get_or line (length line - 1) 0 ≢ 13 → HasStrictLine text (word_texts line) rest
+strict_found text line rest e words no_return = by_parts (slice_split is_space line) refl
+  where
+    by_parts : (parts : List (List ℕ)) → slice_split is_space line ≡ parts → HasStrictLine text (word_texts line) rest
+    by_parts [] is = absurd (omega (arith, length-slice_split is_space line, ap length is))
+    by_parts (w ∷ ws) is =
+        let line_is : join_with_byte 32 (w ∷ ws) ≡ line = ap (join_with_byte 32) (sym is) ∙ join_with_byte-slice_split 32 line in
+        let are : All IsWord (w ∷ ws) = subst (All IsWord) is words in
+        let found : HasStrictLine text (w ∷ ws) rest = record {
+          some = λ e. omega (arith, ap length e);
+          are_words = are;
+          no_return = subst (λ l. get_or l (length l - 1) 0 ≢ 13) (sym line_is) no_return;
+          spelled = e ∙ ap (λ l. l ++ 10 ∷ rest) (sym line_is);
+        } in
+        subst (λ vs. HasStrictLine text vs rest) (sym (ap word_texts (sym line_is) ∙ texts_of_words w ws are)) found
+
+-- a text without an LF has none
+pub none_without_feed : (text : List ℕ) → position is_line_feed text ≡ None → (ws : List (List ℕ)) (r : List ℕ) →
+    HasStrictLine text ws r → ⊥
+none_without_feed text h ws r k =
+    feed_within (join_with_byte 32 ws) r (All-same (λ b. b ≢ 10) (join_with_byte 32 ws ++ 10 ∷ r) text (sym k.spelled) (uncut text h))
+
+-- nor has one whose line is no such
+pub none_in_line : (text line rest : List ℕ) → All (λ b. b ≢ 10) line → text ≡ line ++ 10 ∷ rest →
+    (All IsWord (slice_split is_space line) × (get_or line (length line - 1) 0 ≢ 13) → ⊥) → (ws : List (List ℕ)) (r : List ℕ) →
+    HasStrictLine text ws r → ⊥
+none_in_line text line rest no_feeds e none [] r h = h.some refl
+none_in_line text line rest no_feeds e none (w ∷ ws) r h =
+    let same = one_cut (join_with_byte 32 (w ∷ ws)) line r rest (words_no_feed w ws h.are_words) no_feeds (sym h.spelled ∙ e) in
+    none (
+      subst (All IsWord) (sym (ap (slice_split is_space) (sym same.0) ∙ parts_of_words w ws h.are_words)) h.are_words,
+      subst (λ l. get_or l (length l - 1) 0 ≢ 13) same.0 h.no_return,
+    )
+
+-- the parts of what stands before the first space, and of what stands behind it
+pub words_of_cut : (left : List ℕ) (end : ℕ) → position is_space left ≡ Some end →
+    (All IsWord (slice_split is_space left) → IsWord (take end left) × All IsWord (slice_split is_space (drop (end + 1) left)))
+    × (IsWord (take end left) → All IsWord (slice_split is_space (drop (end + 1) left)) → All IsWord (slice_split is_space left))
+words_of_cut left end h =
+    let at = first_place is_space left end h in
+    let behind = slice_split is_space (drop (end + 1) left) in
+    let parts : slice_split is_space left ≡ take end left ∷ behind =
+    ap (slice_split is_space) at.1 ∙ slice_split_at is_space (take end left) (get_or left end 0) (drop (end + 1) left) at.3 at.2 in (
+      λ all. let both = subst (All IsWord) parts all in
+          (All-head IsWord (take end left) behind both, All-tail IsWord (take end left) behind both),
+      λ first more. subst (All IsWord) (sym parts) (All-cons IsWord (take end left) behind first more),
+    )
+
+-- without a space there is one part
+pub words_of_one : (left : List ℕ) → position is_space left ≡ None →
+    (All IsWord (slice_split is_space left) → IsWord left) × (IsWord left → All IsWord (slice_split is_space left))
+words_of_one left h =
+    let parts : slice_split is_space left ≡ left ∷ [] = slice_split_none is_space left (no_place is_space left h) in (
+      λ all. All-head IsWord left [] (subst (All IsWord) parts all),
+      λ one. subst (All IsWord) (sym parts) (All-cons IsWord left [] one (All-nil IsWord)),
+    )
+
+-- ---- a line of words without a CR
+
+-- a word is not empty, and no byte of it parts words or ends a line
+abbrev pub IsPlain : List ℕ → Type 0
+IsPlain w = (0 < length w) × All IsWordByte w
+
+plain_is_word : (w : List ℕ) → IsPlain w → IsWord w
+plain_is_word w h = record {
+  some = h.0;
+  bytes = All-weaker IsWordByte IsInWord
+      (λ b i. record { no_tab = i.no_tab; no_line_feed = i.no_line_feed; no_space = i.no_space }) w h.1;
+}
+
+no_returns : (w : List ℕ) (ws : List (List ℕ)) → All IsPlain (w ∷ ws) → All (λ b. b ≢ 13) (join_with_byte 32 (w ∷ ws))
+no_returns w [] h = All-weaker IsWordByte (λ b. b ≢ 13) (λ b i. i.no_carriage_return) w (All-head IsPlain w [] h).1
+no_returns w (v ∷ ws) h =
+    All-append (λ b. b ≢ 13) w (32 ∷ join_with_byte 32 (v ∷ ws))
+    (All-weaker IsWordByte (λ b. b ≢ 13) (λ b i. i.no_carriage_return) w (All-head IsPlain w (v ∷ ws) h).1)
+    (All-cons (λ b. b ≢ 13) 32 (join_with_byte 32 (v ∷ ws)) (λ e. omega arith) (no_returns v ws (All-tail IsPlain w (v ∷ ws) h)))
+
+no_return_at : (bs : List ℕ) (k : ℕ) → All (λ b. b ≢ 13) bs → get_or bs k 0 ≢ 13
+no_return_at [] k h e = omega arith
+no_return_at (b ∷ bs) zero h e = All-head (λ c. c ≢ 13) b bs h e
+no_return_at (b ∷ bs) (suc k) h e = no_return_at bs k (All-tail (λ c. c ≢ 13) b bs h) e
+
+pub plain_line : (w : List ℕ) (ws : List (List ℕ)) (rest : List ℕ) → All IsPlain (w ∷ ws) →
+    HasStrictLine (join_with_byte 32 (w ∷ ws) ++ 10 ∷ rest) (w ∷ ws) rest
+plain_line w ws rest h = record {
+  some = λ e. omega (arith, ap length e);
+  are_words = All-weaker IsPlain IsWord plain_is_word (w ∷ ws) h;
+  no_return = no_return_at (join_with_byte 32 (w ∷ ws)) (length (join_with_byte 32 (w ∷ ws)) - 1) (no_returns w ws h);
+  spelled = refl;
+}
+
+-- ---- a strict line is a lenient one
+
+last_return : (line front : List ℕ) → line ≡ front ++ 13 ∷ [] → get_or line (length line - 1) 0 ≡ 13
+last_return line front e =
+    let last : length line - 1 ≡ length front = omega (arith, ap length e, length-append front (13 ∷ [])) in
+    (λ i. get_or (e i) (last i) 0) ∙ get_or-append_seam front 13 [] 0
+
+pub strict_line_is_lenient : (text : List ℕ) (ws : List (List ℕ)) (r : List ℕ) → HasStrictLine text ws r → (IsSkipped ws → ⊥) →
+    HasNextLine text ws r text
+strict_line_is_lenient text ws r h counts =
+    let line = join_with_byte 32 ws in
+    here text refl
+    (record {
+      line = line;
+      bytes = line;
+      is_first = ended (strict_no_feed text ws r h) h.spelled;
+      bytes_of = kept (λ front after e f. h.no_return (last_return line front e)) refl;
+      words_are = sym (strict_words text ws r h);
+    })
+    counts
