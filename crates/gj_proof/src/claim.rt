@@ -14,6 +14,13 @@ pub enum Claim {
     NotMinimal(Shape, Violation),
 }
 
+/// The word of a claim.
+#[derive(Clone, Copy, Debug, PartialEq, Eq)]
+pub(crate) enum ClaimWord {
+    Minimal,
+    NotMinimal,
+}
+
 /// A claim that has a proof text. Contracts see it as the claim.
 #[derive(Drop)]
 pub struct Proof {

@@ -3,13 +3,10 @@
 
 mod claim;
 mod faults;
-mod fields;
-mod head;
 mod laws;
-mod lines;
-mod points;
 mod read;
-mod shown;
+mod stub;
+mod violations;
 mod write;
 
 pub use claim::{Claim, Proof};
