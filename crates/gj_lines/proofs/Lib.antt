@@ -1,4 +1,5 @@
-pub mod GivenPoints
+pub mod FunctionRead
+pub mod OneTextOfLines
 pub mod Places
+pub mod PointsRead
 pub mod PointLines
-pub mod TestedPoints

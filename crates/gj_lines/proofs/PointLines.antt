@@ -12,9 +12,9 @@ use Rattle.gj_frac.proofs.SameValues.{same_parts_same}
 use Rattle.gj_lex.specs.NumberText.{fraction_text}
 use Rattle.gj_shape.specs.FunctionData.{FunctionData, IsWithinBounds, at}
 use Rattle.gj_shape.proofs.AtLemmas.{at_below}
-use Rattle.gj_lines.specs.Points.{lefts, values, rights, ArePointsOf, IsPointAt}
+use Rattle.gj_shape.specs.Points.{lefts, values, rights, ArePointsOf, IsPointAt}
 use Rattle.gj_lines.specs.FunctionLines.{order_line, place_line, is_same, has_no_jump, point_text, point_line, lines_of, AreFunctionLines}
-use Rattle.gj_lines.specs.declared.points.Point.{Point}
+use Rattle.gj_shape.specs.declared.points.Point.{Point}
 use Rattle.gj_shape.proofs.OverScale.{IsOver}
 
 -- ---- the fractions of a point

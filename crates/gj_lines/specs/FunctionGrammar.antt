@@ -1,5 +1,5 @@
 -- The lines of a function in either spelling, as a part of a text (own).
-use Rattle.std.specs.Prelude.{ℕ, zero, suc, pos, ◌≡◌, ◌⊎◌, List, [], ◌∷◌, ◌++◌, All, codes}
+use Rattle.std.specs.Prelude.{ℕ, zero, suc, pos, ◌≡◌, ◌⊎◌, List, [], ◌∷◌, ◌++◌, codes}
 use Rattle.gj_frac.specs.declared.Frac.{Frac}
 use Rattle.gj_frac.specs.Fraction.{IsRatio}
 use Rattle.gj_lex.specs.declared.spelling.Spelling.{Spelling}
@@ -9,10 +9,10 @@ use Rattle.gj_lex.specs.declared.reason.Reason.TheVariants as reason
 use Rattle.gj_lex.specs.SpelledNumbers.{IsCountWord, IsFractionWord}
 use Rattle.gj_lex.specs.Parts.{LineRule, Part, line_part, empty_part, then_part, made_part}
 use Rattle.gj_shape.specs.FunctionData.{FunctionData}
-use Rattle.gj_shape.specs.Given.{IsOrder, IsPlace, IsSmall, HasCommonDenominator, IsGivenBy}
-use Rattle.gj_lines.specs.Points.{lefts, values, rights, all_fractions, IsPointFault}
-use Rattle.gj_lines.specs.declared.points.Point.{Point}
-use Rattle.gj_lines.specs.declared.points.PointFault.TheVariants.{Large, Fine}
+use Rattle.gj_shape.specs.Given.{IsOrder, IsPlace, AreWithinBounds, IsGivenBy}
+use Rattle.gj_shape.specs.Points.{lefts, values, rights, all_fractions, IsPointFault}
+use Rattle.gj_shape.specs.declared.points.Point.{Point}
+use Rattle.gj_shape.specs.declared.points.PointFault.TheVariants.{Large, Fine}
 
 abbrev pub order_words : List ℕ → List (List ℕ)
 order_words word = codes "order" ∷ word ∷ []
@@ -80,15 +80,10 @@ BreaksPoint s points words e =
     ⊎ ((e ≡ reason.Fine) × ((ws : List (List ℕ)) × (p : Point) × (words ≡ point_words ws) × ArePointWords s ws × SpellPoint s ws p
     × IsPointFault points p Fine))
 
--- all fractions of the points pass their tests
-pub record ArePassed (points : List Point) : Type 0 where
-  pub small : All IsSmall (all_fractions points)
-  pub common : HasCommonDenominator (all_fractions points)
-
 abbrev pub point_rule : Spelling → List Point → LineRule Point
 point_rule s points = record {
   Spells = λ words p. (ws : List (List ℕ)) × (words ≡ point_words ws) × ArePointWords s ws × SpellPoint s ws p
-      × ArePassed (points ++ p ∷ []);
+      × AreWithinBounds (all_fractions (points ++ p ∷ []));
   Breaks = BreaksPoint s points;
 }
 

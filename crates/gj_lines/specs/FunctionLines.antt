@@ -5,8 +5,8 @@ use Rattle.gj_frac.specs.declared.Frac.{Frac}
 use Rattle.gj_frac.specs.Fraction.{IsRatio, numerator, denominator}
 use Rattle.gj_lex.specs.NumberText.{fraction_text}
 use Rattle.gj_shape.specs.FunctionData.{FunctionData}
-use Rattle.gj_lines.specs.Points.{ArePointsOf}
-use Rattle.gj_lines.specs.declared.points.Point.{Point}
+use Rattle.gj_shape.specs.Points.{ArePointsOf}
+use Rattle.gj_shape.specs.declared.points.Point.{Point}
 
 -- a line: its bytes and a line feed
 abbrev pub line : List ℕ → List ℕ

@@ -1,3 +1,4 @@
-pub mod Points
+pub mod PlaceFraction
 pub mod FunctionLines
 pub mod FunctionGrammar
+pub mod Reading

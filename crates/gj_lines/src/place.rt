@@ -2,7 +2,7 @@
 ghost use Rattle.std.specs.Prelude.{◌≡◌, ◌<◌, ◌^◌, ℕ, pos, Some, IfSome, IfNone, IsTrue, ◌↔◌};
 ghost use Rattle.gj_frac.specs.Fraction.{IsRatio};
 ghost use Rattle.gj_shape.specs.Given.{IsOrder, IsPlace};
-ghost use Rattle.gj_lines.specs.Points.{IsPlaceFraction};
+ghost use Rattle.gj_lines.specs.PlaceFraction.{IsPlaceFraction};
 
 use gj_frac::Frac;
 

@@ -1,155 +1,167 @@
-//! The points of a function, tested one after another.
-ghost use Rattle.std.specs.Prelude.{◌≡◌, ◌<◌, [], ◌∷◌, ◌++◌, All, length, IfOk, IfErr, OnOk, OnErr, alloc_error};
-ghost use Rattle.gj_lines.specs.declared.points.PointFault.TheVariants.{Memory};
-ghost use Rattle.gj_shape.specs.Given.{IsOrder, IsPlace, IsSmall, HasCommonDenominator, IsGivenBy};
-ghost use Rattle.gj_shape.specs.Denominators.{Extends};
-ghost use Rattle.gj_lines.specs.Points.{lefts, values, rights, all_fractions, IsPointFault, IsRefusedOver};
+//! The points of a function, read.
+ghost use Rattle.std.specs.Prelude.{◌≡◌, ◌↔◌, ◌++◌, [], ◌∷◌, ℕ, List, length, IsTrue, IfSome, IfNone, IfOk, IfErr};
+ghost use Rattle.gj_lex.specs.Words.{word_texts};
+ghost use Rattle.gj_lex.specs.Parts.{line_part, IsFaultOf};
+ghost use Rattle.gj_shape.specs.declared.points.Point.{Point};
+ghost use Rattle.gj_lines.specs.FunctionGrammar.{point_words, ArePointWords, SpellPoint, point_rule, points_part};
+ghost use Rattle.gj_lines.specs.Reading.{words_of_point, IsOneOrThree, SpellsPoint, BreaksPointForm, refusal_of};
+ghost use Rattle.gj_lines.specs.declared.points.PointWords.{PointWords};
 
-use gj_frac::Frac;
-use gj_shape::{Shape, ShapeFault, extended};
-use std::alloc::{AllocError, AllocFailed, Global};
-use std::marker::Model;
-use thiserror::Error;
+use gj_lex::{
+    PartFault, Reason, Spelling, behind_name, fraction_of, has_no_word, line_at, split_word,
+};
+use gj_shape::{Point, PointFault, Points};
+use std::alloc::Global;
 
-/// The limits and the value of a function at a multiple of 1/q.
-#[derive(Clone, Copy, Debug, PartialEq, Eq)]
-pub struct Point {
-    /// The limit from the left.
-    pub left: Frac,
-    /// The value.
-    pub value: Frac,
-    /// The limit from the right.
-    pub right: Frac,
+/// The words of a point.
+#[derive(Clone, Copy, Debug)]
+pub(crate) enum PointWords<'a> {
+    /// One fraction for the value and both limits.
+    One(&'a [u8]),
+    /// The limit from the left, the value and the limit from the right.
+    Three(&'a [u8], &'a [u8], &'a [u8]),
 }
 
-/// Why a point cannot follow others.
-#[derive(Debug, Drop, Error)]
-pub enum PointFault {
-    /// A fraction of it is above 2^20 in absolute value.
-    #[error("a value is above 2^20 in absolute value")]
-    Large,
-    /// The common denominator of the fractions so far passes 2^31 - 1.
-    #[error("the common denominator passes 2^31 - 1")]
-    Fine,
-    /// There was no memory.
-    #[error("out of memory")]
-    Memory(AllocError),
+/// The points of the next lines, as many as `count`, and what follows them.
+pub(crate) fn points_at(
+    alloc: Global,
+    spelling: Spelling,
+    text: &[u8],
+    count: u32,
+) -> Result<(Points, &[u8]), PartFault>
+    ensures found { IfOk result (λ r. (points_part spelling count []).Reads text.now r.0 r.1.now) }
+    ensures fault { IfErr result (IsFaultOf (points_part spelling count []) text.now) }
+{
+    let mut points = Points::new(alloc);
+    let mut rest = text;
+    for _ in 0..count {
+        rest = point_at(spelling, rest, &mut points)?;
+    }
+    Ok((points, rest))
 }
 
-impl<T: Drop> From<AllocFailed<T>> for PointFault {
-    ghost from_gives = { λ _ f. f ≡ Memory alloc_error };
-
-    fn from(_error: AllocFailed<T>) -> PointFault {
-        PointFault::Memory(AllocError)
+/// Reads the point of the next line to the points, and gives what follows the line.
+fn point_at<'a>(
+    spelling: Spelling,
+    text: &'a [u8],
+    points: &mut Points,
+) -> Result<&'a [u8], PartFault>
+    ensures found { IfOk result (λ rest. (p : Point) × (points.new ≡ points.old ++ p ∷ [])
+        × (line_part spelling (point_rule spelling points.old)).Reads text.now p rest.now) }
+    ensures fault { IfErr result (IsFaultOf (line_part spelling (point_rule spelling points.old)) text.now) }
+{
+    let line = line_at(spelling, text)?;
+    let point = match point_in(spelling, line.bytes) {
+        Ok(point) => point,
+        Err(reason) => return Err(PartFault::at(line.start, reason)),
+    };
+    match points.push(point) {
+        Ok(()) => Ok(line.rest),
+        Err(fault) => Err(refusal_of(fault, line.start)),
     }
 }
 
-/// Points that pass all tests. Contracts see them as their list.
-#[derive(Drop)]
-pub struct Points {
-    points: Vec<Point>,
-    /// The least common denominator of all fractions.
-    scale: u32,
+/// The fault of the line with which the text begins, where its point cannot follow.
+fn refusal_of(fault: PointFault, text: &[u8]) -> PartFault
+    ensures { result ≡ refusal_of fault (length text.now) }
+{
+    match fault {
+        PointFault::Large => PartFault::at(text, Reason::Large),
+        PointFault::Fine => PartFault::at(text, Reason::Fine),
+        PointFault::Memory(error) => PartFault::Memory(error),
+    }
 }
 
-impl Model for Points {
-    ghost use Rattle.std.specs.Prelude.{List};
-    ghost use Rattle.gj_shape.specs.Denominators.{IsLeastDenominator};
-    ghost use Rattle.gj_lines.specs.Points.{all_fractions};
-    ghost use Rattle.gj_lines.specs.declared.points.Point.{Point};
-
-    ghost Value = { List Point };
-
-    ghost view = { λ p. p.points.items };
-
-    ghost invariant = { λ p. IsLeastDenominator (all_fractions p.points.items) p.scale };
+/// The point that the line gives, or the rule on its form and its numbers that it breaks first.
+fn point_in(spelling: Spelling, line: &[u8]) -> Result<Point, Reason>
+    ensures found { IfOk result (SpellsPoint spelling (word_texts line.now)) }
+    ensures broken { IfErr result (BreaksPointForm spelling (word_texts line.now)) }
+{
+    let Some(words) = point_words(spelling, line) else {
+        return Err(Reason::Form);
+    };
+    match point_of(spelling, words) {
+        Some(point) => Ok(point),
+        None => Err(Reason::Number),
+    }
 }
 
-impl Points {
-    /// No points.
-    pub fn new(alloc: Global) -> Points
-        ensures { result ≡ [] }
-    {
-        Points {
-            points: Vec::new(alloc),
-            scale: 1,
+/// The words behind `point` in the line, where they are one or three, in strict spelling not three that are the same.
+fn point_words(spelling: Spelling, line: &[u8]) -> Option<PointWords<'_>>
+    ensures found { IfSome result (λ p. word_texts line.now ≡ point_words (words_of_point p)) }
+    ensures words { IfSome result (λ p. ArePointWords spelling (words_of_point p)) }
+    ensures none { IfNone result ((words : List (List ℕ)) →
+        word_texts line.now ≡ point_words words → ArePointWords spelling words → ⊥) }
+{
+    let words = one_or_three(line)?;
+    if !are_point_words(spelling, words) {
+        return None;
+    }
+    Some(words)
+}
+
+/// The words behind `point` in the line, where they are one or three.
+fn one_or_three(line: &[u8]) -> Option<PointWords<'_>>
+    ensures found { IfSome result (λ p. word_texts line.now ≡ point_words (words_of_point p)) }
+    ensures none { IfNone result ((words : List (List ℕ)) →
+        word_texts line.now ≡ point_words words → IsOneOrThree words → ⊥) }
+{
+    let (first, rest) = split_word(behind_name(line, b"point")?)?;
+    let Some((second, rest)) = split_word(rest) else {
+        return Some(PointWords::One(first));
+    };
+    let (third, rest) = split_word(rest)?;
+    if !has_no_word(rest) {
+        return None;
+    }
+    Some(PointWords::Three(first, second, third))
+}
+
+/// Whether the words may stand for a point: in strict spelling no three that are all the same.
+fn are_point_words(spelling: Spelling, words: PointWords<'_>) -> bool
+    ensures { IsTrue result ↔ ArePointWords spelling (words_of_point words.entry) }
+{
+    match (spelling, words) {
+        (Spelling::Strict, PointWords::Three(first, second, third)) => {
+            first != second || second != third
         }
-    }
-
-    /// Adds a point behind the others. Its limit from the left, its value and its limit from the right are tested in
-    /// this order, each for `Large` and then for `Fine`. With it all fractions are at most 2^20 in absolute value, and
-    /// have a common denominator of at most 2^31 - 1. After an error the points are as they were.
-    pub fn push(&mut self, point: Point) -> Result<(), PointFault>
-        ensures ok { OnOk result (self.new ≡ self.old ++ point ∷ []) }
-        ensures small { OnOk result (All IsSmall (all_fractions self.new)) }
-        ensures common { OnOk result (HasCommonDenominator (all_fractions self.new)) }
-        ensures err { OnErr result (self.new ≡ self.old) }
-        ensures fault { IfErr result (IsPointFault self.old point) }
-    {
-        let with_left = wider(self.scale, point.left)?;
-        let with_value = wider(with_left, point.value)?;
-        let with_right = wider(with_value, point.right)?;
-        self.points.push(point)?;
-        self.scale = with_right;
-        Ok(())
-    }
-
-    /// The function of this order and place with these points.
-    pub fn shape(&self, alloc: Global, order: u32, place: u32) -> Result<Shape, AllocError>
-        requires order_fits { IsOrder order }
-        requires place_fits { IsPlace order place }
-        requires count { length self.now ≡ order }
-        ensures { IfOk result (IsGivenBy order place (lefts self.now) (values self.now) (rights self.now)) }
-    {
-        let left = lefts(alloc, self.points.as_slice())?;
-        let value = values(alloc, self.points.as_slice())?;
-        let right = rights(alloc, self.points.as_slice())?;
-        match Shape::new(
-            alloc,
-            order,
-            place,
-            left.as_slice(),
-            value.as_slice(),
-            right.as_slice(),
-        ) {
-            Ok(shape) => Ok(shape),
-            Err(ShapeFault::Memory(error)) => Err(error),
-            Err(_) => unreachable!(),
-        }
+        _ => true,
     }
 }
 
-/// The limits from the left.
-fn lefts(alloc: Global, points: &[Point]) -> Result<Vec<Frac>, AllocError>
-    ensures { IfOk result (λ xs. xs.items ≡ lefts points.now) }
+/// The point that the words spell.
+fn point_of(spelling: Spelling, words: PointWords<'_>) -> Option<Point>
+    ensures found { IfSome result (SpellPoint spelling (words_of_point words.entry)) }
+    ensures none { IfNone result ((p : Point) → SpellPoint spelling (words_of_point words.entry) p → ⊥) }
 {
-    points.iter().map(|point| point.left).collect(alloc)
-}
-
-/// The values.
-fn values(alloc: Global, points: &[Point]) -> Result<Vec<Frac>, AllocError>
-    ensures { IfOk result (λ xs. xs.items ≡ values points.now) }
-{
-    points.iter().map(|point| point.value).collect(alloc)
-}
-
-/// The limits from the right.
-fn rights(alloc: Global, points: &[Point]) -> Result<Vec<Frac>, AllocError>
-    ensures { IfOk result (λ xs. xs.items ≡ rights points.now) }
-{
-    points.iter().map(|point| point.right).collect(alloc)
-}
-
-/// The least common denominator `scale` of some fractions with one more.
-fn wider(scale: u32, fraction: Frac) -> Result<u32, PointFault>
-    requires { 0 < scale }
-    ensures least { IfOk result (Extends scale fraction) }
-    ensures fault { IfErr result (IsRefusedOver scale fraction) }
-{
-    match extended(scale, fraction, 0) {
-        Ok(scale) => Ok(scale),
-        Err(ShapeFault::TooLarge(_)) => Err(PointFault::Large),
-        Err(ShapeFault::TooFine(_)) => Err(PointFault::Fine),
-        Err(_) => unreachable!(),
+    match words {
+        PointWords::One(word) => even_point(spelling, word),
+        PointWords::Three(first, second, third) => jump_point(spelling, first, second, third),
     }
+}
+
+/// The point whose value and limits are the fraction that the word spells.
+fn even_point(spelling: Spelling, word: &[u8]) -> Option<Point>
+    ensures found { IfSome result (SpellPoint spelling (word.now ∷ [])) }
+    ensures none { IfNone result ((p : Point) → SpellPoint spelling (word.now ∷ []) p → ⊥) }
+{
+    let value = fraction_of(spelling, word)?;
+    Some(Point {
+        left: value,
+        value,
+        right: value,
+    })
+}
+
+/// The point whose limit from the left, value and limit from the right are the fractions that the words spell.
+fn jump_point(spelling: Spelling, first: &[u8], second: &[u8], third: &[u8]) -> Option<Point>
+    ensures found { IfSome result (SpellPoint spelling (first.now ∷ second.now ∷ third.now ∷ [])) }
+    ensures none { IfNone result ((p : Point) →
+        SpellPoint spelling (first.now ∷ second.now ∷ third.now ∷ []) p → ⊥) }
+{
+    Some(Point {
+        left: fraction_of(spelling, first)?,
+        value: fraction_of(spelling, second)?,
+        right: fraction_of(spelling, third)?,
+    })
 }

@@ -1,7 +1,8 @@
-//! Points, places and lines by hand.
+//! Places and lines by hand.
 
-use crate::{Point, PointFault, Points, place_of, push_function_lines};
+use crate::{place_of, push_function_lines};
 use gj_frac::Frac;
+use gj_shape::{Point, Points};
 use std::test::Fail;
 
 /// The fraction n/d.
@@ -35,7 +36,7 @@ fn jumps_are_printed(rt: HostRuntime) -> Result<(), Fail> {
     points.push(jump(half, fraction(1, 1)?))?;
     let shape = points.shape(rt.alloc(), 2, 1)?;
     let mut text = Vec::new(rt.alloc());
-    push_function_lines(&mut text, &shape)?;
+    push_function_lines(rt.alloc(), &mut text, &shape)?;
     assert_eq!(rt;
         text.as_slice(),
         b"order 2\nf 1/2\npoint 1/2 0 1/2\npoint 1/2 1 1/2\n".as_slice()
@@ -50,29 +51,10 @@ fn continuous_functions_are_printed(rt: HostRuntime) -> Result<(), Fail> {
     points.push(even(fraction(-3, 4)?))?;
     let shape = points.shape(rt.alloc(), 2, 1)?;
     let mut text = Vec::new(rt.alloc());
-    push_function_lines(&mut text, &shape)?;
+    push_function_lines(rt.alloc(), &mut text, &shape)?;
     assert_eq!(rt;
         text.as_slice(),
         b"order 2\nf 1/2\npoint 0\npoint -3/4\n".as_slice()
-    );
-    Ok(())
-}
-
-#[test]
-fn points_are_refused(rt: HostRuntime) -> Result<(), Fail> {
-    let mut points = Points::new(rt.alloc());
-    let large = fraction(1_048_577, 1)?;
-    let fine = fraction(1, 2_147_483_648)?;
-    assert!(rt; matches!(points.push(even(large)), Err(PointFault::Large)));
-    assert!(rt; matches!(points.push(even(fine)), Err(PointFault::Fine)));
-    assert!(rt; matches!(points.push(jump(fine, large)), Err(PointFault::Fine)));
-    assert!(rt; matches!(points.push(jump(large, fine)), Err(PointFault::Large)));
-    points.push(even(fraction(1, 65_536)?))?;
-    assert!(rt;
-        matches!(
-            points.push(even(fraction(1, 65_535)?)),
-            Err(PointFault::Fine)
-        )
     );
     Ok(())
 }

@@ -11,26 +11,26 @@ pub at_below : (xs : List ℤ) (i : ℕ) → i < length xs → at xs i ≡ get_o
 unfolding at
 at_below xs i h = ap (λ k. get_or xs k (pos 0)) (mod-eq_of_lt h)
 
--- indices with one rest have one entry
-pub at_same_rest : (xs : List ℤ) (i j : ℕ) → i % length xs ≡ j % length xs → at xs i ≡ at xs j
+-- indices with one remainder have one entry
+pub at_same_remainder : (xs : List ℤ) (i j : ℕ) → i % length xs ≡ j % length xs → at xs i ≡ at xs j
 unfolding at
-at_same_rest xs i j e = ap (λ k. get_or xs k (pos 0)) e
+at_same_remainder xs i j e = ap (λ k. get_or xs k (pos 0)) e
 
--- the index may be the rest
-pub at_rest : (xs : List ℤ) (i : ℕ) → at xs (i % length xs) ≡ at xs i
-at_rest xs i = at_same_rest xs (i % length xs) i (mod-mod i (length xs))
+-- the index may be the remainder
+pub at_remainder : (xs : List ℤ) (i : ℕ) → at xs (i % length xs) ≡ at xs i
+at_remainder xs i = at_same_remainder xs (i % length xs) i (mod-mod i (length xs))
 
 -- the same where the length is known by another name
 pub at_wrapped : (xs : List ℤ) (i j n : ℕ) → length xs ≡ n → j ≡ i % n → at xs j ≡ at xs i
-at_wrapped xs i j n len e = ap (at xs) (e ∙ ap (λ m. i % m) (sym len)) ∙ at_rest xs i
+at_wrapped xs i j n len e = ap (at xs) (e ∙ ap (λ m. i % m) (sym len)) ∙ at_remainder xs i
 
 -- the entries have the length as a period
 pub at_plus_length : (xs : List ℤ) (i : ℕ) → at xs (i + length xs) ≡ at xs i
-at_plus_length xs i = at_same_rest xs (i + length xs) i (add-mod_right i (length xs))
+at_plus_length xs i = at_same_remainder xs (i + length xs) i (add-mod_right i (length xs))
 
 -- and each multiple of it
 pub at_plus_multiple : (xs : List ℤ) (i k : ℕ) → at xs (i + k * length xs) ≡ at xs i
-at_plus_multiple xs i k = at_same_rest xs (i + k * length xs) i (add-mul-mod_self_right i k (length xs))
+at_plus_multiple xs i k = at_same_remainder xs (i + k * length xs) i (add-mul-mod_self_right i k (length xs))
 
 -- what holds of all entries holds of the entry at any index
 pub all_at : (P : ℤ → Type 0) (xs : List ℤ) (i : ℕ) → 0 < length xs → All P xs → P (at xs i)

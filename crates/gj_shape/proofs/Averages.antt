@@ -5,10 +5,10 @@ use Rattle.std.proofs.lemmas.Int.{ints, unsigned_abs-mul}
 use Rattle.gj_frac.specs.declared.Frac.{Frac}
 use Rattle.gj_tools.proofs.Integers.{abs_add_z}
 use Rattle.gj_shape.specs.FunctionData.{FunctionData, IsWithinBounds, at}
-use Rattle.gj_shape.specs.Given.{IsSmall, IsGivenBy}
-use Rattle.gj_shape.specs.Derived.{half_sum, AreHalfSums, IsAverageOf, AreOver}
+use Rattle.gj_shape.specs.Given.{IsSmall, IsGivenBy, AreOver}
+use Rattle.gj_shape.specs.Average.{half_sum, AreHalfSums, IsAverageOf}
 use Rattle.gj_shape.proofs.AtLemmas.{at_wrapped, at_left_small, at_value_small, at_right_small}
-use Rattle.gj_shape.proofs.DerivedLemmas.{all_small, list_is_at}
+use Rattle.gj_shape.proofs.GivenFractions.{all_small, list_is_at}
 use Rattle.gj_shape.proofs.InOrder.{all_from_in_order}
 use Rattle.gj_shape.proofs.LeastDenominator.{Divides}
 use mir.Syntax.{w128}
@@ -31,10 +31,10 @@ double_product x y s o e g h k =
     let whole : pos (2 * s) *ℤ pos o ≡ pos (2 * (s * o)) = ap pos (omega arith) in
     ap₂ (λ u v. to_z w128 (of_z w128 (u *ℤ v))) first second ∙ ap (λ z. to_z w128 (of_z w128 z)) whole ∙ omega (arith, ints)
 
--- half a sum goes by the rest of the index
-half_sum_rest : (f g : FunctionData) (xs ys : List ℤ) (i n : ℕ) → length xs ≡ n → length ys ≡ n →
+-- half a sum goes by the remainder of the index
+half_sum_remainder : (f g : FunctionData) (xs ys : List ℤ) (i n : ℕ) → length xs ≡ n → length ys ≡ n →
     half_sum f g xs ys (i % n) ≡ half_sum f g xs ys i
-half_sum_rest f g xs ys i n e h =
+half_sum_remainder f g xs ys i n e h =
     ap₂ (λ x y. pos g.scale *ℤ x +ℤ pos f.scale *ℤ y) (at_wrapped xs i (i % n) n e refl)
     (at_wrapped ys i (i % n) n h refl)
 
@@ -70,11 +70,11 @@ average_from_given f g h l v r first second same are given =
       order = given.order;
       place = given.place;
       left_is = list_is_at h.scale h.left l _ _ n given.left_is are.lengths.0 some common.0 are.left_is
-          (λ i. half_sum_rest f g f.left g.left i n first.left_length (second.left_length ∙ sym same));
+          (λ i. half_sum_remainder f g f.left g.left i n first.left_length (second.left_length ∙ sym same));
       value_is = list_is_at h.scale h.value v _ _ n given.value_is are.lengths.1 some common.1 are.value_is
-          (λ i. half_sum_rest f g f.value g.value i n first.value_length (second.value_length ∙ sym same));
+          (λ i. half_sum_remainder f g f.value g.value i n first.value_length (second.value_length ∙ sym same));
       right_is = list_is_at h.scale h.right r _ _ n given.right_is are.lengths.2 some common.2 are.right_is
-          (λ i. half_sum_rest f g f.right g.right i n first.right_length (second.right_length ∙ sym same));
+          (λ i. half_sum_remainder f g f.right g.right i n first.right_length (second.right_length ∙ sym same));
     }
 
 -- half sums under other names for the scales and the lists

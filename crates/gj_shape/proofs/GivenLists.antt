@@ -1,14 +1,14 @@
 -- A function that is given by three lists of fractions: their lengths and sizes, and that they have no fault.
-use Rattle.std.proofs.Common.{◌≡◌, ℕ, ◌<◌, List, [], ◌∷◌, ◌++◌, length, take, All, refl, sym, ap, subst, ◌∙◌, arith}
-use Rattle.std.proofs.lemmas.List.{append_assoc, length-append, length-map, get_or_at, take_at}
-use Rattle.std.proofs.lemmas.List.Elements.{All-same, All-take}
+use Rattle.std.proofs.Common.{◌≡◌, ℕ, List, length, All, sym, ap, ◌∙◌, arith}
+use Rattle.std.proofs.lemmas.List.{length-map}
 use Rattle.gj_frac.specs.declared.Frac.{Frac}
+use Rattle.gj_tools.proofs.FirstThatFails.{first_failing_denies}
 use Rattle.gj_shape.specs.FunctionData.{FunctionData}
-use Rattle.gj_shape.specs.Given.{in_order, IsSmall, HaveLength, HasFault, numerator_over, IsGivenBy}
+use Rattle.gj_shape.specs.Given.{in_order, IsSmall, AreWithinBounds, HaveLength, HasFault, numerator_over, IsGivenBy}
 use Rattle.gj_shape.specs.declared.faults.ShapeFault.{ShapeFault}
 use Rattle.gj_shape.specs.declared.faults.ShapeFault.TheVariants as fault
 use Rattle.gj_shape.proofs.InOrder.{all_in_order, all_from_in_order}
-use Rattle.gj_shape.proofs.LeastDenominator.{Divides}
+use Rattle.gj_shape.proofs.LeastDenominator.{Divides, within_bounds_closed}
 use Rattle.gj_shape.proofs.OverScale.{all_small}
 
 lengths_given : (q k : ℕ) (l v r : List Frac) (f : FunctionData) → IsGivenBy q k l v r f → HaveLength l v r q
@@ -30,18 +30,12 @@ all_small_given q k l v r f g =
     (all_small f.scale v f.value g.within.scale_low g.value_is d.1 g.within.value_small)
     (all_small f.scale r f.right g.within.scale_low g.right_is d.2 g.within.right_small)
 
--- what holds of all holds of one of them
-pub at_place : (P : Frac → Type 0) (xs before after : List Frac) (x : Frac) → xs ≡ before ++ x ∷ after → All P xs → P x
-at_place P xs before after x e h =
-    let some : length before < length (before ++ x ∷ after) = omega (arith, length-append before (x ∷ after)) in
-    subst P (get_or_at before x after x (length before) refl) (subst (All P) e h (length before) x some)
-
-pub up_to_place : (P : Frac → Type 0) (xs before after : List Frac) (x : Frac) → xs ≡ before ++ x ∷ after → All P xs → All P (before ++ x ∷ [])
-up_to_place P xs before after x e h =
-    let front = before ++ x ∷ [] in
-    let split : xs ≡ front ++ after = e ∙ sym (append_assoc before (x ∷ []) after) in
-    All-same P front (take (length front) xs) (sym (ap (take (length front)) split ∙ take_at front after (length front) refl))
-    (All-take P (length front) xs h)
+-- so they are within bounds
+pub within_given : (q k : ℕ) (l v r : List Frac) (f : FunctionData) → IsGivenBy q k l v r f → AreWithinBounds (in_order l v r)
+within_given q k l v r f g = record {
+  small = all_small_given q k l v r f g;
+  common = (f.scale, g.within.scale_low, g.within.scale_high, g.common);
+}
 
 -- the fault is want of memory
 abbrev pub IsMemory : ShapeFault → Type 0
@@ -62,12 +56,7 @@ no_fault_given q k l v r f fault.Place g h =
 no_fault_given q k l v r f fault.Count g h = absurd (h.2 (lengths_given q k l v r f g))
 no_fault_given q k l v r f (fault.TooLarge i) g h =
     let (before, x, first, large) = h.3 in
-    absurd (large (at_place IsSmall (in_order l v r) before first.after x first.place (all_small_given q k l v r f g)))
+    absurd (first_failing_denies AreWithinBounds within_bounds_closed _ before x first.first (within_given q k l v r f g))
 no_fault_given q k l v r f (fault.TooFine i) g h =
-    let (before, x, first, small, fine) = h.3 in
-    absurd (fine (
-      f.scale,
-      g.within.scale_low,
-      g.within.scale_high,
-      up_to_place (Divides f.scale) (in_order l v r) before first.after x first.place g.common,
-    ))
+    let (before, x, first, small) = h.3 in
+    absurd (first_failing_denies AreWithinBounds within_bounds_closed _ before x first.first (within_given q k l v r f g))

@@ -1,12 +1,12 @@
 -- The fractions of three lists of one length, index by index.
 use Rattle.std.proofs.Common.{◌≡◌, ℕ, ◌+◌, ◌*◌, ◌<◌, ◌≤◌, List, [], ◌∷◌, ◌++◌, length, take, drop, get_or, All, refl, sym, ap, ◌∙◌, arith}
-use Rattle.std.proofs.lemmas.List.{append_assoc, length-take-le, drop_more, take_more, take-append-drop, get_or_default, take_all}
+use Rattle.std.proofs.lemmas.List.{length-take-le, drop_more, take_more, take-append-drop, take_all}
 use Rattle.std.proofs.lemmas.List.Elements.{All-nil, All-cons, All-head, All-tail}
 use Rattle.gj_frac.specs.declared.Frac.{Frac}
 use Rattle.gj_shape.specs.Given.{in_order}
 
 -- induction over three lists of one length
-by_threes : (P : List Frac → List Frac → List Frac → Type 0) → P [] [] [] →
+pub by_threes : (P : List Frac → List Frac → List Frac → Type 0) → P [] [] [] →
     ((l v r : Frac) (ls vs rs : List Frac) → P ls vs rs → P (l ∷ ls) (v ∷ vs) (r ∷ rs)) →
     (ls vs rs : List Frac) → length vs ≡ length ls → length rs ≡ length ls → P ls vs rs
 by_threes P base step [] [] [] e f = base
@@ -49,7 +49,7 @@ all_from_in_order P =
     ))
 
 -- the fractions in order of two parts
-in_order-append : (ps ws ts : List Frac) → length ws ≡ length ps → length ts ≡ length ps → (ls vs rs : List Frac) →
+pub in_order-append : (ps ws ts : List Frac) → length ws ≡ length ps → length ts ≡ length ps → (ls vs rs : List Frac) →
     in_order (ps ++ ls) (ws ++ vs) (ts ++ rs) ≡ in_order ps ws ts ++ in_order ls vs rs
 in_order-append =
     by_threes (λ ps ws ts. (ls vs rs : List Frac) → in_order (ps ++ ls) (ws ++ vs) (ts ++ rs) ≡ in_order ps ws ts ++ in_order ls vs rs)
@@ -87,34 +87,6 @@ pub record StandAt (ls vs rs : List Frac) (i : ℕ) (l v r : Frac) : Type 0 wher
   pub value_is : v ≡ get_or vs i v
   pub right_is : r ≡ get_or rs i r
 
--- where only the first, or the first two, are known
-pub stand_left : (ls vs rs : List Frac) (i : ℕ) (l : Frac) → length vs ≡ length ls → length rs ≡ length ls →
-    i < length ls → l ≡ get_or ls i l → StandAt ls vs rs i l (get_or vs i l) (get_or rs i l)
-stand_left ls vs rs i l e f h l_is =
-    let in_value : i < length vs = omega arith in
-    let in_right : i < length rs = omega arith in
-    record {
-      value_length = e;
-      right_length = f;
-      within = h;
-      left_is = l_is;
-      value_is = get_or_default vs i l (get_or vs i l) in_value;
-      right_is = get_or_default rs i l (get_or rs i l) in_right;
-    }
-
-pub stand_value : (ls vs rs : List Frac) (i : ℕ) (l v : Frac) → length vs ≡ length ls → length rs ≡ length ls →
-    i < length ls → l ≡ get_or ls i l → v ≡ get_or vs i v → StandAt ls vs rs i l v (get_or rs i l)
-stand_value ls vs rs i l v e f h l_is v_is =
-    let in_right : i < length rs = omega arith in
-    record {
-      value_length = e;
-      right_length = f;
-      within = h;
-      left_is = l_is;
-      value_is = v_is;
-      right_is = get_or_default rs i l (get_or rs i l) in_right;
-    }
-
 take_next : (xs : List Frac) (i : ℕ) (x : Frac) → i < length xs → x ≡ get_or xs i x → take (i + 1) xs ≡ take i xs ++ x ∷ []
 take_next xs i x h e = take_more xs i x h ∙ ap (λ y. take i xs ++ y ∷ []) (sym e)
 
@@ -132,18 +104,15 @@ in_order_parts ls vs rs ps ws ts i e f h =
 
 -- the fractions before the next index
 pub before_next : (ls vs rs : List Frac) (i : ℕ) (l v r : Frac) → StandAt ls vs rs i l v r →
-    before ls vs rs (i + 1) ≡ before ls vs rs i ++ l ∷ [] ++ v ∷ [] ++ r ∷ []
+    before ls vs rs (i + 1) ≡ before ls vs rs i ++ l ∷ v ∷ r ∷ []
 before_next ls vs rs i l v r h =
     let in_value : i < length vs = omega (arith, h.value_length, h.within) in
     let in_right : i < length rs = omega (arith, h.right_length, h.within) in
     let low : i ≤ length ls = omega (arith, h.within) in
-    let xs = before ls vs rs i in
     in_order_along _ _ _ _ _ _ (take_next ls i l h.within h.left_is) (take_next vs i v in_value h.value_is) (take_next rs i r in_right h.right_is)
     ∙ in_order_parts ls vs rs (l ∷ []) (v ∷ []) (r ∷ []) i h.value_length h.right_length low
-    ∙ sym (append_assoc xs (l ∷ []) (v ∷ r ∷ []))
-    ∙ sym (append_assoc (xs ++ l ∷ []) (v ∷ []) (r ∷ []))
 
--- all fractions: those before the index, the three at the index, the rest
+-- all fractions: those before the index, the three at the index, and those behind
 pub place_of_index : (ls vs rs : List Frac) (i : ℕ) (l v r : Frac) → StandAt ls vs rs i l v r →
     in_order ls vs rs ≡ before ls vs rs i ++ l ∷ v ∷ r ∷ in_order (drop (i + 1) ls) (drop (i + 1) vs) (drop (i + 1) rs)
 place_of_index ls vs rs i l v r h =

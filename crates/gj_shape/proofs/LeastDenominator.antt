@@ -1,19 +1,21 @@
--- The least common denominator with one more fraction, and the first fraction that fails a test.
-use Rattle.std.proofs.Common.{◌≡◌, ℕ, ◌+◌, ◌*◌, ◌/◌, ◌<◌, List, [], ◌∷◌, ◌++◌, length, take, drop, unsigned_abs, refl, sym, subst, ◌∙◌, arith}
+-- The least common denominator with more fractions, and the first fraction that fails a test.
+use Rattle.std.proofs.Common.{◌≡◌, ℕ, ◌+◌, ◌*◌, ◌/◌, ◌<◌, List, [], ◌∷◌, ◌++◌, length, drop, unsigned_abs, refl, sym, ap, subst, ◌∙◌, append_assoc, arith}
 use Rattle.std.proofs.Math.Nat.{one-dvd}
 use Rattle.std.proofs.lemmas.Nat.Gcd.{dvd_trans}
-use Rattle.std.proofs.lemmas.List.Elements.{All-nil, All-head, All-same, All-take, All-drop, All-push}
-use Rattle.std.proofs.lemmas.List.{take_at, drop_at, append_assoc, length_push}
+use Rattle.std.proofs.lemmas.List.Elements.{All-nil, All-head, All-push}
+use Rattle.std.proofs.lemmas.List.{append-nil, length-append}
 use Rattle.std.specs.Int.{◌∣◌}
 use Rattle.gj_frac.specs.declared.Frac.{Frac}
 use Rattle.gj_frac.specs.Fraction.{denominator}
 use Rattle.gj_tools.proofs.Integers.{abs_positive_z}
 use Rattle.gj_tools.proofs.Divisors.{lcm_positive}
-use Rattle.gj_shape.specs.Given.{in_order, IsSmall, IsCommonDenominator, IsFirstFault}
-use Rattle.gj_shape.specs.Denominators.{Extends, IsLeastDenominator, IsRefused, IsFaultIn}
-use Rattle.gj_shape.proofs.InOrder.{before, length-before, before_next, place_of_index, StandAt}
-use Rattle.gj_shape.specs.declared.faults.ShapeFault.{ShapeFault}
-use Rattle.gj_shape.specs.declared.faults.ShapeFault.TheVariants as fault
+use Rattle.gj_tools.proofs.FirstThatFails.{IsPrefixClosed}
+use Rattle.gj_tools.proofs.Lists.{All-front, All-back}
+use Rattle.gj_shape.specs.Given.{in_order, IsSmall, AreWithinBounds, IsFirstFault}
+use Rattle.gj_shape.specs.Denominators.{Extends, ExtendsBy, IsLeastDenominator, IsRefused, IsFirstRefused, IsRefusal, IsRefusedBehind, IsFaultIn, fault_at}
+use Rattle.gj_shape.proofs.InOrder.{before, length-before, place_of_index, StandAt}
+use Rattle.gj_shape.specs.declared.faults.FractionFault.{FractionFault}
+use Rattle.gj_shape.specs.declared.faults.FractionFault.TheVariants.{Large, Fine}
 
 -- the denominator of a fraction is not 0
 pub denominator_some : (x : Frac) → 0 < unsigned_abs (denominator x)
@@ -33,16 +35,7 @@ least_of_none = record {
 abbrev pub Divides : ℕ → Frac → Type 0
 Divides m x = unsigned_abs (denominator x) ∣ m
 
-pub common_before : (xs : List Frac) (x : Frac) (m : ℕ) → IsCommonDenominator (xs ++ x ∷ []) m → IsCommonDenominator xs m
-common_before xs x m h =
-    All-same (Divides m) xs (take (length xs) (xs ++ x ∷ [])) (sym (take_at xs (x ∷ []) (length xs) refl))
-    (All-take (Divides m) (length xs) (xs ++ x ∷ []) h)
-
-pub common_last : (xs : List Frac) (x : Frac) (m : ℕ) → IsCommonDenominator (xs ++ x ∷ []) m → unsigned_abs (denominator x) ∣ m
-common_last xs x m h =
-    All-head (Divides m) x []
-    (All-same (Divides m) (x ∷ []) (drop (length xs) (xs ++ x ∷ [])) (sym (drop_at xs (x ∷ []) (length xs) refl))
-    (All-drop (Divides m) (length xs) (xs ++ x ∷ []) h))
+-- ---- one more fraction
 
 -- one more fraction
 pub least_with_next : (xs : List Frac) (x : Frac) (scale m : ℕ) → IsLeastDenominator xs scale → Extends scale x m →
@@ -52,70 +45,110 @@ least_with_next xs x scale m h next = record {
   low = lcm_positive scale (unsigned_abs (denominator x)) m next.least h.low (denominator_some x);
   high = next.high;
   common = All-push (Divides m) xs x (λ k d l. dvd_trans _ (h.common k d l) next.least.0) next.least.1;
-  least = λ c all. next.least.2 c (h.least c (common_before xs x c all)) (common_last xs x c all);
+  least = λ c all. next.least.2 c (h.least c (All-front (Divides c) xs (x ∷ []) all)) (All-head (Divides c) x [] (All-back (Divides c) xs (x ∷ []) all));
 }
 
-fault_place : (ls vs rs xs ys : List Frac) (x : Frac) (i scale : ℕ) → in_order ls vs rs ≡ xs ++ x ∷ ys →
-    i ≡ length xs / 3 → IsLeastDenominator xs scale → IsFirstFault ls vs rs i xs x
-fault_place ls vs rs xs ys x i scale place index least = record {
-  after = ys;
+-- three more fractions
+pub least_with_three : (scale a b c : ℕ) (l v r : Frac) → Extends scale l a → Extends a v b → Extends b r c →
+    ExtendsBy scale (l ∷ v ∷ r ∷ []) c
+least_with_three scale a b c l v r h k m xs least =
+    let first = least_with_next xs l scale a least h in
+    let second = least_with_next (xs ++ l ∷ []) v a b first k in
+    subst (λ ys. IsLeastDenominator ys c)
+    (append_assoc (xs ++ l ∷ []) (v ∷ []) (r ∷ []) ∙ append_assoc xs (l ∷ []) (v ∷ r ∷ []))
+    (least_with_next (xs ++ l ∷ [] ++ v ∷ []) r b c second m)
+
+pub extended_some : (scale : ℕ) (x : Frac) (m : ℕ) → Extends scale x m → 0 < scale → 0 < m
+extended_some scale x m h some = lcm_positive scale (unsigned_abs (denominator x)) m h.least some (denominator_some x)
+
+-- ---- fractions within bounds
+
+pub within_of_least : (xs : List Frac) (scale : ℕ) → IsLeastDenominator xs scale → AreWithinBounds xs
+within_of_least xs scale least = record { small = least.small; common = (scale, least.low, least.high, least.common) }
+
+pub within_bounds_closed : IsPrefixClosed AreWithinBounds
+within_bounds_closed xs ys h =
+    let d = h.common in
+    record {
+      small = All-front IsSmall xs ys h.small;
+      common = (d.0, d.1, d.2, All-front (Divides d.0) xs ys d.3);
+    }
+
+-- ---- a fraction that is refused
+
+-- with it the fractions are not within bounds
+leaves_bounds : (xs : List Frac) (x : Frac) (scale : ℕ) (e : FractionFault) → IsLeastDenominator xs scale →
+    IsRefused scale x e → AreWithinBounds (xs ++ x ∷ []) → ⊥
+leaves_bounds xs x scale Large least refused within = refused (All-head IsSmall x [] (All-back IsSmall xs (x ∷ []) within.small))
+leaves_bounds xs x scale Fine least refused within =
+    let d = within.common in
+    refused.1 d.0 d.1 d.2 (least.least d.0 (All-front (Divides d.0) xs (x ∷ []) d.3))
+    (All-head (Divides d.0) x [] (All-back (Divides d.0) xs (x ∷ []) d.3))
+
+-- it is the first of some fractions, behind those that have passed
+refused_first : (xs ys passed after : List Frac) (x : Frac) (scale : ℕ) (e : FractionFault) → ys ≡ passed ++ x ∷ after →
+    IsLeastDenominator (xs ++ passed) scale → IsRefused scale x e → IsFirstRefused xs ys passed x
+refused_first xs ys passed after x scale e place least refused = record {
+  after = after;
   place = place;
-  index_is = index;
-  small = least.small;
-  common = (scale, least.low, least.high, least.common);
+  good = within_of_least (xs ++ passed) scale least;
+  bad = λ within.
+      leaves_bounds (xs ++ passed) x scale e least refused (subst AreWithinBounds (sym (append_assoc xs passed (x ∷ []))) within);
 }
 
--- a fraction that is refused is the first that fails a test
-pub first_fault : (ls vs rs xs ys : List Frac) (x : Frac) (i scale : ℕ) (e : ShapeFault) →
-    in_order ls vs rs ≡ xs ++ x ∷ ys → i ≡ length xs / 3 → IsLeastDenominator xs scale →
-    IsRefused scale x i e → IsFaultIn ls vs rs e
-first_fault ls vs rs xs ys x i scale (fault.TooLarge j) place index least refused =
-    (xs, x, fault_place ls vs rs xs ys x j scale place (refused.0 ∙ index) least, refused.1)
-first_fault ls vs rs xs ys x i scale (fault.TooFine j) place index least refused = (
-  xs,
-  x,
-  fault_place ls vs rs xs ys x j scale place (refused.0 ∙ index) least,
-  refused.1,
-  λ some. refused.2 some.0 some.1 some.2 (least.least some.0 (common_before xs x some.0 some.3)) (common_last xs x some.0 some.3),
-)
-first_fault ls vs rs xs ys x i scale fault.Order place index least refused = refused
-first_fault ls vs rs xs ys x i scale fault.Place place index least refused = refused
-first_fault ls vs rs xs ys x i scale fault.Count place index least refused = refused
-first_fault ls vs rs xs ys x i scale (fault.Memory e) place index least refused = refused
+refused_at : (xs ys passed after : List Frac) (x : Frac) (scale : ℕ) (e : FractionFault) → ys ≡ passed ++ x ∷ after →
+    IsLeastDenominator (xs ++ passed) scale → IsRefused scale x e → IsRefusal xs ys e
+refused_at xs ys passed after x scale Large place least refused =
+    (passed, x, refused_first xs ys passed after x scale Large place least refused, refused)
+refused_at xs ys passed after x scale Fine place least refused =
+    (passed, x, refused_first xs ys passed after x scale Fine place least refused, refused.0)
 
--- the same for the fraction that stands k places after those before the index
-fault_after : (ls vs rs : List Frac) (i : ℕ) (l v r : Frac) (scale : ℕ) (e : ShapeFault) (xs ys : List Frac) (x : Frac)
-    (k : ℕ) → StandAt ls vs rs i l v r → k < 3 → length xs ≡ length (before ls vs rs i) + k →
-    before ls vs rs i ++ l ∷ v ∷ r ∷ in_order (drop (i + 1) ls) (drop (i + 1) vs) (drop (i + 1) rs) ≡ xs ++ x ∷ ys →
-    IsLeastDenominator xs scale → IsRefused scale x i e → IsFaultIn ls vs rs e
-fault_after ls vs rs i l v r scale e xs ys x k h few many split least refused =
-    let count : length (before ls vs rs i) ≡ 3 * i =
-    length-before ls vs rs i h.value_length h.right_length (omega (arith, h.within)) in
-    first_fault ls vs rs xs ys x i scale e (place_of_index ls vs rs i l v r h ∙ split) (omega arith) least refused
+-- the first, the second or the third of three
+pub refused_left : (scale : ℕ) (l v r : Frac) (e : FractionFault) → IsRefused scale l e →
+    IsRefusedBehind scale (l ∷ v ∷ r ∷ []) e
+refused_left scale l v r e refused xs least =
+    refused_at xs _ [] (v ∷ r ∷ []) l scale e refl
+    (subst (λ ys. IsLeastDenominator ys scale) (sym (append-nil xs)) least) refused
 
--- the same for each of the three fractions at an index
-pub fault_left : (ls vs rs : List Frac) (i : ℕ) (l v r : Frac) (scale : ℕ) (e : ShapeFault) → StandAt ls vs rs i l v r →
-    IsLeastDenominator (before ls vs rs i) scale → IsRefused scale l i e → IsFaultIn ls vs rs e
-fault_left ls vs rs i l v r scale e h =
-    fault_after ls vs rs i l v r scale e (before ls vs rs i) _ l 0 h (omega arith) (omega arith) refl
+pub refused_value : (scale a : ℕ) (l v r : Frac) (e : FractionFault) → Extends scale l a → IsRefused a v e →
+    IsRefusedBehind scale (l ∷ v ∷ r ∷ []) e
+refused_value scale a l v r e h refused xs least =
+    refused_at xs _ (l ∷ []) (r ∷ []) v a e refl (least_with_next xs l scale a least h) refused
 
-pub fault_value : (ls vs rs : List Frac) (i : ℕ) (l v r : Frac) (scale : ℕ) (e : ShapeFault) → StandAt ls vs rs i l v r →
-    IsLeastDenominator (before ls vs rs i ++ l ∷ []) scale → IsRefused scale v i e → IsFaultIn ls vs rs e
-fault_value ls vs rs i l v r scale e h =
+pub refused_right : (scale a b : ℕ) (l v r : Frac) (e : FractionFault) → Extends scale l a → Extends a v b →
+    IsRefused b r e → IsRefusedBehind scale (l ∷ v ∷ r ∷ []) e
+refused_right scale a b l v r e h k refused xs least =
+    refused_at xs _ (l ∷ v ∷ []) [] r b e refl
+    (subst (λ ys. IsLeastDenominator ys b) (append_assoc xs (l ∷ []) (v ∷ []))
+    (least_with_next (xs ++ l ∷ []) v a b (least_with_next xs l scale a least h) k)) refused
+
+-- ---- the first fault of three lists
+
+first_fault : (ls vs rs : List Frac) (i : ℕ) (l v r : Frac) (passed : List Frac) (x : Frac) → StandAt ls vs rs i l v r →
+    IsFirstRefused (before ls vs rs i) (l ∷ v ∷ r ∷ []) passed x → IsFirstFault ls vs rs i (before ls vs rs i ++ passed) x
+first_fault ls vs rs i l v r passed x at h =
     let xs = before ls vs rs i in
-    fault_after ls vs rs i l v r scale e (xs ++ l ∷ []) _ v 1 h (omega arith) (length_push xs l)
-    (sym (append_assoc xs (l ∷ []) _))
+    let later = in_order (drop (i + 1) ls) (drop (i + 1) vs) (drop (i + 1) rs) in
+    let count : length xs ≡ 3 * i = length-before ls vs rs i at.value_length at.right_length (omega (arith, at.within)) in
+    let three : length (l ∷ v ∷ r ∷ []) ≡ length passed + length (x ∷ h.after) =
+    ap length h.place ∙ length-append passed (x ∷ h.after) in
+    let index : i ≡ length (xs ++ passed) / 3 = let n = length-append xs passed in omega arith in
+    record {
+      first = record {
+        after = h.after ++ later;
+        place = place_of_index ls vs rs i l v r at ∙ ap (λ ys. xs ++ (ys ++ later)) h.place
+            ∙ ap (λ ys. xs ++ ys) (append_assoc passed (x ∷ h.after) later)
+            ∙ sym (append_assoc xs passed (x ∷ (h.after ++ later)));
+        good = h.good;
+        bad = λ within. h.bad (subst AreWithinBounds (append_assoc xs passed (x ∷ [])) within);
+      };
+      index_is = index;
+    }
 
-pub fault_right : (ls vs rs : List Frac) (i : ℕ) (l v r : Frac) (scale : ℕ) (e : ShapeFault) → StandAt ls vs rs i l v r →
-    IsLeastDenominator (before ls vs rs i ++ l ∷ [] ++ v ∷ []) scale → IsRefused scale r i e → IsFaultIn ls vs rs e
-fault_right ls vs rs i l v r scale e h =
-    let xs = before ls vs rs i in
-    let more = length_push xs l in
-    let most = length_push (xs ++ l ∷ []) v in
-    fault_after ls vs rs i l v r scale e (xs ++ l ∷ [] ++ v ∷ []) _ r 2 h (omega arith) (omega arith)
-    (sym (append_assoc xs (l ∷ []) _) ∙ sym (append_assoc (xs ++ l ∷ []) (v ∷ []) _))
-
--- the fractions before the next index have a least common denominator
-pub least_at_next : (ls vs rs : List Frac) (i : ℕ) (l v r : Frac) (m : ℕ) → StandAt ls vs rs i l v r →
-    IsLeastDenominator (before ls vs rs i ++ l ∷ [] ++ v ∷ [] ++ r ∷ []) m → IsLeastDenominator (before ls vs rs (i + 1)) m
-least_at_next ls vs rs i l v r m h least = subst (λ xs. IsLeastDenominator xs m) (sym (before_next ls vs rs i l v r h)) least
+-- the first fraction of a point that is refused behind all fractions before is the first fault
+pub fault_in : (ls vs rs : List Frac) (i : ℕ) (l v r : Frac) (e : FractionFault) → StandAt ls vs rs i l v r →
+    IsRefusal (before ls vs rs i) (l ∷ v ∷ r ∷ []) e → IsFaultIn ls vs rs (fault_at e i)
+fault_in ls vs rs i l v r Large at (passed, x, first, large) =
+    (before ls vs rs i ++ passed, x, first_fault ls vs rs i l v r passed x at first, large)
+fault_in ls vs rs i l v r Fine at (passed, x, first, small) =
+    (before ls vs rs i ++ passed, x, first_fault ls vs rs i l v r passed x at first, small)

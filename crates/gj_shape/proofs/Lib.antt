@@ -2,13 +2,15 @@ pub mod AtLemmas
 pub mod Averages
 pub mod OverScale
 pub mod GivenLists
-pub mod DerivedLemmas
+pub mod GivenPoints
+pub mod GivenFractions
 pub mod GivenLemmas
 pub mod InOrder
 pub mod LeastDenominator
 pub mod NumeratorBounds
 pub mod NumeratorReadings
 pub mod OneFunction
+pub mod PointLists
 pub mod Refinements
 pub mod SameFunctions
 pub mod TableLemmas

@@ -31,7 +31,7 @@ pub entry_read : (xs ys : List ℤ) (i : ℕ) → xs ≡ ys → i < length ys �
 entry_read xs ys i e below fits =
     to_z-of_z w64 (get_or xs i (pos 0)) fits ∙ ap (λ zs. get_or zs i (pos 0)) e ∙ sym (at_below ys i below)
 
--- an entry at the rest of an index
+-- an entry at the remainder of an index
 pub rest_read : (xs ys : List ℤ) (i k n : ℕ) → xs ≡ ys → length ys ≡ n → k ≡ i % n →
     FitsSigned w64 (get_or xs k (pos 0)) → to_z w64 (of_z w64 (get_or xs k (pos 0))) ≡ at ys i
 unfolding at

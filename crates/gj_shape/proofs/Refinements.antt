@@ -9,9 +9,9 @@ use Rattle.gj_tools.proofs.Ring.{by_ring, ring}
 use Rattle.gj_shape.specs.FunctionData.{FunctionData, IsWithinBounds, at}
 use Rattle.gj_shape.specs.Table.{table}
 use Rattle.gj_shape.specs.Given.{IsSmall, IsOrder, IsPlace, IsGivenBy}
-use Rattle.gj_shape.specs.Derived.{entry_or_value, refined, AreRefined, IsRefinement}
+use Rattle.gj_shape.specs.Refinement.{entry_or_value, refined, AreRefined, IsRefinement}
 use Rattle.gj_shape.proofs.AtLemmas.{at_left_small, at_value_small, at_right_small}
-use Rattle.gj_shape.proofs.DerivedLemmas.{all_small, list_is_at}
+use Rattle.gj_shape.proofs.GivenFractions.{all_small, list_is_at}
 use Rattle.gj_shape.proofs.InOrder.{all_from_in_order}
 use Rattle.gj_shape.proofs.LeastDenominator.{Divides}
 use Rattle.gj_shape.proofs.TableLemmas.{at_plus_order, entry_period, entry_between, period_of_parts, table_parts, table_at, table_between, table_finer}
@@ -24,10 +24,10 @@ entry_or_value_period : (f : FunctionData) (xs : List ℤ) (m a r : ℕ) → IsW
 entry_or_value_period f xs m a zero h e = ap (λ z. pos m *ℤ z) (at_plus_order xs a f.order e)
 entry_or_value_period f xs m a (suc r) h e = entry_period f m a (suc r) h
 
--- it goes by the rest of the index
-refined_rest : (f : FunctionData) (xs : List ℤ) (m i : ℕ) → 0 < m → IsWithinBounds f → length xs ≡ f.order →
+-- it goes by the remainder of the index
+refined_remainder : (f : FunctionData) (xs : List ℤ) (m i : ℕ) → 0 < m → IsWithinBounds f → length xs ≡ f.order →
     refined f xs m (i % (f.order * m)) ≡ refined f xs m i
-refined_rest f xs m i some h e =
+refined_remainder f xs m i some h e =
     let n = f.order * m in
     same_at_remainder (refined f xs m) n
     (λ j. period_of_parts (entry_or_value f xs m) f.order m j some (λ a r. entry_or_value_period f xs m a r h e))
@@ -228,11 +228,11 @@ refinement_from_given f g t l v r t_some h are given =
     let common = all_from_in_order (Divides g.scale) l v r (are.lengths.1 ∙ sym are.lengths.0) (are.lengths.2 ∙ sym are.lengths.0) given.common in
     let lists : AreLists f g t = record {
       left_is = list_is_at g.scale g.left l _ _ n given.left_is are.lengths.0 some common.0 are.left_is
-          (λ i. refined_rest f f.left t i t_some h h.left_length);
+          (λ i. refined_remainder f f.left t i t_some h h.left_length);
       value_is = list_is_at g.scale g.value v _ _ n given.value_is are.lengths.1 some common.1 are.value_is
-          (λ i. refined_rest f f.value t i t_some h h.value_length);
+          (λ i. refined_remainder f f.value t i t_some h h.value_length);
       right_is = list_is_at g.scale g.right r _ _ n given.right_is are.lengths.2 some common.2 are.right_is
-          (λ i. refined_rest f f.right t i t_some h h.right_length);
+          (λ i. refined_remainder f f.right t i t_some h h.right_length);
     } in
     record {
       order = given.order;

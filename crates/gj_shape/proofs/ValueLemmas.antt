@@ -8,19 +8,19 @@ use Rattle.gj_frac.specs.Fraction.{IsRatio, numerator, denominator}
 use Rattle.gj_tools.proofs.Integers.{add_mul_z}
 use Rattle.gj_tools.proofs.Quotients.{same_remainder, same_at_remainder}
 use Rattle.gj_shape.specs.FunctionData.{FunctionData, IsWithinBounds, at}
-use Rattle.gj_shape.specs.Derived.{entry_or_value}
+use Rattle.gj_shape.specs.Refinement.{entry_or_value}
 use Rattle.gj_shape.specs.Table.{table, entry}
 use Rattle.gj_shape.specs.Values.{IsCongruent, IsValueAt}
 use Rattle.gj_shape.specs.Violation.{IsPoint, value_of}
 use Rattle.gj_shape.proofs.AtLemmas.{at_below}
 use Rattle.gj_shape.proofs.TableLemmas.{table_period}
 
--- a number is congruent to its rest
-pub congruent_to_rest : (n : ℤ) (p : ℕ) → 0 < p → IsCongruent n (int_rem_euclid n (pos p)) p
-congruent_to_rest (pos a) p some =
+-- a number is congruent to its remainder
+pub congruent_to_remainder : (n : ℤ) (p : ℕ) → 0 < p → IsCongruent n (int_rem_euclid n (pos p)) p
+congruent_to_remainder (pos a) p some =
     let split = div-add-mod' a p in
     (pos (a / p), omega (arith, ints))
-congruent_to_rest (negsuc a) p some =
+congruent_to_remainder (negsuc a) p some =
     let split = div-add-mod' a p in
     let below = mod-lt a some in
     (negsuc (a / p), omega (arith, ints))
@@ -30,7 +30,7 @@ congruent_join i n j p (k, e) (l, g) =
     let both = add_mul_z k l (pos p) in
     (k +ℤ l, omega (arith, ints))
 
--- natural numbers that are congruent have one rest
+-- natural numbers that are congruent have one remainder
 pub congruent_rests : (i j p : ℕ) → IsCongruent (pos i) (pos j) p → i % p ≡ j % p
 congruent_rests i j p (pos k, e) = same_remainder i j 0 k p (omega (arith, ints))
 congruent_rests i j p (negsuc k, e) = same_remainder i j (suc k) 0 p (omega (arith, ints))
@@ -54,7 +54,7 @@ pub value_at_point : (f : FunctionData) (x y : Frac) (n d : ℕ) → IsPoint x n
     IsValueAt f (numerator x *ℤ pos f.order) (unsigned_abs (denominator x)) y → IsRatio y (value_of f n d) (pos (f.scale * d))
 value_at_point f x y n d point is =
     let at_point : IsValueAt f (pos n *ℤ pos f.order) d y =
-    subst₂ (λ a b. IsValueAt f (a *ℤ pos f.order) (unsigned_abs b) y) point.top point.bottom is in
+    subst₂ (λ a b. IsValueAt f (a *ℤ pos f.order) (unsigned_abs b) y) point.numerator_is point.denominator_is is in
     at_point (n * f.order) (pos 0, omega (arith, ints))
 
 -- the entry of a list at a multiple of 1/order
@@ -62,9 +62,9 @@ pub entry_of_list : (f : FunctionData) (xs : List ℤ) (m a r : ℕ) → r ≡ 0
     entry_or_value f xs m a r ≡ pos m *ℤ get_or xs a (pos 0)
 entry_of_list f xs m a r e below = ap (entry_or_value f xs m a) e ∙ ap (λ z. pos m *ℤ z) (at_below xs a below)
 
-at_by_rest : (xs : List ℤ) (i n : ℕ) → length xs ≡ n → at xs i ≡ get_or xs (i % n) (pos 0)
+at_by_remainder : (xs : List ℤ) (i n : ℕ) → length xs ≡ n → at xs i ≡ get_or xs (i % n) (pos 0)
 unfolding at
-at_by_rest xs i n e = ap (λ k. get_or xs (i % k) (pos 0)) e
+at_by_remainder xs i n e = ap (λ k. get_or xs (i % k) (pos 0)) e
 
 -- the value between two neighbouring multiples of 1/order
 pub entry_of_limits : (f : FunctionData) (xs : List ℤ) (m a r : ℕ) → IsWithinBounds f → 0 < r → a < f.order →
@@ -72,4 +72,4 @@ pub entry_of_limits : (f : FunctionData) (xs : List ℤ) (m a r : ℕ) → IsWit
 entry_of_limits f xs m a zero h some below = absurd (omega arith)
 entry_of_limits f xs m a (suc r) h some below =
     let length_is = h.right_length in
-    ap₂ (λ x y. pos (m - suc r) *ℤ x +ℤ pos (suc r) *ℤ y) (at_below f.right a (omega arith)) (at_by_rest f.left (a + 1) f.order h.left_length)
+    ap₂ (λ x y. pos (m - suc r) *ℤ x +ℤ pos (suc r) *ℤ y) (at_below f.right a (omega arith)) (at_by_remainder f.left (a + 1) f.order h.left_length)

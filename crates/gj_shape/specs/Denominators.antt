@@ -1,15 +1,15 @@
--- The least common denominator of a list of fractions, and what a further fraction does to it (own).
-use Rattle.std.specs.Prelude.{ℕ, ◌≡◌, ◌<◌, ◌≤◌, ◌^◌, List, All, unsigned_abs}
+-- The least common denominator of a list of fractions, and what further fractions do to it (own).
+use Rattle.std.specs.Prelude.{ℕ, ◌≡◌, ◌<◌, ◌≤◌, ◌^◌, List, ◌++◌, All, unsigned_abs}
 use Rattle.std.specs.Int.{◌∣◌}
 use Rattle.gj_frac.specs.declared.Frac.{Frac}
 use Rattle.gj_frac.specs.Fraction.{denominator}
-use Rattle.gj_shape.specs.Given.{IsSmall, IsCommonDenominator, IsTooLarge, IsTooFine}
+use Rattle.gj_tools.specs.Divisors.{IsLcm}
+use Rattle.gj_tools.specs.FirstThatFails.{IsFirstFailing}
+use Rattle.gj_shape.specs.Given.{IsSmall, IsCommonDenominator, AreWithinBounds, IsTooLarge, IsTooFine}
 use Rattle.gj_shape.specs.declared.faults.ShapeFault.{ShapeFault}
 use Rattle.gj_shape.specs.declared.faults.ShapeFault.TheVariants as fault
-
--- m is the least common multiple of a and b
-abbrev pub IsLcm : ℕ → ℕ → ℕ → Type 0
-IsLcm a b m = (a ∣ m) × (b ∣ m) × ((c : ℕ) → a ∣ c → b ∣ c → m ∣ c)
+use Rattle.gj_shape.specs.declared.faults.FractionFault.{FractionFault}
+use Rattle.gj_shape.specs.declared.faults.FractionFault.TheVariants as refusal
 
 -- all fractions are small, and m is their least common denominator, from 1 to 2^31 - 1
 pub record IsLeastDenominator (xs : List Frac) (m : ℕ) : Type 0 where
@@ -25,16 +25,34 @@ pub record Extends (scale : ℕ) (x : Frac) (m : ℕ) : Type 0 where
   pub least : IsLcm scale (unsigned_abs (denominator x)) m
   pub high : m < 2 ^ 31
 
--- why the fraction x at the index does not go with the least common denominator of those before it
-abbrev pub IsRefused : ℕ → Frac → ℕ → ShapeFault → Type 0
-IsRefused scale x index (fault.TooLarge i) = (i ≡ index) × (IsSmall x → ⊥)
-IsRefused scale x index (fault.TooFine i) =
-    (i ≡ index) × IsSmall x
-    × ((m : ℕ) → 1 ≤ m → m < 2 ^ 31 → scale ∣ m → unsigned_abs (denominator x) ∣ m → ⊥)
-IsRefused scale x index fault.Order = ⊥
-IsRefused scale x index fault.Place = ⊥
-IsRefused scale x index fault.Count = ⊥
-IsRefused scale x index (fault.Memory e) = ⊥
+-- the same for more fractions
+abbrev pub ExtendsBy : ℕ → List Frac → ℕ → Type 0
+ExtendsBy scale ys m = (xs : List Frac) → IsLeastDenominator xs scale → IsLeastDenominator (xs ++ ys) m
+
+-- why the fraction x does not go with the least common denominator of those before it
+abbrev pub IsRefused : ℕ → Frac → FractionFault → Type 0
+IsRefused scale x refusal.Large = IsSmall x → ⊥
+IsRefused scale x refusal.Fine =
+    IsSmall x × ((m : ℕ) → 1 ≤ m → m < 2 ^ 31 → scale ∣ m → unsigned_abs (denominator x) ∣ m → ⊥)
+
+-- x is the first of the fractions ys that fails a test behind the fractions xs, and `passed` stands before it
+abbrev pub IsFirstRefused : List Frac → List Frac → List Frac → Frac → Type 0
+IsFirstRefused xs ys passed x = IsFirstFailing (λ zs. AreWithinBounds (xs ++ zs)) ys passed x
+
+-- why the fractions ys cannot follow xs: the first that fails a test is too large, or it is not, and leaves no common
+-- denominator from 1 to 2^31 - 1
+abbrev pub IsRefusal : List Frac → List Frac → FractionFault → Type 0
+IsRefusal xs ys refusal.Large = (passed : List Frac) × (x : Frac) × IsFirstRefused xs ys passed x × (IsSmall x → ⊥)
+IsRefusal xs ys refusal.Fine = (passed : List Frac) × (x : Frac) × IsFirstRefused xs ys passed x × IsSmall x
+
+-- the same behind any fractions with the least common denominator `scale`
+abbrev pub IsRefusedBehind : ℕ → List Frac → FractionFault → Type 0
+IsRefusedBehind scale ys e = (xs : List Frac) → IsLeastDenominator xs scale → IsRefusal xs ys e
+
+-- the fault of lists with a fraction at fault at the index
+abbrev pub fault_at : FractionFault → ℕ → ShapeFault
+fault_at refusal.Large i = fault.TooLarge i
+fault_at refusal.Fine i = fault.TooFine i
 
 -- the first fraction that fails a test is too large, or leaves no common denominator
 abbrev pub IsFaultIn : List Frac → List Frac → List Frac → ShapeFault → Type 0

@@ -3,6 +3,7 @@ use Rattle.std.specs.Prelude.{ℕ, pos, ◌≡◌, ◌⊎◌, ◌+◌, ◌-◌, 
 use Rattle.std.specs.List.{range_with_len}
 use Rattle.gj_frac.specs.declared.Frac.{Frac}
 use Rattle.gj_frac.specs.Fraction.{IsRatio}
+use Rattle.gj_tools.specs.FirstThatFails.{IsFirstFailing}
 use Rattle.gj_shape.specs.FunctionData.{FunctionData, at}
 use Rattle.gj_shape.specs.Table.{table}
 use Rattle.gj_shape.specs.Faces.{corners_of, limits_of}
@@ -79,8 +80,8 @@ IsNegativeOnGrid f h n = table f h n <ℤ pos 0
 abbrev pub IsSuperadditiveOnGrid : FunctionData → ℕ → ℕ → ℕ → Type 0
 IsSuperadditiveOnGrid f h i j = (table f h i +ℤ table f h j) <ℤ table f h (i + j)
 
--- on the grid of order h times the function's, the coordinate of the point with the weight 1/h at each other corner
--- and the rest of the weight at the corner c
+-- on the grid of order h times the function's, the coordinate of the point with the weight 1/h at each corner but c,
+-- and the weight that is left at c
 abbrev pub near : ℕ → ℕ → List ℕ → ℕ
 near h c coordinates = (h - length coordinates) * get_or coordinates c 0 + sum coordinates
 
@@ -125,8 +126,5 @@ Shows f (subadditive_at kind a b c) v = ShowsNearCorner f kind a b c v
 pub record IsFirstViolation (f : FunctionData) (v : Violation) : Type 0 where
   pub before : List Test
   pub test : Test
-  pub after : List Test
-  pub place : tests_of f ≡ before ++ test ∷ after
-  pub passed : All (Passes f) before
-  pub fails : Passes f test → ⊥
+  pub first : IsFirstFailing (All (Passes f)) (tests_of f) before test
   pub shows : Shows f test v

@@ -1,8 +1,9 @@
 -- Which function three lists of fractions give, and why they give none (own).
-use Rattle.std.specs.Prelude.{ℕ, ℤ, pos, ◌≡◌, ◌<◌, ◌≤◌, ◌*◌, ◌/◌, ◌^◌, ◌*ℤ◌, List, [], ◌∷◌, ◌++◌, length, map, All, unsigned_abs}
+use Rattle.std.specs.Prelude.{ℕ, ℤ, pos, ◌≡◌, ◌<◌, ◌≤◌, ◌*◌, ◌/◌, ◌^◌, ◌*ℤ◌, List, [], ◌∷◌, ◌++◌, length, map, slice_index_or, All, unsigned_abs}
 use Rattle.std.specs.Int.{◌∣◌}
 use Rattle.gj_frac.specs.declared.Frac.{Frac}
-use Rattle.gj_frac.specs.Fraction.{numerator, denominator}
+use Rattle.gj_frac.specs.Fraction.{numerator, denominator, IsRatio}
+use Rattle.gj_tools.specs.FirstThatFails.{IsFirstFailing}
 use Rattle.gj_shape.specs.FunctionData.{FunctionData, IsWithinBounds}
 use Rattle.gj_shape.specs.declared.faults.ShapeFault.{ShapeFault}
 use Rattle.gj_shape.specs.declared.faults.ShapeFault.TheVariants as fault
@@ -24,24 +25,25 @@ IsCommonDenominator xs d = All (λ x. unsigned_abs (denominator x) ∣ d) xs
 abbrev pub HasCommonDenominator : List Frac → Type 0
 HasCommonDenominator xs = (d : ℕ) × (1 ≤ d) × (d < 2 ^ 31) × IsCommonDenominator xs d
 
--- x stands at the index, and all that stand before it pass both tests
+-- all are small and have a common denominator from 1 to 2^31 - 1
+pub record AreWithinBounds (xs : List Frac) : Type 0 where
+  pub small : All IsSmall xs
+  pub common : HasCommonDenominator xs
+
+-- x stands at the index and is the first fraction with which those up to it are not within bounds
 pub record IsFirstFault (left value right : List Frac) (index : ℕ) (before : List Frac) (x : Frac) : Type 0 where
-  pub after : List Frac
-  pub place : in_order left value right ≡ before ++ x ∷ after
+  pub first : IsFirstFailing AreWithinBounds (in_order left value right) before x
   pub index_is : index ≡ length before / 3
-  pub small : All IsSmall before
-  pub common : HasCommonDenominator before
 
 -- the first fraction that fails a test is greater than 2^20 in absolute value
 abbrev pub IsTooLarge : List Frac → List Frac → List Frac → ℕ → Type 0
 IsTooLarge left value right i =
     (before : List Frac) × (x : Frac) × IsFirstFault left value right i before x × (IsSmall x → ⊥)
 
--- the first fraction that fails a test leaves no common denominator from 1 to 2^31 - 1
+-- the first fraction that fails a test is not, and so leaves no common denominator from 1 to 2^31 - 1
 abbrev pub IsTooFine : List Frac → List Frac → List Frac → ℕ → Type 0
 IsTooFine left value right i =
     (before : List Frac) × (x : Frac) × IsFirstFault left value right i before x × IsSmall x
-    × (HasCommonDenominator (before ++ x ∷ []) → ⊥)
 
 abbrev pub IsOrder : ℕ → Type 0
 IsOrder q = (2 ≤ q) × (q ≤ 1000)
@@ -74,3 +76,19 @@ pub record IsGivenBy (q k : ℕ) (left value right : List Frac) (f : FunctionDat
   pub value_is : f.value ≡ map (numerator_over f.scale) value
   pub right_is : f.right ≡ map (numerator_over f.scale) right
   pub within : IsWithinBounds f
+
+-- ---- lists that are made of other functions
+
+-- the fraction at each index i is t i over s
+abbrev pub AreOver : (ℕ → ℤ) → ℕ → List Frac → Type 0
+AreOver t s xs = (i : ℕ) (x : Frac) → i < length xs → IsRatio (slice_index_or xs i x) (t i) (pos s)
+
+-- the lists of which P holds leave no common denominator up to 2^31 - 1 first at i, or there was no memory
+abbrev pub IsTooFineOf : (List Frac → List Frac → List Frac → Type 0) → ShapeFault → Type 0
+IsTooFineOf P (fault.TooFine i) = (left : List Frac) × (value : List Frac) × (right : List Frac)
+    × P left value right × IsTooFine left value right i
+IsTooFineOf P (fault.Memory e) = Unit {0}
+IsTooFineOf P fault.Order = ⊥
+IsTooFineOf P fault.Place = ⊥
+IsTooFineOf P fault.Count = ⊥
+IsTooFineOf P (fault.TooLarge i) = ⊥

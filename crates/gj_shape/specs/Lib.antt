@@ -1,10 +1,13 @@
 pub mod FunctionData
 pub mod Given
 pub mod Denominators
+pub mod Points
+pub mod KeptPoints
 pub mod Table
 pub mod Violation
 pub mod Faces
 pub mod FirstViolation
 pub mod Kept
 pub mod Values
-pub mod Derived
+pub mod Refinement
+pub mod Average

@@ -12,7 +12,7 @@ entry f m a (suc r) = pos (m - suc r) *ℤ at f.right a +ℤ pos (suc r) *ℤ at
 unfoldable pub table : FunctionData → ℕ → ℕ → ℤ
 table f m i = entry f m (i / m) (i % m)
 
--- a table of n entries over the scale s, with f at the place k, that no valid table lies below
+-- a minimal table of period n over the scale s with f at the place k: entries at places that add up to k add up to s
 pub record IsMinimalTable (t : ℕ → ℤ) (n k s : ℕ) : Type 0 where
   pub has_period : (i : ℕ) → t (i + n) ≡ t i
   pub zero_at_zero : t 0 ≡ pos 0

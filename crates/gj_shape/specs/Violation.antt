@@ -9,8 +9,8 @@ use Rattle.gj_shape.specs.declared.violations.Violation.TheVariants as violation
 
 -- x is the point n/d, in lowest terms
 pub record IsPoint (x : Frac) (n d : ℕ) : Type 0 where
-  pub top : numerator x ≡ pos n
-  pub bottom : denominator x ≡ pos d
+  pub numerator_is : numerator x ≡ pos n
+  pub denominator_is : denominator x ≡ pos d
   pub positive : 0 < d
 
 -- the value at n/d, over d times the scale

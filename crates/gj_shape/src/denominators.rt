@@ -1,34 +1,23 @@
 //! The least common denominator of the values and limits of a function.
-ghost use Rattle.std.specs.Prelude.{◌≡◌, ◌<◌, ◌≤◌, ◌^◌, ◌↔◌, length, SomeIff, IfOk, IfErr, IsTrue, unsigned_abs};
-ghost use Rattle.std.specs.Int.{IsGcd};
+ghost use Rattle.std.specs.Prelude.{◌≡◌, ◌<◌, ◌≤◌, ◌^◌, ◌↔◌, ◌++◌, List, length, SomeIff, IfOk, IfErr, IsTrue, unsigned_abs};
+ghost use Rattle.gj_frac.specs.declared.Frac.{Frac};
 ghost use Rattle.gj_frac.specs.Fraction.{denominator};
+ghost use Rattle.gj_tools.specs.Divisors.{IsLcm};
 ghost use Rattle.gj_shape.specs.Given.{in_order, IsSmall};
-ghost use Rattle.gj_shape.specs.Denominators.{IsLcm, Extends, IsLeastDenominator, IsRefused, IsFaultIn};
+ghost use Rattle.gj_shape.specs.Denominators.{Extends, ExtendsBy, IsLeastDenominator, IsRefused, IsRefusedBehind, IsFaultIn, fault_at};
+ghost use Rattle.gj_shape.specs.Points.{fractions_of};
 
-use crate::faults::ShapeFault;
-use gj_frac::Frac;
-
-/// The greatest common divisor of two whole numbers, by Euclid's algorithm.
-fn greatest_common_divisor(a: u32, b: u32) -> u32
-    ensures { IsGcd a b result }
-{
-    let mut x = a;
-    let mut y = b;
-    while y != 0 {
-        let rest = x % y;
-        x = y;
-        y = rest;
-    }
-    x
-}
+use crate::faults::{FractionFault, ShapeFault};
+use crate::points::Point;
+use gj_frac::{Frac, gcd};
 
 /// The least common multiple of two whole numbers, the first not 0.
 fn least_common_multiple(a: u32, b: u32) -> u64
     requires { 0 < a }
     ensures { IsLcm a b result }
 {
-    let quotient = a / greatest_common_divisor(a, b);
-    u64::from(quotient) * u64::from(b)
+    let divisor = gcd(u128::from(a), u128::from(b)) as u32;
+    u64::from(a / divisor) * u64::from(b)
 }
 
 /// Whether the fraction is at most 2^20 in absolute value.
@@ -47,26 +36,37 @@ fn small_denominator(x: Frac) -> Option<u32>
         .filter(|d| *d <= i32::MAX as u32)
 }
 
-/// The least common denominator of the fractions so far, `scale`, with one more fraction, which stands at the index.
-///
-/// `TooLarge` says that the fraction is above 2^20 in absolute value, and `TooFine` that it is not, but there is no
-/// common denominator up to 2^31 - 1; no other error comes.
-pub fn extended(scale: u32, x: Frac, index: u32) -> Result<u32, ShapeFault>
+/// The least common denominator of the fractions so far, `scale`, with one more fraction.
+fn extended(scale: u32, x: Frac) -> Result<u32, FractionFault>
     requires low { 0 < scale }
     ensures least { IfOk result (Extends scale x) }
-    ensures fault { IfErr result (IsRefused scale x index) }
+    ensures fault { IfErr result (IsRefused scale x) }
 {
     if !is_small(x) {
-        return Err(ShapeFault::TooLarge(index));
+        return Err(FractionFault::Large);
     }
     let Some(den) = small_denominator(x) else {
-        return Err(ShapeFault::TooFine(index));
+        return Err(FractionFault::Fine);
     };
     let multiple = least_common_multiple(scale, den);
     if multiple >= 1 << 31 {
-        return Err(ShapeFault::TooFine(index));
+        return Err(FractionFault::Fine);
     }
     Ok(multiple as u32)
+}
+
+/// The least common denominator of the fractions so far, `scale`, with those of one more point.
+///
+/// The error is that of its first fraction, of the limit from the left, the value and the limit from the right, that
+/// is too large or leaves no common denominator up to 2^31 - 1.
+pub(crate) fn with_point(scale: u32, point: Point) -> Result<u32, FractionFault>
+    requires { 0 < scale }
+    ensures least { IfOk result (ExtendsBy scale (fractions_of point)) }
+    ensures fault { IfErr result (IsRefusedBehind scale (fractions_of point)) }
+{
+    let with_left = extended(scale, point.left)?;
+    let with_value = extended(with_left, point.value)?;
+    extended(with_value, point.right)
 }
 
 /// The least common denominator of all fractions of three lists of one length.
@@ -85,10 +85,15 @@ pub(crate) fn common_denominator(
 {
     let mut scale = 1;
     for i in 0..left.len() {
-        let index = i as u32;
-        scale = extended(scale, left[i], index)?;
-        scale = extended(scale, value[i], index)?;
-        scale = extended(scale, right[i], index)?;
+        let point = Point {
+            left: left[i],
+            value: value[i],
+            right: right[i],
+        };
+        match with_point(scale, point) {
+            Ok(multiple) => scale = multiple,
+            Err(fault) => return Err(fault.at(i as u32)),
+        }
     }
     Ok(scale)
 }

@@ -1,6 +1,7 @@
-//! Why three lists of fractions give no function.
+//! Why fractions give no function.
 ghost use Rattle.std.specs.Prelude.{◌≡◌, alloc_error};
 ghost use Rattle.gj_shape.specs.declared.faults.ShapeFault.TheVariants.{Memory};
+ghost use Rattle.gj_shape.specs.Denominators.{fault_at};
 
 use std::alloc::{AllocError, AllocFailed};
 use thiserror::Error;
@@ -41,5 +42,26 @@ impl<T: Drop> From<AllocFailed<T>> for ShapeFault {
 
     fn from(_error: AllocFailed<T>) -> ShapeFault {
         ShapeFault::Memory(AllocError)
+    }
+}
+
+/// Why a fraction cannot follow others.
+#[derive(Clone, Copy, Debug, PartialEq, Eq)]
+pub(crate) enum FractionFault {
+    /// It is greater than 2^20 in absolute value.
+    Large,
+    /// With it the fractions so far have no common denominator up to 2^31 - 1.
+    Fine,
+}
+
+impl FractionFault {
+    /// The fault of lists with such a fraction at the index.
+    pub(crate) fn at(self, index: u32) -> ShapeFault
+        ensures { result ≡ fault_at self index }
+    {
+        match self {
+            FractionFault::Large => ShapeFault::TooLarge(index),
+            FractionFault::Fine => ShapeFault::TooFine(index),
+        }
     }
 }

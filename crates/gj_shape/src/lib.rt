@@ -1,22 +1,32 @@
-//! Piecewise linear functions of period 1 as data with exact values, and the types that all layers share.
+//! Piecewise linear functions of period 1 as data with exact values.
+//!
+//! A [`Shape`] is such a function: affine between neighbouring multiples of 1/q, with a value and two limits at each
+//! of them. `Shape::new` makes one of three lists of fractions, and [`Points`] of points that come one after another;
+//! both test the bounds on the fractions in one way, and keep whole numbers over the least common denominator.
+//!
+//! The definitions of the subject stand in `specs/`: tables on grids and minimal functions (`Table`), faces and the
+//! limits of the slack on them (`Faces`), violations (`Violation`) and the order in which minimality is tested
+//! (`FirstViolation`).
 #![tactic(auto)]
 
+mod average;
 mod denominators;
-mod derived;
 mod faces;
 mod faults;
 mod laws;
 mod list;
 mod numerators;
+mod points;
+mod refinement;
 mod shape;
 mod values;
 mod violations;
 
-pub use denominators::extended;
 pub use faces::{Face, FaceKind};
 pub use faults::ShapeFault;
 pub use laws::one_function_is_given;
 pub use list::List;
+pub use points::{Point, PointFault, Points};
 pub use shape::Shape;
 pub use violations::Violation;
 

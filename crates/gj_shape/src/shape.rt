@@ -2,7 +2,8 @@
 ghost use Rattle.std.specs.Prelude.{◌≡◌, ◌<◌, ℕ, pos, IfOk, IfErr, IfSome, IfNone, IsTrue, ◌↔◌};
 ghost use Rattle.gj_frac.specs.Fraction.{IsRatio};
 ghost use Rattle.gj_shape.specs.FunctionData.{IsWithinBounds, IsContinuous, IsJump, at};
-ghost use Rattle.gj_shape.specs.Given.{IsOrder, IsPlace};
+ghost use Rattle.gj_shape.specs.Given.{in_order, HaveLength, IsOrder, IsPlace};
+ghost use Rattle.gj_shape.specs.Denominators.{IsLeastDenominator};
 
 use crate::denominators::common_denominator;
 use crate::faults::ShapeFault;
@@ -15,6 +16,17 @@ use std::marker::Model;
 /// and from the right at each of them, and the place k of f = k/q.
 ///
 /// It keeps whole numbers over the least common denominator of all values and limits.
+///
+/// # Example
+///
+/// The mixed-integer cut of Gomory for f = 1/2 rises from 0 to 1 at 1/2 and falls back to 0:
+///
+/// ```
+/// let values = [Frac::new(0, 1).unwrap(), Frac::new(1, 1).unwrap()];
+/// let shape = Shape::new(alloc, 2, 1, &values, &values, &values)?;
+/// assert!(shape.is_continuous());
+/// assert_eq!(shape.value_at(Frac::new(3, 4).unwrap()), Frac::new(1, 2).unwrap());
+/// ```
 #[derive(Drop)]
 pub struct Shape {
     order: u32,
@@ -69,6 +81,26 @@ impl Shape {
             return Err(ShapeFault::Count);
         }
         let scale = common_denominator(left, value, right)?;
+        Ok(Shape::over(alloc, q, k, scale, left, value, right)?)
+    }
+
+    /// The function of order `q` with f = `k/q` and these limits and values, which are tested already; `scale` is their
+    /// least common denominator.
+    pub(crate) fn over(
+        alloc: Global,
+        q: u32,
+        k: u32,
+        scale: u32,
+        left: &[Frac],
+        value: &[Frac],
+        right: &[Frac],
+    ) -> Result<Shape, AllocError>
+        requires order { IsOrder q }
+        requires place { IsPlace q k }
+        requires lengths { HaveLength left.now value.now right.now q }
+        requires least { IsLeastDenominator (in_order left.now value.now right.now) scale }
+        ensures { IfOk result (IsGivenBy q k left.now value.now right.now) }
+    {
         Ok(Shape {
             order: q,
             place: k,

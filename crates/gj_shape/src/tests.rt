@@ -1,6 +1,7 @@
 //! Examples with values by hand.
 use crate::faults::ShapeFault;
 use crate::list::List;
+use crate::points::{Point, PointFault, Points};
 use crate::shape::Shape;
 use gj_frac::Frac;
 use std::test::Fail;
@@ -165,5 +166,57 @@ fn average(rt: HostRuntime) -> Result<(), Fail> {
     let expected = [zero, two_thirds, third, one, third, two_thirds];
     let whole = Shape::new(rt.alloc(), 6, 3, &expected, &expected, &expected)?;
     assert!(rt; first.average(rt.alloc(), &second)?.same(&whole));
+    Ok(())
+}
+
+/// The point without a jump.
+fn even(value: Frac) -> Point {
+    Point {
+        left: value,
+        value,
+        right: value,
+    }
+}
+
+/// The point with one limit from both sides.
+fn jump(limit: Frac, value: Frac) -> Point {
+    Point {
+        left: limit,
+        value,
+        right: limit,
+    }
+}
+
+/// Points give the function that their lists give.
+#[test]
+fn points_give_a_function(rt: HostRuntime) -> Result<(), Fail> {
+    let half = fraction(1, 2)?;
+    let mut points = Points::new(rt.alloc());
+    points.push(jump(half, fraction(0, 1)?))?;
+    points.push(even(fraction(1, 3)?))?;
+    let shape = points.shape(rt.alloc(), 2, 1)?;
+    assert_eq!(rt; shape.common_denominator(), 6);
+    assert_eq!(rt; shape.left_numerators(), [3, 2].as_slice());
+    assert_eq!(rt; shape.value_numerators(), [0, 2].as_slice());
+    Ok(())
+}
+
+/// Points that are too large or too fine.
+#[test]
+fn points_are_refused(rt: HostRuntime) -> Result<(), Fail> {
+    let mut points = Points::new(rt.alloc());
+    let large = fraction(1_048_577, 1)?;
+    let fine = fraction(1, 2_147_483_648)?;
+    assert!(rt; matches!(points.push(even(large)), Err(PointFault::Large)));
+    assert!(rt; matches!(points.push(even(fine)), Err(PointFault::Fine)));
+    assert!(rt; matches!(points.push(jump(fine, large)), Err(PointFault::Fine)));
+    assert!(rt; matches!(points.push(jump(large, fine)), Err(PointFault::Large)));
+    points.push(even(fraction(1, 65_536)?))?;
+    assert!(rt;
+        matches!(
+            points.push(even(fraction(1, 65_535)?)),
+            Err(PointFault::Fine)
+        )
+    );
     Ok(())
 }

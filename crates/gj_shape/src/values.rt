@@ -1,7 +1,7 @@
 //! The value of a function at a fraction.
 ghost use Rattle.std.specs.Prelude.{◌≡◌, ◌<◌, ◌≤◌, ◌*◌, ◌^◌, ℕ, ◌≢◌, pos, ◌*ℤ◌, ◌+ℤ◌, length, unsigned_abs};
 ghost use Rattle.gj_frac.specs.Fraction.{IsRatio, numerator, denominator};
-ghost use Rattle.gj_shape.specs.Derived.{entry_or_value};
+ghost use Rattle.gj_shape.specs.Refinement.{entry_or_value};
 ghost use Rattle.gj_shape.specs.Table.{table};
 ghost use Rattle.gj_shape.specs.Values.{IsCongruent, IsValueAt};
 ghost use Rattle.gj_shape.specs.Violation.{IsPoint, value_of};
@@ -44,34 +44,34 @@ impl Shape {
         let period = u128::from(self.order()) * u128::from(steps);
         let place = place_within(n, period);
         let index = (place / u128::from(steps)) as usize;
-        let rest = (place % u128::from(steps)) as u64;
-        let numerator = self.entry_or_value(self.value_numerators(), index, rest, steps);
+        let remainder = (place % u128::from(steps)) as u64;
+        let numerator = self.entry_or_value(self.value_numerators(), index, remainder, steps);
         fraction(numerator, self.common_denominator() * i128::from(steps))
     }
 
-    /// `steps` times what stands at index/q + rest/(q steps), where q is the order: the entry of the list where the
-    /// rest is 0, and else the value between the limits.
+    /// `steps` times what stands at index/q + remainder/(q steps), where q is the order: the entry of the list where the
+    /// remainder is 0, and else the value between the limits.
     pub(crate) fn entry_or_value(
         &self,
         entries: &[i64],
         index: usize,
-        rest: u64,
+        remainder: u64,
         steps: u64,
     ) -> i128
         requires length { length entries.now ≡ self.now.order }
         requires index { index < self.now.order }
-        requires rest { rest < steps }
+        requires remainder { remainder < steps }
         requires few { steps ≤ 2 ^ 62 }
-        ensures value { result ≡ entry_or_value self.now entries.now steps index rest }
+        ensures value { result ≡ entry_or_value self.now entries.now steps index remainder }
         ensures fits { unsigned_abs result < 2 ^ 127 }
     {
-        if rest == 0 {
+        if remainder == 0 {
             return weighted(steps, entries[index]);
         }
         let next = (index + 1) % self.order() as usize;
         let start = self.right_numerators()[index];
         let end = self.left_numerators()[next];
-        weighted(steps - rest, start) + weighted(rest, end)
+        weighted(steps - remainder, start) + weighted(remainder, end)
     }
 }
 

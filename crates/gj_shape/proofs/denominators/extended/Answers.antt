@@ -1,16 +1,15 @@
 use Rattle.std.proofs.Common.{refl, sym, subst, arith}
 use Rattle.std.proofs.lemmas.Nat.Gcd.{le_of_dvd}
 use Rattle.std.specs.Int.{◌∣◌}
-use Rattle.gj_shape.specs.Denominators.{IsLcm}
+use Rattle.gj_tools.specs.Divisors.{IsLcm}
 use Rattle.gj_shape.proofs.denominators.extended.Goals as goal
 
 pub returns-in_default-clause-fault : goal.returns-in_default-clause-fault
 returns-in_default-clause-fault c =
-    (refl, c.if-not-is_small.ensures.0 refl, λ m low high a b. let less = le_of_dvd low b in c.in_default.ensures (omega arith))
+    (c.if-not-is_small.ensures.0 refl, λ m low high a b. let less = le_of_dvd low b in c.in_default.ensures (omega arith))
 
 pub returns-then-multiple-clause-fault : goal.returns-then-multiple-clause-fault
 returns-then-multiple-clause-fault c = (
-  refl,
   c.if-not-is_small.ensures.0 refl,
   λ m low high a b.
       let lcm = c.least_common_multiple-multiple.ensures in

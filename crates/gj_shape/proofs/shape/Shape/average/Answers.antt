@@ -1,8 +1,8 @@
 use Rattle.std.proofs.Common.{◌≡◌, length, unsigned_abs, to_z, of_z, ap, ◌∙◌, rules}
 use Rattle.std.proofs.lemmas.Int.{to_z-of_z}
 use Rattle.std.proofs.lemmas.Result.{IfOk-weaker, IfErr-weaker}
-use Rattle.gj_shape.specs.Derived.{AreHalfSums}
-use Rattle.gj_shape.proofs.DerivedLemmas.{given_as, fault_as, too_fine_of}
+use Rattle.gj_shape.specs.Average.{AreHalfSums}
+use Rattle.gj_shape.proofs.GivenFractions.{given_as, fault_as, too_fine_of}
 use Rattle.gj_shape.proofs.Averages.{half_sums_as, half_sums_small, average_from_given}
 use Rattle.gj_shape.proofs.shape.Shape.average.Goals as goal
 use mir.Syntax.{w128}

@@ -1,7 +1,8 @@
 use Rattle.std.proofs.Common.{◌≤◌, ◌<◌, ◌*◌, ◌/◌, inl, inr, refl, ap, subst, arith}
 use Rattle.std.proofs.lemmas.Result.{IfOk-weaker, IfErr-weaker}
-use Rattle.gj_shape.specs.Derived.{AreOver, AreRefined, refined}
-use Rattle.gj_shape.proofs.DerivedLemmas.{given_as, fault_as, too_fine_of}
+use Rattle.gj_shape.specs.Given.{AreOver}
+use Rattle.gj_shape.specs.Refinement.{AreRefined, refined}
+use Rattle.gj_shape.proofs.GivenFractions.{given_as, fault_as, too_fine_of}
 use Rattle.gj_shape.proofs.Refinements.{order_too_high, order_fits, refined_all_small, refinement_from_given}
 use Rattle.gj_shape.proofs.shape.Shape.refine.Goals as goal
 use Rattle.gj_shape.proofs.shape.Shape.refine.Goals.{then-times-eq0-via-then-times-eq0, then-times-eq0-via-else-times-eq0+then-times-order}

@@ -2,8 +2,9 @@ use Rattle.std.proofs.Common.{◌≡◌, ◌≤◌, ◌+◌, ◌*◌, ◌/◌, �
 use Rattle.std.proofs.lemmas.Int.{to_z-of_z, fits_signed_mul}
 use Rattle.std.proofs.lemmas.List.{length_push}
 use Rattle.gj_frac.specs.Fraction.{IsRatio}
-use Rattle.gj_shape.specs.Derived.{AreOver, entry_or_value, refined}
-use Rattle.gj_shape.proofs.DerivedLemmas.{are_over_push}
+use Rattle.gj_shape.specs.Given.{AreOver}
+use Rattle.gj_shape.specs.Refinement.{entry_or_value, refined}
+use Rattle.gj_shape.proofs.GivenFractions.{are_over_push}
 use Rattle.gj_shape.proofs.shape.Shape.refined_list.Goals as goal
 use mir.Syntax.{w128}
 

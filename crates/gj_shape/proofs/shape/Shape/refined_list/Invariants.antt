@@ -1,5 +1,6 @@
 use Rattle.std.proofs.Common.{◌≡◌, ◌*◌, length}
-use Rattle.gj_shape.specs.Derived.{AreOver, refined}
+use Rattle.gj_shape.specs.Given.{AreOver}
+use Rattle.gj_shape.specs.Refinement.{refined}
 use Rattle.gj_shape.proofs.shape.Shape.refined_list.Given as goal
 
 abbrev pub invariant-loop-i : goal.invariant-loop-i

@@ -1,7 +1,7 @@
 use Rattle.std.proofs.Common.{◌≡◌, ◌≤◌, ◌*◌, ◌/◌, ◌%◌, ◌^◌, pos, ◌*ℤ◌, FitsSigned, to_z, of_z, ap, ap₂, subst₂, ◌∙◌, rules, arith}
 use Rattle.std.proofs.lemmas.Int.{to_z-of_z, fits_signed_mul}
 use Rattle.gj_frac.specs.Fraction.{IsRatio}
-use Rattle.gj_shape.specs.Derived.{entry_or_value}
+use Rattle.gj_shape.specs.Refinement.{entry_or_value}
 use Rattle.gj_shape.specs.Table.{table}
 use Rattle.gj_shape.proofs.ValueLemmas.{entry_of_values, value_from_place}
 use Rattle.gj_shape.proofs.shape.Shape.value_on_grid.Goals as goal
