@@ -4,6 +4,6 @@ pub mod ViolationRule
 pub mod ReadTexts
 pub mod ReadFaults
 pub mod OneText
-pub mod LineLemmas
 pub mod LineNumbers
 pub mod ViolationLines
+pub mod ShortTexts

@@ -3,17 +3,18 @@ use Rattle.std.proofs.Common.{◌≡◌, ◌≢◌, inl, inr, ℕ, ◌+◌, ◌<
 use Rattle.std.specs.List.{range_with_len}
 use Rattle.std.proofs.lemmas.Bool.{ne_eqb}
 use Rattle.std.proofs.lemmas.List.{append_assoc, append-nil, length-append}
-use Rattle.std.proofs.lemmas.List.Elements.{All-nil, All-cons, All-head, All-tail, All-map}
+use Rattle.std.proofs.lemmas.List.Elements.{All-nil, All-cons, All-head, All-tail, All-map, All-weaker}
 use Rattle.std.proofs.lemmas.List.FromFn.{length-map-range_with_len}
-use Rattle.std.proofs.lemmas.List.Sums.{sum_by-append}
 use Rattle.gj_frac.specs.declared.Frac.{Frac}
 use Rattle.gj_lex.specs.TextLines.{line_feeds}
-use Rattle.gj_lex.specs.NumberText.{fraction_text}
+use Rattle.gj_lex.specs.NumberText.{fraction_text, IsWordByte}
+use Rattle.gj_lex.proofs.LineNumbers.{line_feeds_append}
+use Rattle.gj_lex.proofs.WordBytes.{decimal_is_word, fraction_is_word}
 use Rattle.gj_shape.specs.FunctionData.{FunctionData, IsWithinBounds}
 use Rattle.gj_shape.specs.declared.violations.Violation.{Violation}
 use Rattle.gj_lines.specs.FunctionLines.{line, fraction_line, order_line, place_line, has_no_jump, point_text, point_line, lines_of as function_lines_of, AreFunctionLines}
-use Rattle.gj_lines.specs.declared.points.Point.{Point}
-use Rattle.gj_lines.proofs.GivenPoints.{count_of_points}
+use Rattle.gj_shape.specs.declared.points.Point.{Point}
+use Rattle.gj_shape.proofs.GivenPoints.{count_of_points}
 use Rattle.gj_lines.proofs.PointLines.{text_of_one, text_of_three}
 use Rattle.gj_tools.specs.FirstThatFails.{IsFirstFailing}
 use Rattle.gj_tools.proofs.FirstThatFails.{first_failing, one_first_failing}
@@ -22,7 +23,6 @@ use Rattle.gj_proof.specs.ProofText.{ProofLine, OwnLine, IsBounded, claim_word, 
 use Rattle.gj_proof.specs.ProofText.ProofLine.{title, claim, order, place, point, violation_shown, last}
 use Rattle.gj_proof.specs.declared.claim.Claim.{Claim}
 use Rattle.gj_proof.specs.declared.claim.Claim.TheVariants.{Minimal, NotMinimal}
-use Rattle.gj_proof.proofs.LineLemmas.{no_feed_in_decimal, no_feed_in_fraction}
 
 -- ---- one number
 
@@ -64,9 +64,6 @@ number_of_violation f v =
 
 -- ---- line feeds
 
-feeds_of_both : (a b : List ℕ) → line_feeds (a ++ b) ≡ line_feeds a + line_feeds b
-feeds_of_both a b = sum_by-append (λ c. cond (c == 10) 1 0) a b
-
 no_feeds : (x : List ℕ) → All (λ b. b ≢ 10) x → line_feeds x ≡ 0
 no_feeds [] h = refl
 no_feeds (b ∷ x) h =
@@ -74,17 +71,20 @@ no_feeds (b ∷ x) h =
     let first : line_feeds (b ∷ []) ≡ 0 = ap (λ t. 0 + cond t 1 0) other in
     let rest = no_feeds x (All-tail (λ b. b ≢ 10) b x h) in
     let none : line_feeds (b ∷ []) + line_feeds x ≡ 0 = omega arith in
-    feeds_of_both (b ∷ []) x ∙ none
+    line_feeds_append (b ∷ []) x ∙ none
 
 feeds_of_line : (front x : List ℕ) → line_feeds front ≡ 0 → line_feeds x ≡ 0 → line_feeds (line (front ++ x)) ≡ 1
 feeds_of_line front x none none' =
-    let whole = feeds_of_both (front ++ x) (10 ∷ []) in
-    let both = feeds_of_both front x in
+    let whole = line_feeds_append (front ++ x) (10 ∷ []) in
+    let both = line_feeds_append front x in
     let feed : line_feeds (10 ∷ []) ≡ 1 = refl in
     omega arith
 
+feeds_of_word : (w : List ℕ) → All IsWordByte w → line_feeds w ≡ 0
+feeds_of_word w h = no_feeds w (All-weaker IsWordByte (λ b. b ≢ 10) (λ b i. i.no_line_feed) w h)
+
 feeds_of_fraction : (x : Frac) → line_feeds (fraction_text x) ≡ 0
-feeds_of_fraction x = no_feeds (fraction_text x) (no_feed_in_fraction x)
+feeds_of_fraction x = feeds_of_word (fraction_text x) (fraction_is_word x)
 
 feeds_of_point : (p : Point) → line_feeds (point_text p) ≡ 0
 feeds_of_point p = by (has_no_jump p) refl
@@ -95,10 +95,10 @@ feeds_of_point p = by (has_no_jump p) refl
         let l = feeds_of_fraction p.left in
         let v = feeds_of_fraction p.value in
         let r = feeds_of_fraction p.right in
-        let a = feeds_of_both (fraction_text p.left) (codes " ") in
-        let b = feeds_of_both (fraction_text p.left ++ codes " ") (fraction_text p.value) in
-        let c = feeds_of_both (fraction_text p.left ++ codes " " ++ fraction_text p.value) (codes " ") in
-        let d = feeds_of_both (fraction_text p.left ++ codes " " ++ fraction_text p.value ++ codes " ") (fraction_text p.right) in
+        let a = line_feeds_append (fraction_text p.left) (codes " ") in
+        let b = line_feeds_append (fraction_text p.left ++ codes " ") (fraction_text p.value) in
+        let c = line_feeds_append (fraction_text p.left ++ codes " " ++ fraction_text p.value) (codes " ") in
+        let d = line_feeds_append (fraction_text p.left ++ codes " " ++ fraction_text p.value ++ codes " ") (fraction_text p.right) in
         let space : line_feeds (codes " ") ≡ 0 = refl in
         let whole = ap line_feeds (text_of_three p e) in
         omega arith
@@ -108,19 +108,19 @@ feeds_of_points [] = refl
 feeds_of_points (p ∷ points) =
     let one = feeds_of_line (codes "point ") (point_text p) refl (feeds_of_point p) in
     let more = feeds_of_points points in
-    let both = feeds_of_both (point_line p) (flat_map point_line points) in
+    let both = line_feeds_append (point_line p) (flat_map point_line points) in
     omega arith
 
 -- the lines of a function are two more than its order
 feeds_of_function : (f : FunctionData) (text : List ℕ) → IsWithinBounds f → AreFunctionLines f text → line_feeds text ≡ f.order + 2
 feeds_of_function f text b l =
     let order_feeds = feeds_of_line (codes "order ") (decimal f.order) refl
-    (no_feeds (decimal f.order) (no_feed_in_decimal f.order (let high = b.order_high in omega arith))) in
+    (feeds_of_word (decimal f.order) (decimal_is_word f.order (let high = b.order_high in omega arith))) in
     let place_feeds = feeds_of_line (codes "f ") (fraction_text l.place) refl (feeds_of_fraction l.place) in
     let points_feeds = feeds_of_points l.points in
     let count = count_of_points l.points f b l.points_are in
-    let first = feeds_of_both (order_line f.order) (place_line l.place) in
-    let whole = feeds_of_both (order_line f.order ++ place_line l.place) (flat_map point_line l.points) in
+    let first = line_feeds_append (order_line f.order) (place_line l.place) in
+    let whole = line_feeds_append (order_line f.order ++ place_line l.place) (flat_map point_line l.points) in
     ap line_feeds l.spelled ∙ omega arith
 
 -- ---- the line with a number
@@ -145,7 +145,7 @@ violation_at : (f : FunctionData) (v : Violation) (text : List ℕ) → IsWithin
 violation_at f v text b p =
     let front = line (codes "gj-proof 1") ++ line (codes "claim not-minimal") in
     let function = feeds_of_function f p.subject b p.are_subject_lines in
-    let both = feeds_of_both front p.subject in
+    let both = line_feeds_append front p.subject in
     let two : line_feeds front ≡ 2 = refl in (
       front ++ p.subject,
       line (codes "end"),

@@ -3,7 +3,7 @@ use Rattle.std.proofs.Common.{◌≡◌, ℕ, List, [], ◌++◌, flat_map, code
 use Rattle.gj_lex.specs.declared.reason.Reason.{Reason}
 use Rattle.gj_lex.proofs.LineNumbers as numbers
 use Rattle.gj_lines.specs.FunctionLines.{line}
-use Rattle.gj_lines.proofs.GivenPoints.{one_text_of_lines}
+use Rattle.gj_lines.proofs.OneTextOfLines.{one_text_of_lines}
 use Rattle.gj_proof.specs.ProofText.{IsBounded, subject_of, AreSubjectLines, claim_word, own_lines, IsProofText}
 use Rattle.gj_proof.specs.ProofGrammar.{proof_text}
 use Rattle.gj_proof.specs.FirstFault.{IsFirstFault}

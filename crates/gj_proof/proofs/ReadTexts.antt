@@ -7,13 +7,13 @@ use Rattle.gj_lex.specs.declared.spelling.Spelling.TheVariants.{Strict}
 use Rattle.gj_lex.specs.declared.reason.Reason.{Reason}
 use Rattle.gj_lex.specs.declared.reason.Reason.TheVariants as reason
 use Rattle.gj_lex.specs.Parts.{Part, words_rule, line_part, then_part, made_part, end_part, IsExactRule, IsExactPart}
+use Rattle.gj_lex.proofs.CanonicalLines.{plain_by_test}
 use Rattle.gj_lex.proofs.StrictLines.{IsPlain}
 use Rattle.gj_lex.proofs.PartLaws.{words_rule_is_exact, line_part_is_exact, then_part_is_exact, made_part_is_exact, end_part_is_exact}
 use Rattle.gj_shape.specs.FunctionData.{FunctionData, IsWithinBounds}
 use Rattle.gj_shape.specs.declared.violations.Violation.{Violation}
 use Rattle.gj_lines.specs.FunctionLines.{line, AreFunctionLines}
 use Rattle.gj_lines.specs.FunctionGrammar.{function_part}
-use Rattle.gj_lines.proofs.GivenPoints.{one_text_of_lines}
 use Rattle.gj_proof.specs.ProofText.{IsBounded, claim_word, own_lines, violation_line, IsProofText}
 use Rattle.gj_proof.specs.ProofGrammar.{claim_words, claim_rule, violation_words, violation_rule, claim_part, proof_text}
 use Rattle.gj_proof.specs.declared.claim.Claim.{Claim}
@@ -21,7 +21,7 @@ use Rattle.gj_proof.specs.declared.claim.Claim.TheVariants as claims
 use Rattle.gj_proof.specs.declared.claim.ClaimWord.{ClaimWord}
 use Rattle.gj_proof.specs.declared.claim.ClaimWord.TheVariants.{Minimal, NotMinimal}
 use Rattle.gj_proof.proofs.FunctionStub.{function_reads, function_found, function_exact}
-use Rattle.gj_proof.proofs.StrictParts.{plain_word, title_is_plain, line_reads, line_found}
+use Rattle.gj_proof.proofs.StrictParts.{line_reads, line_found}
 use Rattle.gj_proof.proofs.ViolationRule.{bytes_of_words, some_words, violation_is_plain, violation_rule_is_exact}
 
 -- ---- the parts of a proof text
@@ -93,24 +93,17 @@ abbrev last_line : List ℕ
 last_line = line (codes "end")
 
 claim_is_plain : (w : ClaimWord) → All IsPlain (claim_words w)
-claim_is_plain Minimal =
-    All-cons IsPlain (codes "claim") (codes "minimal" ∷ []) (plain_word (codes "claim") (omega arith) refl)
-    (All-cons IsPlain (codes "minimal") [] (plain_word (codes "minimal") (omega arith) refl) (All-nil IsPlain))
-claim_is_plain NotMinimal =
-    All-cons IsPlain (codes "claim") (codes "not-minimal" ∷ []) (plain_word (codes "claim") (omega arith) refl)
-    (All-cons IsPlain (codes "not-minimal") [] (plain_word (codes "not-minimal") (omega arith) refl) (All-nil IsPlain))
-
-last_is_plain : All IsPlain (codes "end" ∷ [])
-last_is_plain = All-cons IsPlain (codes "end") [] (plain_word (codes "end") (omega arith) refl) (All-nil IsPlain)
+claim_is_plain Minimal = plain_by_test (claim_words Minimal) refl
+claim_is_plain NotMinimal = plain_by_test (claim_words NotMinimal) refl
 
 title_reads : (rest : List ℕ) → title_part.Reads (title_line ++ rest) tt rest
 title_reads rest =
     line_reads (words_rule (codes "gj-proof" ∷ codes "1" ∷ [])) (title_line ++ rest) rest (codes "gj-proof" ∷ codes "1" ∷ []) tt
-    (λ e. cc) title_is_plain refl refl
+    (λ e. cc) (plain_by_test (codes "gj-proof" ∷ codes "1" ∷ []) refl) refl refl
 
 last_reads : last_part.Reads last_line tt []
 last_reads =
-    line_reads (words_rule (codes "end" ∷ [])) last_line [] (codes "end" ∷ []) tt (λ e. cc) last_is_plain refl (sym (append-nil last_line))
+    line_reads (words_rule (codes "end" ∷ [])) last_line [] (codes "end" ∷ []) tt (λ e. cc) (plain_by_test (codes "end" ∷ []) refl) refl (sym (append-nil last_line))
 
 claim_reads : (w : ClaimWord) (rest : List ℕ) → (line_part Strict claim_rule).Reads (claim_line w ++ rest) w rest
 claim_reads w rest = line_reads claim_rule (claim_line w ++ rest) rest (claim_words w) w (some w) (claim_is_plain w) refl refl

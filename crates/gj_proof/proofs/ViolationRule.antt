@@ -2,12 +2,13 @@
 use Rattle.std.proofs.Common.{◌≡◌, inl, inr, ℕ, List, [], ◌∷◌, ◌++◌, All, codes, get_or, refl, sym, ap, subst, ◌∙◌, arith}
 use Rattle.std.specs.List.{join_with_byte}
 use Rattle.std.proofs.lemmas.List.{append_assoc}
-use Rattle.std.proofs.lemmas.List.Elements.{All-nil, All-cons, All-head, All-tail}
+use Rattle.std.proofs.lemmas.List.Elements.{All-nil, All-cons, All-append, All-head, All-tail}
 use Rattle.gj_frac.specs.declared.Frac.{Frac}
 use Rattle.gj_lex.specs.declared.reason.Reason.{Reason}
 use Rattle.gj_lex.specs.declared.reason.Reason.TheVariants as reason
 use Rattle.gj_lex.specs.NumberText.{fraction_text}
 use Rattle.gj_lex.specs.Parts.{IsExactRule}
+use Rattle.gj_lex.proofs.CanonicalLines.{plain_by_test}
 use Rattle.gj_lex.proofs.CanonicalTexts.{same_from_fraction_text}
 use Rattle.gj_lex.proofs.StrictLines.{IsPlain}
 use Rattle.gj_lex.proofs.SpelledWords.{fraction_is_plain}
@@ -16,7 +17,6 @@ use Rattle.gj_shape.specs.declared.violations.Violation.TheVariants as v
 use Rattle.gj_lines.specs.FunctionLines.{line}
 use Rattle.gj_proof.specs.ProofText.{violation_line}
 use Rattle.gj_proof.specs.ProofGrammar.{violation_words, HavePoints, IsFraction, BreaksViolation, violation_rule}
-use Rattle.gj_proof.proofs.StrictParts.{plain_word}
 
 -- ---- its bytes
 
@@ -120,18 +120,17 @@ violation_rule_is_exact = record {
 
 -- ---- its words are plain
 
+one_plain : (x : Frac) → All IsPlain (fraction_text x ∷ [])
+one_plain x = All-cons IsPlain (fraction_text x) [] (fraction_is_plain x) (All-nil IsPlain)
+
 pub violation_is_plain : (w : Violation) → All IsPlain (violation_words w)
-violation_is_plain v.Zero = All-cons IsPlain (codes "zero") [] (plain_word (codes "zero") (omega arith) refl) (All-nil IsPlain)
-violation_is_plain (v.Negative x) =
-    All-cons IsPlain (codes "negative") (fraction_text x ∷ []) (plain_word (codes "negative") (omega arith) refl)
-    (All-cons IsPlain (fraction_text x) [] (fraction_is_plain x) (All-nil IsPlain))
-violation_is_plain (v.Asymmetric x) =
-    All-cons IsPlain (codes "asymmetric") (fraction_text x ∷ []) (plain_word (codes "asymmetric") (omega arith) refl)
-    (All-cons IsPlain (fraction_text x) [] (fraction_is_plain x) (All-nil IsPlain))
+violation_is_plain v.Zero = plain_by_test (codes "zero" ∷ []) refl
+violation_is_plain (v.Negative x) = All-append IsPlain (codes "negative" ∷ []) (fraction_text x ∷ []) (plain_by_test (codes "negative" ∷ []) refl) (one_plain x)
+violation_is_plain (v.Asymmetric x) = All-append IsPlain (codes "asymmetric" ∷ []) (fraction_text x ∷ []) (plain_by_test (codes "asymmetric" ∷ []) refl) (one_plain x)
 violation_is_plain (v.Superadditive x y) =
-    All-cons IsPlain (codes "superadditive") (fraction_text x ∷ fraction_text y ∷ []) (plain_word (codes "superadditive") (omega arith) refl)
-    (All-cons IsPlain (fraction_text x) (fraction_text y ∷ []) (fraction_is_plain x)
-    (All-cons IsPlain (fraction_text y) [] (fraction_is_plain y) (All-nil IsPlain)))
+    All-append IsPlain (codes "superadditive" ∷ fraction_text x ∷ []) (fraction_text y ∷ [])
+    (All-append IsPlain (codes "superadditive" ∷ []) (fraction_text x ∷ []) (plain_by_test (codes "superadditive" ∷ []) refl) (one_plain x))
+    (one_plain y)
 
 pub some_words : (w : Violation) → violation_words w ≡ [] → ⊥
 some_words v.Zero e = cc

@@ -1,6 +1,6 @@
 //! Laws of proof texts.
 
-ghost use Rattle.std.specs.Prelude.{◌≡◌, ◌+◌, ◌++◌, ℕ, List};
+ghost use Rattle.std.specs.Prelude.{◌≡◌, ◌+◌, ◌≤◌, ◌++◌, ℕ, List, length};
 ghost use Rattle.gj_lex.specs.TextLines.{line_feeds};
 ghost use Rattle.gj_lex.specs.declared.reason.Reason.{Reason};
 ghost use Rattle.gj_proof.specs.declared.claim.Claim.{Claim};
@@ -34,4 +34,9 @@ pub fn numbers_of_lines()
     ensures line { (c : Claim) (text bytes : List ℕ) (l : ProofLine) (n : ℕ) → IsBounded c → IsProofText c text →
         HasBytes c l bytes → HasNumber c l n →
         (before rest : List ℕ) × (text ≡ before ++ (bytes ++ rest)) × (n ≡ line_feeds before + 1) }
+{}
+
+/// The text of a claim is at most 1,000,000 bytes long.
+pub fn proof_text_is_short()
+    ensures { (c : Claim) (text : List ℕ) → IsBounded c → IsProofText c text → length text ≤ 1_000_000 }
 {}

@@ -5,13 +5,14 @@ mod claim;
 mod faults;
 mod laws;
 mod read;
-mod stub;
 mod violations;
 mod write;
 
 pub use claim::{Claim, Proof};
 pub use faults::ProofFault;
-pub use laws::{no_fault_in_proof_text, numbers_of_lines, one_first_fault, one_spelling};
+pub use laws::{
+    no_fault_in_proof_text, numbers_of_lines, one_first_fault, one_spelling, proof_text_is_short,
+};
 pub use read::read_proof;
 pub use write::write_proof;
 

@@ -12,9 +12,9 @@ ghost use Rattle.gj_proof.specs.declared.claim.ClaimWord.{ClaimWord};
 
 use crate::claim::{Claim, ClaimWord, Proof};
 use crate::faults::ProofFault;
-use crate::stub::function_at;
 use crate::violations::violation_at;
 use gj_lex::{PartFault, Reason, Spelling, end_at, has_words, line_at, line_number, words_at};
+use gj_lines::function_at;
 use std::alloc::Global;
 
 /// The proof that the bytes spell, all of them.

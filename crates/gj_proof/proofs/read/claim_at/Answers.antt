@@ -20,6 +20,3 @@ returns-in_ok-violation-in-NotMinimal-clause-found c =
     subst (λ (w : ClaimWord). (claim_part w).Reads c.args.text.now claim c.in_ok-violation-in-NotMinimal.rest.now) (sym c.in-NotMinimal.is)
     (c.in_ok-shape.shape, c.in_ok-shape.rest.now, c.in_ok-shape.ensures.found,
     (c.in_ok-violation-in-NotMinimal.violation, c.in_ok-violation-in-NotMinimal.ensures.found, refl))
-
-pub function_at-requires : goal.function_at-requires
-function_at-requires c = ?
