@@ -40,11 +40,24 @@ same_from_is_same x y h =
     same_parts_same x y ((Decides-int_eq (numerator x) (numerator y)).0 parts.0)
     ((Decides-int_eq (denominator x) (denominator y)).0 parts.1)
 
+is_same_itself : (x : Frac) → is_same x x ≡ true
+is_same_itself x =
+    let n = (Decides-int_eq (numerator x) (numerator x)).1 refl in
+    let d = (Decides-int_eq (denominator x) (denominator x)).1 refl in
+    rw (n, d)
+
 -- where a point has no jump, its value is both limits
 pub same_where_no_jump : (p : Point) → has_no_jump p ≡ true → (p.left ≡ p.value) × (p.value ≡ p.right)
 same_where_no_jump p h =
     let parts = and_parts (is_same p.left p.value) (is_same p.value p.right) h in
     (same_from_is_same p.left p.value parts.0, same_from_is_same p.value p.right parts.1)
+
+-- and the other way round
+pub no_jump_where_same : (p : Point) → p.left ≡ p.value → p.value ≡ p.right → has_no_jump p ≡ true
+no_jump_where_same p first second =
+    let left : is_same p.left p.value ≡ true = rw first (is_same_itself p.value) in
+    let right : is_same p.value p.right ≡ true = rw (← second) (is_same_itself p.value) in
+    rw (left, right)
 
 -- ---- the lines of the points
 
