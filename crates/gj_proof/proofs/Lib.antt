@@ -1,4 +1,3 @@
-pub mod FunctionStub
 pub mod StrictParts
 pub mod ViolationRule
 pub mod ReadTexts

@@ -14,13 +14,15 @@ use Rattle.gj_shape.specs.FunctionData.{FunctionData, IsWithinBounds}
 use Rattle.gj_shape.specs.declared.violations.Violation.{Violation}
 use Rattle.gj_lines.specs.FunctionLines.{line, AreFunctionLines}
 use Rattle.gj_lines.specs.FunctionGrammar.{function_part}
+use Rattle.gj_lines.proofs.CanonicalFunctions.{canonical_lines_are_read}
+use Rattle.gj_lines.proofs.ExactFunctions.{function_part_is_exact}
+use Rattle.gj_lines.proofs.StrictFunctions.{strict_lines_are_canonical}
 use Rattle.gj_proof.specs.ProofText.{IsBounded, claim_word, own_lines, violation_line, IsProofText}
 use Rattle.gj_proof.specs.ProofGrammar.{claim_words, claim_rule, violation_words, violation_rule, claim_part, proof_text}
 use Rattle.gj_proof.specs.declared.claim.Claim.{Claim}
 use Rattle.gj_proof.specs.declared.claim.Claim.TheVariants as claims
 use Rattle.gj_proof.specs.declared.claim.ClaimWord.{ClaimWord}
 use Rattle.gj_proof.specs.declared.claim.ClaimWord.TheVariants.{Minimal, NotMinimal}
-use Rattle.gj_proof.proofs.FunctionStub.{function_reads, function_found, function_exact}
 use Rattle.gj_proof.proofs.StrictParts.{line_reads, line_found}
 use Rattle.gj_proof.proofs.ViolationRule.{bytes_of_words, some_words, violation_is_plain, violation_rule_is_exact}
 
@@ -62,10 +64,10 @@ claim_rule_is_exact = record {
 
 claim_part_is_exact : (w : ClaimWord) → IsExactPart (claim_part w).Reads (claim_part w).Faults
 claim_part_is_exact Minimal =
-    made_part_is_exact (λ (f : FunctionData) c. c ≡ claims.Minimal f) (λ f c d h k. h ∙ sym k) (function_part Strict) function_exact
+    made_part_is_exact (λ (f : FunctionData) c. c ≡ claims.Minimal f) (λ f c d h k. h ∙ sym k) (function_part Strict) (function_part_is_exact Strict)
 claim_part_is_exact NotMinimal =
     let behind : FunctionData → Part Claim = λ f. made_part (λ (v : Violation) c. c ≡ claims.NotMinimal f v) violation_part in
-    then_part_is_exact (function_part Strict) behind function_exact
+    then_part_is_exact (function_part Strict) behind (function_part_is_exact Strict)
     (λ f. made_part_is_exact (λ (v : Violation) c. c ≡ claims.NotMinimal f v) (λ v c d h k. h ∙ sym k) violation_part
     (line_part_is_exact Strict violation_rule violation_rule_is_exact))
 
@@ -128,29 +130,47 @@ violation_found text rest v h =
 whole_reads : (w : ClaimWord) (c : Claim) (inner text : List ℕ) → (claim_part w).Reads inner c last_line →
     text ≡ title_line ++ (claim_line w ++ inner) → proof_text.Reads text c []
 whole_reads w c inner text reads is =
-    let whole : proof_text.Reads (title_line ++ (claim_line w ++ inner)) c [] =
-    (tt, claim_line w ++ inner, title_reads (claim_line w ++ inner), (w, inner, claim_reads w inner,
-    (c, last_line, reads, (tt, [], last_reads, (refl, refl, refl))))) in
+    let whole : proof_text.Reads (title_line ++ (claim_line w ++ inner)) c [] = (
+      tt,
+      claim_line w ++ inner,
+      title_reads (claim_line w ++ inner),
+      (
+        w,
+        inner,
+        claim_reads w inner,
+        (c, last_line, reads, (tt, [], last_reads, (refl, refl, refl))),
+      ),
+    ) in
     subst (λ t. proof_text.Reads t c []) (sym is) whole
 
 pub text_is_read : (c : Claim) (text : List ℕ) → IsBounded c → IsProofText c text → proof_text.Reads text c []
 text_is_read (claims.Minimal f) text b p =
     whole_reads Minimal (claims.Minimal f) (p.subject ++ last_line) text
-    (f, function_reads f p.subject last_line b p.are_subject_lines, refl)
+    (f, canonical_lines_are_read Strict f p.subject last_line b p.are_subject_lines, refl)
     (p.spelled ∙ regroup title_line (claim_line Minimal) p.subject last_line)
   where
     regroup : (a b c d : List ℕ) → a ++ b ++ c ++ [] ++ d ≡ a ++ (b ++ (c ++ d))
     regroup a b c d = simp (append-nil, append_assoc)
 text_is_read (claims.NotMinimal f v) text b p =
-    whole_reads NotMinimal (claims.NotMinimal f v) (p.subject ++ (violation_line v ++ last_line)) text
-    (f, violation_line v ++ last_line, function_reads f p.subject (violation_line v ++ last_line) b p.are_subject_lines,
-    (v, violation_reads v last_line, refl))
+    whole_reads NotMinimal (claims.NotMinimal f v) (p.subject ++ (violation_line v ++ last_line)) text (
+      f,
+      violation_line v ++ last_line,
+      canonical_lines_are_read Strict f p.subject (violation_line v ++ last_line) b p.are_subject_lines,
+      (v, violation_reads v last_line, refl),
+    )
     (p.spelled ∙ regroup title_line (claim_line NotMinimal) p.subject (violation_line v) last_line)
   where
     regroup : (a b c d e : List ℕ) → a ++ b ++ c ++ (d ++ []) ++ e ≡ a ++ (b ++ (c ++ (d ++ e)))
     regroup a b c d e = simp (append-nil, append_assoc)
 
 -- ---- what is read is the text of a claim
+
+function_found : (text : List ℕ) (f : FunctionData) (rest : List ℕ) → (function_part Strict).Reads text f rest →
+    IsWithinBounds f × (lines : List ℕ) × AreFunctionLines f lines × (text ≡ lines ++ rest)
+function_found text f rest h =
+    let (lines, are, is) = strict_lines_are_canonical f text rest h in
+    let (q, next, order, (k, more, place, (points, reads, given))) = h in
+    (given.within, lines, are, is)
 
 claim_found : (w : ClaimWord) (c : Claim) (text inner rest : List ℕ) → (claim_part w).Reads inner c rest →
     text ≡ title_line ++ (claim_line w ++ inner) → rest ≡ last_line → IsBounded c × IsProofText c text

@@ -1,11 +1,18 @@
 //! Laws of proof texts.
 
-ghost use Rattle.std.specs.Prelude.{◌≡◌, ◌+◌, ◌≤◌, ◌++◌, ℕ, List, length};
+ghost use Rattle.std.specs.Prelude.{◌≡◌, ◌↔◌, ◌+◌, ◌≤◌, [], ◌++◌, ℕ, List, length};
 ghost use Rattle.gj_lex.specs.TextLines.{line_feeds};
 ghost use Rattle.gj_lex.specs.declared.reason.Reason.{Reason};
 ghost use Rattle.gj_proof.specs.declared.claim.Claim.{Claim};
 ghost use Rattle.gj_proof.specs.ProofText.{ProofLine, IsBounded, IsProofText, HasBytes, HasNumber};
+ghost use Rattle.gj_proof.specs.ProofGrammar.{proof_text};
 ghost use Rattle.gj_proof.specs.FirstFault.{IsFirstFault};
+
+/// The texts that read as a claim, from their title to their end, are the texts of that claim; its function is then
+/// within the limits.
+pub fn proof_texts_are_read()
+    ensures { (c : Claim) (text : List ℕ) → proof_text.Reads text c [] ↔ (IsBounded c × IsProofText c text) }
+{}
 
 /// A claim has one text, and a text is that of one claim: what was read is written as the same
 /// bytes, and what was written is read as the same proof.

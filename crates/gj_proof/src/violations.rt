@@ -10,7 +10,10 @@ ghost use Rattle.gj_lex.specs.declared.reason.Reason.TheVariants.{Number};
 ghost use Rattle.gj_proof.specs.ProofGrammar.{violation_words, IsFraction, BreaksViolation, violation_rule};
 
 use gj_frac::Frac;
-use gj_lex::{PartFault, Reason, Spelling, behind_name, field_of, fraction_of, has_words, line_at, only_word, split_word};
+use gj_lex::{
+    PartFault, Reason, Spelling, behind_name, field_of, fraction_of, has_words, line_at, only_word,
+    split_word,
+};
 use gj_shape::Violation;
 
 /// The violation in the first line of the text, and what follows the line. It takes no memory.

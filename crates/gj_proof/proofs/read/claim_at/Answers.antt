@@ -17,6 +17,9 @@ returns-in_err-violation-in-NotMinimal-clause-fault c =
 pub returns-in_ok-violation-in-NotMinimal-clause-found : goal.returns-in_ok-violation-in-NotMinimal-clause-found
 returns-in_ok-violation-in-NotMinimal-clause-found c =
     let claim = claims.NotMinimal c.in_ok-shape.shape c.in_ok-violation-in-NotMinimal.violation in
-    subst (λ (w : ClaimWord). (claim_part w).Reads c.args.text.now claim c.in_ok-violation-in-NotMinimal.rest.now) (sym c.in-NotMinimal.is)
-    (c.in_ok-shape.shape, c.in_ok-shape.rest.now, c.in_ok-shape.ensures.found,
-    (c.in_ok-violation-in-NotMinimal.violation, c.in_ok-violation-in-NotMinimal.ensures.found, refl))
+    subst (λ (w : ClaimWord). (claim_part w).Reads c.args.text.now claim c.in_ok-violation-in-NotMinimal.rest.now) (sym c.in-NotMinimal.is) (
+      c.in_ok-shape.shape,
+      c.in_ok-shape.rest.now,
+      c.in_ok-shape.ensures.found,
+      (c.in_ok-violation-in-NotMinimal.violation, c.in_ok-violation-in-NotMinimal.ensures.found, refl),
+    )
