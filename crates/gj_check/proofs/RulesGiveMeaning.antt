@@ -4,7 +4,7 @@ use Rattle.gj_proof.specs.declared.claim.Claim.TheVariants.{Minimal, NotMinimal}
 use Rattle.gj_proof.specs.ProofText.{IsBounded}
 use Rattle.gj_proof.specs.Rules.{MeetsRules}
 use Rattle.gj_proof.specs.Meaning.{ClaimHolds}
-use Rattle.gj_theory.proofs.Minimal.{minimal_from_tests}
+use Rattle.gj_theory.proofs.MinimalFromTests.{minimal_from_tests}
 use Rattle.gj_check.proofs.DemandsOfClaims.{minimal_rules, point_rules}
 
 pub meaning_of_rules : (c : Claim) → IsBounded c → MeetsRules c → ClaimHolds c

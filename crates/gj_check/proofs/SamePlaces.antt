@@ -18,7 +18,7 @@ use Rattle.gj_shape.proofs.LeastDenominator.{denominator_some}
 use Rattle.gj_shape.proofs.Refinements.{table_small}
 use Rattle.gj_shape.proofs.TableLemmas.{table_period}
 use Rattle.gj_shape.proofs.ValueLemmas.{congruent_rests}
-use Rattle.gj_theory.proofs.Points.{same_on_both}
+use Rattle.gj_theory.proofs.ShownPoints.{same_on_both}
 use Rattle.gj_check.proofs.Ratios.{denominator_is}
 
 -- ---- one place on two grids

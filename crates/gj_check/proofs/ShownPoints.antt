@@ -36,7 +36,7 @@ pub coordinate_point : (x : Frac) → IsCoordinate x →
     IsPoint x (unsigned_abs (numerator x)) (unsigned_abs (denominator x))
 coordinate_point x h =
     let low = h.not_negative in
-    record { top = omega (arith, ints); bottom = denominator_is x; positive = denominator_some x }
+    record { numerator_is = omega (arith, ints); denominator_is = denominator_is x; positive = denominator_some x }
 
 -- a coordinate is below 1
 coordinate_below : (x : Frac) → IsCoordinate x → unsigned_abs (numerator x) < unsigned_abs (denominator x)
@@ -47,13 +47,13 @@ coordinate_below x h =
 
 -- a point, as a fraction
 point_is : (x : Frac) (n d : ℕ) → IsPoint x n d → IsRatio x (pos n) (pos d)
-point_is x n d p = ap (λ z. z *ℤ pos d) p.top ∙ sym (ap (λ z. pos n *ℤ z) p.bottom)
+point_is x n d p = ap (λ z. z *ℤ pos d) p.numerator_is ∙ sym (ap (λ z. pos n *ℤ z) p.denominator_is)
 
 -- a point, over a multiple of its denominator
 point_over : (x : Frac) (n d e : ℕ) → IsPoint x n d → IsRatio x (pos (n * e)) (pos (d * e))
 point_over x n d e p =
     let turned : n * (d * e) ≡ n * e * d = omega arith in
-    ap (λ z. z *ℤ pos (d * e)) p.top ∙ ap pos turned ∙ sym (ap (λ z. pos (n * e) *ℤ z) p.bottom)
+    ap (λ z. z *ℤ pos (d * e)) p.numerator_is ∙ ap pos turned ∙ sym (ap (λ z. pos (n * e) *ℤ z) p.denominator_is)
 
 -- x is n/c and below 1
 pub record StandsAt (x : Frac) (n c : ℕ) : Type 0 where
@@ -129,7 +129,7 @@ opposite_value : (f : FunctionData) (x z y : Frac) (n d j : ℕ) → IsWithinBou
 opposite_value f x z y n d j l p z_is is opposite =
     let t = pos (f.place * d) -ℤ pos (n * f.order) in
     let read : IsRatio z (pos (d * f.place) -ℤ pos (n * f.order)) (pos d) =
-    subst₂ (λ a b. IsRatio z (b *ℤ pos f.place -ℤ a *ℤ pos f.order) b) p.top p.bottom z_is in
+    subst₂ (λ a b. IsRatio z (b *ℤ pos f.place -ℤ a *ℤ pos f.order) b) p.numerator_is p.denominator_is z_is in
     let over : IsRatio z t (pos d) =
     subst (λ (k : ℕ). IsRatio z (pos k -ℤ pos (n * f.order)) (pos d)) (mul_comm d f.place) read in
     let period = f.order * d in

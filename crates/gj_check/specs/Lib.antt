@@ -2,4 +2,5 @@ pub mod RuleWords
 pub mod FirstFailure
 pub mod Pieces
 pub mod Tests
+pub mod Lanes
 pub mod Coordinates

@@ -1,10 +1,11 @@
 -- The tests of minimality by grid points and squares (own).
-use Rattle.std.specs.Prelude.{ℕ, ◌<◌, length}
+use Rattle.std.specs.Prelude.{ℕ, ◌<◌, ◌≤◌, length}
 use Rattle.gj_shape.specs.FunctionData.{FunctionData}
 use Rattle.gj_shape.specs.Faces.{corners_of}
 use Rattle.gj_shape.specs.FirstViolation.{Passes}
 use Rattle.gj_shape.specs.FirstViolation.Test.{nonnegative_at, nonnegative_after, nonnegative_before, symmetric_at, symmetric_between, subadditive_at}
 use Rattle.gj_shape.specs.declared.faces.FaceKind.{FaceKind}
+use Rattle.gj_shape.specs.declared.faces.FaceKind.TheVariants.{Vertex}
 
 -- no value at i/q, and none from there to (i + 1)/q, is negative
 abbrev pub IsNonnegativeAt : FunctionData → ℕ → Type 0
@@ -27,10 +28,22 @@ abbrev pub IsSubadditiveAt : FunctionData → ℕ → ℕ → Type 0
 IsSubadditiveAt f a b =
     (kind : FaceKind) (c : ℕ) → c < length (corners_of kind a b) → Passes f (subadditive_at kind a b c)
 
--- for each b
+-- for each b from a on
 abbrev pub IsSubadditiveRow : FunctionData → ℕ → Type 0
-IsSubadditiveRow f a = (b : ℕ) → b < f.order → IsSubadditiveAt f a b
+IsSubadditiveRow f a = (b : ℕ) → a ≤ b → b < f.order → IsSubadditiveAt f a b
 
--- and for each a
+-- for all a and b
 abbrev pub IsSubadditive : FunctionData → Type 0
-IsSubadditive f = (a : ℕ) → a < f.order → IsSubadditiveRow f a
+IsSubadditive f = (a b : ℕ) → a < f.order → b < f.order → IsSubadditiveAt f a b
+
+-- the slack at (a/q, b/q) is not negative
+abbrev pub IsSubadditiveVertex : FunctionData → ℕ → ℕ → Type 0
+IsSubadditiveVertex f a b = Passes f (subadditive_at Vertex a b 0)
+
+-- for each b from a on
+abbrev pub HasSubadditiveVertices : FunctionData → ℕ → Type 0
+HasSubadditiveVertices f a = (b : ℕ) → a ≤ b → b < f.order → IsSubadditiveVertex f a b
+
+-- for all a and b
+abbrev pub IsSubadditiveOnGrid : FunctionData → Type 0
+IsSubadditiveOnGrid f = (a b : ℕ) → a < f.order → b < f.order → IsSubadditiveVertex f a b

@@ -2,17 +2,28 @@
 ghost use Rattle.std.specs.Prelude.{◌<◌, ◌↔◌, IsTrue};
 ghost use Rattle.gj_shape.specs.FirstViolation.{Passes, PassesAll};
 ghost use Rattle.gj_shape.specs.FirstViolation.Test.{zero_at_zero, symmetric_at, symmetric_between};
-ghost use Rattle.gj_check.specs.Tests.{IsNonnegative, IsSymmetric, IsSubadditiveRow, IsSubadditive};
+ghost use Rattle.gj_theory.specs.EarlierTests.{PassesSymmetry};
+ghost use Rattle.gj_check.specs.Tests.{IsNonnegative, IsSymmetric, IsSubadditiveOnGrid, IsSubadditive};
+ghost use Rattle.gj_check.specs.Lanes.{AreLanesOf};
 
 use crate::pieces::{Piece, adds_up};
-use crate::squares::Square;
+use crate::squares::Lanes;
 use gj_shape::Shape;
 
 /// Whether all tests of minimality pass. It takes no memory.
 pub(crate) fn is_minimal(shape: &Shape) -> bool
     ensures { IsTrue result ↔ PassesAll shape.now }
 {
-    is_zero_at_zero(shape) && is_nonnegative(shape) && is_symmetric(shape) && is_subadditive(shape)
+    if !is_zero_at_zero(shape) {
+        return false;
+    }
+    if !is_nonnegative(shape) {
+        return false;
+    }
+    if !is_symmetric(shape) {
+        return false;
+    }
+    is_subadditive(shape)
 }
 
 /// Whether the value at 0 is 0.
@@ -70,25 +81,38 @@ fn is_symmetric_after(shape: &Shape, i: usize) -> bool
     Piece::at(shape, i).is_opposite(Piece::at(shape, opposite), total)
 }
 
-/// Whether no limit of the slack is negative in any square.
+/// Whether no limit of the slack is negative in any square. Those of a continuous function are slacks at grid points.
 fn is_subadditive(shape: &Shape) -> bool
+    requires { PassesSymmetry shape.now }
     ensures { IsTrue result ↔ IsSubadditive shape.now }
 {
+    let lanes = Lanes::of(shape);
+    if shape.is_continuous() {
+        return is_subadditive_on_grid(shape, &lanes);
+    }
+    is_subadditive_between(shape, &lanes)
+}
+
+/// Whether no slack at grid points is negative. It does not change where the points change places.
+fn is_subadditive_on_grid(shape: &Shape, lanes: &Lanes) -> bool
+    requires { AreLanesOf shape.now lanes.now }
+    ensures { IsTrue result ↔ IsSubadditiveOnGrid shape.now }
+{
     for a in 0..shape.order() as usize {
-        if !is_subadditive_row(shape, a) {
+        if !lanes.has_subadditive_vertices(shape, a) {
             return false;
         }
     }
     true
 }
 
-/// Whether none is negative in any square of row a.
-fn is_subadditive_row(shape: &Shape, a: usize) -> bool
-    requires { a < shape.now.order }
-    ensures { IsTrue result ↔ IsSubadditiveRow shape.now a }
+/// Whether no limit of the slack is negative in any square. They are those of the square (b, a) in the square (a, b).
+fn is_subadditive_between(shape: &Shape, lanes: &Lanes) -> bool
+    requires { AreLanesOf shape.now lanes.now }
+    ensures { IsTrue result ↔ IsSubadditive shape.now }
 {
-    for b in 0..shape.order() as usize {
-        if !Square::at(shape, a, b).is_subadditive() {
+    for a in 0..shape.order() as usize {
+        if !lanes.is_subadditive_row(shape, a) {
             return false;
         }
     }

@@ -1,108 +1,106 @@
-//! The limits of the subadditivity slack in a square of the grid.
-ghost use Rattle.std.specs.Prelude.{◌<◌, ◌^◌, ◌↔◌, IsTrue, unsigned_abs};
+//! Rows of squares, whose limits of the subadditivity slack are tested all at once over lanes of 32 bits.
+ghost use Rattle.std.specs.Prelude.{◌≡◌, ◌<◌, ◌≤◌, ◌↔◌, IsTrue};
 ghost use Rattle.gj_shape.specs.FunctionData.{IsWithinBounds};
-ghost use Rattle.gj_shape.specs.declared.faces.FaceKind.TheVariants.{Vertex, Horizontal, Vertical, Diagonal, Lower, Upper};
-ghost use Rattle.gj_check.specs.Pieces.{IsSquareAt, IsWithin, IsSubadditiveOn, IsSubadditiveSquare};
+ghost use Rattle.gj_theory.specs.EarlierTests.{PassesSymmetry};
+ghost use Rattle.gj_check.specs.Tests.{IsSubadditiveRow, HasSubadditiveVertices};
 
 use crate::pieces::Piece;
 use gj_shape::Shape;
 
-/// The pieces that the limits of the slack in a square are made of.
-#[derive(Clone, Copy)]
-pub(crate) struct Square {
-    /// The piece from the square's first coordinate on.
-    first: Piece,
-    /// The piece from its second coordinate on.
-    second: Piece,
-    /// The piece from the sum of the two coordinates on.
-    sum: Piece,
-    /// The piece after that.
-    next: Piece,
+/// How many lanes there are: one for each index below 2 q, where the order q is at most 1,000.
+const COUNT: usize = 2_000;
+
+/// The pieces of a function from i/q on for each i below 2 q, each number times the common denominator.
+#[derive(Drop)]
+pub(crate) struct Lanes {
+    /// The values at i/q.
+    value: [u32; COUNT],
+    /// The limits from the right at i/q.
+    right: [u32; COUNT],
+    /// The limits from the left at (i + 1)/q.
+    left: [u32; COUNT],
 }
 
-impl Square {
-    /// The square whose lower left corner is (a/q, b/q).
-    pub(crate) fn at(shape: &Shape, a: usize, b: usize) -> Square
-        requires limits { IsWithinBounds shape.now }
-        requires first { a < shape.now.order }
-        requires second { b < shape.now.order }
-        ensures { IsSquareAt shape.now a b result }
+impl Lanes {
+    ghost use Rattle.gj_check.specs.Lanes.{AreLanesOf};
+
+    /// The lanes of a function whose tests of signs and of symmetry pass: then no number is negative or above the
+    /// common denominator.
+    pub(crate) fn of(shape: &Shape) -> Lanes
+        requires { PassesSymmetry shape.now }
+        ensures lanes { AreLanesOf shape.now result }
+        ensures limits { IsWithinBounds shape.now }
     {
-        Square {
-            first: Piece::at(shape, a),
-            second: Piece::at(shape, b),
-            sum: Piece::at(shape, a + b),
-            next: Piece::at(shape, a + b + 1),
+        let mut value = [0u32; COUNT];
+        let mut right = [0u32; COUNT];
+        let mut left = [0u32; COUNT];
+        for i in 0..2 * shape.order() as usize {
+            let piece = Piece::at(shape, i);
+            value[i] = piece.value as u32;
+            right[i] = piece.right as u32;
+            left[i] = piece.left as u32;
         }
+        Lanes { value, right, left }
     }
 
-    /// Whether none of the thirteen limits is negative.
-    pub(crate) fn is_subadditive(&self) -> bool
-        ensures { IsTrue result ↔ IsSubadditiveSquare self.now }
+    /// Whether no slack at (a/q, b/q) is negative, for each b from a on.
+    pub(crate) fn has_subadditive_vertices(&self, shape: &Shape, a: usize) -> bool
+        requires lanes { AreLanesOf shape.now self.now }
+        requires within { a < shape.now.order }
+        ensures { IsTrue result ↔ HasSubadditiveVertices shape.now a }
     {
-        self.is_subadditive_at_vertex()
-            && self.is_subadditive_on_horizontal()
-            && self.is_subadditive_on_vertical()
-            && self.is_subadditive_on_diagonal()
-            && self.is_subadditive_on_lower()
-            && self.is_subadditive_on_upper()
+        let order = shape.order() as usize;
+        let mut excess = 0u32;
+        for b in a..order {
+            let total = self.value[a] + self.value[b];
+            excess = excess.max(self.value[a + b].saturating_sub(total));
+        }
+        excess == 0
     }
 
-    /// Whether the slack at the square's vertex is not negative.
-    fn is_subadditive_at_vertex(&self) -> bool
-        ensures { IsTrue result ↔ IsSubadditiveOn self.now Vertex }
+    /// Whether no limit of the slack is negative in any square (a, b) with b from a on.
+    pub(crate) fn is_subadditive_row(&self, shape: &Shape, a: usize) -> bool
+        requires lanes { AreLanesOf shape.now self.now }
+        requires within { a < shape.now.order }
+        ensures { IsTrue result ↔ IsSubadditiveRow shape.now a }
     {
-        is_within(self.first.value, self.second.value, self.sum.value)
-    }
-
-    /// Whether no limit on its lower edge is negative.
-    fn is_subadditive_on_horizontal(&self) -> bool
-        ensures { IsTrue result ↔ IsSubadditiveOn self.now Horizontal }
-    {
-        is_within(self.first.right, self.second.value, self.sum.right)
-            && is_within(self.first.left, self.second.value, self.sum.left)
-    }
-
-    /// Whether no limit on its left edge is negative.
-    fn is_subadditive_on_vertical(&self) -> bool
-        ensures { IsTrue result ↔ IsSubadditiveOn self.now Vertical }
-    {
-        is_within(self.first.value, self.second.right, self.sum.right)
-            && is_within(self.first.value, self.second.left, self.sum.left)
-    }
-
-    /// Whether no limit on its diagonal is negative.
-    fn is_subadditive_on_diagonal(&self) -> bool
-        ensures { IsTrue result ↔ IsSubadditiveOn self.now Diagonal }
-    {
-        is_within(self.first.left, self.second.right, self.next.value)
-            && is_within(self.first.right, self.second.left, self.next.value)
-    }
-
-    /// Whether no limit from inside its lower triangle is negative.
-    fn is_subadditive_on_lower(&self) -> bool
-        ensures { IsTrue result ↔ IsSubadditiveOn self.now Lower }
-    {
-        is_within(self.first.right, self.second.right, self.sum.right)
-            && is_within(self.first.left, self.second.right, self.sum.left)
-            && is_within(self.first.right, self.second.left, self.sum.left)
-    }
-
-    /// Whether no limit from inside its upper triangle is negative.
-    fn is_subadditive_on_upper(&self) -> bool
-        ensures { IsTrue result ↔ IsSubadditiveOn self.now Upper }
-    {
-        is_within(self.first.left, self.second.right, self.next.right)
-            && is_within(self.first.right, self.second.left, self.next.right)
-            && is_within(self.first.left, self.second.left, self.next.left)
+        let order = shape.order() as usize;
+        let least = self.right[a].min(self.value[a]);
+        let mut excess = 0u32;
+        for b in a..order {
+            let sum = a + b;
+            let next = sum + 1;
+            let at_vertex = self.value[sum].saturating_sub(self.value[a] + self.value[b]);
+            let from_sum = excess_over(
+                self.right[sum],
+                self.right[a] + self.value[b],
+                least + self.right[b],
+            );
+            let to_next = excess_over(
+                self.left[sum],
+                self.left[a] + self.value[b].min(self.right[b]),
+                least + self.left[b],
+            );
+            let from_next = excess_over(
+                self.value[next].max(self.right[next]),
+                self.left[a] + self.right[b],
+                self.right[a] + self.left[b],
+            );
+            let after_next = self.left[next].saturating_sub(self.left[a] + self.left[b]);
+            let here = at_vertex
+                .max(from_sum)
+                .max(to_next)
+                .max(from_next)
+                .max(after_next);
+            excess = excess.max(here);
+        }
+        excess == 0
     }
 }
 
-/// Whether the sum is at most x + y.
-fn is_within(x: i64, y: i64, sum: i64) -> bool
-    requires first { unsigned_abs x < 2 ^ 51 }
-    requires second { unsigned_abs y < 2 ^ 51 }
-    ensures { IsTrue result ↔ IsWithin x y sum }
+/// By how much the sum is above the lesser of two totals, and 0 where it is not.
+fn excess_over(sum: u32, first: u32, second: u32) -> u32
+    ensures { (result ≡ 0) ↔ ((sum ≤ first) × (sum ≤ second)) }
 {
-    sum <= x + y
+    sum.saturating_sub(first.min(second))
 }

@@ -27,9 +27,6 @@ row_end q a b h = ap (flat_map (faces_of_square a)) (range_end b q h)
 pub rows_step : (q a : ℕ) → a < q → rows_from q a ≡ row_from q a 0 ++ rows_from q (a + 1)
 rows_step q a h = ap (flat_map (λ (a : ℕ). row_from q a 0)) (range_step a q h)
 
-pub rows_end : (q a : ℕ) → q ≤ a → rows_from q a ≡ []
-rows_end q a h = ap (flat_map (λ (a : ℕ). row_from q a 0)) (range_end a q h)
-
 -- from the first face of a square on
 pub from_square : (q a b : ℕ) → b < q →
     faces_from q (Some (record { kind = Vertex; a = a; b = b })) ≡ row_from q a b ++ rows_from q (a + 1)

@@ -1,5 +1,5 @@
 pub mod Bounds
 pub mod Squares
 pub mod Walk
-pub mod Left
+pub mod Remaining
 pub mod Projections

@@ -19,12 +19,12 @@ pub struct FaceWalk {
 }
 
 impl FaceWalk {
-    ghost use Rattle.gj_complex.specs.Left.{left};
+    ghost use Rattle.gj_complex.specs.Remaining.{faces_left};
 
     /// All faces of the complex of order q, from 2 to 1,000, in walk order.
     pub(crate) fn of_order(q: u32) -> FaceWalk
         requires { IsOrder q }
-        ensures { left result ≡ faces_of q }
+        ensures { faces_left result ≡ faces_of q }
     {
         FaceWalk {
             order: q,
@@ -40,11 +40,11 @@ impl FaceWalk {
 impl Iterator for FaceWalk {
     type Item = Face;
 
-    ghost use Rattle.gj_complex.specs.Left.{left};
+    ghost use Rattle.gj_complex.specs.Remaining.{faces_left};
 
-    ghost next_gives = { YieldsFirst left };
+    ghost next_gives = { YieldsFirst faces_left };
 
-    ghost remaining = { item_count left };
+    ghost remaining = { item_count faces_left };
 
     fn next(&mut self) -> Option<Face> {
         let face = self.next?;

@@ -73,7 +73,8 @@ same_from_IsFloor x n m h k =
 -- ---- what is left
 
 -- the absolute value of a sum is the sum or the difference of the absolute values
-abs_sum_cases : (x y : ℤ) → (unsigned_abs (x +ℤ y) ≡ unsigned_abs x + unsigned_abs y) ⊎ ((unsigned_abs (x +ℤ y) ≡ unsigned_abs x - unsigned_abs y) ⊎ (unsigned_abs (x +ℤ y) ≡ unsigned_abs y - unsigned_abs x))
+abs_sum_cases : (x y : ℤ) → (unsigned_abs (x +ℤ y) ≡ unsigned_abs x + unsigned_abs y)
+    ⊎ ((unsigned_abs (x +ℤ y) ≡ unsigned_abs x - unsigned_abs y) ⊎ (unsigned_abs (x +ℤ y) ≡ unsigned_abs y - unsigned_abs x))
 abs_sum_cases x y = grind (arith, ints)
 
 -- a divisor of two whole numbers divides their sum
@@ -84,7 +85,8 @@ divides_sum d x y p q =
     (abs_sum_cases x y)
 
 -- the rest has no more in common with the divisor than the number has
-rest_coprime : (n d q r : ℤ) → IsGcd (unsigned_abs n) (unsigned_abs d) 1 → r ≡ n -ℤ q *ℤ d → IsGcd (unsigned_abs r) (unsigned_abs d) 1
+rest_coprime : (n d q r : ℤ) → IsGcd (unsigned_abs n) (unsigned_abs d) 1 → r ≡ n -ℤ q *ℤ d →
+    IsGcd (unsigned_abs r) (unsigned_abs d) 1
 rest_coprime n d q r h e =
     let whole : n ≡ r +ℤ q *ℤ d = omega (arith, ints) in
     let multiple : (c : ℕ) → c ∣ unsigned_abs d → c ∣ unsigned_abs (q *ℤ d) = λ c v.
@@ -92,7 +94,8 @@ rest_coprime n d q r h e =
     (one-dvd _, one-dvd _, λ c u v. h.2 c (subst (λ (z : ℤ). c ∣ unsigned_abs z) (sym whole) (divides_sum c r (q *ℤ d) u (multiple c v))) v)
 
 -- the rest over the divisor is in lowest terms, where the number over it is
-pub rest_lowest : (n d r : ℤ) → IsLowest n d → r ≡ int_rem_euclid n d → pos 0 ≤ℤ r → unsigned_abs r < unsigned_abs d → IsLowest r d
+pub rest_lowest : (n d r : ℤ) → IsLowest n d → r ≡ int_rem_euclid n d → pos 0 ≤ℤ r → unsigned_abs r < unsigned_abs d →
+    IsLowest r d
 rest_lowest n d r h e low high =
     let size = h.den_fits in
     record {

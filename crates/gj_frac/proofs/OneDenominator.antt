@@ -20,7 +20,8 @@ denominator_divides_each x n d h =
     (subst (λ (m : ℕ). unsigned_abs x.den ∣ m) (sym sizes) (dvd-mul_left (unsigned_abs x.den) (unsigned_abs n)))
 
 -- the common denominator of two fractions divides each denominator that both have
-pub common_divides : (x y : Frac) (g : ℕ) (n m d : ℤ) → IsDenominatorGcd x y g → IsRatio x n d → IsRatio y m d → unsigned_abs x.den / g * unsigned_abs y.den ∣ unsigned_abs d
+pub common_divides : (x y : Frac) (g : ℕ) (n m d : ℤ) → IsDenominatorGcd x y g → IsRatio x n d → IsRatio y m d →
+    unsigned_abs x.den / g * unsigned_abs y.den ∣ unsigned_abs d
 common_divides x y g n m d h x_is y_is =
     let some = gcd_positive _ _ g h (inl (abs_positive_z x.den x.lowest.positive)) in
     (lcm_from_gcd _ _ g (unsigned_abs x.den / g) h (sym (div-mul_cancel g h.0)) some).2 (unsigned_abs d)
@@ -49,7 +50,8 @@ pub record MultipliedBy (x y : Frac) (g : ℕ) (n m d k : ℤ) : Type 0 where
   pub second : k *ℤ scaled_numerator y x g ≡ m
   pub bottom : k *ℤ common_denominator x y g ≡ d
 
-pub multiplier : (x y : Frac) (g : ℕ) (n m d : ℤ) → IsDenominatorGcd x y g → IsRatio x n d → IsRatio y m d → unsigned_abs d ≢ 0 → (k : ℤ) × MultipliedBy x y g n m d k
+pub multiplier : (x y : Frac) (g : ℕ) (n m d : ℤ) → IsDenominatorGcd x y g → IsRatio x n d → IsRatio y m d →
+    unsigned_abs d ≢ 0 → (k : ℤ) × MultipliedBy x y g n m d k
 multiplier x y g n m d h x_is y_is some =
     let c = common_denominator x y g in
     let size = unsigned_abs-mul (pos (unsigned_abs x.den / g)) y.den in
@@ -66,7 +68,8 @@ multiplier x y g n m d h x_is y_is some =
     )
 
 -- two fractions over one denominator can be added where their parts and the sum of the numerators fit there
-pub fits_sum_over : (x y : Frac) (n m d : ℤ) → IsRatio x n d → IsRatio y m d → unsigned_abs d ≢ 0 → FitsPart d → FitsPart n → FitsPart m → FitsPart (n +ℤ m) → FitsSum x y
+pub fits_sum_over : (x y : Frac) (n m d : ℤ) → IsRatio x n d → IsRatio y m d → unsigned_abs d ≢ 0 → FitsPart d →
+    FitsPart n → FitsPart m → FitsPart (n +ℤ m) → FitsSum x y
 fits_sum_over x y n m d x_is y_is some d_fits n_fits m_fits total_fits g h =
     let (k, by) = multiplier x y g n m d h x_is y_is some in
     let total = mul_add_z k (scaled_numerator x y g) (scaled_numerator y x g) ∙ (λ i. by.first i +ℤ by.second i) in
@@ -77,7 +80,8 @@ fits_sum_over x y n m d x_is y_is some d_fits n_fits m_fits total_fits g h =
     record { first = omega arith; second = omega arith; total = omega arith; bottom = omega arith }
 
 -- they can be subtracted where their parts and the difference of the numerators fit
-pub fits_difference_over : (x y : Frac) (n m d : ℤ) → IsRatio x n d → IsRatio y m d → unsigned_abs d ≢ 0 → FitsPart d → FitsPart n → FitsPart m → FitsPart (n -ℤ m) → FitsDifference x y
+pub fits_difference_over : (x y : Frac) (n m d : ℤ) → IsRatio x n d → IsRatio y m d → unsigned_abs d ≢ 0 → FitsPart d →
+    FitsPart n → FitsPart m → FitsPart (n -ℤ m) → FitsDifference x y
 fits_difference_over x y n m d x_is y_is some d_fits n_fits m_fits difference_fits g h =
     let (k, by) = multiplier x y g n m d h x_is y_is some in
     let difference = mul_sub_z k (scaled_numerator x y g) (scaled_numerator y x g) ∙ (λ i. by.first i -ℤ by.second i) in

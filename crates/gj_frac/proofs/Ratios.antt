@@ -7,7 +7,8 @@ use Rattle.std.specs.declared.cmp.Ordering.{Ordering}
 use Rattle.std.specs.declared.cmp.Ordering.TheVariants.{Less, Equal, Greater}
 use Rattle.std.specs.Ordering.{MatchOrdering, nat_cmp, is_ne}
 
-shifted_rank : (x y u v : ℕ) → x + v ≡ y + u → (r : Ordering) → MatchOrdering r (u < v) (u ≡ v) (v < u) → MatchOrdering r (x < y) (x ≡ y) (y < x)
+shifted_rank : (x y u v : ℕ) → x + v ≡ y + u → (r : Ordering) → MatchOrdering r (u < v) (u ≡ v) (v < u) →
+    MatchOrdering r (x < y) (x ≡ y) (y < x)
 shifted_rank x y u v e Less h = omega arith
 shifted_rank x y u v e Equal h = omega arith
 shifted_rank x y u v e Greater h = omega arith
@@ -40,13 +41,16 @@ less_by_whole a b c d b_some d_some h =
     let above' : c / d * d * b ≤ c * b = mul-le-mul_right b above in
     omega arith
 
-rank_by_whole : (a b c d : ℕ) → 0 < b → 0 < d → (r : Ordering) → is_ne r ≡ true → MatchOrdering r (a / b < c / d) (a / b ≡ c / d) (c / d < a / b) → MatchOrdering r (a * d < c * b) (a * d ≡ c * b) (c * b < a * d)
+rank_by_whole : (a b c d : ℕ) → 0 < b → 0 < d → (r : Ordering) → is_ne r ≡ true →
+    MatchOrdering r (a / b < c / d) (a / b ≡ c / d) (c / d < a / b) →
+    MatchOrdering r (a * d < c * b) (a * d ≡ c * b) (c * b < a * d)
 rank_by_whole a b c d b_some d_some Less n h = less_by_whole a b c d b_some d_some h
 rank_by_whole a b c d b_some d_some Equal n h = absurd (cc)
 rank_by_whole a b c d b_some d_some Greater n h = less_by_whole c d a b d_some b_some h
 
 -- whole parts that differ decide
-pub cmp_by_whole : (a b c d : ℕ) (r : Ordering) → 0 < b → 0 < d → r ≡ nat_cmp (a / b) (c / d) → is_ne r ≡ true → r ≡ nat_cmp (a * d) (c * b)
+pub cmp_by_whole : (a b c d : ℕ) (r : Ordering) → 0 < b → 0 < d → r ≡ nat_cmp (a / b) (c / d) → is_ne r ≡ true →
+    r ≡ nat_cmp (a * d) (c * b)
 cmp_by_whole a b c d r b_some d_some e n =
     nat_cmp_is (a * d) (c * b) r
     (rank_by_whole a b c d b_some d_some r n
@@ -69,7 +73,8 @@ zero_below r d s b z s_some b_some =
     let right = mul-pos s_some b_some in
     omega arith
 
-rank_by_zero : (r b s d : ℕ) → 0 < b → 0 < d → (r ≡ 0) ⊎ (s ≡ 0) → (o : Ordering) → MatchOrdering o (r < s) (r ≡ s) (s < r) → MatchOrdering o (r * d < s * b) (r * d ≡ s * b) (s * b < r * d)
+rank_by_zero : (r b s d : ℕ) → 0 < b → 0 < d → (r ≡ 0) ⊎ (s ≡ 0) → (o : Ordering) →
+    MatchOrdering o (r < s) (r ≡ s) (s < r) → MatchOrdering o (r * d < s * b) (r * d ≡ s * b) (s * b < r * d)
 rank_by_zero r b s d b_some d_some z Less h =
     zero_below r d s b (⊎_elim (λ e. e) (λ e. absurd (omega arith)) z) (omega arith) b_some
 rank_by_zero r b s d b_some d_some z Equal h =

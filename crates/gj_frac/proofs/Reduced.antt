@@ -1,13 +1,15 @@
 -- What dividing both parts of a fraction by their greatest common divisor gives.
-use Rattle.std.proofs.Common.{◌≡◌, ◌≢◌, ℕ, ◌*◌, ◌<◌, ◌≤◌, ◌^◌, ℤ, pos, negsuc, ◌+ℤ◌, ◌-ℤ◌, ◌*ℤ◌, neg_ℤ, zero, suc, ◌<ℤ◌, unsigned_abs, int_div, int_rem, sym, ◌∙◌, ap, subst, refl, arith, to_z, of_z}
+use Rattle.std.proofs.Common.{◌≡◌, ◌≢◌, ℕ, ◌<◌, ◌≤◌, ◌^◌, ℤ, pos, negsuc, ◌+ℤ◌, ◌-ℤ◌, ◌*ℤ◌, neg_ℤ, zero, suc, ◌<ℤ◌, unsigned_abs, int_div, int_rem, sym, ◌∙◌, ap, subst, subst₂, refl, arith, to_z, of_z}
 use Rattle.std.specs.Int.{IsGcd, ◌∣◌}
+use Rattle.gj_frac.specs.declared.Frac.{Frac}
+use Rattle.gj_frac.specs.Fraction.{IsRatio}
 use Rattle.gj_frac.specs.Lowest.{IsLowest}
 use Rattle.std.proofs.lemmas.Int.{quot-rem, unsigned_abs-mul, fits_signed_from_abs, to_z-of_z, ints}
 use Rattle.std.proofs.lemmas.Nat.Gcd.{mod-eq-zero_of_dvd, le_of_dvd}
-use Rattle.std.proofs.Math.Nat.{one-mul, zero-mul, mul-dvd-mul_right, dvd_of_mul-dvd-mul_right, one-dvd, le-mul_of_pos_right, eq-zero_of_zero-dvd}
+use Rattle.std.proofs.Math.Nat.{eq-zero_of_zero-dvd}
 use mir.Syntax.{w128}
-use borrow.Author.Differences.{product_is, same_in}
-use lib.IntN.{*ℤ_comm}
+use Rattle.gj_tools.proofs.Integers.{mul_assoc_z, mul_comm_z}
+use Rattle.gj_tools.proofs.Divisors.{gcd_quotients}
 
 -- the rest of a division by a divisor is 0
 rest_of_divisor : (n d : ℤ) → unsigned_abs d ∣ unsigned_abs n → int_rem n d ≡ pos 0
@@ -22,30 +24,14 @@ quotient_of_divisor n d h =
     let parts' : int_div n d *ℤ d +ℤ pos 0 ≡ n = subst (λ (r : ℤ). int_div n d *ℤ d +ℤ r ≡ n) exact parts in
     omega (arith, ints)
 
--- the quotients of two numbers by their greatest common divisor have none but 1
-pub coprime_quotients : (a b g p q : ℕ) → IsGcd a b g → 0 < g → p * g ≡ a → q * g ≡ b → IsGcd p q 1
-coprime_quotients a b g p q h pos_g e f =
-    let least : (d : ℕ) → d ∣ p → d ∣ q → d ∣ 1 = λ d u v.
-    dvd_of_mul-dvd-mul_right {k = g} d {n = 1} pos_g
-    (subst (λ (n : ℕ). d * g ∣ n) (sym (one-mul g))
-    (h.2 (d * g) (subst (λ (n : ℕ). d * g ∣ n) e (mul-dvd-mul_right d u g)) (subst (λ (n : ℕ). d * g ∣ n) f (mul-dvd-mul_right d v g))))
-    in (one-dvd p, one-dvd q, least)
-
--- the same over whole numbers of any sign
-pub coprime_signed_quotients : (a b g p q : ℤ) → IsGcd (unsigned_abs a) (unsigned_abs b) (unsigned_abs g) → 0 < unsigned_abs g → p *ℤ g ≡ a → q *ℤ g ≡ b → IsGcd (unsigned_abs p) (unsigned_abs q) 1
-coprime_signed_quotients a b g p q h pos_g e f =
-    coprime_quotients _ _ _ _ _ h pos_g (sym (unsigned_abs-mul p g) ∙ ap unsigned_abs e) (sym (unsigned_abs-mul q g) ∙ ap unsigned_abs f)
-
--- a quotient of a number that is not 0 is none either
-pub quotient_not_zero : (a p g : ℤ) → unsigned_abs a ≢ 0 → p *ℤ g ≡ a → unsigned_abs p ≢ 0
-quotient_not_zero a p g h e z = h (sym (ap unsigned_abs e) ∙ unsigned_abs-mul p g ∙ ap (λ n. n * unsigned_abs g) z ∙ zero-mul (unsigned_abs g))
-
--- a quotient is at most the number, in absolute value
-pub quotient_within : (a p g : ℤ) (m : ℕ) → 0 < unsigned_abs g → p *ℤ g ≡ a → unsigned_abs a < m → unsigned_abs p < m
-quotient_within a p g m h e f =
-    let whole : unsigned_abs p * unsigned_abs g ≡ unsigned_abs a = sym (unsigned_abs-mul p g) ∙ ap unsigned_abs e in
-    let less : unsigned_abs p ≤ unsigned_abs p * unsigned_abs g = le-mul_of_pos_right (unsigned_abs p) h in
-    omega arith
+-- the quotients of two whole numbers by their greatest common divisor have only 1 in common
+pub coprime_signed_quotients : (a b g p q : ℤ) → IsGcd (unsigned_abs a) (unsigned_abs b) (unsigned_abs g) →
+    0 < unsigned_abs g → p *ℤ g ≡ a → q *ℤ g ≡ b → IsGcd (unsigned_abs p) (unsigned_abs q) 1
+coprime_signed_quotients a b g p q h some p_is q_is =
+    let first = sym (ap unsigned_abs p_is) ∙ unsigned_abs-mul p g in
+    let second = sym (ap unsigned_abs q_is) ∙ unsigned_abs-mul q g in
+    gcd_quotients (unsigned_abs p) (unsigned_abs q) (unsigned_abs g)
+    (subst₂ (λ m n. IsGcd m n (unsigned_abs g)) first second h) some
 
 -- a divisor of a number that is not 0 is at most that number, and is not 0
 pub divisor_of_positive : (g n : ℕ) → n ≢ 0 → g ∣ n → (0 < g) × (g ≤ n)
@@ -54,20 +40,12 @@ divisor_of_positive g n h k =
     let above : g ≢ 0 = λ e. h (eq-zero_of_zero-dvd (subst (λ (d : ℕ). d ∣ n) e k)) in
     (omega arith, below)
 
--- a product of three factors, from either end
-pub mul_assoc_z : (a b c : ℤ) → (a *ℤ b) *ℤ c ≡ a *ℤ (b *ℤ c)
-mul_assoc_z a b c =
-    let ab = product_is a b in
-    let bc = product_is b c in
-    let l = product_is (a *ℤ b) c in
-    let r = product_is a (b *ℤ c) in
-    same_in _ _ (simp (l.0, l.1, r.0, r.1, ab.0, ab.1, bc.0, bc.1) (omega arith))
-
 -- two equal fractions stay equal where both parts of one are multiplied
 pub same_from_multiples : (n d p q g num den : ℤ) → p *ℤ g ≡ num → q *ℤ g ≡ den → n *ℤ q ≡ p *ℤ d → n *ℤ den ≡ num *ℤ d
 same_from_multiples n d p q g num den e f h =
     subst (λ (z : ℤ). n *ℤ z ≡ num *ℤ d) f
-    (sym (mul_assoc_z n q g) ∙ ap (λ z. z *ℤ g) h ∙ mul_assoc_z p d g ∙ ap (λ z. p *ℤ z) (*ℤ_comm d g) ∙ sym (mul_assoc_z p g d) ∙ ap (λ z. z *ℤ d) e)
+    (sym (mul_assoc_z n q g) ∙ ap (λ z. z *ℤ g) h ∙ mul_assoc_z p d g
+    ∙ ap (λ z. p *ℤ z) (mul_comm_z d g) ∙ sym (mul_assoc_z p g d) ∙ ap (λ z. z *ℤ d) e)
 
 -- the same greatest common divisor, of numbers that are equal
 pub gcd_along : (a b g m n k : ℕ) → m ≡ a → n ≡ b → k ≡ g → IsGcd m n k → IsGcd a b g
@@ -81,7 +59,8 @@ unsigned_abs-negated (pos (suc n)) =
 unsigned_abs-negated (negsuc n) = omega arith
 
 -- with both signs turned the parts of a fraction in lowest terms stay so, where the denominator was negative
-pub lowest_negated : (num den : ℤ) → pos 0 <ℤ (pos 0 -ℤ den) → unsigned_abs num < 2 ^ 127 → unsigned_abs den < 2 ^ 127 → IsGcd (unsigned_abs num) (unsigned_abs den) 1 → IsLowest (pos 0 -ℤ num) (pos 0 -ℤ den)
+pub lowest_negated : (num den : ℤ) → pos 0 <ℤ (pos 0 -ℤ den) → unsigned_abs num < 2 ^ 127 → unsigned_abs den < 2 ^ 127 →
+    IsGcd (unsigned_abs num) (unsigned_abs den) 1 → IsLowest (pos 0 -ℤ num) (pos 0 -ℤ den)
 lowest_negated num den h f g d =
     let num' = unsigned_abs-negated num in
     let den' = unsigned_abs-negated den in
@@ -95,3 +74,16 @@ lowest_negated num den h f g d =
 -- a part of a fraction is read as it is
 pub read_part : (z : ℤ) → unsigned_abs z < 2 ^ 127 → to_z w128 (of_z w128 z) ≡ z
 read_part z h = to_z-of_z w128 z (fits_signed_from_abs w128 z h)
+
+-- so is a ratio of parts
+pub num_over_den : (x y z : Frac) → IsRatio z (to_z w128 (of_z w128 x.num)) (to_z w128 (of_z w128 y.den)) →
+    IsRatio z x.num y.den
+num_over_den x y z = subst₂ (IsRatio z) (read_part x.num x.lowest.num_fits) (read_part y.den y.lowest.den_fits)
+
+pub num_over_num : (x y z : Frac) → IsRatio z (to_z w128 (of_z w128 x.num)) (to_z w128 (of_z w128 y.num)) →
+    IsRatio z x.num y.num
+num_over_num x y z = subst₂ (IsRatio z) (read_part x.num x.lowest.num_fits) (read_part y.num y.lowest.num_fits)
+
+pub den_over_den : (x y z : Frac) → IsRatio z (to_z w128 (of_z w128 x.den)) (to_z w128 (of_z w128 y.den)) →
+    IsRatio z x.den y.den
+den_over_den x y z = subst₂ (IsRatio z) (read_part x.den x.lowest.den_fits) (read_part y.den y.lowest.den_fits)

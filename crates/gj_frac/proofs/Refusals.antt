@@ -1,19 +1,19 @@
 -- When a step of a sum or a product does not fit.
 use Rattle.std.proofs.Common.{ℕ, ℤ, ◌+ℤ◌, ◌-ℤ◌, FitsSigned, Option, Some, None, Result, Ok, Err, sym, subst, ◌∙◌}
 use Rattle.std.proofs.lemmas.Int.{fits_signed_from_abs}
-use Rattle.std.proofs.lemmas.Nat.Gcd.{same_from_IsGcd}
 use Rattle.std.specs.Option.{SomeIff}
 use Rattle.std.specs.Result.{OkIff}
 use Rattle.std.specs.Prelude.{MatchOption, IsErr, IfOk, OnErr}
 use Rattle.gj_frac.specs.declared.Frac.{Frac}
 use Rattle.gj_frac.specs.Fraction.{FitsPart}
-use Rattle.gj_frac.specs.Fits.{IsDenominatorGcd, FitsTogether, FitsTogetherOver, FitsSum, FitsDifference, scaled_numerator}
+use Rattle.gj_frac.specs.Fits.{IsDenominatorGcd, FitsTogether, FitsSum, FitsDifference, scaled_numerator}
 use mir.Syntax.{w128}
 
 -- ---- one step
 
 -- where the number that i128 gives is tested for the one that does not fit a part, all is tested
-pub step_fits : {E : Type 0} → (number : Option ℤ) (result : Result ℤ E) (v : ℤ) → SomeIff number (FitsSigned w128 v) v → MatchOption number (IsErr result) (λ n. OkIff result (FitsPart n) n) → OkIff result (FitsPart v) v
+pub step_fits : {E : Type 0} → (number : Option ℤ) (result : Result ℤ E) (v : ℤ) → SomeIff number (FitsSigned w128 v) v →
+    MatchOption number (IsErr result) (λ n. OkIff result (FitsPart n) n) → OkIff result (FitsPart v) v
 step_fits (Some n) (Ok r) v given tested =
     let same = given.1 in
     (subst FitsPart same tested.0, tested.1 ∙ same)
@@ -27,7 +27,8 @@ on_err (Ok x) P h = tt
 on_err (Err e) P h = h
 
 -- what follows from a fact of each value, or of each error
-pub on_ok_along : {T E : Type 0} → (result : Result T E) (P Q : T → Type 0) → ((x : T) → P x → Q x) → IfOk result P → IfOk result Q
+pub on_ok_along : {T E : Type 0} → (result : Result T E) (P Q : T → Type 0) → ((x : T) → P x → Q x) → IfOk result P →
+    IfOk result Q
 on_ok_along (Ok x) P Q f h = f x h
 on_ok_along (Err e) P Q f h = h
 
@@ -36,10 +37,6 @@ on_err_along (Ok x) P Q f h = h
 on_err_along (Err e) P Q f h = f h
 
 -- ---- the common denominator
-
--- what fits over one name of the greatest common divisor fits over each
-pub together_from : (x y : Frac) (g : ℕ) → IsDenominatorGcd x y g → FitsTogetherOver x y g → FitsTogether x y
-together_from x y g h fits m k = subst (FitsTogetherOver x y) (same_from_IsGcd _ _ _ _ h k) fits
 
 -- the condition of a sum and of a difference contains that of the common denominator
 pub sum_together : (x y : Frac) → FitsSum x y → FitsTogether x y
@@ -53,12 +50,15 @@ difference_together x y fits g h =
     record { first = over.first; second = over.second; bottom = over.bottom }
 
 -- with it the sum of the numerators is all that is left
-pub sum_from : (x y : Frac) → FitsTogether x y → ((g : ℕ) → IsDenominatorGcd x y g → FitsPart (scaled_numerator x y g +ℤ scaled_numerator y x g)) → FitsSum x y
+pub sum_from : (x y : Frac) → FitsTogether x y →
+    ((g : ℕ) → IsDenominatorGcd x y g → FitsPart (scaled_numerator x y g +ℤ scaled_numerator y x g)) → FitsSum x y
 sum_from x y fits total g h =
     let over = fits g h in
     record { first = over.first; second = over.second; total = total g h; bottom = over.bottom }
 
-pub difference_from : (x y : Frac) → FitsTogether x y → ((g : ℕ) → IsDenominatorGcd x y g → FitsPart (scaled_numerator x y g -ℤ scaled_numerator y x g)) → FitsDifference x y
+pub difference_from : (x y : Frac) → FitsTogether x y →
+    ((g : ℕ) → IsDenominatorGcd x y g → FitsPart (scaled_numerator x y g -ℤ scaled_numerator y x g)) →
+    FitsDifference x y
 difference_from x y fits difference g h =
     let over = fits g h in
     record { first = over.first; second = over.second; difference = difference g h; bottom = over.bottom }

@@ -1,11 +1,21 @@
 -- What determines a fraction.
-use Rattle.std.proofs.Common.{◌≡◌, ℤ, pos, ◌<ℤ◌, unsigned_abs}
+use Rattle.std.proofs.Common.{◌≡◌, ◌≢◌, ℤ, pos, ◌*ℤ◌, ◌<ℤ◌, unsigned_abs, sym}
 use Rattle.std.specs.Int.{IsGcd}
 use Rattle.gj_frac.specs.declared.Frac.{Frac}
 use Rattle.gj_frac.specs.Fraction.{IsRatio}
-pub use Rattle.gj_frac.specs.SameParts.{same_parts_same, same_value_same_parts, same_value_same, is_along, same_from_is}
+pub use Rattle.gj_frac.specs.SameParts.{ratio, same_parts_same, same_value_same_parts, same_value_same}
 use Rattle.gj_tools.proofs.Divisors.{same_ratio}
+use Rattle.gj_tools.proofs.Ratios.{ratio_along}
+
+-- n/d has no other value than m/e, so what is n/d is m/e
+pub is_along : (x : Frac) (n d m e : ℤ) → unsigned_abs d ≢ 0 → IsRatio x n d → n *ℤ e ≡ m *ℤ d → IsRatio x m e
+is_along x = ratio_along x.num x.den
+
+-- n/d is one fraction
+pub same_from_is : (x y : Frac) (n d : ℤ) → unsigned_abs d ≢ 0 → IsRatio x n d → IsRatio y n d → x ≡ y
+same_from_is x y n d some h k = same_value_same x y (is_along x n d y.num y.den some h (sym k))
 
 -- its parts, where n and d are in lowest terms and d is positive
-pub parts_from_is : (x : Frac) (n d : ℤ) → pos 0 <ℤ d → IsGcd (unsigned_abs n) (unsigned_abs d) 1 → IsRatio x n d → (x.num ≡ n) × (x.den ≡ d)
+pub parts_from_is : (x : Frac) (n d : ℤ) → pos 0 <ℤ d → IsGcd (unsigned_abs n) (unsigned_abs d) 1 → IsRatio x n d →
+    (x.num ≡ n) × (x.den ≡ d)
 parts_from_is x n d some h k = same_ratio x.num x.den n d x.lowest.coprime h x.lowest.positive some k

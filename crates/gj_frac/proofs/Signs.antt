@@ -7,7 +7,8 @@ use Rattle.std.specs.declared.cmp.Ordering.TheVariants.{Less, Equal, Greater}
 use Rattle.std.specs.Ordering.{MatchOrdering, nat_cmp, int_cmp}
 use Rattle.gj_tools.proofs.Integers.{pos_abs_z, neg_mul_z, mul_lt_mul_right_z, mul_nonnegative_z}
 
-rank_positive : (x y : ℕ) (r : Ordering) → MatchOrdering r (x < y) (x ≡ y) (y < x) → MatchOrdering r (pos x <ℤ pos y) (pos x ≡ pos y) (pos y <ℤ pos x)
+rank_positive : (x y : ℕ) (r : Ordering) → MatchOrdering r (x < y) (x ≡ y) (y < x) →
+    MatchOrdering r (pos x <ℤ pos y) (pos x ≡ pos y) (pos y <ℤ pos x)
 rank_positive x y Less h = omega (arith, ints)
 rank_positive x y Equal h = ap pos h
 rank_positive x y Greater h = omega (arith, ints)
@@ -16,7 +17,8 @@ rank_positive x y Greater h = omega (arith, ints)
 cmp_positive : (x y : ℕ) → int_cmp (pos x) (pos y) ≡ nat_cmp x y
 cmp_positive x y = sym (int_cmp_is (pos x) (pos y) (nat_cmp x y) (rank_positive x y (nat_cmp x y) (ranks x y)))
 
-rank_turned : (x y : ℕ) (r : Ordering) → MatchOrdering r (y < x) (y ≡ x) (x < y) → MatchOrdering r (neg_ℤ (pos x) <ℤ neg_ℤ (pos y)) (neg_ℤ (pos x) ≡ neg_ℤ (pos y)) (neg_ℤ (pos y) <ℤ neg_ℤ (pos x))
+rank_turned : (x y : ℕ) (r : Ordering) → MatchOrdering r (y < x) (y ≡ x) (x < y) →
+    MatchOrdering r (neg_ℤ (pos x) <ℤ neg_ℤ (pos y)) (neg_ℤ (pos x) ≡ neg_ℤ (pos y)) (neg_ℤ (pos y) <ℤ neg_ℤ (pos x))
 rank_turned x y Less h = omega (arith, ints)
 rank_turned x y Equal h = ap (λ n. neg_ℤ (pos n)) (sym h)
 rank_turned x y Greater h = omega (arith, ints)
@@ -30,7 +32,8 @@ neg_abs_z : (z : ℤ) → z <ℤ pos 0 → z ≡ neg_ℤ (pos (unsigned_abs z))
 neg_abs_z z h = omega (arith, ints)
 
 -- n/d and m/e, neither negative, compare by their absolute values
-pub cmp_not_negative : (n d m e : ℤ) → pos 0 ≤ℤ n → pos 0 ≤ℤ m → pos 0 <ℤ d → pos 0 <ℤ e → int_cmp (n *ℤ e) (m *ℤ d) ≡ nat_cmp (unsigned_abs n * unsigned_abs e) (unsigned_abs m * unsigned_abs d)
+pub cmp_not_negative : (n d m e : ℤ) → pos 0 ≤ℤ n → pos 0 ≤ℤ m → pos 0 <ℤ d → pos 0 <ℤ e →
+    int_cmp (n *ℤ e) (m *ℤ d) ≡ nat_cmp (unsigned_abs n * unsigned_abs e) (unsigned_abs m * unsigned_abs d)
 cmp_not_negative n d m e n_some m_some d_some e_some =
     let n_is = sym (pos_abs_z n n_some) in
     let m_is = sym (pos_abs_z m m_some) in
@@ -39,7 +42,8 @@ cmp_not_negative n d m e n_some m_some d_some e_some =
     (λ i. int_cmp (n_is i *ℤ e_is i) (m_is i *ℤ d_is i)) ∙ cmp_positive (unsigned_abs n * unsigned_abs e) (unsigned_abs m * unsigned_abs d)
 
 -- both negative, they compare by their absolute values the other way round
-pub cmp_negative : (n d m e : ℤ) → n <ℤ pos 0 → m <ℤ pos 0 → pos 0 <ℤ d → pos 0 <ℤ e → int_cmp (n *ℤ e) (m *ℤ d) ≡ nat_cmp (unsigned_abs m * unsigned_abs d) (unsigned_abs n * unsigned_abs e)
+pub cmp_negative : (n d m e : ℤ) → n <ℤ pos 0 → m <ℤ pos 0 → pos 0 <ℤ d → pos 0 <ℤ e →
+    int_cmp (n *ℤ e) (m *ℤ d) ≡ nat_cmp (unsigned_abs m * unsigned_abs d) (unsigned_abs n * unsigned_abs e)
 cmp_negative n d m e n_some m_some d_some e_some =
     let n_is = neg_abs_z n n_some in
     let m_is = neg_abs_z m m_some in
@@ -58,11 +62,13 @@ negative_below n d m e n_some m_some d_some e_some =
     omega (arith, ints)
 
 -- a negative fraction is less than one that is not negative
-pub cmp_negative_first : (n d m e : ℤ) → n <ℤ pos 0 → pos 0 ≤ℤ m → pos 0 <ℤ d → pos 0 <ℤ e → int_cmp (n *ℤ e) (m *ℤ d) ≡ Less
+pub cmp_negative_first : (n d m e : ℤ) → n <ℤ pos 0 → pos 0 ≤ℤ m → pos 0 <ℤ d → pos 0 <ℤ e →
+    int_cmp (n *ℤ e) (m *ℤ d) ≡ Less
 cmp_negative_first n d m e n_some m_some d_some e_some =
     sym (int_cmp_is _ _ Less (negative_below n d m e n_some m_some d_some e_some))
 
 -- and the other way round
-pub cmp_negative_second : (n d m e : ℤ) → pos 0 ≤ℤ n → m <ℤ pos 0 → pos 0 <ℤ d → pos 0 <ℤ e → int_cmp (n *ℤ e) (m *ℤ d) ≡ Greater
+pub cmp_negative_second : (n d m e : ℤ) → pos 0 ≤ℤ n → m <ℤ pos 0 → pos 0 <ℤ d → pos 0 <ℤ e →
+    int_cmp (n *ℤ e) (m *ℤ d) ≡ Greater
 cmp_negative_second n d m e n_some m_some d_some e_some =
     sym (int_cmp_is _ _ Greater (negative_below m e n d m_some n_some e_some d_some))

@@ -1,12 +1,16 @@
--- Fractions of equal value are one, proved. It stands here since the order and the laws of fractions cite it.
-use Rattle.std.proofs.Common.{◌≡◌, ◌≢◌, ℤ, ◌*ℤ◌, unsigned_abs, sym, ap, ◌∙◌}
+-- Fractions of equal value are one, proved. It stands here since the laws of `Ord` and `ExactNumber` cite it.
+use Rattle.std.proofs.Common.{◌≡◌, ℤ}
 use Rattle.gj_frac.specs.declared.Frac.{Frac}
 use Rattle.gj_frac.specs.Lowest.{IsLowest}
-use Rattle.gj_frac.specs.Fraction.{IsRatio, SameValue, fraction_of}
-use Rattle.gj_tools.proofs.Products.{swap_last_z, mul_cancel_right_z}
-use Rattle.gj_tools.proofs.Coprime.{same_ratio}
+use Rattle.gj_frac.specs.Fraction.{SameValue, fraction_of}
+use Rattle.gj_tools.proofs.Divisors.{same_ratio}
+use Rattle.gj_tools.proofs.Ratios.{Ratio}
 use denote.Struct.Props.{props}
 use mathlib.Core.HLevel.{is_prop→PathP}
+
+-- a fraction as a ratio with a positive bottom
+abbrev pub ratio : Frac → Ratio
+ratio x = record { top = x.num; bottom = x.den; positive = x.lowest.positive }
 
 -- two numbers are in lowest terms in one way at most
 IsLowest_prop : (n d : ℤ) → IsProp (IsLowest n d)
@@ -28,14 +32,3 @@ same_value_same_parts x y h =
 -- fractions of equal value are one
 pub same_value_same : (x y : Frac) → SameValue (fraction_of x) (fraction_of y) → x ≡ y
 same_value_same x y h = let parts = same_value_same_parts x y h in same_parts_same x y parts.0 parts.1
-
--- n/d has no other value than m/e, so what is n/d is m/e
-pub is_along : (x : Frac) (n d m e : ℤ) → unsigned_abs d ≢ 0 → IsRatio x n d → n *ℤ e ≡ m *ℤ d → IsRatio x m e
-is_along x n d m e some h same =
-    mul_cancel_right_z (x.num *ℤ e) (m *ℤ x.den) d
-    (swap_last_z x.num e d ∙ ap (λ z. z *ℤ e) h ∙ swap_last_z n x.den e ∙ ap (λ z. z *ℤ x.den) same ∙ swap_last_z m d x.den) some
-
--- n/d is one fraction
-pub same_from_is : (x y : Frac) (n d : ℤ) → unsigned_abs d ≢ 0 → IsRatio x n d → IsRatio y n d → x ≡ y
-same_from_is x y n d some h k =
-    same_value_same x y (is_along x n d y.num y.den some h (sym k))

@@ -1,6 +1,5 @@
 -- The laws of the order of fractions, each proved: a total order by value, in which equal values are one fraction.
-use Rattle.std.proofs.Common.{◌≡◌, ◌&&◌, true, ℤ, pos, ◌*ℤ◌, ◌<ℤ◌, refl, ap, subst, subst₂, arith}
-use Rattle.std.proofs.lemmas.Int.{ints}
+use Rattle.std.proofs.Common.{◌≡◌, ◌&&◌, true, ◌*ℤ◌, refl, ap, subst}
 use Rattle.std.proofs.lemmas.Cmp.{int_ranked, int_eq_equiv}
 use Rattle.std.specs.Bool.{Decides, one_answer}
 use Rattle.std.specs.Cmp.{IsTotalOrder, IsPartialOrder, strict, means, po, first_so, second_so, signed_Decides, Equal-is, tied_itself}
@@ -10,30 +9,18 @@ use Rattle.std.specs.Ordering.{MatchOrdering, is_eq, int_eq, eq_by_cmp, as_parti
 use Rattle.gj_frac.specs.declared.Frac.{Frac}
 use Rattle.gj_frac.specs.Fraction.{LessValue, fraction_of}
 use Rattle.gj_frac.specs.CompareValues.{compare_values}
-use Rattle.gj_tools.proofs.Products.{swap_last_z, mul_lt_mul_right_z, mul_lt_cancel_right_z}
-use Rattle.gj_frac.specs.SameParts.{same_value_same, same_parts_same}
+use Rattle.gj_tools.proofs.Ratios.{not_below_itself, below_chain}
+use Rattle.gj_frac.specs.SameParts.{ratio, same_value_same, same_parts_same}
 
 -- x is less than y
 abbrev pub IsLess : Frac → Frac → Type 0
 IsLess x y = LessValue (fraction_of x) (fraction_of y)
 
 less_irrefl : (x : Frac) → ¬ (IsLess x x)
-less_irrefl x h = omega (arith, ints)
-
-less_trans : (x y z : ℤ) → x <ℤ y → y <ℤ z → x <ℤ z
-less_trans x y z h k = omega (arith, ints)
-
--- a/b < c/d and c/d < e/f give a/b < e/f
-less_cross : (a b c d e f : ℤ) → pos 0 <ℤ b → pos 0 <ℤ d → pos 0 <ℤ f → (a *ℤ d) <ℤ (c *ℤ b) → (c *ℤ f) <ℤ (e *ℤ d) → (a *ℤ f) <ℤ (e *ℤ b)
-less_cross a b c d e f b_some d_some f_some h k =
-    let below : ((a *ℤ f) *ℤ d) <ℤ ((c *ℤ f) *ℤ b) =
-    subst₂ (λ u v. u <ℤ v) (swap_last_z a d f) (swap_last_z c b f) (mul_lt_mul_right_z (a *ℤ d) (c *ℤ b) f f_some h) in
-    let above : ((c *ℤ f) *ℤ b) <ℤ ((e *ℤ b) *ℤ d) =
-    subst (λ v. ((c *ℤ f) *ℤ b) <ℤ v) (swap_last_z e d b) (mul_lt_mul_right_z (c *ℤ f) (e *ℤ d) b b_some k) in
-    mul_lt_cancel_right_z (a *ℤ f) (e *ℤ b) d d_some (less_trans _ _ _ below above)
+less_irrefl x = not_below_itself (ratio x)
 
 less_chain : (x y z : Frac) → IsLess x y → IsLess y z → IsLess x z
-less_chain x y z = less_cross x.num x.den y.num y.den z.num z.den x.lowest.positive y.lowest.positive z.lowest.positive
+less_chain x y z = below_chain (ratio x) (ratio y) (ratio z)
 
 -- the second of three cases in other words
 ranked_as : (r : Ordering) (P Q Q' R : Type 0) → (Q → Q') → MatchOrdering r P Q R → MatchOrdering r P Q' R
@@ -68,5 +55,6 @@ ties_Decides x y = (
 pub compare_values_ties : (x y : Frac) → (int_eq x.num y.num && int_eq x.den y.den) ≡ eq_by_cmp compare_values x y
 compare_values_ties x y = one_answer _ _ (parts_Decides x y) (ties_Decides x y)
 
-pub compare_values_partial : IsPartialOrder (λ (x y : Frac). int_eq x.num y.num && int_eq x.den y.den) (as_partial_cmp compare_values)
+pub compare_values_partial :
+    IsPartialOrder (λ (x y : Frac). int_eq x.num y.num && int_eq x.den y.den) (as_partial_cmp compare_values)
 compare_values_partial = po compare_values_total compare_values_ties

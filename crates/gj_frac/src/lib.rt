@@ -1,4 +1,12 @@
 //! Exact fractions of 128 bits.
+//!
+//! A `Frac` is a whole number over a positive one, in lowest terms, each at most 2^127 - 1 in absolute value. So `==`
+//! and the hash go by value. Nothing wraps and nothing is rounded: `+`, `-`, `*` and `/` are exact, each under a
+//! condition that its result fits, which the caller proves; `checked_add` and the like test that condition instead. The
+//! order is that of the values, without a condition.
+//!
+//! `ExactNumber` has the laws that generic code may rely on: the order and the grouping of sums and products do not
+//! matter where they can be formed. `gcd` is the greatest common divisor that all crates use.
 #![tactic(auto)]
 
 ghost use Rattle.std.specs.Prelude.{◌≡◌, ◌≢◌, ◌⊎◌, ◌↔◌, pos, ◌^◌, ◌<◌, unsigned_abs, IsNone, IfSome};
@@ -26,6 +34,12 @@ use parts::{common_divisor, quotient};
 /// A fraction in lowest terms with a positive denominator; zero is 0/1.
 ///
 /// Both parts are at most 2^127 - 1 in absolute value. Equal values have equal parts.
+///
+/// ```rust
+/// let sixth = Frac::new(1, 6)?;
+/// let half = sixth + Frac::new(2, 6)?; // exactly 1/2
+/// let in_order = sixth < half && half == Frac::new(-3, -6)?; // true
+/// ```
 #[derive(Clone, Copy, Debug, PartialEq, Eq, Hash)]
 pub struct Frac {
     num: i128,

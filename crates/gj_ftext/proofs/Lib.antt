@@ -1,12 +1,5 @@
-pub mod Canonical
-pub mod Counts
-pub mod FirstFaults
-pub mod FirstLines
-pub mod LineFaults
-pub mod NextLines
-pub mod OneNumber
+pub mod FunctionTexts
 pub mod OneText
-pub mod PointsRead
-pub mod TextLines
-pub mod WholeFaults
+pub mod Canonical
 pub mod OneCanonical
+pub mod LinesOfFunction

@@ -2,7 +2,7 @@
 use Rattle.std.proofs.Common.{◌≡◌, ℕ, List, ◌++◌, codes, sym, ap, ◌∙◌}
 use Rattle.gj_shape.specs.FunctionData.{FunctionData, IsWithinBounds}
 use Rattle.gj_lines.specs.FunctionLines.{line}
-use Rattle.gj_lines.proofs.GivenPoints.{one_text_of_lines}
+use Rattle.gj_lines.proofs.OneTextOfLines.{one_text_of_lines}
 use Rattle.gj_ftext.specs.FunctionText.{IsCanonicalText}
 
 pub one_canonical_text : (f : FunctionData) (a b : List ℕ) → IsWithinBounds f → IsCanonicalText a f → IsCanonicalText b f → a ≡ b

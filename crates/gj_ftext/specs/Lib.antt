@@ -1,4 +1,3 @@
-pub mod Lines
 pub mod FunctionText
 pub mod FirstFault
-pub mod Reading
+pub mod LinesOfFunction

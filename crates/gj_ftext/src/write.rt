@@ -12,7 +12,7 @@ pub fn write_function(alloc: Global, shape: &Shape) -> Result<Vec<u8>, AllocErro
 {
     let mut text = Vec::new(alloc);
     text.extend_from_slice(b"gj-function 1\n")?;
-    push_function_lines(&mut text, shape)?;
+    push_function_lines(alloc, &mut text, shape)?;
     text.extend_from_slice(b"end\n")?;
     Ok(text)
 }

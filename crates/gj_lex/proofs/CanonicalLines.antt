@@ -41,9 +41,10 @@ byte_by_test b more h =
     let tab : b ≢ 9 = λ e. false≢true (subst (λ c. test c ≡ true) e h) in
     let feed : b ≢ 10 = λ e. false≢true (subst (λ c. test c ≡ true) e h) in
     let return : b ≢ 13 = λ e. false≢true (subst (λ c. test c ≡ true) e h) in
-    let space : b ≢ 32 = λ e. false≢true (subst (λ c. test c ≡ true) e h) in
-    (record { no_tab = tab; no_line_feed = feed; no_carriage_return = return; no_space = space },
-    rw (ne_eqb b 9 tab, ne_eqb b 10 feed, ne_eqb b 13 return, ne_eqb b 32 space) at h)
+    let space : b ≢ 32 = λ e. false≢true (subst (λ c. test c ≡ true) e h) in (
+      record { no_tab = tab; no_line_feed = feed; no_carriage_return = return; no_space = space },
+      rw (ne_eqb b 9 tab, ne_eqb b 10 feed, ne_eqb b 13 return, ne_eqb b 32 space) at h,
+    )
 
 bytes_by_test : (bs : List ℕ) → plain_bytes bs ≡ true → All IsWordByte bs
 bytes_by_test [] h = All-nil IsWordByte

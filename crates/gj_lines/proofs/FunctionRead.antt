@@ -4,7 +4,7 @@ use Rattle.gj_lex.specs.declared.spelling.Spelling.{Spelling}
 use Rattle.gj_lex.specs.declared.fault.PartFault.{PartFault}
 use Rattle.gj_lex.specs.Parts.{Part, line_part, then_part, made_part, IsFaultOf}
 use Rattle.gj_lex.proofs.PartLaws.{fault_in_first, fault_in_next, fault_in_made}
-use Rattle.gj_shape.specs.FunctionData.{FunctionData}
+use Rattle.gj_shape.specs.FunctionData.{FunctionData, IsWithinBounds}
 use Rattle.gj_shape.specs.Given.{IsGivenBy}
 use Rattle.gj_shape.specs.Points.{lefts, values, rights}
 use Rattle.gj_shape.specs.declared.points.Point.{Point}
@@ -45,3 +45,8 @@ pub whole : (s : Spelling) (text : List ℕ) (q k : ℕ) (next more rest : List 
     (line_part s (order_rule s)).Reads text q next → (line_part s (place_rule s q)).Reads next k more →
     (points_part s q []).Reads more points rest → Gives q k points f → (function_part s).Reads text f rest
 whole s text q k next more rest points f order place h given = (q, next, order, (k, more, place, (points, h, given)))
+
+-- a function that is read is within bounds
+pub within_bounds : (s : Spelling) (text : List ℕ) (f : FunctionData) (rest : List ℕ) → (function_part s).Reads text f rest →
+    IsWithinBounds f
+within_bounds s text f rest (q, next, order, (k, more, place, (points, h, given))) = given.within

@@ -94,8 +94,7 @@ strict_lines_are_canonical f text rest (q, next, order, (k, more, place, (all, p
     ∙ sym (append_assoc (order_line q) (place_line x) (flat_map point_line all ++ rest))
     ∙ sym (append_assoc (order_line q ++ place_line x) (flat_map point_line all) rest) in
     let ratio_at : IsRatio x (pos f.place) (pos f.order) =
-    subst (λ n. IsRatio x (pos f.place) (pos n)) (sym given.order) (subst (λ n. IsRatio x (pos n) (pos q)) (sym given.place) ratio) in
-    (
+    subst (λ n. IsRatio x (pos f.place) (pos n)) (sym given.order) (subst (λ n. IsRatio x (pos n) (pos q)) (sym given.place) ratio) in (
       lines,
       record {
         place = x;

@@ -1,8 +1,13 @@
-//! The lines of a function: its order, its place and its points, tested in their order and printed in their one spelling.
+//! The lines of a function: its order, its place and its points.
+//!
+//! `function_at` reads them in either spelling, and tests them in their order; `push_function_lines` prints them in
+//! their one spelling. The form stands in `specs/FunctionGrammar` (what is read, and the first fault) and in
+//! `specs/FunctionLines` (what is printed).
 #![tactic(auto)]
 
 mod function;
 mod head;
+mod laws;
 mod place;
 mod points;
 mod print;
@@ -10,5 +15,9 @@ mod print;
 mod tests;
 
 pub use function::function_at;
+pub use laws::{
+    canonical_lines_are_read, function_has_one_text, function_lines_are_exact,
+    function_lines_are_short, read_functions_are_within_bounds, strict_lines_are_canonical,
+};
 pub use place::place_of;
 pub use print::{push_fraction_line, push_function_lines};

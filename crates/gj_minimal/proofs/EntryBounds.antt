@@ -1,63 +1,18 @@
 -- Where the tests of signs and of symmetry pass, all values and limits lie from 0 to 1.
-use Rattle.std.proofs.Common.{◌≡◌, ℕ, zero, suc, ◌+◌, ◌-◌, ◌*◌, ◌<◌, ◌≤◌, ◌^◌, ℤ, pos, ◌+ℤ◌, ◌≤ℤ◌, List, length, All, sym, ap, subst, ◌∙◌, arith}
+use Rattle.std.proofs.Common.{◌≡◌, ℕ, ◌+◌, ◌*◌, ◌≤◌, ◌^◌, ℤ, pos, ◌≤ℤ◌, length, All, sym, subst, arith}
 use Rattle.std.proofs.Math.Nat.{mul-le-mul_right}
 use Rattle.std.proofs.lemmas.Int.{ints}
-use Rattle.gj_shape.specs.FunctionData.{FunctionData, IsWithinBounds, at}
+use Rattle.gj_shape.specs.FunctionData.{FunctionData, IsWithinBounds}
 use Rattle.gj_shape.specs.Faces.{corners_of, limits_of, slack_from}
 use Rattle.gj_shape.specs.declared.faces.FaceKind.{FaceKind}
 use Rattle.gj_shape.specs.declared.faces.FaceKind.TheVariants.{Vertex, Horizontal, Vertical, Diagonal, Lower, Upper}
-use Rattle.gj_shape.proofs.AtLemmas.{at_plus_length}
-use Rattle.gj_theory.specs.Before.{PassesSymmetry, PassesBefore}
+use Rattle.gj_theory.specs.EarlierTests.{PassesSymmetry, PassesBefore}
 use Rattle.gj_theory.specs.NearCorners.{total}
+use Rattle.gj_theory.proofs.Lanes.{AreBounded, are_bounded}
 use Rattle.gj_shape.specs.FirstViolation.Test.{subadditive_at}
-use Rattle.gj_minimal.proofs.Theory.{limit_count, some_corners, everywhere}
+use Rattle.gj_minimal.proofs.Theory.{limit_count, some_corners}
 use Rattle.gj_minimal.proofs.NearPoints.{fine_grid}
 use Rattle.gj_minimal.proofs.NearPairs.{one_of, two_of, three_of, total_at_most}
-
--- what holds of each entry one further on than an index below the length
-each_below : (P : ℤ → Type 0) (xs : List ℤ) (n : ℕ) → length xs ≡ n → ((i : ℕ) → i < n → P (at xs (i + 1))) →
-    (i : ℕ) → i < n → P (at xs i)
-each_below P xs n len h zero below =
-    let last : n - 1 + 1 ≡ 0 + length xs = omega arith in
-    subst P (ap (at xs) last ∙ at_plus_length xs 0) (h (n - 1) (omega arith))
-each_below P xs n len h (suc i) below =
-    let next : i + 1 ≡ suc i = omega arith in
-    subst P (ap (at xs) next) (h i (omega arith))
-
-everywhere_after : (P : ℤ → Type 0) (xs : List ℤ) (n : ℕ) → length xs ≡ n → 0 < n →
-    ((i : ℕ) → i < n → P (at xs (i + 1))) →
-    (i : ℕ) → P (at xs i)
-everywhere_after P xs n len some h = everywhere P xs n len some (each_below P xs n len h)
-
--- the values and limits are from 0 to the scale
-record AreBounded (f : FunctionData) : Type 0 where
-  value_low : (i : ℕ) → pos 0 ≤ℤ at f.value i
-  value_high : (i : ℕ) → at f.value i ≤ℤ pos f.scale
-  left_low : (i : ℕ) → pos 0 ≤ℤ at f.left i
-  left_high : (i : ℕ) → at f.left i ≤ℤ pos f.scale
-  right_low : (i : ℕ) → pos 0 ≤ℤ at f.right i
-  right_high : (i : ℕ) → at f.right i ≤ℤ pos f.scale
-
-at_most : (x y : ℤ) (s : ℕ) → x +ℤ y ≡ pos s → pos 0 ≤ℤ y → x ≤ℤ pos s
-at_most x y s e low = omega (arith, ints)
-
-are_bounded : (f : FunctionData) → IsWithinBounds f → PassesSymmetry f → AreBounded f
-are_bounded f l h =
-    let some : 0 < f.order = omega arith in
-    let values = everywhere (λ z. pos 0 ≤ℤ z) f.value f.order l.value_length some h.mirrors.signs.values.nonnegative in
-    let lefts = everywhere_after (λ z. pos 0 ≤ℤ z) f.left f.order l.left_length some h.mirrors.signs.before in
-    let rights = everywhere (λ z. pos 0 ≤ℤ z) f.right f.order l.right_length some h.mirrors.signs.after in
-    record {
-      value_low = values;
-      value_high = everywhere (λ z. z ≤ℤ pos f.scale) f.value f.order l.value_length some
-          (λ i below. at_most _ _ f.scale (h.mirrors.symmetric i below) (values (f.place + (f.order - i))));
-      left_low = lefts;
-      left_high = everywhere_after (λ z. z ≤ℤ pos f.scale) f.left f.order l.left_length some
-          (λ i below. at_most _ _ f.scale (h.between i below).1 (rights (f.place + (f.order - (i + 1)))));
-      right_low = rights;
-      right_high = everywhere (λ z. z ≤ℤ pos f.scale) f.right f.order l.right_length some
-          (λ i below. at_most _ _ f.scale (h.between i below).0 (lefts (f.place + (f.order - i))));
-    }
 
 -- so the limits of the slack are at most twice the scale
 slack_at_most : (s : ℕ) (x y z : ℤ) → x ≤ℤ pos s → y ≤ℤ pos s → pos 0 ≤ℤ z → slack_from x y z ≤ℤ pos (2 * s)

@@ -1,7 +1,8 @@
 -- From the limits of one square to the tests of its faces.
-use Rattle.std.proofs.Common.{◌≡◌, ℕ, ◌<◌, pos, ◌≤ℤ◌, [], ◌∷◌, length, get_or, All, lit<, sym, subst, refl, arith}
+use Rattle.std.proofs.Common.{◌≡◌, ℕ, ◌*◌, ◌<◌, ◌≤◌, pos, ◌≤ℤ◌, [], ◌∷◌, length, get_or, All, lit<, sym, subst, refl, ⊎_elim, below_none, below_more, arith}
+use Rattle.std.proofs.lemmas.Bool.{cases_lt}
 use Rattle.std.proofs.lemmas.List.Elements.{All-nil, All-cons}
-use Rattle.gj_shape.specs.FunctionData.{FunctionData}
+use Rattle.gj_shape.specs.FunctionData.{FunctionData, IsWithinBounds, IsContinuous}
 use Rattle.gj_shape.specs.Faces.{corners_of}
 use Rattle.gj_shape.specs.FirstViolation.{Test, Passes}
 use Rattle.gj_shape.specs.FirstViolation.Test.{subadditive_at}
@@ -9,12 +10,16 @@ use Rattle.gj_shape.specs.declared.faces.FaceKind.{FaceKind}
 use Rattle.gj_shape.specs.declared.faces.FaceKind.TheVariants.{Vertex, Horizontal, Vertical, Diagonal, Lower, Upper}
 use Rattle.gj_complex.specs.declared.square.Square.{Square}
 use Rattle.gj_complex.specs.Squares.{HasLimits}
-use Rattle.gj_theory.specs.Before.{PassesVertices, PassesFace, PassesSquare, HoldsBefore, PassesKindsBefore, PassesFacesBefore}
+use Rattle.gj_theory.specs.EarlierTests.{PassesVertices, PassesFace, PassesSquare, HoldsBefore, PassesKindsBefore, PassesFacesBefore}
 use Rattle.gj_theory.proofs.FirstFailed.{IsNoVertex}
+use Rattle.gj_tools.proofs.Lists.{made_has}
+use Rattle.gj_theory.proofs.Lanes.{PassesAt, FitAtSums, mirrored_square, continuous_square, square_passes, fit_from_sums}
 use Rattle.gj_minimal.specs.FirstFailure.{IsFirstFailure, HoldsBelow}
 use Rattle.gj_minimal.specs.declared.failures.Failure.{Failure}
 use Rattle.gj_minimal.specs.declared.failures.Failure.TheVariants as failure
-use Rattle.gj_minimal.specs.Failures.{FailsFirst, IsNonnegativeIn}
+use Rattle.gj_minimal.specs.declared.lanes.Lanes.{Lanes}
+use Rattle.gj_minimal.specs.Failures.{FailsFirst, PassesRow, IsNonnegativeIn}
+use Rattle.gj_minimal.specs.Lanes.{AreLanesOf}
 
 -- how many corners a face has does not depend on the square
 pub same_corners : (kind : FaceKind) (a b : ℕ) → length (corners_of kind 0 0) ≡ length (corners_of kind a b)
@@ -55,12 +60,62 @@ face_passes f Lower a b h = tests_of_three (Passes f) (subadditive_at Lower a b 
 face_passes f Upper a b h = tests_of_three (Passes f) (subadditive_at Upper a b 0) (subadditive_at Upper a b 1)
     (subadditive_at Upper a b 2) (h 0 (lit< tt)) (h 1 (lit< tt)) (h 2 (lit< tt))
 
--- a face of the square with no negative limit passes
-pub face_in_square : (f : FunctionData) (s : Square) (kind : FaceKind) (a b : ℕ) → HasLimits s f a b →
-    HoldsBelow (IsNonnegativeIn s kind) (length (corners_of kind 0 0)) → PassesFace f kind a b
-face_in_square f s kind a b has h =
-    let same = same_corners kind a b in
-    face_passes f kind a b (λ c below. limit_passes f s kind a b c has (h c (omega arith)))
+-- ---- rows of squares
+
+-- the square passes where all limits in it do
+pub square_passes_at : (f : FunctionData) (a b : ℕ) → PassesAt f a b → PassesSquare f a b
+square_passes_at f a b h = record {
+  horizontal = face_passes f Horizontal a b (h Horizontal);
+  vertical = face_passes f Vertical a b (h Vertical);
+  diagonal = face_passes f Diagonal a b (h Diagonal);
+  lower = face_passes f Lower a b (h Lower);
+  upper = face_passes f Upper a b (h Upper);
+}
+
+-- and all limits in it pass where it and the vertex do
+passes_at : (f : FunctionData) (a b : ℕ) → PassesVertices f → a < f.order → b < f.order → PassesSquare f a b →
+    PassesAt f a b
+passes_at f a b v a_below b_below h Vertex = below_more (λ c. Passes f (subadditive_at Vertex a b c)) 0
+    (below_none (λ c. Passes f (subadditive_at Vertex a b c))) (v.vertices a b a_below b_below)
+passes_at f a b v a_below b_below h Horizontal =
+    λ c below. made_has (Passes f) (subadditive_at Horizontal a b) c 2 below h.horizontal
+passes_at f a b v a_below b_below h Vertical =
+    λ c below. made_has (Passes f) (subadditive_at Vertical a b) c 2 below h.vertical
+passes_at f a b v a_below b_below h Diagonal =
+    λ c below. made_has (Passes f) (subadditive_at Diagonal a b) c 2 below h.diagonal
+passes_at f a b v a_below b_below h Lower =
+    λ c below. made_has (Passes f) (subadditive_at Lower a b) c 3 below h.lower
+passes_at f a b v a_below b_below h Upper =
+    λ c below. made_has (Passes f) (subadditive_at Upper a b) c 3 below h.upper
+
+-- a row passes from its diagonal on, and before it as the earlier rows do
+pub squares_from_diagonal : (f : FunctionData) (a : ℕ) → PassesVertices f → a < f.order → HoldsBelow (PassesRow f) a →
+    ((b : ℕ) → a ≤ b → b < f.order → PassesSquare f a b) → PassesRow f a
+squares_from_diagonal f a v below rows h b b_below =
+    ⊎_elim
+    (λ before. square_passes_at f a b
+    (mirrored_square f b a (passes_at f b a v b_below below (rows b before a below))))
+    (λ after. h b after b_below) (cases_lt b a)
+
+-- the squares of a continuous function pass where the vertices do
+pub continuous_passes : (f : FunctionData) (a b : ℕ) → IsWithinBounds f → IsContinuous f → PassesVertices f →
+    PassesSquare f a b
+continuous_passes f a b l continuous v = square_passes_at f a b (continuous_square f l continuous v.vertices a b)
+
+-- a square passes where no limit in it is negative over lanes
+pub square_from_lanes : (f : FunctionData) (l : Lanes) (a b : ℕ) → AreLanesOf f l → PassesVertices f → a < f.order →
+    b < f.order → FitAtSums (λ i. get_or l.left i 0) (λ i. get_or l.value i 0) (λ i. get_or l.right i 0) a b →
+    PassesSquare f a b
+square_from_lanes f l a b lanes v a_below b_below sums =
+    let left = λ (i : ℕ). get_or l.left i 0 in
+    let value = λ (i : ℕ). get_or l.value i 0 in
+    let right = λ (i : ℕ). get_or l.right i 0 in
+    square_passes_at f a b
+    (square_passes f left value right (2 * f.order) a b
+    (record { lefts = lanes.lefts.same; values = lanes.values.same; rights = lanes.rights.same }) (omega arith)
+    (v.vertices a b a_below b_below) (fit_from_sums left value right a b sums))
+
+-- ---- the first failed limit
 
 -- what is known of the function before a face of the square (a, b)
 pub record IsReached (f : FunctionData) (s : Square) (a b : ℕ) : Type 0 where
@@ -70,13 +125,25 @@ pub record IsReached (f : FunctionData) (s : Square) (a b : ℕ) : Type 0 where
   pub squares : HoldsBefore f (PassesSquare f) a b
   pub limits : HasLimits s f a b
 
+pub reached : (f : FunctionData) (s : Square) (a b : ℕ) → a < f.order → b < f.order → PassesVertices f →
+    HoldsBefore f (PassesSquare f) a b → HasLimits s f a b → IsReached f s a b
+reached f s a b first second vertices squares limits =
+    record { first = first; second = second; vertices = vertices; squares = squares; limits = limits }
+
+-- a face of the square with no negative limit passes
+pub face_in_square : {f : FunctionData} {s : Square} {a b : ℕ} → IsReached f s a b → (kind : FaceKind) →
+    HoldsBelow (IsNonnegativeIn s kind) (length (corners_of kind 0 0)) → PassesFace f kind a b
+face_in_square {f} {s} {a} {b} r kind h =
+    let same = same_corners kind a b in
+    face_passes f kind a b (λ c below. limit_passes f s kind a b c r.limits (h c (omega arith)))
+
 -- the first negative limit in a face is the first failed test, where the faces before it pass
-pub record FailsAt (f : FunctionData) (kind : FaceKind) (a b c : ℕ) : Type 0 where
+record FailsAt (f : FunctionData) (kind : FaceKind) (a b c : ℕ) : Type 0 where
   pub test : (a < f.order) × (b < f.order) × (c < length (corners_of kind a b))
   pub before : PassesFacesBefore f kind a b c
   pub fails : Passes f (subadditive_at kind a b c) → ⊥
 
-pub fails_at : (f : FunctionData) (s : Square) (kind : FaceKind) (a b c : ℕ) → IsReached f s a b →
+fails_at : (f : FunctionData) (s : Square) (kind : FaceKind) (a b c : ℕ) → IsReached f s a b →
     PassesKindsBefore f a b kind →
     IsFirstFailure (IsNonnegativeIn s kind) (length (corners_of kind 0 0)) c → FailsAt f kind a b c
 fails_at f s kind a b c reached kinds found =
@@ -94,17 +161,19 @@ fails_at f s kind a b c reached kinds found =
     }
 
 -- a corner of a face that is no vertex fails first
-pub first_at : (f : FunctionData) (kind : FaceKind) (a b c : ℕ) (x : Failure) →
-    x ≡ failure.Corner (record { kind = kind; a = a; b = b }) c → IsNoVertex kind → FailsAt f kind a b c →
-    FailsFirst f x
-first_at f Vertex a b c x is none h = absurd none
-first_at f Horizontal a b c x is none h = subst (FailsFirst f) (sym is)
-    (record { test = h.test; before = h.before; fails = h.fails })
-first_at f Vertical a b c x is none h = subst (FailsFirst f) (sym is)
-    (record { test = h.test; before = h.before; fails = h.fails })
-first_at f Diagonal a b c x is none h = subst (FailsFirst f) (sym is)
-    (record { test = h.test; before = h.before; fails = h.fails })
-first_at f Lower a b c x is none h = subst (FailsFirst f) (sym is)
-    (record { test = h.test; before = h.before; fails = h.fails })
-first_at f Upper a b c x is none h = subst (FailsFirst f) (sym is)
-    (record { test = h.test; before = h.before; fails = h.fails })
+first_at : (f : FunctionData) (kind : FaceKind) (a b c : ℕ) → IsNoVertex kind → FailsAt f kind a b c →
+    FailsFirst f (failure.Corner (record { kind = kind; a = a; b = b }) c)
+first_at f Vertex a b c none h = absurd none
+first_at f Horizontal a b c none h = record { test = h.test; before = h.before; fails = h.fails }
+first_at f Vertical a b c none h = record { test = h.test; before = h.before; fails = h.fails }
+first_at f Diagonal a b c none h = record { test = h.test; before = h.before; fails = h.fails }
+first_at f Lower a b c none h = record { test = h.test; before = h.before; fails = h.fails }
+first_at f Upper a b c none h = record { test = h.test; before = h.before; fails = h.fails }
+
+-- as the code finds it
+pub corner_fails : {f : FunctionData} {s : Square} {a b : ℕ} → IsReached f s a b → (kind : FaceKind) (c : ℕ)
+    (x : Failure) → IsNoVertex kind → PassesKindsBefore f a b kind →
+    IsFirstFailure (IsNonnegativeIn s kind) (length (corners_of kind 0 0)) c →
+    x ≡ failure.Corner (record { kind = kind; a = a; b = b }) c → FailsFirst f x
+corner_fails {f} {s} {a} {b} reached kind c x none kinds found x_is =
+    subst (FailsFirst f) (sym x_is) (first_at f kind a b c none (fails_at f s kind a b c reached kinds found))

@@ -1,9 +1,9 @@
 pub mod Theory
 pub mod Readings
-pub mod RowHalves
 pub mod LeastDenominators
 pub mod FailedVertices
 pub mod FailedFaces
+pub mod LaneReadings
 pub mod NearPoints
 pub mod NearPairs
 pub mod EntryBounds

@@ -1,8 +1,7 @@
 -- What tests on numerators of the code say of them.
-use Rattle.std.proofs.Common.{◌≡◌, ◌<◌, ◌^◌, ℤ, pos, ◌+ℤ◌, ◌<ℤ◌, ◌≤ℤ◌, unsigned_abs, true, false, IsTrue, ◌↔◌, eqb, eqb-true, eq-eqb, ◌*ℤ◌, ap, sym, ◌∙◌, to_z, of_z, FitsSigned, w64, arith}
+use Rattle.std.proofs.Common.{◌≡◌, ◌<◌, ◌^◌, ℤ, pos, ◌+ℤ◌, unsigned_abs, IsTrue, ◌↔◌, eqb, eqb-true, eq-eqb, ◌*ℤ◌, ap, sym, ◌∙◌, to_z, of_z, FitsSigned, w64, arith}
 use Rattle.std.proofs.lemmas.Int.{ints, to_z-of_z}
 use Rattle.gj_shape.proofs.NumeratorReadings.{small_read}
-use lib.Signed.{lt_z}
 
 -- the sum of two numbers of 51 bits, as the code has it
 pub sum_read : (x y : ℤ) → unsigned_abs x < 2 ^ 51 → unsigned_abs y < 2 ^ 51 →
@@ -12,26 +11,7 @@ sum_read x y h k =
     let second = small_read y k in
     rw (first, second) (to_z-of_z w64 (x +ℤ y) (omega (arith, ints)))
 
--- a sum that is found to be less than a number, or not
-pub below_read : (x y s : ℤ) → unsigned_abs x < 2 ^ 51 → unsigned_abs y < 2 ^ 51 → FitsSigned w64 s →
-    lt_z (to_z w64 (of_z w64 (to_z w64 (of_z w64 x) +ℤ to_z w64 (of_z w64 y)))) (to_z w64 (of_z w64 s)) ≡ true →
-    (x +ℤ y) <ℤ s
-below_read x y s h k fits e =
-    let total = sum_read x y h k in
-    let last = to_z-of_z w64 s fits in
-    let less = rw (total, last) at e in
-    grind (arith, ints)
-
-pub not_below_read : (x y s : ℤ) → unsigned_abs x < 2 ^ 51 → unsigned_abs y < 2 ^ 51 → FitsSigned w64 s →
-    lt_z (to_z w64 (of_z w64 (to_z w64 (of_z w64 x) +ℤ to_z w64 (of_z w64 y)))) (to_z w64 (of_z w64 s)) ≡ false →
-    s ≤ℤ (x +ℤ y)
-not_below_read x y s h k fits e =
-    let total = sum_read x y h k in
-    let last = to_z-of_z w64 s fits in
-    let less = rw (total, last) at e in
-    grind (arith, ints)
-
--- a sum that is found to be a number, or not
+-- a sum that is found to be a number
 pub same_read : (x y s : ℤ) → unsigned_abs x < 2 ^ 51 → unsigned_abs y < 2 ^ 51 → FitsSigned w64 s →
     of_z w64 (to_z w64 (of_z w64 x) +ℤ to_z w64 (of_z w64 y)) ≡ of_z w64 s → x +ℤ y ≡ s
 same_read x y s h k fits e = sym (sum_read x y h k) ∙ ap (to_z w64) e ∙ to_z-of_z w64 s fits

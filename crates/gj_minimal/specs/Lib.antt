@@ -1,3 +1,4 @@
 pub mod FirstFailure
-pub mod AtIndices
+pub mod Numerators
+pub mod Lanes
 pub mod Failures

@@ -1,7 +1,7 @@
 //! Values and limits at indices that are read modulo the order, each times the common denominator.
 ghost use Rattle.std.specs.Prelude.{◌≡◌, ◌<◌, ◌^◌, pos, length, unsigned_abs};
 ghost use Rattle.gj_shape.specs.FunctionData.{IsWithinBounds, at};
-ghost use Rattle.gj_minimal.specs.AtIndices.{FitSums};
+ghost use Rattle.gj_minimal.specs.Numerators.{FitSums};
 
 use gj_shape::Shape;
 

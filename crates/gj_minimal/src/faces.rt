@@ -1,36 +1,48 @@
 //! The tests of the slack on the faces that are no vertices.
 ghost use Rattle.std.specs.Prelude.{ℕ, ◌≡◌, ◌<◌, length, IfSome, IfNone};
 ghost use Rattle.gj_shape.specs.Faces.{corners_of};
-ghost use Rattle.gj_theory.specs.Before.{PassesVertices, PassesSquare, HoldsBefore};
+ghost use Rattle.gj_theory.specs.EarlierTests.{PassesVertices, PassesSquare, HoldsBefore};
 ghost use Rattle.gj_minimal.specs.FirstFailure.{IsFirstFailure, HoldsBelow};
 ghost use Rattle.gj_minimal.specs.Failures.{FailsFirst, PassesRow, IsNonnegativeIn};
+ghost use Rattle.gj_minimal.specs.Lanes.{AreLanesOf};
 
 use crate::failures::Failure;
+use crate::lanes::Lanes;
 use gj_complex::{Square, corners};
 use gj_shape::{Face, FaceKind, Shape};
 
-/// The first failed test of the slack on the faces that are no vertices, square by square.
-pub(crate) fn failed_face(shape: &Shape) -> Option<Failure>
-    requires { PassesVertices shape.now }
+/// The first failed test of the slack on the faces that are no vertices, square by square. The limits of a continuous
+/// function are slacks at grid points, and need no test.
+pub(crate) fn failed_face(shape: &Shape, lanes: &Lanes) -> Option<Failure>
+    requires vertices { PassesVertices shape.now }
+    requires lanes { AreLanesOf shape.now lanes.now }
     ensures found { IfSome result (FailsFirst shape.now) }
     ensures none { IfNone result (HoldsBelow (PassesRow shape.now) shape.now.order) }
 {
-    for a in 0..shape.order() {
-        if let Some(failure) = failed_in_row(shape, a) {
+    let order = shape.order();
+    if shape.is_continuous() {
+        return None;
+    }
+    for a in 0..order {
+        if let Some(failure) = failed_in_row(shape, lanes, a) {
             return Some(failure);
         }
     }
     None
 }
 
-/// The first failed test in the squares of row a.
-fn failed_in_row(shape: &Shape, a: u32) -> Option<Failure>
+/// The first failed test in the squares of row a, which are searched one by one where one may fail.
+fn failed_in_row(shape: &Shape, lanes: &Lanes, a: u32) -> Option<Failure>
     requires within { a < shape.now.order }
     requires vertices { PassesVertices shape.now }
+    requires lanes { AreLanesOf shape.now lanes.now }
     requires rows { HoldsBelow (PassesRow shape.now) a }
     ensures found { IfSome result (FailsFirst shape.now) }
     ensures none { IfNone result (PassesRow shape.now a) }
 {
+    if lanes.squares_pass(shape, a as usize) {
+        return None;
+    }
     for b in 0..shape.order() {
         if let Some(failure) = failed_in_square(shape, a, b) {
             return Some(failure);

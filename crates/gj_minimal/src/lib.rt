@@ -4,6 +4,7 @@
 mod entries;
 mod faces;
 mod failures;
+mod lanes;
 mod points;
 mod search;
 mod shown;

@@ -9,6 +9,7 @@ ghost use Rattle.gj_minimal.specs.Failures.{FailsFirst};
 
 use crate::faces::failed_face;
 use crate::failures::Failure;
+use crate::lanes::Lanes;
 use crate::shown::shown;
 use crate::signs::{failed_interval_sign, failed_value};
 use crate::symmetry::{failed_interval_mirror, failed_mirror};
@@ -59,8 +60,9 @@ fn first_failure(shape: &Shape) -> Option<Failure>
     if let Some(failure) = failed_interval_mirror(shape) {
         return Some(failure);
     }
-    if let Some(failure) = failed_vertex(shape) {
+    let lanes = Lanes::of(shape);
+    if let Some(failure) = failed_vertex(shape, &lanes) {
         return Some(failure);
     }
-    failed_face(shape)
+    failed_face(shape, &lanes)
 }

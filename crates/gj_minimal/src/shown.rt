@@ -5,7 +5,7 @@ ghost use Rattle.gj_shape.specs.Faces.{corners_of, limits_of};
 ghost use Rattle.gj_shape.specs.FirstViolation.{Shows, ShowsNearCorner, first_coordinates, second_coordinates};
 ghost use Rattle.gj_shape.specs.FirstViolation.Test.{nonnegative_after, nonnegative_before, symmetric_between};
 ghost use Rattle.gj_complex.specs.Squares.{limits_in};
-ghost use Rattle.gj_theory.specs.Before.{PassesSymmetry};
+ghost use Rattle.gj_theory.specs.EarlierTests.{PassesSymmetry};
 ghost use Rattle.gj_theory.specs.NearCorners.{total};
 ghost use Rattle.gj_minimal.specs.Failures.{FailsFirst, test_of, HasGridPoints};
 

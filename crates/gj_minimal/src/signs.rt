@@ -1,7 +1,7 @@
 //! The tests of signs.
 ghost use Rattle.std.specs.Prelude.{IfSome, IfNone};
 ghost use Rattle.gj_shape.specs.FunctionData.{IsWithinBounds};
-ghost use Rattle.gj_theory.specs.Before.{PassesValues, PassesSigns};
+ghost use Rattle.gj_theory.specs.EarlierTests.{PassesValues, PassesSigns};
 ghost use Rattle.gj_minimal.specs.Failures.{FailsFirst};
 
 use crate::entries::{left_at, right_at, value_at};

@@ -2,7 +2,7 @@
 ghost use Rattle.std.specs.Prelude.{◌<◌, ◌↔◌, IsTrue, IfSome, IfNone};
 ghost use Rattle.gj_shape.specs.FirstViolation.{Passes, MidpointsAgree};
 ghost use Rattle.gj_shape.specs.FirstViolation.Test.{symmetric_at, symmetric_between};
-ghost use Rattle.gj_theory.specs.Before.{PassesSigns, PassesMirrors, PassesSymmetry};
+ghost use Rattle.gj_theory.specs.EarlierTests.{PassesSigns, PassesMirrors, PassesSymmetry};
 ghost use Rattle.gj_minimal.specs.Failures.{FailsFirst};
 
 use crate::entries::{left_at, right_at, scale, value_at};

@@ -60,33 +60,6 @@ fn order_five(rt: HostRuntime) -> Result<(), Fail> {
     Ok(())
 }
 
-/// Continuous functions of order 6 with f = 1/2: a minimal one, and one whose only negative slack is at 5/6 and 5/6.
-#[test]
-fn order_six(rt: HostRuntime) -> Result<(), Fail> {
-    let zero = fraction(0, 1)?;
-    let one = fraction(1, 1)?;
-    let half = fraction(1, 2)?;
-    let third = fraction(1, 3)?;
-    let two_thirds = fraction(2, 3)?;
-    let quarter = fraction(1, 4)?;
-    let three_quarters = fraction(3, 4)?;
-    let five_sixths = fraction(5, 6)?;
-
-    let minimal = continuous(
-        &rt,
-        6,
-        3,
-        &[zero, two_thirds, third, one, third, two_thirds],
-    )?;
-    assert_eq!(rt; minimal, None);
-    let superadditive = continuous(&rt, 6, 3, &[zero, half, half, one, three_quarters, quarter])?;
-    assert_eq!(rt;
-        superadditive,
-        Some(Violation::Superadditive(five_sixths, five_sixths))
-    );
-    Ok(())
-}
-
 /// Functions with jumps, one for each kind of point that is not on the function's own grid, and a minimal one.
 #[test]
 fn jumps(rt: HostRuntime) -> Result<(), Fail> {

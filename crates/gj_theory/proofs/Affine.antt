@@ -16,6 +16,28 @@ weighted [] xs = pos 0
 weighted (w ∷ ws) [] = pos 0
 weighted (w ∷ ws) (x ∷ xs) = pos w *ℤ x +ℤ weighted ws xs
 
+-- ---- the corners of a face
+
+-- a face has one limit for each corner
+pub limit_count : (f : FunctionData) (kind : FaceKind) (a b : ℕ) →
+    length (limits_of f kind a b) ≡ length (corners_of kind a b)
+limit_count f Vertex a b = refl
+limit_count f Horizontal a b = refl
+limit_count f Vertical a b = refl
+limit_count f Diagonal a b = refl
+limit_count f Lower a b = refl
+limit_count f Upper a b = refl
+
+-- a face has one to three corners
+pub some_corners : (kind : FaceKind) (a b : ℕ) →
+    (0 < length (corners_of kind a b)) × (length (corners_of kind a b) ≤ 3)
+some_corners Vertex a b = (omega arith, omega arith)
+some_corners Horizontal a b = (omega arith, omega arith)
+some_corners Vertical a b = (omega arith, omega arith)
+some_corners Diagonal a b = (omega arith, omega arith)
+some_corners Lower a b = (omega arith, omega arith)
+some_corners Upper a b = (omega arith, omega arith)
+
 -- ---- the table at a place that is given by its parts
 
 -- at a multiple of 1/order

@@ -10,9 +10,9 @@ use Rattle.gj_shape.specs.FirstViolation.Test.{zero_at_zero, nonnegative_at, non
 use Rattle.gj_shape.specs.Table.{table, IsMinimalTable, IsMinimalOnGrid, IsMinimal}
 use Rattle.gj_shape.specs.declared.faces.FaceKind.{FaceKind}
 use Rattle.gj_shape.proofs.TableLemmas.{table_of_order, slack_at, limits_are_slacks}
-use Rattle.gj_theory.specs.Before.{IsTestOf}
-use Rattle.gj_theory.proofs.Tests.{each_test}
-use Rattle.gj_theory.proofs.Minimal.{minimal_from_tests}
+use Rattle.gj_theory.specs.EarlierTests.{IsTestOf}
+use Rattle.gj_theory.proofs.EachTest.{each_test}
+use Rattle.gj_theory.proofs.MinimalFromTests.{minimal_from_tests}
 
 -- a minimal table may be replaced by one with the same entries
 same_minimal_table : (t u : ℕ → ℤ) (n k s : ℕ) → ((i : ℕ) → u i ≡ t i) → IsMinimalTable t n k s → IsMinimalTable u n k s

@@ -2,8 +2,11 @@
 use Rattle.std.proofs.Common.{◌≡◌, ℕ, ◌+◌, ◌-◌, ◌%◌, ◌<◌, ℤ, pos, ◌+ℤ◌, List, length, refl, ap, sym, subst, ◌∙◌, arith}
 use Rattle.std.proofs.Math.Nat.{add-mod_right, mod-lt, mod-add-mod}
 use Rattle.gj_shape.specs.FunctionData.{at}
-use Rattle.gj_shape.proofs.AtLemmas.{at_wrapped}
-use Rattle.gj_theory.proofs.Values.{at_same}
+use Rattle.gj_shape.proofs.AtLemmas.{at_wrapped, at_same_remainder}
+
+-- indices with one rest modulo the order have one entry
+pub at_same : (xs : List ℤ) (i j n : ℕ) → length xs ≡ n → i % n ≡ j % n → at xs i ≡ at xs j
+at_same xs i j n len e = at_same_remainder xs i j (subst (λ m. i % m ≡ j % m) (sym len) e)
 
 -- the index opposite to i, up to multiples of n
 pub opposite_index : (i j k n : ℕ) → 0 < n → (i + j) % n ≡ k % n → j % n ≡ (k + (n - i % n)) % n

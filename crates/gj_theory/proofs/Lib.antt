@@ -1,11 +1,10 @@
-pub mod Lists
-pub mod Values
 pub mod Everywhere
 pub mod Affine
-pub mod Tests
-pub mod Minimal
-pub mod Complete
-pub mod Points
+pub mod EachTest
+pub mod MinimalFromTests
+pub mod TestsFromMinimal
+pub mod ShownPoints
 pub mod Violations
 pub mod FirstFailed
 pub mod Continuous
+pub mod Lanes

@@ -1,3 +1,3 @@
-pub mod Before
+pub mod EarlierTests
 pub mod GridPoints
 pub mod NearCorners

@@ -1,14 +1,17 @@
 -- Greatest common divisors and least common multiples.
-use Rattle.std.proofs.Common.{◌≡◌, ℕ, ◌*◌, ◌<◌, ◌⊎◌, inl, ⊎_elim, ℤ, pos, ◌*ℤ◌, unsigned_abs, sym, ap, subst, subst₂, ◌∙◌}
-use Rattle.std.proofs.Math.Nat.{mul_comm, mul_assoc, mul_right_comm, one-mul, pos_of_dvd_of_pos, dvd-mul_left, dvd-mul_right, mul-dvd-mul_right, dvd_of_mul-dvd-mul_right, one-dvd, mul-pos}
+use Rattle.std.proofs.Common.{◌≡◌, ℕ, zero, suc, ◌*◌, ◌/◌, ◌%◌, ◌<◌, ◌≤◌, ◌⊎◌, ⊎_elim, ℤ, pos, ◌*ℤ◌, ◌<ℤ◌, unsigned_abs, refl, sym, ap, subst, subst₂, ◌∙◌, arith}
+use Rattle.std.proofs.Math.Nat.{mul_comm, mul_assoc, mul_right_comm, one-mul, mul-zero, eq_of_mul-eq-mul_right, pos_of_dvd_of_pos, dvd-mul_left, dvd-mul_right, mul-dvd-mul_right, dvd_of_mul-dvd-mul_right, mul-div_cancel', div-mul_cancel, one-dvd, mul-pos}
 use Rattle.std.specs.Int.{IsGcd, ◌∣◌}
-use Rattle.std.proofs.lemmas.Nat.Gcd.{IsGcd-swap, dvd_trans, dvd_antisymm}
-use Rattle.std.proofs.lemmas.Int.{unsigned_abs-mul}
+use Rattle.std.proofs.lemmas.Nat.Gcd.{IsGcd-from_zero, IsGcd-from_mod, IsGcd-swap, dvd-zero, dvd_trans, dvd_antisymm}
+use Rattle.std.proofs.lemmas.Int.{ints, unsigned_abs-mul}
 pub use Rattle.gj_tools.specs.Divisors.{IsLcm}
-pub use Rattle.gj_tools.proofs.Coprime.{cofactor, gcd_exists, gcd_scaled, gauss, same_ratio_nat, same_ratio}
-use Rattle.gj_tools.proofs.Integers.{mul_assoc_z, mul_comm_z}
+use Rattle.gj_tools.proofs.Integers.{mul_left_comm_z, mul_cancel_right_z, abs_positive_z, pos_abs_z}
 
 -- ---- divisors
+
+-- what a divisor is times to give the number
+pub cofactor : (a b : ℕ) → a ∣ b → (c : ℕ) × (b ≡ a * c)
+cofactor a b h = (b / a, sym (mul-div_cancel' a h))
 
 -- a factor of a product divides it
 pub divides_product : (a b c : ℕ) → b ≡ a * c → a ∣ b
@@ -16,11 +19,44 @@ divides_product a b c e = subst (λ n. a ∣ n) (sym e) (dvd-mul_right a c)
 
 -- ---- existence
 
+-- Euclid's algorithm, with as many steps as `steps` allows
+gcd_within : (steps a b : ℕ) → b ≤ steps → (g : ℕ) × IsGcd a b g
+gcd_within zero a b h = (a, IsGcd-from_zero a b (omega arith))
+gcd_within (suc steps) a zero h = (a, IsGcd-from_zero a zero refl)
+gcd_within (suc steps) a (suc b) h =
+    let small : a % suc b ≤ steps = omega arith in
+    let r = gcd_within steps (suc b) (a % suc b) small in
+    (r.0, IsGcd-from_mod a (suc b) r.0 r.1)
+
+-- any two numbers have a greatest common divisor
+pub gcd_exists : (a b : ℕ) → (g : ℕ) × IsGcd a b g
+gcd_exists a b = gcd_within b a b (omega arith)
+
 -- it is positive where one of the two is
 pub gcd_positive : (a b g : ℕ) → IsGcd a b g → (0 < a) ⊎ (0 < b) → 0 < g
 gcd_positive a b g h some = ⊎_elim (pos_of_dvd_of_pos h.0) (pos_of_dvd_of_pos h.1) some
 
 -- ---- multiples and quotients
+
+-- the divisors of two multiples of a positive k divide k times the greatest common divisor
+scaled_greatest : (a b g k : ℕ) → IsGcd a b g → 0 < k → (d : ℕ) → d ∣ a * k → d ∣ b * k → d ∣ g * k
+scaled_greatest a b g k h some d p q =
+    let (c, common) = gcd_exists (a * k) (b * k) in
+    let (m, e) = cofactor k c (common.2 k (dvd-mul_left k a) (dvd-mul_left k b)) in
+    let is : c ≡ m * k = e ∙ mul_comm k m in
+    let first : m ∣ a = dvd_of_mul-dvd-mul_right m some (subst (λ n. n ∣ a * k) is common.0) in
+    let second : m ∣ b = dvd_of_mul-dvd-mul_right m some (subst (λ n. n ∣ b * k) is common.1) in
+    let all : c ∣ g * k = subst (λ n. n ∣ g * k) (sym is) (mul-dvd-mul_right m (h.2 m first second) k) in
+    dvd_trans d (common.2 d p q) all
+
+-- both numbers times k have k times the greatest common divisor
+pub gcd_scaled : (a b g k : ℕ) → IsGcd a b g → IsGcd (a * k) (b * k) (g * k)
+gcd_scaled a b g zero h = simp mul-zero (dvd-zero 0, dvd-zero 0, λ d p q. p)
+gcd_scaled a b g (suc k) h = (
+  mul-dvd-mul_right g h.0 (suc k),
+  mul-dvd-mul_right g h.1 (suc k),
+  scaled_greatest a b g (suc k) h (omega arith),
+)
 
 -- the quotients by the greatest common divisor have only 1 in common
 pub gcd_quotients : (a b g : ℕ) → IsGcd (a * g) (b * g) g → 0 < g → IsGcd a b 1
@@ -31,7 +67,25 @@ gcd_quotients a b g h some = (
       (subst (λ n. d * g ∣ n) (sym (one-mul g)) (h.2 (d * g) (mul-dvd-mul_right d p g) (mul-dvd-mul_right d q g))),
 )
 
+-- a positive number is its quotient by a divisor, times the divisor
+pub quotient_times : (n : ℤ) (g : ℕ) → pos 0 <ℤ n → g ∣ unsigned_abs n → pos (unsigned_abs n / g) *ℤ pos g ≡ n
+quotient_times n g some h = ap pos (div-mul_cancel g h) ∙ pos_abs_z n (omega (arith, ints))
+
+-- each of two positive numbers times the other's quotient by the greatest common divisor
+pub crossed_quotients : (n m : ℤ) (g : ℕ) → pos 0 <ℤ n → pos 0 <ℤ m → IsGcd (unsigned_abs n) (unsigned_abs m) g →
+    pos (unsigned_abs n / g) *ℤ m ≡ pos (unsigned_abs m / g) *ℤ n
+crossed_quotients n m g n_some m_some h =
+    let p = pos (unsigned_abs n / g) in
+    let q = pos (unsigned_abs m / g) in
+    ap (λ z. p *ℤ z) (sym (quotient_times m g m_some h.1)) ∙ mul_left_comm_z p q (pos g)
+    ∙ ap (λ z. q *ℤ z) (quotient_times n g n_some h.0)
+
 -- ---- numbers that have only 1 in common
+
+-- Gauss' lemma: a divisor of b c that has only 1 in common with b divides c
+pub gauss : (a b c : ℕ) → IsGcd a b 1 → a ∣ b * c → a ∣ c
+gauss a b c h p =
+    subst (λ n. a ∣ n) (one-mul c) ((gcd_scaled a b 1 c h).2 a (dvd-mul_right a c) p)
 
 -- the product of two divisors of n that have only 1 in common divides n
 pub coprime_divisors : (a b n : ℕ) → IsGcd a b 1 → a ∣ n → b ∣ n → a * b ∣ n
@@ -61,14 +115,27 @@ whole_multiple n q d k h e =
     sym (unsigned_abs-mul (pos k) n) ∙ ap unsigned_abs e ∙ unsigned_abs-mul q (pos d) in
     denominator_divides n d k h (subst (λ m. d ∣ m) (sym sizes) (dvd-mul_left d (unsigned_abs q)))
 
--- where d divides k, k n/d is a whole number
-pub multiple_is_whole : (n : ℤ) (d k : ℕ) → d ∣ k → (q : ℤ) × (pos k *ℤ n ≡ q *ℤ pos d)
-multiple_is_whole n d k p =
-    let (c, k_is) = cofactor d k p in
-    let split : pos k *ℤ n ≡ pos c *ℤ (pos d *ℤ n) =
-    ap (λ m. pos m *ℤ n) (k_is ∙ mul_comm d c) ∙ mul_assoc_z (pos c) (pos d) n in
-    let turned = ap (λ z. pos c *ℤ z) (mul_comm_z (pos d) n) in
-    (pos c *ℤ n, split ∙ turned ∙ sym (mul_assoc_z (pos c) n (pos d)))
+-- ---- lowest terms
+
+-- equal fractions in lowest terms have equal parts
+pub same_ratio_nat : (a b c d : ℕ) → IsGcd a b 1 → IsGcd c d 1 → 0 < b → 0 < d → a * d ≡ c * b → (a ≡ c) × (b ≡ d)
+same_ratio_nat a b c d h k b_some d_some e =
+    let first : b ∣ d = gauss b a d (IsGcd-swap a b 1 h) (subst (λ n. b ∣ n) (sym e) (dvd-mul_left b c)) in
+    let second : d ∣ b = gauss d c b (IsGcd-swap c d 1 k) (subst (λ n. d ∣ n) e (dvd-mul_left d a)) in
+    let same : b ≡ d = dvd_antisymm first second in
+    (eq_of_mul-eq-mul_right d d_some a c (e ∙ ap (λ n. c * n) same), same)
+
+-- the same with a sign in the numerators
+pub same_ratio : (n d m e : ℤ) → IsGcd (unsigned_abs n) (unsigned_abs d) 1 →
+    IsGcd (unsigned_abs m) (unsigned_abs e) 1 → pos 0 <ℤ d → pos 0 <ℤ e → n *ℤ e ≡ m *ℤ d →
+    (n ≡ m) × (d ≡ e)
+same_ratio n d m e h k d_some e_some same =
+    let sizes = sym (unsigned_abs-mul n e) ∙ ap unsigned_abs same ∙ unsigned_abs-mul m d in
+    let parts = same_ratio_nat _ _ _ _ h k (abs_positive_z d d_some) (abs_positive_z e e_some) sizes in
+    let abs_same = parts.1 in
+    let below : d ≡ e = omega (arith, ints) in
+    let some = abs_positive_z e e_some in
+    (mul_cancel_right_z n m e (same ∙ ap (λ z. m *ℤ z) below) (omega arith), below)
 
 -- ---- the least common multiple
 
@@ -94,22 +161,7 @@ lcm_from_gcd a b g a' h a_is some =
           (common_multiple a' b' g c apart some (subst (λ n. n ∣ c) a_is p) (subst (λ n. n ∣ c) b_is q)),
     )
 
--- two numbers of which the first is positive have a least common multiple
-pub lcm_exists : (a b : ℕ) → 0 < a → (m : ℕ) × IsLcm a b m
-lcm_exists a b some =
-    let (g, h) = gcd_exists a b in
-    let (c, e) = cofactor g a h.0 in
-    (c * b, lcm_from_gcd a b g c h (e ∙ mul_comm g c) (gcd_positive a b g h (inl some)))
-
 -- it is positive where both are
 pub lcm_positive : (a b m : ℕ) → IsLcm a b m → 0 < a → 0 < b → 0 < m
 lcm_positive a b m h a_some b_some =
     pos_of_dvd_of_pos (h.2 (a * b) (dvd-mul_right a b) (dvd-mul_left b a)) (mul-pos a_some b_some)
-
--- two numbers have one least common multiple
-pub same_from_IsLcm : (a b m n : ℕ) → IsLcm a b m → IsLcm a b n → m ≡ n
-same_from_IsLcm a b m n h k = dvd_antisymm (h.2 n k.0 k.1) (k.2 m h.0 h.1)
-
--- the order of the two numbers is free
-pub IsLcm-swap : (a b m : ℕ) → IsLcm a b m → IsLcm b a m
-IsLcm-swap a b m h = (h.1, h.0, λ c p q. h.2 c q p)

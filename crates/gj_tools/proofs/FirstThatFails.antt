@@ -21,7 +21,8 @@ first_failing_denies Good closed xs before x h all =
     h.bad (closed (before ++ x ∷ []) h.after (subst Good split all))
 
 one_place : {A : Type 0} (Good : List A → Type 0) → IsPrefixClosed Good → (b c : List A) (x y : A) (xs ys : List A) →
-    b ++ x ∷ xs ≡ c ++ y ∷ ys → Good b → Good c → (Good (b ++ x ∷ []) → ⊥) → (Good (c ++ y ∷ []) → ⊥) → (b ≡ c) × (x ≡ y)
+    b ++ x ∷ xs ≡ c ++ y ∷ ys → Good b → Good c → (Good (b ++ x ∷ []) → ⊥) → (Good (c ++ y ∷ []) → ⊥) →
+    (b ≡ c) × (x ≡ y)
 one_place Good closed [] [] x y xs ys e b_good c_good x_bad y_bad = (refl, cc)
 one_place Good closed [] (z ∷ c) x y xs ys e b_good c_good x_bad y_bad =
     let same : z ≡ x = cc in

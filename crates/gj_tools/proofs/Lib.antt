@@ -1,7 +1,6 @@
-pub mod Products
-pub mod Coprime
 pub mod Integers
 pub mod Ring
+pub mod Ratios
 pub mod Divisors
 pub mod Quotients
 pub mod Lists

@@ -14,16 +14,6 @@ All-front P xs ys h = subst (All P) (take_at xs ys (length xs) refl) (All-take P
 pub All-back : {X : Type 0} (P : X → Type 0) (xs ys : List X) → All P (xs ++ ys) → All P ys
 All-back P xs ys h = subst (All P) (drop_at xs ys (length xs) refl) (All-drop P (length xs) (xs ++ ys) h)
 
--- seven parts joined
-pub All_joined_seven : {X : Type 0} (P : X → Type 0) (a b c d e f g : List X) →
-    All P a → All P b → All P c → All P d → All P e → All P f → All P g → All P (a ++ b ++ c ++ d ++ e ++ f ++ g)
-All_joined_seven P a b c d e f g pa pb pc pd pe pf pg =
-    All-append P (a ++ b ++ c ++ d ++ e ++ f) g
-    (All-append P (a ++ b ++ c ++ d ++ e) f
-    (All-append P (a ++ b ++ c ++ d) e
-    (All-append P (a ++ b ++ c) d
-    (All-append P (a ++ b) c (All-append P a b pa pb) pc) pd) pe) pf) pg
-
 -- ---- each element of a list made by a range
 
 -- what holds of each index below a + n, holds of each number of the range of n numbers from a on

@@ -1,6 +1,6 @@
 -- Quotients and rests of natural numbers.
-use Rattle.std.proofs.Common.{add_comm, ◌≡◌, ℕ, zero, suc, ◌+◌, ◌-◌, ◌*◌, ◌/◌, ◌%◌, ◌<◌, ◌≤◌, sym, ap, ap₂, ◌∙◌, arith}
-use Rattle.std.proofs.Math.Nat.{div-add-mod', mod-lt, add-mul-mod_self_right, mul-lt-mul_of_pos_right, mul-mod_left}
+use Rattle.std.proofs.Common.{◌≡◌, ℕ, zero, suc, ◌+◌, ◌-◌, ◌*◌, ◌/◌, ◌%◌, ◌<◌, ◌≤◌, sym, ap, ◌∙◌, arith}
+use Rattle.std.proofs.Math.Nat.{div-add-mod', mod-lt, add-mul-mod_self_right}
 use lib.Arith.{mod-mul}
 use Rattle.std.proofs.lemmas.Nat.{div-mul-add, mod-mul-add}
 
@@ -16,51 +16,6 @@ pub from_same_remainder : (a b q : ℕ) → a % q ≡ b % q → a + b / q * q �
 from_same_remainder a b q e =
     let first = div-add-mod' a q in
     let second = div-add-mod' b q in
-    omega arith
-
--- a summand is cancelled modulo q
-pub remainder_cancel : (a b c q : ℕ) → (a + b) % q ≡ (c + b) % q → a % q ≡ c % q
-remainder_cancel a b c q e =
-    let apart = from_same_remainder (a + b) (c + b) q e in
-    same_remainder a c ((c + b) / q) ((a + b) / q) q (omega arith)
-
--- the same, with the common summand on the left
-pub remainder_cancel_left : (a b c q : ℕ) → (b + a) % q ≡ (b + c) % q → a % q ≡ c % q
-remainder_cancel_left a b c q e =
-    remainder_cancel a b c q (ap (λ n. n % q) (add_comm a b) ∙ e ∙ ap (λ n. n % q) (add_comm b c))
-
--- a summand is added modulo q
-pub remainder_add : (a b c q : ℕ) → a % q ≡ c % q → (a + b) % q ≡ (c + b) % q
-remainder_add a b c q e =
-    let apart = from_same_remainder a c q e in
-    same_remainder (a + b) (c + b) (c / q) (a / q) q (omega arith)
-
--- sums of numbers with equal rests have equal rests
-pub remainder_sum : (a b c d q : ℕ) → a % q ≡ c % q → b % q ≡ d % q → (a + b) % q ≡ (c + d) % q
-remainder_sum a b c d q e h =
-    let first = from_same_remainder a c q e in
-    let second = from_same_remainder b d q h in
-    same_remainder (a + b) (c + d) (c / q + d / q) (a / q + b / q) q (omega arith)
-
--- a factor is multiplied modulo q
-pub remainder_mul : (a b c q : ℕ) → a % q ≡ c % q → (a * b) % q ≡ (c * b) % q
-remainder_mul a b c q e =
-    let apart = ap (λ n. n * b) (from_same_remainder a c q e) in
-    same_remainder (a * b) (c * b) (c / q * b) (a / q * b) q (omega arith)
-
--- a number and what its rest lacks to q give a multiple of q
-pub remainder_opposite : (a q : ℕ) → 0 < q → (a + (q - a % q)) % q ≡ 0
-remainder_opposite a q some =
-    let split = div-add-mod' a q in
-    let small = mod-lt a some in
-    let is : a + (q - a % q) ≡ (a / q + 1) * q = omega arith in
-    ap (λ n. n % q) is ∙ mul-mod_left (a / q + 1) q
-
--- a number from q on and below q + q loses q
-pub remainder_past : (a q : ℕ) → q ≤ a → a < q + q → a % q + q ≡ a
-remainder_past a q low high =
-    let is : a ≡ 1 * q + (a - q) = omega arith in
-    let rest : a % q ≡ a - q = ap (λ n. n % q) is ∙ mod-mul-add 1 q (a - q) (omega arith) in
     omega arith
 
 -- ---- functions with a period
@@ -84,11 +39,6 @@ same_at_remainder p q step a b e =
 pub parts_of_place : (i a m r : ℕ) → i ≡ a * m + r → r < m → (i / m ≡ a) × (i % m ≡ r)
 parts_of_place i a m r e small =
     (ap (λ n. n / m) e ∙ div-mul-add a m r small, ap (λ n. n % m) e ∙ mod-mul-add a m r small)
-
--- numbers with one quotient and one rest are equal
-pub same_from_parts : (i j m : ℕ) → i / m ≡ j / m → i % m ≡ j % m → i ≡ j
-same_from_parts i j m d r =
-    sym (div-add-mod' i m) ∙ ap₂ (λ a b. a * m + b) d r ∙ div-add-mod' j m
 
 -- the sum of two places whose rests stay below m together
 pub place_sum_low : (i j m : ℕ) → i % m + j % m < m →
@@ -124,14 +74,6 @@ next_place_high i m high =
     parts_of_place (i + 1) (i / m + 1) m 0 (omega arith) (omega arith)
 
 -- ---- two divisors
-
--- a number and the divisor k times over have the rest k times over
-pub remainder_scaled : (a m k : ℕ) → 0 < m → 0 < k → (a * k) % (m * k) ≡ a % m * k
-remainder_scaled a m k m_some k_some =
-    let split = ap (λ n. n * k) (div-add-mod' a m) in
-    let small : a % m * k < m * k = mul-lt-mul_of_pos_right (mod-lt a m_some) k_some in
-    let is : a * k ≡ a / m * (m * k) + a % m * k = omega arith in
-    (parts_of_place (a * k) (a / m) (m * k) (a % m * k) is small).1
 
 -- the quotient and the rest by m of a rest by q m
 pub parts_of_remainder : (i q m : ℕ) → 0 < q → 0 < m →

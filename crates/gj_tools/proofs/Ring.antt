@@ -6,9 +6,9 @@
 --     `search` finds no proof          an atom is missing from the list, or the depth is below the longest sum
 --     `search` stops at 1000 lemmas    beyond some 25 products: `search ring depth 100 fits 4000`
 --     `refl` does not fit              the two sides differ: the message shows the two normal forms
-use Rattle.std.proofs.Common.{◌≡◌, ℕ, zero, suc, ◌+◌, ◌*◌, Bool, true, false, T, eqb, ltb, leb, List, [], ◌∷◌, ℤ, pos, negsuc, ◌+ℤ◌, ◌-ℤ◌, ◌*ℤ◌, neg_ℤ, ◌≤ℤ◌, ◌<ℤ◌, refl, sym, ap, ap₂, subst, ◌∙◌, arith, eqb→eq, add-one}
+use Rattle.std.proofs.Common.{◌≡◌, ℕ, zero, suc, ◌+◌, ◌*◌, Bool, true, false, T, eqb, ltb, leb, List, [], ◌∷◌, ℤ, pos, negsuc, ◌+ℤ◌, ◌*ℤ◌, neg_ℤ, refl, sym, ap, ap₂, subst, ◌∙◌, arith, eqb→eq, add-one}
 use Rattle.std.proofs.lemmas.Int.{ints}
-use Rattle.gj_tools.proofs.Integers.{mul_le_mul_left_z, mul_lt_mul_left_z, mul_assoc_z, mul_left_comm_z, mul_mul_comm_z, one_mul_z, mul_add_z, add_mul_z, neg_mul_z, add_assoc_z}
+use Rattle.gj_tools.proofs.Integers.{mul_assoc_z, mul_left_comm_z, mul_mul_comm_z, one_mul_z, mul_add_z, add_mul_z, neg_mul_z, add_assoc_z}
 use lib.IntN.{+ℤ_idl, *ℤ-zero, zero-*ℤ, neg_ℤ-+ℤ}
 
 -- ---- expressions
@@ -340,15 +340,18 @@ abbrev pub read_16 : {atoms : List ℤ} {y0 y1 y2 y3 y4 y5 y6 y7 y8 y9 y10 y11 y
 read_16 = reading (var 16) refl
 
 abbrev pub read_17 : {atoms : List ℤ} {y0 y1 y2 y3 y4 y5 y6 y7 y8 y9 y10 y11 y12 y13 y14 y15 y16 x : ℤ} →
-    Reading (y0 ∷ y1 ∷ y2 ∷ y3 ∷ y4 ∷ y5 ∷ y6 ∷ y7 ∷ y8 ∷ y9 ∷ y10 ∷ y11 ∷ y12 ∷ y13 ∷ y14 ∷ y15 ∷ y16 ∷ x ∷ atoms) x
+    Reading (y0 ∷ y1 ∷ y2 ∷ y3 ∷ y4 ∷ y5 ∷ y6 ∷ y7 ∷ y8 ∷ y9 ∷
+    y10 ∷ y11 ∷ y12 ∷ y13 ∷ y14 ∷ y15 ∷ y16 ∷ x ∷ atoms) x
 read_17 = reading (var 17) refl
 
 abbrev pub read_18 : {atoms : List ℤ} {y0 y1 y2 y3 y4 y5 y6 y7 y8 y9 y10 y11 y12 y13 y14 y15 y16 y17 x : ℤ} →
-    Reading (y0 ∷ y1 ∷ y2 ∷ y3 ∷ y4 ∷ y5 ∷ y6 ∷ y7 ∷ y8 ∷ y9 ∷ y10 ∷ y11 ∷ y12 ∷ y13 ∷ y14 ∷ y15 ∷ y16 ∷ y17 ∷ x ∷ atoms) x
+    Reading (y0 ∷ y1 ∷ y2 ∷ y3 ∷ y4 ∷ y5 ∷ y6 ∷ y7 ∷ y8 ∷ y9 ∷
+    y10 ∷ y11 ∷ y12 ∷ y13 ∷ y14 ∷ y15 ∷ y16 ∷ y17 ∷ x ∷ atoms) x
 read_18 = reading (var 18) refl
 
 abbrev pub read_19 : {atoms : List ℤ} {y0 y1 y2 y3 y4 y5 y6 y7 y8 y9 y10 y11 y12 y13 y14 y15 y16 y17 y18 x : ℤ} →
-    Reading (y0 ∷ y1 ∷ y2 ∷ y3 ∷ y4 ∷ y5 ∷ y6 ∷ y7 ∷ y8 ∷ y9 ∷ y10 ∷ y11 ∷ y12 ∷ y13 ∷ y14 ∷ y15 ∷ y16 ∷ y17 ∷ y18 ∷ x ∷ atoms) x
+    Reading (y0 ∷ y1 ∷ y2 ∷ y3 ∷ y4 ∷ y5 ∷ y6 ∷ y7 ∷ y8 ∷ y9 ∷
+    y10 ∷ y11 ∷ y12 ∷ y13 ∷ y14 ∷ y15 ∷ y16 ∷ y17 ∷ y18 ∷ x ∷ atoms) x
 read_19 = reading (var 19) refl
 
 -- expressions over the same atoms that are worth x and y
@@ -369,42 +372,3 @@ SameForm (readings e f p q) = normal e ≡ normal f
 pub by_ring : (atoms : List ℤ) {x y : ℤ} → (h : Readings atoms x y) → SameForm h → x ≡ y
 by_ring atoms (readings e f p q) form =
     sym p ∙ sym (normal_is atoms e) ∙ ap (total atoms) form ∙ normal_is atoms f ∙ q
-
--- ---- weighted equations and orders: what is left is an identity for `by_ring`
-
--- from l ≡ r, taken k times
-pub equal_by : {x y l r : ℤ} (k : ℤ) → l ≡ r → x +ℤ k *ℤ r ≡ y +ℤ k *ℤ l → x ≡ y
-equal_by {l = l} {r = r} k e h =
-    let same : k *ℤ l ≡ k *ℤ r = ap (λ z. k *ℤ z) e in
-    omega (arith, ints)
-
--- from l ≤ r, taken k times
-pub at_most_by : {x y l r : ℤ} (k : ℤ) → pos 0 ≤ℤ k → l ≤ℤ r → x +ℤ k *ℤ r ≡ y +ℤ k *ℤ l → x ≤ℤ y
-at_most_by {l = l} {r = r} k some h e =
-    let weighted = mul_le_mul_left_z l r k some h in
-    omega (arith, ints)
-
--- from l < r, taken k times
-pub below_by : {x y l r : ℤ} (k : ℤ) → pos 0 <ℤ k → l <ℤ r → x +ℤ k *ℤ r ≡ y +ℤ k *ℤ l → x <ℤ y
-below_by {l = l} {r = r} k some h e =
-    let weighted = mul_lt_mul_left_z l r k some h in
-    omega (arith, ints)
-
--- ---- samples
-
--- two sums multiplied out
-pub product_of_sums_z : (a b c d : ℤ) →
-    (a +ℤ b) *ℤ (c +ℤ d) ≡ a *ℤ c +ℤ a *ℤ d +ℤ b *ℤ c +ℤ b *ℤ d
-product_of_sums_z a b c d = by_ring (a ∷ b ∷ c ∷ d ∷ []) (search ring depth 20) refl
-
--- the numerator n d' + n' d of a sum of two fractions, times e
-pub sum_numerator_times_z : (n d n' d' e : ℤ) →
-    (n *ℤ d' +ℤ n' *ℤ d) *ℤ e ≡ n *ℤ (d' *ℤ e) +ℤ (n' *ℤ e) *ℤ d
-sum_numerator_times_z n d n' d' e = by_ring (n ∷ d ∷ n' ∷ d' ∷ e ∷ []) (search ring depth 20) refl
-
--- two values between places of a grid of m steps, at r steps from a and at s steps from c
-pub two_between_z : (m r s a b c d : ℤ) →
-    (m -ℤ r) *ℤ a +ℤ r *ℤ b +ℤ ((m -ℤ s) *ℤ c +ℤ s *ℤ d)
-    ≡ m *ℤ (a +ℤ c) +ℤ r *ℤ (b -ℤ a) +ℤ s *ℤ (d -ℤ c)
-two_between_z m r s a b c d =
-    by_ring (m ∷ r ∷ s ∷ a ∷ b ∷ c ∷ d ∷ []) (search ring depth 20) refl

@@ -1,4 +1,9 @@
 pub mod Accepted
-pub mod Forms
+pub mod Clauses
+pub mod Commands
+pub mod Ends
+pub mod InputRead
 pub mod GridCoordinates
-pub mod Outcomes
+pub mod Shown
+pub mod Sound
+pub mod TextLaws

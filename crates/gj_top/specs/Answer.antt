@@ -1,115 +1,132 @@
--- The answer of the program to words and an input (own).
-use Rattle.std.specs.Prelude.{ℕ, ◌≡◌, ◌⊎◌, ◌<◌, ◌≤◌, List, ◌++◌, length, codes, decimal, String}
+-- The answer of the program: its status and its text, and what it read for them (own).
+use Rattle.std.specs.Prelude.{ℕ, ◌≡◌, ◌+◌, ◌<◌, ◌≤◌, Bool, true, false, List, drop, length, codes, IsTrue, IfSome, Option, Some, String}
 use Rattle.std.specs.declared.alloc.Global.{Global}
-use Rattle.gj_lex.specs.declared.reason.Reason.{Reason}
-use Rattle.gj_lex.specs.Reason.{reason_word}
-use Rattle.gj_shape.specs.FunctionData.{FunctionData}
+use Rattle.gj_port.specs.Faults.{HasFailed}
+use Rattle.gj_port.specs.Whole.{TakesUpTo}
 use Rattle.gj_lines.specs.FunctionLines.{line}
-use Rattle.gj_ftext.specs.FunctionText.{IsWholeFunctionText, IsCanonicalText}
-use Rattle.gj_ftext.specs.FirstFault.{IsFirstFaultOfWhole}
-use Rattle.gj_proof.specs.ProofText.{IsKept, IsProofText, claim_word}
-use Rattle.gj_proof.specs.FirstFault.{IsFirstFault}
-use Rattle.gj_proof.specs.Rules.{MeetsRules}
-use Rattle.gj_proof.specs.Meaning.{ClaimHolds}
-use Rattle.gj_proof.specs.declared.claim.Claim.{Claim}
-use Rattle.gj_check.specs.declared.rules.CheckRule.{CheckRule}
-use Rattle.gj_check.specs.FirstFailure.{IsFirstFailure}
-use Rattle.gj_check.specs.RuleWords.{rule_word}
 use Rattle.gj_top.specs.declared.command.Command.{Command}
-use Rattle.gj_top.specs.declared.command.Command.TheVariants as command
+use Rattle.gj_top.specs.declared.answer.Answer.{Answer}
+use Rattle.gj_top.specs.declared.answer.Answer.TheVariants as answer
+use Rattle.gj_top.specs.declared.reply.End.{End}
 use Rattle.gj_top.specs.declared.status.Status.{Status}
-use Rattle.gj_top.specs.declared.status.Status.TheVariants as status
-use Rattle.gj_top.specs.Command.{IsNamed, NameNone}
-use Rattle.gj_top.specs.Verdict.{IsVerdict}
+use Rattle.gj_top.specs.declared.status.Status.TheVariants.{Words, Input, ReadFault}
+use Rattle.gj_top.specs.Command.{IsNamed, NameNone, task_for}
+use Rattle.gj_top.specs.Reply.{status_of}
+use Rattle.gj_top.specs.Task.{Task, reads, Refuses, IsReply}
 
 -- the most bytes that are read of an input
 abbrev pub input_limit : ℕ
 input_limit = 16777216
 
--- the input is the proof text of a claim about a function within the limits
-pub record IsProofOf (c : Claim) (input : List ℕ) : Type 0 where
-  pub kept : IsKept c
-  pub spelled : IsProofText c input
+-- the lines that are written where no input was answered
+abbrev pub words_line : List ℕ
+words_line = line (codes "words refused")
 
--- the input is in the form of the command
-abbrev pub IsInForm : Command → List ℕ → Type 0
-IsInForm command.Minimal input = (f : FunctionData) × IsWholeFunctionText input f
-IsInForm command.Show input = (f : FunctionData) × IsWholeFunctionText input f
-IsInForm command.Check input = (c : Claim) × IsProofOf c input
+abbrev pub fault_line : List ℕ
+fault_line = line (codes "read fault")
 
--- every rule of the claim holds, and so does what it claims; the text names it
-pub record IsAccepted (c : Claim) (text : List ℕ) : Type 0 where
-  pub rules : MeetsRules c
-  pub holds : ClaimHolds c
-  pub spelled : text ≡ line (codes "accepted " ++ claim_word c)
+abbrev pub long_line : List ℕ
+long_line = line (codes "refused long")
 
--- the text names the first rule that fails and its line
-pub record IsRejected (c : Claim) (text : List ℕ) : Type 0 where
-  pub at_line : ℕ
-  pub rule : CheckRule
-  pub first : IsFirstFailure c at_line rule
-  pub spelled : text ≡ line (codes "rejected line " ++ decimal at_line ++ codes " " ++ rule_word rule)
+-- ---- the answer to an input, where nothing fails
 
--- what the checker says of a proof, and how the run ends
-abbrev pub IsJudgement : Claim → Status → List ℕ → Type 0
-IsJudgement c status.Done text = IsAccepted c text
-IsJudgement c status.Rejected text = IsRejected c text
-IsJudgement c s text = ⊥
+-- the input is longer than the limit
+pub record IsTooLong (task : Task) (input : List ℕ) (status : Status) (text : List ℕ) : Type 0 where
+  pub read : IsTrue (reads task.form)
+  pub long : input_limit < length input
+  pub status_is : status ≡ Input
+  pub spelled : text ≡ long_line
 
--- the n-th line of an input that is in no form of the command is the first at fault, for this reason
-abbrev pub IsFault : Command → List ℕ → ℕ → Reason → Type 0
-IsFault command.Minimal input n reason = IsFirstFaultOfWhole input n reason
-IsFault command.Show input n reason = IsFirstFaultOfWhole input n reason
-IsFault command.Check input n reason = IsFirstFault input n reason
+-- the input, where one is read, is within the limit
+abbrev pub IsWithinLimit : Task → List ℕ → Type 0
+IsWithinLimit task input = IsTrue (reads task.form) → length input ≤ input_limit
 
--- the text names the first fault of the input
-pub record IsFaultText (c : Command) (input text : List ℕ) : Type 0 where
-  pub at_line : ℕ
-  pub reason : Reason
-  pub first : IsFault c input at_line reason
-  pub spelled : text ≡ line (codes "refused line " ++ decimal at_line ++ codes " " ++ reason_word reason)
+-- the input is outside its form
+pub record IsRefused (task : Task) (input : List ℕ) (status : Status) (text : List ℕ) : Type 0 where
+  pub within : IsWithinLimit task input
+  pub status_is : status ≡ Input
+  pub refused : Refuses task.form input text
 
--- the status and the text that answer a command and an input within the limit of length
-abbrev pub IsReply : Command → List ℕ → Status → List ℕ → Type 0
-IsReply command.Minimal input status.Done text = (f : FunctionData) × IsWholeFunctionText input f × IsVerdict f text
-IsReply command.Show input status.Done text = (f : FunctionData) × IsWholeFunctionText input f × IsCanonicalText text f
-IsReply command.Check input status.Done text = (c : Claim) × IsProofOf c input × IsAccepted c text
-IsReply command.Check input status.Rejected text = (c : Claim) × IsProofOf c input × IsRejected c text
-IsReply c input status.Input text = IsFaultText c input text
-IsReply c input s text = ⊥
+-- the input is in its form, and the reply ends with this status
+pub record IsReplied (task : Task) (input : List ℕ) (status : Status) (text : List ℕ) : Type 0 where
+  pub within : IsWithinLimit task input
+  pub end : End
+  pub status_is : status ≡ status_of end
+  pub reply : IsReply task input end text
 
--- an input is longer than the limit, and the text says so
-abbrev pub IsLong : List ℕ → Status → List ℕ → Type 0
-IsLong input s text = (input_limit < length input) × (s ≡ status.Input) × (text ≡ line (codes "refused long"))
+-- the status and the text are the answer of a task to an input
+pub data IsAnswerTo (task : Task) (input : List ℕ) (status : Status) (text : List ℕ) : Type 0 where
+  too_long : IsTooLong task input status text → IsAnswerTo task input status text
+  refused : IsRefused task input status text → IsAnswerTo task input status text
+  replied : IsReplied task input status text → IsAnswerTo task input status text
 
--- the status and the text that answer words that name a command and an input
-pub record IsCommandAnswer (words : List (String Global)) (input : List ℕ) (s : Status) (text : List ℕ) : Type 0 where
+-- ---- the answer to words, and what the source, where it tells its bytes, has left
+
+-- the source failed: its count of faults rose, or stands at its last value, and it is not steady
+abbrev pub IsSourceFault : Bool → ℕ → ℕ → Type 0
+IsSourceFault steady before after = HasFailed before after × (IsTrue steady → ⊥)
+
+-- the input is all that the source had, of which it has left what stands behind the limit and one byte more; or the
+-- source is as it was, where nothing is read
+abbrev pub IsReadWhole : Bool → List ℕ → Option (List ℕ) → Option (List ℕ) → Type 0
+IsReadWhole true input left after = IfSome left (λ told. (told ≡ input) × (after ≡ Some (drop (input_limit + 1) input)))
+IsReadWhole false input left after = after ≡ left
+
+-- at most the limit was read; or the source is as it was, where nothing is read
+abbrev pub IsReadInPart : Bool → Option (List ℕ) → Option (List ℕ) → Type 0
+IsReadInPart true left after = IfSome left (λ told. TakesUpTo input_limit told after)
+IsReadInPart false left after = after ≡ left
+
+-- the words name no command: the source is as it was
+pub record IsWordsAnswer (words : List (String Global)) (left after : Option (List ℕ)) (status : Status) (text : List ℕ) : Type 0 where
+  pub unnamed : NameNone words
+  pub unread : after ≡ left
+  pub status_is : status ≡ Words
+  pub spelled : text ≡ words_line
+
+-- the words name a command, and the source failed: at most the limit was read
+pub record IsFaultAnswer (words : List (String Global)) (Fault : Type 0) (left after : Option (List ℕ)) (status : Status) (text : List ℕ) :
+    Type 0 where
   pub command : Command
   pub named : IsNamed words command
-  pub reply : IsLong input s text ⊎ ((length input ≤ input_limit) × IsReply command input s text)
+  pub read : IsTrue (reads (task_for command).form)
+  pub failed : Fault
+  pub part : IsReadInPart true left after
+  pub status_is : status ≡ ReadFault
+  pub spelled : text ≡ fault_line
 
--- the status and the text that answer the words and the input, where nothing fails
-abbrev pub IsAnswer : List (String Global) → List ℕ → Status → List ℕ → Type 0
-IsAnswer words input status.Words text = NameNone words × (text ≡ line (codes "words refused"))
-IsAnswer words input s text = IsCommandAnswer words input s text
+-- the words name a command, and this is its answer to the input
+pub record IsCommandAnswer (words : List (String Global)) (left after : Option (List ℕ)) (status : Status) (text : List ℕ) : Type 0 where
+  pub command : Command
+  pub named : IsNamed words command
+  pub input : List ℕ
+  pub whole : IsReadWhole (reads (task_for command).form) input left after
+  pub answer : IsAnswerTo (task_for command) input status text
 
--- the input is in no form of the command: one of its lines is the first at fault
-abbrev pub IsOutsideForm : Command → List ℕ → Type 0
-IsOutsideForm c input = (at_line : ℕ) × (reason : Reason) × IsFault c input at_line reason
+-- the status and the text are the answer to the words, where `Fault` says that the source failed
+pub data IsAnswer (words : List (String Global)) (Fault : Type 0) (left after : Option (List ℕ)) (status : Status) (text : List ℕ) : Type 0 where
+  no_command : IsWordsAnswer words left after status text → IsAnswer words Fault left after status text
+  read_fault : IsFaultAnswer words Fault left after status text → IsAnswer words Fault left after status text
+  of_command : IsCommandAnswer words left after status text → IsAnswer words Fault left after status text
 
--- the words name a command, and the input is too long or in no form of it
-abbrev pub IsRefusedInput : List (String Global) → List ℕ → Type 0
-IsRefusedInput words input =
-    (c : Command) × IsNamed words c × ((input_limit < length input) ⊎ IsOutsideForm c input)
+-- the words name a command, and there is no answer for want of memory
+pub record IsUnanswered (words : List (String Global)) (left after : Option (List ℕ)) : Type 0 where
+  pub command : Command
+  pub named : IsNamed words command
+  pub part : IsReadInPart (reads (task_for command).form) left after
 
--- the words are `check`, and the input is a proof text of which a rule fails
-abbrev pub IsRejectedInput : List (String Global) → List ℕ → Type 0
-IsRejectedInput words input =
-    IsNamed words command.Check
-    × (c : Claim) × IsProofOf c input × (at_line : ℕ) × (rule : CheckRule) × IsFirstFailure c at_line rule
+-- ---- an answer as a value of the program
 
--- how a command ends over an input in its form
-abbrev pub IsEndOf : Command → Status → Type 0
-IsEndOf command.Minimal s = (s ≡ status.Done) ⊎ (s ≡ status.Memory)
-IsEndOf command.Show s = (s ≡ status.Done) ⊎ (s ≡ status.Memory)
-IsEndOf command.Check s = (s ≡ status.Done) ⊎ (s ≡ status.Rejected) ⊎ (s ≡ status.Memory)
+abbrev pub answer_status : Answer → Status
+answer_status answer.NoCommand = Words
+answer_status answer.ReadFault = ReadFault
+answer_status answer.TooLong = Input
+answer_status (answer.Refused text) = Input
+answer_status (answer.Replied reply) = status_of reply.end
+
+abbrev pub answer_text : Answer → List ℕ
+answer_text answer.NoCommand = words_line
+answer_text answer.ReadFault = fault_line
+answer_text answer.TooLong = long_line
+answer_text (answer.Refused text) = text.items
+answer_text (answer.Replied reply) = reply.text.items

@@ -1,7 +1,8 @@
 -- The number of each status (own).
 use Rattle.std.specs.Prelude.{ℕ}
 use Rattle.gj_top.specs.declared.status.Status.{Status}
-use Rattle.gj_top.specs.declared.status.Status.TheVariants.{Done, Rejected, Words, Input, ReadFault, WriteFault, Memory, Wide, NotContinuous, NoFunction}
+use Rattle.gj_top.specs.declared.status.Status.TheVariants.{Done, Rejected, Words, Input, ReadFault, WriteFault, Memory, Wide}
+use Rattle.gj_top.specs.declared.status.Status.TheVariants.{NotContinuous, NoFunction}
 
 abbrev pub code_of : Status → ℕ
 code_of Done = 0

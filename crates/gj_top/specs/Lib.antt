@@ -1,6 +1,11 @@
+pub mod Task
+pub mod Forms
+pub mod Minimal
+pub mod Show
+pub mod Check
 pub mod Command
-pub mod Verdict
+pub mod Reply
 pub mod Answer
-pub mod Code
 pub mod Outcome
-pub mod Told
+pub mod Causes
+pub mod Code

@@ -108,29 +108,6 @@ fn proofs_are_judged(rt: HostRuntime) -> Result<(), Fail> {
     Ok(())
 }
 
-/// Functions of order 2 to 4, some of them minimal, some with jumps.
-const SMALL_FUNCTIONS: [&str; 9] = [
-    "gj-function 1\norder 2\nf 1/2\npoint 1/2 0 1/2\npoint 1/2 1 1/2\nend\n",
-    "gj-function 1\norder 2\nf 1/2\npoint 1 0 1/2\npoint 1/2 1 0\nend\n",
-    "gj-function 1\norder 3\nf 1/3\npoint 1/4 0 0\npoint 1\npoint 1/4 1/2 1/2\nend\n",
-    "gj-function 1\norder 3\nf 2/3\npoint 0\npoint 1/2\npoint 1\nend\n",
-    "gj-function 1\norder 3\nf 1/3\npoint 0\npoint 1\npoint 1/2\nend\n",
-    "gj-function 1\norder 3\nf 1/3\npoint 0\npoint 1\npoint 1/3\nend\n",
-    "gj-function 1\norder 4\nf 3/4\npoint 0\npoint 1/3\npoint 2/3\npoint 1\nend\n",
-    "gj-function 1\norder 4\nf 1/2\npoint 0\npoint 1/2\npoint 1\npoint 1/2\nend\n",
-    "gj-function 1\norder 4\nf 1/2\npoint 0\npoint -1\npoint 1\npoint 2\nend\n",
-];
-
-#[test]
-fn written_proofs_are_accepted(rt: HostRuntime) -> Result<(), Fail> {
-    for function in SMALL_FUNCTIONS {
-        let (_, proof) = ran(rt.alloc(), &["minimal"], function.as_bytes(), &[], &[])?;
-        let (status, _) = ran(rt.alloc(), &["check"], proof.taken(), &[], &[])?;
-        assert_eq!(rt; status, Status::Done, "on {function}");
-    }
-    Ok(())
-}
-
 #[test]
 fn other_words_and_inputs_are_refused(rt: HostRuntime) -> Result<(), Fail> {
     let (status, sink) = ran(rt.alloc(), &["maximal"], FIVE_PIECES.as_bytes(), &[], &[])?;

@@ -1,86 +1,67 @@
-use Rattle.std.proofs.Common.{subst, sym, codes, ℕ, List, IfSome}
-use Rattle.gj_lines.specs.FunctionLines.{line}
-use Rattle.gj_top.specs.declared.status.Status.TheVariants.{Words, Input}
-use Rattle.gj_top.specs.Command.{IsNamed, NameNone}
-use Rattle.gj_top.specs.Answer.{IsAnswer, IsReply}
-use Rattle.gj_top.proofs.Outcomes.{outcome_of_answer, words_answer, long_answer, command_answer, left_at_end, left_of_long, headline_of_reply, refused_by_reply, rejected_by_reply, complete_by_reply, long_not_rejected}
-use Rattle.gj_top.proofs.Forms.{no_fault_in_form}
+use Rattle.std.proofs.Common.{inl, inr, refl, sym, subst}
+use Rattle.gj_top.specs.declared.status.Status.{Status}
+use Rattle.gj_top.specs.Answer.{IsAnswer, IsSourceFault, answer_text}
+use Rattle.gj_top.specs.Outcome.{IsOutcome, Gains}
+use Rattle.gj_top.specs.Outcome.IsOutcome.{told}
+use Rattle.gj_top.proofs.Clauses.{no_write_fault, failed_source, input_clause, unread_by_answer, unread_unanswered, headline_clause}
+use Rattle.gj_top.proofs.Clauses.{ends_clause, cause_clause, complete_clause}
 use Rattle.gj_top.proofs.run.Given.{Over}
 use Rattle.gj_top.proofs.run.Goals as goal
 
--- the words name no command
-nothing_named : (g : Over) (c : goal.After-tell g) → NameNone c.args.words.now
-nothing_named g c = c.in_default.ensures.none
+-- the source failed
+abbrev fault : (g : Over) (c : goal.Joined-answer g) → Type 0
+fault g c = IsSourceFault (g.S.Source.steady c.args.source.now) (g.S.Source.faults c.args.source.now) (g.S.Source.faults c.answer_to.new.source)
 
-pub returns-in_default-clause-answer : goal.returns-in_default-clause-answer
-returns-in_default-clause-answer g c =
-    outcome_of_answer _ _ _ _ _ Words _ _ (words_answer c.args.words.now (g.S.Source.left c.args.source.now) (nothing_named g c)) c.tell.ensures.told
+-- the answer that was written
+answer : (g : Over) (c : goal.Joined-answer g) →
+    IsAnswer c.args.words.now (fault g c) (g.S.Source.left c.args.source.now) (g.S.Source.left c.answer_to.new.source) c.status.result
+    (answer_text c.in-Ok.answer)
+answer g c = subst (λ (s : Status).
+    IsAnswer c.args.words.now (fault g c) (g.S.Source.left c.args.source.now) (g.S.Source.left c.answer_to.new.source) s (answer_text c.in-Ok.answer))
+    (sym c.status.ensures) c.in-Ok.ensures.answer
 
-pub returns-in-Err-ReadFault-clause-command : goal.returns-in-Err-ReadFault-clause-command
-returns-in-Err-ReadFault-clause-command g c = λ n. absurd (n _ (c.in-Some.ensures.found))
+outcome : (g : Over) (c : goal.Joined-answer g) →
+    IsOutcome c.args.words.now (fault g c) (g.S.Source.left c.args.source.now) (g.S.Source.left c.answer_to.new.source)
+    (g.K.Sink.written c.args.sink.now) (g.K.Sink.written c.write_all.new.sink) (g.K.Sink.sure c.args.sink.now) c.status.result
+outcome g c = told (record {
+  text = answer_text c.in-Ok.answer;
+  answer = answer g c;
+  gain = subst (Gains (g.K.Sink.written c.args.sink.now) (g.K.Sink.written c.write_all.new.sink)) c.text.ensures c.in-Ok-write_all.ensures.told;
+})
 
--- the input is too long
-long : (g : Over) (c : goal.After-tell-in-Err-TooLong g) → IfSome (g.S.Source.left c.args.source.now) (λ input. IsAnswer c.args.words.now input Input (line (codes "refused long")))
-long g c =
-    long_answer c.args.words.now c.in-Some.command (g.S.Source.left c.args.source.now) _ (c.in-Some.ensures.found)
-    (rw c.in-Err-TooLong.field-0-is at c.in-Err-TooLong.ensures.told)
+pub returns-in-Ok-write_all-clause-outcome : goal.returns-in-Ok-write_all-clause-outcome
+returns-in-Ok-write_all-clause-outcome g c = outcome g c
 
-pub returns-in-Err-TooLong-clause-answer : goal.returns-in-Err-TooLong-clause-answer
-returns-in-Err-TooLong-clause-answer g c =
-    outcome_of_answer _ _ _ _ _ Input _ _ (long g c) c.tell-in-Err-TooLong.ensures.told
+pub returns-in-Ok-write_all-clause-headline : goal.returns-in-Ok-write_all-clause-headline
+returns-in-Ok-write_all-clause-headline g c = headline_clause _ _ _ _ _ _ _ _ (outcome g c)
 
-pub returns-in-Err-TooLong-clause-input : goal.returns-in-Err-TooLong-clause-input
-returns-in-Err-TooLong-clause-input g c =
-    left_of_long _ _ _ c.tell-in-Err-TooLong.ensures.outcome (rw c.in-Err-TooLong.field-0-is at c.in-Err-TooLong.ensures.told)
+pub returns-in-Ok-write_all-clause-ends : goal.returns-in-Ok-write_all-clause-ends
+returns-in-Ok-write_all-clause-ends g c = ends_clause _ _ _ _ _ _ _ _ (outcome g c)
 
-pub returns-in-Err-TooLong-clause-command : goal.returns-in-Err-TooLong-clause-command
-returns-in-Err-TooLong-clause-command g c = λ n. absurd (n _ (c.in-Some.ensures.found))
+pub returns-in_default-clause-unread : goal.returns-in_default-clause-unread
+returns-in_default-clause-unread g c = unread_unanswered _ _ _ c.in_default.ensures.memory
 
-pub returns-in-Err-TooLong-clause-rejected : goal.returns-in-Err-TooLong-clause-rejected
-returns-in-Err-TooLong-clause-rejected g c = long_not_rejected c.args.words.now _ _ c.tell-in-Err-TooLong.ensures.outcome
+pub returns-in-Ok-write_all-clause-unread : goal.returns-in-Ok-write_all-clause-unread
+returns-in-Ok-write_all-clause-unread g c = unread_by_answer _ _ _ _ _ _ (answer g c)
 
-pub returns-in-Err-Memory-clause-command : goal.returns-in-Err-Memory-clause-command
-returns-in-Err-Memory-clause-command g c = λ n. absurd (n _ (c.in-Some.ensures.found))
+pub returns-clause-unread : goal.returns-clause-unread
+returns-clause-unread g c = unread_by_answer _ _ _ _ _ _ c.in-Ok.ensures.answer
 
--- the words name the command
-named : (g : Over) (c : goal.After-drop-input g) → IsNamed c.args.words.now c.in-Some.command
-named g c = c.in-Some.ensures.found
+pub returns-in-Ok-write_all-clause-cause : goal.returns-in-Ok-write_all-clause-cause
+returns-in-Ok-write_all-clause-cause g c = cause_clause _ _ _ _ _ _ _ _ (outcome g c)
 
--- the reply to the input that was read
-replied : (g : Over) (c : goal.After-drop-input g) → IsReply c.in-Some.command c.in-Ok.input.items c.in-Ok-reply_to.reply.status c.as_slice-in-Ok-reply_to.result.now
-replied g c =
-    subst (λ (t : List ℕ). IsReply c.in-Some.command c.in-Ok.input.items c.in-Ok-reply_to.reply.status t) (sym c.as_slice-in-Ok-reply_to.ensures.value)
-    (subst (λ (i : List ℕ). IsReply c.in-Some.command i c.in-Ok-reply_to.reply.status c.in-Ok-reply_to.reply.text.items) c.as_slice.ensures.value c.in-Ok-reply_to.ensures)
+pub returns-in-Ok-write_all-clause-complete : goal.returns-in-Ok-write_all-clause-complete
+returns-in-Ok-write_all-clause-complete g c = complete_clause _ _ _ _ _ _ _ _ _ _ (outcome g c)
+    (λ failed. failed.0) (λ e. absurd (no_write_fault _ _ _ _ _ _ (answer g c) e))
 
-pub returns-in-Ok-reply_to-clause-headline : goal.returns-in-Ok-reply_to-clause-headline
-returns-in-Ok-reply_to-clause-headline g c =
-    headline_of_reply c.args.words.now c.in-Some.command _ _ _ _ c.in-Ok.input _ _ _ _ (named g c) c.in-Ok.ensures.told (replied g c) c.tell-in-Ok-reply_to.ensures.told
+pub returns-in-Ok-write_all-clause-read_fault : goal.returns-in-Ok-write_all-clause-read_fault
+returns-in-Ok-write_all-clause-read_fault g c = λ e. (failed_source _ _ _ _ _ _ (answer g c) e).0
 
-pub returns-in-Ok-reply_to-clause-answer : goal.returns-in-Ok-reply_to-clause-answer
-returns-in-Ok-reply_to-clause-answer g c =
-    outcome_of_answer _ _ _ _ _ c.in-Ok-reply_to.reply.status _ _
-    (command_answer c.args.words.now c.in-Some.command (g.S.Source.left c.args.source.now) _ c.in-Ok.input _ _ (named g c) c.in-Ok.ensures.within c.in-Ok.ensures.told (replied g c))
-    c.tell-in-Ok-reply_to.ensures.told
+pub returns-in-Ok-write_all-clause-steady : goal.returns-in-Ok-write_all-clause-steady
+returns-in-Ok-write_all-clause-steady g c = λ steady e. (failed_source _ _ _ _ _ _ (answer g c) e).1 steady
 
-pub returns-in-Ok-reply_to-clause-input : goal.returns-in-Ok-reply_to-clause-input
-returns-in-Ok-reply_to-clause-input g c =
-    left_at_end c.in-Some.command _ _ c.in-Ok.input _ _ _ (replied g c) c.tell-in-Ok-reply_to.ensures.outcome c.in-Ok.ensures.within c.in-Ok.ensures.told
+pub returns-in-Ok-write_all-clause-input : goal.returns-in-Ok-write_all-clause-input
+returns-in-Ok-write_all-clause-input g c = input_clause _ _ _ _ _ _ _ _ (answer g c) (λ e failed. inl e)
 
-pub returns-in-Ok-reply_to-clause-command : goal.returns-in-Ok-reply_to-clause-command
-returns-in-Ok-reply_to-clause-command g c = λ n. absurd (n _ (named g c))
-
-pub returns-in-Ok-reply_to-clause-refused : goal.returns-in-Ok-reply_to-clause-refused
-returns-in-Ok-reply_to-clause-refused g c =
-    refused_by_reply c.args.words.now c.in-Some.command _ _ c.in-Ok.input _ _ _ (named g c) c.in-Ok.ensures.told (replied g c) c.tell-in-Ok-reply_to.ensures.outcome
-
-pub returns-in-Ok-reply_to-clause-rejected : goal.returns-in-Ok-reply_to-clause-rejected
-returns-in-Ok-reply_to-clause-rejected g c =
-    rejected_by_reply c.args.words.now c.in-Some.command _ _ c.in-Ok.input _ _ _ (named g c) c.in-Ok.ensures.told (replied g c) c.tell-in-Ok-reply_to.ensures.outcome
-
-pub returns-in-Ok-reply_to-clause-complete : goal.returns-in-Ok-reply_to-clause-complete
-returns-in-Ok-reply_to-clause-complete g c =
-    complete_by_reply c.args.words.now c.in-Some.command _ _ c.in-Ok.input _ _ _ _ _ (named g c) c.in-Ok.ensures.told (replied g c) c.tell-in-Ok-reply_to.ensures.outcome c.tell-in-Ok-reply_to.ensures.cause
-    (no_fault_in_form c.in-Ok.input.items)
-
-pub returns-clause-command : goal.returns-clause-command
-returns-clause-command g c = λ n. absurd (n _ (c.in-Some.ensures.found))
+pub returns-clause-input : goal.returns-clause-input
+returns-clause-input g c = input_clause _ _ _ _ _ _ _ _ c.in-Ok.ensures.answer (λ e failed. inr (refl, failed.0))

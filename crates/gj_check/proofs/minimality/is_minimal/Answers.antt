@@ -1,44 +1,29 @@
-use Rattle.std.proofs.Common.{◌↔◌, IsTrue}
-use Rattle.gj_shape.specs.FirstViolation.{Passes}
-use Rattle.gj_shape.specs.FirstViolation.Test.{zero_at_zero}
-use Rattle.gj_check.specs.Tests.{IsNonnegative, IsSymmetric}
-use Rattle.gj_check.proofs.Chains.{first_passes, first_fails, second_decides, first_decides}
-use Rattle.gj_check.proofs.PassedTests.{all_tests}
+use Rattle.gj_check.proofs.TestsInTurn.{one_fails, in_other_words}
+use Rattle.gj_check.proofs.PassedTests.{all_tests, squares_decide, symmetry_passes}
 use Rattle.gj_check.proofs.minimality.is_minimal.Goals as goal
-use Rattle.gj_check.proofs.minimality.is_minimal.Goals.{then-is_zero_at_zero, else-is_zero_at_zero, then-is_nonnegative, else-is_nonnegative}
 
-pub returns-then-is_symmetric : goal.returns-then-is_symmetric
-returns-then-is_symmetric c =
-    let f = c.args.shape.now in
-    let two : IsTrue c.if-is_zero_at_zero.value ↔ (Passes f zero_at_zero × IsNonnegative f) =
-    elim c.if-is_zero_at_zero.branch [
-      | then-is_zero_at_zero w ↦
-          second_decides _ _ _ _ _ w.if-is_zero_at_zero.true w.value-is c.is_zero_at_zero.ensures
-          w.is_nonnegative.ensures
-      | else-is_zero_at_zero w ↦ first_decides _ _ _ _ w.if-is_zero_at_zero.false w.value-is c.is_zero_at_zero.ensures
-    ] in
-    let three : IsTrue c.if-is_nonnegative.value ↔ ((Passes f zero_at_zero × IsNonnegative f) × IsSymmetric f) =
-    elim c.if-is_nonnegative.branch [
-      | then-is_nonnegative w ↦
-          second_decides _ _ _ _ _ w.if-is_nonnegative.true w.value-is two w.is_symmetric.ensures
-      | else-is_nonnegative w ↦ first_decides _ _ _ _ w.if-is_nonnegative.false w.value-is two
-    ] in
-    first_passes _ _ _ _ _ c.if-is_symmetric.true three c.is_subadditive.ensures (all_tests f)
+pub returns-then-not-is_zero_at_zero : goal.returns-then-not-is_zero_at_zero
+returns-then-not-is_zero_at_zero c =
+    one_fails _ _ _ c.if-not-is_zero_at_zero.true c.is_zero_at_zero.ensures
+    (λ all. ((all_tests c.args.shape.now).1 all).0.0.0)
 
-pub returns-else-is_symmetric : goal.returns-else-is_symmetric
-returns-else-is_symmetric c =
-    let f = c.args.shape.now in
-    let two : IsTrue c.if-is_zero_at_zero.value ↔ (Passes f zero_at_zero × IsNonnegative f) =
-    elim c.if-is_zero_at_zero.branch [
-      | then-is_zero_at_zero w ↦
-          second_decides _ _ _ _ _ w.if-is_zero_at_zero.true w.value-is c.is_zero_at_zero.ensures
-          w.is_nonnegative.ensures
-      | else-is_zero_at_zero w ↦ first_decides _ _ _ _ w.if-is_zero_at_zero.false w.value-is c.is_zero_at_zero.ensures
-    ] in
-    let three : IsTrue c.if-is_nonnegative.value ↔ ((Passes f zero_at_zero × IsNonnegative f) × IsSymmetric f) =
-    elim c.if-is_nonnegative.branch [
-      | then-is_nonnegative w ↦
-          second_decides _ _ _ _ _ w.if-is_nonnegative.true w.value-is two w.is_symmetric.ensures
-      | else-is_nonnegative w ↦ first_decides _ _ _ _ w.if-is_nonnegative.false w.value-is two
-    ] in
-    first_fails _ _ _ _ c.if-is_symmetric.false three (all_tests f)
+pub returns-then-not-is_nonnegative : goal.returns-then-not-is_nonnegative
+returns-then-not-is_nonnegative c =
+    one_fails _ _ _ c.if-not-is_nonnegative.true c.is_nonnegative.ensures
+    (λ all. ((all_tests c.args.shape.now).1 all).0.0.1)
+
+pub returns-then-not-is_symmetric : goal.returns-then-not-is_symmetric
+returns-then-not-is_symmetric c =
+    one_fails _ _ _ c.if-not-is_symmetric.true c.is_symmetric.ensures
+    (λ all. ((all_tests c.args.shape.now).1 all).0.1)
+
+pub is_subadditive-requires : goal.is_subadditive-requires
+is_subadditive-requires c =
+    symmetry_passes c.args.shape.now (c.is_zero_at_zero.ensures.0 c.if-not-is_zero_at_zero.false)
+    (c.is_nonnegative.ensures.0 c.if-not-is_nonnegative.false) (c.is_symmetric.ensures.0 c.if-not-is_symmetric.false)
+
+pub returns : goal.returns
+returns c =
+    in_other_words _ _ _ c.is_subadditive.ensures
+    (squares_decide c.args.shape.now (c.is_zero_at_zero.ensures.0 c.if-not-is_zero_at_zero.false)
+    (c.is_nonnegative.ensures.0 c.if-not-is_nonnegative.false) (c.is_symmetric.ensures.0 c.if-not-is_symmetric.false))

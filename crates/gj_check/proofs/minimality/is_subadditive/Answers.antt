@@ -1,8 +1,8 @@
-use Rattle.std.proofs.Common.{below_more}
-use Rattle.gj_check.specs.Tests.{IsSubadditiveRow}
+use Rattle.gj_check.proofs.TestsInTurn.{in_other_words}
+use Rattle.gj_check.proofs.RowTests.{continuous_read}
 use Rattle.gj_check.proofs.minimality.is_subadditive.Goals as goal
 
-pub loop-a-preserved : goal.loop-a-preserved
-loop-a-preserved c =
-    below_more (IsSubadditiveRow c.args.shape.now) c.loop-a.a c.loop-a.invariant
-    (c.is_subadditive_row.ensures.0 c.if-not-is_subadditive_row.false)
+pub returns-then-is_continuous : goal.returns-then-is_continuous
+returns-then-is_continuous c =
+    in_other_words _ _ _ c.is_subadditive_on_grid.ensures
+    (continuous_read c.args.shape.now c.of-lanes.ensures.limits (c.is_continuous.ensures.0 c.if-is_continuous.true))

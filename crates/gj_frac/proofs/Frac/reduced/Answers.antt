@@ -24,7 +24,8 @@ coprime-requires-clause-coprime c =
     let divisor = to_z-of_z w128 c.common_divisor-divisor.result (search rules) in
     let num' = to_z-of_z w128 c.quotient.result (search rules) in
     let den' = to_z-of_z w128 c.quotient-2.result (search rules) in
-    let greatest : IsGcd (unsigned_abs c.args.num) (unsigned_abs c.args.den) (unsigned_abs c.common_divisor-divisor.result) = simp (num, den) at c.common_divisor-divisor.ensures.greatest in
+    let greatest : IsGcd (unsigned_abs c.args.num) (unsigned_abs c.args.den) (unsigned_abs c.common_divisor-divisor.result) =
+    simp (num, den) at c.common_divisor-divisor.ensures.greatest in
     simp (num', den')
     (coprime_signed_quotients c.args.num c.args.den c.common_divisor-divisor.result _ _ greatest
     (divisor_of_positive _ _ c.requires.zero greatest.1).0

@@ -16,7 +16,8 @@ returns-in_err-num-clause-wide c =
 pub returns-in_err-den-clause-wide : goal.returns-in_err-den-clause-wide
 returns-in_err-den-clause-wide c =
     let refused = simp (read_part c.args.x.den c.args.x.lowest.den_fits, read_part c.args.y.den c.args.y.lowest.den_fits) at c.in_err-den.ensures in
-    let wide : FitsProduct c.args.x c.args.y → ⊥ = λ fits. refused (denominators_fit c.args.x c.args.y c.requires.first c.requires.second fits) in
+    let wide : FitsProduct c.args.x c.args.y → ⊥ = λ fits.
+    refused (denominators_fit c.args.x c.args.y c.requires.first c.requires.second fits) in
     on_err _ _ wide
 
 -- what the two products are

@@ -13,7 +13,9 @@ pub returns-then-rest-eq0 : goal.returns-then-rest-eq0
 returns-then-rest-eq0 t c =
     let same = same_from_cmp _ _ c.cmp-whole.result c.cmp-whole.ensures (sym c.is_ne.ensures ∙ c.if-is_ne.false) in
     c.cmp.ensures
-    ∙ cmp_by_zero (c.args.a % c.args.b) c.args.b (c.args.c % c.args.d) c.args.d (pos_of_ne-zero c.requires.b_some) (pos_of_ne-zero c.requires.d_some) (⊎_elim (λ e. inl e) (λ e. inr e.1) c.then-rest-eq0.either)
+    ∙ cmp_by_zero (c.args.a % c.args.b) c.args.b (c.args.c % c.args.d) c.args.d
+    (pos_of_ne-zero c.requires.b_some) (pos_of_ne-zero c.requires.d_some)
+    (⊎_elim (λ e. inl e) (λ e. inr e.1) c.then-rest-eq0.either)
     ∙ sym (cmp_rests c.args.a c.args.b c.args.c c.args.d same)
 
 pub returns : goal.returns

@@ -39,4 +39,5 @@ returns-clause-second c g h =
     let divisor = to_z-of_z w128 c.common_divisor-divisor.result (search rules) in
     let is : c.quotient-2.result *ℤ c.common_divisor-divisor.result ≡ c.args.d = simp (d, divisor) at c.quotient-2.ensures in
     to_z-of_z w128 c.quotient-2.result (search rules)
-    ∙ quotient_by_gcd c.args.d _ c.args.n _ g c.requires.d_positive c.common_divisor-divisor.ensures.positive is (IsGcd-swap _ _ _ (greatest c)) (IsGcd-swap _ _ _ h)
+    ∙ quotient_by_gcd c.args.d _ c.args.n _ g c.requires.d_positive c.common_divisor-divisor.ensures.positive is
+    (IsGcd-swap _ _ _ (greatest c)) (IsGcd-swap _ _ _ h)

@@ -6,5 +6,6 @@ use mir.Syntax.{w128}
 
 pub returns : goal.returns
 returns c =
-    ap (λ z. z *ℤ c.args.divisor) (quot_is w128 c.args.n c.args.divisor c.ranges.n c.ranges.divisor (quot_fits w128 c.args.n c.args.divisor c.ranges.n c.requires.positive))
+    ap (λ z. z *ℤ c.args.divisor) (quot_is w128 c.args.n c.args.divisor c.ranges.n c.ranges.divisor
+    (quot_fits w128 c.args.n c.args.divisor c.ranges.n c.requires.positive))
     ∙ quotient_of_divisor c.args.n c.args.divisor c.requires.divides

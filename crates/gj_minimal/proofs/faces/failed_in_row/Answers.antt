@@ -1,6 +1,12 @@
 use Rattle.std.proofs.Common.{below_more}
-use Rattle.gj_theory.specs.Before.{PassesSquare}
+use Rattle.gj_theory.specs.EarlierTests.{PassesSquare}
+use Rattle.gj_minimal.proofs.FailedFaces.{squares_from_diagonal}
 use Rattle.gj_minimal.proofs.faces.failed_in_row.Goals as goal
+
+pub returns-then-squares_pass-clause-none : goal.returns-then-squares_pass-clause-none
+returns-then-squares_pass-clause-none c =
+    squares_from_diagonal c.args.shape.now c.args.a c.requires.vertices c.requires.within c.requires.rows
+    (c.squares_pass.ensures c.if-squares_pass.true)
 
 pub failed_in_square-requires-clause-squares : goal.failed_in_square-requires-clause-squares
 failed_in_square-requires-clause-squares c = record {

@@ -1,4 +1,4 @@
-use Rattle.gj_theory.specs.Before.{PassesSquare}
+use Rattle.gj_theory.specs.EarlierTests.{PassesSquare}
 use Rattle.gj_minimal.specs.FirstFailure.{HoldsBelow}
 use Rattle.gj_minimal.proofs.faces.failed_in_row.Given as goal
 

@@ -3,7 +3,7 @@ use Rattle.gj_frac.specs.Fraction.{IsRatio}
 use Rattle.std.proofs.lemmas.Int.{by_lt_z}
 use Rattle.gj_shape.specs.Faces.{limits_of}
 use Rattle.gj_shape.specs.FirstViolation.{Passes, Shows}
-use Rattle.gj_theory.specs.Before.{PassesBefore}
+use Rattle.gj_theory.specs.EarlierTests.{PassesBefore}
 use Rattle.gj_minimal.proofs.EntryBounds.{symmetry_before}
 use Rattle.gj_shape.specs.declared.violations.Violation.TheVariants as violation
 use Rattle.gj_minimal.specs.Failures.{test_of}

@@ -1,27 +1,19 @@
-use Rattle.std.proofs.Common.{ap, below_more, ◌∙◌, length, arith}
-use Rattle.gj_minimal.specs.AtIndices.{IsSubadditiveRow}
-use Rattle.gj_minimal.proofs.FailedVertices.{AreValues, vertex_fails, vertices_pass}
+use Rattle.std.proofs.Common.{below_more, arith}
+use Rattle.gj_minimal.specs.Failures.{PassesVertexRow}
+use Rattle.gj_minimal.proofs.FailedVertices.{vertex_fails}
 use Rattle.gj_minimal.proofs.vertices.failed_vertex.Goals as goal
 
 pub returns-in-Some-clause-found : goal.returns-in-Some-clause-found
 returns-in-Some-clause-found c =
-    let read : AreValues c.args.shape.now c.value_numerators-values.result.now = record {
-      values = c.value_numerators-values.ensures.value;
-      many = ap length c.value_numerators-values.ensures.value ∙ c.value_numerators-values.ensures.limits.value_length;
-    } in
-    vertex_fails c.args.shape.now c.value_numerators-values.result.now c.loop-a.a c.in-Some.b c.vertex.result read
-    c.requires c.vertex.ensures (omega arith) c.loop-a.invariant c.in-Some.ensures.found
+    vertex_fails c.args.shape.now c.loop-a.a c.in-Some.b c.vertex.result c.requires.symmetry c.vertex.ensures
+    (omega arith) c.loop-a.invariant c.in-Some.ensures.found
 
 pub loop-a-preserved : goal.loop-a-preserved
 loop-a-preserved c =
-    below_more (IsSubadditiveRow c.value_numerators-values.result.now) c.loop-a.a c.loop-a.invariant
-    c.in_default.ensures.none
+    below_more (PassesVertexRow c.args.shape.now) c.loop-a.a c.loop-a.invariant c.in_default.ensures.none
 
 pub returns-clause-none : goal.returns-clause-none
-returns-clause-none c =
-    let read : AreValues c.args.shape.now c.value_numerators-values.result.now = record {
-      values = c.value_numerators-values.ensures.value;
-      many = ap length c.value_numerators-values.ensures.value ∙ c.value_numerators-values.ensures.limits.value_length;
-    } in
-    vertices_pass c.args.shape.now c.value_numerators-values.result.now read c.requires
-    (λ a below. c.loop-a.invariant a (omega arith))
+returns-clause-none c = record {
+  symmetry = c.requires.symmetry;
+  vertices = λ a b a_below b_below. c.loop-a.invariant a (omega arith) b b_below;
+}

@@ -1,5 +1,5 @@
-use Rattle.gj_theory.proofs.Complete.{tests_from_minimal}
-use Rattle.gj_theory.proofs.Minimal.{minimal_from_tests}
+use Rattle.gj_theory.proofs.TestsFromMinimal.{tests_from_minimal}
+use Rattle.gj_theory.proofs.MinimalFromTests.{minimal_from_tests}
 use Rattle.gj_theory.proofs.grid.tests_say_minimal.Goals as goal
 
 pub returns-clause-sound : goal.returns-clause-sound

@@ -1,4 +1,4 @@
-use Rattle.gj_top.proofs.Forms.{shown_is_read, shown_again}
+use Rattle.gj_top.proofs.Shown.{shown_is_read, shown_again}
 use Rattle.gj_top.proofs.laws.shown_text_is_read.Goals as goal
 
 pub returns-clause-read : goal.returns-clause-read

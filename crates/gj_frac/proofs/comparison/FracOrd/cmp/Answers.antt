@@ -25,23 +25,31 @@ returns-in-true-true c =
     let x = c.args.self.now in
     let y = c.args.other.now in
     c.compare_sizes.ensures
-    ∙ sym (cmp_negative x.num x.den y.num y.den (is_negative x.num x.lowest.num_fits c.in-true-true.is-0) (is_negative y.num y.lowest.num_fits c.in-true-true.is-1) x.lowest.positive y.lowest.positive)
+    ∙ sym (cmp_negative x.num x.den y.num y.den
+    (is_negative x.num x.lowest.num_fits c.in-true-true.is-0)
+    (is_negative y.num y.lowest.num_fits c.in-true-true.is-1) x.lowest.positive y.lowest.positive)
 
 pub returns-in-true-false : goal.returns-in-true-false
 returns-in-true-false c =
     let x = c.args.self.now in
     let y = c.args.other.now in
-    sym (cmp_negative_first x.num x.den y.num y.den (is_negative x.num x.lowest.num_fits c.in-true-false.is-0) (not_negative y.num y.lowest.num_fits c.in-true-false.is-1) x.lowest.positive y.lowest.positive)
+    sym (cmp_negative_first x.num x.den y.num y.den
+    (is_negative x.num x.lowest.num_fits c.in-true-false.is-0)
+    (not_negative y.num y.lowest.num_fits c.in-true-false.is-1) x.lowest.positive y.lowest.positive)
 
 pub returns-in-false-true : goal.returns-in-false-true
 returns-in-false-true c =
     let x = c.args.self.now in
     let y = c.args.other.now in
-    sym (cmp_negative_second x.num x.den y.num y.den (not_negative x.num x.lowest.num_fits c.in-false-true.is-0) (is_negative y.num y.lowest.num_fits c.in-false-true.is-1) x.lowest.positive y.lowest.positive)
+    sym (cmp_negative_second x.num x.den y.num y.den
+    (not_negative x.num x.lowest.num_fits c.in-false-true.is-0)
+    (is_negative y.num y.lowest.num_fits c.in-false-true.is-1) x.lowest.positive y.lowest.positive)
 
 pub returns-in-false-false : goal.returns-in-false-false
 returns-in-false-false c =
     let x = c.args.self.now in
     let y = c.args.other.now in
     c.compare_sizes-in-false-false.ensures
-    ∙ sym (cmp_not_negative x.num x.den y.num y.den (not_negative x.num x.lowest.num_fits c.in-false-false.is-0) (not_negative y.num y.lowest.num_fits c.in-false-false.is-1) x.lowest.positive y.lowest.positive)
+    ∙ sym (cmp_not_negative x.num x.den y.num y.den
+    (not_negative x.num x.lowest.num_fits c.in-false-false.is-0)
+    (not_negative y.num y.lowest.num_fits c.in-false-false.is-1) x.lowest.positive y.lowest.positive)

@@ -3,7 +3,7 @@ use Rattle.std.proofs.lemmas.Nat.Gcd.{IsGcd-swap}
 use Rattle.gj_frac.specs.Fraction.{IsRatio}
 use Rattle.gj_frac.proofs.Crosswise.{crosswise_coprime, product_is_along, product_fits}
 use Rattle.gj_tools.proofs.Integers.{abs_positive_z, abs_zero_z}
-use Rattle.gj_frac.proofs.Reduced.{read_part}
+use Rattle.gj_frac.proofs.Reduced.{num_over_num, den_over_den, read_part}
 use Rattle.gj_frac.proofs.products.FracDiv.div.Goals as goal
 
 pub reduced-requires-clause-zero : goal.reduced-requires-clause-zero
@@ -12,13 +12,11 @@ reduced-requires-clause-zero c =
 
 -- the first factor is the one numerator over the other
 first : (c : goal.After-reduced-2) → IsRatio c.reduced.result c.args.self.num c.args.other.num
-first c =
-    simp (read_part c.args.self.num c.args.self.lowest.num_fits, read_part c.args.other.num c.args.other.lowest.num_fits) at c.reduced.ensures
+first c = num_over_num c.args.self c.args.other c.reduced.result c.reduced.ensures
 
 -- the second factor is the other denominator over the one
 second : (c : goal.After-reduced-2) → IsRatio c.reduced-2.result c.args.other.den c.args.self.den
-second c =
-    simp (read_part c.args.other.den c.args.other.lowest.den_fits, read_part c.args.self.den c.args.self.lowest.den_fits) at c.reduced-2.ensures
+second c = den_over_den c.args.other c.args.self c.reduced-2.result c.reduced-2.ensures
 
 pub crosswise_coprime_product-requires-clause-first : goal.crosswise_coprime_product-requires-clause-first
 crosswise_coprime_product-requires-clause-first c =
@@ -36,8 +34,6 @@ crosswise_coprime_product-requires-clause-fits c =
 
 pub returns : goal.returns
 returns c =
-    let first : IsRatio c.reduced.result c.args.self.num c.args.other.num =
-    simp (read_part c.args.self.num c.args.self.lowest.num_fits, read_part c.args.other.num c.args.other.lowest.num_fits) at c.reduced.ensures in
-    let second : IsRatio c.reduced-2.result c.args.other.den c.args.self.den =
-    simp (read_part c.args.other.den c.args.other.lowest.den_fits, read_part c.args.self.den c.args.self.lowest.den_fits) at c.reduced-2.ensures in
+    let first = num_over_num c.args.self c.args.other c.reduced.result c.reduced.ensures in
+    let second = den_over_den c.args.other c.args.self c.reduced-2.result c.reduced-2.ensures in
     product_is_along c.reduced.result c.reduced-2.result c.crosswise_coprime_product.result _ _ _ _ first second c.crosswise_coprime_product.ensures

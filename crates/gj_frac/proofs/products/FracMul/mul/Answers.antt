@@ -2,18 +2,16 @@ use Rattle.std.proofs.Common.{arith}
 use Rattle.gj_frac.specs.Fraction.{IsRatio}
 use Rattle.gj_frac.proofs.Crosswise.{crosswise_coprime, product_is_along, product_fits}
 use Rattle.gj_tools.proofs.Integers.{abs_positive_z}
-use Rattle.gj_frac.proofs.Reduced.{read_part}
+use Rattle.gj_frac.proofs.Reduced.{num_over_den}
 use Rattle.gj_frac.proofs.products.FracMul.mul.Goals as goal
 
 -- the first factor is the one numerator over the other denominator
 first : (c : goal.After-reduced-2) → IsRatio c.reduced.result c.args.self.num c.args.other.den
-first c =
-    simp (read_part c.args.self.num c.args.self.lowest.num_fits, read_part c.args.other.den c.args.other.lowest.den_fits) at c.reduced.ensures
+first c = num_over_den c.args.self c.args.other c.reduced.result c.reduced.ensures
 
 -- the second factor the other way round
 second : (c : goal.After-reduced-2) → IsRatio c.reduced-2.result c.args.other.num c.args.self.den
-second c =
-    simp (read_part c.args.other.num c.args.other.lowest.num_fits, read_part c.args.self.den c.args.self.lowest.den_fits) at c.reduced-2.ensures
+second c = num_over_den c.args.other c.args.self c.reduced-2.result c.reduced-2.ensures
 
 pub crosswise_coprime_product-requires-clause-first : goal.crosswise_coprime_product-requires-clause-first
 crosswise_coprime_product-requires-clause-first c =
@@ -31,8 +29,6 @@ crosswise_coprime_product-requires-clause-fits c =
 
 pub returns : goal.returns
 returns c =
-    let first : IsRatio c.reduced.result c.args.self.num c.args.other.den =
-    simp (read_part c.args.self.num c.args.self.lowest.num_fits, read_part c.args.other.den c.args.other.lowest.den_fits) at c.reduced.ensures in
-    let second : IsRatio c.reduced-2.result c.args.other.num c.args.self.den =
-    simp (read_part c.args.other.num c.args.other.lowest.num_fits, read_part c.args.self.den c.args.self.lowest.den_fits) at c.reduced-2.ensures in
+    let first = num_over_den c.args.self c.args.other c.reduced.result c.reduced.ensures in
+    let second = num_over_den c.args.other c.args.self c.reduced-2.result c.reduced-2.ensures in
     product_is_along c.reduced.result c.reduced-2.result c.crosswise_coprime_product.result _ _ _ _ first second c.crosswise_coprime_product.ensures

@@ -1,0 +1,22 @@
+-- Answers of tests, one after the other.
+use Rattle.std.proofs.Common.{◌≡◌, ◌↔◌, Bool, true, false, IsTrue, sym, ◌∙◌}
+
+-- the first test failed
+pub first_fails : (a : Bool) (P Q R : Type 0) → a ≡ false → IsTrue a ↔ P → (P × Q) ↔ R → IsTrue a ↔ R
+first_fails a P Q R e p both = (λ h. absurd (let k : false ≡ true = sym e ∙ h in cc), λ r. p.1 (both.1 r).0)
+
+-- the first test passed
+pub first_passes : (a b : Bool) (P Q R : Type 0) → a ≡ true → IsTrue a ↔ P → IsTrue b ↔ Q → (P × Q) ↔ R → IsTrue b ↔ R
+first_passes a b P Q R e p q both = (λ h. both.0 (p.0 e, q.0 h), λ r. q.1 (both.1 r).1)
+
+-- a test answers what it says in other words
+pub in_other_words : (a : Bool) (P Q : Type 0) → IsTrue a ↔ P → P ↔ Q → IsTrue a ↔ Q
+in_other_words a P Q p same = (λ h. same.0 (p.0 h), λ q. p.1 (same.1 q))
+
+-- one test of many failed
+pub one_fails : (a : Bool) (P R : Type 0) → a ≡ false → IsTrue a ↔ P → (R → P) → IsTrue false ↔ R
+one_fails a P R e p has = (λ h. absurd (let k : false ≡ true = h in cc), λ r. sym e ∙ p.1 (has r))
+
+-- two things
+pub as_they_are : (P Q : Type 0) → (P × Q) ↔ (P × Q)
+as_they_are P Q = (λ h. h, λ h. h)

@@ -1,0 +1,38 @@
+use Rattle.std.proofs.Common.{◌<◌, ◌+◌, length, ◌∙◌, arith}
+use Rattle.std.proofs.Math.ListN.{length-set}
+use Rattle.gj_theory.proofs.Lanes.{have_lanes, lane_cast}
+use Rattle.gj_check.proofs.RowTests.{one_more_number}
+use Rattle.gj_check.proofs.squares.Lanes.of.Goals as goal
+
+pub overflow_cast-value : goal.overflow_cast-value
+overflow_cast-value c =
+    let lanes = have_lanes c.args.shape.now c.order.ensures.limits c.requires in
+    lane_cast _ _ c.at-piece.ensures.value (lanes.value c.loop-i.i)
+
+pub overflow_cast-right : goal.overflow_cast-right
+overflow_cast-right c =
+    let lanes = have_lanes c.args.shape.now c.order.ensures.limits c.requires in
+    lane_cast _ _ c.at-piece.ensures.right (lanes.right c.loop-i.i)
+
+pub overflow_cast-left : goal.overflow_cast-left
+overflow_cast-left c =
+    let lanes = have_lanes c.args.shape.now c.order.ensures.limits c.requires in
+    lane_cast _ _ c.at-piece.ensures.left (lanes.left (c.loop-i.i + 1))
+
+pub loop-i-preserved : goal.loop-i-preserved
+loop-i-preserved c =
+    let i = c.loop-i.i in
+    let h = c.loop-i.invariant in
+    let lanes = have_lanes c.args.shape.now c.order.ensures.limits c.requires in
+    let value_within : c.loop-i.i < length c.loop-i.value = omega arith in
+    let right_within : c.loop-i.i < length c.loop-i.right = omega arith in
+    let left_within : c.loop-i.i < length c.loop-i.left = omega arith in (
+      length-set _ _ _ ∙ h.0,
+      length-set _ _ _ ∙ h.1,
+      length-set _ _ _ ∙ h.2,
+      record {
+        values = one_more_number _ _ i _ value_within h.3.values c.at-piece.ensures.value (lanes.value i);
+        rights = one_more_number _ _ i _ right_within h.3.rights c.at-piece.ensures.right (lanes.right i);
+        lefts = one_more_number _ _ i _ left_within h.3.lefts c.at-piece.ensures.left (lanes.left (i + 1));
+      },
+    )

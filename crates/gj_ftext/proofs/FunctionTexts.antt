@@ -1,0 +1,61 @@
+-- How the lines that were read make a function text, and a fault of theirs one of the text.
+use Rattle.std.proofs.Common.{◌≡◌, ℕ, List, length, refl, sym, subst}
+use Rattle.gj_lex.specs.declared.fault.PartFault.{PartFault}
+use Rattle.gj_lex.specs.declared.spelling.Spelling.TheVariants.{Lenient}
+use Rattle.gj_lex.specs.Parts.{words_rule, Part, line_part, empty_part, then_part, end_part, IsFaultOf, IsTail}
+use Rattle.gj_lex.specs.TextLines.{HasNothing}
+use Rattle.gj_lex.proofs.PartLaws.{fault_in_first, fault_in_next, tail_refused}
+use Rattle.gj_shape.specs.FunctionData.{FunctionData, IsWithinBounds}
+use Rattle.gj_lines.specs.FunctionGrammar.{function_part}
+use Rattle.gj_lines.proofs.FunctionRead.{within_bounds}
+use Rattle.gj_ftext.specs.FunctionText.{title_words, end_words, function_text, whole_function_text, IsFunctionText, IsWholeFunctionText}
+
+-- the first and the last line
+abbrev pub title_part : Part (Unit {0})
+title_part = line_part Lenient (words_rule title_words)
+
+abbrev pub last_part : Part (Unit {0})
+last_part = line_part Lenient (words_rule end_words)
+
+-- behind the lines of f
+abbrev end_of : FunctionData → Part FunctionData
+end_of f = then_part last_part (λ t. empty_part f)
+
+abbrev behind_title : Unit {0} → Part FunctionData
+behind_title t = then_part (function_part Lenient) end_of
+
+pub fault_in_lines : (text middle : List ℕ) (fault : PartFault) → title_part.Reads text tt middle →
+    IsFaultOf (function_part Lenient) middle fault → IsFaultOf function_text text fault
+fault_in_lines text middle fault title h =
+    fault_in_next title_part behind_title text tt middle fault title (fault_in_first (function_part Lenient) end_of middle fault h)
+
+pub fault_in_end : (text middle rest : List ℕ) (f : FunctionData) (fault : PartFault) → title_part.Reads text tt middle →
+    (function_part Lenient).Reads middle f rest → IsFaultOf last_part rest fault → IsFaultOf function_text text fault
+fault_in_end text middle rest f fault title lines h =
+    fault_in_next title_part behind_title text tt middle fault title
+    (fault_in_next (function_part Lenient) end_of middle f rest fault lines (fault_in_first last_part (λ t. empty_part f) rest fault h))
+
+pub fault_behind : (text rest : List ℕ) (f : FunctionData) (fault : PartFault) → IsFunctionText text f rest → IsTail Lenient rest fault →
+    IsFaultOf whole_function_text text fault
+fault_behind text rest f fault h tail =
+    fault_in_next function_text (λ f. end_part Lenient f) text f rest fault h (tail_refused Lenient f rest fault tail)
+
+pub whole_text : (text rest : List ℕ) (f : FunctionData) → IsFunctionText text f rest → HasNothing Lenient rest → IsWholeFunctionText text f
+whole_text text rest f h nothing = (rest, (f, rest, h, (refl, refl, nothing)))
+
+-- a function that is read is within bounds
+pub function_is_within : (text : List ℕ) (f : FunctionData) (rest : List ℕ) → IsFunctionText text f rest → IsWithinBounds f
+function_is_within text f rest (t, m, title, (g, n, lines, (t', r, last, (same, at)))) =
+    subst IsWithinBounds (sym same) (within_bounds Lenient m g n lines)
+
+-- the parts of a whole function text
+pub record WholeParts (text : List ℕ) (f : FunctionData) : Type 0 where
+  pub rest : List ℕ
+  pub function_text : IsFunctionText text f rest
+  pub nothing : HasNothing Lenient rest
+  pub within : IsWithinBounds f
+
+pub whole_parts : (text : List ℕ) (f : FunctionData) → IsWholeFunctionText text f → WholeParts text f
+whole_parts text f (r, (g, rest, h, (same, at, none))) =
+    let text_is = subst (λ (x : FunctionData). IsFunctionText text x rest) (sym same) h in
+    record { rest = rest; function_text = text_is; nothing = none; within = function_is_within text f rest text_is }

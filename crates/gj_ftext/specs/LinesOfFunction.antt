@@ -1,0 +1,34 @@
+-- Function texts by the words of their lines (own).
+use Rattle.std.specs.Prelude.{ℕ, pos, ◌≡◌, List, [], ◌∷◌, ◌++◌, map}
+use Rattle.std.specs.List.{AllZip}
+use Rattle.gj_frac.specs.declared.Frac.{Frac}
+use Rattle.gj_frac.specs.Fraction.{IsRatio}
+use Rattle.gj_lex.specs.SpelledNumbers.{IsCountWord, IsFractionWord}
+use Rattle.gj_lex.specs.TextLines.{HasLines}
+use Rattle.gj_lex.specs.declared.spelling.Spelling.TheVariants.{Lenient}
+use Rattle.gj_shape.specs.FunctionData.{FunctionData, IsWithinBounds}
+use Rattle.gj_shape.specs.Points.{ArePointsOf}
+use Rattle.gj_shape.specs.declared.points.Point.{Point}
+use Rattle.gj_lines.specs.FunctionGrammar.{SpellPoint, order_words, place_words, point_words}
+use Rattle.gj_ftext.specs.FunctionText.{title_words, end_words}
+
+-- the lines are `gj-function 1`, `order Q`, `f F`, a line `point V` or `point L V R` for each point of the function f, and `end`
+pub record AreLinesOf (f : FunctionData) (lines : List (List (List ℕ))) : Type 0 where
+  pub order_word : List ℕ
+  pub place_word : List ℕ
+  pub fractions : List (List (List ℕ))
+  pub place : Frac
+  pub points : List Point
+  pub order_is : IsCountWord Lenient order_word f.order
+  pub place_spelled : IsFractionWord Lenient place_word place
+  pub place_is : IsRatio place (pos f.place) (pos f.order)
+  pub points_spelled : AllZip (SpellPoint Lenient) fractions points
+  pub points_are : ArePointsOf f points
+  pub lines_are : lines ≡ title_words ∷ order_words order_word ∷ place_words place_word ∷ map point_words fractions ++ end_words ∷ []
+
+-- the text has the lines of f, a function within the bounds, and the rest follows
+pub record HasLinesOfFunction (text : List ℕ) (f : FunctionData) (rest : List ℕ) : Type 0 where
+  pub within : IsWithinBounds f
+  pub lines : List (List (List ℕ))
+  pub has_lines : HasLines Lenient text lines rest
+  pub are_lines : AreLinesOf f lines

@@ -1,0 +1,220 @@
+-- What follows from the outcome of a run.
+use Rattle.std.proofs.Common.{◌≡◌, ◌≢◌, ◌⊎◌, inl, inr, ℕ, ◌+◌, ◌≤◌, Bool, true, false, List, [], ◌++◌, length, IsTrue, IfSome, Option}
+use Rattle.std.proofs.Common.{None, Some, String, refl, sym, ap, subst, ◌∙◌, arith}
+use Rattle.std.proofs.lemmas.List.{drop_all}
+use Rattle.std.specs.declared.alloc.Global.{Global}
+use Rattle.gj_top.specs.declared.command.Command.{Command}
+use Rattle.gj_top.specs.declared.reply.End.{End}
+use Rattle.gj_top.specs.declared.reply.End.TheVariants as end
+use Rattle.gj_top.specs.declared.status.Status.{Status}
+use Rattle.gj_top.specs.declared.status.Status.TheVariants.{Done, ReadFault, WriteFault, Memory}
+use Rattle.gj_top.specs.Command.{IsNamed, task_for}
+use Rattle.gj_top.specs.Task.{Form, Task, reads, Spells, Refuses, IsInForm, IsReply}
+use Rattle.gj_top.specs.Task.Form.{reading, reading_nothing}
+use Rattle.gj_top.specs.Answer.{IsAnswerTo, IsCommandAnswer, IsAnswer, IsUnanswered, IsWithinLimit, IsReadWhole, IsReadInPart, input_limit}
+use Rattle.gj_top.specs.Answer.IsAnswerTo.{too_long, refused, replied}
+use Rattle.gj_top.specs.Answer.IsAnswer.{no_command, read_fault, of_command}
+use Rattle.gj_top.specs.Outcome.{IsOutcome}
+use Rattle.gj_top.specs.Outcome.IsOutcome.{silent, told, cut_off}
+use Rattle.gj_top.specs.Causes.{IsTrueRun, IsInput, IsGoodInput, ReadNothing, IsStatusOf, IsCause, IsStatusOfReply}
+use Rattle.gj_top.proofs.Commands.{one_command}
+use Rattle.gj_top.proofs.Ends.{done_end, not_answered}
+use Rattle.gj_top.proofs.Sound.{sound}
+
+-- ---- forms that read nothing
+
+unread_spells : {Thing : Type 0} (form : Form Thing) (a b : List ℕ) (thing : Thing) → reads form ≡ false → Spells form a thing → Spells form b thing
+unread_spells (reading spells refuses) a b thing e h = absurd (cc)
+unread_spells (reading_nothing given) a b thing e h = h
+
+refuses_read : {Thing : Type 0} (form : Form Thing) (input text : List ℕ) → Refuses form input text → IsTrue (reads form)
+refuses_read (reading spells refuses) input text h = refl
+refuses_read (reading_nothing given) input text h = absurd h
+
+not_both : (b : Bool) → b ≡ false → IsTrue b → ⊥
+not_both b e h = cc
+
+-- where nothing is read, the input does not matter
+unread_answer : (task : Task) (a b : List ℕ) (s : Status) (text : List ℕ) → reads task.form ≡ false →
+    IsAnswerTo task a s text → IsAnswerTo task b s text
+unread_answer task a b s text e (too_long x) = absurd (not_both (reads task.form) e x.read)
+unread_answer task a b s text e (refused x) = absurd (not_both (reads task.form) e (refuses_read task.form a text x.refused))
+unread_answer task a b s text e (replied x) = replied (record {
+  within = λ r. absurd (not_both (reads task.form) e r);
+  end = x.end;
+  status_is = x.status_is;
+  reply = record {
+    thing = x.reply.thing;
+    spelled = unread_spells task.form a b x.reply.thing e x.reply.spelled;
+    replied = x.reply.replied;
+  };
+})
+
+-- where an input is read, the answer is one to the input that the source told
+moved : (task : Task) (b : Bool) (own input : List ℕ) (left after : Option (List ℕ)) (s : Status) (text : List ℕ) → reads task.form ≡ b →
+    (IsTrue b → left ≡ Some input) → IsReadWhole b own left after → IsAnswerTo task own s text → IsAnswerTo task input s text
+moved task true own input left after s text e given whole a =
+    let read : IsReadWhole true own (Some input) after = subst (λ (l : Option (List ℕ)). IsReadWhole true own l after) (given refl) whole in
+    subst (λ (i : List ℕ). IsAnswerTo task i s text) (sym read.0) a
+moved task false own input left after s text e given whole a = unread_answer task own input s text e a
+
+answer_to_input : (words : List (String Global)) (left after : Option (List ℕ)) (s : Status) (text input : List ℕ) → IsInput words left input →
+    (a : IsCommandAnswer words left after s text) → IsAnswerTo (task_for a.command) input s text
+answer_to_input words left after s text input given a =
+    moved (task_for a.command) (reads (task_for a.command).form) a.input input left after s text refl (given a.command a.named) a.whole a.answer
+
+-- ---- answers to an input
+
+-- one that ends with Done is a reply
+pub done_reply : (task : Task) (input text : List ℕ) → IsAnswerTo task input Done text → IsReply task input end.Done text
+done_reply task input text (too_long a) = absurd (let is = a.status_is in cc)
+done_reply task input text (refused a) = absurd (let is = a.status_is in cc)
+done_reply task input text (replied a) = subst (λ (e : End). IsReply task input e text) (done_end a.end a.status_is) a.reply
+
+-- its status is one of the task
+status_of_answer : (task : Task) (input text : List ℕ) (s : Status) → IsAnswerTo task input s text → IsStatusOf task s
+status_of_answer task input text s (too_long a) = inr (inr (inl (a.read, inr a.status_is)))
+status_of_answer task input text s (refused a) = inr (inr (inl (refuses_read task.form input text a.refused, inr a.status_is)))
+status_of_answer task input text s (replied a) = inr (inr (inr (a.end, a.status_is, (a.reply.thing, text, a.reply.replied))))
+
+-- over an input in the form of the command and within the limit it is a reply
+status_in_form : (c : Command) (input text : List ℕ) (s : Status) → IsInForm (task_for c) input → IsWithinLimit (task_for c) input →
+    IsAnswerTo (task_for c) input s text → IsStatusOfReply (task_for c) input s
+status_in_form c input text s form within (too_long a) = let short = within a.read in let long = a.long in absurd (omega arith)
+status_in_form c input text s form within (refused a) = absurd ((sound c).form input text form.0 form.1 a.refused)
+status_in_form c input text s form within (replied a) = (a.end, a.status_is, text, a.reply)
+
+-- an answer is no failure of the sink
+pub no_write_fault : (words : List (String Global)) (Fault : Type 0) (left after : Option (List ℕ)) (s : Status) (text : List ℕ) →
+    IsAnswer words Fault left after s text → s ≡ WriteFault → ⊥
+no_write_fault words Fault left after s text (no_command a) e = let is = a.status_is in cc
+no_write_fault words Fault left after s text (read_fault a) e = let is = a.status_is in cc
+no_write_fault words Fault left after s text (of_command a) e = not_answered (task_for a.command) a.input s WriteFault text e refl a.answer
+
+-- and it is a failure of the source only where the source failed
+pub failed_source : (words : List (String Global)) (Fault : Type 0) (left after : Option (List ℕ)) (s : Status) (text : List ℕ) →
+    IsAnswer words Fault left after s text → s ≡ ReadFault → Fault
+failed_source words Fault left after s text (no_command a) e = absurd (let is = a.status_is in cc)
+failed_source words Fault left after s text (read_fault a) e = a.failed
+failed_source words Fault left after s text (of_command a) e =
+    absurd (not_answered (task_for a.command) a.input s ReadFault text e refl a.answer)
+
+-- ---- the clauses
+
+pub ends_clause : (words : List (String Global)) (Fault : Type 0) (left left' written written' : Option (List ℕ)) (sure : ℕ) (r : Status) →
+    IsOutcome words Fault left left' written written' sure r → (c : Command) → IsNamed words c → IsStatusOf (task_for c) r
+ends_clause words Fault left left' written written' sure r (silent o) c n = inl o.status_is
+ends_clause words Fault left left' written written' sure r (cut_off o) c n = inr (inl o.status_is)
+ends_clause words Fault left left' written written' sure r (told o) c n = elim o.answer [
+  | no_command a ↦ absurd (a.unnamed c n)
+  | read_fault a ↦ inr (inr (inl (
+    subst (λ (d : Command). IsTrue (reads (task_for d).form)) (one_command words a.command c a.named n) a.read,
+    inl a.status_is,
+  )))
+  | of_command a ↦ subst (λ (d : Command). IsStatusOf (task_for d) r) (one_command words a.command c a.named n)
+      (status_of_answer (task_for a.command) a.input o.text r a.answer)
+]
+
+-- a command of words that read nothing reads nothing
+reads_not : (words : List (String Global)) (c : Command) → IsNamed words c → ReadNothing words → reads (task_for c).form ≡ false
+reads_not words c m (inl none) = absurd (none c m)
+reads_not words c m (inr n) = subst (λ (d : Command). reads (task_for d).form ≡ false) (one_command words n.0 c n.1 m) n.2
+
+-- so an answer to them leaves the source as it was, and so does none
+pub unread_by_answer : (words : List (String Global)) (Fault : Type 0) (left left' : Option (List ℕ)) (s : Status) (text : List ℕ) →
+    IsAnswer words Fault left left' s text → ReadNothing words → left' ≡ left
+unread_by_answer words Fault left left' s text (no_command a) nothing = a.unread
+unread_by_answer words Fault left left' s text (read_fault a) nothing =
+    absurd (not_both (reads (task_for a.command).form) (reads_not words a.command a.named nothing) a.read)
+unread_by_answer words Fault left left' s text (of_command a) nothing =
+    subst (λ (b : Bool). IsReadWhole b a.input left left') (reads_not words a.command a.named nothing) a.whole
+
+pub unread_unanswered : (words : List (String Global)) (left left' : Option (List ℕ)) → IsUnanswered words left left' → ReadNothing words →
+    left' ≡ left
+unread_unanswered words left left' u nothing =
+    subst (λ (b : Bool). IsReadInPart b left left') (reads_not words u.command u.named nothing) u.part
+
+-- ---- the clauses over an input
+
+-- what holds of a value follows from a stronger fact
+weaker : {A : Type 0} (o : Option A) (P Q : A → Type 0) → ((x : A) → P x → Q x) → IfSome o P → IfSome o Q
+weaker None P Q f h = tt
+weaker (Some x) P Q f h = f x h
+
+module _ (words : List (String Global)) (Fault : Type 0) (left left' written written' : Option (List ℕ)) (sure : ℕ) (r : Status) where
+  pub cause_clause : IsOutcome words Fault left left' written written' sure r → (input : List ℕ) → IsInput words left input → IsCause words input r
+  cause_clause (silent o) input t = inl o.status_is
+  cause_clause (cut_off o) input t = inr (inr (inl o.status_is))
+  cause_clause (told o) input t = elim o.answer [
+    | no_command a ↦ inr (inr (inr (inl (a.status_is, a.unnamed))))
+    | read_fault a ↦ inr (inl a.status_is)
+    | of_command a ↦ inr (inr (inr (inr (a.command, a.named, o.text, answer_to_input words left left' r o.text input t a))))
+  ]
+
+  pub headline_clause : IsOutcome words Fault left left' written written' sure r → r ≡ Done → (input : List ℕ) → IsInput words left input →
+      IfSome written (λ before. IsTrueRun words input before written')
+  headline_clause (silent o) e input t = absurd (let is = o.status_is in cc)
+  headline_clause (cut_off o) e input t = absurd (let is = o.status_is in cc)
+  headline_clause (told o) e input t = elim o.answer [
+    | no_command a ↦ absurd (let is = a.status_is in cc)
+    | read_fault a ↦ absurd (let is = a.status_is in cc)
+    | of_command a ↦
+        let answer = answer_to_input words left left' r o.text input t a in
+        let reply = done_reply (task_for a.command) input o.text (subst (λ (s : Status). IsAnswerTo (task_for a.command) input s o.text) e answer) in
+        weaker written (λ before. written' ≡ Some (before ++ o.text)) (λ before. IsTrueRun words input before written') (λ before gain. record {
+          command = a.command;
+          named = a.named;
+          text = o.text;
+          true_reply = record {
+            thing = reply.thing;
+            spelled = reply.spelled;
+            holds = (sound a.command).work reply.thing o.text reply.replied;
+          };
+          gain = gain;
+        }) o.gain
+  ]
+
+  pub complete_clause : (Unread Unwritten : Type 0) → IsOutcome words Fault left left' written written' sure r → (Fault → Unread) →
+      (r ≡ WriteFault → Unwritten) → (c : Command) (input : List ℕ) → IsNamed words c → IsGoodInput (task_for c) left input →
+      (IsTrue (reads (task_for c).form) → Unread → ⊥) → (Unwritten → ⊥) → (r ≡ Memory) ⊎ IsStatusOfReply (task_for c) input r
+  complete_clause Unread Unwritten (silent o) f g c input n i x y = inl o.status_is
+  complete_clause Unread Unwritten (cut_off o) f g c input n i x y = absurd (y (g o.status_is))
+  complete_clause Unread Unwritten (told o) f g c input n i x y = elim o.answer [
+    | no_command a ↦ absurd (a.unnamed c n)
+    | read_fault a ↦
+        let read = subst (λ (d : Command). IsTrue (reads (task_for d).form)) (one_command words a.command c a.named n) a.read in
+        absurd (x read (f a.failed))
+    | of_command a ↦
+        let told_input : IsInput words left input = λ d m read.
+        i.told (subst (λ (e : Command). IsTrue (reads (task_for e).form)) (one_command words d c m n) read) in
+        let answer = answer_to_input words left left' r o.text input told_input a in
+        inr (status_in_form c input o.text r i.form i.within
+        (subst (λ (d : Command). IsAnswerTo (task_for d) input r o.text) (one_command words a.command c a.named n) answer))
+  ]
+
+-- ---- the input is read to its end
+
+module _ (words : List (String Global)) (Fault : Type 0) (input : List ℕ) (left' : Option (List ℕ)) where
+  -- an input within the limit that was read whole was read to its end
+  read_to_end : (b : Bool) (all : List ℕ) → IsTrue b → length input ≤ input_limit → IsReadWhole b all (Some input) left' → left' ≡ Some []
+  read_to_end true all t within whole =
+      let same : input ≡ all = whole.0 in
+      whole.1 ∙ ap Some (drop_all (input_limit + 1) all (omega (arith, ap length same)))
+  read_to_end false all t within whole = absurd (not_both false refl t)
+
+  end_at : (s : Status) (text : List ℕ) → IsAnswer words Fault (Some input) left' s text → (s ≡ ReadFault → Fault → ⊥) → (c : Command) →
+      IsNamed words c → IsTrue (reads (task_for c).form) → length input ≤ input_limit → left' ≡ Some []
+  end_at s text (no_command a) no_fault c n read within = absurd (a.unnamed c n)
+  end_at s text (read_fault a) no_fault c n read within = absurd (no_fault a.status_is a.failed)
+  end_at s text (of_command a) no_fault c n read within =
+      read_to_end (reads (task_for a.command).form) a.input
+      (subst (λ (d : Command). IsTrue (reads (task_for d).form)) (one_command words c a.command n a.named) read) within a.whole
+
+pub input_clause : (words : List (String Global)) (Fault : Type 0) (left left' : Option (List ℕ)) (s r : Status) (text : List ℕ) (Unread : Type 0) →
+    IsAnswer words Fault left left' s text → (s ≡ ReadFault → Fault → (r ≡ ReadFault) ⊎ ((r ≡ WriteFault) × Unread)) →
+    IfSome left (λ input. (c : Command) → IsNamed words c → IsTrue (reads (task_for c).form) → length input ≤ input_limit →
+    r ≢ Memory → r ≢ ReadFault → (r ≡ WriteFault → Unread → ⊥) → left' ≡ Some [])
+input_clause words Fault None left' s r text Unread a fault = tt
+input_clause words Fault (Some input) left' s r text Unread a fault = λ c n read within m f w.
+    end_at words Fault input left' s text a
+    (λ e failed. elim (fault e failed) [ inl q ↦ f q | inr q ↦ w q.0 q.1 ]) c n read within

@@ -1,8 +1,0 @@
-use Rattle.std.proofs.lemmas.Result.{IfOk-weaker}
-use Rattle.gj_top.specs.declared.command.Command.TheVariants.{Show}
-use Rattle.gj_top.proofs.reply.show.Goals as goal
-
-pub returns-in-Err-Refused : goal.returns-in-Err-Refused
-returns-in-Err-Refused c =
-    let fault = rw c.in-Err-Refused.field-0-is at c.in-Err-Refused.ensures.refused in
-    IfOk-weaker c.refusal.result _ _ (λ reply replies. replies Show c.args.input.now fault) c.refusal.ensures

@@ -1,0 +1,54 @@
+-- The command `minimal`: a function text is answered with the proof text of a verdict on minimality (own).
+use Rattle.std.specs.Prelude.{ℕ, ◌≡◌, ◌⊎◌, List}
+use Rattle.gj_shape.specs.FunctionData.{FunctionData}
+use Rattle.gj_shape.specs.Table.{IsMinimal}
+use Rattle.gj_shape.specs.Violation.{ShowsViolation}
+use Rattle.gj_shape.specs.FirstViolation.{IsFirstViolation}
+use Rattle.gj_shape.specs.declared.violations.Violation.{Violation}
+use Rattle.gj_proof.specs.declared.claim.Claim.{Claim}
+use Rattle.gj_proof.specs.declared.claim.Claim.TheVariants.{Minimal, NotMinimal}
+use Rattle.gj_proof.specs.ProofText.{IsProofText}
+use Rattle.gj_proof.specs.Rules.{MeetsRules}
+use Rattle.gj_top.specs.declared.reply.End.{End}
+use Rattle.gj_top.specs.declared.reply.End.TheVariants.{Done}
+use Rattle.gj_top.specs.Task.{Task}
+use Rattle.gj_top.specs.Forms.{function_text}
+
+-- the text claims that f is minimal
+abbrev pub IsMinimalText : FunctionData → List ℕ → Type 0
+IsMinimalText f text = IsProofText (Minimal f) text
+
+-- the text claims that f is not minimal, as the violation shows
+abbrev pub IsNotMinimalText : FunctionData → Violation → List ℕ → Type 0
+IsNotMinimalText f v text = IsProofText (NotMinimal f v) text
+
+-- the text calls f minimal where it is, its table on every grid, and otherwise gives the first violation; every rule of the
+-- checker holds of the claim
+abbrev pub IsVerdict : FunctionData → List ℕ → Type 0
+IsVerdict f text =
+    (IsMinimal f × MeetsRules (Minimal f) × IsMinimalText f text)
+    ⊎ ((v : Violation) × IsFirstViolation f v × ShowsViolation f v × MeetsRules (NotMinimal f v) × IsNotMinimalText f v text)
+
+-- the claim is that f is minimal, where it is, its table on every grid, and otherwise that it is not, with the first violation;
+-- every rule of the checker holds of it
+abbrev pub IsTrueClaim : FunctionData → Claim → Type 0
+IsTrueClaim f (Minimal g) = (g ≡ f) × IsMinimal f × MeetsRules (Minimal f)
+IsTrueClaim f (NotMinimal g v) = (g ≡ f) × IsFirstViolation f v × ShowsViolation f v × MeetsRules (NotMinimal f v)
+
+-- the reply to a function is the verdict on it, and ends with Done
+abbrev pub IsDecision : FunctionData → End → List ℕ → Type 0
+IsDecision f Done text = IsVerdict f text
+IsDecision f end text = ⊥
+
+-- the headline: the text calls f minimal, and then its table on every grid of order a multiple of its own is minimal; or it
+-- calls f not minimal, with a violation that shows it
+abbrev pub IsTrueVerdict : FunctionData → List ℕ → Type 0
+IsTrueVerdict f text =
+    (IsMinimalText f text × IsMinimal f) ⊎ ((v : Violation) × IsNotMinimalText f v text × ShowsViolation f v)
+
+abbrev pub minimal : Task
+minimal = record {
+  Thing = FunctionData;
+  form = function_text;
+  work = record { replies = IsDecision; headline = IsTrueVerdict };
+}

@@ -1,0 +1,21 @@
+-- The command `show`: a function text is answered with the canonical text of its function (own).
+use Rattle.std.specs.Prelude.{ℕ, List}
+use Rattle.gj_shape.specs.FunctionData.{FunctionData}
+use Rattle.gj_ftext.specs.FunctionText.{IsCanonicalText}
+use Rattle.gj_top.specs.declared.reply.End.{End}
+use Rattle.gj_top.specs.declared.reply.End.TheVariants.{Done}
+use Rattle.gj_top.specs.Task.{Task}
+use Rattle.gj_top.specs.Forms.{function_text}
+
+-- the reply to a function is its canonical text, and ends with Done
+abbrev pub IsShowing : FunctionData → End → List ℕ → Type 0
+IsShowing f Done text = IsCanonicalText text f
+IsShowing f end text = ⊥
+
+-- the headline is all of that
+abbrev pub show : Task
+show = record {
+  Thing = FunctionData;
+  form = function_text;
+  work = record { replies = IsShowing; headline = λ f text. IsCanonicalText text f };
+}

@@ -1,0 +1,93 @@
+//! The answer to words and an input, before it is written.
+ghost use Rattle.std.specs.Prelude.{◌≡◌, ◌≤◌, length, IfOk, OnErr};
+ghost use Rattle.gj_top.specs.Command.{task_for};
+ghost use Rattle.gj_top.specs.Answer.{IsAnswer, IsAnswerTo, IsSourceFault, IsUnanswered, answer_status, answer_text, input_limit};
+
+use crate::command::{Command, command_of, reads_input, reply_to};
+use crate::reply::{Reply, Unanswered};
+use crate::status::Status;
+use gj_port::{ReadError, Source, read_all};
+use std::alloc::{AllocError, Global};
+
+/// The most bytes that are read of an input.
+const INPUT_LIMIT: usize = 16_777_216;
+
+/// What is to be written. The lines that say that no input was answered take no memory.
+#[derive(Drop)]
+pub enum Answer {
+    /// The words are no command.
+    NoCommand,
+    /// The source failed.
+    ReadFault,
+    /// The input is longer than the limit.
+    TooLong,
+    /// The input is outside its form, and this line says why.
+    Refused(Vec<u8>),
+    /// The reply to the input.
+    Replied(Reply),
+}
+
+impl Answer {
+    /// How the run ends, once the answer is written.
+    pub(crate) fn status(&self) -> Status
+        ensures { result ≡ answer_status self.now }
+    {
+        match self {
+            Answer::NoCommand => Status::Words,
+            Answer::ReadFault => Status::ReadFault,
+            Answer::TooLong | Answer::Refused(_) => Status::Input,
+            Answer::Replied(reply) => reply.end.status(),
+        }
+    }
+
+    /// What is to be written.
+    pub(crate) fn text(&self) -> &[u8]
+        ensures { result.now ≡ answer_text self.now }
+    {
+        match self {
+            Answer::NoCommand => b"words refused\n",
+            Answer::ReadFault => b"read fault\n",
+            Answer::TooLong => b"refused long\n",
+            Answer::Refused(line) => line.as_slice(),
+            Answer::Replied(reply) => reply.text.as_slice(),
+        }
+    }
+}
+
+/// The answer to the words, over an input from the source where they name a command that reads one.
+pub(crate) fn answer_to<S: Source>(
+    alloc: Global,
+    words: &[String],
+    source: &mut S,
+) -> Result<Answer, AllocError>
+    ensures answer { IfOk result (λ answer.
+        IsAnswer words.now (IsSourceFault (S.steady source.old) (S.faults source.old) (S.faults source.new))
+        (S.left source.old) (S.left source.new) (answer_status answer) (answer_text answer)) }
+    ensures memory { OnErr result (IsUnanswered words.now (S.left source.old) (S.left source.new)) }
+    ensures count { S.faults source.old ≤ S.faults source.new }
+{
+    let Some(command) = command_of(words) else {
+        return Ok(Answer::NoCommand);
+    };
+    if !reads_input(command) {
+        return answer_of(alloc, command, b"");
+    }
+    match read_all(alloc, source, INPUT_LIMIT) {
+        Ok(input) => answer_of(alloc, command, input.as_slice()),
+        Err(ReadError::ReadFault) => Ok(Answer::ReadFault),
+        Err(ReadError::TooLong) => Ok(Answer::TooLong),
+        Err(ReadError::Memory(error)) => Err(error),
+    }
+}
+
+/// The answer of the command to an input within the limit, or to none where it reads none.
+fn answer_of(alloc: Global, command: Command, input: &[u8]) -> Result<Answer, AllocError>
+    requires { length input.now ≤ input_limit }
+    ensures { IfOk result (λ answer. IsAnswerTo (task_for command) input.now (answer_status answer) (answer_text answer)) }
+{
+    match reply_to(alloc, command, input) {
+        Ok(reply) => Ok(Answer::Replied(reply)),
+        Err(Unanswered::Refused(line)) => Ok(Answer::Refused(line)),
+        Err(Unanswered::Memory(error)) => Err(error),
+    }
+}

@@ -1,0 +1,48 @@
+//! The command `check`: what the checker says of a proof text.
+ghost use Rattle.std.specs.Prelude.{◌≡◌, IfOk};
+ghost use Rattle.gj_proof.specs.ProofText.{IsKept};
+ghost use Rattle.gj_top.specs.Task.{IsAnswering};
+ghost use Rattle.gj_top.specs.Check.{IsJudgement, accepted_line, check};
+
+use crate::forms::proof_of;
+use crate::lines::numbered_line;
+use crate::reply::{End, Reply, Unanswered};
+use gj_check::{CheckFault, check};
+use gj_proof::{Claim, Proof};
+use std::alloc::{AllocError, Global};
+
+/// What the checker says of the proof that the input spells.
+pub(crate) fn reply(alloc: Global, input: &[u8]) -> Result<Reply, Unanswered>
+    ensures { IsAnswering check input.now result }
+{
+    let proof = proof_of(alloc, input)?;
+    Ok(judgement(alloc, &proof)?)
+}
+
+/// What the checker says of the proof.
+fn judgement(alloc: Global, proof: &Proof) -> Result<Reply, AllocError>
+    requires { IsKept proof.now }
+    ensures { IfOk result (λ reply. IsJudgement proof.now reply.end reply.text.items) }
+{
+    match check(alloc, proof) {
+        Ok(()) => Ok(Reply {
+            end: End::Done,
+            text: accepted(alloc, proof.claim())?,
+        }),
+        Err(CheckFault::Rejected(at_line, rule)) => Ok(Reply {
+            end: End::Rejected,
+            text: numbered_line(alloc, b"rejected line ", at_line, rule.word())?,
+        }),
+        Err(CheckFault::Memory(error)) => Err(error),
+    }
+}
+
+/// The line that calls a claim accepted.
+fn accepted(alloc: Global, claim: &Claim) -> Result<Vec<u8>, AllocError>
+    ensures { IfOk result (λ text. text.items ≡ accepted_line claim.now) }
+{
+    match claim {
+        Claim::Minimal(_) => Vec::from_slice(alloc, b"accepted minimal\n"),
+        Claim::NotMinimal(_, _) => Vec::from_slice(alloc, b"accepted not-minimal\n"),
+    }
+}

@@ -1,0 +1,44 @@
+//! The forms of input: each is read whole, or refused with the line that says why.
+ghost use Rattle.gj_lines.specs.FunctionLines.{line};
+ghost use Rattle.gj_top.specs.Task.{IsReadingOf};
+ghost use Rattle.gj_top.specs.Forms.{function_text, proof_text, IsRefusalOf};
+
+use crate::lines::numbered_line;
+use crate::reply::Unanswered;
+use gj_ftext::{TextFault, read_whole_function};
+use gj_lex::Reason;
+use gj_proof::{Proof, ProofFault, read_proof};
+use gj_shape::Shape;
+use std::alloc::Global;
+
+/// The function that the input spells.
+pub(crate) fn function_of(alloc: Global, input: &[u8]) -> Result<Shape, Unanswered>
+    ensures { IsReadingOf function_text input.now result }
+{
+    match read_whole_function(alloc, input) {
+        Ok(shape) => Ok(shape),
+        Err(TextFault::Refused(at_line, reason)) => Err(refusal(alloc, at_line, reason)),
+        Err(TextFault::Memory(error)) => Err(Unanswered::Memory(error)),
+    }
+}
+
+/// The proof that the input spells.
+pub(crate) fn proof_of(alloc: Global, input: &[u8]) -> Result<Proof, Unanswered>
+    ensures { IsReadingOf proof_text input.now result }
+{
+    match read_proof(alloc, input) {
+        Ok(proof) => Ok(proof),
+        Err(ProofFault::Refused(at_line, reason)) => Err(refusal(alloc, at_line, reason)),
+        Err(ProofFault::Memory(error)) => Err(Unanswered::Memory(error)),
+    }
+}
+
+/// The refusal of an input for a line of it.
+fn refusal(alloc: Global, at_line: u64, reason: Reason) -> Unanswered
+    ensures { IsRefusalOf at_line reason result }
+{
+    match numbered_line(alloc, b"refused line ", at_line, reason.word()) {
+        Ok(line) => Unanswered::Refused(line),
+        Err(error) => Unanswered::Memory(error),
+    }
+}

@@ -1,0 +1,19 @@
+//! The command `show`: a function in its canonical text.
+ghost use Rattle.gj_top.specs.Task.{IsAnswering};
+ghost use Rattle.gj_top.specs.Show.{show};
+
+use crate::forms::function_of;
+use crate::reply::{End, Reply, Unanswered};
+use gj_ftext::write_function;
+use std::alloc::Global;
+
+/// The canonical text of the function that the input spells.
+pub(crate) fn reply(alloc: Global, input: &[u8]) -> Result<Reply, Unanswered>
+    ensures { IsAnswering show input.now result }
+{
+    let shape = function_of(alloc, input)?;
+    Ok(Reply {
+        end: End::Done,
+        text: write_function(alloc, &shape)?,
+    })
+}
