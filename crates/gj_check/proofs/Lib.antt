@@ -1,10 +1,11 @@
-pub mod Chains
+pub mod TestsInTurn
 pub mod Multiples
 pub mod Ratios
-pub mod Readings
+pub mod ReadNumbers
 pub mod PassedTests
 pub mod SamePlaces
 pub mod ShownPoints
 pub mod PieceTests
 pub mod RowTests
-pub mod Meanings
+pub mod DemandsOfClaims
+pub mod RulesGiveMeaning

@@ -36,7 +36,7 @@ pub coordinate_point : (x : Frac) → IsCoordinate x →
     IsPoint x (unsigned_abs (numerator x)) (unsigned_abs (denominator x))
 coordinate_point x h =
     let low = h.not_negative in
-    record { top = omega (arith, ints); bottom = denominator_is x; positive = denominator_some x }
+    record { numerator_is = omega (arith, ints); denominator_is = denominator_is x; positive = denominator_some x }
 
 -- a coordinate is below 1
 coordinate_below : (x : Frac) → IsCoordinate x → unsigned_abs (numerator x) < unsigned_abs (denominator x)

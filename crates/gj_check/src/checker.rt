@@ -12,8 +12,8 @@ use std::alloc::Global;
 
 /// Checks every rule on a proof, in the order of its lines.
 ///
-/// Ok exactly where every rule holds; else the line and the rule of the first that fails. So far no rule takes
-/// memory.
+/// Ok exactly where every rule holds; else the line and the rule of the first that fails. It never answers that
+/// there is no memory.
 pub fn check(_alloc: Global, proof: &Proof) -> Result<(), CheckFault>
     ensures ok { IsOk result ↔ MeetsRules proof.now }
     ensures fault { IfErr result (IsFaultOf proof.now) }

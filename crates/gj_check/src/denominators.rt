@@ -1,11 +1,10 @@
 //! Coordinates with a common denominator of at most 2^62.
 ghost use Rattle.std.specs.Prelude.{◌≡◌, ◌<◌, ◌↔◌, [], ◌∷◌, IsTrue, unsigned_abs};
 ghost use Rattle.gj_frac.specs.Fraction.{denominator};
-ghost use Rattle.std.specs.Int.{IsGcd};
 ghost use Rattle.gj_proof.specs.Rules.{IsCoordinate, HasFineDenominator};
 ghost use Rattle.gj_check.specs.Coordinates.{AreCoordinates, HasFineMultiple};
 
-use gj_frac::Frac;
+use gj_frac::{Frac, gcd};
 
 /// The greatest common denominator that the points of a violation may have.
 const FINEST: u128 = 1 << 62;
@@ -47,22 +46,8 @@ fn has_fine_multiple(a: u128, b: u128) -> bool
     requires second { 0 < b }
     ensures { IsTrue result ↔ HasFineMultiple a b }
 {
-    match (a / greatest_common_divisor(a, b)).checked_mul(b) {
+    match (a / gcd(a, b)).checked_mul(b) {
         Some(multiple) => multiple <= FINEST,
         None => false,
     }
-}
-
-/// The greatest common divisor of two numbers, by Euclid's algorithm.
-fn greatest_common_divisor(a: u128, b: u128) -> u128
-    ensures { IsGcd a b result }
-{
-    let mut x = a;
-    let mut y = b;
-    while y != 0 {
-        let rest = x % y;
-        x = y;
-        y = rest;
-    }
-    x
 }

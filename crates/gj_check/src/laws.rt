@@ -1,11 +1,20 @@
 //! What the rules say of a claim.
-ghost use Rattle.gj_shape.specs.FunctionData.{IsWithinBounds};
+ghost use Rattle.std.specs.Prelude.{◌≡◌, ℕ};
 ghost use Rattle.gj_proof.specs.declared.claim.Claim.{Claim};
-ghost use Rattle.gj_proof.specs.ProofText.{function_of};
+ghost use Rattle.gj_proof.specs.ProofText.{IsBounded};
 ghost use Rattle.gj_proof.specs.Rules.{MeetsRules};
 ghost use Rattle.gj_proof.specs.Meaning.{ClaimHolds};
+ghost use Rattle.gj_check.specs.declared.rules.CheckRule.{CheckRule};
+ghost use Rattle.gj_check.specs.FirstFailure.{IsFirstFailure};
 
-/// Where every rule holds, what the claim says of its function is true.
+/// Where every rule holds, what the claim says of its subject is true.
 pub fn rules_give_meaning()
-    ensures { (c : Claim) → IsWithinBounds (function_of c) → MeetsRules c → ClaimHolds c }
+    ensures { (c : Claim) → IsBounded c → MeetsRules c → ClaimHolds c }
+{}
+
+/// One rule at one line is the first that fails, and none where every rule holds.
+pub fn one_first_failure()
+    ensures one { (c : Claim) (n m : ℕ) (rule other : CheckRule) →
+        IsFirstFailure c n rule → IsFirstFailure c m other → (n ≡ m) × (rule ≡ other) }
+    ensures none { (c : Claim) (n : ℕ) (rule : CheckRule) → IsFirstFailure c n rule → MeetsRules c → ⊥ }
 {}

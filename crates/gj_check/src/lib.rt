@@ -13,7 +13,7 @@ mod squares;
 
 pub use checker::check;
 pub use faults::CheckFault;
-pub use laws::rules_give_meaning;
+pub use laws::{one_first_failure, rules_give_meaning};
 pub use rules::CheckRule;
 
 #[cfg(test)]

@@ -1,6 +1,5 @@
 pub mod ProofText
-pub mod Words
+pub mod ProofGrammar
 pub mod FirstFault
-pub mod Reading
 pub mod Rules
 pub mod Meaning

@@ -8,6 +8,8 @@ use Rattle.gj_shape.specs.FirstViolation.{PassesAll}
 use Rattle.gj_shape.specs.Violation.{ShowsViolation}
 use Rattle.gj_shape.specs.declared.violations.Violation.{Violation}
 use Rattle.gj_shape.specs.declared.violations.Violation.TheVariants as violation
+use Rattle.gj_proof.specs.ProofText.{ProofLine, subject_of, IfFunction}
+use Rattle.gj_proof.specs.ProofText.ProofLine.{claim, violation_shown}
 use Rattle.gj_proof.specs.declared.claim.Claim.{Claim}
 use Rattle.gj_proof.specs.declared.claim.Claim.TheVariants.{Minimal, NotMinimal}
 
@@ -33,7 +35,35 @@ pub record MeetsPoint (f : FunctionData) (v : Violation) : Type 0 where
   pub common : HasFineDenominator (coordinates_of v)
   pub shown : ShowsViolation f v
 
--- every rule holds: for a minimal function the rule `minimal`, that all tests of minimality pass
+-- ---- the demands of a claim
+
+-- a rule, at the place of a claim where it is asked for
+pub data Demand : Type 0 where
+  -- the function of the claim is minimal
+  minimal : Demand
+  -- its violation is shown
+  point : Demand
+
+-- the demands of a claim, in the order in which they are tested
+abbrev pub demands_of : Claim → List Demand
+demands_of (Minimal f) = minimal ∷ []
+demands_of (NotMinimal f v) = point ∷ []
+
+-- the line of the proof text with which a demand is written
+abbrev pub line_of : Demand → ProofLine
+line_of minimal = claim
+line_of point = violation_shown
+
+-- the violation of the claim, where it has one, meets the rule `point`
+abbrev pub IsShown : Claim → Type 0
+IsShown (Minimal f) = Unit {0}
+IsShown (NotMinimal f v) = MeetsPoint f v
+
+-- what a demand says of the claim; for `minimal`, that all tests of minimality pass
+abbrev pub Holds : Claim → Demand → Type 0
+Holds c minimal = IfFunction (subject_of c) PassesAll
+Holds c point = IsShown c
+
+-- every rule holds
 abbrev pub MeetsRules : Claim → Type 0
-MeetsRules (Minimal f) = PassesAll f
-MeetsRules (NotMinimal f v) = MeetsPoint f v
+MeetsRules c = All (Holds c) (demands_of c)

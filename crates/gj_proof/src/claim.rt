@@ -14,18 +14,11 @@ pub enum Claim {
     NotMinimal(Shape, Violation),
 }
 
-impl Claim {
-    ghost use Rattle.gj_proof.specs.ProofText.{function_of};
-
-    /// The function that the claim is about.
-    pub fn shape(&self) -> &Shape
-        ensures { result.now ≡ function_of self.now }
-    {
-        match self {
-            Claim::Minimal(shape) => shape,
-            Claim::NotMinimal(shape, _) => shape,
-        }
-    }
+/// The word of a claim.
+#[derive(Clone, Copy, Debug, PartialEq, Eq)]
+pub(crate) enum ClaimWord {
+    Minimal,
+    NotMinimal,
 }
 
 /// A claim that has a proof text. Contracts see it as the claim.

@@ -3,18 +3,17 @@
 
 mod claim;
 mod faults;
-mod fields;
-mod head;
 mod laws;
-mod lines;
-mod points;
 mod read;
-mod shown;
+mod violations;
 mod write;
 
 pub use claim::{Claim, Proof};
 pub use faults::ProofFault;
-pub use laws::{no_fault_in_proof_text, one_first_fault, one_spelling};
+pub use laws::{
+    no_fault_in_proof_text, numbers_of_lines, one_first_fault, one_spelling, proof_text_is_short,
+    proof_texts_are_read,
+};
 pub use read::read_proof;
 pub use write::write_proof;
 

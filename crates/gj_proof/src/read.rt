@@ -1,71 +1,94 @@
 //! Proof texts, read.
 
-ghost use Rattle.std.specs.Prelude.{◌≡◌, ◌≤◌, ◌+◌, ◌-◌, ◌==◌, length, take, count_by, IfOk, IfErr, MatchResult};
-ghost use Rattle.gj_proof.specs.ProofText.{IsKept, IsProofText};
-ghost use Rattle.gj_proof.specs.Reading.{IsRefusedIn, NamesFirstFault, IsMemoryFault, claim_about};
+ghost use Rattle.std.specs.Prelude.{◌≡◌, [], IfOk, IfErr, IfSome, IfNone, MatchResult};
+ghost use Rattle.gj_lex.specs.Words.{word_texts};
+ghost use Rattle.gj_lex.specs.Parts.{line_part, IsFaultOf};
+ghost use Rattle.gj_lex.specs.declared.spelling.Spelling.TheVariants.{Strict};
+ghost use Rattle.gj_proof.specs.ProofText.{IsBounded, IsProofText};
+ghost use Rattle.gj_proof.specs.ProofGrammar.{claim_words, claim_rule, claim_part, proof_text};
+ghost use Rattle.gj_proof.specs.FirstFault.{NamesFirstFault, IsMemoryFault};
 ghost use Rattle.gj_proof.specs.declared.claim.Claim.{Claim};
+ghost use Rattle.gj_proof.specs.declared.claim.ClaimWord.{ClaimWord};
 
-use crate::claim::{Claim, Proof};
-use crate::faults::{Fault, ProofFault};
-use crate::head::head_at;
-use crate::points::points_at;
-use crate::shown::{end_at, shown_at};
-use gj_shape::{Shape, Violation};
+use crate::claim::{Claim, ClaimWord, Proof};
+use crate::faults::ProofFault;
+use crate::violations::violation_at;
+use gj_lex::{PartFault, Reason, Spelling, end_at, has_words, line_at, line_number, words_at};
+use gj_lines::function_at;
 use std::alloc::Global;
 
 /// The proof that the bytes spell, all of them.
 ///
 /// `Refused` has the line and the reason of the first fault, and comes exactly where the bytes are
-/// no proof text. Memory is taken only for the points and the function.
+/// no proof text.
 pub fn read_proof(alloc: Global, bytes: &[u8]) -> Result<Proof, ProofFault>
     // What is read is spelled so.
-    ensures found { IfOk result (λ p. IsKept p × IsProofText p bytes.now) }
+    ensures found { IfOk result (λ p. IsBounded p × IsProofText p bytes.now) }
     // What is spelled so is read, unless there is no memory.
-    ensures only { (c : Claim) → IsKept c → IsProofText c bytes.now →
+    ensures only { (c : Claim) → IsBounded c → IsProofText c bytes.now →
         MatchResult result (λ p. p ≡ c) IsMemoryFault }
     // A refusal names the first fault.
     ensures refused { IfErr result (NamesFirstFault bytes.now) }
 {
-    match proof_in(alloc, bytes) {
+    match proof_at(alloc, bytes) {
         Ok(proof) => Ok(proof),
-        Err(Fault::Refused(left, reason)) => {
+        Err(PartFault::Refused(left, reason)) => {
             Err(ProofFault::Refused(line_number(bytes, left), reason))
         }
-        Err(Fault::Memory(error)) => Err(ProofFault::Memory(error)),
+        Err(PartFault::Memory(error)) => Err(ProofFault::Memory(error)),
     }
 }
 
-/// The number of the line before which so many bytes are left.
-fn line_number(bytes: &[u8], left: usize) -> u64
-    requires { left ≤ length bytes.now }
-    ensures { result ≡ count_by (λ b. b == 10) (take (length bytes.now - left) bytes.now) + 1 }
-{
-    let front = &bytes[..bytes.len() - left];
-    front.iter().filter(|byte| **byte == b'\n').count() as u64 + 1
-}
-
 /// The proof that the bytes spell.
-fn proof_in(alloc: Global, bytes: &[u8]) -> Result<Proof, Fault>
-    ensures found { IfOk result (λ p. IsKept p × IsProofText p bytes.now) }
-    ensures fault { IfErr result (IsRefusedIn bytes.now) }
+fn proof_at(alloc: Global, text: &[u8]) -> Result<Proof, PartFault>
+    ensures found { IfOk result (λ p. proof_text.Reads text.now p []) }
+    ensures fault { IfErr result (IsFaultOf proof_text text.now) }
 {
-    let (head, rest) = head_at(bytes)?;
-    let (points, rest) = points_at(alloc, rest, head.order)?;
-    let (violation, rest) = shown_at(rest, head.claim)?;
-    end_at(rest)?;
-    let shape = points.shape(alloc, head.order, head.place)?;
-    Ok(proof_of(shape, violation))
+    let rest = words_at(Spelling::Strict, text, b"gj-proof 1")?;
+    let (word, rest) = claim_word_at(rest)?;
+    let (claim, rest) = claim_at(alloc, rest, word)?;
+    let rest = words_at(Spelling::Strict, rest, b"end")?;
+    end_at(Spelling::Strict, rest)?;
+    Ok(Proof::new(claim).unwrap())
 }
 
-/// The proof that the function is minimal, or not where there is a violation.
-fn proof_of(shape: Shape, violation: Option<Violation>) -> Proof
-    ensures claim { result ≡ claim_about shape violation }
-    ensures kept { IsKept result }
+/// The word of the claim in the first line of the text, and what follows the line.
+fn claim_word_at(text: &[u8]) -> Result<(ClaimWord, &[u8]), PartFault>
+    ensures found { IfOk result (λ r. (line_part Strict claim_rule).Reads text.now r.0 r.1.now) }
+    ensures fault { IfErr result (IsFaultOf (line_part Strict claim_rule) text.now) }
 {
-    let _order = shape.order();
-    let claim = match violation {
-        None => Claim::Minimal(shape),
-        Some(violation) => Claim::NotMinimal(shape, violation),
-    };
-    Proof::new(claim).unwrap()
+    let line = line_at(Spelling::Strict, text)?;
+    match claim_word_of(line.bytes) {
+        Some(word) => Ok((word, line.rest)),
+        None => Err(PartFault::at(line.start, Reason::Form)),
+    }
+}
+
+/// The word of the claim in the line.
+fn claim_word_of(line: &[u8]) -> Option<ClaimWord>
+    ensures found { IfSome result (λ w. word_texts line.now ≡ claim_words w) }
+    ensures none { IfNone result ((w : ClaimWord) → word_texts line.now ≡ claim_words w → ⊥) }
+{
+    if has_words(line, b"claim minimal") {
+        return Some(ClaimWord::Minimal);
+    }
+    if has_words(line, b"claim not-minimal") {
+        return Some(ClaimWord::NotMinimal);
+    }
+    None
+}
+
+/// The claim of this word in the lines of its subject and its own, and what follows them.
+fn claim_at(alloc: Global, text: &[u8], word: ClaimWord) -> Result<(Claim, &[u8]), PartFault>
+    ensures found { IfOk result (λ r. (claim_part word).Reads text.now r.0 r.1.now) }
+    ensures fault { IfErr result (IsFaultOf (claim_part word) text.now) }
+{
+    let (shape, rest) = function_at(alloc, Spelling::Strict, text)?;
+    match word {
+        ClaimWord::Minimal => Ok((Claim::Minimal(shape), rest)),
+        ClaimWord::NotMinimal => {
+            let (violation, rest) = violation_at(rest)?;
+            Ok((Claim::NotMinimal(shape, violation), rest))
+        }
+    }
 }

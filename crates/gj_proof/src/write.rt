@@ -39,7 +39,7 @@ fn write_not_minimal(
     ensures { IfOk result (λ text. IsProofText (NotMinimal shape.now violation) text.items) }
 {
     let mut text = start_text(alloc, b"not-minimal", shape)?;
-    push_violation_line(&mut text, violation)?;
+    push_violation_line(alloc, &mut text, violation)?;
     text.extend_from_slice(b"end\n")?;
     Ok(text)
 }
@@ -53,22 +53,26 @@ fn start_text(alloc: Global, claim: &[u8], shape: &Shape) -> Result<Vec<u8>, All
     text.extend_from_slice(b"gj-proof 1\nclaim ")?;
     text.extend_from_slice(claim)?;
     text.push(b'\n')?;
-    push_function_lines(&mut text, shape)?;
+    push_function_lines(alloc, &mut text, shape)?;
     Ok(text)
 }
 
 /// Appends the line of a violation.
-fn push_violation_line(out: &mut Vec<u8>, violation: Violation) -> Result<(), AllocError>
+fn push_violation_line(
+    alloc: Global,
+    out: &mut Vec<u8>,
+    violation: Violation,
+) -> Result<(), AllocError>
     ensures { OnOk result (out.new.items ≡ out.old.items ++ violation_line violation) }
 {
     match violation {
         Violation::Zero => out.extend_from_slice(b"zero\n"),
-        Violation::Negative(x) => push_fraction_line(out, b"negative ", x),
-        Violation::Asymmetric(x) => push_fraction_line(out, b"asymmetric ", x),
+        Violation::Negative(x) => push_fraction_line(alloc, out, b"negative ", x),
+        Violation::Asymmetric(x) => push_fraction_line(alloc, out, b"asymmetric ", x),
         Violation::Superadditive(x, y) => {
             out.extend_from_slice(b"superadditive ")?;
-            print_frac(out, x)?;
-            push_fraction_line(out, b" ", y)
+            print_frac(alloc, out, x)?;
+            push_fraction_line(alloc, out, b" ", y)
         }
     }
 }

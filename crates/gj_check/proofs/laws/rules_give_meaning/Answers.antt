@@ -1,4 +1,4 @@
-use Rattle.gj_check.proofs.Meanings.{meaning_of_rules}
+use Rattle.gj_check.proofs.RulesGiveMeaning.{meaning_of_rules}
 use Rattle.gj_check.proofs.laws.rules_give_meaning.Goals as goal
 
 pub returns : goal.returns

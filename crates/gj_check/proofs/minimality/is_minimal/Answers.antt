@@ -1,4 +1,4 @@
-use Rattle.gj_check.proofs.Chains.{one_fails, in_other_words}
+use Rattle.gj_check.proofs.TestsInTurn.{one_fails, in_other_words}
 use Rattle.gj_check.proofs.PassedTests.{all_tests, squares_decide, symmetry_passes}
 use Rattle.gj_check.proofs.minimality.is_minimal.Goals as goal
 

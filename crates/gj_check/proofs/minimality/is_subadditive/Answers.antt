@@ -1,4 +1,4 @@
-use Rattle.gj_check.proofs.Chains.{in_other_words}
+use Rattle.gj_check.proofs.TestsInTurn.{in_other_words}
 use Rattle.gj_check.proofs.RowTests.{continuous_read}
 use Rattle.gj_check.proofs.minimality.is_subadditive.Goals as goal
 

@@ -1,7 +1,7 @@
 use Rattle.std.proofs.Common.{below_more, refl, arith}
 use Rattle.gj_theory.proofs.Lanes.{mirrored_square}
 use Rattle.gj_check.specs.Tests.{IsSubadditiveAt, IsSubadditiveRow}
-use Rattle.gj_check.proofs.Chains.{one_fails}
+use Rattle.gj_check.proofs.TestsInTurn.{one_fails}
 use Rattle.gj_check.proofs.RowTests.{from_diagonals}
 use Rattle.gj_check.proofs.minimality.is_subadditive_between.Goals as goal
 

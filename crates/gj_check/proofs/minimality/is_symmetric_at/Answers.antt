@@ -1,6 +1,6 @@
 use Rattle.std.proofs.Common.{◌+◌, ◌-◌, ap₂}
-use Rattle.gj_check.proofs.Chains.{in_other_words}
-use Rattle.gj_check.proofs.Readings.{scale_read, sum_read}
+use Rattle.gj_check.proofs.TestsInTurn.{in_other_words}
+use Rattle.gj_check.proofs.ReadNumbers.{scale_read, sum_read}
 use Rattle.gj_check.proofs.PieceTests.{symmetry_read}
 use Rattle.gj_check.proofs.minimality.is_symmetric_at.Goals as goal
 

@@ -1,4 +1,4 @@
-use Rattle.gj_check.proofs.Chains.{in_other_words}
+use Rattle.gj_check.proofs.TestsInTurn.{in_other_words}
 use Rattle.gj_check.proofs.ShownPoints.{one_fine, one_within, negative_shown}
 use Rattle.gj_check.proofs.points.is_negative_at.Goals as goal
 

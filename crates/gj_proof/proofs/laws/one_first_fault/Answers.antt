@@ -1,5 +1,5 @@
-use Rattle.gj_proof.proofs.OneFault.{one_first_fault}
+use Rattle.gj_proof.proofs.OneText.{one_fault}
 use Rattle.gj_proof.proofs.laws.one_first_fault.Goals as goal
 
 pub returns : goal.returns
-returns c = one_first_fault
+returns c = one_fault

@@ -1,20 +1,21 @@
-use Rattle.gj_proof.proofs.FirstFaults.{left_within, first_fault_of}
-use Rattle.gj_proof.proofs.OneText.{one_claim, no_fault_at}
+use Rattle.gj_lex.proofs.LineNumbers as numbers
+use Rattle.gj_proof.specs.ProofGrammar.{proof_text}
+use Rattle.gj_proof.proofs.ReadTexts.{proof_text_is_exact, text_is_read, read_is_text}
 use Rattle.gj_proof.proofs.read.read_proof.Goals as goal
 
-pub returns-in-Ok-clause-only : goal.returns-in-Ok-clause-only
-returns-in-Ok-clause-only c = λ d kept text.
-    let f = c.in-Ok.ensures.found in one_claim _ d _ f.0 kept f.1 text
+pub returns-in-Ok-clause-found : goal.returns-in-Ok-clause-found
+returns-in-Ok-clause-found c = read_is_text _ _ c.in-Ok.ensures.found
 
-pub line_number-requires : goal.line_number-requires
-line_number-requires c =
-    left_within _ _ c.in-Err-Refused.reason (rw c.in-Err-Refused.field-0-is at c.in-Err-Refused.ensures.fault)
+pub returns-in-Ok-clause-only : goal.returns-in-Ok-clause-only
+returns-in-Ok-clause-only c = λ d b text.
+    (proof_text_is_exact.one_thing _ _ _ _ _ c.in-Ok.ensures.found (text_is_read d _ b text)).0
 
 pub returns-in-Err-Refused-clause-only : goal.returns-in-Err-Refused-clause-only
-returns-in-Err-Refused-clause-only c = λ d kept text.
+returns-in-Err-Refused-clause-only c = λ d b text.
     let f = rw c.in-Err-Refused.field-0-is at c.in-Err-Refused.ensures.fault in
-    no_fault_at d _ f.0 _ kept text f.2
+    proof_text_is_exact.not_both _ _ _ _ _ (text_is_read d _ b text) f.2
 
 pub returns-in-Err-Refused-clause-refused : goal.returns-in-Err-Refused-clause-refused
 returns-in-Err-Refused-clause-refused c =
-    first_fault_of _ _ _ _ (rw c.in-Err-Refused.field-0-is at c.in-Err-Refused.ensures.fault) c.line_number.ensures
+    let f = rw c.in-Err-Refused.field-0-is at c.in-Err-Refused.ensures.fault in
+    numbers.first_fault_of proof_text proof_text_is_exact _ _ _ _ f c.line_number.ensures

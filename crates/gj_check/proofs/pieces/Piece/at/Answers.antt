@@ -1,6 +1,6 @@
 use Rattle.std.proofs.Common.{◌≡◌, ◌+◌, ◌%◌, rules, ap, ◌∙◌}
 use Rattle.gj_shape.proofs.NumeratorReadings.{rest_read}
-use Rattle.gj_check.proofs.Readings.{next_index}
+use Rattle.gj_check.proofs.ReadNumbers.{next_index}
 use Rattle.gj_check.proofs.pieces.Piece.at.Goals as goal
 
 pub returns : goal.returns

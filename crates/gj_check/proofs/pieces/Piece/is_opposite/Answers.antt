@@ -1,7 +1,7 @@
 use Rattle.std.proofs.Common.{w64}
 use Rattle.std.proofs.lemmas.Int.{to_z-of_z}
-use Rattle.gj_check.proofs.Chains.{first_passes, as_they_are}
-use Rattle.gj_check.proofs.Readings.{sum_read}
+use Rattle.gj_check.proofs.TestsInTurn.{first_passes, as_they_are}
+use Rattle.gj_check.proofs.ReadNumbers.{sum_read}
 use Rattle.gj_check.proofs.pieces.Piece.is_opposite.Goals as goal
 
 pub returns-then-adds_up : goal.returns-then-adds_up

@@ -1,0 +1,21 @@
+use Rattle.std.proofs.Common.{◌≡◌, ◌+◌, ℕ, true, false, sym, ap, subst, ◌∙◌, arith}
+use Rattle.gj_proof.specs.declared.claim.Claim.{Claim}
+use Rattle.gj_check.specs.declared.rules.CheckRule.TheVariants.{Minimal, Point}
+use Rattle.gj_check.specs.FirstFailure.{IsFirstFailure}
+use Rattle.gj_check.proofs.DemandsOfClaims.{minimal_fails, point_fails}
+use Rattle.gj_check.proofs.checker.check.Goals as goal
+
+pub returns-then-not-is_minimal-clause-fault : goal.returns-then-not-is_minimal-clause-fault
+returns-then-not-is_minimal-clause-fault c =
+    let is = sym c.in-Minimal.is ∙ c.claim.ensures.claim in
+    subst (λ (d : Claim). IsFirstFailure d 2 Minimal) is
+    (minimal_fails c.in-Minimal.shape (λ h. let a : true ≡ false = sym (c.is_minimal.ensures.1 h) ∙ c.if-not-is_minimal.true in cc))
+
+pub returns-then-not-is_shown-clause-fault : goal.returns-then-not-is_shown-clause-fault
+returns-then-not-is_shown-clause-fault c =
+    let is = sym c.in-NotMinimal.is ∙ c.claim.ensures.claim in
+    let number : c.in-NotMinimal.shape.order + 5 ≡ c.from-line.result + 5 = omega (arith, c.order.ensures.value, c.from-line.ensures) in
+    subst (λ n. IsFirstFailure c.args.proof.now n Point) number
+    (subst (λ (d : Claim). IsFirstFailure d (c.in-NotMinimal.shape.order + 5) Point) is
+    (point_fails c.in-NotMinimal.shape c.in-NotMinimal.violation
+    (λ h. let a : true ≡ false = sym (c.is_shown.ensures.1 h) ∙ c.if-not-is_shown.true in cc)))

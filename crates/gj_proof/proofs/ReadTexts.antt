@@ -1,0 +1,224 @@
+-- The texts that the part `proof_text` reads are the proof texts of claims.
+use Rattle.std.proofs.Common.{◌≡◌, ℕ, ◌<◌, List, [], ◌∷◌, ◌++◌, All, flat_map, codes, refl, sym, ap, subst, ◌∙◌, arith}
+use Rattle.std.specs.List.{join_with_byte}
+use Rattle.std.proofs.lemmas.List.{append_assoc, append-nil}
+use Rattle.std.proofs.lemmas.List.Elements.{All-nil, All-cons}
+use Rattle.gj_lex.specs.declared.spelling.Spelling.TheVariants.{Strict}
+use Rattle.gj_lex.specs.declared.reason.Reason.{Reason}
+use Rattle.gj_lex.specs.declared.reason.Reason.TheVariants as reason
+use Rattle.gj_lex.specs.Parts.{Part, words_rule, line_part, then_part, made_part, end_part, IsExactRule, IsExactPart}
+use Rattle.gj_lex.proofs.CanonicalLines.{plain_by_test}
+use Rattle.gj_lex.proofs.StrictLines.{IsPlain}
+use Rattle.gj_lex.proofs.PartLaws.{words_rule_is_exact, line_part_is_exact, then_part_is_exact, made_part_is_exact, end_part_is_exact}
+use Rattle.gj_shape.specs.FunctionData.{FunctionData, IsWithinBounds}
+use Rattle.gj_shape.specs.declared.violations.Violation.{Violation}
+use Rattle.gj_lines.specs.FunctionLines.{line, AreFunctionLines}
+use Rattle.gj_lines.specs.FunctionGrammar.{function_part}
+use Rattle.gj_lines.proofs.CanonicalFunctions.{canonical_lines_are_read}
+use Rattle.gj_lines.proofs.ExactFunctions.{function_part_is_exact}
+use Rattle.gj_lines.proofs.StrictFunctions.{strict_lines_are_canonical}
+use Rattle.gj_proof.specs.ProofText.{IsBounded, claim_word, own_lines, violation_line, IsProofText}
+use Rattle.gj_proof.specs.ProofGrammar.{claim_words, claim_rule, violation_words, violation_rule, claim_part, proof_text}
+use Rattle.gj_proof.specs.declared.claim.Claim.{Claim}
+use Rattle.gj_proof.specs.declared.claim.Claim.TheVariants as claims
+use Rattle.gj_proof.specs.declared.claim.ClaimWord.{ClaimWord}
+use Rattle.gj_proof.specs.declared.claim.ClaimWord.TheVariants.{Minimal, NotMinimal}
+use Rattle.gj_proof.proofs.StrictParts.{line_reads, line_found}
+use Rattle.gj_proof.proofs.ViolationRule.{bytes_of_words, some_words, violation_is_plain, violation_rule_is_exact}
+
+-- ---- the parts of a proof text
+
+abbrev pub title_part : Part (Unit {0})
+title_part = line_part Strict (words_rule (codes "gj-proof" ∷ codes "1" ∷ []))
+
+abbrev pub last_part : Part (Unit {0})
+last_part = line_part Strict (words_rule (codes "end" ∷ []))
+
+abbrev pub violation_part : Part Violation
+violation_part = line_part Strict violation_rule
+
+-- what follows the lines of a claim, its word, and the title
+abbrev pub after_claim : Claim → Part Claim
+after_claim c = then_part last_part (λ _. end_part Strict c)
+
+abbrev pub after_word : ClaimWord → Part Claim
+after_word w = then_part (claim_part w) after_claim
+
+abbrev pub after_title : Part Claim
+after_title = then_part (line_part Strict claim_rule) after_word
+
+-- ---- each is exact
+
+one_word : (w v : ClaimWord) → claim_words w ≡ claim_words v → w ≡ v
+one_word Minimal Minimal e = refl
+one_word NotMinimal NotMinimal e = refl
+one_word Minimal NotMinimal e = cc
+one_word NotMinimal Minimal e = cc
+
+claim_rule_is_exact : IsExactRule claim_rule.Spells claim_rule.Breaks
+claim_rule_is_exact = record {
+  one_thing = λ words a b h k. one_word a b (sym h ∙ k);
+  one_reason = λ words e d h k. h.0 ∙ sym k.0;
+  not_both = λ words a e h k. k.1 a h;
+}
+
+claim_part_is_exact : (w : ClaimWord) → IsExactPart (claim_part w).Reads (claim_part w).Faults
+claim_part_is_exact Minimal =
+    made_part_is_exact (λ (f : FunctionData) c. c ≡ claims.Minimal f) (λ f c d h k. h ∙ sym k) (function_part Strict) (function_part_is_exact Strict)
+claim_part_is_exact NotMinimal =
+    let behind : FunctionData → Part Claim = λ f. made_part (λ (v : Violation) c. c ≡ claims.NotMinimal f v) violation_part in
+    then_part_is_exact (function_part Strict) behind (function_part_is_exact Strict)
+    (λ f. made_part_is_exact (λ (v : Violation) c. c ≡ claims.NotMinimal f v) (λ v c d h k. h ∙ sym k) violation_part
+    (line_part_is_exact Strict violation_rule violation_rule_is_exact))
+
+after_claim_is_exact : (c : Claim) → IsExactPart (after_claim c).Reads (after_claim c).Faults
+after_claim_is_exact c =
+    then_part_is_exact last_part (λ _. end_part Strict c)
+    (line_part_is_exact Strict (words_rule (codes "end" ∷ [])) (words_rule_is_exact (codes "end" ∷ []))) (λ _. end_part_is_exact Strict c)
+
+pub proof_text_is_exact : IsExactPart proof_text.Reads proof_text.Faults
+proof_text_is_exact =
+    then_part_is_exact title_part (λ _. after_title)
+    (line_part_is_exact Strict (words_rule (codes "gj-proof" ∷ codes "1" ∷ [])) (words_rule_is_exact (codes "gj-proof" ∷ codes "1" ∷ [])))
+    (λ _. then_part_is_exact (line_part Strict claim_rule) after_word (line_part_is_exact Strict claim_rule claim_rule_is_exact)
+    (λ w. then_part_is_exact (claim_part w) after_claim (claim_part_is_exact w) after_claim_is_exact))
+
+-- ---- the lines as bytes
+
+abbrev title_line : List ℕ
+title_line = line (codes "gj-proof 1")
+
+abbrev claim_line : ClaimWord → List ℕ
+claim_line w = line (join_with_byte 32 (claim_words w))
+
+abbrev last_line : List ℕ
+last_line = line (codes "end")
+
+claim_is_plain : (w : ClaimWord) → All IsPlain (claim_words w)
+claim_is_plain Minimal = plain_by_test (claim_words Minimal) refl
+claim_is_plain NotMinimal = plain_by_test (claim_words NotMinimal) refl
+
+title_reads : (rest : List ℕ) → title_part.Reads (title_line ++ rest) tt rest
+title_reads rest =
+    line_reads (words_rule (codes "gj-proof" ∷ codes "1" ∷ [])) (title_line ++ rest) rest (codes "gj-proof" ∷ codes "1" ∷ []) tt
+    (λ e. cc) (plain_by_test (codes "gj-proof" ∷ codes "1" ∷ []) refl) refl refl
+
+last_reads : last_part.Reads last_line tt []
+last_reads =
+    line_reads (words_rule (codes "end" ∷ [])) last_line [] (codes "end" ∷ []) tt (λ e. cc) (plain_by_test (codes "end" ∷ []) refl) refl (sym (append-nil last_line))
+
+claim_reads : (w : ClaimWord) (rest : List ℕ) → (line_part Strict claim_rule).Reads (claim_line w ++ rest) w rest
+claim_reads w rest = line_reads claim_rule (claim_line w ++ rest) rest (claim_words w) w (some w) (claim_is_plain w) refl refl
+  where
+    some : (w : ClaimWord) → claim_words w ≡ [] → ⊥
+    some Minimal e = cc
+    some NotMinimal e = cc
+
+violation_reads : (v : Violation) (rest : List ℕ) → violation_part.Reads (violation_line v ++ rest) v rest
+violation_reads v rest =
+    line_reads violation_rule (violation_line v ++ rest) rest (violation_words v) v (some_words v) (violation_is_plain v) refl
+    (ap (λ t. t ++ rest) (sym (bytes_of_words v)))
+
+violation_found : (text rest : List ℕ) (v : Violation) → violation_part.Reads text v rest → text ≡ violation_line v ++ rest
+violation_found text rest v h =
+    let (words, is, spelled) = line_found violation_rule text rest v h in
+    spelled ∙ ap (λ ws. line (join_with_byte 32 ws) ++ rest) is ∙ ap (λ t. t ++ rest) (bytes_of_words v)
+
+-- ---- a text of a claim is read as the claim
+
+-- the lines of a claim's subject and its own are read, and so is the whole
+whole_reads : (w : ClaimWord) (c : Claim) (inner text : List ℕ) → (claim_part w).Reads inner c last_line →
+    text ≡ title_line ++ (claim_line w ++ inner) → proof_text.Reads text c []
+whole_reads w c inner text reads is =
+    let whole : proof_text.Reads (title_line ++ (claim_line w ++ inner)) c [] = (
+      tt,
+      claim_line w ++ inner,
+      title_reads (claim_line w ++ inner),
+      (
+        w,
+        inner,
+        claim_reads w inner,
+        (c, last_line, reads, (tt, [], last_reads, (refl, refl, refl))),
+      ),
+    ) in
+    subst (λ t. proof_text.Reads t c []) (sym is) whole
+
+pub text_is_read : (c : Claim) (text : List ℕ) → IsBounded c → IsProofText c text → proof_text.Reads text c []
+text_is_read (claims.Minimal f) text b p =
+    whole_reads Minimal (claims.Minimal f) (p.subject ++ last_line) text
+    (f, canonical_lines_are_read Strict f p.subject last_line b p.are_subject_lines, refl)
+    (p.spelled ∙ regroup title_line (claim_line Minimal) p.subject last_line)
+  where
+    regroup : (a b c d : List ℕ) → a ++ b ++ c ++ [] ++ d ≡ a ++ (b ++ (c ++ d))
+    regroup a b c d = simp (append-nil, append_assoc)
+text_is_read (claims.NotMinimal f v) text b p =
+    whole_reads NotMinimal (claims.NotMinimal f v) (p.subject ++ (violation_line v ++ last_line)) text (
+      f,
+      violation_line v ++ last_line,
+      canonical_lines_are_read Strict f p.subject (violation_line v ++ last_line) b p.are_subject_lines,
+      (v, violation_reads v last_line, refl),
+    )
+    (p.spelled ∙ regroup title_line (claim_line NotMinimal) p.subject (violation_line v) last_line)
+  where
+    regroup : (a b c d e : List ℕ) → a ++ b ++ c ++ (d ++ []) ++ e ≡ a ++ (b ++ (c ++ (d ++ e)))
+    regroup a b c d e = simp (append-nil, append_assoc)
+
+-- ---- what is read is the text of a claim
+
+function_found : (text : List ℕ) (f : FunctionData) (rest : List ℕ) → (function_part Strict).Reads text f rest →
+    IsWithinBounds f × (lines : List ℕ) × AreFunctionLines f lines × (text ≡ lines ++ rest)
+function_found text f rest h =
+    let (lines, are, is) = strict_lines_are_canonical f text rest h in
+    let (q, next, order, (k, more, place, (points, reads, given))) = h in
+    (given.within, lines, are, is)
+
+claim_found : (w : ClaimWord) (c : Claim) (text inner rest : List ℕ) → (claim_part w).Reads inner c rest →
+    text ≡ title_line ++ (claim_line w ++ inner) → rest ≡ last_line → IsBounded c × IsProofText c text
+claim_found Minimal c text inner rest (f, reads, c_is) is rest_is =
+    let (within, bytes, lines, inner_is) = function_found inner f rest reads in
+    let P : Claim → Type 0 = λ d. IsBounded d × IsProofText d text in
+    subst P (sym c_is) (
+      within,
+      record {
+        has_text = tt;
+        subject = bytes;
+        are_subject_lines = lines;
+        spelled = is ∙ ap (λ t. title_line ++ (claim_line Minimal ++ t)) (inner_is ∙ ap (λ t. bytes ++ t) rest_is)
+            ∙ regroup title_line (claim_line Minimal) bytes last_line;
+      },
+    )
+  where
+    regroup : (a b c d : List ℕ) → a ++ (b ++ (c ++ d)) ≡ a ++ b ++ c ++ [] ++ d
+    regroup a b c d = simp (append-nil, append_assoc)
+claim_found NotMinimal c text inner rest (f, middle, reads, (v, shown, c_is)) is rest_is =
+    let (within, bytes, lines, inner_is) = function_found inner f middle reads in
+    let middle_is = violation_found middle rest v shown in
+    let P : Claim → Type 0 = λ d. IsBounded d × IsProofText d text in
+    subst P (sym c_is) (
+      within,
+      record {
+        has_text = tt;
+        subject = bytes;
+        are_subject_lines = lines;
+        spelled = is
+            ∙ ap (λ t. title_line ++ (claim_line NotMinimal ++ t))
+            (inner_is ∙ ap (λ t. bytes ++ t) (middle_is ∙ ap (λ t. violation_line v ++ t) rest_is))
+            ∙ regroup title_line (claim_line NotMinimal) bytes (violation_line v) last_line;
+      },
+    )
+  where
+    regroup : (a b c d e : List ℕ) → a ++ (b ++ (c ++ (d ++ e))) ≡ a ++ b ++ c ++ (d ++ []) ++ e
+    regroup a b c d e = simp (append-nil, append_assoc)
+
+pub read_is_text : (c : Claim) (text : List ℕ) → proof_text.Reads text c [] → IsBounded c × IsProofText c text
+read_is_text c text (t, m, title, (w, inner, word, (d, rest, reads, (u, behind, end, (c_is, nil, nothing))))) =
+    let (title_words, title_is, text_is) = line_found (words_rule (codes "gj-proof" ∷ codes "1" ∷ [])) text m t title in
+    let (words, words_are, m_is) = line_found claim_rule m inner w word in
+    let (end_words, end_is, rest_is) = line_found (words_rule (codes "end" ∷ [])) rest behind u end in
+    let whole : text ≡ title_line ++ (claim_line w ++ inner) =
+    text_is ∙ ap (λ ws. line (join_with_byte 32 ws) ++ m) title_is
+    ∙ ap (λ t. title_line ++ t) (m_is ∙ ap (λ ws. line (join_with_byte 32 ws) ++ inner) words_are) in
+    let last_is : rest ≡ last_line =
+    rest_is ∙ ap (λ ws. line (join_with_byte 32 ws) ++ behind) end_is ∙ ap (λ t. last_line ++ t) nothing ∙ append-nil last_line in
+    let P : Claim → Type 0 = λ e. IsBounded e × IsProofText e text in
+    subst P (sym c_is) (claim_found w d text inner rest reads whole last_is)

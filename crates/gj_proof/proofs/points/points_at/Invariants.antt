@@ -1,5 +1,0 @@
-use Rattle.gj_proof.proofs.PointsRead.{HaveRead}
-use Rattle.gj_proof.proofs.points.points_at.Given as goal
-
-abbrev pub invariant-loop : goal.invariant-loop
-invariant-loop l = HaveRead l.text l.counter l.points l.rest

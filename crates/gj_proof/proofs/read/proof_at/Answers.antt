@@ -1,0 +1,55 @@
+use Rattle.std.proofs.Common.{◌≡◌, [], refl, sym, subst, rules}
+use Rattle.std.proofs.lemmas.Result.{err_from_is_err_and}
+use Rattle.gj_lex.specs.Parts.{IsFaultOf}
+use Rattle.gj_proof.specs.ProofGrammar.{proof_text}
+use Rattle.gj_proof.specs.declared.claim.Claim.{Claim}
+use Rattle.gj_proof.proofs.ReadFaults.{passed_on, fault_in_word, fault_in_claim, fault_in_last, fault_behind_last}
+use Rattle.gj_proof.proofs.read.proof_at.Goals as goal
+
+pub returns-in_err-word-clause-fault : goal.returns-in_err-word-clause-fault
+returns-in_err-word-clause-fault c =
+    let p = err_from_is_err_and c.from_residual-in_err-word.result c.from_residual-in_err-word.ensures.1 in
+    passed_on (IsFaultOf proof_text c.args.text.now) _ _ _ p.1 p.2
+    (fault_in_word _ _ _ c.in_ok-rest.ensures.found c.in_err-word.ensures.fault)
+
+pub returns-in_err-claim-clause-fault : goal.returns-in_err-claim-clause-fault
+returns-in_err-claim-clause-fault c =
+    let p = err_from_is_err_and c.from_residual-in_err-claim.result c.from_residual-in_err-claim.ensures.1 in
+    passed_on (IsFaultOf proof_text c.args.text.now) _ _ _ p.1 p.2
+    (fault_in_claim _ _ _ _ _ c.in_ok-rest.ensures.found c.in_ok-word.ensures.found c.in_err-claim.ensures.fault)
+
+pub returns-in_err-rest-2-clause-fault : goal.returns-in_err-rest-2-clause-fault
+returns-in_err-rest-2-clause-fault c =
+    let p = err_from_is_err_and c.from_residual-in_err-rest-2.result c.from_residual-in_err-rest-2.ensures.1 in
+    passed_on (IsFaultOf proof_text c.args.text.now) _ _ _ p.1 p.2
+    (fault_in_last _ _ _ _ _ _ _ c.in_ok-rest.ensures.found c.in_ok-word.ensures.found c.in_ok-claim.ensures.found
+    c.in_err-rest-2.ensures.fault)
+
+pub returns-in_err-end_at-clause-fault : goal.returns-in_err-end_at-clause-fault
+returns-in_err-end_at-clause-fault c =
+    let p = err_from_is_err_and c.from_residual-in_err-end_at.result c.from_residual-in_err-end_at.ensures.1 in
+    passed_on (IsFaultOf proof_text c.args.text.now) _ _ _ p.1 p.2
+    (fault_behind_last _ _ _ _ _ _ _ _ c.in_ok-rest.ensures.found c.in_ok-word.ensures.found c.in_ok-claim.ensures.found
+    c.in_ok-rest-2.ensures.found c.in_err-end_at.ensures.fault)
+
+pub returns-clause-found : goal.returns-clause-found
+returns-clause-found c =
+    let ended = c.in_ok-end_at.ensures.ended in
+    let whole : proof_text.Reads c.args.text.now c.in_ok-claim.claim [] = (
+      tt,
+      c.in_ok-rest.rest.now,
+      c.in_ok-rest.ensures.found,
+      (
+        c.in_ok-word.word,
+        c.in_ok-word.rest.now,
+        c.in_ok-word.ensures.found,
+        (
+          c.in_ok-claim.claim,
+          c.in_ok-claim.rest.now,
+          c.in_ok-claim.ensures.found,
+          (tt, c.in_ok-rest-2.rest.now, c.in_ok-rest-2.ensures.found, (refl, ended, ended)),
+        ),
+      ),
+    ) in
+    let is : c.unwrap.result ≡ c.in_ok-claim.claim = search rules in
+    subst (λ (d : Claim). proof_text.Reads c.args.text.now d []) (sym is) whole
