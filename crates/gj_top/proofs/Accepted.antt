@@ -18,7 +18,7 @@ use Rattle.gj_top.specs.Answer.{IsAnswerTo}
 use Rattle.gj_top.specs.Answer.IsAnswerTo.{too_long, refused, replied}
 use Rattle.gj_top.proofs.Clauses.{done_reply}
 use Rattle.gj_top.proofs.Sound.{sound}
-use Rattle.gj_top.proofs.TextLaws.{minimal_proof, not_minimal_proof, one_proof, proof_text_is_short, no_failure}
+use Rattle.gj_top.proofs.TextLaws.{function_is_bounded, minimal_proof, not_minimal_proof, one_proof, proof_text_is_short, no_failure}
 
 -- the text is the proof of a claim of which every rule holds
 record IsGoodProof (text : List ℕ) : Type 0 where
@@ -29,12 +29,12 @@ record IsGoodProof (text : List ℕ) : Type 0 where
 good_proof : (f : FunctionData) (input text : List ℕ) → IsWholeFunctionText input f → IsVerdict f text → IsGoodProof text
 good_proof f input text form (inl v) = record {
   about = claim.Minimal f;
-  proof = minimal_proof f text form.function_text.within v.2;
+  proof = minimal_proof f text (function_is_bounded input f form) v.2;
   rules = v.1;
 }
 good_proof f input text form (inr v) = record {
   about = claim.NotMinimal f v.0;
-  proof = not_minimal_proof f v.0 text form.function_text.within v.4;
+  proof = not_minimal_proof f v.0 text (function_is_bounded input f form) v.4;
   rules = v.3;
 }
 

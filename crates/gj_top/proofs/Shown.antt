@@ -1,6 +1,6 @@
 -- What `show` writes is a function text of the function that it read, and `show` writes it again as it stands.
 use Rattle.std.proofs.Common.{◌≡◌, ℕ, List, refl, subst, arith}
-use Rattle.gj_shape.specs.FunctionData.{FunctionData, IsWithinBounds}
+use Rattle.gj_shape.specs.FunctionData.{FunctionData}
 use Rattle.gj_ftext.specs.FunctionText.{IsWholeFunctionText, IsCanonicalText}
 use Rattle.gj_top.specs.declared.command.Command.TheVariants.{Show}
 use Rattle.gj_top.specs.declared.reply.End.{End}
@@ -13,12 +13,12 @@ use Rattle.gj_top.specs.Answer.{IsAnswerTo}
 use Rattle.gj_top.specs.Answer.IsAnswerTo.{too_long, refused, replied}
 use Rattle.gj_top.proofs.Clauses.{done_reply}
 use Rattle.gj_top.proofs.Sound.{sound}
-use Rattle.gj_top.proofs.TextLaws.{one_function, canonical_text_is_read, one_canonical, canonical_text_is_short}
+use Rattle.gj_top.proofs.TextLaws.{function_is_bounded, one_function, canonical_text_is_read, one_canonical, canonical_text_is_short}
 
 -- what is shown is a function text of the function that was read
 pub shown_is_read : (input text : List ℕ) → IsReply show input end.Done text →
     (f : FunctionData) × IsWholeFunctionText input f × IsWholeFunctionText text f
-shown_is_read input text r = (r.thing, r.spelled, canonical_text_is_read r.thing text r.spelled.function_text.within r.replied)
+shown_is_read input text r = (r.thing, r.spelled, canonical_text_is_read r.thing text (function_is_bounded input r.thing r.spelled) r.replied)
 
 -- a showing ends with Done
 showing_done : (f : FunctionData) (e : End) (text : List ℕ) → IsShowing f e text → (e ≡ end.Done) × IsCanonicalText text f
@@ -30,7 +30,7 @@ pub shown_again_reply : (input text again : List ℕ) (e : End) → IsReply show
     (e ≡ end.Done) × (again ≡ text)
 shown_again_reply input text again e r q =
     let f = r.thing in
-    let within = r.spelled.function_text.within in
+    let within = function_is_bounded input f r.spelled in
     let same : q.thing ≡ f = one_function text q.thing f q.spelled (canonical_text_is_read f text within r.replied) in
     let showing = showing_done q.thing e again q.replied in
     (showing.0, one_canonical f again text within (subst (IsCanonicalText again) same showing.1) r.replied)
@@ -39,11 +39,12 @@ shown_again_reply input text again e r q =
 again_by_reply : (input text again : List ℕ) (s : Status) → IsReply show input end.Done text → IsAnswerTo show text s again →
     (s ≡ Done) × (again ≡ text)
 again_by_reply input text again s r (too_long a) =
-    let short = canonical_text_is_short r.thing text r.spelled.function_text.within r.replied in
+    let short = canonical_text_is_short r.thing text (function_is_bounded input r.thing r.spelled) r.replied in
     let long = a.long in
     absurd (omega arith)
 again_by_reply input text again s r (refused a) =
-    absurd ((sound Show).form text again r.thing (canonical_text_is_read r.thing text r.spelled.function_text.within r.replied) a.refused)
+    let whole = canonical_text_is_read r.thing text (function_is_bounded input r.thing r.spelled) r.replied in
+    absurd ((sound Show).form text again r.thing whole a.refused)
 again_by_reply input text again s r (replied a) =
     let same = shown_again_reply input text again a.end r a.reply in
     let ended = same.0 in
