@@ -1,4 +1,4 @@
-use Rattle.std.proofs.Common.{◌≡◌, ◌++◌, ◌∷◌, [], ap, ◌∙◌}
+use Rattle.std.proofs.Common.{◌++◌, ◌∷◌, [], ap, ◌∙◌}
 use Rattle.std.proofs.lemmas.Result.{err_from_is_err_and}
 use Rattle.gj_shape.proofs.PointLists.{kept_fractions, kept_more, points_more, point_refused}
 use Rattle.gj_shape.proofs.LeastDenominator.{within_of_least}
