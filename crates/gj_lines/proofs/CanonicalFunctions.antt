@@ -59,7 +59,8 @@ line_has_texts true p rest e =
     ap (λ t. line (codes "point " ++ t) ++ rest) (text_of_one p e) ∙ append_assoc (codes "point " ++ fraction_text p.value) (10 ∷ []) rest
 line_has_texts false p rest e =
     ap (λ t. line (codes "point " ++ t) ++ rest) (text_of_three p e)
-    ∙ append_assoc (codes "point " ++ (fraction_text p.left ++ codes " " ++ fraction_text p.value ++ codes " " ++ fraction_text p.right)) (10 ∷ []) rest
+    ∙ append_assoc (codes "point " ++
+    (fraction_text p.left ++ codes " " ++ fraction_text p.value ++ codes " " ++ fraction_text p.right)) (10 ∷ []) rest
     ∙ ap (λ t. codes "point " ++ t ++ 10 ∷ rest)
     (append_assoc (fraction_text p.left ++ codes " " ++ fraction_text p.value) (codes " ") (fraction_text p.right)
     ∙ append_assoc (fraction_text p.left ++ codes " ") (fraction_text p.value) (32 ∷ fraction_text p.right)
