@@ -1,9 +1,7 @@
 -- The fault of a line of a proof text is that of the text.
-use Rattle.std.proofs.Common.{◌≡◌, List, [], ℕ, length, codes, Result, Err, IfErr, refl, ◌∷◌}
+use Rattle.std.proofs.Common.{◌≡◌, List, ℕ, Result, Err, IfErr, refl}
 use Rattle.gj_lex.specs.declared.spelling.Spelling.TheVariants.{Strict}
 use Rattle.gj_lex.specs.declared.fault.PartFault.{PartFault}
-use Rattle.gj_lex.specs.declared.reason.Reason.{Reason}
-use Rattle.gj_lex.specs.declared.fault.PartFault.TheVariants.{Refused}
 use Rattle.gj_lex.specs.Parts.{empty_part, made_part, end_part, IsFaultOf, IsTail}
 use Rattle.gj_lex.proofs.PartLaws.{fault_in_first, fault_in_next, fault_in_made, tail_refused}
 use Rattle.gj_shape.specs.FunctionData.{FunctionData}

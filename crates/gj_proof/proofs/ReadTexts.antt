@@ -1,11 +1,8 @@
 -- The texts that the part `proof_text` reads are the proof texts of claims.
-use Rattle.std.proofs.Common.{◌≡◌, ℕ, ◌<◌, List, [], ◌∷◌, ◌++◌, All, flat_map, codes, refl, sym, ap, subst, ◌∙◌, arith}
+use Rattle.std.proofs.Common.{◌≡◌, ℕ, List, [], ◌∷◌, ◌++◌, All, codes, refl, sym, ap, subst, ◌∙◌}
 use Rattle.std.specs.List.{join_with_byte}
 use Rattle.std.proofs.lemmas.List.{append_assoc, append-nil}
-use Rattle.std.proofs.lemmas.List.Elements.{All-nil, All-cons}
 use Rattle.gj_lex.specs.declared.spelling.Spelling.TheVariants.{Strict}
-use Rattle.gj_lex.specs.declared.reason.Reason.{Reason}
-use Rattle.gj_lex.specs.declared.reason.Reason.TheVariants as reason
 use Rattle.gj_lex.specs.Parts.{Part, words_rule, line_part, empty_part, then_part, made_part, end_part, IsExactRule, IsExactPart}
 use Rattle.gj_lex.proofs.CanonicalLines.{plain_by_test}
 use Rattle.gj_lex.proofs.StrictLines.{IsPlain}
@@ -17,7 +14,7 @@ use Rattle.gj_lines.specs.FunctionGrammar.{function_part}
 use Rattle.gj_lines.proofs.CanonicalFunctions.{canonical_lines_are_read}
 use Rattle.gj_lines.proofs.ExactFunctions.{function_part_is_exact}
 use Rattle.gj_lines.proofs.StrictFunctions.{strict_lines_are_canonical}
-use Rattle.gj_proof.specs.ProofText.{IsBounded, claim_word, own_lines, violation_line, IsProofText}
+use Rattle.gj_proof.specs.ProofText.{IsBounded, violation_line, IsProofText}
 use Rattle.gj_proof.specs.ProofGrammar.{claim_words, claim_rule, violation_words, violation_rule, claim_part, proof_text}
 use Rattle.gj_proof.specs.declared.claim.Claim.{Claim}
 use Rattle.gj_proof.specs.declared.claim.Claim.TheVariants as claims
