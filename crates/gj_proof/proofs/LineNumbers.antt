@@ -1,8 +1,8 @@
 -- The numbers of the lines of a proof text.
-use Rattle.std.proofs.Common.{◌≡◌, ◌≢◌, inl, inr, ℕ, ◌+◌, ◌<◌, ◌^◌, ◌==◌, List, [], ◌∷◌, ◌++◌, All, Contains, length, map, flat_map, codes, decimal, Bool, true, false, cond, get_or, refl, sym, ap, subst, ◌∙◌, arith}
+use Rattle.std.proofs.Common.{◌≡◌, ◌≢◌, inl, inr, ℕ, ◌+◌, ◌==◌, List, [], ◌∷◌, ◌++◌, All, length, map, flat_map, codes, decimal, Bool, true, false, cond, get_or, refl, sym, ap, subst, ◌∙◌, arith}
 use Rattle.std.specs.List.{range_with_len}
 use Rattle.std.proofs.lemmas.Bool.{ne_eqb}
-use Rattle.std.proofs.lemmas.List.{append_assoc, append-nil, length-append}
+use Rattle.std.proofs.lemmas.List.{append_assoc, append-nil}
 use Rattle.std.proofs.lemmas.List.Elements.{All-nil, All-cons, All-head, All-tail, All-map, All-weaker}
 use Rattle.std.proofs.lemmas.List.FromFn.{length-map-range_with_len}
 use Rattle.gj_frac.specs.declared.Frac.{Frac}
@@ -12,7 +12,7 @@ use Rattle.gj_lex.proofs.LineNumbers.{line_feeds_append}
 use Rattle.gj_lex.proofs.WordBytes.{decimal_is_word, fraction_is_word}
 use Rattle.gj_shape.specs.FunctionData.{FunctionData, IsWithinBounds}
 use Rattle.gj_shape.specs.declared.violations.Violation.{Violation}
-use Rattle.gj_lines.specs.FunctionLines.{line, fraction_line, order_line, place_line, has_no_jump, point_text, point_line, lines_of as function_lines_of, AreFunctionLines}
+use Rattle.gj_lines.specs.FunctionLines.{line, order_line, place_line, has_no_jump, point_text, point_line, AreFunctionLines}
 use Rattle.gj_shape.specs.declared.points.Point.{Point}
 use Rattle.gj_shape.proofs.GivenPoints.{count_of_points}
 use Rattle.gj_lines.proofs.PointLines.{text_of_one, text_of_three}

@@ -1,15 +1,12 @@
 -- The texts that the part `proof_text` reads are the proof texts of claims.
-use Rattle.std.proofs.Common.{◌≡◌, ℕ, ◌<◌, List, [], ◌∷◌, ◌++◌, All, flat_map, codes, refl, sym, ap, subst, ◌∙◌, arith}
+use Rattle.std.proofs.Common.{◌≡◌, ℕ, List, [], ◌∷◌, ◌++◌, All, codes, refl, sym, ap, subst, ◌∙◌}
 use Rattle.std.specs.List.{join_with_byte}
 use Rattle.std.proofs.lemmas.List.{append_assoc, append-nil}
-use Rattle.std.proofs.lemmas.List.Elements.{All-nil, All-cons}
 use Rattle.gj_lex.specs.declared.spelling.Spelling.TheVariants.{Strict}
-use Rattle.gj_lex.specs.declared.reason.Reason.{Reason}
-use Rattle.gj_lex.specs.declared.reason.Reason.TheVariants as reason
-use Rattle.gj_lex.specs.Parts.{Part, words_rule, line_part, then_part, made_part, end_part, IsExactRule, IsExactPart}
+use Rattle.gj_lex.specs.Parts.{Part, words_rule, line_part, empty_part, then_part, made_part, end_part, IsExactRule, IsExactPart}
 use Rattle.gj_lex.proofs.CanonicalLines.{plain_by_test}
 use Rattle.gj_lex.proofs.StrictLines.{IsPlain}
-use Rattle.gj_lex.proofs.PartLaws.{words_rule_is_exact, line_part_is_exact, then_part_is_exact, made_part_is_exact, end_part_is_exact}
+use Rattle.gj_lex.proofs.PartLaws.{line_part_is_exact, then_part_is_exact, made_part_is_exact, framed_part_is_exact, end_part_is_exact}
 use Rattle.gj_shape.specs.FunctionData.{FunctionData, IsWithinBounds}
 use Rattle.gj_shape.specs.declared.violations.Violation.{Violation}
 use Rattle.gj_lines.specs.FunctionLines.{line, AreFunctionLines}
@@ -17,7 +14,7 @@ use Rattle.gj_lines.specs.FunctionGrammar.{function_part}
 use Rattle.gj_lines.proofs.CanonicalFunctions.{canonical_lines_are_read}
 use Rattle.gj_lines.proofs.ExactFunctions.{function_part_is_exact}
 use Rattle.gj_lines.proofs.StrictFunctions.{strict_lines_are_canonical}
-use Rattle.gj_proof.specs.ProofText.{IsBounded, claim_word, own_lines, violation_line, IsProofText}
+use Rattle.gj_proof.specs.ProofText.{IsBounded, violation_line, IsProofText}
 use Rattle.gj_proof.specs.ProofGrammar.{claim_words, claim_rule, violation_words, violation_rule, claim_part, proof_text}
 use Rattle.gj_proof.specs.declared.claim.Claim.{Claim}
 use Rattle.gj_proof.specs.declared.claim.Claim.TheVariants as claims
@@ -37,15 +34,23 @@ last_part = line_part Strict (words_rule (codes "end" ∷ []))
 abbrev pub violation_part : Part Violation
 violation_part = line_part Strict violation_rule
 
--- what follows the lines of a claim, its word, and the title
-abbrev pub after_claim : Claim → Part Claim
-after_claim c = then_part last_part (λ _. end_part Strict c)
+abbrev pub word_part : Part ClaimWord
+word_part = line_part Strict claim_rule
 
-abbrev pub after_word : ClaimWord → Part Claim
-after_word w = then_part (claim_part w) after_claim
+-- the line of the word and the lines of the claim
+abbrev pub named_claim : Part Claim
+named_claim = then_part word_part claim_part
+
+-- what follows those, and what follows the title
+abbrev pub after_claim : Claim → Part Claim
+after_claim c = then_part last_part (λ _. empty_part c)
 
 abbrev pub after_title : Part Claim
-after_title = then_part (line_part Strict claim_rule) after_word
+after_title = then_part named_claim after_claim
+
+-- all lines
+abbrev pub lines_part : Part Claim
+lines_part = then_part title_part (λ _. after_title)
 
 -- ---- each is exact
 
@@ -71,17 +76,12 @@ claim_part_is_exact NotMinimal =
     (λ f. made_part_is_exact (λ (v : Violation) c. c ≡ claims.NotMinimal f v) (λ v c d h k. h ∙ sym k) violation_part
     (line_part_is_exact Strict violation_rule violation_rule_is_exact))
 
-after_claim_is_exact : (c : Claim) → IsExactPart (after_claim c).Reads (after_claim c).Faults
-after_claim_is_exact c =
-    then_part_is_exact last_part (λ _. end_part Strict c)
-    (line_part_is_exact Strict (words_rule (codes "end" ∷ [])) (words_rule_is_exact (codes "end" ∷ []))) (λ _. end_part_is_exact Strict c)
-
 pub proof_text_is_exact : IsExactPart proof_text.Reads proof_text.Faults
 proof_text_is_exact =
-    then_part_is_exact title_part (λ _. after_title)
-    (line_part_is_exact Strict (words_rule (codes "gj-proof" ∷ codes "1" ∷ [])) (words_rule_is_exact (codes "gj-proof" ∷ codes "1" ∷ [])))
-    (λ _. then_part_is_exact (line_part Strict claim_rule) after_word (line_part_is_exact Strict claim_rule claim_rule_is_exact)
-    (λ w. then_part_is_exact (claim_part w) after_claim (claim_part_is_exact w) after_claim_is_exact))
+    then_part_is_exact lines_part (end_part Strict)
+    (framed_part_is_exact Strict (codes "gj-proof" ∷ codes "1" ∷ []) named_claim (codes "end" ∷ [])
+    (then_part_is_exact word_part claim_part (line_part_is_exact Strict claim_rule claim_rule_is_exact) claim_part_is_exact))
+    (end_part_is_exact Strict)
 
 -- ---- the lines as bytes
 
@@ -107,7 +107,7 @@ last_reads : last_part.Reads last_line tt []
 last_reads =
     line_reads (words_rule (codes "end" ∷ [])) last_line [] (codes "end" ∷ []) tt (λ e. cc) (plain_by_test (codes "end" ∷ []) refl) refl (sym (append-nil last_line))
 
-claim_reads : (w : ClaimWord) (rest : List ℕ) → (line_part Strict claim_rule).Reads (claim_line w ++ rest) w rest
+claim_reads : (w : ClaimWord) (rest : List ℕ) → word_part.Reads (claim_line w ++ rest) w rest
 claim_reads w rest = line_reads claim_rule (claim_line w ++ rest) rest (claim_words w) w (some w) (claim_is_plain w) refl refl
   where
     some : (w : ClaimWord) → claim_words w ≡ [] → ⊥
@@ -130,17 +130,10 @@ violation_found text rest v h =
 whole_reads : (w : ClaimWord) (c : Claim) (inner text : List ℕ) → (claim_part w).Reads inner c last_line →
     text ≡ title_line ++ (claim_line w ++ inner) → proof_text.Reads text c []
 whole_reads w c inner text reads is =
-    let whole : proof_text.Reads (title_line ++ (claim_line w ++ inner)) c [] = (
-      tt,
-      claim_line w ++ inner,
-      title_reads (claim_line w ++ inner),
-      (
-        w,
-        inner,
-        claim_reads w inner,
-        (c, last_line, reads, (tt, [], last_reads, (refl, refl, refl))),
-      ),
-    ) in
+    let rest = claim_line w ++ inner in
+    let lines : lines_part.Reads (title_line ++ rest) c [] =
+    (tt, rest, title_reads rest, (c, last_line, (w, inner, claim_reads w inner, reads), (tt, [], last_reads, (refl, refl)))) in
+    let whole : proof_text.Reads (title_line ++ rest) c [] = (c, [], lines, (refl, refl, refl)) in
     subst (λ t. proof_text.Reads t c []) (sym is) whole
 
 pub text_is_read : (c : Claim) (text : List ℕ) → IsBounded c → IsProofText c text → proof_text.Reads text c []
@@ -211,14 +204,15 @@ claim_found NotMinimal c text inner rest (f, middle, reads, (v, shown, c_is)) is
     regroup a b c d e = simp (append-nil, append_assoc)
 
 pub read_is_text : (c : Claim) (text : List ℕ) → proof_text.Reads text c [] → IsBounded c × IsProofText c text
-read_is_text c text (t, m, title, (w, inner, word, (d, rest, reads, (u, behind, end, (c_is, nil, nothing))))) =
+read_is_text c text
+    (d, behind, (t, m, title, (e, rest, (w, inner, word, reads), (u, left, end, (d_is, left_is)))), (c_is, nil, nothing)) =
     let (title_words, title_is, text_is) = line_found (words_rule (codes "gj-proof" ∷ codes "1" ∷ [])) text m t title in
     let (words, words_are, m_is) = line_found claim_rule m inner w word in
-    let (end_words, end_is, rest_is) = line_found (words_rule (codes "end" ∷ [])) rest behind u end in
+    let (end_words, end_is, rest_is) = line_found (words_rule (codes "end" ∷ [])) rest left u end in
     let whole : text ≡ title_line ++ (claim_line w ++ inner) =
     text_is ∙ ap (λ ws. line (join_with_byte 32 ws) ++ m) title_is
     ∙ ap (λ t. title_line ++ t) (m_is ∙ ap (λ ws. line (join_with_byte 32 ws) ++ inner) words_are) in
     let last_is : rest ≡ last_line =
-    rest_is ∙ ap (λ ws. line (join_with_byte 32 ws) ++ behind) end_is ∙ ap (λ t. last_line ++ t) nothing ∙ append-nil last_line in
-    let P : Claim → Type 0 = λ e. IsBounded e × IsProofText e text in
-    subst P (sym c_is) (claim_found w d text inner rest reads whole last_is)
+    rest_is ∙ ap (λ ws. line (join_with_byte 32 ws) ++ left) end_is ∙ ap (λ t. last_line ++ t) (left_is ∙ nothing) ∙ append-nil last_line in
+    let P : Claim → Type 0 = λ a. IsBounded a × IsProofText a text in
+    subst P (sym (c_is ∙ d_is)) (claim_found w e text inner rest reads whole last_is)

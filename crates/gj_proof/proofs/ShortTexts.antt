@@ -1,5 +1,5 @@
 -- Proof texts are short.
-use Rattle.std.proofs.Common.{◌≡◌, ℕ, ◌+◌, ◌≤◌, List, [], ◌∷◌, ◌++◌, length, flat_map, codes, ap, arith}
+use Rattle.std.proofs.Common.{◌≡◌, ℕ, ◌+◌, ◌≤◌, List, [], ◌∷◌, ◌++◌, length, codes, ap, arith}
 use Rattle.std.proofs.lemmas.List.{length-append}
 use Rattle.gj_lex.specs.NumberText.{fraction_text}
 use Rattle.gj_lex.proofs.SpelledWords.{fraction_is_short}
@@ -7,7 +7,7 @@ use Rattle.gj_shape.specs.declared.violations.Violation.{Violation}
 use Rattle.gj_shape.specs.declared.violations.Violation.TheVariants as violation
 use Rattle.gj_lines.specs.FunctionLines.{line}
 use Rattle.gj_lines.proofs.StrictFunctions.{function_lines_are_short}
-use Rattle.gj_proof.specs.ProofText.{IsBounded, claim_word, own_lines, violation_line, IsProofText}
+use Rattle.gj_proof.specs.ProofText.{IsBounded, violation_line, IsProofText}
 use Rattle.gj_proof.specs.declared.claim.Claim.{Claim}
 use Rattle.gj_proof.specs.declared.claim.Claim.TheVariants.{Minimal, NotMinimal}
 

@@ -6,7 +6,7 @@ use Rattle.gj_lex.specs.declared.reason.Reason.{Reason}
 use Rattle.gj_lex.specs.declared.reason.Reason.TheVariants as reason
 use Rattle.gj_lex.specs.NumberText.{fraction_text}
 use Rattle.gj_lex.specs.SpelledNumbers.{IsFractionWord}
-use Rattle.gj_lex.specs.Parts.{LineRule, words_rule, Part, line_part, then_part, made_part, end_part}
+use Rattle.gj_lex.specs.Parts.{LineRule, Part, line_part, then_part, made_part, framed_part, end_part}
 use Rattle.gj_shape.specs.declared.violations.Violation.{Violation}
 use Rattle.gj_shape.specs.declared.violations.Violation.TheVariants as violation
 use Rattle.gj_lines.specs.FunctionGrammar.{function_part}
@@ -64,11 +64,9 @@ claim_part Minimal = made_part (λ f c. c ≡ claim.Minimal f) (function_part St
 claim_part NotMinimal =
     then_part (function_part Strict) (λ f. made_part (λ v c. c ≡ claim.NotMinimal f v) (line_part Strict violation_rule))
 
--- `gj-proof 1`, `claim W`, those lines, `end`, and nothing more
+-- `gj-proof 1`, the line `claim W`, those lines, `end`, and nothing more
 abbrev pub proof_text : Part Claim
 proof_text =
-    then_part (line_part Strict (words_rule (codes "gj-proof" ∷ codes "1" ∷ []))) (λ _.
-    then_part (line_part Strict claim_rule) (λ word.
-    then_part (claim_part word) (λ c.
-    then_part (line_part Strict (words_rule (codes "end" ∷ []))) (λ _.
-    end_part Strict c))))
+    then_part
+    (framed_part Strict (codes "gj-proof" ∷ codes "1" ∷ []) (then_part (line_part Strict claim_rule) claim_part) (codes "end" ∷ []))
+    (λ c. end_part Strict c)

@@ -36,20 +36,20 @@ pub returns-clause-found : goal.returns-clause-found
 returns-clause-found c =
     let ended = c.in_ok-end_at.ensures.ended in
     let whole : proof_text.Reads c.args.text.now c.in_ok-claim.claim [] = (
-      tt,
-      c.in_ok-rest.rest.now,
-      c.in_ok-rest.ensures.found,
+      c.in_ok-claim.claim,
+      c.in_ok-rest-2.rest.now,
       (
-        c.in_ok-word.word,
-        c.in_ok-word.rest.now,
-        c.in_ok-word.ensures.found,
+        tt,
+        c.in_ok-rest.rest.now,
+        c.in_ok-rest.ensures.found,
         (
           c.in_ok-claim.claim,
           c.in_ok-claim.rest.now,
-          c.in_ok-claim.ensures.found,
-          (tt, c.in_ok-rest-2.rest.now, c.in_ok-rest-2.ensures.found, (refl, ended, ended)),
+          (c.in_ok-word.word, c.in_ok-word.rest.now, c.in_ok-word.ensures.found, c.in_ok-claim.ensures.found),
+          (tt, c.in_ok-rest-2.rest.now, c.in_ok-rest-2.ensures.found, (refl, refl)),
         ),
       ),
+      (refl, ended, ended),
     ) in
     let is : c.unwrap.result ≡ c.in_ok-claim.claim = search rules in
     subst (λ (d : Claim). proof_text.Reads c.args.text.now d []) (sym is) whole

@@ -1,4 +1,4 @@
-use Rattle.std.proofs.Common.{◌≡◌, inl, inr, true, false, refl, sym, codes, ◌∙◌}
+use Rattle.std.proofs.Common.{◌≡◌, inl, inr, true, false, refl, sym, ◌∙◌}
 use Rattle.std.proofs.lemmas.Result.{err_from_is_err_and}
 use Rattle.gj_lex.specs.Words.{word_texts}
 use Rattle.gj_proof.specs.ProofGrammar.{BreaksViolation}
