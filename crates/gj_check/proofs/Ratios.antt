@@ -1,24 +1,18 @@
 -- What fractions over one denominator say of their numerators.
-use Rattle.std.proofs.Common.{◌≡◌, ℕ, ◌<◌, ◌≤◌, ◌^◌, ◌↔◌, ℤ, pos, ◌+ℤ◌, ◌-ℤ◌, to_z, of_z, ◌*ℤ◌, ◌<ℤ◌, unsigned_abs, [], ◌∷◌, refl, sym, ap, ap₂, subst₂, ◌∙◌, arith}
+use Rattle.std.proofs.Common.{◌≡◌, ℕ, ◌<◌, ◌≤◌, ◌^◌, ◌↔◌, ℤ, pos, ◌+ℤ◌, ◌-ℤ◌, to_z, of_z, ◌*ℤ◌, ◌<ℤ◌, unsigned_abs, sym, ap, subst₂, ◌∙◌, arith}
 use Rattle.std.proofs.Math.Nat.{mul-pos}
 use Rattle.std.proofs.lemmas.Int.{ints, unsigned_abs-mul, to_z-of_z}
 use mir.Syntax.{w128}
 use Rattle.gj_frac.specs.declared.Frac.{Frac}
 use Rattle.gj_frac.specs.Fraction.{IsRatio, SameValue, LessValue, fraction_of, sum_of, numerator, denominator}
 use Rattle.gj_tools.proofs.Integers.{mul_assoc_z, mul_comm_z, swap_last_z, mul_cancel_right_z, mul_lt_mul_right_z, mul_lt_cancel_right_z, mul_positive_z}
-use Rattle.gj_tools.proofs.Ring.{by_ring, ring}
+use Rattle.gj_tools.proofs.Ratios.{ratio_sum}
 use Rattle.gj_frac.proofs.SameValues.{is_along}
 use Rattle.gj_shape.proofs.LeastDenominator.{denominator_some}
 
 -- a denominator is a natural number
 pub denominator_is : (x : Frac) → denominator x ≡ pos (unsigned_abs (denominator x))
 denominator_is x = let positive = x.lowest.positive in omega (arith, ints)
-
-sum_left_z : (a b d e w : ℤ) → (a *ℤ e +ℤ b *ℤ d) *ℤ w ≡ (a *ℤ w) *ℤ e +ℤ (b *ℤ w) *ℤ d
-sum_left_z a b d e w = by_ring (a ∷ b ∷ d ∷ e ∷ w ∷ []) (search ring depth 30) refl
-
-sum_right_z : (n m d e : ℤ) → (n *ℤ d) *ℤ e +ℤ (m *ℤ e) *ℤ d ≡ (n +ℤ m) *ℤ (d *ℤ e)
-sum_right_z n m d e = by_ring (n ∷ m ∷ d ∷ e ∷ []) (search ring depth 30) refl
 
 -- the sum of n/w and m/w
 pub sum_over : (x y s : Frac) (n m w : ℤ) → IsRatio x n w → IsRatio y m w →
@@ -27,8 +21,7 @@ sum_over x y s n m w x_is y_is h =
     let size = unsigned_abs-mul x.den y.den in
     let some = mul-pos (denominator_some x) (denominator_some y) in
     is_along s (x.num *ℤ y.den +ℤ y.num *ℤ x.den) (x.den *ℤ y.den) (n +ℤ m) w (omega arith) h
-    (sum_left_z x.num y.num x.den y.den w ∙ ap₂ (λ a b. a *ℤ y.den +ℤ b *ℤ x.den) x_is y_is
-    ∙ sum_right_z n m x.den y.den)
+    (ratio_sum x.num x.den y.num y.den n m w x_is y_is)
 
 -- n/w is less than m/w exactly where n is less than m
 pub less_over : (x y : Frac) (n m : ℤ) (w : ℕ) → 0 < w → IsRatio x n (pos w) → IsRatio y m (pos w) →

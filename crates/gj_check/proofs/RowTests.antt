@@ -1,26 +1,12 @@
 -- The tests of the limits of the slack in rows of squares, over lanes.
-use Rattle.std.proofs.Common.{◌≡◌, ◌↔◌, ℕ, ◌+◌, ◌*◌, ◌-◌, ◌<◌, ◌≤◌, ◌^◌, ℤ, pos, List, get_or, set, max, min, length, lit<, ⊎_elim, to_z, of_z, w64, unsigned_abs, below_more, arith}
+use Rattle.std.proofs.Common.{◌≡◌, ◌↔◌, ℕ, ◌+◌, ◌*◌, ◌-◌, ◌<◌, ◌≤◌, ◌^◌, ℤ, pos, List, get_or, max, min, length, lit<, ⊎_elim, below_more, arith}
 use Rattle.std.proofs.lemmas.Bool.{cases_lt}
 use Rattle.gj_shape.specs.FunctionData.{FunctionData, IsWithinBounds, IsContinuous}
 use Rattle.gj_shape.specs.declared.faces.FaceKind.TheVariants.{Vertex}
-use Rattle.gj_theory.proofs.Lanes.{IsLane, lane_read, one_more_lane, max_zero, no_excess, HasLanes, fit_from_sums, fit_at_sums, vertex_of_lanes, square_passes, square_fits, continuous_square}
+use Rattle.gj_theory.proofs.Lanes.{max_zero, no_excess, HasLanes, fit_from_sums, fit_at_sums, vertex_of_lanes, square_passes, square_fits, continuous_square}
 use Rattle.gj_check.specs.declared.squares.Lanes.{Lanes}
-use Rattle.gj_check.specs.Lanes.{AreNumbers, AreLanesOf}
+use Rattle.gj_check.specs.Lanes.{AreLanesOf}
 use Rattle.gj_check.specs.Tests.{IsSubadditiveAt, IsSubadditiveVertex, IsSubadditive, IsSubadditiveOnGrid}
-
--- ---- lanes of the code
-
--- one number more
-pub one_more_number : (lanes : List ℕ) (number : ℕ → ℤ) (i : ℕ) (n : ℤ) → i < length lanes →
-    AreNumbers lanes number i → n ≡ number i → IsLane (number i) →
-    AreNumbers (set lanes i (unsigned_abs (to_z w64 (of_z w64 n)))) number (i + 1)
-one_more_number lanes number i n within h n_is is_lane =
-    let x = unsigned_abs (to_z w64 (of_z w64 n)) in
-    let lane = lane_read n (number i) n_is is_lane in
-    record {
-      same = one_more_lane (λ k y. pos y ≡ number k) lanes i x within h.same lane.0;
-      small = one_more_lane (λ k y. y < 2 ^ 31) lanes i x within h.small lane.1;
-    }
 
 -- ---- one more square in a row
 

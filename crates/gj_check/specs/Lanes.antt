@@ -1,12 +1,8 @@
 -- The pieces of a function in lanes of 32 bits (own).
-use Rattle.std.specs.Prelude.{ℕ, ℤ, pos, ◌≡◌, ◌+◌, ◌*◌, ◌<◌, ◌^◌, List, get_or}
+use Rattle.std.specs.Prelude.{ℕ, ◌+◌, ◌*◌, List}
 use Rattle.gj_shape.specs.FunctionData.{FunctionData, at}
+use Rattle.gj_theory.specs.Lanes.{AreNumbers}
 use Rattle.gj_check.specs.declared.squares.Lanes.{Lanes}
-
--- each of the lanes below n is the number at its index, and has 31 bits
-pub record AreNumbers (lanes : List ℕ) (number : ℕ → ℤ) (n : ℕ) : Type 0 where
-  pub same : (i : ℕ) → i < n → pos (get_or lanes i 0) ≡ number i
-  pub small : (i : ℕ) → i < n → get_or lanes i 0 < 2 ^ 31
 
 -- the lanes are the pieces of the function from i/q on, for each i below n
 pub record ArePiecesBelow (f : FunctionData) (value right left : List ℕ) (n : ℕ) : Type 0 where

@@ -35,11 +35,6 @@ fault_in_end text middle rest f fault title lines h =
     fault_in_next title_part behind_title text tt middle fault title
     (fault_in_next (function_part Lenient) end_of middle f rest fault lines (fault_in_first last_part (λ t. empty_part f) rest fault h))
 
-pub fault_behind : (text rest : List ℕ) (f : FunctionData) (fault : PartFault) → IsFunctionText text f rest → IsTail Lenient rest fault →
-    IsFaultOf whole_function_text text fault
-fault_behind text rest f fault h tail =
-    fault_in_next function_text (λ f. end_part Lenient f) text f rest fault h (tail_refused Lenient f rest fault tail)
-
 pub whole_text : (text rest : List ℕ) (f : FunctionData) → IsFunctionText text f rest → HasNothing Lenient rest → IsWholeFunctionText text f
 whole_text text rest f h nothing = (rest, (f, rest, h, (refl, refl, nothing)))
 
@@ -54,8 +49,3 @@ pub record WholeParts (text : List ℕ) (f : FunctionData) : Type 0 where
   pub function_text : IsFunctionText text f rest
   pub nothing : HasNothing Lenient rest
   pub within : IsWithinBounds f
-
-pub whole_parts : (text : List ℕ) (f : FunctionData) → IsWholeFunctionText text f → WholeParts text f
-whole_parts text f (r, (g, rest, h, (same, at, none))) =
-    let text_is = subst (λ (x : FunctionData). IsFunctionText text x rest) (sym same) h in
-    record { rest = rest; function_text = text_is; nothing = none; within = function_is_within text f rest text_is }

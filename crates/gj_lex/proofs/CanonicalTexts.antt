@@ -3,7 +3,6 @@ use Rattle.std.proofs.Common.{◌≡◌, ◌≢◌, ℕ, zero, suc, ◌^◌, ◌
 use Rattle.std.specs.List.{position, position_or_len}
 use Rattle.std.specs.Str.Parse.{AllDigits}
 use Rattle.std.specs.Fmt.{signed_decimal}
-use Rattle.std.proofs.Props.{props}
 use Rattle.std.proofs.Math.Seq.{take-append_seam, drop-append_seam}
 use lib.Pointwise.{pointwise}
 use mir.Val.{to_z, of_z}
@@ -18,6 +17,7 @@ use Rattle.std.proofs.lemmas.Fmt.{decimal_is_IsNumeral_wide}
 use Rattle.gj_frac.specs.declared.Frac.{Frac}
 use Rattle.gj_frac.specs.Fraction.{IsRatio}
 use Rattle.gj_frac.specs.Lowest.{IsLowest}
+use Rattle.gj_frac.specs.SameParts.{same_parts_same}
 use Rattle.gj_tools.proofs.Divisors.{same_ratio}
 use Rattle.gj_lex.specs.NumberText.{denominator_text, ratio_text, fraction_text}
 use Rattle.gj_lex.proofs.Decimals.{same_from_decimal}
@@ -177,26 +177,6 @@ parts_of_text word n d small some e =
 
 -- ---- the fraction
 
--- the fraction of two parts in lowest terms
-frac_of : (n d : ℤ) → IsLowest n d → Frac
-frac_of n d h = record { num = n; den = d; lowest = h }
-
--- two parts are in lowest terms in one way
-lowest_prop : (n d : ℤ) (h k : IsLowest n d) → h ≡ k
-lowest_prop n d = hlevel props
-
--- fractions with equal parts are equal
-same_parts : (n d m e : ℤ) (h : IsLowest n d) (k : IsLowest m e) → n ≡ m → d ≡ e → frac_of n d h ≡ frac_of m e k
-same_parts n d m e h k p q =
-    let P : ℤ → Type 0 = λ z. (l : IsLowest z e) → frac_of n d h ≡ frac_of z e l in
-    let Q : ℤ → Type 0 = λ z. (l : IsLowest n z) → frac_of n d h ≡ frac_of n z l in
-    subst P p (subst Q q (λ l. ap (frac_of n d) (lowest_prop n d h l))) k
-
--- the same, of any two fractions
-pub same_frac : (x y : Frac) → x.num ≡ y.num → x.den ≡ y.den → x ≡ y
-unfolding frac_of
-same_frac x y p q = same_parts x.num x.den y.num y.den x.lowest y.lowest p q
-
 -- a fraction that is n/d in lowest terms has the parts n and d
 pub lowest_parts : (x : Frac) (n d : ℤ) → IsRatio x n d → IsLowest n d → (x.num ≡ n) × (x.den ≡ d)
 lowest_parts x n d is h =
@@ -207,7 +187,7 @@ pub canonical_only : (r : Option Frac) (x : Frac) (n d : ℤ) → n ≡ x.num �
     (IsLowest n d → IsSome r) → IfSome r (λ y. (y.num ≡ n) × (y.den ≡ d)) → r ≡ Some x
 canonical_only None x n d p q some found =
     let none_is_some : false ≡ true = some (subst (λ z. IsLowest z d) (sym p) (subst (λ z. IsLowest x.num z) (sym q) x.lowest)) in cc
-canonical_only (Some y) x n d p q some found = ap Some (same_frac y x (found.0 ∙ p) (found.1 ∙ q))
+canonical_only (Some y) x n d p q some found = ap Some (same_parts_same y x (found.0 ∙ p) (found.1 ∙ q))
 
 -- equal pairs have equal parts
 pub same_pair : (p q : ℤ × ℤ) → Some p ≡ Some q → (p.0 ≡ q.0) × (p.1 ≡ q.1)
@@ -220,7 +200,7 @@ same_from_fraction_text x y e =
     let right = parts_of_text (fraction_text x) y.num y.den y.lowest.num_fits y.lowest.positive e in
     let dens : unsigned_abs x.den ≡ unsigned_abs y.den =
     denominator_same _ _ (positive_abs x) (positive_abs y) x.lowest.den_fits y.lowest.den_fits (sym left.1 ∙ right.1) in
-    same_frac x y (signed_same x.num y.num x.lowest.num_fits y.lowest.num_fits (sym left.0 ∙ right.0))
+    same_parts_same x y (signed_same x.num y.num x.lowest.num_fits y.lowest.num_fits (sym left.0 ∙ right.0))
     (let p = x.lowest.positive in let q = y.lowest.positive in omega (arith, ints))
   where
     positive_abs : (z : Frac) → 0 < unsigned_abs z.den

@@ -3,7 +3,6 @@ pub mod Readings
 pub mod LeastDenominators
 pub mod FailedVertices
 pub mod FailedFaces
-pub mod LaneReadings
 pub mod NearPoints
 pub mod NearPairs
 pub mod EntryBounds

@@ -1,12 +1,8 @@
 -- The numbers of a function in lanes of 32 bits (own).
-use Rattle.std.specs.Prelude.{ℕ, ℤ, pos, ◌≡◌, ◌+◌, ◌*◌, ◌<◌, ◌^◌, List, get_or}
+use Rattle.std.specs.Prelude.{ℕ, ◌+◌, ◌*◌, List}
 use Rattle.gj_shape.specs.FunctionData.{FunctionData, at}
+use Rattle.gj_theory.specs.Lanes.{AreNumbers}
 use Rattle.gj_minimal.specs.declared.lanes.Lanes.{Lanes}
-
--- each of the lanes below n is the number at its index, and has 31 bits
-pub record AreNumbers (lanes : List ℕ) (number : ℕ → ℤ) (n : ℕ) : Type 0 where
-  pub same : (i : ℕ) → i < n → pos (get_or lanes i 0) ≡ number i
-  pub small : (i : ℕ) → i < n → get_or lanes i 0 < 2 ^ 31
 
 -- the lanes below n are the values, the limits from the right, and the limits from the left one further on
 pub record AreLanesBelow (f : FunctionData) (left value right : List ℕ) (n : ℕ) : Type 0 where

@@ -20,13 +20,6 @@ passed_on Q e y r is same h = rw (is, same) h
 
 -- ---- in the claim
 
-pub fault_in_function : (w : ClaimWord) (text : List ℕ) (fault : PartFault) → IsFaultOf (function_part Strict) text fault →
-    IsFaultOf (claim_part w) text fault
-fault_in_function Minimal text fault h = fault_in_made (λ (f : FunctionData) c. c ≡ claims.Minimal f) (function_part Strict) text fault h
-fault_in_function NotMinimal text fault h =
-    fault_in_first (function_part Strict)
-    (λ f. made_part (λ (v : Violation) c. c ≡ claims.NotMinimal f v) violation_part) text fault h
-
 pub fault_in_violation : (text middle : List ℕ) (f : FunctionData) (fault : PartFault) → (function_part Strict).Reads text f middle →
     IsFaultOf violation_part middle fault → IsFaultOf (claim_part NotMinimal) text fault
 fault_in_violation text middle f fault reads h =

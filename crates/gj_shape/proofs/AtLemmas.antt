@@ -28,10 +28,6 @@ at_wrapped xs i j n len e = ap (at xs) (e ∙ ap (λ m. i % m) (sym len)) ∙ at
 pub at_plus_length : (xs : List ℤ) (i : ℕ) → at xs (i + length xs) ≡ at xs i
 at_plus_length xs i = at_same_remainder xs (i + length xs) i (add-mod_right i (length xs))
 
--- and each multiple of it
-pub at_plus_multiple : (xs : List ℤ) (i k : ℕ) → at xs (i + k * length xs) ≡ at xs i
-at_plus_multiple xs i k = at_same_remainder xs (i + k * length xs) i (add-mul-mod_self_right i k (length xs))
-
 -- what holds of all entries holds of the entry at any index
 pub all_at : (P : ℤ → Type 0) (xs : List ℤ) (i : ℕ) → 0 < length xs → All P xs → P (at xs i)
 unfolding at

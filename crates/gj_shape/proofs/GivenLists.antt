@@ -45,18 +45,3 @@ IsMemory fault.Place = ⊥
 IsMemory fault.Count = ⊥
 IsMemory (fault.TooLarge i) = ⊥
 IsMemory (fault.TooFine i) = ⊥
-
--- lists that give a function have no other fault
-pub no_fault_given : (q k : ℕ) (l v r : List Frac) (f : FunctionData) (e : ShapeFault) → IsGivenBy q k l v r f → HasFault q k l v r e → IsMemory e
-no_fault_given q k l v r f (fault.Memory e) g h = tt
-no_fault_given q k l v r f fault.Order g h =
-    absurd (h (omega (arith, g.order, g.within.order_low), omega (arith, g.order, g.within.order_high)))
-no_fault_given q k l v r f fault.Place g h =
-    absurd (h.1 (omega (arith, g.place, g.within.place_low), omega (arith, g.place, g.order, g.within.place_high)))
-no_fault_given q k l v r f fault.Count g h = absurd (h.2 (lengths_given q k l v r f g))
-no_fault_given q k l v r f (fault.TooLarge i) g h =
-    let (before, x, first, large) = h.3 in
-    absurd (first_failing_denies AreWithinBounds within_bounds_closed _ before x first.first (within_given q k l v r f g))
-no_fault_given q k l v r f (fault.TooFine i) g h =
-    let (before, x, first, small) = h.3 in
-    absurd (first_failing_denies AreWithinBounds within_bounds_closed _ before x first.first (within_given q k l v r f g))

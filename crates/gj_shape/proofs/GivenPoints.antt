@@ -107,16 +107,6 @@ one_list_of_points f ps qs within p q =
     same_along f.scale ps qs f.left f.value f.right within.scale_low p.left_are p.value_are p.right_are q.left_are
     q.value_are q.right_are
 
--- an order, a place and points are those of one function
-pub one_function_of_points : (points : List Point) (f g : FunctionData) → f.order ≡ g.order → f.place ≡ g.place →
-    IsWithinBounds f → IsWithinBounds g → ArePointsOf f points → ArePointsOf g points → f ≡ g
-one_function_of_points points f g order place within_f within_g of_f of_g =
-    let ls = lefts points in
-    let vs = values points in
-    let rs = rights points in
-    same_from_given f.order f.place ls vs rs f g (given_by_points points f within_f of_f)
-    (subst₂ (λ q k. IsGivenBy q k ls vs rs g) (sym order) (sym place) (given_by_points points g within_g of_g))
-
 -- ---- the faults of a point
 
 -- the fault is want of memory
@@ -161,14 +151,3 @@ not_large_and_fine points p (a, x, at_x, large) (b, y, at_y, small) =
     let xs = all_fractions points in
     let one = one_first_failing (λ zs. AreWithinBounds (xs ++ zs)) (closed_behind xs) (fractions_of p) a b x y at_x at_y in
     large (subst IsSmall (sym one.1) small)
-
--- so a point that cannot follow others has one fault, unless memory is wanting
-pub one_point_fault : (points : List Point) (p : Point) (e d : PointFault) → IsPointFault points p e →
-    IsPointFault points p d → (IsMemory e → ⊥) → (IsMemory d → ⊥) → e ≡ d
-one_point_fault points p Large Large a b no_e no_d = refl
-one_point_fault points p Large Fine a b no_e no_d = absurd (not_large_and_fine points p a b)
-one_point_fault points p Large (Memory m) a b no_e no_d = absurd (no_d tt)
-one_point_fault points p Fine Large a b no_e no_d = absurd (not_large_and_fine points p b a)
-one_point_fault points p Fine Fine a b no_e no_d = refl
-one_point_fault points p Fine (Memory m) a b no_e no_d = absurd (no_d tt)
-one_point_fault points p (Memory m) d a b no_e no_d = absurd (no_e tt)

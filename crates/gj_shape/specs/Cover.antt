@@ -1,21 +1,21 @@
 -- Covered intervals and their components (Light on the Infinite Group Relaxation I and II; the order of the lines is own).
 -- The interval a is that from a/order to (a + 1)/order.
-use Rattle.std.specs.Prelude.{ℕ, ◌≡◌, ◌≢◌, ◌⊎◌, ◌+◌, ◌%◌, ◌<◌, ◌==◌, List, [], ◌∷◌, ◌++◌, All, Any, map, flat_map, count_by}
-use Rattle.std.specs.List.{range_with_len}
+use Rattle.std.specs.Prelude.{ℕ, ◌≡◌, ◌≢◌, ◌⊎◌, ◌+◌, ◌%◌, ◌<◌, ◌==◌, List, [], ◌∷◌, ◌++◌, All, Any, count_by}
 use Rattle.gj_tools.specs.FirstThatFails.{IsFirstFailing}
 use Rattle.gj_shape.specs.FunctionData.{FunctionData}
 use Rattle.gj_shape.specs.Additive.{IsAdditive}
 use Rattle.gj_shape.specs.FirstViolation.{IsLeastFrom}
 use Rattle.gj_shape.specs.declared.faces.FaceKind.{FaceKind}
 use Rattle.gj_shape.specs.declared.faces.FaceKind.TheVariants.{Vertex, Horizontal, Vertical, Diagonal, Lower, Upper}
+use Rattle.gj_shape.specs.WalkOrder.{faces_of}
 use Rattle.gj_shape.specs.declared.faces.Face.{Face}
 use Rattle.gj_shape.specs.declared.extremality.CoverLine.{CoverLine}
 
 -- the intervals on which a triangle projects: of x, of y and of x + y
-abbrev pub projections_of : FaceKind → ℕ → ℕ → List ℕ
-projections_of Lower a b = a ∷ b ∷ (a + b) ∷ []
-projections_of Upper a b = a ∷ b ∷ (a + b + 1) ∷ []
-projections_of kind a b = []
+abbrev pub triangle_projections : FaceKind → ℕ → ℕ → List ℕ
+triangle_projections Lower a b = a ∷ b ∷ (a + b) ∷ []
+triangle_projections Upper a b = a ∷ b ∷ (a + b + 1) ∷ []
+triangle_projections kind a b = []
 
 -- the intervals that an edge links
 abbrev pub links_of : FaceKind → ℕ → ℕ → List ℕ
@@ -31,8 +31,8 @@ IsOneOf q intervals i = Any (λ a. a % q ≡ i % q) intervals
 -- the face is additive, and links both intervals or projects on both
 pub record Joins (f : FunctionData) (kind : FaceKind) (a b i j : ℕ) : Type 0 where
   pub additive : IsAdditive f kind a b
-  pub first : IsOneOf f.order (links_of kind a b ++ projections_of kind a b) i
-  pub second : IsOneOf f.order (links_of kind a b ++ projections_of kind a b) j
+  pub first : IsOneOf f.order (links_of kind a b ++ triangle_projections kind a b) i
+  pub second : IsOneOf f.order (links_of kind a b ++ triangle_projections kind a b) j
 
 abbrev pub AreJoined : FunctionData → ℕ → ℕ → Type 0
 AreJoined f i j = (kind : FaceKind) × (a : ℕ) × (b : ℕ) × Joins f kind a b i j
@@ -40,7 +40,7 @@ AreJoined f i j = (kind : FaceKind) × (a : ℕ) × (b : ℕ) × Joins f kind a 
 -- the face is an additive triangle that projects on the interval
 pub record Covers (f : FunctionData) (kind : FaceKind) (a b i : ℕ) : Type 0 where
   pub additive : IsAdditive f kind a b
-  pub projection : IsOneOf f.order (projections_of kind a b) i
+  pub projection : IsOneOf f.order (triangle_projections kind a b) i
 
 abbrev pub IsDirectlyCovered : FunctionData → ℕ → Type 0
 IsDirectlyCovered f i = (kind : FaceKind) × (a : ℕ) × (b : ℕ) × Covers f kind a b i
@@ -64,16 +64,10 @@ IsInClassOf f i j = LeadsTo f j i
 
 -- ---- cover lines
 
--- all faces in walk order
-abbrev pub faces_in_order : ℕ → List Face
-faces_in_order q =
-    flat_map (λ a. flat_map (λ b. map (λ kind. record { kind = kind; a = a; b = b })
-    (Vertex ∷ Horizontal ∷ Vertical ∷ Diagonal ∷ Lower ∷ Upper ∷ [])) (range_with_len 0 q)) (range_with_len 0 q)
-
 -- the face has the property, and none before it in walk order has it
 pub record IsFirstFace (q : ℕ) (P : FaceKind → ℕ → ℕ → Type 0) (face : Face) : Type 0 where
   pub before : List Face
-  pub first : IsFirstFailing (All (λ g. P g.kind g.a g.b → ⊥)) (faces_in_order q) before face
+  pub first : IsFirstFailing (All (λ g. P g.kind g.a g.b → ⊥)) (faces_of q) before face
   pub holds : P face.kind face.a face.b
 
 -- the interval has a line

@@ -11,7 +11,9 @@ pub mod Kept
 pub mod Values
 pub mod Refinement
 pub mod Average
+pub mod Gmic
 pub mod Additive
+pub mod WalkOrder
 pub mod Cover
 pub mod Extreme
 pub mod SlopeRows

@@ -1,13 +1,9 @@
 -- Rows of a mixed-integer program, their solutions and cuts (Gomory and Johnson 1972).
-use Rattle.std.specs.Prelude.{ℕ, ℤ, pos, ◌≡◌, ◌-◌, ◌*◌, ◌%◌, ◌+ℤ◌, ◌*ℤ◌, ◌≤ℤ◌, nat_le, if◌then◌else◌, List, ◌∷◌, map, length}
+use Rattle.std.specs.Prelude.{ℕ, ℤ, pos, ◌≡◌, ◌+ℤ◌, ◌*ℤ◌, ◌≤ℤ◌, List, ◌∷◌, map, length}
 use Rattle.std.specs.Int.{◌∣◌}
 use Rattle.gj_frac.specs.declared.Frac.{Frac}
 use Rattle.gj_shape.specs.Given.{IsCommonDenominator, numerator_over}
 use Rattle.gj_shape.specs.SlopeRows.{sum_of_products}
-
--- the table of Gomory's mixed-integer cut of order n for f = k/n, over the scale k (n - k): up to 1 at k, and down to 0 at n
-abbrev pub gmic_table : ℕ → ℕ → ℕ → ℤ
-gmic_table n k i = if nat_le (i % n) k then pos ((n - k) * (i % n)) else pos (k * (n - i % n))
 
 -- c is the least common denominator of the fractions
 pub record IsLeastCommonDenominator (xs : List Frac) (c : ℕ) : Type 0 where

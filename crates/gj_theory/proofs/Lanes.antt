@@ -12,6 +12,7 @@ use Rattle.gj_shape.specs.declared.faces.FaceKind.{FaceKind}
 use Rattle.gj_shape.specs.declared.faces.FaceKind.TheVariants.{Vertex, Horizontal, Vertical, Diagonal, Lower, Upper}
 use Rattle.gj_shape.proofs.AtLemmas.{at_plus_length, at_wrapped}
 use Rattle.gj_shape.proofs.TableLemmas.{slack_at, limits_are_slacks}
+use Rattle.gj_theory.specs.Lanes.{AreNumbers}
 use Rattle.gj_theory.specs.EarlierTests.{PassesSymmetry}
 use Rattle.gj_theory.proofs.Everywhere.{everywhere}
 use lib.Dec.{T}
@@ -118,6 +119,18 @@ lane_sum x y h k = omega arith
 
 pub lesser_lane : (x y m : ℕ) → m ≡ min x y → x < 2 ^ 31 → m < 2 ^ 31
 lesser_lane x y m e h = omega arith
+
+-- one number more
+pub one_more_number : (lanes : List ℕ) (number : ℕ → ℤ) (i : ℕ) (n : ℤ) → i < length lanes →
+    AreNumbers lanes number i → n ≡ number i → IsLane (number i) →
+    AreNumbers (set lanes i (unsigned_abs (to_z w64 (of_z w64 n)))) number (i + 1)
+one_more_number lanes number i n within h n_is is_lane =
+    let x = unsigned_abs (to_z w64 (of_z w64 n)) in
+    let lane = lane_read n (number i) n_is is_lane in
+    record {
+      same = one_more_lane (λ k y. pos y ≡ number k) lanes i x within h.same lane.0;
+      small = one_more_lane (λ k y. y < 2 ^ 31) lanes i x within h.small lane.1;
+    }
 
 -- a maximum and a difference that are 0
 pub max_zero : (x y m : ℕ) → m ≡ max x y → (m ≡ 0) ↔ ((x ≡ 0) × (y ≡ 0))

@@ -1,3 +1,4 @@
 pub mod EarlierTests
 pub mod GridPoints
 pub mod NearCorners
+pub mod Lanes

@@ -107,13 +107,6 @@ first_failing_in_joined P f ys earlier y before x h k =
 
 -- ---- at an index
 
--- the element at an index, where those before it pass
-pub first_failing_at : {A : Type 0} (P : A → Type 0) (xs : List A) (i : ℕ) (d : A) → i < length xs →
-    All P (take i xs) → (P (get_or xs i d) → ⊥) → IsFirstFailing (All P) xs (take i xs) (get_or xs i d)
-first_failing_at P xs i d below passed fails =
-    first_failing P xs (take i xs) (drop (suc i) xs) (get_or xs i d)
-    (sym (take-append-drop i xs) ∙ ap (λ l. take i xs ++ l) (drop-cons xs i d below)) passed fails
-
 -- a number below n, where those below it pass
 pub first_failing_in_range : (P : ℕ → Type 0) (i n : ℕ) → i < n → ((j : ℕ) → j < i → P j) → (P i → ⊥) →
     IsFirstFailing (All P) (range_with_len 0 n) (range_with_len 0 i) i

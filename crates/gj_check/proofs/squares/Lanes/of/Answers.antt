@@ -1,7 +1,7 @@
 use Rattle.std.proofs.Common.{◌<◌, ◌+◌, length, ◌∙◌, arith}
 use Rattle.std.proofs.Math.ListN.{length-set}
 use Rattle.gj_theory.proofs.Lanes.{have_lanes, lane_cast}
-use Rattle.gj_check.proofs.RowTests.{one_more_number}
+use Rattle.gj_theory.proofs.Lanes.{one_more_number}
 use Rattle.gj_check.proofs.squares.Lanes.of.Goals as goal
 
 pub overflow_cast-value : goal.overflow_cast-value

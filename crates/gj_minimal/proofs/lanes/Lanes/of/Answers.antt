@@ -1,7 +1,7 @@
 use Rattle.std.proofs.Common.{◌<◌, ◌+◌, length, ◌∙◌, arith}
 use Rattle.std.proofs.Math.ListN.{length-set}
 use Rattle.gj_theory.proofs.Lanes.{have_lanes, lane_cast}
-use Rattle.gj_minimal.proofs.LaneReadings.{one_more_number}
+use Rattle.gj_theory.proofs.Lanes.{one_more_number}
 use Rattle.gj_minimal.proofs.lanes.Lanes.of.Goals as goal
 
 pub overflow_cast-left : goal.overflow_cast-left
