@@ -4,7 +4,7 @@ use Rattle.gj_shape.specs.FunctionData.{FunctionData}
 use Rattle.gj_proof.specs.declared.claim.Claim.{Claim}
 use Rattle.gj_proof.specs.declared.claim.Claim.TheVariants as claim
 use Rattle.gj_proof.specs.Rules.{MeetsRules}
-use Rattle.gj_top.specs.declared.command.Command.TheVariants.{Minimal, Check}
+use Rattle.gj_top.specs.declared.command.Command.TheVariants.{Check}
 use Rattle.gj_top.specs.declared.reply.End.{End}
 use Rattle.gj_top.specs.declared.reply.End.TheVariants as end
 use Rattle.gj_top.specs.declared.status.Status.{Status}
