@@ -4,7 +4,7 @@ use Rattle.gj_shape.specs.FunctionData.{FunctionData}
 use Rattle.gj_proof.specs.declared.claim.Claim.{Claim}
 use Rattle.gj_proof.specs.declared.claim.Claim.TheVariants as claim
 use Rattle.gj_proof.specs.Rules.{MeetsRules}
-use Rattle.gj_top.specs.declared.command.Command.TheVariants.{Minimal, Check}
+use Rattle.gj_top.specs.declared.command.Command.TheVariants.{Check}
 use Rattle.gj_top.specs.declared.reply.End.{End}
 use Rattle.gj_top.specs.declared.reply.End.TheVariants as end
 use Rattle.gj_top.specs.declared.status.Status.{Status}
@@ -17,8 +17,9 @@ use Rattle.gj_top.specs.Check.{IsJudgement, check}
 use Rattle.gj_top.specs.Answer.{IsAnswerTo}
 use Rattle.gj_top.specs.Answer.IsAnswerTo.{too_long, refused, replied}
 use Rattle.gj_top.proofs.Clauses.{done_reply}
+use Rattle.gj_check.proofs.DemandsOfClaims.{no_failure}
 use Rattle.gj_top.proofs.Sound.{sound}
-use Rattle.gj_top.proofs.TextLaws.{function_is_bounded, minimal_proof, not_minimal_proof, one_proof, proof_text_is_short, no_failure}
+use Rattle.gj_top.proofs.TextLaws.{function_is_bounded, minimal_proof, not_minimal_proof, one_proof, proof_text_is_short}
 
 -- the text is the proof of a claim of which every rule holds
 record IsGoodProof (text : List ℕ) : Type 0 where

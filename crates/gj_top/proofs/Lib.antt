@@ -2,8 +2,9 @@ pub mod Accepted
 pub mod Clauses
 pub mod Commands
 pub mod Ends
-pub mod InputRead
 pub mod GridCoordinates
+pub mod InputRead
+pub mod Refusals
 pub mod Shown
 pub mod Sound
 pub mod TextLaws

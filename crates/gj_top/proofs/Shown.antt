@@ -13,7 +13,7 @@ use Rattle.gj_top.specs.Answer.{IsAnswerTo}
 use Rattle.gj_top.specs.Answer.IsAnswerTo.{too_long, refused, replied}
 use Rattle.gj_top.proofs.Clauses.{done_reply}
 use Rattle.gj_top.proofs.Sound.{sound}
-use Rattle.gj_top.proofs.TextLaws.{function_is_bounded, one_function, canonical_text_is_read, one_canonical, canonical_text_is_short}
+use Rattle.gj_top.proofs.TextLaws.{function_is_bounded, one_function, canonical_text_is_read, one_canonical, shown_text_is_short}
 
 -- what is shown is a function text of the function that was read
 pub shown_is_read : (input text : List ℕ) → IsReply show input end.Done text →
@@ -39,7 +39,7 @@ shown_again_reply input text again e r q =
 again_by_reply : (input text again : List ℕ) (s : Status) → IsReply show input end.Done text → IsAnswerTo show text s again →
     (s ≡ Done) × (again ≡ text)
 again_by_reply input text again s r (too_long a) =
-    let short = canonical_text_is_short r.thing text (function_is_bounded input r.thing r.spelled) r.replied in
+    let short = shown_text_is_short r.thing text (function_is_bounded input r.thing r.spelled) r.replied in
     let long = a.long in
     absurd (omega arith)
 again_by_reply input text again s r (refused a) =

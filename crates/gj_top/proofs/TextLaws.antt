@@ -1,23 +1,20 @@
 -- What the commands use of the laws of function texts, proof texts and the checker's rules.
-use Rattle.std.proofs.Common.{◌≡◌, ℕ, ◌≤◌, List, [], length, refl, subst}
-use Rattle.std.proofs.lemmas.List.{append-nil}
+use Rattle.std.proofs.Common.{◌≡◌, ℕ, ◌≤◌, List, length}
 use Rattle.gj_lex.specs.declared.reason.Reason.{Reason}
 use Rattle.gj_shape.specs.FunctionData.{FunctionData, IsWithinBounds}
 use Rattle.gj_shape.specs.declared.violations.Violation.{Violation}
-use Rattle.gj_ftext.specs.Lines.IsSkippedText.{nothing}
-use Rattle.gj_ftext.specs.FunctionText.{IsFunctionText, IsWholeFunctionText, IsCanonicalText}
+use Rattle.gj_ftext.specs.FunctionText.{IsWholeFunctionText, IsCanonicalText}
 use Rattle.gj_ftext.specs.FirstFault.{IsFirstFaultOfWhole}
-use Rattle.gj_ftext.proofs.Canonical.{canonical_text_is_function_text}
+use Rattle.gj_ftext.proofs.Canonical.{canonical_text_is_whole, canonical_text_is_short}
+use Rattle.gj_ftext.proofs.FunctionTexts.{whole_parts}
 use Rattle.gj_ftext.proofs.OneCanonical.{one_canonical_text}
 use Rattle.gj_ftext.proofs.OneText.{one_whole_function, no_fault_of_whole}
 use Rattle.gj_proof.specs.ProofText.{IsProofText}
 use Rattle.gj_proof.specs.FirstFault.{IsFirstFault}
-use Rattle.gj_proof.specs.Rules.{MeetsRules}
 use Rattle.gj_proof.specs.declared.claim.Claim.{Claim}
 use Rattle.gj_proof.specs.declared.claim.Claim.TheVariants.{Minimal, NotMinimal}
-use Rattle.gj_proof.proofs.OneText.{one_claim, no_fault_at}
-use Rattle.gj_check.specs.declared.rules.CheckRule.{CheckRule}
-use Rattle.gj_check.specs.FirstFailure.{IsFirstFailure}
+use Rattle.gj_proof.proofs.OneText.{one_claim, no_fault}
+use Rattle.gj_proof.proofs.ShortTexts.{text_is_short}
 use Rattle.gj_top.specs.Forms.{IsProofOf}
 
 -- ---- function texts
@@ -26,45 +23,35 @@ pub one_function : (input : List ℕ) (f g : FunctionData) → IsWholeFunctionTe
 one_function = one_whole_function
 
 pub function_is_bounded : (input : List ℕ) (f : FunctionData) → IsWholeFunctionText input f → IsWithinBounds f
-function_is_bounded input f whole = whole.function_text.within
+function_is_bounded input f whole = (whole_parts input f whole).within
 
 pub function_text_has_no_fault : (input : List ℕ) (f : FunctionData) (n : ℕ) (reason : Reason) → IsWholeFunctionText input f →
     IsFirstFaultOfWhole input n reason → ⊥
 function_text_has_no_fault = no_fault_of_whole
 
 pub canonical_text_is_read : (f : FunctionData) (text : List ℕ) → IsWithinBounds f → IsCanonicalText text f → IsWholeFunctionText text f
-canonical_text_is_read f text within canonical = record {
-  rest = [];
-  function_text = subst (λ (t : List ℕ). IsFunctionText t f []) (append-nil text) (canonical_text_is_function_text f text [] within canonical);
-  skipped = nothing [] refl;
-}
+canonical_text_is_read = canonical_text_is_whole
 
 pub one_canonical : (f : FunctionData) (a b : List ℕ) → IsWithinBounds f → IsCanonicalText a f → IsCanonicalText b f → a ≡ b
 one_canonical = one_canonical_text
 
-pub canonical_text_is_short : (f : FunctionData) (text : List ℕ) → IsWithinBounds f → IsCanonicalText text f → length text ≤ 1000000
-canonical_text_is_short f text within spelled = ?
+pub shown_text_is_short : (f : FunctionData) (text : List ℕ) → IsWithinBounds f → IsCanonicalText text f → length text ≤ 1000000
+shown_text_is_short = canonical_text_is_short
 
 -- ---- proof texts
 
 pub minimal_proof : (f : FunctionData) (text : List ℕ) → IsWithinBounds f → IsProofText (Minimal f) text → IsProofOf text (Minimal f)
-minimal_proof f text within spelled = record { kept = (within, tt); spelled = spelled }
+minimal_proof f text within spelled = record { bounded = within; spelled = spelled }
 
 pub not_minimal_proof : (f : FunctionData) (v : Violation) (text : List ℕ) → IsWithinBounds f → IsProofText (NotMinimal f v) text →
     IsProofOf text (NotMinimal f v)
-not_minimal_proof f v text within spelled = record { kept = (within, tt); spelled = spelled }
+not_minimal_proof f v text within spelled = record { bounded = within; spelled = spelled }
 
 pub one_proof : (text : List ℕ) (c d : Claim) → IsProofOf text c → IsProofOf text d → c ≡ d
-one_proof text c d p q = one_claim c d text p.kept q.kept p.spelled q.spelled
+one_proof text c d p q = one_claim c d text p.bounded q.bounded p.spelled q.spelled
 
 pub proof_text_has_no_fault : (text : List ℕ) (c : Claim) (n : ℕ) (reason : Reason) → IsProofOf text c → IsFirstFault text n reason → ⊥
-proof_text_has_no_fault text c n reason p fault = no_fault_at c text fault.rest reason p.kept p.spelled fault.fault
+proof_text_has_no_fault text c n reason p fault = no_fault c text n reason p.bounded p.spelled fault
 
 pub proof_text_is_short : (text : List ℕ) (c : Claim) → IsProofOf text c → length text ≤ 1000000
-proof_text_is_short text c p = ?
-
--- ---- the checker's rules: where every one holds, none fails
-
-pub no_failure : (c : Claim) (n : ℕ) (rule : CheckRule) → IsFirstFailure c n rule → MeetsRules c → ⊥
-no_failure (Minimal f) n rule h rules = h.2 rules
-no_failure (NotMinimal f v) n rule h rules = h.2 rules
+proof_text_is_short text c p = text_is_short c text p.bounded p.spelled

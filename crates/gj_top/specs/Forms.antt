@@ -6,7 +6,7 @@ use Rattle.gj_shape.specs.FunctionData.{FunctionData}
 use Rattle.gj_lines.specs.FunctionLines.{line}
 use Rattle.gj_ftext.specs.FunctionText.{IsWholeFunctionText}
 use Rattle.gj_ftext.specs.FirstFault.{IsFirstFaultOfWhole}
-use Rattle.gj_proof.specs.ProofText.{IsKept, IsProofText}
+use Rattle.gj_proof.specs.ProofText.{IsBounded, IsProofText}
 use Rattle.gj_proof.specs.FirstFault.{IsFirstFault}
 use Rattle.gj_proof.specs.declared.claim.Claim.{Claim}
 use Rattle.gj_top.specs.declared.reply.Unanswered.{Unanswered}
@@ -36,7 +36,7 @@ function_text = reading IsWholeFunctionText (λ input text. NamesFault (IsFirstF
 
 -- the input is the proof text of a claim about a function within the limits
 pub record IsProofOf (input : List ℕ) (c : Claim) : Type 0 where
-  pub kept : IsKept c
+  pub bounded : IsBounded c
   pub spelled : IsProofText c input
 
 -- proof text

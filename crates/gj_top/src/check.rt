@@ -1,6 +1,6 @@
 //! The command `check`: what the checker says of a proof text.
 ghost use Rattle.std.specs.Prelude.{◌≡◌, IfOk};
-ghost use Rattle.gj_proof.specs.ProofText.{IsKept};
+ghost use Rattle.gj_proof.specs.ProofText.{IsBounded};
 ghost use Rattle.gj_top.specs.Task.{IsAnswering};
 ghost use Rattle.gj_top.specs.Check.{IsJudgement, accepted_line, check};
 
@@ -21,7 +21,7 @@ pub(crate) fn reply(alloc: Global, input: &[u8]) -> Result<Reply, Unanswered>
 
 /// What the checker says of the proof.
 fn judgement(alloc: Global, proof: &Proof) -> Result<Reply, AllocError>
-    requires { IsKept proof.now }
+    requires { IsBounded proof.now }
     ensures { IfOk result (λ reply. IsJudgement proof.now reply.end reply.text.items) }
 {
     match check(alloc, proof) {

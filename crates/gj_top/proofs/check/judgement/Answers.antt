@@ -1,6 +1,6 @@
 use Rattle.std.proofs.Common.{refl, ap, ◌∙◌}
 use Rattle.gj_proof.specs.Rules.{MeetsRules}
-use Rattle.gj_check.proofs.Meanings.{meaning_of_rules}
+use Rattle.gj_check.proofs.RulesGiveMeaning.{meaning_of_rules}
 use Rattle.gj_top.specs.Check.{accepted_line}
 use Rattle.gj_top.proofs.check.judgement.Goals as goal
 
@@ -9,6 +9,6 @@ returns-in_ok-accepted-in-Ok c =
     let rules : MeetsRules c.args.proof.now = c.in-Ok.ensures.ok.0 refl in
     record {
       rules = rules;
-      holds = meaning_of_rules c.args.proof.now c.requires.0 rules;
+      holds = meaning_of_rules c.args.proof.now c.requires rules;
       spelled = c.in_ok-accepted-in-Ok.ensures ∙ ap accepted_line c.claim.ensures.claim;
     }
