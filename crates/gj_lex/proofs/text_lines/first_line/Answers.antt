@@ -1,7 +1,3 @@
-use Rattle.std.proofs.Common.{sym, subst}
-use Rattle.gj_lex.specs.Lines.{rest_of}
-use Rattle.gj_lex.specs.Words.{word_texts}
-use Rattle.gj_lex.specs.TextLines.{HasFirstWords}
 use Rattle.gj_lex.proofs.CursorLines.{words_of_ended, words_of_last}
 use Rattle.gj_lex.proofs.text_lines.first_line.Goals as goal
 use Rattle.gj_lex.proofs.text_lines.first_line.Goals.{then-len-start, else-len-start}
