@@ -9,6 +9,8 @@ returns-clause-words c =
     let start = c.rest-start.result.now in
     let given = c.in_ok-span.ensures in
     elim c.if-len-start.branch [
-      | then-len-start w ↦ rw w.bytes-is (words_of_ended old new c.in_ok-span.span start _ c.rest-start.ensures given.line given.rest w.if-len-start.true w.without_return-bytes.ensures)
-      | else-len-start w ↦ rw w.bytes-is (words_of_last old new c.in_ok-span.span start c.rest-start.ensures given.line given.rest w.if-len-start.false)
+      | then-len-start w ↦ rw w.bytes-is
+          (words_of_ended old new c.in_ok-span.span start _ c.rest-start.ensures given.line given.rest w.if-len-start.true w.without_return-bytes.ensures)
+      | else-len-start w ↦ rw w.bytes-is
+          (words_of_last old new c.in_ok-span.span start c.rest-start.ensures given.line given.rest w.if-len-start.false)
     ]
