@@ -1,5 +1,5 @@
 -- A canonical text is a function text, and short.
-use Rattle.std.proofs.Common.{◌≡◌, ℕ, List, [], ◌∷◌, ◌++◌, codes, refl, sym, ap, subst, ◌∙◌, ◌+◌, ◌≤◌, length, length-append, append-nil, arith}
+use Rattle.std.proofs.Common.{◌≡◌, ℕ, List, [], ◌∷◌, ◌++◌, codes, refl, ap, subst, ◌∙◌, ◌+◌, ◌≤◌, length, length-append, append-nil, arith}
 use Rattle.std.proofs.lemmas.List.{append_assoc}
 use Rattle.gj_lex.specs.declared.spelling.Spelling.TheVariants.{Lenient}
 use Rattle.gj_lex.specs.TextLines.IsSkippedText.{nothing}
@@ -8,7 +8,7 @@ use Rattle.gj_shape.specs.FunctionData.{FunctionData, IsWithinBounds}
 use Rattle.gj_lines.specs.FunctionLines.{line}
 use Rattle.gj_lines.proofs.CanonicalFunctions.{canonical_lines_are_read}
 use Rattle.gj_lines.proofs.StrictFunctions.{function_lines_are_short}
-use Rattle.gj_ftext.specs.FunctionText.{title_words, end_words, function_text, IsFunctionText, IsWholeFunctionText, IsCanonicalText}
+use Rattle.gj_ftext.specs.FunctionText.{IsFunctionText, IsWholeFunctionText, IsCanonicalText}
 use Rattle.gj_ftext.proofs.FunctionTexts.{whole_text}
 
 regrouped : (title lines end after : List ℕ) → (title ++ lines ++ end) ++ after ≡ title ++ (lines ++ (end ++ after))

@@ -1,5 +1,5 @@
 -- How the lines that were read make a function text, and a fault of theirs one of the text.
-use Rattle.std.proofs.Common.{◌≡◌, ℕ, List, length, refl, sym, subst}
+use Rattle.std.proofs.Common.{ℕ, List, refl, sym, subst}
 use Rattle.gj_lex.specs.declared.fault.PartFault.{PartFault}
 use Rattle.gj_lex.specs.declared.spelling.Spelling.TheVariants.{Lenient}
 use Rattle.gj_lex.specs.Parts.{words_rule, Part, line_part, empty_part, then_part, end_part, IsFaultOf, IsTail}

@@ -1,21 +1,20 @@
 -- A function text has the lines of its function, and a text that has them is one.
-use Rattle.std.proofs.Common.{◌≡◌, inl, inr, ℕ, zero, suc, pos, List, [], ◌∷◌, ◌++◌, length, map, refl, sym, ap, subst, subst₂, ◌∙◌, append-nil, append_assoc}
+use Rattle.std.proofs.Common.{◌≡◌, ℕ, zero, suc, pos, List, [], ◌∷◌, ◌++◌, length, map, refl, sym, ap, subst, subst₂, ◌∙◌, append-nil, append_assoc}
 use Rattle.std.specs.List.{AllZip}
 use Rattle.std.proofs.lemmas.Grind.{flat_map-append}
-use Rattle.gj_frac.specs.declared.Frac.{Frac}
 use Rattle.gj_frac.specs.Fraction.{IsRatio}
 use Rattle.gj_lex.specs.SpelledNumbers.{IsCountWord}
 use Rattle.gj_lex.specs.TextLines.{HasLines, HasNextLine}
 use Rattle.gj_lex.specs.declared.spelling.Spelling.TheVariants.{Lenient}
-use Rattle.gj_shape.specs.FunctionData.{FunctionData, IsWithinBounds}
-use Rattle.gj_shape.specs.Given.{AreWithinBounds, IsGivenBy}
-use Rattle.gj_shape.specs.Points.{lefts, values, rights, fractions_of, all_fractions, ArePointsOf}
+use Rattle.gj_shape.specs.FunctionData.{FunctionData}
+use Rattle.gj_shape.specs.Given.{AreWithinBounds}
+use Rattle.gj_shape.specs.Points.{fractions_of, all_fractions, ArePointsOf}
 use Rattle.gj_shape.specs.declared.points.Point.{Point}
 use Rattle.gj_shape.proofs.GivenPoints.{given_by_points, points_given, good_points, count_of_points}
 use Rattle.gj_shape.proofs.LeastDenominator.{within_bounds_closed}
-use Rattle.gj_lines.specs.FunctionGrammar.{SpellPoint, ArePointWords, order_words, place_words, point_words, points_part, function_part}
+use Rattle.gj_lines.specs.FunctionGrammar.{SpellPoint, ArePointWords, order_words, place_words, point_words, points_part}
 use Rattle.gj_ftext.specs.FunctionText.{title_words, end_words, IsFunctionText}
-use Rattle.gj_ftext.specs.LinesOfFunction.{AreLinesOf, HasLinesOfFunction}
+use Rattle.gj_ftext.specs.LinesOfFunction.{HasLinesOfFunction}
 
 -- ---- lines, one after the other
 

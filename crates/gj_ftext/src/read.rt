@@ -18,7 +18,7 @@ use std::alloc::Global;
 /// ```text
 /// let bytes = b"# a comment\ngj-function 1\norder 2\nf 0.5\npoint 0\npoint +1\nend\n";
 /// let (shape, len) = read_function(alloc, bytes)?;
-/// // shape is the function of order 2 with f = 1/2 that is 0 at 0 and 1 at 1/2; len is 62
+/// // shape is the function of order 2 with f = 1/2 that is 0 at 0 and 1 at 1/2; len is 61
 /// ```
 pub fn read_function(alloc: Global, bytes: &[u8]) -> Result<(Shape, usize), TextFault>
     // What is read is spelled so.

@@ -160,11 +160,16 @@ slash_after_digits (c ∷ cs) bs d h =
     rw no_slash (omega (arith, slash_after_digits cs bs d.1 h))
 
 -- the numerator of a canonical text ends at its first `/`
-numerator_ends : (n : ℤ) (d : ℕ) → unsigned_abs n < 2 ^ 127 → 0 < d → position_or_len is_slash (signed_decimal n ++ denominator_text d) ≡ length (signed_decimal n)
+numerator_ends : (n : ℤ) (d : ℕ) → unsigned_abs n < 2 ^ 127 → 0 < d →
+    position_or_len is_slash (signed_decimal n ++ denominator_text d) ≡ length (signed_decimal n)
 numerator_ends (pos n) d small some =
     slash_after_digits (decimal n) (denominator_text d) (decimal_is_IsNumeral_wide n (omega arith)).0.1 (denominator_begins d some)
 numerator_ends (negsuc n) d small some =
-    omega (arith, slash_after_digits (decimal (suc n)) (denominator_text d) (decimal_is_IsNumeral_wide (suc n) (omega arith)).0.1 (denominator_begins d some))
+    omega (
+      arith,
+      slash_after_digits (decimal (suc n)) (denominator_text d) (decimal_is_IsNumeral_wide (suc n) (omega arith)).0.1
+          (denominator_begins d some),
+    )
 
 -- the two parts of a canonical text are what stands before its first `/` and what begins there
 pub parts_of_text : (word : List ℕ) (n d : ℤ) → unsigned_abs n < 2 ^ 127 → pos 0 <ℤ d → word ≡ ratio_text n d →

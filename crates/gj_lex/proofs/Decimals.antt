@@ -15,7 +15,8 @@ value_after_at_least n [] = omega arith
 value_after_at_least n (c ∷ cs) = omega (arith, value_after_at_least (n * 10 + digit_value c) cs)
 
 -- digits after those of a number above 0 are the last digits of the number that they make
-decimal_of_value_after : (n : ℕ) (ds : List ℕ) → 0 < n → AllDigits 10 ds → digits_value_after 10 n ds < 10 ^ 64 → decimal (digits_value_after 10 n ds) ≡ decimal n ++ ds
+decimal_of_value_after : (n : ℕ) (ds : List ℕ) → 0 < n → AllDigits 10 ds → digits_value_after 10 n ds < 10 ^ 64 →
+    decimal (digits_value_after 10 n ds) ≡ decimal n ++ ds
 decimal_of_value_after n [] some d small = sym (append-nil (decimal n))
 decimal_of_value_after n (c ∷ cs) some d small =
     let m : ℕ = n * 10 + digit_value c in
@@ -27,7 +28,8 @@ decimal_of_value_after n (c ∷ cs) some d small =
     ∙ append_assoc (decimal n) (c ∷ []) cs
 
 -- digits with no leading zero, or `0` alone, are the digits of their value
-pub decimal_of_value : (ds : List ℕ) → AllDigits 10 ds → 0 < length ds → (get_or ds 0 0 ≡ 48 → length ds ≡ 1) → digits_value 10 ds < 10 ^ 64 → decimal (digits_value 10 ds) ≡ ds
+pub decimal_of_value : (ds : List ℕ) → AllDigits 10 ds → 0 < length ds → (get_or ds 0 0 ≡ 48 → length ds ≡ 1) →
+    digits_value 10 ds < 10 ^ 64 → decimal (digits_value 10 ds) ≡ ds
 decimal_of_value [] d some lead small = absurd (omega arith)
 decimal_of_value (c ∷ []) d some lead small =
     let k = digit_value_digit c (digit_from_value c d.0) in
@@ -82,7 +84,8 @@ value_after_append n (c ∷ cs) ys = value_after_append (n * 10 + digit_value c)
 -- the first digits make no larger number
 value_after_take_le : (n : ℕ) (bs : List ℕ) (i : ℕ) → digits_value_after 10 n (take i bs) ≤ digits_value_after 10 n bs
 value_after_take_le n bs i =
-    let parts : digits_value_after 10 n (take i bs ++ drop i bs) ≡ digits_value_after 10 n bs = ap (digits_value_after 10 n) (take-append-drop i bs) in
+    let parts : digits_value_after 10 n (take i bs ++ drop i bs) ≡ digits_value_after 10 n bs = ap (digits_value_after 10 n)
+    (take-append-drop i bs) in
     omega (arith, value_after_at_least (digits_value_after 10 n (take i bs)) (drop i bs), value_after_append n (take i bs) (drop i bs))
 
 -- where a byte is no digit, or the number so far is too large with it, the whole word is no number
@@ -93,7 +96,8 @@ pub no_number_from_there : (start : ℕ) (word : List ℕ) (i front limit : ℕ)
 no_number_from_there start word i front limit l is refuted (d, small) =
     let r = digit_at word i d l in
     let k = digit_value_digit (get_or word i 0) r in
-    let step : digits_value_after 10 start (take (i + 1) word) ≡ front * 10 + digit_value (get_or word i 0) = value_after_more start word i l ∙ ap (λ v. v * 10 + digit_value (get_or word i 0)) (sym is) in
+    let step : digits_value_after 10 start (take (i + 1) word) ≡ front * 10 + digit_value
+    (get_or word i 0) = value_after_more start word i l ∙ ap (λ v. v * 10 + digit_value (get_or word i 0)) (sym is) in
     refuted (omega arith, omega (arith, step, value_after_take_le start word (i + 1)))
 
 -- a number of 128 bits has a digit
@@ -109,7 +113,8 @@ pub length-decimal-step : (n : ℕ) → 10 ≤ n → n < 2 ^ 128 → length (dec
 length-decimal-step n large small = ap length (decimal_step_wide n large (omega arith)) ∙ length-append (decimal (n / 10)) ((48 + n % 10) ∷ [])
 
 -- a byte written just before what is written
-pub written_before : (text : List ℕ) (start byte : ℕ) → 0 < start → start ≤ length text → drop (start - 1) (set text (start - 1) byte) ≡ byte ∷ drop start text
+pub written_before : (text : List ℕ) (start byte : ℕ) → 0 < start → start ≤ length text →
+    drop (start - 1) (set text (start - 1) byte) ≡ byte ∷ drop start text
 written_before text start byte some within =
     let after : start - 1 + 1 ≡ start = omega arith in
     drop-set text (start - 1) byte (omega arith) ∙ ap (λ k. byte ∷ drop k text) after

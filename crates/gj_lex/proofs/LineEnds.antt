@@ -18,7 +18,8 @@ line_at_feed source start h = record {
   ended = λ high. let passes = passes_there is_line_feed source start high in grind (arith, nat_tests);
 }
 
-pub line_at : (source : List ℕ) (start end : ℕ) → start ≤ length source → end ≡ start + position_or_len is_line_feed (drop start source) → IsLine source start end
+pub line_at : (source : List ℕ) (start end : ℕ) → start ≤ length source → end ≡ start + position_or_len is_line_feed (drop start source) →
+    IsLine source start end
 line_at source start end h e = subst (IsLine source start) (sym e) (line_at_feed source start h)
 
 -- what a cursor gives that stands at a byte of its source
@@ -47,7 +48,8 @@ feed_at : (source : List ℕ) (start end : ℕ) → IsLine source start end → 
 feed_at source start end line =
     position_or_len_is is_line_feed (drop start source) (end - start) 0
     (omega (arith, length-drop start source, line.ordered, line.within))
-    (λ k low. no_feed (get_or source (start + k) 0) (line.unbroken (start + k) (omega arith) (omega (arith, line.ordered))) (get_or (drop start source) k 0) (get_or-drop start source k 0))
+    (λ k low. no_feed (get_or source (start + k) 0) (line.unbroken (start + k) (omega arith) (omega (arith, line.ordered)))
+    (get_or (drop start source) k 0) (get_or-drop start source k 0))
     (λ high.
     let same : start + (end - start) ≡ end = omega (arith, line.ordered) in
     let last : get_or (drop start source) (end - start) 0 ≡ 10 =

@@ -1,9 +1,8 @@
 -- The number of a line, and where it begins.
-use Rattle.std.proofs.Common.{◌≡◌, ℕ, ◌+◌, ◌-◌, ◌≤◌, List, ◌++◌, length, take, drop, refl, sym, ap, subst, ◌∙◌, arith, length-append, take-append-drop}
+use Rattle.std.proofs.Common.{◌≡◌, ℕ, ◌+◌, ◌-◌, ◌≤◌, List, ◌++◌, length, take, drop, refl, ap, subst, ◌∙◌, arith, length-append, take-append-drop}
 use Rattle.std.proofs.lemmas.List.{drop_at}
 use Rattle.std.proofs.lemmas.List.Sums.{sum_by-append}
 use Rattle.gj_lex.specs.declared.reason.Reason.{Reason}
-use Rattle.gj_lex.specs.declared.fault.PartFault.{PartFault}
 use Rattle.gj_lex.specs.declared.fault.PartFault.TheVariants.{Refused}
 use Rattle.gj_lex.specs.TextLines.{line_feeds, IsLineNumber}
 use Rattle.gj_lex.specs.Parts.{Part, IsExactPart, IsFaultOf, IsFirstFaultIn}

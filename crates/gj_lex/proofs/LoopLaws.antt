@@ -1,5 +1,5 @@
 -- Parts that are read in turn are exact where each is.
-use Rattle.std.proofs.Common.{◌≡◌, ◌⊎◌, inl, inr, ℕ, List, [], ◌∷◌, ◌++◌, refl, sym, ap, subst, ◌∙◌}
+use Rattle.std.proofs.Common.{◌≡◌, ◌⊎◌, inl, inr, ℕ, List, ◌++◌, sym, subst}
 use Rattle.gj_lex.specs.declared.reason.Reason.{Reason}
 use Rattle.gj_lex.specs.declared.fault.PartFault.{PartFault}
 use Rattle.gj_lex.specs.declared.fault.PartFault.TheVariants.{Refused, Memory}

@@ -47,7 +47,8 @@ pub number_only : (word : List ℕ) (minus : Bool) (top bottom : ℕ) (a b : ℤ
 number_only word minus top bottom a b None minus_is top_is bottom_is none is n d t same same' =
     let small = with_sign_small minus t.top t.top_fits in
     absurd
-    (makes_fraction a b d (subst (λ z. unsigned_abs z < 2 ^ 127) (sym (top_is ∙ ap (with_sign minus) same)) small) (bottom_is ∙ ap pos same') t.bottom_some t.bottom_fits (none refl))
+    (makes_fraction a b d (subst (λ z. unsigned_abs z < 2 ^ 127) (sym (top_is ∙ ap (with_sign minus) same)) small)
+    (bottom_is ∙ ap pos same') t.bottom_some t.bottom_fits (none refl))
 number_only word minus top bottom a b (Some x) minus_is top_is bottom_is none is n d t same same' =
     let top_same : a ≡ n = top_is ∙ ap (with_sign minus) same ∙ ap (λ m. with_sign m t.top) minus_is ∙ sym t.value in
     subst (λ z. IsRatio x z (pos d)) top_same (subst (IsRatio x a) (bottom_is ∙ ap pos same') is)

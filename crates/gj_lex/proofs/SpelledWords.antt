@@ -1,5 +1,5 @@
 -- A word spells one fraction and one count; canonical words are lenient ones, and short.
-use Rattle.std.proofs.Common.{◌≡◌, ◌≢◌, ◌↔◌, inl, inr, ℕ, zero, suc, ◌+◌, ◌<◌, ◌≤◌, ◌^◌, ℤ, pos, negsuc, neg_ℤ, unsigned_abs, if◌then◌else◌, Bool, true, false, not, IsTrue, Option, None, Some, IfNone, IsSomeAnd, List, [], ◌∷◌, ◌++◌, length, get_or, decimal, refl, sym, ap, subst, ◌∙◌, arith, append-nil, length-append}
+use Rattle.std.proofs.Common.{◌≡◌, ◌↔◌, ℕ, zero, suc, ◌<◌, ◌≤◌, ◌^◌, ℤ, pos, negsuc, neg_ℤ, unsigned_abs, if◌then◌else◌, Bool, true, false, not, IsTrue, Option, None, Some, IfNone, IsSomeAnd, List, [], ◌∷◌, ◌++◌, length, get_or, decimal, refl, sym, ap, subst, ◌∙◌, arith, append-nil, length-append}
 use Rattle.std.specs.List.{All}
 use Rattle.std.specs.Char.{IsAsciiDigit, digit_value}
 use Rattle.std.specs.Fmt.{signed_decimal}

@@ -1,15 +1,15 @@
 -- The lines of a strict text: each is determined, has its words, and is a lenient line.
-use Rattle.std.proofs.Common.{◌≡◌, ◌≢◌, ℕ, zero, suc, ◌+◌, ◌-◌, ◌<◌, ◌≤◌, Bool, true, false, List, [], ◌∷◌, ◌++◌, length, get_or, take, drop, None, Some, refl, sym, ◌∙◌, ap, subst, arith, append-nil, append_assoc, length-append}
+use Rattle.std.proofs.Common.{◌≡◌, ◌≢◌, ℕ, zero, suc, ◌+◌, ◌-◌, ◌<◌, Bool, false, List, [], ◌∷◌, ◌++◌, length, get_or, take, drop, None, Some, refl, sym, ◌∙◌, ap, subst, arith, append-nil, append_assoc, length-append}
 use Rattle.std.specs.List.{All, join_with_byte, slice_split, position}
 use Rattle.std.proofs.Math.Dec.{eqb}
-use Rattle.std.proofs.lemmas.Bool.{ne_eqb, eq-eqb}
+use Rattle.std.proofs.lemmas.Bool.{ne_eqb}
 use Rattle.std.proofs.Math.Seq.{get_or-append_seam}
 use Rattle.std.proofs.lemmas.List.Elements.{All-nil, All-cons, All-head, All-tail, All-append, All-same, All-weaker}
 use Rattle.std.proofs.lemmas.List.Splits.{slice_split_none, slice_split_at, length-slice_split, join_with_byte-slice_split}
 use Rattle.gj_lex.specs.Lines.{is_line_feed}
 use Rattle.gj_lex.specs.Words.{is_blank, word_texts}
 use Rattle.gj_lex.specs.NumberText.{IsWordByte}
-use Rattle.gj_lex.specs.TextLines.{IsInWord, IsWord, HasStrictLine, HasNextLine, IsSkipped, HasFirstWords}
+use Rattle.gj_lex.specs.TextLines.{IsInWord, IsWord, HasStrictLine, HasNextLine, IsSkipped}
 use Rattle.gj_lex.specs.TextLines.IsFirstLine.{ended}
 use Rattle.gj_lex.specs.TextLines.AreBytesOf.{kept}
 use Rattle.gj_lex.specs.TextLines.HasNextLine.{here}

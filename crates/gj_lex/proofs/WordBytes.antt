@@ -54,7 +54,8 @@ denominator_bytes (suc (suc d)) small =
 -- a canonical text has digits, a `-` and a `/` in it, and nothing else
 pub fraction_bytes : (x : Frac) → All IsNumberByte (fraction_text x)
 fraction_bytes x =
-    All-append IsNumberByte (signed_decimal x.num) (denominator_text (unsigned_abs x.den)) (signed_bytes x.num x.lowest.num_fits) (denominator_bytes (unsigned_abs x.den) x.lowest.den_fits)
+    All-append IsNumberByte (signed_decimal x.num) (denominator_text (unsigned_abs x.den)) (signed_bytes x.num x.lowest.num_fits)
+    (denominator_bytes (unsigned_abs x.den) x.lowest.den_fits)
 
 -- a numerator is not empty
 signed_some : (n : ℤ) → unsigned_abs n < 2 ^ 127 → 0 < length (signed_decimal n)

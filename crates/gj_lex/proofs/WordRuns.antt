@@ -44,7 +44,8 @@ pub word_at : (line : List ℕ) (from start end : ℕ) → start ≡ from + posi
     end ≡ start + position_or_len is_blank (drop start line) → IsNextWord line from start end
 word_at line from start end start_is high end_is =
     let first : is_blank (get_or line start 0) ≡ false =
-    not_blank (is_blank (get_or line start 0)) (ap (λ i. is_word_byte (get_or line i 0)) start_is ∙ passes_there is_word_byte line from (omega arith)) in
+    not_blank (is_blank (get_or line start 0))
+    (ap (λ i. is_word_byte (get_or line i 0)) start_is ∙ passes_there is_word_byte line from (omega arith)) in
     let longer : start < end = word_is_longer line start end high first end_is in
     record {
       behind = omega arith;

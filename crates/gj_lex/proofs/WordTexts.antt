@@ -40,7 +40,8 @@ take_word word (b ∷ bs) some whole ended =
 drop_parts : (line : List ℕ) (from to : ℕ) → from ≤ to → drop from line ≡ slice_range line from to ++ drop to line
 drop_parts line from to h =
     let same : from + (to - from) ≡ to = omega arith in
-    sym (ap (λ bs. slice_range line from to ++ bs) (sym (drop-drop (to - from) from line ∙ ap (λ k. drop k line) same)) ∙ take-append-drop (to - from) (drop from line))
+    sym (ap (λ bs. slice_range line from to ++ bs) (sym (drop-drop (to - from) from line ∙ ap (λ k. drop k line) same))
+    ∙ take-append-drop (to - from) (drop from line))
 
 -- the bytes between two places
 all_between : (p : ℕ → Bool) (v : Bool) (line : List ℕ) (from to : ℕ) → to ≤ length line → ((k : ℕ) → from ≤ k → k < to → p (get_or line k 0) ≡ v) →

@@ -41,7 +41,8 @@ no_mark_in_digits (c ∷ cs) d =
     let r = digit_from_value c d.0 in
     rw (digit_no_mark c (omega arith)) (omega (arith, no_mark_in_digits cs d.1))
 
-module _ (word front back : List ℕ) (k : ℕ) (at : k ≡ position_or_len is_mark word) (front_is : front ≡ take k word) (back_is : back ≡ drop k word) where
+module _ (word front back : List ℕ) (k : ℕ) (at : k ≡ position_or_len is_mark word) (front_is : front ≡ take k word)
+    (back_is : back ≡ drop k word) where
   -- the two parts are those of the number that the word writes
   parts_at : (xs ys : List ℕ) → word ≡ xs ++ ys → k ≡ length xs → (front ≡ xs) × (back ≡ ys)
   parts_at xs ys e here = (
@@ -78,7 +79,8 @@ module _ (word front back : List ℕ) (k : ℕ) (at : k ≡ position_or_len is_m
       let long : k < length word = omega (arith, ap length (sym back_is ∙ e), length-drop k word) in
       let passes = passes_at_first is_mark word 0 (omega arith) in
       let first : get_or word (position_or_len is_mark word) 0 ≡ m =
-      ap (λ i. get_or word i 0) (sym at) ∙ sym (get_or-drop k word 0 0 ∙ ap (λ i. get_or word i 0) (add-zero k)) ∙ ap (λ zs. get_or zs 0 0) (sym back_is ∙ e) in
+      ap (λ i. get_or word i 0) (sym at) ∙ sym (get_or-drop k word 0 0 ∙ ap (λ i. get_or word i 0) (add-zero k))
+      ∙ ap (λ zs. get_or zs 0 0) (sym back_is ∙ e) in
       ap is_mark (sym first) ∙ passes
 
 -- ---- the parts that are read
@@ -106,7 +108,8 @@ point_back front back n e is refuted (digits, small) =
     refuted (digits.1.1, omega (arith, small.0, value_after_append 0 front back, ap (λ k. digits_value_after 10 k back) is))
 
 -- the number of all the digits, read one run after the other
-pub point_value : (front back : List ℕ) (n top : ℕ) → n ≡ digits_value 10 front → top ≡ digits_value_after 10 n back → top ≡ digits_value 10 (front ++ back)
+pub point_value : (front back : List ℕ) (n top : ℕ) → n ≡ digits_value 10 front → top ≡ digits_value_after 10 n back →
+    top ≡ digits_value 10 (front ++ back)
 point_value front back n top is e = e ∙ ap (λ k. digits_value_after 10 k back) is ∙ sym (value_after_append 0 front back)
 
 -- ---- what the parts tell
@@ -148,8 +151,10 @@ Found word r = IfSome r (λ p. IsWritten word p.0 p.1 × (p.0 < 2 ^ 127) × (p.1
 abbrev Only : List ℕ → Option (ℕ × ℕ) → Type 0
 Only word r = (n d : ℕ) → IsWritten word n d → n < 2 ^ 127 → d < 2 ^ 127 → r ≡ Some (n, d)
 
-module _ (word front back : List ℕ) (k : ℕ) (at : k ≡ position_or_len is_mark word) (front_is : front ≡ take k word) (back_is : back ≡ drop k word) where
-  pub whole_only : length back ≡ 0 → (r : Option (ℕ × ℕ)) → SomeIff r (IsNumeral 10 front × (digits_value 10 front < 2 ^ 127)) (digits_value 10 front, 1) → Only word r
+module _ (word front back : List ℕ) (k : ℕ) (at : k ≡ position_or_len is_mark word) (front_is : front ≡ take k word)
+    (back_is : back ≡ drop k word) where
+  pub whole_only : length back ≡ 0 → (r : Option (ℕ × ℕ)) →
+      SomeIff r (IsNumeral 10 front × (digits_value 10 front < 2 ^ 127)) (digits_value 10 front, 1) → Only word r
   whole_only none None h = λ n d written small low.
       let p = one_parts front back n d none (cut word front back k at front_is back_is n d written) in
       absurd (h (p.0, omega (arith, p.1)))
@@ -158,7 +163,8 @@ module _ (word front back : List ℕ) (k : ℕ) (at : k ≡ position_or_len is_m
       let top = p.1 in let bottom = p.2 in let is = h.1 in cc
 
   pub ratio_found : (digits : List ℕ) (m : ℕ) → back ≡ m ∷ digits → m ≡ 47 → (r : Option (ℕ × ℕ)) →
-      SomeIff r ((IsNumeral 10 front × (digits_value 10 front < 2 ^ 127)) × (IsNumeral 10 digits × (digits_value 10 digits < 2 ^ 127))) (digits_value 10 front, digits_value 10 digits) →
+      SomeIff r ((IsNumeral 10 front × (digits_value 10 front < 2 ^ 127)) × (IsNumeral 10 digits × (digits_value 10 digits < 2 ^ 127)))
+      (digits_value 10 front, digits_value 10 digits) →
       Found word r
   ratio_found digits m is mark None h = tt
   ratio_found digits m is mark (Some q) h =
@@ -170,7 +176,8 @@ module _ (word front back : List ℕ) (k : ℕ) (at : k ≡ position_or_len is_m
       )
 
   pub ratio_only : (digits : List ℕ) (m : ℕ) → back ≡ m ∷ digits → m ≡ 47 → (r : Option (ℕ × ℕ)) →
-      SomeIff r ((IsNumeral 10 front × (digits_value 10 front < 2 ^ 127)) × (IsNumeral 10 digits × (digits_value 10 digits < 2 ^ 127))) (digits_value 10 front, digits_value 10 digits) →
+      SomeIff r ((IsNumeral 10 front × (digits_value 10 front < 2 ^ 127)) × (IsNumeral 10 digits × (digits_value 10 digits < 2 ^ 127)))
+      (digits_value 10 front, digits_value 10 digits) →
       Only word r
   ratio_only digits m is mark None h = λ n d written small low.
       let p = slash_parts front back digits n d (is ∙ ap (λ b. b ∷ digits) mark) (cut word front back k at front_is back_is n d written) in
@@ -180,7 +187,8 @@ module _ (word front back : List ℕ) (k : ℕ) (at : k ≡ position_or_len is_m
       let top = p.2 in let bottom = p.3 in let value = h.1 in cc
 
   pub point_found : (digits : List ℕ) (m : ℕ) → back ≡ m ∷ digits → m ≢ 47 → (r : Option (ℕ × ℕ)) →
-      SomeIff r ((IsNumeral 10 front × IsNumeral 10 digits) × ((digits_value 10 (front ++ digits) < 2 ^ 127) × (10 ^ length digits < 2 ^ 127))) (digits_value 10 (front ++ digits), 10 ^ length digits) →
+      SomeIff r ((IsNumeral 10 front × IsNumeral 10 digits) ×
+      ((digits_value 10 (front ++ digits) < 2 ^ 127) × (10 ^ length digits < 2 ^ 127))) (digits_value 10 (front ++ digits), 10 ^ length digits) →
       Found word r
   point_found digits m is other None h = tt
   point_found digits m is other (Some q) h =
@@ -193,7 +201,8 @@ module _ (word front back : List ℕ) (k : ℕ) (at : k ≡ position_or_len is_m
       )
 
   pub point_only : (digits : List ℕ) (m : ℕ) → back ≡ m ∷ digits → m ≢ 47 → (r : Option (ℕ × ℕ)) →
-      SomeIff r ((IsNumeral 10 front × IsNumeral 10 digits) × ((digits_value 10 (front ++ digits) < 2 ^ 127) × (10 ^ length digits < 2 ^ 127))) (digits_value 10 (front ++ digits), 10 ^ length digits) →
+      SomeIff r ((IsNumeral 10 front × IsNumeral 10 digits) ×
+      ((digits_value 10 (front ++ digits) < 2 ^ 127) × (10 ^ length digits < 2 ^ 127))) (digits_value 10 (front ++ digits), 10 ^ length digits) →
       Only word r
   point_only digits m is other None h = λ n d written small low.
       let p = dot_parts front back digits m n d is other (cut word front back k at front_is back_is n d written) in

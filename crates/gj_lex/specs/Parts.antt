@@ -106,6 +106,11 @@ abbrev pub IsFaultOf : {A : Type 0} → Part A → List ℕ → PartFault → Ty
 IsFaultOf p text (Refused left e) = (start : List ℕ) × (left ≡ length start) × p.Faults text start e
 IsFaultOf p text (Memory a) = Unit {0}
 
+-- the fault is no want of memory
+abbrev pub IsRefusal : PartFault → Type 0
+IsRefusal (Refused left e) = Unit {0}
+IsRefusal (Memory a) = ⊥
+
 -- the fault is that the text has no next line
 abbrev pub IsNoLine : Spelling → List ℕ → PartFault → Type 0
 IsNoLine s text (Refused left e) = (start : List ℕ) × (left ≡ length start) × HasNoLine s text start × (e ≡ Form)

@@ -56,8 +56,8 @@ pub record IsWord (word : List ℕ) : Type 0 where
   pub some : 0 < length word
   pub bytes : All IsInWord word
 
--- the text begins with these words, one space between them and an LF behind them, and the rest follows; a CR stands
--- nowhere before that LF
+-- the text begins with these words, one space between them and an LF behind them, and the rest follows; no CR stands
+-- right before that LF
 pub record HasStrictLine (text : List ℕ) (words : List (List ℕ)) (rest : List ℕ) : Type 0 where
   pub some : words ≢ []
   pub are_words : All IsWord words

@@ -5,7 +5,7 @@ ghost use Rattle.std.specs.List.{position, slice_split};
 ghost use Rattle.gj_lex.specs.Lines.{rest_of};
 ghost use Rattle.gj_lex.specs.Words.{word_texts};
 ghost use Rattle.gj_lex.specs.TextLines.{AreBytesOf, HasFirstWords, HasNextLine, IsSkipped, IsSkippedText, HasLine, HasNothing, IsWord, HasStrictLine, IsLineNumber};
-ghost use Rattle.gj_lex.specs.Parts.{line_part, words_rule, IsFaultOf, IsNoLine, IsTail};
+ghost use Rattle.gj_lex.specs.Parts.{line_part, words_rule, IsFaultOf, IsRefusal, IsNoLine, IsTail};
 
 use crate::cursor::{Cursor, first_line_feed};
 use crate::fault::PartFault;
@@ -41,6 +41,7 @@ pub fn line_at(spelling: Spelling, text: &[u8]) -> Result<TextLine<'_>, PartFaul
 pub fn words_at<'a>(spelling: Spelling, text: &'a [u8], words: &[u8]) -> Result<&'a [u8], PartFault>
     ensures found { IfOk result (λ rest. (line_part spelling (words_rule (word_texts words.now))).Reads text.now tt rest.now) }
     ensures fault { IfErr result (IsFaultOf (line_part spelling (words_rule (word_texts words.now))) text.now) }
+    ensures no_memory { IfErr result IsRefusal }
 {
     let line = line_at(spelling, text)?;
     if !has_words(line.bytes, words) {

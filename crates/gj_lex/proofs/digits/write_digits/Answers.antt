@@ -11,7 +11,8 @@ overflow_sub-start c = omega (arith, decimal_some c.loop-rest.rest c.loop-rest.i
 pub returns-then-rest-eq0-clause-written : goal.returns-then-rest-eq0-clause-written
 returns-then-rest-eq0-clause-written c =
     let some = decimal_some c.loop-rest.rest c.loop-rest.invariant.small in
-    sym (c.loop-rest.invariant.written ∙ last_digit_written c.loop-rest.text c.loop-rest.start c.loop-rest.rest (omega arith) (omega arith) (omega arith))
+    sym (c.loop-rest.invariant.written
+    ∙ last_digit_written c.loop-rest.text c.loop-rest.start c.loop-rest.rest (omega arith) (omega arith) (omega arith))
 
 pub returns-then-rest-eq0-clause-room : goal.returns-then-rest-eq0-clause-room
 returns-then-rest-eq0-clause-room c = omega (arith, decimal_some c.loop-rest.rest c.loop-rest.invariant.small)
@@ -23,7 +24,8 @@ pub loop-rest-preserved : goal.loop-rest-preserved
 loop-rest-preserved c =
     let some = decimal_some c.loop-rest.rest c.loop-rest.invariant.small in
     record {
-      written = c.loop-rest.invariant.written ∙ digit_written c.loop-rest.text c.loop-rest.start c.loop-rest.rest (omega arith) (omega arith) (omega arith) c.loop-rest.invariant.small;
+      written = c.loop-rest.invariant.written
+          ∙ digit_written c.loop-rest.text c.loop-rest.start c.loop-rest.rest (omega arith) (omega arith) (omega arith) c.loop-rest.invariant.small;
       room = omega (arith, length-decimal-step c.loop-rest.rest (omega arith) c.loop-rest.invariant.small);
       within = omega arith;
       small = omega arith;

@@ -8,7 +8,8 @@ use Rattle.gj_lex.proofs.lenient.read_number.Goals as goal
 
 pub returns-in_err-top-clause-only : goal.returns-in_err-top-clause-only
 returns-in_err-top-clause-only c = λ n d text.
-    let none = c.in_err-top.ensures.only text.top d (subst (λ bs. IsWritten bs text.top d) (sym c.without_sign.ensures) text.written) text.top_fits text.bottom_fits in
+    let none = c.in_err-top.ensures.only text.top d
+    (subst (λ bs. IsWritten bs text.top d) (sym c.without_sign.ensures) text.written) text.top_fits text.bottom_fits in
     cc
 
 pub returns-clause-found : goal.returns-clause-found
@@ -23,7 +24,8 @@ returns-clause-found c =
 pub returns-clause-only : goal.returns-clause-only
 returns-clause-only c = λ n d text.
     let read = c.in_ok-top.ensures.found in
-    let parts = same_numbers _ _ (c.in_ok-top.ensures.only text.top d (subst (λ bs. IsWritten bs text.top d) (sym c.without_sign.ensures) text.written) text.top_fits text.bottom_fits) in
+    let parts = same_numbers _ _ (c.in_ok-top.ensures.only text.top d
+    (subst (λ bs. IsWritten bs text.top d) (sym c.without_sign.ensures) text.written) text.top_fits text.bottom_fits) in
     number_only _ c.begins_with.result c.in_ok-top.top c.in_ok-top.bottom _ _ c.new.result c.begins_with.ensures
     (within_bits _ _ c.signed.ensures (with_sign_small c.begins_with.result c.in_ok-top.top read.1))
     (to_z_pos w128 c.in_ok-top.bottom read.2)

@@ -10,5 +10,6 @@ returns-then-den-lt2-clause-written c = drop-length c.args.text.now ∙ sym (den
 pub returns-clause-written : goal.returns-clause-written
 returns-clause-written c =
     written_before _ c.write_digits-start.result 47 (omega arith) (omega arith)
-    ∙ ap (λ bs. 47 ∷ bs) (c.write_digits-start.ensures.written ∙ ap (λ bs. decimal c.args.den ++ bs) (drop-length c.args.text.now) ∙ append-nil (decimal c.args.den))
+    ∙ ap (λ bs. 47 ∷ bs) (c.write_digits-start.ensures.written ∙ ap (λ bs. decimal c.args.den ++ bs) (drop-length c.args.text.now)
+    ∙ append-nil (decimal c.args.den))
     ∙ sym (denominator_more c.args.den c.if-den-lt2.false)

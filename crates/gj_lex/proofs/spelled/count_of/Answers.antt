@@ -1,4 +1,4 @@
-use Rattle.std.proofs.Common.{arith, refl}
+use Rattle.std.proofs.Common.{arith}
 use Rattle.gj_lex.proofs.SpelledWords.{count_is_numeral}
 use Rattle.gj_lex.proofs.spelled.count_of.Goals as goal
 

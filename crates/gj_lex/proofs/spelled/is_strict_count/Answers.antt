@@ -1,4 +1,4 @@
-use Rattle.std.proofs.Common.{refl, sym}
+use Rattle.std.proofs.Common.{refl}
 use Rattle.gj_lex.proofs.SpelledWords.{strict_count_by_tests, count_by_no_numeral}
 use Rattle.gj_lex.proofs.spelled.is_strict_count.Goals as goal
 

@@ -1,4 +1,4 @@
-use Rattle.std.proofs.Common.{◌+◌, drop, take, length, length-drop, ap, refl, sym, subst, arith}
+use Rattle.std.proofs.Common.{◌+◌, length, length-drop, ap, refl, sym, subst, arith}
 use Rattle.std.proofs.lemmas.Bool.{false≢true}
 use Rattle.std.proofs.lemmas.List.{take_rest}
 use Rattle.std.specs.List.{All, slice_split}

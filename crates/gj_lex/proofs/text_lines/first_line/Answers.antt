@@ -1,7 +1,3 @@
-use Rattle.std.proofs.Common.{sym, subst}
-use Rattle.gj_lex.specs.Lines.{rest_of}
-use Rattle.gj_lex.specs.Words.{word_texts}
-use Rattle.gj_lex.specs.TextLines.{HasFirstWords}
 use Rattle.gj_lex.proofs.CursorLines.{words_of_ended, words_of_last}
 use Rattle.gj_lex.proofs.text_lines.first_line.Goals as goal
 use Rattle.gj_lex.proofs.text_lines.first_line.Goals.{then-len-start, else-len-start}
@@ -13,6 +9,8 @@ returns-clause-words c =
     let start = c.rest-start.result.now in
     let given = c.in_ok-span.ensures in
     elim c.if-len-start.branch [
-      | then-len-start w ↦ rw w.bytes-is (words_of_ended old new c.in_ok-span.span start _ c.rest-start.ensures given.line given.rest w.if-len-start.true w.without_return-bytes.ensures)
-      | else-len-start w ↦ rw w.bytes-is (words_of_last old new c.in_ok-span.span start c.rest-start.ensures given.line given.rest w.if-len-start.false)
+      | then-len-start w ↦ rw w.bytes-is
+          (words_of_ended old new c.in_ok-span.span start _ c.rest-start.ensures given.line given.rest w.if-len-start.true w.without_return-bytes.ensures)
+      | else-len-start w ↦ rw w.bytes-is
+          (words_of_last old new c.in_ok-span.span start c.rest-start.ensures given.line given.rest w.if-len-start.false)
     ]

@@ -1,5 +1,5 @@
 use Rattle.std.proofs.Common.{sym, ◌∙◌, subst, true≢false}
-use Rattle.gj_lex.specs.TextLines.{HasFirstWords, IsSkippedText}
+use Rattle.gj_lex.specs.TextLines.{HasFirstWords}
 use Rattle.gj_lex.specs.Words.{word_texts}
 use Rattle.gj_lex.specs.TextLines.HasNextLine.{here, further}
 use Rattle.gj_lex.specs.TextLines.IsSkippedText.{nothing, more}

@@ -1,4 +1,4 @@
-use Rattle.std.proofs.Common.{refl, sym, ◌∙◌, ◌+◌, ◌++◌, ◌∷◌, ap, drop, take}
+use Rattle.std.proofs.Common.{refl, sym, ◌∙◌, ◌+◌, ◌++◌, ◌∷◌, ap, take}
 use Rattle.std.proofs.lemmas.Bool.{false≢true}
 use Rattle.std.proofs.lemmas.List.{take_rest}
 use Rattle.gj_lex.proofs.LenientLines.{cut_at_feed}
