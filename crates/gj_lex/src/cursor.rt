@@ -4,7 +4,7 @@ ghost use Rattle.std.specs.Prelude.{◌≡◌, ◌↔◌, ◌≤◌, length, IfS
 ghost use Rattle.std.specs.List.{after_first, before_first, position, slice_range};
 ghost use Rattle.gj_lex.specs.Lines.{GivesLine, IsLine, is_line_feed, rest_of};
 
-use memchr::memchr;
+use memchr::memchr_iter;
 use std::marker::Model;
 
 /// A line of a source: the bytes from `start` up to `end`. Lines are numbered from 1.
@@ -95,5 +95,6 @@ fn line_end(bytes: &[u8], start: usize) -> usize
 pub(crate) fn first_line_feed(bytes: &[u8]) -> Option<usize>
     ensures { result ≡ position is_line_feed bytes.now }
 {
-    memchr(b'\n', bytes)
+    // The iterator looks near first, which suits short lines.
+    memchr_iter(b'\n', bytes).next()
 }

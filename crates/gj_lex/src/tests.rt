@@ -1,8 +1,8 @@
 //! Outside examples of numbers, words, lines and names; each function that allocates is called.
 
 use crate::{
-    Cursor, LineSpan, Name, NameFault, print_count, print_frac, read_canonical, read_count,
-    read_number, split_word, words_of,
+    Cursor, LineSpan, Name, NameFault, PartFault, Reason, Spelling, line_at, line_number,
+    print_count, print_frac, read_canonical, read_count, read_number, split_word, words_of,
 };
 use std::test::Fail;
 
@@ -157,6 +157,34 @@ fn goes_over_lines(rt: HostRuntime) {
     }
     assert_eq!(rt; cursor.next_line(), None);
     assert_eq!(rt; cursor.next_line(), None);
+}
+
+#[test]
+fn finds_lines_in_either_spelling(rt: HostRuntime) -> Result<(), Fail> {
+    let text = b"# first\r\n\n \ta b \r\nc";
+    let line = line_at(Spelling::Lenient, text)
+        .ok()
+        .ok_or("a lenient line")?;
+    assert_eq!(rt; line.bytes, b" \ta b ".as_slice());
+    assert_eq!(rt; line.rest, b"c".as_slice());
+    assert_eq!(rt; line_number(text, line.start.len()), 3);
+
+    let line = line_at(Spelling::Strict, b"#a b\nc\n")
+        .ok()
+        .ok_or("a strict line")?;
+    assert_eq!(rt; line.bytes, b"#a b".as_slice());
+    assert_eq!(rt; line.rest, b"c\n".as_slice());
+
+    let others: [&[u8]; 8] = [
+        b"", b"a", b"\n", b"a  b\n", b" a\n", b"a \n", b"a\tb\n", b"a\r\n",
+    ];
+    for text in others {
+        let fault = line_at(Spelling::Strict, text)
+            .err()
+            .ok_or("no strict line")?;
+        assert!(rt; matches!(fault, PartFault::Refused(left, Reason::Form) if left == text.len()));
+    }
+    Ok(())
 }
 
 #[test]

@@ -1,5 +1,5 @@
 -- The lines of a function in their one spelling are read in either spelling.
-use Rattle.std.proofs.Common.{◌≡◌, ◌≢◌, ℕ, zero, suc, ◌+◌, ◌<◌, ◌≤◌, ◌^◌, pos, Bool, true, false, List, [], ◌∷◌, ◌++◌, length, get_or, flat_map, codes, decimal, refl, sym, ap, subst, ◌∙◌, append_assoc, append-nil, arith}
+use Rattle.std.proofs.Common.{◌≡◌, ℕ, ◌<◌, ◌^◌, pos, Bool, true, false, List, [], ◌∷◌, ◌++◌, length, flat_map, codes, decimal, refl, sym, ap, subst, ◌∙◌, append_assoc, append-nil, arith}
 use Rattle.std.specs.List.{All, join_with_byte}
 use Rattle.std.proofs.lemmas.List.Elements.{All-nil, All-cons}
 use Rattle.std.proofs.lemmas.List.Concat.{flat_map-append}
@@ -17,12 +17,12 @@ use Rattle.gj_lex.proofs.SpelledWords.{canonical_fraction, canonical_count, frac
 use Rattle.gj_lex.proofs.StrictLines.{IsPlain}
 use Rattle.gj_shape.specs.FunctionData.{FunctionData, IsWithinBounds}
 use Rattle.gj_shape.specs.Given.{AreWithinBounds}
-use Rattle.gj_shape.specs.Points.{all_fractions, fractions_of, ArePointsOf}
+use Rattle.gj_shape.specs.Points.{all_fractions, fractions_of}
 use Rattle.gj_shape.specs.declared.points.Point.{Point}
 use Rattle.gj_shape.proofs.GivenPoints.{given_by_points, good_points, count_of_points}
 use Rattle.gj_shape.proofs.LeastDenominator.{within_bounds_closed}
 use Rattle.gj_lines.specs.FunctionGrammar.{order_words, place_words, point_words, ArePointWords, SpellPoint, order_rule, place_rule, point_rule, points_part, function_part}
-use Rattle.gj_lines.specs.FunctionLines.{line, is_same, has_no_jump, point_text, point_line, order_line, place_line, lines_of, AreFunctionLines}
+use Rattle.gj_lines.specs.FunctionLines.{line, has_no_jump, point_line, order_line, place_line, AreFunctionLines}
 use Rattle.gj_lines.proofs.PointLines.{text_of_one, text_of_three, same_where_no_jump, no_jump_where_same}
 
 -- ---- the words of a point
@@ -59,7 +59,8 @@ line_has_texts true p rest e =
     ap (λ t. line (codes "point " ++ t) ++ rest) (text_of_one p e) ∙ append_assoc (codes "point " ++ fraction_text p.value) (10 ∷ []) rest
 line_has_texts false p rest e =
     ap (λ t. line (codes "point " ++ t) ++ rest) (text_of_three p e)
-    ∙ append_assoc (codes "point " ++ (fraction_text p.left ++ codes " " ++ fraction_text p.value ++ codes " " ++ fraction_text p.right)) (10 ∷ []) rest
+    ∙ append_assoc (codes "point " ++
+    (fraction_text p.left ++ codes " " ++ fraction_text p.value ++ codes " " ++ fraction_text p.right)) (10 ∷ []) rest
     ∙ ap (λ t. codes "point " ++ t ++ 10 ∷ rest)
     (append_assoc (fraction_text p.left ++ codes " " ++ fraction_text p.value) (codes " ") (fraction_text p.right)
     ∙ append_assoc (fraction_text p.left ++ codes " ") (fraction_text p.value) (32 ∷ fraction_text p.right)

@@ -1,21 +1,21 @@
 -- The lines of a function are an exact part of a text, in either spelling.
-use Rattle.std.proofs.Common.{◌≡◌, ◌⊎◌, inl, inr, ℕ, zero, suc, pos, List, [], ◌∷◌, ◌++◌, codes, refl, sym, ap, subst, ◌∙◌}
+use Rattle.std.proofs.Common.{◌≡◌, inl, inr, ℕ, zero, suc, pos, List, [], ◌∷◌, ◌++◌, sym, subst, ◌∙◌}
 use Rattle.gj_frac.specs.declared.Frac.{Frac}
 use Rattle.gj_frac.specs.Fraction.{IsRatio}
 use Rattle.gj_lex.specs.declared.spelling.Spelling.{Spelling}
 use Rattle.gj_lex.specs.declared.reason.Reason.{Reason}
 use Rattle.gj_lex.specs.SpelledNumbers.{IsCountWord, IsFractionWord}
-use Rattle.gj_lex.specs.Parts.{Part, line_part, empty_part, then_part, made_part, IsExactRule, IsExactPart}
+use Rattle.gj_lex.specs.Parts.{line_part, IsExactRule, IsExactPart}
 use Rattle.gj_lex.proofs.PartLaws.{line_part_is_exact, empty_part_is_exact, then_part_is_exact, made_part_is_exact}
 use Rattle.gj_lex.proofs.SpelledWords.{one_fraction, one_count}
 use Rattle.gj_shape.specs.FunctionData.{FunctionData}
-use Rattle.gj_shape.specs.Given.{IsOrder, IsPlace}
+use Rattle.gj_shape.specs.Given.{IsOrder}
 use Rattle.gj_shape.specs.Points.{lefts, values, rights, IsPointFault}
 use Rattle.gj_shape.specs.declared.points.Point.{Point}
 use Rattle.gj_shape.specs.declared.points.PointFault.TheVariants.{Large, Fine}
 use Rattle.gj_shape.proofs.GivenPoints.{same_points, no_fault_follows, not_large_and_fine}
 use Rattle.gj_shape.proofs.OneFunction.{same_from_given}
-use Rattle.gj_lines.specs.FunctionGrammar.{order_words, place_words, point_words, ArePointWords, SpellPoint, BreaksOrder, order_rule, BreaksPlace, place_rule, BreaksPoint, point_rule, points_part, function_part}
+use Rattle.gj_lines.specs.FunctionGrammar.{order_words, place_words, point_words, SpellPoint, BreaksOrder, order_rule, BreaksPlace, place_rule, BreaksPoint, point_rule, points_part, function_part}
 use Rattle.gj_lines.proofs.FunctionRead.{Gives, behind_place, behind_order}
 use Rattle.gj_lines.proofs.OneTextOfLines.{one_place}
 

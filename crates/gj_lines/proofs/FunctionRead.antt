@@ -1,5 +1,5 @@
 -- The lines of a function: its order, its place and its points, one part after the other.
-use Rattle.std.proofs.Common.{◌≡◌, ℕ, List, []}
+use Rattle.std.proofs.Common.{ℕ, List, []}
 use Rattle.gj_lex.specs.declared.spelling.Spelling.{Spelling}
 use Rattle.gj_lex.specs.declared.fault.PartFault.{PartFault}
 use Rattle.gj_lex.specs.Parts.{Part, line_part, then_part, made_part, IsFaultOf}

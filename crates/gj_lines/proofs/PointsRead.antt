@@ -1,5 +1,5 @@
 -- Point lines, read one after another.
-use Rattle.std.proofs.Common.{◌≡◌, ◌⊎◌, inl, inr, ℕ, zero, suc, ◌+◌, ◌-◌, ◌<◌, List, [], ◌∷◌, ◌++◌, All, length, refl, sym, ap, subst, ◌∙◌, arith}
+use Rattle.std.proofs.Common.{◌≡◌, inl, inr, ℕ, zero, suc, ◌+◌, ◌-◌, ◌<◌, List, [], ◌∷◌, ◌++◌, All, length, refl, sym, ap, subst, arith}
 use Rattle.std.proofs.lemmas.List.{length_push}
 use Rattle.gj_lex.specs.declared.spelling.Spelling.{Spelling}
 use Rattle.gj_lex.specs.declared.spelling.Spelling.TheVariants.{Lenient, Strict}
@@ -13,7 +13,7 @@ use Rattle.gj_shape.specs.Points.{all_fractions, IsPointFault}
 use Rattle.gj_shape.specs.declared.points.Point.{Point}
 use Rattle.gj_shape.specs.declared.points.PointFault.{PointFault}
 use Rattle.gj_shape.specs.declared.points.PointFault.TheVariants.{Large, Fine, Memory}
-use Rattle.gj_lines.specs.FunctionGrammar.{ArePointWords, SpellPoint, point_rule, points_part}
+use Rattle.gj_lines.specs.FunctionGrammar.{ArePointWords, point_rule, points_part}
 use Rattle.gj_lines.specs.Reading.{IsOneOrThree, SpellsPoint, BreaksPointForm, refusal_of}
 
 -- ---- the words of a point

@@ -1,7 +1,6 @@
 -- What is read in strict spelling is the lines of a function in their one spelling, and these are short.
-use Rattle.std.proofs.Common.{◌≡◌, ℕ, zero, suc, ◌+◌, ◌*◌, ◌<◌, ◌≤◌, ◌^◌, pos, Bool, true, false, List, [], ◌∷◌, ◌++◌, length, flat_map, codes, decimal, refl, sym, ap, subst, ◌∙◌, append_assoc, append-nil, length-append, arith}
+use Rattle.std.proofs.Common.{◌≡◌, ℕ, zero, suc, ◌*◌, ◌≤◌, pos, Bool, true, false, List, [], ◌∷◌, ◌++◌, length, flat_map, codes, decimal, refl, sym, ap, subst, ◌∙◌, append_assoc, append-nil, length-append, arith}
 use Rattle.std.specs.List.{join_with_byte}
-use Rattle.std.specs.Str.Parse.{digits_value}
 use Rattle.gj_frac.specs.declared.Frac.{Frac}
 use Rattle.gj_frac.specs.Fraction.{IsRatio}
 use Rattle.gj_lex.specs.declared.spelling.Spelling.TheVariants.{Strict}
@@ -12,7 +11,6 @@ use Rattle.gj_lex.proofs.Decimals.{decimal_of_value}
 use Rattle.gj_lex.proofs.SpelledWords.{fraction_is_short, count_is_short}
 use Rattle.gj_lex.proofs.WordBytes.{digits_from_all}
 use Rattle.gj_shape.specs.FunctionData.{FunctionData, IsWithinBounds}
-use Rattle.gj_shape.specs.Given.{IsOrder}
 use Rattle.gj_shape.specs.declared.points.Point.{Point}
 use Rattle.gj_shape.proofs.GivenPoints.{points_given, count_of_points}
 use Rattle.gj_lines.specs.FunctionGrammar.{order_words, place_words, point_words, ArePointWords, SpellPoint, order_rule, place_rule, point_rule, points_part, function_part}

@@ -29,7 +29,8 @@ are_over_push t s xs x n e are is i d within =
     let before : (k : ℕ) → k < n → P k = λ k h y.
     let small : k < length xs = omega arith in
     subst (λ z. IsRatio z (t k) (pos s)) (sym (get_or_append_left xs (x ∷ []) y k small)) (are k y small) in
-    let here : P n = λ y. subst (λ z. IsRatio z (t n) (pos s)) (sym (ap (λ k. get_or (xs ++ x ∷ []) k y) (sym e) ∙ get_or-append_seam xs x [] y)) is in
+    let here : P n = λ y. subst (λ z. IsRatio z (t n) (pos s)) (sym (ap (λ k. get_or (xs ++ x ∷ []) k y)
+    (sym e) ∙ get_or-append_seam xs x [] y)) is in
     below_more P n before here i (omega arith) d
 
 -- a fraction n/d is small where n is at most 2^20 d

@@ -119,7 +119,8 @@ place_of_index ls vs rs i l v r h =
     let in_value : i < length vs = omega (arith, h.value_length, h.within) in
     let in_right : i < length rs = omega (arith, h.right_length, h.within) in
     let low : i ≤ length ls = omega (arith, h.within) in
-    let rest = in_order_along _ _ _ _ _ _ (drop_next ls i l h.within h.left_is) (drop_next vs i v in_value h.value_is) (drop_next rs i r in_right h.right_is) in
+    let rest = in_order_along _ _ _ _ _ _ (drop_next ls i l h.within h.left_is) (drop_next vs i v in_value h.value_is)
+    (drop_next rs i r in_right h.right_is) in
     in_order_along _ _ _ _ _ _ (sym (take-append-drop i ls)) (sym (take-append-drop i vs)) (sym (take-append-drop i rs))
     ∙ in_order_parts ls vs rs (drop i ls) (drop i vs) (drop i rs) i h.value_length h.right_length low
     ∙ ap (λ xs. before ls vs rs i ++ xs) rest

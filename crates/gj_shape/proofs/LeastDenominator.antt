@@ -45,7 +45,8 @@ least_with_next xs x scale m h next = record {
   low = lcm_positive scale (unsigned_abs (denominator x)) m next.least h.low (denominator_some x);
   high = next.high;
   common = All-push (Divides m) xs x (λ k d l. dvd_trans _ (h.common k d l) next.least.0) next.least.1;
-  least = λ c all. next.least.2 c (h.least c (All-front (Divides c) xs (x ∷ []) all)) (All-head (Divides c) x [] (All-back (Divides c) xs (x ∷ []) all));
+  least = λ c all. next.least.2 c (h.least c (All-front (Divides c) xs (x ∷ []) all)) (All-head (Divides c) x [] (All-back
+      (Divides c) xs (x ∷ []) all));
 }
 
 -- three more fractions

@@ -11,3 +11,10 @@ pub mod Kept
 pub mod Values
 pub mod Refinement
 pub mod Average
+pub mod Additive
+pub mod Cover
+pub mod Extreme
+pub mod SlopeRows
+pub mod Elimination
+pub mod Perturbation
+pub mod RowCut

@@ -1,5 +1,5 @@
 -- The points of a function as fractions, and why one cannot follow others (own).
-use Rattle.std.specs.Prelude.{ℕ, pos, List, [], ◌∷◌, ◌++◌, map, flat_map}
+use Rattle.std.specs.Prelude.{ℕ, pos, List, [], ◌∷◌, map, flat_map}
 use Rattle.std.specs.List.{AllZip}
 use Rattle.gj_frac.specs.declared.Frac.{Frac}
 use Rattle.gj_frac.specs.Fraction.{IsRatio}

@@ -11,6 +11,7 @@
 
 mod average;
 mod denominators;
+mod extremality;
 mod faces;
 mod faults;
 mod laws;
@@ -22,6 +23,7 @@ mod shape;
 mod values;
 mod violations;
 
+pub use extremality::{CoverLine, Halves, RowName};
 pub use faces::{Face, FaceKind};
 pub use faults::ShapeFault;
 pub use laws::one_function_is_given;

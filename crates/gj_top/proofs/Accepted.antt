@@ -10,6 +10,7 @@ use Rattle.gj_top.specs.declared.reply.End.TheVariants as end
 use Rattle.gj_top.specs.declared.status.Status.{Status}
 use Rattle.gj_top.specs.declared.status.Status.TheVariants.{Done}
 use Rattle.gj_ftext.specs.FunctionText.{IsWholeFunctionText}
+use Rattle.gj_top.specs.Task.{IsReply}
 use Rattle.gj_top.specs.Forms.{IsProofOf}
 use Rattle.gj_top.specs.Minimal.{IsVerdict, minimal}
 use Rattle.gj_top.specs.Check.{IsJudgement, check}
@@ -17,7 +18,7 @@ use Rattle.gj_top.specs.Answer.{IsAnswerTo}
 use Rattle.gj_top.specs.Answer.IsAnswerTo.{too_long, refused, replied}
 use Rattle.gj_top.proofs.Clauses.{done_reply}
 use Rattle.gj_top.proofs.Sound.{sound}
-use Rattle.gj_top.proofs.TextLaws.{minimal_proof, not_minimal_proof, one_proof, proof_text_is_short, no_failure}
+use Rattle.gj_top.proofs.TextLaws.{function_is_bounded, minimal_proof, not_minimal_proof, one_proof, proof_text_is_short, no_failure}
 
 -- the text is the proof of a claim of which every rule holds
 record IsGoodProof (text : List ℕ) : Type 0 where
@@ -28,12 +29,12 @@ record IsGoodProof (text : List ℕ) : Type 0 where
 good_proof : (f : FunctionData) (input text : List ℕ) → IsWholeFunctionText input f → IsVerdict f text → IsGoodProof text
 good_proof f input text form (inl v) = record {
   about = claim.Minimal f;
-  proof = minimal_proof f text form.function_text.within v.2;
+  proof = minimal_proof f text (function_is_bounded input f form) v.2;
   rules = v.1;
 }
 good_proof f input text form (inr v) = record {
   about = claim.NotMinimal f v.0;
-  proof = not_minimal_proof f v.0 text form.function_text.within v.4;
+  proof = not_minimal_proof f v.0 text (function_is_bounded input f form) v.4;
   rules = v.3;
 }
 
@@ -43,7 +44,13 @@ good_end c end.Done answer rules j = refl
 good_end c end.Rejected answer rules j = absurd (no_failure c j.at_line j.rule j.first rules)
 good_end c e answer rules j = absurd j
 
--- such a text is accepted
+-- so the reply to such a text ends with Done
+accepted_reply : (text answer : List ℕ) (e : End) → IsGoodProof text → IsReply check text e answer → e ≡ end.Done
+accepted_reply text answer e g r =
+    let same : g.about ≡ r.thing = one_proof text g.about r.thing g.proof r.spelled in
+    good_end r.thing e answer (subst MeetsRules same g.rules) r.replied
+
+-- and it is answered so, since it is short
 accepted : (text answer : List ℕ) (s : Status) → IsGoodProof text → IsAnswerTo check text s answer → s ≡ Done
 accepted text answer s g (too_long a) =
     let short = proof_text_is_short text g.about g.proof in
@@ -51,12 +58,16 @@ accepted text answer s g (too_long a) =
     absurd (omega arith)
 accepted text answer s g (refused a) = absurd ((sound Check).form text answer g.about g.proof a.refused)
 accepted text answer s g (replied a) =
-    let same : g.about ≡ a.reply.thing = one_proof text g.about a.reply.thing g.proof a.reply.spelled in
-    let ended : a.end ≡ end.Done = good_end a.reply.thing a.end answer (subst MeetsRules same g.rules) a.reply.replied in
+    let ended : a.end ≡ end.Done = accepted_reply text answer a.end g a.reply in
     let is = a.status_is in
     rw ended at is
 
-pub accepted_verdict : (input text answer : List ℕ) (s : Status) → IsAnswerTo minimal input Done text → IsAnswerTo check text s answer → s ≡ Done
-accepted_verdict input text answer s m a =
-    let reply = done_reply minimal input text m in
-    accepted text answer s (good_proof reply.thing input text reply.spelled reply.replied) a
+good_verdict : (input text : List ℕ) → IsReply minimal input end.Done text → IsGoodProof text
+good_verdict input text r = good_proof r.thing input text r.spelled r.replied
+
+pub verdict_accepted : (input text answer : List ℕ) (s : Status) → IsAnswerTo minimal input Done text → IsAnswerTo check text s answer → s ≡ Done
+verdict_accepted input text answer s m a = accepted text answer s (good_verdict input text (done_reply minimal input text m)) a
+
+pub verdict_accepted_reply : (input text answer : List ℕ) (e : End) → IsReply minimal input end.Done text → IsReply check text e answer →
+    e ≡ end.Done
+verdict_accepted_reply input text answer e m r = accepted_reply text answer e (good_verdict input text m) r

@@ -25,6 +25,9 @@ use Rattle.gj_top.specs.Forms.{IsProofOf}
 pub one_function : (input : List ℕ) (f g : FunctionData) → IsWholeFunctionText input f → IsWholeFunctionText input g → f ≡ g
 one_function = one_whole_function
 
+pub function_is_bounded : (input : List ℕ) (f : FunctionData) → IsWholeFunctionText input f → IsWithinBounds f
+function_is_bounded input f whole = whole.function_text.within
+
 pub function_text_has_no_fault : (input : List ℕ) (f : FunctionData) (n : ℕ) (reason : Reason) → IsWholeFunctionText input f →
     IsFirstFaultOfWhole input n reason → ⊥
 function_text_has_no_fault = no_fault_of_whole

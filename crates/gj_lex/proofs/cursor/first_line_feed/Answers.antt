@@ -1,6 +1,10 @@
+use Rattle.std.proofs.Common.{subst}
+use Rattle.memchr.specs.Find.{TakesFirst}
 use Rattle.gj_lex.specs.Lines.{is_line_feed}
-use Rattle.gj_lex.proofs.FirstPlaces.{position_of_search}
+use Rattle.gj_lex.proofs.FirstPlaces.{position_of_next}
 use Rattle.gj_lex.proofs.cursor.first_line_feed.Goals as goal
 
 pub returns : goal.returns
-returns c = position_of_search is_line_feed c.args.bytes.now c.memchr.result c.memchr.ensures
+returns c =
+    position_of_next is_line_feed c.args.bytes.now c.next.new.self c.next.result
+    (subst (λ all. TakesFirst all c.next.result c.next.new.self) c.memchr_iter.ensures.value c.next.ensures.steps)

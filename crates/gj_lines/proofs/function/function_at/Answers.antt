@@ -1,6 +1,5 @@
-use Rattle.std.proofs.Common.{◌+◌, length, [], arith}
+use Rattle.std.proofs.Common.{arith}
 use Rattle.std.proofs.lemmas.Result.{err_from_is_err_and}
-use Rattle.gj_lex.proofs.PartLaws.{fault_in_first, fault_in_next, fault_in_made}
 use Rattle.gj_lines.proofs.PointsRead.{points_count}
 use Rattle.gj_lines.proofs.FunctionRead.{in_order, in_place, in_points, whole}
 use Rattle.gj_lines.proofs.function.function_at.Goals as goal

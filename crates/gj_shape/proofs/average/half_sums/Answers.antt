@@ -48,5 +48,6 @@ loop-i-preserved c =
     record {
       count = ap length pushed ∙ length_push _ _ ∙ ap (λ n. n + 1) c.loop-i.invariant.count;
       fractions = subst (AreOver _ _) (sym pushed)
-          (are_over_push (λ j. pos o *ℤ at xs j +ℤ pos s *ℤ at ys j) (2 * (s * o)) _ c.fraction.result i c.loop-i.invariant.count c.loop-i.invariant.fractions is);
+          (are_over_push (λ j. pos o *ℤ at xs j +ℤ pos s *ℤ at ys j) (2 * (s * o)) _ c.fraction.result i
+          c.loop-i.invariant.count c.loop-i.invariant.fractions is);
     }

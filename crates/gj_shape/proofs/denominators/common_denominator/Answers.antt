@@ -9,12 +9,14 @@ loop-i-init c = least_of_none
 
 pub returns-clause-least : goal.returns-clause-least
 returns-clause-least c =
-    let all = before_all c.args.left.now c.args.value.now c.args.right.now c.loop-i.i c.requires.value_length c.requires.right_length c.loop-i-test.false in
+    let all = before_all c.args.left.now c.args.value.now c.args.right.now c.loop-i.i c.requires.value_length
+    c.requires.right_length c.loop-i-test.false in
     subst (λ xs. IsLeastDenominator xs c.loop-i.scale) all c.loop-i.invariant
 
 pub returns-in-Err-clause-fault : goal.returns-in-Err-clause-fault
 returns-in-Err-clause-fault c =
-    let at : StandAt c.args.left.now c.args.value.now c.args.right.now c.loop-i.i c.index-left-i.result c.index-value-i.result c.index-right-i.result =
+    let at : StandAt c.args.left.now c.args.value.now c.args.right.now c.loop-i.i c.index-left-i.result c.index-value-i.result
+    c.index-right-i.result =
     record {
       value_length = c.requires.value_length;
       right_length = c.requires.right_length;
@@ -27,7 +29,8 @@ returns-in-Err-clause-fault c =
 
 pub loop-i-preserved : goal.loop-i-preserved
 loop-i-preserved c =
-    let at : StandAt c.args.left.now c.args.value.now c.args.right.now c.loop-i.i c.index-left-i.result c.index-value-i.result c.index-right-i.result =
+    let at : StandAt c.args.left.now c.args.value.now c.args.right.now c.loop-i.i c.index-left-i.result c.index-value-i.result
+    c.index-right-i.result =
     record {
       value_length = c.requires.value_length;
       right_length = c.requires.right_length;

@@ -7,13 +7,15 @@ use Rattle.gj_shape.proofs.denominators.least_common_multiple.Goals as goal
 
 pub overflow_cast-divisor : goal.overflow_cast-divisor
 overflow_cast-divisor c =
-    let h : IsGcd c.args.a c.args.b c.gcd-divisor.result = subst₂ (λ a b. IsGcd a b c.gcd-divisor.result) c.from.ensures c.from-2.ensures c.gcd-divisor.ensures in
+    let h : IsGcd c.args.a c.args.b c.gcd-divisor.result = subst₂ (λ a b. IsGcd a b c.gcd-divisor.result) c.from.ensures
+    c.from-2.ensures c.gcd-divisor.ensures in
     let most : c.gcd-divisor.result ≤ c.args.a = le_of_dvd c.requires h.0 in
     omega arith
 
 pub nonzero_div-a : goal.nonzero_div-a
 nonzero_div-a c =
-    let h : IsGcd c.args.a c.args.b c.gcd-divisor.result = subst₂ (λ a b. IsGcd a b c.gcd-divisor.result) c.from.ensures c.from-2.ensures c.gcd-divisor.ensures in
+    let h : IsGcd c.args.a c.args.b c.gcd-divisor.result = subst₂ (λ a b. IsGcd a b c.gcd-divisor.result) c.from.ensures
+    c.from-2.ensures c.gcd-divisor.ensures in
     gcd_positive _ _ _ h (inl c.requires)
 
 pub returns : goal.returns

@@ -1,5 +1,8 @@
-use Rattle.gj_top.proofs.Accepted.{accepted_verdict}
+use Rattle.gj_top.proofs.Accepted.{verdict_accepted, verdict_accepted_reply}
 use Rattle.gj_top.proofs.laws.written_proofs_are_accepted.Goals as goal
 
-pub returns : goal.returns
-returns c = accepted_verdict
+pub returns-clause-answer : goal.returns-clause-answer
+returns-clause-answer c = verdict_accepted
+
+pub returns-clause-reply : goal.returns-clause-reply
+returns-clause-reply c = verdict_accepted_reply

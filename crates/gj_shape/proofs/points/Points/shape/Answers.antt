@@ -1,6 +1,5 @@
-use Rattle.std.proofs.Common.{◌≡◌, refl, sym, ap, ◌∙◌, length}
+use Rattle.std.proofs.Common.{refl, sym, ap, ◌∙◌, length}
 use Rattle.std.proofs.lemmas.Result.{IfOk-weaker}
-use Rattle.gj_shape.specs.Given.{HaveLength}
 use Rattle.gj_shape.specs.Points.{lefts, values, rights}
 use Rattle.gj_shape.proofs.GivenFractions.{given_as}
 use Rattle.gj_shape.proofs.PointLists.{kept_lists, kept_length}

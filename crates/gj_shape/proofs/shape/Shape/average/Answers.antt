@@ -23,9 +23,12 @@ returns-clause-average c =
         c.in_ok-value.ensures.length ∙ ap length c.value_numerators.ensures.value ∙ first.value_length,
         c.in_ok-right.ensures.length ∙ ap length c.right_numerators.ensures.value ∙ first.right_length,
       );
-      left_is = half_sums_as f g _ _ _ _ _ _ _ scale other_scale c.left_numerators.ensures.value c.left_numerators-2.ensures.value c.in_ok-left.ensures.fractions;
-      value_is = half_sums_as f g _ _ _ _ _ _ _ scale other_scale c.value_numerators.ensures.value c.value_numerators-2.ensures.value c.in_ok-value.ensures.fractions;
-      right_is = half_sums_as f g _ _ _ _ _ _ _ scale other_scale c.right_numerators.ensures.value c.right_numerators-2.ensures.value c.in_ok-right.ensures.fractions;
+      left_is = half_sums_as f g _ _ _ _ _ _ _ scale other_scale c.left_numerators.ensures.value
+          c.left_numerators-2.ensures.value c.in_ok-left.ensures.fractions;
+      value_is = half_sums_as f g _ _ _ _ _ _ _ scale other_scale c.value_numerators.ensures.value
+          c.value_numerators-2.ensures.value c.in_ok-value.ensures.fractions;
+      right_is = half_sums_as f g _ _ _ _ _ _ _ scale other_scale c.right_numerators.ensures.value
+          c.right_numerators-2.ensures.value c.in_ok-right.ensures.fractions;
     } in
     IfOk-weaker c.new.result _ _
     (λ h given. average_from_given f g h _ _ _ first second c.requires.order are
@@ -49,9 +52,12 @@ returns-clause-fault c =
         c.in_ok-value.ensures.length ∙ ap length c.value_numerators.ensures.value ∙ first.value_length,
         c.in_ok-right.ensures.length ∙ ap length c.right_numerators.ensures.value ∙ first.right_length,
       );
-      left_is = half_sums_as f g _ _ _ _ _ _ _ scale other_scale c.left_numerators.ensures.value c.left_numerators-2.ensures.value c.in_ok-left.ensures.fractions;
-      value_is = half_sums_as f g _ _ _ _ _ _ _ scale other_scale c.value_numerators.ensures.value c.value_numerators-2.ensures.value c.in_ok-value.ensures.fractions;
-      right_is = half_sums_as f g _ _ _ _ _ _ _ scale other_scale c.right_numerators.ensures.value c.right_numerators-2.ensures.value c.in_ok-right.ensures.fractions;
+      left_is = half_sums_as f g _ _ _ _ _ _ _ scale other_scale c.left_numerators.ensures.value
+          c.left_numerators-2.ensures.value c.in_ok-left.ensures.fractions;
+      value_is = half_sums_as f g _ _ _ _ _ _ _ scale other_scale c.value_numerators.ensures.value
+          c.value_numerators-2.ensures.value c.in_ok-value.ensures.fractions;
+      right_is = half_sums_as f g _ _ _ _ _ _ _ scale other_scale c.right_numerators.ensures.value
+          c.right_numerators-2.ensures.value c.in_ok-right.ensures.fractions;
     } in
     let small = half_sums_small f g _ _ _ first second are in
     IfErr-weaker c.new.result _ _

@@ -22,7 +22,8 @@ returns-clause-value c =
     ≡ c.weighted-2.result +ℤ c.weighted-3.result = omega (arith, ints) in
     let start : to_z w64 (of_z w64 (get_or c.right_numerators.result.now i (pos 0))) ≡ get_or f.right i (pos 0) =
     to_z-of_z w64 _ (search rules) ∙ ap (λ xs. get_or xs i (pos 0)) c.right_numerators.ensures.value in
-    let end : to_z w64 (of_z w64 (get_or c.left_numerators.result.now ((i + 1) % c.order.result) (pos 0))) ≡ get_or f.left ((i + 1) % f.order) (pos 0) =
+    let end : to_z w64 (of_z w64 (get_or c.left_numerators.result.now ((i + 1) % c.order.result) (pos 0))) ≡ get_or f.left
+    ((i + 1) % f.order) (pos 0) =
     to_z-of_z w64 _ (search rules)
     ∙ ap₂ (λ xs n. get_or xs ((i + 1) % n) (pos 0)) c.left_numerators.ensures.value c.order.ensures.value in
     sum ∙ ap₂ (λ x y. x +ℤ y) (c.weighted-2.ensures.value ∙ ap (λ z. pos (m - r) *ℤ z) start)

@@ -13,8 +13,10 @@ returns-then-index-clause-jump c =
     let in_right : c.loop-i.i < length c.self.inside.right.items = omega (arith, c.self.invariant.right_length) in
     subst (λ (f : FunctionData). IsJump f c.loop-i.i) c.self.view_is
     (elim c.then-index.branch [
-      | then-index-via-then-index w ↦ inl (apart_at _ _ c.loop-i.i _ _ in_left in_value c.index.ensures c.index-in-loop-i.ensures (λ e. w.if-index.true (ap (of_z w64) e)))
-      | then-index-via-else-index+then-index-2 w ↦ inr (apart_at _ _ c.loop-i.i _ _ in_value in_right w.index-else-index.ensures w.index-else-index-2.ensures (λ e. w.if-index-2.true (ap (of_z w64) e)))
+      | then-index-via-then-index w ↦ inl (apart_at _ _ c.loop-i.i _ _ in_left in_value c.index.ensures
+          c.index-in-loop-i.ensures (λ e. w.if-index.true (ap (of_z w64) e)))
+      | then-index-via-else-index+then-index-2 w ↦ inr (apart_at _ _
+          c.loop-i.i _ _ in_value in_right w.index-else-index.ensures w.index-else-index-2.ensures (λ e. w.if-index-2.true (ap (of_z w64) e)))
     ])
 
 pub returns-then-index-clause-first : goal.returns-then-index-clause-first

@@ -28,9 +28,12 @@ returns-clause-refined c =
     let m = c.args.times in
     let are : AreRefined f m c.in_ok-left.left.items c.in_ok-value.value.items c.in_ok-right.right.items = record {
       lengths = (c.in_ok-left.ensures.length, c.in_ok-value.ensures.length, c.in_ok-right.ensures.length);
-      left_is = subst (λ xs. AreOver (refined f xs m) (f.scale * m) c.in_ok-left.left.items) c.left_numerators.ensures.value c.in_ok-left.ensures.fractions;
-      value_is = subst (λ xs. AreOver (refined f xs m) (f.scale * m) c.in_ok-value.value.items) c.value_numerators.ensures.value c.in_ok-value.ensures.fractions;
-      right_is = subst (λ xs. AreOver (refined f xs m) (f.scale * m) c.in_ok-right.right.items) c.right_numerators.ensures.value c.in_ok-right.ensures.fractions;
+      left_is = subst (λ xs. AreOver (refined f xs m) (f.scale * m) c.in_ok-left.left.items) c.left_numerators.ensures.value
+          c.in_ok-left.ensures.fractions;
+      value_is = subst (λ xs. AreOver (refined f xs m) (f.scale * m) c.in_ok-value.value.items) c.value_numerators.ensures.value
+          c.in_ok-value.ensures.fractions;
+      right_is = subst (λ xs. AreOver (refined f xs m) (f.scale * m) c.in_ok-right.right.items) c.right_numerators.ensures.value
+          c.in_ok-right.ensures.fractions;
     } in
     let some : 0 < m = omega arith in
     IfOk-weaker c.new.result _ _
@@ -45,9 +48,12 @@ returns-clause-fault c =
     let m = c.args.times in
     let are : AreRefined f m c.in_ok-left.left.items c.in_ok-value.value.items c.in_ok-right.right.items = record {
       lengths = (c.in_ok-left.ensures.length, c.in_ok-value.ensures.length, c.in_ok-right.ensures.length);
-      left_is = subst (λ xs. AreOver (refined f xs m) (f.scale * m) c.in_ok-left.left.items) c.left_numerators.ensures.value c.in_ok-left.ensures.fractions;
-      value_is = subst (λ xs. AreOver (refined f xs m) (f.scale * m) c.in_ok-value.value.items) c.value_numerators.ensures.value c.in_ok-value.ensures.fractions;
-      right_is = subst (λ xs. AreOver (refined f xs m) (f.scale * m) c.in_ok-right.right.items) c.right_numerators.ensures.value c.in_ok-right.ensures.fractions;
+      left_is = subst (λ xs. AreOver (refined f xs m) (f.scale * m) c.in_ok-left.left.items) c.left_numerators.ensures.value
+          c.in_ok-left.ensures.fractions;
+      value_is = subst (λ xs. AreOver (refined f xs m) (f.scale * m) c.in_ok-value.value.items) c.value_numerators.ensures.value
+          c.in_ok-value.ensures.fractions;
+      right_is = subst (λ xs. AreOver (refined f xs m) (f.scale * m) c.in_ok-right.right.items) c.right_numerators.ensures.value
+          c.in_ok-right.ensures.fractions;
     } in
     let some : 0 < m = omega arith in
     let limits = c.order.ensures.limits in

@@ -26,7 +26,8 @@ loop-i-preserved c =
     let low : f.scale ≤ 2 ^ 31 = omega arith in
     let few : m ≤ 2 ^ 32 = omega arith in
     let fits : FitsSigned w128 (pos f.scale *ℤ pos m) = fits_signed_mul w128 (pos f.scale) (pos m) (2 ^ 31) (2 ^ 32) low few (omega arith) in
-    let denominator : to_z w128 (of_z w128 (to_z w128 (of_z w128 c.common_denominator.result) *ℤ to_z w128 (of_z w128 c.from.result))) ≡ pos (f.scale * m) =
+    let denominator : to_z w128 (of_z w128 (to_z w128 (of_z w128 c.common_denominator.result) *ℤ to_z w128 (of_z w128
+    c.from.result))) ≡ pos (f.scale * m) =
     ap₂ (λ x y. to_z w128 (of_z w128 (x *ℤ y))) scale times ∙ to_z-of_z w128 _ fits in
     let is : IsRatio c.fraction.result (refined f xs m i) (pos (f.scale * m)) =
     subst₂ (λ a b. IsRatio c.fraction.result a b) numerator denominator c.fraction.ensures in

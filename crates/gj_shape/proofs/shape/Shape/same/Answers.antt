@@ -30,7 +30,8 @@ returns-then-eq-2 c =
       | then-self-other-3 w ↦ and_then _ _ _ _ _ three left w.if-self-other-3.true (w.value-is ∙ w.eq.ensures)
       | else-self-other-3 w ↦ and_else _ _ _ _ three w.if-self-other-3.false w.value-is
     ] in
-    let five : Decides c.if-eq.value (((((f.order ≡ g.order) × (f.place ≡ g.place)) × (f.scale ≡ g.scale)) × (f.left.items ≡ g.left.items)) × (f.value.items ≡ g.value.items)) =
+    let five : Decides c.if-eq.value (((((f.order ≡ g.order) × (f.place ≡ g.place)) × (f.scale ≡ g.scale)) ×
+    (f.left.items ≡ g.left.items)) × (f.value.items ≡ g.value.items)) =
     elim c.if-eq.branch [
       | then-eq w ↦ and_then _ _ _ _ _ four value w.if-eq.true (w.value-is ∙ w.eq-then-eq.ensures)
       | else-eq w ↦ and_else _ _ _ _ four w.if-eq.false w.value-is
@@ -62,7 +63,8 @@ returns-else-eq-2 c =
       | then-self-other-3 w ↦ and_then _ _ _ _ _ three left w.if-self-other-3.true (w.value-is ∙ w.eq.ensures)
       | else-self-other-3 w ↦ and_else _ _ _ _ three w.if-self-other-3.false w.value-is
     ] in
-    let five : Decides c.if-eq.value (((((f.order ≡ g.order) × (f.place ≡ g.place)) × (f.scale ≡ g.scale)) × (f.left.items ≡ g.left.items)) × (f.value.items ≡ g.value.items)) =
+    let five : Decides c.if-eq.value (((((f.order ≡ g.order) × (f.place ≡ g.place)) × (f.scale ≡ g.scale)) ×
+    (f.left.items ≡ g.left.items)) × (f.value.items ≡ g.value.items)) =
     elim c.if-eq.branch [
       | then-eq w ↦ and_then _ _ _ _ _ four value w.if-eq.true (w.value-is ∙ w.eq-then-eq.ensures)
       | else-eq w ↦ and_else _ _ _ _ four w.if-eq.false w.value-is

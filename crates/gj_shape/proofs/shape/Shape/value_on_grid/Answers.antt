@@ -25,8 +25,10 @@ returns c =
     to_z-of_z w128 c.from-5.result (search rules) ∙ c.from-5.ensures in
     let scale_high = c.order.ensures.limits.scale_high in
     let low : f.scale ≤ 2 ^ 31 = omega arith in
-    let fits : FitsSigned w128 (pos f.scale *ℤ pos d) = fits_signed_mul w128 (pos f.scale) (pos d) (2 ^ 31) (2 ^ 62) low c.requires.few (omega arith) in
-    let denominator : to_z w128 (of_z w128 (to_z w128 (of_z w128 c.common_denominator.result) *ℤ to_z w128 (of_z w128 c.from-5.result))) ≡ pos (f.scale * d) =
+    let fits : FitsSigned w128 (pos f.scale *ℤ pos d) = fits_signed_mul w128 (pos f.scale) (pos d) (2 ^ 31) (2 ^ 62) low
+    c.requires.few (omega arith) in
+    let denominator : to_z w128 (of_z w128 (to_z w128 (of_z w128 c.common_denominator.result) *ℤ to_z w128 (of_z w128
+    c.from-5.result))) ≡ pos (f.scale * d) =
     ap₂ (λ x y. to_z w128 (of_z w128 (x *ℤ y))) scale steps ∙ to_z-of_z w128 _ fits in
     value_from_place f c.args.n d place c.fraction.result c.order.ensures.limits c.requires.some (search rules)
     (subst₂ (λ x y. IsRatio c.fraction.result x y) numerator denominator c.fraction.ensures)

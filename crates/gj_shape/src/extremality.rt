@@ -1,0 +1,32 @@
+//! What the decision of extremality and its proofs speak of.
+use crate::faces::Face;
+use crate::list::List;
+
+/// Why an interval is covered: a face that joins it to another interval, or, where `from` is the interval itself, an
+/// additive triangle of which it is a projection.
+#[derive(Clone, Copy, Debug, PartialEq, Eq)]
+pub struct CoverLine {
+    pub interval: u32,
+    pub from: u32,
+    pub face: Face,
+}
+
+/// A row of the linear system for the slopes of a perturbation.
+#[derive(Clone, Copy, Debug, PartialEq, Eq)]
+pub enum RowName {
+    /// The perturbation is 0 at 1.
+    Period,
+    /// It is 0 at f.
+    F,
+    /// It is additive at the pair.
+    Pair(u32, u32),
+}
+
+/// Two functions on one grid, given by their values there over one scale.
+#[derive(Debug, Drop)]
+pub struct Halves {
+    pub order: u32,
+    pub scale: i128,
+    pub first: List<i128>,
+    pub second: List<i128>,
+}
