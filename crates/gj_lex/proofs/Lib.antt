@@ -16,3 +16,4 @@ pub mod PartLaws
 pub mod SpelledWords
 pub mod CursorLines
 pub mod LoopLaws
+pub mod CanonicalLines

@@ -1,5 +1,5 @@
 -- The number of a line, and where it begins.
-use Rattle.std.proofs.Common.{◌≡◌, ℕ, ◌+◌, ◌-◌, ◌≤◌, List, ◌++◌, length, take, drop, count_by, sym, ap, subst, ◌∙◌, arith, length-append, take-append-drop}
+use Rattle.std.proofs.Common.{◌≡◌, ℕ, ◌+◌, ◌-◌, ◌≤◌, List, ◌++◌, length, take, drop, refl, sym, ap, subst, ◌∙◌, arith, length-append, take-append-drop}
 use Rattle.std.proofs.lemmas.List.{drop_at}
 use Rattle.std.proofs.lemmas.List.Sums.{sum_by-append}
 use Rattle.gj_lex.specs.declared.reason.Reason.{Reason}
@@ -35,6 +35,19 @@ module _ {A : Type 0} (p : Part A) (exact : IsExactPart p.Reads p.Faults) where
       IsLineNumber text (drop (length text - left) text) n → IsFirstFaultIn p text n e
   first_fault_of text left n e (start, left_is, fault) number =
       (start, fault, subst (λ s. IsLineNumber text s n) (end_at_length text start left left_is (exact.fault_ends text start e fault)) number)
+
+  -- what is read before a rest ends where that begins
+  pub rest_at_length : (text : List ℕ) (a : A) (rest : List ℕ) → p.Reads text a rest → drop (length text - length rest) text ≡ rest
+  rest_at_length text a rest h = end_at_length text rest (length rest) refl (exact.rest_ends text a rest h)
+
+  -- and a rest is not longer than the text
+  pub rest_not_longer : (text : List ℕ) (a : A) (rest : List ℕ) → p.Reads text a rest → length rest ≤ length text
+  rest_not_longer text a rest h = end_not_longer text rest (length rest) refl (exact.rest_ends text a rest h)
+
+  -- a text that reads has no fault
+  pub no_fault_of : (text : List ℕ) (a : A) (rest : List ℕ) (left : ℕ) (e : Reason) → p.Reads text a rest →
+      IsFaultOf p text (Refused left e) → ⊥
+  no_fault_of text a rest left e reads (start, left_is, fault) = exact.not_both text a rest start e reads fault
 
   -- a text has one first fault
   pub one_first_fault : (text : List ℕ) (n m : ℕ) (e d : Reason) → IsFirstFaultIn p text n e → IsFirstFaultIn p text m d →

@@ -1,5 +1,5 @@
 -- Laws of parts: each is exact that is made of exact ones.
-use Rattle.std.proofs.Common.{◌≡◌, ◌≢◌, inl, inr, ℕ, List, [], ◌∷◌, ◌++◌, length, refl, sym, ap, subst, ◌∙◌, append-nil, append_assoc}
+use Rattle.std.proofs.Common.{◌≡◌, ◌≢◌, inl, inr, ℕ, List, [], ◌∷◌, ◌++◌, length, Result, Err, IfErr, refl, sym, ap, subst, ◌∙◌, append-nil, append_assoc}
 use Rattle.gj_lex.specs.declared.spelling.Spelling.{Spelling}
 use Rattle.gj_lex.specs.declared.spelling.Spelling.TheVariants.{Lenient, Strict}
 use Rattle.gj_lex.specs.declared.reason.Reason.{Reason}
@@ -7,7 +7,7 @@ use Rattle.gj_lex.specs.declared.reason.Reason.TheVariants.{Form, Tail}
 use Rattle.gj_lex.specs.declared.fault.PartFault.{PartFault}
 use Rattle.gj_lex.specs.declared.fault.PartFault.TheVariants.{Refused, Memory}
 use Rattle.gj_lex.specs.TextLines.{HasLine, HasNoLine, HasNothing, HasSomething}
-use Rattle.gj_lex.specs.Parts.{LineRule, words_rule, Part, line_part, empty_part, then_part, made_part, end_part, IsExactRule, IsExactPart, IsFaultOf, IsNoLine, IsTail}
+use Rattle.gj_lex.specs.Parts.{LineRule, words_rule, Part, line_part, empty_part, then_part, made_part, framed_part, end_part, IsExactRule, IsExactPart, IsFaultOf, IsNoLine, IsTail}
 use Rattle.gj_lex.proofs.LenientLines.{one_next_line, next_not_skipped, next_suffix}
 use Rattle.gj_lex.proofs.StrictLines.{one_strict_line, strict_suffix}
 
@@ -173,6 +173,16 @@ module _ {A B : Type 0} (Makes : A → B → Type 0) (one : (a : A) (b c : B) �
     fault_ends = exact.fault_ends;
   }
 
+pub framed_part_is_exact : {A : Type 0} (s : Spelling) (title : List (List ℕ)) (p : Part A) (end : List (List ℕ)) →
+    IsExactPart p.Reads p.Faults → IsExactPart (framed_part s title p end).Reads (framed_part s title p end).Faults
+framed_part_is_exact s title p end exact =
+    let end_line = line_part s (words_rule end) in
+    then_part_is_exact (line_part s (words_rule title)) (λ t. then_part p (λ a. then_part end_line (λ t. empty_part a)))
+    (line_part_is_exact s (words_rule title) (words_rule_is_exact title))
+    (λ t. then_part_is_exact p (λ a. then_part end_line (λ t. empty_part a)) exact
+    (λ a. then_part_is_exact end_line (λ t. empty_part a) (line_part_is_exact s (words_rule end) (words_rule_is_exact end))
+    (λ t. empty_part_is_exact a)))
+
 -- ---- the end of a text
 
 -- nothing follows, or something
@@ -200,6 +210,11 @@ end_part_is_exact sp a = record {
 }
 
 -- ---- what readers answer
+
+-- an error that is passed on has what the callee's has
+pub passed_on : {T : Type 0} (Q : PartFault → Type 0) (e y : PartFault) (r : Result T PartFault) → r ≡ Err y → y ≡ e → Q e →
+    IfErr r Q
+passed_on Q e y r is same h = rw (is, same) h
 
 module _ {A : Type 0} (sp : Spelling) (rule : LineRule A) where
   -- a line breaks the rule

@@ -51,6 +51,11 @@ then_part {A} p next = record {
 abbrev pub made_part : {A B : Type 0} → (A → B → Type 0) → Part A → Part B
 made_part {A} Makes p = record { Reads = λ text b rest. (a : A) × p.Reads text a rest × Makes a b; Faults = p.Faults }
 
+-- a line of the title's words, a part, and a line of the end's words
+abbrev pub framed_part : {A : Type 0} → Spelling → List (List ℕ) → Part A → List (List ℕ) → Part A
+framed_part s title p end =
+    then_part (line_part s (words_rule title)) (λ t. then_part p (λ a. then_part (line_part s (words_rule end)) (λ t. empty_part a)))
+
 -- the part of each state is read in turn: it leads to a next state, or ends with what the whole spells
 pub data ReadsInTurn {S A : Type 0} (Reads : S → List ℕ → S ⊎ A → List ℕ → Type 0) (a : A) (rest : List ℕ) : S → List ℕ → Type 0 where
   last : (s : S) (text : List ℕ) → Reads s text (inr a) rest → ReadsInTurn Reads a rest s text

@@ -1,3 +1,5 @@
+pub mod FunctionRead
 pub mod OneTextOfLines
 pub mod Places
+pub mod PointsRead
 pub mod PointLines

@@ -1,3 +1,4 @@
 pub mod PlaceFraction
 pub mod FunctionLines
 pub mod FunctionGrammar
+pub mod Reading

@@ -9,14 +9,19 @@ ghost use Rattle.gj_shape.specs.declared.points.Point.{Point};
 use gj_frac::Frac;
 use gj_lex::{print_count, print_frac};
 use gj_shape::{Point, Shape};
-use std::alloc::AllocError;
+use std::alloc::{AllocError, Global};
 
 /// Appends the line of a word and a fraction. An error says that memory ran out; `out` may then have a part of it.
-pub fn push_fraction_line(out: &mut Vec<u8>, word: &[u8], x: Frac) -> Result<(), AllocError>
+pub fn push_fraction_line(
+    alloc: Global,
+    out: &mut Vec<u8>,
+    word: &[u8],
+    x: Frac,
+) -> Result<(), AllocError>
     ensures { OnOk result (out.new.items ≡ out.old.items ++ fraction_line word.now x) }
 {
     out.extend_from_slice(word)?;
-    print_frac(out, x)?;
+    print_frac(alloc, out, x)?;
     out.push(b'\n')?;
     Ok(())
 }
@@ -24,20 +29,29 @@ pub fn push_fraction_line(out: &mut Vec<u8>, word: &[u8], x: Frac) -> Result<(),
 /// Appends the lines of a function: `order Q`, `f F`, and a line `point V` or `point L V R` for each multiple of 1/q.
 ///
 /// An error says that memory ran out; `out` may then have a part of the lines.
-pub fn push_function_lines(out: &mut Vec<u8>, shape: &Shape) -> Result<(), AllocError>
+pub fn push_function_lines(
+    alloc: Global,
+    out: &mut Vec<u8>,
+    shape: &Shape,
+) -> Result<(), AllocError>
     ensures { OnOk result ((lines : List ℕ) × AreFunctionLines shape.now lines
         × (out.new.items ≡ out.old.items ++ lines)) }
 {
-    push_head(out, shape.order(), ratio(shape.place(), shape.order()))?;
-    push_point_lines(out, shape)
+    push_head(
+        alloc,
+        out,
+        shape.order(),
+        ratio(shape.place(), shape.order()),
+    )?;
+    push_point_lines(alloc, out, shape)
 }
 
 /// Appends the lines of an order and a place.
-fn push_head(out: &mut Vec<u8>, order: u32, place: Frac) -> Result<(), AllocError>
+fn push_head(alloc: Global, out: &mut Vec<u8>, order: u32, place: Frac) -> Result<(), AllocError>
     ensures { OnOk result (out.new.items ≡ out.old.items ++ (order_line order ++ place_line place)) }
 {
     push_order_line(out, order)?;
-    push_fraction_line(out, b"f ", place)
+    push_fraction_line(alloc, out, b"f ", place)
 }
 
 /// Appends the line of an order.
@@ -59,12 +73,12 @@ fn ratio(n: u32, d: u32) -> Frac
 }
 
 /// Appends a point line for each multiple of 1/q.
-fn push_point_lines(out: &mut Vec<u8>, shape: &Shape) -> Result<(), AllocError>
+fn push_point_lines(alloc: Global, out: &mut Vec<u8>, shape: &Shape) -> Result<(), AllocError>
     ensures { OnOk result ((points : List Point) × ArePointsOf shape.now points
         × (out.new.items ≡ out.old.items ++ flat_map point_line points)) }
 {
     for i in 0..shape.order() {
-        push_point_line(out, point_at(shape, i))?;
+        push_point_line(alloc, out, point_at(shape, i))?;
     }
     Ok(())
 }
@@ -82,35 +96,35 @@ fn point_at(shape: &Shape, i: u32) -> Point
 }
 
 /// Appends the line of a point.
-fn push_point_line(out: &mut Vec<u8>, point: Point) -> Result<(), AllocError>
+fn push_point_line(alloc: Global, out: &mut Vec<u8>, point: Point) -> Result<(), AllocError>
     ensures { OnOk result (out.new.items ≡ out.old.items ++ point_line point) }
 {
     out.extend_from_slice(b"point ")?;
-    push_point(out, point)?;
+    push_point(alloc, out, point)?;
     out.push(b'\n')?;
     Ok(())
 }
 
 /// Appends the one fraction of a point, or the three where they are not equal.
-fn push_point(out: &mut Vec<u8>, point: Point) -> Result<(), AllocError>
+fn push_point(alloc: Global, out: &mut Vec<u8>, point: Point) -> Result<(), AllocError>
     ensures { OnOk result (out.new.items ≡ out.old.items ++ point_text point) }
 {
     if has_no_jump(point) {
-        return print_frac(out, point.value);
+        return print_frac(alloc, out, point.value);
     }
-    push_three(out, point)
+    push_three(alloc, out, point)
 }
 
 /// Appends the three fractions of a point, parted by blanks.
-fn push_three(out: &mut Vec<u8>, point: Point) -> Result<(), AllocError>
+fn push_three(alloc: Global, out: &mut Vec<u8>, point: Point) -> Result<(), AllocError>
     ensures { OnOk result (out.new.items ≡ out.old.items ++ (fraction_text point.left ++ codes " "
         ++ fraction_text point.value ++ codes " " ++ fraction_text point.right)) }
 {
-    print_frac(out, point.left)?;
+    print_frac(alloc, out, point.left)?;
     out.extend_from_slice(b" ")?;
-    print_frac(out, point.value)?;
+    print_frac(alloc, out, point.value)?;
     out.extend_from_slice(b" ")?;
-    print_frac(out, point.right)
+    print_frac(alloc, out, point.right)
 }
 
 /// Whether the limits are the value.

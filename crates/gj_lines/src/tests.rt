@@ -36,7 +36,7 @@ fn jumps_are_printed(rt: HostRuntime) -> Result<(), Fail> {
     points.push(jump(half, fraction(1, 1)?))?;
     let shape = points.shape(rt.alloc(), 2, 1)?;
     let mut text = Vec::new(rt.alloc());
-    push_function_lines(&mut text, &shape)?;
+    push_function_lines(rt.alloc(), &mut text, &shape)?;
     assert_eq!(rt;
         text.as_slice(),
         b"order 2\nf 1/2\npoint 1/2 0 1/2\npoint 1/2 1 1/2\n".as_slice()
@@ -51,7 +51,7 @@ fn continuous_functions_are_printed(rt: HostRuntime) -> Result<(), Fail> {
     points.push(even(fraction(-3, 4)?))?;
     let shape = points.shape(rt.alloc(), 2, 1)?;
     let mut text = Vec::new(rt.alloc());
-    push_function_lines(&mut text, &shape)?;
+    push_function_lines(rt.alloc(), &mut text, &shape)?;
     assert_eq!(rt;
         text.as_slice(),
         b"order 2\nf 1/2\npoint 0\npoint -3/4\n".as_slice()
