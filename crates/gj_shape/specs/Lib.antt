@@ -4,6 +4,7 @@ pub mod Denominators
 pub mod Points
 pub mod KeptPoints
 pub mod Table
+pub mod Gmic
 pub mod Violation
 pub mod Faces
 pub mod FirstViolation

@@ -1,0 +1,1 @@
+-- The closed forms, from whole numbers over one denominator.
