@@ -90,7 +90,8 @@ fn heights(
     let mut height = 0;
     for sign in signs {
         entries.push(height)?;
-        height += if *sign { falls } else { -rises };
+        let step = if *sign { falls } else { -rises };
+        height += step;
     }
     Ok(entries)
 }
