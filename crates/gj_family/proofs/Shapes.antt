@@ -1,5 +1,5 @@
 -- The closed forms, from whole numbers over one denominator.
-use Rattle.std.proofs.Common.{◌≡◌, ◌≢◌, ℕ, ◌+◌, ◌-◌, ◌*◌, ◌%◌, ◌<◌, ◌≤◌, ◌^◌, ℤ, pos, ◌*ℤ◌, [], ◌∷◌, List, Bool, true, false, length, unsigned_abs, eqb, if◌then◌else◌, refl, sym, ap, ap₂, subst, ◌∙◌, below_more, arith}
+use Rattle.std.proofs.Common.{◌≡◌, ◌≢◌, ℕ, ◌+◌, ◌-◌, ◌*◌, ◌%◌, ◌<◌, ◌≤◌, ◌^◌, ℤ, pos, ◌*ℤ◌, [], ◌∷◌, List, Bool, true, false, length, unsigned_abs, eqb, if◌then◌else◌, refl, sym, ap, subst, subst₂, ◌∙◌, below_more, arith}
 use Rattle.std.proofs.Math.Nat.{mul-pos, mod_self}
 use Rattle.std.proofs.lemmas.Bool.{eq-eqb, ne_eqb}
 use Rattle.std.proofs.lemmas.Int.{ints}
@@ -10,7 +10,7 @@ use Rattle.gj_shape.specs.Gmic.{gmic_table, gmic_scale}
 use Rattle.gj_shape.proofs.AtLemmas.{at_wrapped}
 use Rattle.gj_family.specs.Families.{IsGmic, IsHalf, IsTwoSlope}
 use Rattle.gj_family.specs.Numerators.{HasEntries, IsOver, doubled_value}
-use Rattle.gj_family.specs.Signs.{height}
+use Rattle.gj_family.specs.Signs.{rises, falls, sum_of_steps, height}
 use Rattle.gj_family.proofs.Entries.{same_entries, entries_everywhere}
 use Rattle.gj_family.proofs.Heights.{height_start, height_end}
 use Rattle.gj_family.proofs.Tables.{table_remainder, table_rising, table_falling, table_high}
@@ -105,6 +105,12 @@ doubled_small k i = small (eqb i 0) (eqb i k)
     small false false = omega arith
 
 -- ---- two slopes
+
+-- the sums of steps of the code are the heights
+pub heights_are : (up down n : ℕ) (signs : List Bool) (made read : List ℤ) → up ≡ falls signs → down ≡ rises signs → read ≡ made →
+    HasEntries (sum_of_steps up down signs) n made → HasEntries (height signs) n read
+heights_are up down n signs made read u d e h =
+    subst (HasEntries (height signs) n) (sym e) (subst₂ (λ x y. HasEntries (sum_of_steps x y signs) n made) u d h)
 
 pub two_slope_over : (k d : ℕ) (signs : List Bool) (values : List ℤ) (f : FunctionData) → 0 < d → pos d ≡ height signs k →
     HasEntries (height signs) (length signs) values → IsOver k d values values f → IsTwoSlope k signs f

@@ -10,15 +10,15 @@
 //! [`Shape`]: gj_shape::Shape
 #![tactic(auto)]
 
-mod constant;
 mod faults;
+mod halves;
 mod laws;
 mod mixed_integer;
 mod numerators;
 mod slopes;
 
-pub use constant::half;
 pub use faults::FamilyFault;
+pub use halves::half;
 pub use laws::gmic_is_gmic_table;
 pub use mixed_integer::gmic;
 pub use slopes::two_slope;

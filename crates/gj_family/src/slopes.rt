@@ -1,10 +1,10 @@
 //! Continuous functions with two slopes.
-ghost use Rattle.std.specs.Prelude.{◌≡◌, ◌≤◌, pos, IfOk, IfErr, OnOk, length, unsigned_abs};
+ghost use Rattle.std.specs.Prelude.{◌≡◌, ◌≤◌, ◌*◌, ◌-ℤ◌, pos, IfOk, IfErr, OnOk, length, unsigned_abs};
 ghost use Rattle.gj_shape.specs.FunctionData.{IsWithinBounds};
 ghost use Rattle.gj_family.specs.Families.{IsTwoSlope};
 ghost use Rattle.gj_family.specs.Faults.{HasTwoSlopeFault, HasNoTwoSlopeFault};
 ghost use Rattle.gj_family.specs.Numerators.{HasEntries};
-ghost use Rattle.gj_family.specs.Signs.{rises as rises_of, falls as falls_of, height as height_of};
+ghost use Rattle.gj_family.specs.Signs.{rises, falls, sum_of_steps};
 
 use crate::faults::FamilyFault;
 use crate::numerators::shape_over;
@@ -35,63 +35,63 @@ pub fn two_slope(alloc: Global, k: u32, signs: &[bool]) -> Result<Shape, FamilyF
     if k == 0 || k as usize >= signs.len() {
         return Err(FamilyFault::BadF);
     }
-    let height = height_at(signs, k as usize);
-    let rises = count_rises(signs);
-    let falls = count_falls(signs);
-    if rises == 0 || falls == 0 || height <= 0 {
+    let up = count_falls(signs);
+    let down = count_rises(signs);
+    let height = last_sum(&signs[..k as usize], up, down);
+    if up == 0 || down == 0 || height <= 0 {
         return Err(FamilyFault::NoSlopes);
     }
-    let entries = heights(alloc, signs, rises, falls)?;
+    let entries = sums_of_steps(alloc, signs, up, down)?;
     let values = entries.as_slice();
     Ok(shape_over(alloc, k, height as u32, values, values)?)
 }
 
 /// How many of the signs are rises.
-fn count_rises(signs: &[bool]) -> i64
+fn count_rises(signs: &[bool]) -> u32
     requires { length signs.now ≤ 1000 }
-    ensures { result ≡ pos (rises_of signs.now) }
+    ensures { result ≡ rises signs.now }
 {
-    signs.iter().filter(|sign| **sign).count() as i64
+    signs.iter().filter(|sign| **sign).count() as u32
 }
 
 /// How many of the signs are falls.
-fn count_falls(signs: &[bool]) -> i64
+fn count_falls(signs: &[bool]) -> u32
     requires { length signs.now ≤ 1000 }
-    ensures { result ≡ pos (falls_of signs.now) }
+    ensures { result ≡ falls signs.now }
 {
-    signs.iter().filter(|sign| !**sign).count() as i64
+    signs.iter().filter(|sign| !**sign).count() as u32
 }
 
-/// The height after the first k steps, where a rise goes up by the number of falls and a fall goes down by the number of
-/// rises.
-fn height_at(signs: &[bool], k: usize) -> i64
+/// The sum of all steps, where a rise goes up by `up` and a fall down by `down`.
+fn last_sum(signs: &[bool], up: u32, down: u32) -> i64
     requires few { length signs.now ≤ 1000 }
-    requires within { k ≤ length signs.now }
-    ensures height { result ≡ height_of signs.now k }
+    requires up_small { up ≤ 1000 }
+    requires down_small { down ≤ 1000 }
+    ensures sum { result ≡ pos (rises signs.now * up) -ℤ pos (falls signs.now * down) }
     ensures small { unsigned_abs result ≤ 1000000 }
 {
-    let before = &signs[..k];
-    count_rises(before) * count_falls(signs) - count_falls(before) * count_rises(signs)
+    i64::from(count_rises(signs) * up) - i64::from(count_falls(signs) * down)
 }
 
-/// The heights at 0, 1/q, .., (q - 1)/q, where q is the number of signs.
-fn heights(
+/// The sums of the first 0, 1, .., q - 1 steps, where a rise goes up by `up`, a fall goes down by `down`, and q is the
+/// number of signs.
+fn sums_of_steps(
     alloc: Global,
     signs: &[bool],
-    rises: i64,
-    falls: i64,
+    up: u32,
+    down: u32,
 ) -> Result<Vec<i64>, AllocError>
     requires few { length signs.now ≤ 1000 }
-    requires rises_are { rises ≡ pos (rises_of signs.now) }
-    requires falls_are { falls ≡ pos (falls_of signs.now) }
-    ensures { IfOk result (λ v. HasEntries (height_of signs.now) (length signs.now) v.items) }
+    requires up_small { up ≤ 1000 }
+    requires down_small { down ≤ 1000 }
+    ensures { IfOk result (λ v. HasEntries (sum_of_steps up down signs.now) (length signs.now) v.items) }
 {
-    let mut entries = Vec::with_capacity(alloc, signs.len())?;
-    let mut height = 0;
+    let mut sums = Vec::with_capacity(alloc, signs.len())?;
+    let mut sum = 0;
     for sign in signs {
-        entries.push(height)?;
-        let step = if *sign { falls } else { -rises };
-        height += step;
+        sums.push(sum)?;
+        let step = if *sign { i64::from(up) } else { -i64::from(down) };
+        sum += step;
     }
-    Ok(entries)
+    Ok(sums)
 }

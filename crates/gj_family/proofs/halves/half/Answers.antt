@@ -3,7 +3,7 @@ use Rattle.gj_family.specs.Families.{IsHalf}
 use Rattle.gj_family.specs.Numerators.{HasEntries, doubled_value}
 use Rattle.gj_family.proofs.Entries.{entries_small}
 use Rattle.gj_family.proofs.Shapes.{doubled_small, half_over}
-use Rattle.gj_family.proofs.constant.half.Goals as goal
+use Rattle.gj_family.proofs.halves.half.Goals as goal
 
 pub shape_over-requires-clause-limits_small : goal.shape_over-requires-clause-limits_small
 shape_over-requires-clause-limits_small c =

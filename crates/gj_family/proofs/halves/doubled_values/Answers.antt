@@ -2,8 +2,8 @@ use Rattle.std.proofs.Common.{◌≡◌, ◌∙◌, sym, w64, to_z}
 use Rattle.gj_family.specs.Numerators.{doubled_value}
 use Rattle.gj_family.proofs.Entries.{entries_pushed}
 use Rattle.gj_family.proofs.Shapes.{doubled_at_zero, doubled_at_place, doubled_elsewhere}
-use Rattle.gj_family.proofs.constant.doubled_values.Goals as goal
-use Rattle.gj_family.proofs.constant.doubled_values.Goals.{then-i-eq0, else-i-eq0+then-i-place, else-i-eq0+else-i-place}
+use Rattle.gj_family.proofs.halves.doubled_values.Goals as goal
+use Rattle.gj_family.proofs.halves.doubled_values.Goals.{then-i-eq0, else-i-eq0+then-i-place, else-i-eq0+else-i-place}
 
 pub loop-i-preserved : goal.loop-i-preserved
 loop-i-preserved c =
