@@ -1,0 +1,6 @@
+pub mod Entries
+pub mod Given
+pub mod Grids
+pub mod Heights
+pub mod Shapes
+pub mod Tables

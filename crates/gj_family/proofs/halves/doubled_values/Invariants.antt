@@ -1,0 +1,5 @@
+use Rattle.gj_family.specs.Numerators.{HasEntries, doubled_value}
+use Rattle.gj_family.proofs.halves.doubled_values.Given as goal
+
+abbrev pub invariant-loop-i : goal.invariant-loop-i
+invariant-loop-i l = HasEntries (doubled_value l.place) l.i l.entries.items

@@ -1,0 +1,6 @@
+use Rattle.std.proofs.Common.{pos}
+use Rattle.gj_family.specs.Numerators.{HasEntries}
+use Rattle.gj_family.proofs.halves.ones.Given as goal
+
+abbrev pub invariant-loop : goal.invariant-loop
+invariant-loop l = HasEntries (λ _. pos 1) l.counter l.entries.items

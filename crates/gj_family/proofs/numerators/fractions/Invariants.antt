@@ -1,0 +1,10 @@
+use Rattle.std.proofs.Common.{◌≡◌, length}
+use Rattle.gj_shape.specs.FunctionData.{at}
+use Rattle.gj_shape.specs.Given.{AreOver}
+use Rattle.gj_family.proofs.numerators.fractions.Given as goal
+
+abbrev pub invariant-loop-i : goal.invariant-loop-i
+invariant-loop-i l = record {
+  count : length l.items.items ≡ l.i;
+  fractions : AreOver (at l.numerators) l.denominator l.items.items;
+}

@@ -1,0 +1,4 @@
+pub mod Families
+pub mod Faults
+pub mod Numerators
+pub mod Signs

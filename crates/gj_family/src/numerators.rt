@@ -1,0 +1,78 @@
+//! Functions by whole numbers over one denominator.
+ghost use Rattle.std.specs.Prelude.{◌≡◌, ◌<◌, ◌^◌, pos, All, IfOk, length};
+ghost use Rattle.gj_frac.specs.Fraction.{IsRatio};
+ghost use Rattle.gj_shape.specs.FunctionData.{IsSmallOver, at};
+ghost use Rattle.gj_shape.specs.Given.{AreOver, IsOrder, IsPlace};
+ghost use Rattle.gj_family.specs.Numerators.{IsMemory, IsOver};
+
+use gj_frac::Frac;
+use gj_shape::{Shape, ShapeFault};
+use std::alloc::{AllocError, Global};
+
+/// The fraction with this numerator and denominator.
+fn fraction(numerator: i64, denominator: u32) -> Frac
+    requires { 0 < denominator }
+    ensures { IsRatio result numerator (pos denominator) }
+{
+    Frac::new(i128::from(numerator), i128::from(denominator)).unwrap()
+}
+
+/// The whole numbers over the denominator.
+fn fractions(
+    alloc: Global,
+    numerators: &[i64],
+    denominator: u32,
+) -> Result<Vec<Frac>, AllocError>
+    requires { 0 < denominator }
+    ensures length { IfOk result (λ v. length v.items ≡ length numerators.now) }
+    ensures fractions { IfOk result (λ v. AreOver (at numerators.now) denominator v.items) }
+{
+    let mut items = Vec::with_capacity(alloc, numerators.len())?;
+    for i in 0..numerators.len() {
+        items.push(fraction(numerators[i], denominator))?;
+    }
+    Ok(items)
+}
+
+/// The function with f at this place whose values, and whose limits from both sides, are these whole numbers over the
+/// denominator. Its order is their number.
+pub(crate) fn shape_over(
+    alloc: Global,
+    place: u32,
+    denominator: u32,
+    limits: &[i64],
+    values: &[i64],
+) -> Result<Shape, AllocError>
+    requires order { IsOrder (length values.now) }
+    requires place_fits { IsPlace (length values.now) place }
+    requires lengths { length limits.now ≡ length values.now }
+    requires low { 0 < denominator }
+    requires high { denominator < 2 ^ 31 }
+    requires limits_small { All (IsSmallOver denominator) limits.now }
+    requires values_small { All (IsSmallOver denominator) values.now }
+    ensures { IfOk result (IsOver place denominator limits.now values.now) }
+{
+    let sides = fractions(alloc, limits, denominator)?;
+    let middle = fractions(alloc, values, denominator)?;
+    match Shape::new(
+        alloc,
+        values.len() as u32,
+        place,
+        sides.as_slice(),
+        middle.as_slice(),
+        sides.as_slice(),
+    ) {
+        Ok(shape) => Ok(shape),
+        Err(fault) => Err(want_of_memory(fault)),
+    }
+}
+
+/// The want of memory that the fault is.
+fn want_of_memory(fault: ShapeFault) -> AllocError
+    requires { IsMemory fault }
+{
+    match fault {
+        ShapeFault::Memory(error) => error,
+        _ => unreachable!(),
+    }
+}
