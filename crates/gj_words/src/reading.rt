@@ -45,7 +45,7 @@ pub fn read_words(alloc: Global, words: &[String]) -> Result<Request, WordFault>
 
 /// Whether each word is the flag or does not begin with `-`.
 fn has_plain_words(words: &[String]) -> bool
-    ensures { result ≡ list_all is_plain (map string_bytes words.now) }
+    ensures { result ≡ list_all (λ word. is_plain (string_bytes word)) words.now }
 {
     words.iter().all(|word| is_plain_word(word.as_str()))
 }
