@@ -1,10 +1,11 @@
 -- The words that spell a request.
-use Rattle.std.proofs.Common.{nat_eq, ◌≡◌, ◌≤◌, ◌∙◌, ℕ, Bool, true, false, not, cond, List, [], ◌∷◌, Option, None, Some, codes, decimal, get_or, length, refl, sym, ap, ap₂, subst, arith}
+use Rattle.std.proofs.Common.{MatchResult, Result, Ok, Err, nat_eq, ◌≡◌, ◌≢◌, ◌≤◌, ◌∙◌, ℕ, Bool, true, false, not, cond, List, [], ◌∷◌, Option, None, Some, codes, decimal, get_or, length, refl, sym, ap, ap₂, subst, arith}
 use Rattle.std.proofs.lemmas.Bool.{and_parts}
 use Rattle.std.proofs.lemmas.Bool.Decides.{nat_tests}
 use Rattle.std.proofs.lemmas.Fmt.{decimal_is_IsNumeral}
 use Rattle.std.proofs.lemmas.List.Sums.{length-filter}
 use Rattle.std.specs.List.{list_all}
+use Rattle.std.specs.Result.{IsErrAnd}
 use Rattle.std.specs.Str.{bytes_eq}
 use Rattle.std.specs.Str.Parse.{digits_value}
 use Rattle.gj_words.specs.Bare.{bare_words, begins_with_hyphen, flag_count, has_flag, is_flag, is_plain}
@@ -14,6 +15,8 @@ use Rattle.gj_words.specs.declared.line.Line.{Line}
 use Rattle.gj_words.specs.declared.requests.Command.{Command}
 use Rattle.gj_words.specs.declared.requests.Command.TheVariants.{Minimal, Extreme, Cut, Check, Show, Faces, Demo}
 use Rattle.gj_words.specs.declared.requests.Request.{Request}
+use Rattle.gj_words.specs.declared.requests.WordFault.{WordFault}
+use Rattle.gj_words.specs.declared.requests.WordFault.TheVariants.{Refused}
 use Rattle.gj_words.proofs.Flags.{Facts, are_hyphenless, facts_of, once, placed}
 use Rattle.gj_words.proofs.Numbers.{first_of_number}
 use Rattle.gj_words.proofs.Tokens.{Text}
@@ -108,3 +111,20 @@ request_spelled words line r is s =
       json = json;
       allowed = λ given. s.allowed (json ∙ given);
     }
+
+-- words that are none or more than two without the flag spell no request
+pub unnamed : (words : List Text) → ((name : Text) (rest : List Text) → length rest ≤ 1 → bare_words words ≢ name ∷ rest) → (r : Request) → ¬ SpellRequest words r
+unnamed words none r s =
+    let shape = one_or_two r.command in
+    none shape.0 shape.1 shape.2 ((facts words r s).bare_is ∙ shape.3)
+
+-- an error that is handed on and is not `Refused`
+pub fault_up : (r : Request) (result : Result Request WordFault) (e : WordFault) → IsErrAnd result (λ fault. fault ≡ e) → e ≢ Refused
+    → MatchResult result (λ found. found ≡ r) (λ fault. fault ≢ Refused)
+fault_up r (Ok found) e h other = absurd h
+fault_up r (Err fault) e h other = λ is. other (sym h ∙ is)
+
+-- words that spell a request are not refused
+pub not_refused : (r : Request) (result : Result Request WordFault) → MatchResult result (λ found. found ≡ r) (λ fault. fault ≢ Refused) → result ≢ Err Refused
+not_refused r (Ok found) h is = cc
+not_refused r (Err fault) h is = h (cc)
