@@ -1,8 +1,8 @@
 -- What the matches of `clap` say of the words.
-use Rattle.std.proofs.Common.{◌≡◌, ◌≢◌, ◌≤◌, ◌∙◌, ◌⊎◌, inl, inr, Bool, true, false, List, [], ◌∷◌, Option, None, Some, codes, length, refl, sym, ap, subst}
+use Rattle.std.proofs.Common.{◌≡◌, ◌≢◌, ◌≤◌, ◌∙◌, inl, inr, Bool, true, false, List, [], ◌∷◌, Option, Some, codes, length, sym, ap, subst}
 use Rattle.std.specs.Option.{option_to_list}
 use Rattle.std.specs.List.{list_all}
-use Rattle.clap.specs.Words.{App, HasKind, Row, first_of, first_value, found_of, is_simple, is_simple_and_free, kind_of, matches_of, one_of, one_text, rows_of}
+use Rattle.clap.specs.Words.{App, HasKind, first_of, first_value, found_of, is_simple, is_simple_and_free, kind_of, matches_of, one_of, one_text, rows_of}
 use Rattle.clap.specs.Faults.{fault_of}
 use Rattle.clap.specs.declared.error.Error.{Error}
 use Rattle.clap.specs.declared.error.kind.ErrorKind.TheVariants.{OutOfMemory}
@@ -10,7 +10,7 @@ use Rattle.clap.specs.declared.parser.matches.ArgMatches.{ArgMatches}
 use Rattle.clap.proofs.WalkLemmas.{first_value-rows, one_text-rows}
 use Rattle.gj_words.specs.Bare.{bare_words, flag_count, has_flag, is_plain}
 use Rattle.gj_words.specs.Parser.{our_app}
-use Rattle.gj_words.proofs.Tokens.{Found, Parsed, Text, flag_text, found_in, left, parsed_words, taken}
+use Rattle.gj_words.proofs.Tokens.{Found, Parsed, Text, flag_text, left, parsed_words, taken}
 
 -- the contracts of `clap` speak of our command line in both outcomes
 pub simple : (app : App) → app ≡ our_app → is_simple app ≡ true

@@ -1,16 +1,14 @@
 -- The words that spell a request.
-use Rattle.std.proofs.Common.{MatchResult, Result, Ok, Err, nat_eq, ◌≡◌, ◌≢◌, ◌≤◌, ◌∙◌, ℕ, Bool, true, false, not, cond, List, [], ◌∷◌, Option, None, Some, codes, decimal, get_or, length, refl, sym, ap, ap₂, subst, arith}
-use Rattle.std.proofs.lemmas.Bool.{and_parts}
+use Rattle.std.proofs.Common.{MatchResult, Result, Ok, Err, nat_eq, ◌≡◌, ◌≢◌, ◌≤◌, ◌∙◌, ℕ, true, false, cond, List, [], ◌∷◌, codes, decimal, get_or, length, refl, sym, ap, subst, arith}
 use Rattle.std.proofs.lemmas.Bool.Decides.{nat_tests}
 use Rattle.std.proofs.lemmas.Fmt.{decimal_is_IsNumeral}
 use Rattle.std.proofs.lemmas.List.Sums.{length-filter}
-use Rattle.std.specs.List.{list_all}
 use Rattle.std.specs.Result.{IsErrAnd}
 use Rattle.std.specs.Str.{bytes_eq}
 use Rattle.std.specs.Str.Parse.{digits_value}
-use Rattle.gj_words.specs.Bare.{bare_words, begins_with_hyphen, flag_count, has_flag, is_flag, is_plain}
-use Rattle.gj_words.specs.Grammar.{HasFlag, IsInBounds, SpellRequest, command_words, takes_json}
-use Rattle.gj_words.specs.Line.{IsLineOf, IsRequestOf, bare_words_of}
+use Rattle.gj_words.specs.Bare.{bare_words, flag_count, has_flag, is_flag}
+use Rattle.gj_words.specs.Grammar.{HasFlag, IsInBounds, SpellRequest, command_words}
+use Rattle.gj_words.specs.Line.{IsLineOf, IsRequestOf}
 use Rattle.gj_words.specs.declared.line.Line.{Line}
 use Rattle.gj_words.specs.declared.requests.Command.{Command}
 use Rattle.gj_words.specs.declared.requests.Command.TheVariants.{Minimal, Extreme, Cut, Check, Show, Faces, Demo}

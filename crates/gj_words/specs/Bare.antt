@@ -1,6 +1,6 @@
 -- What the words are without the flag.
 use Rattle.std.specs.Prelude.{nat_eq, ◌||◌, ℕ, Bool, false, not, List, [], ◌∷◌, count_by, filter}
-use Rattle.std.specs.List.{list_all, list_any}
+use Rattle.std.specs.List.{list_any}
 use Rattle.std.specs.Str.{bytes_eq}
 use Rattle.gj_words.specs.Grammar.{json_word}
 

@@ -1,8 +1,7 @@
-use Rattle.std.proofs.Common.{◌≡◌, ◌∙◌, ap, ap₂, rules}
+use Rattle.std.proofs.Common.{◌≡◌, ◌∙◌, ap₂, rules}
 use Rattle.std.proofs.lemmas.Result.{IfOk-weaker}
-use Rattle.clap.specs.Words.{App, app_of, rule_of, with_rule}
-use Rattle.clap.specs.declared.builder.command.Command.{Command}
-use Rattle.gj_words.specs.Parser.{bare_app, json_rule, name_rule, number_rule, our_app}
+use Rattle.clap.specs.Words.{app_of, rule_of, with_rule}
+use Rattle.gj_words.specs.Parser.{bare_app, json_rule, name_rule, number_rule}
 use Rattle.gj_words.proofs.line.our_command.Goals as goal
 
 pub returns : goal.returns

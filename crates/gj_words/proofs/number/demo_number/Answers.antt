@@ -1,4 +1,4 @@
-use Rattle.std.proofs.Common.{◌≡◌, ◌∙◌, ◌≤◌, List, ℕ, decimal, get_or, false, true, ap, refl, sym, arith}
+use Rattle.std.proofs.Common.{◌≡◌, ◌∙◌, ◌≤◌, decimal, get_or, false, true, ap, refl, sym, arith}
 use Rattle.gj_words.proofs.Numbers.{first_of_number, number_read, number_spelled}
 use Rattle.gj_words.proofs.number.demo_number.Goals as goal
 

@@ -1,6 +1,5 @@
 use Rattle.std.proofs.Common.{◌≡◌, ◌∙◌, ◌≤◌, map, Some, None, true, false, refl, sym, arith}
 use Rattle.std.proofs.lemmas.List.Folds.{list_all-map}
-use Rattle.std.specs.List.{list_all}
 use Rattle.std.specs.String.{string_bytes}
 use Rattle.gj_words.specs.Bare.{flag_count, is_plain}
 use Rattle.gj_words.proofs.Spelling.{facts, fault_up, not_refused, one, request_spelled, spelled, spelled_once, unnamed}
