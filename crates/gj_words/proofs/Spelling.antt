@@ -96,7 +96,7 @@ spelled words line r few is of =
       in_bounds = of.in_bounds;
       allowed = λ given. of.allowed (sym of.json ∙ given);
       placed = subst (λ b. HasFlag b (command_words r.command) words) json
-      (subst (λ ws. HasFlag (has_flag words) ws words) bare (placed words (omega (arith, length-filter is_flag words))));
+          (subst (λ ws. HasFlag (has_flag words) ws words) bare (placed words (omega (arith, length-filter is_flag words))));
     }
 
 pub request_spelled : (words : List Text) (line : Line) (r : Request) → IsLineOf words line → SpellRequest words r → IsRequestOf line r

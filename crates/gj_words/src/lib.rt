@@ -2,11 +2,13 @@
 //!
 //! A command line is one command word, `minimal`, `extreme`, `cut`, `check`, `show`, `faces` or `demo`,
 //! and after `demo` alone a number from 1 to 249 in digits, without a leading zero. The flag `--json` may
-//! stand once, at any place, with `minimal`, `extreme` and `show`. Nothing else is taken: no other word
-//! that begins with `-` is known, `--` and `--help` neither.
+//! stand once, at any place, with `minimal`, `extreme` and `show`. Every other word that begins with `-` is
+//! refused, so `--` and `--help` are.
 //!
-//! `read_words` reads the words with the crate `clap`, as a command with two positionals and one flag. The
-//! grammar itself stands in `specs/`: it says which words spell which request.
+//! The grammar stands in `specs/Grammar.antt`, which says what words spell what request, and `one_request`
+//! says that they spell at most one. `read_words` gives that request. It tells the words apart by the crate
+//! `clap`, which knows a command line as two positionals and one flag; how often the flag stands, which words
+//! begin with `-` and what the number is are tests of this crate's own.
 #![tactic(auto)]
 
 mod laws;
@@ -19,3 +21,5 @@ pub use laws::one_request;
 pub use reading::read_words;
 pub use requests::{Command, Request, WordFault};
 
+#[cfg(test)]
+mod tests;

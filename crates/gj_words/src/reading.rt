@@ -21,16 +21,18 @@ const FLAG: &str = "--json";
 ///
 /// `Refused` where they spell none.
 ///
-/// ```
-/// let words = vec![in alloc; String::from_str(alloc, "--json")?, String::from_str(alloc, "show")?]?;
+/// ```text
+/// let words = [String::from_str(alloc, "--json")?, String::from_str(alloc, "show")?];
 /// let request = read_words(alloc, words.as_slice())?;
-/// assert_eq!(rt; request.command, Command::Show);
-/// assert!(rt; request.json);
+/// // request is Request { command: Command::Show, json: true }
 /// ```
 pub fn read_words(alloc: Global, words: &[String]) -> Result<Request, WordFault>
+    // What is read is spelled by the words.
     ensures ok { IfOk result (SpellRequest (map string_bytes words.now)) }
+    // Words that spell a request are read as it, unless there is no memory.
     ensures only { (request : Request) → SpellRequest (map string_bytes words.now) request →
         MatchResult result (λ found. found ≡ request) (λ fault. fault ≢ WordFault.Refused) }
+    // Words that are refused spell no request.
     ensures refused { result ≡ Err WordFault.Refused → (request : Request) → ¬ SpellRequest (map string_bytes words.now) request }
 {
     if !has_plain_words(words) || flags_in(words) > 1 {
@@ -83,7 +85,10 @@ fn request_of(line: &Line) -> Option<Request>
     if line.json && !may_take_json(command) {
         return None;
     }
-    Some(Request { command, json: line.json })
+    Some(Request {
+        command,
+        json: line.json,
+    })
 }
 
 /// Whether the flag may stand with the command.

@@ -17,11 +17,11 @@ pub enum Command {
     Cut,
     /// Checks a proof text.
     Check,
-    /// Prints a function in its one spelling.
+    /// Prints a function in its one canonical spelling.
     Show,
     /// Prints the additive faces of a function.
     Faces,
-    /// Decides a function of its own making, of this size.
+    /// Decides a function that no text has to give, of order 2(2n + 1) for this number n.
     Demo(u32),
 }
 
