@@ -1,0 +1,5 @@
+pub mod Flags
+pub mod Matches
+pub mod Numbers
+pub mod Spelling
+pub mod Tokens

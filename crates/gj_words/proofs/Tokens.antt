@@ -1,0 +1,132 @@
+-- The words of a command line as tokens, and what `clap` makes of them.
+use Rattle.std.proofs.Common.{◌≡◌, ◌≢◌, ◌≤◌, ◌∙◌, ℕ, suc, Bool, true, false, not, ◌||◌, List, [], ◌∷◌, Option, None, Some, codes, filter, length, map, refl, sym, ap, subst, arith}
+use Rattle.std.proofs.lemmas.Bool.{and_parts}
+use Rattle.std.proofs.lemmas.List.Sums.{length-filter}
+use Rattle.std.proofs.lemmas.Slice.Eq.{bytes_eq-Decides}
+use Rattle.std.specs.Option.{option_to_list}
+use Rattle.std.specs.List.{list_all}
+use Rattle.std.specs.Str.{bytes_eq}
+use Rattle.clap.specs.Lexer.{long_of, short_of}
+use Rattle.clap.specs.Words.{first_of, matches_of, one_of}
+use Rattle.clap.specs.Kinds.{Kinds}
+use Rattle.clap.specs.Faults.{fault_of}
+use Rattle.clap.specs.declared.error.kind.ErrorKind.TheVariants.{MissingRequiredArgument, UnknownArgument}
+use Rattle.clap.proofs.OnLiterals.{clap_on_literals}
+use Rattle.gj_words.specs.Bare.{bare_words, begins_with_hyphen, flag_count, has_flag, is_flag, is_plain}
+use Rattle.gj_words.specs.Grammar.{json_word}
+use Rattle.gj_words.specs.Parser.{our_app}
+
+abbrev pub Text : Type 0
+Text = List ℕ
+
+-- ---- tokens
+
+-- a word that is no flag, neither to us nor to `clap`
+pub record IsBare (word : Text) : Type 0 where
+  pub no_flag : is_flag word ≡ false
+  pub no_dashes : bytes_eq word (45 ∷ 45 ∷ []) ≡ false
+  pub no_long : long_of word ≡ None
+  pub no_short : short_of word ≡ None
+
+is_bare : (word : Text) → begins_with_hyphen word ≡ false → IsBare word
+is_bare [] h = record { no_flag = refl; no_dashes = refl; no_long = refl; no_short = refl }
+is_bare (byte ∷ rest) h = record { no_flag = rw h refl; no_dashes = rw h refl; no_long = rw h refl; no_short = rw h refl }
+
+pub data Token : Type 0 where
+  flag : Token
+  bare : (word : Text) → IsBare word → Token
+
+abbrev pub spelled : Token → Text
+spelled flag = json_word
+spelled (bare word h) = word
+
+token_of : (word : Text) → is_plain word ≡ true → (t : Token) × (spelled t ≡ word)
+token_of word plain = go (is_flag word) (begins_with_hyphen word) refl refl plain
+  where
+    go : (f b : Bool) → is_flag word ≡ f → begins_with_hyphen word ≡ b → (f || not b) ≡ true → (t : Token) × (spelled t ≡ word)
+    go true b is first h = (flag, sym ((bytes_eq-Decides word json_word).0 is))
+    go false false is first h = (bare word (is_bare word first), refl)
+    go false true is first h = absurd (cc)
+
+tokens_of : (words : List Text) → list_all is_plain words ≡ true → (ts : List Token) × (map spelled ts ≡ words)
+tokens_of [] plain = ([], refl)
+tokens_of (word ∷ rest) plain =
+    let parts = and_parts (is_plain word) (list_all is_plain rest) plain in
+    let one = token_of word parts.0 in
+    let more = tokens_of rest parts.1 in
+    (one.0 ∷ more.0, (λ i. one.1 i ∷ more.1 i))
+
+-- ---- what `clap` makes of them
+
+-- the kinds of its error; the command word, the number and the flag that it finds; and the words without the flag, and whether it stands there
+abbrev pub Found : Type 0
+Found = Kinds × Option Text × Option Text × Option Text × List Text × Bool
+
+abbrev pub found_in : List Text → Found
+found_in words = (
+  fault_of our_app words,
+  first_of (codes "command") (matches_of our_app words),
+  first_of (codes "number") (matches_of our_app words),
+  one_of (codes "json") (matches_of our_app words),
+  bare_words words,
+  has_flag words,
+)
+
+abbrev pub flag_text : Bool → Text
+flag_text true = codes "true"
+flag_text false = codes "false"
+
+-- it takes the words, or does not and has to
+pub data Parsed (words : List Text) : Type 0 where
+  taken : (name : Text) (number : Option Text) (json : Bool)
+      → found_in words ≡ ([], Some name, number, Some (flag_text json), name ∷ option_to_list number, json) → Parsed words
+  left : (fault_of our_app words ≡ [] → ⊥) → ((name : Text) (rest : List Text) → length rest ≤ 1 → bare_words words ≢ name ∷ rest) → Parsed words
+
+-- it has to leave words that are three or more without the flag
+stray : (words : List Text) (a b c : Text) (more : List Text) → bare_words words ≡ a ∷ b ∷ c ∷ more → fault_of our_app words ≡ UnknownArgument ∷ [] → Parsed words
+stray words a b c more is fault = left (λ none. cc) (λ name rest few e. omega (arith, ap length (sym is ∙ e)))
+
+-- and those that are none
+unnamed : (words : List Text) → bare_words words ≡ [] → fault_of our_app words ≡ MissingRequiredArgument ∷ [] → Parsed words
+unnamed words is fault = left (λ none. cc) (λ name rest few e. cc)
+
+parsed : (ts : List Token) → length (filter is_flag (map spelled ts)) ≤ 1 → Parsed (map spelled ts)
+unfolding clap_on_literals
+parsed [] once = unnamed [] refl refl
+parsed (flag ∷ []) once = unnamed (json_word ∷ []) refl refl
+parsed (flag ∷ flag ∷ ts) once = let few : suc (suc (length (filter is_flag (map spelled ts)))) ≤ 1 = once in absurd (omega arith)
+parsed (flag ∷ bare a h ∷ []) once = taken a None true (rw (h.no_flag, h.no_dashes, h.no_long, h.no_short) refl)
+parsed (flag ∷ bare a h ∷ flag ∷ ts) once = absurd (let few = rw h.no_flag at once in omega arith)
+parsed (flag ∷ bare a h ∷ bare b k ∷ []) once =
+    taken a (Some b) true (rw (h.no_flag, h.no_dashes, h.no_long, h.no_short) (rw (k.no_flag, k.no_dashes, k.no_long, k.no_short) refl))
+parsed (flag ∷ bare a h ∷ bare b k ∷ flag ∷ ts) once = absurd (let few = rw (h.no_flag, k.no_flag) at once in omega arith)
+parsed (flag ∷ bare a h ∷ bare b k ∷ bare c l ∷ ts) once =
+    stray _ a b c (bare_words (map spelled ts)) (rw (h.no_flag, k.no_flag, l.no_flag) refl)
+    (rw (h.no_dashes, h.no_long, h.no_short) (rw (k.no_dashes, k.no_long, k.no_short) (rw (l.no_dashes, l.no_long, l.no_short) refl)))
+parsed (bare a h ∷ []) once = taken a None false (rw (h.no_flag, h.no_dashes, h.no_long, h.no_short) refl)
+parsed (bare a h ∷ flag ∷ []) once = taken a None true (rw (h.no_flag, h.no_dashes, h.no_long, h.no_short) refl)
+parsed (bare a h ∷ flag ∷ flag ∷ ts) once = absurd (let few = rw h.no_flag at once in omega arith)
+parsed (bare a h ∷ flag ∷ bare b k ∷ []) once =
+    taken a (Some b) true (rw (h.no_flag, h.no_dashes, h.no_long, h.no_short) (rw (k.no_flag, k.no_dashes, k.no_long, k.no_short) refl))
+parsed (bare a h ∷ flag ∷ bare b k ∷ flag ∷ ts) once = absurd (let few = rw (h.no_flag, k.no_flag) at once in omega arith)
+parsed (bare a h ∷ flag ∷ bare b k ∷ bare c l ∷ ts) once =
+    stray _ a b c (bare_words (map spelled ts)) (rw (h.no_flag, k.no_flag, l.no_flag) refl)
+    (rw (h.no_dashes, h.no_long, h.no_short) (rw (k.no_dashes, k.no_long, k.no_short) (rw (l.no_dashes, l.no_long, l.no_short) refl)))
+parsed (bare a h ∷ bare b k ∷ []) once =
+    taken a (Some b) false (rw (h.no_flag, h.no_dashes, h.no_long, h.no_short) (rw (k.no_flag, k.no_dashes, k.no_long, k.no_short) refl))
+parsed (bare a h ∷ bare b k ∷ flag ∷ []) once =
+    taken a (Some b) true (rw (h.no_flag, h.no_dashes, h.no_long, h.no_short) (rw (k.no_flag, k.no_dashes, k.no_long, k.no_short) refl))
+parsed (bare a h ∷ bare b k ∷ flag ∷ flag ∷ ts) once = absurd (let few = rw (h.no_flag, k.no_flag) at once in omega arith)
+parsed (bare a h ∷ bare b k ∷ flag ∷ bare c l ∷ ts) once =
+    stray _ a b c (bare_words (map spelled ts)) (rw (h.no_flag, k.no_flag, l.no_flag) refl)
+    (rw (h.no_dashes, h.no_long, h.no_short) (rw (k.no_dashes, k.no_long, k.no_short) (rw (l.no_dashes, l.no_long, l.no_short) refl)))
+parsed (bare a h ∷ bare b k ∷ bare c l ∷ ts) once =
+    stray _ a b c (bare_words (map spelled ts)) (rw (h.no_flag, k.no_flag, l.no_flag) refl)
+    (rw (h.no_dashes, h.no_long, h.no_short) (rw (k.no_dashes, k.no_long, k.no_short) (rw (l.no_dashes, l.no_long, l.no_short) refl)))
+
+-- plain words with the flag once at most are taken, or are left where they have to be
+pub parsed_words : (words : List Text) → list_all is_plain words ≡ true → flag_count words ≤ 1 → Parsed words
+parsed_words words plain once =
+    let tokens = tokens_of words plain in
+    let few : length (filter is_flag words) ≤ 1 = omega (arith, length-filter is_flag words) in
+    subst Parsed tokens.1 (parsed tokens.0 (subst (λ ws. length (filter is_flag ws) ≤ 1) (sym tokens.1) few))

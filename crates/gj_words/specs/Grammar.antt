@@ -1,0 +1,42 @@
+-- The words of a command line, and the request that they spell. Source: own.
+use Rattle.std.specs.Prelude.{◌≡◌, ◌≤◌, ℕ, Bool, true, false, List, [], ◌∷◌, ◌++◌, codes, decimal}
+use Rattle.gj_words.specs.declared.requests.Command.{Command}
+use Rattle.gj_words.specs.declared.requests.Command.TheVariants.{Minimal, Extreme, Cut, Check, Show, Faces, Demo}
+use Rattle.gj_words.specs.declared.requests.Request.{Request}
+
+-- the words of a command
+abbrev pub command_words : Command → List (List ℕ)
+command_words Minimal = codes "minimal" ∷ []
+command_words Extreme = codes "extreme" ∷ []
+command_words Cut = codes "cut" ∷ []
+command_words Check = codes "check" ∷ []
+command_words Show = codes "show" ∷ []
+command_words Faces = codes "faces" ∷ []
+command_words (Demo n) = codes "demo" ∷ decimal n ∷ []
+
+-- the number of `demo` lies from 1 to 249
+abbrev pub IsInBounds : Command → Type 0
+IsInBounds (Demo n) = (1 ≤ n) × (n ≤ 249)
+IsInBounds _ = Unit {0}
+
+-- the commands with which the flag may stand
+abbrev pub takes_json : Command → Bool
+takes_json Minimal = true
+takes_json Extreme = true
+takes_json Show = true
+takes_json _ = false
+
+-- the word of the flag
+abbrev pub json_word : List ℕ
+json_word = codes "--json"
+
+-- the words are these with the flag once at any place, or where it is not given these alone
+abbrev pub HasFlag : Bool → List (List ℕ) → List (List ℕ) → Type 0
+HasFlag true bare words = (front : List (List ℕ)) × (back : List (List ℕ)) × (bare ≡ front ++ back) × (words ≡ front ++ json_word ∷ back)
+HasFlag false bare words = words ≡ bare
+
+-- the words spell the request
+pub record SpellRequest (words : List (List ℕ)) (request : Request) : Type 0 where
+  pub in_bounds : IsInBounds request.command
+  pub allowed : request.json ≡ true → takes_json request.command ≡ true
+  pub placed : HasFlag request.json (command_words request.command) words

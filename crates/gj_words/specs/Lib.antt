@@ -1,0 +1,4 @@
+pub mod Bare
+pub mod Grammar
+pub mod Line
+pub mod Parser

@@ -1,0 +1,79 @@
+//! A command line, its words told apart by `clap`.
+
+ghost use Rattle.std.specs.Prelude.{◌≡◌, ◌≢◌, ◌≤◌, ◌↔◌, ◌∷◌, ℕ, List, true, codes, length, map, Err, IfOk};
+ghost use Rattle.std.specs.List.{list_all};
+ghost use Rattle.std.specs.String.{string_bytes};
+ghost use Rattle.gj_words.specs.Bare.{bare_words, flag_count, is_plain};
+ghost use Rattle.gj_words.specs.Line.{IsLineOf};
+ghost use Rattle.gj_words.specs.Parser.{our_app};
+ghost use Rattle.clap.specs.Words.{app_of, kind_of};
+
+use crate::requests::WordFault;
+use clap::error::ErrorKind;
+use clap::{Arg, ArgAction};
+use std::alloc::{AllocError, Global};
+
+/// The words of a command line, told apart.
+#[derive(Clone, Copy)]
+pub(crate) struct Line<'a> {
+    /// The first word that is not the flag.
+    pub(crate) name: &'a str,
+    /// The second, where there is one.
+    pub(crate) number: Option<&'a str>,
+    /// Whether the flag is given.
+    pub(crate) json: bool,
+}
+
+/// The command line of these words, each of which is the flag or does not begin with `-`.
+///
+/// `Refused` where none or more than two of them are left without the flag.
+pub(crate) fn parse<'a>(alloc: Global, words: &'a [String]) -> Result<Line<'a>, WordFault>
+    requires plain { list_all is_plain (map string_bytes words.now) ≡ true }
+    requires once { flag_count (map string_bytes words.now) ≤ 1 }
+    ensures ok { IfOk result (IsLineOf (map string_bytes words.entry.now)) }
+    ensures refused { result ≡ Err WordFault.Refused → (name : List ℕ) (rest : List (List ℕ)) → length rest ≤ 1 →
+        bare_words (map string_bytes words.entry.now) ≢ name ∷ rest }
+{
+    let command = our_command(alloc)?;
+    let matches = match command.try_get_matches_from(words) {
+        Ok(matches) => matches,
+        Err(error) => return Err(fault_of(&error)),
+    };
+    let Some(name) = matches.get_str("command") else {
+        unreachable!()
+    };
+    Ok(Line {
+        name,
+        number: matches.get_str("number"),
+        json: matches.get_flag("json"),
+    })
+}
+
+/// The command line as `clap` is told of it: two positionals, of which the first has to be there, and
+/// one flag.
+fn our_command<'a>(alloc: Global) -> Result<clap::Command<'a>, AllocError>
+    ensures { IfOk result (λ command. app_of command ≡ our_app) }
+{
+    let name = Arg::new(alloc, "command").required(true);
+    let number = Arg::new(alloc, "number");
+    let json = Arg::new(alloc, "json")
+        .long("json")
+        .action(ArgAction::SetTrue);
+    clap::Command::new(alloc, "gjcut")
+        .no_binary_name(true)
+        .disable_help_flag(true)
+        .disable_version_flag(true)
+        .arg(name)?
+        .arg(number)?
+        .arg(json)
+}
+
+/// Why `clap` does not take the words.
+fn fault_of(error: &clap::Error) -> WordFault
+    ensures { (result ≡ WordFault.Refused) ↔ (kind_of error.now ≢ ErrorKind.OutOfMemory) }
+{
+    match error.kind() {
+        ErrorKind::OutOfMemory => WordFault::Memory(AllocError),
+        _ => WordFault::Refused,
+    }
+}

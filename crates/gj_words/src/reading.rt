@@ -1,0 +1,128 @@
+//! The words read as a request.
+
+ghost use Rattle.std.specs.Prelude.{◌≡◌, ◌≢◌, map, option_map, IfOk, IfSome, MatchResult};
+ghost use Rattle.std.specs.String.{string_bytes};
+ghost use Rattle.std.specs.List.{list_all};
+ghost use Rattle.gj_words.specs.Grammar.{SpellRequest, takes_json};
+ghost use Rattle.gj_words.specs.Line.{IsCommandOf, IsRequestOf};
+ghost use Rattle.gj_words.specs.Bare.{is_flag, is_plain, flag_count};
+ghost use Rattle.gj_words.specs.declared.requests.Command.{Command};
+ghost use Rattle.gj_words.specs.declared.requests.Request.{Request};
+
+use crate::line::{Line, parse};
+use crate::number::demo_number;
+use crate::requests::{Command, Request, WordFault};
+use std::alloc::Global;
+
+/// The word of the flag.
+const FLAG: &str = "--json";
+
+/// The request that the words spell.
+///
+/// `Refused` where they spell none.
+///
+/// ```text
+/// let words = [String::from_str(alloc, "--json")?, String::from_str(alloc, "show")?];
+/// let request = read_words(alloc, words.as_slice())?;
+/// // request is Request { command: Command::Show, json: true }
+/// ```
+pub fn read_words(alloc: Global, words: &[String]) -> Result<Request, WordFault>
+    // What is read is spelled by the words.
+    ensures ok { IfOk result (SpellRequest (map string_bytes words.now)) }
+    // Words that spell a request are read as it, unless there is no memory.
+    ensures only { (request : Request) → SpellRequest (map string_bytes words.now) request →
+        MatchResult result (λ found. found ≡ request) (λ fault. fault ≢ WordFault.Refused) }
+    // Words that are refused spell no request.
+    ensures refused { result ≡ Err WordFault.Refused → (request : Request) → ¬ SpellRequest (map string_bytes words.now) request }
+{
+    if !has_plain_words(words) || flags_in(words) > 1 {
+        return Err(WordFault::Refused);
+    }
+    let line = parse(alloc, words)?;
+    match request_of(&line) {
+        Some(request) => Ok(request),
+        None => Err(WordFault::Refused),
+    }
+}
+
+/// Whether each word is the flag or does not begin with `-`.
+fn has_plain_words(words: &[String]) -> bool
+    ensures { result ≡ list_all (λ word. is_plain (string_bytes word)) words.now }
+{
+    words.iter().all(|word| is_plain_word(word.as_str()))
+}
+
+/// Whether the word is the flag or does not begin with `-`.
+fn is_plain_word(word: &str) -> bool
+    ensures { result ≡ is_plain word.now }
+{
+    is_json_flag(word) || !word.starts_with('-')
+}
+
+/// How often the flag stands among the words.
+fn flags_in(words: &[String]) -> usize
+    ensures { result ≡ flag_count (map string_bytes words.now) }
+{
+    words
+        .iter()
+        .filter(|word| is_json_flag(word.as_str()))
+        .count()
+}
+
+/// Whether the word is the flag.
+fn is_json_flag(word: &str) -> bool
+    ensures { result ≡ is_flag word.now }
+{
+    word == FLAG
+}
+
+/// The request of a command line whose words are known apart.
+fn request_of(line: &Line) -> Option<Request>
+    ensures found { IfSome result (λ request. IsRequestOf line.now request) }
+    ensures only { (request : Request) → IsRequestOf line.now request → result ≡ Some request }
+{
+    let command = command_of(line.name, line.number)?;
+    if line.json && !may_take_json(command) {
+        return None;
+    }
+    Some(Request {
+        command,
+        json: line.json,
+    })
+}
+
+/// Whether the flag may stand with the command.
+fn may_take_json(command: Command) -> bool
+    ensures { result ≡ takes_json command }
+{
+    matches!(command, Command::Minimal | Command::Extreme | Command::Show)
+}
+
+/// The command with this word, and this number behind it.
+fn command_of(name: &str, number: Option<&str>) -> Option<Command>
+    ensures found { IfSome result (λ command. IsCommandOf name.now (option_map (λ digits. digits.now) number.entry) command) }
+    ensures only { (command : Command) → IsCommandOf name.now (option_map (λ digits. digits.now) number.entry) command →
+        result ≡ Some command }
+{
+    match number {
+        None => plain_command(name),
+        Some(digits) if name == "demo" => Some(Command::Demo(demo_number(digits)?)),
+        Some(_) => None,
+    }
+}
+
+/// The command that this word alone spells.
+fn plain_command(name: &str) -> Option<Command>
+    ensures found { IfSome result (λ command. IsCommandOf name.now None command) }
+    ensures only { (command : Command) → IsCommandOf name.now None command → result ≡ Some command }
+{
+    match name {
+        "minimal" => Some(Command::Minimal),
+        "extreme" => Some(Command::Extreme),
+        "cut" => Some(Command::Cut),
+        "check" => Some(Command::Check),
+        "show" => Some(Command::Show),
+        "faces" => Some(Command::Faces),
+        _ => None,
+    }
+}

@@ -1,0 +1,54 @@
+//! Requests, and why words are none.
+
+ghost use Rattle.std.specs.Prelude.{◌≡◌};
+ghost use Rattle.gj_words.specs.declared.requests.WordFault.TheVariants.{Memory};
+
+use std::alloc::AllocError;
+use thiserror::Error;
+
+/// A command of the program.
+#[derive(Clone, Copy, Debug, PartialEq, Eq)]
+pub enum Command {
+    /// Decides whether a function is minimal.
+    Minimal,
+    /// Decides whether a function is extreme.
+    Extreme,
+    /// Makes a cut of each row of a tableau.
+    Cut,
+    /// Checks a proof text.
+    Check,
+    /// Prints a function in its one canonical spelling.
+    Show,
+    /// Prints the additive faces of a function.
+    Faces,
+    /// Decides a function that no text has to give, of order 2(2n + 1) for this number n.
+    Demo(u32),
+}
+
+/// What the words ask for.
+#[derive(Clone, Copy, Debug, PartialEq, Eq)]
+pub struct Request {
+    /// The command.
+    pub command: Command,
+    /// Whether functions are read, and answers printed, as JSON.
+    pub json: bool,
+}
+
+/// Why words are no request.
+#[derive(Debug, Drop, Error)]
+pub enum WordFault {
+    /// No request is spelled so.
+    #[error("the words are no command")]
+    Refused,
+    /// There was no memory.
+    #[error("out of memory")]
+    Memory(AllocError),
+}
+
+impl From<AllocError> for WordFault {
+    ghost from_gives = { λ e f. f ≡ Memory e };
+
+    fn from(error: AllocError) -> WordFault {
+        WordFault::Memory(error)
+    }
+}
