@@ -7,3 +7,7 @@
 //!
 //! Any crate may cite a lemma; what its contracts promise rests on the two definitions alone.
 #![tactic(auto)]
+
+mod laws;
+
+pub use laws::one_least_common_multiple;
