@@ -6,8 +6,11 @@ use crate::list::List;
 /// additive triangle of which it is a projection.
 #[derive(Clone, Copy, Debug, PartialEq, Eq)]
 pub struct CoverLine {
+    /// The interval that is covered.
     pub interval: u32,
+    /// The interval to which it is joined, or the interval itself.
     pub from: u32,
+    /// The face that joins the two, or the triangle.
     pub face: Face,
 }
 
@@ -25,8 +28,12 @@ pub enum RowName {
 /// Two functions on one grid, given by their values there over one scale.
 #[derive(Debug, Drop)]
 pub struct Halves {
+    /// The order of the grid.
     pub order: u32,
+    /// The scale of all values.
     pub scale: i128,
+    /// The values of the first function, each times the scale.
     pub first: List<i128>,
+    /// The values of the second function, each times the scale.
     pub second: List<i128>,
 }
