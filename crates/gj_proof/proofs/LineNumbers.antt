@@ -133,7 +133,9 @@ claim_at : (c : Claim) (text : List ℕ) → IsProofText c text → StandsAt tex
 claim_at c text p = (
   line (codes "gj-proof 1"),
   p.subject ++ flat_map (λ l. l.bytes) (own_lines c) ++ line (codes "end"),
-  p.spelled ∙ regroup (line (codes "gj-proof 1")) (line (codes "claim " ++ claim_word c)) p.subject (flat_map (λ l. l.bytes) (own_lines c)) (line (codes "end")),
+  p.spelled
+      ∙ regroup (line (codes "gj-proof 1")) (line (codes "claim " ++ claim_word c)) p.subject
+      (flat_map (λ l. l.bytes) (own_lines c)) (line (codes "end")),
   refl,
 )
   where

@@ -24,7 +24,8 @@ pub one_text : (c : Claim) (s t : List ℕ) → IsBounded c → IsProofText c s 
 one_text c s t b p q =
     let same = one_subject c p.subject q.subject b p.are_subject_lines q.are_subject_lines in
     p.spelled
-    ∙ ap (λ u. line (codes "gj-proof 1") ++ line (codes "claim " ++ claim_word c) ++ u ++ flat_map (λ l. l.bytes) (own_lines c) ++ line (codes "end")) same
+    ∙ ap (λ u. line (codes "gj-proof 1") ++ line (codes "claim " ++ claim_word c) ++ u
+    ++ flat_map (λ l. l.bytes) (own_lines c) ++ line (codes "end")) same
     ∙ sym q.spelled
 
 -- the text of a claim has no fault

@@ -13,6 +13,7 @@ use Rattle.gj_lines.specs.FunctionLines.{line, AreFunctionLines}
 use Rattle.gj_lines.specs.FunctionGrammar.{function_part}
 use Rattle.gj_lines.proofs.CanonicalFunctions.{canonical_lines_are_read}
 use Rattle.gj_lines.proofs.ExactFunctions.{function_part_is_exact}
+use Rattle.gj_lines.proofs.FunctionRead.{within_bounds}
 use Rattle.gj_lines.proofs.StrictFunctions.{strict_lines_are_canonical}
 use Rattle.gj_proof.specs.ProofText.{IsBounded, violation_line, IsProofText}
 use Rattle.gj_proof.specs.ProofGrammar.{claim_words, claim_rule, violation_words, violation_rule, claim_part, proof_text}
@@ -69,7 +70,8 @@ claim_rule_is_exact = record {
 
 claim_part_is_exact : (w : ClaimWord) → IsExactPart (claim_part w).Reads (claim_part w).Faults
 claim_part_is_exact Minimal =
-    made_part_is_exact (λ (f : FunctionData) c. c ≡ claims.Minimal f) (λ f c d h k. h ∙ sym k) (function_part Strict) (function_part_is_exact Strict)
+    made_part_is_exact (λ (f : FunctionData) c. c ≡ claims.Minimal f) (λ f c d h k. h ∙ sym k) (function_part Strict)
+    (function_part_is_exact Strict)
 claim_part_is_exact NotMinimal =
     let behind : FunctionData → Part Claim = λ f. made_part (λ (v : Violation) c. c ≡ claims.NotMinimal f v) violation_part in
     then_part_is_exact (function_part Strict) behind (function_part_is_exact Strict)
@@ -105,7 +107,8 @@ title_reads rest =
 
 last_reads : last_part.Reads last_line tt []
 last_reads =
-    line_reads (words_rule (codes "end" ∷ [])) last_line [] (codes "end" ∷ []) tt (λ e. cc) (plain_by_test (codes "end" ∷ []) refl) refl (sym (append-nil last_line))
+    line_reads (words_rule (codes "end" ∷ [])) last_line [] (codes "end" ∷ []) tt (λ e. cc)
+    (plain_by_test (codes "end" ∷ []) refl) refl (sym (append-nil last_line))
 
 claim_reads : (w : ClaimWord) (rest : List ℕ) → word_part.Reads (claim_line w ++ rest) w rest
 claim_reads w rest = line_reads claim_rule (claim_line w ++ rest) rest (claim_words w) w (some w) (claim_is_plain w) refl refl
@@ -162,8 +165,7 @@ function_found : (text : List ℕ) (f : FunctionData) (rest : List ℕ) → (fun
     IsWithinBounds f × (lines : List ℕ) × AreFunctionLines f lines × (text ≡ lines ++ rest)
 function_found text f rest h =
     let (lines, are, is) = strict_lines_are_canonical f text rest h in
-    let (q, next, order, (k, more, place, (points, reads, given))) = h in
-    (given.within, lines, are, is)
+    (within_bounds Strict text f rest h, lines, are, is)
 
 claim_found : (w : ClaimWord) (c : Claim) (text inner rest : List ℕ) → (claim_part w).Reads inner c rest →
     text ≡ title_line ++ (claim_line w ++ inner) → rest ≡ last_line → IsBounded c × IsProofText c text

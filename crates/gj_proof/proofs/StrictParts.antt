@@ -15,8 +15,8 @@ regroup a rest = append_assoc a (10 ∷ []) rest
 
 module _ {A : Type 0} (rule : LineRule A) where
   -- the bytes of a line are read as its words
-  pub line_reads : (text rest : List ℕ) (words : List (List ℕ)) (a : A) → (words ≡ [] → ⊥) → All IsPlain words → rule.Spells words a →
-      text ≡ line (join_with_byte 32 words) ++ rest → (line_part Strict rule).Reads text a rest
+  pub line_reads : (text rest : List ℕ) (words : List (List ℕ)) (a : A) → (words ≡ [] → ⊥) → All IsPlain words →
+      rule.Spells words a → text ≡ line (join_with_byte 32 words) ++ rest → (line_part Strict rule).Reads text a rest
   line_reads text rest [] a some plain spells is = absurd (some refl)
   line_reads text rest (w ∷ ws) a some plain spells is =
       let same : text ≡ join_with_byte 32 (w ∷ ws) ++ 10 ∷ rest = is ∙ regroup (join_with_byte 32 (w ∷ ws)) rest in

@@ -125,8 +125,10 @@ one_plain x = All-cons IsPlain (fraction_text x) [] (fraction_is_plain x) (All-n
 
 pub violation_is_plain : (w : Violation) → All IsPlain (violation_words w)
 violation_is_plain v.Zero = plain_by_test (codes "zero" ∷ []) refl
-violation_is_plain (v.Negative x) = All-append IsPlain (codes "negative" ∷ []) (fraction_text x ∷ []) (plain_by_test (codes "negative" ∷ []) refl) (one_plain x)
-violation_is_plain (v.Asymmetric x) = All-append IsPlain (codes "asymmetric" ∷ []) (fraction_text x ∷ []) (plain_by_test (codes "asymmetric" ∷ []) refl) (one_plain x)
+violation_is_plain (v.Negative x) =
+    All-append IsPlain (codes "negative" ∷ []) (fraction_text x ∷ []) (plain_by_test (codes "negative" ∷ []) refl) (one_plain x)
+violation_is_plain (v.Asymmetric x) =
+    All-append IsPlain (codes "asymmetric" ∷ []) (fraction_text x ∷ []) (plain_by_test (codes "asymmetric" ∷ []) refl) (one_plain x)
 violation_is_plain (v.Superadditive x y) =
     All-append IsPlain (codes "superadditive" ∷ fraction_text x ∷ []) (fraction_text y ∷ [])
     (All-append IsPlain (codes "superadditive" ∷ []) (fraction_text x ∷ []) (plain_by_test (codes "superadditive" ∷ []) refl) (one_plain x))
@@ -156,7 +158,8 @@ second_no_fraction words x y e has h =
 
 -- no violation has such words
 pub no_violation : (words : List (List ℕ)) (e : Reason) → e ≡ reason.Form → (words ≡ codes "zero" ∷ [] → ⊥) →
-    ((x : List ℕ) → words ≡ codes "negative" ∷ x ∷ [] → ⊥) → ((x : List ℕ) → words ≡ codes "asymmetric" ∷ x ∷ [] → ⊥) →
+    ((x : List ℕ) → words ≡ codes "negative" ∷ x ∷ [] → ⊥) →
+    ((x : List ℕ) → words ≡ codes "asymmetric" ∷ x ∷ [] → ⊥) →
     ((x y : List ℕ) → words ≡ codes "superadditive" ∷ x ∷ y ∷ [] → ⊥) → BreaksViolation words e
 no_violation words e is zero negative asymmetric superadditive = inl (is, none)
   where
