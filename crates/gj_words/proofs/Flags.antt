@@ -32,7 +32,8 @@ no_flag (byte ∷ rest) h = go (eqb byte 45) h
     go true e = cc
     go false e = refl
 
-one_more : (word : Text) (words bare : List Text) (json : Bool) → not (begins_with_hyphen word) ≡ true → Facts words bare json → Facts (word ∷ words) (word ∷ bare) json
+one_more : (word : Text) (words bare : List Text) (json : Bool) → not (begins_with_hyphen word) ≡ true
+    → Facts words bare json → Facts (word ∷ words) (word ∷ bare) json
 one_more word words bare json h facts =
     let no = no_flag word h in
     record {

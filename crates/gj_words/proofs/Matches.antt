@@ -2,7 +2,8 @@
 use Rattle.std.proofs.Common.{◌≡◌, ◌≢◌, ◌≤◌, ◌∙◌, inl, inr, Bool, true, false, List, [], ◌∷◌, Option, Some, codes, length, sym, ap, subst}
 use Rattle.std.specs.Option.{option_to_list}
 use Rattle.std.specs.List.{list_all}
-use Rattle.clap.specs.Words.{App, HasKind, first_of, first_value, found_of, is_simple, is_simple_and_free, kind_of, matches_of, one_of, one_text, rows_of}
+use Rattle.clap.specs.Words.{App, HasKind, first_of, first_value, found_of, is_simple, is_simple_and_free}
+use Rattle.clap.specs.Words.{kind_of, matches_of, one_of, one_text, rows_of}
 use Rattle.clap.specs.Faults.{fault_of}
 use Rattle.clap.specs.declared.error.Error.{Error}
 use Rattle.clap.specs.declared.error.kind.ErrorKind.TheVariants.{OutOfMemory}
@@ -52,7 +53,8 @@ holds app words m same plain once none rows = go (parsed_words words plain once)
 
 -- where it refuses the words, they are not one or two and the flag
 pub refuses : (app : App) (words : List Text) (error : Error) → app ≡ our_app → list_all is_plain words ≡ true → flag_count words ≤ 1
-    → HasKind (fault_of app words) error → kind_of error ≢ OutOfMemory → (name : Text) (rest : List Text) → length rest ≤ 1 → bare_words words ≢ name ∷ rest
+    → HasKind (fault_of app words) error → kind_of error ≢ OutOfMemory
+    → (name : Text) (rest : List Text) → length rest ≤ 1 → bare_words words ≢ name ∷ rest
 refuses app words error same plain once kind some_memory = go (parsed_words words plain once)
   where
     go : Parsed words → (name : Text) (rest : List Text) → length rest ≤ 1 → bare_words words ≢ name ∷ rest

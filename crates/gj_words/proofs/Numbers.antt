@@ -16,7 +16,7 @@ first_of_number n some small =
     let above : 48 < get_or (decimal n) 0 0 = first_decimal n (omega arith) (omega arith) in
     let digits : AllDigits 10 (decimal n) = (decimal_is_IsNumeral n (omega arith)).0.1 in
     elim (cases_lt 57 (get_or (decimal n) 0 0)) [
-      | inl large ↦ absurd (not_in_digits own (decimal n) (get_or (decimal n) 0 0) digits (λ r. omega arith) 0 (decimal_nonempty n (omega arith)) refl)
+      | inl large ↦ absurd (not_in_digits own (decimal n) _ digits (λ r. omega arith) 0 (decimal_nonempty n (omega arith)) refl)
       | inr within ↦ (omega arith, omega arith)
     ]
 
@@ -37,5 +37,6 @@ number_spelled {E} word (Ok m) n first h is =
 number_spelled word (Err e) n first h is = cc
 
 -- the digits of a number are read as it
-pub number_read : {E : Type 0} (word : List ℕ) (r : Result ℕ E) (n : ℕ) → n ≤ 249 → ParsesUnsigned 32 10 word r → word ≡ decimal n → result_ok r ≡ Some n
+pub number_read : {E : Type 0} (word : List ℕ) (r : Result ℕ E) (n : ℕ) → n ≤ 249 → ParsesUnsigned 32 10 word r
+    → word ≡ decimal n → result_ok r ≡ Some n
 number_read word r n small h e = ap result_ok (parse-decimal 32 n word r (omega arith) (omega arith) e h)

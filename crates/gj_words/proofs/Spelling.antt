@@ -1,5 +1,6 @@
 -- The words that spell a request.
-use Rattle.std.proofs.Common.{MatchResult, Result, Ok, Err, nat_eq, ◌≡◌, ◌≢◌, ◌≤◌, ◌∙◌, ℕ, true, false, cond, List, [], ◌∷◌, codes, decimal, get_or, length, refl, sym, ap, subst, arith}
+use Rattle.std.proofs.Common.{MatchResult, Result, Ok, Err, nat_eq, ◌≡◌, ◌≢◌, ◌≤◌, ◌∙◌, ℕ, true, false, cond, List, []}
+use Rattle.std.proofs.Common.{◌∷◌, codes, decimal, get_or, length, refl, sym, ap, subst, arith}
 use Rattle.std.proofs.lemmas.Bool.Decides.{nat_tests}
 use Rattle.std.proofs.lemmas.Fmt.{decimal_is_IsNumeral}
 use Rattle.std.proofs.lemmas.List.Sums.{length-filter}
@@ -82,7 +83,8 @@ pub one : (words : List Text) (a b : Request) → SpellRequest words a → Spell
 one words a b s t =
     let fa = facts words a s in
     let fb = facts words b t in
-    let same : a.command ≡ b.command = sym (read_back a.command s.in_bounds) ∙ ap command_in (sym fa.bare_is ∙ fb.bare_is) ∙ read_back b.command t.in_bounds in
+    let same : a.command ≡ b.command
+    = sym (read_back a.command s.in_bounds) ∙ ap command_in (sym fa.bare_is ∙ fb.bare_is) ∙ read_back b.command t.in_bounds in
     let flags : a.json ≡ b.json = sym fa.flag_is ∙ fb.flag_is in
     (λ i. record { command = same i; json = flags i })
 
@@ -111,7 +113,8 @@ request_spelled words line r is s =
     }
 
 -- words that are none or more than two without the flag spell no request
-pub unnamed : (words : List Text) → ((name : Text) (rest : List Text) → length rest ≤ 1 → bare_words words ≢ name ∷ rest) → (r : Request) → ¬ SpellRequest words r
+pub unnamed : (words : List Text) → ((name : Text) (rest : List Text) → length rest ≤ 1 → bare_words words ≢ name ∷ rest)
+    → (r : Request) → ¬ SpellRequest words r
 unnamed words none r s =
     let shape = one_or_two r.command in
     none shape.0 shape.1 shape.2 ((facts words r s).bare_is ∙ shape.3)
@@ -123,6 +126,7 @@ fault_up r (Ok found) e h other = absurd h
 fault_up r (Err fault) e h other = λ is. other (sym h ∙ is)
 
 -- words that spell a request are not refused
-pub not_refused : (r : Request) (result : Result Request WordFault) → MatchResult result (λ found. found ≡ r) (λ fault. fault ≢ Refused) → result ≢ Err Refused
+pub not_refused : (r : Request) (result : Result Request WordFault) → MatchResult result (λ found. found ≡ r) (λ fault. fault ≢ Refused)
+    → result ≢ Err Refused
 not_refused r (Ok found) h is = cc
 not_refused r (Err fault) h is = h (cc)

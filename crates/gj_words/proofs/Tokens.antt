@@ -1,5 +1,6 @@
 -- The words of a command line as tokens, and what `clap` makes of them.
-use Rattle.std.proofs.Common.{◌≡◌, ◌≢◌, ◌≤◌, ◌∙◌, ℕ, suc, Bool, true, false, not, ◌||◌, List, [], ◌∷◌, Option, None, Some, codes, filter, length, map, refl, sym, ap, subst, arith}
+use Rattle.std.proofs.Common.{◌≡◌, ◌≢◌, ◌≤◌, ◌∙◌, ℕ, suc, Bool, true, false, not, ◌||◌, List, [], ◌∷◌, Option}
+use Rattle.std.proofs.Common.{None, Some, codes, filter, length, map, refl, sym, ap, subst, arith}
 use Rattle.std.proofs.lemmas.Bool.{and_parts}
 use Rattle.std.proofs.lemmas.List.Sums.{length-filter}
 use Rattle.std.proofs.lemmas.Slice.Eq.{bytes_eq-Decides}
@@ -83,7 +84,8 @@ pub data Parsed (words : List Text) : Type 0 where
   left : (fault_of our_app words ≡ [] → ⊥) → ((name : Text) (rest : List Text) → length rest ≤ 1 → bare_words words ≢ name ∷ rest) → Parsed words
 
 -- it has to leave words that are three or more without the flag
-stray : (words : List Text) (a b c : Text) (more : List Text) → bare_words words ≡ a ∷ b ∷ c ∷ more → fault_of our_app words ≡ UnknownArgument ∷ [] → Parsed words
+stray : (words : List Text) (a b c : Text) (more : List Text) → bare_words words ≡ a ∷ b ∷ c ∷ more
+    → fault_of our_app words ≡ UnknownArgument ∷ [] → Parsed words
 stray words a b c more is fault = left (λ none. cc) (λ name rest few e. omega (arith, ap length (sym is ∙ e)))
 
 -- and those that are none

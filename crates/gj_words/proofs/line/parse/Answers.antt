@@ -25,6 +25,7 @@ returns-clause-ok c =
     let some : Some c.in-Some.name.now ≡ Some h.name = c.in-Some.ensures ∙ h.name_is in
     let name_is : h.name ≡ c.in-Some.name.now = cc in
     record {
-      bare = h.bare ∙ ap₂ (λ (name : List ℕ) (number : Option (List ℕ)). name ∷ option_to_list number) name_is (sym (c.get_str-2.ensures ∙ h.number_is));
+      bare = h.bare
+          ∙ ap₂ (λ (name : List ℕ) (number : Option (List ℕ)). name ∷ option_to_list number) name_is (sym (c.get_str-2.ensures ∙ h.number_is));
       flag = h.flag ∙ flag_read h.json _ _ h.json_is c.get_flag.ensures.value c.get_flag.ensures.other;
     }

@@ -4,7 +4,8 @@ use Rattle.std.specs.String.{string_bytes}
 use Rattle.gj_words.specs.Bare.{flag_count, is_plain}
 use Rattle.gj_words.proofs.Spelling.{facts, fault_up, not_refused, one, request_spelled, spelled, spelled_once, unnamed}
 use Rattle.gj_words.proofs.reading.read_words.Goals as goal
-use Rattle.gj_words.proofs.reading.read_words.Goals.{then-not-has_plain_words-via-then-not-has_plain_words, then-not-has_plain_words-via-else-not-has_plain_words+then-flags_in-gt1}
+use Rattle.gj_words.proofs.reading.read_words.Goals.{then-not-has_plain_words-via-then-not-has_plain_words}
+use Rattle.gj_words.proofs.reading.read_words.Goals.{then-not-has_plain_words-via-else-not-has_plain_words+then-flags_in-gt1}
 
 pub parse-requires-clause-plain : goal.parse-requires-clause-plain
 parse-requires-clause-plain c = list_all-map is_plain string_bytes c.args.words.now ∙ sym c.has_plain_words.ensures ∙ c.if-not-has_plain_words.false
@@ -40,7 +41,8 @@ returns-in-Some-clause-only c = λ r s. one (map string_bytes c.args.words.now) 
 
 pub returns-in-None-clause-only : goal.returns-in-None-clause-only
 returns-in-None-clause-only c = λ r s e.
-    let is : None ≡ Some r = c.in-None.ensures.only r (request_spelled (map string_bytes c.args.words.now) c.in_ok-line.line r c.in_ok-line.ensures.ok s) in
+    let is : None ≡ Some r
+    = c.in-None.ensures.only r (request_spelled (map string_bytes c.args.words.now) c.in_ok-line.line r c.in_ok-line.ensures.ok s) in
     cc
 
 pub returns-in-None-clause-refused : goal.returns-in-None-clause-refused
