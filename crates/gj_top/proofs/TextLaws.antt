@@ -1,12 +1,12 @@
 -- What the commands use of the laws of function texts, proof texts and the checker's rules.
-use Rattle.std.proofs.Common.{◌≡◌, ℕ, ◌≤◌, List, length}
+use Rattle.std.proofs.Common.{◌≡◌, ℕ, ◌≤◌, List, length, sym, subst}
 use Rattle.gj_lex.specs.declared.reason.Reason.{Reason}
 use Rattle.gj_shape.specs.FunctionData.{FunctionData, IsWithinBounds}
 use Rattle.gj_shape.specs.declared.violations.Violation.{Violation}
 use Rattle.gj_ftext.specs.FunctionText.{IsWholeFunctionText, IsCanonicalText}
 use Rattle.gj_ftext.specs.FirstFault.{IsFirstFaultOfWhole}
 use Rattle.gj_ftext.proofs.Canonical.{canonical_text_is_whole, canonical_text_is_short}
-use Rattle.gj_ftext.proofs.FunctionTexts.{whole_parts}
+use Rattle.gj_ftext.proofs.FunctionTexts.{function_is_within}
 use Rattle.gj_ftext.proofs.OneCanonical.{one_canonical_text}
 use Rattle.gj_ftext.proofs.OneText.{one_whole_function, no_fault_of_whole}
 use Rattle.gj_proof.specs.ProofText.{IsProofText}
@@ -23,7 +23,8 @@ pub one_function : (input : List ℕ) (f g : FunctionData) → IsWholeFunctionTe
 one_function = one_whole_function
 
 pub function_is_bounded : (input : List ℕ) (f : FunctionData) → IsWholeFunctionText input f → IsWithinBounds f
-function_is_bounded input f whole = (whole_parts input f whole).within
+function_is_bounded input f (r, (g, rest, read, (same, at, nothing))) =
+    subst IsWithinBounds (sym same) (function_is_within input g rest read)
 
 pub function_text_has_no_fault : (input : List ℕ) (f : FunctionData) (n : ℕ) (reason : Reason) → IsWholeFunctionText input f →
     IsFirstFaultOfWhole input n reason → ⊥
