@@ -1,0 +1,4 @@
+pub mod Options
+pub mod Views
+pub mod Refusals
+pub mod ReadSoFar

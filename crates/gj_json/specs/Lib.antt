@@ -1,0 +1,3 @@
+pub mod JsonFunction
+pub mod FirstReason
+pub mod Reading
