@@ -2,3 +2,4 @@ pub mod Options
 pub mod Views
 pub mod Refusals
 pub mod ReadSoFar
+pub mod OneFunction

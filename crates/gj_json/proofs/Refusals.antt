@@ -25,7 +25,7 @@ names_weaker P Q (Refused e) f p = f e p
 names_weaker P Q (Memory a) f p = tt
 
 -- a string is no whole number
-string_or_integer : (d : Data) (w : List ℕ) → as_str d ≡ Some w → integer d ≡ None
+pub string_or_integer : (d : Data) (w : List ℕ) → as_str d ≡ Some w → integer d ≡ None
 string_or_integer null w e = refl
 string_or_integer (boolean b) w e = refl
 string_or_integer (number n) w e = absurd (not_none w e)

@@ -7,7 +7,9 @@
 mod entries;
 mod faults;
 mod form;
+mod laws;
 mod read;
 
 pub use faults::{JsonFault, JsonReason};
+pub use laws::{no_reason_in_json_function, one_function_in_json};
 pub use read::read_json;

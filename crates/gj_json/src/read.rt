@@ -41,7 +41,20 @@ use std::alloc::{AllocError, Global};
 pub fn read_json(alloc: Global, bytes: &[u8]) -> Result<Shape, JsonFault>
     // What is read is spelled so.
     ensures found { IfOk result (IsJsonFunction bytes.now) }
+    // What is spelled so is read, unless there is no memory.
+    ensures only { (f : FunctionData) → IsJsonFunction bytes.now f → MatchResult result (λ shape. shape ≡ f) IsMemoryFault }
     // A refusal names the first reason.
+    ensures refused { IfErr result (NamesReason (HasFirstReason bytes.now)) }
+{
+    match function_of(alloc, bytes) {
+        Ok(shape) => Ok(shape),
+        Err(fault) => Err(fault),
+    }
+}
+
+/// The function that the text spells, or why it spells none.
+fn function_of(alloc: Global, bytes: &[u8]) -> Result<Shape, JsonFault>
+    ensures found { IfOk result (IsJsonFunction bytes.now) }
     ensures refused { IfErr result (NamesReason (HasFirstReason bytes.now)) }
 {
     let value = value_of(alloc, bytes)?;
