@@ -9,7 +9,9 @@ mod faults;
 mod form;
 mod laws;
 mod read;
+mod show;
 
 pub use faults::{JsonFault, JsonReason};
 pub use laws::{no_reason_in_json_function, one_function_in_json};
 pub use read::read_json;
+pub use show::show_json;
