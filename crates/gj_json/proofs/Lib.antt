@@ -6,3 +6,4 @@ pub mod OneFunction
 pub mod Trailing
 pub mod Shown
 pub mod ShownRead
+pub mod ProofLines

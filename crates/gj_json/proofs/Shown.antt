@@ -16,7 +16,7 @@ use Rattle.serde_json.specs.View.{view, items_of, items_view}
 use Rattle.serde_json.specs.Written.{has_float, items_have_float}
 use Rattle.serde_json.specs.declared.value.Value.{Value}
 use Rattle.gj_shape.specs.FunctionData.{FunctionData}
-use Rattle.gj_json.specs.JsonText.{fraction_strings, AreRatios, function_value, IsValueOf}
+use Rattle.gj_json.specs.JsonText.{strings, fraction_strings, AreRatios, function_value, IsValueOf}
 
 -- ---- the text of a fraction is text
 
@@ -46,14 +46,14 @@ abbrev rest_of_items : Items → Items
 rest_of_items no_items = no_items
 rest_of_items (item b bs) = bs
 
-strings_more : (xs : List Frac) (x : Frac) (ds : List Data) (d : Data) → items_of ds ≡ fraction_strings xs → d ≡ string (fraction_text x) →
-    items_of (ds ++ d ∷ []) ≡ fraction_strings (xs ++ x ∷ [])
-strings_more [] x [] d e is = ap (λ y. item y no_items) is
-strings_more [] x (c ∷ ds) d e is = absurd (cc)
-strings_more (y ∷ xs) x [] d e is = absurd (cc)
-strings_more (y ∷ xs) x (c ∷ ds) d e is =
+pub strings_more : (texts : List (List ℕ)) (text : List ℕ) (ds : List Data) (d : Data) → items_of ds ≡ strings texts → d ≡ string text →
+    items_of (ds ++ d ∷ []) ≡ strings (texts ++ text ∷ [])
+strings_more [] text [] d e is = ap (λ y. item y no_items) is
+strings_more [] text (c ∷ ds) d e is = absurd (cc)
+strings_more (t ∷ texts) text [] d e is = absurd (cc)
+strings_more (t ∷ texts) text (c ∷ ds) d e is =
     ap (λ i. item (first_of_items c i) (items_of (ds ++ d ∷ []))) e
-    ∙ ap (item (string (fraction_text y))) (strings_more xs x ds d (ap rest_of_items e) is)
+    ∙ ap (item (string t)) (strings_more texts text ds d (ap rest_of_items e) is)
 
 pub one_more : (scale : ℕ) (ns : List ℤ) (n : ℕ) (z : ℤ) (vs ws : List Value) (v : Value) (x : Frac) → n < length ns →
     z ≡ get_or ns n z → StringsSoFar scale ns n vs → IsRatio x z (pos scale) → view v ≡ string (fraction_text x) →
@@ -65,7 +65,8 @@ one_more scale ns n z vs ws v x some at so_far is text more =
       ratios = subst (AreRatios scale (so_far.fractions ++ x ∷ [])) (sym next)
           (all_zipped_more (λ y m. IsRatio y m (pos scale)) so_far.fractions (take n ns) x z so_far.ratios is);
       are = ap items_view more ∙ ap items_of (map-append view vs (v ∷ []))
-          ∙ strings_more so_far.fractions x (map view vs) (view v) so_far.are text;
+          ∙ strings_more (map fraction_text so_far.fractions) (fraction_text x) (map view vs) (view v) so_far.are text
+          ∙ ap strings (sym (map-append fraction_text so_far.fractions (x ∷ [])));
     }
 
 pub all_so_far : (scale : ℕ) (ns : List ℤ) (n : ℕ) (vs : List Value) → length ns ≤ n → StringsSoFar scale ns n vs →
@@ -74,19 +75,21 @@ all_so_far scale ns n vs most h = (h.fractions, subst (AreRatios scale h.fractio
 
 -- ---- the value has no float, and is shallow
 
-strings_have_no_float : (xs : List Frac) → items_have_float (fraction_strings xs) ≡ false
+pub strings_have_no_float : (texts : List (List ℕ)) → items_have_float (strings texts) ≡ false
 strings_have_no_float [] = refl
-strings_have_no_float (x ∷ xs) = strings_have_no_float xs
+strings_have_no_float (t ∷ texts) = strings_have_no_float texts
 
 no_float : (order : ℕ) (p : Frac) (l v r : List Frac) → has_float (function_value order p l v r) ≡ false
-no_float order p l v r = rw (strings_have_no_float l, strings_have_no_float v, strings_have_no_float r) refl
+no_float order p l v r =
+    rw (strings_have_no_float (map fraction_text l), strings_have_no_float (map fraction_text v), strings_have_no_float (map fraction_text r)) refl
 
-strings_are_shallow : (xs : List Frac) → items_depth (fraction_strings xs) ≡ 0
+strings_are_shallow : (texts : List (List ℕ)) → items_depth (strings texts) ≡ 0
 strings_are_shallow [] = refl
-strings_are_shallow (x ∷ xs) = rw (strings_are_shallow xs) refl
+strings_are_shallow (t ∷ texts) = rw (strings_are_shallow texts) refl
 
 shallow : (order : ℕ) (p : Frac) (l v r : List Frac) → depth (function_value order p l v r) ≡ 2
-shallow order p l v r = rw (strings_are_shallow l, strings_are_shallow v, strings_are_shallow r) refl
+shallow order p l v r =
+    rw (strings_are_shallow (map fraction_text l), strings_are_shallow (map fraction_text v), strings_are_shallow (map fraction_text r)) refl
 
 pub value_has_no_float : (f : FunctionData) (d : Data) → IsValueOf f d → has_float d ≡ false
 value_has_no_float f d h = ap has_float h.is ∙ no_float f.order h.place h.left h.value h.right

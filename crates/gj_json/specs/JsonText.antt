@@ -1,5 +1,5 @@
 -- JSON that is written (own).
-use Rattle.std.specs.Prelude.{ℕ, ℤ, pos, ◌≡◌, List, [], ◌∷◌, ◌++◌, codes}
+use Rattle.std.specs.Prelude.{ℕ, ℤ, pos, ◌≡◌, ◌⊎◌, ◌≤◌, All, map, flat_map, List, [], ◌∷◌, ◌++◌, codes}
 use Rattle.std.specs.List.{AllZip}
 use Rattle.gj_frac.specs.declared.Frac.{Frac}
 use Rattle.gj_frac.specs.Fraction.{IsRatio}
@@ -19,8 +19,7 @@ strings (text ∷ texts) = item (string text) (strings texts)
 
 -- the fractions as strings, in canonical form
 abbrev pub fraction_strings : List Frac → Items
-fraction_strings [] = no_items
-fraction_strings (x ∷ xs) = item (string (fraction_text x)) (fraction_strings xs)
+fraction_strings xs = strings (map fraction_text xs)
 
 -- the fractions are these whole numbers over the scale
 abbrev pub AreRatios : ℕ → List Frac → List ℤ → Type 0
@@ -51,3 +50,31 @@ pub record IsValueOf (f : FunctionData) (d : Data) : Type 0 where
 -- the text is the one JSON text that is written for the function f
 abbrev pub IsJsonText : List ℕ → FunctionData → Type 0
 IsJsonText text f = (d : Data) × IsValueOf f d × (text ≡ json_line d)
+
+-- ---- reports
+
+-- a printable byte of ASCII
+abbrev pub IsPrintable : ℕ → Type 0
+IsPrintable b = (32 ≤ b) × (b ≤ 126)
+
+-- a byte of a proof text: a line feed or a printable one
+abbrev pub IsProofByte : ℕ → Type 0
+IsProofByte b = (b ≡ 10) ⊎ IsPrintable b
+
+-- nothing, or a text that ends with a line feed
+abbrev pub IsEnded : List ℕ → Type 0
+IsEnded text = (text ≡ []) ⊎ ((front : List ℕ) × (text ≡ front ++ 10 ∷ []))
+
+-- the text is these lines of printable bytes, each with a line feed behind it
+pub record HasLines (text : List ℕ) (lines : List (List ℕ)) : Type 0 where
+  pub joined : text ≡ flat_map (λ line. line ++ 10 ∷ []) lines
+  pub printable : All (All IsPrintable) lines
+
+-- the value of a report: the lines of the proof as strings, and the verdict
+abbrev pub report_value : List (List ℕ) → List ℕ → Data
+report_value lines verdict =
+    object (member (codes "proof") (array (strings lines)) (member (codes "verdict") (string verdict) no_members))
+
+-- the text is the report of the verdict and of the proof text
+abbrev pub IsReport : List ℕ → List ℕ → List ℕ → Type 0
+IsReport verdict proof text = (lines : List (List ℕ)) × HasLines proof lines × (text ≡ json_line (report_value lines verdict))

@@ -9,9 +9,11 @@ mod faults;
 mod form;
 mod laws;
 mod read;
+mod reports;
 mod show;
 
 pub use faults::{JsonFault, JsonReason};
 pub use laws::{no_reason_in_json_function, one_function_in_json};
 pub use read::read_json;
+pub use reports::report;
 pub use show::show_json;
