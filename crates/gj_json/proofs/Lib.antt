@@ -7,3 +7,4 @@ pub mod Trailing
 pub mod Shown
 pub mod ShownRead
 pub mod ProofLines
+pub mod OneReason

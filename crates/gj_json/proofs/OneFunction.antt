@@ -43,13 +43,13 @@ all_spelled (d ∷ ds) [] ys h k = absurd h
 all_spelled (d ∷ ds) (x ∷ xs) [] h k = absurd k
 all_spelled (d ∷ ds) (x ∷ xs) (y ∷ ys) h k = ap₂ (λ z zs. z ∷ zs) (one_spelled d x y h.0 k.0) (all_spelled ds xs ys h.1 k.1)
 
-record SameFractions (p q : Frac) (ls ms vs ws rs ts : List Frac) : Type 0 where
+pub record SameFractions (p q : Frac) (ls ms vs ws rs ts : List Frac) : Type 0 where
   place : p ≡ q
   left : ls ≡ ms
   value : vs ≡ ws
   right : rs ≡ ts
 
-one_list : (d : Data) (p q : Frac) (ls ms vs ws rs ts : List Frac) → HasFractions d p ls vs rs → HasFractions d q ms ws ts →
+pub one_list : (d : Data) (p q : Frac) (ls ms vs ws rs ts : List Frac) → HasFractions d p ls vs rs → HasFractions d q ms ws ts →
     SameFractions p q ls ms vs ws rs ts
 one_list d p q ls ms vs ws rs ts h j =
     let s = h.spelled in
@@ -62,7 +62,7 @@ one_list d p q ls ms vs ws rs ts h j =
     }
 
 -- what is made of fractions is made of the same
-along : (P : Frac → List Frac → List Frac → List Frac → Type 0) (p q : Frac) (ls ms vs ws rs ts : List Frac) →
+pub along : (P : Frac → List Frac → List Frac → List Frac → Type 0) (p q : Frac) (ls ms vs ws rs ts : List Frac) →
     SameFractions p q ls ms vs ws rs ts → P q ms ws ts → P p ls vs rs
 along P p q ls ms vs ws rs ts same h =
     let first = subst (λ x. P x ms ws ts) (sym same.place) h in
@@ -83,7 +83,7 @@ one_said d f g h j =
     one_given h.place h.left h.value h.right f g h.gives
     (along (λ p ls vs rs. GivesFunction p ls vs rs g) h.place j.place h.left j.left h.value j.value h.right j.right same j.gives)
 
-one_value : (text : List ℕ) (d e : Data) → HasValue text d → HasValue text e → d ≡ e
+pub one_value : (text : List ℕ) (d e : Data) → HasValue text d → HasValue text e → d ≡ e
 one_value text d e h j = same_some d e (sym h.1 ∙ j.1)
 
 pub one_function : (text : List ℕ) (f g : FunctionData) → IsJsonFunction text f → IsJsonFunction text g → f ≡ g

@@ -14,3 +14,8 @@ pub fn one_function_in_json()
 pub fn no_reason_in_json_function()
     ensures { (text : List ℕ) (f : FunctionData) (e : JsonReason) → IsJsonFunction text f → HasFirstReason text e → ⊥ }
 {}
+
+/// A text has one first reason at most: a refusal says which.
+pub fn one_first_reason()
+    ensures { (text : List ℕ) (e d : JsonReason) → HasFirstReason text e → HasFirstReason text d → e ≡ d }
+{}
