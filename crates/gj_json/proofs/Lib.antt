@@ -8,3 +8,4 @@ pub mod Shown
 pub mod ShownRead
 pub mod ProofLines
 pub mod OneReason
+pub mod ProofBytes
