@@ -1,9 +1,23 @@
--- Words name at most one request.
-use Rattle.std.proofs.Common.{◌≡◌, List, map, String, string_bytes}
+-- Words name at most one request, and each reads an input.
+use Rattle.std.proofs.Common.{◌≡◌, Bool, true, false, List, map, String, string_bytes, refl}
 use Rattle.std.specs.declared.alloc.Global.{Global}
+use Rattle.gj_words.specs.declared.requests.Command.{Command}
+use Rattle.gj_words.specs.declared.requests.Command.TheVariants.{Minimal, Extreme, Cut, Check, Show, Faces, Demo}
 use Rattle.gj_words.specs.declared.requests.Request.{Request}
 use Rattle.gj_words.proofs.Spelling.{one}
-use Rattle.gj_top.specs.Command.{IsNamed}
+use Rattle.gj_top.specs.Task.{reads}
+use Rattle.gj_top.specs.Command.{IsNamed, task_with}
 
 pub one_named : (words : List (String Global)) (a b : Request) → IsNamed words a → IsNamed words b → a ≡ b
 one_named words a b m n = one (map string_bytes words) a b m.spelled n.spelled
+
+pub each_reads : (c : Command) (json : Bool) → true ≡ reads (task_with c json).form
+each_reads Minimal true = refl
+each_reads Minimal false = refl
+each_reads Show true = refl
+each_reads Show false = refl
+each_reads Check json = refl
+each_reads Extreme json = refl
+each_reads Cut json = refl
+each_reads Faces json = refl
+each_reads (Demo n) json = refl

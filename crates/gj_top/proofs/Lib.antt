@@ -4,7 +4,9 @@ pub mod Commands
 pub mod Ends
 pub mod GridCoordinates
 pub mod InputRead
+pub mod ProofBytes
 pub mod Refusals
 pub mod Shown
 pub mod Sound
 pub mod TextLaws
+pub mod Verdicts

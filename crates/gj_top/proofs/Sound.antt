@@ -1,14 +1,16 @@
 -- What holds of every task: no input in its form is refused, and a reply that ends with Done keeps the headline.
-use Rattle.std.proofs.Common.{inl, inr, ℕ, Bool, List}
+use Rattle.std.proofs.Common.{inl, inr, ℕ, Bool, true, false, List}
 use Rattle.gj_shape.specs.FunctionData.{FunctionData}
 use Rattle.gj_words.specs.declared.requests.Command.{Command}
 use Rattle.gj_words.specs.declared.requests.Command.TheVariants.{Minimal, Extreme, Cut, Check, Show, Faces, Demo}
 use Rattle.gj_words.specs.declared.requests.Request.{Request}
 use Rattle.gj_top.specs.declared.reply.End.TheVariants.{Done}
 use Rattle.gj_top.specs.Task.{Form, Spells, Refuses, Work, Task}
-use Rattle.gj_top.specs.Forms.{function_text, proof_text}
-use Rattle.gj_top.specs.Minimal.{IsVerdict, IsTrueVerdict, minimal}
-use Rattle.gj_top.specs.Show.{show}
+use Rattle.gj_json.proofs.OneFunction.{no_reason}
+use Rattle.gj_top.specs.Forms.{function_text, json_function, proof_text}
+use Rattle.gj_top.specs.Report.{reported}
+use Rattle.gj_top.specs.Minimal.{IsVerdict, IsTrueVerdict, minimal, minimal_json}
+use Rattle.gj_top.specs.Show.{show, show_json}
 use Rattle.gj_top.specs.Check.{check}
 use Rattle.gj_top.specs.Command.{task_with, task_for}
 use Rattle.gj_top.proofs.TextLaws.{function_text_has_no_fault, proof_text_has_no_fault}
@@ -31,6 +33,19 @@ function_text_sound input text f spelled refused = function_text_has_no_fault in
 proof_text_sound : RefusesOnlyOthers proof_text
 proof_text_sound input text c spelled refused = proof_text_has_no_fault input c refused.at_line refused.reason spelled refused.first
 
+json_function_sound : RefusesOnlyOthers json_function
+json_function_sound input text f spelled refused = no_reason input f refused.reason spelled refused.first
+
+-- the proof text in a report keeps the headline of the work
+reported_keeps : {Thing : Type 0} (work : Work Thing) → KeepsHeadline work → KeepsHeadline (reported work)
+reported_keeps work keeps thing text r = record {
+  proof = r.proof;
+  holds = keeps thing r.proof r.holds;
+  claim = r.claim;
+  spelled = r.spelled;
+  report = r.report;
+}
+
 verdict_true : (f : FunctionData) (text : List ℕ) → IsVerdict f text → IsTrueVerdict f text
 verdict_true f text (inl m) = inl (m.2, m.0)
 verdict_true f text (inr v) = inr (v.0, v.4, v.2)
@@ -41,16 +56,24 @@ minimal_sound = record { form = function_text_sound; work = verdict_true }
 pub show_sound : IsSound show
 show_sound = record { form = function_text_sound; work = λ f text shown. shown }
 
+minimal_json_sound : IsSound minimal_json
+minimal_json_sound = record { form = json_function_sound; work = reported_keeps minimal.work verdict_true }
+
+show_json_sound : IsSound show_json
+show_json_sound = record { form = json_function_sound; work = λ f text shown. shown }
+
 pub check_sound : IsSound check
 check_sound = record { form = proof_text_sound; work = λ c text accepted. (accepted.holds, accepted.spelled) }
 
 -- the task of each request is sound
 sound_with : (c : Command) (json : Bool) → IsSound (task_with c json)
-sound_with Minimal json = minimal_sound
+sound_with Minimal true = minimal_json_sound
+sound_with Minimal false = minimal_sound
 sound_with Check json = check_sound
 sound_with Extreme json = show_sound
 sound_with Cut json = show_sound
-sound_with Show json = show_sound
+sound_with Show true = show_json_sound
+sound_with Show false = show_sound
 sound_with Faces json = show_sound
 sound_with (Demo n) json = show_sound
 

@@ -9,6 +9,9 @@ use Rattle.gj_ftext.specs.FirstFault.{IsFirstFaultOfWhole}
 use Rattle.gj_proof.specs.ProofText.{IsBounded, IsProofText}
 use Rattle.gj_proof.specs.FirstFault.{IsFirstFault}
 use Rattle.gj_proof.specs.declared.claim.Claim.{Claim}
+use Rattle.gj_json.specs.JsonFunction.{IsJsonFunction}
+use Rattle.gj_json.specs.FirstReason.{HasFirstReason, reason_word as json_reason_word}
+use Rattle.gj_json.specs.declared.faults.JsonReason.{JsonReason}
 use Rattle.gj_top.specs.declared.reply.Unanswered.{Unanswered}
 use Rattle.gj_top.specs.declared.reply.Unanswered.TheVariants.{Refused, Memory}
 use Rattle.gj_top.specs.Task.{Form}
@@ -42,3 +45,22 @@ pub record IsProofOf (input : List ℕ) (c : Claim) : Type 0 where
 -- proof text
 abbrev pub proof_text : Form Claim
 proof_text = reading IsProofOf (λ input text. NamesFault (IsFirstFault input) text)
+
+-- the line that refuses a JSON text
+abbrev pub json_refused_line : JsonReason → List ℕ
+json_refused_line reason = line (codes "refused json " ++ json_reason_word reason)
+
+-- a JSON text is refused with that line, unless there was no memory for it
+abbrev pub IsJsonRefusalOf : JsonReason → Unanswered → Type 0
+IsJsonRefusalOf reason (Refused text) = text.items ≡ json_refused_line reason
+IsJsonRefusalOf reason (Memory e) = Unit {0}
+
+-- the text names the first reason why the input is no JSON function
+pub record NamesReason (input text : List ℕ) : Type 0 where
+  pub reason : JsonReason
+  pub first : HasFirstReason input reason
+  pub spelled : text ≡ json_refused_line reason
+
+-- a function in JSON
+abbrev pub json_function : Form FunctionData
+json_function = reading IsJsonFunction NamesReason

@@ -1,5 +1,6 @@
 pub mod Task
 pub mod Forms
+pub mod Report
 pub mod Minimal
 pub mod Show
 pub mod Check

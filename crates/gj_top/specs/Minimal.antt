@@ -12,7 +12,8 @@ use Rattle.gj_proof.specs.Rules.{MeetsRules}
 use Rattle.gj_top.specs.declared.reply.End.{End}
 use Rattle.gj_top.specs.declared.reply.End.TheVariants.{Done}
 use Rattle.gj_top.specs.Task.{Task}
-use Rattle.gj_top.specs.Forms.{function_text}
+use Rattle.gj_top.specs.Forms.{function_text, json_function}
+use Rattle.gj_top.specs.Report.{reported}
 
 -- the text claims that f is minimal
 abbrev pub IsMinimalText : FunctionData → List ℕ → Type 0
@@ -52,3 +53,7 @@ minimal = record {
   form = function_text;
   work = record { replies = IsDecision; headline = IsTrueVerdict };
 }
+
+-- with `--json` the function is read in JSON, and the proof text is reported
+abbrev pub minimal_json : Task
+minimal_json = record { Thing = FunctionData; form = json_function; work = reported minimal.work }

@@ -2,10 +2,11 @@
 use Rattle.std.specs.Prelude.{ℕ, List}
 use Rattle.gj_shape.specs.FunctionData.{FunctionData}
 use Rattle.gj_ftext.specs.FunctionText.{IsCanonicalText}
+use Rattle.gj_json.specs.JsonText.{IsJsonText}
 use Rattle.gj_top.specs.declared.reply.End.{End}
 use Rattle.gj_top.specs.declared.reply.End.TheVariants.{Done}
 use Rattle.gj_top.specs.Task.{Task}
-use Rattle.gj_top.specs.Forms.{function_text}
+use Rattle.gj_top.specs.Forms.{function_text, json_function}
 
 -- the reply to a function is its canonical text, and ends with Done
 abbrev pub IsShowing : FunctionData → End → List ℕ → Type 0
@@ -18,4 +19,16 @@ show = record {
   Thing = FunctionData;
   form = function_text;
   work = record { replies = IsShowing; headline = λ f text. IsCanonicalText text f };
+}
+
+-- with `--json` the function is read in JSON, and the reply is its one JSON text
+abbrev pub IsJsonShowing : FunctionData → End → List ℕ → Type 0
+IsJsonShowing f Done text = IsJsonText text f
+IsJsonShowing f end text = ⊥
+
+abbrev pub show_json : Task
+show_json = record {
+  Thing = FunctionData;
+  form = json_function;
+  work = record { replies = IsJsonShowing; headline = λ f text. IsJsonText text f };
 }

@@ -81,9 +81,9 @@ pub(crate) fn answer_to<S: Source>(
     }
 }
 
-/// The answer to the request, which is built, over an input within the limit, or over none where it reads none.
+/// The answer to the request, whose command is built, over an input within the limit, or over none where it reads none.
 fn answer_of(alloc: Global, request: Request, input: &[u8]) -> Result<Answer, AllocError>
-    requires built { IsTrue (is_built request) }
+    requires built { IsTrue (is_built request.command) }
     requires within { length input.now ≤ input_limit }
     ensures { IfOk result (λ answer. IsAnswerTo (task_for request) input.now (answer_status answer) (answer_text answer)) }
 {

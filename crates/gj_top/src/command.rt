@@ -8,31 +8,31 @@ use crate::{check, minimal, show};
 use gj_words::{Command, Request, WordFault, read_words};
 use std::alloc::{AllocError, Global};
 
-/// The request that the words name: what they spell, if that is built.
+/// The request that the words name: what they spell, if its command is built.
 pub(crate) fn request_of(alloc: Global, words: &[String]) -> Result<Option<Request>, AllocError>
     ensures { IfOk result (IsFoundIn words.now) }
 {
     match read_words(alloc, words) {
-        Ok(request) if is_built(request) => Ok(Some(request)),
+        Ok(request) if is_built(request.command) => Ok(Some(request)),
         Ok(_) => Ok(None),
         Err(WordFault::Refused) => Ok(None),
         Err(WordFault::Memory(error)) => Err(error),
     }
 }
 
-/// Whether the request is built. `extreme`, `cut`, `faces`, `demo` and the flag are not yet.
-fn is_built(request: Request) -> bool
-    ensures { result ≡ is_built request }
+/// Whether the command is built. `extreme`, `cut`, `faces` and `demo` are not yet.
+fn is_built(command: Command) -> bool
+    ensures { result ≡ is_built command }
 {
-    match request.command {
-        Command::Minimal | Command::Show | Command::Check => !request.json,
+    match command {
+        Command::Minimal | Command::Show | Command::Check => true,
         Command::Extreme | Command::Cut | Command::Faces | Command::Demo(_) => false,
     }
 }
 
-/// Whether the request, which is built, reads an input. Each does so far.
+/// Whether the request, whose command is built, reads an input. Each does so far.
 pub(crate) fn reads_input(request: Request) -> bool
-    requires { IsTrue (is_built request) }
+    requires { IsTrue (is_built request.command) }
     ensures { result ≡ reads (task_for request).form }
 {
     match request.command {
@@ -43,13 +43,15 @@ pub(crate) fn reads_input(request: Request) -> bool
     }
 }
 
-/// The reply to the request, which is built, over the input, or over none where it reads none.
+/// The reply to the request, whose command is built, over the input, or over none where it reads none.
 pub(crate) fn reply_to(alloc: Global, request: Request, input: &[u8]) -> Result<Reply, Unanswered>
-    requires { IsTrue (is_built request) }
+    requires { IsTrue (is_built request.command) }
     ensures { IsAnswering (task_for request) input.now result }
 {
     match request.command {
+        Command::Minimal if request.json => minimal::json_reply(alloc, input),
         Command::Minimal => minimal::reply(alloc, input),
+        Command::Show if request.json => show::json_reply(alloc, input),
         Command::Show => show::reply(alloc, input),
         Command::Check => check::reply(alloc, input),
         _ => unreachable!(),

@@ -1,11 +1,12 @@
 //! The forms of input: each is read whole, or refused with the line that says why.
 ghost use Rattle.gj_lines.specs.FunctionLines.{line};
 ghost use Rattle.gj_top.specs.Task.{IsReadingOf};
-ghost use Rattle.gj_top.specs.Forms.{function_text, proof_text, IsRefusalOf};
+ghost use Rattle.gj_top.specs.Forms.{function_text, json_function, proof_text, IsRefusalOf, IsJsonRefusalOf};
 
-use crate::lines::numbered_line;
+use crate::lines::{numbered_line, worded_line};
 use crate::reply::Unanswered;
 use gj_ftext::{TextFault, read_whole_function};
+use gj_json::{JsonFault, JsonReason, read_json};
 use gj_lex::Reason;
 use gj_proof::{Proof, ProofFault, read_proof};
 use gj_shape::Shape;
@@ -19,6 +20,17 @@ pub(crate) fn function_of(alloc: Global, input: &[u8]) -> Result<Shape, Unanswer
         Ok(shape) => Ok(shape),
         Err(TextFault::Refused(at_line, reason)) => Err(refusal(alloc, at_line, reason)),
         Err(TextFault::Memory(error)) => Err(Unanswered::Memory(error)),
+    }
+}
+
+/// The function that the input, a JSON text, spells.
+pub(crate) fn json_function_of(alloc: Global, input: &[u8]) -> Result<Shape, Unanswered>
+    ensures { IsReadingOf json_function input.now result }
+{
+    match read_json(alloc, input) {
+        Ok(shape) => Ok(shape),
+        Err(JsonFault::Refused(reason)) => Err(json_refusal(alloc, reason)),
+        Err(JsonFault::Memory(error)) => Err(Unanswered::Memory(error)),
     }
 }
 
@@ -38,6 +50,16 @@ fn refusal(alloc: Global, at_line: u64, reason: Reason) -> Unanswered
     ensures { IsRefusalOf at_line reason result }
 {
     match numbered_line(alloc, b"refused line ", at_line, reason.word()) {
+        Ok(line) => Unanswered::Refused(line),
+        Err(error) => Unanswered::Memory(error),
+    }
+}
+
+/// The refusal of a JSON text.
+fn json_refusal(alloc: Global, reason: JsonReason) -> Unanswered
+    ensures { IsJsonRefusalOf reason result }
+{
+    match worded_line(alloc, b"refused json ", reason.word()) {
         Ok(line) => Unanswered::Refused(line),
         Err(error) => Unanswered::Memory(error),
     }

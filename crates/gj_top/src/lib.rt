@@ -21,6 +21,7 @@ mod laws;
 mod lines;
 mod minimal;
 mod reply;
+mod report;
 mod show;
 mod status;
 #[cfg(test)]
@@ -34,8 +35,9 @@ pub use status::Status;
 ///
 /// `minimal` reads a function text and writes the proof text of the claim that the function is minimal, or that it is
 /// not, with the first violation. `show` reads a function text and writes its canonical text. `check` reads a proof
-/// text and says whether every rule of the checker holds. The whole input is read first, and the whole answer is made
-/// before its first byte is written.
+/// text and says whether every rule of the checker holds. With `--json`, `minimal` and `show` read a function in JSON, and
+/// `minimal` writes a report of the proof text, `show` the function in JSON. The whole input is read first, and the whole
+/// answer is made before its first byte is written.
 pub fn run<S: Source, K: Sink>(
     alloc: Global,
     words: &[String],

@@ -21,3 +21,13 @@ pub(crate) fn numbered_line(
     text.push(b'\n')?;
     Ok(text)
 }
+
+/// A line that ends with the word.
+pub(crate) fn worded_line(alloc: Global, front: &[u8], word: &str) -> Result<Vec<u8>, AllocError>
+    ensures { IfOk result (λ text. text.items ≡ line (front.now ++ word.now)) }
+{
+    let mut text = Vec::from_slice(alloc, front)?;
+    text.extend_from_slice(word.as_bytes())?;
+    text.push(b'\n')?;
+    Ok(text)
+}

@@ -122,6 +122,7 @@ fn other_words_are_refused(rt: HostRuntime) -> Result<(), Fail> {
         "--json=x",
         "demo 1",
         "extreme",
+        "extreme --json",
         "cut",
         "faces",
     ] {
@@ -173,6 +174,33 @@ fn functions_are_shown(rt: HostRuntime) -> Result<(), Fail> {
         let (ended, sink) = ran(rt.alloc(), "show", input.as_bytes(), &[], &[])?;
         assert_eq!(rt; ended, status, "on {input}");
         assert_eq!(rt; sink.taken(), output.as_bytes(), "on {input}");
+    }
+    Ok(())
+}
+
+/// A function of order 2 with f = 1/2 in JSON.
+const HALVES: &str = "{\"order\":2,\"f\":\"1/2\",\"value\":[0,1]}";
+
+const HALVES_MINIMAL: &str =
+    "{\"proof\":[\"gj-proof 1\",\"claim minimal\",\"order 2\",\"f 1/2\",\"point 0\",\"point 1\",\"end\"],\"verdict\":\"minimal\"}\n";
+
+#[test]
+fn json_is_answered_in_json(rt: HostRuntime) -> Result<(), Fail> {
+    for (line, input, status, output) in [
+        ("minimal --json", HALVES, Status::Done, HALVES_MINIMAL),
+        ("--json minimal", HALVES, Status::Done, HALVES_MINIMAL),
+        (
+            "show --json",
+            HALVES,
+            Status::Done,
+            "{\"f\":\"1/2\",\"left\":[\"0\",\"1\"],\"order\":2,\"right\":[\"0\",\"1\"],\"value\":[\"0\",\"1\"]}\n",
+        ),
+        ("minimal --json", "[]", Status::Input, "refused json form\n"),
+        ("show --json", "{", Status::Input, "refused json syntax\n"),
+    ] {
+        let (ended, sink) = ran(rt.alloc(), line, input.as_bytes(), &[], &[])?;
+        assert_eq!(rt; ended, status, "on {line}");
+        assert_eq!(rt; sink.taken(), output.as_bytes(), "on {line}");
     }
     Ok(())
 }

@@ -1,11 +1,12 @@
-use Rattle.std.proofs.Common.{refl}
+use Rattle.gj_words.specs.declared.requests.Command.TheVariants.{Minimal, Show, Check}
+use Rattle.gj_top.proofs.Commands.{each_reads}
 use Rattle.gj_top.proofs.command.reads_input.Goals as goal
 
 pub returns-in-Minimal : goal.returns-in-Minimal
-returns-in-Minimal c = rw c.in-Minimal.is refl
+returns-in-Minimal c = rw c.in-Minimal.is (each_reads Minimal c.args.request.json)
 
 pub returns-in-Show : goal.returns-in-Show
-returns-in-Show c = rw c.in-Show.is refl
+returns-in-Show c = rw c.in-Show.is (each_reads Show c.args.request.json)
 
 pub returns-in-Check : goal.returns-in-Check
-returns-in-Check c = rw c.in-Check.is refl
+returns-in-Check c = rw c.in-Check.is (each_reads Check c.args.request.json)

@@ -1,0 +1,152 @@
+-- The bytes of a proof text are printable or line feeds, and the last is a line feed.
+use Rattle.std.proofs.Common.{◌≡◌, inl, inr, ℕ, ◌≤◌, nat_le, ◌&&◌, Bool, true, false, List, [], ◌∷◌, ◌++◌, flat_map, codes, decimal}
+use Rattle.std.proofs.Common.{refl, sym, subst, ◌∙◌, arith, append_assoc}
+use Rattle.std.specs.List.{All, list_all}
+use Rattle.std.specs.Char.{IsAsciiDigit}
+use Rattle.std.proofs.lemmas.Bool.{and_parts}
+use Rattle.std.proofs.lemmas.Bool.Decides.{nat_tests}
+use Rattle.std.proofs.lemmas.List.Elements.{All-nil, All-cons, All-append, All-weaker}
+use Rattle.std.proofs.lemmas.List.Sums.{AllPass-from_list_all}
+use Rattle.gj_frac.specs.declared.Frac.{Frac}
+use Rattle.gj_lex.specs.NumberText.{fraction_text, IsNumberByte}
+use Rattle.gj_lex.proofs.WordBytes.{decimal_bytes, fraction_bytes}
+use Rattle.gj_lines.specs.FunctionLines.{line, fraction_line, order_line, place_line, point_text, point_line, has_no_jump, AreFunctionLines}
+use Rattle.gj_lines.proofs.PointLines.{text_of_one, text_of_three}
+use Rattle.gj_shape.specs.FunctionData.{FunctionData, IsWithinBounds}
+use Rattle.gj_shape.specs.declared.points.Point.{Point}
+use Rattle.gj_shape.specs.declared.violations.Violation.{Violation}
+use Rattle.gj_shape.specs.declared.violations.Violation.TheVariants as violation
+use Rattle.gj_proof.specs.declared.claim.Claim.{Claim}
+use Rattle.gj_proof.specs.declared.claim.Claim.TheVariants.{Minimal, NotMinimal}
+use Rattle.gj_proof.specs.ProofText.{claim_word, OwnLine, own_lines, violation_line, subject_of, AreSubjectLines, IsBounded, IsProofText}
+use Rattle.gj_json.specs.JsonText.{IsPrintable, IsProofByte, IsEnded}
+
+-- ---- known texts
+
+abbrev is_printable : ℕ → Bool
+is_printable b = nat_le 32 b && nat_le b 126
+
+abbrev are_printable : List ℕ → Bool
+are_printable = list_all is_printable
+
+printable_by_test : (b : ℕ) → is_printable b ≡ true → IsPrintable b
+printable_by_test b h =
+    let p = and_parts (nat_le 32 b) (nat_le b 126) h in
+    let low : nat_le 32 b ≡ true = p.0 in
+    let high : nat_le b 126 ≡ true = p.1 in
+    (grind (arith, nat_tests), grind (arith, nat_tests))
+
+-- the test of a known text computes
+pub known : (bs : List ℕ) → are_printable bs ≡ true → All IsPrintable bs
+known bs h = λ k d within. printable_by_test _ (AllPass-from_list_all is_printable bs h k d within)
+
+-- ---- lines
+
+joined : (a b : List ℕ) → All IsPrintable a → All IsPrintable b → All IsPrintable (a ++ b)
+joined = All-append IsPrintable
+
+both : (a b : List ℕ) → All IsProofByte a → All IsProofByte b → All IsProofByte (a ++ b)
+both = All-append IsProofByte
+
+line_bytes : (bs : List ℕ) → All IsPrintable bs → All IsProofByte (line bs)
+line_bytes bs h =
+    both bs (10 ∷ []) (All-weaker IsPrintable IsProofByte (λ b p. inr p) bs h) (All-cons IsProofByte 10 [] (inl refl) (All-nil IsProofByte))
+
+-- ---- numbers
+
+number_printable : (b : ℕ) → IsNumberByte b → IsPrintable b
+number_printable b (inl d) = (omega (arith, d), omega (arith, d))
+number_printable b (inr (inl e)) = (omega (arith, e), omega (arith, e))
+number_printable b (inr (inr e)) = (omega (arith, e), omega (arith, e))
+
+fraction_printable : (x : Frac) → All IsPrintable (fraction_text x)
+fraction_printable x = All-weaker IsNumberByte IsPrintable number_printable (fraction_text x) (fraction_bytes x)
+
+decimal_printable : (n : ℕ) → n ≤ 1000 → All IsPrintable (decimal n)
+decimal_printable n small =
+    All-weaker IsAsciiDigit IsPrintable (λ b d. number_printable b (inl d)) (decimal n) (decimal_bytes n (omega arith))
+
+fraction_line_bytes : (word : List ℕ) (x : Frac) → All IsPrintable word → All IsProofByte (fraction_line word x)
+fraction_line_bytes word x h = line_bytes (word ++ fraction_text x) (joined word (fraction_text x) h (fraction_printable x))
+
+-- ---- the lines of a function
+
+point_printable : (p : Point) → All IsPrintable (point_text p)
+point_printable p = go (has_no_jump p) refl
+  where
+    go : (b : Bool) → has_no_jump p ≡ b → All IsPrintable (point_text p)
+    go true e = subst (All IsPrintable) (sym (text_of_one p e)) (fraction_printable p.value)
+    go false e =
+        let space = known (codes " ") refl in
+        let l = fraction_text p.left in
+        let v = fraction_text p.value in
+        subst (All IsPrintable) (sym (text_of_three p e))
+        (joined (l ++ codes " " ++ v ++ codes " ") (fraction_text p.right)
+        (joined (l ++ codes " " ++ v) (codes " ")
+        (joined (l ++ codes " ") v (joined l (codes " ") (fraction_printable p.left) space) (fraction_printable p.value)) space)
+        (fraction_printable p.right))
+
+points_bytes : (ps : List Point) → All IsProofByte (flat_map point_line ps)
+points_bytes [] = All-nil IsProofByte
+points_bytes (p ∷ ps) =
+    both (point_line p) (flat_map point_line ps)
+    (line_bytes (codes "point " ++ point_text p) (joined (codes "point ") (point_text p) (known (codes "point ") refl) (point_printable p)))
+    (points_bytes ps)
+
+function_bytes : (f : FunctionData) (text : List ℕ) → IsWithinBounds f → AreFunctionLines f text → All IsProofByte text
+function_bytes f text within a =
+    subst (All IsProofByte) (sym a.spelled)
+    (both (order_line f.order ++ place_line a.place) (flat_map point_line a.points)
+    (both (order_line f.order) (place_line a.place)
+    (line_bytes (codes "order " ++ decimal f.order)
+    (joined (codes "order ") (decimal f.order) (known (codes "order ") refl) (decimal_printable f.order within.order_high)))
+    (fraction_line_bytes (codes "f ") a.place (known (codes "f ") refl)))
+    (points_bytes a.points))
+
+-- ---- the lines of a claim
+
+pub claim_word_printable : (c : Claim) → All IsPrintable (claim_word c)
+claim_word_printable (Minimal f) = known (codes "minimal") refl
+claim_word_printable (NotMinimal f v) = known (codes "not-minimal") refl
+
+subject_bytes : (c : Claim) (text : List ℕ) → IsBounded c → AreSubjectLines (subject_of c) text → All IsProofByte text
+subject_bytes (Minimal f) text within a = function_bytes f text within a
+subject_bytes (NotMinimal f v) text within a = function_bytes f text within a
+
+violation_bytes : (v : Violation) → All IsProofByte (violation_line v)
+violation_bytes violation.Zero = line_bytes (codes "zero") (known (codes "zero") refl)
+violation_bytes (violation.Negative x) = fraction_line_bytes (codes "negative ") x (known (codes "negative ") refl)
+violation_bytes (violation.Asymmetric x) = fraction_line_bytes (codes "asymmetric ") x (known (codes "asymmetric ") refl)
+violation_bytes (violation.Superadditive x y) =
+    let word = codes "superadditive " in
+    line_bytes (word ++ fraction_text x ++ codes " " ++ fraction_text y)
+    (joined (word ++ fraction_text x ++ codes " ") (fraction_text y)
+    (joined (word ++ fraction_text x) (codes " ")
+    (joined word (fraction_text x) (known (codes "superadditive ") refl) (fraction_printable x)) (known (codes " ") refl))
+    (fraction_printable y))
+
+own_bytes : (c : Claim) → All IsProofByte (flat_map (λ l. l.bytes) (own_lines c))
+own_bytes (Minimal f) = All-nil IsProofByte
+own_bytes (NotMinimal f v) = both (violation_line v) [] (violation_bytes v) (All-nil IsProofByte)
+
+pub proof_bytes : (c : Claim) (text : List ℕ) → IsBounded c → IsProofText c text → All IsProofByte text
+proof_bytes c text within p =
+    let head = line (codes "gj-proof 1") ++ line (codes "claim " ++ claim_word c) in
+    let own = flat_map (λ (l : OwnLine). l.bytes) (own_lines c) in
+    subst (All IsProofByte) (sym p.spelled)
+    (both (head ++ p.subject ++ own) (line (codes "end"))
+    (both (head ++ p.subject) own
+    (both head p.subject
+    (both (line (codes "gj-proof 1")) (line (codes "claim " ++ claim_word c))
+    (line_bytes (codes "gj-proof 1") (known (codes "gj-proof 1") refl))
+    (line_bytes (codes "claim " ++ claim_word c)
+    (joined (codes "claim ") (claim_word c) (known (codes "claim ") refl) (claim_word_printable c))))
+    (subject_bytes c p.subject within p.are_subject_lines))
+    (own_bytes c))
+    (line_bytes (codes "end") (known (codes "end") refl)))
+
+pub proof_is_ended : (c : Claim) (text : List ℕ) → IsProofText c text → IsEnded text
+proof_is_ended c text p =
+    let front = line (codes "gj-proof 1") ++ line (codes "claim " ++ claim_word c) ++ p.subject
+    ++ flat_map (λ (l : OwnLine). l.bytes) (own_lines c) in
+    inr (front ++ codes "end", p.spelled ∙ sym (append_assoc front (codes "end") (10 ∷ [])))
