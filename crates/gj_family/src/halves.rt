@@ -24,13 +24,7 @@ pub fn half(alloc: Global, f: Frac) -> Result<Shape, FamilyFault>
     let (order, place) = order_and_place(f)?;
     let limits = ones(alloc, order)?;
     let values = doubled_values(alloc, order, place)?;
-    Ok(shape_over(
-        alloc,
-        place,
-        2,
-        limits.as_slice(),
-        values.as_slice(),
-    )?)
+    Ok(shape_over(alloc, place, 2, limits.as_slice(), values.as_slice())?)
 }
 
 /// So many ones.

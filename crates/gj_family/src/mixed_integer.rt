@@ -33,13 +33,7 @@ pub fn gmic(alloc: Global, f: Frac) -> Result<Shape, FamilyFault>
     let (order, place) = order_and_place(f)?;
     let entries = gmic_entries(alloc, order, place)?;
     let values = entries.as_slice();
-    Ok(shape_over(
-        alloc,
-        place,
-        place * (order - place),
-        values,
-        values,
-    )?)
+    Ok(shape_over(alloc, place, place * (order - place), values, values)?)
 }
 
 /// The values of the mixed-integer cut with this order and place, each times the place and the order less the place.

@@ -18,11 +18,7 @@ fn fraction(numerator: i64, denominator: u32) -> Frac
 }
 
 /// The whole numbers over the denominator.
-fn fractions(
-    alloc: Global,
-    numerators: &[i64],
-    denominator: u32,
-) -> Result<Vec<Frac>, AllocError>
+fn fractions(alloc: Global, numerators: &[i64], denominator: u32) -> Result<Vec<Frac>, AllocError>
     requires { 0 < denominator }
     ensures length { IfOk result (λ v. length v.items ≡ length numerators.now) }
     ensures fractions { IfOk result (λ v. AreOver (at numerators.now) denominator v.items) }

@@ -75,12 +75,7 @@ fn last_sum(signs: &[bool], up: u32, down: u32) -> i64
 
 /// The sums of the first 0, 1, .., q - 1 steps, where a rise goes up by `up`, a fall goes down by `down`, and q is the
 /// number of signs.
-fn sums_of_steps(
-    alloc: Global,
-    signs: &[bool],
-    up: u32,
-    down: u32,
-) -> Result<Vec<i64>, AllocError>
+fn sums_of_steps(alloc: Global, signs: &[bool], up: u32, down: u32) -> Result<Vec<i64>, AllocError>
     requires few { length signs.now ≤ 1000 }
     requires up_small { up ≤ 1000 }
     requires down_small { down ≤ 1000 }
@@ -90,7 +85,11 @@ fn sums_of_steps(
     let mut sum = 0;
     for sign in signs {
         sums.push(sum)?;
-        let step = if *sign { i64::from(up) } else { -i64::from(down) };
+        let step = if *sign {
+            i64::from(up)
+        } else {
+            -i64::from(down)
+        };
         sum += step;
     }
     Ok(sums)

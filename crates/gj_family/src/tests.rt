@@ -61,7 +61,10 @@ fn eight_signs(rt: HostRuntime) -> Result<(), Fail> {
     assert_eq!(rt; shape.order(), 8);
     assert_eq!(rt; shape.place(), 5);
     assert_eq!(rt; shape.common_denominator(), 3);
-    assert_eq!(rt; shape.value_numerators(), [0, 1, 2, 1, 2, 3, 2, 1].as_slice());
+    assert_eq!(rt;
+        shape.value_numerators(),
+        [0, 1, 2, 1, 2, 3, 2, 1].as_slice()
+    );
     assert!(rt; shape.is_continuous());
     Ok(())
 }
