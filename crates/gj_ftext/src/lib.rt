@@ -1,6 +1,8 @@
-//! Function text: read in any of its spellings, and printed in one.
+//! Function text: read in any of its spellings, by its points or as one of a family, and printed in one.
 #![tactic(auto)]
 
+mod body;
+mod family;
 mod faults;
 mod laws;
 mod read;

@@ -5,9 +5,9 @@ ghost use Rattle.gj_shape.specs.FunctionData.{FunctionData};
 ghost use Rattle.gj_ftext.specs.FunctionText.{function_text, whole_function_text, IsFunctionText, IsWholeFunctionText};
 ghost use Rattle.gj_ftext.specs.FirstFault.{IsMemoryFault, NamesFirstFault, NamesFirstFaultOfWhole};
 
+use crate::body::body_at;
 use crate::faults::TextFault;
 use gj_lex::{PartFault, Spelling, end_at, line_number, words_at};
-use gj_lines::function_at;
 use gj_shape::Shape;
 use std::alloc::Global;
 
@@ -72,7 +72,7 @@ fn function_text_at(alloc: Global, text: &[u8]) -> Result<(Shape, &[u8]), PartFa
     ensures fault { IfErr result (IsFaultOf function_text text.now) }
 {
     let rest = words_at(Spelling::Lenient, text, b"gj-function 1")?;
-    let (shape, rest) = function_at(alloc, Spelling::Lenient, rest)?;
+    let (shape, rest) = body_at(alloc, rest)?;
     let rest = words_at(Spelling::Lenient, rest, b"end")?;
     Ok((shape, rest))
 }
