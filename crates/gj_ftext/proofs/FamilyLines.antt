@@ -1,10 +1,8 @@
 -- A line names one function of a family, or none for one reason.
-use Rattle.std.proofs.Common.{◌≡◌, inl, inr, ℕ, ◌<◌, ◌≤◌, ◌^◌, ◌+◌, List, [], ◌∷◌, Bool, true, false, All, map, length, codes, refl, sym, ap, ap₂, subst, ◌∙◌, arith}
-use Rattle.std.specs.Str.Parse.{digits_value}
+use Rattle.std.proofs.Common.{◌≡◌, inl, inr, ℕ, List, [], ◌∷◌, Bool, true, false, map, codes, refl, sym, ap, ap₂, subst, ◌∙◌, arith}
 use Rattle.gj_frac.specs.declared.Frac.{Frac}
 use Rattle.gj_lex.specs.declared.reason.Reason.{Reason}
 use Rattle.gj_lex.specs.declared.spelling.Spelling.TheVariants.{Lenient}
-use Rattle.gj_lex.specs.SpelledNumbers.{IsCountWord, IsFractionWord}
 use Rattle.gj_lex.specs.Parts.{IsExactRule, IsExactPart}
 use Rattle.gj_lex.proofs.PartLaws.{line_part_is_exact}
 use Rattle.gj_lex.proofs.SpelledWords.{one_fraction, one_count}
@@ -13,7 +11,7 @@ use Rattle.gj_family.specs.Faults.{HasFamilyFault, HasNoFamilyFault, HasTwoSlope
 use Rattle.gj_family.specs.declared.faults.FamilyFault.{FamilyFault}
 use Rattle.gj_family.specs.declared.faults.FamilyFault.TheVariants as fault
 use Rattle.gj_family.proofs.OneFunction.{one_gmic, one_half_function, one_two_slope}
-use Rattle.gj_ftext.specs.FamilyLine.{Family, gmic, half, two_slope, FamilyWords, gmic_words, half_words, two_slope_words, words_of_line, sign_byte, AreSigns, SpellFamily, BreaksWords, IsOfFamily, HasFault, IsReasonOf, Names, NamesNone, BreaksFamily, family_rule}
+use Rattle.gj_ftext.specs.FamilyLine.{Family, gmic, half, two_slope, FamilyWords, gmic_words, half_words, two_slope_words, words_of_line, sign_byte, SpellFamily, BreaksWords, IsOfFamily, HasFault, IsReasonOf, Names, NamesNone, BreaksFamily, family_rule}
 use Rattle.gj_ftext.specs.FunctionText.{family_part}
 
 -- ---- words

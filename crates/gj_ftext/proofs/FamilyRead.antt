@@ -1,16 +1,10 @@
 -- How the words that were read name a function of a family, or none.
-use Rattle.std.proofs.Common.{◌≡◌, inl, inr, ℕ, ◌<◌, ◌≤◌, ◌^◌, ◌+◌, List, [], ◌∷◌, Bool, true, false, All, map, length, get_or, take, nat_eq, ◌++◌, ap₂, refl, sym, ap, subst, ◌∙◌, arith, codes}
+use Rattle.std.proofs.Common.{◌≡◌, inl, inr, ℕ, ◌<◌, ◌+◌, List, [], ◌∷◌, Bool, true, false, All, map, length, get_or, take, nat_eq, ◌++◌, ap₂, refl, sym, ap, subst, ◌∙◌, arith, codes}
 use Rattle.std.proofs.lemmas.List.{map-append, take_more}
 use Rattle.std.proofs.lemmas.List.Elements.{All-map}
-use Rattle.std.specs.Str.Parse.{digits_value}
-use Rattle.gj_frac.specs.declared.Frac.{Frac}
 use Rattle.gj_lex.specs.declared.reason.Reason.{Reason}
-use Rattle.gj_lex.specs.declared.reason.Reason.TheVariants as reason
-use Rattle.gj_lex.specs.declared.fault.PartFault.{PartFault}
 use Rattle.gj_lex.specs.declared.spelling.Spelling.TheVariants.{Lenient}
-use Rattle.gj_lex.specs.SpelledNumbers.{IsCountWord, IsFractionWord}
-use Rattle.gj_lex.specs.TextLines.{HasLine}
-use Rattle.gj_lex.specs.Parts.{IsFaultOf}
+use Rattle.gj_lex.specs.SpelledNumbers.{IsCountWord}
 use Rattle.gj_shape.specs.FunctionData.{FunctionData, IsWithinBounds}
 use Rattle.gj_family.specs.Families.{IsTwoSlope}
 use Rattle.gj_family.specs.Faults.{HasTwoSlopeFault, HasNoTwoSlopeFault}

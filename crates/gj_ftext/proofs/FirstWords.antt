@@ -1,10 +1,10 @@
 -- Parts that are told apart by the first word of their first line are exact where both are.
-use Rattle.std.proofs.Common.{◌≡◌, inl, inr, ℕ, List, [], ◌∷◌, ◌++◌, refl, sym, ap, subst, ◌∙◌}
+use Rattle.std.proofs.Common.{◌≡◌, inl, inr, ℕ, List, ◌∷◌, ◌++◌, subst}
 use Rattle.gj_lex.specs.declared.spelling.Spelling.{Spelling}
 use Rattle.gj_lex.specs.declared.reason.Reason.{Reason}
 use Rattle.gj_lex.specs.declared.fault.PartFault.{PartFault}
 use Rattle.gj_lex.specs.declared.fault.PartFault.TheVariants.{Refused, Memory}
-use Rattle.gj_lex.specs.TextLines.{HasLine, HasNoLine}
+use Rattle.gj_lex.specs.TextLines.{HasLine}
 use Rattle.gj_lex.specs.Parts.{Part, IsExactPart, IsFaultOf, IsNoLine}
 use Rattle.gj_lex.proofs.PartLaws.{one_line, line_or_none}
 use Rattle.gj_ftext.specs.ByFirstWord.{BeginsWith, by_first_word}

@@ -2,14 +2,14 @@
 use Rattle.std.proofs.Common.{◌≡◌, inl, inr, ℕ, List, ◌∷◌, codes, refl, sym, subst, ◌∙◌}
 use Rattle.gj_lex.specs.declared.fault.PartFault.{PartFault}
 use Rattle.gj_lex.specs.declared.spelling.Spelling.TheVariants.{Lenient}
-use Rattle.gj_lex.specs.Parts.{words_rule, Part, line_part, empty_part, then_part, end_part, IsFaultOf, IsTail}
+use Rattle.gj_lex.specs.Parts.{words_rule, Part, line_part, empty_part, then_part, IsFaultOf}
 use Rattle.gj_lex.specs.TextLines.{HasNothing}
-use Rattle.gj_lex.proofs.PartLaws.{fault_in_first, fault_in_next, tail_refused}
+use Rattle.gj_lex.proofs.PartLaws.{fault_in_first, fault_in_next}
 use Rattle.gj_shape.specs.FunctionData.{FunctionData, IsWithinBounds}
 use Rattle.gj_lines.specs.FunctionGrammar.{order_words, function_part}
 use Rattle.gj_lines.proofs.FunctionRead.{within_bounds}
 use Rattle.gj_ftext.specs.ByFirstWord.{BeginsWith}
-use Rattle.gj_ftext.specs.FunctionText.{title_words, end_words, body_part, family_part, function_text, whole_function_text, IsFunctionText, IsWholeFunctionText}
+use Rattle.gj_ftext.specs.FunctionText.{title_words, end_words, body_part, function_text, IsFunctionText, IsWholeFunctionText}
 use Rattle.gj_ftext.proofs.FirstWords.{begins_not}
 
 -- the first and the last line

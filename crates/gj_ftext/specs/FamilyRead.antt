@@ -1,5 +1,5 @@
 -- What the readers of the parts of a family line find (own).
-use Rattle.std.specs.Prelude.{ℕ, ◌≡◌, ◌⊎◌, ◌+◌, ◌<◌, ◌≤◌, ◌^◌, List}
+use Rattle.std.specs.Prelude.{ℕ, ◌≡◌, ◌⊎◌, ◌+◌, ◌<◌, ◌≤◌, ◌^◌}
 use Rattle.gj_lex.specs.declared.reason.Reason.{Reason}
 use Rattle.gj_ftext.specs.FamilyLine.{FamilyWords, gmic_words, half_words, two_slope_words}
 use Rattle.gj_ftext.specs.declared.family.LineWords.{LineWords}

@@ -1,4 +1,4 @@
--- Function text: the lines of a function in their lenient and in their one canonical spelling (own).
+-- Function text: a function by its points or as one of a family, in lenient spelling, and its one canonical text (own).
 use Rattle.std.specs.Prelude.{ℕ, ◌≡◌, List, [], ◌∷◌, ◌++◌, codes}
 use Rattle.gj_lex.specs.Parts.{Part, line_part, framed_part, then_part, end_part}
 use Rattle.gj_lex.specs.declared.spelling.Spelling.TheVariants.{Lenient}

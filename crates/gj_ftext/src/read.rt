@@ -13,6 +13,9 @@ use std::alloc::Global;
 
 /// The function whose function text is at the front of the bytes, and the number of bytes up to and with the line `end`.
 ///
+/// Between the lines `gj-function 1` and `end` the function is told by the lines of its order, of its f and of its points, or by
+/// one line `family gmic F`, `family half F` or `family two-slope K SIGNS`.
+///
 /// `Refused` has the line and the reason of the first fault, and comes exactly where no first lines of the bytes are a function text.
 ///
 /// ```text
