@@ -4,7 +4,6 @@ use Rattle.gj_shape.specs.FunctionData.{FunctionData}
 use Rattle.gj_proof.specs.declared.claim.Claim.{Claim}
 use Rattle.gj_proof.specs.declared.claim.Claim.TheVariants as claim
 use Rattle.gj_proof.specs.Rules.{MeetsRules}
-use Rattle.gj_top.specs.declared.command.Command.TheVariants.{Check}
 use Rattle.gj_top.specs.declared.reply.End.{End}
 use Rattle.gj_top.specs.declared.reply.End.TheVariants as end
 use Rattle.gj_top.specs.declared.status.Status.{Status}
@@ -18,7 +17,7 @@ use Rattle.gj_top.specs.Answer.{IsAnswerTo}
 use Rattle.gj_top.specs.Answer.IsAnswerTo.{too_long, refused, replied}
 use Rattle.gj_top.proofs.Clauses.{done_reply}
 use Rattle.gj_check.proofs.DemandsOfClaims.{no_failure}
-use Rattle.gj_top.proofs.Sound.{sound}
+use Rattle.gj_top.proofs.Sound.{check_sound}
 use Rattle.gj_top.proofs.TextLaws.{function_is_bounded, minimal_proof, not_minimal_proof, one_proof, proof_text_is_short}
 
 -- the text is the proof of a claim of which every rule holds
@@ -57,7 +56,7 @@ accepted text answer s g (too_long a) =
     let short = proof_text_is_short text g.about g.proof in
     let long = a.long in
     absurd (omega arith)
-accepted text answer s g (refused a) = absurd ((sound Check).form text answer g.about g.proof a.refused)
+accepted text answer s g (refused a) = absurd (check_sound.form text answer g.about g.proof a.refused)
 accepted text answer s g (replied a) =
     let ended : a.end ≡ end.Done = accepted_reply text answer a.end g a.reply in
     let is = a.status_is in

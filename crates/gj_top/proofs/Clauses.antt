@@ -3,7 +3,7 @@ use Rattle.std.proofs.Common.{◌≡◌, ◌≢◌, ◌⊎◌, inl, inr, ℕ, �
 use Rattle.std.proofs.Common.{None, Some, String, refl, sym, ap, subst, ◌∙◌, arith}
 use Rattle.std.proofs.lemmas.List.{drop_all}
 use Rattle.std.specs.declared.alloc.Global.{Global}
-use Rattle.gj_top.specs.declared.command.Command.{Command}
+use Rattle.gj_words.specs.declared.requests.Request.{Request}
 use Rattle.gj_top.specs.declared.reply.End.{End}
 use Rattle.gj_top.specs.declared.reply.End.TheVariants as end
 use Rattle.gj_top.specs.declared.status.Status.{Status}
@@ -11,13 +11,14 @@ use Rattle.gj_top.specs.declared.status.Status.TheVariants.{Done, ReadFault, Wri
 use Rattle.gj_top.specs.Command.{IsNamed, task_for}
 use Rattle.gj_top.specs.Task.{Form, Task, reads, Spells, Refuses, IsInForm, IsReply}
 use Rattle.gj_top.specs.Task.Form.{reading, reading_nothing}
-use Rattle.gj_top.specs.Answer.{IsAnswerTo, IsCommandAnswer, IsAnswer, IsUnanswered, IsWithinLimit, IsReadWhole, IsReadInPart, input_limit}
+use Rattle.gj_top.specs.Answer.{IsAnswerTo, IsRequestAnswer, IsAnswer, IsUnanswered, IsWithinLimit, IsReadWhole, input_limit}
 use Rattle.gj_top.specs.Answer.IsAnswerTo.{too_long, refused, replied}
-use Rattle.gj_top.specs.Answer.IsAnswer.{no_command, read_fault, of_command}
+use Rattle.gj_top.specs.Answer.IsUnanswered.{unread, so_far}
+use Rattle.gj_top.specs.Answer.IsAnswer.{no_request, read_fault, of_request}
 use Rattle.gj_top.specs.Outcome.{IsOutcome}
 use Rattle.gj_top.specs.Outcome.IsOutcome.{silent, told, cut_off}
 use Rattle.gj_top.specs.Causes.{IsTrueRun, IsInput, IsGoodInput, ReadNothing, IsStatusOf, IsCause, IsStatusOfReply}
-use Rattle.gj_top.proofs.Commands.{one_command}
+use Rattle.gj_top.proofs.Commands.{one_named}
 use Rattle.gj_top.proofs.Ends.{done_end, not_answered}
 use Rattle.gj_top.proofs.Sound.{sound}
 
@@ -59,9 +60,9 @@ moved task true own input left after s text e given whole a =
 moved task false own input left after s text e given whole a = unread_answer task own input s text e a
 
 answer_to_input : (words : List (String Global)) (left after : Option (List ℕ)) (s : Status) (text input : List ℕ) → IsInput words left input →
-    (a : IsCommandAnswer words left after s text) → IsAnswerTo (task_for a.command) input s text
+    (a : IsRequestAnswer words left after s text) → IsAnswerTo (task_for a.request) input s text
 answer_to_input words left after s text input given a =
-    moved (task_for a.command) (reads (task_for a.command).form) a.input input left after s text refl (given a.command a.named) a.whole a.answer
+    moved (task_for a.request) (reads (task_for a.request).form) a.input input left after s text refl (given a.request a.named) a.whole a.answer
 
 -- ---- answers to an input
 
@@ -77,8 +78,8 @@ status_of_answer task input text s (too_long a) = inr (inr (inl (a.read, inr a.s
 status_of_answer task input text s (refused a) = inr (inr (inl (refuses_read task.form input text a.refused, inr a.status_is)))
 status_of_answer task input text s (replied a) = inr (inr (inr (a.end, a.status_is, (a.reply.thing, text, a.reply.replied))))
 
--- over an input in the form of the command and within the limit it is a reply
-status_in_form : (c : Command) (input text : List ℕ) (s : Status) → IsInForm (task_for c) input → IsWithinLimit (task_for c) input →
+-- over an input in the form of the request and within the limit it is a reply
+status_in_form : (c : Request) (input text : List ℕ) (s : Status) → IsInForm (task_for c) input → IsWithinLimit (task_for c) input →
     IsAnswerTo (task_for c) input s text → IsStatusOfReply (task_for c) input s
 status_in_form c input text s form within (too_long a) = let short = within a.read in let long = a.long in absurd (omega arith)
 status_in_form c input text s form within (refused a) = absurd ((sound c).form input text form.0 form.1 a.refused)
@@ -87,52 +88,53 @@ status_in_form c input text s form within (replied a) = (a.end, a.status_is, tex
 -- an answer is no failure of the sink
 pub no_write_fault : (words : List (String Global)) (Fault : Type 0) (left after : Option (List ℕ)) (s : Status) (text : List ℕ) →
     IsAnswer words Fault left after s text → s ≡ WriteFault → ⊥
-no_write_fault words Fault left after s text (no_command a) e = let is = a.status_is in cc
+no_write_fault words Fault left after s text (no_request a) e = let is = a.status_is in cc
 no_write_fault words Fault left after s text (read_fault a) e = let is = a.status_is in cc
-no_write_fault words Fault left after s text (of_command a) e = not_answered (task_for a.command) a.input s WriteFault text e refl a.answer
+no_write_fault words Fault left after s text (of_request a) e = not_answered (task_for a.request) a.input s WriteFault text e refl a.answer
 
 -- and it is a failure of the source only where the source failed
 pub failed_source : (words : List (String Global)) (Fault : Type 0) (left after : Option (List ℕ)) (s : Status) (text : List ℕ) →
     IsAnswer words Fault left after s text → s ≡ ReadFault → Fault
-failed_source words Fault left after s text (no_command a) e = absurd (let is = a.status_is in cc)
+failed_source words Fault left after s text (no_request a) e = absurd (let is = a.status_is in cc)
 failed_source words Fault left after s text (read_fault a) e = a.failed
-failed_source words Fault left after s text (of_command a) e =
-    absurd (not_answered (task_for a.command) a.input s ReadFault text e refl a.answer)
+failed_source words Fault left after s text (of_request a) e =
+    absurd (not_answered (task_for a.request) a.input s ReadFault text e refl a.answer)
 
 -- ---- the clauses
 
 pub ends_clause : (words : List (String Global)) (Fault : Type 0) (left left' written written' : Option (List ℕ)) (sure : ℕ) (r : Status) →
-    IsOutcome words Fault left left' written written' sure r → (c : Command) → IsNamed words c → IsStatusOf (task_for c) r
+    IsOutcome words Fault left left' written written' sure r → (c : Request) → IsNamed words c → IsStatusOf (task_for c) r
 ends_clause words Fault left left' written written' sure r (silent o) c n = inl o.status_is
 ends_clause words Fault left left' written written' sure r (cut_off o) c n = inr (inl o.status_is)
 ends_clause words Fault left left' written written' sure r (told o) c n = elim o.answer [
-  | no_command a ↦ absurd (a.unnamed c n)
+  | no_request a ↦ absurd (a.unnamed c n)
   | read_fault a ↦ inr (inr (inl (
-    subst (λ (d : Command). IsTrue (reads (task_for d).form)) (one_command words a.command c a.named n) a.read,
+    subst (λ (d : Request). IsTrue (reads (task_for d).form)) (one_named words a.request c a.named n) a.read,
     inl a.status_is,
   )))
-  | of_command a ↦ subst (λ (d : Command). IsStatusOf (task_for d) r) (one_command words a.command c a.named n)
-      (status_of_answer (task_for a.command) a.input o.text r a.answer)
+  | of_request a ↦ subst (λ (d : Request). IsStatusOf (task_for d) r) (one_named words a.request c a.named n)
+      (status_of_answer (task_for a.request) a.input o.text r a.answer)
 ]
 
--- a command of words that read nothing reads nothing
-reads_not : (words : List (String Global)) (c : Command) → IsNamed words c → ReadNothing words → reads (task_for c).form ≡ false
+-- a request of words that read nothing reads nothing
+reads_not : (words : List (String Global)) (c : Request) → IsNamed words c → ReadNothing words → reads (task_for c).form ≡ false
 reads_not words c m (inl none) = absurd (none c m)
-reads_not words c m (inr n) = subst (λ (d : Command). reads (task_for d).form ≡ false) (one_command words n.0 c n.1 m) n.2
+reads_not words c m (inr n) = subst (λ (d : Request). reads (task_for d).form ≡ false) (one_named words n.0 c n.1 m) n.2
 
 -- so an answer to them leaves the source as it was, and so does none
 pub unread_by_answer : (words : List (String Global)) (Fault : Type 0) (left left' : Option (List ℕ)) (s : Status) (text : List ℕ) →
     IsAnswer words Fault left left' s text → ReadNothing words → left' ≡ left
-unread_by_answer words Fault left left' s text (no_command a) nothing = a.unread
+unread_by_answer words Fault left left' s text (no_request a) nothing = a.unread
 unread_by_answer words Fault left left' s text (read_fault a) nothing =
-    absurd (not_both (reads (task_for a.command).form) (reads_not words a.command a.named nothing) a.read)
-unread_by_answer words Fault left left' s text (of_command a) nothing =
-    subst (λ (b : Bool). IsReadWhole b a.input left left') (reads_not words a.command a.named nothing) a.whole
+    absurd (not_both (reads (task_for a.request).form) (reads_not words a.request a.named nothing) a.read)
+unread_by_answer words Fault left left' s text (of_request a) nothing =
+    subst (λ (b : Bool). IsReadWhole b a.input left left') (reads_not words a.request a.named nothing) a.whole
 
 pub unread_unanswered : (words : List (String Global)) (left left' : Option (List ℕ)) → IsUnanswered words left left' → ReadNothing words →
     left' ≡ left
-unread_unanswered words left left' u nothing =
-    subst (λ (b : Bool). IsReadInPart b left left') (reads_not words u.command u.named nothing) u.part
+unread_unanswered words left left' (unread same) nothing = same
+unread_unanswered words left left' (so_far u) nothing =
+    absurd (not_both (reads (task_for u.request).form) (reads_not words u.request u.named nothing) u.read)
 
 -- ---- the clauses over an input
 
@@ -146,9 +148,9 @@ module _ (words : List (String Global)) (Fault : Type 0) (left left' written wri
   cause_clause (silent o) input t = inl o.status_is
   cause_clause (cut_off o) input t = inr (inr (inl o.status_is))
   cause_clause (told o) input t = elim o.answer [
-    | no_command a ↦ inr (inr (inr (inl (a.status_is, a.unnamed))))
+    | no_request a ↦ inr (inr (inr (inl (a.status_is, a.unnamed))))
     | read_fault a ↦ inr (inl a.status_is)
-    | of_command a ↦ inr (inr (inr (inr (a.command, a.named, o.text, answer_to_input words left left' r o.text input t a))))
+    | of_request a ↦ inr (inr (inr (inr (a.request, a.named, o.text, answer_to_input words left left' r o.text input t a))))
   ]
 
   pub headline_clause : IsOutcome words Fault left left' written written' sure r → r ≡ Done → (input : List ℕ) → IsInput words left input →
@@ -156,40 +158,40 @@ module _ (words : List (String Global)) (Fault : Type 0) (left left' written wri
   headline_clause (silent o) e input t = absurd (let is = o.status_is in cc)
   headline_clause (cut_off o) e input t = absurd (let is = o.status_is in cc)
   headline_clause (told o) e input t = elim o.answer [
-    | no_command a ↦ absurd (let is = a.status_is in cc)
+    | no_request a ↦ absurd (let is = a.status_is in cc)
     | read_fault a ↦ absurd (let is = a.status_is in cc)
-    | of_command a ↦
+    | of_request a ↦
         let answer = answer_to_input words left left' r o.text input t a in
-        let reply = done_reply (task_for a.command) input o.text (subst (λ (s : Status). IsAnswerTo (task_for a.command) input s o.text) e answer) in
+        let reply = done_reply (task_for a.request) input o.text (subst (λ (s : Status). IsAnswerTo (task_for a.request) input s o.text) e answer) in
         weaker written (λ before. written' ≡ Some (before ++ o.text)) (λ before. IsTrueRun words input before written') (λ before gain. record {
-          command = a.command;
+          request = a.request;
           named = a.named;
           text = o.text;
           true_reply = record {
             thing = reply.thing;
             spelled = reply.spelled;
-            holds = (sound a.command).work reply.thing o.text reply.replied;
+            holds = (sound a.request).work reply.thing o.text reply.replied;
           };
           gain = gain;
         }) o.gain
   ]
 
   pub complete_clause : (Unread Unwritten : Type 0) → IsOutcome words Fault left left' written written' sure r → (Fault → Unread) →
-      (r ≡ WriteFault → Unwritten) → (c : Command) (input : List ℕ) → IsNamed words c → IsGoodInput (task_for c) left input →
+      (r ≡ WriteFault → Unwritten) → (c : Request) (input : List ℕ) → IsNamed words c → IsGoodInput (task_for c) left input →
       (IsTrue (reads (task_for c).form) → Unread → ⊥) → (Unwritten → ⊥) → (r ≡ Memory) ⊎ IsStatusOfReply (task_for c) input r
   complete_clause Unread Unwritten (silent o) f g c input n i x y = inl o.status_is
   complete_clause Unread Unwritten (cut_off o) f g c input n i x y = absurd (y (g o.status_is))
   complete_clause Unread Unwritten (told o) f g c input n i x y = elim o.answer [
-    | no_command a ↦ absurd (a.unnamed c n)
+    | no_request a ↦ absurd (a.unnamed c n)
     | read_fault a ↦
-        let read = subst (λ (d : Command). IsTrue (reads (task_for d).form)) (one_command words a.command c a.named n) a.read in
+        let read = subst (λ (d : Request). IsTrue (reads (task_for d).form)) (one_named words a.request c a.named n) a.read in
         absurd (x read (f a.failed))
-    | of_command a ↦
+    | of_request a ↦
         let told_input : IsInput words left input = λ d m read.
-        i.told (subst (λ (e : Command). IsTrue (reads (task_for e).form)) (one_command words d c m n) read) in
+        i.told (subst (λ (e : Request). IsTrue (reads (task_for e).form)) (one_named words d c m n) read) in
         let answer = answer_to_input words left left' r o.text input told_input a in
         inr (status_in_form c input o.text r i.form i.within
-        (subst (λ (d : Command). IsAnswerTo (task_for d) input r o.text) (one_command words a.command c a.named n) answer))
+        (subst (λ (d : Request). IsAnswerTo (task_for d) input r o.text) (one_named words a.request c a.named n) answer))
   ]
 
 -- ---- the input is read to its end
@@ -202,17 +204,17 @@ module _ (words : List (String Global)) (Fault : Type 0) (input : List ℕ) (lef
       whole.1 ∙ ap Some (drop_all (input_limit + 1) all (omega (arith, ap length same)))
   read_to_end false all t within whole = absurd (not_both false refl t)
 
-  end_at : (s : Status) (text : List ℕ) → IsAnswer words Fault (Some input) left' s text → (s ≡ ReadFault → Fault → ⊥) → (c : Command) →
+  end_at : (s : Status) (text : List ℕ) → IsAnswer words Fault (Some input) left' s text → (s ≡ ReadFault → Fault → ⊥) → (c : Request) →
       IsNamed words c → IsTrue (reads (task_for c).form) → length input ≤ input_limit → left' ≡ Some []
-  end_at s text (no_command a) no_fault c n read within = absurd (a.unnamed c n)
+  end_at s text (no_request a) no_fault c n read within = absurd (a.unnamed c n)
   end_at s text (read_fault a) no_fault c n read within = absurd (no_fault a.status_is a.failed)
-  end_at s text (of_command a) no_fault c n read within =
-      read_to_end (reads (task_for a.command).form) a.input
-      (subst (λ (d : Command). IsTrue (reads (task_for d).form)) (one_command words c a.command n a.named) read) within a.whole
+  end_at s text (of_request a) no_fault c n read within =
+      read_to_end (reads (task_for a.request).form) a.input
+      (subst (λ (d : Request). IsTrue (reads (task_for d).form)) (one_named words c a.request n a.named) read) within a.whole
 
 pub input_clause : (words : List (String Global)) (Fault : Type 0) (left left' : Option (List ℕ)) (s r : Status) (text : List ℕ) (Unread : Type 0) →
     IsAnswer words Fault left left' s text → (s ≡ ReadFault → Fault → (r ≡ ReadFault) ⊎ ((r ≡ WriteFault) × Unread)) →
-    IfSome left (λ input. (c : Command) → IsNamed words c → IsTrue (reads (task_for c).form) → length input ≤ input_limit →
+    IfSome left (λ input. (c : Request) → IsNamed words c → IsTrue (reads (task_for c).form) → length input ≤ input_limit →
     r ≢ Memory → r ≢ ReadFault → (r ≡ WriteFault → Unread → ⊥) → left' ≡ Some [])
 input_clause words Fault None left' s r text Unread a fault = tt
 input_clause words Fault (Some input) left' s r text Unread a fault = λ c n read within m f w.

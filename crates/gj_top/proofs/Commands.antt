@@ -1,27 +1,9 @@
--- Words name at most one command.
-use Rattle.std.proofs.Common.{◌≡◌, ℕ, List, [], ◌∷◌, Option, None, Some, String, if◌then◌else◌, codes, refl, ap, ◌∙◌}
+-- Words name at most one request.
+use Rattle.std.proofs.Common.{◌≡◌, List, map, String, string_bytes}
 use Rattle.std.specs.declared.alloc.Global.{Global}
-use Rattle.std.specs.Str.{bytes_eq}
-use Rattle.gj_top.specs.declared.command.Command.{Command}
-use Rattle.gj_top.specs.declared.command.Command.TheVariants.{Minimal, Show, Check}
-use Rattle.gj_top.specs.Command.{IsNamed, command_word}
+use Rattle.gj_words.specs.declared.requests.Request.{Request}
+use Rattle.gj_words.proofs.Spelling.{one}
+use Rattle.gj_top.specs.Command.{IsNamed}
 
--- the command of these words
-abbrev command_in : List (List ℕ) → Option Command
-command_in (word ∷ []) =
-    if bytes_eq word (codes "minimal") then Some Minimal
-    else if bytes_eq word (codes "show") then Some Show
-    else if bytes_eq word (codes "check") then Some Check
-    else None
-command_in words = None
-
-command_in_its_words : (c : Command) → command_in (command_word c ∷ []) ≡ Some c
-command_in_its_words Minimal = refl
-command_in_its_words Show = refl
-command_in_its_words Check = refl
-
-pub one_command : (words : List (String Global)) (c d : Command) → IsNamed words c → IsNamed words d → c ≡ d
-one_command words c d m n =
-    let first = ap command_in m ∙ command_in_its_words c in
-    let second = ap command_in n ∙ command_in_its_words d in
-    cc
+pub one_named : (words : List (String Global)) (a b : Request) → IsNamed words a → IsNamed words b → a ≡ b
+one_named words a b m n = one (map string_bytes words) a b m.spelled n.spelled

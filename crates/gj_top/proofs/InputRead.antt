@@ -8,15 +8,15 @@ use Rattle.std.specs.declared.alloc.AllocError.{AllocError}
 use Rattle.gj_port.specs.Whole.{TakesAll}
 use Rattle.gj_port.specs.declared.fault.ReadError.TheVariants.{TooLong}
 use Rattle.gj_top.specs.declared.answer.Answer.{Answer}
-use Rattle.gj_top.specs.declared.command.Command.{Command}
+use Rattle.gj_words.specs.declared.requests.Request.{Request}
 use Rattle.gj_top.specs.declared.status.Status.TheVariants.{Input}
 use Rattle.gj_top.specs.Command.{IsNamed, task_for}
 use Rattle.gj_top.specs.Task.{reads}
 use Rattle.gj_top.specs.Answer.{IsAnswerTo, IsAnswer, IsReadWhole, answer_status, answer_text, input_limit, long_line}
 use Rattle.gj_top.specs.Answer.IsAnswerTo.{too_long}
-use Rattle.gj_top.specs.Answer.IsAnswer.{of_command}
+use Rattle.gj_top.specs.Answer.IsAnswer.{of_request}
 
-module _ (words : List (String Global)) (Fault : Type 0) (c : Command) (named : IsNamed words c) (read : reads (task_for c).form ≡ true) where
+module _ (words : List (String Global)) (Fault : Type 0) (c : Request) (named : IsNamed words c) (read : reads (task_for c).form ≡ true) where
   -- what was read is all that the source told
   read_whole : (left after : Option (List ℕ)) (bytes : Vec ℕ Global) → vec_len bytes ≤ input_limit →
       IfSome left (λ l. TakesAll input_limit l after (Ok bytes)) → IsReadWhole true bytes.items left after
@@ -28,8 +28,8 @@ module _ (words : List (String Global)) (Fault : Type 0) (c : Command) (named : 
       IfSome left (λ l. TakesAll input_limit l after (Ok bytes)) →
       IfOk result (λ a. IsAnswerTo (task_for c) bytes.items (answer_status a) (answer_text a)) →
       IfOk result (λ a. IsAnswer words Fault left after (answer_status a) (answer_text a))
-  answer_of_read left after bytes result within t answers = IfOk-weaker result _ _ (λ a answer. of_command (record {
-    command = c;
+  answer_of_read left after bytes result within t answers = IfOk-weaker result _ _ (λ a answer. of_request (record {
+    request = c;
     named = named;
     input = bytes.items;
     whole = subst (λ (b : Bool). IsReadWhole b bytes.items left after) (sym read) (read_whole left after bytes within t);
@@ -38,8 +38,8 @@ module _ (words : List (String Global)) (Fault : Type 0) (c : Command) (named : 
 
   long_answer : (input : List ℕ) (left after : Option (List ℕ)) → input_limit < length input → IsReadWhole true input left after →
       IsAnswer words Fault left after Input long_line
-  long_answer input left after long whole = of_command (record {
-    command = c;
+  long_answer input left after long whole = of_request (record {
+    request = c;
     named = named;
     input = input;
     whole = subst (λ (b : Bool). IsReadWhole b input left after) (sym read) whole;

@@ -2,7 +2,6 @@
 use Rattle.std.proofs.Common.{◌≡◌, ℕ, List, refl, subst, arith}
 use Rattle.gj_shape.specs.FunctionData.{FunctionData}
 use Rattle.gj_ftext.specs.FunctionText.{IsWholeFunctionText, IsCanonicalText}
-use Rattle.gj_top.specs.declared.command.Command.TheVariants.{Show}
 use Rattle.gj_top.specs.declared.reply.End.{End}
 use Rattle.gj_top.specs.declared.reply.End.TheVariants as end
 use Rattle.gj_top.specs.declared.status.Status.{Status}
@@ -12,7 +11,7 @@ use Rattle.gj_top.specs.Show.{IsShowing, show}
 use Rattle.gj_top.specs.Answer.{IsAnswerTo}
 use Rattle.gj_top.specs.Answer.IsAnswerTo.{too_long, refused, replied}
 use Rattle.gj_top.proofs.Clauses.{done_reply}
-use Rattle.gj_top.proofs.Sound.{sound}
+use Rattle.gj_top.proofs.Sound.{show_sound}
 use Rattle.gj_top.proofs.TextLaws.{function_is_bounded, one_function, canonical_text_is_read, one_canonical, shown_text_is_short}
 
 -- what is shown is a function text of the function that was read
@@ -44,7 +43,7 @@ again_by_reply input text again s r (too_long a) =
     absurd (omega arith)
 again_by_reply input text again s r (refused a) =
     let whole = canonical_text_is_read r.thing text (function_is_bounded input r.thing r.spelled) r.replied in
-    absurd ((sound Show).form text again r.thing whole a.refused)
+    absurd (show_sound.form text again r.thing whole a.refused)
 again_by_reply input text again s r (replied a) =
     let same = shown_again_reply input text again a.end r a.reply in
     let ended = same.0 in

@@ -1,13 +1,16 @@
 -- What holds of every task: no input in its form is refused, and a reply that ends with Done keeps the headline.
-use Rattle.std.proofs.Common.{inl, inr, ℕ, List}
+use Rattle.std.proofs.Common.{inl, inr, ℕ, Bool, List}
 use Rattle.gj_shape.specs.FunctionData.{FunctionData}
-use Rattle.gj_top.specs.declared.command.Command.{Command}
-use Rattle.gj_top.specs.declared.command.Command.TheVariants.{Minimal, Show, Check}
+use Rattle.gj_words.specs.declared.requests.Command.{Command}
+use Rattle.gj_words.specs.declared.requests.Command.TheVariants.{Minimal, Extreme, Cut, Check, Show, Faces, Demo}
+use Rattle.gj_words.specs.declared.requests.Request.{Request}
 use Rattle.gj_top.specs.declared.reply.End.TheVariants.{Done}
 use Rattle.gj_top.specs.Task.{Form, Spells, Refuses, Work, Task}
 use Rattle.gj_top.specs.Forms.{function_text, proof_text}
-use Rattle.gj_top.specs.Minimal.{IsVerdict, IsTrueVerdict}
-use Rattle.gj_top.specs.Command.{task_for}
+use Rattle.gj_top.specs.Minimal.{IsVerdict, IsTrueVerdict, minimal}
+use Rattle.gj_top.specs.Show.{show}
+use Rattle.gj_top.specs.Check.{check}
+use Rattle.gj_top.specs.Command.{task_with, task_for}
 use Rattle.gj_top.proofs.TextLaws.{function_text_has_no_fault, proof_text_has_no_fault}
 
 -- no input is both in the form and refused
@@ -32,8 +35,24 @@ verdict_true : (f : FunctionData) (text : List ℕ) → IsVerdict f text → IsT
 verdict_true f text (inl m) = inl (m.2, m.0)
 verdict_true f text (inr v) = inr (v.0, v.4, v.2)
 
--- each command's task is sound
-pub sound : (c : Command) → IsSound (task_for c)
-sound Minimal = record { form = function_text_sound; work = verdict_true }
-sound Show = record { form = function_text_sound; work = λ f text shown. shown }
-sound Check = record { form = proof_text_sound; work = λ c text accepted. (accepted.holds, accepted.spelled) }
+pub minimal_sound : IsSound minimal
+minimal_sound = record { form = function_text_sound; work = verdict_true }
+
+pub show_sound : IsSound show
+show_sound = record { form = function_text_sound; work = λ f text shown. shown }
+
+pub check_sound : IsSound check
+check_sound = record { form = proof_text_sound; work = λ c text accepted. (accepted.holds, accepted.spelled) }
+
+-- the task of each request is sound
+sound_with : (c : Command) (json : Bool) → IsSound (task_with c json)
+sound_with Minimal json = minimal_sound
+sound_with Check json = check_sound
+sound_with Extreme json = show_sound
+sound_with Cut json = show_sound
+sound_with Show json = show_sound
+sound_with Faces json = show_sound
+sound_with (Demo n) json = show_sound
+
+pub sound : (r : Request) → IsSound (task_for r)
+sound r = sound_with r.command r.json

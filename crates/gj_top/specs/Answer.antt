@@ -4,7 +4,7 @@ use Rattle.std.specs.declared.alloc.Global.{Global}
 use Rattle.gj_port.specs.Faults.{HasFailed}
 use Rattle.gj_port.specs.Whole.{TakesUpTo}
 use Rattle.gj_lines.specs.FunctionLines.{line}
-use Rattle.gj_top.specs.declared.command.Command.{Command}
+use Rattle.gj_words.specs.declared.requests.Request.{Request}
 use Rattle.gj_top.specs.declared.answer.Answer.{Answer}
 use Rattle.gj_top.specs.declared.answer.Answer.TheVariants as answer
 use Rattle.gj_top.specs.declared.reply.End.{End}
@@ -72,60 +72,65 @@ abbrev pub IsReadWhole : Bool → List ℕ → Option (List ℕ) → Option (Lis
 IsReadWhole true input left after = IfSome left (λ told. (told ≡ input) × (after ≡ Some (drop (input_limit + 1) input)))
 IsReadWhole false input left after = after ≡ left
 
--- at most the limit was read; or the source is as it was, where nothing is read
-abbrev pub IsReadInPart : Bool → Option (List ℕ) → Option (List ℕ) → Type 0
-IsReadInPart true left after = IfSome left (λ told. TakesUpTo input_limit told after)
-IsReadInPart false left after = after ≡ left
+-- at most the limit was read
+abbrev pub IsReadInPart : Option (List ℕ) → Option (List ℕ) → Type 0
+IsReadInPart left after = IfSome left (λ told. TakesUpTo input_limit told after)
 
--- the words name no command: the source is as it was
+-- the words name no request: the source is as it was
 pub record IsWordsAnswer (words : List (String Global)) (left after : Option (List ℕ)) (status : Status) (text : List ℕ) : Type 0 where
   pub unnamed : NameNone words
   pub unread : after ≡ left
   pub status_is : status ≡ Words
   pub spelled : text ≡ words_line
 
--- the words name a command, and the source failed: at most the limit was read
+-- the words name a request, and the source failed: at most the limit was read
 pub record IsFaultAnswer (words : List (String Global)) (Fault : Type 0) (left after : Option (List ℕ)) (status : Status) (text : List ℕ) :
     Type 0 where
-  pub command : Command
-  pub named : IsNamed words command
-  pub read : IsTrue (reads (task_for command).form)
+  pub request : Request
+  pub named : IsNamed words request
+  pub read : IsTrue (reads (task_for request).form)
   pub failed : Fault
-  pub part : IsReadInPart true left after
+  pub part : IsReadInPart left after
   pub status_is : status ≡ ReadFault
   pub spelled : text ≡ fault_line
 
--- the words name a command, and this is its answer to the input
-pub record IsCommandAnswer (words : List (String Global)) (left after : Option (List ℕ)) (status : Status) (text : List ℕ) : Type 0 where
-  pub command : Command
-  pub named : IsNamed words command
+-- the words name a request, and this is the answer to it over the input
+pub record IsRequestAnswer (words : List (String Global)) (left after : Option (List ℕ)) (status : Status) (text : List ℕ) : Type 0 where
+  pub request : Request
+  pub named : IsNamed words request
   pub input : List ℕ
-  pub whole : IsReadWhole (reads (task_for command).form) input left after
-  pub answer : IsAnswerTo (task_for command) input status text
+  pub whole : IsReadWhole (reads (task_for request).form) input left after
+  pub answer : IsAnswerTo (task_for request) input status text
 
 -- the status and the text are the answer to the words, where `Fault` says that the source failed
 pub data IsAnswer (words : List (String Global)) (Fault : Type 0) (left after : Option (List ℕ)) (status : Status) (text : List ℕ) : Type 0 where
-  no_command : IsWordsAnswer words left after status text → IsAnswer words Fault left after status text
+  no_request : IsWordsAnswer words left after status text → IsAnswer words Fault left after status text
   read_fault : IsFaultAnswer words Fault left after status text → IsAnswer words Fault left after status text
-  of_command : IsCommandAnswer words left after status text → IsAnswer words Fault left after status text
+  of_request : IsRequestAnswer words left after status text → IsAnswer words Fault left after status text
 
--- the words name a command, and there is no answer for want of memory
-pub record IsUnanswered (words : List (String Global)) (left after : Option (List ℕ)) : Type 0 where
-  pub command : Command
-  pub named : IsNamed words command
-  pub part : IsReadInPart (reads (task_for command).form) left after
+-- the words name a request that reads an input, and at most the limit was read of it
+pub record IsReadSoFar (words : List (String Global)) (left after : Option (List ℕ)) : Type 0 where
+  pub request : Request
+  pub named : IsNamed words request
+  pub read : IsTrue (reads (task_for request).form)
+  pub part : IsReadInPart left after
+
+-- there is no answer for want of memory: the source is as it was, or was read in part
+pub data IsUnanswered (words : List (String Global)) (left after : Option (List ℕ)) : Type 0 where
+  unread : after ≡ left → IsUnanswered words left after
+  so_far : IsReadSoFar words left after → IsUnanswered words left after
 
 -- ---- an answer as a value of the program
 
 abbrev pub answer_status : Answer → Status
-answer_status answer.NoCommand = Words
+answer_status answer.NoRequest = Words
 answer_status answer.ReadFault = ReadFault
 answer_status answer.TooLong = Input
 answer_status (answer.Refused text) = Input
 answer_status (answer.Replied reply) = status_of reply.end
 
 abbrev pub answer_text : Answer → List ℕ
-answer_text answer.NoCommand = words_line
+answer_text answer.NoRequest = words_line
 answer_text answer.ReadFault = fault_line
 answer_text answer.TooLong = long_line
 answer_text (answer.Refused text) = text.items

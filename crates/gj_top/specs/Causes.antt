@@ -1,7 +1,7 @@
 -- What the status of a run says of its words and its input (own).
 use Rattle.std.specs.Prelude.{ℕ, ◌≡◌, ◌⊎◌, false, List, ◌++◌, IsTrue, Option, Some, String}
 use Rattle.std.specs.declared.alloc.Global.{Global}
-use Rattle.gj_top.specs.declared.command.Command.{Command}
+use Rattle.gj_words.specs.declared.requests.Request.{Request}
 use Rattle.gj_top.specs.declared.reply.End.{End}
 use Rattle.gj_top.specs.declared.status.Status.{Status}
 use Rattle.gj_top.specs.declared.status.Status.TheVariants.{Words, Input, ReadFault, WriteFault, Memory}
@@ -10,23 +10,23 @@ use Rattle.gj_top.specs.Reply.{status_of}
 use Rattle.gj_top.specs.Task.{Task, reads, IsInForm, IsReply, IsTrueReply, HasEnd}
 use Rattle.gj_top.specs.Answer.{IsAnswerTo, IsWithinLimit}
 
--- the input of a run: the source told it, where the words name a command that reads one
+-- the input of a run: the source told it, where the words name a request that reads one
 abbrev pub IsInput : List (String Global) → Option (List ℕ) → List ℕ → Type 0
-IsInput words left input = (c : Command) → IsNamed words c → IsTrue (reads (task_for c).form) → left ≡ Some input
+IsInput words left input = (r : Request) → IsNamed words r → IsTrue (reads (task_for r).form) → left ≡ Some input
 
--- the headline: the words name a command, the input is in its form, and what was written keeps what the command promises
+-- the headline: the words name a request, the input is in its form, and what was written keeps what the task promises
 pub record IsTrueRun (words : List (String Global)) (input before : List ℕ) (written : Option (List ℕ)) : Type 0 where
-  pub command : Command
-  pub named : IsNamed words command
+  pub request : Request
+  pub named : IsNamed words request
   pub text : List ℕ
-  pub true_reply : IsTrueReply (task_for command) input text
+  pub true_reply : IsTrueReply (task_for request) input text
   pub gain : written ≡ Some (before ++ text)
 
--- the words name no command, or one that reads nothing
+-- the words name no request, or one that reads nothing
 abbrev pub ReadNothing : List (String Global) → Type 0
-ReadNothing words = NameNone words ⊎ ((c : Command) × IsNamed words c × (reads (task_for c).form ≡ false))
+ReadNothing words = NameNone words ⊎ ((r : Request) × IsNamed words r × (reads (task_for r).form ≡ false))
 
--- the statuses of a command: want of memory and a failing sink come with each, a failing source and a refused input with
+-- the statuses of a task: want of memory and a failing sink come with each, a failing source and a refused input with
 -- those that read, and else an end of its replies
 abbrev pub IsStatusOf : Task → Status → Type 0
 IsStatusOf task s =
@@ -35,7 +35,7 @@ IsStatusOf task s =
     ⊎ (IsTrue (reads task.form) × ((s ≡ ReadFault) ⊎ (s ≡ Input)))
     ⊎ ((end : End) × (s ≡ status_of end) × HasEnd task end)
 
--- why a run over this input has the status: there was no memory, the source or the sink failed, the words name no command,
+-- why a run over this input has the status: there was no memory, the source or the sink failed, the words name no request,
 -- or it is the status of the answer to the input
 abbrev pub IsCause : List (String Global) → List ℕ → Status → Type 0
 IsCause words input s =
@@ -43,7 +43,7 @@ IsCause words input s =
     ⊎ (s ≡ ReadFault)
     ⊎ (s ≡ WriteFault)
     ⊎ ((s ≡ Words) × NameNone words)
-    ⊎ ((c : Command) × IsNamed words c × (text : List ℕ) × IsAnswerTo (task_for c) input s text)
+    ⊎ ((r : Request) × IsNamed words r × (text : List ℕ) × IsAnswerTo (task_for r) input s text)
 
 -- an input in the form of the task; where the task reads one, the source told it, and it is within the limit
 pub record IsGoodInput (task : Task) (left : Option (List ℕ)) (input : List ℕ) : Type 0 where

@@ -1,12 +1,13 @@
 //! The answer to words and an input, before it is written.
-ghost use Rattle.std.specs.Prelude.{◌≡◌, ◌≤◌, length, IfOk, OnErr};
-ghost use Rattle.gj_top.specs.Command.{task_for};
+ghost use Rattle.std.specs.Prelude.{◌≡◌, ◌≤◌, length, IfOk, OnErr, IsTrue};
+ghost use Rattle.gj_top.specs.Command.{is_built, task_for};
 ghost use Rattle.gj_top.specs.Answer.{IsAnswer, IsAnswerTo, IsSourceFault, IsUnanswered, answer_status, answer_text, input_limit};
 
-use crate::command::{Command, command_of, reads_input, reply_to};
+use crate::command::{reads_input, reply_to, request_of};
 use crate::reply::{Reply, Unanswered};
 use crate::status::Status;
 use gj_port::{ReadError, Source, read_all};
+use gj_words::Request;
 use std::alloc::{AllocError, Global};
 
 /// The most bytes that are read of an input.
@@ -15,8 +16,8 @@ const INPUT_LIMIT: usize = 16_777_216;
 /// What is to be written. The lines that say that no input was answered take no memory.
 #[derive(Drop)]
 pub enum Answer {
-    /// The words are no command.
-    NoCommand,
+    /// The words name no request.
+    NoRequest,
     /// The source failed.
     ReadFault,
     /// The input is longer than the limit.
@@ -33,7 +34,7 @@ impl Answer {
         ensures { result ≡ answer_status self.now }
     {
         match self {
-            Answer::NoCommand => Status::Words,
+            Answer::NoRequest => Status::Words,
             Answer::ReadFault => Status::ReadFault,
             Answer::TooLong | Answer::Refused(_) => Status::Input,
             Answer::Replied(reply) => reply.end.status(),
@@ -45,7 +46,7 @@ impl Answer {
         ensures { result.now ≡ answer_text self.now }
     {
         match self {
-            Answer::NoCommand => b"words refused\n",
+            Answer::NoRequest => b"words refused\n",
             Answer::ReadFault => b"read fault\n",
             Answer::TooLong => b"refused long\n",
             Answer::Refused(line) => line.as_slice(),
@@ -54,7 +55,7 @@ impl Answer {
     }
 }
 
-/// The answer to the words, over an input from the source where they name a command that reads one.
+/// The answer to the words, over an input from the source where they name a request that reads one.
 pub(crate) fn answer_to<S: Source>(
     alloc: Global,
     words: &[String],
@@ -66,26 +67,27 @@ pub(crate) fn answer_to<S: Source>(
     ensures memory { OnErr result (IsUnanswered words.now (S.left source.old) (S.left source.new)) }
     ensures count { S.faults source.old ≤ S.faults source.new }
 {
-    let Some(command) = command_of(words) else {
-        return Ok(Answer::NoCommand);
+    let Some(request) = request_of(alloc, words)? else {
+        return Ok(Answer::NoRequest);
     };
-    if !reads_input(command) {
-        return answer_of(alloc, command, b"");
+    if !reads_input(request) {
+        return answer_of(alloc, request, b"");
     }
     match read_all(alloc, source, INPUT_LIMIT) {
-        Ok(input) => answer_of(alloc, command, input.as_slice()),
+        Ok(input) => answer_of(alloc, request, input.as_slice()),
         Err(ReadError::ReadFault) => Ok(Answer::ReadFault),
         Err(ReadError::TooLong) => Ok(Answer::TooLong),
         Err(ReadError::Memory(error)) => Err(error),
     }
 }
 
-/// The answer of the command to an input within the limit, or to none where it reads none.
-fn answer_of(alloc: Global, command: Command, input: &[u8]) -> Result<Answer, AllocError>
-    requires { length input.now ≤ input_limit }
-    ensures { IfOk result (λ answer. IsAnswerTo (task_for command) input.now (answer_status answer) (answer_text answer)) }
+/// The answer to the request, which is built, over an input within the limit, or over none where it reads none.
+fn answer_of(alloc: Global, request: Request, input: &[u8]) -> Result<Answer, AllocError>
+    requires built { IsTrue (is_built request) }
+    requires within { length input.now ≤ input_limit }
+    ensures { IfOk result (λ answer. IsAnswerTo (task_for request) input.now (answer_status answer) (answer_text answer)) }
 {
-    match reply_to(alloc, command, input) {
+    match reply_to(alloc, request, input) {
         Ok(reply) => Ok(Answer::Replied(reply)),
         Err(Unanswered::Refused(line)) => Ok(Answer::Refused(line)),
         Err(Unanswered::Memory(error)) => Err(error),

@@ -1,66 +1,57 @@
-//! The commands of the program: their words, and how each answers an input.
-ghost use Rattle.std.specs.Prelude.{◌≡◌, IfSome, IfNone};
-ghost use Rattle.gj_top.specs.Command.{command_word, IsNamed, NameNone, task_for};
+//! The commands of the program: which words name one, and how each answers an input.
+ghost use Rattle.std.specs.Prelude.{◌≡◌, IfOk, IsTrue};
+ghost use Rattle.gj_top.specs.Command.{is_built, IsFoundIn, task_for};
 ghost use Rattle.gj_top.specs.Task.{reads, IsAnswering};
-ghost use Rattle.gj_top.specs.declared.command.Command.{Command};
 
 use crate::reply::{Reply, Unanswered};
 use crate::{check, minimal, show};
-use std::alloc::Global;
+use gj_words::{Command, Request, WordFault, read_words};
+use std::alloc::{AllocError, Global};
 
-/// A command of the program.
-#[derive(Clone, Copy, Debug, PartialEq, Eq)]
-pub enum Command {
-    /// Decides whether a function is minimal.
-    Minimal,
-    /// Prints a function in its canonical text.
-    Show,
-    /// Judges a proof text.
-    Check,
-}
-
-/// The command that the words name: one word, which is `minimal`, `show` or `check`.
-pub(crate) fn command_of(words: &[String]) -> Option<Command>
-    ensures found { IfSome result (IsNamed words.now) }
-    ensures none { IfNone result (NameNone words.now) }
+/// The request that the words name: what they spell, if that is built.
+pub(crate) fn request_of(alloc: Global, words: &[String]) -> Result<Option<Request>, AllocError>
+    ensures { IfOk result (IsFoundIn words.now) }
 {
-    match words {
-        [word] => command_named(word.as_str()),
-        _ => None,
+    match read_words(alloc, words) {
+        Ok(request) if is_built(request) => Ok(Some(request)),
+        Ok(_) => Ok(None),
+        Err(WordFault::Refused) => Ok(None),
+        Err(WordFault::Memory(error)) => Err(error),
     }
 }
 
-/// The command of this name.
-fn command_named(word: &str) -> Option<Command>
-    ensures found { IfSome result (λ c. word.now ≡ command_word c) }
-    ensures none { IfNone result ((c : Command) → word.now ≡ command_word c → ⊥) }
+/// Whether the request is built. `extreme`, `cut`, `faces`, `demo` and the flag are not yet.
+fn is_built(request: Request) -> bool
+    ensures { result ≡ is_built request }
 {
-    match word {
-        "minimal" => Some(Command::Minimal),
-        "show" => Some(Command::Show),
-        "check" => Some(Command::Check),
-        _ => None,
+    match request.command {
+        Command::Minimal | Command::Show | Command::Check => !request.json,
+        Command::Extreme | Command::Cut | Command::Faces | Command::Demo(_) => false,
     }
 }
 
-/// Whether the command reads an input. Each does so far.
-pub(crate) fn reads_input(command: Command) -> bool
-    ensures { result ≡ reads (task_for command).form }
+/// Whether the request, which is built, reads an input. Each does so far.
+pub(crate) fn reads_input(request: Request) -> bool
+    requires { IsTrue (is_built request) }
+    ensures { result ≡ reads (task_for request).form }
 {
-    match command {
+    match request.command {
         Command::Minimal => true,
         Command::Show => true,
         Command::Check => true,
+        _ => unreachable!(),
     }
 }
 
-/// The reply of the command to the input, or to none where it reads none.
-pub(crate) fn reply_to(alloc: Global, command: Command, input: &[u8]) -> Result<Reply, Unanswered>
-    ensures { IsAnswering (task_for command) input.now result }
+/// The reply to the request, which is built, over the input, or over none where it reads none.
+pub(crate) fn reply_to(alloc: Global, request: Request, input: &[u8]) -> Result<Reply, Unanswered>
+    requires { IsTrue (is_built request) }
+    ensures { IsAnswering (task_for request) input.now result }
 {
-    match command {
+    match request.command {
         Command::Minimal => minimal::reply(alloc, input),
         Command::Show => show::reply(alloc, input),
         Command::Check => check::reply(alloc, input),
+        _ => unreachable!(),
     }
 }

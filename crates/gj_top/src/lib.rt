@@ -3,7 +3,7 @@
 
 ghost use Rattle.std.specs.Prelude.{◌≡◌, ◌≢◌, ◌⊎◌, ◌≤◌, ℕ, List, [], length, Some, IfSome, IsTrue};
 ghost use Rattle.gj_port.specs.Faults.{HasFailed};
-ghost use Rattle.gj_top.specs.declared.command.Command.{Command};
+ghost use Rattle.gj_words.specs.declared.requests.Request.{Request};
 ghost use Rattle.gj_top.specs.Command.{IsNamed, NameNone, task_for};
 ghost use Rattle.gj_top.specs.Task.{reads};
 ghost use Rattle.gj_top.specs.Answer.{IsSourceFault, input_limit, words_line, fault_line};
@@ -30,7 +30,7 @@ use answer::answer_to;
 pub use laws::{shown_text_is_read, written_proofs_are_accepted};
 pub use status::Status;
 
-/// Runs the command that the words name, over an input from the source, and writes the answer to the sink.
+/// Answers the request that the words name, over an input from the source, and writes the answer to the sink.
 ///
 /// `minimal` reads a function text and writes the proof text of the claim that the function is minimal, or that it is
 /// not, with the first violation. `show` reads a function text and writes its canonical text. `check` reads a proof
@@ -50,16 +50,16 @@ pub fn run<S: Source, K: Sink>(
     ensures outcome { IsOutcome words.now (IsSourceFault (S.steady source.old) (S.faults source.old) (S.faults source.new))
         (S.left source.old) (S.left source.new) (K.written sink.old) (K.written sink.new) (K.sure sink.old) result }
 
-    // The words alone decide whether they are a command, and then which statuses there can be.
+    // The words alone decide whether they name a request, and then which statuses there can be.
     ensures words { result ≡ Status.Words → NameNone words.now }
-    ensures command { NameNone words.now → (result ≡ Status.Words) ⊎ (result ≡ Status.WriteFault) }
-    ensures ends { (c : Command) → IsNamed words.now c → IsStatusOf (task_for c) result }
+    ensures command { NameNone words.now → (result ≡ Status.Words) ⊎ (result ≡ Status.WriteFault) ⊎ (result ≡ Status.Memory) }
+    ensures ends { (r : Request) → IsNamed words.now r → IsStatusOf (task_for r) result }
     ensures unread { ReadNothing words.now → S.left source.new ≡ S.left source.old }
 
     // Where the source tells its bytes, each status has its cause in them, and an input within the limit is read to its
     // end, whether or not the sink took the answer, unless there was no memory or the source failed.
     ensures cause { (input : List ℕ) → IsInput words.now (S.left source.old) input → IsCause words.now input result }
-    ensures input { IfSome (S.left source.old) (λ input. (c : Command) → IsNamed words.now c → IsTrue (reads (task_for c).form) →
+    ensures input { IfSome (S.left source.old) (λ input. (r : Request) → IsNamed words.now r → IsTrue (reads (task_for r).form) →
         length input ≤ input_limit → result ≢ Status.Memory → result ≢ Status.ReadFault →
         (result ≡ Status.WriteFault → HasFailed (S.faults source.old) (S.faults source.new) → ⊥) →
         S.left source.new ≡ Some []) }
@@ -81,12 +81,12 @@ pub fn run<S: Source, K: Sink>(
     ensures fault_told { result ≡ Status.ReadFault → Gains (K.written sink.old) (K.written sink.new) fault_line }
     ensures words_told { result ≡ Status.Words → Gains (K.written sink.old) (K.written sink.new) words_line }
 
-    // A command over an input in its form, with no fault, is answered unless there is no memory.
-    ensures complete { (c : Command) (input : List ℕ) →
-        IsNamed words.now c → IsGoodInput (task_for c) (S.left source.old) input →
-        (IsTrue (reads (task_for c).form) → HasFailed (S.faults source.old) (S.faults source.new) → ⊥) →
+    // A request over an input in its form, with no fault, is answered unless there is no memory.
+    ensures complete { (r : Request) (input : List ℕ) →
+        IsNamed words.now r → IsGoodInput (task_for r) (S.left source.old) input →
+        (IsTrue (reads (task_for r).form) → HasFailed (S.faults source.old) (S.faults source.new) → ⊥) →
         (HasFailed (K.faults sink.old) (K.faults sink.new) → ⊥) →
-        (result ≡ Status.Memory) ⊎ IsStatusOfReply (task_for c) input result }
+        (result ≡ Status.Memory) ⊎ IsStatusOfReply (task_for r) input result }
 {
     let Ok(answer) = answer_to(alloc, words, source) else {
         return Status::Memory;

@@ -10,7 +10,7 @@ pub enum Status {
     Done,
     /// A rule of the checker failed.
     Rejected,
-    /// The words are no command.
+    /// The words name no request.
     Words,
     /// The input is outside its form or a limit.
     Input,

@@ -7,22 +7,22 @@ use std::test::Fail;
 /// The room of each sink, in bytes.
 const ROOM: usize = 1 << 20;
 
-/// Runs the words over the input, with reads and writes that fail at these calls, and gives how that ended and
-/// what was written.
+/// Runs the words of the line over the input, with reads and writes that fail at these calls, and gives how that
+/// ended and what was written.
 fn ran(
     alloc: Global,
-    words: &[&str],
+    line: &str,
     input: &[u8],
     failing_reads: &[u64],
     failing_writes: &[u64],
 ) -> Result<(Status, MemSink), AllocError> {
-    let mut list = Vec::new(alloc);
-    for word in words {
-        list.push(String::from_str(alloc, *word)?)?;
+    let mut words = Vec::new(alloc);
+    for word in line.split_whitespace() {
+        words.push(String::from_str(alloc, word)?)?;
     }
     let mut source = MemSource::new(alloc, input, failing_reads)?;
     let mut sink = MemSink::new(alloc, ROOM, failing_writes)?;
-    let status = run(alloc, list.as_slice(), &mut source, &mut sink);
+    let status = run(alloc, words.as_slice(), &mut source, &mut sink);
     Ok((status, sink))
 }
 
@@ -69,7 +69,7 @@ fn verdicts_are_written(rt: HostRuntime) -> Result<(), Fail> {
             "gj-proof 1\nclaim minimal\norder 2\nf 1/2\npoint 1/2 0 1/2\npoint 1/2 1 1/2\nend\n",
         ),
     ] {
-        let (status, sink) = ran(rt.alloc(), &["minimal"], input.as_bytes(), &[], &[])?;
+        let (status, sink) = ran(rt.alloc(), "minimal", input.as_bytes(), &[], &[])?;
         assert_eq!(rt; status, Status::Done, "on {input}");
         assert_eq!(rt; sink.taken(), output.as_bytes(), "on {input}");
     }
@@ -101,7 +101,7 @@ fn proofs_are_judged(rt: HostRuntime) -> Result<(), Fail> {
             "refused line 8 tail\n",
         ),
     ] {
-        let (ended, sink) = ran(rt.alloc(), &["check"], input.as_bytes(), &[], &[])?;
+        let (ended, sink) = ran(rt.alloc(), "check", input.as_bytes(), &[], &[])?;
         assert_eq!(rt; ended, status, "on {input}");
         assert_eq!(rt; sink.taken(), output.as_bytes(), "on {input}");
     }
@@ -109,11 +109,32 @@ fn proofs_are_judged(rt: HostRuntime) -> Result<(), Fail> {
 }
 
 #[test]
-fn other_words_and_inputs_are_refused(rt: HostRuntime) -> Result<(), Fail> {
-    let (status, sink) = ran(rt.alloc(), &["maximal"], FIVE_PIECES.as_bytes(), &[], &[])?;
-    assert_eq!(rt; status, Status::Words);
-    assert_eq!(rt; sink.taken(), b"words refused\n".as_slice());
-    let (status, sink) = ran(rt.alloc(), &["minimal"], b"", &[], &[])?;
+fn other_words_are_refused(rt: HostRuntime) -> Result<(), Fail> {
+    for line in [
+        "",
+        "maximal",
+        "demo 250",
+        "demo 01",
+        "cut --json",
+        "minimal --json --json",
+        "--help",
+        "--",
+        "--json=x",
+        "demo 1",
+        "extreme",
+        "cut",
+        "faces",
+    ] {
+        let (status, sink) = ran(rt.alloc(), line, FIVE_PIECES.as_bytes(), &[], &[])?;
+        assert_eq!(rt; status, Status::Words, "on {line}");
+        assert_eq!(rt; sink.taken(), b"words refused\n".as_slice(), "on {line}");
+    }
+    Ok(())
+}
+
+#[test]
+fn other_inputs_are_refused(rt: HostRuntime) -> Result<(), Fail> {
+    let (status, sink) = ran(rt.alloc(), "minimal", b"", &[], &[])?;
     assert_eq!(rt; status, Status::Input);
     assert_eq!(rt; sink.taken(), b"refused line 1 form\n".as_slice());
     Ok(())
@@ -149,7 +170,7 @@ fn functions_are_shown(rt: HostRuntime) -> Result<(), Fail> {
         ),
         ("", Status::Input, "refused line 1 form\n"),
     ] {
-        let (ended, sink) = ran(rt.alloc(), &["show"], input.as_bytes(), &[], &[])?;
+        let (ended, sink) = ran(rt.alloc(), "show", input.as_bytes(), &[], &[])?;
         assert_eq!(rt; ended, status, "on {input}");
         assert_eq!(rt; sink.taken(), output.as_bytes(), "on {input}");
     }
@@ -158,10 +179,10 @@ fn functions_are_shown(rt: HostRuntime) -> Result<(), Fail> {
 
 #[test]
 fn faults_are_told(rt: HostRuntime) -> Result<(), Fail> {
-    let (status, sink) = ran(rt.alloc(), &["minimal"], FIVE_PIECES.as_bytes(), &[2], &[])?;
+    let (status, sink) = ran(rt.alloc(), "minimal", FIVE_PIECES.as_bytes(), &[2], &[])?;
     assert_eq!(rt; status, Status::ReadFault);
     assert_eq!(rt; sink.taken(), b"read fault\n".as_slice());
-    let (status, sink) = ran(rt.alloc(), &["minimal"], FIVE_PIECES.as_bytes(), &[], &[1])?;
+    let (status, sink) = ran(rt.alloc(), "minimal", FIVE_PIECES.as_bytes(), &[], &[1])?;
     assert_eq!(rt; status, Status::WriteFault);
     assert_eq!(rt; sink.taken(), b"".as_slice());
     Ok(())
