@@ -1,0 +1,4 @@
+pub mod JsonFunction
+pub mod FirstReason
+pub mod Reading
+pub mod JsonText
