@@ -1,7 +1,5 @@
 -- What three lists of fractions over one denominator give.
-use Rattle.std.proofs.Common.{◌≡◌, ℕ, ◌*◌, ◌/◌, ◌%◌, ◌<◌, ◌≤◌, ◌^◌, ℤ, pos, ◌*ℤ◌, List, length, get_or, All, unsigned_abs, refl, sym, ap, subst, ◌∙◌, arith}
-use Rattle.std.proofs.lemmas.List.{get_or_default}
-use Rattle.std.specs.Int.{◌∣◌}
+use Rattle.std.proofs.Common.{◌≡◌, ℕ, ◌%◌, ◌<◌, ◌^◌, ℤ, pos, ◌*ℤ◌, List, length, get_or, All, unsigned_abs, refl, sym, ap, ◌∙◌, arith}
 use Rattle.gj_frac.specs.declared.Frac.{Frac}
 use Rattle.gj_frac.specs.Fraction.{IsRatio, numerator, denominator}
 use Rattle.gj_tools.proofs.Divisors.{whole_multiple}
@@ -12,7 +10,7 @@ use Rattle.gj_shape.specs.FunctionData.{FunctionData, IsSmallOver, at}
 use Rattle.gj_shape.specs.Given.{in_order, IsSmall, IsCommonDenominator, AreWithinBounds, IsOrder, IsPlace, HaveLength, HasFault, IsGivenBy, AreOver}
 use Rattle.gj_shape.specs.declared.faults.ShapeFault.{ShapeFault}
 use Rattle.gj_shape.specs.declared.faults.ShapeFault.TheVariants as fault
-use Rattle.gj_shape.proofs.AtLemmas.{at_below, at_wrapped, all_at}
+use Rattle.gj_shape.proofs.AtLemmas.{at_wrapped, all_at}
 use Rattle.gj_shape.proofs.GivenFractions.{all_small, list_is_at}
 use Rattle.gj_shape.proofs.InOrder.{all_in_order, all_from_in_order}
 use Rattle.gj_shape.proofs.LeastDenominator.{Divides, within_bounds_closed}

@@ -1,11 +1,11 @@
 -- The closed forms, from whole numbers over one denominator.
-use Rattle.std.proofs.Common.{◌≡◌, ◌≢◌, ℕ, ◌+◌, ◌-◌, ◌*◌, ◌%◌, ◌<◌, ◌≤◌, ◌^◌, ℤ, pos, ◌*ℤ◌, [], ◌∷◌, List, Bool, true, false, length, unsigned_abs, eqb, if◌then◌else◌, refl, sym, ap, subst, subst₂, ◌∙◌, below_more, arith}
+use Rattle.std.proofs.Common.{◌≡◌, ◌≢◌, ℕ, ◌-◌, ◌*◌, ◌%◌, ◌<◌, ◌≤◌, ◌^◌, ℤ, pos, ◌*ℤ◌, [], ◌∷◌, List, Bool, true, false, length, unsigned_abs, eqb, if◌then◌else◌, refl, sym, ap, subst, subst₂, ◌∙◌, below_more, arith}
 use Rattle.std.proofs.Math.Nat.{mul-pos, mod_self}
 use Rattle.std.proofs.lemmas.Bool.{eq-eqb, ne_eqb}
 use Rattle.std.proofs.lemmas.Int.{ints}
 use Rattle.gj_tools.proofs.Integers.{mul_cancel_right_z}
 use Rattle.gj_tools.proofs.Ring.{by_ring, ring}
-use Rattle.gj_shape.specs.FunctionData.{FunctionData, IsWithinBounds, IsContinuous, at}
+use Rattle.gj_shape.specs.FunctionData.{FunctionData, IsContinuous, at}
 use Rattle.gj_shape.specs.Gmic.{gmic_table, gmic_scale}
 use Rattle.gj_shape.proofs.AtLemmas.{at_wrapped}
 use Rattle.gj_family.specs.Families.{IsGmic, IsHalf, IsTwoSlope}

@@ -1,6 +1,6 @@
 -- The table of the mixed-integer cut: its two sides, its period and its size.
-use Rattle.std.proofs.Common.{◌≡◌, ℕ, ◌-◌, ◌*◌, ◌%◌, ◌<◌, ◌≤◌, ◌^◌, ◌⊎◌, ⊎_elim, true, false, leb, pos, unsigned_abs, if◌then◌else◌, refl, sym, ap, subst, ◌∙◌, arith}
-use Rattle.std.proofs.Math.Nat.{eq-or-lt_of_le, mod-eq_of_lt, mod-mod, mod_self, mod-lt, mul_comm, mul-le-mul_left, mul-le-mul_right}
+use Rattle.std.proofs.Common.{◌≡◌, ℕ, ◌-◌, ◌*◌, ◌%◌, ◌<◌, ◌≤◌, ⊎_elim, leb, if◌then◌else◌, sym, ap, ◌∙◌, arith}
+use Rattle.std.proofs.Math.Nat.{eq-or-lt_of_le, mod-eq_of_lt, mod-mod, mod_self, mul_comm, mul-le-mul_left}
 use Rattle.std.proofs.lemmas.Bool.{le-leb, lt-leb, cases_lt}
 use Rattle.gj_shape.specs.Gmic.{gmic_table, gmic_scale}
 

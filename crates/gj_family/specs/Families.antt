@@ -1,5 +1,5 @@
 -- The closed forms of named families of functions.
-use Rattle.std.specs.Prelude.{ℕ, ℤ, pos, ◌≡◌, ◌≢◌, ◌-◌, ◌<◌, ◌≤◌, ◌*ℤ◌, List, Bool, length}
+use Rattle.std.specs.Prelude.{ℕ, pos, ◌≡◌, ◌≢◌, ◌-◌, ◌<◌, ◌≤◌, ◌*ℤ◌, List, Bool, length}
 use Rattle.gj_shape.specs.FunctionData.{FunctionData, IsContinuous, at}
 use Rattle.gj_family.specs.Signs.{height}
 

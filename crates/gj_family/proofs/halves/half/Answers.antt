@@ -1,4 +1,4 @@
-use Rattle.std.proofs.Common.{ℕ, ◌<◌, ◌*◌, ◌≤◌, ◌^◌, pos, sym, subst, subst₂, arith}
+use Rattle.std.proofs.Common.{pos, sym, subst, subst₂, arith}
 use Rattle.gj_family.specs.Families.{IsHalf}
 use Rattle.gj_family.specs.Numerators.{HasEntries, doubled_value}
 use Rattle.gj_family.proofs.Entries.{entries_small}

@@ -1,4 +1,4 @@
-use Rattle.std.proofs.Common.{ℕ, ◌≡◌, ◌*◌, ◌<◌, ◌≤◌, ◌^◌, pos, unsigned_abs, length, w64, to_z, of_z, ap₂, ◌∙◌, arith}
+use Rattle.std.proofs.Common.{◌≡◌, ◌<◌, ◌≤◌, pos, unsigned_abs, length, w64, to_z, of_z, ap₂, ◌∙◌, arith}
 use Rattle.std.proofs.lemmas.Int.{ints}
 use Rattle.gj_family.specs.Signs.{rises, falls, sum_of_steps, height as height_of}
 use Rattle.gj_family.proofs.Entries.{entries_small}
