@@ -1,5 +1,5 @@
 -- A text spells one function at most, and one that is refused spells none.
-use Rattle.std.proofs.Common.{◌≡◌, ◌≢◌, ◌⊎◌, inl, inr, ℕ, pos, List, [], ◌∷◌, length, Result, Ok, Err, IfOk, IfErr, MatchResult, Some, refl, sym, ap, ap₂, subst, ◌∙◌, arith}
+use Rattle.std.proofs.Common.{◌≡◌, ◌≢◌, inl, inr, ℕ, pos, List, [], ◌∷◌, length, refl, sym, ap₂, subst, ◌∙◌, arith}
 use Rattle.std.specs.List.{AllZip}
 use Rattle.gj_frac.specs.declared.Frac.{Frac}
 use Rattle.gj_frac.specs.Fraction.{IsRatio}
@@ -9,13 +9,12 @@ use Rattle.gj_lex.specs.declared.spelling.Spelling.TheVariants.{Lenient}
 use Rattle.gj_lex.proofs.SpelledWords.{one_fraction}
 use Rattle.gj_lines.proofs.OneTextOfLines.{one_place}
 use Rattle.gj_shape.specs.FunctionData.{FunctionData}
-use Rattle.gj_shape.specs.Given.{IsOrder, IsGivenBy, HaveLength}
+use Rattle.gj_shape.specs.Given.{IsGivenBy, HaveLength}
 use Rattle.gj_shape.specs.declared.faults.ShapeFault.TheVariants as fault
 use Rattle.gj_shape.proofs.GivenLists.{no_fault_given}
 use Rattle.gj_shape.proofs.OneFunction.{same_from_given}
 use Rattle.serde_json.specs.Data.{Data}
-use Rattle.serde_json.specs.Find.{as_str}
-use Rattle.gj_json.specs.JsonFunction.{integer, HasForm, Spells, SpellsForm, HasFractions, GivesFunction, SaysFunction, HasValue, IsJsonFunction}
+use Rattle.gj_json.specs.JsonFunction.{Spells, HasFractions, GivesFunction, SaysFunction, HasValue, IsJsonFunction}
 use Rattle.gj_json.specs.FirstReason.{RefusesFractions, HasRefusedFractions, RefusesValue, HasFirstReason, IsMemoryFault, NamesReason}
 use Rattle.gj_json.specs.declared.faults.JsonReason.{JsonReason}
 use Rattle.gj_json.specs.declared.faults.JsonReason.TheVariants.{Syntax, Form, Number, Order, Place, Large, Fine}

@@ -1,5 +1,5 @@
 -- The lines of a proof text, taken one after another.
-use Rattle.std.proofs.Common.{◌≡◌, ◌⊎◌, inl, inr, ℕ, ◌+◌, ◌<◌, ◌≤◌, List, [], ◌∷◌, ◌++◌, length, map, take, get_or, flat_map, false, Result, Ok, Err, MatchResult, refl, sym, ap, subst, ◌∙◌, arith, append_assoc, append-nil, length-append}
+use Rattle.std.proofs.Common.{◌≡◌, inl, inr, ℕ, ◌+◌, ◌<◌, ◌≤◌, List, [], ◌∷◌, ◌++◌, length, map, take, get_or, flat_map, false, Result, Ok, Err, MatchResult, refl, sym, ap, subst, ◌∙◌, arith, append_assoc, append-nil, length-append}
 use Rattle.std.proofs.Math.Seq.{get_or-append_seam}
 use Rattle.std.specs.List.{All}
 use Rattle.std.specs.Result.{IsOk}
@@ -8,9 +8,9 @@ use Rattle.std.proofs.lemmas.Str.{IsUtf8-from_ascii}
 use Rattle.std.proofs.lemmas.Str.Ascii.{IsAscii-from_all}
 use Rattle.std.proofs.lemmas.List.{get_or-append-add, map-append, take_more, take_all, flat_map_more}
 use Rattle.std.proofs.lemmas.List.Elements.{All-nil, All-push}
-use Rattle.serde_json.specs.Data.{Data, string, array, Items, no_items, item}
+use Rattle.serde_json.specs.Data.{string}
 use Rattle.serde_json.specs.View.{view, items_of, items_view}
-use Rattle.serde_json.specs.Written.{has_float, items_have_float}
+use Rattle.serde_json.specs.Written.{has_float}
 use Rattle.serde_json.specs.declared.value.Value.{Value}
 use Rattle.gj_json.specs.JsonText.{strings, IsPrintable, IsProofByte, IsEnded, HasLines, report_value}
 use Rattle.gj_json.proofs.Shown.{strings_more, strings_have_no_float}
@@ -87,7 +87,8 @@ none_left front (x ∷ xs) before e h =
     let n : length before ≡ length front + length xs =
     omega (arith, ap length e, length-append front (x ∷ xs), length-append before (10 ∷ [])) in
     let last : get_or (before ++ 10 ∷ []) (length before) 0 ≡ 10 = get_or-append_seam before 10 [] 0 in
-    let same : get_or (front ++ x ∷ xs) (length front + length xs) 0 ≡ get_or (x ∷ xs) (length xs) 0 = get_or-append-add front (x ∷ xs) (length xs) 0 in
+    let same : get_or (front ++ x ∷ xs) (length front + length xs) 0 ≡ get_or (x ∷ xs) (length xs) 0 =
+    get_or-append-add front (x ∷ xs) (length xs) 0 in
     let p = h (length xs) 0 (omega arith) in
     absurd (omega (arith, p.0, same, last, n, ap (λ t. get_or t (length before) 0) e, ap (λ k. get_or (front ++ x ∷ xs) k 0) n))
 
@@ -99,7 +100,8 @@ nothing_left text front line (inl empty) e h = no_more front line (sym e ∙ emp
     no_more (x ∷ front) line e = absurd (cc)
 nothing_left text front line (inr (before, is)) e h = none_left front line before (sym e ∙ is) h
 
-pub all_lines : (text : List ℕ) (n : ℕ) (vs : List Value) (line : List ℕ) → length text ≤ n → IsEnded text → LinesSoFar text n vs line →
+pub all_lines : (text : List ℕ) (n : ℕ) (vs : List Value) (line : List ℕ) → length text ≤ n → IsEnded text →
+    LinesSoFar text n vs line →
     (lines : List (List ℕ)) × HasLines text lines × (items_view vs ≡ strings lines)
 all_lines text n vs line most end h =
     let whole : text ≡ flat_map ended h.lines ++ line = sym (take_all n text most) ∙ h.joined in

@@ -1,5 +1,5 @@
 -- How what a step refuses refuses the whole, and what it reads makes the whole.
-use Rattle.std.proofs.Common.{◌≡◌, ◌⊎◌, inl, inr, ℕ, pos, List, [], ◌∷◌, length, map, Option, Some, None, IfNone, option_map, option_and_then, refl, sym, ap, subst, ◌∙◌, codes, true≢false}
+use Rattle.std.proofs.Common.{◌≡◌, inl, inr, ℕ, List, length, Some, None, option_map, option_and_then, refl, sym, ap, subst, ◌∙◌, codes}
 use Rattle.std.specs.List.{AllZip}
 use Rattle.std.proofs.lemmas.Slice.Zip.{AllZip-long}
 use Rattle.gj_frac.specs.declared.Frac.{Frac}
@@ -10,7 +10,7 @@ use Rattle.serde_json.specs.Data.{Data, null, boolean, number, string, array, ob
 use Rattle.serde_json.specs.Find.{get, as_str, as_array}
 use Rattle.gj_json.proofs.Options.{same_some, not_none}
 use Rattle.gj_json.specs.JsonFunction.{integer, list_of, list_at, HasLimits, HasForm, Spells, SpellsForm, HasFractions, GivesFunction, SaysFunction}
-use Rattle.gj_json.specs.FirstReason.{RefusesFractions, RefusesValue, IsOfForm, NamesReason}
+use Rattle.gj_json.specs.FirstReason.{RefusesFractions, RefusesValue, NamesReason}
 use Rattle.gj_json.specs.Reading.{SpellsNone, SpellsNoForm}
 use Rattle.gj_json.specs.declared.faults.JsonReason.{JsonReason}
 use Rattle.gj_json.specs.declared.faults.JsonReason.TheVariants.{Syntax, Form, Number, Order, Place, Large, Fine}

@@ -1,10 +1,10 @@
 -- A line feed behind compact JSON is passed over.
-use Rattle.std.proofs.Common.{◌≡◌, ℕ, Bool, true, false, cond, ◌&&◌, List, [], ◌∷◌, ◌++◌, Some, option_and_then, refl, sym, ap, ap₂, subst, ◌∙◌, append_assoc}
+use Rattle.std.proofs.Common.{◌≡◌, ℕ, Bool, true, false, cond, ◌&&◌, List, [], ◌∷◌, ◌++◌, option_and_then, refl, sym, ap, ap₂, subst, ◌∙◌, append_assoc}
 use Rattle.json.specs.Token.{Token, begin_object, end_object, begin_array, end_array, key, string, number, boolean, null, bad}
 use Rattle.json.specs.Word.{ends_word, word}
 use Rattle.json.specs.Lex.{Lexeme, token, comma, colon, string_token, lex, between, fresh, punctuate, tokens}
 use Rattle.json.specs.Json as json
-use Rattle.json.specs.Print.{escape, quoted, token_text, begins, ends, separator, print_from, print, IsPrintableOrBad, ArePrintableOrBad}
+use Rattle.json.specs.Print.{escape, quoted, token_text, begins, ends, print_from, print, IsPrintableOrBad, ArePrintableOrBad}
 use Rattle.json.proofs.Numbered.{ArePrintableOrBad-tokens}
 use Rattle.json.proofs.Printed.Strings.{content-escape, lex-escape}
 use Rattle.json.proofs.Printed.Numbers.{lex-number, in_word-ended}
@@ -89,7 +89,8 @@ line_feed_passed c (t ∷ ts) h =
     ∙ sym (token_first t r h.0 ended))
     ∙ sym (comma_first b (text ++ r))
   where
-    append_then : (b : Bool) (x r y : List ℕ) → lex between ((cond b (44 ∷ []) [] ++ (x ++ r)) ++ y) ≡ lex between (cond b (44 ∷ []) [] ++ (x ++ (r ++ y)))
+    append_then : (b : Bool) (x r y : List ℕ) →
+        lex between ((cond b (44 ∷ []) [] ++ (x ++ r)) ++ y) ≡ lex between (cond b (44 ∷ []) [] ++ (x ++ (r ++ y)))
     append_then b x r y =
         ap (lex between) (append_assoc (cond b (44 ∷ []) []) (x ++ r) y ∙ ap (λ l. cond b (44 ∷ []) [] ++ l) (append_assoc x r y))
 

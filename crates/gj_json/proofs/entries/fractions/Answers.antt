@@ -1,4 +1,4 @@
-use Rattle.std.proofs.Common.{◌<◌, length, refl, arith}
+use Rattle.std.proofs.Common.{refl, arith}
 use Rattle.gj_json.proofs.ReadSoFar.{one_more, none_at}
 use Rattle.gj_json.proofs.entries.fractions.Goals as goal
 

@@ -1,4 +1,4 @@
-use Rattle.std.proofs.Common.{◌<◌, length, get_or, ap, ◌∙◌, arith, rules}
+use Rattle.std.proofs.Common.{get_or, ap, ◌∙◌, arith, rules}
 use Rattle.serde_json.specs.Data.{string, array}
 use Rattle.serde_json.proofs.Views.{view-Array}
 use Rattle.gj_json.proofs.ProofLines.{line_ended, byte_taken, all_lines}
