@@ -25,12 +25,6 @@ no_line_words line rest e no_gmic no_half no_slopes (gmic_words v) is = no_gmic 
 no_line_words line rest e no_gmic no_half no_slopes (half_words v) is = no_half v cc
 no_line_words line rest e no_gmic no_half no_slopes (two_slope_words v w) is = no_slopes v w cc
 
-pub not_a_family : (line : List (List ℕ)) → ((words : List (List ℕ)) → line ≡ codes "family" ∷ words → ⊥) →
-    (w : FamilyWords) → line ≡ words_of_line w → ⊥
-not_a_family line none (gmic_words v) is = none _ is
-not_a_family line none (half_words v) is = none _ is
-not_a_family line none (two_slope_words v w) is = none _ is
-
 -- ---- signs
 
 -- what spells signs has no other byte
@@ -47,12 +41,6 @@ sign_of_byte : (b : ℕ) → IsSign b → sign_byte (nat_eq b 43) ≡ b
 sign_of_byte b (inl e) = ap (λ n. sign_byte (nat_eq n 43)) e ∙ sym e
 sign_of_byte b (inr e) = ap (λ n. sign_byte (nat_eq n 43)) e ∙ sym e
 
-pub sign_pushed : (word : List ℕ) (i d : ℕ) (signs more : List Bool) (sign : Bool) → i < length word → All IsSign word →
-    AreSigns (take i word) signs → more ≡ signs ++ sign ∷ [] → sign ≡ nat_eq (get_or word i d) 43 → AreSigns (take (i + 1) word) more
-sign_pushed word i d signs more sign below all so_far pushed is =
-    take_more word i d below ∙ ap₂ (λ xs x. xs ++ x ∷ []) so_far (sym (sign_of_byte (get_or word i d) (all i d below)) ∙ ap sign_byte (sym is))
-    ∙ sym (ap (map sign_byte) pushed ∙ map-append sign_byte signs (sign ∷ []))
-
 -- ---- refusals
 
 -- a refusal for one reason is one for another that follows from it
@@ -64,11 +52,6 @@ refused_for P Q (Memory a) step h = tt
 pub family_refused : (w : FamilyWords) (a : Family) (x : FamilyFault) (e : LineFault) → SpellFamily w a → HasFault a x →
     IsRefusedFor (IsReasonOf x) e → IsRefusedFor (NamesNone w) e
 family_refused w a x e spelled h is = refused_for (IsReasonOf x) (NamesNone w) e (λ d why. inr (a, x, spelled, h, why)) is
-
--- the words of the line name no function
-pub line_refused_for : (line : List (List ℕ)) (w : FamilyWords) (e : LineFault) → line ≡ words_of_line w → IsRefusedFor (NamesNone w) e →
-    IsRefusedFor (BreaksFamily line) e
-line_refused_for line w e is h = refused_for (NamesNone w) (BreaksFamily line) e (λ d none. inr (w, is, none)) h
 
 -- ---- a place that was cut
 

@@ -51,11 +51,6 @@ module _ {A : Type 0} (s : Spelling) (word : List ℕ) (p q : Part A) (exact : I
 
 -- ---- what readers answer
 
-pub fault_with_word : {A : Type 0} (s : Spelling) (word : List ℕ) (p q : Part A) (text : List ℕ) (e : PartFault) →
-    BeginsWith s word text → IsFaultOf p text e → IsFaultOf (by_first_word s word p q) text e
-fault_with_word s word p q text (Refused left e) is (start, left_is, h) = (start, left_is, inl (is, h))
-fault_with_word s word p q text (Memory a) is h = tt
-
 pub fault_without : {A : Type 0} (s : Spelling) (word : List ℕ) (p q : Part A) (text : List ℕ) (e : PartFault) →
     (BeginsWith s word text → ⊥) → IsFaultOf q text e → IsFaultOf (by_first_word s word p q) text e
 fault_without s word p q text (Refused left e) not (start, left_is, h) = (start, left_is, inr (not, h))
