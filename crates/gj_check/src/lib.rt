@@ -1,4 +1,8 @@
 //! The separate checker: every rule on a proof, by code that shares nothing with the search for proofs.
+//!
+//! `check` takes the demands of a claim in their order, and answers the first that fails by its rule and the number of its line.
+//! `rules_give_meaning`: where every rule holds, what the claim says is true. Its loops over pairs and its arithmetic are its own;
+//! with the search it shares the definitions of `gj_shape` and the theorems of `gj_theory`.
 #![tactic(auto)]
 
 mod checker;

@@ -6,9 +6,6 @@ use Rattle.gj_shape.specs.FunctionData.{IsSmallOver, at}
 use Rattle.gj_shape.proofs.AtLemmas.{at_below, at_wrapped}
 use Rattle.gj_family.specs.Numerators.{HasEntries}
 
-pub entries_none : (t : ℕ → ℤ) → HasEntries t 0 []
-entries_none t = record { length_is = refl; entry_is = λ i h. absurd (omega arith) }
-
 -- one more entry
 pub entries_push : (t : ℕ → ℤ) (n : ℕ) (xs : List ℤ) (x : ℤ) → HasEntries t n xs → x ≡ t n → HasEntries t (n + 1) (xs ++ x ∷ [])
 entries_push t n xs x h e =

@@ -2,5 +2,6 @@ pub mod Entries
 pub mod Given
 pub mod Grids
 pub mod Heights
+pub mod OneFunction
 pub mod Shapes
 pub mod Tables

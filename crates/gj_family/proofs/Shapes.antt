@@ -39,9 +39,6 @@ in_rising i c s = by_ring (pos i ∷ pos c ∷ pos s ∷ []) (search ring depth 
 out_falling : (x : ℤ) (k c : ℕ) → x *ℤ pos c *ℤ pos k ≡ x *ℤ pos (k * c)
 out_falling x k c = by_ring (x ∷ pos k ∷ pos c ∷ []) (search ring depth 20) refl
 
-in_falling : (j k s : ℕ) → pos (k * j) *ℤ pos s ≡ pos j *ℤ pos s *ℤ pos k
-in_falling j k s = by_ring (pos j ∷ pos k ∷ pos s ∷ []) (search ring depth 20) refl
-
 pub gmic_small : (q k i : ℕ) → k < q → i < q → unsigned_abs (pos (gmic_table q k i)) ≤ 2 ^ 20 * gmic_scale q k
 gmic_small q k i place below = let high = table_high q k i place below in omega arith
 
@@ -62,7 +59,7 @@ gmic_over q k values f some place entries h =
       rises = λ i low. mul_cancel_right_z (at f.value i *ℤ pos k) (pos i *ℤ pos f.scale) (pos (q - k))
           (out_rising (at f.value i) k (q - k) ∙ value i _ (table_rising q k i (omega arith) low) ∙ in_rising i (q - k) f.scale) c_z;
       falls = λ i high below. mul_cancel_right_z (at f.value i *ℤ pos (q - k)) (pos (q - i) *ℤ pos f.scale) (pos k)
-          (out_falling (at f.value i) k (q - k) ∙ value i _ (table_falling q k i place high below) ∙ in_falling (q - i) k f.scale) k_z;
+          (out_falling (at f.value i) k (q - k) ∙ value i _ (table_falling q k i place high below) ∙ in_rising (q - i) k f.scale) k_z;
     }
 
 -- ---- the function that is 1/2 almost everywhere

@@ -5,7 +5,7 @@
 //! what has no such function by the first of its tests that fails ([`FamilyFault`]).
 //!
 //! [`gmic_is_gmic_table`] is a theorem: on every grid the mixed-integer cut is the table of the definitions of
-//! `gj_shape`.
+//! `gj_shape`. [`one_function_of_a_family`] is another: a closed form has one function.
 //!
 //! [`Shape`]: gj_shape::Shape
 #![tactic(auto)]
@@ -19,7 +19,7 @@ mod slopes;
 
 pub use faults::FamilyFault;
 pub use halves::half;
-pub use laws::gmic_is_gmic_table;
+pub use laws::{gmic_is_gmic_table, one_function_of_a_family};
 pub use mixed_integer::gmic;
 pub use slopes::two_slope;
 

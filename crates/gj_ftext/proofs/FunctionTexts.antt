@@ -1,14 +1,16 @@
 -- How the lines that were read make a function text, and a fault of theirs one of the text.
-use Rattle.std.proofs.Common.{ℕ, List, refl, sym, subst}
+use Rattle.std.proofs.Common.{◌≡◌, inl, inr, ℕ, List, ◌∷◌, codes, refl, sym, subst, ◌∙◌}
 use Rattle.gj_lex.specs.declared.fault.PartFault.{PartFault}
 use Rattle.gj_lex.specs.declared.spelling.Spelling.TheVariants.{Lenient}
-use Rattle.gj_lex.specs.Parts.{words_rule, Part, line_part, empty_part, then_part, end_part, IsFaultOf, IsTail}
+use Rattle.gj_lex.specs.Parts.{words_rule, Part, line_part, empty_part, then_part, IsFaultOf}
 use Rattle.gj_lex.specs.TextLines.{HasNothing}
-use Rattle.gj_lex.proofs.PartLaws.{fault_in_first, fault_in_next, tail_refused}
+use Rattle.gj_lex.proofs.PartLaws.{fault_in_first, fault_in_next}
 use Rattle.gj_shape.specs.FunctionData.{FunctionData, IsWithinBounds}
-use Rattle.gj_lines.specs.FunctionGrammar.{function_part}
+use Rattle.gj_lines.specs.FunctionGrammar.{order_words, function_part}
 use Rattle.gj_lines.proofs.FunctionRead.{within_bounds}
-use Rattle.gj_ftext.specs.FunctionText.{title_words, end_words, function_text, whole_function_text, IsFunctionText, IsWholeFunctionText}
+use Rattle.gj_ftext.specs.ByFirstWord.{BeginsWith}
+use Rattle.gj_ftext.specs.FunctionText.{title_words, end_words, body_part, function_text, IsFunctionText, IsWholeFunctionText}
+use Rattle.gj_ftext.proofs.FirstWords.{begins_not}
 
 -- the first and the last line
 abbrev pub title_part : Part (Unit {0})
@@ -17,31 +19,44 @@ title_part = line_part Lenient (words_rule title_words)
 abbrev pub last_part : Part (Unit {0})
 last_part = line_part Lenient (words_rule end_words)
 
--- behind the lines of f
+-- behind what tells f
 abbrev end_of : FunctionData → Part FunctionData
 end_of f = then_part last_part (λ t. empty_part f)
 
 abbrev behind_title : Unit {0} → Part FunctionData
-behind_title t = then_part (function_part Lenient) end_of
+behind_title t = then_part body_part end_of
 
-pub fault_in_lines : (text middle : List ℕ) (fault : PartFault) → title_part.Reads text tt middle →
-    IsFaultOf (function_part Lenient) middle fault → IsFaultOf function_text text fault
-fault_in_lines text middle fault title h =
-    fault_in_next title_part behind_title text tt middle fault title (fault_in_first (function_part Lenient) end_of middle fault h)
+pub fault_in_body : (text middle : List ℕ) (fault : PartFault) → title_part.Reads text tt middle →
+    IsFaultOf body_part middle fault → IsFaultOf function_text text fault
+fault_in_body text middle fault title h =
+    fault_in_next title_part behind_title text tt middle fault title (fault_in_first body_part end_of middle fault h)
 
 pub fault_in_end : (text middle rest : List ℕ) (f : FunctionData) (fault : PartFault) → title_part.Reads text tt middle →
-    (function_part Lenient).Reads middle f rest → IsFaultOf last_part rest fault → IsFaultOf function_text text fault
+    body_part.Reads middle f rest → IsFaultOf last_part rest fault → IsFaultOf function_text text fault
 fault_in_end text middle rest f fault title lines h =
     fault_in_next title_part behind_title text tt middle fault title
-    (fault_in_next (function_part Lenient) end_of middle f rest fault lines (fault_in_first last_part (λ t. empty_part f) rest fault h))
+    (fault_in_next body_part end_of middle f rest fault lines (fault_in_first last_part (λ t. empty_part f) rest fault h))
+
+-- the lines of a function begin with no line of a family
+pub no_family_line : (text : List ℕ) (f : FunctionData) (rest : List ℕ) → (function_part Lenient).Reads text f rest →
+    BeginsWith Lenient (codes "family") text → ⊥
+no_family_line text f rest (q, next, (start, words, line, (word, is, spelled, order)), h) =
+    begins_not Lenient (codes "family") text start words next line (λ more e. not_both more word (sym e ∙ is))
+  where
+    not_both : (more : List (List ℕ)) (word : List ℕ) → codes "family" ∷ more ≡ order_words word → ⊥
+    not_both more word e = cc
 
 pub whole_text : (text rest : List ℕ) (f : FunctionData) → IsFunctionText text f rest → HasNothing Lenient rest → IsWholeFunctionText text f
 whole_text text rest f h nothing = (rest, (f, rest, h, (refl, refl, nothing)))
 
--- a function that is read is within bounds
+-- what tells a function, and that it is within bounds
+body_is_within : (text : List ℕ) (f : FunctionData) (rest : List ℕ) → body_part.Reads text f rest → IsWithinBounds f
+body_is_within text f rest (inl (is, (start, words, line, (w, line_is, (family, spelled, of, within))))) = within
+body_is_within text f rest (inr (not, h)) = within_bounds Lenient text f rest h
+
 pub function_is_within : (text : List ℕ) (f : FunctionData) (rest : List ℕ) → IsFunctionText text f rest → IsWithinBounds f
 function_is_within text f rest (t, m, title, (g, n, lines, (t', r, last, (same, at)))) =
-    subst IsWithinBounds (sym same) (within_bounds Lenient m g n lines)
+    subst IsWithinBounds (sym same) (body_is_within m g n lines)
 
 -- the parts of a whole function text
 pub record WholeParts (text : List ℕ) (f : FunctionData) : Type 0 where

@@ -1,3 +1,6 @@
+pub mod FirstWords
+pub mod FamilyLines
+pub mod FamilyRead
 pub mod FunctionTexts
 pub mod OneText
 pub mod Canonical

@@ -1,5 +1,5 @@
 -- A function text has the lines of its function, and a text that has them is one.
-use Rattle.std.proofs.Common.{◌≡◌, ℕ, zero, suc, pos, List, [], ◌∷◌, ◌++◌, length, map, refl, sym, ap, subst, subst₂, ◌∙◌, append-nil, append_assoc}
+use Rattle.std.proofs.Common.{◌≡◌, ◌⊎◌, ⊎_elim, inl, inr, codes, ℕ, zero, suc, pos, List, [], ◌∷◌, ◌++◌, length, map, refl, sym, ap, subst, subst₂, ◌∙◌, append-nil, append_assoc}
 use Rattle.std.specs.List.{AllZip}
 use Rattle.std.proofs.lemmas.Grind.{flat_map-append}
 use Rattle.gj_frac.specs.Fraction.{IsRatio}
@@ -12,9 +12,12 @@ use Rattle.gj_shape.specs.Points.{fractions_of, all_fractions, ArePointsOf}
 use Rattle.gj_shape.specs.declared.points.Point.{Point}
 use Rattle.gj_shape.proofs.GivenPoints.{given_by_points, points_given, good_points, count_of_points}
 use Rattle.gj_shape.proofs.LeastDenominator.{within_bounds_closed}
-use Rattle.gj_lines.specs.FunctionGrammar.{SpellPoint, ArePointWords, order_words, place_words, point_words, points_part}
+use Rattle.gj_lines.specs.FunctionGrammar.{SpellPoint, ArePointWords, order_words, place_words, point_words, points_part, function_part}
 use Rattle.gj_ftext.specs.FunctionText.{title_words, end_words, IsFunctionText}
-use Rattle.gj_ftext.specs.LinesOfFunction.{HasLinesOfFunction}
+use Rattle.gj_ftext.specs.ByFirstWord.{BeginsWith}
+use Rattle.gj_ftext.specs.FamilyLine.{FamilyWords, gmic_words, half_words, two_slope_words, words_of_line}
+use Rattle.gj_ftext.specs.LinesOfFunction.{HasLinesOfFunction, HasLinesOfFamily}
+use Rattle.gj_ftext.proofs.FunctionTexts.{no_family_line}
 
 -- ---- lines, one after the other
 
@@ -93,7 +96,8 @@ points_from_lines (ws ∷ fractions) (p ∷ added) before text rest (spelled, mo
 
 -- ---- the whole text
 
-pub text_has_lines : (text : List ℕ) (f : FunctionData) (rest : List ℕ) → IsFunctionText text f rest → HasLinesOfFunction text f rest
+pub text_has_lines : (text : List ℕ) (f : FunctionData) (rest : List ℕ) → IsFunctionText text f rest →
+    HasLinesOfFunction text f rest ⊎ HasLinesOfFamily text f rest
 text_has_lines text f rest (
   t,
   m,
@@ -101,27 +105,53 @@ text_has_lines text f rest (
   (
     g,
     n,
-    (
-      q,
-      m1,
-      (s1, ws1, order_line, (word, order_is, count, fits)),
+    inl (begins, (s1, ws1, line, (words, line_is, names))),
+    (t', r, (s3, ws3, last, last_is), (same, at)),
+  ),
+) =
+    let end : HasLines Lenient n (end_words ∷ []) rest = (s3, r, subst (λ vs. HasNextLine s3 vs r n) last_is last, at) in
+    let found : HasLinesOfFamily text g rest = record {
+      words = words;
+      names = names;
+      has_lines = (
+        s,
+        m,
+        subst (λ vs. HasNextLine s vs m text) title_is title,
+        (s1, n, subst (λ vs. HasNextLine s1 vs n m) line_is line, end),
+      );
+    } in
+    inr (subst (λ (h : FunctionData). HasLinesOfFamily text h rest) (sym same) found)
+text_has_lines text f rest (
+  t,
+  m,
+  (s, ws, title, title_is),
+  (
+    g,
+    n,
+    inr (
+      not_family,
       (
-        k,
-        m2,
+        q,
+        m1,
+        (s1, ws1, order_line, (word, order_is, count, fits)),
         (
-          s2,
-          ws2,
-          place_line,
+          k,
+          m2,
           (
-            place_word,
-            x,
-            place_is,
-            spelled,
-            place_fits,
-            ratio,
+            s2,
+            ws2,
+            place_line,
+            (
+              place_word,
+              x,
+              place_is,
+              spelled,
+              place_fits,
+              ratio,
+            ),
           ),
+          (points, points_read, given),
         ),
-        (points, points_read, given),
       ),
     ),
     (t', r, (s3, ws3, last, last_is), (same, at)),
@@ -162,39 +192,65 @@ text_has_lines text f rest (
         lines_are = refl;
       };
     } in
-    subst (λ (h : FunctionData). HasLinesOfFunction text h rest) (sym same) found
+    inl (subst (λ (h : FunctionData). HasLinesOfFunction text h rest) (sym same) found)
 
-pub lines_are_text : (text : List ℕ) (f : FunctionData) (rest : List ℕ) → HasLinesOfFunction text f rest → IsFunctionText text f rest
-lines_are_text text f rest h =
+function_lines_are_text : (text : List ℕ) (f : FunctionData) (rest : List ℕ) → HasLinesOfFunction text f rest → IsFunctionText text f rest
+function_lines_are_text text f rest h =
     let are = h.are_lines in
     let within = h.within in
     let (s, m, title, (s1, m1, order_line, (s2, m2, place_line, more))) =
     subst (λ ls. HasLines Lenient text ls rest) are.lines_are h.has_lines in
     let (n, point_lines, (s3, r, last, at)) = lines_split m2 rest (map point_words are.fractions) (end_words ∷ []) more in
     let points_read = subst (λ j. (points_part Lenient j []).Reads m2 are.points n) (count_of_points are.points f within are.points_are)
-    (points_from_lines are.fractions are.points [] m2 n are.points_spelled point_lines (good_points are.points f within are.points_are)) in (
+    (points_from_lines are.fractions are.points [] m2 n are.points_spelled point_lines (good_points are.points f within are.points_are)) in
+    let lines : (function_part Lenient).Reads m f n = (
+      f.order,
+      m1,
+      (s1, order_words are.order_word, order_line, (are.order_word, refl, are.order_is, (within.order_low, within.order_high))),
+      (
+        f.place,
+        m2,
+        (
+          s2,
+          place_words are.place_word,
+          place_line,
+          (are.place_word, are.place, refl, are.place_spelled, (within.place_low, within.place_high), are.place_is),
+        ),
+        (are.points, points_read, given_by_points are.points f within are.points_are),
+      ),
+    ) in (
       tt,
       m,
       (s, title_words, title, refl),
       (
         f,
         n,
-        (
-          f.order,
-          m1,
-          (s1, order_words are.order_word, order_line, (are.order_word, refl, are.order_is, (within.order_low, within.order_high))),
-          (
-            f.place,
-            m2,
-            (
-              s2,
-              place_words are.place_word,
-              place_line,
-              (are.place_word, are.place, refl, are.place_spelled, (within.place_low, within.place_high), are.place_is),
-            ),
-            (are.points, points_read, given_by_points are.points f within are.points_are),
-          ),
-        ),
+        inr (no_family_line m f n lines, lines),
         (tt, r, (s3, end_words, last, refl), (refl, at)),
       ),
     )
+
+-- the words of a family begin with `family`
+family_begins : (text start rest : List ℕ) (words : FamilyWords) → HasNextLine start (words_of_line words) rest text →
+    BeginsWith Lenient (codes "family") text
+family_begins text start rest (gmic_words v) line = (start, _, rest, line)
+family_begins text start rest (half_words v) line = (start, _, rest, line)
+family_begins text start rest (two_slope_words v w) line = (start, _, rest, line)
+
+family_lines_are_text : (text : List ℕ) (f : FunctionData) (rest : List ℕ) → HasLinesOfFamily text f rest → IsFunctionText text f rest
+family_lines_are_text text f rest h =
+    let (s, m, title, (s1, n, line, (s3, r, last, at))) = h.has_lines in (
+      tt,
+      m,
+      (s, title_words, title, refl),
+      (
+        f,
+        n,
+        inl (family_begins m s1 n h.words line, (s1, words_of_line h.words, line, (h.words, refl, h.names))),
+        (tt, r, (s3, end_words, last, refl), (refl, at)),
+      ),
+    )
+
+pub lines_are_text : (text : List ℕ) (f : FunctionData) (rest : List ℕ) →
+    HasLinesOfFunction text f rest ⊎ HasLinesOfFamily text f rest → IsFunctionText text f rest
+lines_are_text text f rest h = ⊎_elim (function_lines_are_text text f rest) (family_lines_are_text text f rest) h

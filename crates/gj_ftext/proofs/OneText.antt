@@ -1,5 +1,5 @@
 -- A text begins with the function text of one function at most, and has no fault then; else it has one first fault.
-use Rattle.std.proofs.Common.{◌≡◌, ℕ, List}
+use Rattle.std.proofs.Common.{◌≡◌, ℕ, List, codes}
 use Rattle.gj_lex.specs.declared.reason.Reason.{Reason}
 use Rattle.gj_lex.specs.declared.spelling.Spelling.TheVariants.{Lenient}
 use Rattle.gj_lex.specs.Parts.{IsExactPart, end_part}
@@ -7,12 +7,19 @@ use Rattle.gj_lex.proofs.PartLaws.{framed_part_is_exact, then_part_is_exact, end
 use Rattle.gj_lex.proofs.LineNumbers as numbers
 use Rattle.gj_shape.specs.FunctionData.{FunctionData}
 use Rattle.gj_lines.specs.FunctionGrammar.{function_part}
-use Rattle.gj_ftext.specs.FunctionText.{title_words, end_words, function_text, whole_function_text, IsFunctionText, IsWholeFunctionText}
+use Rattle.gj_ftext.specs.FunctionText.{title_words, end_words, family_part, body_part, function_text, whole_function_text, IsFunctionText, IsWholeFunctionText}
 use Rattle.gj_ftext.specs.FirstFault.{IsFirstFault, IsFirstFaultOfWhole}
 use Rattle.gj_lines.proofs.ExactFunctions.{function_part_is_exact}
+use Rattle.gj_ftext.proofs.FamilyLines.{family_part_is_exact}
+use Rattle.gj_ftext.proofs.FirstWords.{by_first_word_is_exact}
+
+body_part_is_exact : IsExactPart body_part.Reads body_part.Faults
+body_part_is_exact =
+    by_first_word_is_exact Lenient (codes "family") family_part (function_part Lenient) family_part_is_exact
+    (function_part_is_exact Lenient)
 
 pub function_text_is_exact : IsExactPart function_text.Reads function_text.Faults
-function_text_is_exact = framed_part_is_exact Lenient title_words (function_part Lenient) end_words (function_part_is_exact Lenient)
+function_text_is_exact = framed_part_is_exact Lenient title_words body_part end_words body_part_is_exact
 
 pub whole_function_text_is_exact : IsExactPart whole_function_text.Reads whole_function_text.Faults
 whole_function_text_is_exact =

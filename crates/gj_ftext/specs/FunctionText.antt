@@ -1,10 +1,12 @@
--- Function text: the lines of a function in their lenient and in their one canonical spelling (own).
+-- Function text: a function by its points or as one of a family, in lenient spelling, and its one canonical text (own).
 use Rattle.std.specs.Prelude.{ℕ, ◌≡◌, List, [], ◌∷◌, ◌++◌, codes}
-use Rattle.gj_lex.specs.Parts.{Part, framed_part, then_part, end_part}
+use Rattle.gj_lex.specs.Parts.{Part, line_part, framed_part, then_part, end_part}
 use Rattle.gj_lex.specs.declared.spelling.Spelling.TheVariants.{Lenient}
 use Rattle.gj_shape.specs.FunctionData.{FunctionData}
 use Rattle.gj_lines.specs.FunctionGrammar.{function_part}
 use Rattle.gj_lines.specs.FunctionLines.{line, AreFunctionLines}
+use Rattle.gj_ftext.specs.FamilyLine.{family_rule}
+use Rattle.gj_ftext.specs.ByFirstWord.{by_first_word}
 
 -- the words of the first and of the last line
 abbrev pub title_words : List (List ℕ)
@@ -13,9 +15,17 @@ title_words = codes "gj-function" ∷ codes "1" ∷ []
 abbrev pub end_words : List (List ℕ)
 end_words = codes "end" ∷ []
 
--- a function text: the line `gj-function 1`, the lines of a function, and the line `end`
+-- a line that names a function of a family
+abbrev pub family_part : Part FunctionData
+family_part = line_part Lenient family_rule
+
+-- what tells the function: such a line where the next one begins with `family`, and else its points
+abbrev pub body_part : Part FunctionData
+body_part = by_first_word Lenient (codes "family") family_part (function_part Lenient)
+
+-- a function text: the line `gj-function 1`, what tells the function, and the line `end`
 abbrev pub function_text : Part FunctionData
-function_text = framed_part Lenient title_words (function_part Lenient) end_words
+function_text = framed_part Lenient title_words body_part end_words
 
 -- a whole one: after it nothing follows
 abbrev pub whole_function_text : Part FunctionData

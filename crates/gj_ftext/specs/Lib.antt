@@ -1,3 +1,6 @@
+pub mod ByFirstWord
+pub mod FamilyLine
+pub mod FamilyRead
 pub mod FunctionText
 pub mod FirstFault
 pub mod LinesOfFunction

@@ -10,7 +10,10 @@ use Rattle.gj_shape.specs.FunctionData.{FunctionData, IsWithinBounds}
 use Rattle.gj_shape.specs.Points.{ArePointsOf}
 use Rattle.gj_shape.specs.declared.points.Point.{Point}
 use Rattle.gj_lines.specs.FunctionGrammar.{SpellPoint, order_words, place_words, point_words}
+use Rattle.gj_ftext.specs.FamilyLine.{FamilyWords, words_of_line, Names}
 use Rattle.gj_ftext.specs.FunctionText.{title_words, end_words}
+
+-- ---- functions by their points
 
 -- the lines are `gj-function 1`, `order Q`, `f F`, a line `point V` or `point L V R` for each point of the function f, and `end`
 pub record AreLinesOf (f : FunctionData) (lines : List (List (List ℕ))) : Type 0 where
@@ -32,3 +35,11 @@ pub record HasLinesOfFunction (text : List ℕ) (f : FunctionData) (rest : List 
   pub lines : List (List (List ℕ))
   pub has_lines : HasLines Lenient text lines rest
   pub are_lines : AreLinesOf f lines
+
+-- ---- functions of families
+
+-- the text has the lines `gj-function 1`, one that names the function f of a family, and `end`, and the rest follows
+pub record HasLinesOfFamily (text : List ℕ) (f : FunctionData) (rest : List ℕ) : Type 0 where
+  pub words : FamilyWords
+  pub names : Names words f
+  pub has_lines : HasLines Lenient text (title_words ∷ words_of_line words ∷ end_words ∷ []) rest

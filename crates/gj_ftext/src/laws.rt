@@ -1,10 +1,10 @@
 //! Laws of function texts.
-ghost use Rattle.std.specs.Prelude.{◌≡◌, ◌↔◌, ◌≤◌, ◌++◌, ℕ, List, length};
+ghost use Rattle.std.specs.Prelude.{◌≡◌, ◌↔◌, ◌⊎◌, ◌≤◌, ◌++◌, ℕ, List, length};
 ghost use Rattle.gj_lex.specs.declared.reason.Reason.{Reason};
 ghost use Rattle.gj_shape.specs.FunctionData.{FunctionData, IsWithinBounds};
 ghost use Rattle.gj_ftext.specs.FunctionText.{IsFunctionText, IsWholeFunctionText, IsCanonicalText};
 ghost use Rattle.gj_ftext.specs.FirstFault.{IsFirstFault, IsFirstFaultOfWhole};
-ghost use Rattle.gj_ftext.specs.LinesOfFunction.{HasLinesOfFunction};
+ghost use Rattle.gj_ftext.specs.LinesOfFunction.{HasLinesOfFunction, HasLinesOfFamily};
 
 /// A text begins with the function text of one function at most, and that ends at one place.
 pub fn one_function_text()
@@ -38,9 +38,11 @@ pub fn one_first_fault()
 {}
 
 /// A text is a function text exactly where it has the lines `gj-function 1`, `order Q`, `f F`, a line for each point of
-/// a function within the bounds, and `end`, with lines that are skipped only before each.
+/// a function within the bounds, and `end`, or `gj-function 1`, a line that names a function of a family, and `end`;
+/// with lines that are skipped only before each.
 pub fn function_text_is_lines()
-    ensures { (text : List ℕ) (f : FunctionData) (rest : List ℕ) → IsFunctionText text f rest ↔ HasLinesOfFunction text f rest }
+    ensures { (text : List ℕ) (f : FunctionData) (rest : List ℕ) →
+        IsFunctionText text f rest ↔ (HasLinesOfFunction text f rest ⊎ HasLinesOfFamily text f rest) }
 {}
 
 /// The canonical text of a function has at most 1,000,000 bytes.

@@ -1,6 +1,12 @@
 //! Function text: read in any of its spellings, and printed in one.
+//!
+//! `read_function` reads a function text at the front of bytes, `read_whole_function` one after which nothing may follow, and
+//! `write_function` prints the canonical text. The form stands in `specs/FunctionText.antt` as a part made of lines: the
+//! title, the lines of a function or one line that names a function of a family, and `end`.
 #![tactic(auto)]
 
+mod body;
+mod family;
 mod faults;
 mod laws;
 mod read;

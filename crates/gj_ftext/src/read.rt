@@ -5,13 +5,16 @@ ghost use Rattle.gj_shape.specs.FunctionData.{FunctionData};
 ghost use Rattle.gj_ftext.specs.FunctionText.{function_text, whole_function_text, IsFunctionText, IsWholeFunctionText};
 ghost use Rattle.gj_ftext.specs.FirstFault.{IsMemoryFault, NamesFirstFault, NamesFirstFaultOfWhole};
 
+use crate::body::body_at;
 use crate::faults::TextFault;
 use gj_lex::{PartFault, Spelling, end_at, line_number, words_at};
-use gj_lines::function_at;
 use gj_shape::Shape;
 use std::alloc::Global;
 
 /// The function whose function text is at the front of the bytes, and the number of bytes up to and with the line `end`.
+///
+/// Between the lines `gj-function 1` and `end` the function is told by the lines of its order, of its f and of its points, or by
+/// one line `family gmic F`, `family half F` or `family two-slope K SIGNS`.
 ///
 /// `Refused` has the line and the reason of the first fault, and comes exactly where no first lines of the bytes are a function text.
 ///
@@ -72,7 +75,7 @@ fn function_text_at(alloc: Global, text: &[u8]) -> Result<(Shape, &[u8]), PartFa
     ensures fault { IfErr result (IsFaultOf function_text text.now) }
 {
     let rest = words_at(Spelling::Lenient, text, b"gj-function 1")?;
-    let (shape, rest) = function_at(alloc, Spelling::Lenient, rest)?;
+    let (shape, rest) = body_at(alloc, rest)?;
     let rest = words_at(Spelling::Lenient, rest, b"end")?;
     Ok((shape, rest))
 }

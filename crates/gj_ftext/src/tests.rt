@@ -24,6 +24,29 @@ fn reads_every_spelling(rt: HostRuntime) -> Result<(), Fail> {
 }
 
 #[test]
+fn reads_families(rt: HostRuntime) -> Result<(), Fail> {
+    let texts: [(&[u8], &[u8]); 3] = [
+        (
+            b"gj-function 1\nfamily half 1/2\nend\n",
+            b"gj-function 1\norder 2\nf 1/2\npoint 1/2 0 1/2\npoint 1/2 1 1/2\nend\n",
+        ),
+        (
+            b"# Gomory\ngj-function 1\n\tfamily  gmic 0.6\nend\n",
+            b"gj-function 1\norder 5\nf 3/5\npoint 0\npoint 1/3\npoint 2/3\npoint 1\npoint 1/2\nend\n",
+        ),
+        (
+            b"gj-function 1\nfamily two-slope 05 ++-++---\nend\n",
+            b"gj-function 1\norder 8\nf 5/8\npoint 0\npoint 1/3\npoint 2/3\npoint 1/3\npoint 2/3\npoint 1\npoint 2/3\npoint 1/3\nend\n",
+        ),
+    ];
+    for (text, written) in texts {
+        let shape = read_whole_function(rt.alloc(), text)?;
+        assert_eq!(rt; write_function(rt.alloc(), &shape)?.as_slice(), written);
+    }
+    Ok(())
+}
+
+#[test]
 fn keeps_jumps(rt: HostRuntime) -> Result<(), Fail> {
     let text = b"gj-function 1\norder 2\nf 1/2\npoint -1/2 0 0.75\npoint 1\nend\n";
     let shape = read_whole_function(rt.alloc(), text)?;
@@ -60,7 +83,7 @@ fn counts_the_bytes_up_to_the_end(rt: HostRuntime) -> Result<(), Fail> {
 
 #[test]
 fn names_the_first_fault(rt: HostRuntime) -> Result<(), Fail> {
-    let texts: [(&[u8], u64, Reason); 30] = [
+    let texts: [(&[u8], u64, Reason); 39] = [
         (b"", 1, Reason::Form),
         (b"# nothing\n\n", 3, Reason::Form),
         (b"gj-function 2\n", 1, Reason::Form),
@@ -68,7 +91,20 @@ fn names_the_first_fault(rt: HostRuntime) -> Result<(), Fail> {
         (b"gj-function 1 # first\n", 1, Reason::Form),
         (b"gj-function 1\n", 2, Reason::Form),
         (b"gj-function 1", 1, Reason::Form),
-        (b"gj-function 1\nfamily gmic 1/2\n", 2, Reason::Form),
+        (b"gj-function 1\nfamily gmic 1/2\n", 3, Reason::Form),
+        (b"gj-function 1\nfamily gmic\n", 2, Reason::Form),
+        (b"gj-function 1\nfamily zigzag 1/2\n", 2, Reason::Form),
+        (b"gj-function 1\nfamily gmic x\n", 2, Reason::Number),
+        (b"gj-function 1\nfamily gmic 1\n", 2, Reason::BadF),
+        (b"gj-function 1\nfamily gmic 1/1001\n", 2, Reason::Pieces),
+        (b"gj-function 1\nfamily half 1002/1001\n", 2, Reason::BadF),
+        (b"gj-function 1\nfamily two-slope 1 ++\n", 2, Reason::Slopes),
+        (b"gj-function 1\nfamily two-slope 1 +\n", 2, Reason::Signs),
+        (
+            b"gj-function 1\nfamily two-slope 99999999999999999999 +-\n",
+            2,
+            Reason::BadF,
+        ),
         (b"gj-function 1\norder 2 3\n", 2, Reason::Form),
         (b"gj-function 1\norder two\n", 2, Reason::Number),
         (b"gj-function 1\norder -2\n", 2, Reason::Number),

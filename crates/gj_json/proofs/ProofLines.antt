@@ -35,15 +35,6 @@ pub record LinesSoFar (text : List ℕ) (n : ℕ) (vs : List Value) (line : List
   pub line_printable : All IsPrintable line
   pub are : items_view vs ≡ strings lines
 
-pub none_so_far : (text : List ℕ) (vs : List Value) (line : List ℕ) → vs ≡ [] → line ≡ [] → LinesSoFar text 0 vs line
-none_so_far text vs line e g = record {
-  lines = [];
-  joined = sym g;
-  printable = All-nil (All IsPrintable);
-  line_printable = subst (All IsPrintable) (sym g) (All-nil IsPrintable);
-  are = ap items_view e;
-}
-
 pub line_ended : (text : List ℕ) (n : ℕ) (vs ws : List Value) (line more : List ℕ) (v : Value) (b : ℕ) → n < length text →
     b ≡ get_or text n b → b ≡ 10 → LinesSoFar text n vs line → view v ≡ string line → ws ≡ vs ++ v ∷ [] → more ≡ [] →
     LinesSoFar text (n + 1) ws more

@@ -20,9 +20,6 @@ one_more vs n v xs x some so_far is h =
     subst (λ ds. AllZip Spells ds (xs ++ x ∷ [])) (sym next)
     (all_zipped_more Spells (map view (take n vs)) xs (view v) x so_far h)
 
-pub all_of_them : (vs : List Value) (n : ℕ) (xs : List Frac) → length vs ≤ n → SpellSoFar vs n xs → AllZip Spells (map view vs) xs
-all_of_them vs n xs most h = subst (λ ws. AllZip Spells (map view ws) xs) (take_all n vs most) h
-
 -- an entry that spells none
 pub none_at : (vs : List Value) (n : ℕ) (v : Value) → n < length vs → v ≡ get_or vs n v → ((x : Frac) → Spells (view v) x → ⊥) →
     (xs : List Frac) → AllZip Spells (map view vs) xs → ⊥

@@ -34,9 +34,6 @@ pub record StringsSoFar (scale : ℕ) (ns : List ℤ) (n : ℕ) (vs : List Value
   pub ratios : AreRatios scale fractions (take n ns)
   pub are : items_view vs ≡ fraction_strings fractions
 
-pub none_so_far : (scale : ℕ) (ns : List ℤ) (vs : List Value) → vs ≡ [] → StringsSoFar scale ns 0 vs
-none_so_far scale ns vs e = record { fractions = []; ratios = tt; are = ap items_view e }
-
 abbrev first_of_items : Data → Items → Data
 first_of_items c no_items = c
 first_of_items c (item b bs) = b

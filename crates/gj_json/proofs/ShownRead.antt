@@ -15,7 +15,7 @@ use Rattle.gj_shape.specs.KeptPoints.{points_of}
 use Rattle.gj_shape.specs.Points.{lefts, values, rights, ArePointsOf}
 use Rattle.gj_shape.proofs.GivenFractions.{given_as}
 use Rattle.gj_shape.proofs.GivenPoints.{given_by_points}
-use Rattle.gj_shape.proofs.PointLists.{HaveLists}
+use Rattle.gj_shape.proofs.PointLists.{HaveLists, have_lists}
 use Rattle.serde_json.specs.Data.{Data, string, array, object, number, unsigned, member, no_members}
 use Rattle.gj_json.specs.JsonFunction.{list_of, IsKey, IsEntry, AreEntries, HasForm, Spells, HasFractions, SaysFunction}
 use Rattle.gj_json.specs.JsonText.{fraction_strings, AreRatios, function_value, IsValueOf}
@@ -83,20 +83,6 @@ shown_fractions q p l v r a b c = record {
 }
 
 -- ---- the function
-
-have_lists : (l v r : List Frac) → length v ≡ length l → length r ≡ length l → HaveLists (points_of l v r) l v r
-have_lists [] [] [] a b = record { left_are = refl; value_are = refl; right_are = refl }
-have_lists [] (y ∷ v) r a b = absurd (omega (arith, a))
-have_lists [] [] (z ∷ r) a b = absurd (omega (arith, b))
-have_lists (x ∷ l) [] r a b = absurd (omega (arith, a))
-have_lists (x ∷ l) (y ∷ v) [] a b = absurd (omega (arith, b))
-have_lists (x ∷ l) (y ∷ v) (z ∷ r) a b =
-    let h = have_lists l v r (omega (arith, a)) (omega (arith, b)) in
-    record {
-      left_are = ap (λ xs. x ∷ xs) h.left_are;
-      value_are = ap (λ xs. y ∷ xs) h.value_are;
-      right_are = ap (λ xs. z ∷ xs) h.right_are;
-    }
 
 given_by_ratios : (f : FunctionData) (l v r : List Frac) → IsWithinBounds f → length l ≡ f.order → length v ≡ f.order →
     length r ≡ f.order → AreRatios f.scale l f.left → AreRatios f.scale v f.value → AreRatios f.scale r f.right →

@@ -173,12 +173,6 @@ canonical_count Strict n small = (
 
 -- ---- a strict word is a lenient one
 
-pub strict_fraction_is_lenient : (w : List ℕ) (x : Frac) → IsFractionWord Strict w x → IsFractionWord Lenient w x
-strict_fraction_is_lenient w x h = subst (λ t. IsFractionWord Lenient t x) (sym h) (canonical_fraction Lenient x)
-
-pub strict_count_is_lenient : (w : List ℕ) (n : ℕ) → IsCountWord Strict w n → IsCountWord Lenient w n
-strict_count_is_lenient w n h = count_is_numeral Strict w n h
-
 -- ---- words of a line
 
 pub fraction_is_plain : (x : Frac) → IsPlain (fraction_text x)

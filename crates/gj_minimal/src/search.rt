@@ -28,6 +28,11 @@ use gj_shape::{Shape, Violation};
 ///
 /// Where a limit fails, the violation is shown at a point near the end or the corner, at the multiples of 1/(q h) with
 /// the least h. All points shown are from 0 to below 1, and q h is at most 2^62. It takes no memory.
+///
+/// ```text
+/// // order 5, f = 3/5, values 0, 1/10, 9/10, 1, 1/2: 1/10 + 1/10 is less than 9/10
+/// find_violation(&shape) == Some(Violation::Superadditive(1/5, 1/5))
+/// ```
 pub fn find_violation(shape: &Shape) -> Option<Violation>
     ensures first { IfSome result (IsFirstViolation shape.now) }
     ensures shown { IfSome result (ShowsViolation shape.now) }

@@ -24,7 +24,7 @@ pub record HaveLists (points : List Point) (ls vs rs : List Frac) : Type 0 where
   pub value_are : values points ≡ vs
   pub right_are : rights points ≡ rs
 
-have_lists : (ls vs rs : List Frac) → length vs ≡ length ls → length rs ≡ length ls → HaveLists (points_of ls vs rs) ls vs rs
+pub have_lists : (ls vs rs : List Frac) → length vs ≡ length ls → length rs ≡ length ls → HaveLists (points_of ls vs rs) ls vs rs
 have_lists =
     by_threes (λ ls vs rs. HaveLists (points_of ls vs rs) ls vs rs)
     (record { left_are = refl; value_are = refl; right_are = refl }) (λ l v r ls vs rs h.

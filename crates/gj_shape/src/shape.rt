@@ -58,7 +58,7 @@ impl Shape {
     /// The tests come in this order, and the first that fails is the error: `q` from 2 to 1,000; `k` from 1 to
     /// `q - 1`; each list of length `q`; then for each index the limit from the left, the value and the limit from
     /// the right, each at most 2^20 in absolute value, and then with a common denominator of all so far that is at
-    /// most 2^31 - 1. Memory is taken last.
+    /// most 2^31 - 1.
     pub fn new(
         alloc: Global,
         q: u32,
