@@ -8,10 +8,11 @@ use Rattle.gj_lex.specs.SpelledNumbers.{IsFractionWord}
 use Rattle.gj_lex.specs.declared.spelling.Spelling.TheVariants.{Lenient}
 use Rattle.gj_lex.proofs.SpelledWords.{one_fraction}
 use Rattle.gj_lines.proofs.OneTextOfLines.{one_place}
+use Rattle.gj_tools.proofs.FirstThatFails.{first_failing_denies}
 use Rattle.gj_shape.specs.FunctionData.{FunctionData}
-use Rattle.gj_shape.specs.Given.{IsGivenBy, HaveLength}
-use Rattle.gj_shape.specs.declared.faults.ShapeFault.TheVariants as fault
-use Rattle.gj_shape.proofs.GivenLists.{no_fault_given}
+use Rattle.gj_shape.specs.Given.{AreWithinBounds, IsGivenBy}
+use Rattle.gj_shape.proofs.GivenLists.{within_given}
+use Rattle.gj_shape.proofs.LeastDenominator.{within_bounds_closed}
 use Rattle.gj_shape.proofs.OneFunction.{same_from_given}
 use Rattle.serde_json.specs.Data.{Data}
 use Rattle.gj_json.specs.JsonFunction.{Spells, HasFractions, GivesFunction, SaysFunction, HasValue, IsJsonFunction}
@@ -90,9 +91,6 @@ one_function text f g (d, h, s) (e, j, t) = one_said d f g s (subst (λ x. SaysF
 
 -- ---- no refusal
 
-given_lengths : (d : Data) (p : Frac) (ls vs rs : List Frac) → HasFractions d p ls vs rs → HaveLength ls vs rs (length vs)
-given_lengths d p ls vs rs h = (left_long d p ls vs rs h, refl, right_long d p ls vs rs h)
-
 no_refusal_given : (d : Data) (p : Frac) (ls vs rs : List Frac) (f : FunctionData) (e : JsonReason) → HasFractions d p ls vs rs →
     GivesFunction p ls vs rs f → RefusesFractions p ls vs rs e → ⊥
 no_refusal_given d p ls vs rs f Syntax h g r = r
@@ -100,10 +98,10 @@ no_refusal_given d p ls vs rs f Form h g r = r
 no_refusal_given d p ls vs rs f Number h g r = r
 no_refusal_given d p ls vs rs f Order h g r = r g.order_fits
 no_refusal_given d p ls vs rs f Place h g r = r.1 (g.k, g.place_fits, g.place_is)
-no_refusal_given d p ls vs rs f Large h g (order, place, (i, large)) =
-    no_fault_given (length vs) g.k ls vs rs f (fault.TooLarge i) g.given (order, g.place_fits, given_lengths d p ls vs rs h, large)
-no_refusal_given d p ls vs rs f Fine h g (order, place, (i, fine)) =
-    no_fault_given (length vs) g.k ls vs rs f (fault.TooFine i) g.given (order, g.place_fits, given_lengths d p ls vs rs h, fine)
+no_refusal_given d p ls vs rs f Large h g (order, place, (i, (before, x, first, large))) =
+    first_failing_denies AreWithinBounds within_bounds_closed _ before x first.first (within_given (length vs) g.k ls vs rs f g.given)
+no_refusal_given d p ls vs rs f Fine h g (order, place, (i, (before, x, first, small))) =
+    first_failing_denies AreWithinBounds within_bounds_closed _ before x first.first (within_given (length vs) g.k ls vs rs f g.given)
 
 no_fractions_refused : (d : Data) (f : FunctionData) (e : JsonReason) → SaysFunction d f → HasRefusedFractions d e → ⊥
 no_fractions_refused d f e h (q, ms, ws, ts, has, r) =
