@@ -3,12 +3,11 @@ use Rattle.std.proofs.Common.{◌≡◌, ℕ, ◌≤◌, List, length, sym, subs
 use Rattle.gj_lex.specs.declared.reason.Reason.{Reason}
 use Rattle.gj_shape.specs.FunctionData.{FunctionData, IsWithinBounds}
 use Rattle.gj_shape.specs.declared.violations.Violation.{Violation}
-use Rattle.gj_ftext.specs.FunctionText.{IsWholeFunctionText, IsCanonicalText}
-use Rattle.gj_ftext.specs.FirstFault.{IsFirstFaultOfWhole}
-use Rattle.gj_ftext.proofs.Canonical.{canonical_text_is_whole, canonical_text_is_short}
+use Rattle.gj_ftext.specs.FunctionText.{IsWholeFunctionText}
+pub use Rattle.gj_ftext.proofs.Canonical.{canonical_text_is_whole as canonical_text_is_read, canonical_text_is_short as shown_text_is_short}
 use Rattle.gj_ftext.proofs.FunctionTexts.{function_is_within}
-use Rattle.gj_ftext.proofs.OneCanonical.{one_canonical_text}
-use Rattle.gj_ftext.proofs.OneText.{one_whole_function, no_fault_of_whole}
+pub use Rattle.gj_ftext.proofs.OneCanonical.{one_canonical_text as one_canonical}
+pub use Rattle.gj_ftext.proofs.OneText.{one_whole_function as one_function, no_fault_of_whole as function_text_has_no_fault}
 use Rattle.gj_proof.specs.ProofText.{IsProofText}
 use Rattle.gj_proof.specs.FirstFault.{IsFirstFault}
 use Rattle.gj_proof.specs.declared.claim.Claim.{Claim}
@@ -19,25 +18,9 @@ use Rattle.gj_top.specs.Forms.{IsProofOf}
 
 -- ---- function texts
 
-pub one_function : (input : List ℕ) (f g : FunctionData) → IsWholeFunctionText input f → IsWholeFunctionText input g → f ≡ g
-one_function = one_whole_function
-
 pub function_is_bounded : (input : List ℕ) (f : FunctionData) → IsWholeFunctionText input f → IsWithinBounds f
 function_is_bounded input f (r, (g, rest, read, (same, at, nothing))) =
     subst IsWithinBounds (sym same) (function_is_within input g rest read)
-
-pub function_text_has_no_fault : (input : List ℕ) (f : FunctionData) (n : ℕ) (reason : Reason) → IsWholeFunctionText input f →
-    IsFirstFaultOfWhole input n reason → ⊥
-function_text_has_no_fault = no_fault_of_whole
-
-pub canonical_text_is_read : (f : FunctionData) (text : List ℕ) → IsWithinBounds f → IsCanonicalText text f → IsWholeFunctionText text f
-canonical_text_is_read = canonical_text_is_whole
-
-pub one_canonical : (f : FunctionData) (a b : List ℕ) → IsWithinBounds f → IsCanonicalText a f → IsCanonicalText b f → a ≡ b
-one_canonical = one_canonical_text
-
-pub shown_text_is_short : (f : FunctionData) (text : List ℕ) → IsWithinBounds f → IsCanonicalText text f → length text ≤ 1000000
-shown_text_is_short = canonical_text_is_short
 
 -- ---- proof texts
 
