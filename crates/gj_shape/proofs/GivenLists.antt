@@ -1,14 +1,13 @@
 -- A function that is given by three lists of fractions: their lengths and sizes, and that they have no fault.
-use Rattle.std.proofs.Common.{◌≡◌, ℕ, List, length, All, sym, ap, ◌∙◌, arith}
+use Rattle.std.proofs.Common.{◌≡◌, ℕ, List, length, All, sym, ap, ◌∙◌}
 use Rattle.std.proofs.lemmas.List.{length-map}
 use Rattle.gj_frac.specs.declared.Frac.{Frac}
-use Rattle.gj_tools.proofs.FirstThatFails.{first_failing_denies}
 use Rattle.gj_shape.specs.FunctionData.{FunctionData}
-use Rattle.gj_shape.specs.Given.{in_order, IsSmall, AreWithinBounds, HaveLength, HasFault, numerator_over, IsGivenBy}
+use Rattle.gj_shape.specs.Given.{in_order, IsSmall, AreWithinBounds, HaveLength, numerator_over, IsGivenBy}
 use Rattle.gj_shape.specs.declared.faults.ShapeFault.{ShapeFault}
 use Rattle.gj_shape.specs.declared.faults.ShapeFault.TheVariants as fault
 use Rattle.gj_shape.proofs.InOrder.{all_in_order, all_from_in_order}
-use Rattle.gj_shape.proofs.LeastDenominator.{Divides, within_bounds_closed}
+use Rattle.gj_shape.proofs.LeastDenominator.{Divides}
 use Rattle.gj_shape.proofs.OverScale.{all_small}
 
 lengths_given : (q k : ℕ) (l v r : List Frac) (f : FunctionData) → IsGivenBy q k l v r f → HaveLength l v r q

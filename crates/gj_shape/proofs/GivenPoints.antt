@@ -1,5 +1,5 @@
 -- The points of a function: they give it, it gives them, and a point among them has no fault.
-use Rattle.std.proofs.Common.{◌≡◌, ℕ, ◌<◌, List, [], ◌∷◌, ◌++◌, length, ℤ, pos, refl, sym, subst, subst₂, ◌∙◌, append_assoc, arith}
+use Rattle.std.proofs.Common.{◌≡◌, ℕ, ◌<◌, List, [], ◌∷◌, ◌++◌, length, ℤ, pos, refl, sym, subst, ◌∙◌, append_assoc, arith}
 use Rattle.std.specs.List.{AllZip}
 use Rattle.std.proofs.lemmas.List.{length-map}
 use Rattle.std.proofs.lemmas.List.Concat.{flat_map-append}
@@ -19,7 +19,6 @@ use Rattle.gj_shape.specs.declared.points.PointFault.TheVariants.{Large, Fine, M
 use Rattle.gj_shape.proofs.GivenLists.{within_given}
 use Rattle.gj_shape.proofs.InOrder.{all_in_order, all_from_in_order}
 use Rattle.gj_shape.proofs.LeastDenominator.{Divides, within_bounds_closed}
-use Rattle.gj_shape.proofs.OneFunction.{same_from_given}
 use Rattle.gj_shape.proofs.OverScale.{IsOver, all_over, all_divide, all_numerators}
 use Rattle.gj_shape.proofs.PointLists.{fractions_in_order}
 

@@ -14,9 +14,9 @@ IsTight f a b = at f.value a +ℤ at f.value b ≡ at f.value (a + b)
 abbrev pub IsTightOnGrid : FunctionData → ℕ → ℕ → ℕ → Type 0
 IsTightOnGrid f m i j = table f m i +ℤ table f m j ≡ table f m (i + j)
 
--- each corner of the face is a tight pair
-abbrev pub IsAdditive : FunctionData → FaceKind → ℕ → ℕ → Type 0
-IsAdditive f kind a b = All (λ corner. IsTight f corner.0 corner.1) (corners_of kind a b)
+-- each corner of the face is one of these pairs; the face of the function f is additive where each is a tight pair of f
+abbrev pub IsAdditive : (ℕ → ℕ → Type 0) → FaceKind → ℕ → ℕ → Type 0
+IsAdditive Tight kind a b = All (λ corner. Tight corner.0 corner.1) (corners_of kind a b)
 
 -- ---- closures
 
@@ -54,8 +54,8 @@ pub record IsSameFace (q : ℕ) (first second : FaceKind × ℕ × ℕ) : Type 0
   pub first_index : first.1 % q ≡ second.1 % q
   pub second_index : first.2 % q ≡ second.2 % q
 
--- the face is additive, and lies in the closure of no additive face of higher dimension
-pub record IsMaximalFace (f : FunctionData) (kind : FaceKind) (a b : ℕ) : Type 0 where
-  pub additive : IsAdditive f kind a b
-  pub maximal : (other : FaceKind) (c d : ℕ) → IsAdditive f other c d →
-      All (λ face. IsSameFace f.order face (kind, a, b) → ⊥) (border_of other c d)
+-- the face of the complex of order q is additive, and lies in the closure of no additive face of higher dimension
+pub record IsMaximalFace (q : ℕ) (Tight : ℕ → ℕ → Type 0) (kind : FaceKind) (a b : ℕ) : Type 0 where
+  pub additive : IsAdditive Tight kind a b
+  pub maximal : (other : FaceKind) (c d : ℕ) → IsAdditive Tight other c d →
+      All (λ face. IsSameFace q face (kind, a, b) → ⊥) (border_of other c d)

@@ -1,89 +1,134 @@
 -- Plain elimination over whole numbers without bound, with the numbers that must not pass 2^127 - 1 (own). It decides the
 -- bytes of a proof and when numbers are too wide, never what a claim means.
-use Rattle.std.specs.Prelude.{ℕ, ℤ, pos, neg_ℤ, ◌≡◌, ◌≢◌, ◌⊎◌, ◌+◌, ◌==◌, ◌<◌, ◌≤◌, ◌^◌, ◌+ℤ◌, ◌-ℤ◌, ◌*ℤ◌, ◌<ℤ◌, if◌then◌else◌, Option, None, Some, List, [], ◌∷◌, ◌++◌, All, Any, Contains, map, zip, drop, length, get_or, slice_set, unsigned_abs}
-use Rattle.std.specs.List.{range_with_len}
-use Rattle.std.specs.Int.{◌∣◌, IsGcd}
+use Rattle.std.specs.Prelude.{ℕ, zero, suc, ℤ, pos, neg_ℤ, ◌+◌, ◌==◌, ◌≤◌, nat_le, ◌^◌, ◌+ℤ◌, ◌-ℤ◌, ◌*ℤ◌, int_div, int_lt, not, if◌then◌else◌, Option, None, Some, List, [], ◌∷◌, ◌++◌, Any, map, zip, drop, length, get_or, slice_set, unsigned_abs}
+use Rattle.std.specs.List.{range_with_len, find, list_any}
+use Rattle.std.specs.Ordering.{int_eq}
+use Rattle.gj_tools.specs.Divisors.{gcd_of}
 use Rattle.gj_shape.specs.SlopeRows.{total}
-use Rattle.gj_shape.specs.declared.extremality.RowName.{RowName}
 
 -- the entry at a column, 0 past the end
 abbrev pub at_column : List ℤ → ℕ → ℤ
 at_column row c = get_or row c (pos 0)
 
--- g is the greatest common divisor of all entries
-pub record IsGcdOfAll (row : List ℤ) (g : ℕ) : Type 0 where
-  pub divides : All (λ n. g ∣ unsigned_abs n) row
-  pub greatest : (d : ℕ) → All (λ n. d ∣ unsigned_abs n) row → d ∣ g
+-- the greatest common divisor of all entries; 0 where all are 0
+pub gcd_of_row : List ℤ → ℕ
+gcd_of_row [] = 0
+gcd_of_row (x ∷ xs) = gcd_of (unsigned_abs x) (gcd_of_row xs)
 
 -- the row divided by the greatest common divisor of its entries; a row of zeros stays
-abbrev pub IsDivided : List ℤ → List ℤ → Type 0
-IsDivided row divided =
-    (IsGcdOfAll row 0 × (divided ≡ row))
-    ⊎ ((g : ℕ) × (0 < g) × IsGcdOfAll row g × (row ≡ map (λ n. pos g *ℤ n) divided))
-
--- a row that is kept: its name, the columns at which it was reduced, the column of its pivot, and its entries
-pub record KeptRow : Type 0 where
-  pub name : RowName
-  pub reduce : List ℕ
-  pub pivot : ℕ
-  pub entries : List ℤ
-
--- ---- one step
+unfoldable pub divided : List ℤ → List ℤ
+divided row = if gcd_of_row row == 0 then row else map (λ x. int_div x (pos (gcd_of_row row))) row
 
 abbrev pub scaled : ℤ → List ℤ → List ℤ
-scaled u row = map (λ n. u *ℤ n) row
+scaled u row = map (λ x. u *ℤ x) row
 
 abbrev pub differences : List ℤ → List ℤ → List ℤ
 differences xs ys = map (λ p. p.0 -ℤ p.1) (zip xs ys)
 
--- at the column c, where the row and the kept row have v and e with the greatest common divisor g, the row becomes e/g
--- times it less v/g times the kept row, divided; marked are the products and their differences
-pub record IsReduced (kept row : List ℤ) (c : ℕ) (next marked : List ℤ) : Type 0 where
-  pub g : ℕ
-  pub u : ℤ
-  pub w : ℤ
-  pub is_gcd : IsGcd (unsigned_abs (at_column row c)) (unsigned_abs (at_column kept c)) g
-  pub u_is : at_column kept c ≡ u *ℤ pos g
-  pub w_is : at_column row c ≡ w *ℤ pos g
-  pub divided : IsDivided (differences (scaled u row) (scaled w kept)) next
-  pub marked_are : marked ≡ scaled u row ++ scaled w kept ++ differences (scaled u row) (scaled w kept)
+-- ---- one step
 
--- the row divided, with a positive entry at its pivot
-abbrev pub IsKeptAs : List ℤ → ℕ → List ℤ → Type 0
-IsKeptAs row c entries = (pos 0 <ℤ at_column entries c) × (IsDivided row entries ⊎ IsDivided (map neg_ℤ row) entries)
+-- at a column where the row has v and the kept row e, with the greatest common divisor g: the factors e/g of the row and
+-- v/g of the kept row
+abbrev pub row_factor : List ℤ → List ℤ → ℕ → ℤ
+row_factor kept row c =
+    int_div (at_column kept c) (pos (gcd_of (unsigned_abs (at_column row c)) (unsigned_abs (at_column kept c))))
+
+abbrev pub kept_factor : List ℤ → List ℤ → ℕ → ℤ
+kept_factor kept row c =
+    int_div (at_column row c) (pos (gcd_of (unsigned_abs (at_column row c)) (unsigned_abs (at_column kept c))))
+
+-- the row times its factor, less the kept row times its own: 0 at the column
+unfoldable pub eliminated : List ℤ → List ℤ → ℕ → List ℤ
+eliminated kept row c = differences (scaled (row_factor kept row c) row) (scaled (kept_factor kept row c) kept)
+
+-- the row after the step
+unfoldable pub reduced : List ℤ → List ℤ → ℕ → List ℤ
+reduced kept row c = divided (eliminated kept row c)
+
+-- the numbers that the step marks: the products and their differences
+unfoldable pub marked_in_step : List ℤ → List ℤ → ℕ → List ℤ
+marked_in_step kept row c =
+    scaled (row_factor kept row c) row ++ scaled (kept_factor kept row c) kept ++ eliminated kept row c
 
 -- ---- one row
 
--- from the column c on, the row is reduced by the kept rows at these columns, with these marked numbers, and then kept
--- with a pivot and entries, or nothing is left of it
-pub data Inserts (n : ℕ) (kept : List KeptRow) : ℕ → List ℤ → Option (ℕ × List ℤ) → List ℕ → List ℤ → Type 0 where
-  nothing : (c : ℕ) (row : List ℤ) → n ≤ c → Inserts n kept c row None [] []
-  zero_at : (c : ℕ) (row : List ℤ) (result : Option (ℕ × List ℤ)) (reduce : List ℕ) (marked : List ℤ) → c < n →
-      at_column row c ≡ pos 0 → Inserts n kept (c + 1) row result reduce marked → Inserts n kept c row result reduce marked
-  reduced_at : (c : ℕ) (row next : List ℤ) (k : KeptRow) (result : Option (ℕ × List ℤ)) (reduce : List ℕ) (first later : List ℤ) →
-      c < n → at_column row c ≢ pos 0 → Contains kept k → k.pivot ≡ c → IsReduced k.entries row c next first →
-      Inserts n kept (c + 1) next result reduce later → Inserts n kept c row result (c ∷ reduce) (first ++ later)
-  kept_at : (c : ℕ) (row entries : List ℤ) → c < n → at_column row c ≢ pos 0 → All (λ k. k.pivot ≢ c) kept →
-      IsKeptAs row c entries → Inserts n kept c row (Some (c, entries)) [] []
+-- a row that is kept: its number among the rows that were inserted, from 0, the columns at which it was reduced, the column
+-- of its pivot, and its entries
+pub record KeptRow : Type 0 where
+  pub number : ℕ
+  pub reduce : List ℕ
+  pub pivot : ℕ
+  pub entries : List ℤ
+
+-- the kept row with its pivot at the column
+abbrev pub row_with_pivot : List KeptRow → ℕ → Option KeptRow
+row_with_pivot kept c = find (λ k. k.pivot == c) kept
+
+-- the entries as they are kept: divided, with a positive one at the pivot
+unfoldable pub kept_entries : List ℤ → ℕ → List ℤ
+kept_entries row c = if int_lt (at_column row c) (pos 0) then map neg_ℤ (divided row) else divided row
+
+-- what becomes of a row: the columns at which it is reduced, the pivot and the entries with which it is kept, where
+-- anything is left of it, and the marked numbers
+pub record Insertion : Type 0 where
+  pub reduce : List ℕ
+  pub kept : Option (ℕ × List ℤ)
+  pub marked : List ℤ
+
+-- behind a step at the column c
+abbrev pub behind_step : ℕ → List ℤ → Insertion → Insertion
+behind_step c first i = record { reduce = c ∷ i.reduce; kept = i.kept; marked = first ++ i.marked }
+
+-- at a column where the row is not 0: it is reduced by the kept row with this pivot, and goes on, or it is kept
+unfoldable pub inserted_at : Option KeptRow → ℕ → List ℤ → (List ℤ → Insertion) → Insertion
+inserted_at (Some k) c row onward = behind_step c (marked_in_step k.entries row c) (onward (reduced k.entries row c))
+inserted_at None c row onward = record { reduce = []; kept = Some (c, kept_entries row c); marked = [] }
+
+-- the row goes through the columns in turn
+unfoldable pub insertion : List KeptRow → List ℕ → List ℤ → Insertion
+insertion kept [] row = record { reduce = []; kept = None; marked = [] }
+insertion kept (c ∷ columns) row =
+    if int_eq (at_column row c) (pos 0)
+    then insertion kept columns row
+    else inserted_at (row_with_pivot kept c) c row (insertion kept columns)
+
+-- the row of n columns is inserted
+abbrev pub inserted : ℕ → List KeptRow → List ℤ → Insertion
+inserted n kept row = insertion kept (range_with_len 0 n) row
 
 -- ---- all rows
 
--- the rows of these names are inserted in turn until there are n pivots; then these rows are kept, with these marked numbers
-pub data Eliminates (n : ℕ) (row_of : RowName → List ℤ) : List KeptRow → List RowName → List KeptRow → List ℤ → Type 0 where
-  full : (kept : List KeptRow) (names : List RowName) → length kept ≡ n → Eliminates n row_of kept names kept []
-  ended : (kept : List KeptRow) → length kept < n → Eliminates n row_of kept [] kept []
-  dropped : (kept all : List KeptRow) (name : RowName) (names : List RowName) (reduce : List ℕ) (first later : List ℤ) →
-      length kept < n → Inserts n kept 0 (row_of name) None reduce first → Eliminates n row_of kept names all later →
-      Eliminates n row_of kept (name ∷ names) all (first ++ later)
-  added : (kept all : List KeptRow) (name : RowName) (names : List RowName) (reduce : List ℕ) (pivot : ℕ) (entries first later : List ℤ) →
-      length kept < n → Inserts n kept 0 (row_of name) (Some (pivot, entries)) reduce first →
-      Eliminates n row_of (kept ++ record { name = name; reduce = reduce; pivot = pivot; entries = entries } ∷ []) names all later →
-      Eliminates n row_of kept (name ∷ names) all (first ++ later)
+-- the kept rows behind an insertion of the row with this number
+unfoldable pub kept_behind : List KeptRow → ℕ → List ℕ → Option (ℕ × List ℤ) → List KeptRow
+kept_behind kept number reduce None = kept
+kept_behind kept number reduce (Some row) =
+    kept ++ record { number = number; reduce = reduce; pivot = row.0; entries = row.1 } ∷ []
+
+-- rows that are kept, and the marked numbers
+pub record Elimination : Type 0 where
+  pub kept : List KeptRow
+  pub marked : List ℤ
+
+abbrev pub behind_insertion : List ℤ → Elimination → Elimination
+behind_insertion first e = record { kept = e.kept; marked = first ++ e.marked }
+
+-- the rows are inserted in turn, with numbers from this one on, until there are n pivots
+unfoldable pub elimination_from : ℕ → List KeptRow → ℕ → List (List ℤ) → Elimination
+elimination_from n kept number [] = record { kept = kept; marked = [] }
+elimination_from n kept number (row ∷ rows) =
+    if nat_le n (length kept)
+    then record { kept = kept; marked = [] }
+    else behind_insertion (inserted n kept row).marked
+    (elimination_from n (kept_behind kept number (inserted n kept row).reduce (inserted n kept row).kept) (number + 1) rows)
+
+-- the elimination of rows of n columns
+abbrev pub elimination : ℕ → List (List ℤ) → Elimination
+elimination n rows = elimination_from n [] 0 rows
 
 -- ---- the kernel
 
 -- the sums of the first one, two and so on of the numbers, to which a sum is added
-abbrev pub partial_sums : ℤ → List ℤ → List ℤ
+pub partial_sums : ℤ → List ℤ → List ℤ
 partial_sums sum [] = []
 partial_sums sum (x ∷ xs) = (sum +ℤ x) ∷ partial_sums (sum +ℤ x) xs
 
@@ -91,35 +136,63 @@ partial_sums sum (x ∷ xs) = (sum +ℤ x) ∷ partial_sums (sum +ℤ x) xs
 abbrev pub products_behind : ℕ → List ℤ → List ℤ → List ℤ
 products_behind j row w = map (λ p. p.0 *ℤ p.1) (zip (drop (j + 1) row) (drop (j + 1) w))
 
--- at the pivot column j of a kept row the numbers w are multiplied and the j-th is set, so that the row is 0 at them
-pub record IsSolvedAt (row : List ℤ) (j : ℕ) (w next marked : List ℤ) : Type 0 where
-  pub g : ℕ
-  pub factor : ℤ
-  pub part : ℤ
-  pub is_gcd : IsGcd (unsigned_abs (total (products_behind j row w))) (unsigned_abs (at_column row j)) g
-  pub factor_is : at_column row j ≡ factor *ℤ pos g
-  pub part_is : total (products_behind j row w) ≡ part *ℤ pos g
-  pub next_is : next ≡ slice_set (scaled factor w) j (neg_ℤ part)
-  pub marked_are : marked ≡ products_behind j row w ++ partial_sums (pos 0) (products_behind j row w) ++ scaled factor w
+-- numbers for the columns, and the marked numbers
+pub record Solution : Type 0 where
+  pub numbers : List ℤ
+  pub marked : List ℤ
 
--- the columns below j are solved from the greatest down
-pub data Solves (kept : List KeptRow) : ℕ → List ℤ → List ℤ → List ℤ → Type 0 where
-  solved : (w : List ℤ) → Solves kept 0 w w []
-  solved_at : (j : ℕ) (w next last first later : List ℤ) (k : KeptRow) → Contains kept k → k.pivot ≡ j →
-      IsSolvedAt k.entries j w next first → Solves kept j next last later → Solves kept (j + 1) w last (first ++ later)
+abbrev pub behind_numbers : List ℤ → Solution → Solution
+behind_numbers first s = record { numbers = s.numbers; marked = first ++ s.marked }
+
+-- the greatest common divisor by which a kept row with its pivot at the column j is solved
+abbrev pub solving_gcd : List ℤ → ℕ → List ℤ → ℕ
+solving_gcd row j w = gcd_of (unsigned_abs (total (products_behind j row w))) (unsigned_abs (at_column row j))
+
+-- the numbers times a factor
+abbrev pub solving_products : List ℤ → ℕ → List ℤ → List ℤ
+solving_products row j w = scaled (int_div (at_column row j) (pos (solving_gcd row j w))) w
+
+-- the numbers times the factor, with the j-th set so that the row is 0 at them
+unfoldable pub solved_at : List ℤ → ℕ → List ℤ → List ℤ
+solved_at row j w =
+    slice_set (solving_products row j w) j
+    (neg_ℤ (int_div (total (products_behind j row w)) (pos (solving_gcd row j w))))
+
+-- the numbers that this marks
+unfoldable pub marked_in_solving : List ℤ → ℕ → List ℤ → List ℤ
+marked_in_solving row j w =
+    products_behind j row w ++ partial_sums (pos 0) (products_behind j row w) ++ solving_products row j w
+
+-- the entries of the kept row with its pivot at the column
+unfoldable pub entries_of : Option KeptRow → List ℤ
+entries_of None = []
+entries_of (Some k) = k.entries
+
+-- the columns below j are solved, from the greatest down
+unfoldable pub solution_below : List KeptRow → ℕ → List ℤ → Solution
+solution_below kept zero w = record { numbers = w; marked = [] }
+solution_below kept (suc j) w =
+    behind_numbers (marked_in_solving (entries_of (row_with_pivot kept j)) j w)
+    (solution_below kept j (solved_at (entries_of (row_with_pivot kept j)) j w))
 
 -- 1 at the column c, and 0 elsewhere
 abbrev pub unit_row : ℕ → ℕ → List ℤ
 unit_row n c = map (λ j. if j == c then pos 1 else pos 0) (range_with_len 0 n)
 
--- the numbers w solve the kept rows, from 1 at the least column c without a pivot
-pub record IsKernel (n : ℕ) (kept : List KeptRow) (w marked : List ℤ) : Type 0 where
-  pub c : ℕ
-  pub within : c < n
-  pub no_pivot : All (λ k. k.pivot ≢ c) kept
-  pub least : (j : ℕ) → j < c → Any (λ k. k.pivot ≡ j) kept
-  pub solves : Solves kept c (unit_row n c) w marked
+-- the least of the n columns without a pivot
+abbrev pub free_column : ℕ → List KeptRow → Option ℕ
+free_column n kept = find (λ c. not (list_any (λ k. k.pivot == c) kept)) (range_with_len 0 n)
+
+-- the numbers that solve the kept rows, from 1 at that column on; none where there is no such column
+unfoldable pub solution_from : ℕ → List KeptRow → Option ℕ → Option Solution
+solution_from n kept None = None
+solution_from n kept (Some c) = Some (solution_below kept c (unit_row n c))
+
+abbrev pub kernel : ℕ → List KeptRow → Option Solution
+kernel n kept = solution_from n kept (free_column n kept)
+
+-- ---- the bound
 
 -- one of the marked numbers is above 2^127 - 1 in absolute value
 abbrev pub Passes : List ℤ → Type 0
-Passes marked = Any (λ n. 2 ^ 127 ≤ unsigned_abs n) marked
+Passes marked = Any (λ x. 2 ^ 127 ≤ unsigned_abs x) marked

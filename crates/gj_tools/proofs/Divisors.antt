@@ -2,8 +2,9 @@
 use Rattle.std.proofs.Common.{◌≡◌, ℕ, zero, suc, ◌*◌, ◌/◌, ◌%◌, ◌<◌, ◌≤◌, ◌⊎◌, ⊎_elim, ℤ, pos, ◌*ℤ◌, ◌<ℤ◌, unsigned_abs, refl, sym, ap, subst, subst₂, ◌∙◌, arith}
 use Rattle.std.proofs.Math.Nat.{mul_comm, mul_assoc, mul_right_comm, one-mul, mul-zero, eq_of_mul-eq-mul_right, pos_of_dvd_of_pos, dvd-mul_left, dvd-mul_right, mul-dvd-mul_right, dvd_of_mul-dvd-mul_right, mul-div_cancel', div-mul_cancel, one-dvd, mul-pos}
 use Rattle.std.specs.Int.{IsGcd, ◌∣◌}
-use Rattle.std.proofs.lemmas.Nat.Gcd.{IsGcd-from_zero, IsGcd-from_mod, IsGcd-swap, dvd-zero, dvd_trans, dvd_antisymm}
+use Rattle.std.proofs.lemmas.Nat.Gcd.{IsGcd-from_zero, IsGcd-from_mod, same_from_IsGcd, IsGcd-swap, dvd-zero, dvd_trans, dvd_antisymm}
 use Rattle.std.proofs.lemmas.Int.{ints, unsigned_abs-mul}
+use Rattle.gj_tools.specs.Divisors.{gcd_of, gcd_within}
 pub use Rattle.gj_tools.specs.Divisors.{IsLcm}
 use Rattle.gj_tools.proofs.Integers.{mul_left_comm_z, mul_cancel_right_z, abs_positive_z, pos_abs_z}
 
@@ -19,18 +20,26 @@ divides_product a b c e = subst (λ n. a ∣ n) (sym e) (dvd-mul_right a c)
 
 -- ---- existence
 
--- Euclid's algorithm, with as many steps as `steps` allows
-gcd_within : (steps a b : ℕ) → b ≤ steps → (g : ℕ) × IsGcd a b g
-gcd_within zero a b h = (a, IsGcd-from_zero a b (omega arith))
-gcd_within (suc steps) a zero h = (a, IsGcd-from_zero a zero refl)
-gcd_within (suc steps) a (suc b) h =
+-- Euclid's algorithm ends with the greatest common divisor
+gcd_within_is : (steps a b : ℕ) → b ≤ steps → IsGcd a b (gcd_within steps a b)
+unfolding gcd_within
+gcd_within_is zero a b h = IsGcd-from_zero a b (omega arith)
+gcd_within_is (suc steps) a zero h = IsGcd-from_zero a zero refl
+gcd_within_is (suc steps) a (suc b) h =
     let small : a % suc b ≤ steps = omega arith in
-    let r = gcd_within steps (suc b) (a % suc b) small in
-    (r.0, IsGcd-from_mod a (suc b) r.0 r.1)
+    IsGcd-from_mod a (suc b) (gcd_within steps (suc b) (a % suc b)) (gcd_within_is steps (suc b) (a % suc b) small)
+
+pub gcd_of_is : (a b : ℕ) → IsGcd a b (gcd_of a b)
+unfolding gcd_of
+gcd_of_is a b = gcd_within_is b a b (omega arith)
 
 -- any two numbers have a greatest common divisor
 pub gcd_exists : (a b : ℕ) → (g : ℕ) × IsGcd a b g
-gcd_exists a b = gcd_within b a b (omega arith)
+gcd_exists a b = (gcd_of a b, gcd_of_is a b)
+
+-- no other number is one
+pub gcd_is_gcd_of : (a b g : ℕ) → IsGcd a b g → g ≡ gcd_of a b
+gcd_is_gcd_of a b g h = same_from_IsGcd a b g (gcd_of a b) h (gcd_of_is a b)
 
 -- it is positive where one of the two is
 pub gcd_positive : (a b g : ℕ) → IsGcd a b g → (0 < a) ⊎ (0 < b) → 0 < g

@@ -1,8 +1,8 @@
 -- The first element of a list that fails: it is one, and where it comes in lists made of lists.
-use Rattle.std.proofs.Common.{◌≡◌, ℕ, ◌+◌, ◌-◌, ◌<◌, suc, List, [], ◌∷◌, ◌++◌, length, map, get_or, take, drop, refl, sym, ap, ◌∙◌, subst, append_assoc, drop-cons, arith}
+use Rattle.std.proofs.Common.{◌≡◌, ℕ, ◌+◌, ◌-◌, ◌<◌, suc, List, [], ◌∷◌, ◌++◌, map, refl, sym, ap, ◌∙◌, subst, append_assoc, arith}
 use Rattle.std.specs.List.{range_with_len, flat_map, All}
 use Rattle.std.proofs.lemmas.List.Elements.{All-head, All-append, All-map, All-push}
-use Rattle.std.proofs.lemmas.List.{map-append, take-append-drop}
+use Rattle.std.proofs.lemmas.List.{map-append}
 use Rattle.std.proofs.lemmas.List.Concat.{flat_map-append}
 use Rattle.gj_tools.specs.FirstThatFails.{IsFirstFailing}
 use Rattle.gj_tools.proofs.Lists.{All-front, All-back, All-range, All-flat_map, range_at}
