@@ -23,4 +23,4 @@ pub use laws::{
     function_lines_are_short, read_functions_are_within_bounds, strict_lines_are_canonical,
 };
 pub use place::place_of;
-pub use print::{push_fraction_line, push_function_lines};
+pub use print::{push_fraction_line, push_function_lines, push_order_line};

@@ -3,12 +3,12 @@
 use Rattle.std.specs.Prelude.{ℕ, ◌≡◌, List, ◌++◌, codes, decimal, flat_map}
 use Rattle.std.specs.List.{range_with_len}
 use Rattle.gj_shape.specs.FunctionData.{FunctionData, IsContinuous}
-use Rattle.gj_shape.specs.Additive.{IsTight, IsMaximalFace}
-use Rattle.gj_shape.specs.WalkOrder.{faces_of}
+use Rattle.gj_shape.specs.Additive.{IsTight}
 use Rattle.gj_shape.specs.Cover.{AreCoverLines, IsCovered}
 use Rattle.gj_shape.specs.declared.faces.Face.{Face}
 use Rattle.gj_shape.specs.declared.extremality.CoverLine.{CoverLine}
-use Rattle.gj_faces.specs.Chosen.{AreChosen}
+use Rattle.gj_faces.specs.Picked.{ArePicked}
+use Rattle.gj_faces.specs.Listed.{AreMaximalFaces}
 use Rattle.gj_lines.specs.FunctionLines.{line, order_line}
 use Rattle.gj_lines.specs.FaceLines.{face_text, cover_line}
 use Rattle.gj_top.specs.declared.reply.End.{End}
@@ -20,11 +20,11 @@ use Rattle.gj_top.specs.Continuity.{NamesFirstJump}
 -- the text lists the maximal additive faces in walk order, the cover lines, and the uncovered intervals, ascending
 pub record IsFacesText (f : FunctionData) (text : List ℕ) : Type 0 where
   pub faces : List Face
-  pub maximal : AreChosen (λ face. IsMaximalFace f.order (IsTight f) face.kind face.a face.b) (faces_of f.order) faces
+  pub maximal : AreMaximalFaces f faces
   pub lines : List CoverLine
   pub cover : AreCoverLines f.order (IsTight f) lines
   pub intervals : List ℕ
-  pub uncovered : AreChosen (λ i. IsCovered f.order (IsTight f) i → ⊥) (range_with_len 0 f.order) intervals
+  pub uncovered : ArePicked (λ i. IsCovered f.order (IsTight f) i → ⊥) (range_with_len 0 f.order) intervals
   pub spelled : text ≡ line (codes "gj-faces 1") ++ order_line f.order
       ++ flat_map (λ face. line (face_text face)) faces
       ++ flat_map cover_line lines

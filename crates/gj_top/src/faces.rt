@@ -55,3 +55,46 @@ fn faces_text(alloc: Global, shape: &Shape) -> Result<Vec<u8>, AllocError>
     text.extend_from_slice(b"end\n")?;
     Ok(text)
 }
+
+/// Appends the line of each face.
+fn push_face_lines(out: &mut Vec<u8>, faces: &[Face]) -> Result<(), AllocError>
+    ensures { OnOk result (out.new.items ≡ out.old.items ++ flat_map (λ face. line (face_text face)) faces.now) }
+{
+    for face in faces {
+        push_face_line(out, *face)?;
+    }
+    Ok(())
+}
+
+/// Appends the line of each covered interval.
+fn push_cover_lines(out: &mut Vec<u8>, lines: &[CoverLine]) -> Result<(), AllocError>
+    ensures { OnOk result (out.new.items ≡ out.old.items ++ flat_map cover_line lines.now) }
+{
+    for line in lines {
+        push_cover_line(out, *line)?;
+    }
+    Ok(())
+}
+
+/// Appends a line for each interval without a component, ascending.
+fn push_uncovered_lines(out: &mut Vec<u8>, component: &[Option<u32>]) -> Result<(), AllocError>
+    ensures { OnOk result ((intervals : List ℕ) × AreUncovered component.now intervals
+        × (out.new.items ≡ out.old.items ++ flat_map uncovered_line intervals)) }
+{
+    for (interval, component) in component.iter().enumerate() {
+        if component.is_none() {
+            push_uncovered_line(out, interval as u32)?;
+        }
+    }
+    Ok(())
+}
+
+/// Appends the line of an uncovered interval.
+fn push_uncovered_line(out: &mut Vec<u8>, interval: u32) -> Result<(), AllocError>
+    ensures { OnOk result (out.new.items ≡ out.old.items ++ uncovered_line interval) }
+{
+    out.extend_from_slice(b"uncovered ")?;
+    print_count(out, interval)?;
+    out.push(b'\n')?;
+    Ok(())
+}
