@@ -1,0 +1,4 @@
+use Rattle.gj_theory.proofs.steps.edge_carries_step.Goals as goal
+
+pub returns : goal.returns
+returns c = ?
