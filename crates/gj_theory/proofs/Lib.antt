@@ -10,3 +10,5 @@ pub mod Continuous
 pub mod Lanes
 pub mod IntervalLemma
 pub mod TightFaces
+pub mod CarriedSteps
+pub mod AverageDifference

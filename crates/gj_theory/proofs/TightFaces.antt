@@ -96,7 +96,7 @@ upper_z u v w x x' y y' t t' e g h =
 corner : (f : FunctionData) (x y z : ℕ) → IsTight f x y → z ≡ x + y → at f.value x +ℤ at f.value y ≡ at f.value z
 corner f x y z tight e = tight ∙ ap (at f.value) (sym e)
 
-tight_in_face : (f : FunctionData) (m : ℕ) (kind : FaceKind) (a b i j : ℕ) → IsContinuous f → 0 < m →
+pub tight_in_face : (f : FunctionData) (m : ℕ) (kind : FaceKind) (a b i j : ℕ) → IsContinuous f → 0 < m →
     IsAdditive (IsTight f) kind a b → IsInFace m kind a b i j → IsTightOnGrid f m i j
 tight_in_face f m Vertex a b i j continuous some h inside =
     let first = inside.0 in

@@ -1,8 +1,8 @@
 -- Tables that rise by one step on runs of places, and tables that are additive where the table of a function is
 -- (Light on the Infinite Group Relaxation I and II; Equivariant Perturbation I).
-use Rattle.std.specs.Prelude.{ℕ, ℤ, pos, ◌≡◌, ◌+◌, ◌*◌, ◌<◌, ◌≤◌, ◌+ℤ◌}
+use Rattle.std.specs.Prelude.{ℕ, ℤ, ◌≡◌, ◌+◌, ◌*◌, ◌<◌, ◌≤◌, ◌+ℤ◌}
 use Rattle.gj_shape.specs.FunctionData.{FunctionData}
-use Rattle.gj_shape.specs.Additive.{IsTightOnGrid}
+use Rattle.gj_shape.specs.Table.{table}
 
 -- the table rises by t from each of the m places from a on to the next
 abbrev pub HasStep : (ℕ → ℤ) → ℕ → ℕ → ℤ → Type 0
@@ -20,13 +20,11 @@ IsAdditiveOnLower p a b m = (i j : ℕ) → i + j ≤ m → p (a + i) +ℤ p (b 
 abbrev pub IsAdditiveOnUpper : (ℕ → ℤ) → ℕ → ℕ → ℕ → Type 0
 IsAdditiveOnUpper p a b m = (i j : ℕ) → i ≤ m → j ≤ m → m ≤ i + j → p (a + i) +ℤ p (b + j) ≡ p (a + b + i + j)
 
--- the table has the period of the function's table on the grid, and is additive at each pair that is tight there
-pub record IsAdditiveAtTight (f : FunctionData) (m : ℕ) (p : ℕ → ℤ) : Type 0 where
-  pub has_period : (i : ℕ) → p (i + f.order * m) ≡ p i
-  pub additive : (i j : ℕ) → IsTightOnGrid f m i j → p i +ℤ p j ≡ p (i + j)
+-- the table p has the period n, and is additive at each pair that is tight for the table t
+pub record IsAdditiveAtTight (t : ℕ → ℤ) (n : ℕ) (p : ℕ → ℤ) : Type 0 where
+  pub has_period : (i : ℕ) → p (i + n) ≡ p i
+  pub additive : (i j : ℕ) → t i +ℤ t j ≡ t (i + j) → p i +ℤ p j ≡ p (i + j)
 
--- a perturbation of the function on the grid: such a table that is 0 at 0 and at f
-pub record IsPerturbation (f : FunctionData) (m : ℕ) (p : ℕ → ℤ) : Type 0 where
-  pub additive : IsAdditiveAtTight f m p
-  pub zero_at_zero : p 0 ≡ pos 0
-  pub zero_at_place : p (f.place * m) ≡ pos 0
+-- the same for the table on the grid of order m times the function's
+abbrev pub IsAdditiveOnGrid : FunctionData → ℕ → (ℕ → ℤ) → Type 0
+IsAdditiveOnGrid f m p = IsAdditiveAtTight (table f m) (f.order * m) p

@@ -8,7 +8,7 @@ ghost use Rattle.gj_shape.specs.SlopeRows.{SolveRows, sum_of_products};
 ghost use Rattle.gj_shape.specs.Table.{IsMinimal};
 ghost use Rattle.gj_shape.specs.declared.extremality.CoverLine.{CoverLine};
 ghost use Rattle.gj_theory.specs.CoverRules.{MeetsCoverRules};
-ghost use Rattle.gj_theory.specs.Steps.{HasStepOn, IsAdditiveAtTight};
+ghost use Rattle.gj_theory.specs.Steps.{HasStepOn, IsAdditiveOnGrid};
 ghost use Rattle.gj_theory.specs.TriangularRows.{AreTriangular};
 
 /// The cover lines of the decision meet the rules for cover lines.
@@ -21,7 +21,7 @@ pub fn cover_lines_meet_rules()
 /// intervals of a component.
 pub fn components_have_one_step()
     ensures { (f : FunctionData) (m : ℕ) (p : ℕ → ℤ) (lines : List CoverLine) →
-        IsWithinBounds f → IsContinuous f → 0 < m → IsAdditiveAtTight f m p →
+        IsWithinBounds f → IsContinuous f → 0 < m → IsAdditiveOnGrid f m p →
         MeetsCoverRules f.order (IsTight f) lines →
         (step : ℕ → ℤ) × ((number i : ℕ) → HasComponent lines number i → HasStepOn p m i (step number)) }
 {}

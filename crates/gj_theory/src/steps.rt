@@ -4,9 +4,9 @@ ghost use Rattle.gj_shape.specs.Additive.{IsTight, IsTightOnGrid, IsAdditive, Is
 ghost use Rattle.gj_shape.specs.Cover.{IsOneOf, links_of, triangle_projections};
 ghost use Rattle.gj_shape.specs.Extreme.{AverageTo};
 ghost use Rattle.gj_shape.specs.FunctionData.{FunctionData, IsWithinBounds, IsContinuous};
-ghost use Rattle.gj_shape.specs.Table.{table, IsMinimalTable, IsMinimalOnGrid};
+ghost use Rattle.gj_shape.specs.Table.{IsMinimalTable};
 ghost use Rattle.gj_shape.specs.declared.faces.FaceKind.{FaceKind};
-ghost use Rattle.gj_theory.specs.Steps.{HasStep, HasStepOn, IsAdditiveOnLower, IsAdditiveOnUpper, IsAdditiveAtTight, IsPerturbation};
+ghost use Rattle.gj_theory.specs.Steps.{HasStep, HasStepOn, IsAdditiveOnLower, IsAdditiveOnUpper, IsAdditiveAtTight, IsAdditiveOnGrid};
 
 /// The interval lemma: a table that is additive on a closed triangle has one constant step on its three projections.
 pub fn interval_lemma()
@@ -25,7 +25,7 @@ pub fn additive_face_is_tight_on_grids()
 /// An additive edge carries a constant step between the two intervals that it links.
 pub fn edge_carries_step()
     ensures { (f : FunctionData) (m : ℕ) (p : ℕ → ℤ) (kind : FaceKind) (a b i j : ℕ) (t : ℤ) →
-        IsWithinBounds f → IsContinuous f → 0 < m → IsAdditiveAtTight f m p → IsAdditive (IsTight f) kind a b →
+        IsContinuous f → 0 < m → IsAdditiveOnGrid f m p → IsAdditive (IsTight f) kind a b →
         IsOneOf f.order (links_of kind a b) i → IsOneOf f.order (links_of kind a b) j →
         HasStepOn p m i t → HasStepOn p m j t }
 {}
@@ -33,14 +33,15 @@ pub fn edge_carries_step()
 /// An additive triangle gives one constant step on each interval on which it projects.
 pub fn triangle_gives_step()
     ensures { (f : FunctionData) (m : ℕ) (p : ℕ → ℤ) (kind : FaceKind) (a b : ℕ) →
-        IsWithinBounds f → IsContinuous f → 0 < m → IsAdditiveAtTight f m p → IsAdditive (IsTight f) kind a b →
+        IsContinuous f → 0 < m → IsAdditiveOnGrid f m p → IsAdditive (IsTight f) kind a b →
         (t : ℤ) × ((i : ℕ) → IsOneOf f.order (triangle_projections kind a b) i → HasStepOn p m i t) }
 {}
 
-/// Where two minimal tables average to a function's table, each less its factor times the table is a perturbation.
+/// Where two minimal tables average to a minimal table, the first less its part of it is additive at each tight pair, and
+/// 0 at 0 and at f.
 pub fn difference_is_additive()
-    ensures { (f : FunctionData) (m c : ℕ) (a b : ℕ → ℤ) → IsMinimalOnGrid f m →
-        IsMinimalTable a (f.order * m) (f.place * m) (c * (f.scale * m)) →
-        IsMinimalTable b (f.order * m) (f.place * m) (c * (f.scale * m)) →
-        AverageTo c a b (table f m) → IsPerturbation f m (λ i. a i -ℤ pos c *ℤ table f m i) }
+    ensures additive { (t a b : ℕ → ℤ) (n k s c : ℕ) → IsMinimalTable t n k s → IsMinimalTable a n k (c * s) →
+        IsMinimalTable b n k (c * s) → AverageTo c a b t → IsAdditiveAtTight t n (λ i. a i -ℤ pos c *ℤ t i) }
+    ensures zero { (t a : ℕ → ℤ) (n k s c : ℕ) → IsMinimalTable t n k s → IsMinimalTable a n k (c * s) →
+        (a 0 -ℤ pos c *ℤ t 0 ≡ pos 0) × (a k -ℤ pos c *ℤ t k ≡ pos 0) }
 {}
