@@ -12,3 +12,5 @@ pub mod IntervalLemma
 pub mod TightFaces
 pub mod CarriedSteps
 pub mod AverageDifference
+pub mod CoverLines
+pub mod CoverSteps
