@@ -14,3 +14,4 @@ pub mod CarriedSteps
 pub mod AverageDifference
 pub mod CoverLines
 pub mod CoverSteps
+pub mod TriangularZero
