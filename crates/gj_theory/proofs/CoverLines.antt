@@ -1,5 +1,5 @@
 -- The cover lines of the decision meet the rules for cover lines.
-use Rattle.std.proofs.Common.{◌≡◌, ℕ, List, ◌∷◌, ◌++◌, ◌⊎◌, inl, inr, subst}
+use Rattle.std.proofs.Common.{◌≡◌, ℕ, List, inl, inr, subst}
 use Rattle.gj_shape.specs.Cover.{AreCoverLines, IsNextLine, HasLine}
 use Rattle.gj_shape.specs.declared.extremality.CoverLine.{CoverLine}
 use Rattle.gj_theory.specs.CoverRules.{MeetsCoverRule, MeetsCoverRules}

@@ -1,10 +1,10 @@
 -- By lines that meet the rules for cover lines a table has one step on each component.
-use Rattle.std.proofs.Common.{◌≡◌, ℕ, ◌+◌, ◌*◌, ◌<◌, ◌==◌, Bool, cond, ℤ, pos, ◌+ℤ◌, ◌-ℤ◌, List, ◌∷◌, ◌++◌, map, length, get_or, filter, count_by, ap, ap₂, sym, subst, ◌∙◌, arith}
+use Rattle.std.proofs.Common.{◌≡◌, ℕ, ◌+◌, ◌*◌, ◌<◌, ◌==◌, Bool, cond, ℤ, ◌-ℤ◌, List, ◌∷◌, ◌++◌, map, length, get_or, filter, count_by, ap, ap₂, sym, subst, ◌∙◌, arith}
 use Rattle.std.proofs.lemmas.Int.{ints}
 use Rattle.std.proofs.lemmas.Bool.{eq-eqb}
 use Rattle.std.proofs.lemmas.List.{map-append, length-map}
 use Rattle.std.proofs.lemmas.List.Elements.{filter-append}
-use Rattle.std.proofs.lemmas.List.Sums.{length-filter}
+use Rattle.std.proofs.lemmas.List.Sums.{length-filter, sum_by-append, sum_by-cons}
 use Rattle.std.proofs.Math.Seq.{get_or-append_seam}
 use Rattle.gj_shape.specs.Additive.{IsTight}
 use Rattle.gj_shape.specs.Cover.{IsOneOf, triangle_projections, HasComponent, Joins}
@@ -71,14 +71,25 @@ unfolding opened_by
 opened_at lines before l after number place same counted =
     let intervals : List CoverLine → List ℕ = λ ls. map (λ m. m.interval) (filter opens ls) in
     let own : intervals (l ∷ after) ≡ l.interval ∷ intervals after =
-        ap (λ b. map (λ m. m.interval) (cond b (l ∷ filter opens after) (filter opens after))) (eq-eqb l.from l.interval same) in
+    ap (λ b. map (λ m. m.interval) (cond b (l ∷ filter opens after) (filter opens after))) (eq-eqb l.from l.interval same) in
     let split : intervals lines ≡ intervals before ++ l.interval ∷ intervals after =
-        ap intervals place ∙ ap (map (λ m. m.interval)) (filter-append opens before (l ∷ after))
-        ∙ map-append (λ m. m.interval) (filter opens before) (filter opens (l ∷ after))
-        ∙ ap (λ xs. intervals before ++ xs) own in
+    ap intervals place ∙ ap (map (λ m. m.interval)) (filter-append opens before (l ∷ after))
+    ∙ map-append (λ m. m.interval) (filter opens before) (filter opens (l ∷ after))
+    ∙ ap (λ xs. intervals before ++ xs) own in
     let index : number ≡ length (intervals before) =
-        counted ∙ sym (length-filter opens before) ∙ sym (length-map (filter opens before) (λ m. m.interval)) in
+    counted ∙ sym (length-filter opens before) ∙ sym (length-map (filter opens before) (λ m. m.interval)) in
     ap₂ (λ xs n. get_or xs n 0) split index ∙ get_or-append_seam (intervals before) l.interval (intervals after) 0
+
+-- the number of a component is below that of opening lines
+pub number_below : (lines : List CoverLine) (number i : ℕ) → HasComponent lines number i → number < count_by (λ l. l.from == l.interval) lines
+number_below lines number i (opened before l after place same counted) =
+    let own : cond (opens l) 1 0 ≡ 1 = ap (λ b. cond b 1 0) (eq-eqb l.from l.interval same) in
+    let rest : count_by opens (l ∷ after) ≡ 1 + count_by opens after =
+    sum_by-cons (λ m. cond (opens m) 1 0) l after ∙ ap (λ k. k + count_by opens after) own in
+    let split : count_by opens lines ≡ count_by opens before + count_by opens (l ∷ after) =
+    ap (count_by opens) place ∙ sum_by-append (λ m. cond (opens m) 1 0) before (l ∷ after) in
+    omega arith
+number_below lines number i (joined before l after place other rest) = number_below lines number l.from rest
 
 -- ---- one step a component
 
@@ -95,7 +106,7 @@ step_on_component f m p lines continuous some h rules number i (opened before l 
     let steps = given_by_triangle f m p l.face.kind l.face.a l.face.b continuous some h rule.additive in
     let step = steps.1 l.interval (rule.opening same).projection in
     let first = step_is_first p m l.interval steps.0 some step
-        ∙ ap (first_step p m) (sym (opened_at lines before l after number place same counted)) in
+    ∙ ap (first_step p m) (sym (opened_at lines before l after number place same counted)) in
     subst (λ (s : ℤ). HasStepOn p m l.interval s) first step
 step_on_component f m p lines continuous some h rules number i (joined before l after place other rest) =
     let rule = rules before l after place in

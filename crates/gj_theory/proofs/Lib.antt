@@ -15,3 +15,5 @@ pub mod AverageDifference
 pub mod CoverLines
 pub mod CoverSteps
 pub mod TriangularZero
+pub mod SlopeSums
+pub mod ExtremeByCover

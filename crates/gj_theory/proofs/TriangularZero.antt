@@ -1,5 +1,5 @@
 -- As many triangular rows as columns leave only 0.
-use Rattle.std.proofs.Common.{◌≡◌, ◌≢◌, ℕ, zero, suc, ◌+◌, ◌<◌, ◌≤◌, ◌⊎◌, inl, inr, false, true, eqb, ℤ, pos, ◌+ℤ◌, ◌*ℤ◌, unsigned_abs, List, [], ◌∷◌, All, length, get_or, refl, ap, ap₂, sym, subst, ◌∙◌, arith}
+use Rattle.std.proofs.Common.{◌≡◌, ◌≢◌, ℕ, zero, suc, ◌+◌, ◌<◌, ◌≤◌, ◌⊎◌, inl, inr, false, true, eqb, ℤ, pos, ◌*ℤ◌, List, [], ◌∷◌, All, length, get_or, refl, ap, sym, subst, ◌∙◌, arith}
 use Rattle.std.specs.List.{AllByRecursion, IsDistinct, list_any}
 use Rattle.std.proofs.lemmas.Bool.{cases_eq, cases_lt, eqb-true, ne_eqb}
 use Rattle.std.proofs.lemmas.Int.{ints}
@@ -47,11 +47,11 @@ find_pivot : (pivot : ℕ → ℕ) (c g : ℕ) →
 find_pivot pivot c zero = inr (λ h low. absurd (omega arith))
 find_pivot pivot c (suc g) =
     elim (cases_eq (pivot g) c) [
-      inl e ↦ inl (g, omega arith, e)
+      | inl e ↦ inl (g, omega arith, e)
       | inr ne ↦ elim (find_pivot pivot c g) [
-        inl found ↦ inl (found.0, (let low = found.1 in omega arith), found.2)
+        | inl found ↦ inl (found.0, (let low = found.1 in omega arith), found.2)
         | inr none ↦ inr (λ h low. elim (cases_eq h g) [
-          inl e ↦ subst (λ (k : ℕ). pivot k ≢ c) (sym e) ne
+          | inl e ↦ subst (λ (k : ℕ). pivot k ≢ c) (sym e) ne
           | inr other ↦ none h (omega arith)
         ])
       ]
@@ -61,20 +61,20 @@ pivot_at : (n : ℕ) (row : ℕ → List ℤ) (pivot : ℕ → ℕ) (c : ℕ) �
     (g : ℕ) × (g < n) × (pivot g ≡ c)
 pivot_at n row pivot c rows within =
     elim (find_pivot pivot c n) [
-      inl found ↦ found
+      | inl found ↦ found
       | inr none ↦
-        let columns = c ∷ pivots pivot n in
-        let distinct = IsDistinct-cons eqb c (pivots pivot n)
-            (each_pivot (λ y. eqb c y ≡ false) pivot n (λ h low. ne_eqb c (pivot h) (λ e. none h low (sym e))))
-            (pivots_distinct pivot n rows.different n (omega arith)) in
-        let below : All (λ x. x < n) columns =
-            All-from_recursion (λ x. x < n) columns (within, each_pivot (λ x. x < n) pivot n rows.within) in
-        let member = λ (q : ℕ) (e : list_any (eqb q) columns ≡ true).
-            let found = all_of_any (λ x. x < n) (λ x. eqb q x ≡ true) columns below (Any-from_list_any (eqb q) columns e) in
-            subst (λ (x : ℕ). x < n) (sym (eqb-true q found.0 found.2)) found.1 in
-        let long : suc (length (pivots pivot n)) ≤ n = length-le_from_distinct_below columns n distinct member in
-        let count = pivot_count pivot n in
-        absurd (omega arith)
+          let columns = c ∷ pivots pivot n in
+          let distinct = IsDistinct-cons eqb c (pivots pivot n)
+          (each_pivot (λ y. eqb c y ≡ false) pivot n (λ h low. ne_eqb c (pivot h) (λ e. none h low (sym e))))
+          (pivots_distinct pivot n rows.different n (omega arith)) in
+          let below : All (λ x. x < n) columns =
+          All-from_recursion (λ x. x < n) columns (within, each_pivot (λ x. x < n) pivot n rows.within) in
+          let member = λ (q : ℕ) (e : list_any (eqb q) columns ≡ true).
+          let found = all_of_any (λ x. x < n) (λ x. eqb q x ≡ true) columns below (Any-from_list_any (eqb q) columns e) in
+          subst (λ (x : ℕ). x < n) (sym (eqb-true q found.0 found.2)) found.1 in
+          let long : suc (length (pivots pivot n)) ≤ n = length-le_from_distinct_below columns n distinct member in
+          let count = pivot_count pivot n in
+          absurd (omega arith)
     ]
 
 -- ---- the sum of products, where all but one are 0
@@ -111,16 +111,16 @@ zero_from n row pivot numbers rows long solved zero c high = get_or_past numbers
 zero_from n row pivot numbers rows long solved (suc k) c high =
     let behind = λ (d : ℕ) (later : c < d). zero_from n row pivot numbers rows long solved k d (omega arith) in
     elim (cases_lt c n) [
-      inr past ↦ get_or_past numbers c (pos 0) (omega arith)
+      | inr past ↦ get_or_past numbers c (pos 0) (omega arith)
       | inl within ↦
-        let found = pivot_at n row pivot c rows within in
-        let own = row found.0 in
-        let before = λ (d : ℕ) (low : d < c). rows.zero_before found.0 d found.1 (subst (λ (x : ℕ). d < x) (sym found.2) low) in
-        let some : at_column own c ≢ pos 0 = subst (λ (x : ℕ). at_column own x ≢ pos 0) found.2 (rows.not_zero found.0 found.1) in
-        let product : at_column own c *ℤ get_or numbers c (pos 0) ≡ pos 0 =
-            sym (one_product own numbers c before behind) ∙ solved found.0 found.1 in
-        let none : at_column own c *ℤ pos 0 ≡ pos 0 = omega (arith, ints) in
-        mul_cancel_left_z _ _ (at_column own c) (product ∙ sym none) (λ e. some (abs_zero_z _ e))
+          let found = pivot_at n row pivot c rows within in
+          let own = row found.0 in
+          let before = λ (d : ℕ) (low : d < c). rows.zero_before found.0 d found.1 (subst (λ (x : ℕ). d < x) (sym found.2) low) in
+          let some : at_column own c ≢ pos 0 = subst (λ (x : ℕ). at_column own x ≢ pos 0) found.2 (rows.not_zero found.0 found.1) in
+          let product : at_column own c *ℤ get_or numbers c (pos 0) ≡ pos 0 =
+          sym (one_product own numbers c before behind) ∙ solved found.0 found.1 in
+          let none : at_column own c *ℤ pos 0 ≡ pos 0 = omega (arith, ints) in
+          mul_cancel_left_z _ _ (at_column own c) (product ∙ sym none) (λ e. some (abs_zero_z _ e))
     ]
 
 pub only_zero : (n : ℕ) (row : ℕ → List ℤ) (pivot : ℕ → ℕ) (numbers : List ℤ) → AreTriangular n row pivot →
