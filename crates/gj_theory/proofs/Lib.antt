@@ -14,6 +14,6 @@ pub mod CarriedSteps
 pub mod AverageDifference
 pub mod CoverLines
 pub mod CoverSteps
-pub mod TriangularZero
+pub mod PivotsLeaveZero
 pub mod SlopeSums
 pub mod ExtremeByCover

@@ -4,4 +4,4 @@ pub mod NearCorners
 pub mod Lanes
 pub mod Steps
 pub mod CoverRules
-pub mod TriangularRows
+pub mod PivotRows

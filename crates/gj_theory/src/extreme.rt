@@ -9,7 +9,7 @@ ghost use Rattle.gj_shape.specs.Table.{IsMinimal};
 ghost use Rattle.gj_shape.specs.declared.extremality.CoverLine.{CoverLine};
 ghost use Rattle.gj_theory.specs.CoverRules.{MeetsCoverRules};
 ghost use Rattle.gj_theory.specs.Steps.{HasStepOn, IsAdditiveOnGrid};
-ghost use Rattle.gj_theory.specs.TriangularRows.{AreTriangular};
+ghost use Rattle.gj_theory.specs.PivotRows.{HavePivots};
 
 /// The cover lines of the decision meet the rules for cover lines.
 pub fn cover_lines_meet_rules()
@@ -25,20 +25,27 @@ pub fn components_have_one_step()
         (step : ℕ → ℤ) × ((number i : ℕ) → HasComponent lines number i → HasStepOn p m i (step number)) }
 {}
 
-/// As many triangular rows as columns leave only 0.
-pub fn triangular_rows_leave_only_zero()
-    ensures { (n : ℕ) (row : ℕ → List ℤ) (pivot : ℕ → ℕ) (numbers : List ℤ) → AreTriangular n row pivot →
+/// As many rows with different pivots as columns leave only 0.
+pub fn rows_with_pivots_leave_only_zero()
+    ensures { (n : ℕ) (row : ℕ → List ℤ) (pivot : ℕ → ℕ) (numbers : List ℤ) → HavePivots n row pivot →
         length numbers ≡ n → ((g : ℕ) → g < n → sum_of_products (row g) numbers ≡ pos 0) →
         All (λ x. x ≡ pos 0) numbers }
 {}
 
-/// A continuous minimal function is extreme where lines that meet the rules cover all intervals, and as many triangular
-/// rows as there are components are 0 at all slopes that solve the linear system.
+/// A continuous minimal function is extreme where lines that meet the rules cover all intervals, and the linear system for
+/// the slopes of the components has only the solution 0: as it has where as many rows with different pivots as there are
+/// components are 0 at all its solutions.
 pub fn cover_and_rows_give_extreme()
-    ensures { (f : FunctionData) (lines : List CoverLine) (component : ℕ → ℕ) (n : ℕ) (row : ℕ → List ℤ) (pivot : ℕ → ℕ) →
+    ensures zero { (f : FunctionData) (lines : List CoverLine) (component : ℕ → ℕ) (n : ℕ) →
         IsWithinBounds f → IsContinuous f → IsMinimal f → MeetsCoverRules f.order (IsTight f) lines →
         ((i : ℕ) → i < f.order → HasComponent lines (component i) i) →
-        n ≡ count_by (λ l. l.from == l.interval) lines → AreTriangular n row pivot →
+        n ≡ count_by (λ l. l.from == l.interval) lines →
+        ((slopes : List ℤ) → length slopes ≡ n → SolveRows component n f slopes → All (λ x. x ≡ pos 0) slopes) →
+        IsExtreme f }
+    ensures rows { (f : FunctionData) (lines : List CoverLine) (component : ℕ → ℕ) (n : ℕ) (row : ℕ → List ℤ) (pivot : ℕ → ℕ) →
+        IsWithinBounds f → IsContinuous f → IsMinimal f → MeetsCoverRules f.order (IsTight f) lines →
+        ((i : ℕ) → i < f.order → HasComponent lines (component i) i) →
+        n ≡ count_by (λ l. l.from == l.interval) lines → HavePivots n row pivot →
         ((slopes : List ℤ) → length slopes ≡ n → SolveRows component n f slopes →
         (g : ℕ) → g < n → sum_of_products (row g) slopes ≡ pos 0) →
         IsExtreme f }
