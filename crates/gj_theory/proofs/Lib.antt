@@ -8,3 +8,12 @@ pub mod Violations
 pub mod FirstFailed
 pub mod Continuous
 pub mod Lanes
+pub mod IntervalLemma
+pub mod TightFaces
+pub mod CarriedSteps
+pub mod AverageDifference
+pub mod CoverLines
+pub mod CoverSteps
+pub mod PivotsLeaveZero
+pub mod SlopeSums
+pub mod ExtremeByCover
