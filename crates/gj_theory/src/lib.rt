@@ -9,6 +9,8 @@
 //! the theorem to the caller's proof.
 #![tactic(auto)]
 
+pub mod decisive_order;
 pub mod first_violation;
 pub mod grid;
+pub mod perturbations;
 pub mod shown;
