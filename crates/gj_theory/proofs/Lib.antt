@@ -8,3 +8,4 @@ pub mod Violations
 pub mod FirstFailed
 pub mod Continuous
 pub mod Lanes
+pub mod TightPairs
