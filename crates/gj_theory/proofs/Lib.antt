@@ -9,3 +9,4 @@ pub mod FirstFailed
 pub mod Continuous
 pub mod Lanes
 pub mod TightPairs
+pub mod PerturbedTables
