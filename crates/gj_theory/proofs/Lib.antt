@@ -10,3 +10,5 @@ pub mod Continuous
 pub mod Lanes
 pub mod TightPairs
 pub mod PerturbedTables
+pub mod SlacksAndSizes
+pub mod HalvesAsLists
