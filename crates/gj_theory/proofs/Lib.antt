@@ -12,3 +12,4 @@ pub mod TightPairs
 pub mod PerturbedTables
 pub mod SlacksAndSizes
 pub mod HalvesAsLists
+pub mod Zigzags
