@@ -13,3 +13,7 @@ pub mod PerturbedTables
 pub mod SlacksAndSizes
 pub mod HalvesAsLists
 pub mod Zigzags
+pub mod IntervalLemma
+pub mod TightFaces
+pub mod CarriedSteps
+pub mod AverageDifference

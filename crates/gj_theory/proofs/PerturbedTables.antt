@@ -65,7 +65,7 @@ perturbation_at_zero : (t : ℕ → ℤ) (n k s : ℕ) (p : ℕ → ℤ) → IsM
 perturbation_at_zero t n k s p h d =
     let zero_at_zero = h.zero_at_zero in
     let twice : t 0 +ℤ t 0 ≡ t (0 + 0) = omega (arith, ints) in
-    let both : p 0 +ℤ p 0 ≡ p 0 = d.additive 0 0 twice in
+    let both : p 0 +ℤ p 0 ≡ p 0 = d.at_tight.additive 0 0 twice in
     omega (arith, ints)
 
 -- entries at places that add up to f: tight, and the perturbations add up to 0
@@ -80,8 +80,8 @@ opposite_tight t n k s h i j opposite =
 opposite_zero : (t : ℕ → ℤ) (n k s : ℕ) (p : ℕ → ℤ) → IsMinimalTable t n k s → IsPerturbation t n k p →
     (i j : ℕ) → (i + j) % n ≡ k % n → p i +ℤ p j ≡ pos 0
 opposite_zero t n k s p h d i j opposite =
-    d.additive i j (opposite_tight t n k s h i j opposite)
-    ∙ same_at_remainder p n d.has_period (i + j) k opposite ∙ d.zero_at_place
+    d.at_tight.additive i j (opposite_tight t n k s h i j opposite)
+    ∙ same_at_remainder p n d.at_tight.has_period (i + j) k opposite ∙ d.zero_at_place
 
 raised_subadditive : (t p : ℕ → ℤ) (n k s u size : ℕ) → IsMinimalTable t n k s → IsPerturbation t n k p →
     IsBelowSlacks t u → ((j : ℕ) → unsigned_abs (p j) ≤ size) → (i j : ℕ) →
@@ -98,7 +98,7 @@ raised_subadditive t p n k s u size h d slacks sizes i j =
     let least = h.subadditive i j in
     let tight : t i +ℤ t j ≡ t (i + j) = omega (arith, ints) in
     let equal =
-    tight_step (pos (3 * size)) (pos u) (t i) (t j) (t (i + j)) (p i) (p j) (p (i + j)) tight (d.additive i j tight) in
+    tight_step (pos (3 * size)) (pos u) (t i) (t j) (t (i + j)) (p i) (p j) (p (i + j)) tight (d.at_tight.additive i j tight) in
     omega (arith, ints))
 
 raised_symmetric : (w s v x y p q : ℤ) → x +ℤ y ≡ s → p +ℤ q ≡ pos 0 → (w *ℤ x +ℤ v *ℤ p) +ℤ (w *ℤ y +ℤ v *ℤ q) ≡ w *ℤ s
@@ -110,7 +110,7 @@ raised_minimal : (t p : ℕ → ℤ) (n k s u size : ℕ) → 0 < n → IsMinima
 raised_minimal t p n k s u size some h d slacks sizes =
     let a = raised t p u size in
     let period : (i : ℕ) → a (i + n) ≡ a i =
-    λ i. ap₂ (λ x y. pos (3 * size) *ℤ x +ℤ pos u *ℤ y) (h.has_period i) (d.has_period i) in
+    λ i. ap₂ (λ x y. pos (3 * size) *ℤ x +ℤ pos u *ℤ y) (h.has_period i) (d.at_tight.has_period i) in
     let start : a 0 ≡ pos 0 =
     ap₂ (λ x y. pos (3 * size) *ℤ x +ℤ pos u *ℤ y) h.zero_at_zero (perturbation_at_zero t n k s p h d)
     ∙ by_ring (pos (3 * size) ∷ pos u ∷ []) (search ring depth 20) refl in
@@ -129,9 +129,11 @@ raised_minimal t p n k s u size some h d slacks sizes =
 
 opposite_perturbation : (t : ℕ → ℤ) (n k : ℕ) (p : ℕ → ℤ) → IsPerturbation t n k p → IsPerturbation t n k (λ i. neg_ℤ (p i))
 opposite_perturbation t n k p d = record {
-  has_period = λ i. ap neg_ℤ (d.has_period i);
+  at_tight = record {
+    has_period = λ i. ap neg_ℤ (d.at_tight.has_period i);
+    additive = λ i j tight. let sum = d.at_tight.additive i j tight in omega (arith, ints);
+  };
   zero_at_place = ap neg_ℤ d.zero_at_place;
-  additive = λ i j tight. let sum = d.additive i j tight in omega (arith, ints);
 }
 
 lowered_minimal : (t p : ℕ → ℤ) (n k s u size : ℕ) → 0 < n → IsMinimalTable t n k s → IsPerturbation t n k p →

@@ -245,9 +245,11 @@ pub zigzag_perturbs : (f : FunctionData) (class : List ℕ) → IsWithinBounds f
     AreUncoveredClasses f.order (IsTight f) class →
     IsPerturbation (table f 4) (f.order * 4) (f.place * 4) (zigzag f.order class)
 zigzag_perturbs f class l c h uncovered = record {
-  has_period = zigzag_period f.order class;
+  at_tight = record {
+    has_period = zigzag_period f.order class;
+    additive = λ i j tight. on_face i j (tight_pair_in_face f 4 i j l c h (omega arith) tight);
+  };
   zero_at_place = zigzag_at_multiple f.order class f.place;
-  additive = λ i j tight. on_face i j (tight_pair_in_face f 4 i j l c h (omega arith) tight);
 }
   where
     apart : IsApartFromCover f.order (IsTight f) (chosen_by f.order class)

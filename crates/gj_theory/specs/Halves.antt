@@ -2,12 +2,12 @@
 use Rattle.std.specs.Prelude.{ℕ, ℤ, pos, ◌≡◌, ◌≢◌, ◌+◌, ◌*◌, ◌<◌, ◌≤◌, ◌+ℤ◌, ◌-ℤ◌, ◌*ℤ◌, ◌<ℤ◌, ◌≤ℤ◌, unsigned_abs}
 use Rattle.gj_shape.specs.Extreme.{AverageTo}
 use Rattle.gj_shape.specs.Table.{IsMinimalTable}
+use Rattle.gj_theory.specs.Steps.{IsAdditiveAtTight}
 
--- a perturbation of a table of period n with f at the place k: of that period, 0 at f, and additive at each tight pair
+-- a perturbation of a table of period n with f at the place k: of that period, additive at each tight pair, and 0 at f
 pub record IsPerturbation (t : ℕ → ℤ) (n k : ℕ) (p : ℕ → ℤ) : Type 0 where
-  pub has_period : (i : ℕ) → p (i + n) ≡ p i
+  pub at_tight : IsAdditiveAtTight t n p
   pub zero_at_place : p k ≡ pos 0
-  pub additive : (i j : ℕ) → t i +ℤ t j ≡ t (i + j) → p i +ℤ p j ≡ p (i + j)
 
 -- u is above 0 and at most each positive slack of the table
 pub record IsBelowSlacks (t : ℕ → ℤ) (u : ℕ) : Type 0 where

@@ -5,3 +5,6 @@ pub mod Lanes
 pub mod Halves
 pub mod Filling
 pub mod Uncovered
+pub mod Steps
+pub mod CoverRules
+pub mod TriangularRows

@@ -1,0 +1,4 @@
+use Rattle.gj_theory.proofs.extreme.cover_and_rows_give_extreme.Goals as goal
+
+pub returns : goal.returns
+returns c = ?

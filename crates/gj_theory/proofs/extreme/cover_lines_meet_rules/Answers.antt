@@ -1,0 +1,4 @@
+use Rattle.gj_theory.proofs.extreme.cover_lines_meet_rules.Goals as goal
+
+pub returns : goal.returns
+returns c = ?
