@@ -17,7 +17,7 @@ difference_additive t a b n k s c minimal first second average = record {
   has_period = λ i. ap₂ (λ x y. x -ℤ pos c *ℤ y) (first.has_period i) (minimal.has_period i);
   additive = λ i j tight.
       let whole : (a i +ℤ b i) +ℤ (a j +ℤ b j) ≡ a (i + j) +ℤ b (i + j) =
-          ap₂ (λ x y. x +ℤ y) (average i) (average j) ∙ multiples (2 * c) (t i) (t j) (t (i + j)) tight ∙ sym (average (i + j)) in
+      ap₂ (λ x y. x +ℤ y) (average i) (average j) ∙ multiples (2 * c) (t i) (t j) (t (i + j)) tight ∙ sym (average (i + j)) in
       let sum : a i +ℤ a j ≡ a (i + j) = omega (arith, ints, first.subadditive i j, second.subadditive i j) in
       let part = multiples c (t i) (t j) (t (i + j)) tight in
       omega (arith, ints);

@@ -38,9 +38,9 @@ pub step_modulo : (p : ℕ → ℤ) (q m x y : ℕ) (t : ℤ) → ((i : ℕ) →
     HasStepOn p m x t → HasStepOn p m y t
 step_modulo p q m x y t period e step i low =
     let first = same_at_remainder p (q * m) period (x * m + i) (y * m + i)
-        (same_place x y q m i (x * m + i) (y * m + i) e (omega arith) (omega arith)) in
+    (same_place x y q m i (x * m + i) (y * m + i) e (omega arith) (omega arith)) in
     let second = same_at_remainder p (q * m) period (x * m + i + 1) (y * m + i + 1)
-        (same_place x y q m (i + 1) (x * m + i + 1) (y * m + i + 1) e (omega arith) (omega arith)) in
+    (same_place x y q m (i + 1) (x * m + i + 1) (y * m + i + 1) e (omega arith) (omega arith)) in
     let steps = step i low in
     omega (arith, ints)
 
@@ -86,7 +86,7 @@ from_either : (p : ℕ → ℤ) (q m x y i : ℕ) (t : ℤ) → ((k : ℕ) → p
 from_either p q m x y i t period to back one step =
     let Both : Type 0 = All (λ z. HasStepOn p m z t) (x ∷ y ∷ []) in
     let each = all_two (λ z. HasStepOn p m z t → Both) x y
-        (λ s. all_two (λ z. HasStepOn p m z t) x y s (to s)) (λ s. all_two (λ z. HasStepOn p m z t) x y (back s) s) in
+    (λ s. all_two (λ z. HasStepOn p m z t) x y s (to s)) (λ s. all_two (λ z. HasStepOn p m z t) x y (back s) s) in
     let found = all_of_any (λ z. HasStepOn p m z t → Both) (λ z. z % q ≡ i % q) (x ∷ y ∷ []) each one in
     found.1 (step_modulo p q m i found.0 t period (sym found.2) step)
 
@@ -96,22 +96,22 @@ step_on_links : (f : FunctionData) (m : ℕ) (p : ℕ → ℤ) (kind : FaceKind)
     HasStepOn p m i t → All (λ z. HasStepOn p m z t) (links_of kind a b)
 step_on_links f m p Horizontal a b i t continuous some h face one step =
     let same = λ (k u v : ℕ) (low : k ≤ m) (e : u ≡ a * m + k) (g : v ≡ (a + b) * m + k).
-        additive_on f m p Horizontal a b u (b * m) v continuous some h face
-        (omega arith, omega arith, omega arith) (omega arith) in
+    additive_on f m p Horizontal a b u (b * m) v continuous some h face
+    (omega arith, omega arith, omega arith) (omega arith) in
     from_either p f.order m a (a + b) i t h.has_period (in_step p (a * m) ((a + b) * m) m (p (b * m)) t same)
     (in_step_back p (a * m) ((a + b) * m) m (p (b * m)) t same) one step
 step_on_links f m p Vertical a b i t continuous some h face one step =
     let same = λ (k u v : ℕ) (low : k ≤ m) (e : u ≡ b * m + k) (g : v ≡ (a + b) * m + k).
-        add_comm_z (p u) (p (a * m)) ∙ additive_on f m p Vertical a b (a * m) u v continuous some h face
-        (omega arith, omega arith, omega arith) (omega arith) in
+    add_comm_z (p u) (p (a * m)) ∙ additive_on f m p Vertical a b (a * m) u v continuous some h face
+    (omega arith, omega arith, omega arith) (omega arith) in
     from_either p f.order m b (a + b) i t h.has_period (in_step p (b * m) ((a + b) * m) m (p (a * m)) t same)
     (in_step_back p (b * m) ((a + b) * m) m (p (a * m)) t same) one step
 step_on_links f m p Diagonal a b i t continuous some h face one step =
     let same = λ (k l u v : ℕ) (whole : k + l ≡ m) (e : u ≡ a * m + k) (g : v ≡ b * m + l).
-        additive_on f m p Diagonal a b u v ((a + b + 1) * m) continuous some h face
-        (omega arith, omega arith, omega arith) (omega arith) in
+    additive_on f m p Diagonal a b u v ((a + b + 1) * m) continuous some h face
+    (omega arith, omega arith, omega arith) (omega arith) in
     let turned = λ (l k v u : ℕ) (whole : l + k ≡ m) (g : v ≡ b * m + l) (e : u ≡ a * m + k).
-        add_comm_z (p v) (p u) ∙ same k l u v (omega arith) e g in
+    add_comm_z (p v) (p u) ∙ same k l u v (omega arith) e g in
     from_either p f.order m a b i t h.has_period (against p (a * m) (b * m) m (p ((a + b + 1) * m)) t same)
     (against p (b * m) (a * m) m (p ((a + b + 1) * m)) t turned) one step
 step_on_links f m p Vertex a b i t continuous some h face one step = All-nil (λ z. HasStepOn p m z t)
@@ -133,20 +133,24 @@ step_on_projections : (f : FunctionData) (m : ℕ) (p : ℕ → ℤ) (kind : Fac
     (t : ℤ) × All (λ z. HasStepOn p m z t) (triangle_projections kind a b)
 step_on_projections f m p Lower a b continuous some h face =
     let additive = λ (i j : ℕ) (low : i + j ≤ m).
-        additive_on f m p Lower a b (a * m + i) (b * m + j) (a * m + b * m + i + j) continuous some h face
-        (omega arith, omega arith, omega arith) (omega arith) in
+    additive_on f m p Lower a b (a * m + i) (b * m + j) (a * m + b * m + i + j) continuous some h face
+    (omega arith, omega arith, omega arith) (omega arith) in
     let steps = step_on_lower p (a * m) (b * m) m additive in
-    let sum : a * m + b * m ≡ (a + b) * m = omega arith in
-    (steps.0, all_three (λ z. HasStepOn p m z steps.0) a b (a + b) steps.1 steps.2
-    (subst (λ (x : ℕ). HasStep p x m steps.0) sum steps.3))
+    let sum : a * m + b * m ≡ (a + b) * m = omega arith in (
+      steps.0,
+      all_three (λ z. HasStepOn p m z steps.0) a b (a + b) steps.1 steps.2
+          (subst (λ (x : ℕ). HasStep p x m steps.0) sum steps.3),
+    )
 step_on_projections f m p Upper a b continuous some h face =
     let additive = λ (i j : ℕ) (i_low : i ≤ m) (j_low : j ≤ m) (high : m ≤ i + j).
-        additive_on f m p Upper a b (a * m + i) (b * m + j) (a * m + b * m + i + j) continuous some h face
-        (omega arith, omega arith, omega arith) (omega arith) in
+    additive_on f m p Upper a b (a * m + i) (b * m + j) (a * m + b * m + i + j) continuous some h face
+    (omega arith, omega arith, omega arith) (omega arith) in
     let steps = step_on_upper p (a * m) (b * m) m additive in
-    let sum : a * m + b * m + m ≡ (a + b + 1) * m = omega arith in
-    (steps.0, all_three (λ z. HasStepOn p m z steps.0) a b (a + b + 1) steps.1 steps.2
-    (subst (λ (x : ℕ). HasStep p x m steps.0) sum steps.3))
+    let sum : a * m + b * m + m ≡ (a + b + 1) * m = omega arith in (
+      steps.0,
+      all_three (λ z. HasStepOn p m z steps.0) a b (a + b + 1) steps.1 steps.2
+          (subst (λ (x : ℕ). HasStep p x m steps.0) sum steps.3),
+    )
 step_on_projections f m p Vertex a b continuous some h face = (pos 0, All-nil (λ z. HasStepOn p m z (pos 0)))
 step_on_projections f m p Horizontal a b continuous some h face = (pos 0, All-nil (λ z. HasStepOn p m z (pos 0)))
 step_on_projections f m p Vertical a b continuous some h face = (pos 0, All-nil (λ z. HasStepOn p m z (pos 0)))
@@ -156,7 +160,9 @@ pub given_by_triangle : (f : FunctionData) (m : ℕ) (p : ℕ → ℤ) (kind : F
     IsContinuous f → 0 < m → IsAdditiveOnGrid f m p → IsAdditive (IsTight f) kind a b →
     (t : ℤ) × ((i : ℕ) → IsOneOf f.order (triangle_projections kind a b) i → HasStepOn p m i t)
 given_by_triangle f m p kind a b continuous some h face =
-    let steps = step_on_projections f m p kind a b continuous some h face in
-    (steps.0, λ i one.
-    let found = all_of_any (λ z. HasStepOn p m z steps.0) (λ z. z % f.order ≡ i % f.order) (triangle_projections kind a b) steps.1 one in
-    step_modulo p f.order m found.0 i steps.0 h.has_period found.2 found.1)
+    let steps = step_on_projections f m p kind a b continuous some h face in (
+      steps.0,
+      λ i one.
+          let found = all_of_any (λ z. HasStepOn p m z steps.0) (λ z. z % f.order ≡ i % f.order) (triangle_projections kind a b) steps.1 one in
+          step_modulo p f.order m found.0 i steps.0 h.has_period found.2 found.1,
+    )

@@ -17,3 +17,4 @@ pub mod IntervalLemma
 pub mod TightFaces
 pub mod CarriedSteps
 pub mod AverageDifference
+pub mod Fillings
