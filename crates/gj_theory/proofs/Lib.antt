@@ -18,3 +18,4 @@ pub mod TightFaces
 pub mod CarriedSteps
 pub mod AverageDifference
 pub mod Fillings
+pub mod DecidingGrid

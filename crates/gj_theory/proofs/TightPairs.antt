@@ -1,10 +1,11 @@
 -- A tight pair of the table on any grid lies in the closure of an additive face.
-use Rattle.std.proofs.Common.{◌≡◌, ℕ, zero, suc, inl, inr, ◌+◌, ◌-◌, ◌*◌, ◌/◌, ◌%◌, ◌<◌, ◌≤◌, ℤ, pos, ◌+ℤ◌, ◌*ℤ◌, ◌≤ℤ◌, List, [], ◌∷◌, length, get_or, map, All, refl, sym, ap, subst, ◌∙◌, arith}
-use Rattle.std.proofs.Math.Nat.{mod-lt, div-add-mod'}
+use Rattle.std.proofs.Common.{◌≡◌, ℕ, zero, suc, inl, inr, ◌+◌, ◌-◌, ◌*◌, ◌/◌, ◌%◌, ◌<◌, ◌≤◌, ℤ, pos, ◌+ℤ◌, ◌*ℤ◌, ◌≤ℤ◌, List, [], ◌∷◌, length, get_or, map, All, refl, sym, ap, ap₂, subst, ◌∙◌, arith}
+use Rattle.std.proofs.Math.Nat.{mod-lt, div-add-mod', add-mod}
 use Rattle.std.proofs.lemmas.Bool.{cases_order}
 use Rattle.std.proofs.lemmas.Int.{ints}
 use Rattle.std.proofs.lemmas.List.Elements.{All-nil, All-cons, All-head, All-tail, All-map}
 use Rattle.gj_tools.proofs.Integers.{mul_nonnegative_z, mul_cancel_left_z}
+use Rattle.gj_tools.proofs.Quotients.{same_at_remainder}
 use Rattle.gj_shape.specs.FunctionData.{FunctionData, IsWithinBounds, IsContinuous, at}
 use Rattle.gj_shape.specs.Additive.{IsTight, IsTightOnGrid, IsAdditive, IsInFace, IsInClosure}
 use Rattle.gj_shape.specs.Faces.{corners_of, limits_of}
@@ -12,6 +13,7 @@ use Rattle.gj_shape.specs.Table.{table, IsMinimal}
 use Rattle.gj_shape.specs.declared.faces.FaceKind.{FaceKind}
 use Rattle.gj_shape.specs.declared.faces.FaceKind.TheVariants.{Vertex, Horizontal, Vertical, Diagonal, Lower, Upper}
 use Rattle.gj_shape.proofs.TableLemmas.{table_of_order, slack_at, limits_are_slacks}
+use Rattle.gj_theory.specs.Steps.{IsAdditiveAtTight}
 use Rattle.gj_theory.proofs.Affine.{weighted, limit_count, slack_on_vertex, slack_on_horizontal, slack_on_vertical, slack_on_diagonal, slack_on_lower, slack_on_upper}
 use Rattle.gj_theory.proofs.MinimalFromTests.{Place}
 use Rattle.gj_theory.proofs.MinimalFromTests.Place.{at_multiple, inside}
@@ -158,3 +160,23 @@ pub tight_pair_in_face : (f : FunctionData) (m i j : ℕ) → IsWithinBounds f �
     IsTightOnGrid f m i j → LiesInAdditiveFace f m i j
 tight_pair_in_face f m i j l c h some tight =
     tight_in_square f c h m i j (i / m) (j / m) some (place_of m i some) (place_of m j some) tight
+
+-- what has the period of the grid and is additive on the closures of all additive faces is additive at each tight pair
+pub additive_from_faces : (f : FunctionData) (m : ℕ) (p : ℕ → ℤ) → IsWithinBounds f → IsContinuous f → IsMinimal f → 0 < m →
+    ((i : ℕ) → p (i + f.order * m) ≡ p i) →
+    ((kind : FaceKind) (a b x y : ℕ) → IsAdditive (IsTight f) kind a b → IsInFace m kind a b x y → p x +ℤ p y ≡ p (x + y)) →
+    IsAdditiveAtTight (table f m) (f.order * m) p
+additive_from_faces f m p l c h some period on_faces = record {
+  has_period = period;
+  additive = λ i j tight. on_face i j (tight_pair_in_face f m i j l c h some tight);
+}
+  where
+    n : ℕ
+    n = f.order * m
+
+    on_face : (i j : ℕ) → LiesInAdditiveFace f m i j → p i +ℤ p j ≡ p (i + j)
+    on_face i j (kind, a, b, (x, y, e, g, closed), additive) =
+        let same = same_at_remainder p n period in
+        let sum : (x + y) % n ≡ (i + j) % n = add-mod x y n ∙ ap₂ (λ r s. (r + s) % n) e g ∙ sym (add-mod i j n) in
+        ap₂ (λ v w. v +ℤ w) (sym (same x i e)) (sym (same y j g)) ∙ on_faces kind a b x y additive closed
+        ∙ same (x + y) (i + j) sum

@@ -17,7 +17,7 @@ use Rattle.gj_shape.specs.declared.faces.FaceKind.TheVariants.{Vertex, Horizonta
 use Rattle.gj_shape.proofs.TableLemmas.{period_of_parts}
 use Rattle.gj_theory.specs.Halves.{IsPerturbation}
 use Rattle.gj_theory.specs.Uncovered.{AreUncoveredClasses}
-use Rattle.gj_theory.proofs.TightPairs.{LiesInAdditiveFace, tight_pair_in_face}
+use Rattle.gj_theory.proofs.TightPairs.{additive_from_faces}
 
 -- ---- the zigzag on one interval
 
@@ -183,11 +183,11 @@ chosen_contained : (q : ℕ) (class : List ℕ) (i : ℕ) → Contains class (i 
 chosen_contained q class i (k, below, there) =
     list_any-from_Any (λ a. a == i % q) class (k, i % q, below, there, eq-eqb (i % q) (i % q) refl)
 
-all_contained : (P : ℕ → Type 0) (class : List ℕ) (a : ℕ) → All P class → Contains class a → P a
+pub all_contained : (P : ℕ → Type 0) (class : List ℕ) (a : ℕ) → All P class → Contains class a → P a
 all_contained P class a h (k, below, there) = subst P there (h k a below)
 
 -- joined intervals by their remainders
-joined_remainders : (q : ℕ) (Tight : ℕ → ℕ → Type 0) (i j i' j' : ℕ) → i % q ≡ i' % q → j % q ≡ j' % q →
+pub joined_remainders : (q : ℕ) (Tight : ℕ → ℕ → Type 0) (i j i' j' : ℕ) → i % q ≡ i' % q → j % q ≡ j' % q →
     AreJoined q Tight i j → AreJoined q Tight i' j'
 joined_remainders q Tight i j i' j' e g (kind, a, b, h) =
     (kind, a, b, record { additive = h.additive; first = moved _ i i' e h.first; second = moved _ j j' g h.second })
@@ -245,25 +245,9 @@ pub zigzag_perturbs : (f : FunctionData) (class : List ℕ) → IsWithinBounds f
     AreUncoveredClasses f.order (IsTight f) class →
     IsPerturbation (table f 4) (f.order * 4) (f.place * 4) (zigzag f.order class)
 zigzag_perturbs f class l c h uncovered = record {
-  at_tight = record {
-    has_period = zigzag_period f.order class;
-    additive = λ i j tight. on_face i j (tight_pair_in_face f 4 i j l c h (omega arith) tight);
-  };
+  at_tight =
+      additive_from_faces f 4 (zigzag f.order class) l c h (omega arith) (zigzag_period f.order class)
+      (additive_on_face f.order (IsTight f) (chosen_by f.order class)
+      (apart_from_cover f.order (IsTight f) class (omega arith) uncovered));
   zero_at_place = zigzag_at_multiple f.order class f.place;
 }
-  where
-    apart : IsApartFromCover f.order (IsTight f) (chosen_by f.order class)
-    apart = apart_from_cover f.order (IsTight f) class (omega arith) uncovered
-
-    z : ℕ → ℤ
-    z = zigzag f.order class
-
-    on_face : (i j : ℕ) → LiesInAdditiveFace f 4 i j → z i +ℤ z j ≡ z (i + j)
-    on_face i j (kind, a, b, (x, y, e, g, closed), additive) =
-        let n = f.order * 4 in
-        let same = same_at_remainder z n (zigzag_period f.order class) in
-        let sum : (x + y) % n ≡ (i + j) % n =
-        add-mod x y n ∙ ap₂ (λ r s. (r + s) % n) e g ∙ sym (add-mod i j n) in
-        ap₂ (λ v w. v +ℤ w) (sym (same x i e)) (sym (same y j g))
-        ∙ additive_on_face f.order (IsTight f) (chosen_by f.order class) apart kind a b x y additive closed
-        ∙ same (x + y) (i + j) sum
