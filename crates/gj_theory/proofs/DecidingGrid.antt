@@ -25,13 +25,14 @@ use Rattle.gj_theory.specs.Steps.{HasStepOn, IsAdditiveOnGrid}
 use Rattle.gj_theory.specs.Uncovered.{AreUncoveredClasses}
 use Rattle.gj_theory.proofs.AverageDifference.{difference_additive, difference_zero}
 use Rattle.gj_theory.proofs.CarriedSteps.{carried_by_edge, given_by_triangle, step_modulo}
+use Rattle.gj_theory.proofs.CoverPaths.{all_contained, joined_turned, covered_onward}
 use Rattle.gj_theory.proofs.Fillings.{filling_at, filling_at_multiple, filling_period, parts_at, halves_deny}
 use Rattle.gj_theory.proofs.HalvesAsLists.{at_made}
 use Rattle.gj_theory.proofs.PerturbedTables.{halves_of_perturbation}
 use Rattle.gj_theory.proofs.SlacksAndSizes.{greatest_size}
 use Rattle.gj_theory.proofs.TightFaces.{value_at_place, tight_in_face}
 use Rattle.gj_theory.proofs.TightPairs.{additive_from_faces}
-use Rattle.gj_theory.proofs.Zigzags.{zigzag_perturbs, zigzag_at_quarter, all_contained, joined_turned, joined_remainders}
+use Rattle.gj_theory.proofs.Zigzags.{zigzag_perturbs, zigzag_at_quarter}
 
 -- ---- a minimal table is extreme exactly where it has no perturbation but 0
 
@@ -134,7 +135,9 @@ coarse_perturbation f m p l c h some d = record {
       additive_from_faces f 4 (filling v 4) l c h (omega arith) (filling_period v f.order 4 (omega arith) period)
       (λ kind a b x y additive inside.
       filling_additive v f.order 4 (omega arith) (omega arith) period kind a b x y
-      (λ k e below. at_corner (get_or (corners_of kind a b) k e).0 (get_or (corners_of kind a b) k e).1 (additive k e below))
+      (λ k e below.
+      let corner = get_or (corners_of kind a b) k e in
+      at_corner corner.0 corner.1 (additive k e below))
       inside);
   zero_at_place =
       filling_at_multiple v 4 f.place (omega arith) ∙ ap (λ z. pos 4 *ℤ z) d.zero_at_place ∙ omega (arith, ints);
@@ -214,15 +217,6 @@ zero_on_run p m i t some step start end r below =
     rises p m i t step start r below ∙ ap (λ z. pos r *ℤ z) flat ∙ omega (arith, ints)
 
 -- ---- uncovered intervals
-
-leads_onward : (q : ℕ) (Tight : ℕ → ℕ → Type 0) (j i d : ℕ) → AreJoined q Tight j i → LeadsTo q Tight j d → LeadsTo q Tight i d
-leads_onward q Tight j i _ both (here d e) =
-    onward d i (joined_remainders q Tight j i d i (sym e) refl both) (here i refl)
-leads_onward q Tight j i _ both (onward d next first rest) = onward d next first (leads_onward q Tight j i next both rest)
-
--- what is joined to a covered interval is covered
-covered_onward : (q : ℕ) (Tight : ℕ → ℕ → Type 0) (j i : ℕ) → AreJoined q Tight j i → IsCovered q Tight j → IsCovered q Tight i
-covered_onward q Tight j i both (d, direct, leads) = (d, direct, leads_onward q Tight j i d both leads)
 
 -- a list of the numbers below n without the property
 pub record IsListWithout (P : ℕ → Type 0) (n : ℕ) (class : List ℕ) : Type 0 where
@@ -322,4 +316,5 @@ four_times_decides f l c h = (λ extreme. extreme 4 (omega arith), onto_all)
     onto_all extreme m some =
         extreme_from_none (table f m) (f.order * m) (f.place * m) (f.scale * m) (h m some)
         (none_on_grid f m l c h some
-        (none_from_extreme (table f 4) (f.order * 4) (f.place * 4) (f.scale * 4) (mul-pos (omega arith) (omega arith)) extreme))
+        (none_from_extreme (table f 4) (f.order * 4) (f.place * 4) (f.scale * 4) (mul-pos (omega arith) (omega arith))
+        extreme))

@@ -121,7 +121,8 @@ filling_subadditive t m some h i j =
     elim (cases_lt (r + s) m) [
       | inl low ↦
           let w = m - (r + s) in
-          le_by (filling_at t m i a (w + s) r some first (omega arith)) (filling_at t m j b (w + r) s some second (omega arith))
+          le_by (filling_at t m i a (w + s) r some first (omega arith))
+          (filling_at t m j b (w + r) s some second (omega arith))
           (filling_at t m (i + j) (a + b) w (r + s) some (omega arith) (omega arith))
           (low_le w r s _ _ _ _ _ _ (h a b) (at_sum t h (a + 1) b (a + b + 1) (omega arith))
           (at_sum t h a (b + 1) (a + b + 1) (omega arith)))
@@ -173,7 +174,8 @@ filling_opposite t n k s m n_some m_some h i j high e =
     let one : a + (b + 1) ≡ sum = omega arith in
     let other : a + 1 + b ≡ sum = omega arith in
     let second : j ≡ b * m + u = omega (arith, ap (λ x. x * m) one) in
-    ap₂ (λ x y. x +ℤ y) (filling_at t m i a u r m_some first (omega arith)) (filling_at t m j b r u m_some second (omega arith))
+    ap₂ (λ x y. x +ℤ y) (filling_at t m i a u r m_some first (omega arith))
+    (filling_at t m j b r u m_some second (omega arith))
     ∙ opposite_sum u r m s (t a) (t (a + 1)) (t b) (t (b + 1)) (omega arith)
     (h.symmetric a (b + 1) (ap (λ x. x % n) one ∙ parts.0)) (h.symmetric (a + 1) b (ap (λ x. x % n) other ∙ parts.0))
 
@@ -192,7 +194,8 @@ filling_minimal t n k s m n_some m_some h = record {
   has_period = filling_period t n m m_some h.has_period;
   zero_at_zero =
       let start : 0 ≡ 0 * m = omega arith in
-      ap (filling t m) start ∙ filling_at_multiple t m 0 m_some ∙ ap (λ x. pos m *ℤ x) h.zero_at_zero ∙ omega (arith, ints);
+      ap (filling t m) start ∙ filling_at_multiple t m 0 m_some ∙ ap (λ x. pos m *ℤ x) h.zero_at_zero
+      ∙ omega (arith, ints);
   nonnegative = filling_nonnegative t m h.nonnegative;
   subadditive = filling_subadditive t m m_some h.subadditive;
   symmetric = filling_symmetric t n k s m n_some m_some h;
@@ -205,7 +208,8 @@ finer_z : (u r g e : ℕ) (x y : ℤ) →
     ≡ pos u *ℤ (pos (g + 1) *ℤ x +ℤ pos e *ℤ y) +ℤ pos r *ℤ (pos g *ℤ x +ℤ pos (e + 1) *ℤ y)
 finer_z u r g e x y = by_ring (pos u ∷ pos r ∷ pos g ∷ pos e ∷ x ∷ y ∷ []) (search ring depth 30) refl
 
-finer_at : (f : FunctionData) (i j a u r g e : ℕ) → IsContinuous f → 0 < u → i ≡ j * (u + r) + r → j ≡ a * (g + 1 + e) + e →
+finer_at : (f : FunctionData) (i j a u r g e : ℕ) → IsContinuous f → 0 < u → i ≡ j * (u + r) + r →
+    j ≡ a * (g + 1 + e) + e →
     table f ((g + 1 + e) * (u + r)) i ≡ filling (table f (g + 1 + e)) (u + r) i
 finer_at f i j a u r g e c u_some i_is j_is =
     let d = g + 1 + e in
@@ -279,13 +283,13 @@ halves_of_same t t' a b n k s n' k' s' c e n_is k_is s_is h = record {
   different = h.different;
 }
 
-pub function_finer_halves : (f : FunctionData) (d m c : ℕ) (a b : ℕ → ℤ) → IsWithinBounds f → IsContinuous f → 0 < d → 0 < m →
-    AreDifferentHalves (table f d) (f.order * d) (f.place * d) (f.scale * d) c a b →
+pub function_finer_halves : (f : FunctionData) (d m c : ℕ) (a b : ℕ → ℤ) → IsWithinBounds f → IsContinuous f → 0 < d →
+    0 < m → AreDifferentHalves (table f d) (f.order * d) (f.place * d) (f.scale * d) c a b →
     AreDifferentHalves (table f (d * m)) (f.order * (d * m)) (f.place * (d * m)) (f.scale * (d * m)) c
     (filling a m) (filling b m)
 function_finer_halves f d m c a b l continuous d_some m_some h =
-    halves_of_same (filling (table f d) m) (table f (d * m)) (filling a m) (filling b m) (f.order * d * m) (f.place * d * m)
-    (f.scale * d * m) (f.order * (d * m)) (f.place * (d * m)) (f.scale * (d * m)) c
+    halves_of_same (filling (table f d) m) (table f (d * m)) (filling a m) (filling b m) (f.order * d * m)
+    (f.place * d * m) (f.scale * d * m) (f.order * (d * m)) (f.place * (d * m)) (f.scale * (d * m)) c
     (λ i. finer_is_filling f d m i continuous d_some m_some) (mul_assoc f.order d m) (mul_assoc f.place d m)
     (mul_assoc f.scale d m)
     (finer_halves (table f d) (f.order * d) (f.place * d) (f.scale * d) c m a b (mul-pos (omega arith) d_some) m_some h)

@@ -35,8 +35,8 @@ same_halves t a b a' b' n k s c e g h = record {
   different = λ same. h.different (sym (e h.index) ∙ same ∙ g h.index);
 }
 
-pub lists_are_halves : (f : FunctionData) (m : ℕ) (p : ℕ → ℤ) (h : Halves) (i : ℕ) → IsWithinBounds f → IsMinimal f → 0 < m →
-    IsPerturbation (table f m) (f.order * m) (f.place * m) p → p i ≢ pos 0 → (halves : AreHalvesOf f m p h) →
+pub lists_are_halves : (f : FunctionData) (m : ℕ) (p : ℕ → ℤ) (h : Halves) (i : ℕ) → IsWithinBounds f → IsMinimal f →
+    0 < m → IsPerturbation (table f m) (f.order * m) (f.place * m) p → p i ≢ pos 0 → (halves : AreHalvesOf f m p h) →
     AreDifferentHalves (table f m) (f.order * m) (f.place * m) (f.scale * m) (3 * halves.p) (at h.first) (at h.second)
 lists_are_halves f m p h i l minimal some d p_some halves =
     let t = table f m in

@@ -12,6 +12,7 @@ pub mod TightPairs
 pub mod PerturbedTables
 pub mod SlacksAndSizes
 pub mod HalvesAsLists
+pub mod CoverPaths
 pub mod Zigzags
 pub mod IntervalLemma
 pub mod TightFaces

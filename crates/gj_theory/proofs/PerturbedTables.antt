@@ -42,7 +42,8 @@ tight_step w v x y z p q r e g =
 
 multiples : (a : ℕ → ℤ) → a 0 ≡ pos 0 → ((i j : ℕ) → a (i + j) ≤ℤ (a i +ℤ a j)) → (i c : ℕ) →
     a (i * c) ≤ℤ (a i *ℤ pos c)
-multiples a zero_at_zero h i zero = let at_zero : a (i * 0) ≡ pos 0 = ap a (omega arith) ∙ zero_at_zero in omega (arith, ints)
+multiples a zero_at_zero h i zero =
+    let at_zero : a (i * 0) ≡ pos 0 = ap a (omega arith) ∙ zero_at_zero in omega (arith, ints)
 multiples a zero_at_zero h i (suc c) =
     let next : a (i * suc c) ≡ a (i * c + i) = ap a (omega arith) in
     let step = h (i * c) i in
@@ -69,7 +70,8 @@ perturbation_at_zero t n k s p h d =
     omega (arith, ints)
 
 -- entries at places that add up to f: tight, and the perturbations add up to 0
-opposite_tight : (t : ℕ → ℤ) (n k s : ℕ) → IsMinimalTable t n k s → (i j : ℕ) → (i + j) % n ≡ k % n → t i +ℤ t j ≡ t (i + j)
+opposite_tight : (t : ℕ → ℤ) (n k s : ℕ) → IsMinimalTable t n k s → (i j : ℕ) → (i + j) % n ≡ k % n →
+    t i +ℤ t j ≡ t (i + j)
 opposite_tight t n k s h i j opposite =
     let zero_at_zero = h.zero_at_zero in
     let place : t 0 +ℤ t k ≡ pos s = h.symmetric 0 k (ap (λ x. x % n) (omega arith)) in
@@ -98,7 +100,8 @@ raised_subadditive t p n k s u size h d slacks sizes i j =
     let least = h.subadditive i j in
     let tight : t i +ℤ t j ≡ t (i + j) = omega (arith, ints) in
     let equal =
-    tight_step (pos (3 * size)) (pos u) (t i) (t j) (t (i + j)) (p i) (p j) (p (i + j)) tight (d.at_tight.additive i j tight) in
+    tight_step (pos (3 * size)) (pos u) (t i) (t j) (t (i + j)) (p i) (p j) (p (i + j)) tight
+    (d.at_tight.additive i j tight) in
     omega (arith, ints))
 
 raised_symmetric : (w s v x y p q : ℤ) → x +ℤ y ≡ s → p +ℤ q ≡ pos 0 → (w *ℤ x +ℤ v *ℤ p) +ℤ (w *ℤ y +ℤ v *ℤ q) ≡ w *ℤ s
@@ -127,7 +130,8 @@ raised_minimal t p n k s u size some h d slacks sizes =
 
 -- ---- the perturbation with its sign turned
 
-opposite_perturbation : (t : ℕ → ℤ) (n k : ℕ) (p : ℕ → ℤ) → IsPerturbation t n k p → IsPerturbation t n k (λ i. neg_ℤ (p i))
+opposite_perturbation : (t : ℕ → ℤ) (n k : ℕ) (p : ℕ → ℤ) → IsPerturbation t n k p →
+    IsPerturbation t n k (λ i. neg_ℤ (p i))
 opposite_perturbation t n k p d = record {
   at_tight = record {
     has_period = λ i. ap neg_ℤ (d.at_tight.has_period i);

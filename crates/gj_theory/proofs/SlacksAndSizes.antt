@@ -26,7 +26,8 @@ greatest_up_to : (p : ℕ → ℤ) (n : ℕ) → (i : ℕ) × IsGreatestUpTo p n
 greatest_up_to p zero = (
   0,
   record {
-    greatest = λ j below. let e : unsigned_abs (p j) ≡ unsigned_abs (p 0) = ap (λ x. unsigned_abs (p x)) (omega arith) in omega arith;
+    greatest = λ j below.
+        let e : unsigned_abs (p j) ≡ unsigned_abs (p 0) = ap (λ x. unsigned_abs (p x)) (omega arith) in omega arith;
   },
 )
 greatest_up_to p (suc n) = one_more (greatest_up_to p n)

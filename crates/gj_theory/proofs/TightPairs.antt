@@ -55,7 +55,8 @@ all_images P g (x ∷ xs) h =
 slack_nonnegative : (f : FunctionData) → IsMinimal f → (corner : ℕ × ℕ) → pos 0 ≤ℤ slack_at f corner
 slack_nonnegative f h corner =
     let whole = (h 1 (omega arith)).subadditive corner.0 corner.1 in
-    let values = rw (table_of_order f (corner.0 + corner.1), table_of_order f corner.0, table_of_order f corner.1) at whole in
+    let value = table_of_order f in
+    let values = rw (value (corner.0 + corner.1), value corner.0, value corner.1) at whole in
     omega (arith, ints)
 
 tight_from_slack : (f : FunctionData) (corner : ℕ × ℕ) → slack_at f corner ≡ pos 0 → IsTight f corner.0 corner.1
@@ -71,7 +72,8 @@ slacks_nonnegative f c h kind a b =
 
 -- where the slack at a point of a face is 0, and the point has a weight above 0 at each corner, the face is additive
 additive_from_weights : (f : FunctionData) → IsContinuous f → IsMinimal f → (kind : FaceKind) (a b : ℕ) (ws : List ℕ) →
-    All (λ w. 0 < w) ws → length (corners_of kind a b) ≤ length ws → (x y : ℤ) → x ≡ y +ℤ weighted ws (limits_of f kind a b) →
+    All (λ w. 0 < w) ws → length (corners_of kind a b) ≤ length ws → (x y : ℤ) →
+    x ≡ y +ℤ weighted ws (limits_of f kind a b) →
     x ≡ y → IsAdditive (IsTight f) kind a b
 additive_from_weights f c h kind a b ws some long x y slack tight =
     let count = limit_count f kind a b in
@@ -162,9 +164,10 @@ tight_pair_in_face f m i j l c h some tight =
     tight_in_square f c h m i j (i / m) (j / m) some (place_of m i some) (place_of m j some) tight
 
 -- what has the period of the grid and is additive on the closures of all additive faces is additive at each tight pair
-pub additive_from_faces : (f : FunctionData) (m : ℕ) (p : ℕ → ℤ) → IsWithinBounds f → IsContinuous f → IsMinimal f → 0 < m →
-    ((i : ℕ) → p (i + f.order * m) ≡ p i) →
-    ((kind : FaceKind) (a b x y : ℕ) → IsAdditive (IsTight f) kind a b → IsInFace m kind a b x y → p x +ℤ p y ≡ p (x + y)) →
+pub additive_from_faces : (f : FunctionData) (m : ℕ) (p : ℕ → ℤ) → IsWithinBounds f → IsContinuous f → IsMinimal f →
+    0 < m → ((i : ℕ) → p (i + f.order * m) ≡ p i) →
+    ((kind : FaceKind) (a b x y : ℕ) → IsAdditive (IsTight f) kind a b → IsInFace m kind a b x y →
+    p x +ℤ p y ≡ p (x + y)) →
     IsAdditiveAtTight (table f m) (f.order * m) p
 additive_from_faces f m p l c h some period on_faces = record {
   has_period = period;

@@ -17,6 +17,7 @@ use Rattle.gj_shape.specs.declared.faces.FaceKind.TheVariants.{Vertex, Horizonta
 use Rattle.gj_shape.proofs.TableLemmas.{period_of_parts}
 use Rattle.gj_theory.specs.Halves.{IsPerturbation}
 use Rattle.gj_theory.specs.Uncovered.{AreUncoveredClasses}
+use Rattle.gj_theory.proofs.CoverPaths.{all_contained, joined_remainders, joined_turned}
 use Rattle.gj_theory.proofs.TightPairs.{additive_from_faces}
 
 -- ---- the zigzag on one interval
@@ -55,7 +56,9 @@ zigzag_at chosen i a r e below = elim (cases_lt r 4) [
 ]
 
 bump_mirrored : (b : Bool) (r s : ℕ) → r + s ≡ 4 → bump_where b r +ℤ bump_where b s ≡ pos 0
-bump_mirrored b r s whole = ap (λ n. bump_where b r +ℤ bump_where b n) (let e : s ≡ 4 - r = omega arith in e) ∙ of_first b r (omega arith)
+bump_mirrored b r s whole =
+    let other : s ≡ 4 - r = omega arith in
+    ap (λ n. bump_where b r +ℤ bump_where b n) other ∙ of_first b r (omega arith)
   where
     of_first : (b : Bool) (r : ℕ) → r ≤ 4 → bump_where b r +ℤ bump_where b (4 - r) ≡ pos 0
     of_first false r below = refl
@@ -98,7 +101,8 @@ additive_on_face : (q : ℕ) (Tight : ℕ → ℕ → Type 0) (chosen : ℕ → 
     (kind : FaceKind) (a b x y : ℕ) → IsAdditive Tight kind a b → IsInFace 4 kind a b x y →
     zigzag_by chosen x +ℤ zigzag_by chosen y ≡ zigzag_by chosen (x + y)
 additive_on_face q Tight chosen h Vertex a b x y additive (e, g) =
-    at_parts chosen x y a 0 b 0 (a + b) 0 (omega arith) (omega arith) (omega arith) (omega arith) (omega arith) (omega arith)
+    at_parts chosen x y a 0 b 0 (a + b) 0 (omega arith) (omega arith) (omega arith) (omega arith) (omega arith)
+    (omega arith)
     (ap₂ (λ v w. v +ℤ w) (bump_at_start (chosen a)) (bump_at_start (chosen b)) ∙ sym (bump_at_start (chosen (a + b))))
 additive_on_face q Tight chosen h Horizontal a b x y additive (low, high, g) =
     let r = x - a * 4 in
@@ -113,7 +117,8 @@ additive_on_face q Tight chosen h Horizontal a b x y additive (low, high, g) =
         second = second_of q a (a + b) [];
       },
     ) in
-    at_parts chosen x y a r b 0 (a + b) r (omega arith) (omega arith) (omega arith) (omega arith) (omega arith) (omega arith)
+    at_parts chosen x y a r b 0 (a + b) r (omega arith) (omega arith) (omega arith) (omega arith) (omega arith)
+    (omega arith)
     (ap₂ (λ v w. v +ℤ w) (ap (λ c. bump_where c r) same) (bump_at_start (chosen b)) ∙ omega (arith, ints))
 additive_on_face q Tight chosen h Vertical a b x y additive (e, low, high) =
     let s = y - b * 4 in
@@ -127,7 +132,8 @@ additive_on_face q Tight chosen h Vertical a b x y additive (e, low, high) =
         second = second_of q b (a + b) [];
       },
     ) in
-    at_parts chosen x y a 0 b s (a + b) s (omega arith) (omega arith) (omega arith) (omega arith) (omega arith) (omega arith)
+    at_parts chosen x y a 0 b s (a + b) s (omega arith) (omega arith) (omega arith) (omega arith) (omega arith)
+    (omega arith)
     (ap₂ (λ v w. v +ℤ w) (bump_at_start (chosen a)) (ap (λ c. bump_where c s) same) ∙ omega (arith, ints))
 additive_on_face q Tight chosen h Diagonal a b x y additive (low, high, whole) =
     let r = x - a * 4 in
@@ -182,22 +188,6 @@ contains_chosen q class i e = of_any (Any-from_list_any (λ a. a == i % q) class
 chosen_contained : (q : ℕ) (class : List ℕ) (i : ℕ) → Contains class (i % q) → chosen_by q class i ≡ true
 chosen_contained q class i (k, below, there) =
     list_any-from_Any (λ a. a == i % q) class (k, i % q, below, there, eq-eqb (i % q) (i % q) refl)
-
-pub all_contained : (P : ℕ → Type 0) (class : List ℕ) (a : ℕ) → All P class → Contains class a → P a
-all_contained P class a h (k, below, there) = subst P there (h k a below)
-
--- joined intervals by their remainders
-pub joined_remainders : (q : ℕ) (Tight : ℕ → ℕ → Type 0) (i j i' j' : ℕ) → i % q ≡ i' % q → j % q ≡ j' % q →
-    AreJoined q Tight i j → AreJoined q Tight i' j'
-joined_remainders q Tight i j i' j' e g (kind, a, b, h) =
-    (kind, a, b, record { additive = h.additive; first = moved _ i i' e h.first; second = moved _ j j' g h.second })
-  where
-    moved : (xs : List ℕ) (i i' : ℕ) → i % q ≡ i' % q → IsOneOf q xs i → IsOneOf q xs i'
-    moved xs i i' e (k, x, below, there, same) = (k, x, below, there, same ∙ e)
-
-pub joined_turned : (q : ℕ) (Tight : ℕ → ℕ → Type 0) (i j : ℕ) → AreJoined q Tight i j → AreJoined q Tight j i
-joined_turned q Tight i j (kind, a, b, h) =
-    (kind, a, b, record { additive = h.additive; first = h.second; second = h.first })
 
 same_tests : (b c : Bool) → (b ≡ true → c ≡ true) → (c ≡ true → b ≡ true) → b ≡ c
 same_tests true c f g = sym (f refl)
