@@ -1,5 +1,5 @@
 -- Additive edges carry a constant step, and additive triangles give one.
-use Rattle.std.proofs.Common.{◌≡◌, ℕ, ◌+◌, ◌-◌, ◌*◌, ◌/◌, ◌%◌, ◌<◌, ◌≤◌, ℤ, pos, ◌+ℤ◌, List, [], ◌∷◌, All, Any, ap, ap₂, sym, subst, ◌∙◌, arith}
+use Rattle.std.proofs.Common.{◌≡◌, ℕ, ◌+◌, ◌-◌, ◌*◌, ◌/◌, ◌%◌, ◌<◌, ◌≤◌, ℤ, pos, ◌+ℤ◌, List, [], ◌∷◌, All, Any, ap, sym, subst, ◌∙◌, arith}
 use Rattle.std.proofs.lemmas.Int.{ints}
 use Rattle.std.proofs.lemmas.List.Elements.{All-nil, All-cons}
 use Rattle.gj_tools.proofs.Integers.{add_comm_z}
@@ -9,7 +9,7 @@ use Rattle.gj_shape.specs.Cover.{IsOneOf, links_of, triangle_projections}
 use Rattle.gj_shape.specs.FunctionData.{FunctionData, IsContinuous}
 use Rattle.gj_shape.specs.declared.faces.FaceKind.{FaceKind}
 use Rattle.gj_shape.specs.declared.faces.FaceKind.TheVariants.{Vertex, Horizontal, Vertical, Diagonal, Lower, Upper}
-use Rattle.gj_theory.specs.Steps.{HasStep, HasStepOn, IsAdditiveOnLower, IsAdditiveOnUpper, IsAdditiveOnGrid}
+use Rattle.gj_theory.specs.Steps.{HasStep, HasStepOn, IsAdditiveOnGrid}
 use Rattle.gj_theory.proofs.IntervalLemma.{step_on_lower, step_on_upper}
 use Rattle.gj_theory.proofs.TightFaces.{tight_in_face}
 
@@ -28,7 +28,7 @@ all_three P x y z first second third = All-cons P x (y ∷ z ∷ []) first (all_
 -- ---- intervals modulo the order
 
 -- the places of two intervals that are one modulo the order
-same_place : (x y q m k u v : ℕ) → x % q ≡ y % q → u ≡ x * m + k → v ≡ y * m + k → u % (q * m) ≡ v % (q * m)
+pub same_place : (x y q m k u v : ℕ) → x % q ≡ y % q → u ≡ x * m + k → v ≡ y * m + k → u % (q * m) ≡ v % (q * m)
 same_place x y q m k u v e first second =
     let same = ap (λ n. n * m) (from_same_remainder x y q e) in
     same_remainder u v (y / q) (x / q) (q * m) (omega arith)

@@ -20,3 +20,8 @@ pub mod CarriedSteps
 pub mod AverageDifference
 pub mod Fillings
 pub mod DecidingGrid
+pub mod CoverLines
+pub mod CoverSteps
+pub mod TriangularZero
+pub mod SlopeSums
+pub mod ExtremeByCover

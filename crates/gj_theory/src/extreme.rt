@@ -21,8 +21,7 @@ pub fn cover_lines_meet_rules()
 /// intervals of a component.
 pub fn components_have_one_step()
     ensures { (f : FunctionData) (m : ℕ) (p : ℕ → ℤ) (lines : List CoverLine) →
-        IsWithinBounds f → IsContinuous f → 0 < m → IsAdditiveOnGrid f m p →
-        MeetsCoverRules f.order (IsTight f) lines →
+        IsContinuous f → 0 < m → IsAdditiveOnGrid f m p → MeetsCoverRules f.order (IsTight f) lines →
         (step : ℕ → ℤ) × ((number i : ℕ) → HasComponent lines number i → HasStepOn p m i (step number)) }
 {}
 
