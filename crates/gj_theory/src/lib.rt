@@ -5,10 +5,13 @@
 //! test gives the first violation, and `shown` that a first violation is shown at its points and that a shown violation
 //! denies that the function, or the table on a grid that holds the points, is minimal.
 //!
+//! `elimination` says what plain elimination keeps: the solutions of its rows.
+//!
 //! The decision and the separate checker both rest on these theorems and share no code. A call does nothing: it brings
 //! the theorem to the caller's proof.
 #![tactic(auto)]
 
+pub mod elimination;
 pub mod first_violation;
 pub mod grid;
 pub mod shown;

@@ -1,0 +1,3 @@
+//! Plain elimination over whole numbers.
+#![tactic(auto)]
+
