@@ -1,1 +1,5 @@
-pub mod Trial
+pub mod Data
+pub mod KeptRows
+pub mod Basis
+pub mod Combination
+pub mod Progress

@@ -6,5 +6,9 @@ pub mod TestsFromMinimal
 pub mod ShownPoints
 pub mod Violations
 pub mod FirstFailed
+pub mod RowSums
+pub mod Steps
+pub mod Entries
+pub mod Insertions
 pub mod Continuous
 pub mod Lanes
