@@ -152,7 +152,7 @@ all_push : (P : ℕ → Type 0) (xs : List ℕ) (y : ℕ) → AllByRecursion P x
 all_push P [] y all last = (last, tt)
 all_push P (x ∷ xs) y all last = (all.0, all_push P xs y all.1 last)
 
-pivots_push : (kept : List KeptRow) (k : KeptRow) → IsDistinct (λ a b. eqb a b) (map (λ r. r.pivot) kept) →
+pub pivots_push : (kept : List KeptRow) (k : KeptRow) → IsDistinct (λ a b. eqb a b) (map (λ r. r.pivot) kept) →
     row_with_pivot kept k.pivot ≡ None → IsDistinct (λ a b. eqb a b) (map (λ r. r.pivot) kept ++ k.pivot ∷ [])
 pivots_push [] k h free = IsDistinct-cons (λ a b. eqb a b) k.pivot [] tt h
 pivots_push (x ∷ kept) k h free =

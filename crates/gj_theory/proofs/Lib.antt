@@ -10,5 +10,7 @@ pub mod RowSums
 pub mod Steps
 pub mod Entries
 pub mod Insertions
+pub mod Triangular
+pub mod Eliminations
 pub mod Continuous
 pub mod Lanes
