@@ -12,5 +12,6 @@ pub mod Entries
 pub mod Insertions
 pub mod Triangular
 pub mod Eliminations
+pub mod Kernels
 pub mod Continuous
 pub mod Lanes
