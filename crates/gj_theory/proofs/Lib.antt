@@ -6,6 +6,13 @@ pub mod TestsFromMinimal
 pub mod ShownPoints
 pub mod Violations
 pub mod FirstFailed
+pub mod RowSums
+pub mod Steps
+pub mod Entries
+pub mod Insertions
+pub mod Triangular
+pub mod Eliminations
+pub mod Kernels
 pub mod Continuous
 pub mod Lanes
 pub mod TightPairs

@@ -2,9 +2,13 @@ pub mod EarlierTests
 pub mod GridPoints
 pub mod NearCorners
 pub mod Lanes
+<<<<<<< HEAD
 pub mod Halves
 pub mod Filling
 pub mod Uncovered
 pub mod Steps
 pub mod CoverRules
 pub mod PivotRows
+=======
+pub mod TriangularRows
+>>>>>>> 5c99a0d81aaabf0a8b910db8fba9de7f4cb4aee3
