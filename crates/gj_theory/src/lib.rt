@@ -3,12 +3,14 @@
 //! `grid` says when the tables on all grids are minimal: where all tests of minimality pass, or, for a continuous
 //! function, where the table on its own grid is; and what is affine near ends and corners. `first_violation` says which
 //! test gives the first violation, and `shown` that a first violation is shown at its points and that a shown violation
-//! denies that the function, or the table on a grid that holds the points, is minimal.
+//! denies that the function, or the table on a grid that holds the points, is minimal. `cuts` says that a row gives a
+//! cut by each minimal table or function, and that the table of the mixed-integer cut is minimal.
 //!
 //! The decision and the separate checker both rest on these theorems and share no code. A call does nothing: it brings
 //! the theorem to the caller's proof.
 #![tactic(auto)]
 
+pub mod cuts;
 pub mod first_violation;
 pub mod grid;
 pub mod shown;
