@@ -8,3 +8,5 @@ pub mod Violations
 pub mod FirstFailed
 pub mod Continuous
 pub mod Lanes
+pub mod RowSums
+pub mod GmicTable
