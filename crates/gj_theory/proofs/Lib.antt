@@ -10,3 +10,4 @@ pub mod Continuous
 pub mod Lanes
 pub mod RowSums
 pub mod GmicTable
+pub mod GmicValues
