@@ -1,5 +1,5 @@
 -- The table of the mixed-integer cut is minimal.
-use Rattle.std.proofs.Common.{◌≡◌, ℕ, ◌+◌, ◌-◌, ◌*◌, ◌%◌, ◌<◌, ◌≤◌, ◌⊎◌, inl, inr, ⊎_elim, leb, if◌then◌else◌, pos, ◌+ℤ◌, ◌≤ℤ◌, sym, ap, ◌∙◌, subst, arith}
+use Rattle.std.proofs.Common.{◌≡◌, ℕ, ◌+◌, ◌-◌, ◌*◌, ◌%◌, ◌<◌, ◌≤◌, ◌⊎◌, inl, inr, ⊎_elim, leb, if◌then◌else◌, pos, sym, ap, ◌∙◌, subst, arith}
 use Rattle.std.proofs.Math.Nat.{mod-lt, mod-eq_of_lt, add-mod_right, mul_comm, mul-le-mul_left}
 use Rattle.std.proofs.lemmas.Bool.{le-leb, lt-leb, cases_lt}
 use Rattle.std.proofs.lemmas.Int.{ints}
@@ -160,20 +160,20 @@ minimal_in_parts k l k_some l_some =
     record {
       has_period = λ i. ap pos (same_rest n k (i + n) i (add-mod_right i n));
       zero_at_zero =
-        let none : 0 % n ≡ 0 = mod-eq_of_lt some in
-        ap pos (entry_rising n k 0 (omega arith) ∙ ap (λ r. (n - k) * r) none ∙ omega arith);
+          let none : 0 % n ≡ 0 = mod-eq_of_lt some in
+          ap pos (entry_rising n k 0 (omega arith) ∙ ap (λ r. (n - k) * r) none ∙ omega arith);
       nonnegative = λ i. omega (arith, ints);
       subadditive = λ i j.
-        let h = below_sum k l (i % n) (rest_of i) (j % n) (rest_of j) ((i + j) % n) (rest_of (i + j)) (t i) (t j) (t (i + j))
-        (entry_is k l i some) (entry_is k l j some) (entry_is k l (i + j) some) (rest_of_sum n i j some) in
-        omega (arith, ints);
+          let h = below_sum k l (i % n) (rest_of i) (j % n) (rest_of j) ((i + j) % n) (rest_of (i + j)) (t i) (t j) (t (i + j))
+          (entry_is k l i some) (entry_is k l j some) (entry_is k l (i + j) some) (rest_of_sum n i j some) in
+          omega (arith, ints);
       symmetric = λ i j e.
-        let place : (i + j) % n ≡ k = e ∙ mod-eq_of_lt (omega arith) in
-        let i_small = mod-lt i some in
-        let j_small = mod-lt j some in
-        let h = opposite_sum k l (i % n) (rest_of i) (j % n) (rest_of j) (t i) (t j) (entry_is k l i some) (entry_is k l j some)
-        (omega arith) (omega arith) (subst (λ (q : ℕ). IsRestOfSum n (i % n) (j % n) q) place (rest_of_sum n i j some)) in
-        omega (arith, ints);
+          let place : (i + j) % n ≡ k = e ∙ mod-eq_of_lt (omega arith) in
+          let i_small = mod-lt i some in
+          let j_small = mod-lt j some in
+          let h = opposite_sum k l (i % n) (rest_of i) (j % n) (rest_of j) (t i) (t j) (entry_is k l i some) (entry_is k l j some)
+          (omega arith) (omega arith) (subst (λ (q : ℕ). IsRestOfSum n (i % n) (j % n) q) place (rest_of_sum n i j some)) in
+          omega (arith, ints);
     }
 
 pub gmic_minimal : (n k : ℕ) → 0 < k → k < n → IsMinimalTable (λ i. pos (gmic_table n k i)) n k (gmic_scale n k)

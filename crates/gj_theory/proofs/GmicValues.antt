@@ -1,20 +1,20 @@
 -- The closed form of the mixed-integer cut on grids.
-use Rattle.std.proofs.Common.{◌≡◌, ◌≢◌, ◌⊎◌, ◌↔◌, ℕ, ◌+◌, ◌-◌, ◌*◌, ◌%◌, ◌<◌, ◌≤◌, ⊎_elim, ℤ, pos, ◌+ℤ◌, ◌-ℤ◌, ◌*ℤ◌, ◌<ℤ◌, ◌≤ℤ◌, [], ◌∷◌, unsigned_abs, refl, sym, ap, subst, subst₂, ◌∙◌, arith}
+use Rattle.std.proofs.Common.{◌≡◌, ◌≢◌, ℕ, ◌-◌, ◌*◌, ◌%◌, ◌<◌, ◌≤◌, ⊎_elim, ℤ, pos, ◌+ℤ◌, ◌-ℤ◌, ◌*ℤ◌, ◌<ℤ◌, ◌≤ℤ◌, [], ◌∷◌, unsigned_abs, refl, sym, ap, subst, subst₂, ◌∙◌, arith}
 use Rattle.std.specs.Int.{int_div_euclid}
 use Rattle.std.proofs.Math.Nat.{mod-lt, mod-eq_of_lt, mul_comm, zero-mul}
 use Rattle.std.proofs.lemmas.Bool.{cases_lt}
 use Rattle.std.proofs.lemmas.Int.{ints, unsigned_abs-mul}
 use Rattle.gj_frac.specs.declared.Frac.{Frac}
 use Rattle.gj_frac.specs.Floor.{IsFloor}
-use Rattle.gj_frac.specs.Fraction.{IsRatio, LessValue, fraction_of}
+use Rattle.gj_frac.specs.Fraction.{IsRatio}
 use Rattle.gj_frac.proofs.Floors.{quotient_is_floor}
-use Rattle.gj_tools.proofs.Integers.{mul_cancel_right_z, sub_mul_z, swap_last_z, mul_le_mul_right_z, mul_lt_mul_right_z, mul_le_cancel_right_z, mul_lt_cancel_right_z, mul_some_z, pos_abs_z, positive_some_z, mul_positive_z, add_mul_z}
+use Rattle.gj_tools.proofs.Integers.{mul_cancel_right_z, sub_mul_z, swap_last_z, mul_le_mul_right_z, mul_lt_mul_right_z, mul_le_cancel_right_z, mul_lt_cancel_right_z, mul_some_z, pos_abs_z, positive_some_z, add_mul_z}
 use Rattle.gj_tools.proofs.Ratios.{ratio_along, ratio_less}
 use Rattle.gj_tools.proofs.Ring.{by_ring, ring}
 use Rattle.gj_shape.specs.Gmic.{gmic_table, gmic_scale}
 use Rattle.gj_shape.specs.Values.{IsCongruent}
 use Rattle.gj_shape.proofs.ValueLemmas.{congruent_rests}
-use Rattle.gj_theory.specs.Cuts.{IsGmicValue, rest_above}
+use Rattle.gj_theory.specs.Cuts.{IsGmicValue}
 use Rattle.gj_theory.proofs.GmicTable.{entry_rising, entry_falling}
 
 -- ---- the place within the period

@@ -11,3 +11,4 @@ pub mod Lanes
 pub mod RowSums
 pub mod GmicTable
 pub mod GmicValues
+pub mod RowGrids

@@ -1,7 +1,7 @@
 -- A minimal table at the places of a row's entries: the cut from subadditivity.
-use Rattle.std.proofs.Common.{◌≡◌, ℕ, zero, suc, ◌+◌, ◌*◌, ◌/◌, ◌%◌, ◌<◌, ◌≤◌, ◌≢◌, List, [], ◌∷◌, length, map, All, ℤ, pos, ◌+ℤ◌, ◌-ℤ◌, ◌*ℤ◌, ◌≤ℤ◌, ◌<ℤ◌, unsigned_abs, refl, sym, ap, ap₂, subst, ◌∙◌, arith}
+use Rattle.std.proofs.Common.{◌≡◌, ℕ, zero, suc, ◌+◌, ◌*◌, ◌%◌, ◌<◌, ◌≢◌, List, [], ◌∷◌, length, map, ℤ, pos, ◌+ℤ◌, ◌-ℤ◌, ◌*ℤ◌, ◌≤ℤ◌, unsigned_abs, refl, sym, ap, ap₂, ◌∙◌, arith}
 use Rattle.std.specs.List.{AllZip}
-use Rattle.std.specs.Int.{◌∣◌, int_div_euclid}
+use Rattle.std.specs.Int.{int_div_euclid}
 use Rattle.std.proofs.lemmas.Int.{ints}
 use Rattle.std.proofs.lemmas.List.Elements.{All-nil, All-cons, All-head, All-tail}
 use Rattle.std.proofs.lemmas.Nat.Gcd.{dvd_trans}
@@ -11,12 +11,12 @@ use Rattle.gj_frac.specs.Floor.{IsFloor}
 use Rattle.gj_frac.specs.Fraction.{IsRatio, numerator, denominator}
 use Rattle.gj_frac.proofs.Floors.{quotient_is_floor}
 use Rattle.gj_tools.proofs.Divisors.{cofactor}
-use Rattle.gj_tools.proofs.Integers.{add_mul_z, mul_add_z, sub_mul_z, mul_comm_z, mul_assoc_z, mul_cancel_right_z, mul_le_cancel_right_z, mul_le_mul_right_z, abs_positive_z, positive_some_z}
+use Rattle.gj_tools.proofs.Integers.{add_mul_z, mul_add_z, sub_mul_z, mul_cancel_right_z, mul_le_cancel_right_z, mul_le_mul_right_z, positive_some_z}
 use Rattle.gj_tools.proofs.Quotients.{same_at_remainder}
 use Rattle.gj_tools.proofs.Ratios.{ratio_along}
 use Rattle.gj_tools.proofs.Ring.{by_ring, ring}
 use Rattle.gj_shape.specs.Given.{IsCommonDenominator, numerator_over}
-use Rattle.gj_shape.specs.RowCut.{IsLeastCommonDenominator, IsRowSolution, CutHolds}
+use Rattle.gj_shape.specs.RowCut.{IsLeastCommonDenominator, CutHolds}
 use Rattle.gj_shape.specs.SlopeRows.{sum_of_products}
 use Rattle.gj_shape.specs.Table.{IsMinimalTable}
 use Rattle.gj_shape.specs.Values.{IsCongruent}
@@ -118,13 +118,13 @@ with_entry t n s c g x y u xs ys us none below x_divides y_divides e r =
       index_is = (
         k *ℤ pos u +ℤ l,
         next_index e.index u r.index ∙ ap₂ (λ a b. a *ℤ pos u +ℤ b) e.index_is.1 r.index_is.1
-        ∙ congruent_longer e.place k (pos n) r.places l (pos u),
+            ∙ congruent_longer e.place k (pos n) r.places l (pos u),
       );
       below =
-        let first = below (e.index * u) r.index in
-        let second = at_multiple t e.index u none below in
-        let third = r.below in
-        omega (arith, ints);
+          let first = below (e.index * u) r.index in
+          let second = at_multiple t e.index u none below in
+          let third = r.below in
+          omega (arith, ints);
       places_are = longer (numerator_over c x) (pos u) (sum_of_products (map (numerator_over c) xs) (map pos us)) (pos n) e.place
           r.places (pos c) (numerator_at x c e.place (pos n) x_divides e.place_is) r.places_are;
       values_are = longer (numerator_over g y) (pos u) (sum_of_products (map (numerator_over g) ys) (map pos us)) (pos s) (t e.index)

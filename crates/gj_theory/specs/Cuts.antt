@@ -37,6 +37,6 @@ one_minus x = difference_of (record { top = pos 1; bottom = pos 1 }) x
 -- y is the mixed-integer cut for f at x: with r the fractional part of x it is r/f where r is at most f, else (1 - r)/(1 - f)
 pub record IsGmicValue (f x y : Frac) : Type 0 where
   pub rises : (w : ℤ) → IsFloor x w → (LessValue (fraction_of f) (rest_above x w) → ⊥) →
-    SameValue (fraction_of y) (quotient_of (rest_above x w) (fraction_of f))
+      SameValue (fraction_of y) (quotient_of (rest_above x w) (fraction_of f))
   pub falls : (w : ℤ) → IsFloor x w → LessValue (fraction_of f) (rest_above x w) →
-    SameValue (fraction_of y) (quotient_of (one_minus (rest_above x w)) (one_minus (fraction_of f)))
+      SameValue (fraction_of y) (quotient_of (one_minus (rest_above x w)) (one_minus (fraction_of f)))
