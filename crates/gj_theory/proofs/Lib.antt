@@ -15,6 +15,7 @@ pub mod Eliminations
 pub mod Kernels
 pub mod Continuous
 pub mod Lanes
+<<<<<<< HEAD
 pub mod TightPairs
 pub mod PerturbedTables
 pub mod SlacksAndSizes
@@ -32,3 +33,9 @@ pub mod CoverSteps
 pub mod PivotsLeaveZero
 pub mod SlopeSums
 pub mod ExtremeByCover
+=======
+pub mod RowSums
+pub mod GmicTable
+pub mod GmicValues
+pub mod RowGrids
+>>>>>>> 819d7def91b517ec8654934a1042f3b10274c85c
