@@ -15,7 +15,6 @@ pub mod Eliminations
 pub mod Kernels
 pub mod Continuous
 pub mod Lanes
-<<<<<<< HEAD
 pub mod TightPairs
 pub mod PerturbedTables
 pub mod SlacksAndSizes
@@ -33,9 +32,7 @@ pub mod CoverSteps
 pub mod PivotsLeaveZero
 pub mod SlopeSums
 pub mod ExtremeByCover
-=======
-pub mod RowSums
 pub mod GmicTable
 pub mod GmicValues
 pub mod RowGrids
->>>>>>> 819d7def91b517ec8654934a1042f3b10274c85c
+pub mod CutsByTables

@@ -18,7 +18,7 @@ use Rattle.gj_shape.specs.Values.{IsCongruent}
 use Rattle.gj_shape.proofs.LeastDenominator.{Divides, denominator_some}
 use Rattle.gj_shape.proofs.TableLemmas.{table_finer}
 use Rattle.gj_theory.specs.Cuts.{HasFractionalPart, IsEntryAt, IsValueOf, IsInside, IsGmicValue}
-use Rattle.gj_theory.proofs.RowSums.{product_of, product_some, product_common, cut_by_table}
+use Rattle.gj_theory.proofs.CutsByTables.{product_of, product_some, product_common, cut_by_table}
 use Rattle.gj_theory.proofs.GmicTable.{gmic_minimal}
 use Rattle.gj_theory.proofs.GmicValues.{closed_form}
 

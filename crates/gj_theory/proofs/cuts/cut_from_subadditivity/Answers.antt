@@ -1,4 +1,4 @@
-use Rattle.gj_theory.proofs.RowSums.{cut_by_table}
+use Rattle.gj_theory.proofs.CutsByTables.{cut_by_table}
 use Rattle.gj_theory.proofs.RowGrids.{cut_by_function}
 use Rattle.gj_theory.proofs.cuts.cut_from_subadditivity.Goals as goal
 
