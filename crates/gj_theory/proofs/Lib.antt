@@ -17,3 +17,4 @@ pub mod CoverSteps
 pub mod PivotsLeaveZero
 pub mod SlopeSums
 pub mod ExtremeByCover
+pub mod LineComponents
