@@ -8,8 +8,8 @@ ghost use Rattle.gj_shape.specs.SlopeRows.{SolveRows, sum_of_products};
 ghost use Rattle.gj_shape.specs.Table.{IsMinimal};
 ghost use Rattle.gj_shape.specs.declared.extremality.CoverLine.{CoverLine};
 ghost use Rattle.gj_theory.specs.CoverRules.{MeetsCoverRules};
-ghost use Rattle.gj_theory.specs.Steps.{HasStepOn, IsAdditiveOnGrid};
 ghost use Rattle.gj_theory.specs.PivotRows.{HavePivots};
+ghost use Rattle.gj_theory.specs.Steps.{HasStepOn, IsAdditiveOnGrid};
 
 /// The cover lines of the decision meet the rules for cover lines.
 pub fn cover_lines_meet_rules()

@@ -4,8 +4,8 @@
 //! function, where the table on its own grid is; and what is affine near ends and corners. `first_violation` says which
 //! test gives the first violation, and `shown` that a first violation is shown at its points and that a shown violation
 //! denies that the function, or the table on a grid that holds the points, is minimal. `constant_steps` says that a table
-//! that is additive where a function's table is has constant steps, and `extreme` that cover lines and rows show a function to be
-//! extreme.
+//! that is additive where a function's table is has constant steps, and `extreme` that cover lines and rows show a function
+//! to be extreme.
 //!
 //! The decision and the separate checker both rest on these theorems and share no code. A call does nothing: it brings
 //! the theorem to the caller's proof.
