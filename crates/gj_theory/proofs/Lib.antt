@@ -36,3 +36,4 @@ pub mod GmicTable
 pub mod GmicValues
 pub mod RowGrids
 pub mod CutsByTables
+pub mod LineComponents

@@ -1,20 +1,32 @@
 //! Cover lines and rows that show a function to be extreme.
 ghost use Rattle.std.specs.Prelude.{ℕ, ℤ, pos, ◌≡◌, ◌<◌, ◌==◌, List, length, All, count_by};
 ghost use Rattle.gj_shape.specs.Additive.{IsTight};
-ghost use Rattle.gj_shape.specs.Cover.{AreCoverLines, HasComponent};
+ghost use Rattle.gj_shape.specs.Cover.{AreCoverLines, HasLine, HasComponent};
 ghost use Rattle.gj_shape.specs.Extreme.{IsExtreme};
 ghost use Rattle.gj_shape.specs.FunctionData.{FunctionData, IsWithinBounds, IsContinuous};
 ghost use Rattle.gj_shape.specs.SlopeRows.{SolveRows, sum_of_products};
 ghost use Rattle.gj_shape.specs.Table.{IsMinimal};
 ghost use Rattle.gj_shape.specs.declared.extremality.CoverLine.{CoverLine};
 ghost use Rattle.gj_theory.specs.CoverRules.{MeetsCoverRules};
-ghost use Rattle.gj_theory.specs.Steps.{HasStepOn, IsAdditiveOnGrid};
 ghost use Rattle.gj_theory.specs.PivotRows.{HavePivots};
+ghost use Rattle.gj_theory.specs.Steps.{HasStepOn, IsAdditiveOnGrid};
 
 /// The cover lines of the decision meet the rules for cover lines.
 pub fn cover_lines_meet_rules()
     ensures { (f : FunctionData) (lines : List CoverLine) → AreCoverLines f.order (IsTight f) lines →
         MeetsCoverRules f.order (IsTight f) lines }
+{}
+
+/// By lines that meet the rules, each interval with a line is in one component, whose number is below that of the opening
+/// lines.
+pub fn lines_give_components()
+    ensures some { (f : FunctionData) (lines : List CoverLine) (i : ℕ) → MeetsCoverRules f.order (IsTight f) lines →
+        HasLine lines i → (number : ℕ) × HasComponent lines number i }
+    ensures one { (f : FunctionData) (lines : List CoverLine) (i a b : ℕ) → MeetsCoverRules f.order (IsTight f) lines →
+        HasComponent lines a i → HasComponent lines b i → a ≡ b }
+    ensures line { (lines : List CoverLine) (number i : ℕ) → HasComponent lines number i → HasLine lines i }
+    ensures below { (lines : List CoverLine) (number i : ℕ) → HasComponent lines number i →
+        number < count_by (λ l. l.from == l.interval) lines }
 {}
 
 /// By lines that meet the rules, a table that is additive where the function's is has one constant step on all
