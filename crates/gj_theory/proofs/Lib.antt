@@ -25,3 +25,4 @@ pub mod CoverSteps
 pub mod TriangularZero
 pub mod SlopeSums
 pub mod ExtremeByCover
+pub mod SlopePerturbations
