@@ -19,6 +19,7 @@ pub mod TightFaces
 pub mod CarriedSteps
 pub mod AverageDifference
 pub mod Fillings
+pub mod CoarseTables
 pub mod DecidingGrid
 pub mod CoverLines
 pub mod CoverSteps
