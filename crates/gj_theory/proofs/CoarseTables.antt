@@ -3,7 +3,7 @@ use Rattle.std.proofs.Common.{◌≡◌, ℕ, ◌+◌, ◌*◌, ◌%◌, ◌<◌
 use Rattle.std.proofs.lemmas.Int.{ints}
 use Rattle.gj_tools.proofs.Integers.{mul_cancel_left_z, mul_le_cancel_right_z}
 use Rattle.gj_tools.proofs.Ring.{by_ring, ring}
-use Rattle.gj_shape.specs.FunctionData.{FunctionData, IsWithinBounds, IsContinuous, at}
+use Rattle.gj_shape.specs.FunctionData.{FunctionData, IsWithinBounds, IsContinuous}
 use Rattle.gj_shape.specs.Table.{table, IsMinimalOnGrid, IsMinimal}
 use Rattle.gj_shape.proofs.TableLemmas.{table_at, table_of_order, table_period}
 use Rattle.gj_theory.proofs.CarriedSteps.{same_place}

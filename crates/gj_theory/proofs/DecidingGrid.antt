@@ -1,7 +1,7 @@
 -- A continuous function is extreme where its table on the grid of order 4 q is.
-use Rattle.std.proofs.Common.{◌≡◌, ◌≢◌, ℕ, zero, suc, inl, inr, ◌↔◌, ◌+◌, ◌-◌, ◌*◌, ◌/◌, ◌%◌, ◌<◌, ◌≤◌, ℤ, pos, ◌+ℤ◌, ◌-ℤ◌, ◌*ℤ◌, ◌<ℤ◌, ◌≤ℤ◌, List, [], ◌∷◌, All, Contains, map, length, get_or, refl, sym, ap, ap₂, subst, ◌∙◌, mul-pos, arith}
+use Rattle.std.proofs.Common.{◌≡◌, ◌≢◌, ℕ, zero, suc, inl, inr, ◌↔◌, ◌+◌, ◌-◌, ◌*◌, ◌/◌, ◌%◌, ◌<◌, ◌≤◌, ℤ, pos, ◌+ℤ◌, ◌-ℤ◌, ◌*ℤ◌, List, [], ◌∷◌, All, Contains, map, get_or, refl, sym, ap, ap₂, subst, ◌∙◌, mul-pos, arith}
 use Rattle.std.specs.List.{range_with_len}
-use Rattle.std.proofs.Math.Nat.{mod-lt, mod-mod, div-add-mod'}
+use Rattle.std.proofs.Math.Nat.{mod-lt, mod-mod}
 use Rattle.std.proofs.lemmas.Bool.{cases_lt}
 use Rattle.std.proofs.lemmas.Int.{ints}
 use Rattle.std.proofs.lemmas.List.Elements.{All-nil, All-cons}
@@ -9,9 +9,9 @@ use Rattle.gj_tools.proofs.Integers.{mul_cancel_left_z, same_or_apart_z}
 use Rattle.gj_tools.proofs.Quotients.{same_at_remainder, parts_of_remainder}
 use Rattle.gj_tools.proofs.Ring.{by_ring, ring}
 use Rattle.gj_shape.specs.Additive.{IsTight, IsAdditive, IsInFace}
-use Rattle.gj_shape.specs.Cover.{Joins, AreJoined, Covers, IsDirectlyCovered, IsCovered, LeadsTo}
+use Rattle.gj_shape.specs.Cover.{Joins, Covers, IsCovered, LeadsTo}
 use Rattle.gj_shape.specs.Cover.LeadsTo.{here, onward}
-use Rattle.gj_shape.specs.Extreme.{AverageTo, IsExtremeTable, IsExtreme}
+use Rattle.gj_shape.specs.Extreme.{IsExtremeTable, IsExtreme}
 use Rattle.gj_shape.specs.Faces.{corners_of}
 use Rattle.gj_shape.specs.FunctionData.{FunctionData, IsWithinBounds, IsContinuous, at}
 use Rattle.gj_shape.specs.Perturbation.{zigzag, IsGreatestSize}

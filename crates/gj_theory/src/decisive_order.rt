@@ -1,5 +1,5 @@
 //! Tables on finer grids, and the grid of order 4 q that decides whether a function is extreme.
-ghost use Rattle.std.specs.Prelude.{ℕ, ℤ, ◌≡◌, ◌+◌, ◌*◌, ◌<◌, ◌↔◌};
+ghost use Rattle.std.specs.Prelude.{ℕ, ℤ, ◌≡◌, ◌*◌, ◌<◌, ◌↔◌};
 ghost use Rattle.gj_shape.specs.Extreme.{IsExtremeTable, IsExtreme};
 ghost use Rattle.gj_shape.specs.FunctionData.{FunctionData, IsWithinBounds, IsContinuous};
 ghost use Rattle.gj_shape.specs.Table.{table, IsMinimalTable, IsMinimalOnGrid, IsMinimal};
