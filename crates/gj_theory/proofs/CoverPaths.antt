@@ -1,7 +1,7 @@
 -- Lists of intervals, each joined to the next.
 use Rattle.std.proofs.Common.{◌≡◌, ℕ, ◌%◌, ◌<◌, List, All, Contains, get_or, refl, sym, subst, ◌∙◌}
 use Rattle.gj_shape.specs.Additive.{IsTight}
-use Rattle.gj_shape.specs.Cover.{IsOneOf, Joins, AreJoined, IsCovered, IsInClassOf, LeadsTo}
+use Rattle.gj_shape.specs.Cover.{IsOneOf, AreJoined, IsCovered, IsInClassOf, LeadsTo}
 use Rattle.gj_shape.specs.Cover.LeadsTo.{here, onward}
 use Rattle.gj_shape.specs.FunctionData.{FunctionData}
 use Rattle.gj_theory.specs.Uncovered.{AreUncoveredClasses}

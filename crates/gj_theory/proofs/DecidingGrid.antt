@@ -1,7 +1,7 @@
--- A minimal continuous function is extreme where its table on the grid of order 4 q is.
-use Rattle.std.proofs.Common.{◌≡◌, ◌≢◌, ℕ, zero, suc, inl, inr, ◌↔◌, ◌+◌, ◌-◌, ◌*◌, ◌/◌, ◌%◌, ◌<◌, ◌≤◌, ℤ, pos, ◌+ℤ◌, ◌-ℤ◌, ◌*ℤ◌, ◌<ℤ◌, ◌≤ℤ◌, List, [], ◌∷◌, All, Contains, map, length, get_or, refl, sym, ap, ap₂, subst, ◌∙◌, mul-pos, arith}
+-- A continuous function is extreme where its table on the grid of order 4 q is.
+use Rattle.std.proofs.Common.{◌≡◌, ◌≢◌, ℕ, zero, suc, inl, inr, ◌↔◌, ◌+◌, ◌-◌, ◌*◌, ◌/◌, ◌%◌, ◌<◌, ◌≤◌, ℤ, pos, ◌+ℤ◌, ◌-ℤ◌, ◌*ℤ◌, List, [], ◌∷◌, All, Contains, map, get_or, refl, sym, ap, ap₂, subst, ◌∙◌, mul-pos, arith}
 use Rattle.std.specs.List.{range_with_len}
-use Rattle.std.proofs.Math.Nat.{mod-lt, mod-mod, div-add-mod'}
+use Rattle.std.proofs.Math.Nat.{mod-lt, mod-mod}
 use Rattle.std.proofs.lemmas.Bool.{cases_lt}
 use Rattle.std.proofs.lemmas.Int.{ints}
 use Rattle.std.proofs.lemmas.List.Elements.{All-nil, All-cons}
@@ -9,9 +9,9 @@ use Rattle.gj_tools.proofs.Integers.{mul_cancel_left_z, same_or_apart_z}
 use Rattle.gj_tools.proofs.Quotients.{same_at_remainder, parts_of_remainder}
 use Rattle.gj_tools.proofs.Ring.{by_ring, ring}
 use Rattle.gj_shape.specs.Additive.{IsTight, IsAdditive, IsInFace}
-use Rattle.gj_shape.specs.Cover.{Joins, AreJoined, Covers, IsDirectlyCovered, IsCovered, LeadsTo}
+use Rattle.gj_shape.specs.Cover.{Joins, Covers, IsCovered, LeadsTo}
 use Rattle.gj_shape.specs.Cover.LeadsTo.{here, onward}
-use Rattle.gj_shape.specs.Extreme.{AverageTo, IsExtremeTable, IsExtreme}
+use Rattle.gj_shape.specs.Extreme.{IsExtremeTable, IsExtreme}
 use Rattle.gj_shape.specs.Faces.{corners_of}
 use Rattle.gj_shape.specs.FunctionData.{FunctionData, IsWithinBounds, IsContinuous, at}
 use Rattle.gj_shape.specs.Perturbation.{zigzag, IsGreatestSize}
@@ -25,6 +25,7 @@ use Rattle.gj_theory.specs.Steps.{HasStepOn, IsAdditiveOnGrid}
 use Rattle.gj_theory.specs.Uncovered.{AreUncoveredClasses}
 use Rattle.gj_theory.proofs.AverageDifference.{difference_additive, difference_zero}
 use Rattle.gj_theory.proofs.CarriedSteps.{carried_by_edge, given_by_triangle, step_modulo}
+use Rattle.gj_theory.proofs.CoarseTables.{minimal_from_any_grid}
 use Rattle.gj_theory.proofs.CoverPaths.{all_contained, joined_turned, covered_onward}
 use Rattle.gj_theory.proofs.Fillings.{filling_at, filling_at_multiple, filling_period, parts_at, halves_deny}
 use Rattle.gj_theory.proofs.HalvesAsLists.{at_made}
@@ -308,12 +309,13 @@ none_on_grid f m l c h some none p d x = elim (same_or_apart_z (p x) (pos 0)) [
         ap p (parts_at y m)
         ∙ zero_on_run p m (y / m) found.0 some found.1 (zeros (y / m)) (zeros (y / m + 1)) (y % m) (omega arith)
 
-pub four_times_decides : (f : FunctionData) → IsWithinBounds f → IsContinuous f → IsMinimal f →
+pub four_times_decides : (f : FunctionData) → IsWithinBounds f → IsContinuous f →
     IsExtreme f ↔ IsExtremeTable (table f 4) (f.order * 4) (f.place * 4) (f.scale * 4)
-four_times_decides f l c h = (λ extreme. extreme 4 (omega arith), onto_all)
+four_times_decides f l c = (λ extreme. extreme 4 (omega arith), onto_all)
   where
     onto_all : IsExtremeTable (table f 4) (f.order * 4) (f.place * 4) (f.scale * 4) → IsExtreme f
     onto_all extreme m some =
+        let h = minimal_from_any_grid f 4 l c (omega arith) extreme.minimal in
         extreme_from_none (table f m) (f.order * m) (f.place * m) (f.scale * m) (h m some)
         (none_on_grid f m l c h some
         (none_from_extreme (table f 4) (f.order * 4) (f.place * 4) (f.scale * 4) (mul-pos (omega arith) (omega arith))

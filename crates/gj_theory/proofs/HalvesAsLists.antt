@@ -1,5 +1,5 @@
 -- The halves of a perturbation as lists.
-use Rattle.std.proofs.Common.{◌≡◌, ◌≢◌, ℕ, ◌+◌, ◌*◌, ◌%◌, ◌<◌, ◌≤◌, ℤ, pos, ◌+ℤ◌, ◌-ℤ◌, ◌*ℤ◌, map, length, get_or, refl, sym, ap, ap₂, subst, ◌∙◌, mul-pos, arith}
+use Rattle.std.proofs.Common.{◌≡◌, ◌≢◌, ℕ, ◌+◌, ◌*◌, ◌%◌, ◌<◌, ℤ, pos, map, length, refl, sym, ap, ◌∙◌, mul-pos, arith}
 use Rattle.std.specs.List.{range_with_len}
 use Rattle.std.proofs.Math.Nat.{mod-lt, mod-mod}
 use Rattle.std.proofs.lemmas.Int.{ints}

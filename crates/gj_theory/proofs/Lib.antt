@@ -26,6 +26,7 @@ pub mod TightFaces
 pub mod CarriedSteps
 pub mod AverageDifference
 pub mod Fillings
+pub mod CoarseTables
 pub mod DecidingGrid
 pub mod CoverLines
 pub mod CoverSteps
@@ -37,3 +38,4 @@ pub mod GmicValues
 pub mod RowGrids
 pub mod CutsByTables
 pub mod LineComponents
+pub mod SlopePerturbations

@@ -1,14 +1,14 @@
 -- The zigzag of uncovered intervals is a perturbation.
-use Rattle.std.proofs.Common.{◌≡◌, ℕ, zero, suc, inl, inr, ◌+◌, ◌-◌, ◌*◌, ◌/◌, ◌%◌, ◌<◌, ◌≤◌, ℤ, pos, ◌+ℤ◌, ◌-ℤ◌, Bool, true, false, if◌then◌else◌, ◌==◌, List, [], ◌∷◌, All, Any, Contains, length, get_or, refl, sym, ap, ap₂, subst, ◌∙◌, arith}
+use Rattle.std.proofs.Common.{◌≡◌, ℕ, zero, suc, inl, inr, ◌+◌, ◌-◌, ◌*◌, ◌/◌, ◌%◌, ◌<◌, ◌≤◌, ℤ, pos, ◌+ℤ◌, ◌-ℤ◌, Bool, true, false, if◌then◌else◌, ◌==◌, List, [], ◌∷◌, Any, Contains, get_or, refl, sym, ap, ap₂, subst, ◌∙◌, arith}
 use Rattle.std.specs.List.{list_any}
-use Rattle.std.proofs.Math.Nat.{mod-mod, add-mod, add-mod_right, mod-lt, mod-eq_of_lt}
+use Rattle.std.proofs.Math.Nat.{mod-mod, add-mod_right, mod-lt, mod-eq_of_lt}
 use Rattle.std.proofs.lemmas.Bool.{eqb-true, eq-eqb, cases_lt}
 use Rattle.std.proofs.lemmas.Int.{ints}
 use Rattle.std.proofs.lemmas.List.Folds.{Any-from_list_any, list_any-from_Any}
-use Rattle.gj_tools.proofs.Quotients.{same_at_remainder, parts_of_place}
-use Rattle.gj_shape.specs.Additive.{IsTight, IsTightOnGrid, IsAdditive, IsInFace}
-use Rattle.gj_shape.specs.Cover.{IsOneOf, Joins, AreJoined, Covers, IsDirectlyCovered, IsCovered, LeadsTo}
-use Rattle.gj_shape.specs.Cover.LeadsTo.{here, onward}
+use Rattle.gj_tools.proofs.Quotients.{parts_of_place}
+use Rattle.gj_shape.specs.Additive.{IsTight, IsAdditive, IsInFace}
+use Rattle.gj_shape.specs.Cover.{IsOneOf, AreJoined, IsDirectlyCovered, IsCovered}
+use Rattle.gj_shape.specs.Cover.LeadsTo.{here}
 use Rattle.gj_shape.specs.FunctionData.{FunctionData, IsWithinBounds, IsContinuous}
 use Rattle.gj_shape.specs.Perturbation.{zigzag}
 use Rattle.gj_shape.specs.Table.{table, IsMinimal}

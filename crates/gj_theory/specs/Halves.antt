@@ -1,5 +1,5 @@
 -- Perturbations of a table, and two different minimal tables that average to it (Equivariant Perturbation I).
-use Rattle.std.specs.Prelude.{ℕ, ℤ, pos, ◌≡◌, ◌≢◌, ◌+◌, ◌*◌, ◌<◌, ◌≤◌, ◌+ℤ◌, ◌-ℤ◌, ◌*ℤ◌, ◌<ℤ◌, ◌≤ℤ◌, unsigned_abs}
+use Rattle.std.specs.Prelude.{ℕ, ℤ, pos, ◌≡◌, ◌≢◌, ◌+◌, ◌*◌, ◌<◌, ◌+ℤ◌, ◌-ℤ◌, ◌*ℤ◌, ◌<ℤ◌, ◌≤ℤ◌}
 use Rattle.gj_shape.specs.Extreme.{AverageTo}
 use Rattle.gj_shape.specs.Table.{IsMinimalTable}
 use Rattle.gj_theory.specs.Steps.{IsAdditiveAtTight}

@@ -1,8 +1,8 @@
 //! Tables on finer grids, and the grid of order 4 q that decides whether a function is extreme.
-ghost use Rattle.std.specs.Prelude.{ℕ, ℤ, ◌≡◌, ◌+◌, ◌*◌, ◌<◌, ◌↔◌};
+ghost use Rattle.std.specs.Prelude.{ℕ, ℤ, ◌≡◌, ◌*◌, ◌<◌, ◌↔◌};
 ghost use Rattle.gj_shape.specs.Extreme.{IsExtremeTable, IsExtreme};
 ghost use Rattle.gj_shape.specs.FunctionData.{FunctionData, IsWithinBounds, IsContinuous};
-ghost use Rattle.gj_shape.specs.Table.{table, IsMinimalTable, IsMinimal};
+ghost use Rattle.gj_shape.specs.Table.{table, IsMinimalTable, IsMinimalOnGrid, IsMinimal};
 ghost use Rattle.gj_theory.specs.Filling.{filling};
 ghost use Rattle.gj_theory.specs.Halves.{AreDifferentHalves};
 
@@ -26,8 +26,14 @@ pub fn halves_give_finer_halves()
         IsExtremeTable (table f (d * m)) (f.order * (d * m)) (f.place * (d * m)) (f.scale * (d * m)) → ⊥ }
 {}
 
-/// A minimal continuous function is extreme exactly where its table on the grid of order 4 q is.
+/// A continuous function is minimal where its table on any grid is.
+pub fn any_grid_suffices()
+    ensures { (f : FunctionData) (m : ℕ) → IsWithinBounds f → IsContinuous f → 0 < m → IsMinimalOnGrid f m →
+        IsMinimal f }
+{}
+
+/// A continuous function is extreme exactly where its table on the grid of order 4 q is.
 pub fn order_4q_decides()
-    ensures { (f : FunctionData) → IsWithinBounds f → IsContinuous f → IsMinimal f →
+    ensures { (f : FunctionData) → IsWithinBounds f → IsContinuous f →
         IsExtreme f ↔ IsExtremeTable (table f 4) (f.order * 4) (f.place * 4) (f.scale * 4) }
 {}

@@ -1,10 +1,12 @@
 //! Perturbations of a minimal function, and the two functions that they give.
-ghost use Rattle.std.specs.Prelude.{ℕ, ℤ, pos, ◌≡◌, ◌≢◌, ◌+◌, ◌*◌, ◌<◌, ◌≤◌, ◌↔◌, List, All, Contains, unsigned_abs};
+ghost use Rattle.std.specs.Prelude.{ℕ, ℤ, pos, ◌≡◌, ◌≢◌, ◌+◌, ◌*◌, ◌<◌, ◌≤◌, ◌↔◌, List, All, Contains, length, unsigned_abs};
 ghost use Rattle.gj_shape.specs.Additive.{IsTight, IsTightOnGrid, IsAdditive, IsInClosure};
 ghost use Rattle.gj_shape.specs.Cover.{IsCovered, IsInClassOf};
+ghost use Rattle.gj_shape.specs.Elimination.{at_column};
 ghost use Rattle.gj_shape.specs.Extreme.{IsExtremeTable};
 ghost use Rattle.gj_shape.specs.FunctionData.{FunctionData, IsWithinBounds, IsContinuous, at};
-ghost use Rattle.gj_shape.specs.Perturbation.{zigzag, IsLeastSlack, IsGreatestSize, AreHalvesOf};
+ghost use Rattle.gj_shape.specs.Perturbation.{zigzag, perturbation_of, IsLeastSlack, IsGreatestSize, AreHalvesOf};
+ghost use Rattle.gj_shape.specs.SlopeRows.{SolveRows};
 ghost use Rattle.gj_shape.specs.Table.{table, IsMinimalTable, IsMinimal};
 ghost use Rattle.gj_shape.specs.declared.extremality.Halves.{Halves};
 ghost use Rattle.gj_shape.specs.declared.faces.FaceKind.{FaceKind};
@@ -34,6 +36,19 @@ pub fn zigzag_is_perturbation()
         IsPerturbation (table f 4) (f.order * 4) (f.place * 4) (zigzag f.order class) }
     ensures zero { (q : ℕ) (class : List ℕ) (a : ℕ) → zigzag q class (a * 4) ≡ pos 0 }
     ensures one { (q : ℕ) (class : List ℕ) (a : ℕ) → Contains class a → a < q → zigzag q class (a * 4 + 1) ≡ pos 1 }
+{}
+
+/// Slopes of components that solve all rows of the linear system give a perturbation on the function's own grid, and one
+/// that is not 0 where the slope of some interval is not.
+pub fn slopes_give_perturbation()
+    ensures perturbation { (f : FunctionData) (component : ℕ → ℕ) (n : ℕ) (slopes : List ℤ) → IsWithinBounds f →
+        length slopes ≡ n → ((i : ℕ) → i < f.order → component i < n) → SolveRows component n f slopes →
+        IsPerturbation (table f 1) (f.order * 1) (f.place * 1)
+        (perturbation_of f.order (λ i. at_column slopes (component i))) }
+    ensures not_zero { (f : FunctionData) (component : ℕ → ℕ) (n : ℕ) (slopes : List ℤ) (i : ℕ) → IsWithinBounds f →
+        length slopes ≡ n → ((j : ℕ) → j < f.order → component j < n) → SolveRows component n f slopes →
+        i < f.order → at_column slopes (component i) ≢ pos 0 →
+        (j : ℕ) × (perturbation_of f.order (λ k. at_column slopes (component k)) j ≢ pos 0) }
 {}
 
 /// A minimal table plus and minus a small multiple of a perturbation that is not 0 is two different minimal tables.
