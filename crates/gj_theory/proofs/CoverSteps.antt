@@ -80,12 +80,15 @@ opened_at lines before l after number place same counted =
     counted ∙ sym (length-filter opens before) ∙ sym (length-map (filter opens before) (λ m. m.interval)) in
     ap₂ (λ xs n. get_or xs n 0) split index ∙ get_or-append_seam (intervals before) l.interval (intervals after) 0
 
+opening_counts : (l : CoverLine) (after : List CoverLine) → l.from ≡ l.interval → count_by opens (l ∷ after) ≡ 1 + count_by opens after
+opening_counts l after same =
+    sum_by-cons (λ m. cond (opens m) 1 0) l after
+    ∙ ap (λ (b : Bool). cond b 1 0 + count_by opens after) (eq-eqb l.from l.interval same)
+
 -- the number of a component is below that of opening lines
 pub number_below : (lines : List CoverLine) (number i : ℕ) → HasComponent lines number i → number < count_by (λ l. l.from == l.interval) lines
 number_below lines number i (opened before l after place same counted) =
-    let own : cond (opens l) 1 0 ≡ 1 = ap (λ b. cond b 1 0) (eq-eqb l.from l.interval same) in
-    let rest : count_by opens (l ∷ after) ≡ 1 + count_by opens after =
-    sum_by-cons (λ m. cond (opens m) 1 0) l after ∙ ap (λ k. k + count_by opens after) own in
+    let rest = opening_counts l after same in
     let split : count_by opens lines ≡ count_by opens before + count_by opens (l ∷ after) =
     ap (count_by opens) place ∙ sum_by-append (λ m. cond (opens m) 1 0) before (l ∷ after) in
     omega arith

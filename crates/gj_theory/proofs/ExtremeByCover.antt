@@ -23,13 +23,13 @@ use Rattle.gj_shape.specs.declared.extremality.RowName.TheVariants.{Period, F, P
 use Rattle.gj_shape.specs.declared.faces.FaceKind.TheVariants.{Vertex}
 use Rattle.gj_theory.specs.CoverRules.{MeetsCoverRules}
 use Rattle.gj_theory.specs.Steps.{HasStep, HasStepOn, IsAdditiveOnGrid}
-use Rattle.gj_theory.specs.TriangularRows.{AreTriangular}
+use Rattle.gj_theory.specs.PivotRows.{HavePivots}
 use Rattle.gj_theory.proofs.AverageDifference.{difference_additive, difference_zero}
 use Rattle.gj_theory.proofs.CarriedSteps.{same_place}
 use Rattle.gj_theory.proofs.CoverSteps.{number_below, one_step_a_component}
 use Rattle.gj_theory.proofs.SlopeSums.{sum_before, slopes_of, period_row, place_row, pair_row}
 use Rattle.gj_theory.proofs.TightFaces.{tight_in_face}
-use Rattle.gj_theory.proofs.TriangularZero.{only_zero}
+use Rattle.gj_theory.proofs.PivotsLeaveZero.{only_zero}
 
 -- ---- values from slopes
 
@@ -151,39 +151,47 @@ zero_everywhere p q m q_some m_some period start steps x =
 -- ---- extreme functions
 
 -- a perturbation is 0 everywhere
-no_perturbation : (f : FunctionData) (lines : List CoverLine) (component : ℕ → ℕ) (n : ℕ) (row : ℕ → List ℤ) (pivot : ℕ → ℕ)
-    (m : ℕ) (p : ℕ → ℤ) → IsWithinBounds f → IsContinuous f → MeetsCoverRules f.order (IsTight f) lines →
+no_perturbation : (f : FunctionData) (lines : List CoverLine) (component : ℕ → ℕ) (n m : ℕ) (p : ℕ → ℤ) →
+    IsWithinBounds f → IsContinuous f → MeetsCoverRules f.order (IsTight f) lines →
     ((i : ℕ) → i < f.order → HasComponent lines (component i) i) → n ≡ count_by (λ l. l.from == l.interval) lines →
-    AreTriangular n row pivot →
-    ((slopes : List ℤ) → length slopes ≡ n → SolveRows component n f slopes →
-    (g : ℕ) → g < n → sum_of_products (row g) slopes ≡ pos 0) →
+    ((slopes : List ℤ) → length slopes ≡ n → SolveRows component n f slopes → All (λ x. x ≡ pos 0) slopes) →
     0 < m → IsAdditiveOnGrid f m p → p 0 ≡ pos 0 → p (f.place * m) ≡ pos 0 → (x : ℕ) → p x ≡ pos 0
-no_perturbation f lines component n row pivot m p l continuous rules has counted rows solved some h start place =
+no_perturbation f lines component n m p l continuous rules has counted only some h start place =
     let steps = one_step_a_component f m p lines continuous some h rules in
     let s = steps.0 in
-    let below = λ (i : ℕ) (low : i < f.order). subst (λ (k : ℕ). component i < k) (sym counted) (number_below lines (component i) i (has i low)) in
+    let below = λ (i : ℕ) (low : i < f.order).
+    subst (λ (k : ℕ). component i < k) (sym counted) (number_below lines (component i) i (has i low)) in
     let own = λ (i : ℕ) (low : i < f.order). steps.1 (component i) i (has i low) in
-    let long : length (slopes_of s n) ≡ n = length-map-range_with_len s 0 n in
-    let solve = slopes_solve f m n p s component l continuous some h start place below own in
-    let zeros = only_zero n row pivot (slopes_of s n) rows long (solved (slopes_of s n) long solve) in
-    let none = λ (i : ℕ) (low : i < f.order). subst (λ (t : ℤ). HasStepOn p m i t) (made_has (λ t. t ≡ pos 0) s (component i) n (below i low) zeros) (own i low) in
+    let zeros = only (slopes_of s n) (length-map-range_with_len s 0 n)
+    (slopes_solve f m n p s component l continuous some h start place below own) in
+    let none = λ (i : ℕ) (low : i < f.order).
+    subst (λ (t : ℤ). HasStepOn p m i t) (made_has (λ t. t ≡ pos 0) s (component i) n (below i low) zeros) (own i low) in
     zero_everywhere p f.order m (omega (arith, l.order_low)) some h.has_period start none
 
-pub extreme_by_cover : (f : FunctionData) (lines : List CoverLine) (component : ℕ → ℕ) (n : ℕ) (row : ℕ → List ℤ) (pivot : ℕ → ℕ) →
+pub extreme_by_cover : (f : FunctionData) (lines : List CoverLine) (component : ℕ → ℕ) (n : ℕ) →
     IsWithinBounds f → IsContinuous f → IsMinimal f → MeetsCoverRules f.order (IsTight f) lines →
     ((i : ℕ) → i < f.order → HasComponent lines (component i) i) → n ≡ count_by (λ l. l.from == l.interval) lines →
-    AreTriangular n row pivot →
+    ((slopes : List ℤ) → length slopes ≡ n → SolveRows component n f slopes → All (λ x. x ≡ pos 0) slopes) →
+    IsExtreme f
+extreme_by_cover f lines component n l continuous minimal rules has counted only m some = record {
+  minimal = minimal m some;
+  no_average = λ c a b c_some first second average i.
+      let t = table f m in
+      let starts = difference_zero t a (f.order * m) (f.place * m) (f.scale * m) c (minimal m some) first in
+      let additive = difference_additive t a b (f.order * m) (f.place * m) (f.scale * m) c (minimal m some) first second average in
+      let none = no_perturbation f lines component n m (λ x. a x -ℤ pos c *ℤ t x) l continuous rules has counted only some
+      additive starts.0 starts.1 i in
+      let twice : pos (2 * c) *ℤ t i ≡ pos c *ℤ t i +ℤ pos c *ℤ t i = by_ring (pos c ∷ t i ∷ []) (search ring depth 20) refl in
+      omega (arith, ints, average i);
+}
+
+pub extreme_by_rows : (f : FunctionData) (lines : List CoverLine) (component : ℕ → ℕ) (n : ℕ) (row : ℕ → List ℤ) (pivot : ℕ → ℕ) →
+    IsWithinBounds f → IsContinuous f → IsMinimal f → MeetsCoverRules f.order (IsTight f) lines →
+    ((i : ℕ) → i < f.order → HasComponent lines (component i) i) → n ≡ count_by (λ l. l.from == l.interval) lines →
+    HavePivots n row pivot →
     ((slopes : List ℤ) → length slopes ≡ n → SolveRows component n f slopes →
     (g : ℕ) → g < n → sum_of_products (row g) slopes ≡ pos 0) →
     IsExtreme f
-extreme_by_cover f lines component n row pivot l continuous minimal rules has counted rows solved m some = record {
-  minimal = minimal m some;
-  no_average = λ c a b c_some first second average i.
-      let zero = difference_zero (table f m) a (f.order * m) (f.place * m) (f.scale * m) c (minimal m some) first in
-      let none = no_perturbation f lines component n row pivot m (λ x. a x -ℤ pos c *ℤ table f m x) l continuous rules has counted rows solved some
-      (difference_additive (table f m) a b (f.order * m) (f.place * m) (f.scale * m) c (minimal m some) first second average)
-      zero.0 zero.1 i in
-      let twice : pos (2 * c) *ℤ table f m i ≡ pos c *ℤ table f m i +ℤ pos c *ℤ table f m i =
-      by_ring (pos c ∷ table f m i ∷ []) (search ring depth 20) refl in
-      omega (arith, ints, average i);
-}
+extreme_by_rows f lines component n row pivot l continuous minimal rules has counted rows solved =
+    extreme_by_cover f lines component n l continuous minimal rules has counted
+    (λ slopes long solve. only_zero n row pivot slopes rows long (solved slopes long solve))

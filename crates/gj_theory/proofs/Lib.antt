@@ -23,7 +23,8 @@ pub mod CoarseTables
 pub mod DecidingGrid
 pub mod CoverLines
 pub mod CoverSteps
-pub mod TriangularZero
+pub mod PivotsLeaveZero
 pub mod SlopeSums
 pub mod ExtremeByCover
 pub mod SlopePerturbations
+pub mod LineComponents

@@ -7,4 +7,4 @@ pub mod Filling
 pub mod Uncovered
 pub mod Steps
 pub mod CoverRules
-pub mod TriangularRows
+pub mod PivotRows

@@ -1,5 +1,5 @@
 use Rattle.gj_theory.proofs.AverageDifference.{difference_additive, difference_zero}
-use Rattle.gj_theory.proofs.steps.difference_is_additive.Goals as goal
+use Rattle.gj_theory.proofs.constant_steps.difference_is_additive.Goals as goal
 
 pub returns-clause-additive : goal.returns-clause-additive
 returns-clause-additive c = difference_additive

@@ -1,4 +1,4 @@
--- As many triangular rows as columns leave only 0.
+-- As many rows with different pivots as columns leave only 0.
 use Rattle.std.proofs.Common.{◌≡◌, ◌≢◌, ℕ, zero, suc, ◌+◌, ◌<◌, ◌≤◌, ◌⊎◌, inl, inr, false, true, eqb, ℤ, pos, ◌*ℤ◌, List, [], ◌∷◌, All, length, get_or, refl, ap, sym, subst, ◌∙◌, arith}
 use Rattle.std.specs.List.{AllByRecursion, IsDistinct, list_any}
 use Rattle.std.proofs.lemmas.Bool.{cases_eq, cases_lt, eqb-true, ne_eqb}
@@ -11,7 +11,7 @@ use Rattle.std.proofs.lemmas.Map.Steps.{length-le_from_distinct_below}
 use Rattle.gj_tools.proofs.Integers.{mul_cancel_left_z, abs_zero_z}
 use Rattle.gj_shape.specs.Elimination.{at_column}
 use Rattle.gj_shape.specs.SlopeRows.{sum_of_products}
-use Rattle.gj_theory.specs.TriangularRows.{AreTriangular}
+use Rattle.gj_theory.specs.PivotRows.{HavePivots}
 use Rattle.gj_theory.proofs.CarriedSteps.{all_of_any}
 
 -- ---- each column is a pivot
@@ -57,7 +57,7 @@ find_pivot pivot c (suc g) =
       ]
     ]
 
-pivot_at : (n : ℕ) (row : ℕ → List ℤ) (pivot : ℕ → ℕ) (c : ℕ) → AreTriangular n row pivot → c < n →
+pivot_at : (n : ℕ) (row : ℕ → List ℤ) (pivot : ℕ → ℕ) (c : ℕ) → HavePivots n row pivot → c < n →
     (g : ℕ) × (g < n) × (pivot g ≡ c)
 pivot_at n row pivot c rows within =
     elim (find_pivot pivot c n) [
@@ -104,7 +104,7 @@ one_product (x ∷ row) (y ∷ numbers) (suc c) before behind =
 
 -- ---- from the last column down
 
-zero_from : (n : ℕ) (row : ℕ → List ℤ) (pivot : ℕ → ℕ) (numbers : List ℤ) → AreTriangular n row pivot →
+zero_from : (n : ℕ) (row : ℕ → List ℤ) (pivot : ℕ → ℕ) (numbers : List ℤ) → HavePivots n row pivot →
     length numbers ≡ n → ((g : ℕ) → g < n → sum_of_products (row g) numbers ≡ pos 0) →
     (k c : ℕ) → n ≤ c + k → get_or numbers c (pos 0) ≡ pos 0
 zero_from n row pivot numbers rows long solved zero c high = get_or_past numbers c (pos 0) (omega arith)
@@ -123,7 +123,7 @@ zero_from n row pivot numbers rows long solved (suc k) c high =
           mul_cancel_left_z _ _ (at_column own c) (product ∙ sym none) (λ e. some (abs_zero_z _ e))
     ]
 
-pub only_zero : (n : ℕ) (row : ℕ → List ℤ) (pivot : ℕ → ℕ) (numbers : List ℤ) → AreTriangular n row pivot →
+pub only_zero : (n : ℕ) (row : ℕ → List ℤ) (pivot : ℕ → ℕ) (numbers : List ℤ) → HavePivots n row pivot →
     length numbers ≡ n → ((g : ℕ) → g < n → sum_of_products (row g) numbers ≡ pos 0) → All (λ x. x ≡ pos 0) numbers
 only_zero n row pivot numbers rows long solved =
     All-from_get_or (λ x. x ≡ pos 0) numbers (pos 0)
