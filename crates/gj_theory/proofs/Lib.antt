@@ -28,3 +28,4 @@ pub mod SlopeSums
 pub mod ExtremeByCover
 pub mod SlopePerturbations
 pub mod LineComponents
+pub mod ComponentIntervals

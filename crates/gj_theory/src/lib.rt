@@ -5,7 +5,8 @@
 //! test gives the first violation, and `shown` that a first violation is shown at its points and that a shown violation
 //! denies that the function, or the table on a grid that holds the points, is minimal. `constant_steps` says that a table
 //! that is additive where a function's table is has constant steps, and `extreme` that cover lines and rows show a function
-//! to be extreme. `perturbations` says what a perturbation is and that it gives two different minimal tables, and
+//! to be extreme. `perturbations` says that uncovered intervals and solutions of the linear system give perturbations, and
+//! that each perturbation gives two different minimal tables that average to the function's, and
 //! `decisive_order` that the table on the grid of order 4 q decides whether a function is extreme.
 //!
 //! The decision and the separate checker both rest on these theorems and share no code. A call does nothing: it brings
