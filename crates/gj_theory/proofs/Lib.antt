@@ -39,3 +39,4 @@ pub mod RowGrids
 pub mod CutsByTables
 pub mod LineComponents
 pub mod SlopePerturbations
+pub mod ComponentIntervals

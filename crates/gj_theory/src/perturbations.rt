@@ -1,13 +1,14 @@
 //! Perturbations of a minimal function, and the two functions that they give.
-ghost use Rattle.std.specs.Prelude.{ℕ, ℤ, pos, ◌≡◌, ◌≢◌, ◌+◌, ◌*◌, ◌<◌, ◌≤◌, ◌↔◌, List, All, Contains, length, unsigned_abs};
+ghost use Rattle.std.specs.Prelude.{ℕ, ℤ, pos, ◌≡◌, ◌≢◌, ◌+◌, ◌*◌, ◌<◌, ◌≤◌, ◌==◌, ◌↔◌, List, All, Contains, count_by, length, unsigned_abs};
 ghost use Rattle.gj_shape.specs.Additive.{IsTight, IsTightOnGrid, IsAdditive, IsInClosure};
-ghost use Rattle.gj_shape.specs.Cover.{IsCovered, IsInClassOf};
+ghost use Rattle.gj_shape.specs.Cover.{IsCovered, IsInClassOf, AreCoverLines, HasComponent};
 ghost use Rattle.gj_shape.specs.Elimination.{at_column};
 ghost use Rattle.gj_shape.specs.Extreme.{IsExtremeTable};
 ghost use Rattle.gj_shape.specs.FunctionData.{FunctionData, IsWithinBounds, IsContinuous, at};
 ghost use Rattle.gj_shape.specs.Perturbation.{zigzag, perturbation_of, IsLeastSlack, IsGreatestSize, AreHalvesOf};
 ghost use Rattle.gj_shape.specs.SlopeRows.{SolveRows};
 ghost use Rattle.gj_shape.specs.Table.{table, IsMinimalTable, IsMinimal};
+ghost use Rattle.gj_shape.specs.declared.extremality.CoverLine.{CoverLine};
 ghost use Rattle.gj_shape.specs.declared.extremality.Halves.{Halves};
 ghost use Rattle.gj_shape.specs.declared.faces.FaceKind.{FaceKind};
 ghost use Rattle.gj_theory.specs.Halves.{IsPerturbation, IsBelowSlacks, raised, lowered, AreDifferentHalves};
@@ -36,6 +37,13 @@ pub fn zigzag_is_perturbation()
         IsPerturbation (table f 4) (f.order * 4) (f.place * 4) (zigzag f.order class) }
     ensures zero { (q : ℕ) (class : List ℕ) (a : ℕ) → zigzag q class (a * 4) ≡ pos 0 }
     ensures one { (q : ℕ) (class : List ℕ) (a : ℕ) → Contains class a → a < q → zigzag q class (a * 4 + 1) ≡ pos 1 }
+{}
+
+/// Each component has an interval.
+pub fn components_have_intervals()
+    ensures { (f : FunctionData) (lines : List CoverLine) (number : ℕ) → AreCoverLines f.order (IsTight f) lines →
+        number < count_by (λ l. l.from == l.interval) lines →
+        (i : ℕ) × (i < f.order) × HasComponent lines number i }
 {}
 
 /// Slopes of components that solve all rows of the linear system give a perturbation on the function's own grid, and one
