@@ -1,0 +1,4 @@
+pub mod RunLists
+pub mod Corners
+pub mod ByRuns
+pub mod Slacks
