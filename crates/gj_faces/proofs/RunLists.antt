@@ -1,7 +1,7 @@
 -- Runs in order, as a list with indices.
-use Rattle.std.proofs.Common.{◌≡◌, ◌⊎◌, inl, inr, ◌↔◌, ℕ, zero, suc, ◌+◌, ◌-◌, ◌%◌, ◌<◌, ◌≤◌, List, [], ◌∷◌, ◌++◌, length, get_or, take, drop, All, Any, refl, sym, ap, ap₂, subst, ◌∙◌, arith}
+use Rattle.std.proofs.Common.{◌≡◌, ◌⊎◌, inl, inr, ◌↔◌, ℕ, zero, suc, ◌+◌, ◌-◌, ◌%◌, ◌<◌, ◌≤◌, List, [], ◌∷◌, ◌++◌, length, get_or, take, drop, All, Any, refl, sym, ap, ap₂, subst, ◌∙◌, length-append, arith}
 use Rattle.std.proofs.lemmas.Bool.{cases_eq, cases_lt}
-use Rattle.std.proofs.lemmas.List.{drop_more, take-append-drop, get_or_at, get_or_default}
+use Rattle.std.proofs.lemmas.List.{drop_more, take-append-drop, get_or_at, get_or_default, get_or-append-add}
 use Rattle.gj_faces.specs.declared.run.Run.{Run}
 use Rattle.gj_faces.specs.Runs.{Holds, InRuns, IsRunOf, EndsBefore, AreInOrder}
 
@@ -118,3 +118,18 @@ narrowed_down q runs i j low high m e h below late between k d within holds =
       | inr order ↦ absurd (starts_late q i j (get_or runs k e) (get_or runs m e) late here (behind q runs h k m e order within)
           found)
     ]
+
+-- ---- in order
+
+pub in_order_by_index : (q : ℕ) (runs : List Run) → All (IsRunOf q) runs → AreAscending runs → AreInOrder q runs
+in_order_by_index q runs each ascending = record {
+  each = each;
+  ascending = λ before r s after e.
+      let lengths = ap length e ∙ length-append before (r ∷ s ∷ after) in
+      let first : get_or runs (length before) r ≡ r = ap (λ xs. get_or xs (length before) r) e
+      ∙ get_or_at before r (s ∷ after) r (length before) refl in
+      let second : get_or runs (length before + 1) r ≡ s = ap (λ xs. get_or xs (length before + 1) r) e
+      ∙ get_or-append-add before (r ∷ s ∷ after) 1 r in
+      let neighbours = ascending (length before) r (omega arith) in
+      subst (λ x. EndsBefore x s) first (subst (EndsBefore (get_or runs (length before) r)) second neighbours);
+}

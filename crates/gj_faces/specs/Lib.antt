@@ -1,3 +1,5 @@
 pub mod Runs
+pub mod RunsBefore
+pub mod Rows
 pub mod Picked
 pub mod Listed

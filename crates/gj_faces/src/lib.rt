@@ -9,6 +9,7 @@
 mod additive;
 mod laws;
 mod maximal_faces;
+mod rows;
 mod run;
 mod search;
 #[cfg(test)]
