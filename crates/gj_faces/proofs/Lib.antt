@@ -5,3 +5,7 @@ pub mod Corners
 pub mod ByRuns
 pub mod Slacks
 pub mod Readings
+pub mod Maximality
+pub mod Closures
+pub mod PickedFaces
+pub mod Held

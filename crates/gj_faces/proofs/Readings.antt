@@ -50,18 +50,19 @@ values_twice f lanes values n limits e order once again = record {
   small = λ i below. subst (λ z. unsigned_abs z < 2 ^ 51) (sym (same i below)) (value_below f i limits);
 }
   where
-  entry : (k : ℕ) → k < n → get_or values k (pos 0) ≡ at f.value k
-  entry k below =
-      let len = limits.value_length in
-      ap (λ xs. get_or xs k (pos 0)) e ∙ sym (at_below f.value k (omega arith))
-  same : (i : ℕ) → i < 2 * f.order → get_or lanes i (pos 0) ≡ at f.value i
-  same i below =
-      elim (cases_lt i n) [
-        | inl first ↦ once i first ∙ entry i first
-        | inr second ↦
-            let place : n + (i - n) ≡ i = omega arith in
-            let len = limits.value_length in
-            let shifted : i - n + length f.value ≡ i = omega arith in
-            ap (λ k. get_or lanes k (pos 0)) (sym place) ∙ again (i - n) (omega arith) ∙ entry (i - n) (omega arith)
-            ∙ sym (at_plus_length f.value (i - n)) ∙ ap (at f.value) shifted
-      ]
+    entry : (k : ℕ) → k < n → get_or values k (pos 0) ≡ at f.value k
+    entry k below =
+        let len = limits.value_length in
+        ap (λ xs. get_or xs k (pos 0)) e ∙ sym (at_below f.value k (omega arith))
+
+    same : (i : ℕ) → i < 2 * f.order → get_or lanes i (pos 0) ≡ at f.value i
+    same i below =
+        elim (cases_lt i n) [
+          | inl first ↦ once i first ∙ entry i first
+          | inr second ↦
+              let place : n + (i - n) ≡ i = omega arith in
+              let len = limits.value_length in
+              let shifted : i - n + length f.value ≡ i = omega arith in
+              ap (λ k. get_or lanes k (pos 0)) (sym place) ∙ again (i - n) (omega arith) ∙ entry (i - n) (omega arith)
+              ∙ sym (at_plus_length f.value (i - n)) ∙ ap (at f.value) shifted
+        ]

@@ -38,16 +38,17 @@ skipped q Tight a b c runs h order none = record {
   complete = λ i j first second before tight. found i j first second before tight;
 }
   where
-  later : (r : Run) → ComesBefore r.a r.to a b → ComesBefore r.a r.to a c
-  later r (inl row) = inl row
-  later r (inr place) = inr (place.0, omega (arith, place.1))
-  found : (i j : ℕ) → i < q → j < q → ComesBefore i j a c → Tight i j → InRuns q runs i j
-  found i j first second (inl row) tight = h.complete i j first second (inl row) tight
-  found i j first second (inr place) tight =
-      elim (cases_lt j b) [
-        | inl early ↦ h.complete i j first second (inr (place.0, early)) tight
-        | inr late ↦ absurd (none j late place.1 (subst (λ k. Tight k j) place.0 tight))
-      ]
+    later : (r : Run) → ComesBefore r.a r.to a b → ComesBefore r.a r.to a c
+    later r (inl row) = inl row
+    later r (inr place) = inr (place.0, omega (arith, place.1))
+
+    found : (i j : ℕ) → i < q → j < q → ComesBefore i j a c → Tight i j → InRuns q runs i j
+    found i j first second (inl row) tight = h.complete i j first second (inl row) tight
+    found i j first second (inr place) tight =
+        elim (cases_lt j b) [
+          | inl early ↦ h.complete i j first second (inr (place.0, early)) tight
+          | inr late ↦ absurd (none j late place.1 (subst (λ k. Tight k j) place.0 tight))
+        ]
 
 -- one more run
 pub pushed : (q : ℕ) (Tight : ℕ → ℕ → Type 0) (a b c : ℕ) (runs : List Run) → AreRunsBefore q Tight a b runs → a < q →
@@ -70,38 +71,47 @@ pushed q Tight a b c runs h row some within tight start stop =
       complete = found;
     }
   where
-  later : (r : Run) → ComesBefore r.a r.to a b → ComesBefore r.a r.to a c
-  later r (inl row) = inl row
-  later r (inr place) = inr (place.0, omega (arith, place.1))
-  ends : (run : Run) → run.a ≡ a → run.from ≡ b → (r : Run) → ComesBefore r.a r.to a b → EndsBefore r run
-  ends run row from r (inl h) = inl (omega arith)
-  ends run row from r (inr h) = inr (h.0 ∙ sym row, omega (arith, h.1))
-  ascending : (run : Run) → run.a ≡ a → run.from ≡ b → AreAscending runs → AreAscending (runs ++ run ∷ [])
-  ascending run row from old k d below =
-      let more = length_push runs run in
-      let first = get_or_append_left runs (run ∷ []) d k (omega arith) in
-      elim (cases_lt (k + 1) (length runs)) [
-        | inl inside ↦ let second = get_or_append_left runs (run ∷ []) d (k + 1) inside in rw (first, second) (old k d inside)
-        | inr beyond ↦ let second = get_or_push runs run d (k + 1) (omega arith) in
-            rw (first, second) (ends run row from (get_or runs k d) (h.behind k d (omega arith)))
-      ]
-  wider : (run : Run) {i j : ℕ} → InRuns q runs i j → InRuns q (runs ++ run ∷ []) i j
-  wider run held =
-      let below = held.2 in
-      (held.0, held.1, omega (arith, length_push runs run), get_or_append_left runs (run ∷ []) held.1 held.0 below ∙ held.3, held.4)
-  found : (i j : ℕ) → i < q → j < q → ComesBefore i j a c → Tight i j →
-      InRuns q (runs ++ record { a = a; from = b; to = c - 1 } ∷ []) i j
-  found i j first second (inl earlier) tight =
-      wider (record { a = a; from = b; to = c - 1 }) (h.complete i j first second (inl earlier) tight)
-  found i j first second (inr place) tight =
-      let run : Run = record { a = a; from = b; to = c - 1 } in
-      let row_rest = mod-eq_of_lt first in
-      let place_rest = mod-eq_of_lt second in
-      elim (cases_lt j b) [
-        | inl early ↦ wider run (h.complete i j first second (inr (place.0, early)) tight)
-        | inr late ↦ (length runs, run, omega (arith, length_push runs run), get_or_push runs run run (length runs) refl,
-            record { row = omega (arith, place.0); start = omega arith; stop = omega (arith, place.1) })
-      ]
+    later : (r : Run) → ComesBefore r.a r.to a b → ComesBefore r.a r.to a c
+    later r (inl row) = inl row
+    later r (inr place) = inr (place.0, omega (arith, place.1))
+
+    ends : (run : Run) → run.a ≡ a → run.from ≡ b → (r : Run) → ComesBefore r.a r.to a b → EndsBefore r run
+    ends run row from r (inl h) = inl (omega arith)
+    ends run row from r (inr h) = inr (h.0 ∙ sym row, omega (arith, h.1))
+
+    ascending : (run : Run) → run.a ≡ a → run.from ≡ b → AreAscending runs → AreAscending (runs ++ run ∷ [])
+    ascending run row from old k d below =
+        let more = length_push runs run in
+        let first = get_or_append_left runs (run ∷ []) d k (omega arith) in
+        elim (cases_lt (k + 1) (length runs)) [
+          | inl inside ↦ let second = get_or_append_left runs (run ∷ []) d (k + 1) inside in rw (first, second) (old k d inside)
+          | inr beyond ↦ let second = get_or_push runs run d (k + 1) (omega arith) in
+              rw (first, second) (ends run row from (get_or runs k d) (h.behind k d (omega arith)))
+        ]
+
+    wider : (run : Run) {i j : ℕ} → InRuns q runs i j → InRuns q (runs ++ run ∷ []) i j
+    wider run held =
+        let below = held.2 in
+        (held.0, held.1, omega (arith, length_push runs run), get_or_append_left runs (run ∷ []) held.1 held.0 below ∙ held.3, held.4)
+
+    found : (i j : ℕ) → i < q → j < q → ComesBefore i j a c → Tight i j →
+        InRuns q (runs ++ record { a = a; from = b; to = c - 1 } ∷ []) i j
+    found i j first second (inl earlier) tight =
+        wider (record { a = a; from = b; to = c - 1 }) (h.complete i j first second (inl earlier) tight)
+    found i j first second (inr place) tight =
+        let run : Run = record { a = a; from = b; to = c - 1 } in
+        let row_rest = mod-eq_of_lt first in
+        let place_rest = mod-eq_of_lt second in
+        elim (cases_lt j b) [
+          | inl early ↦ wider run (h.complete i j first second (inr (place.0, early)) tight)
+          | inr late ↦ (
+            length runs,
+            run,
+            omega (arith, length_push runs run),
+            get_or_push runs run run (length runs) refl,
+            record { row = omega (arith, place.0); start = omega arith; stop = omega (arith, place.1) },
+          )
+        ]
 
 -- the end of a row
 pub row_done : (q : ℕ) (Tight : ℕ → ℕ → Type 0) (a : ℕ) (runs : List Run) → AreRunsBefore q Tight a q runs →
@@ -115,16 +125,17 @@ row_done q Tight a runs h = record {
   complete = λ i j first second before tight. found i j first second before tight;
 }
   where
-  later : (r : Run) → ComesBefore r.a r.to a q → ComesBefore r.a r.to (a + 1) 0
-  later r (inl row) = inl (omega arith)
-  later r (inr place) = inl (omega (arith, place.0))
-  found : (i j : ℕ) → i < q → j < q → ComesBefore i j (a + 1) 0 → Tight i j → InRuns q runs i j
-  found i j first second (inl row) tight =
-      elim (cases_lt i a) [
-        | inl early ↦ h.complete i j first second (inl early) tight
-        | inr late ↦ h.complete i j first second (inr (omega arith, second)) tight
-      ]
-  found i j first second (inr place) tight = absurd (omega (arith, place.1))
+    later : (r : Run) → ComesBefore r.a r.to a q → ComesBefore r.a r.to (a + 1) 0
+    later r (inl row) = inl (omega arith)
+    later r (inr place) = inl (omega (arith, place.0))
+
+    found : (i j : ℕ) → i < q → j < q → ComesBefore i j (a + 1) 0 → Tight i j → InRuns q runs i j
+    found i j first second (inl row) tight =
+        elim (cases_lt i a) [
+          | inl early ↦ h.complete i j first second (inl early) tight
+          | inr late ↦ h.complete i j first second (inr (omega arith, second)) tight
+        ]
+    found i j first second (inr place) tight = absurd (omega (arith, place.1))
 
 -- all rows
 pub all_rows : (q : ℕ) (Tight : ℕ → ℕ → Type 0) (runs : List Run) → 0 < q → IsPeriodic q Tight →
@@ -139,18 +150,24 @@ all_rows q Tight runs some periodic h = record {
   whole = h.whole;
 }
   where
-  reduced : {i j : ℕ} → InRuns q runs (i % q) (j % q) → InRuns q runs i j
-  reduced {i} {j} held = (held.0, held.1, held.2, held.3, record {
-    row = held.4.row ∙ mod-mod i q;
-    start = omega (arith, held.4.start, mod-mod j q);
-    stop = omega (arith, held.4.stop, mod-mod j q);
-  })
-  holds : {i j : ℕ} → InRuns q runs i j → Tight i j
-  holds {i} {j} held =
-      let run = held.1 in
-      let tight = subst (IsTightRun Tight) held.3 (h.tight held.0 run held.2) (j % q) held.4.start held.4.stop in
-      periodic run.a (j % q) i j (ap (λ k. k % q) held.4.row ∙ mod-mod i q) (mod-mod j q) tight
+    reduced : {i j : ℕ} → InRuns q runs (i % q) (j % q) → InRuns q runs i j
+    reduced {i} {j} held = (
+      held.0,
+      held.1,
+      held.2,
+      held.3,
+      record {
+        row = held.4.row ∙ mod-mod i q;
+        start = omega (arith, held.4.start, mod-mod j q);
+        stop = omega (arith, held.4.stop, mod-mod j q);
+      },
+    )
 
+    holds : {i j : ℕ} → InRuns q runs i j → Tight i j
+    holds {i} {j} held =
+        let run = held.1 in
+        let tight = subst (IsTightRun Tight) held.3 (h.tight held.0 run held.2) (j % q) held.4.start held.4.stop in
+        periodic run.a (j % q) i j (ap (λ k. k % q) held.4.row ∙ mod-mod i q) (mod-mod j q) tight
 
 -- ---- read off a row
 
@@ -186,8 +203,8 @@ run_of_row q Tight a b c d row runs h below len tells within here start end next
     (λ beyond tight. clash (get_or row c false) ((tells c beyond).1 tight) (end.found (omega arith))))
     next.behind (λ j low high tight. next.first j low high ((tells j (omega arith)).1 tight))
   where
-  clash : (t : Bool) → t ≡ true → t ≡ false → ⊥
-  clash t h k = cc
+    clash : (t : Bool) → t ≡ true → t ≡ false → ⊥
+    clash t h k = cc
 
 -- no place just before the next run is tight
 pub before_next : (row : List Bool) (c d : ℕ) → IsNext row true c d → (c < length row → get_or row c false ≡ false) →
@@ -200,5 +217,5 @@ before_next row c d next end below =
       | inr differ ↦ false_from_ne_true (get_or row (d - 1) false) (next.first (d - 1) (omega arith) (omega arith))
     ]
   where
-  clash : (t : Bool) → t ≡ true → t ≡ false → ⊥
-  clash t h k = cc
+    clash : (t : Bool) → t ≡ true → t ≡ false → ⊥
+    clash t h k = cc

@@ -3,3 +3,5 @@ pub mod RunsBefore
 pub mod Rows
 pub mod Picked
 pub mod Listed
+pub mod Added
+pub mod Alone

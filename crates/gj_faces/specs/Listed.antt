@@ -7,10 +7,13 @@ use Rattle.gj_shape.specs.declared.faces.Face.{Face}
 use Rattle.gj_shape.specs.declared.faces.FaceKind.{FaceKind}
 use Rattle.gj_faces.specs.Picked.{ArePicked}
 
+-- the face is a maximal additive face of the function
+abbrev pub IsMaximalIn : FunctionData → Face → Type 0
+IsMaximalIn f face = IsMaximalFace f.order (IsTight f) face.kind face.a face.b
+
 -- the maximal additive faces of the function, in walk order
 abbrev pub AreMaximalFaces : FunctionData → List Face → Type 0
-AreMaximalFaces f faces =
-    ArePicked (λ face. IsMaximalFace f.order (IsTight f) face.kind face.a face.b) (faces_of f.order) faces
+AreMaximalFaces f faces = ArePicked (IsMaximalIn f) (faces_of f.order) faces
 
 -- the pair of multiples of 1/(order m) lies in the closure of a listed face
 abbrev pub IsInListed : FunctionData → ℕ → List Face → ℕ → ℕ → Type 0

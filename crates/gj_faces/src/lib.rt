@@ -7,6 +7,7 @@
 #![tactic(auto)]
 
 mod additive;
+mod alone;
 mod laws;
 mod maximal_faces;
 mod rows;

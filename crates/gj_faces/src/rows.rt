@@ -1,7 +1,7 @@
 //! Rows of tight pairs.
 ghost use Rattle.std.specs.Prelude.{ℕ, ◌≡◌, ◌<◌, ◌≤◌, false, length, slice_index_or};
 ghost use Rattle.gj_shape.specs.FunctionData.{IsWithinBounds};
-ghost use Rattle.gj_faces.specs.Rows.{TellsRow};
+ghost use Rattle.gj_faces.specs.Rows.{TellsRow, TellsWideRow};
 
 use gj_shape::Shape;
 
@@ -9,7 +9,10 @@ use gj_shape::Shape;
 const COUNT: usize = 2_000;
 
 /// The greatest order.
-const PLACES: usize = 1_000;
+pub(crate) const PLACES: usize = 1_000;
+
+/// One place more at either end.
+pub(crate) const WIDTH: usize = 1_002;
 
 /// The values at i/q for each i below 2 q, each times the common denominator.
 #[derive(Drop)]
@@ -49,6 +52,21 @@ impl Lanes {
         }
         row
     }
+}
+
+/// The row with the place before its first and the one behind its last at its ends, modulo its length.
+pub(crate) fn widened(shape: &Shape, a: usize, row: &[bool; PLACES]) -> [bool; WIDTH]
+    requires { TellsRow shape.now a row.now shape.now.order }
+    ensures { TellsWideRow shape.now a result }
+{
+    let order = shape.order() as usize;
+    let mut wide = [false; WIDTH];
+    for b in 0..order {
+        wide[b + 1] = row[b];
+    }
+    wide[0] = row[order - 1];
+    wide[order + 1] = row[0];
+    wide
 }
 
 /// The first place of the row, from this one on, that is as wanted, or the row's length.

@@ -11,10 +11,17 @@ loop-from-preserved c =
     let stop = c.next-end.ensures in
     let go = c.next-from-in-loop-from.ensures in
     let end : IsNext c.args.row.now false c.loop-from.from c.next-end.result = record {
-      behind = stop.behind; within = stop.within; found = stop.found; first = stop.first } in
+      behind = stop.behind;
+      within = stop.within;
+      found = stop.found;
+      first = stop.first;
+    } in
     let next : IsNext c.args.row.now true c.next-end.result c.next-from-in-loop-from.result = record {
-      behind = go.behind; within = go.within; found = go.found; first = go.first } in
-    (
+      behind = go.behind;
+      within = go.within;
+      found = go.found;
+      first = go.first;
+    } in (
       go.within,
       go.found,
       λ some below. before_next row c.next-end.result c.next-from-in-loop-from.result next stop.found below,
