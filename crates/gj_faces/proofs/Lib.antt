@@ -9,3 +9,5 @@ pub mod Maximality
 pub mod Closures
 pub mod PickedFaces
 pub mod Held
+pub mod AloneFlags
+pub mod AddedFaces

@@ -99,7 +99,8 @@ fn push_square(
         b,
     )?;
     push_if(faces, alone.lower[place], shape, FaceKind::Lower, a, b)?;
-    push_if(faces, alone.upper[place], shape, FaceKind::Upper, a, b)
+    push_if(faces, alone.upper[place], shape, FaceKind::Upper, a, b)?;
+    Ok(())
 }
 
 /// Adds the face where it is maximal.
