@@ -9,7 +9,7 @@ use Rattle.gj_shape.specs.declared.faces.Face.{Face}
 use Rattle.gj_shape.specs.declared.faces.FaceKind.{FaceKind}
 use Rattle.gj_shape.specs.declared.faces.FaceKind.TheVariants.{Vertex, Horizontal, Vertical, Diagonal, Lower, Upper}
 use Rattle.gj_faces.specs.declared.alone.Alone.{Alone}
-use Rattle.gj_faces.specs.Added.{AddsMaximal}
+use Rattle.gj_faces.specs.Added.{AddsMaximal, row_of}
 use Rattle.gj_faces.specs.Alone.{AreAlone, flags_of}
 use Rattle.gj_faces.specs.Listed.{IsMaximalIn}
 use Rattle.gj_faces.specs.Picked.{ArePicked, none, kept, dropped}
@@ -58,3 +58,12 @@ adds_no_square f a b n alone old h below silent = record {
   not_one kind maximal =
       let some = h.any kind b below ((h.flags kind b below).1 maximal) in
       true≢false (sym some ∙ silent)
+
+-- one row more
+pub picked_row : (f : FunctionData) (q a : ℕ) (old new : List Face) →
+    ArePicked (IsMaximalIn f) (flat_map (row_of q) (range_with_len 0 a)) old → AddsMaximal f (row_of q a) old new →
+    ArePicked (IsMaximalIn f) (flat_map (row_of q) (range_with_len 0 (a + 1))) new
+picked_row f q a old new h k =
+    subst (λ xs. ArePicked (IsMaximalIn f) xs new) (sym (joined_more (row_of q) a))
+    (subst (ArePicked (IsMaximalIn f) (flat_map (row_of q) (range_with_len 0 a) ++ row_of q a)) (sym k.items)
+    (picked_joined (IsMaximalIn f) (row_of q a) k.added h k.picked))

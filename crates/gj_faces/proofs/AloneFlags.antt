@@ -1,6 +1,8 @@
 -- Which faces of a square are maximal, from the tight pairs around it.
 use Rattle.std.proofs.Common.{◌≡◌, ◌≢◌, ◌↔◌, ◌⊎◌, inl, inr, ℕ, ◌+◌, ◌-◌, ◌%◌, ◌<◌, List, Bool, true, false, ◌&&◌, ◌||◌, not, IsTrue, length, get_or, set, refl, sym, ap, subst, ◌∙◌, below_more, lit<, get_or-set_other, get_or-set_same, arith}
-use Rattle.std.proofs.lemmas.Bool.{and_parts, and_from, not-true, not_from_false, or_parts, or_from, or_left, or_right, false_from_ne_true, true≢false}
+use Rattle.std.proofs.Math.ListN.{length-set}
+use Rattle.std.proofs.Math.Nat.{add-mod_right, mod-mod}
+use Rattle.std.proofs.lemmas.Bool.{cases_eq, and_parts, and_from, not-true, not_from_false, or_parts, or_from, or_left, or_right, false_from_ne_true, true≢false}
 use Rattle.gj_shape.specs.Additive.{IsTight, IsMaximalFace}
 use Rattle.gj_shape.specs.FunctionData.{FunctionData, IsWithinBounds}
 use Rattle.gj_shape.specs.declared.faces.FaceKind.{FaceKind}
@@ -8,7 +10,7 @@ use Rattle.gj_shape.specs.declared.faces.FaceKind.TheVariants.{Vertex, Horizonta
 use Rattle.gj_faces.specs.declared.alone.Alone.{Alone}
 use Rattle.gj_faces.specs.Alone.{AreAlone, flags_of}
 use Rattle.gj_faces.specs.Listed.{IsMaximalIn}
-use Rattle.gj_faces.specs.Rows.{TellsWideRow}
+use Rattle.gj_faces.specs.Rows.{TellsRow, TellsWideRow}
 use Rattle.gj_faces.proofs.Maximality.{IsExtended, one_back, vertex, horizontal, vertical, diagonal, lower, upper, corner, maximal_unless_extended, maximal_is_not_extended}
 use Rattle.gj_faces.proofs.Periods.{tight_is_periodic}
 use Rattle.gj_faces.proofs.RunSteps.{IsPeriodic}
@@ -194,8 +196,9 @@ one_any : (flags any : List Bool) (n : ℕ) (x y : Bool) → n < length flags �
     (b : ℕ) → b < n + 1 → IsTrue (get_or (set flags n x) b false) → IsTrue (get_or (set any n y) b false)
 one_any flags any n x y within inside h here =
     below_more (λ b. IsTrue (get_or (set flags n x) b false) → IsTrue (get_or (set any n y) b false)) n
-    (λ b below. let other : b ≢ n = omega arith in rw (get_or-set_other, get_or-set_other) (h b below))
-    (rw (get_or-set_same, get_or-set_same) here)
+    (λ b below. let other : b ≢ n = omega arith in
+    rw (get_or-set_other flags n b x false, get_or-set_other any n b y false) (h b below))
+    (rw (get_or-set_same flags n x false, get_or-set_same any n y false) here)
 
 -- the flags with those of the square (a, n)
 abbrev pub with_square : Alone → ℕ → Around → Alone
@@ -303,3 +306,60 @@ wide_at_same f i k row limits e h place below = (
   λ p. tight_is_periodic f limits i (place + (f.order - 1)) k (place + (f.order - 1)) e refl ((h place below).0 p),
   λ p. (h place below).1 (tight_is_periodic f limits k (place + (f.order - 1)) i (place + (f.order - 1)) (sym e) refl p),
 )
+
+-- the row behind row a
+pub next_row : (f : FunctionData) (a n : ℕ) (row : List Bool) → IsWithinBounds f → n ≡ f.order →
+    TellsWideRow f ((a + 1) % n) row → TellsWideRow f (a + 1) row
+next_row f a n row limits e h =
+    wide_at_same f ((a + 1) % n) (a + 1) row limits (ap (λ m. (a + 1) % m % f.order) e ∙ mod-mod (a + 1) f.order) h
+
+-- a row with its places before the first and behind the last
+pub wide_from_row : (f : FunctionData) (a n : ℕ) (row wide : List Bool) → IsWithinBounds f → n ≡ f.order →
+    TellsRow f a row f.order → length wide ≡ 1002 → ((k : ℕ) → k < n → get_or wide (k + 1) false ≡ get_or row k false) →
+    TellsWideRow f a (set (set wide 0 (get_or row (n - 1) false)) (n + 1) (get_or row 0 false))
+wide_from_row f a n row wide limits order tells len inner k below =
+    elim (cases_eq k 0) [
+      | inl first ↦ at_first first
+      | inr later ↦ elim (cases_eq k (n + 1)) [ inl last ↦ at_last last | inr inside ↦ within later inside ]
+    ]
+  where
+  -- the place k has the entry of the row at b, which is one before it modulo the order
+  read : (b : ℕ) → b < f.order → b % f.order ≡ (k + (f.order - 1)) % f.order →
+      get_or (set (set wide 0 (get_or row (n - 1) false)) (n + 1) (get_or row 0 false)) k false ≡ get_or row b false →
+      (get_or (set (set wide 0 (get_or row (n - 1) false)) (n + 1) (get_or row 0 false)) k false ≡ true)
+      ↔ IsTight f a (k + (f.order - 1))
+  read b low e same = (
+    λ p. tight_is_periodic f limits a b a (k + (f.order - 1)) refl e ((tells b low).0 (sym same ∙ p)),
+    λ p. same ∙ (tells b low).1 (tight_is_periodic f limits a (k + (f.order - 1)) a b refl (sym e) p),
+  )
+  at_first : k ≡ 0 → (get_or (set (set wide 0 (get_or row (n - 1) false)) (n + 1) (get_or row 0 false)) k false ≡ true)
+      ↔ IsTight f a (k + (f.order - 1))
+  at_first first =
+      let few = limits.order_low in
+      let many = limits.order_high in
+      let e : n - 1 ≡ k + (f.order - 1) = omega arith in
+      let apart : k ≢ n + 1 = omega arith in
+      read (n - 1) (omega arith) (ap (λ m. m % f.order) e)
+      (get_or-set_other (set wide 0 (get_or row (n - 1) false)) (n + 1) k (get_or row 0 false) false apart
+      ∙ ap (λ m. get_or (set wide 0 (get_or row (n - 1) false)) m false) first
+      ∙ get_or-set_same wide 0 (get_or row (n - 1) false) false (omega arith))
+  at_last : k ≡ n + 1 → (get_or (set (set wide 0 (get_or row (n - 1) false)) (n + 1) (get_or row 0 false)) k false ≡ true)
+      ↔ IsTight f a (k + (f.order - 1))
+  at_last last =
+      let few = limits.order_low in
+      let many = limits.order_high in
+      let more = length-set wide 0 (get_or row (n - 1) false) in
+      let e : 0 + f.order + f.order ≡ k + (f.order - 1) = omega arith in
+      read 0 (omega arith) (sym (add-mod_right 0 f.order) ∙ sym (add-mod_right (0 + f.order) f.order) ∙ ap (λ m. m % f.order) e)
+      (ap (λ m. get_or (set (set wide 0 (get_or row (n - 1) false)) (n + 1) (get_or row 0 false)) m false) last
+      ∙ get_or-set_same (set wide 0 (get_or row (n - 1) false)) (n + 1) (get_or row 0 false) false (omega arith))
+  within : k ≢ 0 → k ≢ n + 1 →
+      (get_or (set (set wide 0 (get_or row (n - 1) false)) (n + 1) (get_or row 0 false)) k false ≡ true)
+      ↔ IsTight f a (k + (f.order - 1))
+  within later inside =
+      let place : k - 1 + 1 ≡ k = omega arith in
+      let e : k - 1 + f.order ≡ k + (f.order - 1) = omega (arith, limits.order_low) in
+      read (k - 1) (omega arith) (sym (add-mod_right (k - 1) f.order) ∙ ap (λ m. m % f.order) e)
+      (get_or-set_other (set wide 0 (get_or row (n - 1) false)) (n + 1) k (get_or row 0 false) false inside
+      ∙ get_or-set_other wide 0 k (get_or row (n - 1) false) false later
+      ∙ ap (λ m. get_or wide m false) (sym place) ∙ inner (k - 1) (omega arith))
