@@ -54,10 +54,10 @@ adds_no_square f a b n alone old h below silent = record {
   items = sym (append-nil old);
 }
   where
-  not_one : (kind : FaceKind) → IsMaximalIn f (record { kind = kind; a = a; b = b }) → ⊥
-  not_one kind maximal =
-      let some = h.any kind b below ((h.flags kind b below).1 maximal) in
-      true≢false (sym some ∙ silent)
+    not_one : (kind : FaceKind) → IsMaximalIn f (record { kind = kind; a = a; b = b }) → ⊥
+    not_one kind maximal =
+        let some = h.any kind b below ((h.flags kind b below).1 maximal) in
+        true≢false (sym some ∙ silent)
 
 -- one row more
 pub picked_row : (f : FunctionData) (q a : ℕ) (old new : List Face) →

@@ -73,7 +73,6 @@ neither h k (inr q) = k q
 
 module _ (q : ℕ) (Tight : ℕ → ℕ → Type 0) (some : 0 < q) (periodic : IsPeriodic q Tight) (a b : ℕ) (t : Around)
     (around : AreAround q Tight a b t) where
-
   alone : (kind : FaceKind) → IsMaximalFace q Tight kind a b → IsExtended q Tight kind a b → ⊥
   alone kind h = maximal_is_not_extended q Tight some periodic kind a b h
 
@@ -217,41 +216,43 @@ pub one_square : (f : FunctionData) (a : ℕ) (alone : Alone) (n : ℕ) (t : Aro
     n < 1000 → AreAlone f a alone n → AreAround f.order (IsTight f) a n t → AreAlone f a (with_square alone n t) (n + 1)
 one_square f a alone n t limits len below h around = record { flags = flags; any = any }
   where
-  here : (kind : FaceKind) → IsTrue (flag kind t) ↔ IsMaximalIn f (record { kind = kind; a = a; b = n })
-  here kind =
-      let some : 0 < f.order = omega (arith, limits.order_low) in
-      let periodic = tight_is_periodic f limits in (
-        flag_says_maximal f.order (IsTight f) some periodic a n t around kind,
-        maximal_has_flag f.order (IsTight f) some periodic a n t around kind,
-      )
-  flags : (kind : FaceKind) (b : ℕ) → b < n + 1 →
-      IsTrue (get_or (flags_of (with_square alone n t) kind) b false) ↔ IsMaximalIn f (record { kind = kind; a = a; b = b })
-  flags Vertex = one_flag (λ b. IsMaximalIn f (record { kind = Vertex; a = a; b = b })) alone.vertex n (flag Vertex t)
-      (omega (arith, len.vertex_length)) (h.flags Vertex) (here Vertex)
-  flags Horizontal = one_flag (λ b. IsMaximalIn f (record { kind = Horizontal; a = a; b = b })) alone.horizontal n
-      (flag Horizontal t) (omega (arith, len.horizontal_length)) (h.flags Horizontal) (here Horizontal)
-  flags Vertical = one_flag (λ b. IsMaximalIn f (record { kind = Vertical; a = a; b = b })) alone.vertical n
-      (flag Vertical t) (omega (arith, len.vertical_length)) (h.flags Vertical) (here Vertical)
-  flags Diagonal = one_flag (λ b. IsMaximalIn f (record { kind = Diagonal; a = a; b = b })) alone.diagonal n
-      (flag Diagonal t) (omega (arith, len.diagonal_length)) (h.flags Diagonal) (here Diagonal)
-  flags Lower = one_flag (λ b. IsMaximalIn f (record { kind = Lower; a = a; b = b })) alone.lower n (flag Lower t)
-      (omega (arith, len.lower_length)) (h.flags Lower) (here Lower)
-  flags Upper = one_flag (λ b. IsMaximalIn f (record { kind = Upper; a = a; b = b })) alone.upper n (flag Upper t)
-      (omega (arith, len.upper_length)) (h.flags Upper) (here Upper)
-  any : (kind : FaceKind) (b : ℕ) → b < n + 1 → IsTrue (get_or (flags_of (with_square alone n t) kind) b false) →
-      IsTrue (get_or (set alone.any n (any_flag t)) b false)
-  any Vertex = one_any alone.vertex alone.any n (flag Vertex t) (any_flag t) (omega (arith, len.vertex_length))
-      (omega (arith, len.any_length)) (h.any Vertex) (any_of Vertex t)
-  any Horizontal = one_any alone.horizontal alone.any n (flag Horizontal t) (any_flag t)
-      (omega (arith, len.horizontal_length)) (omega (arith, len.any_length)) (h.any Horizontal) (any_of Horizontal t)
-  any Vertical = one_any alone.vertical alone.any n (flag Vertical t) (any_flag t) (omega (arith, len.vertical_length))
-      (omega (arith, len.any_length)) (h.any Vertical) (any_of Vertical t)
-  any Diagonal = one_any alone.diagonal alone.any n (flag Diagonal t) (any_flag t) (omega (arith, len.diagonal_length))
-      (omega (arith, len.any_length)) (h.any Diagonal) (any_of Diagonal t)
-  any Lower = one_any alone.lower alone.any n (flag Lower t) (any_flag t) (omega (arith, len.lower_length))
-      (omega (arith, len.any_length)) (h.any Lower) (any_of Lower t)
-  any Upper = one_any alone.upper alone.any n (flag Upper t) (any_flag t) (omega (arith, len.upper_length))
-      (omega (arith, len.any_length)) (h.any Upper) (any_of Upper t)
+    here : (kind : FaceKind) → IsTrue (flag kind t) ↔ IsMaximalIn f (record { kind = kind; a = a; b = n })
+    here kind =
+        let some : 0 < f.order = omega (arith, limits.order_low) in
+        let periodic = tight_is_periodic f limits in (
+          flag_says_maximal f.order (IsTight f) some periodic a n t around kind,
+          maximal_has_flag f.order (IsTight f) some periodic a n t around kind,
+        )
+
+    flags : (kind : FaceKind) (b : ℕ) → b < n + 1 →
+        IsTrue (get_or (flags_of (with_square alone n t) kind) b false) ↔ IsMaximalIn f (record { kind = kind; a = a; b = b })
+    flags Vertex = one_flag (λ b. IsMaximalIn f (record { kind = Vertex; a = a; b = b })) alone.vertex n (flag Vertex t)
+        (omega (arith, len.vertex_length)) (h.flags Vertex) (here Vertex)
+    flags Horizontal = one_flag (λ b. IsMaximalIn f (record { kind = Horizontal; a = a; b = b })) alone.horizontal n
+        (flag Horizontal t) (omega (arith, len.horizontal_length)) (h.flags Horizontal) (here Horizontal)
+    flags Vertical = one_flag (λ b. IsMaximalIn f (record { kind = Vertical; a = a; b = b })) alone.vertical n
+        (flag Vertical t) (omega (arith, len.vertical_length)) (h.flags Vertical) (here Vertical)
+    flags Diagonal = one_flag (λ b. IsMaximalIn f (record { kind = Diagonal; a = a; b = b })) alone.diagonal n
+        (flag Diagonal t) (omega (arith, len.diagonal_length)) (h.flags Diagonal) (here Diagonal)
+    flags Lower = one_flag (λ b. IsMaximalIn f (record { kind = Lower; a = a; b = b })) alone.lower n (flag Lower t)
+        (omega (arith, len.lower_length)) (h.flags Lower) (here Lower)
+    flags Upper = one_flag (λ b. IsMaximalIn f (record { kind = Upper; a = a; b = b })) alone.upper n (flag Upper t)
+        (omega (arith, len.upper_length)) (h.flags Upper) (here Upper)
+
+    any : (kind : FaceKind) (b : ℕ) → b < n + 1 → IsTrue (get_or (flags_of (with_square alone n t) kind) b false) →
+        IsTrue (get_or (set alone.any n (any_flag t)) b false)
+    any Vertex = one_any alone.vertex alone.any n (flag Vertex t) (any_flag t) (omega (arith, len.vertex_length))
+        (omega (arith, len.any_length)) (h.any Vertex) (any_of Vertex t)
+    any Horizontal = one_any alone.horizontal alone.any n (flag Horizontal t) (any_flag t)
+        (omega (arith, len.horizontal_length)) (omega (arith, len.any_length)) (h.any Horizontal) (any_of Horizontal t)
+    any Vertical = one_any alone.vertical alone.any n (flag Vertical t) (any_flag t) (omega (arith, len.vertical_length))
+        (omega (arith, len.any_length)) (h.any Vertical) (any_of Vertical t)
+    any Diagonal = one_any alone.diagonal alone.any n (flag Diagonal t) (any_flag t) (omega (arith, len.diagonal_length))
+        (omega (arith, len.any_length)) (h.any Diagonal) (any_of Diagonal t)
+    any Lower = one_any alone.lower alone.any n (flag Lower t) (any_flag t) (omega (arith, len.lower_length))
+        (omega (arith, len.any_length)) (h.any Lower) (any_of Lower t)
+    any Upper = one_any alone.upper alone.any n (flag Upper t) (any_flag t) (omega (arith, len.upper_length))
+        (omega (arith, len.any_length)) (h.any Upper) (any_of Upper t)
 
 -- ---- read off wide rows
 
@@ -282,22 +283,24 @@ are_around f a b before here next limits below west middle east = record {
   north_east = at_north (a + 1) next east;
 }
   where
-  moved : (i j k : ℕ) (t : Bool) → j % f.order ≡ k % f.order → (t ≡ true) ↔ IsTight f i j → (t ≡ true) ↔ IsTight f i k
-  moved i j k t e h = (
-    λ p. tight_is_periodic f limits i j i k refl e (h.0 p),
-    λ p. h.1 (tight_is_periodic f limits i k i j refl (sym e) p),
-  )
-  at_middle : (i : ℕ) (row : List Bool) → TellsWideRow f i row → (get_or row (b + 1) false ≡ true) ↔ IsTight f i b
-  at_middle i row h =
-      let some : 0 < f.order = omega (arith, limits.order_low) in
-      moved i (b + 1 + (f.order - 1)) b (get_or row (b + 1) false) (sym (one_back f.order b (b + 1) some refl))
-      (h (b + 1) (omega arith))
-  at_north : (i : ℕ) (row : List Bool) → TellsWideRow f i row → (get_or row (b + 2) false ≡ true) ↔ IsTight f i (b + 1)
-  at_north i row h =
-      let some : 0 < f.order = omega (arith, limits.order_low) in
-      let two : b + 1 + 1 ≡ b + 2 = omega arith in
-      moved i (b + 2 + (f.order - 1)) (b + 1) (get_or row (b + 2) false)
-      (sym (one_back f.order (b + 1) (b + 2) some (ap (λ n. n % f.order) two))) (h (b + 2) (omega arith))
+    moved : (i j k : ℕ) (t : Bool) → j % f.order ≡ k % f.order → (t ≡ true) ↔ IsTight f i j → (t ≡ true) ↔ IsTight f i k
+    moved i j k t e h = (
+      λ p. tight_is_periodic f limits i j i k refl e (h.0 p),
+      λ p. h.1 (tight_is_periodic f limits i k i j refl (sym e) p),
+    )
+
+    at_middle : (i : ℕ) (row : List Bool) → TellsWideRow f i row → (get_or row (b + 1) false ≡ true) ↔ IsTight f i b
+    at_middle i row h =
+        let some : 0 < f.order = omega (arith, limits.order_low) in
+        moved i (b + 1 + (f.order - 1)) b (get_or row (b + 1) false) (sym (one_back f.order b (b + 1) some refl))
+        (h (b + 1) (omega arith))
+
+    at_north : (i : ℕ) (row : List Bool) → TellsWideRow f i row → (get_or row (b + 2) false ≡ true) ↔ IsTight f i (b + 1)
+    at_north i row h =
+        let some : 0 < f.order = omega (arith, limits.order_low) in
+        let two : b + 1 + 1 ≡ b + 2 = omega arith in
+        moved i (b + 2 + (f.order - 1)) (b + 1) (get_or row (b + 2) false)
+        (sym (one_back f.order (b + 1) (b + 2) some (ap (λ n. n % f.order) two))) (h (b + 2) (omega arith))
 
 -- rows with equal remainders
 pub wide_at_same : (f : FunctionData) (i k : ℕ) (row : List Bool) → IsWithinBounds f → i % f.order ≡ k % f.order →
@@ -323,43 +326,46 @@ wide_from_row f a n row wide limits order tells len inner k below =
       | inr later ↦ elim (cases_eq k (n + 1)) [ inl last ↦ at_last last | inr inside ↦ within later inside ]
     ]
   where
-  -- the place k has the entry of the row at b, which is one before it modulo the order
-  read : (b : ℕ) → b < f.order → b % f.order ≡ (k + (f.order - 1)) % f.order →
-      get_or (set (set wide 0 (get_or row (n - 1) false)) (n + 1) (get_or row 0 false)) k false ≡ get_or row b false →
-      (get_or (set (set wide 0 (get_or row (n - 1) false)) (n + 1) (get_or row 0 false)) k false ≡ true)
-      ↔ IsTight f a (k + (f.order - 1))
-  read b low e same = (
-    λ p. tight_is_periodic f limits a b a (k + (f.order - 1)) refl e ((tells b low).0 (sym same ∙ p)),
-    λ p. same ∙ (tells b low).1 (tight_is_periodic f limits a (k + (f.order - 1)) a b refl (sym e) p),
-  )
-  at_first : k ≡ 0 → (get_or (set (set wide 0 (get_or row (n - 1) false)) (n + 1) (get_or row 0 false)) k false ≡ true)
-      ↔ IsTight f a (k + (f.order - 1))
-  at_first first =
-      let few = limits.order_low in
-      let many = limits.order_high in
-      let e : n - 1 ≡ k + (f.order - 1) = omega arith in
-      let apart : k ≢ n + 1 = omega arith in
-      read (n - 1) (omega arith) (ap (λ m. m % f.order) e)
-      (get_or-set_other (set wide 0 (get_or row (n - 1) false)) (n + 1) k (get_or row 0 false) false apart
-      ∙ ap (λ m. get_or (set wide 0 (get_or row (n - 1) false)) m false) first
-      ∙ get_or-set_same wide 0 (get_or row (n - 1) false) false (omega arith))
-  at_last : k ≡ n + 1 → (get_or (set (set wide 0 (get_or row (n - 1) false)) (n + 1) (get_or row 0 false)) k false ≡ true)
-      ↔ IsTight f a (k + (f.order - 1))
-  at_last last =
-      let few = limits.order_low in
-      let many = limits.order_high in
-      let more = length-set wide 0 (get_or row (n - 1) false) in
-      let e : 0 + f.order + f.order ≡ k + (f.order - 1) = omega arith in
-      read 0 (omega arith) (sym (add-mod_right 0 f.order) ∙ sym (add-mod_right (0 + f.order) f.order) ∙ ap (λ m. m % f.order) e)
-      (ap (λ m. get_or (set (set wide 0 (get_or row (n - 1) false)) (n + 1) (get_or row 0 false)) m false) last
-      ∙ get_or-set_same (set wide 0 (get_or row (n - 1) false)) (n + 1) (get_or row 0 false) false (omega arith))
-  within : k ≢ 0 → k ≢ n + 1 →
-      (get_or (set (set wide 0 (get_or row (n - 1) false)) (n + 1) (get_or row 0 false)) k false ≡ true)
-      ↔ IsTight f a (k + (f.order - 1))
-  within later inside =
-      let place : k - 1 + 1 ≡ k = omega arith in
-      let e : k - 1 + f.order ≡ k + (f.order - 1) = omega (arith, limits.order_low) in
-      read (k - 1) (omega arith) (sym (add-mod_right (k - 1) f.order) ∙ ap (λ m. m % f.order) e)
-      (get_or-set_other (set wide 0 (get_or row (n - 1) false)) (n + 1) k (get_or row 0 false) false inside
-      ∙ get_or-set_other wide 0 k (get_or row (n - 1) false) false later
-      ∙ ap (λ m. get_or wide m false) (sym place) ∙ inner (k - 1) (omega arith))
+    -- the place k has the entry of the row at b, which is one before it modulo the order
+    read : (b : ℕ) → b < f.order → b % f.order ≡ (k + (f.order - 1)) % f.order →
+        get_or (set (set wide 0 (get_or row (n - 1) false)) (n + 1) (get_or row 0 false)) k false ≡ get_or row b false →
+        (get_or (set (set wide 0 (get_or row (n - 1) false)) (n + 1) (get_or row 0 false)) k false ≡ true)
+        ↔ IsTight f a (k + (f.order - 1))
+    read b low e same = (
+      λ p. tight_is_periodic f limits a b a (k + (f.order - 1)) refl e ((tells b low).0 (sym same ∙ p)),
+      λ p. same ∙ (tells b low).1 (tight_is_periodic f limits a (k + (f.order - 1)) a b refl (sym e) p),
+    )
+
+    at_first : k ≡ 0 → (get_or (set (set wide 0 (get_or row (n - 1) false)) (n + 1) (get_or row 0 false)) k false ≡ true)
+        ↔ IsTight f a (k + (f.order - 1))
+    at_first first =
+        let few = limits.order_low in
+        let many = limits.order_high in
+        let e : n - 1 ≡ k + (f.order - 1) = omega arith in
+        let apart : k ≢ n + 1 = omega arith in
+        read (n - 1) (omega arith) (ap (λ m. m % f.order) e)
+        (get_or-set_other (set wide 0 (get_or row (n - 1) false)) (n + 1) k (get_or row 0 false) false apart
+        ∙ ap (λ m. get_or (set wide 0 (get_or row (n - 1) false)) m false) first
+        ∙ get_or-set_same wide 0 (get_or row (n - 1) false) false (omega arith))
+
+    at_last : k ≡ n + 1 → (get_or (set (set wide 0 (get_or row (n - 1) false)) (n + 1) (get_or row 0 false)) k false ≡ true)
+        ↔ IsTight f a (k + (f.order - 1))
+    at_last last =
+        let few = limits.order_low in
+        let many = limits.order_high in
+        let more = length-set wide 0 (get_or row (n - 1) false) in
+        let e : 0 + f.order + f.order ≡ k + (f.order - 1) = omega arith in
+        read 0 (omega arith) (sym (add-mod_right 0 f.order) ∙ sym (add-mod_right (0 + f.order) f.order) ∙ ap (λ m. m % f.order) e)
+        (ap (λ m. get_or (set (set wide 0 (get_or row (n - 1) false)) (n + 1) (get_or row 0 false)) m false) last
+        ∙ get_or-set_same (set wide 0 (get_or row (n - 1) false)) (n + 1) (get_or row 0 false) false (omega arith))
+
+    within : k ≢ 0 → k ≢ n + 1 →
+        (get_or (set (set wide 0 (get_or row (n - 1) false)) (n + 1) (get_or row 0 false)) k false ≡ true)
+        ↔ IsTight f a (k + (f.order - 1))
+    within later inside =
+        let place : k - 1 + 1 ≡ k = omega arith in
+        let e : k - 1 + f.order ≡ k + (f.order - 1) = omega (arith, limits.order_low) in
+        read (k - 1) (omega arith) (sym (add-mod_right (k - 1) f.order) ∙ ap (λ m. m % f.order) e)
+        (get_or-set_other (set wide 0 (get_or row (n - 1) false)) (n + 1) k (get_or row 0 false) false inside
+        ∙ get_or-set_other wide 0 k (get_or row (n - 1) false) false later
+        ∙ ap (λ m. get_or wide m false) (sym place) ∙ inner (k - 1) (omega arith))
