@@ -9,5 +9,6 @@ pub mod Maximality
 pub mod Closures
 pub mod PickedFaces
 pub mod Held
+pub mod PaintedRows
 pub mod AloneFlags
 pub mod AddedFaces

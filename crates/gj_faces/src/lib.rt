@@ -10,6 +10,7 @@ mod additive;
 mod alone;
 mod laws;
 mod maximal_faces;
+mod painted;
 mod rows;
 mod run;
 mod search;
