@@ -1,7 +1,7 @@
 -- Maximal faces that are added to a list.
-use Rattle.std.proofs.Common.{◌≡◌, ◌↔◌, ℕ, ◌+◌, ◌<◌, List, [], ◌∷◌, ◌++◌, Bool, true, false, IsTrue, get_or, append_assoc, refl, sym, ap, ap₂, subst, ◌∙◌}
+use Rattle.std.proofs.Common.{◌≡◌, ℕ, ◌+◌, ◌<◌, List, [], ◌∷◌, ◌++◌, false, get_or, append_assoc, sym, ap, subst, ◌∙◌}
 use Rattle.std.specs.List.{range_with_len, flat_map}
-use Rattle.std.proofs.lemmas.Bool.{false_from_ne_true, true≢false}
+use Rattle.std.proofs.lemmas.Bool.{true≢false}
 use Rattle.std.proofs.lemmas.List.{append-nil}
 use Rattle.gj_shape.specs.FunctionData.{FunctionData}
 use Rattle.gj_shape.specs.WalkOrder.{faces_of_square}
@@ -9,8 +9,8 @@ use Rattle.gj_shape.specs.declared.faces.Face.{Face}
 use Rattle.gj_shape.specs.declared.faces.FaceKind.{FaceKind}
 use Rattle.gj_shape.specs.declared.faces.FaceKind.TheVariants.{Vertex, Horizontal, Vertical, Diagonal, Lower, Upper}
 use Rattle.gj_faces.specs.declared.alone.Alone.{Alone}
-use Rattle.gj_faces.specs.Added.{AddsMaximal, row_of}
-use Rattle.gj_faces.specs.Alone.{AreAlone, flags_of}
+use Rattle.gj_faces.specs.Added.{AddsMaximal, faces_of_row}
+use Rattle.gj_faces.specs.Alone.{AreAlone}
 use Rattle.gj_faces.specs.Listed.{IsMaximalIn}
 use Rattle.gj_faces.specs.Picked.{ArePicked, none, kept, dropped}
 use Rattle.gj_faces.proofs.PickedFaces.{picked_joined, joined_more}
@@ -61,9 +61,9 @@ adds_no_square f a b n alone old h below silent = record {
 
 -- one row more
 pub picked_row : (f : FunctionData) (q a : ℕ) (old new : List Face) →
-    ArePicked (IsMaximalIn f) (flat_map (row_of q) (range_with_len 0 a)) old → AddsMaximal f (row_of q a) old new →
-    ArePicked (IsMaximalIn f) (flat_map (row_of q) (range_with_len 0 (a + 1))) new
+    ArePicked (IsMaximalIn f) (flat_map (faces_of_row q) (range_with_len 0 a)) old → AddsMaximal f (faces_of_row q a) old new →
+    ArePicked (IsMaximalIn f) (flat_map (faces_of_row q) (range_with_len 0 (a + 1))) new
 picked_row f q a old new h k =
-    subst (λ xs. ArePicked (IsMaximalIn f) xs new) (sym (joined_more (row_of q) a))
-    (subst (ArePicked (IsMaximalIn f) (flat_map (row_of q) (range_with_len 0 a) ++ row_of q a)) (sym k.items)
-    (picked_joined (IsMaximalIn f) (row_of q a) k.added h k.picked))
+    subst (λ xs. ArePicked (IsMaximalIn f) xs new) (sym (joined_more (faces_of_row q) a))
+    (subst (ArePicked (IsMaximalIn f) (flat_map (faces_of_row q) (range_with_len 0 a) ++ faces_of_row q a)) (sym k.items)
+    (picked_joined (IsMaximalIn f) (faces_of_row q a) k.added h k.picked))

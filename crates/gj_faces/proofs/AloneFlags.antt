@@ -1,5 +1,5 @@
 -- Which faces of a square are maximal, from the tight pairs around it.
-use Rattle.std.proofs.Common.{◌≡◌, ◌≢◌, ◌↔◌, ◌⊎◌, inl, inr, ℕ, ◌+◌, ◌-◌, ◌%◌, ◌<◌, List, Bool, true, false, ◌&&◌, ◌||◌, not, IsTrue, length, get_or, set, refl, sym, ap, subst, ◌∙◌, below_more, lit<, get_or-set_other, get_or-set_same, arith}
+use Rattle.std.proofs.Common.{◌≡◌, ◌≢◌, ◌↔◌, ◌⊎◌, inl, inr, ℕ, ◌+◌, ◌-◌, ◌%◌, ◌<◌, List, Bool, true, false, ◌&&◌, ◌||◌, not, IsTrue, length, get_or, set, refl, sym, ap, ◌∙◌, below_more, lit<, get_or-set_other, get_or-set_same, arith}
 use Rattle.std.proofs.Math.ListN.{length-set}
 use Rattle.std.proofs.Math.Nat.{add-mod_right, mod-mod}
 use Rattle.std.proofs.lemmas.Bool.{cases_eq, and_parts, and_from, not-true, not_from_false, or_parts, or_from, or_left, or_right, false_from_ne_true, true≢false}

@@ -1,5 +1,5 @@
 -- Additive faces by runs.
-use Rattle.std.proofs.Common.{◌≡◌, ◌↔◌, ℕ, List, All}
+use Rattle.std.proofs.Common.{◌↔◌, ℕ, List}
 use Rattle.std.proofs.lemmas.List.Elements.{All-weaker}
 use Rattle.gj_shape.specs.Additive.{IsAdditive}
 use Rattle.gj_shape.specs.Faces.{corners_of}

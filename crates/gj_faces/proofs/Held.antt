@@ -1,17 +1,15 @@
 -- Each additive face lies in the closure of a maximal one.
-use Rattle.std.proofs.Common.{◌≡◌, ◌⊎◌, inl, inr, ℕ, zero, suc, ◌+◌, ◌-◌, ◌%◌, ◌<◌, ◌≤◌, ◌+ℤ◌, ℤ, List, All, Any, refl, sym, subst, lit<, ◌∙◌, arith}
+use Rattle.std.proofs.Common.{◌⊎◌, inl, inr, ℕ, zero, suc, ◌+◌, ◌-◌, ◌%◌, ◌<◌, ◌≤◌, ◌+ℤ◌, List, Any, sym, subst, arith}
 use Rattle.std.proofs.Math.IntN.{ℤ_discrete}
 use Rattle.std.proofs.Math.Nat.{mod-lt, mod-mod}
-use Rattle.std.proofs.lemmas.List.Elements.{All-get_or}
-use Rattle.std.specs.List.{Contains}
-use Rattle.gj_shape.specs.Additive.{IsTight, IsAdditive, IsInFace, IsInClosure, IsMaximalFace, IsSameFace, border_of}
+use Rattle.gj_shape.specs.Additive.{IsTight, IsAdditive, IsInClosure, IsMaximalFace, IsSameFace, border_of}
 use Rattle.gj_shape.specs.FunctionData.{FunctionData, IsWithinBounds, at}
 use Rattle.gj_shape.specs.declared.faces.Face.{Face}
 use Rattle.gj_shape.specs.declared.faces.FaceKind.{FaceKind}
 use Rattle.gj_shape.specs.declared.faces.FaceKind.TheVariants.{Vertex, Horizontal, Vertical, Diagonal, Lower, Upper}
-use Rattle.gj_faces.specs.Listed.{AreMaximalFaces, HoldAdditive, IsInListed}
+use Rattle.gj_faces.specs.Listed.{AreMaximalFaces, HoldAdditive}
 use Rattle.gj_faces.proofs.Closures.{IsWithin, border_within, closure_at_same}
-use Rattle.gj_faces.proofs.Maximality.{IsExtended, IsPart, IsPartOfAdditive, dimension, grown, maximal_unless_extended, maximal_at_same}
+use Rattle.gj_faces.proofs.Maximality.{IsExtended, dimension, grown, maximal_unless_extended, maximal_at_same}
 use Rattle.gj_faces.proofs.Periods.{tight_is_periodic}
 use Rattle.gj_faces.proofs.PickedFaces.{picked_has, in_walk}
 

@@ -1,5 +1,5 @@
 -- When an additive face lies in the closure of one of higher dimension: by the tight pairs around it.
-use Rattle.std.proofs.Common.{◌≡◌, ◌⊎◌, inl, inr, ◌↔◌, ℕ, zero, suc, ◌+◌, ◌-◌, ◌%◌, ◌<◌, ◌≤◌, List, [], ◌∷◌, get_or, length, All, Any, refl, sym, ap, ap₂, subst, lit<, ◌∙◌, arith}
+use Rattle.std.proofs.Common.{◌≡◌, ◌⊎◌, inl, inr, ℕ, ◌+◌, ◌-◌, ◌%◌, ◌<◌, List, [], ◌∷◌, get_or, length, All, Any, refl, sym, ap, subst, lit<, ◌∙◌, arith}
 use Rattle.std.proofs.Math.Nat.{add-mod_right}
 use Rattle.std.proofs.lemmas.List.Elements.{All-nil, All-cons, All-weaker}
 use Rattle.gj_shape.specs.Additive.{IsAdditive, IsSameFace, IsMaximalFace, border_of, edges_of}

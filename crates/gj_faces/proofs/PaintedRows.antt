@@ -1,10 +1,10 @@
 -- Rows of tight pairs from runs.
-use Rattle.std.proofs.Common.{◌≡◌, ◌⊎◌, inl, inr, ◌↔◌, ℕ, ◌+◌, ◌-◌, ◌%◌, ◌<◌, ◌≤◌, Bool, true, false, List, length, get_or, replicate, refl, sym, ap, subst, ◌∙◌, arith}
+use Rattle.std.proofs.Common.{◌≡◌, ◌⊎◌, inl, inr, ◌↔◌, ℕ, ◌+◌, ◌<◌, ◌≤◌, Bool, true, false, List, length, get_or, replicate, sym, ap, subst, ◌∙◌, arith}
 use Rattle.std.proofs.Math.Nat.{mod-eq_of_lt}
 use Rattle.std.proofs.lemmas.Bool.{cases_eq, cases_lt, true≢false}
 use Rattle.std.proofs.lemmas.List.{get_or_default, get_or-replicate, get_or_past, length-replicate}
 use Rattle.gj_faces.specs.declared.run.Run.{Run}
-use Rattle.gj_faces.specs.Runs.{Holds, InRuns, EndsBefore, AreInOrder, AreRunsOf}
+use Rattle.gj_faces.specs.Runs.{InRuns, EndsBefore, AreInOrder, AreRunsOf}
 use Rattle.gj_faces.proofs.RunLists.{each_later}
 
 -- the run holds the pair (a, b)

@@ -1,5 +1,5 @@
 -- Indices that are read modulo the order.
-use Rattle.std.proofs.Common.{◌≡◌, ℕ, ◌+◌, ◌%◌, ◌+ℤ◌, length, ap, ap₂, sym, ◌∙◌}
+use Rattle.std.proofs.Common.{◌≡◌, ℕ, ◌+◌, ◌%◌, ◌+ℤ◌, ap, ap₂, sym, ◌∙◌}
 use Rattle.std.proofs.Math.Nat.{add-mod}
 use Rattle.gj_shape.specs.Additive.{IsTight}
 use Rattle.gj_shape.specs.FunctionData.{FunctionData, IsWithinBounds, at}

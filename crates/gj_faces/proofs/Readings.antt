@@ -1,5 +1,5 @@
 -- What the code reads of values in lanes of 64 bits, and of rows.
-use Rattle.std.proofs.Common.{◌≡◌, ◌≢◌, ℕ, ◌+◌, ◌-◌, ◌*◌, ◌<◌, ◌≤◌, ◌^◌, ℤ, pos, ◌+ℤ◌, unsigned_abs, Bool, false, List, length, get_or, set, IsTrue, ◌↔◌, eqb, eqb-true, eq-eqb, ap, ap₂, subst, sym, ◌∙◌, below_more, to_z, of_z, FitsSigned, w64, get_or-set_other, get_or-set_same, inl, inr, arith}
+use Rattle.std.proofs.Common.{◌≡◌, ◌≢◌, ℕ, ◌+◌, ◌-◌, ◌*◌, ◌<◌, ◌^◌, ℤ, pos, ◌+ℤ◌, unsigned_abs, Bool, false, List, length, get_or, set, IsTrue, ◌↔◌, eqb, eqb-true, eq-eqb, ap, subst, sym, ◌∙◌, below_more, to_z, of_z, w64, get_or-set_other, get_or-set_same, inl, inr, arith}
 use Rattle.std.proofs.lemmas.Bool.{cases_lt}
 use Rattle.std.proofs.lemmas.Int.{ints, to_z-of_z}
 use Rattle.gj_shape.specs.Additive.{IsTight}

@@ -1,9 +1,9 @@
 -- Runs in order, as a list with indices.
-use Rattle.std.proofs.Common.{◌≡◌, ◌⊎◌, inl, inr, ◌↔◌, ℕ, zero, suc, ◌+◌, ◌-◌, ◌%◌, ◌<◌, ◌≤◌, List, [], ◌∷◌, ◌++◌, length, get_or, take, drop, All, Any, refl, sym, ap, ap₂, subst, ◌∙◌, length-append, arith}
+use Rattle.std.proofs.Common.{◌≡◌, ◌⊎◌, inl, inr, ℕ, zero, suc, ◌+◌, ◌-◌, ◌%◌, ◌<◌, ◌≤◌, List, ◌∷◌, ◌++◌, length, get_or, take, drop, All, refl, sym, ap, subst, ◌∙◌, length-append, arith}
 use Rattle.std.proofs.lemmas.Bool.{cases_eq, cases_lt}
 use Rattle.std.proofs.lemmas.List.{drop_more, take-append-drop, get_or_at, get_or_default, get_or-append-add}
 use Rattle.gj_faces.specs.declared.run.Run.{Run}
-use Rattle.gj_faces.specs.Runs.{Holds, InRuns, IsRunOf, EndsBefore, AreInOrder}
+use Rattle.gj_faces.specs.Runs.{Holds, IsRunOf, EndsBefore, AreInOrder}
 
 -- a list is what comes before two neighbours, the two, and what comes behind
 split : (xs : List Run) (k : ℕ) (d : Run) → k + 1 < length xs →

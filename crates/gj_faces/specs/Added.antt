@@ -14,5 +14,5 @@ pub record AddsMaximal (f : FunctionData) (faces old new : List Face) : Type 0 w
   pub items : new ≡ old ++ added
 
 -- the faces of row a, in walk order
-abbrev pub row_of : ℕ → ℕ → List Face
-row_of q a = flat_map (faces_of_square a) (range_with_len 0 q)
+abbrev pub faces_of_row : ℕ → ℕ → List Face
+faces_of_row q a = flat_map (faces_of_square a) (range_with_len 0 q)

@@ -1,5 +1,5 @@
 -- Which faces of a row of squares are maximal (own).
-use Rattle.std.specs.Prelude.{ℕ, ◌≡◌, ◌↔◌, ◌<◌, List, Bool, false, IsTrue, get_or}
+use Rattle.std.specs.Prelude.{ℕ, ◌↔◌, ◌<◌, List, Bool, false, IsTrue, get_or}
 use Rattle.gj_shape.specs.FunctionData.{FunctionData}
 use Rattle.gj_shape.specs.declared.faces.FaceKind.{FaceKind}
 use Rattle.gj_shape.specs.declared.faces.FaceKind.TheVariants.{Vertex, Horizontal, Vertical, Diagonal, Lower, Upper}

@@ -1,15 +1,20 @@
 //! The maximal additive faces.
-ghost use Rattle.std.specs.Prelude.{◌*◌, ◌<◌, ◌↔◌, [], ◌∷◌, IfOk, OnOk, IsTrue};
+ghost use Rattle.std.specs.Prelude.{◌<◌, ◌↔◌, [], ◌∷◌, IfOk, OnOk, IsTrue};
+ghost use Rattle.gj_shape.specs.Additive.{IsTight};
 ghost use Rattle.gj_shape.specs.FunctionData.{IsContinuous};
 ghost use Rattle.gj_shape.specs.Given.{IsOrder};
 ghost use Rattle.gj_shape.specs.WalkOrder.{faces_of_square};
 ghost use Rattle.gj_faces.specs.Listed.{AreMaximalFaces, HoldAdditive, IsMaximalIn};
-ghost use Rattle.gj_faces.specs.Added.{AddsMaximal, row_of};
+ghost use Rattle.gj_faces.specs.Added.{AddsMaximal, faces_of_row};
 ghost use Rattle.gj_faces.specs.Alone.{AreAlone};
-ghost use Rattle.gj_faces.specs.Rows.{AreValues, TellsWideRow};
+ghost use Rattle.gj_faces.specs.Rows.{TellsWideRow};
+ghost use Rattle.gj_faces.specs.Runs.{AreRunsOf};
 
 use crate::alone::Alone;
-use crate::rows::{Lanes, WIDTH, widened};
+use crate::painted::row_of;
+use crate::rows::{WIDTH, widened};
+use crate::run::Run;
+use crate::tight_runs::runs;
 use gj_shape::{Face, FaceKind, Shape};
 use std::alloc::{AllocError, Global};
 
@@ -23,12 +28,12 @@ pub fn maximal(alloc: Global, shape: &Shape) -> Result<Vec<Face>, AllocError>
     ensures closures { IfOk result (λ faces. HoldAdditive shape.now faces.items) }
 {
     let order = shape.order();
-    let lanes = Lanes::of(shape);
+    let tight = runs(alloc, shape)?;
     let mut faces = Vec::new(alloc);
-    let mut before = wide_row(shape, &lanes, order as usize - 1);
-    let mut here = wide_row(shape, &lanes, 0);
+    let mut before = wide_row(&tight, shape, order - 1);
+    let mut here = wide_row(&tight, shape, 0);
     for a in 0..order {
-        let next = wide_row(shape, &lanes, (a as usize + 1) % order as usize);
+        let next = wide_row(&tight, shape, (a + 1) % order);
         let alone = Alone::of(shape, a, &before, &here, &next);
         push_row(&mut faces, &alone, shape, a)?;
         before = here;
@@ -37,19 +42,20 @@ pub fn maximal(alloc: Global, shape: &Shape) -> Result<Vec<Face>, AllocError>
     Ok(faces)
 }
 
-/// The wide row of tight pairs (a, b).
-fn wide_row(shape: &Shape, lanes: &Lanes, a: usize) -> [bool; WIDTH]
-    requires lanes { AreValues shape.now lanes.now.value (2 * shape.now.order) }
+/// For each b from -1 to the order whether the pair (a, b) is in the runs, indices modulo the order.
+fn wide_row(tight: &[Run], shape: &Shape, a: u32) -> [bool; WIDTH]
+    requires runs { AreRunsOf shape.now.order (IsTight shape.now) tight.now }
+    requires order { IsOrder shape.now.order }
     requires within { a < shape.now.order }
     ensures { TellsWideRow shape.now a result }
 {
-    widened(shape, a, &lanes.row(shape, a))
+    widened(shape, a, &row_of(tight, shape, a))
 }
 
 /// Adds the maximal faces of row a.
 fn push_row(faces: &mut Vec<Face>, alone: &Alone, shape: &Shape, a: u32) -> Result<(), AllocError>
     requires alone { AreAlone shape.now a alone.now shape.now.order }
-    ensures { OnOk result (AddsMaximal shape.now (row_of shape.now.order a) faces.old.items faces.new.items) }
+    ensures { OnOk result (AddsMaximal shape.now (faces_of_row shape.now.order a) faces.old.items faces.new.items) }
 {
     for b in 0..shape.order() {
         if alone.any[b as usize] {

@@ -55,7 +55,7 @@ impl Lanes {
 }
 
 /// The row with the place before its first and the one behind its last at its ends, modulo its length.
-pub(crate) fn widened(shape: &Shape, a: usize, row: &[bool; PLACES]) -> [bool; WIDTH]
+pub(crate) fn widened(shape: &Shape, a: u32, row: &[bool; PLACES]) -> [bool; WIDTH]
     requires { TellsRow shape.now a row.now shape.now.order }
     ensures { TellsWideRow shape.now a result }
 {

@@ -1,6 +1,6 @@
-use Rattle.std.proofs.Common.{◌≡◌, ◌+◌, ◌-◌, ◌%◌, ◌<◌, refl, ap, subst, ◌∙◌, flat_map, arith}
+use Rattle.std.proofs.Common.{◌≡◌, ◌+◌, ◌-◌, ◌%◌, refl, ap, subst, flat_map, arith}
 use Rattle.std.specs.List.{range_with_len}
-use Rattle.gj_faces.specs.Added.{row_of}
+use Rattle.gj_faces.specs.Added.{faces_of_row}
 use Rattle.gj_faces.specs.Listed.{IsMaximalIn}
 use Rattle.gj_faces.specs.Picked.{ArePicked, none}
 use Rattle.gj_faces.proofs.AddedFaces.{picked_row}
@@ -40,5 +40,5 @@ returns-clause-closures c =
     let f = c.args.shape.now in
     let e : c.loop-a.a ≡ c.args.shape.now.order = omega arith in
     additive_in_listed f c.loop-a.faces.items c.order-order.ensures.limits
-    (subst (λ n. ArePicked (IsMaximalIn f) (flat_map (row_of f.order) (range_with_len 0 n)) c.loop-a.faces.items) e
+    (subst (λ n. ArePicked (IsMaximalIn f) (flat_map (faces_of_row f.order) (range_with_len 0 n)) c.loop-a.faces.items) e
     c.loop-a.invariant.2)

@@ -1,4 +1,4 @@
-use Rattle.std.proofs.Common.{◌<◌, ◌+◌, ◌-◌, ◌/◌, length, arith}
+use Rattle.std.proofs.Common.{◌+◌, ◌-◌, ◌/◌, arith}
 use Rattle.gj_faces.proofs.PaintedRows.{rows_before, rows_behind, no_run}
 use Rattle.gj_faces.proofs.painted.first_of_row.Goals as goal
 

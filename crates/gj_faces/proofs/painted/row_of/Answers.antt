@@ -1,4 +1,4 @@
-use Rattle.std.proofs.Common.{ℕ, ◌≡◌, false, replicate, refl, arith}
+use Rattle.std.proofs.Common.{false, replicate, refl, arith}
 use Rattle.gj_shape.specs.Additive.{IsTight}
 use Rattle.gj_faces.proofs.PaintedRows.{no_run, blank, none_painted, one_painted, all_painted, none_later}
 use Rattle.gj_faces.proofs.painted.row_of.Goals as goal

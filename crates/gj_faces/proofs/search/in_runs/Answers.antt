@@ -1,4 +1,4 @@
-use Rattle.std.proofs.Common.{◌<◌, ◌≡◌, length, get_or, below_more, subst, arith, All, ◌∙◌, sym, refl}
+use Rattle.std.proofs.Common.{get_or, below_more, arith, ◌∙◌, sym, refl}
 use Rattle.std.proofs.lemmas.List.Elements.{All-from_get_or, All-get_or}
 use Rattle.gj_shape.specs.Faces.{corners_of}
 use Rattle.gj_faces.specs.Runs.{InRuns}

@@ -1,4 +1,4 @@
-use Rattle.std.proofs.Common.{inl, inr, ◌∙◌, length, ◌<◌, ◌+◌, ◌-◌, ◌/◌, arith}
+use Rattle.std.proofs.Common.{inl, inr, ◌∙◌, ◌+◌, ◌-◌, ◌/◌, arith}
 use Rattle.gj_faces.proofs.RunLists.{narrowed_up, narrowed_down}
 use Rattle.gj_faces.proofs.search.is_in_runs.Goals as goal
 

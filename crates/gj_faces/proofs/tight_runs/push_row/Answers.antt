@@ -1,4 +1,4 @@
-use Rattle.std.proofs.Common.{◌≡◌, ◌<◌, true, false, arith}
+use Rattle.std.proofs.Common.{true, false}
 use Rattle.gj_shape.specs.Additive.{IsTight}
 use Rattle.gj_faces.proofs.RunSteps.{IsNext, run_of_row, before_next}
 use Rattle.gj_faces.proofs.tight_runs.push_row.Goals as goal

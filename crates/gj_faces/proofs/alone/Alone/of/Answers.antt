@@ -1,6 +1,6 @@
-use Rattle.std.proofs.Common.{◌<◌, length, ◌∙◌, arith}
+use Rattle.std.proofs.Common.{◌∙◌, arith}
 use Rattle.std.proofs.Math.ListN.{length-set}
-use Rattle.gj_faces.proofs.AloneFlags.{HaveLength, one_square, are_around, around_in}
+use Rattle.gj_faces.proofs.AloneFlags.{one_square, are_around, around_in}
 use Rattle.gj_faces.proofs.alone.Alone.of.Goals as goal
 
 pub loop-b-preserved : goal.loop-b-preserved

@@ -1,4 +1,3 @@
-use Rattle.std.proofs.Common.{◌≡◌, length}
 use Rattle.gj_faces.specs.Alone.{AreAlone}
 use Rattle.gj_faces.proofs.AloneFlags.{HaveLength}
 use Rattle.gj_faces.proofs.alone.Alone.of.Given as goal

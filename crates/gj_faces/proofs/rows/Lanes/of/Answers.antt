@@ -1,4 +1,4 @@
-use Rattle.std.proofs.Common.{◌≡◌, ◌<◌, ℕ, length, pos, get_or, ap, ◌∙◌, arith}
+use Rattle.std.proofs.Common.{length, ap, ◌∙◌, arith}
 use Rattle.gj_faces.proofs.Readings.{values_twice}
 use Rattle.gj_faces.proofs.rows.Lanes.of.Goals as goal
 

@@ -1,4 +1,4 @@
-use Rattle.std.proofs.Common.{◌*◌, ◌<◌, length, ◌∙◌, arith}
+use Rattle.std.proofs.Common.{◌*◌, ◌∙◌, arith}
 use Rattle.std.proofs.Math.ListN.{length-set}
 use Rattle.gj_faces.proofs.Readings.{tight_bits, row_more}
 use Rattle.gj_faces.proofs.rows.Lanes.row.Goals as goal
