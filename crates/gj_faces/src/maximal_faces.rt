@@ -3,8 +3,9 @@ ghost use Rattle.std.specs.Prelude.{◌<◌, ◌↔◌, [], ◌∷◌, IfOk, OnO
 ghost use Rattle.gj_shape.specs.Additive.{IsTight};
 ghost use Rattle.gj_shape.specs.FunctionData.{IsContinuous};
 ghost use Rattle.gj_shape.specs.Given.{IsOrder};
+ghost use Rattle.gj_shape.specs.Table.{IsMinimal};
 ghost use Rattle.gj_shape.specs.WalkOrder.{faces_of_square};
-ghost use Rattle.gj_faces.specs.Listed.{AreMaximalFaces, HoldAdditive, IsMaximalIn};
+ghost use Rattle.gj_faces.specs.Listed.{AreMaximalFaces, HoldAdditive, TellTightPairs, IsMaximalIn};
 ghost use Rattle.gj_faces.specs.Added.{AddsMaximal, faces_of_row};
 ghost use Rattle.gj_faces.specs.Alone.{AreAlone};
 ghost use Rattle.gj_faces.specs.Rows.{TellsWideRow};
@@ -21,11 +22,13 @@ use std::alloc::{AllocError, Global};
 /// The maximal additive faces of the continuous function, in walk order.
 ///
 /// A face is maximal where it is additive and lies in the closure of no additive face of higher dimension, indices modulo
-/// the order. So the closure of each additive face lies in the closure of a listed one.
+/// the order. So the closure of each additive face lies in the closures of the listed ones; and where the function is
+/// minimal, these hold all pairs at which the slack is 0, and no others.
 pub fn maximal(alloc: Global, shape: &Shape) -> Result<Vec<Face>, AllocError>
     requires { IsContinuous shape.now }
     ensures faces { IfOk result (λ faces. AreMaximalFaces shape.now faces.items) }
     ensures closures { IfOk result (λ faces. HoldAdditive shape.now faces.items) }
+    ensures tight_pairs { IfOk result (λ faces. IsMinimal shape.now → TellTightPairs shape.now faces.items) }
 {
     let order = shape.order();
     let tight = runs(alloc, shape)?;
