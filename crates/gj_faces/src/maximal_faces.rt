@@ -33,11 +33,12 @@ pub fn maximal(alloc: Global, shape: &Shape) -> Result<Vec<Face>, AllocError>
     let order = shape.order();
     let tight = runs(alloc, shape)?;
     let mut faces = Vec::new(alloc);
+    let mut alone = Alone::new();
     let mut before = wide_row(&tight, shape, order - 1);
     let mut here = wide_row(&tight, shape, 0);
     for a in 0..order {
         let next = wide_row(&tight, shape, (a + 1) % order);
-        let alone = Alone::of(shape, a, &before, &here, &next);
+        alone.read(shape, a, &before, &here, &next);
         push_row(&mut faces, &alone, shape, a)?;
         before = here;
         here = next;

@@ -20,8 +20,8 @@ loop-a-init c =
       rw c.new-faces.ensures.items none,
     )
 
-pub of-alone-requires-clause-next : goal.of-alone-requires-clause-next
-of-alone-requires-clause-next c =
+pub read-requires-clause-next : goal.read-requires-clause-next
+read-requires-clause-next c =
     next_row c.args.shape.now c.loop-a.a c.order-order.result c.wide_row-next.result c.order-order.ensures.limits
     c.order-order.ensures.value c.wide_row-next.ensures
 
