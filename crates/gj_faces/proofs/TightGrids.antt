@@ -1,5 +1,5 @@
 -- The tight pairs of a minimal function, by its maximal faces.
-use Rattle.std.proofs.Common.{◌≡◌, ◌↔◌, ℕ, ◌<◌, List, subst}
+use Rattle.std.proofs.Common.{List, subst}
 use Rattle.gj_shape.specs.Additive.{IsTightOnGrid}
 use Rattle.gj_shape.specs.FunctionData.{FunctionData, IsWithinBounds, IsContinuous}
 use Rattle.gj_shape.specs.Table.{IsMinimal}

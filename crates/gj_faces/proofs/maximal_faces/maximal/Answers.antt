@@ -1,8 +1,5 @@
-use Rattle.std.proofs.Common.{◌≡◌, ◌+◌, ◌-◌, ◌%◌, refl, ap, subst, flat_map, arith}
-use Rattle.std.specs.List.{range_with_len}
-use Rattle.gj_faces.specs.Added.{faces_of_row}
-use Rattle.gj_faces.specs.Listed.{AreMaximalFaces, IsMaximalIn}
-use Rattle.gj_faces.specs.Picked.{ArePicked, none}
+use Rattle.std.proofs.Common.{◌≡◌, ◌+◌, ◌-◌, ◌%◌, refl, ap, arith}
+use Rattle.gj_faces.specs.Picked.{none}
 use Rattle.gj_faces.proofs.AddedFaces.{picked_row, all_rows_picked}
 use Rattle.gj_faces.proofs.AloneFlags.{wide_at_same, next_row}
 use Rattle.gj_faces.proofs.Held.{additive_in_listed}
