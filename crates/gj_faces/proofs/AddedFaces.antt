@@ -11,7 +11,7 @@ use Rattle.gj_shape.specs.declared.faces.FaceKind.TheVariants.{Vertex, Horizonta
 use Rattle.gj_faces.specs.declared.alone.Alone.{Alone}
 use Rattle.gj_faces.specs.Added.{AddsMaximal, faces_of_row}
 use Rattle.gj_faces.specs.Alone.{AreAlone}
-use Rattle.gj_faces.specs.Listed.{IsMaximalIn}
+use Rattle.gj_faces.specs.Listed.{AreMaximalFaces, IsMaximalIn}
 use Rattle.gj_faces.specs.Picked.{ArePicked, none, kept, dropped}
 use Rattle.gj_faces.proofs.PickedFaces.{picked_joined, joined_more}
 
@@ -67,3 +67,9 @@ picked_row f q a old new h k =
     subst (λ xs. ArePicked (IsMaximalIn f) xs new) (sym (joined_more (faces_of_row q) a))
     (subst (ArePicked (IsMaximalIn f) (flat_map (faces_of_row q) (range_with_len 0 a) ++ faces_of_row q a)) (sym k.items)
     (picked_joined (IsMaximalIn f) (faces_of_row q a) k.added h k.picked))
+
+-- all rows
+pub all_rows_picked : (f : FunctionData) (n : ℕ) (faces : List Face) → n ≡ f.order →
+    ArePicked (IsMaximalIn f) (flat_map (faces_of_row f.order) (range_with_len 0 n)) faces → AreMaximalFaces f faces
+all_rows_picked f n faces e h =
+    subst (λ k. ArePicked (IsMaximalIn f) (flat_map (faces_of_row f.order) (range_with_len 0 k)) faces) e h

@@ -12,3 +12,4 @@ pub mod Held
 pub mod PaintedRows
 pub mod AloneFlags
 pub mod AddedFaces
+pub mod TightGrids

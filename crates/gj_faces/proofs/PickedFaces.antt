@@ -1,8 +1,8 @@
 -- Lists of the elements with a property, and the faces of the complex.
 use Rattle.std.proofs.Common.{◌≡◌, ℕ, zero, suc, ◌+◌, ◌<◌, List, [], ◌∷◌, ◌++◌, refl, sym, ap, subst, ◌∙◌, lit<, arith}
-use Rattle.std.specs.List.{range_with_len, flat_map, Contains}
+use Rattle.std.specs.List.{range_with_len, flat_map, All, Contains}
 use Rattle.std.proofs.lemmas.List.{append-nil}
-use Rattle.std.proofs.lemmas.List.Elements.{Contains-append_left, Contains-append_right}
+use Rattle.std.proofs.lemmas.List.Elements.{All-nil, All-cons, Contains-append_left, Contains-append_right}
 use Rattle.std.proofs.lemmas.List.FromFn.{length-range_with_len, get_or-range_with_len}
 use Rattle.std.proofs.lemmas.Grind.{flat_map-append}
 use Rattle.gj_shape.specs.WalkOrder.{faces_of, faces_of_square}
@@ -28,6 +28,12 @@ picked_has P x (kept {x = y} {xs = xs} {ys = ys} q h) (suc k, below, same) p =
     (suc rest.0, omega (arith, rest.1), rest.2)
 picked_has P x (dropped {x = y} {xs = xs} {ys = ys} q h) (zero, below, same) p = absurd (q (subst P (sym same) p))
 picked_has P x (dropped {x = y} {xs = xs} {ys = ys} q h) (suc k, below, same) p = picked_has P x h (k, omega arith, same) p
+
+-- each picked element has the property
+pub picked_all : {X : Type 0} (P : X → Type 0) {xs ys : List X} → ArePicked P xs ys → All P ys
+picked_all P none = All-nil P
+picked_all P (kept {x = x} {xs = xs} {ys = ys} p h) = All-cons P x ys p (picked_all P h)
+picked_all P (dropped p h) = picked_all P h
 
 -- ---- the faces of the complex
 

@@ -1,7 +1,7 @@
 -- The maximal additive faces of a continuous function as a list (Light on the Infinite Group Relaxation I).
-use Rattle.std.specs.Prelude.{ℕ, List, Any}
+use Rattle.std.specs.Prelude.{ℕ, ◌<◌, ◌↔◌, List, Any}
 use Rattle.gj_shape.specs.FunctionData.{FunctionData}
-use Rattle.gj_shape.specs.Additive.{IsTight, IsAdditive, IsInClosure, IsMaximalFace}
+use Rattle.gj_shape.specs.Additive.{IsTight, IsTightOnGrid, IsAdditive, IsInClosure, IsMaximalFace}
 use Rattle.gj_shape.specs.WalkOrder.{faces_of}
 use Rattle.gj_shape.specs.declared.faces.Face.{Face}
 use Rattle.gj_shape.specs.declared.faces.FaceKind.{FaceKind}
@@ -24,3 +24,7 @@ abbrev pub HoldAdditive : FunctionData → List Face → Type 0
 HoldAdditive f faces =
     (m : ℕ) (kind : FaceKind) (a b i j : ℕ) → IsAdditive (IsTight f) kind a b → IsInClosure f m kind a b i j →
     IsInListed f m faces i j
+
+-- on each grid the pairs at which the table is tight are those in the closures of the listed faces
+abbrev pub TellTightPairs : FunctionData → List Face → Type 0
+TellTightPairs f faces = (m i j : ℕ) → 0 < m → IsTightOnGrid f m i j ↔ IsInListed f m faces i j

@@ -23,27 +23,34 @@ pub(crate) struct Alone {
 impl Alone {
     ghost use Rattle.gj_faces.specs.Alone.{AreAlone};
 
-    /// From the wide rows of a - 1, a and a + 1.
-    pub(crate) fn of(
+    /// No face of any square.
+    pub(crate) fn new() -> Alone {
+        Alone {
+            any: [false; PLACES],
+            vertex: [false; PLACES],
+            horizontal: [false; PLACES],
+            vertical: [false; PLACES],
+            diagonal: [false; PLACES],
+            lower: [false; PLACES],
+            upper: [false; PLACES],
+        }
+    }
+
+    /// Makes it that of row a, from the wide rows of a - 1, a and a + 1.
+    pub(crate) fn read(
+        &mut self,
         shape: &Shape,
         a: u32,
         before: &[bool; WIDTH],
         here: &[bool; WIDTH],
         next: &[bool; WIDTH],
-    ) -> Alone
+    )
         requires order { IsOrder shape.now.order }
         requires before { TellsWideRow shape.now (a + (shape.now.order - 1)) before.now }
         requires here { TellsWideRow shape.now a here.now }
         requires next { TellsWideRow shape.now (a + 1) next.now }
-        ensures { AreAlone shape.now a result shape.now.order }
+        ensures { AreAlone shape.now a self.new shape.now.order }
     {
-        let mut any = [false; PLACES];
-        let mut vertex = [false; PLACES];
-        let mut horizontal = [false; PLACES];
-        let mut vertical = [false; PLACES];
-        let mut diagonal = [false; PLACES];
-        let mut lower = [false; PLACES];
-        let mut upper = [false; PLACES];
         for b in 0..shape.order() as usize {
             let (south, middle, north) = (here[b], here[b + 1], here[b + 2]);
             let (west, north_west) = (before[b + 1], before[b + 2]);
@@ -55,22 +62,18 @@ impl Alone {
             let is_diagonal = east & north & !(middle | north_east);
             let is_lower = middle & east & north;
             let is_upper = east & north & north_east;
-            any[b] = is_vertex | is_horizontal | is_vertical | is_diagonal | is_lower | is_upper;
-            vertex[b] = is_vertex;
-            horizontal[b] = is_horizontal;
-            vertical[b] = is_vertical;
-            diagonal[b] = is_diagonal;
-            lower[b] = is_lower;
-            upper[b] = is_upper;
-        }
-        Alone {
-            any,
-            vertex,
-            horizontal,
-            vertical,
-            diagonal,
-            lower,
-            upper,
+            self.any[b] = is_vertex
+                | is_horizontal
+                | is_vertical
+                | is_diagonal
+                | is_lower
+                | is_upper;
+            self.vertex[b] = is_vertex;
+            self.horizontal[b] = is_horizontal;
+            self.vertical[b] = is_vertical;
+            self.diagonal[b] = is_diagonal;
+            self.lower[b] = is_lower;
+            self.upper[b] = is_upper;
         }
     }
 }

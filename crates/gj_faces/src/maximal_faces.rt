@@ -3,8 +3,9 @@ ghost use Rattle.std.specs.Prelude.{◌<◌, ◌↔◌, [], ◌∷◌, IfOk, OnO
 ghost use Rattle.gj_shape.specs.Additive.{IsTight};
 ghost use Rattle.gj_shape.specs.FunctionData.{IsContinuous};
 ghost use Rattle.gj_shape.specs.Given.{IsOrder};
+ghost use Rattle.gj_shape.specs.Table.{IsMinimal};
 ghost use Rattle.gj_shape.specs.WalkOrder.{faces_of_square};
-ghost use Rattle.gj_faces.specs.Listed.{AreMaximalFaces, HoldAdditive, IsMaximalIn};
+ghost use Rattle.gj_faces.specs.Listed.{AreMaximalFaces, HoldAdditive, TellTightPairs, IsMaximalIn};
 ghost use Rattle.gj_faces.specs.Added.{AddsMaximal, faces_of_row};
 ghost use Rattle.gj_faces.specs.Alone.{AreAlone};
 ghost use Rattle.gj_faces.specs.Rows.{TellsWideRow};
@@ -21,20 +22,23 @@ use std::alloc::{AllocError, Global};
 /// The maximal additive faces of the continuous function, in walk order.
 ///
 /// A face is maximal where it is additive and lies in the closure of no additive face of higher dimension, indices modulo
-/// the order. So the closure of each additive face lies in the closure of a listed one.
+/// the order. So the closure of each additive face lies in the closures of the listed ones; and where the function is
+/// minimal, these hold all pairs at which the slack is 0, and no others.
 pub fn maximal(alloc: Global, shape: &Shape) -> Result<Vec<Face>, AllocError>
     requires { IsContinuous shape.now }
     ensures faces { IfOk result (λ faces. AreMaximalFaces shape.now faces.items) }
     ensures closures { IfOk result (λ faces. HoldAdditive shape.now faces.items) }
+    ensures tight_pairs { IfOk result (λ faces. IsMinimal shape.now → TellTightPairs shape.now faces.items) }
 {
     let order = shape.order();
     let tight = runs(alloc, shape)?;
     let mut faces = Vec::new(alloc);
+    let mut alone = Alone::new();
     let mut before = wide_row(&tight, shape, order - 1);
     let mut here = wide_row(&tight, shape, 0);
     for a in 0..order {
         let next = wide_row(&tight, shape, (a + 1) % order);
-        let alone = Alone::of(shape, a, &before, &here, &next);
+        alone.read(shape, a, &before, &here, &next);
         push_row(&mut faces, &alone, shape, a)?;
         before = here;
         here = next;

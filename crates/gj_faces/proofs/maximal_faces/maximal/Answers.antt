@@ -1,12 +1,10 @@
-use Rattle.std.proofs.Common.{◌≡◌, ◌+◌, ◌-◌, ◌%◌, refl, ap, subst, flat_map, arith}
-use Rattle.std.specs.List.{range_with_len}
-use Rattle.gj_faces.specs.Added.{faces_of_row}
-use Rattle.gj_faces.specs.Listed.{IsMaximalIn}
-use Rattle.gj_faces.specs.Picked.{ArePicked, none}
-use Rattle.gj_faces.proofs.AddedFaces.{picked_row}
+use Rattle.std.proofs.Common.{◌≡◌, ◌+◌, ◌-◌, ◌%◌, refl, ap, arith}
+use Rattle.gj_faces.specs.Picked.{none}
+use Rattle.gj_faces.proofs.AddedFaces.{picked_row, all_rows_picked}
 use Rattle.gj_faces.proofs.AloneFlags.{wide_at_same, next_row}
 use Rattle.gj_faces.proofs.Held.{additive_in_listed}
 use Rattle.gj_faces.proofs.Maximality.{one_back}
+use Rattle.gj_faces.proofs.TightGrids.{listed_tell_tight}
 use Rattle.gj_faces.proofs.maximal_faces.maximal.Goals as goal
 
 pub loop-a-init : goal.loop-a-init
@@ -19,8 +17,8 @@ loop-a-init c =
       rw c.new-faces.ensures.items none,
     )
 
-pub of-alone-requires-clause-next : goal.of-alone-requires-clause-next
-of-alone-requires-clause-next c =
+pub read-requires-clause-next : goal.read-requires-clause-next
+read-requires-clause-next c =
     next_row c.args.shape.now c.loop-a.a c.order-order.result c.wide_row-next.result c.order-order.ensures.limits
     c.order-order.ensures.value c.wide_row-next.ensures
 
@@ -38,7 +36,11 @@ loop-a-preserved c =
 pub returns-clause-closures : goal.returns-clause-closures
 returns-clause-closures c =
     let f = c.args.shape.now in
-    let e : c.loop-a.a ≡ c.args.shape.now.order = omega arith in
     additive_in_listed f c.loop-a.faces.items c.order-order.ensures.limits
-    (subst (λ n. ArePicked (IsMaximalIn f) (flat_map (faces_of_row f.order) (range_with_len 0 n)) c.loop-a.faces.items) e
-    c.loop-a.invariant.2)
+    (all_rows_picked f c.loop-a.a c.loop-a.faces.items (omega arith) c.loop-a.invariant.2)
+
+pub returns-clause-tight_pairs : goal.returns-clause-tight_pairs
+returns-clause-tight_pairs c minimal =
+    let f = c.args.shape.now in
+    listed_tell_tight f c.loop-a.faces.items c.order-order.ensures.limits c.requires minimal
+    (all_rows_picked f c.loop-a.a c.loop-a.faces.items (omega arith) c.loop-a.invariant.2)

@@ -1,7 +1,7 @@
 use Rattle.std.proofs.Common.{◌∙◌, arith}
 use Rattle.std.proofs.Math.ListN.{length-set}
 use Rattle.gj_faces.proofs.AloneFlags.{one_square, are_around, around_in}
-use Rattle.gj_faces.proofs.alone.Alone.of.Goals as goal
+use Rattle.gj_faces.proofs.alone.Alone.read.Goals as goal
 
 pub loop-b-preserved : goal.loop-b-preserved
 loop-b-preserved c =
@@ -19,15 +19,7 @@ loop-b-preserved c =
         lower_length = length-set _ _ _ ∙ len.lower_length;
         upper_length = length-set _ _ _ ∙ len.upper_length;
       },
-      one_square f c.args.a (record {
-        any = c.loop-b.any;
-        vertex = c.loop-b.vertex;
-        horizontal = c.loop-b.horizontal;
-        vertical = c.loop-b.vertical;
-        diagonal = c.loop-b.diagonal;
-        lower = c.loop-b.lower;
-        upper = c.loop-b.upper;
-      }) b (around_in c.args.before.now c.args.here.now c.args.next.now b) limits len (omega arith) h.1
+      one_square f c.args.a c.loop-b.self b (around_in c.args.before.now c.args.here.now c.args.next.now b) limits len (omega arith) h.1
           (are_around f c.args.a b c.args.before.now c.args.here.now c.args.next.now limits (omega arith)
           c.requires.before c.requires.here c.requires.next),
     )
