@@ -1,0 +1,4 @@
+pub mod Parts
+pub mod Joining
+pub mod Edges
+pub mod WalkPlaces

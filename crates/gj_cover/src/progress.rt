@@ -1,0 +1,199 @@
+//! The search for cover lines.
+ghost use Rattle.std.specs.Prelude.{ℕ, ◌≡◌, ◌+◌, ◌<◌, ◌∷◌, ◌++◌, [], length, OnOk, IfOk, IfSome, IfNone};
+ghost use Rattle.gj_shape.specs.Cover.{JoinsLines, IsOpen, IsOpeningLine, IsNextLine};
+ghost use Rattle.gj_shape.specs.FirstViolation.{IsLeastFrom};
+ghost use Rattle.gj_cover.specs.CoverOf.{number_at};
+ghost use Rattle.gj_cover.specs.Table.{IsTightIn};
+ghost use Rattle.gj_cover.specs.Progress.{IsJoinedUpTo, lesser_of};
+
+use crate::covered::Cover;
+use crate::first_faces::{first_covering, first_joining};
+use crate::joined::are_joined;
+use crate::table::Table;
+use gj_shape::{CoverLine, List};
+use std::alloc::{AllocError, Global};
+
+/// The lines that were found so far, and what is needed to find the next.
+#[derive(Drop)]
+pub(crate) struct Progress {
+    /// The number of the component of each interval that has a line.
+    component: Vec<Option<u32>>,
+    /// For each interval without a line the least one with a line to which it is joined.
+    joined_to: Vec<Option<u32>>,
+    /// The lines.
+    lines: Vec<CoverLine>,
+    /// How many components were opened.
+    count: u32,
+    /// No interval below this one is directly covered but by a line.
+    searched: u32,
+}
+
+impl Progress {
+    ghost use Rattle.gj_cover.specs.Progress.{IsProgress, unnumbered};
+
+    /// No lines.
+    fn new(alloc: Global, table: &Table) -> Result<Progress, AllocError>
+        ensures { IfOk result (IsProgress table.now.order (IsTightIn table.now)) }
+    {
+        let order = table.order() as usize;
+        Ok(Progress {
+            component: vec![in alloc; None; order]?,
+            joined_to: vec![in alloc; None; order]?,
+            lines: Vec::new(alloc),
+            count: 0,
+            searched: 0,
+        })
+    }
+
+    /// All lines.
+    pub(crate) fn of(alloc: Global, table: &Table) -> Result<Progress, AllocError>
+        ensures progress { IfOk result (IsProgress table.now.order (IsTightIn table.now)) }
+        ensures complete { IfOk result (λ p. (l : _) →
+            IsNextLine table.now.order (IsTightIn table.now) p.lines.items l → ⊥) }
+    {
+        let mut progress = Progress::new(alloc, table)?;
+        while let Some(line) = progress.next_line(table) {
+            progress.add(table, line)?;
+        }
+        Ok(progress)
+    }
+
+    /// The number of the component of each interval that has a line.
+    pub(crate) fn component(&self) -> &[Option<u32>]
+        ensures { result.now ≡ self.now.component.items }
+    {
+        self.component.as_slice()
+    }
+
+    /// The cover with this class. It takes no memory.
+    pub(crate) fn with_class(self, class: Vec<u32>) -> Cover
+        ensures { result ≡ record {
+          component = self.component.items;
+          count = self.count;
+          lines = self.lines.items;
+          class = class.items;
+        } }
+    {
+        Cover {
+            component: List::of(self.component),
+            count: self.count,
+            lines: List::of(self.lines),
+            class: List::of(class),
+        }
+    }
+
+    /// The next line.
+    fn next_line(&self, table: &Table) -> Option<CoverLine>
+        requires { IsProgress table.now.order (IsTightIn table.now) self.now }
+        ensures found { IfSome result (IsNextLine table.now.order (IsTightIn table.now) self.now.lines.items) }
+        ensures none { IfNone result ((l : _) →
+            IsNextLine table.now.order (IsTightIn table.now) self.now.lines.items l → ⊥) }
+    {
+        let Some((interval, from)) = self.next_joined(table) else {
+            return self.next_opening(table);
+        };
+        let face = first_joining(table, interval, from)?;
+        Some(CoverLine {
+            interval,
+            from,
+            face,
+        })
+    }
+
+    /// The least interval without a line that is joined to one with a line, and the least such.
+    fn next_joined(&self, table: &Table) -> Option<(u32, u32)>
+        requires { IsProgress table.now.order (IsTightIn table.now) self.now }
+        ensures interval { IfSome result (λ p. IsLeastFrom 0
+            (λ i. (j : ℕ) × JoinsLines table.now.order (IsTightIn table.now) self.now.lines.items i j) p.0) }
+        ensures from { IfSome result (λ p. IsLeastFrom 0
+            (JoinsLines table.now.order (IsTightIn table.now) self.now.lines.items p.0) p.1) }
+        ensures none { IfNone result ((i j : ℕ) →
+            JoinsLines table.now.order (IsTightIn table.now) self.now.lines.items i j → ⊥) }
+    {
+        for interval in 0..table.order() {
+            if self.component[interval as usize].is_none() {
+                if let Some(from) = self.joined_to[interval as usize] {
+                    return Some((interval, from));
+                }
+            }
+        }
+        None
+    }
+
+    /// The line that opens the next component, where no line joins.
+    fn next_opening(&self, table: &Table) -> Option<CoverLine>
+        requires progress { IsProgress table.now.order (IsTightIn table.now) self.now }
+        requires none_joins { (i j : ℕ) →
+            JoinsLines table.now.order (IsTightIn table.now) self.now.lines.items i j → ⊥ }
+        ensures found { IfSome result (IsOpeningLine table.now.order (IsTightIn table.now) self.now.lines.items) }
+        ensures none { IfNone result ((i : ℕ) →
+            IsOpen table.now.order (IsTightIn table.now) self.now.lines.items i → ⊥) }
+    {
+        for interval in self.searched..table.order() {
+            if self.component[interval as usize].is_none() {
+                if let Some(face) = first_covering(table, interval) {
+                    return Some(CoverLine {
+                        interval,
+                        from: interval,
+                        face,
+                    });
+                }
+            }
+        }
+        None
+    }
+
+    /// Adds the next line.
+    fn add(&mut self, table: &Table, line: CoverLine) -> Result<(), AllocError>
+        requires progress { IsProgress table.now.order (IsTightIn table.now) self.old }
+        requires next { IsNextLine table.now.order (IsTightIn table.now) self.old.lines.items line }
+        ensures progress { OnOk result (IsProgress table.now.order (IsTightIn table.now) self.new) }
+        ensures fewer { OnOk result (unnumbered self.new.component.items < unnumbered self.old.component.items) }
+    {
+        self.lines.push(line)?;
+        let number = self.component[line.from as usize].unwrap_or(self.count);
+        self.component[line.interval as usize] = Some(number);
+        if line.from == line.interval {
+            self.count += 1;
+            self.searched = line.interval;
+        }
+        note_joined(
+            table,
+            self.component.as_slice(),
+            self.joined_to.as_mut_slice(),
+            line.interval,
+        );
+        Ok(())
+    }
+}
+
+/// Notes at each interval without a number that is joined to the interval that it may be the least such.
+fn note_joined(
+    table: &Table,
+    component: &[Option<u32>],
+    joined_to: &mut [Option<u32>],
+    interval: u32,
+)
+    requires component { length component.now ≡ table.now.order }
+    requires joined_to { length joined_to.old ≡ table.now.order }
+    requires within { interval < table.now.order }
+    requires numbered { number_at component.now interval ≡ None → ⊥ }
+    ensures { IsJoinedUpTo table.now.order table.now.order (IsTightIn table.now) interval component.now joined_to.old joined_to.new }
+{
+    for other in 0..table.order() {
+        let place = other as usize;
+        if component[place].is_none() && are_joined(table, other, interval) {
+            joined_to[place] = Some(lesser(joined_to[place], interval));
+        }
+    }
+}
+
+/// The least of the interval so far and one more.
+fn lesser(so_far: Option<u32>, interval: u32) -> u32
+    ensures { result ≡ lesser_of so_far interval }
+{
+    match so_far {
+        Some(least) => least.min(interval),
+        None => interval,
+    }
+}
