@@ -2,3 +2,8 @@ pub mod Parts
 pub mod Joining
 pub mod Edges
 pub mod WalkPlaces
+pub mod Onto
+pub mod Places
+pub mod TablePairs
+pub mod Merging
+pub mod FirstFaces

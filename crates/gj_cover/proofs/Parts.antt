@@ -89,18 +89,18 @@ Intervals q Diagonal a b i = (a % q ≡ i % q) ⊎ (b % q ≡ i % q)
 Intervals q Lower a b i = (a % q ≡ i % q) ⊎ ((b % q ≡ i % q) ⊎ ((a + b) % q ≡ i % q))
 Intervals q Upper a b i = (a % q ≡ i % q) ⊎ ((b % q ≡ i % q) ⊎ ((a + b + 1) % q ≡ i % q))
 
-any_none : {X : Type 0} (P : X → Type 0) → Any P [] → ⊥
+pub any_none : {X : Type 0} (P : X → Type 0) → Any P [] → ⊥
 any_none P (k, x, below, is, h) = omega arith
 
 -- what holds of some element of a list holds of its head or of some element behind
-any_cases : {X : Type 0} (P : X → Type 0) (x : X) (xs : List X) → Any P (x ∷ xs) → P x ⊎ Any P xs
+pub any_cases : {X : Type 0} (P : X → Type 0) (x : X) (xs : List X) → Any P (x ∷ xs) → P x ⊎ Any P xs
 any_cases P x xs (zero, y, below, is, h) = inl (subst P (sym is) h)
 any_cases P x xs (suc k, y, below, is, h) = inr (k, y, omega arith, is, h)
 
-any_here : {X : Type 0} (P : X → Type 0) (x : X) (xs : List X) → P x → Any P (x ∷ xs)
+pub any_here : {X : Type 0} (P : X → Type 0) (x : X) (xs : List X) → P x → Any P (x ∷ xs)
 any_here P x xs h = (0, x, omega arith, refl, h)
 
-any_there : {X : Type 0} (P : X → Type 0) (x : X) (xs : List X) → Any P xs → Any P (x ∷ xs)
+pub any_there : {X : Type 0} (P : X → Type 0) (x : X) (xs : List X) → Any P xs → Any P (x ∷ xs)
 any_there P x xs (k, y, below, is, h) = (suc k, y, omega arith, is, h)
 
 pairs : {X : Type 0} (P : X → Type 0) (x y : X) → Any P (x ∷ y ∷ []) → P x ⊎ P y
@@ -166,7 +166,7 @@ one_covered q Upper a b i t h = of_triple (λ c. c % q ≡ i % q) a b (a + b + 1
 other_start : (q x y a c i : ℕ) → x % q ≡ y % q → (x % q ≡ i % q) → (y % q ≡ i % q)
 other_start q x y a c i e h = sym e ∙ h
 
-either : {A B C D : Type 0} → (A → C) → (B → D) → A ⊎ B → C ⊎ D
+pub either : {A B C D : Type 0} → (A → C) → (B → D) → A ⊎ B → C ⊎ D
 either f g (inl x) = inl (f x)
 either f g (inr x) = inr (g x)
 

@@ -1,6 +1,6 @@
 -- Where the search for cover lines stands (own): what is kept while lines are added.
-use Rattle.std.specs.Prelude.{ℕ, ◌≡◌, ◌≢◌, ◌+◌, ◌<◌, ◌≤◌, min, List, [], ◌∷◌, ◌++◌, Option, Some, None, MatchOption, is_none, length, count_by}
-use Rattle.gj_shape.specs.Cover.{AreJoined, IsDirectlyCovered, LeadsTo, IsCovered, JoinsLines, IsNextLine, HasComponent}
+use Rattle.std.specs.Prelude.{ℕ, ◌≡◌, ◌≢◌, ◌⊎◌, ◌+◌, ◌<◌, ◌≤◌, min, List, [], ◌∷◌, ◌++◌, Option, Some, None, MatchOption, is_none, length, count_by}
+use Rattle.gj_shape.specs.Cover.{AreJoined, IsDirectlyCovered, LeadsTo, IsCovered, JoinsLines, IsOpen, IsNextLine, HasComponent}
 use Rattle.gj_shape.specs.FirstViolation.{IsLeastFrom}
 use Rattle.gj_shape.specs.declared.extremality.CoverLine.{CoverLine}
 use Rattle.gj_cover.specs.CoverOf.{number_at, opened_by}
@@ -56,9 +56,14 @@ abbrev pub lesser_of : Option ℕ → ℕ → ℕ
 lesser_of None i = i
 lesser_of (Some j) i = min j i
 
--- for each interval without a number that is joined to the interval, the least interval so far and this one
+-- at each interval without a number that is joined to the interval stands the least so far or this one
 pub record IsJoinedUpTo (q n : ℕ) (Tight : ℕ → ℕ → Type 0) (interval : ℕ) (component old new : List (Option ℕ)) : Type 0 where
-  pub joined : (k : ℕ) → k < n → number_at component k ≡ None → AreJoined q Tight k interval →
-      number_at new k ≡ Some (lesser_of (number_at old k) interval)
-  pub others : (k : ℕ) → k < n → number_at component k ≡ None → (AreJoined q Tight k interval → ⊥) → number_at new k ≡ number_at old k
+  pub each : (k : ℕ) → k < n → number_at component k ≡ None →
+      (AreJoined q Tight k interval × (number_at new k ≡ Some (lesser_of (number_at old k) interval)))
+      ⊎ ((AreJoined q Tight k interval → ⊥) × (number_at new k ≡ number_at old k))
   pub rest : (k : ℕ) → n ≤ k → number_at new k ≡ number_at old k
+
+-- no line comes next: no interval without one is joined to one with a line, or directly covered
+pub record IsComplete (q : ℕ) (Tight : ℕ → ℕ → Type 0) (lines : List CoverLine) : Type 0 where
+  pub none_joins : (i j : ℕ) → JoinsLines q Tight lines i j → ⊥
+  pub none_open : (i : ℕ) → IsOpen q Tight lines i → ⊥

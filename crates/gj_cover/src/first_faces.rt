@@ -3,7 +3,7 @@ ghost use Rattle.std.specs.Prelude.{◌≡◌, ◌≢◌, ◌⊎◌, ◌+◌, �
 ghost use Rattle.gj_shape.specs.Cover.{IsFirstFace, IsDirectlyCovered};
 ghost use Rattle.gj_cover.specs.Table.{IsTightIn, JoinsBy, AreJoinedBy, CoversBy};
 ghost use Rattle.gj_cover.specs.FirstFound.{FindsFirst, IsEarlier};
-ghost use Rattle.gj_cover.specs.Links.{LeadsFrom};
+ghost use Rattle.gj_cover.specs.Links.{IsSquareFrom};
 
 use crate::squares::{covering_in_square, joining_in_square};
 use crate::table::Table;
@@ -29,7 +29,7 @@ fn joining_from(table: &Table, from: u32, to: u32, i: u32, j: u32) -> Option<Fac
     requires end { to < table.now.order }
     requires first { i < table.now.order }
     requires second { j < table.now.order }
-    ensures { FindsFirst (LeadsFrom table.now.order from to) (JoinsBy table.now i j) result }
+    ensures { FindsFirst (IsSquareFrom table.now.order from to) (JoinsBy table.now i j) result }
 {
     let q = table.order();
     let step = difference(to, from, q);
@@ -62,7 +62,7 @@ pub(crate) fn first_covering(table: &Table, i: u32) -> Option<Face>
 
 /// The first of two faces in walk order, where two of one square are one face; a face is before None.
 fn earlier(first: Option<Face>, second: Option<Face>) -> Option<Face>
-    ensures none { MatchOption first (result ≡ second) (λ f. MatchOption second (result ≡ first)
+    ensures { MatchOption first (result ≡ second) (λ f. MatchOption second (result ≡ first)
         (λ g. ((result ≡ first) × (IsEarlier g f → ⊥)) ⊎ ((result ≡ second) × IsEarlier g f))) }
 {
     let (Some(f), Some(g)) = (first, second) else {

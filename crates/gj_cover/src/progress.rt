@@ -4,7 +4,7 @@ ghost use Rattle.gj_shape.specs.Cover.{JoinsLines, IsOpen, IsOpeningLine, IsNext
 ghost use Rattle.gj_shape.specs.FirstViolation.{IsLeastFrom};
 ghost use Rattle.gj_cover.specs.CoverOf.{number_at};
 ghost use Rattle.gj_cover.specs.Table.{IsTightIn};
-ghost use Rattle.gj_cover.specs.Progress.{IsJoinedUpTo, lesser_of};
+ghost use Rattle.gj_cover.specs.Progress.{IsComplete, IsJoinedUpTo, lesser_of};
 
 use crate::covered::Cover;
 use crate::first_faces::{first_covering, first_joining};
@@ -48,8 +48,7 @@ impl Progress {
     /// All lines.
     pub(crate) fn of(alloc: Global, table: &Table) -> Result<Progress, AllocError>
         ensures progress { IfOk result (IsProgress table.now.order (IsTightIn table.now)) }
-        ensures complete { IfOk result (λ p. (l : _) →
-            IsNextLine table.now.order (IsTightIn table.now) p.lines.items l → ⊥) }
+        ensures complete { IfOk result (λ p. IsComplete table.now.order (IsTightIn table.now) p.lines.items) }
     {
         let mut progress = Progress::new(alloc, table)?;
         while let Some(line) = progress.next_line(table) {
@@ -86,8 +85,7 @@ impl Progress {
     fn next_line(&self, table: &Table) -> Option<CoverLine>
         requires { IsProgress table.now.order (IsTightIn table.now) self.now }
         ensures found { IfSome result (IsNextLine table.now.order (IsTightIn table.now) self.now.lines.items) }
-        ensures none { IfNone result ((l : _) →
-            IsNextLine table.now.order (IsTightIn table.now) self.now.lines.items l → ⊥) }
+        ensures none { IfNone result (IsComplete table.now.order (IsTightIn table.now) self.now.lines.items) }
     {
         let Some((interval, from)) = self.next_joined(table) else {
             return self.next_opening(table);

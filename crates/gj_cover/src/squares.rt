@@ -17,17 +17,45 @@ pub(crate) fn joining_in_square(table: &Table, a: u32, b: u32, i: u32, j: u32) -
     requires second_interval { j < table.now.order }
     ensures { FindsFirst (λ c d. (c ≡ a) × (d ≡ b)) (JoinsBy table.now i j) result }
 {
-    for kind in [
-        FaceKind::Horizontal,
-        FaceKind::Vertical,
-        FaceKind::Diagonal,
-        FaceKind::Lower,
-        FaceKind::Upper,
-    ] {
-        let face = Face { kind, a, b };
-        if is_joining(table, face, i, j) {
-            return Some(face);
-        }
+    let horizontal = Face {
+        kind: FaceKind::Horizontal,
+        a,
+        b,
+    };
+    if is_joining(table, horizontal, i, j) {
+        return Some(horizontal);
+    }
+    let vertical = Face {
+        kind: FaceKind::Vertical,
+        a,
+        b,
+    };
+    if is_joining(table, vertical, i, j) {
+        return Some(vertical);
+    }
+    let diagonal = Face {
+        kind: FaceKind::Diagonal,
+        a,
+        b,
+    };
+    if is_joining(table, diagonal, i, j) {
+        return Some(diagonal);
+    }
+    let lower = Face {
+        kind: FaceKind::Lower,
+        a,
+        b,
+    };
+    if is_joining(table, lower, i, j) {
+        return Some(lower);
+    }
+    let upper = Face {
+        kind: FaceKind::Upper,
+        a,
+        b,
+    };
+    if is_joining(table, upper, i, j) {
+        return Some(upper);
     }
     None
 }
@@ -99,5 +127,11 @@ fn has_interval(face: Face, i: u32, q: u32) -> bool
         IsOneOf q (links_of face.kind face.a face.b ++ triangle_projections face.kind face.a face.b) i }
 {
     let onto = projections(face, q);
-    onto.x == Some(i) || onto.y == Some(i) || onto.sum == Some(i)
+    if onto.x == Some(i) {
+        return true;
+    }
+    if onto.y == Some(i) {
+        return true;
+    }
+    onto.sum == Some(i)
 }

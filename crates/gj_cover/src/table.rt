@@ -1,5 +1,5 @@
 //! The tight pairs as a table.
-ghost use Rattle.std.specs.Prelude.{◌≡◌, ◌↔◌, ◌+◌, ◌*◌, ◌<◌, ◌≤◌, length, IsTrue};
+ghost use Rattle.std.specs.Prelude.{◌≡◌, ◌↔◌, ◌+◌, ◌*◌, ◌%◌, ◌<◌, ◌≤◌, length, IsTrue};
 ghost use Rattle.gj_shape.specs.Additive.{IsAdditive};
 ghost use Rattle.gj_shape.specs.Given.{IsOrder};
 
@@ -41,8 +41,8 @@ impl Table {
         requires second { j ≤ self.now.order }
         ensures { IsTrue result ↔ IsTightIn self.now i j }
     {
-        let row = if i == self.order { 0 } else { i };
-        let column = if j == self.order { 0 } else { j };
+        let row = wrapped(i, self.order);
+        let column = wrapped(j, self.order);
         self.tight[(row * self.order + column) as usize]
     }
 
@@ -70,4 +70,14 @@ impl Table {
     {
         self.is_tight(a + 1, b) && self.is_tight(a, b + 1)
     }
+}
+
+/// The index modulo the order, where it is not above the order.
+fn wrapped(index: u32, order: u32) -> u32
+    requires some { 0 < order }
+    requires within { index ≤ order }
+    ensures value { result ≡ index % order }
+    ensures below { result < order }
+{
+    if index == order { 0 } else { index }
 }
