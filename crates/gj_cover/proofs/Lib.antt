@@ -7,3 +7,7 @@ pub mod Places
 pub mod TablePairs
 pub mod Merging
 pub mod FirstFaces
+pub mod LineLists
+pub mod NextLines
+pub mod Pending
+pub mod Advance

@@ -1,9 +1,9 @@
 //! The search for cover lines.
-ghost use Rattle.std.specs.Prelude.{ℕ, ◌≡◌, ◌+◌, ◌<◌, ◌∷◌, ◌++◌, [], length, OnOk, IfOk, IfSome, IfNone};
+ghost use Rattle.std.specs.Prelude.{ℕ, ◌≡◌, ◌≢◌, ◌⊎◌, ◌<◌, length, OnOk, IfOk, IfSome, IfNone};
 ghost use Rattle.gj_shape.specs.Cover.{JoinsLines, IsOpen, IsOpeningLine, IsNextLine};
 ghost use Rattle.gj_shape.specs.FirstViolation.{IsLeastFrom};
 ghost use Rattle.gj_cover.specs.CoverOf.{number_at};
-ghost use Rattle.gj_cover.specs.Table.{IsTightIn};
+ghost use Rattle.gj_cover.specs.Table.{IsTightIn, AreJoinedBy};
 ghost use Rattle.gj_cover.specs.Progress.{IsComplete, IsJoinedUpTo, lesser_of};
 
 use crate::covered::Cover;
@@ -151,38 +151,48 @@ impl Progress {
         self.lines.push(line)?;
         let number = self.component[line.from as usize].unwrap_or(self.count);
         self.component[line.interval as usize] = Some(number);
-        if line.from == line.interval {
-            self.count += 1;
-            self.searched = line.interval;
+        self.note_joined(table, line.interval);
+        if line.from != line.interval {
+            return Ok(());
         }
-        note_joined(
-            table,
-            self.component.as_slice(),
-            self.joined_to.as_mut_slice(),
-            line.interval,
-        );
+        self.count += 1;
+        self.searched = line.interval;
         Ok(())
+    }
+
+    /// Notes at each interval without a number that is joined to the interval that it may be the least such.
+    fn note_joined(&mut self, table: &Table, interval: u32)
+        requires component { length self.old.component.items ≡ table.now.order }
+        requires joined_to { length self.old.joined_to.items ≡ table.now.order }
+        requires within { interval < table.now.order }
+        requires numbered { number_at self.old.component.items interval ≡ None → ⊥ }
+        ensures others { self.new ≡ record self.old { joined_to = self.new.joined_to } }
+        ensures length { length self.new.joined_to.items ≡ table.now.order }
+        ensures joined { IsJoinedUpTo table.now.order table.now.order (IsTightIn table.now) interval
+            self.old.component.items self.old.joined_to.items self.new.joined_to.items }
+    {
+        for other in 0..table.order() {
+            let place = other as usize;
+            if self.component[place].is_some() {
+                continue;
+            }
+            self.joined_to[place] = noted(table, self.joined_to[place], other, interval);
+        }
     }
 }
 
-/// Notes at each interval without a number that is joined to the interval that it may be the least such.
-fn note_joined(
-    table: &Table,
-    component: &[Option<u32>],
-    joined_to: &mut [Option<u32>],
-    interval: u32,
-)
-    requires component { length component.now ≡ table.now.order }
-    requires joined_to { length joined_to.old ≡ table.now.order }
-    requires within { interval < table.now.order }
-    requires numbered { number_at component.now interval ≡ None → ⊥ }
-    ensures { IsJoinedUpTo table.now.order table.now.order (IsTightIn table.now) interval component.now joined_to.old joined_to.new }
+/// The least interval to which the other is joined, of the least so far and one more.
+fn noted(table: &Table, so_far: Option<u32>, other: u32, interval: u32) -> Option<u32>
+    requires first { other < table.now.order }
+    requires second { interval < table.now.order }
+    requires different { other ≢ interval }
+    ensures { (AreJoinedBy table.now other interval × (result ≡ Some (lesser_of so_far interval)))
+        ⊎ ((AreJoinedBy table.now other interval → ⊥) × (result ≡ so_far)) }
 {
-    for other in 0..table.order() {
-        let place = other as usize;
-        if component[place].is_none() && are_joined(table, other, interval) {
-            joined_to[place] = Some(lesser(joined_to[place], interval));
-        }
+    if are_joined(table, other, interval) {
+        Some(lesser(so_far, interval))
+    } else {
+        so_far
     }
 }
 
