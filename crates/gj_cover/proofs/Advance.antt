@@ -62,9 +62,9 @@ assembled q T old new l m h next more added =
       few = rw more.component added.few;
       classes = rw more.component added.classes;
       least = rw (more.lines, more.component)
-        (least_joined q T old.lines.items old.component.items old.joined_to.items new.joined_to.items l m h.component_length
-        h.numbers number to.within to.free h.least
-        (subst (λ c. IsJoinedUpTo q q T l.interval c old.joined_to.items new.joined_to.items) more.component more.joined));
+          (least_joined q T old.lines.items old.component.items old.joined_to.items new.joined_to.items l m h.component_length
+          h.numbers number to.within to.free h.least
+          (subst (λ c. IsJoinedUpTo q q T l.interval c old.joined_to.items new.joined_to.items) more.component more.joined));
       searched = rw more.component added.searched;
     }
 
@@ -140,8 +140,8 @@ noted_more q n T x c old now o so_far within was answer h =
     let at : number_at (set now n o) n ≡ o = get_or-set_same now n o None within in
     let before : so_far ≡ number_at old n = was ∙ h.rest n (omega arith) in
     let Answer : ℕ → Type 0 = λ k.
-      (AreJoined q T k x × (number_at (set now n o) k ≡ Some (lesser_of (number_at old k) x)))
-      ⊎ ((AreJoined q T k x → ⊥) × (number_at (set now n o) k ≡ number_at old k)) in
+    (AreJoined q T k x × (number_at (set now n o) k ≡ Some (lesser_of (number_at old k) x)))
+    ⊎ ((AreJoined q T k x → ⊥) × (number_at (set now n o) k ≡ number_at old k)) in
     let here : Answer n = elim answer [
       | inl (a, e) ↦ inl (a, at ∙ e ∙ ap (λ p. Some (lesser_of p x)) before)
       | inr (a, e) ↦ inr (a, at ∙ e ∙ before)
@@ -150,11 +150,11 @@ noted_more q n T x c old now o so_far within was answer h =
       each = λ k below none. elim (eqb_tells k n) [
         | inl (_, same) ↦ subst Answer (sym same) here
         | inr (_, other) ↦
-          let stays = get_or-set_other now n k o None other in
-          let low : k < n = omega arith in
-          elim (h.each k low none) [ inl (a, e) ↦ inl (a, stays ∙ e) | inr (a, e) ↦ inr (a, stays ∙ e) ]
+            let stays = get_or-set_other now n k o None other in
+            let low : k < n = omega arith in
+            elim (h.each k low none) [ inl (a, e) ↦ inl (a, stays ∙ e) | inr (a, e) ↦ inr (a, stays ∙ e) ]
       ];
       rest = λ k past.
-        let other : k ≢ n = omega arith in
-        get_or-set_other now n k o None other ∙ h.rest k (omega arith);
+          let other : k ≢ n = omega arith in
+          get_or-set_other now n k o None other ∙ h.rest k (omega arith);
     }

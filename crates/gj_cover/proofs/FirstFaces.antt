@@ -62,19 +62,30 @@ place q a b i j a_below b_below h = (a_below, b_below, h)
 pub five_on : (q i step short j : ℕ) → AreSteps q i step short j → (a b : ℕ) → Five i step short j a b → IsSquareFrom q i j a b
 five_on q i step short j s a b (inl (inl (inl (inl (x, y))))) =
     (subst (λ n. n < q) (sym x) s.start, subst (λ n. n < q) (sym y) s.end, inl (x, y))
-five_on q i step short j s a b (inl (inl (inl (inr (x, y))))) =
-    (subst (λ n. n < q) (sym x) s.start, subst (λ n. n < q) (sym y) s.step_below,
-     inr (inl (x, ap (λ n. (n + b) % q) x ∙ ap (λ n. (i + n) % q) y ∙ s.step_leads)))
-five_on q i step short j s a b (inl (inl (inr (x, y)))) =
-    (subst (λ n. n < q) (sym x) s.start, subst (λ n. n < q) (sym y) s.short_below,
-     inr (inr (inl (x, ap (λ n. (n + b + 1) % q) x ∙ ap (λ n. (i + n + 1) % q) y ∙ next_leads q i step short j s))))
-five_on q i step short j s a b (inl (inr (x, y))) =
-    (subst (λ n. n < q) (sym x) s.step_below, subst (λ n. n < q) (sym y) s.start,
-     inr (inr (inr (inl (y, ap (λ n. (n + b) % q) x ∙ ap (λ n. (step + n) % q) y ∙ turned q i step j s.step_leads)))))
-five_on q i step short j s a b (inr (x, y)) =
-    (subst (λ n. n < q) (sym x) s.short_below, subst (λ n. n < q) (sym y) s.start,
-     inr (inr (inr (inr (y, ap (λ n. (n + b + 1) % q) x ∙ ap (λ n. (short + n + 1) % q) y
-     ∙ turned_next q i short j (next_leads q i step short j s))))))
+five_on q i step short j s a b (inl (inl (inl (inr (x, y))))) = (
+  subst (λ n. n < q) (sym x) s.start,
+  subst (λ n. n < q) (sym y) s.step_below,
+  inr (inl (x, ap (λ n. (n + b) % q) x ∙ ap (λ n. (i + n) % q) y ∙ s.step_leads)),
+)
+five_on q i step short j s a b (inl (inl (inr (x, y)))) = (
+  subst (λ n. n < q) (sym x) s.start,
+  subst (λ n. n < q) (sym y) s.short_below,
+  inr (inr (inl (x, ap (λ n. (n + b + 1) % q) x ∙ ap (λ n. (i + n + 1) % q) y ∙ next_leads q i step short j s))),
+)
+five_on q i step short j s a b (inl (inr (x, y))) = (
+  subst (λ n. n < q) (sym x) s.step_below,
+  subst (λ n. n < q) (sym y) s.start,
+  inr (inr (inr (inl (y, ap (λ n. (n + b) % q) x ∙ ap (λ n. (step + n) % q) y ∙ turned q i step j s.step_leads)))),
+)
+five_on q i step short j s a b (inr (x, y)) = (
+  subst (λ n. n < q) (sym x) s.short_below,
+  subst (λ n. n < q) (sym y) s.start,
+  inr (inr (inr (inr (
+    y,
+    ap (λ n. (n + b + 1) % q) x ∙ ap (λ n. (short + n + 1) % q) y
+        ∙ turned_next q i short j (next_leads q i step short j s),
+  )))),
+)
 
 pub five_back : (q i step short j : ℕ) → AreSteps q i step short j → (a b : ℕ) → IsSquareFrom q i j a b → Five i step short j a b
 five_back q i step short j s a b (a_below, b_below, inl (x, y)) = inl (inl (inl (inl (x, y))))
@@ -105,12 +116,16 @@ four_on q k i step short s a b (inl (inl (inl (inr (x, y))))) =
     (subst (λ n. n < q) (sym x) s.end, subst (λ n. n < q) (sym y) s.start, inl (x, omega arith))
 four_on q k i step short s a b (inl (inl (inr (x, y)))) =
     (subst (λ n. n < q) (sym x) s.start, subst (λ n. n < q) (sym y) s.end, inr (inl (y, omega arith)))
-four_on q k i step short s a b (inl (inr (x, y))) =
-    (subst (λ n. n < q) (sym x) s.start, subst (λ n. n < q) (sym y) s.step_below,
-     inr (inr (inl (omega arith, ap (λ n. (n + b) % q) x ∙ ap (λ n. (k + n) % q) y ∙ s.step_leads))))
-four_on q k i step short s a b (inr (x, y)) =
-    (subst (λ n. n < q) (sym x) s.start, subst (λ n. n < q) (sym y) s.short_below,
-     inr (inr (inr (omega arith, ap (λ n. (n + b + 1) % q) x ∙ ap (λ n. (k + n + 1) % q) y ∙ next_leads q k step short i s))))
+four_on q k i step short s a b (inl (inr (x, y))) = (
+  subst (λ n. n < q) (sym x) s.start,
+  subst (λ n. n < q) (sym y) s.step_below,
+  inr (inr (inl (omega arith, ap (λ n. (n + b) % q) x ∙ ap (λ n. (k + n) % q) y ∙ s.step_leads))),
+)
+four_on q k i step short s a b (inr (x, y)) = (
+  subst (λ n. n < q) (sym x) s.start,
+  subst (λ n. n < q) (sym y) s.short_below,
+  inr (inr (inr (omega arith, ap (λ n. (n + b + 1) % q) x ∙ ap (λ n. (k + n + 1) % q) y ∙ next_leads q k step short i s))),
+)
 
 below_or_at : (n k : ℕ) → n < k + 1 → (n < k) ⊎ (n ≡ k)
 below_or_at n k h = elim (cases_lt n k) [ inl x ↦ inl x | inr x ↦ inr (omega arith) ]

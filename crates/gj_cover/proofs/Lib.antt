@@ -11,3 +11,5 @@ pub mod LineLists
 pub mod NextLines
 pub mod Pending
 pub mod Advance
+pub mod Ends
+pub mod Transfers

@@ -53,8 +53,8 @@ line_place [] i h = absurd (any_none (λ m. m.interval ≡ i) h)
 line_place (l ∷ lines) i h = elim (any_cases (λ m. m.interval ≡ i) l lines h) [
   | inl e ↦ ([], l, lines, refl, e)
   | inr k ↦
-    let rest = line_place lines i k in
-    (l ∷ rest.0, rest.1, rest.2, ap (λ ys. l ∷ ys) rest.3, rest.4)
+      let rest = line_place lines i k in
+      (l ∷ rest.0, rest.1, rest.2, ap (λ ys. l ∷ ys) rest.3, rest.4)
 ]
 
 pub line_stays : (lines : List CoverLine) (l : CoverLine) (i : ℕ) → HasLine lines i → HasLine (lines ++ l ∷ []) i
@@ -132,10 +132,10 @@ pub number_from : (c : List (Option ℕ)) (x m i n : ℕ) → x < length c → n
     ((i ≡ x) × (n ≡ m)) ⊎ (number_at c i ≡ Some n)
 number_from c x m i n within e = elim (eqb_tells i x) [
   | inl (t, same) ↦
-    let at = number_same c x m within in
-    let here : Some n ≡ Some m = sym e ∙ ap (number_at (set c x (Some m))) same ∙ at in
-    let is : n ≡ m = cc in
-    inl (same, is)
+      let at = number_same c x m within in
+      let here : Some n ≡ Some m = sym e ∙ ap (number_at (set c x (Some m))) same ∙ at in
+      let is : n ≡ m = cc in
+      inl (same, is)
   | inr (t, other) ↦ inr (sym (number_other c x m i other) ∙ e)
 ]
 
@@ -143,9 +143,9 @@ pub none_from : (c : List (Option ℕ)) (x m i : ℕ) → x < length c → numbe
     (i ≢ x) × (number_at c i ≡ None)
 none_from c x m i within e = elim (eqb_tells i x) [
   | inl (t, same) ↦
-    let at = number_same c x m within in
-    let here : Some m ≡ None = sym at ∙ ap (number_at (set c x (Some m))) (sym same) ∙ e in
-    absurd (cc)
+      let at = number_same c x m within in
+      let here : Some m ≡ None = sym at ∙ ap (number_at (set c x (Some m))) (sym same) ∙ e in
+      absurd (cc)
   | inr (t, other) ↦ (other, sym (number_other c x m i other) ∙ e)
 ]
 

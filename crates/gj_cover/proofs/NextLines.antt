@@ -70,7 +70,7 @@ next_to q T lines c count l m h e (inl k) =
     let number = at.number.1 in
     let is : m ≡ at.number.0 = e ∙ ap (λ o. unwrap_or o count) number in
     let other : l.from ≢ l.interval = λ same.
-      let free : number_at c l.from ≡ None = ap (number_at c) same ∙ at.free in absurd (cc (number, free)) in
+    let free : number_at c l.from ≡ None = ap (number_at c) same ∙ at.free in absurd (cc (number, free)) in
     record {
       within = at.first_within;
       from_within = at.second_within;
@@ -117,14 +117,14 @@ numbers q T lines c count l m len h is next =
       opened = λ before k after e same. elim (split_end lines l before k after e) [
         | inl (front, last) ↦ elim next.kind [
           | inl j ↦
-            let back : l.from ≡ l.interval = ap (λ x. x.from) (sym last) ∙ same ∙ ap (λ x. x.interval) last in
-            absurd (j.other back)
+              let back : l.from ≡ l.interval = ap (λ x. x.from) (sym last) ∙ same ∙ ap (λ x. x.interval) last in
+              absurd (j.other back)
           | inr o ↦
-            ap (λ x. number_at (set c l.interval (Some m)) x.interval) last ∙ at
-            ∙ ap Some (o.number ∙ is ∙ ap opened_by (sym front))
+              ap (λ x. number_at (set c l.interval (Some m)) x.interval) last ∙ at
+              ∙ ap Some (o.number ∙ is ∙ ap opened_by (sym front))
         ]
         | inr (rest, place) ↦
-          number_stays c l.interval m k.interval (opened_by before) next.free (h.opened before k rest place same)
+            number_stays c l.interval m k.interval (opened_by before) next.free (h.opened before k rest place same)
       ];
       joined = λ before k after e other. elim (split_end lines l before k after e) [
         | inl (front, last) ↦ elim next.kind [
@@ -132,28 +132,28 @@ numbers q T lines c count l m len h is next =
             m,
             ap (λ x. number_at (set c l.interval (Some m)) x.interval) last ∙ at,
             ap (λ x. number_at (set c l.interval (Some m)) x.from) last
-            ∙ number_stays c l.interval m l.from m next.free j.number,
+                ∙ number_stays c l.interval m l.from m next.free j.number,
           )
           | inr o ↦
-            let back : k.from ≡ k.interval = ap (λ x. x.from) last ∙ o.same ∙ ap (λ x. x.interval) (sym last) in
-            absurd (other back)
+              let back : k.from ≡ k.interval = ap (λ x. x.from) last ∙ o.same ∙ ap (λ x. x.interval) (sym last) in
+              absurd (other back)
         ]
         | inr (rest, place) ↦
-          let both = h.joined before k rest place other in (
-            both.0,
-            number_stays c l.interval m k.interval both.0 next.free both.1,
-            number_stays c l.interval m k.from both.0 next.free both.2,
-          )
+            let both = h.joined before k rest place other in (
+              both.0,
+              number_stays c l.interval m k.interval both.0 next.free both.1,
+              number_stays c l.interval m k.from both.0 next.free both.2,
+            )
       ];
       shown = λ i n e. elim (number_from c l.interval m i n within e) [
         | inl (same, number) ↦
-          subst (HasComponent (lines ++ l ∷ []) n) (sym same)
-          (subst (λ k. HasComponent (lines ++ l ∷ []) k l.interval) (sym number)
-          (elim next.kind [
-            | inl j ↦ joined lines l [] refl j.other
-              (component_stays lines l m l.from (h.shown l.from m j.number))
-            | inr o ↦ opened lines l [] refl o.same (o.number ∙ is)
-          ]))
+            subst (HasComponent (lines ++ l ∷ []) n) (sym same)
+            (subst (λ k. HasComponent (lines ++ l ∷ []) k l.interval) (sym number)
+            (elim next.kind [
+              | inl j ↦ joined lines l [] refl j.other
+                  (component_stays lines l m l.from (h.shown l.from m j.number))
+              | inr o ↦ opened lines l [] refl o.same (o.number ∙ is)
+            ]))
         | inr old ↦ component_stays lines l n i (h.shown i n old)
       ];
     }
@@ -168,14 +168,14 @@ joined_classes q T c count l m len h in' free j =
     let within : l.interval < length c = omega (arith, in') in
     let top : m + 1 ≡ count = h.last l.from x m in' (joined_back q T x l.from j.joined) j.number free in
     let led : (k : ℕ) → number_at c k ≡ Some m → LeadsTo q T k x = λ k e.
-      onward x l.from j.joined (h.linked l.from k m j.number e) in
+    onward x l.from j.joined (h.linked l.from k m j.number e) in
     record {
       one = λ i k u v a e f. elim (number_from c x m i u within e) [
         | inl (i_is, u_is) ↦ elim (number_from c x m k v within f) [
           | inl (k_is, v_is) ↦ u_is ∙ sym v_is
           | inr f' ↦
-            let up = h.last k x v in' (joined_back q T x k (subst (λ y. AreJoined q T y k) i_is a)) f' free in
-            omega arith
+              let up = h.last k x v in' (joined_back q T x k (subst (λ y. AreJoined q T y k) i_is a)) f' free in
+              omega arith
         ]
         | inr e' ↦ elim (number_from c x m k v within f) [
           | inl (k_is, v_is) ↦ let up = h.last i x u in' (subst (λ y. AreJoined q T i y) k_is a) e' free in omega arith
@@ -183,11 +183,11 @@ joined_classes q T c count l m len h in' free j =
         ]
       ];
       last = λ i k n k_below a e f.
-        let old = none_from c x m k within f in
-        elim (number_from c x m i n within e) [
-          | inl (i_is, n_is) ↦ omega arith
-          | inr e' ↦ h.last i k n k_below a e' old.1
-        ];
+          let old = none_from c x m k within f in
+          elim (number_from c x m i n within e) [
+            | inl (i_is, n_is) ↦ omega arith
+            | inr e' ↦ h.last i k n k_below a e' old.1
+          ];
       linked = λ i k n e f. elim (number_from c x m i n within e) [
         | inl (i_is, n_is) ↦ elim (number_from c x m k n within f) [
           | inl (k_is, _) ↦ here i (ap (λ y. y % q) (i_is ∙ sym k_is))
@@ -195,14 +195,14 @@ joined_classes q T c count l m len h in' free j =
         ]
         | inr e' ↦ elim (number_from c x m k n within f) [
           | inl (k_is, n_is) ↦
-            subst (λ y. LeadsTo q T y i) (sym k_is) (leads_back q T i x (led i (e' ∙ ap Some n_is)))
+              subst (λ y. LeadsTo q T y i) (sym k_is) (leads_back q T i x (led i (e' ∙ ap Some n_is)))
           | inr f' ↦ h.linked i k n e' f'
         ]
       ];
       below = λ i n e. elim (number_from c x m i n within e) [ inl (i_is, n_is) ↦ omega arith | inr e' ↦ h.below i n e' ];
       covered = λ i n e. elim (number_from c x m i n within e) [
         | inl (i_is, n_is) ↦
-          subst (IsCovered q T) (sym i_is) (covered_on q T x l.from j.joined (h.covered l.from m j.number))
+            subst (IsCovered q T) (sym i_is) (covered_on q T x l.from j.joined (h.covered l.from m j.number))
         | inr e' ↦ h.covered i n e'
       ];
     }
@@ -216,7 +216,7 @@ opened_classes q T c count l m len h in' free o =
     let top = o.number in
     let size : (i n : ℕ) → number_at c i ≡ Some n → i < q = λ i n e. number_within q c i n len e in
     let alone : (k n : ℕ) → number_at c k ≡ Some n → AreJoined q T x k → ⊥ = λ k n e a.
-      o.none x k (record { first_within = in'; second_within = size k n e; free = free; number = (n, e); joined = a }) in
+    o.none x k (record { first_within = in'; second_within = size k n e; free = free; number = (n, e); joined = a }) in
     record {
       one = λ i k u v a e f. elim (number_from c x m i u within e) [
         | inl (i_is, u_is) ↦ elim (number_from c x m k v within f) [
@@ -229,17 +229,17 @@ opened_classes q T c count l m len h in' free o =
         ]
       ];
       last = λ i k n k_below a e f.
-        let old = none_from c x m k within f in
-        elim (number_from c x m i n within e) [
-          | inl (i_is, n_is) ↦ omega arith
-          | inr e' ↦ absurd (o.none k i (record {
-            first_within = k_below;
-            second_within = size i n e';
-            free = old.1;
-            number = (n, e');
-            joined = joined_back q T i k a;
-          }))
-        ];
+          let old = none_from c x m k within f in
+          elim (number_from c x m i n within e) [
+            | inl (i_is, n_is) ↦ omega arith
+            | inr e' ↦ absurd (o.none k i (record {
+              first_within = k_below;
+              second_within = size i n e';
+              free = old.1;
+              number = (n, e');
+              joined = joined_back q T i k a;
+            }))
+          ];
       linked = λ i k n e f. elim (number_from c x m i n within e) [
         | inl (i_is, n_is) ↦ elim (number_from c x m k n within f) [
           | inl (k_is, _) ↦ here i (ap (λ y. y % q) (i_is ∙ sym k_is))
@@ -300,25 +300,25 @@ least_with q T c x m i None within free none new h = record {
 }
 least_with q T c x m i (Some j) within free none new h = elim (cases_lt j x) [
   | inl below ↦
-    let is : min j x ≡ j = omega arith in
-    subst (IsLeastFrom 0 (JoinsNumbers q T (set c x (Some m)) i)) (sym is) (record {
-      from = omega arith;
-      holds = joins_after q T c x m i j free none h.holds;
-      least = λ k from k_below at. elim (joins_before q T c x m i k within at) [
-        | inl same ↦ omega arith
-        | inr old ↦ h.least k from k_below old
-      ];
-    })
+      let is : min j x ≡ j = omega arith in
+      subst (IsLeastFrom 0 (JoinsNumbers q T (set c x (Some m)) i)) (sym is) (record {
+        from = omega arith;
+        holds = joins_after q T c x m i j free none h.holds;
+        least = λ k from k_below at. elim (joins_before q T c x m i k within at) [
+          | inl same ↦ omega arith
+          | inr old ↦ h.least k from k_below old
+        ];
+      })
   | inr above ↦
-    let is : min j x ≡ x = omega arith in
-    subst (IsLeastFrom 0 (JoinsNumbers q T (set c x (Some m)) i)) (sym is) (record {
-      from = omega arith;
-      holds = new;
-      least = λ k from k_below at. elim (joins_before q T c x m i k within at) [
-        | inl same ↦ omega arith
-        | inr old ↦ h.least k from (let low : k < j = omega arith in low) old
-      ];
-    })
+      let is : min j x ≡ x = omega arith in
+      subst (IsLeastFrom 0 (JoinsNumbers q T (set c x (Some m)) i)) (sym is) (record {
+        from = omega arith;
+        holds = new;
+        least = λ k from k_below at. elim (joins_before q T c x m i k within at) [
+          | inl same ↦ omega arith
+          | inr old ↦ h.least k from (let low : k < j = omega arith in low) old
+        ];
+      })
 ]
 
 least_without : (q : ℕ) (T : ℕ → ℕ → Type 0) (c : List (Option ℕ)) (x m i : ℕ) (o : Option ℕ) → x < length c →
@@ -365,25 +365,25 @@ pub least_joined : (q : ℕ) (T : ℕ → ℕ → Type 0) (lines : List CoverLin
     AreLeastJoined q T (lines ++ l ∷ []) (set c l.interval (Some m)) new
 least_joined q T lines c old new l m len h h' in' free before after = record {
   each = λ i i_below none.
-    let x = l.interval in
-    let within : l.interval < length c = omega (arith, in') in
-    let was = by_numbers q T lines c i (number_at old i) h (before.each i i_below (none_from c x m i within none).1) in
-    by_lines q T (lines ++ l ∷ []) (set c x (Some m)) i (number_at new i) h'
-    (elim (after.each i i_below none) [
-      | inl (linked, e) ↦
-        subst (LeastOf q T (set c x (Some m)) i) (sym e)
-        (least_with q T c x m i (number_at old i) within free none
-        (record {
-          first_within = i_below;
-          second_within = in';
-          free = none;
-          number = (m, number_same c x m within);
-          joined = linked;
-        }) was)
-      | inr (not, e) ↦
-        subst (LeastOf q T (set c x (Some m)) i) (sym e)
-        (least_without q T c x m i (number_at old i) within free none not was)
-    ]);
+      let x = l.interval in
+      let within : l.interval < length c = omega (arith, in') in
+      let was = by_numbers q T lines c i (number_at old i) h (before.each i i_below (none_from c x m i within none).1) in
+      by_lines q T (lines ++ l ∷ []) (set c x (Some m)) i (number_at new i) h'
+      (elim (after.each i i_below none) [
+        | inl (linked, e) ↦
+            subst (LeastOf q T (set c x (Some m)) i) (sym e)
+            (least_with q T c x m i (number_at old i) within free none
+            (record {
+              first_within = i_below;
+              second_within = in';
+              free = none;
+              number = (m, number_same c x m within);
+              joined = linked;
+            }) was)
+        | inr (not, e) ↦
+            subst (LeastOf q T (set c x (Some m)) i) (sym e)
+            (least_without q T c x m i (number_at old i) within free none not was)
+      ]);
 }
 
 -- ---- the search for directly covered intervals

@@ -1,6 +1,8 @@
 -- What is read from the lists of numbers, and where the search for lines begins and goes on.
 use Rattle.std.proofs.Common.{◌≡◌, ◌≢◌, ℕ, ◌+◌, ◌<◌, ◌≤◌, List, [], ◌∷◌, ◌++◌, length, get_or, Bool, true, false, not, Option, Some, None, MatchOption, replicate, refl, sym, ap, ◌∙◌, subst, inl, inr, arith}
-use Rattle.std.specs.Option.{is_some}
+use Rattle.std.specs.Option.{is_some, is_none}
+use Rattle.std.proofs.lemmas.List.Sums.{count_by-le-length}
+use Rattle.gj_cover.specs.declared.progress.Progress.{Progress}
 use Rattle.std.proofs.Math.ListN.{length-replicate}
 use Rattle.std.proofs.lemmas.Bool.{cases_lt}
 use Rattle.std.proofs.lemmas.List.{get_or_default, get_or_past, get_or-replicate}
@@ -9,7 +11,7 @@ use Rattle.gj_shape.specs.FirstViolation.{IsLeastFrom}
 use Rattle.gj_shape.specs.declared.extremality.CoverLine.{CoverLine}
 use Rattle.gj_shape.specs.declared.faces.Face.{Face}
 use Rattle.gj_cover.specs.CoverOf.{number_at, opened_by}
-use Rattle.gj_cover.specs.Progress.{AreInTurn, AreNumbered, AreClasses, AreLeastJoined, AreSearched}
+use Rattle.gj_cover.specs.Progress.{IsProgress, AreInTurn, AreNumbered, AreClasses, AreLeastJoined, AreSearched}
 use Rattle.gj_cover.proofs.LineLists.{no_end, no_number, no_line}
 
 -- ---- reads
@@ -31,8 +33,8 @@ pub all_none : (n i : ℕ) → number_at (replicate n None) i ≡ None
 all_none n i = elim (cases_lt i n) [
   | inl below ↦ get_or-replicate n i None None below
   | inr past ↦
-    let long = length-replicate {A = Option ℕ} n None in
-    get_or_past (replicate n None) i None (let le : length (replicate {A = Option ℕ} n None) ≤ i = omega arith in le)
+      let long = length-replicate {A = Option ℕ} n None in
+      get_or_past (replicate n None) i None (let le : length (replicate {A = Option ℕ} n None) ≤ i = omega arith in le)
 ]
 
 pub numbered_none : (c : List (Option ℕ)) → ((i : ℕ) → number_at c i ≡ None) → AreNumbered [] c
@@ -62,8 +64,8 @@ pub least_none : (q : ℕ) (T : ℕ → ℕ → Type 0) (c to : List (Option ℕ
     AreLeastJoined q T [] c to
 least_none q T c to none = record {
   each = λ i below free.
-    subst (λ o. MatchOption o ((j : ℕ) → JoinsLines q T [] i j → ⊥) (IsLeastFrom 0 (JoinsLines q T [] i))) (sym (none i))
-    (λ j at. no_lines j at.line);
+      subst (λ o. MatchOption o ((j : ℕ) → JoinsLines q T [] i j → ⊥) (IsLeastFrom 0 (JoinsLines q T [] i))) (sym (none i))
+      (λ j at. no_lines j at.line);
 }
 
 pub searched_none : (q : ℕ) (T : ℕ → ℕ → Type 0) (c : List (Option ℕ)) → AreSearched q T c 0
@@ -78,7 +80,7 @@ none_joins_it : (q : ℕ) (T : ℕ → ℕ → Type 0) (lines : List CoverLine) 
     AreNumbered lines c → AreLeastJoined q T lines c to → number_at to i ≡ None → JoinsLines q T lines i j → ⊥
 none_joins_it q T lines c to i j h k none at =
     let all = subst (λ o. MatchOption o ((j : ℕ) → JoinsLines q T lines i j → ⊥) (IsLeastFrom 0 (JoinsLines q T lines i)))
-      none (k.each i at.first_within (no_number lines c i h at.no_line)) in
+    none (k.each i at.first_within (no_number lines c i h at.no_line)) in
     all j at
 
 pub next_interval : (q : ℕ) (T : ℕ → ℕ → Type 0) (lines : List CoverLine) (c to : List (Option ℕ)) (x j : ℕ) →
@@ -86,12 +88,12 @@ pub next_interval : (q : ℕ) (T : ℕ → ℕ → Type 0) (lines : List CoverLi
     NonePending c to x → IsLeastFrom 0 (λ i. (n : ℕ) × JoinsLines q T lines i n) x
 next_interval q T lines c to x j h k below free found before =
     let least = subst (λ o. MatchOption o ((j : ℕ) → JoinsLines q T lines x j → ⊥) (IsLeastFrom 0 (JoinsLines q T lines x)))
-      found (k.each x below free) in
+    found (k.each x below free) in
     record {
       from = omega arith;
       holds = (j, least.holds);
       least = λ i _ i_below (n, at).
-        none_joins_it q T lines c to i n h k (before i i_below (no_number lines c i h at.no_line)) at;
+          none_joins_it q T lines c to i n h k (before i i_below (no_number lines c i h at.no_line)) at;
     }
 
 pub next_from : (q : ℕ) (T : ℕ → ℕ → Type 0) (lines : List CoverLine) (c to : List (Option ℕ)) (x j : ℕ) →
@@ -134,3 +136,25 @@ pub none_open : (q n : ℕ) (T : ℕ → ℕ → Type 0) (lines : List CoverLine
 none_open q n T lines c h all searched i at =
     let below : i < n = omega (arith, at.within) in
     searched.each i below (no_number lines c i h at.no_line) at.covered
+
+-- ---- no line yet
+
+pub begun : (q n : ℕ) (T : ℕ → ℕ → Type 0) (p : Progress) → n ≡ q → p.component.items ≡ replicate n None →
+    p.joined_to.items ≡ replicate n None → p.lines.items ≡ [] → p.count ≡ 0 → p.searched ≡ 0 → IsProgress q T p
+begun q n T p is component joined_to lines count searched =
+    let long : length (replicate {A = Option ℕ} n None) ≡ n = length-replicate n None in
+    let c : (i : ℕ) → number_at p.component.items i ≡ None = λ i. ap (λ l. number_at l i) component ∙ all_none n i in
+    let t : (i : ℕ) → number_at p.joined_to.items i ≡ None = λ i. ap (λ l. number_at l i) joined_to ∙ all_none n i in
+    let few = count_by-le-length is_none p.component.items in
+    let len : length p.component.items ≡ q = ap (λ l. length l) component ∙ long ∙ is in
+    record {
+      component_length = len;
+      joined_length = ap (λ l. length l) joined_to ∙ long ∙ is;
+      lines = rw lines (turn_none q T);
+      numbers = rw lines (numbered_none p.component.items c);
+      count = rw (lines, count) refl;
+      few = omega (arith, few, len, count);
+      classes = rw count (classes_none q T p.component.items c);
+      least = rw lines (least_none q T p.component.items p.joined_to.items t);
+      searched = rw searched (searched_none q T p.component.items);
+    }

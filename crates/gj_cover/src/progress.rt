@@ -1,5 +1,5 @@
 //! The search for cover lines.
-ghost use Rattle.std.specs.Prelude.{ℕ, ◌≡◌, ◌≢◌, ◌⊎◌, ◌<◌, length, OnOk, IfOk, IfSome, IfNone};
+ghost use Rattle.std.specs.Prelude.{ℕ, ◌≡◌, ◌≢◌, ◌⊎◌, ◌<◌, length, replicate, OnOk, IfOk, IfSome, IfNone};
 ghost use Rattle.gj_shape.specs.Cover.{JoinsLines, IsOpen, IsOpeningLine, IsNextLine};
 ghost use Rattle.gj_shape.specs.FirstViolation.{IsLeastFrom};
 ghost use Rattle.gj_cover.specs.CoverOf.{number_at};
@@ -37,8 +37,8 @@ impl Progress {
     {
         let order = table.order() as usize;
         Ok(Progress {
-            component: vec![in alloc; None; order]?,
-            joined_to: vec![in alloc; None; order]?,
+            component: no_numbers(alloc, order)?,
+            joined_to: no_numbers(alloc, order)?,
             lines: Vec::new(alloc),
             count: 0,
             searched: 0,
@@ -179,6 +179,13 @@ impl Progress {
             self.joined_to[place] = noted(table, self.joined_to[place], other, interval);
         }
     }
+}
+
+/// A list without numbers.
+fn no_numbers(alloc: Global, count: usize) -> Result<Vec<Option<u32>>, AllocError>
+    ensures { IfOk result (λ v. v.items ≡ replicate count None) }
+{
+    vec![in alloc; None; count]
 }
 
 /// The least interval to which the other is joined, of the least so far and one more.

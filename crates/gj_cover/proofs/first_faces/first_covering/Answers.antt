@@ -34,15 +34,17 @@ loop-k-preserved c =
     let three = Either two (Square k i) in
     let four = Either three (Square k step) in
     let first = merged one (Square i k) P c.loop-k.found c.covering_in_square.result c.earlier-found.result
-      c.loop-k.invariant.1 c.covering_in_square.ensures c.earlier-found.ensures in
+    c.loop-k.invariant.1 c.covering_in_square.ensures c.earlier-found.ensures in
     let second = merged two (Square k i) P c.earlier-found.result c.covering_in_square-in-loop-k.result
-      c.earlier-found-in-loop-k.result first c.covering_in_square-in-loop-k.ensures c.earlier-found-in-loop-k.ensures in
+    c.earlier-found-in-loop-k.result first c.covering_in_square-in-loop-k.ensures c.earlier-found-in-loop-k.ensures in
     let third = merged three (Square k step) P c.earlier-found-in-loop-k.result c.covering_in_square-in-loop-k-2.result
-      c.earlier-found-in-loop-k-2.result second c.covering_in_square-in-loop-k-2.ensures c.earlier-found-in-loop-k-2.ensures in
+    c.earlier-found-in-loop-k-2.result second c.covering_in_square-in-loop-k-2.ensures c.earlier-found-in-loop-k-2.ensures in
     let fourth = merged four (Square k short) P c.earlier-found-in-loop-k-2.result c.covering_in_square-in-loop-k-3.result
-      c.earlier-found-in-loop-k-3.result third c.covering_in_square-in-loop-k-3.ensures c.earlier-found-in-loop-k-3.ensures in
-    (is, restated (Four q k i step short) (IsSquareOf q (k + 1) i) P c.earlier-found-in-loop-k-3.result
-    (four_on q k i step short steps) (four_back q k i step short steps) fourth)
+    c.earlier-found-in-loop-k-3.result third c.covering_in_square-in-loop-k-3.ensures c.earlier-found-in-loop-k-3.ensures in (
+      is,
+      restated (Four q k i step short) (IsSquareOf q (k + 1) i) P c.earlier-found-in-loop-k-3.result
+          (four_on q k i step short steps) (four_back q k i step short steps) fourth,
+    )
 
 pub returns-clause-found : goal.returns-clause-found
 returns-clause-found c =

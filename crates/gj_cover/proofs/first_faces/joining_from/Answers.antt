@@ -28,12 +28,12 @@ returns c =
     let three = Either two (Square i short) in
     let four = Either three (Square step i) in
     let first = merged one (Square i step) P c.joining_in_square-found.result c.joining_in_square.result
-      c.earlier-found.result c.joining_in_square-found.ensures c.joining_in_square.ensures c.earlier-found.ensures in
+    c.earlier-found.result c.joining_in_square-found.ensures c.joining_in_square.ensures c.earlier-found.ensures in
     let second = merged two (Square i short) P c.earlier-found.result c.joining_in_square-2.result
-      c.earlier-found-2.result first c.joining_in_square-2.ensures c.earlier-found-2.ensures in
+    c.earlier-found-2.result first c.joining_in_square-2.ensures c.earlier-found-2.ensures in
     let third = merged three (Square step i) P c.earlier-found-2.result c.joining_in_square-3.result
-      c.earlier-found-3.result second c.joining_in_square-3.ensures c.earlier-found-3.ensures in
+    c.earlier-found-3.result second c.joining_in_square-3.ensures c.earlier-found-3.ensures in
     let fourth = merged four (Square short i) P c.earlier-found-3.result c.joining_in_square-4.result
-      c.earlier.result third c.joining_in_square-4.ensures c.earlier.ensures in
+    c.earlier.result third c.joining_in_square-4.ensures c.earlier.ensures in
     restated (Five i step short j) (IsSquareFrom q i j) P c.earlier.result
     (five_on q i step short j steps) (five_back q i step short j steps) fourth

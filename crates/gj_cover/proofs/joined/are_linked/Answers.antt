@@ -24,12 +24,12 @@ returns c =
       λ h. elim h [
         | diagonal d ↦ let yes = c.is_additive.ensures.1 d in cc (c.if-is_additive.false, yes)
         | horizontal b b_below e d ↦
-          let same = one_step t.order i b step c.args.j b_below below e leads in
-          let yes = c.is_additive-2.ensures.1 (subst (λ n. IsAdditive (IsTightIn t) Horizontal i n) same d) in
-          cc (c.if-is_additive-2.false, yes)
+            let same = one_step t.order i b step c.args.j b_below below e leads in
+            let yes = c.is_additive-2.ensures.1 (subst (λ n. IsAdditive (IsTightIn t) Horizontal i n) same d) in
+            cc (c.if-is_additive-2.false, yes)
         | vertical a a_below e d ↦
-          let back : i + a ≡ a + i = omega arith in
-          let same = one_step t.order i a step c.args.j a_below below (ap (λ n. n % t.order) back ∙ e) leads in
-          c.is_additive-3.ensures.1 (subst (λ n. IsAdditive (IsTightIn t) Vertical n i) same d)
+            let back : i + a ≡ a + i = omega arith in
+            let same = one_step t.order i a step c.args.j a_below below (ap (λ n. n % t.order) back ∙ e) leads in
+            c.is_additive-3.ensures.1 (subst (λ n. IsAdditive (IsTightIn t) Vertical n i) same d)
       ],
     )

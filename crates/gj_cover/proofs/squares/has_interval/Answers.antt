@@ -10,13 +10,13 @@ returns-then-eq-2 c =
 pub returns : goal.returns
 returns c = (
   λ t. one_by_sum c.args.q c.args.face.kind c.args.face.a c.args.face.b c.args.i c.requires.interval
-    (ap (λ p. p.sum) (sym c.projections-onto.ensures) ∙ tested _ _ _ c.eq-3.ensures t),
+      (ap (λ p. p.sum) (sym c.projections-onto.ensures) ∙ tested _ _ _ c.eq-3.ensures t),
   λ h. elim (onto_one c.args.q c.args.face.kind c.args.face.a c.args.face.b c.args.i c.requires.interval h) [
     | inl e ↦
-      let x = passed _ _ _ c.eq.ensures (ap (λ p. p.x) c.projections-onto.ensures ∙ e) in cc (c.if-eq.false, x)
+        let x = passed _ _ _ c.eq.ensures (ap (λ p. p.x) c.projections-onto.ensures ∙ e) in cc (c.if-eq.false, x)
     | inr k ↦ elim k [
       | inl e ↦
-        let y = passed _ _ _ c.eq-2.ensures (ap (λ p. p.y) c.projections-onto.ensures ∙ e) in cc (c.if-eq-2.false, y)
+          let y = passed _ _ _ c.eq-2.ensures (ap (λ p. p.y) c.projections-onto.ensures ∙ e) in cc (c.if-eq-2.false, y)
       | inr e ↦ passed _ _ _ c.eq-3.ensures (ap (λ p. p.sum) c.projections-onto.ensures ∙ e)
     ]
   ],

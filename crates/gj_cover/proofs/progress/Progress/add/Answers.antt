@@ -11,9 +11,9 @@ returns-then-line-clause-progress c =
     let new : Progress = c.note_joined.new.self in
     let others = c.note_joined.ensures.others in
     let more = line_more q T c.args.self.now new c.args.line c.unwrap_or-number.result c.index.result.now
-      c.requires.progress c.requires.next c.index.ensures c.unwrap_or-number.ensures
-      (ap (λ s. s.lines.items) others ∙ c.in_ok-push.ensures.items) (ap (λ s. s.component.items) others)
-      c.note_joined.ensures.length c.note_joined.ensures.joined in
+    c.requires.progress c.requires.next c.index.ensures c.unwrap_or-number.ensures
+    (ap (λ s. s.lines.items) others ∙ c.in_ok-push.ensures.items) (ap (λ s. s.component.items) others)
+    c.note_joined.ensures.length c.note_joined.ensures.joined in
     joined_on q T c.args.self.now new c.args.line c.unwrap_or-number.result c.requires.progress c.requires.next more
     c.if-line.true (ap (λ s. s.count) others) (ap (λ s. s.searched) others)
 
@@ -24,9 +24,9 @@ returns-then-line-clause-fewer c =
     let new : Progress = c.note_joined.new.self in
     let others = c.note_joined.ensures.others in
     let more = line_more q T c.args.self.now new c.args.line c.unwrap_or-number.result c.index.result.now
-      c.requires.progress c.requires.next c.index.ensures c.unwrap_or-number.ensures
-      (ap (λ s. s.lines.items) others ∙ c.in_ok-push.ensures.items) (ap (λ s. s.component.items) others)
-      c.note_joined.ensures.length c.note_joined.ensures.joined in
+    c.requires.progress c.requires.next c.index.ensures c.unwrap_or-number.ensures
+    (ap (λ s. s.lines.items) others ∙ c.in_ok-push.ensures.items) (ap (λ s. s.component.items) others)
+    c.note_joined.ensures.length c.note_joined.ensures.joined in
     let less = fewer q T c.args.self.now new c.args.line c.unwrap_or-number.result c.requires.progress c.requires.next more in
     omega (arith, less)
 
@@ -37,9 +37,9 @@ returns-clause-progress c =
     let new : Progress = record c.note_joined.new.self { count = c.note_joined.new.self.count + 1; searched = c.args.line.interval } in
     let others = c.note_joined.ensures.others in
     let more = line_more q T c.args.self.now new c.args.line c.unwrap_or-number.result c.index.result.now
-      c.requires.progress c.requires.next c.index.ensures c.unwrap_or-number.ensures
-      (ap (λ s. s.lines.items) others ∙ c.in_ok-push.ensures.items) (ap (λ s. s.component.items) others)
-      c.note_joined.ensures.length c.note_joined.ensures.joined in
+    c.requires.progress c.requires.next c.index.ensures c.unwrap_or-number.ensures
+    (ap (λ s. s.lines.items) others ∙ c.in_ok-push.ensures.items) (ap (λ s. s.component.items) others)
+    c.note_joined.ensures.length c.note_joined.ensures.joined in
     opened_on q T c.args.self.now new c.args.line c.unwrap_or-number.result c.requires.progress c.requires.next more
     c.if-line.false (ap (λ s. s.count + 1) others) refl
 
@@ -50,8 +50,8 @@ returns-clause-fewer c =
     let new : Progress = record c.note_joined.new.self { count = c.note_joined.new.self.count + 1; searched = c.args.line.interval } in
     let others = c.note_joined.ensures.others in
     let more = line_more q T c.args.self.now new c.args.line c.unwrap_or-number.result c.index.result.now
-      c.requires.progress c.requires.next c.index.ensures c.unwrap_or-number.ensures
-      (ap (λ s. s.lines.items) others ∙ c.in_ok-push.ensures.items) (ap (λ s. s.component.items) others)
-      c.note_joined.ensures.length c.note_joined.ensures.joined in
+    c.requires.progress c.requires.next c.index.ensures c.unwrap_or-number.ensures
+    (ap (λ s. s.lines.items) others ∙ c.in_ok-push.ensures.items) (ap (λ s. s.component.items) others)
+    c.note_joined.ensures.length c.note_joined.ensures.joined in
     let less = fewer q T c.args.self.now new c.args.line c.unwrap_or-number.result c.requires.progress c.requires.next more in
     omega (arith, less)

@@ -17,7 +17,7 @@ loop-other-preserved c =
       same = ap written c.loop-other.invariant.same;
       length = length-set now other c.noted.result ∙ c.loop-other.invariant.length;
       joined = noted_more c.args.table.now.order other (IsTightIn c.args.table.now) c.args.interval c.args.self.now.component.items
-        c.args.self.now.joined_to.items now c.noted.result c.index-in-loop-other.result.now within
-        (sym (read now other c.index-in-loop-other.result.now within c.index-in-loop-other.ensures))
-        c.noted.ensures c.loop-other.invariant.joined;
+          c.args.self.now.joined_to.items now c.noted.result c.index-in-loop-other.result.now within
+          (sym (read now other c.index-in-loop-other.result.now within c.index-in-loop-other.ensures))
+          c.noted.ensures c.loop-other.invariant.joined;
     }

@@ -8,5 +8,5 @@ invariant-loop-other l = record {
   same : l.self ≡ record l.fn.self { joined_to = l.self.joined_to };
   length : length l.self.joined_to.items ≡ l.table.order;
   joined : IsJoinedUpTo l.table.order l.other (IsTightIn l.table) l.interval l.fn.self.component.items
-    l.fn.self.joined_to.items l.self.joined_to.items;
+      l.fn.self.joined_to.items l.self.joined_to.items;
 }

@@ -1,2 +1,0 @@
-use Rattle.gj_cover.proofs.NextLines.{next_to}
-use Rattle.gj_cover.proofs.progress.Progress.next_line.Goals as goal
