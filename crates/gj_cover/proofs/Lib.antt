@@ -13,3 +13,6 @@ pub mod Pending
 pub mod Advance
 pub mod Ends
 pub mod Transfers
+pub mod TruePlaces
+pub mod Classes
+pub mod Marks

@@ -19,7 +19,7 @@ unreached reached = count_by not reached
 
 -- each interval that was reached waits, or all that are joined to it were reached, and joined ones lead to it from the start
 pub record AreReached (q : ℕ) (Tight : ℕ → ℕ → Type 0) (start : ℕ) (r : Reached) : Type 0 where
-  pub length : length r.reached.items ≡ q
+  pub reached_length : length r.reached.items ≡ q
   pub begun : IsReached r.reached.items start
   pub waiting : (i : ℕ) → Contains r.waiting.items i → IsReached r.reached.items i
   pub closed : (i : ℕ) → IsReached r.reached.items i →
@@ -28,7 +28,7 @@ pub record AreReached (q : ℕ) (Tight : ℕ → ℕ → Type 0) (start : ℕ) (
 
 -- all intervals below n without a number that are joined to the interval were reached too, and no others; the new ones wait
 pub record IsReachedUpTo (q n : ℕ) (Tight : ℕ → ℕ → Type 0) (interval : ℕ) (component : List (Option ℕ)) (old new : Reached) : Type 0 where
-  pub length : length new.reached.items ≡ q
+  pub reached_length : length new.reached.items ≡ q
   pub more : (i : ℕ) → IsReached old.reached.items i → IsReached new.reached.items i
   pub joined : (i : ℕ) → i < n → number_at component i ≡ None → AreJoined q Tight i interval → i ≢ interval → IsReached new.reached.items i
   pub only : (i : ℕ) → IsReached new.reached.items i →

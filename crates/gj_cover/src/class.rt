@@ -25,7 +25,8 @@ pub(crate) fn least_class(
         return Ok(Vec::new(alloc));
     };
     let reached = Reached::from(alloc, table, component, least)?;
-    listed(alloc, reached.as_slice())
+    let places = listed(alloc, reached.as_slice())?;
+    Ok(places)
 }
 
 /// The least interval without a number.
@@ -52,9 +53,10 @@ fn listed(alloc: Global, reached: &[bool]) -> Result<Vec<u32>, AllocError>
 {
     let mut places = Vec::new(alloc);
     for (interval, is_reached) in reached.iter().enumerate() {
-        if *is_reached {
-            places.push(interval as u32)?;
+        if !*is_reached {
+            continue;
         }
+        places.push(interval as u32)?;
     }
     Ok(places)
 }

@@ -30,7 +30,8 @@ pub fn cover(alloc: Global, shape: &Shape) -> Result<Cover, AllocError>
     ensures { IfOk result (IsCoverOf shape.now.order (IsTight shape.now)) }
 {
     let tight = runs(alloc, shape)?;
-    cover_of_runs(alloc, tight.as_slice(), shape.order())
+    let found = cover_of_runs(alloc, tight.as_slice(), shape.order())?;
+    Ok(found)
 }
 
 /// The same for the complex of order q, from 2 to 1,000, where the tight pairs are those in the runs.
@@ -42,7 +43,8 @@ pub fn cover_of_runs(alloc: Global, runs: &[Run], q: u32) -> Result<Cover, Alloc
     ensures { IfOk result (IsCoverOf q (InRuns q runs.now)) }
 {
     let table = table_of_runs(alloc, runs, q)?;
-    cover_of_table(alloc, &table)
+    let found = cover_of_table(alloc, &table)?;
+    Ok(found)
 }
 
 /// The same where the tight pairs are those of the table.

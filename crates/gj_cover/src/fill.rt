@@ -17,19 +17,20 @@ pub(crate) fn table_of_runs(alloc: Global, runs: &[Run], q: u32) -> Result<Table
 {
     let mut tight = vec![in alloc; false; (q * q) as usize]?;
     for run in runs {
-        mark(tight.as_mut_slice(), *run, q);
+        mark(&mut tight, *run, q);
     }
     Ok(Table::of(tight, q))
 }
 
 /// Marks the pairs of a run.
-fn mark(tight: &mut [bool], run: Run, q: u32)
+fn mark(tight: &mut Vec<bool>, run: Run, q: u32)
     requires order { IsOrder q }
     requires run { IsRunOf q run }
-    requires length { length tight.old ≡ q * q }
-    ensures { (i j : ℕ) → i < q → j < q →
-        IsTrue (slice_index_or tight.new (i * q + j) false)
-        ↔ (IsTrue (slice_index_or tight.old (i * q + j) false) ⊎ Holds q i j run) }
+    requires length { length tight.old.items ≡ q * q }
+    ensures length { length tight.new.items ≡ q * q }
+    ensures marked { (i j : ℕ) → i < q → j < q →
+        IsTrue (slice_index_or tight.new.items (i * q + j) false)
+        ↔ (IsTrue (slice_index_or tight.old.items (i * q + j) false) ⊎ Holds q i j run) }
 {
     for second in run.from..run.to + 1 {
         tight[(run.a * q + second) as usize] = true;

@@ -29,7 +29,8 @@ impl Reached {
         requires uncovered { AreUncovered table.now.order (IsTightIn table.now) component.now }
         requires within { start < table.now.order }
         requires start { number_at component.now start ≡ None }
-        ensures { IfOk result (λ v. (i : ℕ) →
+        ensures length { IfOk result (λ v. length v.items ≡ table.now.order) }
+        ensures class { IfOk result (λ v. (i : ℕ) →
             IsReached v.items i ↔ ((i < table.now.order) × IsInClassOf table.now.order (IsTightIn table.now) start i)) }
     {
         let mut found = Reached::new(alloc, table, start)?;
@@ -66,13 +67,17 @@ impl Reached {
     {
         for other in 0..table.order() {
             let place = other as usize;
-            if !self.reached[place]
-                && component[place].is_none()
-                && are_joined(table, other, interval)
-            {
-                self.reached[place] = true;
-                self.waiting.push(other)?;
+            if self.reached[place] {
+                continue;
             }
+            if component[place].is_some() {
+                continue;
+            }
+            if !are_joined(table, other, interval) {
+                continue;
+            }
+            self.waiting.push(other)?;
+            self.reached[place] = true;
         }
         Ok(())
     }
