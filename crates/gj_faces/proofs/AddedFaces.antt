@@ -1,0 +1,75 @@
+-- Maximal faces that are added to a list.
+use Rattle.std.proofs.Common.{◌≡◌, ℕ, ◌+◌, ◌<◌, List, [], ◌∷◌, ◌++◌, false, get_or, append_assoc, sym, ap, subst, ◌∙◌}
+use Rattle.std.specs.List.{range_with_len, flat_map}
+use Rattle.std.proofs.lemmas.Bool.{true≢false}
+use Rattle.std.proofs.lemmas.List.{append-nil}
+use Rattle.gj_shape.specs.FunctionData.{FunctionData}
+use Rattle.gj_shape.specs.WalkOrder.{faces_of_square}
+use Rattle.gj_shape.specs.declared.faces.Face.{Face}
+use Rattle.gj_shape.specs.declared.faces.FaceKind.{FaceKind}
+use Rattle.gj_shape.specs.declared.faces.FaceKind.TheVariants.{Vertex, Horizontal, Vertical, Diagonal, Lower, Upper}
+use Rattle.gj_faces.specs.declared.alone.Alone.{Alone}
+use Rattle.gj_faces.specs.Added.{AddsMaximal, faces_of_row}
+use Rattle.gj_faces.specs.Alone.{AreAlone}
+use Rattle.gj_faces.specs.Listed.{AreMaximalFaces, IsMaximalIn}
+use Rattle.gj_faces.specs.Picked.{ArePicked, none, kept, dropped}
+use Rattle.gj_faces.proofs.PickedFaces.{picked_joined, joined_more}
+
+-- one face, where it is maximal, and where it is not
+pub adds_one : (f : FunctionData) (face : Face) (old new : List Face) → IsMaximalIn f face → new ≡ old ++ face ∷ [] →
+    AddsMaximal f (face ∷ []) old new
+adds_one f face old new h e = record { added = face ∷ []; picked = kept h none; items = e }
+
+pub adds_none : (f : FunctionData) (face : Face) (old : List Face) → (IsMaximalIn f face → ⊥) → AddsMaximal f (face ∷ []) old old
+adds_none f face old h = record { added = []; picked = dropped h none; items = sym (append-nil old) }
+
+pub adds_nothing : (f : FunctionData) (old : List Face) → AddsMaximal f [] old old
+adds_nothing f old = record { added = []; picked = none; items = sym (append-nil old) }
+
+-- one list behind the other
+pub adds_joined : (f : FunctionData) (xs ys old middle new : List Face) → AddsMaximal f xs old middle →
+    AddsMaximal f ys middle new → AddsMaximal f (xs ++ ys) old new
+adds_joined f xs ys old middle new h k = record {
+  added = h.added ++ k.added;
+  picked = picked_joined (IsMaximalIn f) ys k.added h.picked k.picked;
+  items = k.items ∙ ap (λ zs. zs ++ k.added) h.items ∙ append_assoc old h.added k.added;
+}
+
+-- one square more of a row
+pub adds_square : (f : FunctionData) (a b : ℕ) (old middle new : List Face) →
+    AddsMaximal f (flat_map (faces_of_square a) (range_with_len 0 b)) old middle →
+    AddsMaximal f (faces_of_square a b) middle new →
+    AddsMaximal f (flat_map (faces_of_square a) (range_with_len 0 (b + 1))) old new
+adds_square f a b old middle new h k =
+    subst (λ xs. AddsMaximal f xs old new) (sym (joined_more (faces_of_square a) b))
+    (adds_joined f (flat_map (faces_of_square a) (range_with_len 0 b)) (faces_of_square a b) old middle new h k)
+
+-- a square of which no face is maximal
+pub adds_no_square : (f : FunctionData) (a b n : ℕ) (alone : Alone) (old : List Face) → AreAlone f a alone n → b < n →
+    get_or alone.any b false ≡ false → AddsMaximal f (faces_of_square a b) old old
+adds_no_square f a b n alone old h below silent = record {
+  added = [];
+  picked = dropped (not_one Vertex) (dropped (not_one Horizontal) (dropped (not_one Vertical) (dropped (not_one Diagonal)
+      (dropped (not_one Lower) (dropped (not_one Upper) none)))));
+  items = sym (append-nil old);
+}
+  where
+    not_one : (kind : FaceKind) → IsMaximalIn f (record { kind = kind; a = a; b = b }) → ⊥
+    not_one kind maximal =
+        let some = h.any kind b below ((h.flags kind b below).1 maximal) in
+        true≢false (sym some ∙ silent)
+
+-- one row more
+pub picked_row : (f : FunctionData) (q a : ℕ) (old new : List Face) →
+    ArePicked (IsMaximalIn f) (flat_map (faces_of_row q) (range_with_len 0 a)) old → AddsMaximal f (faces_of_row q a) old new →
+    ArePicked (IsMaximalIn f) (flat_map (faces_of_row q) (range_with_len 0 (a + 1))) new
+picked_row f q a old new h k =
+    subst (λ xs. ArePicked (IsMaximalIn f) xs new) (sym (joined_more (faces_of_row q) a))
+    (subst (ArePicked (IsMaximalIn f) (flat_map (faces_of_row q) (range_with_len 0 a) ++ faces_of_row q a)) (sym k.items)
+    (picked_joined (IsMaximalIn f) (faces_of_row q a) k.added h k.picked))
+
+-- all rows
+pub all_rows_picked : (f : FunctionData) (n : ℕ) (faces : List Face) → n ≡ f.order →
+    ArePicked (IsMaximalIn f) (flat_map (faces_of_row f.order) (range_with_len 0 n)) faces → AreMaximalFaces f faces
+all_rows_picked f n faces e h =
+    subst (λ k. ArePicked (IsMaximalIn f) (flat_map (faces_of_row f.order) (range_with_len 0 k)) faces) e h

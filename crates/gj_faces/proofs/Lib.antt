@@ -1,0 +1,15 @@
+pub mod RunLists
+pub mod RunSteps
+pub mod Periods
+pub mod Corners
+pub mod ByRuns
+pub mod Slacks
+pub mod Readings
+pub mod Maximality
+pub mod Closures
+pub mod PickedFaces
+pub mod Held
+pub mod PaintedRows
+pub mod AloneFlags
+pub mod AddedFaces
+pub mod TightGrids
