@@ -70,14 +70,14 @@ some_uncovered q T c least reached list len h k class ascending members =
     record {
       ascending = ascending;
       members = λ other other_first i.
-        let same = one_least (IsUncovered q T) least other first other_first in
-        subst (λ n. Contains list i ↔ ((i < q) × IsInClassOf q T n i)) same
-        (λ at. (class i).0 ((members i).0 at), λ at. (members i).1 ((class i).1 at));
+          let same = one_least (IsUncovered q T) least other first other_first in
+          subst (λ n. Contains list i ↔ ((i < q) × IsInClassOf q T n i)) same
+          (λ at. (class i).0 ((members i).0 at), λ at. (members i).1 ((class i).1 at));
       none = (
         λ empty.
-          let at = (members least).1 ((class least).1 (first.holds.0, here least refl)) in
-          let nothing : Contains {X = ℕ} [] least = subst (λ l. Contains l least) empty at in
-          absurd (let below = nothing.1 in omega arith),
+            let at = (members least).1 ((class least).1 (first.holds.0, here least refl)) in
+            let nothing : Contains {X = ℕ} [] least = subst (λ l. Contains l least) empty at in
+            absurd (let below = nothing.1 in omega arith),
         λ all. absurd (first.holds.1 (all least first.holds.0)),
       );
     }
@@ -91,8 +91,8 @@ reached_start q T start r old below len none reached waiting =
     let only : (i : ℕ) → IsReached r.reached.items i → i ≡ start = λ i e. elim (eqb_tells i start) [
       | inl (_, same) ↦ same
       | inr (_, other) ↦
-        let was = sym (ap (λ l. get_or l i false) reached ∙ get_or-set_other old start i true false other) ∙ e in
-        let free = none i in absurd (cc (was, free))
+          let was = sym (ap (λ l. get_or l i false) reached ∙ get_or-set_other old start i true false other) ∙ e in
+          let free = none i in absurd (cc (was, free))
     ] in
     record {
       reached_length = ap (λ l. length l) reached ∙ length-set old start true ∙ len;
@@ -115,16 +115,16 @@ pub reached_on : (q : ℕ) (T : ℕ → ℕ → Type 0) (c : List (Option ℕ)) 
     IsReachedUpTo q q T interval c popped new → AreReached q T start new
 reached_on q T c start interval old popped new h free below r same waiting next =
     let kept : (i : ℕ) → IsReached old.reached.items i → IsReached new.reached.items i = λ i e.
-      next.more i (ap (λ l. get_or l i false) same ∙ e) in
+    next.more i (ap (λ l. get_or l i false) same ∙ e) in
     let back : (i : ℕ) → IsReached popped.reached.items i → IsReached old.reached.items i = λ i e.
-      ap (λ l. get_or l i false) (sym same) ∙ e in
+    ap (λ l. get_or l i false) (sym same) ∙ e in
     let here' : IsReached old.reached.items interval =
-      r.waiting interval (subst (λ l. Contains l interval) (sym waiting) (Contains-push popped.waiting.items interval)) in
+    r.waiting interval (subst (λ l. Contains l interval) (sym waiting) (Contains-push popped.waiting.items interval)) in
     let list = (r.led interval here').1 in
     let open' : (j : ℕ) → AreJoined q T j interval → number_at c j ≡ None = λ j a. elim (number_cases (number_at c j)) [
       | inl none ↦ none
       | inr (n, e) ↦ absurd (h.none start below free (covered_along q T start interval list
-        (covered_on q T interval j (joined_back q T j interval a) (h.some j n e))))
+          (covered_on q T interval j (joined_back q T j interval a) (h.some j n e))))
     ] in
     record {
       reached_length = next.reached_length;
@@ -140,8 +140,8 @@ reached_on q T c start interval old popped new h free below r same waiting next 
             | inr is ↦ inr (λ j j_below a. elim (eqb_tells j interval) [
               | inl (_, j_is) ↦ kept j (subst (IsReached old.reached.items) (sym j_is) here')
               | inr (_, other) ↦
-                let a' = subst (AreJoined q T j) (sym is) a in
-                next.joined j j_below (open' j a') a' other
+                  let a' = subst (AreJoined q T j) (sym is) a in
+                  next.joined j j_below (open' j a') a' other
             ])
           ]
           | inr all ↦ inr (λ j j_below a. kept j (all j j_below a))
@@ -159,8 +159,8 @@ shut : (q : ℕ) (T : ℕ → ℕ → Type 0) (start : ℕ) (r : Reached) → Ar
     (i j : ℕ) → IsReached r.reached.items i → j < q → AreJoined q T j i → IsReached r.reached.items j
 shut q T start r h empty i j e below a = elim (h.closed i e) [
   | inl at ↦
-    let none : Contains {X = ℕ} [] i = subst (λ l. Contains l i) empty at in
-    absurd (let within = none.1 in omega arith)
+      let none : Contains {X = ℕ} [] i = subst (λ l. Contains l i) empty at in
+      absurd (let within = none.1 in omega arith)
   | inr all ↦ all j below a
 ]
 
@@ -178,9 +178,9 @@ pub reached_all : (q : ℕ) (T : ℕ → ℕ → Type 0) (start : ℕ) (r : Reac
 reached_all q T start r below h empty i = (
   h.led i,
   λ (i_below, list).
-    let some : 0 < q = omega arith in
-    let begun : IsReached r.reached.items (start % q) = ap (λ n. get_or r.reached.items n false) (mod-eq_of_lt below) ∙ h.begun in
-    sym (ap (λ n. get_or r.reached.items n false) (mod-eq_of_lt i_below)) ∙ along q T r.reached.items i start some (shut q T start r h empty) list begun,
+      let some : 0 < q = omega arith in
+      let begun : IsReached r.reached.items (start % q) = ap (λ n. get_or r.reached.items n false) (mod-eq_of_lt below) ∙ h.begun in
+      sym (ap (λ n. get_or r.reached.items n false) (mod-eq_of_lt i_below)) ∙ along q T r.reached.items i start some (shut q T start r h empty) list begun,
 )
 
 -- ---- one more interval is reached
@@ -195,18 +195,18 @@ pub reached_more : (q n : ℕ) (T : ℕ → ℕ → Type 0) (interval : ℕ) (c 
 reached_more q n T interval c old now new n_below h free a reached waiting =
     let within : n < length now.reached.items = omega (arith, h.reached_length) in
     let at : IsReached new.reached.items n =
-      ap (λ l. now_at l n) reached ∙ get_or-set_same now.reached.items n true false within in
+    ap (λ l. now_at l n) reached ∙ get_or-set_same now.reached.items n true false within in
     let kept : (i : ℕ) → IsReached now.reached.items i → IsReached new.reached.items i = λ i e. elim (eqb_tells i n) [
       | inl (_, same) ↦ subst (IsReached new.reached.items) (sym same) at
       | inr (_, other) ↦ ap (λ l. now_at l i) reached ∙ get_or-set_other now.reached.items n i true false other ∙ e
     ] in
     let still : (i : ℕ) → Contains now.waiting.items i → Contains new.waiting.items i = λ i e.
-      subst (λ l. Contains l i) (sym waiting) (Contains-append_left now.waiting.items (n ∷ []) i e) in
+    subst (λ l. Contains l i) (sym waiting) (Contains-append_left now.waiting.items (n ∷ []) i e) in
     let sums = sum_by-set (λ b. cond (not b) 1 0) now.reached.items n true false within in
     let was : ◌≡◌ {A = ℕ} (cond (not (get_or now.reached.items n false)) 1 0) 1 = ap (λ b. cond (not b) 1 0) free in
     let one = length-append now.waiting.items (n ∷ []) in
     let fewer : unreached new.reached.items + 1 ≡ unreached now.reached.items =
-      ap (λ l. unreached l + 1) reached ∙ (let less : unreached (set now.reached.items n true) + 1 ≡ unreached now.reached.items = omega (arith, sums, was) in less) in
+    ap (λ l. unreached l + 1) reached ∙ (let less : unreached (set now.reached.items n true) + 1 ≡ unreached now.reached.items = omega (arith, sums, was) in less) in
     let longer : length new.waiting.items ≡ length now.waiting.items + 1 = ap (λ l. length l) waiting ∙ one in
     record {
       reached_length = ap (λ l. length l) reached ∙ length-set now.reached.items n true ∙ h.reached_length;
@@ -220,13 +220,13 @@ reached_more q n T interval c old now new n_below h free a reached waiting =
           subst (λ k. k < q) (sym same) n_below,
           subst (λ k. AreJoined q T k interval) (sym same) a,
           subst (λ k. Contains new.waiting.items k) (sym same)
-          (subst (λ l. Contains l n) (sym waiting) (Contains-push now.waiting.items n)),
+              (subst (λ l. Contains l n) (sym waiting) (Contains-push now.waiting.items n)),
         )
         | inr (_, other) ↦
-          elim (h.only i (sym (ap (λ l. now_at l i) reached ∙ get_or-set_other now.reached.items n i true false other) ∙ e)) [
-            | inl before ↦ inl before
-            | inr (x, y, z) ↦ inr (x, y, still i z)
-          ]
+            elim (h.only i (sym (ap (λ l. now_at l i) reached ∙ get_or-set_other now.reached.items n i true false other) ∙ e)) [
+              | inl before ↦ inl before
+              | inr (x, y, z) ↦ inr (x, y, still i z)
+            ]
       ];
       still = λ i e. still i (h.still i e);
       known = λ i e. elim (Contains-push_cases now.waiting.items n i (subst (λ l. Contains l i) waiting e)) [
@@ -241,8 +241,8 @@ pub false_at : (n i : ℕ) → get_or (replicate n false) i false ≡ false
 false_at n i = elim (cases_lt i n) [
   | inl below ↦ get_or-replicate n i false false below
   | inr past ↦
-    let long = length-replicate {A = Bool} n false in
-    get_or_past (replicate n false) i false (let le : length (replicate {A = Bool} n false) ≤ i = omega arith in le)
+      let long = length-replicate {A = Bool} n false in
+      get_or_past (replicate n false) i false (let le : length (replicate {A = Bool} n false) ≤ i = omega arith in le)
 ]
 
 -- the interval n is not joined to it

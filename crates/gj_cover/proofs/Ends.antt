@@ -27,16 +27,16 @@ led_same q T p i j n some h end (onward _ next joined rest) number =
     let both = joined_rests q T j next joined in
     elim (number_cases (number_at p.component.items (next % q))) [
       | inl free ↦ absurd (end.none_joins (next % q) (j % q)
-        (joins_lines q T p.lines.items p.component.items (next % q) (j % q) h.numbers (record {
-          first_within = mod-lt next some;
-          second_within = mod-lt j some;
-          free = free;
-          number = (n, number);
-          joined = joined_back q T (j % q) (next % q) both;
-        })))
+          (joins_lines q T p.lines.items p.component.items (next % q) (j % q) h.numbers (record {
+            first_within = mod-lt next some;
+            second_within = mod-lt j some;
+            free = free;
+            number = (n, number);
+            joined = joined_back q T (j % q) (next % q) both;
+          })))
       | inr (m, e) ↦
-        let same = h.classes.one (j % q) (next % q) n m both number e in
-        led_same q T p i next n some h end rest (e ∙ ap Some (sym same))
+          let same = h.classes.one (j % q) (next % q) n m both number e in
+          led_same q T p i next n some h end rest (e ∙ ap Some (sym same))
     ]
 
 -- a directly covered interval has a number
@@ -80,10 +80,10 @@ components q T p h end = record {
   same = λ i j i_below j_below. (
     λ (n, e, f). (h.classes.covered i n e, h.classes.covered j n f, h.classes.linked i j n e f),
     λ (first, second, list).
-      let some : 0 < q = omega arith in
-      let at = covered_number q T p i i_below h end first in
-      let rest = ap (number_at p.component.items) (mod-eq_of_lt i_below) ∙ at.1 in
-      (at.0, at.1, ap (number_at p.component.items) (sym (mod-eq_of_lt j_below)) ∙ led_same q T p j i at.0 some h end list rest),
+        let some : 0 < q = omega arith in
+        let at = covered_number q T p i i_below h end first in
+        let rest = ap (number_at p.component.items) (mod-eq_of_lt i_below) ∙ at.1 in
+        (at.0, at.1, ap (number_at p.component.items) (sym (mod-eq_of_lt j_below)) ∙ led_same q T p j i at.0 some h end list rest),
   );
   below = λ i n e. subst (λ m. n < m) h.count (h.classes.below i n e);
 }

@@ -32,24 +32,23 @@ marked_more q a from n old now a_below n_below low len h i j i_below j_below =
     let at = place_below q a n (length now) len a_below n_below in
     elim (eqb_tells (i * q + j) (a * q + n)) [
       | inl (_, same) ↦
-        let one = one_place q i j a n j_below n_below same in
-        let marked : IsMarked q (set now (a * q + n) true) i j =
+          let one = one_place q i j a n j_below n_below same in
+          let marked : IsMarked q (set now (a * q + n) true) i j =
           ap (λ p. get_or (set now (a * q + n) true) p false) same ∙ get_or-set_same now (a * q + n) true false at in
-        (λ _. inr (one.0, (let from' : from ≤ j = omega (arith, one.1) in from'), (let to : j < n + 1 = omega (arith, one.1) in to)), λ _. marked)
+          (λ _. inr (one.0, (let from' : from ≤ j = omega (arith, one.1) in from'), (let to : j < n + 1 = omega (arith, one.1) in to)), λ _. marked)
       | inr (_, other) ↦
-        let stays = get_or-set_other now (a * q + n) (i * q + j) true false other in
-        (
-          λ m. elim ((h i j i_below j_below).0 (sym stays ∙ m)) [
-            | inl x ↦ inl x
-            | inr (x, y, z) ↦ inr (x, y, omega arith)
-          ],
-          λ m. stays ∙ (h i j i_below j_below).1 (elim m [
-            | inl x ↦ inl x
-            | inr (x, y, z) ↦
-              let last : j ≢ n = λ e. other (ap (λ k. k * q + j) x ∙ ap (λ k. a * q + k) e) in
-              inr (x, y, omega arith)
-          ]),
-        )
+          let stays = get_or-set_other now (a * q + n) (i * q + j) true false other in (
+            λ m. elim ((h i j i_below j_below).0 (sym stays ∙ m)) [
+              | inl x ↦ inl x
+              | inr (x, y, z) ↦ inr (x, y, omega arith)
+            ],
+            λ m. stays ∙ (h i j i_below j_below).1 (elim m [
+              | inl x ↦ inl x
+              | inr (x, y, z) ↦
+                  let last : j ≢ n = λ e. other (ap (λ k. k * q + j) x ∙ ap (λ k. a * q + k) e) in
+                  inr (x, y, omega arith)
+            ]),
+          )
     ]
 
 -- the pairs of a run
@@ -59,18 +58,18 @@ marked_run q run old new h i j i_below j_below = (
   λ m. elim ((h i j i_below j_below).0 m) [
     | inl x ↦ inl x
     | inr (x, y, z) ↦
-      let j_is = mod-eq_of_lt j_below in
-      inr (record {
-        row = sym x ∙ sym (mod-eq_of_lt i_below);
-        start = (let low : run.from ≤ j % q = omega (arith, j_is) in low);
-        stop = (let high : j % q ≤ run.to = omega (arith, j_is) in high);
-      })
+        let j_is = mod-eq_of_lt j_below in
+        inr (record {
+          row = sym x ∙ sym (mod-eq_of_lt i_below);
+          start = (let low : run.from ≤ j % q = omega (arith, j_is) in low);
+          stop = (let high : j % q ≤ run.to = omega (arith, j_is) in high);
+        })
   ],
   λ m. (h i j i_below j_below).1 (elim m [
     | inl x ↦ inl x
     | inr r ↦
-      let j_is = mod-eq_of_lt j_below in
-      inr (sym (mod-eq_of_lt i_below) ∙ sym r.row, omega (arith, j_is, r.start), omega (arith, j_is, r.stop))
+        let j_is = mod-eq_of_lt j_below in
+        inr (sym (mod-eq_of_lt i_below) ∙ sym r.row, omega (arith, j_is, r.start), omega (arith, j_is, r.stop))
   ]),
 )
 
@@ -97,9 +96,9 @@ one_run_more q n runs run old new within is h next i j i_below j_below = (
   ],
   λ (k, x, below, e, r). (next i j i_below j_below).1 (elim (eqb_tells k n) [
     | inl (_, same) ↦
-      let one : x ≡ run =
+        let one : x ≡ run =
         sym e ∙ ap (λ p. get_or runs p x) same ∙ get_or_default runs n x run within ∙ is in
-      inr (subst (Holds q i j) one r)
+        inr (subst (Holds q i j) one r)
     | inr (_, other) ↦ inl ((h i j i_below j_below).1 (k, x, (let low : k < n = omega arith in low), e, r))
   ]),
 )
@@ -125,10 +124,9 @@ unfolding IsTightIn
 tells_runs q runs n t some order all h i j =
     let at = h (i % q) (j % q) (mod-lt i some) (mod-lt j some) in
     let read : get_or t.tight.items (i % t.order * t.order + j % t.order) false ≡ get_or t.tight.items (i % q * q + j % q) false =
-      ap (λ n. get_or t.tight.items (i % n * n + j % n) false) order in
-    (
+    ap (λ n. get_or t.tight.items (i % n * n + j % n) false) order in (
       λ m.
-        let found = at.0 (sym read ∙ m) in
-        (found.0, found.1, subst (λ n. found.0 < n) all found.2, found.3, holds_rests q i j found.1 found.4),
+          let found = at.0 (sym read ∙ m) in
+          (found.0, found.1, subst (λ n. found.0 < n) all found.2, found.3, holds_rests q i j found.1 found.4),
       λ (k, x, below, is, r). read ∙ at.1 (k, x, subst (λ n. k < n) (sym all) below, is, rests_hold q i j x r),
     )

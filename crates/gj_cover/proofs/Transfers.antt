@@ -78,18 +78,18 @@ open_on q T U on lines i h = record { within = h.within; no_line = h.no_line; co
 next_on : (q : ℕ) (T U : ℕ → ℕ → Type 0) → IsWithin T U → IsWithin U T → (lines : List CoverLine) (l : CoverLine) → IsNextLine q T lines l → IsNextLine q U lines l
 next_on q T U on back lines l (inl h) = inl (record {
   interval = least_on (λ i. (j : ℕ) × JoinsLines q T lines i j) (λ i. (j : ℕ) × JoinsLines q U lines i j)
-    (λ i (j, k). (j, joins_lines_on q T U on lines i j k)) (λ i (j, k). (j, joins_lines_on q U T back lines i j k)) l.interval h.interval;
+      (λ i (j, k). (j, joins_lines_on q T U on lines i j k)) (λ i (j, k). (j, joins_lines_on q U T back lines i j k)) l.interval h.interval;
   from = least_on (JoinsLines q T lines l.interval) (JoinsLines q U lines l.interval)
-    (joins_lines_on q T U on lines l.interval) (joins_lines_on q U T back lines l.interval) l.from h.from;
+      (joins_lines_on q T U on lines l.interval) (joins_lines_on q U T back lines l.interval) l.from h.from;
   face = first_face_on q (λ kind a b. Joins q T kind a b l.interval l.from) (λ kind a b. Joins q U kind a b l.interval l.from)
-    (λ kind a b. joins_on q T U on kind a b l.interval l.from) (λ kind a b. joins_on q U T back kind a b l.interval l.from) l.face h.face;
+      (λ kind a b. joins_on q T U on kind a b l.interval l.from) (λ kind a b. joins_on q U T back kind a b l.interval l.from) l.face h.face;
 })
 next_on q T U on back lines l (inr h) = inr (record {
   none_joins = λ i j k. h.none_joins i j (joins_lines_on q U T back lines i j k);
   interval = least_on (IsOpen q T lines) (IsOpen q U lines) (open_on q T U on lines) (open_on q U T back lines) l.interval h.interval;
   from = h.from;
   face = first_face_on q (λ kind a b. Covers q T kind a b l.interval) (λ kind a b. Covers q U kind a b l.interval)
-    (λ kind a b. covers_on q T U on kind a b l.interval) (λ kind a b. covers_on q U T back kind a b l.interval) l.face h.face;
+      (λ kind a b. covers_on q T U on kind a b l.interval) (λ kind a b. covers_on q U T back kind a b l.interval) l.face h.face;
 })
 
 -- ---- the cover
@@ -108,20 +108,20 @@ cover_on q T U cover on back h = record {
     length = h.component.length;
     numbers = h.component.numbers;
     uncovered = λ i below. both (h.component.uncovered i below)
-      (λ not covered. not (covered_on q U T back i covered)) (λ not covered. not (covered_on q T U on i covered));
+        (λ not covered. not (covered_on q U T back i covered)) (λ not covered. not (covered_on q T U on i covered));
     same = λ i j i_below j_below. both (h.component.same i j i_below j_below)
-      (λ (x, y, z). (covered_on q T U on i x, covered_on q T U on j y, leads_on q T U on j i z))
-      (λ (x, y, z). (covered_on q U T back i x, covered_on q U T back j y, leads_on q U T back j i z));
+        (λ (x, y, z). (covered_on q T U on i x, covered_on q T U on j y, leads_on q T U on j i z))
+        (λ (x, y, z). (covered_on q U T back i x, covered_on q U T back j y, leads_on q U T back j i z));
     below = h.component.below;
   };
   «class» = record {
     ascending = h.class.ascending;
     members = λ least first i. both
-      (h.class.members least (least_on (λ n. (n < q) × (IsCovered q U n → ⊥)) (λ n. (n < q) × (IsCovered q T n → ⊥))
+        (h.class.members least (least_on (λ n. (n < q) × (IsCovered q U n → ⊥)) (λ n. (n < q) × (IsCovered q T n → ⊥))
         (λ n (below, not). (below, λ covered. not (covered_on q T U on n covered)))
         (λ n (below, not). (below, λ covered. not (covered_on q U T back n covered))) least first) i)
-      (λ (below, list). (below, leads_on q T U on i least list))
-      (λ (below, list). (below, leads_on q U T back i least list));
+        (λ (below, list). (below, leads_on q T U on i least list))
+        (λ (below, list). (below, leads_on q U T back i least list));
     none = both h.class.none (λ all i below. covered_on q T U on i (all i below)) (λ all i below. covered_on q U T back i (all i below));
   };
 }

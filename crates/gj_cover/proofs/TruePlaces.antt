@@ -46,9 +46,9 @@ places_ascend xs n = IsStrictlyIncreasing-filter (true_at xs) (range_with_len 0 
 places_have : (xs : List Bool) (n i : ℕ) → i < n → true_at xs i ≡ true → Contains (places xs n) i
 places_have xs n i below e =
     let split = ap (filter (true_at xs)) (range_at i n below)
-      ∙ filter-append (true_at xs) (range_with_len 0 i) (i ∷ range_with_len (i + 1) (n - suc i)) in
+    ∙ filter-append (true_at xs) (range_with_len 0 i) (i ∷ range_with_len (i + 1) (n - suc i)) in
     let one : filter (true_at xs) (i ∷ range_with_len (i + 1) (n - suc i)) ≡ i ∷ filter (true_at xs) (range_with_len (i + 1) (n - suc i)) =
-      ap (λ b. cond b (i ∷ filter (true_at xs) (range_with_len (i + 1) (n - suc i))) (filter (true_at xs) (range_with_len (i + 1) (n - suc i)))) e in
+    ap (λ b. cond b (i ∷ filter (true_at xs) (range_with_len (i + 1) (n - suc i))) (filter (true_at xs) (range_with_len (i + 1) (n - suc i)))) e in
     subst (λ l. Contains l i) (sym (split ∙ ap (λ l. places xs i ++ l) one))
     (Contains-append_right (places xs i) (i ∷ filter (true_at xs) (range_with_len (i + 1) (n - suc i))) i
     (0, omega arith, refl))

@@ -15,7 +15,7 @@ loop-second-preserved c =
     let low : run.from ≤ n = omega arith in (
       length-set c.loop-second.tight.items (run.a * q + n) true ∙ c.loop-second.invariant.0,
       marked_more q run.a run.from n c.args.tight.now.items c.loop-second.tight.items c.requires.run.row below low
-      c.loop-second.invariant.0 c.loop-second.invariant.1,
+          c.loop-second.invariant.0 c.loop-second.invariant.1,
     )
 
 pub returns-clause-marked : goal.returns-clause-marked

@@ -11,7 +11,7 @@ loop-run-init c =
     let items = c.in_ok-tight.ensures.items_if_clones_equal (λ y e. e) in (
       ap (λ l. length l) items ∙ length-replicate {A = Bool} (c.args.q * c.args.q) false,
       no_runs c.args.q c.args.runs.now c.in_ok-tight.tight.items
-      (λ p. ap (λ l. get_or l p false) items ∙ false_at (c.args.q * c.args.q) p),
+          (λ p. ap (λ l. get_or l p false) items ∙ false_at (c.args.q * c.args.q) p),
     )
 
 pub loop-run-preserved : goal.loop-run-preserved
@@ -21,7 +21,7 @@ loop-run-preserved c =
     let run = get_or c.args.runs.now n zero in (
       c.mark.ensures.length,
       one_run_more c.args.q n c.args.runs.now run c.loop-run.tight.items c.mark.new.tight.items c.loop-run-test.true
-      (get_or_default c.args.runs.now n run zero c.loop-run-test.true) c.loop-run.invariant.1 c.mark.ensures.marked,
+          (get_or_default c.args.runs.now n run zero c.loop-run-test.true) c.loop-run.invariant.1 c.mark.ensures.marked,
     )
 
 pub returns-clause-tells : goal.returns-clause-tells
