@@ -1,0 +1,17 @@
+use Rattle.std.proofs.Common.{refl}
+use Rattle.gj_cover.proofs.Pending.{begun}
+use Rattle.gj_cover.specs.declared.progress.Progress.{Progress}
+use Rattle.gj_cover.specs.Table.{IsTightIn}
+use Rattle.gj_cover.proofs.progress.Progress.new.Goals as goal
+
+pub returns : goal.returns
+returns c =
+    let p : Progress = record {
+      component = c.in_ok-no_numbers.field-0;
+      joined_to = c.in_ok-no_numbers-2.field-0;
+      lines = c.new.result;
+      count = 0;
+      searched = 0;
+    } in
+    begun c.args.table.now.order c.order-order.result (IsTightIn c.args.table.now) p c.order-order.ensures.value
+    c.in_ok-no_numbers.ensures c.in_ok-no_numbers-2.ensures c.new.ensures.items refl refl

@@ -1,0 +1,37 @@
+-- The first face in walk order among those of some squares (own).
+use Rattle.std.specs.Prelude.{ℕ, ◌≡◌, ◌⊎◌, ◌<◌, ◌≤◌, ◌&&◌, ◌||◌, ◌==◌, nat_lt, if◌then◌else◌, Option, Some, None, MatchOption}
+use Rattle.gj_shape.specs.declared.faces.Face.{Face}
+use Rattle.gj_shape.specs.declared.faces.FaceKind.{FaceKind}
+use Rattle.gj_shape.specs.declared.faces.FaceKind.TheVariants.{Vertex, Horizontal, Vertical, Diagonal, Lower, Upper}
+
+-- the place of a kind among the faces of one square
+abbrev pub rank : FaceKind → ℕ
+rank Vertex = 0
+rank Horizontal = 1
+rank Vertical = 2
+rank Diagonal = 3
+rank Lower = 4
+rank Upper = 5
+
+-- the face of this kind of the square (a, b) is not before the other in walk order
+abbrev pub IsNotBefore : Face → FaceKind → ℕ → ℕ → Type 0
+IsNotBefore face kind a b =
+    (face.a < a) ⊎ ((face.a ≡ a) × ((face.b < b) ⊎ ((face.b ≡ b) × (rank face.kind ≤ rank kind))))
+
+-- the face is one of these squares and has the property, and none of these squares that has it is before it
+pub record IsFirstOf (Square : ℕ → ℕ → Type 0) (P : FaceKind → ℕ → ℕ → Type 0) (face : Face) : Type 0 where
+  pub square : Square face.a face.b
+  pub holds : P face.kind face.a face.b
+  pub first : (kind : FaceKind) (a b : ℕ) → Square a b → P kind a b → IsNotBefore face kind a b
+
+-- no face of these squares has the property
+abbrev pub HasNone : (ℕ → ℕ → Type 0) → (FaceKind → ℕ → ℕ → Type 0) → Type 0
+HasNone Square P = (kind : FaceKind) (a b : ℕ) → Square a b → P kind a b → ⊥
+
+-- the first such face, or None where there is none
+abbrev pub FindsFirst : (ℕ → ℕ → Type 0) → (FaceKind → ℕ → ℕ → Type 0) → Option Face → Type 0
+FindsFirst Square P found = MatchOption found (HasNone Square P) (IsFirstOf Square P)
+
+-- the first square comes before the second in walk order
+abbrev pub IsEarlier : Face → Face → Type 0
+IsEarlier f g = (f.a < g.a) ⊎ ((f.a ≡ g.a) × (f.b < g.b))

@@ -1,0 +1,6 @@
+pub mod CoverOf
+pub mod Table
+pub mod FirstFound
+pub mod Links
+pub mod Progress
+pub mod Reached

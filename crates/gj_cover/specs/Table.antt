@@ -1,0 +1,25 @@
+-- Tight pairs as a table (own).
+use Rattle.std.specs.Prelude.{ℕ, ◌↔◌, ◌+◌, ◌*◌, ◌%◌, false, IsTrue, slice_index_or}
+use Rattle.gj_shape.specs.Cover.{Joins, Covers, AreJoined}
+use Rattle.gj_shape.specs.declared.faces.FaceKind.{FaceKind}
+use Rattle.gj_cover.specs.declared.table.Table.{Table}
+
+-- the pair is tight by the table, indices modulo the order
+unfoldable pub IsTightIn : Table → ℕ → ℕ → Type 0
+IsTightIn t i j = IsTrue (slice_index_or t.tight.items (i % t.order * t.order + j % t.order) false)
+
+-- the pairs of the relation are those that are tight by the table
+abbrev pub TellsTight : Table → (ℕ → ℕ → Type 0) → Type 0
+TellsTight t Tight = (i j : ℕ) → IsTightIn t i j ↔ Tight i j
+
+-- the face is additive by the table and joins the intervals i and j
+abbrev pub JoinsBy : Table → ℕ → ℕ → FaceKind → ℕ → ℕ → Type 0
+JoinsBy t i j kind a b = Joins t.order (IsTightIn t) kind a b i j
+
+-- some face is and does so
+abbrev pub AreJoinedBy : Table → ℕ → ℕ → Type 0
+AreJoinedBy t i j = AreJoined t.order (IsTightIn t) i j
+
+-- the face is an additive triangle by the table and projects on the interval i
+abbrev pub CoversBy : Table → ℕ → FaceKind → ℕ → ℕ → Type 0
+CoversBy t i kind a b = Covers t.order (IsTightIn t) kind a b i

@@ -1,0 +1,87 @@
+//! The first face in walk order that joins two intervals or covers one.
+ghost use Rattle.std.specs.Prelude.{◌≡◌, ◌≢◌, ◌⊎◌, ◌+◌, ◌%◌, ◌<◌, ◌^◌, IfSome, IfNone, MatchOption};
+ghost use Rattle.gj_shape.specs.Cover.{IsFirstFace, IsDirectlyCovered};
+ghost use Rattle.gj_cover.specs.Table.{IsTightIn, JoinsBy, AreJoinedBy, CoversBy};
+ghost use Rattle.gj_cover.specs.FirstFound.{FindsFirst, IsEarlier};
+ghost use Rattle.gj_cover.specs.Links.{IsSquareFrom};
+
+use crate::squares::{covering_in_square, joining_in_square};
+use crate::table::Table;
+use gj_shape::Face;
+
+/// The first face in walk order that joins two different intervals.
+pub(crate) fn first_joining(table: &Table, i: u32, j: u32) -> Option<Face>
+    requires first { i < table.now.order }
+    requires second { j < table.now.order }
+    requires different { i ≢ j }
+    ensures found { IfSome result (IsFirstFace table.now.order (JoinsBy table.now i j)) }
+    ensures none { IfNone result (AreJoinedBy table.now i j → ⊥) }
+{
+    earlier(
+        joining_from(table, i, j, i, j),
+        joining_from(table, j, i, i, j),
+    )
+}
+
+/// The first face that joins the intervals i and j in the squares in which `to` stands behind `from`.
+fn joining_from(table: &Table, from: u32, to: u32, i: u32, j: u32) -> Option<Face>
+    requires start { from < table.now.order }
+    requires end { to < table.now.order }
+    requires first { i < table.now.order }
+    requires second { j < table.now.order }
+    ensures { FindsFirst (IsSquareFrom table.now.order from to) (JoinsBy table.now i j) result }
+{
+    let q = table.order();
+    let step = difference(to, from, q);
+    let short = difference(step, 1, q);
+    let found = joining_in_square(table, from, to, i, j);
+    let found = earlier(found, joining_in_square(table, from, step, i, j));
+    let found = earlier(found, joining_in_square(table, from, short, i, j));
+    let found = earlier(found, joining_in_square(table, step, from, i, j));
+    earlier(found, joining_in_square(table, short, from, i, j))
+}
+
+/// The first triangle in walk order that covers the interval.
+pub(crate) fn first_covering(table: &Table, i: u32) -> Option<Face>
+    requires { i < table.now.order }
+    ensures found { IfSome result (IsFirstFace table.now.order (CoversBy table.now i)) }
+    ensures none { IfNone result (IsDirectlyCovered table.now.order (IsTightIn table.now) i → ⊥) }
+{
+    let q = table.order();
+    let mut found = None;
+    for k in 0..q {
+        let step = difference(i, k, q);
+        let short = difference(step, 1, q);
+        found = earlier(found, covering_in_square(table, i, k, i));
+        found = earlier(found, covering_in_square(table, k, i, i));
+        found = earlier(found, covering_in_square(table, k, step, i));
+        found = earlier(found, covering_in_square(table, k, short, i));
+    }
+    found
+}
+
+/// The first of two faces in walk order, where two of one square are one face; a face is before None.
+fn earlier(first: Option<Face>, second: Option<Face>) -> Option<Face>
+    ensures { MatchOption first (result ≡ second) (λ f. MatchOption second (result ≡ first)
+        (λ g. ((result ≡ first) × (IsEarlier g f → ⊥)) ⊎ ((result ≡ second) × IsEarlier g f))) }
+{
+    let (Some(f), Some(g)) = (first, second) else {
+        return first.or(second);
+    };
+    if g.a < f.a || g.a == f.a && g.b < f.b {
+        second
+    } else {
+        first
+    }
+}
+
+/// The index that is reached from the second index by the first, modulo q: the difference.
+pub(crate) fn difference(to: u32, from: u32, q: u32) -> u32
+    requires few { q < 2 ^ 30 }
+    requires end { to < q }
+    requires start { from < q }
+    ensures below { result < q }
+    ensures value { (from + result) % q ≡ to }
+{
+    if from <= to { to - from } else { to + q - from }
+}
