@@ -54,7 +54,7 @@ fn is_in_runs(runs: &[Run], q: u32, i: u32, j: u32) -> bool
 }
 
 /// The index modulo the order, where it is below twice the order.
-pub(crate) fn wrapped(index: u32, order: u32) -> u32
+fn wrapped(index: u32, order: u32) -> u32
     requires { index < 2 * order }
     ensures value { result ≡ index % order }
     ensures below { result < order }
