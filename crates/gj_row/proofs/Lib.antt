@@ -1,0 +1,3 @@
+pub mod CsvRecords
+pub mod Lists
+pub mod SpelledNumbers

@@ -1,8 +1,9 @@
 -- What the steps of the reader answer (own).
-use Rattle.std.specs.Prelude.{ℕ, ◌≡◌, ◌≢◌, ◌+◌, ◌<◌, ◌≤◌, ◌^◌, pos, List, ◌∷◌, Option, Some, None, length, map, unsigned_abs, Vec}
+use Rattle.std.specs.Prelude.{ℕ, ◌≡◌, ◌≢◌, ◌+◌, ◌<◌, ◌≤◌, ◌^◌, pos, List, [], ◌∷◌, ◌++◌, Option, Some, None, length, map, unsigned_abs, Vec}
 use Rattle.std.specs.Int.{◌∣◌}
-use Rattle.csv.specs.Reading.{Reached, Ready, default_config, source_of, strip_bom, owned_rows_reader, owned_rows_left, reader_trim, reader_config, reader_state}
-use Rattle.csv.specs.Records.{Row as Fields, fields_of}
+use Rattle.std.specs.Borrow.{Bor}
+use Rattle.csv.specs.Reading.{records, Reached, Ready, default_config, source_of, strip_bom, owned_rows_reader, owned_rows_left, reader_trim, reader_config, reader_state}
+use Rattle.csv.specs.Records.{Row as FieldRow, fields_of}
 use Rattle.csv.specs.declared.iter.ByteRecordsIntoIter.{ByteRecordsIntoIter}
 use Rattle.csv.specs.declared.parser.State.TheVariants as state
 use Rattle.csv.specs.declared.reader.Trim.TheVariants as trim
@@ -47,7 +48,7 @@ fault_in_record (record_fault.Memory a) n = row_fault.Memory a
 -- ---- records
 
 -- the words in the fields of a record
-abbrev pub words_in : Fields → List (List ℕ)
+abbrev pub words_in : FieldRow → List (List ℕ)
 words_in fields = map word_of (fields_of fields)
 
 -- ---- numbers
@@ -118,7 +119,7 @@ pub record HasRead (used : ℕ) (words : List (List ℕ)) (right : Frac) (scale 
 -- ---- names
 
 -- the bytes of each name
-abbrev pub bytes_of : List (Vec ℕ) → List (List ℕ)
+abbrev pub bytes_of : {A : Type 0} → List (Vec ℕ A) → List (List ℕ)
 bytes_of names = map (λ name. name.items) names
 
 -- ---- rows
@@ -131,9 +132,26 @@ pub record ReadsRow (columns used : ℕ) (words : List (List ℕ)) (row : Row) :
 
 -- ---- the records of a text
 
+-- the bytes that are left of a text in memory
+abbrev pub bytes_left : Bor (List ℕ) → Option (List ℕ)
+bytes_left s = Some s.now
+
 -- the next record of the iterator is the one behind these records of the text
-abbrev pub StandsBehind : {R : Type 0} → (R → Option (List ℕ)) → List ℕ → List (List (List ℕ)) → ByteRecordsIntoIter R → Type 0
-StandsBehind remaining text before it = (reader_trim (owned_rows_reader it) ≡ trim.None) × Ready (owned_rows_reader it) × (0 < owned_rows_left it)
-    × (reader_config (owned_rows_reader it) ≡ default_config)
-    × (rest : List ℕ) × (source_of remaining (owned_rows_reader it) ≡ Some rest)
-    × Reached default_config state.StartRecord (strip_bom text) before (reader_state (owned_rows_reader it)) rest
+pub record StandsBehind (text : List ℕ) (before : List (List (List ℕ))) (it : ByteRecordsIntoIter (Bor (List ℕ))) : Type 0 where
+  pub no_trim : reader_trim (owned_rows_reader it) ≡ trim.None
+  pub ready : Ready (owned_rows_reader it)
+  pub left : 0 < owned_rows_left it
+  pub config : reader_config (owned_rows_reader it) ≡ default_config
+  pub rest : List ℕ
+  pub source : source_of bytes_left (owned_rows_reader it) ≡ Some rest
+  pub reached : Reached default_config state.StartRecord (strip_bom text) before (reader_state (owned_rows_reader it)) rest
+
+-- the step gave the record that is the next one
+abbrev pub StepsOver : ByteRecordsIntoIter (Bor (List ℕ)) → FieldRow → ByteRecordsIntoIter (Bor (List ℕ)) → Type 0
+StepsOver old fields new =
+    (text : List ℕ) (before : List (List (List ℕ))) → StandsBehind text before old → StandsBehind text (before ++ fields_of fields ∷ []) new
+
+-- there is no next record
+abbrev pub IsAtEnd : ByteRecordsIntoIter (Bor (List ℕ)) → Type 0
+IsAtEnd it = (text : List ℕ) (before : List (List (List ℕ))) → StandsBehind text before it →
+    records default_config (strip_bom text) ≡ before

@@ -1,5 +1,6 @@
 //! The words in the fields of a record.
-ghost use Rattle.std.specs.Prelude.{◌≡◌, ◌<◌, ◌∷◌, Some, IfOk, IfErr, IfSome, IfNone, OnOk, List, ℕ, length, map, reverse, slice_get, not};
+ghost use Rattle.std.specs.Prelude.{◌≡◌, ◌<◌, Some, length, reverse, slice_get, not};
+ghost use Rattle.std.specs.List.{position};
 
 ghost use Rattle.csv.specs.Records.{fields_of};
 ghost use Rattle.gj_lex.specs.Words.{is_blank};
@@ -30,25 +31,31 @@ fn word_of(field: &[u8]) -> &[u8]
 fn without_blanks_before(field: &[u8]) -> &[u8]
     ensures { result.now ≡ without_blanks_before field.now }
 {
-    match field.iter().position(|byte| !is_blank(*byte)) {
-        Some(place) => &field[place..],
-        None => &field[field.len()..],
-    }
+    &field[first_visible(field).unwrap_or(field.len())..]
 }
 
 /// Up to the last byte that is no space or tab.
 fn without_blanks_behind(field: &[u8]) -> &[u8]
     ensures { result.now ≡ reverse (without_blanks_before (reverse field.now)) }
 {
-    match field.iter().rev().position(|byte| !is_blank(*byte)) {
-        Some(blanks) => &field[..field.len() - blanks],
-        None => &field[..0],
-    }
+    &field[..field.len() - last_visible(field).unwrap_or(field.len())]
 }
 
-/// Whether the byte is a space or a tab.
-fn is_blank(byte: u8) -> bool
-    ensures { result ≡ is_blank byte }
+/// How many bytes stand before the first that is no space or tab.
+fn first_visible(field: &[u8]) -> Option<usize>
+    ensures { result ≡ position (λ b. not (is_blank b)) field.now }
 {
-    byte == b' ' || byte == b'\t'
+    field
+        .iter()
+        .position(|byte| !matches!(*byte, b' ' | b'\t'))
+}
+
+/// How many bytes stand behind the last that is no space or tab.
+fn last_visible(field: &[u8]) -> Option<usize>
+    ensures { result ≡ position (λ b. not (is_blank b)) (reverse field.now) }
+{
+    field
+        .iter()
+        .rev()
+        .position(|byte| !matches!(*byte, b' ' | b'\t'))
 }

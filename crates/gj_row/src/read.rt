@@ -1,13 +1,11 @@
 //! Tableaux, read.
-ghost use Rattle.std.specs.Prelude.{◌≡◌, ◌<◌, ◌≤◌, ◌+◌, ◌++◌, ◌∷◌, [], ℕ, List, Some, IfOk, IfErr, IfNone, IfSome, OnOk, MatchResult, MatchOption, length, map};
-ghost use Rattle.csv.specs.Reading.{default_config, records, strip_bom, owned_rows_left};
-ghost use Rattle.csv.specs.Records.{fields_of};
+ghost use Rattle.std.specs.Prelude.{◌≡◌, ◌<◌, ◌≤◌, ◌++◌, ◌∷◌, [], IfOk, IfErr, IfNone, IfSome, OnOk, MatchResult, length};
+ghost use Rattle.csv.specs.Reading.{owned_rows_left};
 ghost use Rattle.gj_row.specs.TableauLimits.{IsTableau, names_of, entry_count};
 ghost use Rattle.gj_row.specs.TableauText.{IsTableauText};
 ghost use Rattle.gj_row.specs.FirstFault.{HasRowFault, IsFirstFault, IsNewName};
-ghost use Rattle.gj_row.specs.Reading.{IsMemoryFault, NamesRecord, NamesReason, ReadsRow, StandsBehind, bytes_of, words_in};
+ghost use Rattle.gj_row.specs.Reading.{IsMemoryFault, NamesRecord, NamesReason, ReadsRow, StandsBehind, StepsOver, IsAtEnd, bytes_of, words_in};
 ghost use Rattle.gj_row.specs.declared.tableau.Tableau.{Tableau};
-ghost use Rattle.std.specs.Borrow.{Bor};
 
 use crate::faults::{RecordFault, RowFault, RowReason};
 use crate::fields::word_at;
@@ -92,7 +90,7 @@ fn tableau_in(alloc: Global, bytes: &[u8]) -> Result<Tableau, RowFault>
 
 /// The records of the text.
 fn records_of(alloc: Global, bytes: &[u8]) -> ByteRecordsIntoIter<&[u8]>
-    ensures { StandsBehind (λ (s : Bor (List ℕ)). Some s.now) bytes.now [] result }
+    ensures { StandsBehind bytes.now [] result }
 {
     ReaderBuilder::new()
         .has_headers(false)
@@ -106,11 +104,8 @@ fn records_of(alloc: Global, bytes: &[u8]) -> ByteRecordsIntoIter<&[u8]>
 /// The contract of `csv` leaves open that reading from memory fails as reading from a file may; such a failure, which never comes,
 /// is answered as want of memory.
 fn next_record(left: &mut ByteRecordsIntoIter<&[u8]>) -> Result<Option<ByteRecord>, AllocError>
-    ensures some { IfOk result (λ next. IfSome next (λ fields. (text : List ℕ) (before : List (List (List ℕ))) →
-        StandsBehind (λ (s : Bor (List ℕ)). Some s.now) text before left.old →
-        StandsBehind (λ (s : Bor (List ℕ)). Some s.now) text (before ++ fields_of fields ∷ []) left.new)) }
-    ensures end { IfOk result (λ next. IfNone next ((text : List ℕ) (before : List (List (List ℕ))) →
-        StandsBehind (λ (s : Bor (List ℕ)). Some s.now) text before left.old → records default_config (strip_bom text) ≡ before)) }
+    ensures some { IfOk result (λ next. IfSome next (λ fields. StepsOver left.old fields left.new)) }
+    ensures end { IfOk result (λ next. IfNone next (IsAtEnd left.old)) }
     ensures fewer { IfOk result (λ next. IfSome next (λ fields. owned_rows_left left.new < owned_rows_left left.old)) }
 {
     match left.next() {

@@ -1,0 +1,1 @@
+use Rattle.gj_row.proofs.header.new_name.Goals as goal
