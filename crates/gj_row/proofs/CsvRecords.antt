@@ -1,7 +1,7 @@
 -- The records that `csv` reads one after the other are the records of the text.
-use Rattle.std.proofs.Common.{◌≡◌, ℕ, ◌+◌, ◌-◌, ◌<◌, ◌≤◌, zero, suc, ◌⊎◌, Bool, true, false, if◌then◌else◌, List, [], ◌∷◌, ◌++◌, length, Option, Some, None, refl, sym, ap, ◌∙◌, subst, inl, inr, arith}
+use Rattle.std.proofs.Common.{◌≡◌, ℕ, ◌+◌, ◌-◌, ◌<◌, ◌≤◌, zero, suc, ◌==◌, ◌⊎◌, Bool, true, false, if◌then◌else◌, List, [], ◌∷◌, ◌++◌, length, Option, Some, None, refl, sym, ap, ◌∙◌, subst, inl, inr, arith}
 use Rattle.std.proofs.lemmas.List.{append-nil}
-use Rattle.csv.specs.Machine.{Read, step, in_field, is_end, ends_at_end, next_record}
+use Rattle.csv.specs.Machine.{Read, step, in_field, start_field, start_record, is_end, ends_at_end, next_record}
 use Rattle.csv.specs.Reading.{Reached, records, records_from, records_next, default_config}
 use Rattle.csv.specs.declared.parser.Action.{Action}
 use Rattle.csv.specs.declared.parser.Action.TheVariants as act
@@ -18,8 +18,8 @@ same_some x y e = ap (value_or x) e
 -- ---- a record takes at least a byte
 
 -- the state of a pair, where its action ends a record, is that before the first byte of a record
-abbrev IsDone : State × Action → Type 0
-IsDone p = is_end p.1 ≡ true → ends_at_end p.0 ≡ false
+record IsDone (p : State × Action) : Type 0 where
+  start : is_end p.1 ≡ true → ends_at_end p.0 ≡ false
 
 done_between : (b : Bool) (p q : State × Action) → IsDone p → IsDone q → IsDone (if b then p else q)
 done_between true p q h k = h
@@ -29,22 +29,32 @@ done_state : (b : Bool) → ends_at_end (if b then st.AfterCr else st.StartRecor
 done_state true = refl
 done_state false = refl
 
-done_in_field : (c : ℕ) → IsDone (in_field default_config c)
-done_in_field c = done_between _ _ _ (λ e. cc e) (done_between _ _ _ (λ e. done_state _) (λ e. cc e))
+goes_on : (s : State) (a : Action) → is_end a ≡ false → IsDone (s, a)
+goes_on s a e = record { start = λ h. cc }
 
-done_in_record : (c : ℕ) → IsDone (step default_config st.StartRecord c)
+done_in_field : (c : ℕ) → IsDone (in_field default_config c)
+done_in_field c =
+    done_between _ _ _ (goes_on st.StartField act.EndField refl)
+    (done_between _ _ _ (record { start = λ e. done_state (c == 13) }) (goes_on st.InField act.Copy refl))
+
+done_at_start : (c : ℕ) → IsDone (start_field default_config c)
+done_at_start c = done_between _ _ _ (goes_on st.InQuoted act.Skip refl) (done_in_field c)
+
+done_in_record : (c : ℕ) → IsDone (start_record default_config c)
 done_in_record c =
-    done_between _ _ _ (λ e. cc e) (done_between _ _ _ (λ e. cc e) (done_between _ _ _ (λ e. cc e) (done_in_field c)))
+    done_between _ _ _ (goes_on st.StartRecord act.Skip refl) (done_at_start c)
 
 done : (s : State) (c : ℕ) → IsDone (step default_config s c)
 done st.StartRecord c = done_in_record c
-done st.StartField c = done_between _ _ _ (λ e. cc e) (done_in_field c)
+done st.StartField c = done_at_start c
 done st.InField c = done_in_field c
-done st.InQuoted c = done_between _ _ _ (λ e. cc e) (done_between _ _ _ (λ e. cc e) (λ e. cc e))
-done st.InEscape c = λ e. cc e
-done st.AfterQuote c = done_between _ _ _ (λ e. cc e) (done_in_field c)
-done st.InComment c = done_between _ _ _ (λ e. cc e) (λ e. cc e)
-done st.AfterCr c = done_between _ _ _ (λ e. cc e) (done_in_record c)
+done st.InQuoted c =
+    done_between _ _ _ (goes_on st.AfterQuote act.Skip refl) (goes_on st.InQuoted act.Copy refl)
+done st.InEscape c = goes_on st.InQuoted act.Copy refl
+done st.AfterQuote c = done_between _ _ _ (goes_on st.InQuoted act.Copy refl) (done_in_field c)
+done st.InComment c =
+    done_between _ _ _ (goes_on st.StartRecord act.Skip refl) (goes_on st.InComment act.Skip refl)
+done st.AfterCr c = done_between _ _ _ (goes_on st.StartRecord act.Skip refl) (done_in_record c)
 
 at_end : (b : Bool) (r q : Read) → (if b then Some r else None) ≡ Some q → (b ≡ true) × (r ≡ q)
 at_end true r q e = (refl, same_some r q e)
@@ -67,7 +77,7 @@ leaves s f p [] q e =
     subst (Leaves 0) end.1 (record { rest = omega arith; state = refl })
 leaves s f p (c ∷ xs) q e =
     elim (at_byte (is_end (step default_config s c).1) _ q _ e) [
-      | inl end ↦ subst (Leaves (suc (length xs))) end.1 (record { rest = omega arith; state = done s c end.0 })
+      | inl end ↦ subst (Leaves (suc (length xs))) end.1 (record { rest = omega arith; state = (done s c).start end.0 })
       | inr more ↦
           let h = leaves (step default_config s c).0 _ _ xs q more in
           record { rest = omega (arith, h.rest); state = h.state }

@@ -1,10 +1,10 @@
 -- What words spell as numbers, and what stops a row.
-use Rattle.std.proofs.Common.{◌≡◌, ℕ, ◌==◌, false, List, [], length, Option, Some, None, Result, Ok, Err, IfSome, IfNone, IfErr, sym, ap, subst, ◌∙◌, inl, inr, arith}
+use Rattle.std.proofs.Common.{◌≡◌, ℕ, ◌==◌, true, false, List, [], ◌∷◌, refl, length, Option, Some, None, Result, Ok, Err, IfSome, IfNone, IfErr, sym, ap, subst, ◌∙◌, inl, inr, arith}
 use Rattle.std.proofs.lemmas.Bool.Decides.{nat_tests}
 use Rattle.gj_frac.specs.declared.Frac.{Frac}
 use Rattle.gj_lex.specs.SpelledNumbers.{IsFractionWord}
 use Rattle.gj_lex.specs.declared.spelling.Spelling.TheVariants.{Lenient}
-use Rattle.gj_row.specs.TableauText.{SpellsEntry}
+use Rattle.gj_row.specs.TableauText.{SpellsEntry, is_zero, entry_at}
 use Rattle.gj_row.specs.Reading.{StopsAt, StopsNumber}
 use Rattle.gj_row.specs.declared.faults.RowReason.{RowReason}
 use Rattle.gj_row.specs.declared.faults.RowReason.TheVariants.{Header, Fields, Columns, Rows, Name, Twice, Number, Large, Fine, Entries}
@@ -52,3 +52,11 @@ pub stops_number : (P : Frac → Type 0) (scale : ℕ) (o : Option Frac) (r : Re
     IfNone o ((x : Frac) → P x → ⊥) → IfErr r (StopsAt scale o) → IfErr r (StopsNumber P scale)
 stops_number P scale o (Ok x) found none h = tt
 stops_number P scale o (Err e) found none h = stops_by P scale o e found none h
+
+-- ---- entries that are not 0
+
+pub entry_none : (column : ℕ) (x : Frac) → is_zero x ≡ true → entry_at column x ≡ []
+entry_none column x e = rw e refl
+
+pub entry_one : (column : ℕ) (x : Frac) → is_zero x ≡ false → entry_at column x ≡ record { column = column; value = x } ∷ []
+entry_one column x e = rw e refl

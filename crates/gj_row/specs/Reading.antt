@@ -1,5 +1,5 @@
 -- What the steps of the reader answer (own).
-use Rattle.std.specs.Prelude.{ℕ, ◌≡◌, ◌≢◌, ◌+◌, ◌<◌, ◌≤◌, ◌^◌, pos, List, [], ◌∷◌, ◌++◌, Option, Some, None, length, map, unsigned_abs, Vec}
+use Rattle.std.specs.Prelude.{ℕ, ◌≡◌, ◌+◌, ◌<◌, ◌≤◌, ◌^◌, false, List, [], ◌∷◌, ◌++◌, Option, Some, None, length, map, unsigned_abs, Vec}
 use Rattle.std.specs.Int.{◌∣◌}
 use Rattle.std.specs.Borrow.{Bor}
 use Rattle.csv.specs.Reading.{records, Reached, Ready, default_config, source_of, strip_bom, owned_rows_reader, owned_rows_left, reader_trim, reader_config, reader_state}
@@ -8,11 +8,11 @@ use Rattle.csv.specs.declared.iter.ByteRecordsIntoIter.{ByteRecordsIntoIter}
 use Rattle.csv.specs.declared.parser.State.TheVariants as state
 use Rattle.csv.specs.declared.reader.Trim.TheVariants as trim
 use Rattle.gj_frac.specs.declared.Frac.{Frac}
-use Rattle.gj_frac.specs.Fraction.{numerator, denominator}
+use Rattle.gj_frac.specs.Fraction.{denominator}
 use Rattle.gj_shape.specs.Given.{IsCommonDenominator}
 use Rattle.gj_tools.specs.Divisors.{IsLcm}
 use Rattle.gj_row.specs.TableauLimits.{IsSmall, IsWithinLimits}
-use Rattle.gj_row.specs.TableauText.{word_of, SpellsRow, entries_from}
+use Rattle.gj_row.specs.TableauText.{word_of, is_zero, SpellsRow, entries_from}
 use Rattle.gj_row.specs.FirstFault.{BeginRow}
 use Rattle.gj_row.specs.declared.tableau.Entry.{Entry}
 use Rattle.gj_row.specs.declared.tableau.Row.{Row}
@@ -91,7 +91,7 @@ StopsNumber P scale Entries = ⊥
 
 -- x is the first entry too many
 abbrev pub IsOneTooMany : (Frac → Type 0) → ℕ → ℕ → Type 0
-IsOneTooMany P scale count = (x : Frac) × (m : ℕ) × P x × Extends scale x m × (numerator x ≢ pos 0) × (100000 ≤ count)
+IsOneTooMany P scale count = (x : Frac) × (m : ℕ) × P x × Extends scale x m × (is_zero x ≡ false) × (100000 ≤ count)
 
 -- why a word cannot follow as an entry, behind so many entries that are not 0
 abbrev pub StopsEntry : (Frac → Type 0) → ℕ → ℕ → RowReason → Type 0

@@ -1,5 +1,5 @@
 -- Which text of comma-separated values spells which tableau (own).
-use Rattle.std.specs.Prelude.{ℕ, pos, ◌≡◌, ◌⊎◌, ◌+◌, ◌==◌, Bool, not, List, [], ◌∷◌, drop, length, map, reverse, codes, if◌then◌else◌, unsigned_abs}
+use Rattle.std.specs.Prelude.{ℕ, pos, ◌≡◌, ◌⊎◌, ◌+◌, ◌==◌, Bool, not, List, [], ◌∷◌, ◌++◌, drop, length, map, reverse, codes, if◌then◌else◌, unsigned_abs}
 use Rattle.std.specs.List.{AllZip, position_or_len}
 use Rattle.csv.specs.Reading.{default_config, records, strip_bom}
 use Rattle.gj_frac.specs.declared.Frac.{Frac}
@@ -45,16 +45,17 @@ SpellNumbers [] (right ∷ values) = ⊥
 SpellNumbers (word ∷ words) [] = ⊥
 SpellNumbers (word ∷ words) (right ∷ values) = IsFractionWord Lenient word right × AllZip SpellsEntry words values
 
+abbrev pub is_zero : Frac → Bool
+is_zero x = unsigned_abs (numerator x) == 0
+
 -- the value in the column as an entry, where it is not 0
 abbrev pub entry_at : ℕ → Frac → List Entry
-entry_at column x = if unsigned_abs (numerator x) == 0 then [] else record { column = column; value = x } ∷ []
+entry_at column x = if is_zero x then [] else record { column = column; value = x } ∷ []
 
 -- the entries that are not 0 of values in columns from this one on
 abbrev pub entries_from : ℕ → List Frac → List Entry
 entries_from column [] = []
-entries_from column (x ∷ values) =
-    if unsigned_abs (numerator x) == 0 then entries_from (column + 1) values
-    else record { column = column; value = x } ∷ entries_from (column + 1) values
+entries_from column (x ∷ values) = entry_at column x ++ entries_from (column + 1) values
 
 -- ---- the tableau
 

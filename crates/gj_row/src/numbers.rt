@@ -5,7 +5,7 @@ ghost use Rattle.gj_frac.specs.declared.Frac.{Frac};
 ghost use Rattle.gj_frac.specs.Fraction.{IsRatio};
 ghost use Rattle.gj_lex.specs.SpelledNumbers.{IsFractionWord};
 ghost use Rattle.gj_lex.specs.declared.spelling.Spelling.{Spelling};
-ghost use Rattle.gj_row.specs.TableauText.{SpellsEntry, entry_at};
+ghost use Rattle.gj_row.specs.TableauText.{SpellsEntry, entry_at, is_zero};
 ghost use Rattle.gj_row.specs.FirstFault.{HasNumberFault};
 ghost use Rattle.gj_row.specs.Reading.{Extends, StopsNumber, StopsEntry, HasRead, NamesReason, words_in};
 
@@ -82,13 +82,21 @@ fn with_entry(
         Ok(read) => read,
         Err(reason) => return Err(RecordFault::Refused(reason)),
     };
-    if x.num() != 0 {
-        if used + entries.len() >= MOST_ENTRIES {
-            return Err(RecordFault::Refused(RowReason::Entries));
-        }
-        entries.push(Entry { column, value: x })?;
+    if is_zero(x) {
+        return Ok(multiple);
     }
+    if used + entries.len() >= MOST_ENTRIES {
+        return Err(RecordFault::Refused(RowReason::Entries));
+    }
+    entries.push(Entry { column, value: x })?;
     Ok(multiple)
+}
+
+/// Whether the number is 0.
+fn is_zero(x: Frac) -> bool
+    ensures { result ≡ is_zero x }
+{
+    x.num().unsigned_abs() == 0
 }
 
 /// The right side that the word spells, and its denominator.
