@@ -2,6 +2,7 @@
 use Rattle.std.proofs.Common.{◌≡◌, ◌≢◌, ℕ, ◌+◌, ◌<◌, ◌≤◌, List, [], ◌∷◌, ◌++◌, All, Contains, length, map, sum_by, refl, sym, ap, subst, ◌∙◌, append_assoc, arith}
 use Rattle.std.specs.List.{AllZip}
 use Rattle.std.proofs.lemmas.List.{append-nil, length-append, length-map, length_push, map-append}
+use Rattle.std.proofs.lemmas.List.Sums.{sum_by-append}
 use Rattle.std.proofs.lemmas.List.Elements.{All-nil, All-push}
 use Rattle.std.proofs.lemmas.Slice.Zip.{AllZip-long}
 use Rattle.indexmap.proofs.SetLemmas.{AllZip-push}
@@ -73,8 +74,7 @@ names_next columns rows row =
     ∙ sym (append_assoc columns (map (λ r. r.basic) rows) (row.basic ∷ []))
 
 count_next : (rows : List Row) (row : Row) → sum_by (λ r. length r.entries) (rows ++ row ∷ []) ≡ sum_by (λ r. length r.entries) rows + length row.entries
-count_next [] row = omega arith
-count_next (r ∷ rows) row = let more = count_next rows row in omega arith
+count_next rows row = sum_by-append (λ r. length r.entries) rows (row ∷ []) ∙ ap (λ n. sum_by (λ r. length r.entries) rows + n) (omega arith)
 
 row_spells : (before : Words) (words columns : List (List ℕ)) (rows : List Row) (used : ℕ) (row : Row) →
     SpellsTableau before (tableau_of columns rows) → used ≡ entry_count (tableau_of columns rows) → length rows < 10000 →
