@@ -122,7 +122,7 @@ entry_read used words right scale entries column w x m new h place spelled next 
     read_over used (words ++ w ∷ []) right (values ++ x ∷ []) m new (numbers_with words right values w x h.begins.spelled spelled)
     (over_next (right ∷ values) x scale m (over_read used words right scale entries h) next)
     (is ∙ ap (λ l. l ++ entry_at column x) h.entries_are ∙ ap (λ n. entries_from 0 values ++ entry_at n x) at
-      ∙ sym (entries_with 0 values x)) few
+    ∙ sym (entries_with 0 values x)) few
 
 -- ---- what stops the row
 
@@ -165,6 +165,7 @@ entry_stopped used front right scale entries w back words e h place stops = reco
   where
     over : AreOver (right ∷ h.values) scale
     over = over_read used front right scale entries h
+
     breaks : (e : RowReason) → StopsEntry (SpellsEntry w) scale (used + length entries) e → BreaksNumber used (right ∷ h.values) w e
     breaks Number s = s
     breaks Large s = s
@@ -173,7 +174,7 @@ entry_stopped used front right scale entries w back words e h place stops = reco
         let x = s.0 in
         let count : length (entries_from 0 (h.values ++ x ∷ [])) ≡ length entries + 1 =
         ap length (entries_with 0 h.values x ∙ ap (λ l. entries_from 0 h.values ++ l) (entry_one (0 + length h.values) x s.4)
-          ∙ ap (λ l. l ++ record { column = 0 + length h.values; value = x } ∷ []) (sym h.entries_are)) ∙ length_push entries _ in
+        ∙ ap (λ l. l ++ record { column = 0 + length h.values; value = x } ∷ []) (sym h.entries_are)) ∙ length_push entries _ in
         (x, s.2, over_within (right ∷ (h.values ++ x ∷ [])) s.1 (over_next (right ∷ h.values) x scale s.1 over s.3), omega (arith, s.5))
     breaks Header s = s
     breaks Fields s = s

@@ -104,7 +104,7 @@ row_added text old new fields names columns names' rows rows' used used' row h s
       stands = stands;
       spelled = subst (λ ws. SpellsTableau ws (tableau_of columns (rows ++ row ∷ []))) (sym (map-append (map word_of) h.before (fields ∷ [])))
           (row_spells (words_of h.before) (map word_of fields) columns rows used row h.spelled h.counted room read
-            (subst (λ ns. IsNewName ns row.basic) h.named fresh));
+          (subst (λ ns. IsNewName ns row.basic) h.named fresh));
       named = named ∙ ap (λ ns. ns ++ row.basic ∷ []) h.named ∙ sym (names_next columns rows row);
       counted = counted ∙ ap (λ n. n + length row.entries) h.counted ∙ sym (count_next rows row);
     }
@@ -143,5 +143,5 @@ row_fault text old new fields names columns rows used n e h stands number fault 
     let all = ap length h.spelled.words_are in
     in_row (words_of h.before) (map word_of fields) (words_of more.0) (tableau_of columns rows)
     (more.1 ∙ ap (λ l. l ++ words_of more.0) (map-append (map word_of) h.before (fields ∷ []))
-      ∙ append_assoc (words_of h.before) (map word_of fields ∷ []) (words_of more.0))
+    ∙ append_assoc (words_of h.before) (map word_of fields ∷ []) (words_of more.0))
     h.spelled (omega arith) fault

@@ -47,11 +47,7 @@ fn names_the_first_fault(rt: HostRuntime) -> Result<(), Fail> {
         (b"basic,rhs,x1\nx0,,1e3", 2, RowReason::Number),
         (b"basic,rhs,x1\nx0,8/5,2147483649", 2, RowReason::Large),
         (b"basic,rhs,x1\nx0,1/2147483648,1", 2, RowReason::Fine),
-        (
-            b"basic,rhs,x1\nx0,1/2147483647,1/2",
-            2,
-            RowReason::Fine,
-        ),
+        (b"basic,rhs,x1\nx0,1/2147483647,1/2", 2, RowReason::Fine),
         (b"basic,rhs,x1\nx0,1,1\n\n\"\",1,1", 3, RowReason::Name),
     ];
     for (text, number, reason) in texts {
