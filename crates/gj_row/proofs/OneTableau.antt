@@ -1,5 +1,5 @@
 -- A text spells one tableau, and none where it has a fault.
-use Rattle.std.proofs.Common.{◌≡◌, ◌≢◌, ℕ, pos, ◌+◌, ◌<◌, ◌≤◌, ◌==◌, true, false, List, [], ◌∷◌, ◌++◌, All, AllPairs, Contains, length, map, get_or, unsigned_abs, sum_by, refl, sym, ap, subst, ◌∙◌, append_assoc, inl, inr, arith}
+use Rattle.std.proofs.Common.{◌≡◌, ℕ, pos, ◌+◌, ◌<◌, ◌≤◌, true, List, [], ◌∷◌, ◌++◌, All, length, map, unsigned_abs, sum_by, refl, sym, ap, subst, ◌∙◌, append_assoc, inl, inr, arith}
 use Rattle.std.specs.List.{AllZip}
 use Rattle.std.specs.Int.{◌∣◌}
 use Rattle.std.proofs.lemmas.Bool.{cases_Bool}
@@ -10,7 +10,6 @@ use Rattle.std.proofs.Math.Seq.{get_or-append_seam}
 use Rattle.std.proofs.lemmas.List.{length-append, map-append, get_or_append_left}
 use Rattle.std.proofs.lemmas.List.Sums.{sum_by-append}
 use Rattle.std.proofs.lemmas.List.Elements.{All-nil, All-head, All-append, All-push}
-use Rattle.std.proofs.lemmas.Slice.Zip.{AllZip-long}
 use Rattle.gj_frac.specs.declared.Frac.{Frac}
 use Rattle.gj_frac.specs.Fraction.{denominator, numerator}
 use Rattle.gj_frac.proofs.SameValues.{same_from_is}
@@ -22,13 +21,12 @@ use Rattle.gj_lex.proofs.SpelledWords.{one_fraction}
 use Rattle.gj_shape.specs.Given.{HasCommonDenominator}
 use Rattle.gj_shape.proofs.LeastDenominator.{Divides}
 use Rattle.gj_tools.proofs.Lists.{All-front, All-back}
-use Rattle.gj_row.specs.TableauLimits.{IsSmall, AreWithinLimits, IsWithinLimits, AreNames, IsTableau, names_of, entry_count}
-use Rattle.gj_row.specs.TableauText.{SpellsEntry, SpellsNext, SpellNumbers, is_zero, entry_at, entries_from, header_of, records_of, SpellsRow, SpellsTableau, IsTableauText}
-use Rattle.gj_row.specs.FirstFault.{BreaksName, BreaksNumber, HasNameFault, HasNumberFault, entries_of, HasHeaderFault, HasRowFault, HasFirstFault, IsFirstFault, header, columns, name, fields, rows, number, in_header, in_row}
+use Rattle.gj_row.specs.TableauLimits.{IsSmall, AreWithinLimits, IsWithinLimits, AreNames, IsTableau, entry_count}
+use Rattle.gj_row.specs.TableauText.{SpellsEntry, SpellsNext, SpellNumbers, is_zero, entry_at, entries_from, records_of, SpellsRow, SpellsTableau, IsTableauText}
+use Rattle.gj_row.specs.FirstFault.{BreaksName, BreaksNumber, HasNumberFault, entries_of, HasHeaderFault, HasRowFault, HasFirstFault, IsFirstFault, header, columns, name, fields, rows, number, in_header, in_row}
 use Rattle.gj_row.specs.Reading.{IsMemoryFault, NamesRecord}
 use Rattle.gj_row.specs.declared.faults.RowFault.{RowFault}
 use Rattle.gj_row.specs.declared.faults.RowFault.TheVariants.{Refused, Memory}
-use Rattle.gj_row.specs.declared.tableau.Entry.{Entry}
 use Rattle.gj_row.specs.declared.tableau.Row.{Row}
 use Rattle.gj_row.specs.declared.tableau.Tableau.{Tableau}
 use Rattle.gj_row.specs.declared.faults.RowReason.{RowReason}

@@ -1,10 +1,9 @@
 -- The numbers of a row, one after the other.
-use Rattle.std.proofs.Common.{◌≡◌, ℕ, ◌+◌, ◌*◌, ◌<◌, ◌≤◌, List, [], ◌∷◌, ◌++◌, All, true, false, length, unsigned_abs, refl, sym, ap, subst, ◌∙◌, append_assoc, inl, inr, arith}
-use Rattle.std.specs.List.{AllZip}
+use Rattle.std.proofs.Common.{◌≡◌, ℕ, ◌+◌, ◌<◌, ◌≤◌, List, [], ◌∷◌, ◌++◌, All, length, unsigned_abs, refl, sym, ap, ◌∙◌, append_assoc, arith}
 use Rattle.std.specs.Int.{◌∣◌}
 use Rattle.std.proofs.Math.Nat.{one-dvd}
 use Rattle.std.proofs.lemmas.Nat.Gcd.{dvd_trans}
-use Rattle.std.proofs.lemmas.List.{append-nil, length-append, length_push}
+use Rattle.std.proofs.lemmas.List.{append-nil, length_push}
 use Rattle.std.proofs.lemmas.List.Elements.{All-nil, All-head, All-push}
 use Rattle.std.proofs.lemmas.Slice.Zip.{AllZip-long}
 use Rattle.indexmap.proofs.SetLemmas.{AllZip-push}
@@ -17,8 +16,8 @@ use Rattle.gj_shape.proofs.LeastDenominator.{denominator_some, Divides}
 use Rattle.gj_tools.proofs.Divisors.{lcm_positive}
 use Rattle.gj_tools.proofs.Lists.{All-front, All-back}
 use Rattle.gj_row.specs.TableauLimits.{IsSmall, AreWithinLimits}
-use Rattle.gj_row.specs.TableauText.{SpellsEntry, SpellNumbers, is_zero, entry_at, entries_from}
-use Rattle.gj_row.specs.FirstFault.{BeginRow, BreaksNumber, HasNumberFault}
+use Rattle.gj_row.specs.TableauText.{SpellsEntry, SpellNumbers, entry_at, entries_from}
+use Rattle.gj_row.specs.FirstFault.{BreaksNumber, HasNumberFault}
 use Rattle.gj_row.specs.Reading.{Extends, HasNoCommon, HasRead, StopsNumber, StopsEntry}
 use Rattle.gj_row.specs.declared.tableau.Entry.{Entry}
 use Rattle.gj_row.specs.declared.faults.RowReason.{RowReason}

@@ -1,15 +1,14 @@
 -- The rows that have been read of a text.
-use Rattle.std.proofs.Common.{◌≡◌, ◌≢◌, ℕ, ◌+◌, ◌<◌, ◌≤◌, List, [], ◌∷◌, ◌++◌, All, Contains, length, map, sum_by, refl, sym, ap, subst, ◌∙◌, append_assoc, arith}
-use Rattle.std.specs.List.{AllZip}
-use Rattle.std.proofs.lemmas.List.{append-nil, length-append, length-map, length_push, map-append}
+use Rattle.std.proofs.Common.{◌≡◌, ℕ, ◌+◌, ◌<◌, ◌≤◌, List, [], ◌∷◌, ◌++◌, length, map, sum_by, refl, sym, ap, subst, ◌∙◌, append_assoc, arith}
+use Rattle.std.proofs.lemmas.List.{append-nil, length_push, map-append}
 use Rattle.std.proofs.lemmas.List.Sums.{sum_by-append}
 use Rattle.std.proofs.lemmas.List.Elements.{All-nil, All-push}
 use Rattle.std.proofs.lemmas.Slice.Zip.{AllZip-long}
 use Rattle.indexmap.proofs.SetLemmas.{AllZip-push}
-use Rattle.csv.specs.Reading.{default_config, records, strip_bom}
+use Rattle.csv.specs.Reading.{strip_bom}
 use Rattle.csv.specs.declared.iter.ByteRecordsIntoIter.{ByteRecordsIntoIter}
 use Rattle.std.specs.Borrow.{Bor}
-use Rattle.gj_row.specs.TableauLimits.{IsTableau, IsWithinLimits, AreNames, names_of, entry_count}
+use Rattle.gj_row.specs.TableauLimits.{IsWithinLimits, AreNames, names_of, entry_count}
 use Rattle.gj_row.specs.TableauText.{word_of, records_of, header_of, SpellsRow, SpellsTableau, IsTableauText}
 use Rattle.gj_row.specs.FirstFault.{IsNewName, HasHeaderFault, HasRowFault, IsFirstFault, header, in_header, in_row}
 use Rattle.gj_row.specs.Reading.{ReadsRow, StandsBehind, IsAtEnd}

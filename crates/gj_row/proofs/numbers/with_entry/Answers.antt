@@ -1,4 +1,4 @@
-use Rattle.std.proofs.Common.{sym, ap, ◌∙◌, ◌+◌, ◌≤◌, ◌≡◌, ◌++◌, ◌∷◌, [], length, false, arith}
+use Rattle.std.proofs.Common.{sym, ap, ◌∙◌, ◌+◌, ◌≤◌, ◌≡◌, ◌++◌, length, false, arith}
 use Rattle.std.proofs.lemmas.List.{append-nil, length_push}
 use Rattle.gj_row.specs.TableauText.{is_zero}
 use Rattle.gj_row.proofs.SpelledNumbers.{entry_none, entry_one}

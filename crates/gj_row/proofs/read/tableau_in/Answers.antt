@@ -1,11 +1,9 @@
-use Rattle.std.proofs.Common.{◌≡◌, ◌+◌, ◌<◌, ◌++◌, ◌∷◌, [], ℕ, List, length, refl, sym, ap, ◌∙◌, subst, arith}
+use Rattle.std.proofs.Common.{◌≡◌, ◌+◌, ◌<◌, ◌∷◌, [], ℕ, List, length, sym, ap, subst, arith}
 use Rattle.csv.specs.Records.{fields_of}
 use Rattle.gj_row.specs.TableauLimits.{names_of, entry_count}
-use Rattle.gj_row.specs.TableauText.{records_of, SpellsTableau}
 use Rattle.gj_row.specs.FirstFault.{HasHeaderFault, HasRowFault, IsFirstFault}
-use Rattle.gj_row.specs.Reading.{StandsBehind, StepsOver, ReadsRow, bytes_of, words_in, fault_in_record, NamesRecord}
+use Rattle.gj_row.specs.Reading.{ReadsRow, bytes_of, words_in}
 use Rattle.gj_row.specs.declared.tableau.Tableau.{Tableau}
-use Rattle.gj_row.specs.declared.faults.RowReason.{RowReason}
 use Rattle.gj_row.proofs.Reasons.{names_record}
 use Rattle.gj_row.proofs.RowsRead.{header_read, row_added, rows_end, no_record, header_fault, row_fault, tableau_of}
 use Rattle.gj_row.proofs.read.tableau_in.Goals as goal
