@@ -1,5 +1,5 @@
 -- The search for lines goes on by one line.
-use Rattle.std.proofs.Common.{◌≡◌, ◌≢◌, ℕ, ◌⊎◌, ◌+◌, ◌<◌, ◌≤◌, List, [], ◌∷◌, ◌++◌, length, get_or, Option, Some, None, cond, eq-eqb, refl, sym, ap, ◌∙◌, subst, inl, inr, arith}
+use Rattle.std.proofs.Common.{◌≡◌, ◌≢◌, ℕ, ◌⊎◌, ◌+◌, ◌<◌, ◌≤◌, List, [], ◌∷◌, ◌++◌, length, get_or, Option, Some, None, cond, eq-eqb, sym, ap, ◌∙◌, subst, inl, inr, arith}
 use Rattle.std.specs.Option.{unwrap_or}
 use Rattle.std.proofs.Math.ListN.{set, length-set}
 use Rattle.std.specs.Bool.{◌==◌}
@@ -12,8 +12,7 @@ use Rattle.gj_shape.specs.declared.extremality.CoverLine.{CoverLine}
 use Rattle.gj_cover.specs.CoverOf.{number_at, opened_by}
 use Rattle.gj_cover.specs.Progress.{IsProgress, IsJoinedUpTo, lesser_of, unnumbered, AreClasses, AreSearched}
 use Rattle.gj_cover.specs.declared.progress.Progress.{Progress}
-use Rattle.gj_cover.proofs.LineLists.{number_same, number_other}
-use Rattle.gj_cover.proofs.NextLines.{IsNextTo, IsJoiningTo, IsOpeningOf, next_to, in_turn, numbers, joined_classes, opened_classes, least_joined, searched_on, searched_to, one_less, from_below}
+use Rattle.gj_cover.proofs.NextLines.{next_to, in_turn, numbers, joined_classes, opened_classes, least_joined, searched_on, searched_to, one_less, from_below}
 use Rattle.gj_cover.proofs.Pending.{read}
 
 -- the state is the old one with one more line, but for the count and the searched intervals

@@ -1,13 +1,12 @@
 -- Joined intervals are linked by additive edges, and where a face that joins or covers can stand.
-use Rattle.std.proofs.Common.{◌≡◌, ◌≢◌, ℕ, ◌⊎◌, ◌+◌, ◌*◌, ◌/◌, ◌%◌, ◌<◌, ◌≤◌, ◌↔◌, refl, sym, ap, ◌∙◌, subst, inl, inr, arith}
+use Rattle.std.proofs.Common.{◌≡◌, ◌≢◌, ℕ, ◌⊎◌, ◌+◌, ◌/◌, ◌%◌, ◌<◌, refl, sym, ap, ◌∙◌, inl, inr, arith}
 use Rattle.std.proofs.Math.Nat.{mod-mod, mod-lt, mod-eq_of_lt}
 use Rattle.gj_tools.proofs.Quotients.{same_remainder, from_same_remainder}
-use Rattle.gj_shape.specs.Additive.{IsAdditive}
 use Rattle.gj_shape.specs.Cover.{Joins, AreJoined, Covers}
 use Rattle.gj_shape.specs.declared.faces.FaceKind.{FaceKind}
 use Rattle.gj_shape.specs.declared.faces.FaceKind.TheVariants.{Vertex, Horizontal, Vertical, Diagonal, Lower, Upper}
 use Rattle.gj_cover.specs.Links.{Links, diagonal, horizontal, vertical, LeadsFrom, HasInterval}
-use Rattle.gj_cover.proofs.Parts.{Corners, corners, additive, corners_same, sum_same, add_same, Intervals, intervals, one_of, covered_one, HasPeriod}
+use Rattle.gj_cover.proofs.Parts.{Corners, corners, additive, corners_same, sum_same, Intervals, intervals, one_of, covered_one, HasPeriod}
 
 -- ---- rests
 

@@ -1,15 +1,14 @@
 -- Where no line comes next, the numbers are those of the components.
-use Rattle.std.proofs.Common.{◌≡◌, ◌≢◌, ℕ, ◌⊎◌, ◌+◌, ◌%◌, ◌<◌, ◌≤◌, ◌↔◌, List, [], ◌∷◌, ◌++◌, length, Option, Some, None, refl, sym, ap, ◌∙◌, subst, inl, inr, arith}
+use Rattle.std.proofs.Common.{◌≡◌, ℕ, ◌%◌, ◌<◌, Some, sym, ap, ◌∙◌, subst, inl, inr, arith}
 use Rattle.std.proofs.Math.Nat.{mod-mod, mod-lt, mod-eq_of_lt}
-use Rattle.gj_shape.specs.Cover.{AreJoined, IsDirectlyCovered, LeadsTo, here, onward, IsCovered, AreInOneComponent, IsNextLine, AreCoverLines, HasComponent}
-use Rattle.gj_shape.specs.declared.extremality.CoverLine.{CoverLine}
-use Rattle.gj_cover.specs.CoverOf.{number_at, opened_by, AreComponents}
+use Rattle.gj_shape.specs.Cover.{AreJoined, IsDirectlyCovered, LeadsTo, here, onward, IsCovered, AreCoverLines}
+use Rattle.gj_cover.specs.CoverOf.{number_at, AreComponents}
 use Rattle.gj_cover.specs.Progress.{IsProgress, IsComplete}
 use Rattle.gj_cover.specs.Reached.{AreUncovered}
 use Rattle.gj_cover.specs.declared.progress.Progress.{Progress}
 use Rattle.gj_cover.proofs.Joining.{joined_back, joined_same, directly_same}
-use Rattle.gj_cover.proofs.LineLists.{number_cases, no_line, number_line, component_number}
-use Rattle.gj_cover.proofs.NextLines.{JoinsNumbers, joins_lines}
+use Rattle.gj_cover.proofs.LineLists.{number_cases, no_line, component_number}
+use Rattle.gj_cover.proofs.NextLines.{joins_lines}
 
 -- both intervals as indices below q
 pub joined_rests : (q : ℕ) (T : ℕ → ℕ → Type 0) (i j : ℕ) → AreJoined q T i j → AreJoined q T (i % q) (j % q)

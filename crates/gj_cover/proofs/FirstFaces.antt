@@ -1,15 +1,15 @@
 -- The squares that are looked at for a first face, and that it is first of all.
-use Rattle.std.proofs.Common.{◌≡◌, ◌≢◌, ℕ, ◌⊎◌, ◌+◌, ◌%◌, ◌<◌, ◌≤◌, Option, Some, None, IfSome, IfNone, refl, sym, ap, ◌∙◌, subst, inl, inr, arith}
+use Rattle.std.proofs.Common.{◌≡◌, ◌≢◌, ℕ, ◌⊎◌, ◌+◌, ◌%◌, ◌<◌, Option, Some, None, IfSome, IfNone, refl, sym, ap, ◌∙◌, subst, inl, inr, arith}
 use Rattle.std.proofs.Math.Nat.{mod-mod, mod-lt, mod-eq_of_lt}
 use Rattle.std.proofs.lemmas.Bool.{cases_lt}
 use Rattle.gj_shape.specs.Cover.{Joins, AreJoined, Covers, IsDirectlyCovered, IsFirstFace}
 use Rattle.gj_shape.specs.declared.faces.Face.{Face}
 use Rattle.gj_shape.specs.declared.faces.FaceKind.{FaceKind}
-use Rattle.gj_cover.specs.FirstFound.{FindsFirst, IsFirstOf}
-use Rattle.gj_cover.specs.Links.{LeadsFrom, IsSquareFrom, HasInterval, IsSquareOf}
+use Rattle.gj_cover.specs.FirstFound.{FindsFirst}
+use Rattle.gj_cover.specs.Links.{LeadsFrom, IsSquareFrom, IsSquareOf}
 use Rattle.gj_cover.proofs.Edges.{one_step, joins_where, covers_where}
 use Rattle.gj_cover.proofs.Joining.{joins_within, covers_within}
-use Rattle.gj_cover.proofs.Merging.{Either, restated}
+use Rattle.gj_cover.proofs.Merging.{Either}
 use Rattle.gj_cover.proofs.Parts.{HasPeriod, sum_same}
 use Rattle.gj_cover.proofs.WalkPlaces.{first_face}
 

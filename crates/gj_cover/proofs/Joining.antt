@@ -1,10 +1,8 @@
 -- Joined intervals, and the lists of joined ones that lead from one to another.
-use Rattle.std.proofs.Common.{◌≡◌, ℕ, ◌+◌, ◌*◌, ◌/◌, ◌%◌, ◌<◌, ◌++◌, refl, sym, ◌∙◌, arith}
-use Rattle.std.proofs.Math.Nat.{mod-mod, mod-lt}
-use Rattle.gj_shape.specs.Additive.{IsAdditive}
-use Rattle.gj_shape.specs.Cover.{IsOneOf, links_of, triangle_projections, Joins, AreJoined, Covers, IsDirectlyCovered, LeadsTo, here, onward, IsCovered}
+use Rattle.std.proofs.Common.{◌≡◌, ℕ, ◌%◌, refl, sym, ◌∙◌}
+use Rattle.gj_shape.specs.Cover.{Joins, AreJoined, Covers, IsDirectlyCovered, LeadsTo, here, onward, IsCovered}
 use Rattle.gj_shape.specs.declared.faces.FaceKind.{FaceKind}
-use Rattle.gj_cover.proofs.Parts.{Corners, corners, additive, corners_same, Intervals, intervals, one_of, intervals_same, interval_same, covered_one, one_covered, HasPeriod}
+use Rattle.gj_cover.proofs.Parts.{corners, additive, corners_same, intervals, one_of, intervals_same, interval_same, covered_one, one_covered, HasPeriod}
 
 -- a face of the square (a, b) that joins stands for one with a and b below q
 pub joins_within : (q : ℕ) (T : ℕ → ℕ → Type 0) → HasPeriod q T → (kind : FaceKind) (a b c d i j : ℕ) →

@@ -16,3 +16,4 @@ pub mod Transfers
 pub mod TruePlaces
 pub mod Classes
 pub mod Marks
+pub mod RunOrder

@@ -1,8 +1,8 @@
 -- The first face of some squares and of more.
-use Rattle.std.proofs.Common.{◌≡◌, ℕ, ◌⊎◌, ◌<◌, ◌≤◌, Option, Some, None, MatchOption, sym, ap, ◌∙◌, subst, inl, inr, arith}
+use Rattle.std.proofs.Common.{◌≡◌, ℕ, ◌⊎◌, ◌<◌, Option, Some, None, MatchOption, sym, subst, inl, inr, arith}
 use Rattle.gj_shape.specs.declared.faces.Face.{Face}
 use Rattle.gj_shape.specs.declared.faces.FaceKind.{FaceKind}
-use Rattle.gj_cover.specs.FirstFound.{rank, IsNotBefore, IsFirstOf, HasNone, FindsFirst, IsEarlier}
+use Rattle.gj_cover.specs.FirstFound.{IsNotBefore, IsFirstOf, FindsFirst, IsEarlier}
 use Rattle.std.proofs.lemmas.Bool.{cases_order}
 
 -- walk order is transitive

@@ -1,15 +1,15 @@
 -- What one more cover line changes.
-use Rattle.std.proofs.Common.{◌≡◌, ◌≢◌, ℕ, zero, suc, ◌⊎◌, ◌+◌, ◌%◌, ◌<◌, ◌≤◌, List, [], ◌∷◌, ◌++◌, length, get_or, Option, Some, None, MatchOption, min, cond, refl, sym, ap, ◌∙◌, subst, inl, inr, arith}
+use Rattle.std.proofs.Common.{◌≡◌, ◌≢◌, ℕ, ◌⊎◌, ◌+◌, ◌%◌, ◌<◌, List, [], ◌∷◌, ◌++◌, length, get_or, Option, Some, None, MatchOption, min, cond, refl, sym, ap, ◌∙◌, subst, inl, inr, arith}
 use Rattle.std.specs.Option.{unwrap_or, is_none}
 use Rattle.std.proofs.Math.ListN.{set}
 use Rattle.std.proofs.lemmas.Bool.{cases_lt}
 use Rattle.std.proofs.lemmas.List.Sums.{sum_by-set}
-use Rattle.gj_shape.specs.Cover.{HasLine, HasComponent, opened, joined, AreJoined, IsDirectlyCovered, LeadsTo, here, onward, IsCovered, JoinsLines, IsOpen, IsJoiningLine, IsOpeningLine, IsNextLine}
+use Rattle.gj_shape.specs.Cover.{HasComponent, opened, joined, AreJoined, IsDirectlyCovered, LeadsTo, here, onward, IsCovered, JoinsLines, IsNextLine}
 use Rattle.gj_shape.specs.FirstViolation.{IsLeastFrom}
 use Rattle.gj_shape.specs.declared.extremality.CoverLine.{CoverLine}
 use Rattle.gj_cover.specs.CoverOf.{number_at, opened_by}
 use Rattle.gj_cover.specs.Progress.{AreInTurn, AreNumbered, AreClasses, AreLeastJoined, AreSearched, IsJoinedUpTo, lesser_of, unnumbered}
-use Rattle.gj_cover.proofs.LineLists.{split_end, line_stays, component_stays, number_cases, line_number, number_line, no_number, no_line, number_same, number_other, number_from, none_from, number_stays, number_within}
+use Rattle.gj_cover.proofs.LineLists.{split_end, component_stays, line_number, number_line, no_number, no_line, number_same, number_from, none_from, number_stays, number_within}
 use Rattle.gj_cover.proofs.Joining.{joined_back, leads_back, covered_on, covered_directly}
 
 -- ---- the next line by numbers

@@ -1,5 +1,5 @@
 -- The intervals of a face as those on which it projects.
-use Rattle.std.proofs.Common.{◌≡◌, ℕ, ◌⊎◌, ◌+◌, ◌%◌, ◌<◌, ◌++◌, Bool, true, Option, Some, None, eqb, eqb-true, eq-eqb, refl, sym, ap, ◌∙◌, inl, inr, arith}
+use Rattle.std.proofs.Common.{◌≡◌, ℕ, ◌⊎◌, ◌+◌, ◌%◌, ◌<◌, ◌++◌, Bool, true, Option, Some, None, eqb, eqb-true, eq-eqb, sym, ap, ◌∙◌, inl, inr}
 use Rattle.std.specs.Option.{option_eq}
 use Rattle.std.proofs.Math.Nat.{mod-eq_of_lt}
 use Rattle.gj_shape.specs.Cover.{IsOneOf, links_of, triangle_projections}

@@ -1,5 +1,5 @@
 -- What is read from the lists of numbers, and where the search for lines begins and goes on.
-use Rattle.std.proofs.Common.{◌≡◌, ◌≢◌, ℕ, ◌+◌, ◌<◌, ◌≤◌, List, [], ◌∷◌, ◌++◌, length, get_or, Bool, true, false, not, Option, Some, None, MatchOption, replicate, refl, sym, ap, ◌∙◌, subst, inl, inr, arith}
+use Rattle.std.proofs.Common.{◌≡◌, ℕ, ◌<◌, ◌≤◌, List, [], length, get_or, Bool, true, false, not, Option, Some, None, MatchOption, replicate, refl, sym, ap, ◌∙◌, subst, inl, inr, arith}
 use Rattle.std.specs.Option.{is_some, is_none}
 use Rattle.std.proofs.lemmas.List.Sums.{count_by-le-length}
 use Rattle.gj_cover.specs.declared.progress.Progress.{Progress}
@@ -10,7 +10,7 @@ use Rattle.gj_shape.specs.Cover.{JoinsLines, IsOpen, IsOpeningLine, Covers, IsFi
 use Rattle.gj_shape.specs.FirstViolation.{IsLeastFrom}
 use Rattle.gj_shape.specs.declared.extremality.CoverLine.{CoverLine}
 use Rattle.gj_shape.specs.declared.faces.Face.{Face}
-use Rattle.gj_cover.specs.CoverOf.{number_at, opened_by}
+use Rattle.gj_cover.specs.CoverOf.{number_at}
 use Rattle.gj_cover.specs.Progress.{IsProgress, AreInTurn, AreNumbered, AreClasses, AreLeastJoined, AreSearched}
 use Rattle.gj_cover.proofs.LineLists.{no_end, no_number, no_line}
 

@@ -1,5 +1,5 @@
 -- The tight pairs of a table as a relation.
-use Rattle.std.proofs.Common.{◌≡◌, ℕ, ◌+◌, ◌*◌, ◌%◌, false, true, get_or, sym, ap, ◌∙◌}
+use Rattle.std.proofs.Common.{◌+◌, ◌*◌, ◌%◌, false, get_or, sym, ap, ◌∙◌}
 use Rattle.gj_cover.specs.Table.{IsTightIn}
 use Rattle.gj_cover.specs.declared.table.Table.{Table}
 use Rattle.gj_cover.proofs.Parts.{HasPeriod}

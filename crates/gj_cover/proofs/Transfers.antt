@@ -1,17 +1,14 @@
 -- A cover by one relation is one by any relation with the same pairs.
-use Rattle.std.proofs.Common.{◌≡◌, ℕ, ◌⊎◌, ◌<◌, ◌↔◌, ◌++◌, List, refl, inl, inr}
-use Rattle.std.specs.List.{All}
+use Rattle.std.proofs.Common.{ℕ, ◌<◌, ◌↔◌, List, inl, inr}
 use Rattle.std.proofs.lemmas.List.Elements.{All-weaker}
-use Rattle.gj_tools.specs.FirstThatFails.{IsFirstFailing}
 use Rattle.gj_shape.specs.Additive.{IsAdditive}
-use Rattle.gj_shape.specs.Cover.{Joins, AreJoined, Covers, IsDirectlyCovered, LeadsTo, here, onward, IsCovered, AreInOneComponent, IsFirstFace, JoinsLines, IsJoiningLine, IsOpen, IsOpeningLine, IsNextLine, AreCoverLines}
+use Rattle.gj_shape.specs.Cover.{Joins, AreJoined, Covers, IsDirectlyCovered, LeadsTo, here, onward, IsCovered, IsFirstFace, JoinsLines, IsOpen, IsNextLine}
 use Rattle.gj_shape.specs.Faces.{corners_of}
 use Rattle.gj_shape.specs.FirstViolation.{IsLeastFrom}
-use Rattle.gj_shape.specs.WalkOrder.{faces_of}
 use Rattle.gj_shape.specs.declared.extremality.CoverLine.{CoverLine}
 use Rattle.gj_shape.specs.declared.faces.Face.{Face}
 use Rattle.gj_shape.specs.declared.faces.FaceKind.{FaceKind}
-use Rattle.gj_cover.specs.CoverOf.{AreComponents, IsLeastClass, IsCoverOf}
+use Rattle.gj_cover.specs.CoverOf.{IsCoverOf}
 use Rattle.gj_cover.specs.declared.covered.Cover.{Cover}
 
 -- each pair of the one is one of the other

@@ -1,5 +1,5 @@
 -- Where the search for cover lines stands (own): what is kept while lines are added.
-use Rattle.std.specs.Prelude.{ℕ, ◌≡◌, ◌≢◌, ◌⊎◌, ◌+◌, ◌<◌, ◌≤◌, min, List, [], ◌∷◌, ◌++◌, Option, Some, None, MatchOption, is_none, length, count_by}
+use Rattle.std.specs.Prelude.{ℕ, ◌≡◌, ◌≢◌, ◌⊎◌, ◌+◌, ◌<◌, ◌≤◌, min, List, ◌∷◌, ◌++◌, Option, Some, None, MatchOption, is_none, length, count_by}
 use Rattle.gj_shape.specs.Cover.{AreJoined, IsDirectlyCovered, LeadsTo, IsCovered, JoinsLines, IsOpen, IsNextLine, HasComponent}
 use Rattle.gj_shape.specs.FirstViolation.{IsLeastFrom}
 use Rattle.gj_shape.specs.declared.extremality.CoverLine.{CoverLine}

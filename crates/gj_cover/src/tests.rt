@@ -9,6 +9,7 @@ use std::test::Fail;
 /// 1/order.
 fn function(
     rt: &HostRuntime,
+    order: u32,
     place: u32,
     values: &[i128],
     denominator: i128,
@@ -18,14 +19,15 @@ fn function(
         fractions.push(Frac::new(*value, denominator).ok_or("no fraction")?)?;
     }
     let fractions = fractions.as_slice();
-    Ok(Shape::new(
-        rt.alloc(),
-        values.len() as u32,
-        place,
-        fractions,
-        fractions,
-        fractions,
-    )?)
+    Ok(Shape::new(rt.alloc(), order, place, fractions, fractions, fractions)?)
+}
+
+/// The cover of a continuous function.
+fn cover_of(rt: &HostRuntime, shape: &Shape) -> Result<Cover, Fail> {
+    if shape.is_continuous() {
+        return Ok(cover(rt.alloc(), shape)?);
+    }
+    Err("a jump")?
 }
 
 /// A line for an interval.
@@ -62,8 +64,9 @@ fn two_components(rt: HostRuntime) -> Result<(), Fail> {
         ]?),
         class: List::of(Vec::new(alloc)),
     };
-    assert_eq!(rt; cover_of_runs(alloc, &runs, 2)?, expected);
-    assert_eq!(rt; cover(alloc, &function(&rt, 1, &[0, 1], 1)?)?, expected);
+    let found = cover_of_runs(alloc, &runs, 2)?;
+    assert_eq!(rt; found, expected);
+    assert_eq!(rt; cover_of(&rt, &function(&rt, 2, 1, &[0, 1], 1)?)?, expected);
     Ok(())
 }
 
@@ -77,7 +80,8 @@ fn no_tight_pairs(rt: HostRuntime) -> Result<(), Fail> {
         lines: List::of(Vec::new(alloc)),
         class: List::of(vec![in alloc; 0]?),
     };
-    assert_eq!(rt; cover_of_runs(alloc, &[], 2)?, expected);
+    let found = cover_of_runs(alloc, &[], 2)?;
+    assert_eq!(rt; found, expected);
     Ok(())
 }
 
@@ -98,7 +102,7 @@ fn two_uncovered_intervals(rt: HostRuntime) -> Result<(), Fail> {
         class: List::of(vec![in alloc; 1]?),
     };
     assert_eq!(rt;
-        cover(alloc, &function(&rt, 3, &[0, 2, 1, 3, 1, 2], 3)?)?,
+        cover_of(&rt, &function(&rt, 6, 3, &[0, 2, 1, 3, 1, 2], 3)?)?,
         expected
     );
     Ok(())
@@ -121,7 +125,7 @@ fn all_intervals_covered(rt: HostRuntime) -> Result<(), Fail> {
         class: List::of(Vec::new(alloc)),
     };
     assert_eq!(rt;
-        cover(alloc, &function(&rt, 3, &[0, 2, 4, 6, 3], 6)?)?,
+        cover_of(&rt, &function(&rt, 5, 3, &[0, 2, 4, 6, 3], 6)?)?,
         expected
     );
     Ok(())

@@ -1,4 +1,4 @@
-use Rattle.std.proofs.Common.{◌↔◌, length, ap, sym, ◌∙◌, subst, arith}
+use Rattle.std.proofs.Common.{◌↔◌, length, ap, ◌∙◌, subst, arith}
 use Rattle.gj_cover.proofs.Classes.{none_uncovered, some_uncovered}
 use Rattle.std.specs.List.{Contains}
 use Rattle.gj_cover.specs.Reached.{IsReached}

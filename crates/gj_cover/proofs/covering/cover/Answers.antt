@@ -1,4 +1,4 @@
-use Rattle.std.proofs.Common.{◌≡◌, subst, sym}
+use Rattle.std.proofs.Common.{subst, sym}
 use Rattle.gj_shape.specs.Additive.{IsTight}
 use Rattle.gj_faces.specs.Runs.{InRuns, AreInOrder}
 use Rattle.gj_cover.specs.CoverOf.{IsCoverOf}

@@ -1,4 +1,4 @@
-use Rattle.std.proofs.Common.{◌≡◌, ◌*◌, ◌<◌, ◌∙◌, length, get_or, Bool, false, ap, sym, subst, arith}
+use Rattle.std.proofs.Common.{◌≡◌, ◌*◌, ◌∙◌, length, get_or, Bool, false, ap, sym, subst, arith}
 use Rattle.std.proofs.Math.ListN.{length-replicate}
 use Rattle.std.proofs.lemmas.List.{get_or_default}
 use Rattle.gj_faces.specs.declared.run.Run.{Run}

@@ -1,4 +1,4 @@
-use Rattle.std.proofs.Common.{◌≡◌, ◌<◌, ◌+◌, ◌%◌, ap, refl, sym, ◌∙◌, subst, arith}
+use Rattle.std.proofs.Common.{◌≡◌, ◌<◌, ◌+◌, ◌%◌, ap, refl, ◌∙◌, subst, arith}
 use Rattle.gj_shape.specs.Additive.{IsAdditive}
 use Rattle.gj_shape.specs.declared.faces.FaceKind.TheVariants.{Horizontal, Vertical}
 use Rattle.gj_cover.specs.Links.{diagonal, horizontal, vertical}

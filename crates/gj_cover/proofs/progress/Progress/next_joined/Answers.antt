@@ -1,4 +1,4 @@
-use Rattle.std.proofs.Common.{◌≡◌, ◌<◌, ◌≤◌, length, arith, ◌∙◌}
+use Rattle.std.proofs.Common.{◌<◌, ◌≤◌, length, arith, ◌∙◌}
 use Rattle.gj_cover.specs.Table.{IsTightIn}
 use Rattle.gj_cover.proofs.Pending.{read, is_free, next_interval, none_pending}
 use Rattle.gj_cover.proofs.progress.Progress.next_joined.Goals as goal

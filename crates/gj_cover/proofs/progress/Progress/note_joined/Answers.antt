@@ -1,4 +1,4 @@
-use Rattle.std.proofs.Common.{◌≡◌, ◌<◌, ap, sym, ◌∙◌, length, arith}
+use Rattle.std.proofs.Common.{◌<◌, ap, sym, ◌∙◌, length, arith}
 use Rattle.std.proofs.Math.ListN.{length-set}
 use Rattle.std.specs.Vec.{with_item}
 use Rattle.gj_cover.specs.Table.{IsTightIn}

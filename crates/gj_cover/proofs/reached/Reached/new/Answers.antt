@@ -1,4 +1,4 @@
-use Rattle.std.proofs.Common.{◌≡◌, ◌++◌, ◌∷◌, [], length, get_or, false, true, ap, refl, sym, ◌∙◌, arith}
+use Rattle.std.proofs.Common.{◌≡◌, ◌++◌, ◌∷◌, [], length, get_or, false, true, ap, refl, ◌∙◌, arith}
 use Rattle.gj_cover.proofs.Classes.{reached_start, false_at}
 use Rattle.gj_cover.specs.Table.{IsTightIn}
 use Rattle.gj_cover.specs.declared.reached.Reached.{Reached}

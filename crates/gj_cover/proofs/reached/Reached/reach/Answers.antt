@@ -1,4 +1,4 @@
-use Rattle.std.proofs.Common.{◌≡◌, ◌<◌, length, false, true, refl, sym, ◌∙◌, arith}
+use Rattle.std.proofs.Common.{◌<◌, length, false, true, refl, sym, ◌∙◌, arith}
 use Rattle.std.proofs.lemmas.List.{get_or_default}
 use Rattle.gj_cover.specs.Table.{IsTightIn}
 use Rattle.gj_cover.specs.declared.reached.Reached.{Reached}

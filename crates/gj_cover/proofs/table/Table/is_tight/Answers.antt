@@ -1,4 +1,4 @@
-use Rattle.std.proofs.Common.{◌≡◌, ◌+◌, ◌*◌, ◌%◌, ap, sym, ◌∙◌, get_or, false}
+use Rattle.std.proofs.Common.{◌+◌, ◌*◌, ◌%◌, ap, sym, ◌∙◌, get_or, false}
 use Rattle.std.proofs.lemmas.List.{get_or_default}
 use Rattle.gj_cover.proofs.Places.{place_below}
 use Rattle.gj_cover.specs.Table.{IsTightIn}
