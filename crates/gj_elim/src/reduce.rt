@@ -1,9 +1,10 @@
 //! A row goes through all columns, and is reduced by the kept rows.
-ghost use Rattle.std.specs.Prelude.{ℕ, ℤ, pos, ◌≡◌, ◌≢◌, ◌<◌, ◌^◌, List, length, All, IfOk, IfSome, IfNone, OnOk, Option, None, Some, MatchOption, IsErrOf, get_or};
+ghost use Rattle.std.specs.Prelude.{ℕ, ℤ, pos, ◌≡◌, ◌≢◌, ◌<◌, ◌^◌, List, length, All, IfOk, IfSome, IfNone, OnOk, Option, None, Some, MatchOption, IsErrOf, IsSome, [], get_or};
 ghost use Rattle.std.specs.Vec.{vec_len};
-ghost use Rattle.gj_shape.specs.Elimination.{at_column, row_with_pivot, entries_of, inserted, kept_entries, Passes};
+ghost use Rattle.gj_shape.specs.Elimination.{row_with_pivot, free_column, inserted, Passes};
+ghost use Rattle.gj_theory.specs.TriangularRows.{AreTriangular};
 ghost use Rattle.gj_elim.specs.Data.{Fits};
-ghost use Rattle.gj_elim.specs.KeptRows.{kept_rows};
+ghost use Rattle.gj_elim.specs.KeptRows.{kept_rows, IsRowAt};
 ghost use Rattle.gj_elim.specs.Progress.{IsLeft};
 
 use crate::faults::ElimFault;
@@ -13,15 +14,26 @@ use gj_shape::List;
 
 /// The place of the kept row with its pivot at the column.
 pub(crate) fn place_of(log: &[LogRow], column: u32) -> Option<usize>
-    ensures some { IfSome result (λ i. i < length log.now) }
+    ensures within { IfSome result (λ i. i < length log.now) }
     ensures found { IfSome result (λ i. (rows : List (List ℤ)) → length log.now ≡ length rows →
-        entries_of (row_with_pivot (kept_rows log.now rows) column) ≡ get_or rows i [] ) }
-    ensures is { IfSome result (λ i. (rows : List (List ℤ)) → length log.now ≡ length rows →
-        IsSome (row_with_pivot (kept_rows log.now rows) column)) }
+        IsRowAt (kept_rows log.now rows) column (get_or rows i [])) }
     ensures none { IfNone result ((rows : List (List ℤ)) → length log.now ≡ length rows →
         row_with_pivot (kept_rows log.now rows) column ≡ None) }
 {
     log.iter().position(|line| line.pivot == column)
+}
+
+/// The least column without a pivot.
+pub(crate) fn free_column(log: &[LogRow], columns: u32) -> Option<u32>
+    ensures { (rows : List (List ℤ)) → length log.now ≡ length rows →
+        result ≡ free_column columns (kept_rows log.now rows) }
+{
+    for column in 0..columns {
+        if place_of(log, column).is_none() {
+            return Some(column);
+        }
+    }
+    None
 }
 
 /// Takes a row through all columns, and adds to `reduce` the columns at which it is reduced. The answer is the column at which
@@ -33,7 +45,8 @@ pub(crate) fn reduce_row(
     reduce: &mut Vec<u32>,
 ) -> Result<Option<u32>, ElimFault>
     requires lines { length log.now ≡ length rows.now }
-    requires columns { All (λ r. length r ≡ length row.old) rows.now }
+    requires triangular { AreTriangular (length row.old) (kept_rows log.now rows.now) }
+    requires small { All (All Fits) rows.now }
     requires count { length row.old < 2 ^ 32 }
     requires fits { All Fits row.old }
     requires empty { reduce.old.items ≡ [] }

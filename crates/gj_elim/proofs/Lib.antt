@@ -1,0 +1,6 @@
+pub mod Gcds
+pub mod Passing
+pub mod Numbers
+pub mod Combinations
+pub mod Rows
+pub mod Reduction
