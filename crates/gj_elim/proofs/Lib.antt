@@ -4,3 +4,5 @@ pub mod Numbers
 pub mod Combinations
 pub mod Rows
 pub mod Reduction
+pub mod Places
+pub mod Progressing

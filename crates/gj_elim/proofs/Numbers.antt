@@ -40,3 +40,10 @@ fits_natural g h = fits_signed_from_abs w128 (pos g) h
 
 pub read_natural : (g : ℕ) → g < 2 ^ 127 → to_z w128 g ≡ pos g
 read_natural g h = to_z_pos w128 g h
+
+-- the code compares bits
+pub some_from_bits : (x : ℤ) → (of_z w128 x ≡ 0 → ⊥) → x ≢ pos 0
+some_from_bits x h e = h (ap (of_z w128) e)
+
+pub zero_from_bits : (x : ℤ) → FitsSigned w128 x → of_z w128 x ≡ 0 → x ≡ pos 0
+zero_from_bits x fits e = sym (to_z-of_z w128 x fits) ∙ ap (to_z w128) e

@@ -1,10 +1,10 @@
 //! A row goes through all columns, and is reduced by the kept rows.
-ghost use Rattle.std.specs.Prelude.{ℕ, ℤ, pos, ◌≡◌, ◌≢◌, ◌<◌, ◌^◌, List, length, All, IfOk, IfSome, IfNone, OnOk, Option, None, Some, MatchOption, IsErrOf, IsSome, [], get_or};
-ghost use Rattle.std.specs.Vec.{vec_len};
-ghost use Rattle.gj_shape.specs.Elimination.{row_with_pivot, free_column, inserted, Passes};
+ghost use Rattle.std.specs.Prelude.{ℤ, ◌≡◌, ◌<◌, ◌^◌, ◌==◌, List, [], length, All, IfOk, OnOk, IsErrOf};
+ghost use Rattle.std.specs.List.{position};
+ghost use Rattle.gj_shape.specs.Elimination.{free_column, inserted, Passes};
 ghost use Rattle.gj_theory.specs.TriangularRows.{AreTriangular};
 ghost use Rattle.gj_elim.specs.Data.{Fits};
-ghost use Rattle.gj_elim.specs.KeptRows.{kept_rows, IsRowAt};
+ghost use Rattle.gj_elim.specs.KeptRows.{kept_rows};
 ghost use Rattle.gj_elim.specs.Progress.{IsLeft};
 
 use crate::faults::ElimFault;
@@ -14,11 +14,7 @@ use gj_shape::List;
 
 /// The place of the kept row with its pivot at the column.
 pub(crate) fn place_of(log: &[LogRow], column: u32) -> Option<usize>
-    ensures within { IfSome result (λ i. i < length log.now) }
-    ensures found { IfSome result (λ i. (rows : List (List ℤ)) → length log.now ≡ length rows →
-        IsRowAt (kept_rows log.now rows) column (get_or rows i [])) }
-    ensures none { IfNone result ((rows : List (List ℤ)) → length log.now ≡ length rows →
-        row_with_pivot (kept_rows log.now rows) column ≡ None) }
+    ensures { result ≡ position (λ line. line.pivot == column) log.now }
 {
     log.iter().position(|line| line.pivot == column)
 }
