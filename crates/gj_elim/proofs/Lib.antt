@@ -6,3 +6,4 @@ pub mod Rows
 pub mod Reduction
 pub mod Places
 pub mod Progressing
+pub mod Keeping

@@ -6,10 +6,10 @@ ghost use Rattle.gj_elim.specs.Data.{behind, Fits};
 ghost use Rattle.gj_elim.specs.KeptRows.{log_row, answer_of, marked_in};
 
 use crate::faults::ElimFault;
+use crate::keep::keep;
 use crate::log::{Inserted, LogRow};
 use crate::reduce::{free_column, place_of, reduce_row};
 use crate::solve::{solve_at, unit_row};
-use crate::step::make_kept;
 use gj_shape::List;
 use std::alloc::{AllocError, Global};
 use std::marker::Model;
@@ -90,17 +90,15 @@ impl Basis {
                 Ok(Inserted::Nothing)
             }
             Some(column) => {
-                let mut entries = Vec::from_slice(self.alloc, self.row.as_slice())?;
-                make_kept(entries.as_mut_slice(), column as usize);
-                let reduce = Vec::from_slice(self.alloc, self.reduce.as_slice())?;
-                self.log.reserve(1)?;
-                self.rows.reserve(1)?;
-                self.log.push_reserved(LogRow {
-                    number: self.inserted,
-                    reduce: List::of(reduce),
-                    pivot: column,
-                });
-                self.rows.push_reserved(List::of(entries));
+                keep(
+                    self.alloc,
+                    &mut self.log,
+                    &mut self.rows,
+                    self.inserted,
+                    self.reduce.as_slice(),
+                    column,
+                    self.row.as_slice(),
+                )?;
                 self.inserted += 1;
                 Ok(Inserted::Pivot(column))
             }

@@ -1,5 +1,5 @@
 //! A row goes through all columns, and is reduced by the kept rows.
-ghost use Rattle.std.specs.Prelude.{ℤ, ◌≡◌, ◌<◌, ◌^◌, ◌==◌, List, [], length, All, IfOk, OnOk, IsErrOf};
+ghost use Rattle.std.specs.Prelude.{ℤ, ◌≡◌, ◌<◌, ◌^◌, ◌==◌, List, [], length, All, IfOk, IfSome, OnOk, IsErrOf};
 ghost use Rattle.std.specs.List.{position};
 ghost use Rattle.gj_shape.specs.Elimination.{free_column, inserted, Passes};
 ghost use Rattle.gj_theory.specs.TriangularRows.{AreTriangular};
@@ -48,6 +48,7 @@ pub(crate) fn reduce_row(
     requires empty { reduce.old.items ≡ [] }
     ensures left { IfOk result (λ left. IsLeft (inserted (length row.old) (kept_rows log.now rows.now) row.old) left row.new
         reduce.new.items) }
+    ensures within { IfOk result (λ left. IfSome left (λ c. c < length row.old)) }
     ensures fits { OnOk result (All Fits row.new) }
     ensures narrow { OnOk result (¬ Passes (inserted (length row.old) (kept_rows log.now rows.now) row.old).marked) }
     ensures wide { IsErrOf result ElimFault.Wide →
