@@ -1,7 +1,8 @@
 -- What a basis keeps behind an insertion.
 use Rattle.std.proofs.Common.{◌≡◌, ℕ, ◌+◌, ◌<◌, ◌↔◌, Option, None, Some, ℤ, List, [], ◌∷◌, ◌++◌, length, map, refl, sym, ap, ap₂, subst, ◌∙◌, arith}
-use Rattle.std.specs.Prelude.{All}
-use Rattle.std.proofs.lemmas.List.{length-map}
+use Rattle.std.specs.Prelude.{All, IfSome, Result, Ok, Err, IsErr, IsErrAnd, IsErrOf}
+use Rattle.std.proofs.lemmas.List.{length-map, length_push}
+use Rattle.std.proofs.lemmas.List.Elements.{All-push}
 use Rattle.gj_shape.specs.Elimination.{KeptRow, Insertion, inserted, kept_behind, kept_entries}
 use Rattle.gj_theory.specs.TriangularRows.{Solves, SolvesKept, AreTriangular}
 use Rattle.gj_theory.proofs.Insertions.{inserted_leaves, triangular_behind, solutions_behind}
@@ -101,3 +102,24 @@ solutions_from b d row w kept same h columns is =
     let at : (SolvesKept w kept ↔ (SolvesKept w b.kept × Solves w row)) =
     subst (λ (ks : List KeptRow). (SolvesKept w ks ↔ (SolvesKept w b.kept × Solves w row))) (sym is.kept_is) both in
     subst (λ (x : BasisData). (SolvesKept w kept ↔ (SolvesKept w x.kept × Solves w row))) same at
+
+-- ---- the rest of the invariant
+
+pub some_below : (o : Option ℕ) (c n m : ℕ) → IfSome o (λ k. k < n) → o ≡ Some c → n ≡ m → c < m
+some_below None c n m h e same = absurd cc
+some_below (Some k) c n m h e same = let is : k ≡ c = cc in omega arith
+
+pub same_length : (log log' : List LogRow) (rows rows' : List (List ℤ)) (l : LogRow) (r : List ℤ) → length log ≡ length rows →
+    log' ≡ log ++ l ∷ [] → rows' ≡ rows ++ r ∷ [] → length log' ≡ length rows'
+same_length log log' rows rows' l r e log_is rows_is =
+    ap length log_is ∙ length_push log l ∙ ap (λ n. n + 1) e ∙ sym (length_push rows r) ∙ sym (ap length rows_is)
+
+pub all_small : (rows rows' : List (List ℤ)) (r : List ℤ) → All (All Fits) rows → rows' ≡ rows ++ r ∷ [] → All Fits r →
+    All (All Fits) rows'
+all_small rows rows' r all rows_is small = subst (All (All Fits)) (sym rows_is) (All-push (All Fits) rows r all small)
+
+-- an error that goes on is the same
+pub same_error : {T U E : Type 0} (r : Result T E) (x y : E) → IsErr r → IsErrAnd r (λ e. e ≡ x) → IsErrOf r y →
+    IsErrOf {T = U} (Err x) y
+same_error (Ok v) x y is_err h e = absurd cc
+same_error (Err z) x y is_err h e = cc

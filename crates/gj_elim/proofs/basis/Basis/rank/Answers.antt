@@ -1,0 +1,16 @@
+use Rattle.std.proofs.Common.{rules, ap, length, ◌∙◌, ◌≡◌, ◌≤◌, sym, arith}
+use Rattle.gj_elim.specs.KeptRows.{kept_rows}
+use Rattle.gj_theory.proofs.Triangular.{rank_at_most}
+use Rattle.gj_elim.proofs.Keeping.{length-kept_rows}
+use Rattle.gj_elim.proofs.basis.Basis.rank.Goals as goal
+
+pub overflow_cast-result : goal.overflow_cast-result
+overflow_cast-result c =
+    let most = rank_at_most c.self.inside.columns (kept_rows c.self.inside.log.items c.self.inside.rows.items) c.self.invariant.triangular in
+    let same = length-kept_rows c.self.inside.log.items c.self.inside.rows.items c.self.invariant.lines in
+    omega arith
+
+pub returns-clause-count : goal.returns-clause-count
+returns-clause-count c =
+    let same = length-kept_rows c.self.inside.log.items c.self.inside.rows.items c.self.invariant.lines in
+    ?
