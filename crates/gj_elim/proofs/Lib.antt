@@ -7,3 +7,4 @@ pub mod Reduction
 pub mod Places
 pub mod Progressing
 pub mod Keeping
+pub mod Solving

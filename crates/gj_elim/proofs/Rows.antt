@@ -33,15 +33,18 @@ over_all f old row i past len is =
     is ∙ ap₂ (λ xs ys. map f xs ++ ys) (take_all i old (omega arith)) (drop_of_length-le old (omega arith)) ∙ append-nil (map f old)
 
 -- an entry that is still as it was
+pub over_same : (f : ℤ → ℤ) (old row : List ℤ) (i : ℕ) → i < length old → length row ≡ length old →
+    row ≡ map f (take i old) ++ drop i old → get_or row i (pos 0) ≡ get_or old i (pos 0)
+over_same f old row i inside len is =
+    let front : length (map f (take i old)) ≡ i = length-map (take i old) f ∙ length-take-le i old (omega arith) in
+    ap (λ xs. get_or xs i (pos 0)) is
+    ∙ get_or-append_right (map f (take i old)) (drop i old) i i (pos 0) front (omega arith)
+    ∙ get_or-drop i old (i - i) (pos 0) ∙ ap (λ k. get_or old k (pos 0)) (omega arith)
+
 pub over_open : (f : ℤ → ℤ) (P : ℤ → Type 0) (old row : List ℤ) (i : ℕ) → i < length old → length row ≡ length old →
     row ≡ map f (take i old) ++ drop i old → All P old → P (get_or row i (pos 0))
 over_open f P old row i inside len is all =
-    let front : length (map f (take i old)) ≡ i = length-map (take i old) f ∙ length-take-le i old (omega arith) in
-    let here : get_or row i (pos 0) ≡ get_or old i (pos 0) =
-    ap (λ xs. get_or xs i (pos 0)) is
-    ∙ get_or-append_right (map f (take i old)) (drop i old) i i (pos 0) front (omega arith)
-    ∙ get_or-drop i old (i - i) (pos 0) ∙ ap (λ k. get_or old k (pos 0)) (omega arith) in
-    subst P (sym here) (All-get_or P old i (pos 0) inside all)
+    subst P (sym (over_same f old row i inside len is)) (All-get_or P old i (pos 0) inside all)
 
 -- ---- division
 
@@ -67,7 +70,7 @@ read_signed_quotient x d fits d_fits some =
     ∙ to_z-of_z w128 (int_div x d) (quot_fits w128 x d fits some)
 
 -- the entries of a divided row are as small
-smaller : (g : ℕ) (q x : ℤ) → 0 < g → pos g *ℤ q ≡ x → unsigned_abs q ≤ unsigned_abs x
+pub smaller : (g : ℕ) (q x : ℤ) → 0 < g → pos g *ℤ q ≡ x → unsigned_abs q ≤ unsigned_abs x
 smaller g q x some is =
     let size : g * unsigned_abs q ≡ unsigned_abs x = sym (unsigned_abs-mul (pos g) q) ∙ ap unsigned_abs is in
     let more : 1 * unsigned_abs q ≤ g * unsigned_abs q = mul-le-mul_right (unsigned_abs q) some in
@@ -106,7 +109,7 @@ divided_large row done d is large h =
 
 -- ---- signs
 
-negated_fits : (x : ℤ) → Fits x → Fits (neg_ℤ x)
+pub negated_fits : (x : ℤ) → Fits x → Fits (neg_ℤ x)
 negated_fits x h = omega (arith, ints)
 
 pub read_negated : (x : ℤ) → Fits x → to_z w128 (of_z w128 (pos 0 -ℤ to_z w128 (of_z w128 x))) ≡ neg_ℤ x

@@ -69,7 +69,7 @@ none_in_range p a (suc m) j e from below =
     by_test false t e later (inr l) = subst (λ (i : ℕ). p i ≡ false) (le_antisymm from l) t
 
 -- an element that passes is found
-none_found : {X : Type 0} (p : X → Bool) (xs : List X) → list_any p xs ≡ false → find p xs ≡ None
+pub none_found : {X : Type 0} (p : X → Bool) (xs : List X) → list_any p xs ≡ false → find p xs ≡ None
 none_found p [] e = refl
 none_found p (x ∷ xs) e = by_test (p x) e (none_found p xs)
   where
@@ -78,7 +78,7 @@ none_found p (x ∷ xs) e = by_test (p x) e (none_found p xs)
     by_test true e later = absurd cc
     by_test false e later = later e
 
-some_found : {X : Type 0} (p : X → Bool) (xs : List X) → list_any p xs ≡ true → find p xs ≡ None → ⊥
+pub some_found : {X : Type 0} (p : X → Bool) (xs : List X) → list_any p xs ≡ true → find p xs ≡ None → ⊥
 some_found p [] e f = cc
 some_found p (x ∷ xs) e f = by_test (p x) e f (some_found p xs)
   where
@@ -88,7 +88,7 @@ some_found p (x ∷ xs) e f = by_test (p x) e f (some_found p xs)
     by_test false e f later = later e f
 
 -- a column has a pivot or not
-abbrev has_pivot : List KeptRow → ℕ → Bool
+abbrev pub has_pivot : List KeptRow → ℕ → Bool
 has_pivot kept c = list_any (λ k. eqb k.pivot c) kept
 
 not_true : (b : Bool) → not b ≡ true → b ≡ false

@@ -58,6 +58,7 @@ invariant_of-self-in-Some c =
           c.in_ok-keep-in-Some.ensures.fits;
       columns = ap length held ∙ c.reduce_row.auto.row ∙ ap length (c.as_mut_slice.ensures.value ∙ c.copy_from_slice.ensures.items)
           ∙ (c.requires.columns ∙ sym (ap (λ d. d.columns) c.self.view_is));
+      narrow = c.self.invariant.narrow;
     }
 
 pub returns-in_ok-keep-in-Some-clause-kept : goal.returns-in_ok-keep-in-Some-clause-kept
