@@ -8,3 +8,4 @@ pub mod Places
 pub mod Progressing
 pub mod Keeping
 pub mod Solving
+pub mod KernelSteps

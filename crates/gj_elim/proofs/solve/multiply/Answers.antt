@@ -27,7 +27,7 @@ returns-in_err-x-clause-wide c =
     c.loop-x.auto.numbers c.loop-x.invariant.done in
     on_err _ _
     (scaled_wide c.args.factor c.args.numbers.now c.loop-x.x-index (omega arith)
-    (simp (u, x, same) at c.in_err-x.ensures))
+    (simp same at (simp (u, x) at c.in_err-x.ensures)))
 
 pub returns-clause-narrow : goal.returns-clause-narrow
 returns-clause-narrow c =
