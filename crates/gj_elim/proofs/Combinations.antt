@@ -1,5 +1,5 @@
 -- One entry of a step, and all of them.
-use Rattle.std.proofs.Common.{◌≡◌, ◌≢◌, ℕ, zero, suc, ◌+◌, ◌<◌, ◌≤◌, ◌^◌, ◌⊎◌, inl, inr, ◌↔◌, ℤ, pos, ◌*ℤ◌, ◌-ℤ◌, List, [], ◌∷◌, ◌++◌, length, get_or, set, unsigned_abs, below_more, refl, sym, ap, ap₂, subst, ◌∙◌, arith}
+use Rattle.std.proofs.Common.{◌≡◌, ℕ, ◌+◌, ◌<◌, ◌≤◌, ◌^◌, ◌⊎◌, inl, inr, ℤ, pos, ◌*ℤ◌, ◌-ℤ◌, List, ◌++◌, length, set, unsigned_abs, below_more, refl, sym, ap, ap₂, subst, ◌∙◌, arith}
 use Rattle.std.specs.Prelude.{Result, Ok, Err, IfOk, OnOk, OnErr}
 use Rattle.std.specs.Result.{OkIff}
 use Rattle.std.proofs.lemmas.Bool.{cases_lt}
@@ -88,8 +88,8 @@ combined_value u w old kept row i h e len all =
     let (first, second, third) = lengths u w old kept e in
     same_lists row (combination_of_rows u w old kept) (len ∙ sym third)
     (λ k d below.
-        get_or_default row k d (pos 0) below ∙ h.done k (omega arith) ∙ sym (at_combination u w old kept k e)
-        ∙ get_or_default (combination_of_rows u w old kept) k (pos 0) d (omega arith))
+    get_or_default row k d (pos 0) below ∙ h.done k (omega arith) ∙ sym (at_combination u w old kept k e)
+    ∙ get_or_default (combination_of_rows u w old kept) k (pos 0) d (omega arith))
 
 pub combined_narrow : (u w : ℤ) (old kept row : List ℤ) (i : ℕ) → AreCombined u w old kept row i →
     length kept ≡ length old → length row ≡ length old → length row ≤ i → Passes (marked_numbers u w old kept) → ⊥
@@ -103,6 +103,7 @@ combined_narrow u w old kept row i h e len all passes =
     products (inr p) =
         none_pass (scaled w kept)
         (λ k below. subst Fits (sym (at_scaled w kept k)) (h.fit k (omega (arith, lengths u w old kept e))).second) p
+
     by_part : Passes (scaled u old ++ scaled w kept) ⊎ Passes (combination_of_rows u w old kept) → ⊥
     by_part (inl p) = products (either_passes (scaled u old) (scaled w kept) p)
     by_part (inr p) =
@@ -117,6 +118,7 @@ combined_wide u w old kept row i h e len inside wide =
   where
     narrow : FitsCombined u (at_column old i) w (at_column kept i) → ⊥
     narrow fits = wide (subst (λ (x : ℤ). FitsCombined u x w (at_column kept i)) (sym (h.later i (omega arith))) fits)
+
     by_third : Fits (u *ℤ at_column old i) → Fits (w *ℤ at_column kept i) →
         (unsigned_abs (u *ℤ at_column old i -ℤ w *ℤ at_column kept i) < 2 ^ 127)
         ⊎ (2 ^ 127 ≤ unsigned_abs (u *ℤ at_column old i -ℤ w *ℤ at_column kept i)) → Passes (marked_numbers u w old kept)
@@ -125,6 +127,7 @@ combined_wide u w old kept row i h e len inside wide =
         back_passes (scaled u old ++ scaled w kept) (combination_of_rows u w old kept)
         (passes_at (combination_of_rows u w old kept) i (omega (arith, lengths u w old kept e))
         (subst (λ (x : ℤ). 2 ^ 127 ≤ unsigned_abs x) (sym (at_combination u w old kept i e)) large))
+
     by_second : Fits (u *ℤ at_column old i) →
         (unsigned_abs (w *ℤ at_column kept i) < 2 ^ 127) ⊎ (2 ^ 127 ≤ unsigned_abs (w *ℤ at_column kept i)) →
         Passes (marked_numbers u w old kept)
@@ -135,6 +138,7 @@ combined_wide u w old kept row i h e len inside wide =
         (back_passes (scaled u old) (scaled w kept)
         (passes_at (scaled w kept) i (omega (arith, lengths u w old kept e))
         (subst (λ (x : ℤ). 2 ^ 127 ≤ unsigned_abs x) (sym (at_scaled w kept i)) large)))
+
     by_first : (unsigned_abs (u *ℤ at_column old i) < 2 ^ 127) ⊎ (2 ^ 127 ≤ unsigned_abs (u *ℤ at_column old i)) →
         Passes (marked_numbers u w old kept)
     by_first (inl small) = by_second small (cases_lt (unsigned_abs (w *ℤ at_column kept i)) (2 ^ 127))

@@ -1,15 +1,14 @@
 -- Laws of the greatest common divisor.
-use Rattle.std.proofs.Common.{◌≡◌, ◌≢◌, ℕ, zero, suc, ◌<◌, ◌≤◌, ◌^◌, ◌⊎◌, inl, inr, ⊎_elim, ℤ, pos, List, [], ◌∷◌, unsigned_abs, refl, sym, ap, subst, ◌∙◌, ◌+◌, length, get_or, drop, drop-cons, add-one, lit<, arith}
+use Rattle.std.proofs.Common.{◌≡◌, ℕ, zero, suc, ◌<◌, ◌≤◌, ◌^◌, ℤ, pos, List, [], ◌∷◌, unsigned_abs, refl, sym, ap, subst, ◌∙◌, ◌+◌, length, get_or, drop, drop-cons, add-one, lit<, arith}
 use Rattle.std.specs.Prelude.{All}
-use Rattle.std.specs.Int.{IsGcd, ◌∣◌}
-use Rattle.std.proofs.lemmas.Nat.Gcd.{same_from_IsGcd, IsGcd-swap, IsGcd-from_zero, dvd_trans, dvd_refl, dvd-zero, le_of_dvd}
+use Rattle.std.specs.Int.{IsGcd}
+use Rattle.std.proofs.lemmas.Nat.Gcd.{IsGcd-swap, IsGcd-from_zero, dvd_trans, dvd_refl, le_of_dvd}
 use Rattle.std.proofs.lemmas.List.Elements.{All-head, All-tail}
 use Rattle.std.proofs.Math.Nat.{one-dvd}
 use Rattle.std.proofs.Math.ListN.{drop_of_length-le}
 use Rattle.gj_tools.specs.Divisors.{gcd_of}
 use Rattle.gj_tools.proofs.Divisors.{gcd_of_is, gcd_is_gcd_of}
 use Rattle.gj_shape.specs.Elimination.{gcd_of_row}
-use Rattle.gj_theory.proofs.RowSums.{zero_or_not}
 use Rattle.gj_elim.specs.Data.{Fits}
 
 pub gcd_of_zero : (a : ℕ) → gcd_of a 0 ≡ a
@@ -26,9 +25,11 @@ gcd_assoc a b c =
     let ab = gcd_of_is a b in
     let bc = gcd_of_is b c in
     let all = gcd_of_is a (gcd_of b c) in
-    gcd_is_gcd_of (gcd_of a b) c (gcd_of a (gcd_of b c))
-    (ab.2 _ all.0 (dvd_trans _ all.1 bc.0), dvd_trans _ all.1 bc.1,
-      λ d p q. all.2 d (dvd_trans d p ab.0) (bc.2 d (dvd_trans d p ab.1) q))
+    gcd_is_gcd_of (gcd_of a b) c (gcd_of a (gcd_of b c)) (
+      ab.2 _ all.0 (dvd_trans _ all.1 bc.0),
+      dvd_trans _ all.1 bc.1,
+      λ d p q. all.2 d (dvd_trans d p ab.0) (bc.2 d (dvd_trans d p ab.1) q),
+    )
 
 -- one more entry
 pub gcd_more : (d x g rest whole : ℕ) → whole ≡ gcd_of d (gcd_of x rest) → IsGcd d x g → whole ≡ gcd_of g rest

@@ -7,9 +7,8 @@ use Rattle.gj_shape.specs.Elimination.{KeptRow, Insertion, inserted, kept_behind
 use Rattle.gj_theory.specs.TriangularRows.{Solves, SolvesKept, AreTriangular}
 use Rattle.gj_theory.proofs.Insertions.{inserted_leaves, triangular_behind, solutions_behind}
 use Rattle.gj_elim.specs.declared.log.LogRow.{LogRow}
-use Rattle.gj_elim.specs.declared.log.Inserted.{Inserted}
 use Rattle.gj_elim.specs.Data.{BasisData, behind, Fits}
-use Rattle.gj_elim.specs.KeptRows.{kept_rows, log_row, answer_of}
+use Rattle.gj_elim.specs.KeptRows.{kept_rows, log_row}
 use Rattle.gj_elim.specs.Progress.{IsLeft, kept_at}
 
 -- ---- the log beside the entries
@@ -68,10 +67,10 @@ row_kept b row left reduce o log log' rows rows' l r h some kept_is lines log_is
     let e : i.kept ≡ Some (l.pivot, r) =
     h.kept_is ∙ ap (λ x. kept_at x left) some ∙ ap (λ xs. Some (l.pivot, xs)) (sym r_is) in
     let now : kept_rows log' rows'
-        ≡ kept_rows log rows ++ record { number = l.number; reduce = l.reduce; pivot = l.pivot; entries = r } ∷ [] =
+    ≡ kept_rows log rows ++ record { number = l.number; reduce = l.reduce; pivot = l.pivot; entries = r } ∷ [] =
     ap₂ kept_rows log_is rows_is ∙ kept_rows_push log rows l r lines in
     let same : kept_rows log rows ++ record { number = l.number; reduce = l.reduce; pivot = l.pivot; entries = r } ∷ []
-        ≡ kept_behind b.kept b.inserted i.reduce (Some (l.pivot, r)) =
+    ≡ kept_behind b.kept b.inserted i.reduce (Some (l.pivot, r)) =
     ap₂ (λ ks n. ks ++ record { number = n; reduce = l.reduce; pivot = l.pivot; entries = r } ∷ []) (sym kept_is) number_is
     ∙ ap (λ cs. b.kept ++ record { number = b.inserted; reduce = cs; pivot = l.pivot; entries = r } ∷ [])
     (reduce_is ∙ sym h.reduce_is) in record {

@@ -1,5 +1,5 @@
 -- The columns below the free column are solved, one after another.
-use Rattle.std.proofs.Common.{◌≡◌, ℕ, suc, ◌+◌, ◌<◌, ◌≤◌, ◌⊎◌, inl, inr, ◌↔◌, Option, None, Some, ℤ, pos, ◌<ℤ◌, List, [], ◌∷◌, ◌++◌, length, eqb, if◌then◌else◌, refl, sym, ap, ap₂, subst, subst₂, ◌∙◌, add-one, arith}
+use Rattle.std.proofs.Common.{◌≡◌, ℕ, ◌+◌, ◌<◌, ◌⊎◌, inl, inr, ◌↔◌, Option, None, Some, ℤ, pos, ◌<ℤ◌, List, ◌++◌, length, eqb, if◌then◌else◌, refl, sym, ap, ap₂, subst, subst₂, ◌∙◌, add-one}
 use Rattle.std.specs.Prelude.{Any, IfSome}
 use Rattle.std.proofs.lemmas.List.FromFn.{length-map-range_with_len}
 use Rattle.gj_shape.specs.Elimination.{KeptRow, Solution, solution_below, solution_from, solved_at, marked_in_solving, entries_of, row_with_pivot, unit_row, free_column, kernel, Passes}
@@ -97,10 +97,13 @@ solved_end b kept n free j w kept_is n_is h free_is solved zero =
         (let x : BasisData = record { columns = n; inserted = b.inserted; kept = kept } in x) ≡ b
     same_basis b kept n kept_is n_is =
         ap₂ (λ (m : ℕ) (ks : List KeptRow). let x : BasisData = record { columns = m; inserted = b.inserted; kept = ks } in x) n_is kept_is
+
     is : kernel n kept ≡ Some (solution_below kept free (unit_row n free))
     is = marked_of kept n free free_is
+
     numbers : w ≡ (solution_below kept free (unit_row n free)).numbers
     numbers = sym (solved.numbers ∙ ap (λ m. (solution_below kept m w).numbers) zero)
+
     here : IsKernel (record { columns = n; inserted = b.inserted; kept = kept }) w
     here = record {
       some = λ full.

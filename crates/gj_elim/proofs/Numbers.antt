@@ -1,9 +1,7 @@
 -- Numbers of 128 bits as the code reads them.
-use Rattle.std.proofs.Common.{◌≡◌, ◌≢◌, ℕ, ◌<◌, ◌≤◌, ◌^◌, ◌<ℤ◌, ◌≤ℤ◌, inr, ℤ, pos, negsuc, List, get_or, length, unsigned_abs, int_div, FitsSigned, to_z, of_z, refl, sym, ap, subst, subst₂, ◌∙◌, arith}
-use Rattle.std.specs.Prelude.{All}
-use Rattle.std.specs.Int.{IsGcd, ◌∣◌}
-use Rattle.std.proofs.lemmas.Int.{ints, fits_signed_from_abs, to_z-of_z, to_z_pos}
-use Rattle.std.proofs.lemmas.List.Elements.{All-get_or}
+use Rattle.std.proofs.Common.{◌≡◌, ◌≢◌, ℕ, ◌<◌, ◌≤◌, ◌^◌, inr, ℤ, pos, unsigned_abs, FitsSigned, to_z, of_z, sym, ap, subst₂, ◌∙◌, arith}
+use Rattle.std.specs.Int.{IsGcd}
+use Rattle.std.proofs.lemmas.Int.{fits_signed_from_abs, to_z-of_z, to_z_pos}
 use Rattle.std.proofs.lemmas.Nat.Gcd.{le_of_dvd}
 use mir.Syntax.{w128}
 use Rattle.gj_tools.specs.Divisors.{gcd_of}

@@ -1,5 +1,5 @@
 -- Rows that are divided, and turned in sign.
-use Rattle.std.proofs.Common.{◌≡◌, ◌≢◌, ℕ, zero, suc, ◌+◌, ◌-◌, ◌*◌, ◌<◌, ◌≤◌, ◌^◌, ⊎_elim, Bool, true, false, if◌then◌else◌, ℤ, pos, ◌-ℤ◌, ◌*ℤ◌, neg_ℤ, ◌<ℤ◌, int_lt, int_div, FitsSigned, to_z, of_z, List, [], ◌∷◌, ◌++◌, length, map, take, drop, get_or, set, unsigned_abs, refl, sym, ap, ap₂, subst, ◌∙◌, arith}
+use Rattle.std.proofs.Common.{◌≡◌, ◌≢◌, ℕ, ◌+◌, ◌-◌, ◌*◌, ◌<◌, ◌≤◌, ◌^◌, ⊎_elim, true, false, if◌then◌else◌, ℤ, pos, ◌-ℤ◌, ◌*ℤ◌, neg_ℤ, ◌<ℤ◌, int_lt, int_div, FitsSigned, to_z, of_z, List, [], ◌∷◌, ◌++◌, length, map, take, drop, get_or, set, unsigned_abs, refl, sym, ap, ap₂, subst, ◌∙◌, arith}
 use Rattle.std.specs.Prelude.{All}
 use Rattle.std.proofs.lemmas.Int.{ints, quot_fits, to_z-of_z, unsigned_abs-mul}
 use Rattle.std.proofs.lemmas.List.{take_all, length-take-le, get_or-append_right, get_or-drop, get_or_default, append-nil, length-map}
@@ -80,10 +80,10 @@ pub divided_fits : (row : List ℤ) → All Fits row → All Fits (divided row)
 divided_fits row h =
     All-from_get_or Fits (divided row) (pos 0)
     (λ k below.
-        let (g, some, is) = at_divided row k in
-        let small = smaller g (at_column (divided row) k) (at_column row k) some is in
-        let whole : Fits (at_column row k) = All-get_or Fits row k (pos 0) (omega (arith, length-divided row)) h in
-        omega arith)
+    let (g, some, is) = at_divided row k in
+    let small = smaller g (at_column (divided row) k) (at_column row k) some is in
+    let whole : Fits (at_column row k) = All-get_or Fits row k (pos 0) (omega (arith, length-divided row)) h in
+    omega arith)
 
 scaled_one : (xs : List ℤ) → scaled (pos 1) xs ≡ xs
 scaled_one [] = refl
@@ -95,6 +95,7 @@ divided_small row d is small = ⊎_elim none one (zero_or_not (gcd_of_row row))
   where
     none : gcd_of_row row ≡ 0 → row ≡ divided row
     none e = sym (divided_zero row e)
+
     one : gcd_of_row row ≢ 0 → row ≡ divided row
     one e =
         let is_one : gcd_of_row row ≡ 1 = omega arith in
@@ -125,8 +126,8 @@ pub all_negated : (row : List ℤ) → All Fits row → All Fits (map neg_ℤ ro
 all_negated row h =
     All-from_get_or Fits (map neg_ℤ row) (pos 0)
     (λ k below.
-        subst Fits (sym (at_negated row k))
-        (negated_fits (at_column row k) (All-get_or Fits row k (pos 0) (omega (arith, length-map row neg_ℤ)) h)))
+    subst Fits (sym (at_negated row k))
+    (negated_fits (at_column row k) (All-get_or Fits row k (pos 0) (omega (arith, length-map row neg_ℤ)) h)))
 
 pub kept_negative : (row done : List ℤ) (c : ℕ) → int_lt (at_column row c) (pos 0) ≡ true → done ≡ map neg_ℤ (divided row) →
     done ≡ kept_entries row c

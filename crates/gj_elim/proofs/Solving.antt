@@ -1,10 +1,8 @@
 -- A kept row is solved.
-use Rattle.std.proofs.Common.{◌≡◌, ◌≢◌, ℕ, zero, suc, ◌+◌, ◌<◌, ◌≤◌, ◌^◌, ◌⊎◌, inl, inr, ◌↔◌, Option, None, Some, ℤ, pos, ◌+ℤ◌, ◌*ℤ◌, neg_ℤ, ◌<ℤ◌, ◌-ℤ◌, int_div, FitsSigned, to_z, of_z, List, [], ◌∷◌, ◌++◌, length, map, take, drop, set, get_or, unsigned_abs, refl, sym, ap, ap₂, subst, ◌∙◌, below_more, append_assoc, arith}
-use Rattle.std.specs.Prelude.{All, Result, Ok, Err}
+use Rattle.std.proofs.Common.{◌≡◌, ℕ, ◌+◌, ◌<◌, ◌≤◌, ◌^◌, ◌⊎◌, inl, inr, ◌↔◌, ℤ, pos, ◌+ℤ◌, ◌*ℤ◌, neg_ℤ, ◌<ℤ◌, ◌-ℤ◌, int_div, FitsSigned, to_z, of_z, List, [], ◌∷◌, ◌++◌, length, map, drop, set, get_or, unsigned_abs, sym, ap, ap₂, subst, ◌∙◌, arith}
 use Rattle.std.specs.List.{zip}
-use Rattle.std.specs.Result.{OkIff}
 use Rattle.std.proofs.lemmas.Bool.{cases_lt}
-use Rattle.std.proofs.lemmas.Int.{ints, to_z-of_z, fits_signed_from_abs}
+use Rattle.std.proofs.lemmas.Int.{ints, to_z-of_z}
 use Rattle.std.proofs.lemmas.List.{drop_more, length-map}
 use Rattle.std.proofs.Math.ListN.{drop_of_length-le}
 use mir.Syntax.{w128}
@@ -65,9 +63,11 @@ marked_more t p ps first second = (
         last : (2 ^ 127 ≤ unsigned_abs (t +ℤ p)) ⊎ Passes (partial_sums (t +ℤ p) ps) → Passes (marked_from (t +ℤ p) ps)
         last (inl large) = absurd (omega arith)
         last (inr h) = back_passes ps (partial_sums (t +ℤ p) ps) h
+
     go : (2 ^ 127 ≤ unsigned_abs p) ⊎ Passes (ps ++ partial_sums t (p ∷ ps)) → Passes (marked_from (t +ℤ p) ps)
     go (inl large) = absurd (omega arith)
     go (inr h) = sums (either_passes ps (partial_sums t (p ∷ ps)) h)
+
     back : Passes ps ⊎ Passes (partial_sums (t +ℤ p) ps) → Passes (ps ++ partial_sums t (p ∷ ps))
     back (inl h) = front_passes ps (partial_sums t (p ∷ ps)) h
     back (inr h) =
@@ -194,6 +194,7 @@ solving_of row w j t d t_is t_fits d_is some d_fits pivot_fits =
     by_size : unsigned_abs (int_div t (pos (gcd_of (unsigned_abs t) (unsigned_abs (at_column row j))))) ≤ unsigned_abs t →
         Fits (int_div t (pos (gcd_of (unsigned_abs t) (unsigned_abs (at_column row j)))))
     by_size h = omega arith
+
     minus : (x : ℤ) → pos 0 -ℤ x ≡ neg_ℤ x
     minus x = omega (arith, ints)
 

@@ -1,5 +1,5 @@
 -- How `Basis` keeps rows: the log beside the entries.
-use Rattle.std.specs.Prelude.{ℕ, ℤ, ◌≡◌, List, [], ◌∷◌, map, Option, None, Some}
+use Rattle.std.specs.Prelude.{ℕ, ℤ, ◌≡◌, List, [], ◌∷◌, Option, None, Some}
 use Rattle.gj_shape.specs.Elimination.{KeptRow, Solution, row_with_pivot}
 use Rattle.gj_elim.specs.declared.log.LogRow.{LogRow}
 use Rattle.gj_elim.specs.declared.log.Inserted.{Inserted}

@@ -145,7 +145,11 @@ impl Basis {
         let mut numbers = unit_row(self.alloc, self.columns as usize, free as usize)?;
         for column in (0..free).rev() {
             if let Some(place) = place_of(self.log.as_slice(), column) {
-                solve_at(self.rows[place].as_slice(), column as usize, numbers.as_mut_slice())?;
+                solve_at(
+                    self.rows[place].as_slice(),
+                    column as usize,
+                    numbers.as_mut_slice(),
+                )?;
             }
         }
         Ok(Some(numbers))

@@ -9,10 +9,16 @@ use crate::step::common_divisor;
 use std::alloc::{AllocError, Global};
 
 /// 1 at the column, and 0 at the other columns.
-pub(crate) fn unit_row(alloc: Global, columns: usize, column: usize) -> Result<Vec<i128>, AllocError>
+pub(crate) fn unit_row(
+    alloc: Global,
+    columns: usize,
+    column: usize,
+) -> Result<Vec<i128>, AllocError>
     ensures { IfOk result (λ v. v.items ≡ unit_row columns column) }
 {
-    (0..columns).map(|i| if i == column { 1 } else { 0 }).collect(alloc)
+    (0..columns)
+        .map(|i| if i == column { 1 } else { 0 })
+        .collect(alloc)
 }
 
 /// The sum of the products of the entries behind the column.

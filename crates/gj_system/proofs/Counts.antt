@@ -107,8 +107,8 @@ pub zeros_small : (old : List ℤ) (m : ℕ) → All (λ x. x ≡ pos 0) old →
 zeros_small old m zeros some =
     All-from_get_or (λ x. unsigned_abs x < m) old (pos 0)
     (λ c below.
-        let is : get_or old c (pos 0) ≡ pos 0 = All-get_or (λ x. x ≡ pos 0) old c (pos 0) below zeros in
-        subst (λ (x : ℤ). unsigned_abs x < m) (sym is) some)
+    let is : get_or old c (pos 0) ≡ pos 0 = All-get_or (λ x. x ≡ pos 0) old c (pos 0) below zeros in
+    subst (λ (x : ℤ). unsigned_abs x < m) (sym is) some)
 
 pub all_added_small : (f : ℕ → ℕ) (i m n : ℕ) (old row : List ℤ) → HasAdded f i old row → length row ≡ length old →
     All (λ x. unsigned_abs x < m) old → m + i ≤ n → All (λ x. unsigned_abs x < n) row
@@ -122,9 +122,9 @@ pub row_of_one : (f : ℕ → ℕ) (i : ℕ) (old row : List ℤ) → HasAdded f
 row_of_one f i old row h len zeros =
     fill_by_all (λ c. pos (rises f i c)) row (length old) (pos 0) len
     (λ c below.
-        let is = h.at c below in
-        let zero : get_or old c (pos 0) ≡ pos 0 = All-get_or (λ x. x ≡ pos 0) old c (pos 0) below zeros in
-        omega (arith, ints))
+    let is = h.at c below in
+    let zero : get_or old c (pos 0) ≡ pos 0 = All-get_or (λ x. x ≡ pos 0) old c (pos 0) below zeros in
+    omega (arith, ints))
 
 -- and to which three are
 pub row_of_three : (f : ℕ → ℕ) (a b s : ℕ) (old one two row : List ℤ) → HasAdded f a old one → length one ≡ length old →
@@ -134,11 +134,11 @@ pub row_of_three : (f : ℕ → ℕ) (a b s : ℕ) (old one two row : List ℤ) 
 row_of_three f a b s old one two row h1 len1 h2 len2 h3 len3 zeros =
     fill_by_all (λ c. pos (rises f a c) +ℤ pos (rises f b c) -ℤ pos (rises f s c)) row (length old) (pos 0) (len3 ∙ len2 ∙ len1)
     (λ c below.
-        let first = h1.at c below in
-        let second = h2.at c (omega arith) in
-        let third = h3.at c (omega arith) in
-        let zero : get_or old c (pos 0) ≡ pos 0 = All-get_or (λ x. x ≡ pos 0) old c (pos 0) below zeros in
-        omega (arith, ints))
+    let first = h1.at c below in
+    let second = h2.at c (omega arith) in
+    let third = h3.at c (omega arith) in
+    let zero : get_or old c (pos 0) ≡ pos 0 = All-get_or (λ x. x ≡ pos 0) old c (pos 0) below zeros in
+    omega (arith, ints))
 
 -- ---- as the code reads them
 

@@ -1,4 +1,4 @@
-use Rattle.std.proofs.Common.{rules, ◌≡◌, None, below_more, arith}
+use Rattle.std.proofs.Common.{◌≡◌, None, below_more, arith}
 use Rattle.std.specs.List.{position}
 use Rattle.gj_elim.proofs.Places.{has, free_found, free_none, none_from_test, some_from_test}
 use Rattle.gj_elim.proofs.reduce.free_column.Goals as goal

@@ -1,4 +1,4 @@
-use Rattle.std.proofs.Common.{rules, ◌*ℤ◌, pos, get_or, sym, ap, subst, below_more, ◌∙◌, to_z, of_z, arith}
+use Rattle.std.proofs.Common.{rules, ◌*ℤ◌, pos, get_or, subst, below_more, ◌∙◌, to_z, of_z, arith}
 use Rattle.std.proofs.lemmas.Int.{to_z-of_z}
 use mir.Syntax.{w128}
 use Rattle.gj_frac.proofs.Refusals.{on_err}

@@ -1,4 +1,4 @@
-use Rattle.std.proofs.Common.{ap, pos, ◌∙◌, ◌<ℤ◌, unsigned_abs, arith}
+use Rattle.std.proofs.Common.{ap, pos, ◌∙◌, unsigned_abs, arith}
 use Rattle.std.proofs.lemmas.Int.{ints, to_z-of_z}
 use mir.Syntax.{w128}
 use Rattle.gj_elim.proofs.Numbers.{IsDivisor, divisor_of, fits_natural, read_natural}

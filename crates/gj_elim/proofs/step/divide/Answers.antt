@@ -19,7 +19,7 @@ pub nonzero_div-x : goal.nonzero_div-x
 nonzero_div-x c = (
   omega arith,
   quotient_fits (get_or c.loop-x.row c.loop-x.x-index (pos 0)) c.divisor_of_row-divisor.result (search rules) (omega arith)
-  (small c.args.row.now c.divisor_of_row-divisor.result c.requires c.divisor_of_row-divisor.ensures),
+      (small c.args.row.now c.divisor_of_row-divisor.result c.requires c.divisor_of_row-divisor.ensures),
 )
 
 pub loop-x-preserved : goal.loop-x-preserved

@@ -1,7 +1,6 @@
 use Rattle.std.proofs.Common.{rules, ◌≡◌, pos, get_or, neg_ℤ, map, sym, subst, ap, ◌∙◌, arith}
 use Rattle.std.specs.Prelude.{All}
 use Rattle.std.proofs.lemmas.Int.{to_z-of_z}
-use Rattle.std.proofs.lemmas.List.Elements.{All-get_or}
 use mir.Syntax.{w128}
 use Rattle.gj_elim.specs.Data.{Fits}
 use Rattle.gj_elim.proofs.Rows.{over_more, over_all, over_open, read_negated, all_negated, kept_negative, kept_positive}

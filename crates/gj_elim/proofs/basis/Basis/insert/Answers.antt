@@ -1,10 +1,10 @@
-use Rattle.std.proofs.Common.{rules, refl, ap, ap₂, sym, subst, length, ◌∙◌, arith}
+use Rattle.std.proofs.Common.{refl, ap, ap₂, sym, subst, length, ◌∙◌}
 use Rattle.std.proofs.lemmas.List.{with_items_is}
 use Rattle.gj_shape.specs.Elimination.{Insertion, Passes, kept_entries}
 use Rattle.gj_elim.specs.Basis.{data_of}
 use Rattle.gj_elim.specs.KeptRows.{kept_rows}
 use Rattle.gj_elim.specs.Progress.{IsLeft}
-use Rattle.gj_elim.proofs.Keeping.{insertion_read, nothing_kept, row_kept, behind_from, triangular_from, solutions_from, some_below, same_length, all_small, same_error}
+use Rattle.gj_elim.proofs.Keeping.{insertion_read, nothing_kept, row_kept, behind_from, triangular_from, solutions_from, same_length, all_small, same_error}
 use Rattle.gj_elim.proofs.basis.Basis.insert.Goals as goal
 
 pub returns-in_err-left-clause-wide : goal.returns-in_err-left-clause-wide
@@ -13,7 +13,7 @@ returns-in_err-left-clause-wide c =
     c.args.row.now c.self.view_is (ap₂ kept_rows c.as_slice.ensures.value c.as_slice-2.ensures.value)
     (c.as_mut_slice.ensures.value ∙ c.copy_from_slice.ensures.items) c.requires.columns in
     λ e. subst (λ (i : Insertion). Passes i.marked) whole
-        (c.in_err-left.ensures.wide (same_error c.from_residual.result c.in_err-left.field-0.0 _ c.from_residual.ensures.0 c.from_residual.ensures.1 e))
+    (c.in_err-left.ensures.wide (same_error c.from_residual.result c.in_err-left.field-0.0 _ c.from_residual.ensures.0 c.from_residual.ensures.1 e))
 
 pub returns-in-None-clause-kept : goal.returns-in-None-clause-kept
 returns-in-None-clause-kept c =

@@ -1,4 +1,4 @@
-use Rattle.std.proofs.Common.{rules, ◌≡◌, ℕ, ◌+◌, ◌-◌, List, ℤ, length, refl, ap, sym, subst, ◌∙◌, arith}
+use Rattle.std.proofs.Common.{◌≡◌, ℕ, ◌+◌, ◌-◌, List, ℤ, length, refl, ap, sym, subst, ◌∙◌, arith}
 use Rattle.std.specs.List.{position}
 use Rattle.std.proofs.lemmas.List.{with_items_is}
 use Rattle.gj_shape.specs.Elimination.{free_column, solved_at, marked_in_solving, Passes}
@@ -104,10 +104,10 @@ returns-in_err-solve_at-clause-wide c =
     let before = subst (λ (m : ℕ). IsSolvedTo (kept_rows c.self.inside.log.items c.self.inside.rows.items) c.self.inside.columns c.in-Some.free m c.loop-column.numbers.items)
     next c.loop-column.invariant in
     λ e. solved_wide c.args.self.now (kept_rows c.self.inside.log.items c.self.inside.rows.items) c.self.inside.columns c.in-Some.free (c.loop-column.column - 1)
-        c.loop-column.numbers.items c.as_slice-in-Some-place_of.result.now (ap (λ d. d.kept) c.self.view_is) (ap (λ d. d.columns) c.self.view_is)
-        free_is before here
-        (subst (λ (w : List ℤ). Passes (marked_in_solving c.as_slice-in-Some-place_of.result.now (c.loop-column.column - 1) w)) c.as_mut_slice.ensures.value
-        c.in_err-solve_at.ensures.wide)
+    c.loop-column.numbers.items c.as_slice-in-Some-place_of.result.now (ap (λ d. d.kept) c.self.view_is) (ap (λ d. d.columns) c.self.view_is)
+    free_is before here
+    (subst (λ (w : List ℤ). Passes (marked_in_solving c.as_slice-in-Some-place_of.result.now (c.loop-column.column - 1) w)) c.as_mut_slice.ensures.value
+    c.in_err-solve_at.ensures.wide)
 
 pub loop-column-preserved : goal.loop-column-preserved
 loop-column-preserved c =

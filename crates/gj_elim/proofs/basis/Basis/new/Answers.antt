@@ -1,4 +1,4 @@
-use Rattle.std.proofs.Common.{rules, length, ap, ap₂, sym, subst, ◌∙◌}
+use Rattle.std.proofs.Common.{length, ap, ap₂, sym, subst, ◌∙◌}
 use Rattle.std.specs.Prelude.{All}
 use Rattle.std.proofs.lemmas.List.Elements.{All-nil}
 use Rattle.gj_theory.specs.TriangularRows.{AreTriangular}

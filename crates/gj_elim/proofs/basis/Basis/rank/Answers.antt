@@ -1,4 +1,4 @@
-use Rattle.std.proofs.Common.{rules, ap, length, sym, ◌∙◌, arith}
+use Rattle.std.proofs.Common.{ap, length, sym, ◌∙◌, arith}
 use Rattle.gj_elim.specs.KeptRows.{kept_rows}
 use Rattle.gj_theory.proofs.Triangular.{rank_at_most}
 use Rattle.gj_elim.proofs.Keeping.{length-kept_rows}
