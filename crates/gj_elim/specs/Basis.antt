@@ -1,6 +1,5 @@
 -- What always holds of the fields of a basis.
-use Rattle.std.specs.Prelude.{ℕ, ◌≡◌, length, All}
-use Rattle.gj_shape.specs.Elimination.{KeptRow}
+use Rattle.std.specs.Prelude.{◌≡◌, ◌<◌, ◌^◌, length, All}
 use Rattle.gj_theory.specs.TriangularRows.{AreTriangular}
 use Rattle.gj_elim.specs.Data.{BasisData, Fits}
 use Rattle.gj_elim.specs.KeptRows.{kept_rows}
@@ -17,3 +16,4 @@ pub record IsBasis (b : Inside) : Type 0 where
   pub triangular : AreTriangular b.columns (kept_rows b.log.items b.rows.items)
   pub fits : All (All Fits) b.rows.items
   pub columns : length b.row.items ≡ b.columns
+  pub narrow : b.columns < 2 ^ 32

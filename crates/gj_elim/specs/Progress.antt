@@ -1,5 +1,5 @@
 -- How far the insertion of a row has come.
-use Rattle.std.specs.Prelude.{ℕ, ℤ, ◌≡◌, ◌<◌, ◌↔◌, ◌++◌, List, length, Option, None, Some, Any}
+use Rattle.std.specs.Prelude.{ℕ, ℤ, ◌≡◌, ◌↔◌, ◌++◌, List, Option, None, Some}
 use Rattle.gj_shape.specs.Elimination.{Insertion, kept_entries, Passes}
 
 -- the pivot and the entries with which a row is kept where something is left of it at this column

@@ -6,10 +6,10 @@ ghost use Rattle.gj_elim.specs.Data.{behind, Fits};
 ghost use Rattle.gj_elim.specs.KeptRows.{log_row, answer_of, marked_in};
 
 use crate::faults::ElimFault;
+use crate::keep::keep;
 use crate::log::{Inserted, LogRow};
-use crate::reduce::{place_of, reduce_row};
+use crate::reduce::{free_column, place_of, reduce_row};
 use crate::solve::{solve_at, unit_row};
-use crate::step::make_kept;
 use gj_shape::List;
 use std::alloc::{AllocError, Global};
 use std::marker::Model;
@@ -90,17 +90,15 @@ impl Basis {
                 Ok(Inserted::Nothing)
             }
             Some(column) => {
-                let mut entries = Vec::from_slice(self.alloc, self.row.as_slice())?;
-                make_kept(entries.as_mut_slice(), column as usize);
-                let reduce = Vec::from_slice(self.alloc, self.reduce.as_slice())?;
-                self.log.reserve(1)?;
-                self.rows.reserve(1)?;
-                self.log.push_reserved(LogRow {
-                    number: self.inserted,
-                    reduce: List::of(reduce),
-                    pivot: column,
-                });
-                self.rows.push_reserved(List::of(entries));
+                keep(
+                    self.alloc,
+                    &mut self.log,
+                    &mut self.rows,
+                    self.inserted,
+                    self.reduce.as_slice(),
+                    column,
+                    self.row.as_slice(),
+                )?;
                 self.inserted += 1;
                 Ok(Inserted::Pivot(column))
             }
@@ -129,12 +127,6 @@ impl Basis {
         self.log.as_slice()
     }
 
-    /// The least column without a pivot.
-    fn free_column(&self) -> Option<u32>
-    {
-        (0..self.columns).find(|column| place_of(self.log.as_slice(), *column).is_none())
-    }
-
     /// Numbers that solve all kept rows and are not all 0; None exactly where there are as many kept rows as columns. `Wide`
     /// exactly where one of the numbers that the definition marks passes 2^127 - 1 in absolute value.
     pub fn kernel(&self) -> Result<Option<Vec<i128>>, ElimFault>
@@ -147,13 +139,17 @@ impl Basis {
         ensures solves { IfOk result (λ o. IfSome o (λ v. SolvesKept v.items self.now.kept)) }
         ensures some { IfOk result (λ o. IfSome o (λ v. Any (λ x. pos 0 <ℤ x) v.items)) }
     {
-        let Some(free) = self.free_column() else {
+        let Some(free) = free_column(self.log.as_slice(), self.columns) else {
             return Ok(None);
         };
         let mut numbers = unit_row(self.alloc, self.columns as usize, free as usize)?;
         for column in (0..free).rev() {
             if let Some(place) = place_of(self.log.as_slice(), column) {
-                solve_at(self.rows[place].as_slice(), column as usize, numbers.as_mut_slice())?;
+                solve_at(
+                    self.rows[place].as_slice(),
+                    column as usize,
+                    numbers.as_mut_slice(),
+                )?;
             }
         }
         Ok(Some(numbers))

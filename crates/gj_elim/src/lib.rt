@@ -7,6 +7,7 @@
 mod basis;
 mod checked;
 mod faults;
+mod keep;
 mod log;
 mod reduce;
 mod solve;

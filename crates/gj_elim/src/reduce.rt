@@ -1,7 +1,8 @@
 //! A row goes through all columns, and is reduced by the kept rows.
-ghost use Rattle.std.specs.Prelude.{ℕ, ℤ, pos, ◌≡◌, ◌≢◌, ◌<◌, ◌^◌, List, length, All, IfOk, IfSome, IfNone, OnOk, Option, None, Some, MatchOption, IsErrOf, get_or};
-ghost use Rattle.std.specs.Vec.{vec_len};
-ghost use Rattle.gj_shape.specs.Elimination.{at_column, row_with_pivot, entries_of, inserted, kept_entries, Passes};
+ghost use Rattle.std.specs.Prelude.{ℤ, ◌≡◌, ◌<◌, ◌^◌, ◌==◌, List, [], length, All, IfOk, IfSome, OnOk, IsErrOf};
+ghost use Rattle.std.specs.List.{position};
+ghost use Rattle.gj_shape.specs.Elimination.{free_column, inserted, Passes};
+ghost use Rattle.gj_theory.specs.TriangularRows.{AreTriangular};
 ghost use Rattle.gj_elim.specs.Data.{Fits};
 ghost use Rattle.gj_elim.specs.KeptRows.{kept_rows};
 ghost use Rattle.gj_elim.specs.Progress.{IsLeft};
@@ -13,15 +14,22 @@ use gj_shape::List;
 
 /// The place of the kept row with its pivot at the column.
 pub(crate) fn place_of(log: &[LogRow], column: u32) -> Option<usize>
-    ensures some { IfSome result (λ i. i < length log.now) }
-    ensures found { IfSome result (λ i. (rows : List (List ℤ)) → length log.now ≡ length rows →
-        entries_of (row_with_pivot (kept_rows log.now rows) column) ≡ get_or rows i [] ) }
-    ensures is { IfSome result (λ i. (rows : List (List ℤ)) → length log.now ≡ length rows →
-        IsSome (row_with_pivot (kept_rows log.now rows) column)) }
-    ensures none { IfNone result ((rows : List (List ℤ)) → length log.now ≡ length rows →
-        row_with_pivot (kept_rows log.now rows) column ≡ None) }
+    ensures { result ≡ position (λ line. line.pivot == column) log.now }
 {
     log.iter().position(|line| line.pivot == column)
+}
+
+/// The least column without a pivot.
+pub(crate) fn free_column(log: &[LogRow], columns: u32) -> Option<u32>
+    ensures { (rows : List (List ℤ)) → length log.now ≡ length rows →
+        result ≡ free_column columns (kept_rows log.now rows) }
+{
+    for column in 0..columns {
+        if place_of(log, column).is_none() {
+            return Some(column);
+        }
+    }
+    None
 }
 
 /// Takes a row through all columns, and adds to `reduce` the columns at which it is reduced. The answer is the column at which
@@ -33,12 +41,14 @@ pub(crate) fn reduce_row(
     reduce: &mut Vec<u32>,
 ) -> Result<Option<u32>, ElimFault>
     requires lines { length log.now ≡ length rows.now }
-    requires columns { All (λ r. length r ≡ length row.old) rows.now }
+    requires triangular { AreTriangular (length row.old) (kept_rows log.now rows.now) }
+    requires small { All (All Fits) rows.now }
     requires count { length row.old < 2 ^ 32 }
     requires fits { All Fits row.old }
     requires empty { reduce.old.items ≡ [] }
     ensures left { IfOk result (λ left. IsLeft (inserted (length row.old) (kept_rows log.now rows.now) row.old) left row.new
         reduce.new.items) }
+    ensures within { IfOk result (λ left. IfSome left (λ c. c < length row.old)) }
     ensures fits { OnOk result (All Fits row.new) }
     ensures narrow { OnOk result (¬ Passes (inserted (length row.old) (kept_rows log.now rows.now) row.old).marked) }
     ensures wide { IsErrOf result ElimFault.Wide →

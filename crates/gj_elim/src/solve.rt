@@ -9,14 +9,16 @@ use crate::step::common_divisor;
 use std::alloc::{AllocError, Global};
 
 /// 1 at the column, and 0 at the other columns.
-pub(crate) fn unit_row(alloc: Global, columns: usize, column: usize) -> Result<Vec<i128>, AllocError>
-    requires { column < columns }
-    ensures value { IfOk result (λ v. v.items ≡ unit_row columns column) }
-    ensures fits { IfOk result (λ v. All Fits v.items) }
+pub(crate) fn unit_row(
+    alloc: Global,
+    columns: usize,
+    column: usize,
+) -> Result<Vec<i128>, AllocError>
+    ensures { IfOk result (λ v. v.items ≡ unit_row columns column) }
 {
-    let mut row = vec![in alloc; 0; columns]?;
-    row[column] = 1;
-    Ok(row)
+    (0..columns)
+        .map(|i| if i == column { 1 } else { 0 })
+        .collect(alloc)
 }
 
 /// The sum of the products of the entries behind the column.

@@ -1,5 +1,5 @@
 //! One step: a row is reduced by a kept row.
-ghost use Rattle.std.specs.Prelude.{ℤ, pos, ◌≡◌, ◌≢◌, ◌<◌, ◌↔◌, ◌^◌, ◌*ℤ◌, ◌-ℤ◌, ◌++◌, length, map, All, IfOk, OnOk, OnErr, unsigned_abs, neg_ℤ};
+ghost use Rattle.std.specs.Prelude.{ℤ, pos, ◌<ℤ◌, ◌≡◌, ◌≢◌, ◌<◌, ◌↔◌, ◌^◌, ◌*ℤ◌, ◌-ℤ◌, ◌++◌, length, map, All, IfOk, OnOk, OnErr, unsigned_abs, neg_ℤ};
 ghost use Rattle.gj_shape.specs.Elimination.{at_column, divided, scaled, differences, reduced, marked_in_step, kept_entries, gcd_of_row, Passes};
 ghost use Rattle.gj_tools.specs.Divisors.{gcd_of};
 ghost use Rattle.gj_elim.specs.Data.{Fits};
@@ -52,7 +52,9 @@ fn combination(u: i128, x: i128, w: i128, e: i128) -> Result<i128, TooWide>
     ensures fits { OnOk result (FitsCombined u x w e) }
     ensures wide { OnErr result (¬ FitsCombined u x w e) }
 {
-    difference(product(u, x)?, product(w, e)?)
+    let first = product(u, x)?;
+    let second = product(w, e)?;
+    difference(first, second)
 }
 
 /// Puts u times the row less w times the kept row in the place of the row. After an error some entries are changed.
@@ -70,12 +72,12 @@ fn combine(u: i128, row: &mut [i128], w: i128, kept: &[i128]) -> Result<(), TooW
     Ok(())
 }
 
-/// Reduces a row by a kept row at the column, where the row is not 0. After an error some entries are changed.
+/// Reduces a row by a kept row with its pivot at the column. After an error some entries are changed.
 pub(crate) fn reduce_by(kept: &[i128], row: &mut [i128], column: usize) -> Result<(), TooWide>
     requires columns { length kept.now ≡ length row.old }
     requires within { column < length row.old }
-    requires fits { All Fits row.old }
-    requires some { at_column row.old column ≢ pos 0 }
+    requires fits { All Fits kept.now }
+    requires positive { pos 0 <ℤ at_column kept.now column }
     ensures value { OnOk result (row.new ≡ reduced kept.now row.old column) }
     ensures fits { OnOk result (All Fits row.new) }
     ensures narrow { OnOk result (¬ Passes (marked_in_step kept.now row.old column)) }
@@ -83,7 +85,7 @@ pub(crate) fn reduce_by(kept: &[i128], row: &mut [i128], column: usize) -> Resul
 {
     let entry = row[column];
     let pivot = kept[column];
-    let divisor = common_divisor(entry, pivot);
+    let divisor = common_divisor(pivot, entry);
     combine(pivot / divisor, row, entry / divisor, kept)?;
     divide(row);
     Ok(())

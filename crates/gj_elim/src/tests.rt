@@ -9,7 +9,12 @@ use std::test::Fail;
 fn wide_steps(rt: HostRuntime) -> Result<(), Fail> {
     let mut basis = Basis::new(rt.alloc(), 2)?;
     assert_eq!(rt; basis.insert(&[1 << 70, 1])?, Inserted::Pivot(0));
-    assert!(rt; matches!(basis.insert(&[(1 << 70) - 1, 1 << 70]), Err(ElimFault::Wide)));
+    assert!(rt;
+        matches!(
+            basis.insert(&[(1 << 70) - 1, 1 << 70]),
+            Err(ElimFault::Wide)
+        )
+    );
     assert_eq!(rt; basis.inserted(), 1);
     assert_eq!(rt; basis.insert(&[1 << 71, 2])?, Inserted::Nothing);
     assert_eq!(rt; basis.inserted(), 2);

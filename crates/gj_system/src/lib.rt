@@ -1,3 +1,10 @@
-//! The rows of the linear system for the slopes of a perturbation.
+//! The rows of the linear system for the slopes of a perturbation, one column for each component.
 #![tactic(auto)]
 
+mod rises;
+mod rows;
+
+pub use rows::row_of;
+
+#[cfg(test)]
+mod tests;

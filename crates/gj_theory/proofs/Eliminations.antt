@@ -112,7 +112,7 @@ elimination_from_has n kept number (row ∷ rows) h columns =
     (elimination_from n (kept_behind kept number (inserted n kept row).reduce (inserted n kept row).kept) (number + 1) rows).kept
     row rows
     (λ w. solutions_behind n number kept row w (inserted n kept row).reduce (inserted n kept row).kept
-        (inserted_leaves n kept row h (All-head (λ r. length r ≡ n) row rows columns)))
+    (inserted_leaves n kept row h (All-head (λ r. length r ≡ n) row rows columns)))
     (elimination_from_has n (kept_behind kept number (inserted n kept row).reduce (inserted n kept row).kept) (number + 1) rows
     (triangular_behind n number kept row (inserted n kept row).reduce (inserted n kept row).kept h
     (inserted_leaves n kept row h (All-head (λ r. length r ≡ n) row rows columns)))

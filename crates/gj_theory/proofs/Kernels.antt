@@ -69,7 +69,7 @@ none_in_range p a (suc m) j e from below =
     by_test false t e later (inr l) = subst (λ (i : ℕ). p i ≡ false) (le_antisymm from l) t
 
 -- an element that passes is found
-none_found : {X : Type 0} (p : X → Bool) (xs : List X) → list_any p xs ≡ false → find p xs ≡ None
+pub none_found : {X : Type 0} (p : X → Bool) (xs : List X) → list_any p xs ≡ false → find p xs ≡ None
 none_found p [] e = refl
 none_found p (x ∷ xs) e = by_test (p x) e (none_found p xs)
   where
@@ -78,7 +78,7 @@ none_found p (x ∷ xs) e = by_test (p x) e (none_found p xs)
     by_test true e later = absurd cc
     by_test false e later = later e
 
-some_found : {X : Type 0} (p : X → Bool) (xs : List X) → list_any p xs ≡ true → find p xs ≡ None → ⊥
+pub some_found : {X : Type 0} (p : X → Bool) (xs : List X) → list_any p xs ≡ true → find p xs ≡ None → ⊥
 some_found p [] e f = cc
 some_found p (x ∷ xs) e f = by_test (p x) e f (some_found p xs)
   where
@@ -88,7 +88,7 @@ some_found p (x ∷ xs) e f = by_test (p x) e f (some_found p xs)
     by_test false e f later = later e f
 
 -- a column has a pivot or not
-abbrev has_pivot : List KeptRow → ℕ → Bool
+abbrev pub has_pivot : List KeptRow → ℕ → Bool
 has_pivot kept c = list_any (λ k. eqb k.pivot c) kept
 
 not_true : (b : Bool) → not b ≡ true → b ≡ false
@@ -127,7 +127,7 @@ pub no_free_column : (n : ℕ) (kept : List KeptRow) → AreTriangular n kept �
 no_free_column n kept h e =
     let count = le-length_from_below (map (λ k. k.pivot) kept) n
     (λ q below. pivot_listed kept q
-        (not_false (has_pivot kept q) (none_in_range (λ j. not (has_pivot kept j)) 0 n q e (omega arith) (omega arith)))) in
+    (not_false (has_pivot kept q) (none_in_range (λ j. not (has_pivot kept j)) 0 n q e (omega arith) (omega arith)))) in
     let len = length-map kept (λ k. k.pivot) in
     le_antisymm (rank_at_most n kept h) (omega arith)
 
@@ -138,6 +138,7 @@ kernel_none n kept h = (λ e. to_full (free_column n kept) refl e, λ len. to_no
     to_full : (o : Option ℕ) → free_column n kept ≡ o → solution_from n kept o ≡ None → length kept ≡ n
     to_full None is e = no_free_column n kept h is
     to_full (Some c) is e = absurd cc
+
     to_none : length kept ≡ n → (o : Option ℕ) → free_column n kept ≡ o → solution_from n kept o ≡ None
     to_none len None is = refl
     to_none len (Some c) is =
@@ -305,10 +306,10 @@ unit_solves n c (k ∷ kept) rows apart =
     let other = All-head (λ r. r.pivot ≢ c) k kept apart in
     All-cons (λ r. c ≤ r.pivot → Solves (unit_row n c) r.entries) k kept
     (λ from.
-        let before : c < k.pivot = omega (arith, other) in
-        only_term k.entries (unit_row n c) c (λ j below. is.zero_before j (omega arith))
-        (λ j above. unit_elsewhere n c j (omega arith))
-        ∙ ap (λ z. z *ℤ at_column (unit_row n c) c) (is.zero_before c before) ∙ zero_times (at_column (unit_row n c) c))
+    let before : c < k.pivot = omega (arith, other) in
+    only_term k.entries (unit_row n c) c (λ j below. is.zero_before j (omega arith))
+    (λ j above. unit_elsewhere n c j (omega arith))
+    ∙ ap (λ z. z *ℤ at_column (unit_row n c) c) (is.zero_before c before) ∙ zero_times (at_column (unit_row n c) c))
     (unit_solves n c kept (All-tail (IsKeptRow n) k kept rows) (All-tail (λ r. r.pivot ≢ c) k kept apart))
   where
     zero_times : (v : ℤ) → pos 0 *ℤ v ≡ pos 0

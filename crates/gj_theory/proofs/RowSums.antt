@@ -82,8 +82,10 @@ divided_times row = ⊎_elim zero_case some_case (zero_or_not (gcd_of_row row))
     scaled_one : (xs : List ℤ) → scaled (pos 1) xs ≡ xs
     scaled_one [] = refl
     scaled_one (x ∷ xs) = ap₂ (λ y ys. y ∷ ys) (omega (arith, ints)) (scaled_one xs)
+
     zero_case : gcd_of_row row ≡ 0 → (g : ℕ) × (0 < g) × (scaled (pos g) (divided row) ≡ row)
     zero_case e = (1, omega arith, ap (scaled (pos 1)) (divided_zero row e) ∙ scaled_one row)
+
     some_case : gcd_of_row row ≢ 0 → (g : ℕ) × (0 < g) × (scaled (pos g) (divided row) ≡ row)
     some_case e = (
       gcd_of_row row,

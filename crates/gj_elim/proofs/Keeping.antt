@@ -1,0 +1,124 @@
+-- What a basis keeps behind an insertion.
+use Rattle.std.proofs.Common.{◌≡◌, ℕ, ◌+◌, ◌<◌, ◌↔◌, Option, None, Some, ℤ, List, [], ◌∷◌, ◌++◌, length, map, refl, sym, ap, ap₂, subst, ◌∙◌, arith}
+use Rattle.std.specs.Prelude.{All, IfSome, Result, Ok, Err, IsErr, IsErrAnd, IsErrOf}
+use Rattle.std.proofs.lemmas.List.{length-map, length_push}
+use Rattle.std.proofs.lemmas.List.Elements.{All-push}
+use Rattle.gj_shape.specs.Elimination.{KeptRow, Insertion, inserted, kept_behind, kept_entries}
+use Rattle.gj_theory.specs.TriangularRows.{Solves, SolvesKept, AreTriangular}
+use Rattle.gj_theory.proofs.Insertions.{inserted_leaves, triangular_behind, solutions_behind}
+use Rattle.gj_elim.specs.declared.log.LogRow.{LogRow}
+use Rattle.gj_elim.specs.Data.{BasisData, behind, Fits}
+use Rattle.gj_elim.specs.KeptRows.{kept_rows, log_row}
+use Rattle.gj_elim.specs.Progress.{IsLeft, kept_at}
+
+-- ---- the log beside the entries
+
+pub kept_rows_push : (log : List LogRow) (rows : List (List ℤ)) (l : LogRow) (r : List ℤ) → length log ≡ length rows →
+    kept_rows (log ++ l ∷ []) (rows ++ r ∷ [])
+    ≡ kept_rows log rows ++ record { number = l.number; reduce = l.reduce; pivot = l.pivot; entries = r } ∷ []
+kept_rows_push [] [] l r e = refl
+kept_rows_push [] (y ∷ rows) l r e = absurd (omega arith)
+kept_rows_push (x ∷ log) [] l r e = absurd (omega arith)
+kept_rows_push (x ∷ log) (y ∷ rows) l r e =
+    ap (λ ks. record { number = x.number; reduce = x.reduce; pivot = x.pivot; entries = y } ∷ ks)
+    (kept_rows_push log rows l r (omega arith))
+
+pub log_of_kept : (log : List LogRow) (rows : List (List ℤ)) → length log ≡ length rows → log ≡ map log_row (kept_rows log rows)
+log_of_kept [] [] e = refl
+log_of_kept [] (y ∷ rows) e = refl
+log_of_kept (x ∷ log) [] e = absurd (omega arith)
+log_of_kept (x ∷ log) (y ∷ rows) e = ap (λ ls. x ∷ ls) (log_of_kept log rows (omega arith))
+
+pub length-kept_rows : (log : List LogRow) (rows : List (List ℤ)) → length log ≡ length rows →
+    length (kept_rows log rows) ≡ length log
+length-kept_rows log rows e = sym (ap length (log_of_kept log rows e) ∙ length-map (kept_rows log rows) log_row)
+
+-- ---- the insertion as the code has it
+
+pub insertion_read : (b d : BasisData) (log : List LogRow) (rows : List (List ℤ)) (r row : List ℤ) → b ≡ d →
+    kept_rows log rows ≡ b.kept → r ≡ row → length row ≡ d.columns →
+    inserted (length r) (kept_rows log rows) r ≡ inserted d.columns d.kept row
+insertion_read b d log rows r row same kept_is row_is columns =
+    ap₂ (λ xs ks. inserted (length xs) ks xs) row_is (kept_is ∙ ap (λ x. x.kept) same)
+    ∙ ap (λ n. inserted n d.kept row) columns
+
+-- ---- the rows behind it
+
+-- the kept rows are those behind the insertion
+pub record AreBehind (b : BasisData) (row : List ℤ) (kept : List KeptRow) : Type 0 where
+  pub kept_is : kept ≡ (behind b row).kept
+
+pub nothing_kept : (b : BasisData) (row left : List ℤ) (reduce : List ℕ) (o : Option ℕ) →
+    IsLeft (inserted b.columns b.kept row) o left reduce → o ≡ None → AreBehind b row b.kept
+unfolding kept_behind
+nothing_kept b row left reduce o h none =
+    let e : (inserted b.columns b.kept row).kept ≡ None = h.kept_is ∙ ap (λ x. kept_at x left) none in record {
+      kept_is = sym (ap (kept_behind b.kept b.inserted (inserted b.columns b.kept row).reduce) e);
+    }
+
+pub row_kept : (b : BasisData) (row left : List ℤ) (reduce : List ℕ) (o : Option ℕ) (log log' : List LogRow)
+    (rows rows' : List (List ℤ)) (l : LogRow) (r : List ℤ) →
+    IsLeft (inserted b.columns b.kept row) o left reduce → o ≡ Some l.pivot → b.kept ≡ kept_rows log rows →
+    length log ≡ length rows → log' ≡ log ++ l ∷ [] → rows' ≡ rows ++ r ∷ [] → l.number ≡ b.inserted → l.reduce ≡ reduce →
+    r ≡ kept_entries left l.pivot → AreBehind b row (kept_rows log' rows')
+unfolding kept_behind
+row_kept b row left reduce o log log' rows rows' l r h some kept_is lines log_is rows_is number_is reduce_is r_is =
+    let i : Insertion = inserted b.columns b.kept row in
+    let e : i.kept ≡ Some (l.pivot, r) =
+    h.kept_is ∙ ap (λ x. kept_at x left) some ∙ ap (λ xs. Some (l.pivot, xs)) (sym r_is) in
+    let now : kept_rows log' rows'
+    ≡ kept_rows log rows ++ record { number = l.number; reduce = l.reduce; pivot = l.pivot; entries = r } ∷ [] =
+    ap₂ kept_rows log_is rows_is ∙ kept_rows_push log rows l r lines in
+    let same : kept_rows log rows ++ record { number = l.number; reduce = l.reduce; pivot = l.pivot; entries = r } ∷ []
+    ≡ kept_behind b.kept b.inserted i.reduce (Some (l.pivot, r)) =
+    ap₂ (λ ks n. ks ++ record { number = n; reduce = l.reduce; pivot = l.pivot; entries = r } ∷ []) (sym kept_is) number_is
+    ∙ ap (λ cs. b.kept ++ record { number = b.inserted; reduce = cs; pivot = l.pivot; entries = r } ∷ [])
+    (reduce_is ∙ sym h.reduce_is) in record {
+      kept_is = now ∙ same ∙ sym (ap (kept_behind b.kept b.inserted i.reduce) e);
+    }
+
+-- ---- what follows
+
+pub behind_from : (b d : BasisData) (row : List ℤ) (kept : List KeptRow) → b ≡ d → AreBehind b row kept →
+    record { columns = b.columns; inserted = b.inserted + 1; kept = kept } ≡ behind d row
+behind_from b d row kept same h =
+    ap (λ ks. let x : BasisData = record { columns = b.columns; inserted = b.inserted + 1; kept = ks } in x) h.kept_is
+    ∙ ap (λ x. behind x row) same
+
+pub triangular_from : (b : BasisData) (row : List ℤ) (kept : List KeptRow) → AreTriangular b.columns b.kept →
+    length row ≡ b.columns → AreBehind b row kept → AreTriangular b.columns kept
+triangular_from b row kept h columns is =
+    let i : Insertion = inserted b.columns b.kept row in
+    subst (AreTriangular b.columns) (sym is.kept_is)
+    (triangular_behind b.columns b.inserted b.kept row i.reduce i.kept h (inserted_leaves b.columns b.kept row h columns))
+
+pub solutions_from : (b d : BasisData) (row w : List ℤ) (kept : List KeptRow) → b ≡ d → AreTriangular b.columns b.kept →
+    length row ≡ d.columns → AreBehind b row kept → (SolvesKept w kept ↔ (SolvesKept w d.kept × Solves w row))
+solutions_from b d row w kept same h columns is =
+    let i : Insertion = inserted b.columns b.kept row in
+    let both = solutions_behind b.columns b.inserted b.kept row w i.reduce i.kept
+    (inserted_leaves b.columns b.kept row h (columns ∙ sym (ap (λ x. x.columns) same))) in
+    let at : (SolvesKept w kept ↔ (SolvesKept w b.kept × Solves w row)) =
+    subst (λ (ks : List KeptRow). (SolvesKept w ks ↔ (SolvesKept w b.kept × Solves w row))) (sym is.kept_is) both in
+    subst (λ (x : BasisData). (SolvesKept w kept ↔ (SolvesKept w x.kept × Solves w row))) same at
+
+-- ---- the rest of the invariant
+
+pub some_below : (o : Option ℕ) (c n m : ℕ) → IfSome o (λ k. k < n) → o ≡ Some c → n ≡ m → c < m
+some_below None c n m h e same = absurd cc
+some_below (Some k) c n m h e same = let is : k ≡ c = cc in omega arith
+
+pub same_length : (log log' : List LogRow) (rows rows' : List (List ℤ)) (l : LogRow) (r : List ℤ) → length log ≡ length rows →
+    log' ≡ log ++ l ∷ [] → rows' ≡ rows ++ r ∷ [] → length log' ≡ length rows'
+same_length log log' rows rows' l r e log_is rows_is =
+    ap length log_is ∙ length_push log l ∙ ap (λ n. n + 1) e ∙ sym (length_push rows r) ∙ sym (ap length rows_is)
+
+pub all_small : (rows rows' : List (List ℤ)) (r : List ℤ) → All (All Fits) rows → rows' ≡ rows ++ r ∷ [] → All Fits r →
+    All (All Fits) rows'
+all_small rows rows' r all rows_is small = subst (All (All Fits)) (sym rows_is) (All-push (All Fits) rows r all small)
+
+-- an error that goes on is the same
+pub same_error : {T U E : Type 0} (r : Result T E) (x y : E) → IsErr r → IsErrAnd r (λ e. e ≡ x) → IsErrOf r y →
+    IsErrOf {T = U} (Err x) y
+same_error (Ok v) x y is_err h e = absurd cc
+same_error (Err z) x y is_err h e = cc

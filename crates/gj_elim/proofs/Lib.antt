@@ -1,0 +1,11 @@
+pub mod Gcds
+pub mod Passing
+pub mod Numbers
+pub mod Combinations
+pub mod Rows
+pub mod Reduction
+pub mod Places
+pub mod Progressing
+pub mod Keeping
+pub mod Solving
+pub mod KernelSteps

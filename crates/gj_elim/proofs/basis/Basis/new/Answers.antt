@@ -1,0 +1,18 @@
+use Rattle.std.proofs.Common.{length, ap, ap₂, sym, subst, ◌∙◌}
+use Rattle.std.specs.Prelude.{All}
+use Rattle.std.proofs.lemmas.List.Elements.{All-nil}
+use Rattle.gj_theory.specs.TriangularRows.{AreTriangular}
+use Rattle.gj_theory.proofs.Eliminations.{no_rows_triangular}
+use Rattle.gj_elim.specs.Data.{Fits}
+use Rattle.gj_elim.specs.KeptRows.{kept_rows}
+use Rattle.gj_elim.proofs.basis.Basis.new.Goals as goal
+
+pub invariant_of-result : goal.invariant_of-result
+invariant_of-result c = record {
+  lines = ap length c.new.ensures.items ∙ sym (ap length c.new-2.ensures.items);
+  triangular = subst (AreTriangular c.args.columns) (sym (ap₂ kept_rows c.new.ensures.items c.new-2.ensures.items))
+      (no_rows_triangular c.args.columns);
+  fits = subst (All (All Fits)) (sym c.new-2.ensures.items) (All-nil (All Fits));
+  columns = sym c.in_ok-vec.field-0.ok.0 ∙ c.in_ok-vec.ensures.len;
+  narrow = c.ranges.columns.fits;
+}

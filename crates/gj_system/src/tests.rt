@@ -1,0 +1,17 @@
+//! Rows by hand.
+use crate::rows::row_of;
+use gj_shape::RowName;
+use std::test::Fail;
+
+/// Three intervals of one component and then two of another, with f at 3/5.
+#[test]
+fn two_components(rt: HostRuntime) -> Result<(), Fail> {
+    let component = [0, 0, 0, 1, 1];
+    let period = row_of(rt.alloc(), &component, 2, 3, RowName::Period)?;
+    assert_eq!(rt; period.as_slice(), [3, 2].as_slice());
+    let at_f = row_of(rt.alloc(), &component, 2, 3, RowName::F)?;
+    assert_eq!(rt; at_f.as_slice(), [3, 0].as_slice());
+    let pair = row_of(rt.alloc(), &component, 2, 3, RowName::Pair(2, 4))?;
+    assert_eq!(rt; pair.as_slice(), [4, 1].as_slice());
+    Ok(())
+}
