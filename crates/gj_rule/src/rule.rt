@@ -4,6 +4,7 @@ ghost use Rattle.gj_frac.specs.Fraction.{IsRatio};
 ghost use Rattle.gj_rule.specs.Kind.{IsInRange, IsKind, IsKindValue, HasPlace};
 ghost use Rattle.gj_rule.specs.Kept.{KeptRule, Evaluates};
 
+use crate::evaluator::Evaluator;
 use crate::kind::RuleKind;
 use gj_frac::Frac;
 use gj_shape::Shape;
@@ -20,24 +21,24 @@ use std::marker::Model;
 /// assert_eq!(rule.at(Frac::new(1, 1000003).unwrap()), Frac::new(1, 123457).unwrap());
 /// ```
 #[derive(Drop)]
-pub struct Rule<E: Fn(Frac) -> Frac> {
+pub struct Rule<E: Evaluator> {
     kind: RuleKind,
     eval: E,
 }
 
-impl<E: Fn(Frac) -> Frac> Model for Rule<E> {
+impl<E: Evaluator> Model for Rule<E> {
     ghost Value = { KeptRule E };
 
     ghost view = { λ r. record { kind = r.kind; eval = r.eval } };
 
-    ghost invariant = { λ r. IsKind r.kind × Evaluates E.pre E.post r.kind r.eval };
+    ghost invariant = { λ r. IsKind r.kind × Evaluates E.can_answer E.answers r.kind r.eval };
 }
 
-impl<E: Fn(Frac) -> Frac> Rule<E> {
+impl<E: Evaluator> Rule<E> {
     /// The rule of this kind with this evaluator.
     pub fn new(kind: RuleKind, eval: E) -> Rule<E>
         requires kind { IsKind kind }
-        requires evaluates { Evaluates E.pre E.post kind eval }
+        requires evaluates { Evaluates E.can_answer E.answers kind eval }
         ensures kind { result.kind ≡ kind }
         ensures eval { result.eval ≡ eval }
     {
@@ -66,9 +67,9 @@ impl<E: Fn(Frac) -> Frac> Rule<E> {
     pub fn at(&self, x: Frac) -> Frac
         requires { IsInRange x }
         ensures value { IsKindValue self.now.kind x result }
-        ensures answered { E.post self.now.eval x result }
+        ensures answered { E.answers self.now.eval x result }
     {
-        (self.eval)(x)
+        self.eval.answer(x)
     }
 }
 

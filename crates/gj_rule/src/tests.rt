@@ -1,6 +1,7 @@
 //! Examples with values by hand.
-use crate::{Rule, RuleKind, gmic_value};
+use crate::{Rule, RuleKind, gmic_value, table_value};
 use gj_frac::Frac;
+use gj_shape::Shape;
 use std::test::Fail;
 
 /// The fraction n/d.
@@ -15,5 +16,16 @@ fn fine_place(rt: HostRuntime) -> Result<(), Fail> {
     assert_eq!(rt; gmic_value(f, fraction(1000000, 1000003)?), fraction(1, 292182)?);
     assert_eq!(rt; gmic_value(f, fraction(1, 1000003)?), fraction(1, 123457)?);
     assert_eq!(rt; gmic_value(f, f), fraction(1, 1)?);
+    Ok(())
+}
+
+/// The mixed-integer cut for 2/5, kept in a rule.
+#[test]
+fn kept_closure(rt: HostRuntime) -> Result<(), Fail> {
+    let f = Frac::new(2, 5).unwrap();
+    let rule = Rule::new(RuleKind::Gmic(f), |x| gmic_value(f, x));
+    assert_eq!(rt; rule.place(), f);
+    assert_eq!(rt; rule.at(Frac::new(3, 4).unwrap()), fraction(5, 12)?);
+    assert_eq!(rt; rule.at(Frac::new(-13, 10).unwrap()), fraction(1, 2)?);
     Ok(())
 }
