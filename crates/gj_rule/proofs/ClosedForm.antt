@@ -1,5 +1,5 @@
 -- The closed form of the mixed-integer cut from quotients of whole numbers.
-use Rattle.std.proofs.Common.{◌≡◌, ◌≢◌, ◌≤◌, ◌<◌, ◌^◌,  ℤ, pos, ◌-ℤ◌, ◌*ℤ◌, ◌<ℤ◌, ◌≤ℤ◌, unsigned_abs, refl, sym, ap, ap₂, subst, subst₂, ◌∙◌, arith, to_z, of_z}
+use Rattle.std.proofs.Common.{◌≡◌, ◌≢◌, ◌≤◌, ◌<◌, ◌^◌, ℤ, pos, ◌-ℤ◌, ◌*ℤ◌, ◌<ℤ◌, ◌≤ℤ◌, unsigned_abs, refl, sym, ap, ap₂, subst, subst₂, ◌∙◌, arith, to_z, of_z}
 use Rattle.std.proofs.lemmas.Int.{ints}
 use Rattle.gj_frac.specs.declared.Frac.{Frac}
 use Rattle.gj_frac.specs.Floor.{IsFloor}
@@ -44,9 +44,9 @@ pub falling_value : (f x y : Frac) (r : ℤ) → IsRest x r → (numerator f *�
 falling_value f x y r rest high is = record {
   rises = λ w floor low. absurd (low (subst (λ (z : ℤ). (numerator f *ℤ denominator x) <ℤ (z *ℤ denominator f)) (rest w floor) high));
   falls = λ w floor h.
-    let d = denominator x in
-    let q = denominator f in
-    let top = ap₂ (λ a b. a *ℤ b) (ap (λ z. d -ℤ z) (rest w floor) ∙ ones d (numerator x -ℤ w *ℤ d)) (one_times q) in
-    let bottom = ap₂ (λ a b. a *ℤ b) (one_times d) (ones q (numerator f)) in
-    subst₂ (IsRatio y) top bottom is;
+      let d = denominator x in
+      let q = denominator f in
+      let top = ap₂ (λ a b. a *ℤ b) (ap (λ z. d -ℤ z) (rest w floor) ∙ ones d (numerator x -ℤ w *ℤ d)) (one_times q) in
+      let bottom = ap₂ (λ a b. a *ℤ b) (one_times d) (ones q (numerator f)) in
+      subst₂ (IsRatio y) top bottom is;
 }

@@ -31,6 +31,13 @@ pub fn gmic_value(f: Frac, x: Frac) -> Frac
     }
 }
 
+/// Whether x is in the range of rules: of denominator at most 2^31 - 1, and at most 2^31 in absolute value.
+pub fn is_in_range(x: Frac) -> bool
+    ensures { IsTrue result ↔ IsInRange x }
+{
+    x.den() < 1 << 31 && x.num().unsigned_abs() <= (x.den() as u128) << 31
+}
+
 /// The value of the function at x, a fraction of the range of rules.
 pub fn table_value(shape: &Shape, x: Frac) -> Frac
     requires { IsInRange x }

@@ -16,6 +16,6 @@ mod rule;
 mod tests;
 
 pub use evaluator::Evaluator;
-pub use evaluators::{gmic_value, table_value};
+pub use evaluators::{gmic_value, is_in_range, table_value};
 pub use kind::RuleKind;
 pub use rule::Rule;

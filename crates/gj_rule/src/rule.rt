@@ -13,12 +13,18 @@ use std::marker::Model;
 /// A kind, and an evaluator that answers the kind's value at each fraction of the range: of denominator at most
 /// 2^31 - 1 and at most 2^31 in absolute value.
 ///
+/// A rule is made in a function that is generic over its evaluator, and the closure is passed to that function.
+///
 /// # Example
 ///
 /// ```
+/// fn value<E: Evaluator>(f: Frac, eval: E, x: Frac) -> Frac {
+///     Rule::new(RuleKind::Gmic(f), eval).at(x)
+/// }
+///
 /// let f = Frac::new(123457, 1000003).unwrap();
-/// let rule = Rule::new(RuleKind::Gmic(f), move |x| gmic_value(f, x));
-/// assert_eq!(rule.at(Frac::new(1, 1000003).unwrap()), Frac::new(1, 123457).unwrap());
+/// let x = Frac::new(1, 1000003).unwrap();
+/// assert_eq!(value(f, |x| gmic_value(f, x), x), Frac::new(1, 123457).unwrap());
 /// ```
 #[derive(Drop)]
 pub struct Rule<E: Evaluator> {
