@@ -1,7 +1,8 @@
 //! A kind beside a closure that evaluates it.
 ghost use Rattle.std.specs.Prelude.{◌≡◌, pos};
 ghost use Rattle.gj_frac.specs.Fraction.{IsRatio};
-ghost use Rattle.gj_rule.specs.Kind.{IsInRange, IsKind, IsKindValue, HasPlace};
+ghost use Rattle.gj_shape.specs.FunctionData.{IsWithinBounds};
+ghost use Rattle.gj_rule.specs.Kind.{IsInRange, IsKind, IsBounded, IsKindValue, HasPlace};
 ghost use Rattle.gj_rule.specs.Kept.{KeptRule, Evaluates};
 
 use crate::evaluator::Evaluator;
@@ -61,7 +62,8 @@ impl<E: Evaluator> Rule<E> {
 
     /// The place f, where the values are 1: the f of the mixed-integer cut, or k/q of a function.
     pub fn place(&self) -> Frac
-        ensures { HasPlace self.now.kind result }
+        ensures place { HasPlace self.now.kind result }
+        ensures limits { IsBounded self.now.kind }
     {
         match &self.kind {
             RuleKind::Gmic(f) => *f,
@@ -81,7 +83,8 @@ impl<E: Evaluator> Rule<E> {
 
 /// The place of a function over its order.
 fn place_of(shape: &Shape) -> Frac
-    ensures { IsRatio result (pos shape.now.place) (pos shape.now.order) }
+    ensures value { IsRatio result (pos shape.now.place) (pos shape.now.order) }
+    ensures limits { IsWithinBounds shape.now }
 {
     Frac::new(i128::from(shape.place()), i128::from(shape.order())).unwrap()
 }
