@@ -1,30 +1,34 @@
 -- The fractional part of a right side and the place of a rule; terms of entries and the cut that they make.
-use Rattle.std.proofs.Common.{◌≡◌, ◌≢◌, ℕ, ◌^◌, ◌*◌, ◌<◌, ◌≤◌, ◌++◌, List, [], ◌∷◌, map, All, ℤ, pos, ◌-ℤ◌, ◌*ℤ◌, unsigned_abs, refl, sym, subst, arith}
+use Rattle.std.proofs.Common.{◌≡◌, ◌≢◌, ℕ, ◌^◌, ◌+◌, ◌*◌, ◌<◌, ◌≤◌, ◌++◌, Result, Ok, Err, IfOk, List, [], ◌∷◌, length, get_or, take, map, All, ℤ, pos, ◌-ℤ◌, ◌*ℤ◌, ◌<ℤ◌, ◌≤ℤ◌, unsigned_abs, refl, sym, ap, ◌∙◌, subst, subst₂, arith}
 use Rattle.std.specs.List.{AllZip}
-use Rattle.std.specs.Int.{◌∣◌}
+use Rattle.std.specs.Int.{◌∣◌, int_div_euclid}
 use Rattle.std.proofs.lemmas.Int.{ints}
 use Rattle.std.proofs.lemmas.Nat.Gcd.{le_of_dvd}
+use Rattle.std.proofs.lemmas.List.{take_more}
 use Rattle.std.proofs.lemmas.List.Elements.{All-nil, All-cons, All-head, All-tail}
 use Rattle.gj_frac.specs.declared.Frac.{Frac}
 use Rattle.gj_frac.specs.Floor.{IsFloor}
 use Rattle.gj_frac.specs.Fraction.{IsRatio, numerator, denominator}
 use Rattle.gj_frac.proofs.Floors.{quotient_is_floor}
 use Rattle.gj_frac.proofs.SameValues.{is_along, same_from_is}
-use Rattle.gj_tools.proofs.Integers.{positive_some_z}
+use Rattle.gj_tools.proofs.Divisors.{whole_multiple}
+use Rattle.gj_tools.proofs.Integers.{positive_some_z, mul_cancel_right_z, pos_abs_z, one_mul_z}
 use Rattle.gj_tools.proofs.Ratios.{ratio_along}
 use Rattle.gj_shape.specs.Given.{IsCommonDenominator}
+use Rattle.gj_shape.proofs.OverScale.{all_divide}
 use Rattle.gj_theory.specs.Cuts.{HasFractionalPart, IsGmicValue, IsValueOf}
 use Rattle.gj_theory.proofs.RowGrids.{cut_by_function, cut_by_gmic}
 use Rattle.gj_rule.specs.Kept.{KeptRule}
-use Rattle.gj_rule.specs.Kind.{IsInRange, IsBounded, HasPlace, IsKindValue, IsMinimalKind}
+use Rattle.gj_rule.specs.Kind.{IsInRange, IsKind, IsBounded, HasPlace, IsKindValue, IsMinimalKind}
 use Rattle.gj_rule.specs.declared.kind.RuleKind.{RuleKind}
 use Rattle.gj_rule.specs.declared.kind.RuleKind.TheVariants.{Gmic, Table}
 use Rattle.gj_row.specs.TableauLimits.{AreWithinLimits, IsSmall, numbers_of}
 use Rattle.gj_row.specs.declared.tableau.Entry.{Entry}
 use Rattle.gj_row.specs.declared.tableau.Row.{Row}
-use Rattle.gj_cut.specs.RowCuts.{HasPart, IsTermOf, HoldsFor}
+use Rattle.gj_cut.specs.RowCuts.{IsWhole, HasPart, IsTermOfKind, IsTermOf, IsCutOf, IsCutOfKind, IsGmicCutOf, HoldsFor}
 use Rattle.gj_cut.specs.declared.cut.Term.{Term}
-use Rattle.gj_cut.specs.declared.cut.RowCut.TheVariants.{Cut}
+use Rattle.gj_cut.specs.declared.cut.RowCut.{RowCut}
+use Rattle.gj_cut.specs.declared.cut.RowCut.TheVariants.{Cut, Integral, OtherFraction}
 
 -- ---- the fractional part
 
@@ -56,6 +60,38 @@ part_at_place (Gmic f) x r p bounded part is =
 part_at_place (Table shape) x r p bounded part is =
     part_is_place x r p (pos shape.place) (pos shape.order) (omega (arith, bounded.order_low)) part is
 
+-- ---- a right side that is not whole
+
+-- a right side that leaves nothing above its floor is whole
+whole_from_no_part : (x r : Frac) → IsPartOf r x → numerator r ≡ pos 0 → IsWhole x
+whole_from_no_part x r part none =
+    let w = int_div_euclid x.num x.den in
+    let d = unsigned_abs x.den in
+    let is : (numerator x -ℤ w *ℤ x.den) *ℤ r.den ≡ pos 0 *ℤ r.den =
+    sym (part w (quotient_is_floor x)) ∙ ap (λ z. z *ℤ x.den) none ∙ omega (arith, ints) in
+    let rest = mul_cancel_right_z _ (pos 0) r.den is (positive_some_z r.den r.lowest.positive) in
+    let d_is : pos d ≡ x.den = pos_abs_z x.den (omega (arith, ints, x.lowest.positive)) in
+    let multiple : pos 1 *ℤ x.num ≡ w *ℤ pos d = one_mul_z x.num ∙ omega (arith, ints) ∙ ap (λ z. w *ℤ z) (sym d_is) in
+    let bound : d ≤ 1 = le_of_dvd (omega arith) (whole_multiple x.num w d 1 x.lowest.coprime multiple) in
+    omega (arith, ints, x.lowest.positive)
+
+-- the part of one that is not is the place of a mixed-integer cut
+pub part_is_kind : (x r : Frac) → IsPartOf r x → (IsWhole x → ⊥) → unsigned_abs (denominator x) < 2 ^ 31 → pos 0 ≤ℤ numerator r →
+    numerator r <ℤ denominator r → IsKind (Gmic r)
+part_is_kind x r part not_whole fine low high =
+    let w = int_div_euclid x.num x.den in
+    let d = unsigned_abs x.den in
+    let d_is : pos d ≡ x.den = pos_abs_z x.den (omega (arith, ints, x.lowest.positive)) in
+    let over : IsRatio r (numerator x -ℤ w *ℤ x.den) (pos d) =
+    subst (λ (z : ℤ). IsRatio r (numerator x -ℤ w *ℤ x.den) z) (sym d_is) (part w (quotient_is_floor x)) in
+    let divides = All-head (λ y. unsigned_abs (denominator y) ∣ d) r [] (all_divide d (r ∷ []) (_ ∷ []) (over, tt)) in
+    let bound : unsigned_abs (denominator r) ≤ d = le_of_dvd (omega (arith, ints, x.lowest.positive)) divides in
+    let some : numerator r ≡ pos 0 → ⊥ = λ none. not_whole (whole_from_no_part x r part none) in
+    ((omega (arith, ints, some), high), omega arith)
+
+pub part_of_right : (x r : Frac) → IsPartOf r x → HasFractionalPart x (numerator r) (denominator r)
+part_of_right x r part = part_is x r r.num r.den part refl
+
 -- ---- the entries of a row
 
 in_range_all : (d : ℕ) (entries : List Entry) → 0 < d → d < 2 ^ 31 → All IsSmall (map (λ e. e.value) entries) →
@@ -77,15 +113,32 @@ entries_in_range row h =
     in_range_all d row.entries h.common.1 h.common.2 (All-tail IsSmall row.rhs values h.small)
     (All-tail (λ x. unsigned_abs (denominator x) ∣ d) row.rhs values h.common.3)
 
+-- so is its right side
+pub right_fine : (row : Row) → AreWithinLimits (numbers_of row) → unsigned_abs (denominator row.rhs) < 2 ^ 31
+right_fine row h =
+    let d = h.common.0 in
+    let divides = All-head (λ x. unsigned_abs (denominator x) ∣ d) row.rhs (map (λ e. e.value) row.entries) h.common.3 in
+    let some : 0 < d = h.common.1 in
+    let bound : unsigned_abs (denominator row.rhs) ≤ d = le_of_dvd some divides in
+    let fine : d < 2 ^ 31 = h.common.2 in
+    omega arith
+
 -- ---- terms
 
 -- one more item in each of two lists
-pub zip_longer : {A B : Type 0} (R : A → B → Type 0) (xs : List A) (ys : List B) (x : A) (y : B) → AllZip R xs ys → R x y →
+zip_longer : {A B : Type 0} (R : A → B → Type 0) (xs : List A) (ys : List B) (x : A) (y : B) → AllZip R xs ys → R x y →
     AllZip R (xs ++ x ∷ []) (ys ++ y ∷ [])
 zip_longer R [] [] x y h last = (last, tt)
 zip_longer R [] (z ∷ ys) x y h last = absurd h
 zip_longer R (w ∷ xs) [] x y h last = absurd h
 zip_longer R (w ∷ xs) (z ∷ ys) x y h last = (h.0, zip_longer R xs ys x y h.1 last)
+
+-- one more item of a list that is gone through
+pub zip_next : {A B : Type 0} (R : A → B → Type 0) (xs : List A) (i : ℕ) (x : A) (ys zs : List B) (y : B) → i < length xs →
+    x ≡ get_or xs i x → zs ≡ ys ++ y ∷ [] → AllZip R (take i xs) ys → R x y → AllZip R (take (i + 1) xs) zs
+zip_next R xs i x ys zs y below here next h last =
+    let more : take (i + 1) xs ≡ take i xs ++ x ∷ [] = take_more xs i x below ∙ ap (λ z. take i xs ++ z ∷ []) (sym here) in
+    subst₂ (AllZip R) (sym more) (sym next) (zip_longer R (take i xs) ys x y h last)
 
 -- ---- the cut
 
@@ -96,7 +149,7 @@ term_values answers rule V [] [] value h = tt
 term_values answers rule V [] (t ∷ terms) value h = absurd h
 term_values answers rule V (e ∷ entries) [] value h = absurd h
 term_values answers rule V (e ∷ entries) (t ∷ terms) value h = (
-  subst (λ (x : Frac). V x t.cut) (sym h.0.entry_is) (value e.value t.cut h.0.value_is),
+  subst (λ (x : Frac). V x t.cut) (sym h.0.of_kind.entry_is) (value e.value t.cut h.0.of_kind.value_is),
   term_values answers rule V entries terms value h.1,
 )
 
@@ -109,3 +162,29 @@ holds_at answers rule (Gmic f) row terms e bounded minimal part h =
 holds_at answers rule (Table shape) row terms e bounded minimal part h =
     cut_by_function shape (map (λ t. t.entry) terms) row.rhs (map (λ t. t.cut) terms) bounded minimal part
     (term_values answers rule (IsValueOf shape) row.entries terms (λ x y v. subst (λ k. IsKindValue k x y) e v) h)
+
+-- ---- cuts by any rule of a kind
+
+terms_of_kind : {E : Type 0} (answers : E → Frac → Frac → Type 0) (rule : KeptRule E) (entries : List Entry) (terms : List Term) →
+    AllZip (IsTermOf answers rule) entries terms → AllZip (IsTermOfKind rule.kind) entries terms
+terms_of_kind answers rule [] [] h = tt
+terms_of_kind answers rule [] (t ∷ terms) h = absurd h
+terms_of_kind answers rule (e ∷ entries) [] h = absurd h
+terms_of_kind answers rule (e ∷ entries) (t ∷ terms) h = (h.0.of_kind, terms_of_kind answers rule entries terms h.1)
+
+pub cut_of_kind : {E : Type 0} (answers : E → Frac → Frac → Type 0) (rule : KeptRule E) (row : Row) (cut : RowCut) →
+    IsCutOf answers rule row cut → IsCutOfKind rule.kind row cut
+cut_of_kind answers rule row (Cut terms) h = (h.0, h.1, terms_of_kind answers rule row.entries terms h.2)
+cut_of_kind answers rule row Integral h = h
+cut_of_kind answers rule row OtherFraction h = h
+
+pub gmic_cut_of : (f : Frac) (row : Row) (cut : RowCut) → HasPart (Gmic f) row.rhs → IsCutOfKind (Gmic f) row cut →
+    IsGmicCutOf row cut
+gmic_cut_of f row (Cut terms) part h = (f, h)
+gmic_cut_of f row Integral part h = h
+gmic_cut_of f row OtherFraction part h = absurd (h.1 part)
+
+-- what holds of the value of a result, carried over
+pub if_ok_along : {T F : Type 0} {P Q : T → Type 0} (r : Result T F) → IfOk r P → ((x : T) → P x → Q x) → IfOk r Q
+if_ok_along (Ok x) h carried = carried x h
+if_ok_along (Err e) h carried = tt

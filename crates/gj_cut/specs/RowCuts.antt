@@ -24,19 +24,36 @@ abbrev pub HasPart : RuleKind → Frac → Type 0
 HasPart (Gmic f) x = HasFractionalPart x (numerator f) (denominator f)
 HasPart (Table shape) x = HasFractionalPart x (pos shape.place) (pos shape.order)
 
--- the term of an entry: the coefficient is the kind's value at the entry, and one that the kept evaluator answers there
-pub record IsTermOf {E : Type 0} (answers : E → Frac → Frac → Type 0) (rule : KeptRule E) (entry : Entry) (term : Term) : Type 0 where
+-- the term of an entry: the coefficient is the kind's value at the entry
+pub record IsTermOfKind (kind : RuleKind) (entry : Entry) (term : Term) : Type 0 where
   pub column_is : term.column ≡ entry.column
   pub entry_is : term.entry ≡ entry.value
-  pub value_is : IsKindValue rule.kind entry.value term.cut
+  pub value_is : IsKindValue kind entry.value term.cut
+
+-- and one that the kept evaluator answers there
+pub record IsTermOf {E : Type 0} (answers : E → Frac → Frac → Type 0) (rule : KeptRule E) (entry : Entry) (term : Term) : Type 0 where
+  pub of_kind : IsTermOfKind rule.kind entry term
   pub answered : answers rule.eval entry.value term.cut
 
--- the cut of the row by the rule, or why there is none
+-- the cut of a row with these terms, or why there is none
+abbrev pub IsCutWith : (Entry → Term → Type 0) → RuleKind → Row → RowCut → Type 0
+IsCutWith P kind row (Cut terms) = (IsWhole row.rhs → ⊥) × HasPart kind row.rhs × AllZip P row.entries terms
+IsCutWith P kind row Integral = IsWhole row.rhs
+IsCutWith P kind row OtherFraction = (IsWhole row.rhs → ⊥) × (HasPart kind row.rhs → ⊥)
+
+-- the cut of the row by the rule
 abbrev pub IsCutOf : {E : Type 0} → (E → Frac → Frac → Type 0) → KeptRule E → Row → RowCut → Type 0
-IsCutOf answers rule row (Cut terms) =
-    (IsWhole row.rhs → ⊥) × HasPart rule.kind row.rhs × AllZip (IsTermOf answers rule) row.entries terms
-IsCutOf answers rule row Integral = IsWhole row.rhs
-IsCutOf answers rule row OtherFraction = (IsWhole row.rhs → ⊥) × (HasPart rule.kind row.rhs → ⊥)
+IsCutOf answers rule = IsCutWith (IsTermOf answers rule) rule.kind
+
+-- the cut of the row by any rule of the kind
+abbrev pub IsCutOfKind : RuleKind → Row → RowCut → Type 0
+IsCutOfKind kind = IsCutWith (IsTermOfKind kind) kind
+
+-- the mixed-integer cut of the row for the fractional part f of its right side, or the right side is whole
+abbrev pub IsGmicCutOf : Row → RowCut → Type 0
+IsGmicCutOf row (Cut terms) = (f : Frac) × IsCutOfKind (Gmic f) row (Cut terms)
+IsGmicCutOf row Integral = IsWhole row.rhs
+IsGmicCutOf row OtherFraction = ⊥
 
 -- the cut, where there is one, holds at each solution of the row
 abbrev pub HoldsFor : Row → RowCut → Type 0

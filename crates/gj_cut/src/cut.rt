@@ -14,7 +14,7 @@ pub struct Term {
 }
 
 /// The cut of a row, or why there is none.
-#[derive(Debug, Drop)]
+#[derive(Debug, PartialEq, Eq, Drop)]
 pub enum RowCut {
     /// The sum of the terms, each its coefficient times the variable of its column, is at least 1.
     Cut(List<Term>),
