@@ -3,3 +3,8 @@ pub mod Lists
 pub mod Names
 pub mod SpelledNumbers
 pub mod RowNumbers
+pub mod RowsRead
+pub mod RowWords
+pub mod HeaderWords
+pub mod Entries
+pub mod Reasons

@@ -6,6 +6,8 @@ use Rattle.std.proofs.Math.Nat.{one-dvd}
 use Rattle.std.proofs.lemmas.Nat.Gcd.{dvd_trans}
 use Rattle.std.proofs.lemmas.List.{append-nil, length-append, length_push}
 use Rattle.std.proofs.lemmas.List.Elements.{All-nil, All-head, All-push}
+use Rattle.std.proofs.lemmas.Slice.Zip.{AllZip-long}
+use Rattle.indexmap.proofs.SetLemmas.{AllZip-push}
 use Rattle.gj_frac.specs.declared.Frac.{Frac}
 use Rattle.gj_frac.specs.Fraction.{denominator}
 use Rattle.gj_lex.specs.SpelledNumbers.{IsFractionWord}
@@ -33,18 +35,14 @@ entries_with c (y ∷ xs) x =
     ap (λ l. entry_at c y ++ l) (entries_with (c + 1) xs x ∙ ap (λ n. entries_from (c + 1) xs ++ entry_at n x) place)
     ∙ sym (append_assoc (entry_at c y) (entries_from (c + 1) xs) (entry_at (c + length (y ∷ xs)) x))
 
-entries_zip : (ws : List (List ℕ)) (xs : List Frac) (w : List ℕ) (x : Frac) → AllZip SpellsEntry ws xs → SpellsEntry w x →
-    AllZip SpellsEntry (ws ++ w ∷ []) (xs ++ x ∷ [])
-entries_zip ws xs w x h k = ?
-
 pub numbers_with : (ws : List (List ℕ)) (right : Frac) (xs : List Frac) (w : List ℕ) (x : Frac) → SpellNumbers ws (right ∷ xs) →
     SpellsEntry w x → SpellNumbers (ws ++ w ∷ []) (right ∷ (xs ++ x ∷ []))
 numbers_with [] right xs w x h k = absurd h
-numbers_with (v ∷ ws) right xs w x h k = (h.0, entries_zip ws xs w x h.1 k)
+numbers_with (v ∷ ws) right xs w x h k = (h.0, AllZip-push SpellsEntry ws xs w x h.1 k)
 
 pub numbers_long : (ws : List (List ℕ)) (right : Frac) (xs : List Frac) → SpellNumbers ws (right ∷ xs) → length ws ≡ length xs + 1
 numbers_long [] right xs h = absurd h
-numbers_long (v ∷ ws) right xs h = ?
+numbers_long (v ∷ ws) right xs h = let e = AllZip-long SpellsEntry ws xs h.1 in omega arith
 
 -- ---- the least common denominator
 
@@ -110,7 +108,7 @@ read_over used words right values scale entries spelled over is few = record {
 -- the right side
 pub right_read : (used : ℕ) (w : List ℕ) (x : Frac) (m : ℕ) → used ≤ 100000 → IsFractionWord Lenient w x → Extends 1 x m →
     HasRead used (w ∷ []) x m []
-right_read used w x m few spelled next = read_over used (w ∷ []) x [] m [] (spelled, ?) (over_next [] x 1 m over_none next) refl (omega arith)
+right_read used w x m few spelled next = read_over used (w ∷ []) x [] m [] (spelled, tt) (over_next [] x 1 m over_none next) refl (omega arith)
 
 -- one more entry
 pub entry_read : (used : ℕ) (words : List (List ℕ)) (right : Frac) (scale : ℕ) (entries : List Entry) (column : ℕ) (w : List ℕ)

@@ -1,5 +1,5 @@
 //! Record 1 of a tableau, and its names.
-ghost use Rattle.std.specs.Prelude.{◌≡◌, ◌<◌, ◌≤◌, ◌↔◌, ◌++◌, ◌∷◌, [], ℕ, List, IfOk, IfErr, OnOk, IsTrue, length};
+ghost use Rattle.std.specs.Prelude.{◌≡◌, ◌<◌, ◌≤◌, ◌↔◌, ◌++◌, ◌∷◌, [], ℕ, List, Some, IfOk, IfErr, OnOk, IsTrue, length, slice_get};
 ghost use Rattle.csv.specs.Records.{fields_of};
 ghost use Rattle.gj_row.specs.TableauLimits.{AreNames};
 ghost use Rattle.gj_row.specs.TableauText.{header_of};
@@ -55,7 +55,14 @@ pub(crate) fn header_in(alloc: Global, fields: &ByteRecord) -> Result<Header, Re
 fn begins_header(fields: &ByteRecord) -> bool
     ensures { IsTrue result ↔ ((columns : List (List ℕ)) × (words_in fields.now ≡ header_of columns)) }
 {
-    fields.len() >= 2 && word_at(fields, 0) == b"basic".as_slice() && word_at(fields, 1) == b"rhs".as_slice()
+    has_word(fields, 0, b"basic") && has_word(fields, 1, b"rhs")
+}
+
+/// Whether this word is in the field at this place.
+fn has_word(fields: &ByteRecord, place: usize, word: &[u8]) -> bool
+    ensures { IsTrue result ↔ (slice_get (words_in fields.now) place ≡ Some word.now) }
+{
+    place < fields.len() && word_at(fields, place) == word
 }
 
 /// The name that the word is, where no name so far has its bytes; it is one of them from then on.
