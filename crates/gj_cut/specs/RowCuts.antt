@@ -1,5 +1,5 @@
 -- The cut of a row by a rule (Gomory and Johnson 1972).
-use Rattle.std.specs.Prelude.{ℤ, pos, ◌≡◌, List, map}
+use Rattle.std.specs.Prelude.{pos, ◌≡◌, map}
 use Rattle.std.specs.List.{AllZip}
 use Rattle.gj_frac.specs.declared.Frac.{Frac}
 use Rattle.gj_frac.specs.Fraction.{numerator, denominator}
