@@ -1,8 +1,7 @@
 -- The entries of a row that are not 0.
-use Rattle.std.proofs.Common.{inl, inr, ◌==◌, ◌≡◌, ◌≢◌, ℕ, pos, ◌+◌, ◌-◌, ◌<◌, ◌≤◌, zero, suc, Bool, true, false, List, [], ◌∷◌, ◌++◌, All, map, length, get_or, unsigned_abs, refl, sym, ap, subst, ◌∙◌, arith}
+use Rattle.std.proofs.Common.{inl, inr, ◌==◌, ◌≡◌, ◌≢◌, ℕ, pos, ◌+◌, ◌<◌, ◌≤◌, zero, suc, true, false, List, [], ◌∷◌, All, map, length, get_or, unsigned_abs, ap, subst, arith}
 use Rattle.std.proofs.lemmas.Bool.{cases_Bool}
 use Rattle.std.specs.List.Sorted.{IsStrictlyIncreasing}
-use Rattle.std.proofs.lemmas.List.{map-append}
 use Rattle.std.proofs.lemmas.List.Elements.{All-nil, All-head, All-append, All-push, All-map}
 use Rattle.gj_frac.specs.declared.Frac.{Frac}
 use Rattle.gj_frac.specs.Fraction.{numerator}
@@ -31,7 +30,7 @@ all_hold P c (x ∷ xs) h =
     All-append P (entry_at c x) (entries_from (c + 1) xs)
     (one_holds P c x (λ some. subst (λ n. P (record { column = n; value = x })) (omega arith) (h 0 x (omega arith) some)))
     (all_hold P (c + 1) xs (λ i d within some.
-      subst (λ n. P (record { column = n; value = get_or xs i d })) (omega arith) (h (suc i) d (omega arith) some)))
+    subst (λ n. P (record { column = n; value = get_or xs i d })) (omega arith) (h (suc i) d (omega arith) some)))
 
 values_hold : (P : Frac → Type 0) (right : Frac) (xs : List Frac) → All P (right ∷ xs) → All P (right ∷ map (λ e. e.value) (entries_from 0 xs))
 values_hold P right xs h =

@@ -1,12 +1,12 @@
 -- The words of record 1, and names one after the other.
-use Rattle.std.proofs.Common.{◌≡◌, ◌≢◌, ℕ, ◌+◌, ◌<◌, ◌≤◌, List, [], ◌∷◌, ◌++◌, All, AllPairs, Contains, Some, slice_get, length, get_or, drop, refl, sym, ap, subst, ◌∙◌, arith}
+use Rattle.std.proofs.Common.{◌≡◌, ◌≢◌, ℕ, ◌+◌, ◌<◌, ◌≤◌, List, [], ◌∷◌, ◌++◌, Some, slice_get, length, drop, refl, sym, ap, ◌∙◌, arith}
 use Rattle.std.proofs.lemmas.List.Elements.{All-push}
 use Rattle.std.proofs.lemmas.List.Quantifiers.{all_pairs_push}
 use Rattle.std.proofs.lemmas.List.{get_or_default}
 use Rattle.gj_lex.specs.Name.{IsName}
 use Rattle.gj_row.specs.TableauLimits.{AreNames}
 use Rattle.gj_row.specs.TableauText.{header_of}
-use Rattle.gj_row.specs.FirstFault.{BreaksName, IsNewName, HasNameFault, HasHeaderFault, columns, name}
+use Rattle.gj_row.specs.FirstFault.{BreaksName, IsNewName, HasHeaderFault, columns, name}
 use Rattle.gj_row.specs.declared.faults.RowReason.{RowReason}
 use Rattle.gj_row.specs.declared.faults.RowReason.TheVariants.{Columns}
 

@@ -3,6 +3,7 @@ pub mod Lists
 pub mod Names
 pub mod SpelledNumbers
 pub mod RowNumbers
+pub mod OneTableau
 pub mod RowsRead
 pub mod RowWords
 pub mod HeaderWords

@@ -1,10 +1,9 @@
 -- The numbers of a row, one after the other.
-use Rattle.std.proofs.Common.{◌≡◌, ℕ, ◌+◌, ◌*◌, ◌<◌, ◌≤◌, List, [], ◌∷◌, ◌++◌, All, true, false, length, unsigned_abs, refl, sym, ap, subst, ◌∙◌, append_assoc, inl, inr, arith}
-use Rattle.std.specs.List.{AllZip}
+use Rattle.std.proofs.Common.{◌≡◌, ℕ, ◌+◌, ◌<◌, ◌≤◌, List, [], ◌∷◌, ◌++◌, All, length, unsigned_abs, refl, sym, ap, ◌∙◌, append_assoc, arith}
 use Rattle.std.specs.Int.{◌∣◌}
 use Rattle.std.proofs.Math.Nat.{one-dvd}
 use Rattle.std.proofs.lemmas.Nat.Gcd.{dvd_trans}
-use Rattle.std.proofs.lemmas.List.{append-nil, length-append, length_push}
+use Rattle.std.proofs.lemmas.List.{append-nil, length_push}
 use Rattle.std.proofs.lemmas.List.Elements.{All-nil, All-head, All-push}
 use Rattle.std.proofs.lemmas.Slice.Zip.{AllZip-long}
 use Rattle.indexmap.proofs.SetLemmas.{AllZip-push}
@@ -17,8 +16,8 @@ use Rattle.gj_shape.proofs.LeastDenominator.{denominator_some, Divides}
 use Rattle.gj_tools.proofs.Divisors.{lcm_positive}
 use Rattle.gj_tools.proofs.Lists.{All-front, All-back}
 use Rattle.gj_row.specs.TableauLimits.{IsSmall, AreWithinLimits}
-use Rattle.gj_row.specs.TableauText.{SpellsEntry, SpellNumbers, is_zero, entry_at, entries_from}
-use Rattle.gj_row.specs.FirstFault.{BeginRow, BreaksNumber, HasNumberFault}
+use Rattle.gj_row.specs.TableauText.{SpellsEntry, SpellNumbers, entry_at, entries_from}
+use Rattle.gj_row.specs.FirstFault.{BreaksNumber, HasNumberFault}
 use Rattle.gj_row.specs.Reading.{Extends, HasNoCommon, HasRead, StopsNumber, StopsEntry}
 use Rattle.gj_row.specs.declared.tableau.Entry.{Entry}
 use Rattle.gj_row.specs.declared.faults.RowReason.{RowReason}
@@ -122,7 +121,7 @@ entry_read used words right scale entries column w x m new h place spelled next 
     read_over used (words ++ w ∷ []) right (values ++ x ∷ []) m new (numbers_with words right values w x h.begins.spelled spelled)
     (over_next (right ∷ values) x scale m (over_read used words right scale entries h) next)
     (is ∙ ap (λ l. l ++ entry_at column x) h.entries_are ∙ ap (λ n. entries_from 0 values ++ entry_at n x) at
-      ∙ sym (entries_with 0 values x)) few
+    ∙ sym (entries_with 0 values x)) few
 
 -- ---- what stops the row
 
@@ -165,6 +164,7 @@ entry_stopped used front right scale entries w back words e h place stops = reco
   where
     over : AreOver (right ∷ h.values) scale
     over = over_read used front right scale entries h
+
     breaks : (e : RowReason) → StopsEntry (SpellsEntry w) scale (used + length entries) e → BreaksNumber used (right ∷ h.values) w e
     breaks Number s = s
     breaks Large s = s
@@ -173,7 +173,7 @@ entry_stopped used front right scale entries w back words e h place stops = reco
         let x = s.0 in
         let count : length (entries_from 0 (h.values ++ x ∷ [])) ≡ length entries + 1 =
         ap length (entries_with 0 h.values x ∙ ap (λ l. entries_from 0 h.values ++ l) (entry_one (0 + length h.values) x s.4)
-          ∙ ap (λ l. l ++ record { column = 0 + length h.values; value = x } ∷ []) (sym h.entries_are)) ∙ length_push entries _ in
+        ∙ ap (λ l. l ++ record { column = 0 + length h.values; value = x } ∷ []) (sym h.entries_are)) ∙ length_push entries _ in
         (x, s.2, over_within (right ∷ (h.values ++ x ∷ [])) s.1 (over_next (right ∷ h.values) x scale s.1 over s.3), omega (arith, s.5))
     breaks Header s = s
     breaks Fields s = s

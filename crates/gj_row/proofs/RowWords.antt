@@ -1,7 +1,6 @@
 -- The words of a record that is a row.
-use Rattle.std.proofs.Common.{◌≡◌, ℕ, ◌+◌, ◌-◌, ◌<◌, List, ◌∷◌, Some, slice_get, length, drop, refl, sym, ap, subst, ◌∙◌, arith}
+use Rattle.std.proofs.Common.{◌≡◌, ℕ, ◌+◌, ◌-◌, ◌<◌, List, ◌∷◌, Some, slice_get, length, drop, sym, ap, subst, ◌∙◌, arith}
 use Rattle.std.proofs.lemmas.List.{length-drop}
-use Rattle.gj_frac.specs.declared.Frac.{Frac}
 use Rattle.gj_row.specs.TableauLimits.{IsWithinLimits, names_of, entry_count}
 use Rattle.gj_row.specs.FirstFault.{BreaksName, IsNewName, HasNumberFault, MayFollow, HasRowFault, name, number}
 use Rattle.gj_row.specs.Reading.{HasRead, ReadsRow}

@@ -1,15 +1,14 @@
 -- The rows that have been read of a text.
-use Rattle.std.proofs.Common.{◌≡◌, ◌≢◌, ℕ, ◌+◌, ◌<◌, ◌≤◌, List, [], ◌∷◌, ◌++◌, All, Contains, length, map, sum_by, refl, sym, ap, subst, ◌∙◌, append_assoc, arith}
-use Rattle.std.specs.List.{AllZip}
-use Rattle.std.proofs.lemmas.List.{append-nil, length-append, length-map, length_push, map-append}
+use Rattle.std.proofs.Common.{◌≡◌, ℕ, ◌+◌, ◌<◌, ◌≤◌, List, [], ◌∷◌, ◌++◌, length, map, sum_by, refl, sym, ap, subst, ◌∙◌, append_assoc, arith}
+use Rattle.std.proofs.lemmas.List.{append-nil, length_push, map-append}
 use Rattle.std.proofs.lemmas.List.Sums.{sum_by-append}
 use Rattle.std.proofs.lemmas.List.Elements.{All-nil, All-push}
 use Rattle.std.proofs.lemmas.Slice.Zip.{AllZip-long}
 use Rattle.indexmap.proofs.SetLemmas.{AllZip-push}
-use Rattle.csv.specs.Reading.{default_config, records, strip_bom}
+use Rattle.csv.specs.Reading.{strip_bom}
 use Rattle.csv.specs.declared.iter.ByteRecordsIntoIter.{ByteRecordsIntoIter}
 use Rattle.std.specs.Borrow.{Bor}
-use Rattle.gj_row.specs.TableauLimits.{IsTableau, IsWithinLimits, AreNames, names_of, entry_count}
+use Rattle.gj_row.specs.TableauLimits.{IsWithinLimits, AreNames, names_of, entry_count}
 use Rattle.gj_row.specs.TableauText.{word_of, records_of, header_of, SpellsRow, SpellsTableau, IsTableauText}
 use Rattle.gj_row.specs.FirstFault.{IsNewName, HasHeaderFault, HasRowFault, IsFirstFault, header, in_header, in_row}
 use Rattle.gj_row.specs.Reading.{ReadsRow, StandsBehind, IsAtEnd}
@@ -104,7 +103,7 @@ row_added text old new fields names columns names' rows rows' used used' row h s
       stands = stands;
       spelled = subst (λ ws. SpellsTableau ws (tableau_of columns (rows ++ row ∷ []))) (sym (map-append (map word_of) h.before (fields ∷ [])))
           (row_spells (words_of h.before) (map word_of fields) columns rows used row h.spelled h.counted room read
-            (subst (λ ns. IsNewName ns row.basic) h.named fresh));
+          (subst (λ ns. IsNewName ns row.basic) h.named fresh));
       named = named ∙ ap (λ ns. ns ++ row.basic ∷ []) h.named ∙ sym (names_next columns rows row);
       counted = counted ∙ ap (λ n. n + length row.entries) h.counted ∙ sym (count_next rows row);
     }
@@ -143,5 +142,5 @@ row_fault text old new fields names columns rows used n e h stands number fault 
     let all = ap length h.spelled.words_are in
     in_row (words_of h.before) (map word_of fields) (words_of more.0) (tableau_of columns rows)
     (more.1 ∙ ap (λ l. l ++ words_of more.0) (map-append (map word_of) h.before (fields ∷ []))
-      ∙ append_assoc (words_of h.before) (map word_of fields ∷ []) (words_of more.0))
+    ∙ append_assoc (words_of h.before) (map word_of fields ∷ []) (words_of more.0))
     h.spelled (omega arith) fault

@@ -5,7 +5,6 @@ use Rattle.gj_frac.specs.declared.Frac.{Frac}
 use Rattle.gj_frac.specs.Fraction.{numerator, denominator}
 use Rattle.gj_lex.specs.Name.{IsName}
 use Rattle.gj_shape.specs.Given.{HasCommonDenominator}
-use Rattle.gj_row.specs.declared.tableau.Entry.{Entry}
 use Rattle.gj_row.specs.declared.tableau.Row.{Row}
 use Rattle.gj_row.specs.declared.tableau.Tableau.{Tableau}
 

@@ -1,7 +1,6 @@
 //! The words in the fields of a record.
 ghost use Rattle.std.specs.Prelude.{◌≡◌, ◌<◌, Some, length, reverse, slice_get, not};
 ghost use Rattle.std.specs.List.{position};
-
 ghost use Rattle.csv.specs.Records.{fields_of};
 ghost use Rattle.gj_lex.specs.Words.{is_blank};
 ghost use Rattle.gj_row.specs.TableauText.{word_of, without_blanks_before};
@@ -45,9 +44,7 @@ fn without_blanks_behind(field: &[u8]) -> &[u8]
 fn first_visible(field: &[u8]) -> Option<usize>
     ensures { result ≡ position (λ b. not (is_blank b)) field.now }
 {
-    field
-        .iter()
-        .position(|byte| !matches!(*byte, b' ' | b'\t'))
+    field.iter().position(|byte| !matches!(*byte, b' ' | b'\t'))
 }
 
 /// How many bytes stand behind the last that is no space or tab.

@@ -7,13 +7,21 @@ use std::test::Fail;
 #[test]
 fn reads_fractions(rt: HostRuntime) -> Result<(), Fail> {
     let tableau = Tableau::read(rt.alloc(), b"basic,rhs,x1,x2\nx0,8/5,7/5,-1/5")?;
-    assert_eq!(rt; tableau.columns.as_slice()[1].bytes(), b"x2".as_slice());
-    let row = &tableau.rows.as_slice()[0];
+    let [_, column] = tableau.columns.as_slice() else {
+        return Err(Fail::new("two columns"));
+    };
+    let [row] = tableau.rows.as_slice() else {
+        return Err(Fail::new("one row"));
+    };
+    let [first, second] = row.entries.as_slice() else {
+        return Err(Fail::new("two entries"));
+    };
+    assert_eq!(rt; column.bytes(), b"x2".as_slice());
     assert_eq!(rt; row.basic.bytes(), b"x0".as_slice());
     assert_eq!(rt; Some(row.rhs), Frac::new(8, 5));
-    assert_eq!(rt; Some(row.entries.as_slice()[0].value), Frac::new(7, 5));
-    assert_eq!(rt; row.entries.as_slice()[1].column, 1);
-    assert_eq!(rt; Some(row.entries.as_slice()[1].value), Frac::new(-1, 5));
+    assert_eq!(rt; Some(first.value), Frac::new(7, 5));
+    assert_eq!(rt; second.column, 1);
+    assert_eq!(rt; Some(second.value), Frac::new(-1, 5));
     Ok(())
 }
 
@@ -21,14 +29,21 @@ fn reads_fractions(rt: HostRuntime) -> Result<(), Fail> {
 fn reads_decimals_and_quotes(rt: HostRuntime) -> Result<(), Fail> {
     let text = b"basic,rhs,s1,s3,\" s[2,1] \"\r\n\r\n x3 ,2.4, 0.75\t,,-1.3\r\n";
     let tableau = Tableau::read(rt.alloc(), text)?;
-    assert_eq!(rt; tableau.columns.as_slice()[2].bytes(), b"s[2,1]".as_slice());
-    let row = &tableau.rows.as_slice()[0];
+    let [_, _, column] = tableau.columns.as_slice() else {
+        return Err(Fail::new("three columns"));
+    };
+    let [row] = tableau.rows.as_slice() else {
+        return Err(Fail::new("one row"));
+    };
+    let [first, second] = row.entries.as_slice() else {
+        return Err(Fail::new("two entries"));
+    };
+    assert_eq!(rt; column.bytes(), b"s[2,1]".as_slice());
     assert_eq!(rt; row.basic.bytes(), b"x3".as_slice());
     assert_eq!(rt; Some(row.rhs), Frac::new(12, 5));
-    assert_eq!(rt; row.entries.as_slice().len(), 2);
-    assert_eq!(rt; Some(row.entries.as_slice()[0].value), Frac::new(3, 4));
-    assert_eq!(rt; row.entries.as_slice()[1].column, 2);
-    assert_eq!(rt; Some(row.entries.as_slice()[1].value), Frac::new(-13, 10));
+    assert_eq!(rt; Some(first.value), Frac::new(3, 4));
+    assert_eq!(rt; second.column, 2);
+    assert_eq!(rt; Some(second.value), Frac::new(-13, 10));
     Ok(())
 }
 
@@ -47,11 +62,7 @@ fn names_the_first_fault(rt: HostRuntime) -> Result<(), Fail> {
         (b"basic,rhs,x1\nx0,,1e3", 2, RowReason::Number),
         (b"basic,rhs,x1\nx0,8/5,2147483649", 2, RowReason::Large),
         (b"basic,rhs,x1\nx0,1/2147483648,1", 2, RowReason::Fine),
-        (
-            b"basic,rhs,x1\nx0,1/2147483647,1/2",
-            2,
-            RowReason::Fine,
-        ),
+        (b"basic,rhs,x1\nx0,1/2147483647,1/2", 2, RowReason::Fine),
         (b"basic,rhs,x1\nx0,1,1\n\n\"\",1,1", 3, RowReason::Name),
     ];
     for (text, number, reason) in texts {

@@ -1,4 +1,4 @@
-use Rattle.std.proofs.Common.{sym, ap, ◌∙◌, ◌≡◌, Some, None, option_map}
+use Rattle.std.proofs.Common.{sym, ap, ◌∙◌, ◌≡◌, Some, option_map}
 use Rattle.csv.specs.Records.{fields_of, field_at}
 use Rattle.csv.proofs.RecordFacts.{field-there}
 use Rattle.gj_row.proofs.Lists.{field_in}

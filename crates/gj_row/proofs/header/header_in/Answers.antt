@@ -1,4 +1,4 @@
-use Rattle.std.proofs.Common.{◌≡◌, ◌<◌, ◌≤◌, ◌++◌, ◌∷◌, ◌-◌, [], List, ℕ, take, drop, length, refl, sym, ap, ◌∙◌, subst, arith}
+use Rattle.std.proofs.Common.{◌≡◌, ◌≤◌, ◌++◌, ◌∷◌, ◌-◌, [], List, ℕ, take, drop, length, refl, sym, ap, ◌∙◌, subst, arith}
 use Rattle.std.proofs.lemmas.List.{length-map}
 use Rattle.csv.specs.Records.{fields_of}
 use Rattle.gj_row.specs.TableauLimits.{AreNames}
@@ -28,8 +28,8 @@ returns-in-Err-clause-refused c =
     names_weaker (BreaksName (bytes_of c.loop-place.names.keys) w) (λ e. (rows : List (List (List ℕ))) → HasHeaderFault (words ∷ rows) e)
     c.in-Err.fault
     (λ e breaks rows. column_fault words rows e (take (place - 2) (drop 2 words)) _ w (c.if-not-begins_header.ensures.0 refl) few
-      (parted_behind 2 words place w c.word_at.ensures from) (subst AreNames so_far.read so_far.names)
-      (subst (λ names. BreaksName names w e) (so_far.kept ∙ so_far.read) breaks))
+    (parted_behind 2 words place w c.word_at.ensures from) (subst AreNames so_far.read so_far.names)
+    (subst (λ names. BreaksName names w e) (so_far.kept ∙ so_far.read) breaks))
     c.in-Err.ensures.refused
 
 pub loop-place-preserved : goal.loop-place-preserved

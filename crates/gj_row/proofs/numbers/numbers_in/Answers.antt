@@ -1,4 +1,4 @@
-use Rattle.std.proofs.Common.{◌≡◌, ◌<◌, ◌≤◌, ◌+◌, ◌-◌, ◌++◌, ◌∷◌, [], take, drop, length, sym, ap, subst, ◌∙◌, refl, arith}
+use Rattle.std.proofs.Common.{◌≡◌, ◌<◌, ◌≤◌, ◌+◌, ◌-◌, ◌∷◌, [], take, drop, length, ap, subst, arith}
 use Rattle.std.proofs.lemmas.List.{length-map}
 use Rattle.csv.specs.Records.{fields_of}
 use Rattle.gj_row.specs.TableauText.{word_of, SpellsEntry}
@@ -36,7 +36,7 @@ returns-in-Err-with_entry-clause-refused c =
     names_weaker (StopsEntry (SpellsEntry w) c.loop-place.scale (c.args.used + length c.loop-place.entries.items))
     (HasNumberFault c.args.used (drop 1 words)) c.in-Err-with_entry.fault
     (λ e stops. entry_stopped c.args.used (take (place - 1) (drop 1 words)) c.in-Ok.right.0 c.loop-place.scale c.loop-place.entries.items w _
-      (drop 1 words) e c.loop-place.invariant (parted_behind 1 words place w c.word_at-word.ensures (omega (arith, c.loop-place.auto.place))) stops)
+    (drop 1 words) e c.loop-place.invariant (parted_behind 1 words place w c.word_at-word.ensures (omega (arith, c.loop-place.auto.place))) stops)
     c.in-Err-with_entry.ensures.refused
 
 pub loop-place-preserved : goal.loop-place-preserved
@@ -52,7 +52,7 @@ loop-place-preserved c =
     let found = c.in-Ok-with_entry.ensures.found in
     rw (taken_behind 1 words place w c.word_at-word.ensures (omega arith))
     (entry_read c.args.used (take (place - 1) (drop 1 words)) c.in-Ok.right.0 c.loop-place.scale c.loop-place.entries.items (place - 2) w
-      found.0 c.in-Ok-with_entry.multiple c.with_entry.new.entries.items c.loop-place.invariant column found.1 found.2 found.3 found.4)
+    found.0 c.in-Ok-with_entry.multiple c.with_entry.new.entries.items c.loop-place.invariant column found.1 found.2 found.3 found.4)
 
 pub returns-clause-found : goal.returns-clause-found
 returns-clause-found c =

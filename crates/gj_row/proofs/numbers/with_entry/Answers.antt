@@ -1,4 +1,4 @@
-use Rattle.std.proofs.Common.{sym, ap, ◌∙◌, ◌+◌, ◌≤◌, ◌≡◌, ◌++◌, ◌∷◌, [], length, false, arith}
+use Rattle.std.proofs.Common.{sym, ap, ◌∙◌, ◌+◌, ◌≤◌, ◌≡◌, ◌++◌, length, false, arith}
 use Rattle.std.proofs.lemmas.List.{append-nil, length_push}
 use Rattle.gj_row.specs.TableauText.{is_zero}
 use Rattle.gj_row.proofs.SpelledNumbers.{entry_none, entry_one}
@@ -23,6 +23,10 @@ returns-clause-found c =
     let items = c.args.entries.now.items in
     let one = entry_one c.args.column x (sym c.is_zero.ensures ∙ c.if-is_zero.false) in
     let pushed = c.in_ok-push.ensures.items in
-    let count : length c.push.new.self.items ≡ length items + 1 = ap length pushed ∙ length_push items (record { column = c.args.column; value = x }) in
-    (x, c.in-Ok.ensures.found.0, c.in-Ok.ensures.found.1, pushed ∙ ap (λ l. items ++ l) (sym one),
-      omega (arith, c.if-used-len-ge-MOST_ENTRIES.false, c.len.ensures))
+    let count : length c.push.new.self.items ≡ length items + 1 = ap length pushed ∙ length_push items (record { column = c.args.column; value = x }) in (
+      x,
+      c.in-Ok.ensures.found.0,
+      c.in-Ok.ensures.found.1,
+      pushed ∙ ap (λ l. items ++ l) (sym one),
+      omega (arith, c.if-used-len-ge-MOST_ENTRIES.false, c.len.ensures),
+    )

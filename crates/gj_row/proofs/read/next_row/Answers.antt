@@ -1,4 +1,4 @@
-use Rattle.std.proofs.Common.{◌≡◌, ◌<◌, ◌+◌, length, sym, ◌∙◌, arith}
+use Rattle.std.proofs.Common.{◌≡◌, ◌+◌, length, sym, ◌∙◌}
 use Rattle.std.proofs.lemmas.List.{length-map}
 use Rattle.std.proofs.lemmas.Result.{err_from_is_err_and}
 use Rattle.csv.specs.Records.{fields_of}
@@ -15,9 +15,9 @@ returns-in_err-basic-clause-refused c =
     let wide : length words ≡ c.args.columns + 2 = length-map (fields_of c.args.fields.now) word_of ∙ sym c.len.ensures ∙ c.if-len-columns.false in
     rw (p.1, p.2)
     (names_weaker _ _ _
-      (λ e breaks. name_refused c.args.columns c.args.rows c.args.used (bytes_of c.args.names.now.keys) words c.word_at.result.now e wide c.if-rows-ge-MOST_ROWS.false
-        c.word_at.ensures breaks)
-      c.in_err-basic.ensures.refused)
+    (λ e breaks. name_refused c.args.columns c.args.rows c.args.used (bytes_of c.args.names.now.keys) words c.word_at.result.now e wide c.if-rows-ge-MOST_ROWS.false
+    c.word_at.ensures breaks)
+    c.in_err-basic.ensures.refused)
 
 pub returns-in_err-numbers-clause-refused : goal.returns-in_err-numbers-clause-refused
 returns-in_err-numbers-clause-refused c =
@@ -26,9 +26,9 @@ returns-in_err-numbers-clause-refused c =
     let wide : length words ≡ c.args.columns + 2 = length-map (fields_of c.args.fields.now) word_of ∙ sym c.len.ensures ∙ c.if-len-columns.false in
     rw (p.1, p.2)
     (names_weaker _ _ _
-      (λ e fault. number_refused c.args.columns c.args.rows c.args.used (bytes_of c.args.names.now.keys) words c.word_at.result.now e wide c.if-rows-ge-MOST_ROWS.false
-        c.word_at.ensures c.in_ok-basic.ensures.new fault)
-      c.in_err-numbers.ensures.refused)
+    (λ e fault. number_refused c.args.columns c.args.rows c.args.used (bytes_of c.args.names.now.keys) words c.word_at.result.now e wide c.if-rows-ge-MOST_ROWS.false
+    c.word_at.ensures c.in_ok-basic.ensures.new fault)
+    c.in_err-numbers.ensures.refused)
 
 pub returns-clause-row : goal.returns-clause-row
 returns-clause-row c =

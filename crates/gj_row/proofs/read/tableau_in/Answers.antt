@@ -1,11 +1,9 @@
-use Rattle.std.proofs.Common.{◌≡◌, ◌+◌, ◌<◌, ◌++◌, ◌∷◌, [], ℕ, List, length, refl, sym, ap, ◌∙◌, subst, arith}
+use Rattle.std.proofs.Common.{◌≡◌, ◌+◌, ◌<◌, ◌∷◌, [], ℕ, List, length, sym, ap, subst, arith}
 use Rattle.csv.specs.Records.{fields_of}
 use Rattle.gj_row.specs.TableauLimits.{names_of, entry_count}
-use Rattle.gj_row.specs.TableauText.{records_of, SpellsTableau}
 use Rattle.gj_row.specs.FirstFault.{HasHeaderFault, HasRowFault, IsFirstFault}
-use Rattle.gj_row.specs.Reading.{StandsBehind, StepsOver, ReadsRow, bytes_of, words_in, fault_in_record, NamesRecord}
+use Rattle.gj_row.specs.Reading.{ReadsRow, bytes_of, words_in}
 use Rattle.gj_row.specs.declared.tableau.Tableau.{Tableau}
-use Rattle.gj_row.specs.declared.faults.RowReason.{RowReason}
 use Rattle.gj_row.proofs.Reasons.{names_record}
 use Rattle.gj_row.proofs.RowsRead.{header_read, row_added, rows_end, no_record, header_fault, row_fault, tableau_of}
 use Rattle.gj_row.proofs.read.tableau_in.Goals as goal
@@ -21,7 +19,7 @@ returns-in-Err-clause-refused c =
     let stands = step text [] c.records_of-records.ensures in
     rw c.in_record.ensures
     (names_record (λ e. (rows : List (List (List ℕ))) → HasHeaderFault (words_in c.in-Some.first ∷ rows) e) (IsFirstFault text) c.in-Err.fault 1
-      (λ e fault. header_fault text c.next_record.new.left (fields_of c.in-Some.first) e stands fault) c.in-Err.ensures.refused)
+    (λ e fault. header_fault text c.next_record.new.left (fields_of c.in-Some.first) e stands fault) c.in-Err.ensures.refused)
 
 pub loop-rows-init : goal.loop-rows-init
 loop-rows-init c =
@@ -31,7 +29,7 @@ loop-rows-init c =
     let header = c.in-Ok.ensures in
     rw c.new-rows.ensures.items
     (header_read text c.next_record.new.left (fields_of c.in-Some.first) c.in-Ok.header.columns.items (bytes_of c.in-Ok.header.names.keys) stands
-      header.begins header.few header.names header.kept)
+    header.begins header.few header.names header.kept)
 
 pub next_row-requires-clause-narrow : goal.next_row-requires-clause-narrow
 next_row-requires-clause-narrow c = omega (arith, c.in-Ok.ensures.few, c.len.ensures)
@@ -55,13 +53,13 @@ returns-in-Err-next_row-clause-refused c =
     let number : c.len-in-Err-next_row.result + 2 ≡ length rows + 2 = omega (arith, c.len-in-Err-next_row.ensures) in
     rw c.in_record-in-Err-next_row.ensures
     (names_record
-      (λ e. (t : Tableau) → length t.columns ≡ c.len.result → length t.rows ≡ c.len-in-Some-2.result → names_of t ≡ names →
-        entry_count t ≡ c.loop-rows.used → HasRowFault t (words_in c.in-Some-2.fields) e)
-      (IsFirstFault text) c.in-Err-next_row.fault (c.len-in-Err-next_row.result + 2)
-      (λ e fault. row_fault text c.loop-rows.records c.next_record-in-loop-rows.new.left (fields_of c.in-Some-2.fields) names columns rows
-        c.loop-rows.used (c.len-in-Err-next_row.result + 2) e so_far stands number
-        (fault (tableau_of columns rows) wide many (sym so_far.named) (sym so_far.counted)))
-      c.in-Err-next_row.ensures.refused)
+    (λ e. (t : Tableau) → length t.columns ≡ c.len.result → length t.rows ≡ c.len-in-Some-2.result → names_of t ≡ names →
+    entry_count t ≡ c.loop-rows.used → HasRowFault t (words_in c.in-Some-2.fields) e)
+    (IsFirstFault text) c.in-Err-next_row.fault (c.len-in-Err-next_row.result + 2)
+    (λ e fault. row_fault text c.loop-rows.records c.next_record-in-loop-rows.new.left (fields_of c.in-Some-2.fields) names columns rows
+    c.loop-rows.used (c.len-in-Err-next_row.result + 2) e so_far stands number
+    (fault (tableau_of columns rows) wide many (sym so_far.named) (sym so_far.counted)))
+    c.in-Err-next_row.ensures.refused)
 
 pub loop-rows-smaller : goal.loop-rows-smaller
 loop-rows-smaller c = rw c.in-Some-2.is at c.in_ok-fields.ensures.fewer
