@@ -1,7 +1,7 @@
 use Rattle.std.proofs.Common.{subst}
 use Rattle.gj_cut.specs.RowCuts.{IsCutOf, IsCutOfKind}
 use Rattle.gj_rule.specs.declared.kind.RuleKind.{RuleKind}
-use Rattle.gj_cut.proofs.PartLemmas.{cut_of_kind, if_ok_along}
+use Rattle.gj_cut.proofs.RowTerms.{cut_of_kind, if_ok_along}
 use Rattle.gj_cut.proofs.rows.cut_by.Goals as goal
 
 pub returns-clause-cut : goal.returns-clause-cut

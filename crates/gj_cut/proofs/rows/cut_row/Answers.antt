@@ -5,7 +5,7 @@ use Rattle.gj_row.specs.declared.tableau.Entry.{Entry}
 use Rattle.gj_cut.specs.RowCuts.{IsTermOf, HoldsFor}
 use Rattle.gj_cut.specs.declared.cut.Term.{Term}
 use Rattle.gj_cut.specs.declared.cut.RowCut.TheVariants.{Cut}
-use Rattle.gj_cut.proofs.PartLemmas.{entries_in_range, holds_at}
+use Rattle.gj_cut.proofs.RowTerms.{entries_in_range, holds_at}
 use Rattle.gj_cut.proofs.rows.cut_row.Goals as goal
 
 pub terms-requires : goal.terms-requires

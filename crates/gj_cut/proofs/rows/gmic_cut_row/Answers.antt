@@ -1,6 +1,6 @@
 use Rattle.gj_cut.specs.RowCuts.{IsCutOfKind, IsGmicCutOf}
 use Rattle.gj_rule.specs.declared.kind.RuleKind.TheVariants.{Gmic}
-use Rattle.gj_cut.proofs.PartLemmas.{right_fine, gmic_cut_of, if_ok_along}
+use Rattle.gj_cut.proofs.RowTerms.{right_fine, gmic_cut_of, if_ok_along}
 use Rattle.gj_cut.proofs.rows.gmic_cut_row.Goals as goal
 
 pub part_of-f-requires-clause-fine : goal.part_of-f-requires-clause-fine

@@ -1,6 +1,6 @@
 use Rattle.std.proofs.Common.{sym, ◌∙◌}
 use Rattle.gj_frac.specs.TotalOrder.{parts_Decides}
-use Rattle.gj_cut.proofs.PartLemmas.{part_at_place}
+use Rattle.gj_cut.proofs.RightSides.{part_at_place}
 use Rattle.gj_cut.proofs.rows.has_part.Goals as goal
 
 pub returns-clause-part : goal.returns-clause-part

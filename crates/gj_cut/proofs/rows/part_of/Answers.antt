@@ -1,4 +1,4 @@
-use Rattle.gj_cut.proofs.PartLemmas.{part_is_kind}
+use Rattle.gj_cut.proofs.RightSides.{part_is_kind}
 use Rattle.gj_cut.proofs.rows.part_of.Goals as goal
 
 pub returns-clause-kind : goal.returns-clause-kind

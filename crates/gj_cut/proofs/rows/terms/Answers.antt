@@ -1,5 +1,5 @@
 use Rattle.gj_cut.specs.RowCuts.{IsTermOf}
-use Rattle.gj_cut.proofs.PartLemmas.{zip_next}
+use Rattle.gj_cut.proofs.RowTerms.{zip_next}
 use Rattle.gj_cut.proofs.rows.terms.Goals as goal
 
 pub loop-entry-preserved : goal.loop-entry-preserved
