@@ -1,0 +1,2 @@
+pub mod RightSides
+pub mod RowTerms

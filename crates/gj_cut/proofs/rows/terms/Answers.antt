@@ -1,0 +1,9 @@
+use Rattle.gj_cut.specs.RowCuts.{IsTermOf}
+use Rattle.gj_cut.proofs.RowTerms.{zip_next}
+use Rattle.gj_cut.proofs.rows.terms.Goals as goal
+
+pub loop-entry-preserved : goal.loop-entry-preserved
+loop-entry-preserved g c =
+    zip_next (IsTermOf g.E.Evaluator.answers c.args.rule.now) c.args.entries.now c.loop-entry.entry-index c.entry-item.result
+    c.loop-entry.terms.items c.push.new.self.items c.term.result c.loop-entry-test.true c.entry-item.is c.in_ok-push.ensures.items
+    c.loop-entry.invariant c.term.ensures

@@ -1,0 +1,116 @@
+//! The cut of a row by a rule.
+ghost use Rattle.std.specs.Prelude.{◌≡◌, ◌<◌, ◌^◌, ◌↔◌, IsTrue, IfOk, All, unsigned_abs};
+ghost use Rattle.std.specs.List.{AllZip};
+ghost use Rattle.gj_frac.specs.Fraction.{numerator, denominator};
+ghost use Rattle.gj_theory.specs.Cuts.{HasFractionalPart};
+ghost use Rattle.gj_row.specs.TableauLimits.{AreWithinLimits, numbers_of};
+ghost use Rattle.gj_rule.specs.Kind.{IsInRange, IsKind, IsBounded, IsMinimalKind};
+ghost use Rattle.gj_rule.specs.Kept.{Evaluates};
+ghost use Rattle.gj_rule.specs.declared.kind.RuleKind.TheVariants.{Gmic};
+ghost use Rattle.gj_cut.specs.RowCuts.{IsWhole, HasPart, IsTermOf, IsCutOf, IsCutOfKind, IsGmicCutOf, HoldsFor};
+
+use crate::cut::{RowCut, Term};
+use gj_frac::Frac;
+use gj_row::{Entry, Row};
+use gj_rule::{Evaluator, Rule, RuleKind, gmic_value};
+use gj_shape::List;
+use std::alloc::{AllocError, Global};
+
+/// The cut of the row by the rule: for each entry the column, the entry and the rule's value at it.
+///
+/// It is `Integral` exactly where the right side is whole, and `OtherFraction` exactly where it is not and its
+/// fractional part is not the rule's f. The right side and the entries are at most 2^31 in absolute value and have a
+/// common denominator of at most 2^31 - 1. The only error is want of memory.
+pub fn cut_row<E: Evaluator>(alloc: Global, rule: &Rule<E>, row: &Row) -> Result<RowCut, AllocError>
+    requires { AreWithinLimits (numbers_of row.now) }
+    ensures cut { IfOk result (IsCutOf E.answers rule.now row.now) }
+    ensures holds { IfOk result (λ cut. IsMinimalKind rule.now.kind → HoldsFor row.now cut) }
+{
+    if row.rhs.den() == 1 {
+        return Ok(RowCut::Integral);
+    }
+    if !has_part(rule, row.rhs) {
+        return Ok(RowCut::OtherFraction);
+    }
+    let terms = terms(alloc, rule, row.entries.as_slice())?;
+    Ok(RowCut::Cut(List::of(terms)))
+}
+
+/// The mixed-integer cut of the row, for f the fractional part of its right side.
+///
+/// It is `Integral` exactly where the right side is whole, and never `OtherFraction`. The limits are those of
+/// [`cut_row`], and the only error is want of memory.
+pub fn gmic_cut_row(alloc: Global, row: &Row) -> Result<RowCut, AllocError>
+    requires { AreWithinLimits (numbers_of row.now) }
+    ensures cut { IfOk result (IsGmicCutOf row.now) }
+    ensures holds { IfOk result (HoldsFor row.now) }
+{
+    if row.rhs.den() == 1 {
+        return Ok(RowCut::Integral);
+    }
+    let f = part_of(row.rhs);
+    cut_by(alloc, RuleKind::Gmic(f), |x| gmic_value(f, x), row)
+}
+
+/// The fractional part of a right side that is not whole.
+fn part_of(right: Frac) -> Frac
+    requires not_whole { IsWhole right → ⊥ }
+    requires fine { unsigned_abs (denominator right) < 2 ^ 31 }
+    ensures part { HasFractionalPart right (numerator result) (denominator result) }
+    ensures kind { IsKind (Gmic result) }
+{
+    right.fract()
+}
+
+/// The cut of the row by the rule of this kind with this evaluator.
+pub(crate) fn cut_by<E: Evaluator>(
+    alloc: Global,
+    kind: RuleKind,
+    eval: E,
+    row: &Row,
+) -> Result<RowCut, AllocError>
+    requires kind { IsKind kind }
+    requires evaluates { Evaluates E.can_answer E.answers kind eval }
+    requires limits { AreWithinLimits (numbers_of row.now) }
+    ensures cut { IfOk result (IsCutOfKind kind row.now) }
+    ensures holds { IfOk result (λ cut. IsMinimalKind kind → HoldsFor row.now cut) }
+{
+    let rule = Rule::new(kind, eval);
+    cut_row(alloc, &rule, row)
+}
+
+/// Whether the fractional part of x is the rule's f.
+fn has_part<E: Evaluator>(rule: &Rule<E>, x: Frac) -> bool
+    ensures part { IsTrue result ↔ HasPart rule.now.kind x }
+    ensures limits { IsBounded rule.now.kind }
+{
+    x.fract() == rule.place()
+}
+
+/// The terms of the entries.
+fn terms<E: Evaluator>(
+    alloc: Global,
+    rule: &Rule<E>,
+    entries: &[Entry],
+) -> Result<Vec<Term>, AllocError>
+    requires { All (λ entry. IsInRange entry.value) entries.now }
+    ensures { IfOk result (λ terms. AllZip (IsTermOf E.answers rule.now) entries.now terms.items) }
+{
+    let mut terms = Vec::with_capacity(alloc, entries.len())?;
+    for entry in entries {
+        terms.push(term(rule, *entry))?;
+    }
+    Ok(terms)
+}
+
+/// The term of an entry.
+fn term<E: Evaluator>(rule: &Rule<E>, entry: Entry) -> Term
+    requires { IsInRange entry.value }
+    ensures { IsTermOf E.answers rule.now entry result }
+{
+    Term {
+        column: entry.column,
+        entry: entry.value,
+        cut: rule.at(entry.value),
+    }
+}
