@@ -5,7 +5,7 @@ ghost use Rattle.gj_shape.specs.FunctionData.{IsWithinBounds, IsContinuous, at};
 ghost use Rattle.gj_shape.specs.Perturbation.{IsGreatestSize, AreHalvesOf};
 ghost use Rattle.gj_shape.specs.Table.{table, IsMinimal};
 ghost use Rattle.gj_theory.specs.Halves.{AreDifferentHalves};
-ghost use Rattle.gj_perturb.specs.Moves.{moved_entry, IsSmallMove};
+ghost use Rattle.gj_perturb.specs.Moves.{moved_at, IsSmallMove};
 ghost use Rattle.gj_perturb.specs.Split.{CanSplit, IsWide, FitProofText};
 
 use crate::faults::SplitFault;
@@ -89,11 +89,22 @@ fn moved(
     requires length { length values.now ≤ length table.now }
     requires small { (i : ℕ) → i < length values.now → IsSmallMove table.now factor values.now step i }
     ensures { IfOk result (λ v. v.items ≡
-        map (moved_entry table.now factor values.now step) (range_with_len 0 (length values.now))) }
+        map (moved_at table.now factor values.now step) (range_with_len 0 (length values.now))) }
 {
     let mut items = Vec::with_capacity(alloc, values.len())?;
     for i in 0..values.len() {
-        items.push(factor * i128::from(table[i]) + step * values[i])?;
+        items.push(moved_entry(i128::from(table[i]), factor, values[i], step))?;
     }
     Ok(items)
+}
+
+/// An entry times the factor, moved by so many times the entry of the perturbation.
+fn moved_entry(entry: i128, factor: i128, value: i128, step: i128) -> i128
+    requires entry { unsigned_abs (factor *ℤ entry) < 2 ^ 126 }
+    requires moves { unsigned_abs (step *ℤ value) < 2 ^ 126 }
+    ensures { result ≡ factor *ℤ entry +ℤ step *ℤ value }
+{
+    let scaled = factor * entry;
+    let offset = step * value;
+    scaled + offset
 }
