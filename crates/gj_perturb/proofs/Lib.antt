@@ -1,3 +1,4 @@
 pub mod ContinuousEntries
 pub mod ListedSlacks
 pub mod Sizes
+pub mod MovedEntries

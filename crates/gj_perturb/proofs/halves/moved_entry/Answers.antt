@@ -1,6 +1,6 @@
 use Rattle.std.proofs.Common.{arith}
 use Rattle.std.proofs.lemmas.Int.{to_z-of_z, fits_signed_from_abs}
-use Rattle.gj_tools.proofs.Integers.{abs_add_z}
+use Rattle.gj_perturb.proofs.MovedEntries.{sum_of_products_fits, sum_of_products_read}
 use Rattle.gj_perturb.proofs.halves.moved_entry.Goals as goal
 use mir.Syntax.{w128}
 
@@ -15,7 +15,21 @@ overflow_mul-offset c =
     rw (to_z-of_z w128 _ c.ranges.step, to_z-of_z w128 _ c.ranges.value) (fits_signed_from_abs w128 _ (omega arith))
 
 pub overflow_add-result : goal.overflow_add-result
-overflow_add-result c = ?
+overflow_add-result c = sum_of_products_fits c.args.factor c.args.entry c.args.step c.args.value (record {
+  x_fits = c.ranges.factor;
+  y_fits = c.ranges.entry;
+  z_fits = c.ranges.step;
+  t_fits = c.ranges.value;
+  first = c.requires.entry;
+  second = c.requires.moves;
+})
 
 pub returns : goal.returns
-returns c = ?
+returns c = sum_of_products_read c.args.factor c.args.entry c.args.step c.args.value (record {
+  x_fits = c.ranges.factor;
+  y_fits = c.ranges.entry;
+  z_fits = c.ranges.step;
+  t_fits = c.ranges.value;
+  first = c.requires.entry;
+  second = c.requires.moves;
+})
