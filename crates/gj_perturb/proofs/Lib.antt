@@ -2,3 +2,5 @@ pub mod ContinuousEntries
 pub mod ListedSlacks
 pub mod Sizes
 pub mod MovedEntries
+pub mod ChosenIntervals
+pub mod SlopeValues
