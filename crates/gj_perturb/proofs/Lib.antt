@@ -4,3 +4,5 @@ pub mod Sizes
 pub mod MovedEntries
 pub mod ChosenIntervals
 pub mod SlopeValues
+pub mod TableParts
+pub mod SplitParts

@@ -35,18 +35,20 @@ pub fn split(alloc: Global, shape: &Shape, p: &Perturbation) -> Result<Halves, S
     ensures narrow { OnOk result (¬ IsWide shape.now p.now) }
     ensures wide { IsErrOf result SplitFault.Wide → IsWide shape.now p.now }
 {
+    let order = shape.order() * p.times;
     let values = p.values.as_slice();
     let size = greatest_size(values);
     let Some(scale) = scale_of_halves(shape, p.times, size) else {
         return Err(SplitFault::Wide);
     };
-    let table = doubled_table(alloc, shape, p.times)?;
-    let step = i128::from(least_slack(table.as_slice(), values.len()));
+    let doubled = doubled_table(alloc, shape, p.times)?;
+    let table = doubled.as_slice();
+    let step = i128::from(least_slack(table, values.len()));
     let factor = 3 * size as i128;
-    let first = moved(alloc, table.as_slice(), factor, values, step)?;
-    let second = moved(alloc, table.as_slice(), factor, values, -step)?;
+    let first = moved(alloc, table, factor, values, step)?;
+    let second = moved(alloc, table, factor, values, -step)?;
     Ok(Halves {
-        order: shape.order() * p.times,
+        order,
         scale,
         first: List::of(first),
         second: List::of(second),

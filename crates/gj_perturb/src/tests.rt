@@ -1,9 +1,9 @@
 //! Examples by hand.
 use crate::faults::SplitFault;
 use crate::halves::split;
-use crate::tables::{Perturbation, from_slopes, zigzag};
+use crate::tables::{from_slopes, zigzag};
 use gj_frac::Frac;
-use gj_shape::{Halves, Shape};
+use gj_shape::Shape;
 use std::test::Fail;
 
 /// The function of order 6 with f = 1/2 and the values 0, 2/3, 1/3, 1, 1/3, 2/3, whose intervals 1 and 4 are not covered.
@@ -26,14 +26,14 @@ fn of_order_eight(rt: &HostRuntime) -> Result<Shape, Fail> {
     Ok(Shape::new(rt.alloc(), 8, 7, values, values, values)?)
 }
 
-/// The halves of the zigzag of two intervals differ at the quarter points of these.
+/// The halves of the zigzag of an interval differ at the quarter points of it.
 #[test]
 fn zigzag_halves(rt: HostRuntime) -> Result<(), Fail> {
     let shape = of_order_six(&rt)?;
-    let p = zigzag(rt.alloc(), 6, &[1, 4])?;
+    let p = zigzag(rt.alloc(), 6, &[1])?;
     assert_eq!(rt; p.times, 4);
     let expected = [
-        0, 0, 0, 0, 0, 1, 0, -1, 0, 0, 0, 0, 0, 0, 0, 0, 0, 1, 0, -1, 0, 0, 0, 0,
+        0, 0, 0, 0, 0, 1, 0, -1, 0, 0, 0, 0, 0, 0, 0, 0, 0, 0, 0, 0, 0, 0, 0, 0,
     ];
     assert_eq!(rt; p.values.as_slice(), expected.as_slice());
     let h = split(rt.alloc(), &shape, &p)?;
@@ -47,5 +47,30 @@ fn zigzag_halves(rt: HostRuntime) -> Result<(), Fail> {
     ];
     assert_eq!(rt; h.first.as_slice(), first.as_slice());
     assert_eq!(rt; h.second.as_slice(), second.as_slice());
+    Ok(())
+}
+
+/// Slopes of components give a perturbation at the multiples of 1/8, and its halves.
+#[test]
+fn slope_halves(rt: HostRuntime) -> Result<(), Fail> {
+    let shape = of_order_eight(&rt)?;
+    let p = from_slopes(rt.alloc(), &[0, 1, 1, 0, 1, 1, 0, 2], &[-4, 3, 0])?;
+    assert_eq!(rt; p.times, 1);
+    assert_eq!(rt; p.values.as_slice(), [0, -4, -1, 2, -2, 1, 4, 0].as_slice());
+    let h = split(rt.alloc(), &shape, &p)?;
+    assert_eq!(rt; h.order, 8);
+    assert_eq!(rt; h.scale, 120);
+    assert_eq!(rt; h.first.as_slice(), [0, 20, 35, 50, 70, 85, 100, 120].as_slice());
+    assert_eq!(rt; h.second.as_slice(), [0, 28, 37, 46, 74, 83, 92, 120].as_slice());
+    Ok(())
+}
+
+/// A sum of slopes that passes 127 bits is refused, but not that of all slopes, which is no value.
+#[test]
+fn wide_sums(rt: HostRuntime) -> Result<(), Fail> {
+    let wide = from_slopes(rt.alloc(), &[0, 0, 0], &[i128::MAX]);
+    assert!(rt; matches!(wide, Err(SplitFault::Wide)));
+    let narrow = from_slopes(rt.alloc(), &[0, 0], &[i128::MAX])?;
+    assert_eq!(rt; narrow.values.as_slice(), [0, i128::MAX].as_slice());
     Ok(())
 }
