@@ -6,3 +6,4 @@ pub mod ChosenIntervals
 pub mod SlopeValues
 pub mod TableParts
 pub mod SplitParts
+pub mod Splittable
