@@ -31,15 +31,15 @@ pub record IsWherePositive (s y : ℤ) : Type 0 where
 slack_or_none : (t : List ℤ) (n i j : ℕ) (y : ℤ) → i < n → j < n → IsWherePositive (slack_in t i j) y → IsSlackOrNone t n y
 slack_or_none t n i j y i_below j_below h = by_lt_z (pos 0) (slack_in t i j)
     (λ positive.
-        let same = h.positive positive in
-        inr (record {
-          i = i;
-          j = j;
-          i_below = i_below;
-          j_below = j_below;
-          positive = subst (λ z. pos 0 <ℤ z) (sym same) positive;
-          same = sym same;
-        }))
+    let same = h.positive positive in
+    inr (record {
+      i = i;
+      j = j;
+      i_below = i_below;
+      j_below = j_below;
+      positive = subst (λ z. pos 0 <ℤ z) (sym same) positive;
+      same = sym same;
+    }))
     (λ low. inl (h.not low))
 
 pub no_pair : (t : List ℤ) (n i : ℕ) → IsLeastOfRow t n i i (pos (2 ^ 63 - 1))
@@ -51,13 +51,13 @@ one_pair_more t n i j x y i_below j_below h more = record {
   reached = lesser_reached t n x y h.reached (slack_or_none t n i j y i_below j_below more);
   least = below_more (λ k. i ≤ k → pos 0 <ℤ slack_in t i k → int_min x y ≤ℤ slack_in t i k) j
       (λ k below from positive.
-          let before = h.least k below from positive in
-          let low = (min_low x y).0 in
-          omega (arith, ints))
+      let before = h.least k below from positive in
+      let low = (min_low x y).0 in
+      omega (arith, ints))
       (λ from positive.
-          let same = more.positive positive in
-          let low = (min_low x y).1 in
-          omega (arith, ints));
+      let same = more.positive positive in
+      let low = (min_low x y).1 in
+      omega (arith, ints));
 }
 
 -- ---- one row more
@@ -71,13 +71,13 @@ one_row_more t n i x y h row = record {
   reached = lesser_reached t n x y h.reached row.reached;
   least = below_more (λ a. (j : ℕ) → j < n → a ≤ j → pos 0 <ℤ slack_in t a j → int_min x y ≤ℤ slack_in t a j) i
       (λ a below j j_below from positive.
-          let before = h.least a below j j_below from positive in
-          let low = (min_low x y).0 in
-          omega (arith, ints))
+      let before = h.least a below j j_below from positive in
+      let low = (min_low x y).0 in
+      omega (arith, ints))
       (λ j j_below from positive.
-          let here = row.least j j_below from positive in
-          let low = (min_low x y).1 in
-          omega (arith, ints));
+      let here = row.least j j_below from positive in
+      let low = (min_low x y).1 in
+      omega (arith, ints));
 }
 
 -- ---- what the code reads

@@ -196,11 +196,11 @@ all_fit xs factor values step ys small e =
     subst (All Fits) (sym e)
     (All-made Fits (moved_at xs factor values step) 0 (length values)
     (λ i below.
-        let here = small i (omega arith) in
-        let entry = here.entry in
-        let move = here.move in
-        let both = abs_add_z (factor *ℤ get_or xs i (pos 0)) (step *ℤ get_or values i (pos 0)) in
-        omega arith))
+    let here = small i (omega arith) in
+    let entry = here.entry in
+    let move = here.move in
+    let both = abs_add_z (factor *ℤ get_or xs i (pos 0)) (step *ℤ get_or values i (pos 0)) in
+    omega arith))
 
 pub fit_proof_text : (f : FunctionData) (p : Perturbation) (size : ℕ) (x : ℤ) (values xs : List ℤ) (made : Halves) →
     AreParts f p size x values xs → AreMade f p size x values xs made → FitProofText made

@@ -51,8 +51,11 @@ listed_short t xs n s e small h =
 listed_slack : (t : ℕ → ℤ) (xs : List ℤ) (n i j : ℕ) → xs ≡ map t (range_with_len 0 (2 * n)) → i < n → j < n →
     slack_in xs i j ≡ t i +ℤ t j -ℤ t (i + j)
 listed_slack t xs n i j e i_below j_below =
-    rw (listed_at t xs (2 * n) i e (omega arith), listed_at t xs (2 * n) j e (omega arith),
-    listed_at t xs (2 * n) (i + j) e (omega arith)) refl
+    rw (
+      listed_at t xs (2 * n) i e (omega arith),
+      listed_at t xs (2 * n) j e (omega arith),
+      listed_at t xs (2 * n) (i + j) e (omega arith),
+    ) refl
 
 -- ---- the least positive slack
 

@@ -9,7 +9,11 @@ use gj_shape::Shape;
 use std::alloc::{AllocError, Global};
 
 /// The table on the grid of order `times` q, over two periods, so that no sum of two indices is reduced.
-pub(crate) fn doubled_table(alloc: Global, shape: &Shape, times: u32) -> Result<Vec<i64>, AllocError>
+pub(crate) fn doubled_table(
+    alloc: Global,
+    shape: &Shape,
+    times: u32,
+) -> Result<Vec<i64>, AllocError>
     requires continuous { IsContinuous shape.now }
     requires low { 1 ≤ times }
     requires high { times ≤ 4 }

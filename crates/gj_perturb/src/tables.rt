@@ -69,7 +69,11 @@ fn zigzag_value(chosen: bool, r: usize) -> i128
 
 /// The perturbation at 0, 1/q, .., (q - 1)/q, with the slope of its component on each of the q intervals: the sums of the slopes
 /// of the intervals before. `Wide` exactly where one of these sums passes 2^127 - 1 in absolute value.
-pub fn from_slopes(alloc: Global, component: &[u32], slopes: &[i128]) -> Result<Perturbation, SplitFault>
+pub fn from_slopes(
+    alloc: Global,
+    component: &[u32],
+    slopes: &[i128],
+) -> Result<Perturbation, SplitFault>
     requires some { 1 ≤ length component.now }
     requires components { All (λ c. c < length slopes.now) component.now }
     requires small { All Fits slopes.now }

@@ -60,8 +60,14 @@ fn slope_halves(rt: HostRuntime) -> Result<(), Fail> {
     let h = split(rt.alloc(), &shape, &p)?;
     assert_eq!(rt; h.order, 8);
     assert_eq!(rt; h.scale, 120);
-    assert_eq!(rt; h.first.as_slice(), [0, 20, 35, 50, 70, 85, 100, 120].as_slice());
-    assert_eq!(rt; h.second.as_slice(), [0, 28, 37, 46, 74, 83, 92, 120].as_slice());
+    assert_eq!(rt;
+        h.first.as_slice(),
+        [0, 20, 35, 50, 70, 85, 100, 120].as_slice()
+    );
+    assert_eq!(rt;
+        h.second.as_slice(),
+        [0, 28, 37, 46, 74, 83, 92, 120].as_slice()
+    );
     Ok(())
 }
 
