@@ -1,0 +1,4 @@
+pub mod SlopeSums
+pub mod ListSlacks
+pub mod Moves
+pub mod Split
