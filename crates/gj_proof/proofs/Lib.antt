@@ -6,3 +6,6 @@ pub mod OneText
 pub mod LineNumbers
 pub mod ViolationLines
 pub mod ShortTexts
+pub mod WhereLaws
+pub mod LoopRead
+pub mod CutWords

@@ -5,14 +5,20 @@
 //! and a text is that of one claim.
 #![tactic(auto)]
 
+mod begins;
 mod claim;
+mod cut;
+mod cut_rows;
 mod faults;
+mod fields;
 mod laws;
 mod read;
 mod violations;
 mod write;
+mod write_cuts;
 
 pub use claim::{Claim, Proof};
+pub use cut::{CutLine, CutRule, CutTerm, SkipReason};
 pub use faults::ProofFault;
 pub use laws::{
     no_fault_in_proof_text, numbers_of_lines, one_first_fault, one_spelling, proof_text_is_short,
