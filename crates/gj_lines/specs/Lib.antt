@@ -1,4 +1,5 @@
 pub mod PlaceFraction
 pub mod FunctionLines
+pub mod FaceLines
 pub mod FunctionGrammar
 pub mod Reading

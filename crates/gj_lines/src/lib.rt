@@ -2,9 +2,11 @@
 //!
 //! `function_at` reads them in either spelling, and tests them in their order; `push_function_lines` prints them in
 //! their one spelling. The form stands in `specs/FunctionGrammar` (what is read, and the first fault) and in
-//! `specs/FunctionLines` (what is printed).
+//! `specs/FunctionLines` (what is printed). `push_face_line` and `push_cover_line` print the lines of faces and of covered
+//! intervals.
 #![tactic(auto)]
 
+mod faces;
 mod function;
 mod head;
 mod laws;
@@ -14,10 +16,11 @@ mod print;
 #[cfg(test)]
 mod tests;
 
+pub use faces::{face_word, push_cover_line, push_face_line};
 pub use function::function_at;
 pub use laws::{
     canonical_lines_are_read, function_has_one_text, function_lines_are_exact,
     function_lines_are_short, read_functions_are_within_bounds, strict_lines_are_canonical,
 };
 pub use place::place_of;
-pub use print::{push_fraction_line, push_function_lines};
+pub use print::{push_fraction_line, push_function_lines, push_order_line};

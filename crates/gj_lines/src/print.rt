@@ -54,8 +54,8 @@ fn push_head(alloc: Global, out: &mut Vec<u8>, order: u32, place: Frac) -> Resul
     push_fraction_line(alloc, out, b"f ", place)
 }
 
-/// Appends the line of an order.
-fn push_order_line(out: &mut Vec<u8>, order: u32) -> Result<(), AllocError>
+/// Appends the line `order Q` of an order. An error says that memory ran out; `out` may then have a part of it.
+pub fn push_order_line(out: &mut Vec<u8>, order: u32) -> Result<(), AllocError>
     ensures { OnOk result (out.new.items ≡ out.old.items ++ order_line order) }
 {
     out.extend_from_slice(b"order ")?;

@@ -11,7 +11,7 @@ abbrev pub at_column : List ℤ → ℕ → ℤ
 at_column row c = get_or row c (pos 0)
 
 -- the greatest common divisor of all entries; 0 where all are 0
-pub gcd_of_row : List ℤ → ℕ
+abbrev pub gcd_of_row : List ℤ → ℕ
 gcd_of_row [] = 0
 gcd_of_row (x ∷ xs) = gcd_of (unsigned_abs x) (gcd_of_row xs)
 
@@ -128,7 +128,7 @@ elimination n rows = elimination_from n [] 0 rows
 -- ---- the kernel
 
 -- the sums of the first one, two and so on of the numbers, to which a sum is added
-pub partial_sums : ℤ → List ℤ → List ℤ
+abbrev pub partial_sums : ℤ → List ℤ → List ℤ
 partial_sums sum [] = []
 partial_sums sum (x ∷ xs) = (sum +ℤ x) ∷ partial_sums (sum +ℤ x) xs
 

@@ -2,3 +2,11 @@ pub mod EarlierTests
 pub mod GridPoints
 pub mod NearCorners
 pub mod Lanes
+pub mod Halves
+pub mod Filling
+pub mod Uncovered
+pub mod Steps
+pub mod CoverRules
+pub mod PivotRows
+pub mod TriangularRows
+pub mod Cuts

@@ -1,0 +1,19 @@
+-- What always holds of the fields of a basis.
+use Rattle.std.specs.Prelude.{ℕ, ◌≡◌, length, All}
+use Rattle.gj_shape.specs.Elimination.{KeptRow}
+use Rattle.gj_theory.specs.TriangularRows.{AreTriangular}
+use Rattle.gj_elim.specs.Data.{BasisData, Fits}
+use Rattle.gj_elim.specs.KeptRows.{kept_rows}
+use Rattle.gj_elim.specs.declared.basis.Basis.TheInside.{Inside}
+
+-- the basis with these fields
+abbrev pub data_of : Inside → BasisData
+data_of b = record { columns = b.columns; inserted = b.inserted; kept = kept_rows b.log.items b.rows.items }
+
+-- the log has a line for each row, the rows are triangular with entries of at most 2^127 - 1 in absolute value, and the row
+-- that is reduced has its length
+pub record IsBasis (b : Inside) : Type 0 where
+  pub lines : length b.log.items ≡ length b.rows.items
+  pub triangular : AreTriangular b.columns (kept_rows b.log.items b.rows.items)
+  pub fits : All (All Fits) b.rows.items
+  pub columns : length b.row.items ≡ b.columns

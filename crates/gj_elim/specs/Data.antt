@@ -1,0 +1,21 @@
+-- A basis as data, and what an insertion makes of it.
+use Rattle.std.specs.Prelude.{ℕ, ℤ, ◌+◌, ◌<◌, ◌^◌, List, unsigned_abs}
+use Rattle.gj_shape.specs.Elimination.{KeptRow, inserted, kept_behind}
+
+-- how many columns the rows have, how many rows were inserted, and the rows that were kept
+pub record BasisData : Type 0 where
+  pub columns : ℕ
+  pub inserted : ℕ
+  pub kept : List KeptRow
+
+-- the basis behind the insertion of a row
+abbrev pub behind : BasisData → List ℤ → BasisData
+behind b row = record {
+  columns = b.columns;
+  inserted = b.inserted + 1;
+  kept = kept_behind b.kept b.inserted (inserted b.columns b.kept row).reduce (inserted b.columns b.kept row).kept;
+}
+
+-- the number is at most 2^127 - 1 in absolute value
+abbrev pub Fits : ℤ → Type 0
+Fits x = unsigned_abs x < 2 ^ 127

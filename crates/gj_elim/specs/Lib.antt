@@ -1,0 +1,5 @@
+pub mod Data
+pub mod KeptRows
+pub mod Basis
+pub mod Combination
+pub mod Progress

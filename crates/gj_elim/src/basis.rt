@@ -1,0 +1,161 @@
+//! Rows that are kept by plain elimination.
+ghost use Rattle.std.specs.Prelude.{ℕ, ℤ, pos, ◌≡◌, ◌+◌, ◌<◌, ◌^◌, ◌<ℤ◌, ◌↔◌, [], List, length, map, All, Any, IfOk, IfSome, IsNone, OnOk, OnErr, IsErrOf};
+ghost use Rattle.gj_shape.specs.Elimination.{inserted, kernel, Passes};
+ghost use Rattle.gj_theory.specs.TriangularRows.{Solves, SolvesKept, AreTriangular};
+ghost use Rattle.gj_elim.specs.Data.{behind, Fits};
+ghost use Rattle.gj_elim.specs.KeptRows.{log_row, answer_of, marked_in};
+
+use crate::faults::ElimFault;
+use crate::log::{Inserted, LogRow};
+use crate::reduce::{place_of, reduce_row};
+use crate::solve::{solve_at, unit_row};
+use crate::step::make_kept;
+use gj_shape::List;
+use std::alloc::{AllocError, Global};
+use std::marker::Model;
+
+/// Rows of whole numbers, of which plain elimination keeps those that are needed. Contracts see how many columns they have, how
+/// many rows were inserted, and the kept rows.
+#[derive(Drop)]
+pub struct Basis {
+    alloc: Global,
+    columns: u32,
+    inserted: u64,
+    log: Vec<LogRow>,
+    /// The entries of the kept rows, in the order of the log.
+    rows: Vec<List<i128>>,
+    /// The row that is being reduced, and the columns of its steps.
+    row: Vec<i128>,
+    reduce: Vec<u32>,
+}
+
+impl Model for Basis {
+    ghost use Rattle.gj_elim.specs.Data.{BasisData};
+
+    ghost Value = { BasisData };
+
+    ghost use Rattle.gj_elim.specs.Basis.{data_of, IsBasis};
+
+    ghost view = { data_of };
+
+    ghost invariant = { IsBasis };
+}
+
+impl Basis {
+    /// A basis of no rows, for rows with so many columns.
+    pub fn new(alloc: Global, columns: u32) -> Result<Basis, AllocError>
+        ensures columns { IfOk result (λ b. b.columns ≡ columns) }
+        ensures inserted { IfOk result (λ b. b.inserted ≡ 0) }
+        ensures kept { IfOk result (λ b. b.kept ≡ []) }
+    {
+        Ok(Basis {
+            alloc,
+            columns,
+            inserted: 0,
+            log: Vec::new(alloc),
+            rows: Vec::new(alloc),
+            row: vec![in alloc; 0; columns as usize]?,
+            reduce: Vec::new(alloc),
+        })
+    }
+
+    /// Inserts a row: it is reduced by the kept rows, and what is left of it is kept. `Wide` exactly where one of the numbers that
+    /// the elimination marks passes 2^127 - 1 in absolute value. After an error the basis is as it was.
+    pub fn insert(&mut self, row: &[i128]) -> Result<Inserted, ElimFault>
+        requires columns { length row.now ≡ self.old.columns }
+        requires entries { All Fits row.now }
+        requires count { self.old.inserted + 1 < 2 ^ 64 }
+
+        ensures kept { OnOk result (self.new ≡ behind self.old row.now) }
+        ensures answer { IfOk result (λ a. a ≡ answer_of (inserted self.old.columns self.old.kept row.now).kept) }
+        ensures narrow { OnOk result (¬ Passes (inserted self.old.columns self.old.kept row.now).marked) }
+        ensures wide { IsErrOf result ElimFault.Wide → Passes (inserted self.old.columns self.old.kept row.now).marked }
+        ensures unchanged { OnErr result (self.new ≡ self.old) }
+
+        ensures solutions { OnOk result ((w : List ℤ) →
+            (SolvesKept w self.new.kept ↔ (SolvesKept w self.old.kept × Solves w row.now))) }
+        ensures triangular { OnOk result (AreTriangular self.new.columns self.new.kept) }
+    {
+        self.row.copy_from_slice(row);
+        self.reduce.clear();
+        let left = reduce_row(
+            self.log.as_slice(),
+            self.rows.as_slice(),
+            self.row.as_mut_slice(),
+            &mut self.reduce,
+        )?;
+        match left {
+            None => {
+                self.inserted += 1;
+                Ok(Inserted::Nothing)
+            }
+            Some(column) => {
+                let mut entries = Vec::from_slice(self.alloc, self.row.as_slice())?;
+                make_kept(entries.as_mut_slice(), column as usize);
+                let reduce = Vec::from_slice(self.alloc, self.reduce.as_slice())?;
+                self.log.reserve(1)?;
+                self.rows.reserve(1)?;
+                self.log.push_reserved(LogRow {
+                    number: self.inserted,
+                    reduce: List::of(reduce),
+                    pivot: column,
+                });
+                self.rows.push_reserved(List::of(entries));
+                self.inserted += 1;
+                Ok(Inserted::Pivot(column))
+            }
+        }
+    }
+
+    /// The number of rows that were inserted.
+    pub fn inserted(&self) -> u64
+        ensures { result ≡ self.now.inserted }
+    {
+        self.inserted
+    }
+
+    /// The number of rows that are kept, at most the number of columns.
+    pub fn rank(&self) -> u32
+        ensures count { result ≡ length self.now.kept }
+        ensures triangular { AreTriangular self.now.columns self.now.kept }
+    {
+        self.log.len() as u32
+    }
+
+    /// How each kept row came to be kept, in the order of insertion.
+    pub fn log(&self) -> &[LogRow]
+        ensures { result.now ≡ map log_row self.now.kept }
+    {
+        self.log.as_slice()
+    }
+
+    /// The least column without a pivot.
+    fn free_column(&self) -> Option<u32>
+    {
+        (0..self.columns).find(|column| place_of(self.log.as_slice(), *column).is_none())
+    }
+
+    /// Numbers that solve all kept rows and are not all 0; None exactly where there are as many kept rows as columns. `Wide`
+    /// exactly where one of the numbers that the definition marks passes 2^127 - 1 in absolute value.
+    pub fn kernel(&self) -> Result<Option<Vec<i128>>, ElimFault>
+        ensures none { IfOk result (λ o. IsNone o ↔ (length self.now.kept ≡ self.now.columns)) }
+        ensures value { IfOk result (λ o. IfSome o (λ v.
+            IfSome (kernel self.now.columns self.now.kept) (λ s. v.items ≡ s.numbers))) }
+        ensures narrow { OnOk result (¬ Passes (marked_in (kernel self.now.columns self.now.kept))) }
+        ensures wide { IsErrOf result ElimFault.Wide → Passes (marked_in (kernel self.now.columns self.now.kept)) }
+
+        ensures solves { IfOk result (λ o. IfSome o (λ v. SolvesKept v.items self.now.kept)) }
+        ensures some { IfOk result (λ o. IfSome o (λ v. Any (λ x. pos 0 <ℤ x) v.items)) }
+    {
+        let Some(free) = self.free_column() else {
+            return Ok(None);
+        };
+        let mut numbers = unit_row(self.alloc, self.columns as usize, free as usize)?;
+        for column in (0..free).rev() {
+            if let Some(place) = place_of(self.log.as_slice(), column) {
+                solve_at(self.rows[place].as_slice(), column as usize, numbers.as_mut_slice())?;
+            }
+        }
+        Ok(Some(numbers))
+    }
+}

@@ -1,0 +1,20 @@
+//! Plain elimination over whole numbers of 128 bits.
+//!
+//! A [`Basis`] takes rows one after another. It reduces each row by the rows that it keeps, and keeps what is left, so that its
+//! rows have exactly the solutions of all rows that were inserted. `kernel` gives a solution of them that is not 0.
+#![tactic(auto)]
+
+mod basis;
+mod checked;
+mod faults;
+mod log;
+mod reduce;
+mod solve;
+mod step;
+
+pub use basis::Basis;
+pub use faults::ElimFault;
+pub use log::{Inserted, LogRow};
+
+#[cfg(test)]
+mod tests;

@@ -1,0 +1,69 @@
+//! Kept rows are solved, one after another.
+ghost use Rattle.std.specs.Prelude.{ℕ, ℤ, pos, ◌≡◌, ◌≢◌, ◌<◌, ◌+◌, ◌^◌, ◌*ℤ◌, ◌<ℤ◌, ◌++◌, List, length, map, All, IfOk, OnOk, OnErr, unsigned_abs};
+ghost use Rattle.gj_shape.specs.Elimination.{at_column, scaled, products_behind, partial_sums, solved_at, marked_in_solving, unit_row, Passes};
+ghost use Rattle.gj_shape.specs.SlopeRows.{total};
+ghost use Rattle.gj_elim.specs.Data.{Fits};
+
+use crate::checked::{TooWide, product, sum};
+use crate::step::common_divisor;
+use std::alloc::{AllocError, Global};
+
+/// 1 at the column, and 0 at the other columns.
+pub(crate) fn unit_row(alloc: Global, columns: usize, column: usize) -> Result<Vec<i128>, AllocError>
+    requires { column < columns }
+    ensures value { IfOk result (λ v. v.items ≡ unit_row columns column) }
+    ensures fits { IfOk result (λ v. All Fits v.items) }
+{
+    let mut row = vec![in alloc; 0; columns]?;
+    row[column] = 1;
+    Ok(row)
+}
+
+/// The sum of the products of the entries behind the column.
+fn sum_behind(row: &[i128], numbers: &[i128], column: usize) -> Result<i128, TooWide>
+    requires columns { length row.now ≡ length numbers.now }
+    requires within { column < length row.now }
+    ensures value { IfOk result (λ t. t ≡ total (products_behind column row.now numbers.now)) }
+    ensures fits { IfOk result Fits }
+    ensures narrow { OnOk result (¬ Passes (products_behind column row.now numbers.now
+        ++ partial_sums (pos 0) (products_behind column row.now numbers.now))) }
+    ensures wide { OnErr result (Passes (products_behind column row.now numbers.now
+        ++ partial_sums (pos 0) (products_behind column row.now numbers.now))) }
+{
+    let mut total: i128 = 0;
+    for i in column + 1..row.len() {
+        total = sum(total, product(row[i], numbers[i])?)?;
+    }
+    Ok(total)
+}
+
+/// Multiplies all numbers by the factor. After an error some are changed.
+fn multiply(factor: i128, numbers: &mut [i128]) -> Result<(), TooWide>
+    ensures value { OnOk result (numbers.new ≡ scaled factor numbers.old) }
+    ensures narrow { OnOk result (¬ Passes (scaled factor numbers.old)) }
+    ensures wide { OnErr result (Passes (scaled factor numbers.old)) }
+{
+    for x in numbers.iter_mut() {
+        *x = product(factor, *x)?;
+    }
+    Ok(())
+}
+
+/// Multiplies the numbers, and sets that of the column, so that they solve the row with its pivot there. After an error some are
+/// changed.
+pub(crate) fn solve_at(row: &[i128], column: usize, numbers: &mut [i128]) -> Result<(), TooWide>
+    requires columns { length row.now ≡ length numbers.old }
+    requires within { column < length row.now }
+    requires fits { All Fits row.now }
+    requires positive { pos 0 <ℤ at_column row.now column }
+    ensures value { OnOk result (numbers.new ≡ solved_at row.now column numbers.old) }
+    ensures narrow { OnOk result (¬ Passes (marked_in_solving row.now column numbers.old)) }
+    ensures wide { OnErr result (Passes (marked_in_solving row.now column numbers.old)) }
+{
+    let pivot = row[column];
+    let behind = sum_behind(row, numbers, column)?;
+    let divisor = common_divisor(pivot, behind);
+    multiply(pivot / divisor, numbers)?;
+    numbers[column] = -(behind / divisor);
+    Ok(())
+}

@@ -1,0 +1,33 @@
+-- The kinds of rules, their values and their places (Gomory and Johnson 1972; the range is own).
+use Rattle.std.specs.Prelude.{ℕ, pos, ◌<◌, ◌≤◌, ◌*◌, ◌^◌, unsigned_abs}
+use Rattle.gj_frac.specs.declared.Frac.{Frac}
+use Rattle.gj_frac.specs.Fraction.{IsRatio, numerator, denominator}
+use Rattle.gj_shape.specs.FunctionData.{FunctionData, IsWithinBounds}
+use Rattle.gj_shape.specs.Table.{IsMinimal}
+use Rattle.gj_theory.specs.Cuts.{IsInside, IsGmicValue, IsValueOf}
+use Rattle.gj_rule.specs.declared.kind.RuleKind.{RuleKind}
+use Rattle.gj_rule.specs.declared.kind.RuleKind.TheVariants.{Gmic, Table}
+
+-- a fraction of denominator at most 2^31 - 1, and at most 2^31 in absolute value
+abbrev pub IsInRange : Frac → Type 0
+IsInRange x = (unsigned_abs (denominator x) < 2 ^ 31) × (unsigned_abs (numerator x) ≤ 2 ^ 31 * unsigned_abs (denominator x))
+
+-- the f of a mixed-integer cut is between 0 and 1 and has a denominator of at most 2^31 - 1
+abbrev pub IsKind : RuleKind → Type 0
+IsKind (Gmic f) = IsInside f × (unsigned_abs (denominator f) < 2 ^ 31)
+IsKind (Table shape) = Unit {0}
+
+-- y is the kind's value at x
+abbrev pub IsKindValue : RuleKind → Frac → Frac → Type 0
+IsKindValue (Gmic f) x y = IsGmicValue f x y
+IsKindValue (Table shape) x y = IsValueOf shape x y
+
+-- x is the kind's place f
+abbrev pub HasPlace : RuleKind → Frac → Type 0
+HasPlace (Gmic f) x = IsRatio x (numerator f) (denominator f)
+HasPlace (Table shape) x = IsRatio x (pos shape.place) (pos shape.order)
+
+-- the kind is minimal: the mixed-integer cut is so for each f
+abbrev pub IsMinimalKind : RuleKind → Type 0
+IsMinimalKind (Gmic f) = Unit {0}
+IsMinimalKind (Table shape) = IsMinimal shape

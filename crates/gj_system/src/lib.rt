@@ -1,0 +1,3 @@
+//! The rows of the linear system for the slopes of a perturbation.
+#![tactic(auto)]
+

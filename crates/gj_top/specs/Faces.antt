@@ -1,0 +1,46 @@
+-- The command `faces`: a function text is answered with the maximal additive faces and the covered intervals of its
+-- function (Light on the Infinite Group Relaxation I and II; the form is own).
+use Rattle.std.specs.Prelude.{ℕ, ◌≡◌, List, ◌++◌, codes, decimal, flat_map}
+use Rattle.std.specs.List.{range_with_len}
+use Rattle.gj_shape.specs.FunctionData.{FunctionData, IsContinuous}
+use Rattle.gj_shape.specs.Additive.{IsTight}
+use Rattle.gj_shape.specs.Cover.{AreCoverLines, IsCovered}
+use Rattle.gj_shape.specs.declared.faces.Face.{Face}
+use Rattle.gj_shape.specs.declared.extremality.CoverLine.{CoverLine}
+use Rattle.gj_faces.specs.Picked.{ArePicked}
+use Rattle.gj_faces.specs.Listed.{AreMaximalFaces}
+use Rattle.gj_lines.specs.FunctionLines.{line, order_line}
+use Rattle.gj_lines.specs.FaceLines.{face_text, cover_line}
+use Rattle.gj_top.specs.declared.reply.End.{End}
+use Rattle.gj_top.specs.declared.reply.End.TheVariants.{Done, NotContinuous}
+use Rattle.gj_top.specs.Task.{Task}
+use Rattle.gj_top.specs.Forms.{function_text}
+use Rattle.gj_top.specs.Continuity.{NamesFirstJump}
+
+-- the text lists the maximal additive faces in walk order, the cover lines, and the uncovered intervals, ascending
+pub record IsFacesText (f : FunctionData) (text : List ℕ) : Type 0 where
+  pub faces : List Face
+  pub maximal : AreMaximalFaces f faces
+  pub lines : List CoverLine
+  pub cover : AreCoverLines f.order (IsTight f) lines
+  pub intervals : List ℕ
+  pub uncovered : ArePicked (λ i. IsCovered f.order (IsTight f) i → ⊥) (range_with_len 0 f.order) intervals
+  pub spelled : text ≡ line (codes "gj-faces 1") ++ order_line f.order
+      ++ flat_map (λ face. line (face_text face)) faces
+      ++ flat_map cover_line lines
+      ++ flat_map (λ i. line (codes "uncovered " ++ decimal i)) intervals
+      ++ line (codes "end")
+
+-- a continuous function is answered with that text; of another the first jump is named
+abbrev pub IsFacesReply : FunctionData → End → List ℕ → Type 0
+IsFacesReply f Done text = IsContinuous f × IsFacesText f text
+IsFacesReply f NotContinuous text = NamesFirstJump f text
+IsFacesReply f end text = ⊥
+
+-- the headline: the function is continuous, and the text lists its faces and intervals
+abbrev pub faces : Task
+faces = record {
+  Thing = FunctionData;
+  form = function_text;
+  work = record { replies = IsFacesReply; headline = λ f text. IsContinuous f × IsFacesText f text };
+}

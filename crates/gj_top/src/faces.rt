@@ -1,0 +1,100 @@
+//! The command `faces`: the maximal additive faces and the covered intervals of a function.
+ghost use Rattle.std.specs.Prelude.{◌≡◌, ◌×◌, IfOk, OnOk, flat_map, ◌++◌};
+ghost use Rattle.gj_shape.specs.FunctionData.{IsContinuous};
+ghost use Rattle.gj_lines.specs.FunctionLines.{line};
+ghost use Rattle.gj_lines.specs.FaceLines.{face_text, cover_line};
+ghost use Rattle.gj_top.specs.Task.{IsAnswering};
+ghost use Rattle.gj_top.specs.Faces.{IsFacesReply, IsFacesText, faces};
+
+use crate::continuity::jump_line;
+use crate::forms::function_of;
+use crate::reply::{End, Reply, Unanswered};
+use gj_cover::cover;
+use gj_faces::maximal;
+use gj_lex::print_count;
+use gj_lines::{push_cover_line, push_face_line};
+use gj_shape::{CoverLine, Face, Shape};
+use std::alloc::{AllocError, Global};
+
+/// The faces and intervals of the function that the input spells, or its first jump.
+pub(crate) fn reply(alloc: Global, input: &[u8]) -> Result<Reply, Unanswered>
+    ensures { IsAnswering faces input.now result }
+{
+    let shape = function_of(alloc, input)?;
+    Ok(faces_or_jump(alloc, &shape)?)
+}
+
+/// The faces and intervals of the function, or its first jump.
+fn faces_or_jump(alloc: Global, shape: &Shape) -> Result<Reply, AllocError>
+    ensures { IfOk result (λ reply. IsFacesReply shape.now reply.end reply.text.items) }
+{
+    match shape.first_jump() {
+        Some(index) => Ok(Reply {
+            end: End::NotContinuous,
+            text: jump_line(alloc, shape, index)?,
+        }),
+        None => Ok(Reply {
+            end: End::Done,
+            text: faces_text(alloc, shape)?,
+        }),
+    }
+}
+
+/// The text of the faces and intervals of a continuous function.
+fn faces_text(alloc: Global, shape: &Shape) -> Result<Vec<u8>, AllocError>
+    requires { IsContinuous shape.now }
+    ensures { IfOk result (λ text. IsFacesText shape.now text.items) }
+{
+    let faces = maximal(alloc, shape)?;
+    let cover = cover(alloc, shape)?;
+    let mut text = Vec::from_slice(alloc, b"gj-faces 1\n")?;
+    push_order_line(&mut text, shape.order())?;
+    push_face_lines(&mut text, faces.as_slice())?;
+    push_cover_lines(&mut text, cover.lines.as_slice())?;
+    push_uncovered_lines(&mut text, cover.component.as_slice())?;
+    text.extend_from_slice(b"end\n")?;
+    Ok(text)
+}
+
+/// Appends the line of each face.
+fn push_face_lines(out: &mut Vec<u8>, faces: &[Face]) -> Result<(), AllocError>
+    ensures { OnOk result (out.new.items ≡ out.old.items ++ flat_map (λ face. line (face_text face)) faces.now) }
+{
+    for face in faces {
+        push_face_line(out, *face)?;
+    }
+    Ok(())
+}
+
+/// Appends the line of each covered interval.
+fn push_cover_lines(out: &mut Vec<u8>, lines: &[CoverLine]) -> Result<(), AllocError>
+    ensures { OnOk result (out.new.items ≡ out.old.items ++ flat_map cover_line lines.now) }
+{
+    for line in lines {
+        push_cover_line(out, *line)?;
+    }
+    Ok(())
+}
+
+/// Appends a line for each interval without a component, ascending.
+fn push_uncovered_lines(out: &mut Vec<u8>, component: &[Option<u32>]) -> Result<(), AllocError>
+    ensures { OnOk result ((intervals : List ℕ) × AreUncovered component.now intervals
+        × (out.new.items ≡ out.old.items ++ flat_map uncovered_line intervals)) }
+{
+    for (interval, component) in component.iter().enumerate() {
+        if component.is_none() {
+            push_uncovered_line(out, interval as u32)?;
+        }
+    }
+    Ok(())
+}
+
+/// Appends the line of an uncovered interval.
+fn push_uncovered_line(out: &mut Vec<u8>, interval: u32) -> Result<(), AllocError>
+    ensures { OnOk result (out.new.items ≡ out.old.items ++ uncovered_line interval) }
+{
+    out.extend_from_slice(b"uncovered ")?;
+    print_count(out, interval)?;
+    out.push(b'\n')?;
+    Ok(())
+}
