@@ -1,7 +1,7 @@
 -- Items of lists at indices.
-use Rattle.std.proofs.Common.{◌≡◌, ℕ, zero, suc, ◌+◌, ◌<◌, List, [], ◌∷◌, ◌++◌, length, take, drop, get_or, refl, sym, ap, subst, subst₂, ◌∙◌, arith}
+use Rattle.std.proofs.Common.{◌≡◌, ℕ, zero, suc, ◌+◌, ◌<◌, ◌≤◌, List, [], ◌∷◌, ◌++◌, length, take, drop, get_or, refl, sym, ap, subst, subst₂, ◌∙◌, arith}
 use Rattle.std.proofs.Math.Seq.{split_at}
-use Rattle.std.proofs.lemmas.List.{length-take-le, take_more}
+use Rattle.std.proofs.lemmas.List.{length-append, length-take-le, take_more}
 use Rattle.gj_proof.specs.Rules.{AtIndex}
 
 -- a list is split at an index in one way
@@ -33,15 +33,17 @@ at_place items P j x below is h =
     (at_index items P (take j items) x (drop (suc j) items)
     (split_at items j x below ∙ ap (λ y. take j items ++ y ∷ drop (suc j) items) (sym is)) h)
 
+-- the way back
+pub place_has : {A : Type 0} (items : List A) (P : List A → A → Type 0) (j : ℕ) (x : A) → j < length items →
+    x ≡ get_or items j x → AtIndex items j P → P (take j items) x
+place_has items P j x below is h =
+    h (take j items) x (drop (suc j) items)
+    (split_at items j x below ∙ ap (λ y. take j items ++ y ∷ drop (suc j) items) (sym is)) (length-take-le j items (omega arith))
+
 -- one more item
 pub with_place : {A : Type 0} (items : List A) (j : ℕ) (x : A) → j < length items → x ≡ get_or items j x →
     take (j + 1) items ≡ take j items ++ x ∷ []
 with_place items j x below is = take_more items j x below ∙ ap (λ y. take j items ++ y ∷ []) (sym is)
-
--- the item at an index of a list that is split there
-pub index_has : {A : Type 0} (items : List A) (P : List A → A → Type 0) (before : List A) (x : A) (after : List A) →
-    items ≡ before ++ x ∷ after → AtIndex items (length before) P → P before x
-index_has items P before x after place h = h before x after place refl
 
 -- a list is split at each of its indices
 pub record IsSplitAt {A : Type 0} (items : List A) (j : ℕ) : Type 0 where
@@ -63,3 +65,10 @@ split_there (x ∷ items) (suc j) below =
       place = ap (λ l. x ∷ l) rest.place;
       index = ap suc rest.index;
     }
+
+-- what each item below the length has, each has
+pub each_item : {A : Type 0} (items : List A) (P : List A → A → Type 0) (n : ℕ) → length items ≤ n →
+    ((i : ℕ) → i < n → AtIndex items i P) → (j : ℕ) → AtIndex items j P
+each_item items P n high h j before x after place index =
+    let long = ap length place ∙ length-append before (x ∷ after) in
+    h j (omega arith) before x after place index

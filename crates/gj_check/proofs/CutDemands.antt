@@ -22,7 +22,7 @@ use Rattle.gj_check.specs.declared.rules.CheckRule.{CheckRule}
 use Rattle.gj_check.specs.declared.rules.CheckRule.TheVariants.{Minimal, Fraction, Limit, Name, Value}
 use Rattle.gj_check.specs.declared.rows.RowFailure.{RowFailure}
 use Rattle.gj_check.specs.FirstFailure.{rule_of, IsFirstFailure}
-use Rattle.gj_check.specs.CutRows.{MeetsTerm, FailsTerm, MeetTerms, FailAt, FailTerms, MeetsRow, FailsRow}
+use Rattle.gj_check.specs.CutRows.{MeetsTerm, FailsTerm, MeetTerms, FailAt, FailTerms, MeetsRow, FailsRow, GivesCut}
 use Rattle.gj_check.specs.CutRows.FailsRow.{at_fraction, at_limit, at_term}
 use Rattle.gj_check.proofs.AtPlaces.{at_index, split_there}
 use Rattle.gj_check.proofs.CutLines.{first_of, count_of, number_of_row, number_of_term}
@@ -81,11 +81,11 @@ failure_of c l r n h number = record {
 -- ---- the demands of a row
 
 -- the i-th row of a claim, behind others
-record IsRow (rule : CutRule) (rows : List CutLine) (i : ℕ) (l : CutLine) : Type 0 where
-  front : List CutLine
-  back : List CutLine
-  place : rows ≡ front ++ l ∷ back
-  index : length front ≡ i
+pub record IsRow (rule : CutRule) (rows : List CutLine) (i : ℕ) (l : CutLine) : Type 0 where
+  pub front : List CutLine
+  pub back : List CutLine
+  pub place : rows ≡ front ++ l ∷ back
+  pub index : length front ≡ i
 
 -- what the row has, the i-th row has
 of_row : (rule : CutRule) (rows : List CutLine) (i : ℕ) (l : CutLine) → IsRow rule rows i l → (P : CutRule → CutLine → Type 0) → P rule l →
@@ -94,7 +94,7 @@ of_row rule rows i l at P h =
     subst (λ (n : ℕ). AtIndex rows n (λ before m. P rule m)) at.index (at_index rows (λ before m. P rule m) at.front l at.back at.place h)
 
 -- the way back
-to_row : (rule : CutRule) (rows : List CutLine) (i : ℕ) (l : CutLine) → IsRow rule rows i l → (P : CutRule → CutLine → Type 0) →
+pub to_row : (rule : CutRule) (rows : List CutLine) (i : ℕ) (l : CutLine) → IsRow rule rows i l → (P : CutRule → CutLine → Type 0) →
     AtIndex rows i (λ before m. P rule m) → P rule l
 to_row rule rows i l at P h = h at.front l at.back at.place at.index
 
@@ -111,7 +111,7 @@ of_term rule rows i basic right terms at j front t back place index Q h =
     (subst (λ (n : ℕ). AtIndex terms n (Q rule basic right)) index (at_index terms (Q rule basic right) front t back place h))
 
 -- the way back
-to_term : (rule : CutRule) (rows : List CutLine) (i : ℕ) (basic : List ℕ) (right : Frac) (terms : List CutTerm) →
+pub to_term : (rule : CutRule) (rows : List CutLine) (i : ℕ) (basic : List ℕ) (right : Frac) (terms : List CutTerm) →
     IsRow rule rows i (cuts.Cut basic right terms) → (j : ℕ) (front : List CutTerm) (t : CutTerm) (back : List CutTerm) →
     terms ≡ front ++ t ∷ back → length front ≡ j → (Q : CutRule → List ℕ → Frac → List CutTerm → CutTerm → Type 0) →
     IfTerm (claims.Cut rule rows) i j Q → Q rule basic right front t
@@ -126,7 +126,7 @@ limit_rule rule basic right before t = MeetsLimit (right ∷ map (λ u. u.entry)
 abbrev name_rule : CutRule → List ℕ → Frac → List CutTerm → CutTerm → Type 0
 name_rule rule basic right before t = MeetsName basic before t
 
-abbrev value_rule : CutRule → List ℕ → Frac → List CutTerm → CutTerm → Type 0
+abbrev pub value_rule : CutRule → List ℕ → Frac → List CutTerm → CutTerm → Type 0
 value_rule rule basic right before t = MeetsValue rule right t
 
 -- the first of them that fails
@@ -168,7 +168,7 @@ term_holds rule rows i basic right terms at j front t back place index h =
 -- ---- the demands of terms
 
 -- one more term in front
-next_length : (front : List CutTerm) (t : CutTerm) (j : ℕ) → length front ≡ j → length (front ++ t ∷ []) ≡ j + 1
+pub next_length : (front : List CutTerm) (t : CutTerm) (j : ℕ) → length front ≡ j → length (front ++ t ∷ []) ≡ j + 1
 next_length front t j index = let long = length-append front (t ∷ []) in omega arith
 
 terms_hold : (rule : CutRule) (rows : List CutLine) (i : ℕ) (basic : List ℕ) (right : Frac) (terms : List CutTerm) →
@@ -292,7 +292,7 @@ row_fails rule rows front back l f place (at_term basic right terms is meets wit
 
 -- ---- all rows
 
-next_row : (front : List CutLine) (l : CutLine) (i : ℕ) → length front ≡ i → length (front ++ l ∷ []) ≡ i + 1
+pub next_row : (front : List CutLine) (l : CutLine) (i : ℕ) → length front ≡ i → length (front ++ l ∷ []) ≡ i + 1
 next_row front l i index = let long = length-append front (l ∷ []) in omega arith
 
 rows_hold : (rule : CutRule) (rows : List CutLine) (i : ℕ) (front rest : List CutLine) → rows ≡ front ++ rest → length front ≡ i →
@@ -352,3 +352,14 @@ cut_fails rule rows front back l f n h place all fails is =
     (subst (λ xs. FirstFails (claims.Cut rule rows) (cut_demands 0 xs) row.line f.rule) (sym place)
     (rows_fail rule rows 0 (length front) [] front l back place refl (omega arith) all row.line f.rule row.fails)))
     row.number)
+
+-- a row with a cut has a right side with which the rule gives one
+pub gives : (rule : CutRule) (basic : List ℕ) (right : Frac) (terms : List CutTerm) → MeetsFraction rule (cuts.Cut basic right terms) →
+    GivesCut rule right
+gives (Table f) basic right terms h = h
+gives Gmic basic right terms h = h
+
+pub given_back : (rule : CutRule) (basic : List ℕ) (right : Frac) (terms : List CutTerm) → GivesCut rule right →
+    MeetsFraction rule (cuts.Cut basic right terms)
+given_back (Table f) basic right terms h = h
+given_back Gmic basic right terms h = h

@@ -15,4 +15,6 @@ pub mod FractionalParts
 pub mod LimitsOfRows
 pub mod SeenNames
 pub mod CutDemands
+pub mod CutMeaning
+pub mod RowOutcomes
 pub mod ValuesOfCuts

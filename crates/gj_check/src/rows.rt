@@ -65,10 +65,10 @@ fn failure_in_terms(
     ensures { IfOk result (IsTermsOutcome rule.now basic.now right terms.now) }
 {
     let repeated = first_repeated(alloc, basic, terms)?;
-    let mut common = common;
+    let mut denominator = common;
     for (index, term) in terms.iter().enumerate() {
         let below = index + 1;
-        let Some(multiple) = extended(common, term.entry) else {
+        let Some(multiple) = extended(denominator, term.entry) else {
             return Ok(Some(RowFailure {
                 below,
                 rule: CheckRule::Limit,
@@ -86,7 +86,7 @@ fn failure_in_terms(
                 rule: CheckRule::Value,
             }));
         }
-        common = multiple;
+        denominator = multiple;
     }
     Ok(None)
 }
