@@ -37,7 +37,7 @@ loop-row-preserved c =
     let longer = ap count_of more ∙ count_of-append (take i rows) (l ∷ []) in (
       omega arith,
       subst (All (MeetsRow c.args.rule.now)) (sym more) (All-push (MeetsRow c.args.rule.now) (take i rows) l c.loop-row.invariant.1
-          (let a = c.in_default.is in let b = c.in_default.not-Some in let o = c.in_ok-failure.ensures in ?)),
+          (subst (IsRowOutcome c.args.rule.now l) c.in_default.is c.in_ok-failure.ensures)),
     )
 
 pub returns-clause-ok : goal.returns-clause-ok
