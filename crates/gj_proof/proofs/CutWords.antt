@@ -1,5 +1,5 @@
 -- The words of the lines of cuts: they are those of one line, or break one rule, and are plain.
-use Rattle.std.proofs.Common.{◌≡◌, inl, inr, ℕ, ◌<◌, ◌≤◌, List, [], ◌∷◌, ◌++◌, All, length, codes, refl, sym, ap, subst, ◌∙◌, arith}
+use Rattle.std.proofs.Common.{◌≡◌, inl, inr, ℕ, List, [], ◌∷◌, ◌++◌, All, codes, refl, sym, ap, subst, ◌∙◌, arith}
 use Rattle.std.specs.List.{join_with_byte}
 use Rattle.std.proofs.lemmas.List.{append_assoc}
 use Rattle.std.proofs.lemmas.List.Elements.{All-nil, All-cons, All-weaker}
@@ -16,7 +16,6 @@ use Rattle.gj_lex.proofs.SpelledWords.{fraction_is_plain}
 use Rattle.gj_lines.specs.FunctionLines.{line}
 use Rattle.gj_proof.specs.ProofText.{reason_word, row_line, term_line}
 use Rattle.gj_proof.specs.ProofGrammar.{IsFraction, head_words, BreaksHead, head_rule, term_words, BreaksTerm, term_rule}
-use Rattle.gj_proof.specs.declared.cut.CutLine.{CutLine}
 use Rattle.gj_proof.specs.declared.cut.CutLine.TheVariants as cuts
 use Rattle.gj_proof.specs.declared.cut.CutTerm.{CutTerm}
 use Rattle.gj_proof.specs.declared.cut.SkipReason.{SkipReason}
@@ -160,8 +159,11 @@ no_head_words words e form none = inl (form, λ kind name right is named. none k
 pub no_head_name : (words : List (List ℕ)) (kind : RowKind) (name right : List ℕ) (e : Reason) → words ≡ head_words kind name right →
     (e ≡ reason.Form) × (IsName name → ⊥) → BreaksHead words e
 no_head_name words kind name right e is (form, none) =
-    inl (form, λ kind' name' right' is' named.
-    none (subst IsName (sym (parts_of_head kind kind' name name' right right' (sym is ∙ is')).1) named))
+    inl (
+      form,
+      λ kind' name' right' is' named.
+          none (subst IsName (sym (parts_of_head kind kind' name name' right right' (sym is ∙ is')).1) named),
+    )
 
 pub no_head_number : (words : List (List ℕ)) (kind : RowKind) (name right : List ℕ) (e : Reason) → words ≡ head_words kind name right →
     IsName name → (e ≡ reason.Number) × (IsFraction right → ⊥) → BreaksHead words e
@@ -174,8 +176,11 @@ no_term_words words e form none = inl (form, λ name x y is named. none name x y
 pub no_term_name : (words : List (List ℕ)) (name x y : List ℕ) (e : Reason) → words ≡ term_words name x y →
     (e ≡ reason.Form) × (IsName name → ⊥) → BreaksTerm words e
 no_term_name words name x y e is (form, none) =
-    inl (form, λ name' x' y' is' named.
-    none (subst IsName (sym (parts_of_term name name' x x' y y' (sym is ∙ is')).0) named))
+    inl (
+      form,
+      λ name' x' y' is' named.
+          none (subst IsName (sym (parts_of_term name name' x x' y y' (sym is ∙ is')).0) named),
+    )
 
 pub no_term_number : (words : List (List ℕ)) (name x y : List ℕ) (e : Reason) → words ≡ term_words name x y → IsName name →
     (e ≡ reason.Number) × (IsFraction x × IsFraction y → ⊥) → BreaksTerm words e

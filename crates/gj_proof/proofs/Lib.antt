@@ -9,3 +9,8 @@ pub mod ShortTexts
 pub mod WhereLaws
 pub mod LoopRead
 pub mod CutWords
+pub mod CutParts
+pub mod CutTexts
+pub mod CutRead
+pub mod OwnLines
+pub mod CutWritten

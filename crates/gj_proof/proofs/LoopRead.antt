@@ -1,10 +1,8 @@
 -- Parts that are read in turn, one after another.
 use Rattle.std.proofs.Common.{◌⊎◌, inl, inr, ℕ, List}
 use Rattle.gj_lex.specs.declared.fault.PartFault.{PartFault}
-use Rattle.gj_lex.specs.declared.fault.PartFault.TheVariants.{Refused, Memory}
 use Rattle.gj_lex.specs.Parts.{Part, loop_part, IsFaultOf}
 use Rattle.gj_lex.specs.Parts.ReadsInTurn.{last, onward}
-use Rattle.gj_lex.specs.Parts.FaultsInTurn.{here, later}
 use Rattle.gj_lex.proofs.LoopLaws.{fault_in_state, fault_onward}
 
 -- what the state t reads of the rest, the state s reads of the text, and so its faults

@@ -1,5 +1,5 @@
 -- Parts that are told apart by how the text begins are exact where both are.
-use Rattle.std.proofs.Common.{◌≡◌, ◌↔◌, inl, inr, ℕ, ◌<◌, ◌+◌, List, [], ◌∷◌, ◌++◌, length, Bool, IsTrue, Result, Ok, Err, IfOk, IfErr, refl, sym, ap, subst, ◌∙◌, arith, length-append}
+use Rattle.std.proofs.Common.{◌≡◌, ◌↔◌, inl, inr, ℕ, ◌<◌, List, ◌∷◌, ◌++◌, length, Bool, IsTrue, Result, Ok, Err, IfOk, IfErr, sym, ap, subst, ◌∙◌, arith, length-append}
 use Rattle.std.specs.Result.{is_ok}
 use Rattle.std.specs.Borrow.{Bor}
 use Rattle.std.proofs.lemmas.Bool.{false≢true}

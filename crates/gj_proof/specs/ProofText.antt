@@ -1,7 +1,6 @@
 -- The one spelling of a proof (own).
 use Rattle.std.specs.Prelude.{ℕ, ◌≡◌, ◌≢◌, ◌⊎◌, ◌+◌, List, [], ◌∷◌, ◌++◌, All, Contains, length, map, flat_map, codes}
 use Rattle.std.specs.List.{range_with_len}
-use Rattle.gj_frac.specs.declared.Frac.{Frac}
 use Rattle.gj_lex.specs.Name.{IsName}
 use Rattle.gj_lex.specs.NumberText.{fraction_text}
 use Rattle.gj_shape.specs.FunctionData.{FunctionData, IsWithinBounds}
@@ -49,6 +48,12 @@ abbrev pub IsBounded : Claim → Type 0
 IsBounded (Minimal f) = IsWithinBounds f
 IsBounded (NotMinimal f v) = IsWithinBounds f
 IsBounded (Cut rule rows) = IfFunction (subject_of_rule rule) IsWithinBounds × All HasNames rows
+
+-- a claim that has one line of its own at most, and so a short text
+abbrev pub IsShort : Claim → Type 0
+IsShort (Minimal f) = Unit {0}
+IsShort (NotMinimal f v) = Unit {0}
+IsShort (Cut rule rows) = ⊥
 
 -- ---- the lines of a claim
 

@@ -1,6 +1,3 @@
-use Rattle.std.proofs.Common.{Result, Ok, Err, IfOk, IfErr, refl}
-use Rattle.gj_proof.proofs.CutWords.{head_rule_is_exact}
-use Rattle.gj_proof.proofs.LoopRead.{leads_on}
 use Rattle.gj_proof.proofs.WhereLaws.{line_is_told}
 use Rattle.gj_proof.proofs.begins.begins_with_line.Goals as goal
 
