@@ -1,10 +1,10 @@
 //! The command `faces`: the maximal additive faces and the covered intervals of a function.
-ghost use Rattle.std.specs.Prelude.{ℕ, ◌≡◌, ◌++◌, List, flat_map, IfOk, OnOk};
+ghost use Rattle.std.specs.Prelude.{◌≡◌, ◌++◌, length, flat_map, IfOk, OnOk};
 ghost use Rattle.gj_shape.specs.FunctionData.{IsContinuous};
 ghost use Rattle.gj_lines.specs.FunctionLines.{line};
 ghost use Rattle.gj_lines.specs.FaceLines.{face_text, cover_line};
 ghost use Rattle.gj_top.specs.Task.{IsAnswering};
-ghost use Rattle.gj_top.specs.Faces.{AreUncovered, IsFacesReply, IsFacesText, faces, uncovered_line};
+ghost use Rattle.gj_top.specs.Faces.{ArePushed, IsFacesReply, IsFacesText, faces, uncovered_line};
 
 use crate::continuity::jump_line;
 use crate::forms::function_of;
@@ -51,7 +51,7 @@ fn faces_text(alloc: Global, shape: &Shape) -> Result<Vec<u8>, AllocError>
     push_order_line(&mut text, shape.order())?;
     push_face_lines(&mut text, faces.as_slice())?;
     push_cover_lines(&mut text, cover.lines.as_slice())?;
-    push_uncovered_lines(&mut text, cover.component.as_slice())?;
+    push_uncovered_lines(&mut text, cover.component.as_slice(), shape.order())?;
     text.extend_from_slice(b"end\n")?;
     Ok(text)
 }
@@ -76,14 +76,18 @@ fn push_cover_lines(out: &mut Vec<u8>, lines: &[CoverLine]) -> Result<(), AllocE
     Ok(())
 }
 
-/// Appends a line for each interval without a component, ascending.
-fn push_uncovered_lines(out: &mut Vec<u8>, component: &[Option<u32>]) -> Result<(), AllocError>
-    ensures { OnOk result ((intervals : List ℕ) × AreUncovered component.now intervals
-        × (out.new.items ≡ out.old.items ++ flat_map uncovered_line intervals)) }
+/// Appends a line for each interval without a component, ascending, of as many as the order.
+fn push_uncovered_lines(
+    out: &mut Vec<u8>,
+    component: &[Option<u32>],
+    order: u32,
+) -> Result<(), AllocError>
+    requires { length component.now ≡ order }
+    ensures { OnOk result (ArePushed component.now order out.old.items out.new.items) }
 {
-    for (interval, component) in component.iter().enumerate() {
-        if component.is_none() {
-            push_uncovered_line(out, interval as u32)?;
+    for interval in 0..order {
+        if component[interval as usize].is_none() {
+            push_uncovered_line(out, interval)?;
         }
     }
     Ok(())
