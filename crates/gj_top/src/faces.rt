@@ -1,5 +1,5 @@
 //! The command `faces`: the maximal additive faces and the covered intervals of a function.
-ghost use Rattle.std.specs.Prelude.{◌≡◌, ◌++◌, length, flat_map, IfOk, OnOk};
+ghost use Rattle.std.specs.Prelude.{◌≡◌, ◌++◌, codes, decimal, length, flat_map, IfOk, OnOk};
 ghost use Rattle.gj_shape.specs.FunctionData.{IsContinuous};
 ghost use Rattle.gj_lines.specs.FunctionLines.{line};
 ghost use Rattle.gj_lines.specs.FaceLines.{face_text, cover_line};
@@ -12,8 +12,9 @@ use crate::reply::{End, Reply, Unanswered};
 use gj_cover::cover;
 use gj_faces::maximal;
 use gj_lex::print_count;
-use gj_lines::{push_cover_line, push_face_line, push_order_line};
+use gj_lines::{face_word, push_cover_line, push_order_line};
 use gj_shape::{CoverLine, Face, Shape};
+use itoa::Buffer;
 use std::alloc::{AllocError, Global};
 
 /// The faces and intervals of the function that the input spells, or its first jump.
@@ -64,6 +65,26 @@ fn push_face_lines(out: &mut Vec<u8>, faces: &[Face]) -> Result<(), AllocError>
         push_face_line(out, *face)?;
     }
     Ok(())
+}
+
+/// Appends the line of a face. There may be hundreds of thousands, so their numbers are printed in 32 bits.
+fn push_face_line(out: &mut Vec<u8>, face: Face) -> Result<(), AllocError>
+    ensures { OnOk result (out.new.items ≡ out.old.items ++ line (face_text face)) }
+{
+    out.extend_from_slice(face_word(face.kind))?;
+    push_number(out, face.a)?;
+    push_number(out, face.b)?;
+    out.push(b'\n')?;
+    Ok(())
+}
+
+/// Appends a space and a number.
+fn push_number(out: &mut Vec<u8>, n: u32) -> Result<(), AllocError>
+    ensures { OnOk result (out.new.items ≡ out.old.items ++ (codes " " ++ decimal n)) }
+{
+    let mut buffer = Buffer::new();
+    out.push(b' ')?;
+    out.extend_from_slice(buffer.format(n).as_bytes())
 }
 
 /// Appends the line of each covered interval.
