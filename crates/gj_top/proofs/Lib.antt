@@ -2,6 +2,7 @@ pub mod Accepted
 pub mod Clauses
 pub mod Commands
 pub mod Ends
+pub mod FacesTexts
 pub mod GridCoordinates
 pub mod InputRead
 pub mod ProofBytes
