@@ -12,6 +12,7 @@ use Rattle.gj_top.specs.Report.{reported}
 use Rattle.gj_top.specs.Minimal.{IsVerdict, IsTrueVerdict, minimal, minimal_json}
 use Rattle.gj_top.specs.Show.{show, show_json}
 use Rattle.gj_top.specs.Check.{check}
+use Rattle.gj_top.specs.Faces.{faces}
 use Rattle.gj_top.specs.Command.{task_with, task_for}
 use Rattle.gj_top.proofs.TextLaws.{function_text_has_no_fault, proof_text_has_no_fault}
 
@@ -65,6 +66,9 @@ show_json_sound = record { form = json_function_sound; work = λ f text shown. s
 pub check_sound : IsSound check
 check_sound = record { form = proof_text_sound; work = λ c text accepted. (accepted.holds, accepted.spelled) }
 
+pub faces_sound : IsSound faces
+faces_sound = record { form = function_text_sound; work = λ f text listed. listed }
+
 -- the task of each request is sound
 sound_with : (c : Command) (json : Bool) → IsSound (task_with c json)
 sound_with Minimal true = minimal_json_sound
@@ -74,7 +78,7 @@ sound_with Extreme json = show_sound
 sound_with Cut json = show_sound
 sound_with Show true = show_json_sound
 sound_with Show false = show_sound
-sound_with Faces json = show_sound
+sound_with Faces json = faces_sound
 sound_with (Demo n) json = show_sound
 
 pub sound : (r : Request) → IsSound (task_for r)

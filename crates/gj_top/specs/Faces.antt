@@ -1,6 +1,6 @@
 -- The command `faces`: a function text is answered with the maximal additive faces and the covered intervals of its
 -- function (Light on the Infinite Group Relaxation I and II; the form is own).
-use Rattle.std.specs.Prelude.{ℕ, ◌≡◌, List, ◌++◌, codes, decimal, flat_map}
+use Rattle.std.specs.Prelude.{ℕ, ◌≡◌, Option, None, List, ◌++◌, codes, decimal, flat_map, length}
 use Rattle.std.specs.List.{range_with_len}
 use Rattle.gj_shape.specs.FunctionData.{FunctionData, IsContinuous}
 use Rattle.gj_shape.specs.Additive.{IsTight}
@@ -8,6 +8,7 @@ use Rattle.gj_shape.specs.Cover.{AreCoverLines, IsCovered}
 use Rattle.gj_shape.specs.declared.faces.Face.{Face}
 use Rattle.gj_shape.specs.declared.extremality.CoverLine.{CoverLine}
 use Rattle.gj_faces.specs.Picked.{ArePicked}
+use Rattle.gj_cover.specs.CoverOf.{number_at}
 use Rattle.gj_faces.specs.Listed.{AreMaximalFaces}
 use Rattle.gj_lines.specs.FunctionLines.{line, order_line}
 use Rattle.gj_lines.specs.FaceLines.{face_text, cover_line}
@@ -16,6 +17,14 @@ use Rattle.gj_top.specs.declared.reply.End.TheVariants.{Done, NotContinuous}
 use Rattle.gj_top.specs.Task.{Task}
 use Rattle.gj_top.specs.Forms.{function_text}
 use Rattle.gj_top.specs.Continuity.{NamesFirstJump}
+
+-- the line of an uncovered interval
+abbrev pub uncovered_line : ℕ → List ℕ
+uncovered_line i = line (codes "uncovered " ++ decimal i)
+
+-- the intervals without a component, ascending
+abbrev pub AreUncovered : List (Option ℕ) → List ℕ → Type 0
+AreUncovered component intervals = ArePicked (λ i. number_at component i ≡ None) (range_with_len 0 (length component)) intervals
 
 -- the text lists the maximal additive faces in walk order, the cover lines, and the uncovered intervals, ascending
 pub record IsFacesText (f : FunctionData) (text : List ℕ) : Type 0 where
@@ -28,7 +37,7 @@ pub record IsFacesText (f : FunctionData) (text : List ℕ) : Type 0 where
   pub spelled : text ≡ line (codes "gj-faces 1") ++ order_line f.order
       ++ flat_map (λ face. line (face_text face)) faces
       ++ flat_map cover_line lines
-      ++ flat_map (λ i. line (codes "uncovered " ++ decimal i)) intervals
+      ++ flat_map uncovered_line intervals
       ++ line (codes "end")
 
 -- a continuous function is answered with that text; of another the first jump is named

@@ -4,6 +4,8 @@ pub mod Report
 pub mod Minimal
 pub mod Show
 pub mod Check
+pub mod Continuity
+pub mod Faces
 pub mod Command
 pub mod Reply
 pub mod Answer

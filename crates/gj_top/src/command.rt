@@ -4,7 +4,7 @@ ghost use Rattle.gj_top.specs.Command.{is_built, IsFoundIn, task_for};
 ghost use Rattle.gj_top.specs.Task.{reads, IsAnswering};
 
 use crate::reply::{Reply, Unanswered};
-use crate::{check, minimal, show};
+use crate::{check, faces, minimal, show};
 use gj_words::{Command, Request, WordFault, read_words};
 use std::alloc::{AllocError, Global};
 
@@ -20,13 +20,13 @@ pub(crate) fn request_of(alloc: Global, words: &[String]) -> Result<Option<Reque
     }
 }
 
-/// Whether the command is built. `extreme`, `cut`, `faces` and `demo` are not yet.
+/// Whether the command is built. `extreme`, `cut` and `demo` are not yet.
 fn is_built(command: Command) -> bool
     ensures { result ≡ is_built command }
 {
     match command {
-        Command::Minimal | Command::Show | Command::Check => true,
-        Command::Extreme | Command::Cut | Command::Faces | Command::Demo(_) => false,
+        Command::Minimal | Command::Show | Command::Check | Command::Faces => true,
+        Command::Extreme | Command::Cut | Command::Demo(_) => false,
     }
 }
 
@@ -39,6 +39,7 @@ pub(crate) fn reads_input(request: Request) -> bool
         Command::Minimal => true,
         Command::Show => true,
         Command::Check => true,
+        Command::Faces => true,
         _ => unreachable!(),
     }
 }
@@ -54,6 +55,7 @@ pub(crate) fn reply_to(alloc: Global, request: Request, input: &[u8]) -> Result<
         Command::Show if request.json => show::json_reply(alloc, input),
         Command::Show => show::reply(alloc, input),
         Command::Check => check::reply(alloc, input),
+        Command::Faces => faces::reply(alloc, input),
         _ => unreachable!(),
     }
 }

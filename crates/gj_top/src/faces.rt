@@ -1,10 +1,10 @@
 //! The command `faces`: the maximal additive faces and the covered intervals of a function.
-ghost use Rattle.std.specs.Prelude.{◌≡◌, ◌×◌, IfOk, OnOk, flat_map, ◌++◌};
+ghost use Rattle.std.specs.Prelude.{ℕ, ◌≡◌, ◌++◌, List, flat_map, IfOk, OnOk};
 ghost use Rattle.gj_shape.specs.FunctionData.{IsContinuous};
 ghost use Rattle.gj_lines.specs.FunctionLines.{line};
 ghost use Rattle.gj_lines.specs.FaceLines.{face_text, cover_line};
 ghost use Rattle.gj_top.specs.Task.{IsAnswering};
-ghost use Rattle.gj_top.specs.Faces.{IsFacesReply, IsFacesText, faces};
+ghost use Rattle.gj_top.specs.Faces.{AreUncovered, IsFacesReply, IsFacesText, faces, uncovered_line};
 
 use crate::continuity::jump_line;
 use crate::forms::function_of;
@@ -12,7 +12,7 @@ use crate::reply::{End, Reply, Unanswered};
 use gj_cover::cover;
 use gj_faces::maximal;
 use gj_lex::print_count;
-use gj_lines::{push_cover_line, push_face_line};
+use gj_lines::{push_cover_line, push_face_line, push_order_line};
 use gj_shape::{CoverLine, Face, Shape};
 use std::alloc::{AllocError, Global};
 

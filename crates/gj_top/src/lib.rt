@@ -16,6 +16,8 @@ use std::alloc::Global;
 mod answer;
 mod check;
 mod command;
+mod continuity;
+mod faces;
 mod forms;
 mod laws;
 mod lines;
@@ -35,7 +37,8 @@ pub use status::Status;
 ///
 /// `minimal` reads a function text and writes the proof text of the claim that the function is minimal, or that it is
 /// not, with the first violation. `show` reads a function text and writes its canonical text. `check` reads a proof
-/// text and says whether every rule of the checker holds. With `--json`, `minimal` and `show` read a function in JSON, and
+/// text and says whether every rule of the checker holds. `faces` reads the function text of a continuous function and writes its
+/// maximal additive faces and its covered intervals. With `--json`, `minimal` and `show` read a function in JSON, and
 /// `minimal` writes a report of the proof text, `show` the function in JSON. The whole input is read first, and the whole
 /// answer is made before its first byte is written.
 pub fn run<S: Source, K: Sink>(
