@@ -1,5 +1,5 @@
 -- The demands of the claims: when all hold, and which is the first that fails.
-use Rattle.std.proofs.Common.{◌≡◌, ◌↔◌, ℕ, ◌+◌, [], ◌∷◌, All, refl, sym, ap, subst, ◌∙◌}
+use Rattle.std.proofs.Common.{◌≡◌, ◌↔◌, ℕ, ◌+◌, [], ◌∷◌, All, Result, Ok, Err, IfErr, MatchResult, refl, sym, ap, subst, ◌∙◌}
 use Rattle.std.proofs.lemmas.List.Elements.{All-nil, All-cons, All-head}
 use Rattle.gj_shape.specs.FunctionData.{FunctionData}
 use Rattle.gj_shape.specs.FirstViolation.{PassesAll}
@@ -14,7 +14,9 @@ use Rattle.gj_proof.specs.Rules.Demand.{minimal, point}
 use Rattle.gj_proof.proofs.LineNumbers.{one_number, number_of_claim, number_of_violation}
 use Rattle.gj_check.specs.declared.rules.CheckRule.{CheckRule}
 use Rattle.gj_check.specs.declared.rules.CheckRule.TheVariants.{Minimal, Point}
-use Rattle.gj_check.specs.FirstFailure.{rule_of, IsFirstFailure}
+use Rattle.gj_check.specs.FirstFailure.{rule_of, IsFirstFailure, IsFaultOf, IsWantOfMemory}
+use Rattle.gj_check.specs.declared.faults.CheckFault.{CheckFault}
+use Rattle.gj_check.specs.declared.faults.CheckFault.TheVariants.{Rejected, Memory}
 
 -- ---- one first failure
 
@@ -29,6 +31,13 @@ one_failure c n m rule other h k =
 -- where every rule holds, none fails
 pub no_failure : (c : Claim) (n : ℕ) (rule : CheckRule) → IsFirstFailure c n rule → MeetsRules c → ⊥
 no_failure c n rule h rules = first_failing_denies_all (Holds c) (demands_of c) h.before h.demand h.first rules
+
+-- where every rule holds, a check that names the first that fails accepts, unless there is no memory
+pub accepted_unless : {X : Type 0} (c : Claim) (r : Result X CheckFault) → IfErr r (IsFaultOf c) → MeetsRules c →
+    MatchResult r (λ _. Unit {0}) (IsWantOfMemory c)
+accepted_unless c (Ok x) h rules = tt
+accepted_unless c (Err (Rejected n rule)) h rules = absurd (no_failure c n rule h rules)
+accepted_unless c (Err (Memory e)) h rules = h
 
 -- ---- claims with one demand
 

@@ -9,3 +9,12 @@ pub mod PieceTests
 pub mod RowTests
 pub mod DemandsOfClaims
 pub mod RulesGiveMeaning
+pub mod AtPlaces
+pub mod CutLines
+pub mod FractionalParts
+pub mod LimitsOfRows
+pub mod SeenNames
+pub mod CutDemands
+pub mod CutMeaning
+pub mod RowOutcomes
+pub mod ValuesOfCuts

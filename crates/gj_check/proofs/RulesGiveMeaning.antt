@@ -1,12 +1,14 @@
 -- Where every rule holds, so does what the claim says.
 use Rattle.gj_proof.specs.declared.claim.Claim.{Claim}
-use Rattle.gj_proof.specs.declared.claim.Claim.TheVariants.{Minimal, NotMinimal}
+use Rattle.gj_proof.specs.declared.claim.Claim.TheVariants.{Minimal, NotMinimal, Cut}
 use Rattle.gj_proof.specs.ProofText.{IsBounded}
 use Rattle.gj_proof.specs.Rules.{MeetsRules}
 use Rattle.gj_proof.specs.Meaning.{ClaimHolds}
 use Rattle.gj_theory.proofs.MinimalFromTests.{minimal_from_tests}
 use Rattle.gj_check.proofs.DemandsOfClaims.{minimal_rules, point_rules}
+use Rattle.gj_check.proofs.CutMeaning.{cuts_meaning}
 
 pub meaning_of_rules : (c : Claim) → IsBounded c → MeetsRules c → ClaimHolds c
 meaning_of_rules (Minimal f) b rules = minimal_from_tests f b ((minimal_rules f).1 rules)
 meaning_of_rules (NotMinimal f v) b rules = ((point_rules f v).1 rules).shown
+meaning_of_rules (Cut rule rows) b rules = cuts_meaning rule rows b rules

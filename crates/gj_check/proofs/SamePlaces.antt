@@ -24,7 +24,7 @@ use Rattle.gj_check.proofs.Ratios.{denominator_is}
 -- ---- one place on two grids
 
 -- a natural number that is congruent to a whole number
-natural_index : (a : ℤ) (p : ℕ) → 0 < p → (i : ℕ) × IsCongruent (pos i) a p
+pub natural_index : (a : ℤ) (p : ℕ) → 0 < p → (i : ℕ) × IsCongruent (pos i) a p
 natural_index (pos a) p some = (a, (pos 0, omega (arith, ints)))
 natural_index (negsuc a) p some =
     let large = le-mul_of_pos_right (suc a) some in

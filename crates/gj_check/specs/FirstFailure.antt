@@ -2,11 +2,12 @@
 use Rattle.std.specs.Prelude.{ℕ, ◌≡◌, List, All}
 use Rattle.gj_tools.specs.FirstThatFails.{IsFirstFailing}
 use Rattle.gj_proof.specs.declared.claim.Claim.{Claim}
+use Rattle.gj_proof.specs.declared.claim.Claim.TheVariants as claim
 use Rattle.gj_proof.specs.ProofText.{HasNumber}
 use Rattle.gj_proof.specs.Rules.{Demand, demands_of, line_of, Holds}
-use Rattle.gj_proof.specs.Rules.Demand.{minimal, point}
+use Rattle.gj_proof.specs.Rules.Demand.{minimal, point, fraction, limit, term_limit, term_name, term_value}
 use Rattle.gj_check.specs.declared.rules.CheckRule.{CheckRule}
-use Rattle.gj_check.specs.declared.rules.CheckRule.TheVariants.{Minimal, Point}
+use Rattle.gj_check.specs.declared.rules.CheckRule.TheVariants.{Minimal, Point, Fraction, Limit, Name, Value}
 use Rattle.gj_check.specs.declared.faults.CheckFault.{CheckFault}
 use Rattle.gj_check.specs.declared.faults.CheckFault.TheVariants.{Rejected, Memory}
 
@@ -14,6 +15,11 @@ use Rattle.gj_check.specs.declared.faults.CheckFault.TheVariants.{Rejected, Memo
 abbrev pub rule_of : Demand → CheckRule
 rule_of minimal = Minimal
 rule_of point = Point
+rule_of (fraction i) = Fraction
+rule_of (limit i) = Limit
+rule_of (term_limit i j) = Limit
+rule_of (term_name i j) = Name
+rule_of (term_value i j) = Value
 
 -- the first demand of the claim that fails has this rule, and is written with the n-th line
 pub record IsFirstFailure (c : Claim) (n : ℕ) (rule : CheckRule) : Type 0 where
@@ -23,7 +29,18 @@ pub record IsFirstFailure (c : Claim) (n : ℕ) (rule : CheckRule) : Type 0 wher
   pub rule_is : rule ≡ rule_of demand
   pub number : HasNumber c (line_of demand) n
 
--- the fault is the first rule that fails, and never want of memory
+-- the check of a claim about cuts takes memory, and that of another claim none
+abbrev pub TakesMemory : Claim → Type 0
+TakesMemory (claim.Minimal f) = ⊥
+TakesMemory (claim.NotMinimal f v) = ⊥
+TakesMemory (claim.Cut rule rows) = Unit {0}
+
+-- the fault is the first rule that fails, or, where the check takes memory, the want of it
 abbrev pub IsFaultOf : Claim → CheckFault → Type 0
 IsFaultOf c (Rejected n rule) = IsFirstFailure c n rule
-IsFaultOf c (Memory e) = ⊥
+IsFaultOf c (Memory e) = TakesMemory c
+
+-- the fault is want of memory, where the check takes some
+abbrev pub IsWantOfMemory : Claim → CheckFault → Type 0
+IsWantOfMemory c (Rejected n rule) = ⊥
+IsWantOfMemory c (Memory e) = TakesMemory c

@@ -4,3 +4,5 @@ pub mod Pieces
 pub mod Tests
 pub mod Lanes
 pub mod Coordinates
+pub mod RowLimits
+pub mod CutRows

@@ -1,8 +1,9 @@
 //! The check of a proof.
-ghost use Rattle.std.specs.Prelude.{◌≡◌, ◌↔◌, IsOk, IfErr};
+ghost use Rattle.std.specs.Prelude.{◌≡◌, OnOk, IfErr, MatchResult};
 ghost use Rattle.gj_proof.specs.Rules.{MeetsRules};
-ghost use Rattle.gj_check.specs.FirstFailure.{IsFaultOf};
+ghost use Rattle.gj_check.specs.FirstFailure.{IsFaultOf, IsWantOfMemory};
 
+use crate::cuts::check_cuts;
 use crate::faults::CheckFault;
 use crate::minimality::is_minimal;
 use crate::points::is_shown;
@@ -12,10 +13,14 @@ use std::alloc::Global;
 
 /// Checks every rule on a proof, in the order of its lines.
 ///
-/// Ok exactly where every rule holds; else the line and the rule of the first that fails. It never answers that
-/// there is no memory.
-pub fn check(_alloc: Global, proof: &Proof) -> Result<(), CheckFault>
-    ensures ok { IsOk result ↔ MeetsRules proof.now }
+/// Ok exactly where every rule holds; else the line and the rule of the first that fails. `Memory` may come in place of
+/// either where the claim is about cuts, and never for another claim, whose check takes no memory.
+pub fn check(alloc: Global, proof: &Proof) -> Result<(), CheckFault>
+    // Where it answers Ok, every rule holds.
+    ensures ok { OnOk result (MeetsRules proof.now) }
+    // Where every rule holds, it answers Ok, unless there is no memory.
+    ensures only { MeetsRules proof.now → MatchResult result (λ _. Unit {0}) (IsWantOfMemory proof.now) }
+    // Where it rejects, this is the first rule that fails.
     ensures fault { IfErr result (IsFaultOf proof.now) }
 {
     match proof.claim() {
@@ -30,6 +35,7 @@ pub fn check(_alloc: Global, proof: &Proof) -> Result<(), CheckFault>
                 return Err(CheckFault::Rejected(line, CheckRule::Point));
             }
         }
+        Claim::Cut(rule, rows) => return check_cuts(alloc, rule, rows.as_slice()),
     }
     Ok(())
 }

@@ -1,4 +1,7 @@
 //! Why a proof is not accepted.
+ghost use Rattle.std.specs.Prelude.{◌≡◌};
+ghost use Rattle.gj_check.specs.declared.faults.CheckFault.TheVariants.{Memory};
+
 use crate::rules::CheckRule;
 use std::alloc::AllocError;
 use thiserror::Error;
@@ -12,4 +15,12 @@ pub enum CheckFault {
     /// There was no memory.
     #[error("out of memory")]
     Memory(AllocError),
+}
+
+impl From<AllocError> for CheckFault {
+    ghost from_gives = { λ error fault. fault ≡ Memory error };
+
+    fn from(error: AllocError) -> CheckFault {
+        CheckFault::Memory(error)
+    }
 }

@@ -6,12 +6,17 @@
 #![tactic(auto)]
 
 mod checker;
+mod cut_values;
+mod cuts;
 mod denominators;
 mod faults;
 mod laws;
 mod minimality;
+mod names;
 mod pieces;
 mod points;
+mod row_denominators;
+mod rows;
 mod rules;
 mod squares;
 

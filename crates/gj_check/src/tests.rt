@@ -2,8 +2,9 @@
 use crate::minimality::is_minimal;
 use crate::{CheckFault, CheckRule, check};
 use gj_frac::Frac;
-use gj_proof::{Claim, Proof};
-use gj_shape::{Shape, Violation};
+use gj_lex::Name;
+use gj_proof::{Claim, CutLine, CutRule, CutTerm, Proof, SkipReason};
+use gj_shape::{List, Shape, Violation};
 use std::test::Fail;
 
 /// The fraction n/d.
@@ -133,5 +134,116 @@ fn asymmetric_and_zero(rt: HostRuntime) -> Result<(), Fail> {
         checked(&rt, Claim::NotMinimal(shape, Violation::Zero))?,
         rejected
     );
+    Ok(())
+}
+
+/// The name of these bytes.
+fn name(rt: &HostRuntime, bytes: &[u8]) -> Result<Name, Fail> {
+    Ok(Name::new(rt.alloc(), bytes)?)
+}
+
+/// A term of a cut.
+fn term(rt: &HostRuntime, bytes: &[u8], entry: Frac, cut: Frac) -> Result<CutTerm, Fail> {
+    Ok(CutTerm {
+        name: name(rt, bytes)?,
+        entry,
+        cut,
+    })
+}
+
+/// What the check says of the cuts of these rows by the rule.
+fn checked_cuts(
+    rt: &HostRuntime,
+    rule: CutRule,
+    rows: Vec<CutLine>,
+) -> Result<Result<(), CheckFault>, Fail> {
+    checked(rt, Claim::Cut(rule, List::of(rows)))
+}
+
+/// What the check says of a cut of the basic variable x0 with two terms, by a minimal function of order 5 with f = 3/5.
+fn checked_cut(
+    rt: &HostRuntime,
+    right: Frac,
+    first: CutTerm,
+    second: CutTerm,
+) -> Result<Result<(), CheckFault>, Fail> {
+    let minimal = five(rt, fraction(0, 1)?, fraction(1, 3)?)?;
+    let terms = vec![in rt.alloc(); first, second]?;
+    let row = CutLine::Cut(name(rt, b"x0")?, right, List::of(terms));
+    checked_cuts(rt, CutRule::Table(minimal), vec![in rt.alloc(); row]?)
+}
+
+/// A cut by a function; another fractional part, coefficient, name, or a denominator beyond the limit.
+#[test]
+fn cut(rt: HostRuntime) -> Result<(), Fail> {
+    let right = fraction(8, 5)?;
+    let entry = fraction(7, 5)?;
+    let two_thirds = fraction(2, 3)?;
+    let other = fraction(-1, 5)?;
+    let half = fraction(1, 2)?;
+
+    let first = term(&rt, b"x1", entry, two_thirds)?;
+    let second = term(&rt, b"x2", other, half)?;
+    assert_eq!(rt; checked_cut(&rt, right, first, second)?, Ok(()));
+
+    let first = term(&rt, b"x1", entry, two_thirds)?;
+    let second = term(&rt, b"x2", other, half)?;
+    assert_eq!(rt;
+        checked_cut(&rt, fraction(3, 2)?, first, second)?,
+        Err(CheckFault::Rejected(10, CheckRule::Fraction))
+    );
+
+    let first = term(&rt, b"x1", entry, fraction(1, 3)?)?;
+    let second = term(&rt, b"x2", other, half)?;
+    assert_eq!(rt;
+        checked_cut(&rt, right, first, second)?,
+        Err(CheckFault::Rejected(11, CheckRule::Value))
+    );
+
+    let first = term(&rt, b"x1", fraction(7, 1 << 31)?, two_thirds)?;
+    let second = term(&rt, b"x2", other, half)?;
+    assert_eq!(rt;
+        checked_cut(&rt, right, first, second)?,
+        Err(CheckFault::Rejected(11, CheckRule::Limit))
+    );
+
+    let first = term(&rt, b"x1", entry, two_thirds)?;
+    let second = term(&rt, b"x1", other, half)?;
+    assert_eq!(rt;
+        checked_cut(&rt, right, first, second)?,
+        Err(CheckFault::Rejected(12, CheckRule::Name))
+    );
+    Ok(())
+}
+
+/// Rows that are passed over: one with a whole right side, one with another fractional part.
+#[test]
+fn skipped_rows(rt: HostRuntime) -> Result<(), Fail> {
+    let half = fraction(1, 2)?;
+    let minimal = five(&rt, fraction(0, 1)?, fraction(1, 3)?)?;
+    let whole = CutLine::Skip(name(&rt, b"x0")?, fraction(-3, 1)?, SkipReason::Integral);
+    let other = CutLine::Skip(name(&rt, b"x0")?, half, SkipReason::Other);
+    let rows = vec![in rt.alloc(); whole, other]?;
+    assert_eq!(rt; checked_cuts(&rt, CutRule::Table(minimal), rows)?, Ok(()));
+
+    let not_whole = CutLine::Skip(name(&rt, b"x0")?, half, SkipReason::Integral);
+    assert_eq!(rt;
+        checked_cuts(&rt, CutRule::Gmic, vec![in rt.alloc(); not_whole]?)?,
+        Err(CheckFault::Rejected(4, CheckRule::Fraction))
+    );
+    Ok(())
+}
+
+/// A mixed-integer cut for an f of a large denominator.
+#[test]
+fn mixed_integer_cut(rt: HostRuntime) -> Result<(), Fail> {
+    let right = fraction(123457, 1000003)?;
+    let near_one = term(&rt, b"s", fraction(1000000, 1000003)?, fraction(1, 292182)?)?;
+    let near_zero = term(&rt, b"t", fraction(1, 1000003)?, fraction(1, 123457)?)?;
+    let at_place = term(&rt, b"u", right, fraction(1, 1)?)?;
+    let terms = vec![in rt.alloc(); near_one, near_zero, at_place]?;
+    let row = CutLine::Cut(name(&rt, b"x")?, right, List::of(terms));
+    let rows = vec![in rt.alloc(); row]?;
+    assert_eq!(rt; checked_cuts(&rt, CutRule::Gmic, rows)?, Ok(()));
     Ok(())
 }

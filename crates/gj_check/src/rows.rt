@@ -1,0 +1,92 @@
+//! The rules on the rows of a claim about cuts, in the order of its lines.
+ghost use Rattle.std.specs.Prelude.{[], ◌∷◌, IfOk};
+ghost use Rattle.gj_proof.specs.Rules.{MeetsLimit};
+ghost use Rattle.gj_check.specs.RowLimits.{IsRowDenominator};
+ghost use Rattle.gj_check.specs.CutRows.{IsBoundedRule, GivesCut, IsTermsOutcome, IsRowOutcome};
+
+use crate::cut_values::{has_value, meets_fraction};
+use crate::names::first_repeated;
+use crate::row_denominators::extended;
+use crate::rules::CheckRule;
+use gj_frac::Frac;
+use gj_lex::Name;
+use gj_proof::{CutLine, CutRule, CutTerm};
+use std::alloc::{AllocError, Global};
+
+/// The first rule that fails in a row.
+#[derive(Clone, Copy)]
+pub(crate) struct RowFailure {
+    /// How many lines below that of the row it fails.
+    pub(crate) below: usize,
+    pub(crate) rule: CheckRule,
+}
+
+/// The first rule that fails in a row, on its line or on those of its terms; none where all hold.
+pub(crate) fn failure_in_row(
+    alloc: Global,
+    rule: &CutRule,
+    row: &CutLine,
+) -> Result<Option<RowFailure>, AllocError>
+    requires { IsBoundedRule rule.now }
+    ensures { IfOk result (IsRowOutcome rule.now row.now) }
+{
+    if !meets_fraction(rule, row) {
+        return Ok(Some(RowFailure {
+            below: 0,
+            rule: CheckRule::Fraction,
+        }));
+    }
+    let CutLine::Cut(basic, right, terms) = row else {
+        return Ok(None);
+    };
+    match extended(1, *right) {
+        Some(common) => failure_in_terms(alloc, rule, basic, *right, common, terms.as_slice()),
+        None => Ok(Some(RowFailure {
+            below: 0,
+            rule: CheckRule::Limit,
+        })),
+    }
+}
+
+/// The first rule that fails on the lines of the terms of a row, where its right side meets its rules and has the
+/// denominator `common`; none where all hold.
+fn failure_in_terms(
+    alloc: Global,
+    rule: &CutRule,
+    basic: &Name,
+    right: Frac,
+    common: u64,
+    terms: &[CutTerm],
+) -> Result<Option<RowFailure>, AllocError>
+    requires bounded { IsBoundedRule rule.now }
+    requires gives { GivesCut rule.now right }
+    requires limit { MeetsLimit [] right }
+    requires common { IsRowDenominator (right ∷ []) common }
+    ensures { IfOk result (IsTermsOutcome rule.now basic.now right terms.now) }
+{
+    let repeated = first_repeated(alloc, basic, terms)?;
+    let mut denominator = common;
+    for (index, term) in terms.iter().enumerate() {
+        let below = index + 1;
+        let Some(multiple) = extended(denominator, term.entry) else {
+            return Ok(Some(RowFailure {
+                below,
+                rule: CheckRule::Limit,
+            }));
+        };
+        if index == repeated {
+            return Ok(Some(RowFailure {
+                below,
+                rule: CheckRule::Name,
+            }));
+        }
+        if !has_value(rule, right, term) {
+            return Ok(Some(RowFailure {
+                below,
+                rule: CheckRule::Value,
+            }));
+        }
+        denominator = multiple;
+    }
+    Ok(None)
+}
