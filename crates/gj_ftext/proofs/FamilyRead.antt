@@ -1,6 +1,5 @@
 -- How the words that were read name a function of a family, or none.
-use Rattle.std.proofs.Common.{◌≡◌, inl, inr, ℕ, ◌<◌, ◌+◌, List, [], ◌∷◌, Bool, true, false, All, map, length, get_or, take, nat_eq, ◌++◌, ap₂, refl, sym, ap, subst, ◌∙◌, arith, codes}
-use Rattle.std.proofs.lemmas.List.{map-append, take_more}
+use Rattle.std.proofs.Common.{◌≡◌, inl, inr, ℕ, List, [], ◌∷◌, Bool, true, false, All, get_or, refl, sym, subst, arith, codes}
 use Rattle.std.proofs.lemmas.List.Elements.{All-map}
 use Rattle.gj_lex.specs.declared.reason.Reason.{Reason}
 use Rattle.gj_lex.specs.declared.spelling.Spelling.TheVariants.{Lenient}
@@ -10,7 +9,7 @@ use Rattle.gj_family.specs.Families.{IsTwoSlope}
 use Rattle.gj_family.specs.Faults.{HasTwoSlopeFault, HasNoTwoSlopeFault}
 use Rattle.gj_family.specs.declared.faults.FamilyFault.{FamilyFault}
 use Rattle.gj_family.specs.declared.faults.FamilyFault.TheVariants as fault
-use Rattle.gj_ftext.specs.FamilyLine.{Family, two_slope, FamilyWords, gmic_words, half_words, two_slope_words, words_of_line, sign_byte, AreSigns, SpellFamily, HasFault, IsReasonOf, Names, NamesNone, BreaksFamily}
+use Rattle.gj_ftext.specs.FamilyLine.{Family, two_slope, FamilyWords, gmic_words, half_words, two_slope_words, words_of_line, sign_byte, AreSigns, SpellFamily, HasFault, IsReasonOf, Names, NamesNone}
 use Rattle.gj_ftext.specs.FamilyRead.{IsRefusedFor, IsSign, IsCut}
 use Rattle.gj_ftext.specs.declared.family.LineFault.{LineFault}
 use Rattle.gj_ftext.specs.declared.family.LineFault.TheVariants.{Broken, Memory}
@@ -35,11 +34,6 @@ only_signs word signs e =
     is_sign : (sign : Bool) → IsSign (sign_byte sign)
     is_sign true = inl refl
     is_sign false = inr refl
-
--- one more sign
-sign_of_byte : (b : ℕ) → IsSign b → sign_byte (nat_eq b 43) ≡ b
-sign_of_byte b (inl e) = ap (λ n. sign_byte (nat_eq n 43)) e ∙ sym e
-sign_of_byte b (inr e) = ap (λ n. sign_byte (nat_eq n 43)) e ∙ sym e
 
 -- ---- refusals
 

@@ -3,4 +3,5 @@ pub mod FamilyLine
 pub mod FamilyRead
 pub mod FunctionText
 pub mod FirstFault
+pub mod RuleText
 pub mod LinesOfFunction

@@ -24,8 +24,8 @@ pub(crate) fn body_at(alloc: Global, text: &[u8]) -> Result<(Shape, &[u8]), Part
     }
 }
 
-/// Whether the next line begins with the word.
-fn begins_with(text: &[u8], word: &[u8]) -> bool
+/// Whether the next line begins with the word. It takes no memory.
+pub(crate) fn begins_with(text: &[u8], word: &[u8]) -> bool
     ensures { IsTrue result ↔ BeginsWith Spelling.Lenient word.now text.now }
 {
     match line_at(Spelling::Lenient, text) {

@@ -4,6 +4,7 @@ ghost use Rattle.gj_lex.specs.declared.reason.Reason.{Reason};
 ghost use Rattle.gj_shape.specs.FunctionData.{FunctionData, IsWithinBounds};
 ghost use Rattle.gj_ftext.specs.FunctionText.{IsFunctionText, IsWholeFunctionText, IsCanonicalText};
 ghost use Rattle.gj_ftext.specs.FirstFault.{IsFirstFault, IsFirstFaultOfWhole};
+ghost use Rattle.gj_ftext.specs.RuleText.{IsRuleText, IsFirstFaultOfRule};
 ghost use Rattle.gj_ftext.specs.LinesOfFunction.{HasLinesOfFunction, HasLinesOfFamily};
 
 /// A text begins with the function text of one function at most, and that ends at one place.
@@ -48,4 +49,12 @@ pub fn function_text_is_lines()
 /// The canonical text of a function has at most 1,000,000 bytes.
 pub fn canonical_text_is_short()
     ensures { (f : FunctionData) (text : List ℕ) → IsWithinBounds f → IsCanonicalText text f → length text ≤ 1000000 }
+{}
+
+/// A rule text ends at one place and has no fault, and a text that is none has one first fault.
+pub fn one_rule_text()
+    ensures end { (text a b : List ℕ) → IsRuleText text a → IsRuleText text b → a ≡ b }
+    ensures no_fault { (text rest : List ℕ) (n : ℕ) (e : Reason) → IsRuleText text rest → IsFirstFaultOfRule text n e → ⊥ }
+    ensures fault { (text : List ℕ) (n m : ℕ) (e d : Reason) →
+        IsFirstFaultOfRule text n e → IsFirstFaultOfRule text m d → (n ≡ m) × (e ≡ d) }
 {}

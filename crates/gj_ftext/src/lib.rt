@@ -2,7 +2,8 @@
 //!
 //! `read_function` reads a function text at the front of bytes, `read_whole_function` one after which nothing may follow, and
 //! `write_function` prints the canonical text. The form stands in `specs/FunctionText.antt` as a part made of lines: the
-//! title, the lines of a function or one line that names a function of a family, and `end`.
+//! title, the lines of a function or one line that names a function of a family, and `end`. `read_rule` reads a rule text at the
+//! front of bytes, `specs/RuleText.antt`, and `begins_as_rule` tells which of the two forms a text is to be read in.
 #![tactic(auto)]
 
 mod body;
@@ -10,14 +11,17 @@ mod family;
 mod faults;
 mod laws;
 mod read;
+mod rule;
 mod write;
 
 pub use faults::TextFault;
 pub use laws::{
     canonical_text_is_function_text, canonical_text_is_short, function_text_is_lines,
     no_fault_in_function_text, one_canonical_text, one_first_fault, one_function_text,
+    one_rule_text,
 };
 pub use read::{read_function, read_whole_function};
+pub use rule::{begins_as_rule, read_rule};
 pub use write::write_function;
 
 #[cfg(test)]

@@ -1,6 +1,8 @@
 //! Function texts by hand: spellings that are read, and the first faults of others.
 
-use crate::{TextFault, read_function, read_whole_function, write_function};
+use crate::{
+    TextFault, begins_as_rule, read_function, read_rule, read_whole_function, write_function,
+};
 use gj_lex::Reason;
 use std::test::Fail;
 
@@ -178,4 +180,25 @@ fn names_the_first_fault(rt: HostRuntime) -> Result<(), Fail> {
         }
     }
     Ok(())
+}
+
+#[test]
+fn rules(rt: HostRuntime) {
+    let text = b"# rows of any f\n gj-rule\t1\r\ngmic\n\nend \nbasic,rhs\n";
+    assert!(rt; begins_as_rule(text));
+    assert_eq!(rt; read_rule(text), Ok(39));
+    assert_eq!(rt; read_rule(b"gj-rule 1\ngmic\nend"), Ok(18));
+    assert!(rt; !begins_as_rule(CANONICAL));
+    assert!(rt; !begins_as_rule(b"#gj-rule 1\n"));
+    let texts: [(&[u8], u64); 6] = [
+        (b"", 1),
+        (b"gj-rule 1\ngmix\nend\n", 2),
+        (b"gj-rule 1\n\ngmic x\n", 3),
+        (b"gj-rule 2\ngmic\nend\n", 1),
+        (b"gj-rule 1\ngmic\n#", 3),
+        (b"gj-rule 1\ngmic\nend\r", 3),
+    ];
+    for (text, line) in texts {
+        assert_eq!(rt; read_rule(text), Err((line, Reason::Form)));
+    }
 }

@@ -6,3 +6,11 @@ pub mod OneText
 pub mod LineNumbers
 pub mod ViolationLines
 pub mod ShortTexts
+pub mod WhereLaws
+pub mod LoopRead
+pub mod CutWords
+pub mod CutParts
+pub mod CutTexts
+pub mod CutRead
+pub mod OwnLines
+pub mod CutWritten

@@ -1,15 +1,13 @@
 -- The numbers of the lines of a proof text.
-use Rattle.std.proofs.Common.{◌≡◌, ◌≢◌, inl, inr, ℕ, ◌+◌, ◌==◌, List, [], ◌∷◌, ◌++◌, All, length, map, flat_map, codes, decimal, Bool, true, false, cond, get_or, refl, sym, ap, subst, ◌∙◌, arith}
+use Rattle.std.proofs.Common.{◌≡◌, ◌≢◌, inl, inr, ℕ, zero, suc, ◌+◌, List, [], ◌∷◌, ◌++◌, All, Contains, length, map, flat_map, codes, decimal, Bool, true, false, refl, sym, ap, subst, ◌∙◌, arith, length-append}
 use Rattle.std.specs.List.{range_with_len}
-use Rattle.std.proofs.lemmas.Bool.{ne_eqb}
-use Rattle.std.proofs.lemmas.List.{append_assoc, append-nil}
-use Rattle.std.proofs.lemmas.List.Elements.{All-nil, All-cons, All-head, All-tail, All-map, All-weaker}
+use Rattle.std.proofs.lemmas.List.{append_assoc, map-append, length-map}
+use Rattle.std.proofs.lemmas.List.Elements.{All-nil, All-cons, All-head, All-append, All-map}
 use Rattle.std.proofs.lemmas.List.FromFn.{length-map-range_with_len}
-use Rattle.gj_frac.specs.declared.Frac.{Frac}
 use Rattle.gj_lex.specs.TextLines.{line_feeds}
-use Rattle.gj_lex.specs.NumberText.{fraction_text, IsWordByte}
+use Rattle.gj_lex.specs.NumberText.{fraction_text}
 use Rattle.gj_lex.proofs.LineNumbers.{line_feeds_append}
-use Rattle.gj_lex.proofs.WordBytes.{decimal_is_word, fraction_is_word}
+use Rattle.gj_lex.proofs.WordBytes.{decimal_is_word}
 use Rattle.gj_shape.specs.FunctionData.{FunctionData, IsWithinBounds}
 use Rattle.gj_shape.specs.declared.violations.Violation.{Violation}
 use Rattle.gj_lines.specs.FunctionLines.{line, order_line, place_line, has_no_jump, point_text, point_line, AreFunctionLines}
@@ -18,11 +16,12 @@ use Rattle.gj_shape.proofs.GivenPoints.{count_of_points}
 use Rattle.gj_lines.proofs.PointLines.{text_of_one, text_of_three}
 use Rattle.gj_tools.specs.FirstThatFails.{IsFirstFailing}
 use Rattle.gj_tools.proofs.FirstThatFails.{first_failing, one_first_failing}
-use Rattle.gj_tools.proofs.Lists.{All-front, All-range}
-use Rattle.gj_proof.specs.ProofText.{ProofLine, OwnLine, IsBounded, claim_word, subject_of, subject_lines, own_lines, lines_of, HasBytes, HasNumber, violation_line, IsProofText}
-use Rattle.gj_proof.specs.ProofText.ProofLine.{title, claim, order, place, point, violation_shown, last}
+use Rattle.gj_tools.proofs.Lists.{All-front, All-back, All-range}
+use Rattle.gj_proof.specs.ProofText.{ProofLine, OwnLine, Subject, function, gmic, IfFunction, IsBounded, claim_word, subject_of, subject_lines, AreSubjectLines, own_lines, lines_of, HasBytes, HasNumber, violation_line, IsProofText}
+use Rattle.gj_proof.specs.ProofText.ProofLine.{title, claim, order, place, point, rule_named, violation_shown, last}
 use Rattle.gj_proof.specs.declared.claim.Claim.{Claim}
-use Rattle.gj_proof.specs.declared.claim.Claim.TheVariants.{Minimal, NotMinimal}
+use Rattle.gj_proof.specs.declared.claim.Claim.TheVariants.{Minimal, NotMinimal, Cut}
+use Rattle.gj_proof.proofs.OwnLines.{names, bytes, bytes_append, Differ, differs_from_those_before, own_lines_differ, IsOwn, own_lines_are_own, HasOneFeed, own_lines_have_one_feed, feeds_of_own, feeds_of_line, feeds_of_two, feeds_of_word, feeds_of_fraction}
 
 -- ---- one number
 
@@ -46,45 +45,56 @@ number_of_claim c = record {
   number = refl;
 }
 
+-- ---- the claim's own lines
+
+-- the lines of a subject are none of those
+no_own_in_subject : (s : Subject) (l : ProofLine) → IsOwn l → All (λ k. k ≢ l) (subject_lines s)
+no_own_in_subject (function f) l own =
+    let P : ProofLine → Type 0 = λ k. k ≢ l in
+    let points : All P (map point (range_with_len 0 f.order)) =
+    All-map P point (range_with_len 0 f.order) (All-range (λ i. P (point i)) 0 f.order (λ i below e. subst IsOwn (sym e) own)) in
+    All-cons P order (place ∷ map point (range_with_len 0 f.order)) (λ e. subst IsOwn (sym e) own)
+    (All-cons P place (map point (range_with_len 0 f.order)) (λ e. subst IsOwn (sym e) own) points)
+no_own_in_subject gmic l own =
+    All-cons (λ k. k ≢ l) rule_named [] (λ e. subst IsOwn (sym e) own) (All-nil (λ k. k ≢ l))
+
+-- one of the claim's own lines stands behind the two first, those of the subject and those of its own before it
+pub number_of_own : (c : Claim) (a b : List OwnLine) (l : OwnLine) → own_lines c ≡ a ++ l ∷ b →
+    HasNumber c l.name (length (subject_lines (subject_of c)) + length a + 3)
+number_of_own c a b l is =
+    let P : ProofLine → Type 0 = λ k. k ≢ l.name in
+    let subject = subject_lines (subject_of c) in
+    let split : names (own_lines c) ≡ names a ++ l.name ∷ names b = ap names is ∙ map-append (λ (o : OwnLine). o.name) a (l ∷ b) in
+    let own : IsOwn l.name =
+    All-head IsOwn l.name (names b) (All-back IsOwn (names a) (l.name ∷ names b) (subst (All IsOwn) split (own_lines_are_own c))) in
+    let differs : All P (names a) = differs_from_those_before (names a) (names b) l.name (subst Differ split (own_lines_differ c)) in
+    let long : length (names a) ≡ length a = length-map a (λ (o : OwnLine). o.name) in
+    let both = length-append subject (names a) in record {
+      before = title ∷ claim ∷ (subject ++ names a);
+      after = names b ++ last ∷ [];
+      place = ap (λ ns. title ∷ claim ∷ [] ++ subject ++ ns ++ last ∷ []) split
+          ∙ regroup subject (names a) (l.name ∷ names b) (last ∷ []);
+      first = All-cons P title (claim ∷ (subject ++ names a)) (λ e. subst IsOwn (sym e) own)
+          (All-cons P claim (subject ++ names a) (λ e. subst IsOwn (sym e) own)
+          (All-append P subject (names a) (no_own_in_subject (subject_of c) l.name own) differs));
+      number = omega arith;
+    }
+  where
+    regroup : (s a b d : List ProofLine) → title ∷ claim ∷ [] ++ s ++ (a ++ b) ++ d ≡ (title ∷ claim ∷ (s ++ a)) ++ (b ++ d)
+    regroup s a b d = simp append_assoc
+
 -- the line of a violation stands behind five others and those of the points
 pub number_of_violation : (f : FunctionData) (v : Violation) → HasNumber (NotMinimal f v) violation_shown (f.order + 5)
 number_of_violation f v =
-    let P : ProofLine → Type 0 = λ k. k ≢ violation_shown in
-    let points = map point (range_with_len 0 f.order) in
-    let others : All P points = All-map P point (range_with_len 0 f.order) (All-range (λ i. P (point i)) 0 f.order (λ i below e. cc)) in
-    let long : length points ≡ f.order = length-map-range_with_len point 0 f.order in record {
-      before = title ∷ claim ∷ order ∷ place ∷ points;
-      after = last ∷ [];
-      place = append_assoc (title ∷ claim ∷ order ∷ place ∷ points) (violation_shown ∷ []) (last ∷ []);
-      first = All-cons P title (claim ∷ order ∷ place ∷ points) (λ e. cc)
-          (All-cons P claim (order ∷ place ∷ points) (λ e. cc)
-          (All-cons P order (place ∷ points) (λ e. cc) (All-cons P place points (λ e. cc) others)));
-      number = omega arith;
-    }
+    let long : length (map point (range_with_len 0 f.order)) ≡ f.order = length-map-range_with_len point 0 f.order in
+    let same : length (order ∷ place ∷ map point (range_with_len 0 f.order)) + 0 + 3 ≡ f.order + 5 = omega arith in
+    subst (HasNumber (NotMinimal f v) violation_shown) same
+    (number_of_own (NotMinimal f v) [] [] (record { name = violation_shown; bytes = violation_line v }) refl)
 
 -- ---- line feeds
 
-no_feeds : (x : List ℕ) → All (λ b. b ≢ 10) x → line_feeds x ≡ 0
-no_feeds [] h = refl
-no_feeds (b ∷ x) h =
-    let other : (b == 10) ≡ false = ne_eqb b 10 (All-head (λ b. b ≢ 10) b x h) in
-    let first : line_feeds (b ∷ []) ≡ 0 = ap (λ t. 0 + cond t 1 0) other in
-    let rest = no_feeds x (All-tail (λ b. b ≢ 10) b x h) in
-    let none : line_feeds (b ∷ []) + line_feeds x ≡ 0 = omega arith in
-    line_feeds_append (b ∷ []) x ∙ none
-
-feeds_of_line : (front x : List ℕ) → line_feeds front ≡ 0 → line_feeds x ≡ 0 → line_feeds (line (front ++ x)) ≡ 1
-feeds_of_line front x none none' =
-    let whole = line_feeds_append (front ++ x) (10 ∷ []) in
-    let both = line_feeds_append front x in
-    let feed : line_feeds (10 ∷ []) ≡ 1 = refl in
-    omega arith
-
-feeds_of_word : (w : List ℕ) → All IsWordByte w → line_feeds w ≡ 0
-feeds_of_word w h = no_feeds w (All-weaker IsWordByte (λ b. b ≢ 10) (λ b i. i.no_line_feed) w h)
-
-feeds_of_fraction : (x : Frac) → line_feeds (fraction_text x) ≡ 0
-feeds_of_fraction x = feeds_of_word (fraction_text x) (fraction_is_word x)
+feeds_of_front : (front x : List ℕ) → line_feeds front ≡ 0 → line_feeds x ≡ 0 → line_feeds (line (front ++ x)) ≡ 1
+feeds_of_front front x none none' = feeds_of_line (front ++ x) (feeds_of_two front x none none')
 
 feeds_of_point : (p : Point) → line_feeds (point_text p) ≡ 0
 feeds_of_point p = by (has_no_jump p) refl
@@ -106,7 +116,7 @@ feeds_of_point p = by (has_no_jump p) refl
 feeds_of_points : (points : List Point) → line_feeds (flat_map point_line points) ≡ length points
 feeds_of_points [] = refl
 feeds_of_points (p ∷ points) =
-    let one = feeds_of_line (codes "point ") (point_text p) refl (feeds_of_point p) in
+    let one = feeds_of_front (codes "point ") (point_text p) refl (feeds_of_point p) in
     let more = feeds_of_points points in
     let both = line_feeds_append (point_line p) (flat_map point_line points) in
     omega arith
@@ -114,14 +124,23 @@ feeds_of_points (p ∷ points) =
 -- the lines of a function are two more than its order
 feeds_of_function : (f : FunctionData) (text : List ℕ) → IsWithinBounds f → AreFunctionLines f text → line_feeds text ≡ f.order + 2
 feeds_of_function f text b l =
-    let order_feeds = feeds_of_line (codes "order ") (decimal f.order) refl
+    let order_feeds = feeds_of_front (codes "order ") (decimal f.order) refl
     (feeds_of_word (decimal f.order) (decimal_is_word f.order (let high = b.order_high in omega arith))) in
-    let place_feeds = feeds_of_line (codes "f ") (fraction_text l.place) refl (feeds_of_fraction l.place) in
+    let place_feeds = feeds_of_front (codes "f ") (fraction_text l.place) refl (feeds_of_fraction l.place) in
     let points_feeds = feeds_of_points l.points in
     let count = count_of_points l.points f b l.points_are in
     let first = line_feeds_append (order_line f.order) (place_line l.place) in
     let whole = line_feeds_append (order_line f.order ++ place_line l.place) (flat_map point_line l.points) in
     ap line_feeds l.spelled ∙ omega arith
+
+-- the lines of a subject have as many line feeds
+feeds_of_subject : (s : Subject) (text : List ℕ) → IfFunction s IsWithinBounds → AreSubjectLines s text →
+    line_feeds text ≡ length (subject_lines s)
+feeds_of_subject (function f) text b l =
+    let long : length (map point (range_with_len 0 f.order)) ≡ f.order = length-map-range_with_len point 0 f.order in
+    let feeds = feeds_of_function f text b l in
+    omega arith
+feeds_of_subject gmic text b l = ap line_feeds l
 
 -- ---- the line with a number
 
@@ -142,33 +161,55 @@ claim_at c text p = (
     regroup : (a b c d e : List ℕ) → a ++ b ++ c ++ d ++ e ≡ a ++ (b ++ (c ++ d ++ e))
     regroup a b c d e = simp append_assoc
 
-violation_at : (f : FunctionData) (v : Violation) (text : List ℕ) → IsWithinBounds f → IsProofText (NotMinimal f v) text →
-    StandsAt text (violation_line v) (f.order + 5)
-violation_at f v text b p =
-    let front = line (codes "gj-proof 1") ++ line (codes "claim not-minimal") in
-    let function = feeds_of_function f p.subject b p.are_subject_lines in
-    let both = line_feeds_append front p.subject in
-    let two : line_feeds front ≡ 2 = refl in (
-      front ++ p.subject,
-      line (codes "end"),
-      p.spelled ∙ regroup front p.subject (violation_line v) (line (codes "end")),
+feeds_of_claim : (c : Claim) → line_feeds (line (codes "claim " ++ claim_word c)) ≡ 1
+feeds_of_claim (Minimal f) = refl
+feeds_of_claim (NotMinimal f v) = refl
+feeds_of_claim (Cut rule rows) = refl
+
+subject_is_bounded : (c : Claim) → IsBounded c → IfFunction (subject_of c) IsWithinBounds
+subject_is_bounded (Minimal f) b = b
+subject_is_bounded (NotMinimal f v) b = b
+subject_is_bounded (Cut rule rows) b = b.0
+
+own_at : (c : Claim) (text : List ℕ) (a b : List OwnLine) (l : OwnLine) → IsBounded c → IsProofText c text → own_lines c ≡ a ++ l ∷ b →
+    StandsAt text l.bytes (length (subject_lines (subject_of c)) + length a + 3)
+own_at c text a b l within p is =
+    let title_bytes = line (codes "gj-proof 1") in
+    let claim_bytes = line (codes "claim " ++ claim_word c) in
+    let front = title_bytes ++ claim_bytes ++ p.subject ++ bytes a in
+    let ones : All HasOneFeed a = All-front HasOneFeed a (l ∷ b) (subst (All HasOneFeed) is (own_lines_have_one_feed c within)) in
+    let own = feeds_of_own a ones in
+    let subject = feeds_of_subject (subject_of c) p.subject (subject_is_bounded c within) p.are_subject_lines in
+    let one : line_feeds title_bytes ≡ 1 = refl in
+    let two = feeds_of_claim c in
+    let x = line_feeds_append title_bytes claim_bytes in
+    let y = line_feeds_append (title_bytes ++ claim_bytes) p.subject in
+    let z = line_feeds_append (title_bytes ++ claim_bytes ++ p.subject) (bytes a) in (
+      front,
+      bytes b ++ line (codes "end"),
+      p.spelled ∙ ap (λ ls. title_bytes ++ claim_bytes ++ p.subject ++ bytes ls ++ line (codes "end")) is
+          ∙ ap (λ t. title_bytes ++ claim_bytes ++ p.subject ++ t ++ line (codes "end")) (bytes_append a (l ∷ b))
+          ∙ regroup (title_bytes ++ claim_bytes ++ p.subject) (bytes a) l.bytes (bytes b) (line (codes "end")),
       omega arith,
     )
   where
-    regroup : (a b c d : List ℕ) → a ++ b ++ (c ++ []) ++ d ≡ a ++ b ++ (c ++ d)
-    regroup a b c d = simp (append-nil, append_assoc)
+    regroup : (a b c d e : List ℕ) → a ++ (b ++ (c ++ d)) ++ e ≡ a ++ b ++ (c ++ (d ++ e))
+    regroup a b c d e = simp append_assoc
+
+-- a line that is among these stands behind some and before others
+parted : (ls : List OwnLine) (l : OwnLine) → Contains ls l → (a b : List OwnLine) × (ls ≡ a ++ l ∷ b)
+parted [] l (i, below, is) = absurd (omega arith)
+parted (m ∷ ls) l (zero, below, is) = ([], ls, ap (λ k. k ∷ ls) is)
+parted (m ∷ ls) l (suc i, below, is) =
+    let h = parted ls l (i, omega (arith, below), is) in (m ∷ h.0, h.1, ap (λ k. m ∷ k) h.2)
 
 pub line_of_number : (c : Claim) (text bytes : List ℕ) (l : ProofLine) (n : ℕ) → IsBounded c → IsProofText c text →
     HasBytes c l bytes → HasNumber c l n → StandsAt text bytes n
 line_of_number c text bytes l n b p (inl h) k =
     let same = one_number c claim 2 n (number_of_claim c) (subst (λ m. HasNumber c m n) h.0 k) in
     subst (StandsAt text bytes) same (subst (λ t. StandsAt text t 2) (sym h.1) (claim_at c text p))
-line_of_number (Minimal f) text bytes l n b p (inr h) k = absurd (omega (arith, h.1))
-line_of_number (NotMinimal f v) text bytes l n b p (inr (i, below, is)) k =
-    let shown : OwnLine = record { name = violation_shown; bytes = violation_line v } in
+line_of_number c text bytes l n b p (inr h) k =
     let own : OwnLine = record { name = l; bytes = bytes } in
-    let first : i ≡ 0 = omega arith in
-    let same : shown ≡ own = subst (λ j. get_or (shown ∷ []) j own ≡ own) first is in
-    let number = one_number (NotMinimal f v) violation_shown (f.order + 5) n (number_of_violation f v)
-    (subst (λ m. HasNumber (NotMinimal f v) m n) (sym (ap (λ (o : OwnLine). o.name) same)) k) in
-    subst (StandsAt text bytes) number (subst (λ t. StandsAt text t (f.order + 5)) (ap (λ (o : OwnLine). o.bytes) same) (violation_at f v text b p))
+    let (before, after, is) = parted (own_lines c) own h in
+    let same = one_number c l (length (subject_lines (subject_of c)) + length before + 3) n (number_of_own c before after own is) k in
+    subst (StandsAt text bytes) same (own_at c text before after own b p is)

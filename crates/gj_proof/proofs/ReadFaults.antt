@@ -11,7 +11,7 @@ use Rattle.gj_proof.specs.ProofGrammar.{claim_part, proof_text}
 use Rattle.gj_proof.specs.declared.claim.Claim.{Claim}
 use Rattle.gj_proof.specs.declared.claim.Claim.TheVariants as claims
 use Rattle.gj_proof.specs.declared.claim.ClaimWord.{ClaimWord}
-use Rattle.gj_proof.specs.declared.claim.ClaimWord.TheVariants.{Minimal, NotMinimal}
+use Rattle.gj_proof.specs.declared.claim.ClaimWord.TheVariants.{NotMinimal}
 use Rattle.gj_proof.proofs.ReadTexts.{title_part, word_part, last_part, violation_part, named_claim, after_claim, after_title, lines_part}
 
 -- an error that is passed on has what the callee's has

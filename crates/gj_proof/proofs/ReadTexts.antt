@@ -1,5 +1,5 @@
 -- The texts that the part `proof_text` reads are the proof texts of claims.
-use Rattle.std.proofs.Common.{◌≡◌, ℕ, List, [], ◌∷◌, ◌++◌, All, codes, refl, sym, ap, subst, ◌∙◌}
+use Rattle.std.proofs.Common.{◌≡◌, inl, inr, ℕ, List, [], ◌∷◌, ◌++◌, All, flat_map, codes, refl, sym, ap, subst, ◌∙◌}
 use Rattle.std.specs.List.{join_with_byte}
 use Rattle.std.proofs.lemmas.List.{append_assoc, append-nil}
 use Rattle.gj_lex.specs.declared.spelling.Spelling.TheVariants.{Strict}
@@ -10,18 +10,28 @@ use Rattle.gj_lex.proofs.PartLaws.{line_part_is_exact, then_part_is_exact, made_
 use Rattle.gj_shape.specs.FunctionData.{FunctionData, IsWithinBounds}
 use Rattle.gj_shape.specs.declared.violations.Violation.{Violation}
 use Rattle.gj_lines.specs.FunctionLines.{line, AreFunctionLines}
-use Rattle.gj_lines.specs.FunctionGrammar.{function_part}
+use Rattle.gj_lines.specs.FunctionGrammar.{order_words, function_part}
 use Rattle.gj_lines.proofs.CanonicalFunctions.{canonical_lines_are_read}
 use Rattle.gj_lines.proofs.ExactFunctions.{function_part_is_exact}
 use Rattle.gj_lines.proofs.FunctionRead.{within_bounds}
 use Rattle.gj_lines.proofs.StrictFunctions.{strict_lines_are_canonical}
-use Rattle.gj_proof.specs.ProofText.{IsBounded, violation_line, IsProofText}
-use Rattle.gj_proof.specs.ProofGrammar.{claim_words, claim_rule, violation_words, violation_rule, claim_part, proof_text}
+use Rattle.gj_proof.specs.ProofText.{IfFunction, HasNames, IsBounded, subject_of_rule, AreSubjectLines, violation_line, IsProofText}
+use Rattle.gj_proof.specs.CutTexts.{row_text}
+use Rattle.gj_proof.specs.WhereParts.{BeginsWithLine}
+use Rattle.gj_proof.specs.ProofGrammar.{claim_words, claim_rule, violation_words, violation_rule, rule_part, rows_part, claim_part, proof_text}
 use Rattle.gj_proof.specs.declared.claim.Claim.{Claim}
 use Rattle.gj_proof.specs.declared.claim.Claim.TheVariants as claims
 use Rattle.gj_proof.specs.declared.claim.ClaimWord.{ClaimWord}
-use Rattle.gj_proof.specs.declared.claim.ClaimWord.TheVariants.{Minimal, NotMinimal}
+use Rattle.gj_proof.specs.declared.claim.ClaimWord.TheVariants.{Minimal, NotMinimal, Cut}
+use Rattle.gj_proof.specs.declared.cut.CutRule.{CutRule}
+use Rattle.gj_proof.specs.declared.cut.CutRule.TheVariants.{Gmic, Table}
+use Rattle.gj_proof.specs.declared.cut.CutLine.{CutLine}
 use Rattle.gj_proof.proofs.StrictParts.{line_reads, line_found}
+use Rattle.gj_proof.proofs.WhereLaws.{other_line, begins_so}
+use Rattle.gj_proof.proofs.CutParts.{gmic_words, end_words, rule_part_is_exact, rows_part_is_exact}
+use Rattle.gj_proof.proofs.CutRead.{gmic_read, table_read}
+use Rattle.gj_proof.proofs.CutTexts.{rows_read, rows_found}
+use Rattle.gj_proof.proofs.OwnLines.{row_bytes}
 use Rattle.gj_proof.proofs.ViolationRule.{bytes_of_words, some_words, violation_is_plain, violation_rule_is_exact}
 
 -- ---- the parts of a proof text
@@ -60,6 +70,11 @@ one_word Minimal Minimal e = refl
 one_word NotMinimal NotMinimal e = refl
 one_word Minimal NotMinimal e = cc
 one_word NotMinimal Minimal e = cc
+one_word Cut Cut e = refl
+one_word Cut Minimal e = cc
+one_word Cut NotMinimal e = cc
+one_word Minimal Cut e = cc
+one_word NotMinimal Cut e = cc
 
 claim_rule_is_exact : IsExactRule claim_rule.Spells claim_rule.Breaks
 claim_rule_is_exact = record {
@@ -77,6 +92,11 @@ claim_part_is_exact NotMinimal =
     then_part_is_exact (function_part Strict) behind (function_part_is_exact Strict)
     (λ f. made_part_is_exact (λ (v : Violation) c. c ≡ claims.NotMinimal f v) (λ v c d h k. h ∙ sym k) violation_part
     (line_part_is_exact Strict violation_rule violation_rule_is_exact))
+claim_part_is_exact Cut =
+    let behind : CutRule → Part Claim = λ rule. made_part (λ (rows : List CutLine) c. c ≡ claims.Cut rule rows) (rows_part []) in
+    then_part_is_exact rule_part behind rule_part_is_exact
+    (λ rule. made_part_is_exact (λ (rows : List CutLine) c. c ≡ claims.Cut rule rows) (λ rows c d h k. h ∙ sym k) (rows_part [])
+    (rows_part_is_exact []))
 
 pub proof_text_is_exact : IsExactPart proof_text.Reads proof_text.Faults
 proof_text_is_exact =
@@ -99,6 +119,7 @@ last_line = line (codes "end")
 claim_is_plain : (w : ClaimWord) → All IsPlain (claim_words w)
 claim_is_plain Minimal = plain_by_test (claim_words Minimal) refl
 claim_is_plain NotMinimal = plain_by_test (claim_words NotMinimal) refl
+claim_is_plain Cut = plain_by_test (claim_words Cut) refl
 
 title_reads : (rest : List ℕ) → title_part.Reads (title_line ++ rest) tt rest
 title_reads rest =
@@ -116,6 +137,7 @@ claim_reads w rest = line_reads claim_rule (claim_line w ++ rest) rest (claim_wo
     some : (w : ClaimWord) → claim_words w ≡ [] → ⊥
     some Minimal e = cc
     some NotMinimal e = cc
+    some Cut e = cc
 
 violation_reads : (v : Violation) (rest : List ℕ) → violation_part.Reads (violation_line v ++ rest) v rest
 violation_reads v rest =
@@ -126,6 +148,34 @@ violation_found : (text rest : List ℕ) (v : Violation) → violation_part.Read
 violation_found text rest v h =
     let (words, is, spelled) = line_found violation_rule text rest v h in
     spelled ∙ ap (λ ws. line (join_with_byte 32 ws) ++ rest) is ∙ ap (λ t. t ++ rest) (bytes_of_words v)
+
+-- ---- the rule of cuts
+
+gmic_reads : (rest : List ℕ) → (line_part Strict (words_rule gmic_words)).Reads (line (codes "rule gmic") ++ rest) tt rest
+gmic_reads rest =
+    line_reads (words_rule gmic_words) (line (codes "rule gmic") ++ rest) rest gmic_words tt (λ e. cc) (plain_by_test gmic_words refl) refl
+    refl
+
+-- the lines of a function begin with none of that rule
+no_gmic_line : (text rest : List ℕ) (f : FunctionData) → (function_part Strict).Reads text f rest → BeginsWithLine gmic_words text → ⊥
+no_gmic_line text rest f (q, next, (start, words, (at, strict), (word, is, spelled, order_is)), h) =
+    other_line text words gmic_words next strict (λ e. not_both word (sym is ∙ e))
+  where
+    not_both : (word : List ℕ) → order_words word ≡ gmic_words → ⊥
+    not_both word e = cc
+
+rule_reads : (r : CutRule) (lines rest : List ℕ) → IfFunction (subject_of_rule r) IsWithinBounds →
+    AreSubjectLines (subject_of_rule r) lines → rule_part.Reads (lines ++ rest) r rest
+rule_reads (Table f) lines rest b are =
+    let reads = canonical_lines_are_read Strict f lines rest b are in
+    table_read (lines ++ rest) rest f (no_gmic_line (lines ++ rest) rest f reads) reads
+rule_reads Gmic lines rest b are =
+    subst (λ t. rule_part.Reads (t ++ rest) Gmic rest) (sym are)
+    (gmic_read (line (codes "rule gmic") ++ rest) rest (begins_so _ rest gmic_words (gmic_reads rest)) (gmic_reads rest))
+
+-- the line of the end begins as one
+end_begins : BeginsWithLine end_words last_line
+end_begins = begins_so last_line [] end_words last_reads
 
 -- ---- a text of a claim is read as the claim
 
@@ -158,6 +208,15 @@ text_is_read (claims.NotMinimal f v) text b p =
   where
     regroup : (a b c d e : List ℕ) → a ++ b ++ c ++ (d ++ []) ++ e ≡ a ++ (b ++ (c ++ (d ++ e)))
     regroup a b c d e = simp (append-nil, append_assoc)
+text_is_read (claims.Cut rule rows) text b p =
+    let behind = flat_map row_text rows ++ last_line in
+    whole_reads Cut (claims.Cut rule rows) (p.subject ++ behind) text
+    (rule, behind, rule_reads rule p.subject behind b.0 p.are_subject_lines, (rows, rows_read [] rows last_line b.1 end_begins, refl))
+    (p.spelled ∙ ap (λ t. title_line ++ claim_line Cut ++ p.subject ++ t ++ last_line) (row_bytes 0 rows)
+    ∙ regroup title_line (claim_line Cut) p.subject (flat_map row_text rows) last_line)
+  where
+    regroup : (a b c d e : List ℕ) → a ++ b ++ c ++ d ++ e ≡ a ++ (b ++ (c ++ (d ++ e)))
+    regroup a b c d e = simp append_assoc
 
 -- ---- what is read is the text of a claim
 
@@ -166,6 +225,28 @@ function_found : (text : List ℕ) (f : FunctionData) (rest : List ℕ) → (fun
 function_found text f rest h =
     let (lines, are, is) = strict_lines_are_canonical f text rest h in
     (within_bounds Strict text f rest h, lines, are, is)
+
+-- the subject of a rule that was read
+pub record RuleFound (r : CutRule) (text rest : List ℕ) : Type 0 where
+  pub within : IfFunction (subject_of_rule r) IsWithinBounds
+  pub lines : List ℕ
+  pub are_lines : AreSubjectLines (subject_of_rule r) lines
+  pub spelled : text ≡ lines ++ rest
+
+rule_found : (text rest : List ℕ) (r : CutRule) → rule_part.Reads text r rest → RuleFound r text rest
+rule_found text rest r (inl (is, (t, h, r_is))) =
+    let (words, words_are, spelled) = line_found (words_rule gmic_words) text rest t h in
+    let found : RuleFound Gmic text rest = record {
+      within = tt;
+      lines = line (codes "rule gmic");
+      are_lines = refl;
+      spelled = spelled ∙ ap (λ ws. line (join_with_byte 32 ws) ++ rest) words_are;
+    } in
+    subst (λ (r : CutRule). RuleFound r text rest) (sym r_is) found
+rule_found text rest r (inr (not, (f, h, r_is))) =
+    let (within, lines, are, is) = function_found text f rest h in
+    let found : RuleFound (Table f) text rest = record { within = within; lines = lines; are_lines = are; spelled = is } in
+    subst (λ (r : CutRule). RuleFound r text rest) (sym r_is) found
 
 claim_found : (w : ClaimWord) (c : Claim) (text inner rest : List ℕ) → (claim_part w).Reads inner c rest →
     text ≡ title_line ++ (claim_line w ++ inner) → rest ≡ last_line → IsBounded c × IsProofText c text
@@ -204,6 +285,28 @@ claim_found NotMinimal c text inner rest (f, middle, reads, (v, shown, c_is)) is
   where
     regroup : (a b c d e : List ℕ) → a ++ (b ++ (c ++ (d ++ e))) ≡ a ++ b ++ c ++ (d ++ []) ++ e
     regroup a b c d e = simp (append-nil, append_assoc)
+claim_found Cut c text inner rest (rule, middle, reads, (rows, more, c_is)) is rest_is =
+    let subject = rule_found inner middle rule reads in
+    let found = rows_found rows rest [] middle more in
+    let P : Claim → Type 0 = λ d. IsBounded d × IsProofText d text in
+    let named : All HasNames rows = subst (All HasNames) (sym found.all_are) found.named in
+    let own : middle ≡ flat_map row_text rows ++ last_line =
+    found.spelled ∙ ap (λ ls. flat_map row_text ls ++ rest) (sym found.all_are) ∙ ap (λ t. flat_map row_text rows ++ t) rest_is in
+    subst P (sym c_is) (
+      (subject.within, named),
+      record {
+        has_text = tt;
+        subject = subject.lines;
+        are_subject_lines = subject.are_lines;
+        spelled = is
+            ∙ ap (λ t. title_line ++ (claim_line Cut ++ t)) (subject.spelled ∙ ap (λ t. subject.lines ++ t) own)
+            ∙ regroup title_line (claim_line Cut) subject.lines (flat_map row_text rows) last_line
+            ∙ ap (λ t. title_line ++ claim_line Cut ++ subject.lines ++ t ++ last_line) (sym (row_bytes 0 rows));
+      },
+    )
+  where
+    regroup : (a b c d e : List ℕ) → a ++ (b ++ (c ++ (d ++ e))) ≡ a ++ b ++ c ++ d ++ e
+    regroup a b c d e = simp append_assoc
 
 pub read_is_text : (c : Claim) (text : List ℕ) → proof_text.Reads text c [] → IsBounded c × IsProofText c text
 read_is_text c text

@@ -7,9 +7,9 @@ use Rattle.gj_shape.specs.declared.violations.Violation.{Violation}
 use Rattle.gj_shape.specs.declared.violations.Violation.TheVariants as violation
 use Rattle.gj_lines.specs.FunctionLines.{line}
 use Rattle.gj_lines.proofs.StrictFunctions.{function_lines_are_short}
-use Rattle.gj_proof.specs.ProofText.{IsBounded, violation_line, IsProofText}
+use Rattle.gj_proof.specs.ProofText.{IsBounded, IsShort, violation_line, IsProofText}
 use Rattle.gj_proof.specs.declared.claim.Claim.{Claim}
-use Rattle.gj_proof.specs.declared.claim.Claim.TheVariants.{Minimal, NotMinimal}
+use Rattle.gj_proof.specs.declared.claim.Claim.TheVariants.{Minimal, NotMinimal, Cut}
 
 line_is_long : (a b : List ℕ) → length (line (a ++ b)) ≡ length a + length b + 1
 line_is_long a b = omega (arith, length-append (a ++ b) (10 ∷ []), length-append a b)
@@ -32,15 +32,15 @@ violation_is_short (violation.Superadditive x y) =
 text_is_long : (a b c d e : List ℕ) → length (a ++ b ++ c ++ d ++ e) ≡ length a + length b + length c + length d + length e
 text_is_long a b c d e = omega (arith, length-append (a ++ b ++ c ++ d) e, length-append (a ++ b ++ c) d, length-append (a ++ b) c, length-append a b)
 
-pub text_is_short : (c : Claim) (text : List ℕ) → IsBounded c → IsProofText c text → length text ≤ 1000000
-text_is_short (Minimal f) text b p =
+pub text_is_short : (c : Claim) (text : List ℕ) → IsShort c → IsBounded c → IsProofText c text → length text ≤ 1000000
+text_is_short (Minimal f) text few b p =
     omega (
       arith,
       ap length p.spelled,
       text_is_long (line (codes "gj-proof 1")) (line (codes "claim minimal")) p.subject [] (line (codes "end")),
       function_lines_are_short f p.subject b p.are_subject_lines,
     )
-text_is_short (NotMinimal f v) text b p =
+text_is_short (NotMinimal f v) text few b p =
     omega (
       arith,
       ap length p.spelled,
@@ -49,3 +49,4 @@ text_is_short (NotMinimal f v) text b p =
       function_lines_are_short f p.subject b p.are_subject_lines,
       violation_is_short v,
     )
+text_is_short (Cut rule rows) text few b p = absurd few

@@ -28,3 +28,9 @@ module _ {A : Type 0} (rule : LineRule A) where
       (words : List (List ℕ)) × rule.Spells words a × (text ≡ line (join_with_byte 32 words) ++ rest)
   line_found text rest a (start, words, (at, strict), spells) =
       (words, spells, strict.spelled ∙ sym (regroup (join_with_byte 32 words) rest))
+
+-- plain words in a line are a strict line
+pub strict_line : (text rest w : List ℕ) (ws : List (List ℕ)) → All IsPlain (w ∷ ws) → text ≡ line (join_with_byte 32 (w ∷ ws)) ++ rest →
+    HasStrictLine text (w ∷ ws) rest
+strict_line text rest w ws plain is =
+    subst (λ t. HasStrictLine t (w ∷ ws) rest) (sym (is ∙ regroup (join_with_byte 32 (w ∷ ws)) rest)) (plain_line w ws rest plain)

@@ -1,17 +1,20 @@
-//! Claims about a function, and those among them that have a proof text.
+//! Claims about a function or about cuts, and those among them that have a proof text.
 
 ghost use Rattle.std.specs.Prelude.{◌≡◌, ◌↔◌, IfSome, IsSome};
 
-use gj_shape::{Shape, Violation};
+use crate::cut::{CutLine, CutRule};
+use gj_shape::{List, Shape, Violation};
 use std::marker::Model;
 
-/// A claim about a function.
+/// A claim about a function, or about cuts.
 #[derive(Drop)]
 pub enum Claim {
     /// The function is minimal.
     Minimal(Shape),
     /// The function is not minimal, as the violation shows.
     NotMinimal(Shape, Violation),
+    /// Each cut that is made by the rule holds at every solution of its row.
+    Cut(CutRule, List<CutLine>),
 }
 
 /// The word of a claim.
@@ -19,6 +22,7 @@ pub enum Claim {
 pub(crate) enum ClaimWord {
     Minimal,
     NotMinimal,
+    Cut,
 }
 
 /// A claim that has a proof text. Contracts see it as the claim.
@@ -42,7 +46,7 @@ impl Model for Proof {
 impl Proof {
     ghost use Rattle.gj_proof.specs.ProofText.{HasText};
 
-    /// The proof of a claim. None exactly where the claim has no text; these two claims have one for every function.
+    /// The proof of a claim. None exactly where the claim has no text; these three claims have one always.
     /// It takes no memory.
     pub fn new(claim: Claim) -> Option<Proof>
         ensures some { IsSome result ↔ HasText claim }

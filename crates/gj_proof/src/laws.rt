@@ -4,7 +4,7 @@ ghost use Rattle.std.specs.Prelude.{◌≡◌, ◌↔◌, ◌+◌, ◌≤◌, []
 ghost use Rattle.gj_lex.specs.TextLines.{line_feeds};
 ghost use Rattle.gj_lex.specs.declared.reason.Reason.{Reason};
 ghost use Rattle.gj_proof.specs.declared.claim.Claim.{Claim};
-ghost use Rattle.gj_proof.specs.ProofText.{ProofLine, IsBounded, IsProofText, HasBytes, HasNumber};
+ghost use Rattle.gj_proof.specs.ProofText.{ProofLine, IsBounded, IsShort, IsProofText, HasBytes, HasNumber};
 ghost use Rattle.gj_proof.specs.ProofGrammar.{proof_text};
 ghost use Rattle.gj_proof.specs.FirstFault.{IsFirstFault};
 
@@ -43,7 +43,7 @@ pub fn numbers_of_lines()
         (before rest : List ℕ) × (text ≡ before ++ (bytes ++ rest)) × (n ≡ line_feeds before + 1) }
 {}
 
-/// The text of a claim is at most 1,000,000 bytes long.
+/// The text of a claim is at most 1,000,000 bytes long, unless it has any number of lines of its own.
 pub fn proof_text_is_short()
-    ensures { (c : Claim) (text : List ℕ) → IsBounded c → IsProofText c text → length text ≤ 1_000_000 }
+    ensures { (c : Claim) (text : List ℕ) → IsShort c → IsBounded c → IsProofText c text → length text ≤ 1_000_000 }
 {}

@@ -1,18 +1,24 @@
-//! Proof texts: claims about a function, read and printed in their one spelling.
+//! Proof texts: claims about a function or about cuts, read and printed in their one spelling.
 //!
 //! A claim has a subject, lines of its own and demands that the checker makes (`specs/ProofText.antt`, `specs/Rules.antt`), and it says
 //! something of its subject (`specs/Meaning.antt`). `read_proof` and `write_proof` are inverse to each other: a claim has one text,
 //! and a text is that of one claim.
 #![tactic(auto)]
 
+mod begins;
 mod claim;
+mod cut;
+mod cut_rows;
 mod faults;
+mod fields;
 mod laws;
 mod read;
 mod violations;
 mod write;
+mod write_cuts;
 
 pub use claim::{Claim, Proof};
+pub use cut::{CutLine, CutRule, CutTerm, SkipReason};
 pub use faults::ProofFault;
 pub use laws::{
     no_fault_in_proof_text, numbers_of_lines, one_first_fault, one_spelling, proof_text_is_short,

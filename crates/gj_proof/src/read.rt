@@ -9,12 +9,15 @@ ghost use Rattle.gj_proof.specs.ProofGrammar.{claim_words, claim_rule, claim_par
 ghost use Rattle.gj_proof.specs.FirstFault.{NamesFirstFault, IsMemoryFault};
 ghost use Rattle.gj_proof.specs.declared.claim.Claim.{Claim};
 ghost use Rattle.gj_proof.specs.declared.claim.ClaimWord.{ClaimWord};
+ghost use Rattle.gj_proof.specs.declared.claim.ClaimWord.TheVariants.{Minimal, NotMinimal, Cut};
 
 use crate::claim::{Claim, ClaimWord, Proof};
+use crate::cut_rows::{rows_at, rule_at};
 use crate::faults::ProofFault;
 use crate::violations::violation_at;
 use gj_lex::{PartFault, Reason, Spelling, end_at, has_words, line_at, line_number, words_at};
 use gj_lines::function_at;
+use gj_shape::List;
 use std::alloc::Global;
 
 /// The proof that the bytes spell, all of them.
@@ -75,6 +78,9 @@ fn claim_word_of(line: &[u8]) -> Option<ClaimWord>
     if has_words(line, b"claim not-minimal") {
         return Some(ClaimWord::NotMinimal);
     }
+    if has_words(line, b"claim cut") {
+        return Some(ClaimWord::Cut);
+    }
     None
 }
 
@@ -83,12 +89,38 @@ fn claim_at(alloc: Global, text: &[u8], word: ClaimWord) -> Result<(Claim, &[u8]
     ensures found { IfOk result (λ r. (claim_part word).Reads text.now r.0 r.1.now) }
     ensures fault { IfErr result (IsFaultOf (claim_part word) text.now) }
 {
-    let (shape, rest) = function_at(alloc, Spelling::Strict, text)?;
     match word {
-        ClaimWord::Minimal => Ok((Claim::Minimal(shape), rest)),
-        ClaimWord::NotMinimal => {
-            let (violation, rest) = violation_at(rest)?;
-            Ok((Claim::NotMinimal(shape, violation), rest))
-        }
+        ClaimWord::Minimal => minimal_at(alloc, text),
+        ClaimWord::NotMinimal => not_minimal_at(alloc, text),
+        ClaimWord::Cut => cut_at(alloc, text),
     }
+}
+
+/// The claim that the function of the next lines is minimal, and what follows them.
+fn minimal_at(alloc: Global, text: &[u8]) -> Result<(Claim, &[u8]), PartFault>
+    ensures found { IfOk result (λ r. (claim_part Minimal).Reads text.now r.0 r.1.now) }
+    ensures fault { IfErr result (IsFaultOf (claim_part Minimal) text.now) }
+{
+    let (shape, rest) = function_at(alloc, Spelling::Strict, text)?;
+    Ok((Claim::Minimal(shape), rest))
+}
+
+/// The claim that the function of the next lines is not minimal, as the violation behind it shows, and what follows.
+fn not_minimal_at(alloc: Global, text: &[u8]) -> Result<(Claim, &[u8]), PartFault>
+    ensures found { IfOk result (λ r. (claim_part NotMinimal).Reads text.now r.0 r.1.now) }
+    ensures fault { IfErr result (IsFaultOf (claim_part NotMinimal) text.now) }
+{
+    let (shape, rest) = function_at(alloc, Spelling::Strict, text)?;
+    let (violation, rest) = violation_at(rest)?;
+    Ok((Claim::NotMinimal(shape, violation), rest))
+}
+
+/// The claim about the cuts of the next lines by the rule before them, and what follows.
+fn cut_at(alloc: Global, text: &[u8]) -> Result<(Claim, &[u8]), PartFault>
+    ensures found { IfOk result (λ r. (claim_part Cut).Reads text.now r.0 r.1.now) }
+    ensures fault { IfErr result (IsFaultOf (claim_part Cut) text.now) }
+{
+    let (rule, rest) = rule_at(alloc, text)?;
+    let (rows, rest) = rows_at(alloc, rest)?;
+    Ok((Claim::Cut(rule, List::of(rows)), rest))
 }

@@ -1,6 +1,6 @@
 //! Proof texts by hand: read, written back, and refused at their first fault.
 
-use crate::{Claim, ProofFault, read_proof, write_proof};
+use crate::{Claim, CutRule, ProofFault, read_proof, write_proof};
 use gj_frac::Frac;
 use gj_lex::Reason;
 use std::test::Fail;
@@ -10,6 +10,14 @@ const MINIMAL: &[u8] =
 
 const NOT_MINIMAL: &[u8] =
     b"gj-proof 1\nclaim not-minimal\norder 5\nf 3/5\npoint 0\npoint 1/10\npoint 9/10\npoint 1\npoint 1/2\nsuperadditive 1/5 1/5\nend\n";
+
+const CUT: &[u8] =
+    b"gj-proof 1\nclaim cut\norder 5\nf 3/5\npoint 0\npoint 1/3\npoint 2/3\npoint 1\npoint 1/2\n\
+cut x0 8/5\nterm x1 7/5 2/3\nterm x2 -1/5 1/2\nend\n";
+
+const ROWS_OF_ANY_F: &[u8] =
+    b"gj-proof 1\nclaim cut\nrule gmic\nskip a 2 integral\ncut b 1/2\ncut term -3/4\n\
+term x1 0 0\nskip #,' 1/3 other\nend\n";
 
 const WITH_JUMPS: &[u8] =
     b"gj-proof 1\nclaim minimal\norder 2\nf 1/2\npoint 1/2 0 1/2\npoint 1/2 1 1/2\nend\n";
@@ -48,8 +56,22 @@ fn jumps_are_read_and_written(rt: HostRuntime) -> Result<(), Fail> {
 }
 
 #[test]
+fn cuts_are_read_and_written(rt: HostRuntime) -> Result<(), Fail> {
+    for text in [CUT, ROWS_OF_ANY_F] {
+        let proof = read_proof(rt.alloc(), text)?;
+        let Claim::Cut(rule, rows) = proof.claim() else {
+            assert!(rt; false);
+            return Ok(());
+        };
+        assert_eq!(rt; matches!(rule, CutRule::Gmic), rows.as_slice().len() == 4);
+        assert_eq!(rt; write_proof(rt.alloc(), &proof)?.as_slice(), text);
+    }
+    Ok(())
+}
+
+#[test]
 fn refused(rt: HostRuntime) {
-    let texts: [(&[u8], u64, Reason); 20] = [
+    let texts: [(&[u8], u64, Reason); 34] = [
         (b"", 1, Reason::Form),
         (b"gj-proof 1\nclaim extreme\norder 5\n", 2, Reason::Form),
         (b"gj-proof 1\nclaim minimal\norder  5\n", 3, Reason::Form),
@@ -124,6 +146,64 @@ fn refused(rt: HostRuntime) {
         (
             b"gj-proof 1\nclaim minimal\norder 5\nf 3/5\npoint 0\npoint 1/3\npoint 2/3\npoint 1\npoint 1/2\nend\nx\n",
             11,
+            Reason::Tail,
+        ),
+        (b"gj-proof 1\nclaim cut\nrule gmix\nend\n", 3, Reason::Form),
+        (b"gj-proof 1\nclaim cut\norder x\n", 3, Reason::Number),
+        (b"gj-proof 1\nclaim cut\nrule gmic\n", 4, Reason::Form),
+        (
+            b"gj-proof 1\nclaim cut\nrule gmic\nterm x1 1/2 1\nend\n",
+            4,
+            Reason::Form,
+        ),
+        (
+            b"gj-proof 1\nclaim cut\nrule gmic\nskip x0 1 integral\nterm x1 1/2 1\nend\n",
+            5,
+            Reason::Form,
+        ),
+        (
+            b"gj-proof 1\nclaim cut\nrule gmic\nskip x0 1 whole\nend\n",
+            4,
+            Reason::Form,
+        ),
+        (
+            b"gj-proof 1\nclaim cut\nrule gmic\nskip x0 1.0 integral\nend\n",
+            4,
+            Reason::Number,
+        ),
+        (
+            b"gj-proof 1\nclaim cut\nrule gmic\ncut \"x0\" 1/2x\nend\n",
+            4,
+            Reason::Form,
+        ),
+        (
+            b"gj-proof 1\nclaim cut\nrule gmic\ncut x0 2/4\nend\n",
+            4,
+            Reason::Number,
+        ),
+        (
+            b"gj-proof 1\nclaim cut\nrule gmic\ncut x0 1/2\nterm x1 1/2\nend\n",
+            5,
+            Reason::Form,
+        ),
+        (
+            b"gj-proof 1\nclaim cut\nrule gmic\ncut x0 1/2\nterm x1 1/2 +1\nend\n",
+            5,
+            Reason::Number,
+        ),
+        (
+            b"gj-proof 1\nclaim cut\nrule gmic\ncut x0 1/2\nterm x1 1/2  1\nend\n",
+            5,
+            Reason::Form,
+        ),
+        (
+            b"gj-proof 1\nclaim cut\nrule gmic\ncut x0 1/2\nterm x1 1/2 1\n",
+            6,
+            Reason::Form,
+        ),
+        (
+            b"gj-proof 1\nclaim cut\nrule gmic\ncut x0 1/2\nend\nterm x1 1/2 1\n",
+            6,
             Reason::Tail,
         ),
     ];

@@ -1,11 +1,13 @@
 //! Proof texts, printed.
 
 ghost use Rattle.std.specs.Prelude.{◌≡◌, ◌++◌, ℕ, List, codes, IfOk, OnOk};
-ghost use Rattle.gj_proof.specs.declared.claim.Claim.TheVariants.{Minimal, NotMinimal};
+ghost use Rattle.gj_proof.specs.declared.claim.Claim.TheVariants.{Minimal, NotMinimal, Cut};
 ghost use Rattle.gj_lines.specs.FunctionLines.{line, AreFunctionLines};
 ghost use Rattle.gj_proof.specs.ProofText.{violation_line, IsProofText};
 
 use crate::claim::{Claim, Proof};
+use crate::cut::{CutLine, CutRule};
+use crate::write_cuts::{push_rows, push_rule_lines};
 use gj_lex::print_frac;
 use gj_lines::{push_fraction_line, push_function_lines};
 use gj_shape::{Shape, Violation};
@@ -18,6 +20,7 @@ pub fn write_proof(alloc: Global, proof: &Proof) -> Result<Vec<u8>, AllocError>
     match proof.claim() {
         Claim::Minimal(shape) => write_minimal(alloc, shape),
         Claim::NotMinimal(shape, violation) => write_not_minimal(alloc, shape, *violation),
+        Claim::Cut(rule, rows) => write_cut(alloc, rule, rows.as_slice()),
     }
 }
 
@@ -40,6 +43,18 @@ fn write_not_minimal(
 {
     let mut text = start_text(alloc, b"not-minimal", shape)?;
     push_violation_line(alloc, &mut text, violation)?;
+    text.extend_from_slice(b"end\n")?;
+    Ok(text)
+}
+
+/// The proof text of the claim about these cuts by this rule.
+fn write_cut(alloc: Global, rule: &CutRule, rows: &[CutLine]) -> Result<Vec<u8>, AllocError>
+    ensures { IfOk result (λ text. IsProofText (Cut rule.now rows.now) text.items) }
+{
+    let mut text = Vec::new(alloc);
+    text.extend_from_slice(b"gj-proof 1\nclaim cut\n")?;
+    push_rule_lines(alloc, &mut text, rule)?;
+    push_rows(alloc, &mut text, rows)?;
     text.extend_from_slice(b"end\n")?;
     Ok(text)
 }

@@ -6,17 +6,17 @@ use Rattle.gj_proof.proofs.ReadFaults.{passed_on}
 use Rattle.gj_proof.proofs.ViolationRule.{one_no_fraction, first_no_fraction, second_no_fraction, no_violation}
 use Rattle.gj_proof.proofs.violations.violation_of.Goals as goal
 
-pub returns-in_err-point_of-clause-fault : goal.returns-in_err-point_of-clause-fault
-returns-in_err-point_of-clause-fault c =
+pub returns-in_err-number_of-clause-fault : goal.returns-in_err-number_of-clause-fault
+returns-in_err-number_of-clause-fault c =
     let p = err_from_is_err_and c.from_residual.result c.from_residual.ensures.1 in
     passed_on (BreaksViolation (word_texts c.args.line.now)) _ _ _ p.1 p.2
-    (one_no_fraction _ _ _ (inl c.in-Some.ensures.found) c.in_err-point_of.ensures.fault)
+    (one_no_fraction _ _ _ (inl c.in-Some.ensures.found) c.in_err-number_of.ensures.fault)
 
-pub returns-in_err-point_of-2-clause-fault : goal.returns-in_err-point_of-2-clause-fault
-returns-in_err-point_of-2-clause-fault c =
-    let p = err_from_is_err_and c.from_residual-in_err-point_of-2.result c.from_residual-in_err-point_of-2.ensures.1 in
+pub returns-in_err-number_of-2-clause-fault : goal.returns-in_err-number_of-2-clause-fault
+returns-in_err-number_of-2-clause-fault c =
+    let p = err_from_is_err_and c.from_residual-in_err-number_of-2.result c.from_residual-in_err-number_of-2.ensures.1 in
     passed_on (BreaksViolation (word_texts c.args.line.now)) _ _ _ p.1 p.2
-    (one_no_fraction _ _ _ (inr c.in-Some-field_of.ensures.found) c.in_err-point_of-2.ensures.fault)
+    (one_no_fraction _ _ _ (inr c.in-Some-field_of.ensures.found) c.in_err-number_of-2.ensures.fault)
 
 pub returns-in_err-x-clause-fault : goal.returns-in_err-x-clause-fault
 returns-in_err-x-clause-fault c =

@@ -1,0 +1,26 @@
+use Rattle.std.proofs.lemmas.Bool.{false≢true}
+use Rattle.std.proofs.lemmas.Result.{err_from_is_err_and}
+use Rattle.std.proofs.Common.{[]}
+use Rattle.gj_lex.specs.Parts.{IsFaultOf}
+use Rattle.gj_lex.proofs.PartLaws.{passed_on}
+use Rattle.gj_proof.specs.ProofGrammar.{term_rule, terms_part}
+use Rattle.gj_proof.proofs.WhereLaws.{shorter_behind_line}
+use Rattle.gj_proof.proofs.CutRead.{term_on, terms_end, term_at_fault}
+use Rattle.gj_proof.proofs.cut_rows.terms_at.Goals as goal
+
+pub loop-alloc-preserved : goal.loop-alloc-preserved
+loop-alloc-preserved c =
+    term_on _ _ _ _ _ _ c.loop-alloc.invariant (c.begins_with_word.ensures.0 c.loop-alloc-test.true) c.in_ok-term.ensures.found
+    c.in_ok-push.ensures.items
+
+pub loop-alloc-smaller : goal.loop-alloc-smaller
+loop-alloc-smaller c = shorter_behind_line term_rule _ _ c.in_ok-term.term c.in_ok-term.ensures.found
+
+pub returns-clause-found : goal.returns-clause-found
+returns-clause-found c = terms_end _ _ _ c.loop-alloc.invariant (λ is. false≢true (c.loop-alloc-test.ensures.1 is))
+
+pub returns-in_err-term-clause-fault : goal.returns-in_err-term-clause-fault
+returns-in_err-term-clause-fault c =
+    let p = err_from_is_err_and c.from_residual.result c.from_residual.ensures.1 in
+    passed_on (IsFaultOf (terms_part []) c.args.text.now) _ _ _ p.1 p.2
+    (term_at_fault _ _ _ _ c.loop-alloc.invariant (c.begins_with_word.ensures.0 c.loop-alloc-test.true) c.in_err-term.ensures.fault)

@@ -1,0 +1,241 @@
+//! The lines of cuts, read.
+ghost use Rattle.std.specs.Prelude.{◌≡◌, ◌↔◌, [], ◌∷◌, ℕ, List, codes, IfOk, IfErr, IfSome, IfNone, IsTrue};
+ghost use Rattle.gj_frac.specs.declared.Frac.{Frac};
+ghost use Rattle.gj_lex.specs.Name.{IsName};
+ghost use Rattle.gj_lex.specs.NumberText.{fraction_text};
+ghost use Rattle.gj_lex.specs.Words.{word_texts};
+ghost use Rattle.gj_lex.specs.Parts.{line_part, IsFaultOf};
+ghost use Rattle.gj_lex.specs.declared.spelling.Spelling.TheVariants.{Strict};
+ghost use Rattle.gj_lex.specs.declared.reason.Reason.TheVariants.{Form, Number};
+ghost use Rattle.gj_proof.specs.ProofText.{reason_word};
+ghost use Rattle.gj_proof.specs.ProofGrammar.{IsFraction, rule_part, head_words, BreaksHead, head_rule, term_words, BreaksTerm, term_rule, terms_part, row_part, rows_part};
+ghost use Rattle.gj_proof.specs.LineFaults.{IsRefusedFor, texts_of_head};
+ghost use Rattle.gj_proof.specs.declared.cut.SkipReason.{SkipReason};
+ghost use Rattle.gj_proof.specs.declared.cut_rows.RowKind.{RowKind};
+
+use crate::begins::{begins_with_line, begins_with_word};
+use crate::cut::{CutLine, CutRule, CutTerm, SkipReason};
+use crate::fields::{number_of, three_fields_of, two_fields_of};
+use gj_frac::Frac;
+use gj_lex::{Name, NameFault, PartFault, Reason, Spelling, line_at, words_at};
+use gj_lines::function_at;
+use gj_shape::List;
+use std::alloc::{AllocError, Global};
+
+/// What the first line of a row tells.
+#[derive(Clone, Copy, Debug, PartialEq, Eq)]
+pub(crate) enum RowKind {
+    /// The terms of its cut follow.
+    WithCut,
+    /// It is passed over.
+    Skipped(SkipReason),
+}
+
+/// The first line of a row.
+#[derive(Debug, Drop)]
+pub(crate) struct RowHead {
+    pub kind: RowKind,
+    /// The name of the basic variable.
+    pub name: Name,
+    /// The right side.
+    pub right: Frac,
+}
+
+/// The words of the first line of a row that differ from line to line.
+#[derive(Clone, Copy, Debug)]
+pub(crate) struct HeadWords<'a> {
+    pub kind: RowKind,
+    pub name: &'a [u8],
+    pub right: &'a [u8],
+}
+
+/// Why a line is not read.
+#[derive(Debug, Drop)]
+pub(crate) enum LineFault {
+    /// It is refused for this reason.
+    Broken(Reason),
+    /// There was no memory.
+    Memory(AllocError),
+}
+
+// ---- the rule
+
+/// The rule that the next lines tell, and what follows them: the line `rule gmic`, or the lines of a function.
+pub(crate) fn rule_at(alloc: Global, text: &[u8]) -> Result<(CutRule, &[u8]), PartFault>
+    ensures found { IfOk result (λ r. rule_part.Reads text.now r.0 r.1.now) }
+    ensures fault { IfErr result (IsFaultOf rule_part text.now) }
+{
+    if begins_with_line(text, b"rule gmic") {
+        let rest = words_at(Spelling::Strict, text, b"rule gmic")?;
+        return Ok((CutRule::Gmic, rest));
+    }
+    let (shape, rest) = function_at(alloc, Spelling::Strict, text)?;
+    Ok((CutRule::Table(shape), rest))
+}
+
+// ---- rows
+
+/// The rows up to a line `end`, and that line with what follows it.
+pub(crate) fn rows_at(alloc: Global, text: &[u8]) -> Result<(Vec<CutLine>, &[u8]), PartFault>
+    ensures found { IfOk result (λ r. (rows_part []).Reads text.now r.0.items r.1.now) }
+    ensures fault { IfErr result (IsFaultOf (rows_part []) text.now) }
+{
+    let mut rows = Vec::new(alloc);
+    let mut rest = text;
+    while !begins_with_line(rest, b"end") {
+        let (row, behind) = row_at(alloc, rest)?;
+        rows.push(row)?;
+        rest = behind;
+    }
+    Ok((rows, rest))
+}
+
+/// The row in the next lines, and what follows them.
+fn row_at(alloc: Global, text: &[u8]) -> Result<(CutLine, &[u8]), PartFault>
+    ensures found { IfOk result (λ r. row_part.Reads text.now r.0 r.1.now) }
+    ensures fault { IfErr result (IsFaultOf row_part text.now) }
+{
+    let (head, rest) = head_at(alloc, text)?;
+    match head.kind {
+        RowKind::WithCut => {
+            let (terms, rest) = terms_at(alloc, rest)?;
+            Ok((CutLine::Cut(head.name, head.right, List::of(terms)), rest))
+        }
+        RowKind::Skipped(reason) => Ok((CutLine::Skip(head.name, head.right, reason), rest)),
+    }
+}
+
+/// What the first line of a row tells, and what follows the line.
+fn head_at(alloc: Global, text: &[u8]) -> Result<(RowHead, &[u8]), PartFault>
+    ensures found { IfOk result (λ r. (line_part Strict head_rule).Reads text.now r.0 r.1.now) }
+    ensures fault { IfErr result (IsFaultOf (line_part Strict head_rule) text.now) }
+{
+    let line = line_at(Spelling::Strict, text)?;
+    match head_in(alloc, line.bytes) {
+        Ok(head) => Ok((head, line.rest)),
+        Err(LineFault::Broken(reason)) => Err(PartFault::at(line.start, reason)),
+        Err(LineFault::Memory(error)) => Err(PartFault::Memory(error)),
+    }
+}
+
+/// What the line tells, where it is the first of a row.
+fn head_in(alloc: Global, line: &[u8]) -> Result<RowHead, LineFault>
+    ensures found { IfOk result (head_rule.Spells (word_texts line.now)) }
+    ensures fault { IfErr result (IsRefusedFor (BreaksHead (word_texts line.now))) }
+{
+    let Some(words) = head_words(line) else {
+        return Err(LineFault::Broken(Reason::Form));
+    };
+    let name = name_of(alloc, words.name)?;
+    match number_of(words.right) {
+        Ok(right) => Ok(RowHead {
+            kind: words.kind,
+            name,
+            right,
+        }),
+        Err(reason) => Err(LineFault::Broken(reason)),
+    }
+}
+
+/// The words of the line, where they are of the first line of a row.
+fn head_words(line: &[u8]) -> Option<HeadWords<'_>>
+    ensures found { IfSome result (λ w. word_texts line.now ≡ texts_of_head w) }
+    ensures none { IfNone result ((kind : RowKind) (name right : List ℕ) →
+        word_texts line.now ≡ head_words kind name right → ⊥) }
+{
+    if let Some((name, right)) = two_fields_of(line, b"cut") {
+        return Some(HeadWords {
+            kind: RowKind::WithCut,
+            name,
+            right,
+        });
+    }
+    let (name, right, word) = three_fields_of(line, b"skip")?;
+    let reason = skip_reason(word)?;
+    Some(HeadWords {
+        kind: RowKind::Skipped(reason),
+        name,
+        right,
+    })
+}
+
+/// The reason that the word names.
+fn skip_reason(word: &[u8]) -> Option<SkipReason>
+    ensures found { IfSome result (λ r. word.now ≡ reason_word r) }
+    ensures none { IfNone result ((r : SkipReason) → word.now ≡ reason_word r → ⊥) }
+{
+    if word == b"integral".as_slice() {
+        return Some(SkipReason::Integral);
+    }
+    if word == b"other".as_slice() {
+        return Some(SkipReason::Other);
+    }
+    None
+}
+
+// ---- terms
+
+/// The terms in the next lines, as long as these begin with `term`, and what follows them.
+fn terms_at(alloc: Global, text: &[u8]) -> Result<(Vec<CutTerm>, &[u8]), PartFault>
+    ensures found { IfOk result (λ r. (terms_part []).Reads text.now r.0.items r.1.now) }
+    ensures fault { IfErr result (IsFaultOf (terms_part []) text.now) }
+{
+    let mut terms = Vec::new(alloc);
+    let mut rest = text;
+    while begins_with_word(rest, b"term") {
+        let (term, behind) = term_at(alloc, rest)?;
+        terms.push(term)?;
+        rest = behind;
+    }
+    Ok((terms, rest))
+}
+
+/// The term in the next line, and what follows the line.
+fn term_at(alloc: Global, text: &[u8]) -> Result<(CutTerm, &[u8]), PartFault>
+    ensures found { IfOk result (λ r. (line_part Strict term_rule).Reads text.now r.0 r.1.now) }
+    ensures fault { IfErr result (IsFaultOf (line_part Strict term_rule) text.now) }
+{
+    let line = line_at(Spelling::Strict, text)?;
+    match term_in(alloc, line.bytes) {
+        Ok(term) => Ok((term, line.rest)),
+        Err(LineFault::Broken(reason)) => Err(PartFault::at(line.start, reason)),
+        Err(LineFault::Memory(error)) => Err(PartFault::Memory(error)),
+    }
+}
+
+/// The term of the line.
+fn term_in(alloc: Global, line: &[u8]) -> Result<CutTerm, LineFault>
+    ensures found { IfOk result (term_rule.Spells (word_texts line.now)) }
+    ensures fault { IfErr result (IsRefusedFor (BreaksTerm (word_texts line.now))) }
+{
+    let Some((word, entry, cut)) = three_fields_of(line, b"term") else {
+        return Err(LineFault::Broken(Reason::Form));
+    };
+    let name = name_of(alloc, word)?;
+    match numbers_of(entry, cut) {
+        Ok((entry, cut)) => Ok(CutTerm { name, entry, cut }),
+        Err(reason) => Err(LineFault::Broken(reason)),
+    }
+}
+
+/// The two fractions that the words spell.
+fn numbers_of(first: &[u8], second: &[u8]) -> Result<(Frac, Frac), Reason>
+    ensures found { IfOk result (λ r. (first.now ≡ fraction_text r.0) × (second.now ≡ fraction_text r.1)) }
+    ensures fault { IfErr result (λ e. (e ≡ Number) × (IsFraction first.now × IsFraction second.now → ⊥)) }
+{
+    let x = number_of(first)?;
+    let y = number_of(second)?;
+    Ok((x, y))
+}
+
+/// The name that the word is.
+fn name_of(alloc: Global, word: &[u8]) -> Result<Name, LineFault>
+    ensures found { IfOk result (λ name. (name ≡ word.now) × IsName word.now) }
+    ensures fault { IfErr result (IsRefusedFor (λ e. (e ≡ Form) × (IsName word.now → ⊥))) }
+{
+    match Name::new(alloc, word) {
+        Ok(name) => Ok(name),
+        Err(NameFault::Form) => Err(LineFault::Broken(Reason::Form)),
+        Err(NameFault::Memory(error)) => Err(LineFault::Memory(error)),
+    }
+}

@@ -1,0 +1,104 @@
+//! The lines of cuts, printed.
+ghost use Rattle.std.specs.Prelude.{◌≡◌, ◌++◌, ℕ, List, codes, flat_map, OnOk};
+ghost use Rattle.gj_lex.specs.NumberText.{fraction_text};
+ghost use Rattle.gj_proof.specs.ProofText.{AreSubjectLines, subject_of_rule, reason_word, row_line, term_line, terms_of};
+ghost use Rattle.gj_proof.specs.CutTexts.{row_text};
+
+use crate::cut::{CutLine, CutRule, CutTerm, SkipReason};
+use gj_frac::Frac;
+use gj_lex::{Name, print_frac};
+use gj_lines::{push_fraction_line, push_function_lines};
+use std::alloc::{AllocError, Global};
+
+/// Appends the lines of a rule: `rule gmic`, or those of its function.
+pub(crate) fn push_rule_lines(
+    alloc: Global,
+    out: &mut Vec<u8>,
+    rule: &CutRule,
+) -> Result<(), AllocError>
+    ensures { OnOk result ((lines : List ℕ) × AreSubjectLines (subject_of_rule rule.now) lines
+        × (out.new.items ≡ out.old.items ++ lines)) }
+{
+    match rule {
+        CutRule::Gmic => out.extend_from_slice(b"rule gmic\n"),
+        CutRule::Table(shape) => push_function_lines(alloc, out, shape),
+    }
+}
+
+/// Appends the lines of all rows, each with its terms.
+pub(crate) fn push_rows(
+    alloc: Global,
+    out: &mut Vec<u8>,
+    rows: &[CutLine],
+) -> Result<(), AllocError>
+    ensures { OnOk result (out.new.items ≡ out.old.items ++ flat_map row_text rows.now) }
+{
+    for row in rows {
+        push_row(alloc, out, row)?;
+    }
+    Ok(())
+}
+
+/// Appends the lines of a row.
+fn push_row(alloc: Global, out: &mut Vec<u8>, row: &CutLine) -> Result<(), AllocError>
+    ensures { OnOk result (out.new.items ≡ out.old.items ++ row_text row.now) }
+{
+    match row {
+        CutLine::Cut(name, right, terms) => {
+            push_named(alloc, out, b"cut ", name, *right)?;
+            out.push(b'\n')?;
+            push_terms(alloc, out, terms.as_slice())
+        }
+        CutLine::Skip(name, right, reason) => {
+            push_named(alloc, out, b"skip ", name, *right)?;
+            out.extend_from_slice(b" ")?;
+            out.extend_from_slice(reason_word(*reason))?;
+            out.push(b'\n')?;
+            Ok(())
+        }
+    }
+}
+
+/// The word for why a row has no cut.
+fn reason_word(reason: SkipReason) -> &'static [u8]
+    ensures { result.now ≡ reason_word reason }
+{
+    match reason {
+        SkipReason::Integral => b"integral",
+        SkipReason::Other => b"other",
+    }
+}
+
+/// Appends the lines of terms.
+fn push_terms(alloc: Global, out: &mut Vec<u8>, terms: &[CutTerm]) -> Result<(), AllocError>
+    ensures { OnOk result (out.new.items ≡ out.old.items ++ flat_map term_line terms.now) }
+{
+    for term in terms {
+        push_term(alloc, out, term)?;
+    }
+    Ok(())
+}
+
+/// Appends the line of a term.
+fn push_term(alloc: Global, out: &mut Vec<u8>, term: &CutTerm) -> Result<(), AllocError>
+    ensures { OnOk result (out.new.items ≡ out.old.items ++ term_line term.now) }
+{
+    push_named(alloc, out, b"term ", &term.name, term.entry)?;
+    push_fraction_line(alloc, out, b" ", term.cut)
+}
+
+/// Appends a word, a name, a space and a fraction.
+fn push_named(
+    alloc: Global,
+    out: &mut Vec<u8>,
+    word: &[u8],
+    name: &Name,
+    x: Frac,
+) -> Result<(), AllocError>
+    ensures { OnOk result (out.new.items ≡ out.old.items ++ (word.now ++ name.now ++ codes " " ++ fraction_text x)) }
+{
+    out.extend_from_slice(word)?;
+    out.extend_from_slice(name.bytes())?;
+    out.extend_from_slice(b" ")?;
+    print_frac(alloc, out, x)
+}
