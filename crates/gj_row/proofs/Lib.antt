@@ -1,0 +1,10 @@
+pub mod CsvRecords
+pub mod Lists
+pub mod Names
+pub mod SpelledNumbers
+pub mod RowNumbers
+pub mod RowsRead
+pub mod RowWords
+pub mod HeaderWords
+pub mod Entries
+pub mod Reasons

@@ -1,0 +1,15 @@
+-- What a fault names.
+use Rattle.std.proofs.Common.{ℕ}
+use Rattle.gj_row.specs.declared.faults.RowReason.{RowReason}
+use Rattle.gj_row.specs.declared.faults.RecordFault.{RecordFault}
+use Rattle.gj_row.specs.declared.faults.RecordFault.TheVariants.{Refused, Memory}
+use Rattle.gj_row.specs.Reading.{NamesReason, NamesRecord, fault_in_record}
+
+pub names_weaker : (P Q : RowReason → Type 0) (fault : RecordFault) → ((e : RowReason) → P e → Q e) → NamesReason P fault → NamesReason Q fault
+names_weaker P Q (Refused e) f p = f e p
+names_weaker P Q (Memory a) f p = tt
+
+pub names_record : (P : RowReason → Type 0) (Q : ℕ → RowReason → Type 0) (fault : RecordFault) (n : ℕ) → ((e : RowReason) → P e → Q n e) →
+    NamesReason P fault → NamesRecord Q (fault_in_record fault n)
+names_record P Q (Refused e) n f p = f e p
+names_record P Q (Memory a) n f p = tt

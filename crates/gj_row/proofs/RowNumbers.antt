@@ -1,0 +1,183 @@
+-- The numbers of a row, one after the other.
+use Rattle.std.proofs.Common.{◌≡◌, ℕ, ◌+◌, ◌*◌, ◌<◌, ◌≤◌, List, [], ◌∷◌, ◌++◌, All, true, false, length, unsigned_abs, refl, sym, ap, subst, ◌∙◌, append_assoc, inl, inr, arith}
+use Rattle.std.specs.List.{AllZip}
+use Rattle.std.specs.Int.{◌∣◌}
+use Rattle.std.proofs.Math.Nat.{one-dvd}
+use Rattle.std.proofs.lemmas.Nat.Gcd.{dvd_trans}
+use Rattle.std.proofs.lemmas.List.{append-nil, length-append, length_push}
+use Rattle.std.proofs.lemmas.List.Elements.{All-nil, All-head, All-push}
+use Rattle.std.proofs.lemmas.Slice.Zip.{AllZip-long}
+use Rattle.indexmap.proofs.SetLemmas.{AllZip-push}
+use Rattle.gj_frac.specs.declared.Frac.{Frac}
+use Rattle.gj_frac.specs.Fraction.{denominator}
+use Rattle.gj_lex.specs.SpelledNumbers.{IsFractionWord}
+use Rattle.gj_lex.specs.declared.spelling.Spelling.TheVariants.{Lenient}
+use Rattle.gj_shape.specs.Given.{IsCommonDenominator, HasCommonDenominator}
+use Rattle.gj_shape.proofs.LeastDenominator.{denominator_some, Divides}
+use Rattle.gj_tools.proofs.Divisors.{lcm_positive}
+use Rattle.gj_tools.proofs.Lists.{All-front, All-back}
+use Rattle.gj_row.specs.TableauLimits.{IsSmall, AreWithinLimits}
+use Rattle.gj_row.specs.TableauText.{SpellsEntry, SpellNumbers, is_zero, entry_at, entries_from}
+use Rattle.gj_row.specs.FirstFault.{BeginRow, BreaksNumber, HasNumberFault}
+use Rattle.gj_row.specs.Reading.{Extends, HasNoCommon, HasRead, StopsNumber, StopsEntry}
+use Rattle.gj_row.specs.declared.tableau.Entry.{Entry}
+use Rattle.gj_row.specs.declared.faults.RowReason.{RowReason}
+use Rattle.gj_row.specs.declared.faults.RowReason.TheVariants.{Header, Fields, Columns, Rows, Name, Twice, Number, Large, Fine, Entries}
+use Rattle.gj_row.proofs.SpelledNumbers.{entry_one}
+
+-- ---- one more entry
+
+-- its place among the entries that are not 0
+pub entries_with : (c : ℕ) (xs : List Frac) (x : Frac) → entries_from c (xs ++ x ∷ []) ≡ entries_from c xs ++ entry_at (c + length xs) x
+entries_with c [] x = append-nil (entry_at c x) ∙ ap (λ n. entry_at n x) (omega arith)
+entries_with c (y ∷ xs) x =
+    let place : c + 1 + length xs ≡ c + length (y ∷ xs) = omega arith in
+    ap (λ l. entry_at c y ++ l) (entries_with (c + 1) xs x ∙ ap (λ n. entries_from (c + 1) xs ++ entry_at n x) place)
+    ∙ sym (append_assoc (entry_at c y) (entries_from (c + 1) xs) (entry_at (c + length (y ∷ xs)) x))
+
+pub numbers_with : (ws : List (List ℕ)) (right : Frac) (xs : List Frac) (w : List ℕ) (x : Frac) → SpellNumbers ws (right ∷ xs) →
+    SpellsEntry w x → SpellNumbers (ws ++ w ∷ []) (right ∷ (xs ++ x ∷ []))
+numbers_with [] right xs w x h k = absurd h
+numbers_with (v ∷ ws) right xs w x h k = (h.0, AllZip-push SpellsEntry ws xs w x h.1 k)
+
+pub numbers_long : (ws : List (List ℕ)) (right : Frac) (xs : List Frac) → SpellNumbers ws (right ∷ xs) → length ws ≡ length xs + 1
+numbers_long [] right xs h = absurd h
+numbers_long (v ∷ ws) right xs h = let e = AllZip-long SpellsEntry ws xs h.1 in omega arith
+
+-- ---- the least common denominator
+
+-- numbers within the limits, of which m is the least common denominator
+pub record AreOver (xs : List Frac) (m : ℕ) : Type 0 where
+  pub small : All IsSmall xs
+  pub low : 1 ≤ m
+  pub high : m < 2147483648
+  pub common : IsCommonDenominator xs m
+  pub least : (c : ℕ) → IsCommonDenominator xs c → m ∣ c
+
+pub over_none : AreOver [] 1
+over_none = record {
+  small = All-nil IsSmall;
+  low = omega arith;
+  high = omega arith;
+  common = All-nil (Divides 1);
+  least = λ c h. one-dvd c;
+}
+
+pub over_next : (xs : List Frac) (x : Frac) (scale m : ℕ) → AreOver xs scale → Extends scale x m → AreOver (xs ++ x ∷ []) m
+over_next xs x scale m h next = record {
+  small = All-push IsSmall xs x h.small next.small;
+  low = lcm_positive scale (unsigned_abs (denominator x)) m next.least h.low (denominator_some x);
+  high = next.high;
+  common = All-push (Divides m) xs x (λ k d l. dvd_trans _ (h.common k d l) next.least.0) next.least.1;
+  least = λ c all. next.least.2 c (h.least c (All-front (Divides c) xs (x ∷ []) all))
+      (All-head (Divides c) x [] (All-back (Divides c) xs (x ∷ []) all));
+}
+
+pub over_within : (xs : List Frac) (m : ℕ) → AreOver xs m → AreWithinLimits xs
+over_within xs m h = record { small = h.small; common = (m, h.low, h.high, h.common) }
+
+pub no_common : (xs : List Frac) (x : Frac) (scale : ℕ) → AreOver xs scale → HasNoCommon scale x → HasCommonDenominator (xs ++ x ∷ []) → ⊥
+no_common xs x scale h none d =
+    none d.0 d.1 d.2 (h.least d.0 (All-front (Divides d.0) xs (x ∷ []) d.3))
+    (All-head (Divides d.0) x [] (All-back (Divides d.0) xs (x ∷ []) d.3))
+
+over_read : (used : ℕ) (words : List (List ℕ)) (right : Frac) (scale : ℕ) (entries : List Entry) →
+    (h : HasRead used words right scale entries) → AreOver (right ∷ h.values) scale
+over_read used words right scale entries h =
+    record { small = h.begins.within.small; low = h.low; high = h.high; common = h.common; least = h.least }
+
+-- ---- what has been read
+
+read_over : (used : ℕ) (words : List (List ℕ)) (right : Frac) (values : List Frac) (scale : ℕ) (entries : List Entry) →
+    SpellNumbers words (right ∷ values) → AreOver (right ∷ values) scale → entries ≡ entries_from 0 values →
+    used + length entries ≤ 100000 → HasRead used words right scale entries
+read_over used words right values scale entries spelled over is few = record {
+  values = values;
+  begins = record {
+    spelled = spelled;
+    within = over_within (right ∷ values) scale over;
+    few = let e : length entries ≡ length (entries_from 0 values) = ap length is in omega arith;
+  };
+  low = over.low;
+  high = over.high;
+  common = over.common;
+  least = over.least;
+  entries_are = is;
+}
+
+-- the right side
+pub right_read : (used : ℕ) (w : List ℕ) (x : Frac) (m : ℕ) → used ≤ 100000 → IsFractionWord Lenient w x → Extends 1 x m →
+    HasRead used (w ∷ []) x m []
+right_read used w x m few spelled next = read_over used (w ∷ []) x [] m [] (spelled, tt) (over_next [] x 1 m over_none next) refl (omega arith)
+
+-- one more entry
+pub entry_read : (used : ℕ) (words : List (List ℕ)) (right : Frac) (scale : ℕ) (entries : List Entry) (column : ℕ) (w : List ℕ)
+    (x : Frac) (m : ℕ) (new : List Entry) → HasRead used words right scale entries → column + 1 ≡ length words → SpellsEntry w x →
+    Extends scale x m → new ≡ entries ++ entry_at column x → used + length new ≤ 100000 →
+    HasRead used (words ++ w ∷ []) right m new
+entry_read used words right scale entries column w x m new h place spelled next is few =
+    let values = h.values in
+    let long = numbers_long words right values h.begins.spelled in
+    let at : column ≡ 0 + length values = omega arith in
+    read_over used (words ++ w ∷ []) right (values ++ x ∷ []) m new (numbers_with words right values w x h.begins.spelled spelled)
+    (over_next (right ∷ values) x scale m (over_read used words right scale entries h) next)
+    (is ∙ ap (λ l. l ++ entry_at column x) h.entries_are ∙ ap (λ n. entries_from 0 values ++ entry_at n x) at
+      ∙ sym (entries_with 0 values x)) few
+
+-- ---- what stops the row
+
+pub right_stopped : (used : ℕ) (w : List ℕ) (back : List (List ℕ)) (words : List (List ℕ)) (e : RowReason) → used ≤ 100000 →
+    words ≡ w ∷ back → StopsNumber (IsFractionWord Lenient w) 1 e → HasNumberFault used words e
+right_stopped used w back words e few place stops = record {
+  front = [];
+  word = w;
+  back = back;
+  place = place;
+  xs = [];
+  good = record { spelled = tt; within = over_within [] 1 over_none; few = omega arith };
+  breaks = breaks e stops;
+}
+  where
+    breaks : (e : RowReason) → StopsNumber (IsFractionWord Lenient w) 1 e → BreaksNumber used [] w e
+    breaks Number s = s
+    breaks Large s = s
+    breaks Fine s = (s.0, s.1, s.2, no_common [] s.0 1 over_none s.3)
+    breaks Header s = s
+    breaks Fields s = s
+    breaks Columns s = s
+    breaks Rows s = s
+    breaks Name s = s
+    breaks Twice s = s
+    breaks Entries s = absurd s
+
+pub entry_stopped : (used : ℕ) (front : List (List ℕ)) (right : Frac) (scale : ℕ) (entries : List Entry) (w : List ℕ)
+    (back words : List (List ℕ)) (e : RowReason) → HasRead used front right scale entries → words ≡ front ++ w ∷ back →
+    StopsEntry (SpellsEntry w) scale (used + length entries) e → HasNumberFault used words e
+entry_stopped used front right scale entries w back words e h place stops = record {
+  front = front;
+  word = w;
+  back = back;
+  place = place;
+  xs = right ∷ h.values;
+  good = h.begins;
+  breaks = breaks e stops;
+}
+  where
+    over : AreOver (right ∷ h.values) scale
+    over = over_read used front right scale entries h
+    breaks : (e : RowReason) → StopsEntry (SpellsEntry w) scale (used + length entries) e → BreaksNumber used (right ∷ h.values) w e
+    breaks Number s = s
+    breaks Large s = s
+    breaks Fine s = (s.0, s.1, s.2, no_common (right ∷ h.values) s.0 scale over s.3)
+    breaks Entries s =
+        let x = s.0 in
+        let count : length (entries_from 0 (h.values ++ x ∷ [])) ≡ length entries + 1 =
+        ap length (entries_with 0 h.values x ∙ ap (λ l. entries_from 0 h.values ++ l) (entry_one (0 + length h.values) x s.4)
+          ∙ ap (λ l. l ++ record { column = 0 + length h.values; value = x } ∷ []) (sym h.entries_are)) ∙ length_push entries _ in
+        (x, s.2, over_within (right ∷ (h.values ++ x ∷ [])) s.1 (over_next (right ∷ h.values) x scale s.1 over s.3), omega (arith, s.5))
+    breaks Header s = s
+    breaks Fields s = s
+    breaks Columns s = s
+    breaks Rows s = s
+    breaks Name s = s
+    breaks Twice s = s

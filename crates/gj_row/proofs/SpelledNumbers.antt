@@ -1,0 +1,62 @@
+-- What words spell as numbers, and what stops a row.
+use Rattle.std.proofs.Common.{◌≡◌, ℕ, ◌==◌, true, false, List, [], ◌∷◌, refl, length, Option, Some, None, Result, Ok, Err, IfSome, IfNone, IfErr, sym, ap, subst, ◌∙◌, inl, inr, arith}
+use Rattle.std.proofs.lemmas.Bool.Decides.{nat_tests}
+use Rattle.gj_frac.specs.declared.Frac.{Frac}
+use Rattle.gj_lex.specs.SpelledNumbers.{IsFractionWord}
+use Rattle.gj_lex.specs.declared.spelling.Spelling.TheVariants.{Lenient}
+use Rattle.gj_row.specs.TableauText.{SpellsEntry, is_zero, entry_at}
+use Rattle.gj_row.specs.Reading.{StopsAt, StopsNumber}
+use Rattle.gj_row.specs.declared.faults.RowReason.{RowReason}
+use Rattle.gj_row.specs.declared.faults.RowReason.TheVariants.{Header, Fields, Columns, Rows, Name, Twice, Number, Large, Fine, Entries}
+
+-- a word that is not empty and spells no fraction spells no entry
+pub no_entry : (word : List ℕ) (o : Option Frac) → false ≡ (length word == 0) →
+    IfNone o ((x : Frac) → IsFractionWord Lenient word x → ⊥) → IfNone o ((x : Frac) → SpellsEntry word x → ⊥)
+no_entry word (Some x) some none = tt
+no_entry word None some none = none_spelled
+  where
+    none_spelled : (x : Frac) → SpellsEntry word x → ⊥
+    none_spelled x (inl h) = let e : length word ≡ 0 = ap length h.0 in absurd (grind arith)
+    none_spelled x (inr h) = none x h
+
+abbrev value_or : {A : Type 0} → A → Option A → A
+value_or d None = d
+value_or d (Some x) = x
+
+same_some : {A : Type 0} (x y : A) → Some x ≡ Some y → x ≡ y
+same_some x y e = ap (value_or x) e
+
+found_here : (P : Frac → Type 0) (o : Option Frac) (x : Frac) → o ≡ Some x → IfSome o P → P x
+found_here P None x e found = cc e
+found_here P (Some y) x e found = subst P (same_some y x e) found
+
+-- what stops the row at what was read stops it at the word
+stops_by : (P : Frac → Type 0) (scale : ℕ) (o : Option Frac) (e : RowReason) → IfSome o P → IfNone o ((x : Frac) → P x → ⊥) →
+    StopsAt scale o e → StopsNumber P scale e
+stops_by P scale o Number found none h = missing o none h
+  where
+    missing : (o : Option Frac) → IfNone o ((x : Frac) → P x → ⊥) → o ≡ None → (x : Frac) → P x → ⊥
+    missing None none e = none
+    missing (Some x) none e = cc e
+stops_by P scale o Large found none h = (h.0, found_here P o h.0 h.1 found, h.2)
+stops_by P scale o Fine found none h = (h.0, found_here P o h.0 h.1 found, h.2, h.3)
+stops_by P scale o Header found none h = h
+stops_by P scale o Fields found none h = h
+stops_by P scale o Columns found none h = h
+stops_by P scale o Rows found none h = h
+stops_by P scale o Name found none h = h
+stops_by P scale o Twice found none h = h
+stops_by P scale o Entries found none h = h
+
+pub stops_number : (P : Frac → Type 0) (scale : ℕ) (o : Option Frac) (r : Result (Frac × ℕ) RowReason) → IfSome o P →
+    IfNone o ((x : Frac) → P x → ⊥) → IfErr r (StopsAt scale o) → IfErr r (StopsNumber P scale)
+stops_number P scale o (Ok x) found none h = tt
+stops_number P scale o (Err e) found none h = stops_by P scale o e found none h
+
+-- ---- entries that are not 0
+
+pub entry_none : (column : ℕ) (x : Frac) → is_zero x ≡ true → entry_at column x ≡ []
+entry_none column x e = rw e refl
+
+pub entry_one : (column : ℕ) (x : Frac) → is_zero x ≡ false → entry_at column x ≡ record { column = column; value = x } ∷ []
+entry_one column x e = rw e refl

@@ -1,0 +1,4 @@
+pub mod TableauLimits
+pub mod TableauText
+pub mod FirstFault
+pub mod Reading

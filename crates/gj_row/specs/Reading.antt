@@ -1,0 +1,157 @@
+-- What the steps of the reader answer (own).
+use Rattle.std.specs.Prelude.{ℕ, ◌≡◌, ◌+◌, ◌<◌, ◌≤◌, ◌^◌, false, List, [], ◌∷◌, ◌++◌, Option, Some, None, length, map, unsigned_abs, Vec}
+use Rattle.std.specs.Int.{◌∣◌}
+use Rattle.std.specs.Borrow.{Bor}
+use Rattle.csv.specs.Reading.{records, Reached, Ready, default_config, source_of, strip_bom, owned_rows_reader, owned_rows_left, reader_trim, reader_config, reader_state}
+use Rattle.csv.specs.Records.{Row as FieldRow, fields_of}
+use Rattle.csv.specs.declared.iter.ByteRecordsIntoIter.{ByteRecordsIntoIter}
+use Rattle.csv.specs.declared.parser.State.TheVariants as state
+use Rattle.csv.specs.declared.reader.Trim.TheVariants as trim
+use Rattle.gj_frac.specs.declared.Frac.{Frac}
+use Rattle.gj_frac.specs.Fraction.{denominator}
+use Rattle.gj_shape.specs.Given.{IsCommonDenominator}
+use Rattle.gj_tools.specs.Divisors.{IsLcm}
+use Rattle.gj_row.specs.TableauLimits.{IsSmall, IsWithinLimits}
+use Rattle.gj_row.specs.TableauText.{word_of, is_zero, SpellsRow, entries_from}
+use Rattle.gj_row.specs.FirstFault.{BeginRow}
+use Rattle.gj_row.specs.declared.tableau.Entry.{Entry}
+use Rattle.gj_row.specs.declared.tableau.Row.{Row}
+use Rattle.gj_row.specs.declared.faults.RowReason.{RowReason}
+use Rattle.gj_row.specs.declared.faults.RowReason.TheVariants.{Header, Fields, Columns, Rows, Name, Twice, Number, Large, Fine, Entries}
+use Rattle.gj_row.specs.declared.faults.RowFault.{RowFault}
+use Rattle.gj_row.specs.declared.faults.RowFault.TheVariants as row_fault
+use Rattle.gj_row.specs.declared.faults.RecordFault.{RecordFault}
+use Rattle.gj_row.specs.declared.faults.RecordFault.TheVariants as record_fault
+
+-- ---- faults
+
+-- the fault is want of memory
+abbrev pub IsMemoryFault : RowFault → Type 0
+IsMemoryFault (row_fault.Refused n e) = ⊥
+IsMemoryFault (row_fault.Memory a) = Unit {0}
+
+-- a refusal names a record and a reason of which this holds
+abbrev pub NamesRecord : (ℕ → RowReason → Type 0) → RowFault → Type 0
+NamesRecord P (row_fault.Refused n e) = P n e
+NamesRecord P (row_fault.Memory a) = Unit {0}
+
+-- a refusal names a reason of which this holds
+abbrev pub NamesReason : (RowReason → Type 0) → RecordFault → Type 0
+NamesReason P (record_fault.Refused e) = P e
+NamesReason P (record_fault.Memory a) = Unit {0}
+
+-- the fault of a text whose record with this number has it
+abbrev pub fault_in_record : RecordFault → ℕ → RowFault
+fault_in_record (record_fault.Refused e) n = row_fault.Refused n e
+fault_in_record (record_fault.Memory a) n = row_fault.Memory a
+
+-- ---- records
+
+-- the words in the fields of a record
+abbrev pub words_in : FieldRow → List (List ℕ)
+words_in fields = map word_of (fields_of fields)
+
+-- ---- numbers
+
+-- m is the least common denominator of numbers with the least common denominator `scale` and of x, which is within the limits
+pub record Extends (scale : ℕ) (x : Frac) (m : ℕ) : Type 0 where
+  pub small : IsSmall x
+  pub least : IsLcm scale (unsigned_abs (denominator x)) m
+  pub high : m < 2 ^ 31
+
+-- no number below 2^31 is a common denominator of such numbers and of x
+abbrev pub HasNoCommon : ℕ → Frac → Type 0
+HasNoCommon scale x = (m : ℕ) → 1 ≤ m → m < 2 ^ 31 → scale ∣ m → unsigned_abs (denominator x) ∣ m → ⊥
+
+-- why what was read cannot follow numbers with the least common denominator `scale`
+abbrev pub StopsAt : ℕ → Option Frac → RowReason → Type 0
+StopsAt scale number Number = number ≡ None
+StopsAt scale number Large = (x : Frac) × (number ≡ Some x) × (IsSmall x → ⊥)
+StopsAt scale number Fine = (x : Frac) × (number ≡ Some x) × IsSmall x × HasNoCommon scale x
+StopsAt scale number Header = ⊥
+StopsAt scale number Fields = ⊥
+StopsAt scale number Columns = ⊥
+StopsAt scale number Rows = ⊥
+StopsAt scale number Name = ⊥
+StopsAt scale number Twice = ⊥
+StopsAt scale number Entries = ⊥
+
+-- the same of a word that spells the numbers of which P holds
+abbrev pub StopsNumber : (Frac → Type 0) → ℕ → RowReason → Type 0
+StopsNumber P scale Number = (x : Frac) → P x → ⊥
+StopsNumber P scale Large = (x : Frac) × P x × (IsSmall x → ⊥)
+StopsNumber P scale Fine = (x : Frac) × P x × IsSmall x × HasNoCommon scale x
+StopsNumber P scale Header = ⊥
+StopsNumber P scale Fields = ⊥
+StopsNumber P scale Columns = ⊥
+StopsNumber P scale Rows = ⊥
+StopsNumber P scale Name = ⊥
+StopsNumber P scale Twice = ⊥
+StopsNumber P scale Entries = ⊥
+
+-- x is the first entry too many
+abbrev pub IsOneTooMany : (Frac → Type 0) → ℕ → ℕ → Type 0
+IsOneTooMany P scale count = (x : Frac) × (m : ℕ) × P x × Extends scale x m × (is_zero x ≡ false) × (100000 ≤ count)
+
+-- why a word cannot follow as an entry, behind so many entries that are not 0
+abbrev pub StopsEntry : (Frac → Type 0) → ℕ → ℕ → RowReason → Type 0
+StopsEntry P scale count Entries = IsOneTooMany P scale count
+StopsEntry P scale count Number = StopsNumber P scale Number
+StopsEntry P scale count Large = StopsNumber P scale Large
+StopsEntry P scale count Fine = StopsNumber P scale Fine
+StopsEntry P scale count Header = ⊥
+StopsEntry P scale count Fields = ⊥
+StopsEntry P scale count Columns = ⊥
+StopsEntry P scale count Rows = ⊥
+StopsEntry P scale count Name = ⊥
+StopsEntry P scale count Twice = ⊥
+
+-- numbers within the limits, whose least common denominator is `scale`, have been read from the words, with these entries that are not 0
+pub record HasRead (used : ℕ) (words : List (List ℕ)) (right : Frac) (scale : ℕ) (entries : List Entry) : Type 0 where
+  pub values : List Frac
+  pub begins : BeginRow used words (right ∷ values)
+  pub low : 1 ≤ scale
+  pub high : scale < 2 ^ 31
+  pub common : IsCommonDenominator (right ∷ values) scale
+  pub least : (c : ℕ) → IsCommonDenominator (right ∷ values) c → scale ∣ c
+  pub entries_are : entries ≡ entries_from 0 values
+
+-- ---- names
+
+-- the bytes of each name
+abbrev pub bytes_of : {A : Type 0} → List (Vec ℕ A) → List (List ℕ)
+bytes_of names = map (λ name. name.items) names
+
+-- ---- rows
+
+-- the words spell a row within its limits, behind rows with `used` entries and so many columns
+pub record ReadsRow (columns used : ℕ) (words : List (List ℕ)) (row : Row) : Type 0 where
+  pub spelled : SpellsRow columns words row
+  pub within : IsWithinLimits columns row
+  pub few : used + length row.entries ≤ 100000
+
+-- ---- the records of a text
+
+-- the bytes that are left of a text in memory
+abbrev pub bytes_left : Bor (List ℕ) → Option (List ℕ)
+bytes_left s = Some s.now
+
+-- the next record of the iterator is the one behind these records of the text
+pub record StandsBehind (text : List ℕ) (before : List (List (List ℕ))) (it : ByteRecordsIntoIter (Bor (List ℕ))) : Type 0 where
+  pub no_trim : reader_trim (owned_rows_reader it) ≡ trim.None
+  pub ready : Ready (owned_rows_reader it)
+  pub left : 0 < owned_rows_left it
+  pub config : reader_config (owned_rows_reader it) ≡ default_config
+  pub rest : List ℕ
+  pub source : source_of bytes_left (owned_rows_reader it) ≡ Some rest
+  pub reached : Reached default_config state.StartRecord (strip_bom text) before (reader_state (owned_rows_reader it)) rest
+
+-- the step gave the record that is the next one
+abbrev pub StepsOver : ByteRecordsIntoIter (Bor (List ℕ)) → FieldRow → ByteRecordsIntoIter (Bor (List ℕ)) → Type 0
+StepsOver old fields new =
+    (text : List ℕ) (before : List (List (List ℕ))) → StandsBehind text before old → StandsBehind text (before ++ fields_of fields ∷ []) new
+
+-- there is no next record
+abbrev pub IsAtEnd : ByteRecordsIntoIter (Bor (List ℕ)) → Type 0
+IsAtEnd it = (text : List ℕ) (before : List (List (List ℕ))) → StandsBehind text before it →
+    records default_config (strip_bom text) ≡ before

@@ -1,0 +1,52 @@
+-- What a tableau of simplex rows may be (own).
+use Rattle.std.specs.Prelude.{ℕ, pos, ◌≢◌, ◌<◌, ◌≤◌, ◌*◌, ◌^◌, List, ◌∷◌, ◌++◌, All, AllPairs, length, map, sum_by, unsigned_abs}
+use Rattle.std.specs.List.Sorted.{IsStrictlyIncreasing}
+use Rattle.gj_frac.specs.declared.Frac.{Frac}
+use Rattle.gj_frac.specs.Fraction.{numerator, denominator}
+use Rattle.gj_lex.specs.Name.{IsName}
+use Rattle.gj_shape.specs.Given.{HasCommonDenominator}
+use Rattle.gj_row.specs.declared.tableau.Entry.{Entry}
+use Rattle.gj_row.specs.declared.tableau.Row.{Row}
+use Rattle.gj_row.specs.declared.tableau.Tableau.{Tableau}
+
+-- at most 2^31 in absolute value
+abbrev pub IsSmall : Frac → Type 0
+IsSmall x = unsigned_abs (numerator x) ≤ 2 ^ 31 * unsigned_abs (denominator x)
+
+-- at most 2^31 in absolute value each, with a common denominator from 1 to 2^31 - 1
+pub record AreWithinLimits (numbers : List Frac) : Type 0 where
+  pub small : All IsSmall numbers
+  pub common : HasCommonDenominator numbers
+
+-- the right side and the entries that are not 0
+abbrev pub numbers_of : Row → List Frac
+numbers_of row = row.rhs ∷ map (λ e. e.value) row.entries
+
+-- a row of a tableau with so many columns: its numbers are within the limits, and its entries are those that are not 0, in the
+-- order of their columns
+pub record IsWithinLimits (columns : ℕ) (row : Row) : Type 0 where
+  pub numbers : AreWithinLimits (numbers_of row)
+  pub no_zero : All (λ e. numerator e.value ≢ pos 0) row.entries
+  pub ascending : IsStrictlyIncreasing (map (λ e. e.column) row.entries)
+  pub below : All (λ e. e.column < columns) row.entries
+
+-- the names of the columns, and then of the basic variables
+abbrev pub names_of : Tableau → List (List ℕ)
+names_of t = t.columns ++ map (λ row. row.basic) t.rows
+
+-- how many entries are not 0
+abbrev pub entry_count : Tableau → ℕ
+entry_count t = sum_by (λ row. length row.entries) t.rows
+
+-- names that all differ
+pub record AreNames (names : List (List ℕ)) : Type 0 where
+  pub valid : All IsName names
+  pub differ : AllPairs (λ a b. a ≢ b) names
+
+-- at most 10,000 columns, 10,000 rows and 100,000 entries that are not 0; all names differ; each row is within its limits
+pub record IsTableau (t : Tableau) : Type 0 where
+  pub few_columns : length t.columns ≤ 10000
+  pub few_rows : length t.rows ≤ 10000
+  pub few_entries : entry_count t ≤ 100000
+  pub names : AreNames (names_of t)
+  pub each_row : All (IsWithinLimits (length t.columns)) t.rows

@@ -1,0 +1,91 @@
+//! Record 1 of a tableau, and its names.
+ghost use Rattle.std.specs.Prelude.{◌≡◌, ◌<◌, ◌≤◌, ◌↔◌, ◌++◌, ◌∷◌, [], ℕ, List, Some, IfOk, IfErr, OnOk, IsTrue, length, slice_get};
+ghost use Rattle.csv.specs.Records.{fields_of};
+ghost use Rattle.gj_row.specs.TableauLimits.{AreNames};
+ghost use Rattle.gj_row.specs.TableauText.{header_of};
+ghost use Rattle.gj_row.specs.FirstFault.{BreaksName, IsNewName, HasHeaderFault};
+ghost use Rattle.gj_row.specs.Reading.{NamesReason, bytes_of, words_in};
+
+use crate::faults::{RecordFault, RowReason};
+use crate::fields::word_at;
+use csv::ByteRecord;
+use gj_lex::{Name, NameFault};
+use indexmap::IndexSet;
+use std::alloc::Global;
+
+/// The greatest number of columns.
+const MOST_COLUMNS: usize = 10_000;
+
+/// The names of the columns, as a list and as those that stand already.
+#[derive(Drop)]
+pub(crate) struct Header {
+    /// The names of the columns.
+    pub(crate) columns: Vec<Name>,
+    /// The bytes of all names so far, each once.
+    pub(crate) names: IndexSet<Vec<u8>>,
+}
+
+/// The names of the columns in record 1.
+pub(crate) fn header_in(alloc: Global, fields: &ByteRecord) -> Result<Header, RecordFault>
+    ensures begins { IfOk result (λ h. words_in fields.now ≡ header_of h.columns.items) }
+    ensures few { IfOk result (λ h. length h.columns.items ≤ 10000) }
+    ensures names { IfOk result (λ h. AreNames h.columns.items) }
+    ensures kept { IfOk result (λ h. bytes_of h.names.keys ≡ h.columns.items) }
+    ensures refused { IfErr result (NamesReason (λ e.
+        (rows : List (List (List ℕ))) → HasHeaderFault (words_in fields.now ∷ rows) e)) }
+{
+    if !begins_header(fields) {
+        return Err(RecordFault::Refused(RowReason::Header));
+    }
+    if fields.len() > MOST_COLUMNS + 2 {
+        return Err(RecordFault::Refused(RowReason::Columns));
+    }
+    let mut columns = Vec::new(alloc);
+    let mut names = IndexSet::new(alloc);
+    for place in 2..fields.len() {
+        match new_name(alloc, &mut names, word_at(fields, place)) {
+            Ok(name) => columns.push(name)?,
+            Err(fault) => return Err(fault),
+        }
+    }
+    Ok(Header { columns, names })
+}
+
+/// Whether the record begins with `basic` and `rhs`.
+fn begins_header(fields: &ByteRecord) -> bool
+    ensures { IsTrue result ↔ ((columns : List (List ℕ)) × (words_in fields.now ≡ header_of columns)) }
+{
+    has_word(fields, 0, b"basic") && has_word(fields, 1, b"rhs")
+}
+
+/// Whether this word is in the field at this place.
+fn has_word(fields: &ByteRecord, place: usize, word: &[u8]) -> bool
+    ensures { IsTrue result ↔ (slice_get (words_in fields.now) place ≡ Some word.now) }
+{
+    place < fields.len() && word_at(fields, place) == word
+}
+
+/// The name that the word is, where no name so far has its bytes; it is one of them from then on.
+///
+/// The reason is `Name` where the word is no name, and `Twice` where it stands already.
+pub(crate) fn new_name(
+    alloc: Global,
+    names: &mut IndexSet<Vec<u8>>,
+    word: &[u8],
+) -> Result<Name, RecordFault>
+    ensures name { IfOk result (λ name. name ≡ word.now) }
+    ensures new { OnOk result (IsNewName (bytes_of names.old.keys) word.now) }
+    ensures kept { OnOk result (bytes_of names.new.keys ≡ bytes_of names.old.keys ++ word.now ∷ []) }
+    ensures refused { IfErr result (NamesReason (BreaksName (bytes_of names.old.keys) word.now)) }
+{
+    let name = match Name::new(alloc, word) {
+        Ok(name) => name,
+        Err(NameFault::Form) => return Err(RecordFault::Refused(RowReason::Name)),
+        Err(NameFault::Memory(error)) => return Err(RecordFault::Memory(error)),
+    };
+    let bytes = Vec::from_slice(alloc, word)?;
+    if !names.insert(bytes)? {
+        return Err(RecordFault::Refused(RowReason::Twice));
+    }
+    Ok(name)
+}

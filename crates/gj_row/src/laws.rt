@@ -1,0 +1,17 @@
+//! Laws of tableau texts.
+ghost use Rattle.std.specs.Prelude.{◌≡◌, ℕ, List};
+ghost use Rattle.gj_row.specs.TableauText.{IsTableauText};
+ghost use Rattle.gj_row.specs.FirstFault.{IsFirstFault};
+ghost use Rattle.gj_row.specs.declared.tableau.Tableau.{Tableau};
+ghost use Rattle.gj_row.specs.declared.faults.RowReason.{RowReason};
+
+/// A text spells one tableau at most.
+pub fn one_tableau_for_a_text()
+    ensures { (text : List ℕ) (t s : Tableau) → IsTableauText text t → IsTableauText text s → t ≡ s }
+{}
+
+/// A text that is refused spells no tableau.
+pub fn no_fault_in_a_tableau_text()
+    ensures { (text : List ℕ) (t : Tableau) (number : ℕ) (reason : RowReason) → IsTableauText text t →
+        IsFirstFault text number reason → ⊥ }
+{}

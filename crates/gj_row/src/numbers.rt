@@ -1,0 +1,128 @@
+//! The numbers of a row.
+ghost use Rattle.std.specs.Prelude.{◌≡◌, ◌<◌, ◌≤◌, ◌+◌, ◌++◌, pos, Some, IfOk, IfErr, IfSome, IfNone, length, drop};
+ghost use Rattle.csv.specs.Records.{fields_of};
+ghost use Rattle.gj_frac.specs.declared.Frac.{Frac};
+ghost use Rattle.gj_frac.specs.Fraction.{IsRatio};
+ghost use Rattle.gj_lex.specs.SpelledNumbers.{IsFractionWord};
+ghost use Rattle.gj_lex.specs.declared.spelling.Spelling.{Spelling};
+ghost use Rattle.gj_row.specs.TableauText.{SpellsEntry, entry_at, is_zero};
+ghost use Rattle.gj_row.specs.FirstFault.{HasNumberFault};
+ghost use Rattle.gj_row.specs.Reading.{Extends, StopsNumber, StopsEntry, HasRead, NamesReason, words_in};
+
+use crate::faults::{RecordFault, RowReason};
+use crate::fields::word_at;
+use crate::limits::within;
+use crate::tableau::Entry;
+use csv::ByteRecord;
+use gj_frac::Frac;
+use gj_lex::{Spelling, fraction_of};
+use std::alloc::Global;
+
+/// The greatest number of entries of a tableau that are not 0.
+const MOST_ENTRIES: usize = 100_000;
+
+/// The right side and the entries of a row.
+#[derive(Drop)]
+pub(crate) struct Numbers {
+    /// The right side.
+    pub(crate) rhs: Frac,
+    /// The least common denominator of all numbers of the row.
+    pub(crate) scale: u32,
+    /// The entries that are not 0.
+    pub(crate) entries: Vec<Entry>,
+}
+
+/// The numbers that stand in the record behind the name, where the rows before it have `used` entries that are not 0.
+pub(crate) fn numbers_in(
+    alloc: Global,
+    fields: &ByteRecord,
+    used: usize,
+) -> Result<Numbers, RecordFault>
+    requires wide { 2 ≤ length (fields_of fields.now) }
+    requires narrow { length (fields_of fields.now) ≤ 10002 }
+    requires few { used ≤ 100000 }
+    ensures found { IfOk result (λ n. HasRead used (drop 1 (words_in fields.now)) n.rhs n.scale n.entries.items) }
+    ensures refused { IfErr result (NamesReason (HasNumberFault used (drop 1 (words_in fields.now)))) }
+{
+    let (rhs, right_scale) = match right_side(word_at(fields, 1)) {
+        Ok(right) => right,
+        Err(reason) => return Err(RecordFault::Refused(reason)),
+    };
+    let mut scale = right_scale;
+    let mut entries = Vec::new(alloc);
+    for place in 2..fields.len() {
+        let word = word_at(fields, place);
+        match with_entry(&mut entries, scale, used, (place - 2) as u32, word) {
+            Ok(multiple) => scale = multiple,
+            Err(fault) => return Err(fault),
+        }
+    }
+    Ok(Numbers {
+        rhs,
+        scale,
+        entries,
+    })
+}
+
+/// Adds the entry that the word spells for the column, unless it is 0, and gives the least common denominator with it.
+fn with_entry(
+    entries: &mut Vec<Entry>,
+    scale: u32,
+    used: usize,
+    column: u32,
+    word: &[u8],
+) -> Result<u32, RecordFault>
+    requires low { 0 < scale }
+    requires few { used + length entries.old.items ≤ 100000 }
+    ensures found { IfOk result (λ m. (x : Frac) × SpellsEntry word.now x × Extends scale x m
+        × (entries.new.items ≡ entries.old.items ++ entry_at column x) × (used + length entries.new.items ≤ 100000)) }
+    ensures refused { IfErr result (NamesReason (StopsEntry (SpellsEntry word.now) scale (used + length entries.old.items))) }
+{
+    let (x, multiple) = match entry(scale, word) {
+        Ok(read) => read,
+        Err(reason) => return Err(RecordFault::Refused(reason)),
+    };
+    if is_zero(x) {
+        return Ok(multiple);
+    }
+    if used + entries.len() >= MOST_ENTRIES {
+        return Err(RecordFault::Refused(RowReason::Entries));
+    }
+    entries.push(Entry { column, value: x })?;
+    Ok(multiple)
+}
+
+/// Whether the number is 0.
+fn is_zero(x: Frac) -> bool
+    ensures { result ≡ is_zero x }
+{
+    x.num().unsigned_abs() == 0
+}
+
+/// The right side that the word spells, and its denominator.
+fn right_side(word: &[u8]) -> Result<(Frac, u32), RowReason>
+    ensures found { IfOk result (λ r. IsFractionWord Spelling.Lenient word.now r.0 × Extends 1 r.0 r.1) }
+    ensures refused { IfErr result (StopsNumber (IsFractionWord Spelling.Lenient word.now) 1) }
+{
+    within(1, fraction_of(Spelling::Lenient, word))
+}
+
+/// The entry that the word spells behind numbers with the least common denominator `scale`, and the least common denominator with it.
+fn entry(scale: u32, word: &[u8]) -> Result<(Frac, u32), RowReason>
+    requires { 0 < scale }
+    ensures found { IfOk result (λ r. SpellsEntry word.now r.0 × Extends scale r.0 r.1) }
+    ensures refused { IfErr result (StopsNumber (SpellsEntry word.now) scale) }
+{
+    within(scale, entry_number(word))
+}
+
+/// The number that the word spells as an entry: 0 where it is empty.
+fn entry_number(word: &[u8]) -> Option<Frac>
+    ensures found { IfSome result (SpellsEntry word.now) }
+    ensures none { IfNone result ((x : Frac) → SpellsEntry word.now x → ⊥) }
+{
+    if word.is_empty() {
+        return Frac::new(0, 1);
+    }
+    fraction_of(Spelling::Lenient, word)
+}

@@ -1,0 +1,149 @@
+//! Tableaux, read.
+ghost use Rattle.std.specs.Prelude.{◌≡◌, ◌<◌, ◌≤◌, ◌++◌, ◌∷◌, [], IfOk, IfErr, IfNone, IfSome, OnOk, MatchResult, length};
+ghost use Rattle.csv.specs.Reading.{owned_rows_left};
+ghost use Rattle.gj_row.specs.TableauLimits.{IsTableau, names_of, entry_count};
+ghost use Rattle.gj_row.specs.TableauText.{IsTableauText};
+ghost use Rattle.gj_row.specs.FirstFault.{HasRowFault, IsFirstFault, IsNewName};
+ghost use Rattle.gj_row.specs.Reading.{IsMemoryFault, NamesRecord, NamesReason, ReadsRow, StandsBehind, StepsOver, IsAtEnd, bytes_of, words_in};
+ghost use Rattle.gj_row.specs.declared.tableau.Tableau.{Tableau};
+
+use crate::faults::{RecordFault, RowFault, RowReason};
+use crate::fields::word_at;
+use crate::header::{Header, header_in, new_name};
+use crate::numbers::numbers_in;
+use crate::tableau::{Row, Tableau};
+use csv::{ByteRecord, ByteRecordsIntoIter, ReaderBuilder};
+use gj_shape::List;
+use indexmap::IndexSet;
+use std::alloc::{AllocError, Global};
+
+/// The greatest number of rows.
+const MOST_ROWS: usize = 10_000;
+
+impl Tableau {
+    /// The tableau that the text spells: records of comma-separated values, of which the first is `basic`, `rhs` and the names of
+    /// the columns, and each other one the name of a basic variable, its right side and an entry for each column.
+    ///
+    /// A field may stand in double quotes; spaces and tabs at both its ends are dropped. Numbers are in lenient form, as `8/5`,
+    /// `-0.2` or `+3`; an empty entry is 0. Names are 1 to 255 visible ASCII bytes other than `"`, and all differ. A byte order mark
+    /// at the start is dropped, and blank lines are no records.
+    ///
+    /// A refusal names the first record at fault, counted from 1, and its first reason: `Header`, there is no record, or record 1
+    /// does not begin with `basic` and `rhs`; `Fields`, it has another number of fields than record 1; `Columns` or `Rows`, there
+    /// are more than 10,000; and then for each field from left to right `Name` or `Twice`, it is no name or stands already, or
+    /// `Number`, it is no number, `Large`, above 2^31 in absolute value, `Fine`, with it the common denominator of the row so far
+    /// passes 2^31 - 1, or `Entries`, it is the entry 100,001 that is not 0.
+    ///
+    /// ```text
+    /// let tableau = Tableau::read(alloc, b"basic,rhs,x1,x2\nx0,8/5,7/5,-1/5\n")?;
+    /// // one row: x0 + 7/5 x1 - 1/5 x2 = 8/5
+    /// let fault = Tableau::read(alloc, b"basic,rhs,x1\nx0,8/5,1e3\n");
+    /// // fault is Err(RowFault::Refused(2, RowReason::Number))
+    /// ```
+    pub fn read(alloc: Global, bytes: &[u8]) -> Result<Tableau, RowFault>
+        // What is read is spelled so, and is a tableau within the limits.
+        ensures found { IfOk result (IsTableauText bytes.now) }
+        ensures valid { IfOk result IsTableau }
+        // What is spelled so is read, unless there is no memory.
+        ensures only { (t : Tableau) → IsTableauText bytes.now t → MatchResult result (λ read. read ≡ t) IsMemoryFault }
+        // A refusal names the first fault.
+        ensures refused { IfErr result (NamesRecord (IsFirstFault bytes.now)) }
+    {
+        match tableau_in(alloc, bytes) {
+            Ok(tableau) => Ok(tableau),
+            Err(fault) => Err(fault),
+        }
+    }
+}
+
+/// The tableau that the text spells, or its first fault.
+fn tableau_in(alloc: Global, bytes: &[u8]) -> Result<Tableau, RowFault>
+    ensures found { IfOk result (IsTableauText bytes.now) }
+    ensures refused { IfErr result (NamesRecord (IsFirstFault bytes.now)) }
+{
+    let mut records = records_of(alloc, bytes);
+    let Some(first) = next_record(&mut records)? else {
+        return Err(RowFault::Refused(1, RowReason::Header));
+    };
+    let header = match header_in(alloc, &first) {
+        Ok(header) => header,
+        Err(fault) => return Err(fault.in_record(1)),
+    };
+    let columns = header.columns;
+    let mut names = header.names;
+    let mut rows = Vec::new(alloc);
+    let mut used = 0;
+    while let Some(fields) = next_record(&mut records)? {
+        match next_row(alloc, &fields, &mut names, columns.len(), rows.len(), used) {
+            Ok(row) => {
+                used += row.entries.as_slice().len();
+                rows.push(row)?;
+            }
+            Err(fault) => return Err(fault.in_record(rows.len() as u64 + 2)),
+        }
+    }
+    Ok(Tableau {
+        columns: List::of(columns),
+        rows: List::of(rows),
+    })
+}
+
+/// The records of the text.
+fn records_of(alloc: Global, bytes: &[u8]) -> ByteRecordsIntoIter<&[u8]>
+    ensures { StandsBehind bytes.now [] result }
+{
+    ReaderBuilder::new()
+        .has_headers(false)
+        .flexible(true)
+        .from_reader(alloc, bytes)
+        .into_byte_records()
+}
+
+/// The next record of a text.
+///
+/// The contract of `csv` leaves open that reading from memory fails as reading from a file may; such a failure, which never comes,
+/// is answered as want of memory.
+fn next_record(left: &mut ByteRecordsIntoIter<&[u8]>) -> Result<Option<ByteRecord>, AllocError>
+    ensures some { IfOk result (λ next. IfSome next (λ fields. StepsOver left.old fields left.new)) }
+    ensures end { IfOk result (λ next. IfNone next (IsAtEnd left.old)) }
+    ensures fewer { IfOk result (λ next. IfSome next (λ fields. owned_rows_left left.new < owned_rows_left left.old)) }
+{
+    match left.next() {
+        None => Ok(None),
+        Some(Ok(fields)) => Ok(Some(fields)),
+        Some(Err(_)) => Err(AllocError),
+    }
+}
+
+/// The row in the record, behind so many rows, with `used` entries that are not 0, of a tableau with so many columns and these names.
+fn next_row(
+    alloc: Global,
+    fields: &ByteRecord,
+    names: &mut IndexSet<Vec<u8>>,
+    columns: usize,
+    rows: usize,
+    used: usize,
+) -> Result<Row, RecordFault>
+    requires narrow { columns ≤ 10000 }
+    requires few { used ≤ 100000 }
+    ensures room { OnOk result (rows < 10000) }
+    ensures row { IfOk result (ReadsRow columns used (words_in fields.now)) }
+    ensures new { IfOk result (λ row. IsNewName (bytes_of names.old.keys) row.basic) }
+    ensures kept { IfOk result (λ row. bytes_of names.new.keys ≡ bytes_of names.old.keys ++ row.basic ∷ []) }
+    ensures refused { IfErr result (NamesReason (λ e. (t : Tableau) → length t.columns ≡ columns → length t.rows ≡ rows →
+        names_of t ≡ bytes_of names.old.keys → entry_count t ≡ used → HasRowFault t (words_in fields.now) e)) }
+{
+    if fields.len() != columns + 2 {
+        return Err(RecordFault::Refused(RowReason::Fields));
+    }
+    if rows >= MOST_ROWS {
+        return Err(RecordFault::Refused(RowReason::Rows));
+    }
+    let basic = new_name(alloc, names, word_at(fields, 0))?;
+    let numbers = numbers_in(alloc, fields, used)?;
+    Ok(Row {
+        basic,
+        rhs: numbers.rhs,
+        entries: List::of(numbers.entries),
+    })
+}
