@@ -1,8 +1,8 @@
 -- The kinds of rules, their values and their places (Gomory and Johnson 1972; the range is own).
-use Rattle.std.specs.Prelude.{ℕ, pos, ◌<◌, ◌≤◌, ◌*◌, ◌^◌, unsigned_abs}
+use Rattle.std.specs.Prelude.{pos, ◌<◌, ◌≤◌, ◌*◌, ◌^◌, unsigned_abs}
 use Rattle.gj_frac.specs.declared.Frac.{Frac}
 use Rattle.gj_frac.specs.Fraction.{IsRatio, numerator, denominator}
-use Rattle.gj_shape.specs.FunctionData.{FunctionData, IsWithinBounds}
+use Rattle.gj_shape.specs.FunctionData.{IsWithinBounds}
 use Rattle.gj_shape.specs.Table.{IsMinimal}
 use Rattle.gj_theory.specs.Cuts.{IsInside, IsGmicValue, IsValueOf}
 use Rattle.gj_rule.specs.declared.kind.RuleKind.{RuleKind}
@@ -16,6 +16,11 @@ IsInRange x = (unsigned_abs (denominator x) < 2 ^ 31) × (unsigned_abs (numerato
 abbrev pub IsKind : RuleKind → Type 0
 IsKind (Gmic f) = IsInside f × (unsigned_abs (denominator f) < 2 ^ 31)
 IsKind (Table shape) = Unit {0}
+
+-- what holds of the kind of each rule: that, or the bounds of functions
+abbrev pub IsBounded : RuleKind → Type 0
+IsBounded (Gmic f) = IsKind (Gmic f)
+IsBounded (Table shape) = IsWithinBounds shape
 
 -- y is the kind's value at x
 abbrev pub IsKindValue : RuleKind → Frac → Frac → Type 0

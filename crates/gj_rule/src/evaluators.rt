@@ -1,5 +1,6 @@
 //! Evaluators.
-ghost use Rattle.std.specs.Prelude.{◌≡◌, ◌≢◌, ◌≤◌, ◌<◌, ◌^◌, ◌*ℤ◌, pos, unsigned_abs};
+ghost use Rattle.std.specs.Prelude.{ℤ, ◌≡◌, ◌≢◌, ◌↔◌, IsTrue, ◌≤◌, ◌<◌, ◌^◌, ◌-ℤ◌, ◌*ℤ◌, ◌≤ℤ◌, ◌<ℤ◌, pos, unsigned_abs};
+ghost use Rattle.gj_frac.specs.Floor.{IsFloor};
 ghost use Rattle.gj_frac.specs.Fraction.{IsRatio, numerator, denominator};
 ghost use Rattle.gj_theory.specs.Cuts.{IsInside, IsGmicValue, IsValueOf};
 ghost use Rattle.gj_rule.specs.Kind.{IsInRange};
@@ -17,15 +18,24 @@ pub fn gmic_value(f: Frac, x: Frac) -> Frac
     requires x_fine { unsigned_abs (denominator x) ≤ 2 ^ 62 }
     ensures { IsGmicValue f x result }
 {
-    let rest = x.num().rem_euclid(x.den());
-    let scaled_rest = product(rest, f.den());
-    let scaled_place = product(f.num(), x.den());
-    if scaled_rest <= scaled_place {
-        ratio(scaled_rest, scaled_place)
+    let rest = rest_of(x);
+    if is_above(f, x, rest) {
+        quotient(
+            difference(x.den(), rest),
+            x.den(),
+            difference(f.den(), f.num()),
+            f.den(),
+        )
     } else {
-        let scale = product(f.den(), x.den());
-        ratio(scale - scaled_rest, scale - scaled_place)
+        quotient(rest, x.den(), f.num(), f.den())
     }
+}
+
+/// Whether x is in the range of rules: of denominator at most 2^31 - 1, and at most 2^31 in absolute value.
+pub fn is_in_range(x: Frac) -> bool
+    ensures { IsTrue result ↔ IsInRange x }
+{
+    x.den() < 1 << 31 && x.num().unsigned_abs() <= (x.den() as u128) << 31
 }
 
 /// The value of the function at x, a fraction of the range of rules.
@@ -34,6 +44,52 @@ pub fn table_value(shape: &Shape, x: Frac) -> Frac
     ensures { IsValueOf shape.now x result }
 {
     shape.value_at(x)
+}
+
+/// What the floor of x leaves of its numerator.
+fn rest_of(x: Frac) -> i128
+    ensures value { (w : ℤ) → IsFloor x w → result ≡ numerator x -ℤ w *ℤ denominator x }
+    ensures low { pos 0 ≤ℤ result }
+    ensures high { result <ℤ denominator x }
+{
+    x.num().rem_euclid(x.den())
+}
+
+/// Whether rest over the denominator of x is above f.
+fn is_above(f: Frac, x: Frac, rest: i128) -> bool
+    requires inside { IsInside f }
+    requires f_fine { unsigned_abs (denominator f) ≤ 2 ^ 62 }
+    requires x_fine { unsigned_abs (denominator x) ≤ 2 ^ 62 }
+    requires low { pos 0 ≤ℤ rest }
+    requires high { rest <ℤ denominator x }
+    ensures { IsTrue result ↔ ((numerator f *ℤ denominator x) <ℤ (rest *ℤ denominator f)) }
+{
+    product(f.num(), x.den()) < product(rest, f.den())
+}
+
+/// The quotient of n/d by m/e, whose parts are at most 2^62 in absolute value.
+fn quotient(n: i128, d: i128, m: i128, e: i128) -> Frac
+    requires d_some { unsigned_abs d ≢ 0 }
+    requires m_some { unsigned_abs m ≢ 0 }
+    requires n_small { unsigned_abs n ≤ 2 ^ 62 }
+    requires d_small { unsigned_abs d ≤ 2 ^ 62 }
+    requires m_small { unsigned_abs m ≤ 2 ^ 62 }
+    requires e_small { unsigned_abs e ≤ 2 ^ 62 }
+    ensures { IsRatio result (n *ℤ e) (d *ℤ m) }
+{
+    ratio(product(n, e), product(d, m))
+}
+
+/// The difference of two whole numbers from 0 to 2^62, the second less than the first.
+fn difference(n: i128, m: i128) -> i128
+    requires low { pos 0 ≤ℤ m }
+    requires less { m <ℤ n }
+    requires high { unsigned_abs n ≤ 2 ^ 62 }
+    ensures value { result ≡ n -ℤ m }
+    ensures some { unsigned_abs result ≢ 0 }
+    ensures small { unsigned_abs result ≤ 2 ^ 62 }
+{
+    n - m
 }
 
 /// The product of two whole numbers of at most 2^62 in absolute value.

@@ -1,4 +1,6 @@
 //! The kinds of rules.
+ghost use Rattle.std.specs.Prelude.{◌↔◌, IsTrue};
+
 use gj_frac::Frac;
 use gj_shape::Shape;
 
@@ -9,4 +11,19 @@ pub enum RuleKind {
     Gmic(Frac),
     /// A function.
     Table(Shape),
+}
+
+impl RuleKind {
+    ghost use Rattle.gj_rule.specs.Kind.{IsKind};
+
+    /// Whether a rule may have this kind: the f of a mixed-integer cut is between 0 and 1, both excluded, and has a
+    /// denominator of at most 2^31 - 1.
+    pub fn is_valid(&self) -> bool
+        ensures { IsTrue result ↔ IsKind self.now }
+    {
+        match self {
+            RuleKind::Gmic(f) => 0 < f.num() && f.num() < f.den() && f.den() < 1 << 31,
+            RuleKind::Table(_) => true,
+        }
+    }
 }

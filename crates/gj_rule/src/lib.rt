@@ -8,12 +8,14 @@
 //! [`Shape`]: gj_shape::Shape
 #![tactic(auto)]
 
+mod evaluator;
 mod evaluators;
 mod kind;
 mod rule;
 #[cfg(test)]
 mod tests;
 
-pub use evaluators::{gmic_value, table_value};
+pub use evaluator::Evaluator;
+pub use evaluators::{gmic_value, is_in_range, table_value};
 pub use kind::RuleKind;
 pub use rule::Rule;

@@ -1,9 +1,11 @@
 //! A kind beside a closure that evaluates it.
 ghost use Rattle.std.specs.Prelude.{◌≡◌, pos};
 ghost use Rattle.gj_frac.specs.Fraction.{IsRatio};
-ghost use Rattle.gj_rule.specs.Kind.{IsInRange, IsKind, IsKindValue, HasPlace};
+ghost use Rattle.gj_shape.specs.FunctionData.{IsWithinBounds};
+ghost use Rattle.gj_rule.specs.Kind.{IsInRange, IsKind, IsBounded, IsKindValue, HasPlace};
 ghost use Rattle.gj_rule.specs.Kept.{KeptRule, Evaluates};
 
+use crate::evaluator::Evaluator;
 use crate::kind::RuleKind;
 use gj_frac::Frac;
 use gj_shape::Shape;
@@ -12,32 +14,38 @@ use std::marker::Model;
 /// A kind, and an evaluator that answers the kind's value at each fraction of the range: of denominator at most
 /// 2^31 - 1 and at most 2^31 in absolute value.
 ///
+/// A rule is made in a function that is generic over its evaluator, and the closure is passed to that function.
+///
 /// # Example
 ///
 /// ```
+/// fn value<E: Evaluator>(f: Frac, eval: E, x: Frac) -> Frac {
+///     Rule::new(RuleKind::Gmic(f), eval).at(x)
+/// }
+///
 /// let f = Frac::new(123457, 1000003).unwrap();
-/// let rule = Rule::new(RuleKind::Gmic(f), move |x| gmic_value(f, x));
-/// assert_eq!(rule.at(Frac::new(1, 1000003).unwrap()), Frac::new(1, 123457).unwrap());
+/// let x = Frac::new(1, 1000003).unwrap();
+/// assert_eq!(value(f, |x| gmic_value(f, x), x), Frac::new(1, 123457).unwrap());
 /// ```
 #[derive(Drop)]
-pub struct Rule<E: Fn(Frac) -> Frac> {
+pub struct Rule<E: Evaluator> {
     kind: RuleKind,
     eval: E,
 }
 
-impl<E: Fn(Frac) -> Frac> Model for Rule<E> {
+impl<E: Evaluator> Model for Rule<E> {
     ghost Value = { KeptRule E };
 
     ghost view = { λ r. record { kind = r.kind; eval = r.eval } };
 
-    ghost invariant = { λ r. IsKind r.kind × Evaluates E.pre E.post r.kind r.eval };
+    ghost invariant = { λ r. IsKind r.kind × Evaluates E.can_answer E.answers r.kind r.eval };
 }
 
-impl<E: Fn(Frac) -> Frac> Rule<E> {
+impl<E: Evaluator> Rule<E> {
     /// The rule of this kind with this evaluator.
     pub fn new(kind: RuleKind, eval: E) -> Rule<E>
         requires kind { IsKind kind }
-        requires evaluates { Evaluates E.pre E.post kind eval }
+        requires evaluates { Evaluates E.can_answer E.answers kind eval }
         ensures kind { result.kind ≡ kind }
         ensures eval { result.eval ≡ eval }
     {
@@ -54,7 +62,8 @@ impl<E: Fn(Frac) -> Frac> Rule<E> {
 
     /// The place f, where the values are 1: the f of the mixed-integer cut, or k/q of a function.
     pub fn place(&self) -> Frac
-        ensures { HasPlace self.now.kind result }
+        ensures place { HasPlace self.now.kind result }
+        ensures limits { IsBounded self.now.kind }
     {
         match &self.kind {
             RuleKind::Gmic(f) => *f,
@@ -66,15 +75,16 @@ impl<E: Fn(Frac) -> Frac> Rule<E> {
     pub fn at(&self, x: Frac) -> Frac
         requires { IsInRange x }
         ensures value { IsKindValue self.now.kind x result }
-        ensures answered { E.post self.now.eval x result }
+        ensures answered { E.answers self.now.eval x result }
     {
-        (self.eval)(x)
+        self.eval.answer(x)
     }
 }
 
 /// The place of a function over its order.
 fn place_of(shape: &Shape) -> Frac
-    ensures { IsRatio result (pos shape.now.place) (pos shape.now.order) }
+    ensures value { IsRatio result (pos shape.now.place) (pos shape.now.order) }
+    ensures limits { IsWithinBounds shape.now }
 {
     Frac::new(i128::from(shape.place()), i128::from(shape.order())).unwrap()
 }

@@ -1,0 +1,14 @@
+//! Cuts of rows of simplex tableaux.
+//!
+//! [`cut_row`] makes the cut of a row by a rule: its coefficients are the rule's values at the row's entries. It holds
+//! where the rule is minimal: at each solution of the row in whole numbers, the nonbasic ones not negative, the sum of
+//! the coefficients times the nonbasic variables is at least 1.
+#![tactic(auto)]
+
+mod cut;
+mod rows;
+#[cfg(test)]
+mod tests;
+
+pub use cut::{RowCut, Term};
+pub use rows::cut_row;

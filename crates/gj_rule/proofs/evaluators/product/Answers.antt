@@ -1,0 +1,23 @@
+use Rattle.std.proofs.Common.{◌^◌, ◌*ℤ◌, arith}
+use Rattle.std.proofs.lemmas.Int.{to_z-of_z, fits_signed_mul, unsigned_abs-mul}
+use Rattle.std.proofs.Math.Nat.{mul-le-mul}
+use Rattle.gj_rule.proofs.evaluators.product.Goals as goal
+use mir.Syntax.{w128}
+
+-- the product as it is computed
+product_is : goal.returns-clause-value
+product_is c =
+    let n = to_z-of_z w128 c.args.n c.ranges.n in
+    let m = to_z-of_z w128 c.args.m c.ranges.m in
+    let fits = fits_signed_mul w128 c.args.n c.args.m (2 ^ 62) (2 ^ 62) c.requires.n_small c.requires.m_small (omega arith) in
+    simp (n, m) (to_z-of_z w128 (c.args.n *ℤ c.args.m) fits)
+
+pub returns-clause-value : goal.returns-clause-value
+returns-clause-value c = product_is c
+
+pub returns-clause-fits : goal.returns-clause-fits
+returns-clause-fits c =
+    let is = product_is c in
+    let size = unsigned_abs-mul c.args.n c.args.m in
+    let bound = mul-le-mul c.requires.n_small c.requires.m_small in
+    rw is (omega arith)
