@@ -4,6 +4,7 @@ pub mod Report
 pub mod Minimal
 pub mod Show
 pub mod Check
+pub mod Cut
 pub mod Command
 pub mod Reply
 pub mod Answer
