@@ -6,7 +6,8 @@ use Rattle.gj_shape.specs.Elimination.{KeptRow, Solution, solution_below, soluti
 use Rattle.gj_theory.specs.TriangularRows.{SolvesKept, AreTriangular}
 use Rattle.gj_theory.proofs.Kernels.{kernel_none, kernel_solves, kernel_positive, length-solved, free_has_no_row}
 use Rattle.gj_elim.specs.Data.{BasisData}
-use Rattle.gj_elim.specs.KeptRows.{IsRowAt, marked_in}
+use Rattle.gj_elim.specs.KeptRows.{marked_in}
+use Rattle.gj_elim.proofs.Places.{IsRowAt}
 use Rattle.gj_elim.proofs.Passing.{none_passes, front_passes, back_passes, either_passes}
 
 -- the columns from j on are solved, and none of the numbers so far passes

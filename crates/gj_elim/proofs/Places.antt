@@ -9,7 +9,11 @@ use Rattle.gj_theory.specs.TriangularRows.{AreTriangular}
 use Rattle.gj_theory.proofs.Insertions.{kept_row_at}
 use Rattle.gj_theory.proofs.Kernels.{has_pivot, none_found, some_found}
 use Rattle.gj_elim.specs.declared.log.LogRow.{LogRow}
-use Rattle.gj_elim.specs.KeptRows.{kept_rows, IsRowAt}
+use Rattle.gj_elim.specs.KeptRows.{kept_rows}
+
+-- the kept row with its pivot at the column has these entries
+abbrev pub IsRowAt : List KeptRow → ℕ → List ℤ → Type 0
+IsRowAt kept c entries = (k : KeptRow) × (row_with_pivot kept c ≡ Some k) × (k.entries ≡ entries)
 
 -- ---- the first line of the log with a pivot
 

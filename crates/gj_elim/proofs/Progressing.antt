@@ -1,12 +1,12 @@
 -- An insertion goes on, column after column.
-use Rattle.std.proofs.Common.{◌≡◌, ◌≢◌, ℕ, suc, ◌+◌, ◌-◌, ◌<◌, ◌≤◌, ◌⊎◌, inl, inr, Bool, true, false, if◌then◌else◌, Option, None, Some, ℤ, pos, List, [], ◌∷◌, ◌++◌, refl, sym, ap, subst, ◌∙◌, append_assoc, arith}
+use Rattle.std.proofs.Common.{◌≡◌, ◌≢◌, ℕ, suc, ◌+◌, ◌-◌, ◌<◌, ◌≤◌, ◌⊎◌, inl, inr, ◌↔◌, Bool, true, false, if◌then◌else◌, Option, None, Some, ℤ, pos, List, [], ◌∷◌, ◌++◌, refl, sym, ap, subst, ◌∙◌, append_assoc, arith}
 use Rattle.std.specs.List.{range_with_len}
 use Rattle.std.specs.Ordering.{int_eq}
 use Rattle.std.proofs.lemmas.Bool.Decides.{Decides-int_eq}
 use Rattle.std.proofs.lemmas.List.{append-nil}
 use Rattle.gj_shape.specs.Elimination.{KeptRow, Insertion, at_column, reduced, marked_in_step, kept_entries, insertion, inserted, inserted_at, row_with_pivot, Passes}
-use Rattle.gj_elim.specs.Progress.{IsLeft, IsBehind}
-use Rattle.gj_elim.specs.KeptRows.{IsRowAt}
+use Rattle.gj_elim.specs.Progress.{IsLeft}
+use Rattle.gj_elim.proofs.Places.{IsRowAt}
 use Rattle.gj_elim.proofs.Passing.{none_passes, front_passes, back_passes, either_passes}
 
 -- the rest of the insertion from a column on
@@ -68,6 +68,12 @@ rest_none kept n c row past =
     let none : n - c ≡ 0 = omega arith in ap (λ m. insertion kept (range_with_len c m) row) none
 
 -- ---- how far it has come
+
+-- the insertion is this far: behind steps at these columns, none of whose numbers passes, the rest of it is to come
+pub record IsBehind (i : Insertion) (reduce : List ℕ) (rest : Insertion) : Type 0 where
+  pub reduce_is : i.reduce ≡ reduce ++ rest.reduce
+  pub kept_is : i.kept ≡ rest.kept
+  pub marked : Passes i.marked ↔ Passes rest.marked
 
 pub behind_start : (kept : List KeptRow) (n : ℕ) (row : List ℤ) (reduce : List ℕ) → reduce ≡ [] →
     IsBehind (inserted n kept row) reduce (rest kept n 0 row)

@@ -1,6 +1,6 @@
 -- How `Basis` keeps rows: the log beside the entries.
-use Rattle.std.specs.Prelude.{ℕ, ℤ, ◌≡◌, List, [], ◌∷◌, Option, None, Some}
-use Rattle.gj_shape.specs.Elimination.{KeptRow, Solution, row_with_pivot}
+use Rattle.std.specs.Prelude.{ℕ, ℤ, List, [], ◌∷◌, Option, None, Some}
+use Rattle.gj_shape.specs.Elimination.{KeptRow, Solution}
 use Rattle.gj_elim.specs.declared.log.LogRow.{LogRow}
 use Rattle.gj_elim.specs.declared.log.Inserted.{Inserted}
 use Rattle.gj_elim.specs.declared.log.Inserted.TheVariants.{Pivot, Nothing}
@@ -10,10 +10,6 @@ abbrev pub kept_rows : List LogRow → List (List ℤ) → List KeptRow
 kept_rows (l ∷ log) (row ∷ rows) =
     record { number = l.number; reduce = l.reduce; pivot = l.pivot; entries = row } ∷ kept_rows log rows
 kept_rows log rows = []
-
--- the kept row with its pivot at the column has these entries
-abbrev pub IsRowAt : List KeptRow → ℕ → List ℤ → Type 0
-IsRowAt kept c entries = (k : KeptRow) × (row_with_pivot kept c ≡ Some k) × (k.entries ≡ entries)
 
 -- the line of the log for a kept row
 abbrev pub log_row : KeptRow → LogRow

@@ -1,6 +1,6 @@
--- How far the insertion of a row has come.
+-- What the insertion of a row leaves.
 use Rattle.std.specs.Prelude.{ℕ, ℤ, ◌≡◌, ◌↔◌, ◌++◌, List, Option, None, Some}
-use Rattle.gj_shape.specs.Elimination.{Insertion, kept_entries, Passes}
+use Rattle.gj_shape.specs.Elimination.{Insertion, kept_entries}
 
 -- the pivot and the entries with which a row is kept where something is left of it at this column
 abbrev pub kept_at : Option ℕ → List ℤ → Option (ℕ × List ℤ)
@@ -11,9 +11,3 @@ kept_at (Some c) row = Some (c, kept_entries row c)
 pub record IsLeft (i : Insertion) (left : Option ℕ) (row : List ℤ) (reduce : List ℕ) : Type 0 where
   pub reduce_is : i.reduce ≡ reduce
   pub kept_is : i.kept ≡ kept_at left row
-
--- the insertion is this far: behind steps at these columns, none of whose numbers passes, the rest of it is to come
-pub record IsBehind (i : Insertion) (reduce : List ℕ) (rest : Insertion) : Type 0 where
-  pub reduce_is : i.reduce ≡ reduce ++ rest.reduce
-  pub kept_is : i.kept ≡ rest.kept
-  pub marked : Passes i.marked ↔ Passes rest.marked
