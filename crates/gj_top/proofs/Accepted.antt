@@ -1,5 +1,5 @@
--- A verdict on minimality is a proof text that the checker accepts.
-use Rattle.std.proofs.Common.{◌≡◌, inl, inr, ℕ, List, subst, refl, arith}
+-- A proof text that a command writes is one that the checker accepts.
+use Rattle.std.proofs.Common.{◌≡◌, inl, inr, ℕ, ◌≤◌, List, length, subst, refl, arith}
 use Rattle.gj_shape.specs.FunctionData.{FunctionData}
 use Rattle.gj_proof.specs.declared.claim.Claim.{Claim}
 use Rattle.gj_proof.specs.declared.claim.Claim.TheVariants as claim
@@ -13,10 +13,12 @@ use Rattle.gj_top.specs.Task.{IsReply}
 use Rattle.gj_top.specs.Forms.{IsProofOf}
 use Rattle.gj_top.specs.Minimal.{IsVerdict, minimal}
 use Rattle.gj_top.specs.Check.{IsJudgement, check}
-use Rattle.gj_top.specs.Answer.{IsAnswerTo}
+use Rattle.gj_top.specs.Cut.{cut}
+use Rattle.gj_top.specs.Answer.{IsAnswerTo, input_limit}
 use Rattle.gj_top.specs.Answer.IsAnswerTo.{too_long, refused, replied}
 use Rattle.gj_top.proofs.Clauses.{done_reply}
 use Rattle.gj_check.proofs.DemandsOfClaims.{no_failure}
+use Rattle.gj_top.proofs.CutClaims.{lines_are_bounded}
 use Rattle.gj_top.proofs.Sound.{check_sound}
 use Rattle.gj_top.proofs.TextLaws.{function_is_bounded, minimal_proof, not_minimal_proof, one_proof, proof_text_is_short}
 
@@ -38,6 +40,13 @@ good_proof f input text form (inr v) = record {
   rules = v.3;
 }
 
+-- a verdict is short
+verdict_is_short : (f : FunctionData) (input text : List ℕ) → IsWholeFunctionText input f → IsVerdict f text → length text ≤ 1000000
+verdict_is_short f input text form (inl v) =
+    proof_text_is_short text (claim.Minimal f) tt (minimal_proof f text (function_is_bounded input f form) v.2)
+verdict_is_short f input text form (inr v) =
+    proof_text_is_short text (claim.NotMinimal f v.0) tt (not_minimal_proof f v.0 text (function_is_bounded input f form) v.4)
+
 -- the checker's reply to such a claim ends with Done
 good_end : (c : Claim) (e : End) (answer : List ℕ) → MeetsRules c → IsJudgement c e answer → e ≡ end.Done
 good_end c end.Done answer rules j = refl
@@ -50,24 +59,48 @@ accepted_reply text answer e g r =
     let same : g.about ≡ r.thing = one_proof text g.about r.thing g.proof r.spelled in
     good_end r.thing e answer (subst MeetsRules same g.rules) r.replied
 
--- and it is answered so, since it is short
-accepted : (text answer : List ℕ) (s : Status) → IsGoodProof text → IsAnswerTo check text s answer → s ≡ Done
-accepted text answer s g (too_long a) =
-    let short = proof_text_is_short text g.about g.proof in
+-- and within the limit of length it is answered so
+accepted : (text answer : List ℕ) (s : Status) → length text ≤ input_limit → IsGoodProof text → IsAnswerTo check text s answer → s ≡ Done
+accepted text answer s short g (too_long a) =
     let long = a.long in
     absurd (omega arith)
-accepted text answer s g (refused a) = absurd (check_sound.form text answer g.about g.proof a.refused)
-accepted text answer s g (replied a) =
+accepted text answer s short g (refused a) = absurd (check_sound.form text answer g.about g.proof a.refused)
+accepted text answer s short g (replied a) =
     let ended : a.end ≡ end.Done = accepted_reply text answer a.end g a.reply in
     let is = a.status_is in
     rw ended at is
+
+-- ---- verdicts
 
 good_verdict : (input text : List ℕ) → IsReply minimal input end.Done text → IsGoodProof text
 good_verdict input text r = good_proof r.thing input text r.spelled r.replied
 
 pub verdict_accepted : (input text answer : List ℕ) (s : Status) → IsAnswerTo minimal input Done text → IsAnswerTo check text s answer → s ≡ Done
-verdict_accepted input text answer s m a = accepted text answer s (good_verdict input text (done_reply minimal input text m)) a
+verdict_accepted input text answer s m a =
+    let r = done_reply minimal input text m in
+    let short : length text ≤ 1000000 = verdict_is_short r.thing input text r.spelled r.replied in
+    accepted text answer s (omega arith) (good_verdict input text r) a
 
 pub verdict_accepted_reply : (input text answer : List ℕ) (e : End) → IsReply minimal input end.Done text → IsReply check text e answer →
     e ≡ end.Done
 verdict_accepted_reply input text answer e m r = accepted_reply text answer e (good_verdict input text m) r
+
+-- ---- cuts
+
+good_cuts : (input text : List ℕ) → IsReply cut input end.Done text → IsGoodProof text
+good_cuts input text r = record {
+  about = claim.Cut r.thing.rule r.replied.1.lines;
+  proof = record {
+    bounded = lines_are_bounded input r.thing r.replied.1.lines r.spelled r.replied.1.lines_are;
+    spelled = r.replied.1.spelled;
+  };
+  rules = r.replied.1.rules;
+}
+
+pub cuts_accepted : (input text answer : List ℕ) (s : Status) → length text ≤ input_limit → IsAnswerTo cut input Done text →
+    IsAnswerTo check text s answer → s ≡ Done
+cuts_accepted input text answer s short m a = accepted text answer s short (good_cuts input text (done_reply cut input text m)) a
+
+pub cuts_accepted_reply : (input text answer : List ℕ) (e : End) → IsReply cut input end.Done text → IsReply check text e answer →
+    e ≡ end.Done
+cuts_accepted_reply input text answer e m r = accepted_reply text answer e (good_cuts input text m) r

@@ -1,6 +1,10 @@
 pub mod Accepted
 pub mod Clauses
 pub mod Commands
+pub mod CutClaims
+pub mod CutForm
+pub mod CutParts
+pub mod CutLines
 pub mod Ends
 pub mod FacesTexts
 pub mod GridCoordinates

@@ -1,11 +1,12 @@
 -- The bytes of a proof text are printable or line feeds, and the last is a line feed.
-use Rattle.std.proofs.Common.{◌≡◌, inl, inr, ℕ, ◌≤◌, nat_le, ◌&&◌, Bool, true, false, List, [], ◌∷◌, ◌++◌, flat_map, codes, decimal}
+use Rattle.std.proofs.Common.{◌≡◌, inl, inr, ℕ, ◌+◌, ◌≤◌, nat_le, ◌&&◌, Bool, true, false, List, [], ◌∷◌, ◌++◌, flat_map, codes, decimal}
 use Rattle.std.proofs.Common.{refl, sym, subst, ◌∙◌, arith, append_assoc}
 use Rattle.std.specs.List.{All, list_all}
 use Rattle.std.specs.Char.{IsAsciiDigit}
 use Rattle.std.proofs.lemmas.Bool.{and_parts}
 use Rattle.std.proofs.lemmas.Bool.Decides.{nat_tests}
-use Rattle.std.proofs.lemmas.List.Elements.{All-nil, All-cons, All-append, All-weaker}
+use Rattle.std.proofs.lemmas.List.Elements.{All-nil, All-cons, All-head, All-tail, All-append, All-weaker}
+use Rattle.gj_tools.proofs.Lists.{All-flat_map}
 use Rattle.std.proofs.lemmas.List.Sums.{AllPass-from_list_all}
 use Rattle.gj_frac.specs.declared.Frac.{Frac}
 use Rattle.gj_lex.specs.NumberText.{fraction_text, IsNumberByte}
@@ -17,8 +18,15 @@ use Rattle.gj_shape.specs.declared.points.Point.{Point}
 use Rattle.gj_shape.specs.declared.violations.Violation.{Violation}
 use Rattle.gj_shape.specs.declared.violations.Violation.TheVariants as violation
 use Rattle.gj_proof.specs.declared.claim.Claim.{Claim}
-use Rattle.gj_proof.specs.declared.claim.Claim.TheVariants.{Minimal, NotMinimal}
-use Rattle.gj_proof.specs.ProofText.{claim_word, OwnLine, own_lines, violation_line, subject_of, AreSubjectLines, IsBounded, IsProofText}
+use Rattle.gj_proof.specs.declared.claim.Claim.TheVariants.{Minimal, NotMinimal, Cut}
+use Rattle.gj_proof.specs.declared.cut.CutLine.{CutLine}
+use Rattle.gj_proof.specs.declared.cut.CutLine.TheVariants as cuts
+use Rattle.gj_proof.specs.declared.cut.CutRule.TheVariants.{Gmic, Table}
+use Rattle.gj_proof.specs.declared.cut.CutTerm.{CutTerm}
+use Rattle.gj_proof.specs.declared.cut.SkipReason.{SkipReason}
+use Rattle.gj_proof.specs.declared.cut.SkipReason.TheVariants.{Integral, Other}
+use Rattle.gj_lex.specs.Name.{IsNameByte, IsName}
+use Rattle.gj_proof.specs.ProofText.{claim_word, OwnLine, own_lines, violation_line, row_line, term_line, reason_word, terms_of, term_lines, row_lines, HasNames, subject_of, AreSubjectLines, IsBounded, IsProofText}
 use Rattle.gj_json.specs.JsonText.{IsPrintable, IsProofByte, IsEnded}
 
 -- ---- known texts
@@ -108,10 +116,14 @@ function_bytes f text within a =
 pub claim_word_printable : (c : Claim) → All IsPrintable (claim_word c)
 claim_word_printable (Minimal f) = known (codes "minimal") refl
 claim_word_printable (NotMinimal f v) = known (codes "not-minimal") refl
+claim_word_printable (Cut r rows) = known (codes "cut") refl
 
 subject_bytes : (c : Claim) (text : List ℕ) → IsBounded c → AreSubjectLines (subject_of c) text → All IsProofByte text
 subject_bytes (Minimal f) text within a = function_bytes f text within a
 subject_bytes (NotMinimal f v) text within a = function_bytes f text within a
+subject_bytes (Cut (Table f) rows) text within a = function_bytes f text within.0 a
+subject_bytes (Cut Gmic rows) text within a =
+    subst (All IsProofByte) (sym a) (line_bytes (codes "rule gmic") (known (codes "rule gmic") refl))
 
 violation_bytes : (v : Violation) → All IsProofByte (violation_line v)
 violation_bytes violation.Zero = line_bytes (codes "zero") (known (codes "zero") refl)
@@ -125,9 +137,66 @@ violation_bytes (violation.Superadditive x y) =
     (joined word (fraction_text x) (known (codes "superadditive ") refl) (fraction_printable x)) (known (codes " ") refl))
     (fraction_printable y))
 
-own_bytes : (c : Claim) → All IsProofByte (flat_map (λ l. l.bytes) (own_lines c))
-own_bytes (Minimal f) = All-nil IsProofByte
-own_bytes (NotMinimal f v) = both (violation_line v) [] (violation_bytes v) (All-nil IsProofByte)
+-- ---- the lines of cuts
+
+name_printable : (name : List ℕ) → IsName name → All IsPrintable name
+name_printable name h = All-weaker IsNameByte IsPrintable byte name h.visible
+  where
+    byte : (b : ℕ) → IsNameByte b → IsPrintable b
+    byte b n = let low = n.above_space in let high = n.below_delete in (omega arith, omega arith)
+
+named : (word name : List ℕ) (x : Frac) → All IsPrintable word → IsName name →
+    All IsPrintable (word ++ name ++ codes " " ++ fraction_text x)
+named word name x w h =
+    joined (word ++ name ++ codes " ") (fraction_text x)
+    (joined (word ++ name) (codes " ") (joined word name w (name_printable name h)) (known (codes " ") refl)) (fraction_printable x)
+
+reason_printable : (r : SkipReason) → All IsPrintable (reason_word r)
+reason_printable Integral = known (codes "integral") refl
+reason_printable Other = known (codes "other") refl
+
+row_bytes : (l : CutLine) → HasNames l → All IsProofByte (row_line l)
+row_bytes (cuts.Cut name right terms) h =
+    line_bytes (codes "cut " ++ name ++ codes " " ++ fraction_text right) (named (codes "cut ") name right (known (codes "cut ") refl) h.0)
+row_bytes (cuts.Skip name right reason) h =
+    let front = codes "skip " ++ name ++ codes " " ++ fraction_text right in
+    line_bytes (front ++ codes " " ++ reason_word reason)
+    (joined (front ++ codes " ") (reason_word reason)
+    (joined front (codes " ") (named (codes "skip ") name right (known (codes "skip ") refl) h) (known (codes " ") refl))
+    (reason_printable reason))
+
+term_bytes : (t : CutTerm) → IsName t.name → All IsProofByte (term_line t)
+term_bytes t h =
+    let front = codes "term " ++ t.name ++ codes " " ++ fraction_text t.entry in
+    line_bytes (front ++ codes " " ++ fraction_text t.cut)
+    (joined (front ++ codes " ") (fraction_text t.cut)
+    (joined front (codes " ") (named (codes "term ") t.name t.entry (known (codes "term ") refl) h) (known (codes " ") refl))
+    (fraction_printable t.cut))
+
+terms_bytes : (i j : ℕ) (terms : List CutTerm) → All (λ t. IsName t.name) terms →
+    All (λ (l : OwnLine). All IsProofByte l.bytes) (term_lines i j terms)
+terms_bytes i j [] h = All-nil (λ (l : OwnLine). All IsProofByte l.bytes)
+terms_bytes i j (t ∷ terms) h =
+    All-cons (λ (l : OwnLine). All IsProofByte l.bytes) _ (term_lines i (j + 1) terms)
+    (term_bytes t (All-head (λ u. IsName u.name) t terms h)) (terms_bytes i (j + 1) terms (All-tail (λ u. IsName u.name) t terms h))
+
+names_of_terms : (l : CutLine) → HasNames l → All (λ t. IsName t.name) (terms_of l)
+names_of_terms (cuts.Cut name right terms) h = h.1
+names_of_terms (cuts.Skip name right reason) h = All-nil (λ t. IsName t.name)
+
+rows_bytes : (i : ℕ) (rows : List CutLine) → All HasNames rows → All (λ (l : OwnLine). All IsProofByte l.bytes) (row_lines i rows)
+rows_bytes i [] h = All-nil (λ (l : OwnLine). All IsProofByte l.bytes)
+rows_bytes i (l ∷ rows) h =
+    let P : OwnLine → Type 0 = λ o. All IsProofByte o.bytes in
+    let names = All-head HasNames l rows h in
+    All-cons P _ (term_lines i 0 (terms_of l) ++ row_lines (i + 1) rows) (row_bytes l names)
+    (All-append P (term_lines i 0 (terms_of l)) (row_lines (i + 1) rows) (terms_bytes i 0 (terms_of l) (names_of_terms l names))
+    (rows_bytes (i + 1) rows (All-tail HasNames l rows h)))
+
+own_bytes : (c : Claim) → IsBounded c → All IsProofByte (flat_map (λ l. l.bytes) (own_lines c))
+own_bytes (Minimal f) within = All-nil IsProofByte
+own_bytes (NotMinimal f v) within = both (violation_line v) [] (violation_bytes v) (All-nil IsProofByte)
+own_bytes (Cut r rows) within = All-flat_map IsProofByte (λ (l : OwnLine). l.bytes) (row_lines 0 rows) (rows_bytes 0 rows within.1)
 
 pub proof_bytes : (c : Claim) (text : List ℕ) → IsBounded c → IsProofText c text → All IsProofByte text
 proof_bytes c text within p =
@@ -142,7 +211,7 @@ proof_bytes c text within p =
     (line_bytes (codes "claim " ++ claim_word c)
     (joined (codes "claim ") (claim_word c) (known (codes "claim ") refl) (claim_word_printable c))))
     (subject_bytes c p.subject within p.are_subject_lines))
-    (own_bytes c))
+    (own_bytes c within))
     (line_bytes (codes "end") (known (codes "end") refl)))
 
 pub proof_is_ended : (c : Claim) (text : List ℕ) → IsProofText c text → IsEnded text

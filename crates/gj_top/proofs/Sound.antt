@@ -13,6 +13,8 @@ use Rattle.gj_top.specs.Minimal.{IsVerdict, IsTrueVerdict, minimal, minimal_json
 use Rattle.gj_top.specs.Show.{show, show_json}
 use Rattle.gj_top.specs.Check.{check}
 use Rattle.gj_top.specs.Faces.{faces}
+use Rattle.gj_top.specs.Cut.{cut}
+use Rattle.gj_top.proofs.CutForm.{cut_input_refuses_only_others}
 use Rattle.gj_top.specs.Command.{task_with, task_for}
 use Rattle.gj_top.proofs.TextLaws.{function_text_has_no_fault, proof_text_has_no_fault}
 
@@ -69,13 +71,16 @@ check_sound = record { form = proof_text_sound; work = λ c text accepted. (acce
 pub faces_sound : IsSound faces
 faces_sound = record { form = function_text_sound; work = λ f text listed. listed }
 
+pub cut_sound : IsSound cut
+cut_sound = record { form = cut_input_refuses_only_others; work = λ input text made. made.1 }
+
 -- the task of each request is sound
 sound_with : (c : Command) (json : Bool) → IsSound (task_with c json)
 sound_with Minimal true = minimal_json_sound
 sound_with Minimal false = minimal_sound
 sound_with Check json = check_sound
 sound_with Extreme json = show_sound
-sound_with Cut json = show_sound
+sound_with Cut json = cut_sound
 sound_with Show true = show_json_sound
 sound_with Show false = show_sound
 sound_with Faces json = faces_sound

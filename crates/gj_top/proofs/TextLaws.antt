@@ -8,7 +8,7 @@ pub use Rattle.gj_ftext.proofs.Canonical.{canonical_text_is_whole as canonical_t
 use Rattle.gj_ftext.proofs.FunctionTexts.{function_is_within}
 pub use Rattle.gj_ftext.proofs.OneCanonical.{one_canonical_text as one_canonical}
 pub use Rattle.gj_ftext.proofs.OneText.{one_whole_function as one_function, no_fault_of_whole as function_text_has_no_fault}
-use Rattle.gj_proof.specs.ProofText.{IsProofText}
+use Rattle.gj_proof.specs.ProofText.{IsProofText, IsShort}
 use Rattle.gj_proof.specs.FirstFault.{IsFirstFault}
 use Rattle.gj_proof.specs.declared.claim.Claim.{Claim}
 use Rattle.gj_proof.specs.declared.claim.Claim.TheVariants.{Minimal, NotMinimal}
@@ -37,5 +37,5 @@ one_proof text c d p q = one_claim c d text p.bounded q.bounded p.spelled q.spel
 pub proof_text_has_no_fault : (text : List ℕ) (c : Claim) (n : ℕ) (reason : Reason) → IsProofOf text c → IsFirstFault text n reason → ⊥
 proof_text_has_no_fault text c n reason p fault = no_fault c text n reason p.bounded p.spelled fault
 
-pub proof_text_is_short : (text : List ℕ) (c : Claim) → IsProofOf text c → length text ≤ 1000000
-proof_text_is_short text c p = text_is_short c text p.bounded p.spelled
+pub proof_text_is_short : (text : List ℕ) (c : Claim) → IsShort c → IsProofOf text c → length text ≤ 1000000
+proof_text_is_short text c short p = text_is_short c text short p.bounded p.spelled

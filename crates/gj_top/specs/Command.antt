@@ -3,13 +3,14 @@ use Rattle.std.specs.Prelude.{Bool, true, false, IsTrue, List, map, String, stri
 use Rattle.std.specs.declared.alloc.Global.{Global}
 use Rattle.gj_words.specs.Grammar.{SpellRequest}
 use Rattle.gj_words.specs.declared.requests.Command.{Command}
-use Rattle.gj_words.specs.declared.requests.Command.TheVariants.{Minimal, Show, Check, Faces}
+use Rattle.gj_words.specs.declared.requests.Command.TheVariants.{Minimal, Cut, Show, Check, Faces}
 use Rattle.gj_words.specs.declared.requests.Request.{Request}
 use Rattle.gj_top.specs.Task.{Task}
 use Rattle.gj_top.specs.Minimal.{minimal, minimal_json}
 use Rattle.gj_top.specs.Show.{show, show_json}
 use Rattle.gj_top.specs.Check.{check}
 use Rattle.gj_top.specs.Faces.{faces}
+use Rattle.gj_top.specs.Cut.{cut}
 
 -- the commands that are built
 abbrev pub is_built : Command → Bool
@@ -17,6 +18,7 @@ is_built Minimal = true
 is_built Show = true
 is_built Check = true
 is_built Faces = true
+is_built Cut = true
 is_built _ = false
 
 -- the task of a command with the flag or without it; that of `show` for those not built, which no words name
@@ -26,6 +28,7 @@ task_with Minimal false = minimal
 task_with Show true = show_json
 task_with Check json = check
 task_with Faces json = faces
+task_with Cut json = cut
 task_with _ json = show
 
 abbrev pub task_for : Request → Task

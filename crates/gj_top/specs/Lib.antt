@@ -6,6 +6,8 @@ pub mod Show
 pub mod Check
 pub mod Continuity
 pub mod Faces
+pub mod Cut
+pub mod CutSteps
 pub mod Command
 pub mod Reply
 pub mod Answer

@@ -44,5 +44,6 @@ fn accepted(alloc: Global, claim: &Claim) -> Result<Vec<u8>, AllocError>
     match claim {
         Claim::Minimal(_) => Vec::from_slice(alloc, b"accepted minimal\n"),
         Claim::NotMinimal(_, _) => Vec::from_slice(alloc, b"accepted not-minimal\n"),
+        Claim::Cut(_, _) => Vec::from_slice(alloc, b"accepted cut\n"),
     }
 }

@@ -4,7 +4,7 @@ ghost use Rattle.gj_top.specs.Command.{is_built, IsFoundIn, task_for};
 ghost use Rattle.gj_top.specs.Task.{reads, IsAnswering};
 
 use crate::reply::{Reply, Unanswered};
-use crate::{check, faces, minimal, show};
+use crate::{check, cut, faces, minimal, show};
 use gj_words::{Command, Request, WordFault, read_words};
 use std::alloc::{AllocError, Global};
 
@@ -20,13 +20,17 @@ pub(crate) fn request_of(alloc: Global, words: &[String]) -> Result<Option<Reque
     }
 }
 
-/// Whether the command is built. `extreme`, `cut` and `demo` are not yet.
+/// Whether the command is built. `extreme` and `demo` are not yet.
 fn is_built(command: Command) -> bool
     ensures { result ≡ is_built command }
 {
     match command {
-        Command::Minimal | Command::Show | Command::Check | Command::Faces => true,
-        Command::Extreme | Command::Cut | Command::Demo(_) => false,
+        Command::Minimal
+        | Command::Show
+        | Command::Check
+        | Command::Faces
+        | Command::Cut => true,
+        Command::Extreme | Command::Demo(_) => false,
     }
 }
 
@@ -40,6 +44,7 @@ pub(crate) fn reads_input(request: Request) -> bool
         Command::Show => true,
         Command::Check => true,
         Command::Faces => true,
+        Command::Cut => true,
         _ => unreachable!(),
     }
 }
@@ -56,6 +61,7 @@ pub(crate) fn reply_to(alloc: Global, request: Request, input: &[u8]) -> Result<
         Command::Show => show::reply(alloc, input),
         Command::Check => check::reply(alloc, input),
         Command::Faces => faces::reply(alloc, input),
+        Command::Cut => cut::reply(alloc, input),
         _ => unreachable!(),
     }
 }

@@ -46,7 +46,7 @@ pub(crate) fn proof_of(alloc: Global, input: &[u8]) -> Result<Proof, Unanswered>
 }
 
 /// The refusal of an input for a line of it.
-fn refusal(alloc: Global, at_line: u64, reason: Reason) -> Unanswered
+pub(crate) fn refusal(alloc: Global, at_line: u64, reason: Reason) -> Unanswered
     ensures { IsRefusalOf at_line reason result }
 {
     match numbered_line(alloc, b"refused line ", at_line, reason.word()) {

@@ -1,6 +1,6 @@
 //! Laws between the commands: of their answers, the limit of length included, and of their replies, whatever the length.
 
-ghost use Rattle.std.specs.Prelude.{◌≡◌, ℕ, List};
+ghost use Rattle.std.specs.Prelude.{◌≡◌, ◌≤◌, ℕ, List, length};
 ghost use Rattle.gj_top.specs.declared.reply.End.{End};
 ghost use Rattle.gj_top.specs.declared.reply.End.TheVariants as end;
 ghost use Rattle.gj_top.specs.declared.status.Status.{Status};
@@ -11,14 +11,20 @@ ghost use Rattle.gj_top.specs.Task.{IsReply};
 ghost use Rattle.gj_top.specs.Minimal.{minimal};
 ghost use Rattle.gj_top.specs.Show.{show};
 ghost use Rattle.gj_top.specs.Check.{check};
-ghost use Rattle.gj_top.specs.Answer.{IsAnswerTo};
+ghost use Rattle.gj_top.specs.Cut.{cut};
+ghost use Rattle.gj_top.specs.Answer.{IsAnswerTo, input_limit};
 
-/// Every proof that `minimal` writes is one that `check` accepts.
+/// Every proof that `minimal` writes is one that `check` accepts, and so is every proof that `cut` writes, where its text is
+/// within the limit of length of an input.
 pub fn written_proofs_are_accepted()
     ensures answer { (input text answer : List ℕ) (s : Status) →
         IsAnswerTo minimal input Done text → IsAnswerTo check text s answer → s ≡ Done }
     ensures reply { (input text answer : List ℕ) (e : End) →
         IsReply minimal input end.Done text → IsReply check text e answer → e ≡ end.Done }
+    ensures cuts { (input text answer : List ℕ) (s : Status) → length text ≤ input_limit →
+        IsAnswerTo cut input Done text → IsAnswerTo check text s answer → s ≡ Done }
+    ensures cuts_reply { (input text answer : List ℕ) (e : End) →
+        IsReply cut input end.Done text → IsReply check text e answer → e ≡ end.Done }
 {}
 
 /// What `show` writes is a function text of the function that it read, and `show` writes it again as it stands.

@@ -24,5 +24,6 @@ fn claim_word(claim: &Claim) -> &'static str
     match claim {
         Claim::Minimal(_) => "minimal",
         Claim::NotMinimal(_, _) => "not-minimal",
+        Claim::Cut(_, _) => "cut",
     }
 }

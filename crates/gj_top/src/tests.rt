@@ -89,6 +89,11 @@ fn proofs_are_judged(rt: HostRuntime) -> Result<(), Fail> {
             Status::Rejected,
             "rejected line 2 minimal\n",
         ),
+        (
+            "gj-proof 1\nclaim cut\nrule gmic\ncut x3 12/5\nterm s1 3/4 5/12\nend\n",
+            Status::Done,
+            "accepted cut\n",
+        ),
         (NO_VIOLATION, Status::Rejected, "rejected line 7 point\n"),
         (
             "gj-proof 1\nclaim minimal\norder 5\nf 3/5\npoint 0\npoint 1/3\npoint 2/3\npoint 1\npoint 1/2\n",
@@ -123,8 +128,6 @@ fn other_words_are_refused(rt: HostRuntime) -> Result<(), Fail> {
         "demo 1",
         "extreme",
         "extreme --json",
-        "cut",
-        "faces",
     ] {
         let (status, sink) = ran(rt.alloc(), line, FIVE_PIECES.as_bytes(), &[], &[])?;
         assert_eq!(rt; status, Status::Words, "on {line}");
@@ -138,6 +141,41 @@ fn other_inputs_are_refused(rt: HostRuntime) -> Result<(), Fail> {
     let (status, sink) = ran(rt.alloc(), "minimal", b"", &[], &[])?;
     assert_eq!(rt; status, Status::Input);
     assert_eq!(rt; sink.taken(), b"refused line 1 form\n".as_slice());
+    Ok(())
+}
+
+/// A function that is minimal, and a row of a tableau behind it.
+const ROW_BY_FIVE_PIECES: &str = "gj-function 1\norder 5\nf 3/5\npoint 0\npoint 1/3\npoint 2/3\npoint 1\npoint 1/2\nend\nbasic,rhs,x1,x2\nx0,8/5,7/5,-1/5\n";
+
+#[test]
+fn cuts_are_written(rt: HostRuntime) -> Result<(), Fail> {
+    for (input, status, output) in [
+        (
+            ROW_BY_FIVE_PIECES,
+            Status::Done,
+            "gj-proof 1\nclaim cut\norder 5\nf 3/5\npoint 0\npoint 1/3\npoint 2/3\npoint 1\npoint 1/2\ncut x0 8/5\nterm x1 7/5 2/3\nterm x2 -1/5 1/2\nend\n",
+        ),
+        (
+            "gj-rule 1\ngmic\nend\nbasic,rhs,s1,s2\nx3,2.4,0.75,-1.3\nx4,3,1/2,0\n",
+            Status::Done,
+            "gj-proof 1\nclaim cut\nrule gmic\ncut x3 12/5\nterm s1 3/4 5/12\nterm s2 -13/10 1/2\nskip x4 3 integral\nend\n",
+        ),
+        (
+            "gj-function 1\norder 5\nf 3/5\npoint 0\npoint 1/10\npoint 9/10\npoint 1\npoint 1/2\nend\nbasic,rhs,x1,x2\nx0,8/5,7/5,-1/5\n",
+            Status::NoFunction,
+            "no function superadditive 1/5 1/5\n",
+        ),
+        (
+            "gj-rule 1\ngmic\nend\nbasic,rhs,x1\nx0,8/5\n",
+            Status::Input,
+            "refused record 2 fields\n",
+        ),
+        ("gj-rule 1\ngmix\nend\n", Status::Input, "refused line 2 form\n"),
+    ] {
+        let (ended, sink) = ran(rt.alloc(), "cut", input.as_bytes(), &[], &[])?;
+        assert_eq!(rt; ended, status, "on {input}");
+        assert_eq!(rt; sink.taken(), output.as_bytes(), "on {input}");
+    }
     Ok(())
 }
 

@@ -6,7 +6,7 @@ use Rattle.gj_top.proofs.check.judgement.Goals as goal
 
 pub returns-in_ok-accepted-in-Ok : goal.returns-in_ok-accepted-in-Ok
 returns-in_ok-accepted-in-Ok c =
-    let rules : MeetsRules c.args.proof.now = c.in-Ok.ensures.ok.0 refl in
+    let rules : MeetsRules c.args.proof.now = c.in-Ok.ensures.ok in
     record {
       rules = rules;
       holds = meaning_of_rules c.args.proof.now c.requires rules;

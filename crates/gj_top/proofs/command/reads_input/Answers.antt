@@ -1,4 +1,4 @@
-use Rattle.gj_words.specs.declared.requests.Command.TheVariants.{Minimal, Show, Check, Faces}
+use Rattle.gj_words.specs.declared.requests.Command.TheVariants.{Minimal, Show, Check, Faces, Cut}
 use Rattle.gj_top.proofs.Commands.{each_reads}
 use Rattle.gj_top.proofs.command.reads_input.Goals as goal
 
@@ -13,3 +13,6 @@ returns-in-Check c = rw c.in-Check.is (each_reads Check c.args.request.json)
 
 pub returns-in-Faces : goal.returns-in-Faces
 returns-in-Faces c = rw c.in-Faces.is (each_reads Faces c.args.request.json)
+
+pub returns-in-Cut : goal.returns-in-Cut
+returns-in-Cut c = rw c.in-Cut.is (each_reads Cut c.args.request.json)

@@ -1,0 +1,93 @@
+-- What follows a rule, and why no input of `cut` is both in its form and refused.
+use Rattle.std.proofs.Common.{◌≡◌, ℕ, List, sym, subst}
+use Rattle.gj_lex.specs.declared.reason.Reason.{Reason}
+use Rattle.gj_ftext.specs.RuleText.{BeginsAsRule, IsFirstFaultOfRule}
+use Rattle.gj_ftext.specs.FirstFault.{IsFirstFault}
+use Rattle.gj_ftext.proofs.OneText.{one_function_text, no_fault_of_text}
+use Rattle.gj_ftext.proofs.FunctionTexts.{function_is_within}
+use Rattle.gj_ftext.proofs.RuleTexts.{one_end, no_fault_of_rule}
+use Rattle.gj_row.specs.TableauText.{records_of, IsTableauText}
+use Rattle.gj_row.proofs.OneTableau.{no_first_fault}
+use Rattle.gj_row.specs.declared.tableau.Tableau.{Tableau}
+use Rattle.gj_proof.specs.declared.cut.CutRule.{CutRule}
+use Rattle.gj_proof.specs.declared.cut.CutRule.TheVariants.{Gmic, Table}
+use Rattle.gj_top.specs.declared.reply.End.{End}
+use Rattle.gj_top.specs.declared.reply.Unanswered.{Unanswered}
+use Rattle.gj_top.specs.declared.reply.Unanswered.TheVariants.{Refused, Memory}
+use Rattle.gj_top.specs.Task.{IsRefusal, IsReply}
+use Rattle.gj_top.specs.Forms.{IsRefusalOf}
+use Rattle.gj_top.specs.Cut.{BeginsWithRule, CutInput, SpellsCutInput, RefusesCutInput, IsCutReply, cut_input, cut}
+use Rattle.gj_top.specs.Cut.RefusesCutInput.{of_rule, of_function, of_tableau}
+use Rattle.gj_top.specs.CutSteps.{IsBoundedRule, IsTableauRefusal}
+
+-- ---- what follows a rule
+
+pub one_rest : (text : List ℕ) (r s : CutRule) (a b : List ℕ) → BeginsWithRule text r a → BeginsWithRule text s b → a ≡ b
+one_rest text Gmic Gmic a b h k = one_end text a b h.1 k.1
+one_rest text Gmic (Table g) a b h k = absurd (k.0 h.0)
+one_rest text (Table f) Gmic a b h k = absurd (h.0 k.0)
+one_rest text (Table f) (Table g) a b h k = (one_function_text text f g a b h.1 k.1).1
+
+-- the function that a text begins with is within the limits
+pub rule_is_bounded : (text : List ℕ) (r : CutRule) (rest : List ℕ) → BeginsWithRule text r rest → IsBoundedRule r
+rule_is_bounded text Gmic rest h = tt
+rule_is_bounded text (Table f) rest h = function_is_within text f rest h.1
+
+-- ---- refusals
+
+no_rule_fault : (text : List ℕ) (r : CutRule) (rest : List ℕ) (n : ℕ) (e : Reason) → BeginsWithRule text r rest →
+    BeginsAsRule text → IsFirstFaultOfRule text n e → ⊥
+no_rule_fault text Gmic rest n e h begins fault = no_fault_of_rule text rest n e h.1 fault
+no_rule_fault text (Table f) rest n e h begins fault = h.0 begins
+
+no_function_fault : (text : List ℕ) (r : CutRule) (rest : List ℕ) (n : ℕ) (e : Reason) → BeginsWithRule text r rest →
+    (BeginsAsRule text → ⊥) → IsFirstFault text n e → ⊥
+no_function_fault text Gmic rest n e h begins fault = begins h.0
+no_function_fault text (Table f) rest n e h begins fault = no_fault_of_text text rest f n e h.1 fault
+
+pub cut_input_refuses_only_others : (input text : List ℕ) (thing : CutInput) → SpellsCutInput input thing → RefusesCutInput input text → ⊥
+cut_input_refuses_only_others input text thing h (of_rule begins fault) =
+    no_rule_fault input thing.rule h.rest fault.at_line fault.reason h.rule begins fault.first
+cut_input_refuses_only_others input text thing h (of_function begins fault) =
+    no_function_fault input thing.rule h.rest fault.at_line fault.reason h.rule begins fault.first
+cut_input_refuses_only_others input text thing h (of_tableau fault) =
+    let same : h.rest ≡ fault.rest = one_rest input thing.rule fault.rule h.rest fault.rest h.rule fault.begins in
+    no_first_fault (records_of fault.rest) thing.tableau fault.record_number fault.reason
+    (subst (λ rest. IsTableauText rest thing.tableau) same h.tableau) fault.first
+
+-- the refusal for the first fault of a rule text, of a function text, of what follows either
+pub refusal_of_rule : (input : List ℕ) (n : ℕ) (e : Reason) (u : Unanswered) → BeginsAsRule input → IsFirstFaultOfRule input n e →
+    IsRefusalOf n e u → IsRefusal cut_input input u
+refusal_of_rule input n e (Refused text) begins first spelled =
+    of_rule begins (record { at_line = n; reason = e; first = first; spelled = spelled })
+refusal_of_rule input n e (Memory a) begins first spelled = tt
+
+pub refusal_of_function : (input : List ℕ) (n : ℕ) (e : Reason) (u : Unanswered) → (BeginsAsRule input → ⊥) → IsFirstFault input n e →
+    IsRefusalOf n e u → IsRefusal cut_input input u
+refusal_of_function input n e (Refused text) begins first spelled =
+    of_function begins (record { at_line = n; reason = e; first = first; spelled = spelled })
+refusal_of_function input n e (Memory a) begins first spelled = tt
+
+pub refusal_of_tableau : (input rest : List ℕ) (r : CutRule) (u : Unanswered) → BeginsWithRule input r rest → IsTableauRefusal rest u →
+    IsRefusal cut_input input u
+refusal_of_tableau input rest r (Refused text) begins fault = of_tableau (record {
+  «rule» = r;
+  rest = rest;
+  begins = begins;
+  record_number = fault.0;
+  reason = fault.1;
+  first = fault.2;
+  spelled = fault.3;
+})
+refusal_of_tableau input rest r (Memory a) begins fault = tt
+
+-- ---- the reply
+
+-- the reply to the rule and the tableau that an input spells is that to the input
+pub reply_of : (input rest : List ℕ) (r : CutRule) (t : Tableau) (end : End) (text : List ℕ) → BeginsWithRule input r rest → IsTableauText rest t →
+    IsCutReply (record { «rule» = r; tableau = t }) end text → IsReply cut input end text
+reply_of input rest r t end text begins spelled replied = record {
+  thing = record { «rule» = r; tableau = t };
+  spelled = record { rest = rest; «rule» = begins; tableau = spelled };
+  replied = replied;
+}

@@ -1,0 +1,122 @@
+-- The line of a row, from its cut.
+use Rattle.std.proofs.Common.{◌≡◌, ℕ, ◌<◌, List, [], ◌∷◌, All, length, get_or, sym, ap, subst, ◌∙◌, refl}
+use Rattle.std.specs.List.{AllZip}
+use Rattle.std.proofs.lemmas.List.Elements.{All-nil, All-cons, All-head, All-tail}
+use Rattle.gj_frac.specs.declared.Frac.{Frac}
+use Rattle.gj_shape.specs.FunctionData.{FunctionData, IsWithinBounds}
+use Rattle.gj_rule.specs.Kept.{KeptRule}
+use Rattle.gj_rule.specs.Kind.{IsKindValue}
+use Rattle.gj_rule.specs.declared.kind.RuleKind.{RuleKind}
+use Rattle.gj_rule.specs.declared.kind.RuleKind.TheVariants as kind
+use Rattle.gj_row.specs.TableauLimits.{IsWithinLimits}
+use Rattle.gj_row.specs.declared.tableau.Entry.{Entry}
+use Rattle.gj_row.specs.declared.tableau.Row.{Row}
+use Rattle.gj_cut.specs.RowCuts.{HasPart, IsTermOfKind, IsCutOf, IsCutOfKind, IsGmicCutOf}
+use Rattle.gj_cut.specs.declared.cut.RowCut.{RowCut}
+use Rattle.gj_cut.specs.declared.cut.RowCut.TheVariants as row_cut
+use Rattle.gj_cut.specs.declared.cut.Term.{Term}
+use Rattle.gj_cut.proofs.RowTerms.{cut_of_kind}
+use Rattle.gj_proof.specs.Rules.{IsWhole, MeetsFraction, MeetsValue}
+use Rattle.gj_proof.specs.declared.cut.CutLine.{CutLine}
+use Rattle.gj_proof.specs.declared.cut.CutLine.TheVariants.{Cut, Skip}
+use Rattle.gj_proof.specs.declared.cut.CutRule.{CutRule}
+use Rattle.gj_proof.specs.declared.cut.CutRule.TheVariants.{Gmic, Table}
+use Rattle.gj_proof.specs.declared.cut.CutTerm.{CutTerm}
+use Rattle.gj_proof.specs.declared.cut.SkipReason.TheVariants.{Integral, Other}
+use Rattle.gj_top.specs.Cut.{IsTermFor, IsLineFor}
+use Rattle.gj_top.specs.CutSteps.{AreInColumns, IsNamedTerm, IsLineOf}
+use Rattle.gj_top.proofs.CutParts.{part_of_cut, part_of_rule, gmic_value_at}
+
+-- ---- the columns of terms
+
+terms_in_columns : (k : RuleKind) (n : ℕ) (entries : List Entry) (terms : List Term) → All (λ e. e.column < n) entries →
+    AllZip (IsTermOfKind k) entries terms → All (λ t. t.column < n) terms
+terms_in_columns k n [] [] below h = All-nil (λ t. t.column < n)
+terms_in_columns k n [] (t ∷ terms) below h = absurd h
+terms_in_columns k n (e ∷ entries) [] below h = absurd h
+terms_in_columns k n (e ∷ entries) (t ∷ terms) below h =
+    All-cons (λ (t : Term). t.column < n) t terms
+    (subst (λ c. c < n) (sym h.0.column_is) (All-head (λ (e : Entry). e.column < n) e entries below))
+    (terms_in_columns k n entries terms (All-tail (λ (e : Entry). e.column < n) e entries below) h.1)
+
+cut_in_columns : (k : RuleKind) (n : ℕ) (row : Row) (cut : RowCut) → IsWithinLimits n row → IsCutOfKind k row cut → AreInColumns n cut
+cut_in_columns k n row (row_cut.Cut terms) limits h = terms_in_columns k n row.entries terms limits.below h.2
+cut_in_columns k n row row_cut.Integral limits h = tt
+cut_in_columns k n row row_cut.OtherFraction limits h = tt
+
+pub gmic_in_columns : (n : ℕ) (row : Row) (cut : RowCut) → IsWithinLimits n row → IsGmicCutOf row cut → AreInColumns n cut
+gmic_in_columns n row (row_cut.Cut terms) limits (f, h) = cut_in_columns (kind.Gmic f) n row (row_cut.Cut terms) limits h
+gmic_in_columns n row row_cut.Integral limits h = tt
+gmic_in_columns n row row_cut.OtherFraction limits h = tt
+
+pub rule_in_columns : {E : Type 0} (answers : E → Frac → Frac → Type 0) (rule : KeptRule E) (n : ℕ) (row : Row) (cut : RowCut) →
+    IsWithinLimits n row → IsCutOf answers rule row cut → AreInColumns n cut
+rule_in_columns answers rule n row cut limits h = cut_in_columns rule.kind n row cut limits (cut_of_kind answers rule row cut h)
+
+-- ---- the terms
+
+named_for : (r : CutRule) (k : RuleKind) (columns : List (List ℕ)) (row : Row) (entries : List Entry) (terms : List Term) (named : List CutTerm) →
+    ((entry y : Frac) (name : List ℕ) → IsKindValue k entry y → MeetsValue r row.rhs (record { name = name; entry = entry; cut = y })) →
+    AllZip (IsTermOfKind k) entries terms → AllZip (IsNamedTerm columns) terms named → AllZip (IsTermFor r columns row) entries named
+named_for r k columns row [] [] [] value h n = tt
+named_for r k columns row [] [] (c ∷ named) value h n = absurd n
+named_for r k columns row [] (t ∷ terms) named value h n = absurd h
+named_for r k columns row (e ∷ entries) [] named value h n = absurd h
+named_for r k columns row (e ∷ entries) (t ∷ terms) [] value h n = absurd n
+named_for r k columns row (e ∷ entries) (t ∷ terms) (c ∷ named) value h n =
+    let entry_is : c.entry ≡ e.value = n.0.entry ∙ h.0.entry_is in
+    let cut_is : t.cut ≡ c.cut = sym n.0.cut in
+    let held : IsKindValue k c.entry c.cut = subst (λ y. IsKindValue k c.entry y) cut_is
+    (subst (λ x. IsKindValue k x t.cut) (sym entry_is) h.0.value_is) in (
+      record {
+        name = n.0.name ∙ ap (λ i. get_or columns i []) h.0.column_is;
+        entry = entry_is;
+        value = value c.entry c.cut c.name held;
+      },
+      named_for r k columns row entries terms named value h.1 n.1,
+    )
+
+-- ---- the lines
+
+pub gmic_line_for : (columns : List (List ℕ)) (row : Row) (cut : RowCut) (line : CutLine) → IsGmicCutOf row cut → IsLineOf columns row cut line →
+    IsLineFor Gmic columns row line
+gmic_line_for columns row (row_cut.Cut terms) (Cut name right named) (f, h) l = (
+  l.0,
+  l.1,
+  λ whole. h.0 (subst IsWhole l.1 whole),
+  named_for Gmic (kind.Gmic f) columns row row.entries terms named (λ entry y name v. gmic_value_at row.rhs f entry y h.0 h.1 v) h.2 l.2,
+)
+gmic_line_for columns row (row_cut.Cut terms) (Skip name right reason) h l = absurd l
+gmic_line_for columns row row_cut.Integral (Skip name right Integral) h l = (l.0, l.1, subst IsWhole (sym l.1) h)
+gmic_line_for columns row row_cut.Integral (Skip name right Other) h l = absurd l
+gmic_line_for columns row row_cut.Integral (Cut name right named) h l = absurd l
+gmic_line_for columns row row_cut.OtherFraction line h l = absurd h
+
+function_line : (f : FunctionData) (columns : List (List ℕ)) (row : Row) (cut : RowCut) (line : CutLine) → IsWithinBounds f →
+    IsCutOfKind (kind.Table f) row cut → IsLineOf columns row cut line → IsLineFor (Table f) columns row line
+function_line f columns row (row_cut.Cut terms) (Cut name right named) within h l = (
+  l.0,
+  l.1,
+  part_of_cut right f.place f.order within.place_high (subst (HasPart (kind.Table f)) (sym l.1) h.1),
+  named_for (Table f) (kind.Table f) columns row row.entries terms named (λ entry y name v. v) h.2 l.2,
+)
+function_line f columns row (row_cut.Cut terms) (Skip name right reason) within h l = absurd l
+function_line f columns row row_cut.Integral (Skip name right Integral) within h l = (l.0, l.1, subst IsWhole (sym l.1) h)
+function_line f columns row row_cut.Integral (Skip name right Other) within h l = absurd l
+function_line f columns row row_cut.Integral (Cut name right named) within h l = absurd l
+function_line f columns row row_cut.OtherFraction (Skip name right Other) within h l = (
+  l.0,
+  l.1,
+  (
+    λ whole. h.0 (subst IsWhole l.1 whole),
+    λ part. h.1 (subst (HasPart (kind.Table f)) l.1 (part_of_rule right f.place f.order part)),
+  ),
+)
+function_line f columns row row_cut.OtherFraction (Skip name right Integral) within h l = absurd l
+function_line f columns row row_cut.OtherFraction (Cut name right named) within h l = absurd l
+
+pub function_line_for : {E : Type 0} (answers : E → Frac → Frac → Type 0) (rule : KeptRule E) (f : FunctionData) (columns : List (List ℕ))
+    (row : Row) (cut : RowCut) (line : CutLine) → IsWithinBounds f → rule.kind ≡ kind.Table f → IsCutOf answers rule row cut →
+    IsLineOf columns row cut line → IsLineFor (Table f) columns row line
+function_line_for answers rule f columns row cut line within is h l =
+    function_line f columns row cut line within (subst (λ k. IsCutOfKind k row cut) is (cut_of_kind answers rule row cut h)) l

@@ -1,0 +1,119 @@
+-- The command `cut`: a function or a rule, and a tableau behind it, are answered with the cuts of its rows (Gomory and Johnson
+-- 1972; the form is own).
+use Rattle.std.specs.Prelude.{ℕ, ◌≡◌, ◌⊎◌, List, [], ◌++◌, All, codes, decimal, get_or}
+use Rattle.std.specs.List.{AllZip}
+use Rattle.gj_shape.specs.FirstViolation.{IsFirstViolation}
+use Rattle.gj_shape.specs.Table.{IsMinimal}
+use Rattle.gj_shape.specs.declared.violations.Violation.{Violation}
+use Rattle.gj_lines.specs.FunctionLines.{line}
+use Rattle.gj_ftext.specs.FunctionText.{IsFunctionText}
+use Rattle.gj_ftext.specs.FirstFault.{IsFirstFault}
+use Rattle.gj_ftext.specs.RuleText.{BeginsAsRule, IsRuleText, IsFirstFaultOfRule}
+use Rattle.gj_row.specs.FirstFault.{IsFirstFault as IsFirstFaultOfTableau, reason_word}
+use Rattle.gj_row.specs.TableauText.{IsTableauText}
+use Rattle.gj_row.specs.declared.faults.RowReason.{RowReason}
+use Rattle.gj_row.specs.declared.tableau.Entry.{Entry}
+use Rattle.gj_row.specs.declared.tableau.Row.{Row}
+use Rattle.gj_row.specs.declared.tableau.Tableau.{Tableau}
+use Rattle.gj_proof.specs.Meaning.{CutLineHolds}
+use Rattle.gj_proof.specs.ProofText.{IsProofText, violation_line}
+use Rattle.gj_proof.specs.Rules.{MeetsFraction, MeetsRules, MeetsValue}
+use Rattle.gj_proof.specs.declared.claim.Claim.TheVariants as claim
+use Rattle.gj_proof.specs.declared.cut.CutLine.{CutLine}
+use Rattle.gj_proof.specs.declared.cut.CutLine.TheVariants.{Cut, Skip}
+use Rattle.gj_proof.specs.declared.cut.CutRule.{CutRule}
+use Rattle.gj_proof.specs.declared.cut.CutRule.TheVariants.{Gmic, Table}
+use Rattle.gj_proof.specs.declared.cut.CutTerm.{CutTerm}
+use Rattle.gj_top.specs.declared.reply.End.{End}
+use Rattle.gj_top.specs.declared.reply.End.TheVariants.{Done, NoFunction}
+use Rattle.gj_top.specs.Task.{Form, Task}
+use Rattle.gj_top.specs.Task.Form.{reading}
+use Rattle.gj_top.specs.Forms.{NamesFault}
+
+-- ---- the input
+
+-- a rule, and the rows of which it makes cuts
+pub record CutInput : Type 0 where
+  pub «rule» : CutRule
+  pub tableau : Tableau
+
+-- the text begins with a rule text or a function text, and the rest follows its line `end`
+abbrev pub BeginsWithRule : List ℕ → CutRule → List ℕ → Type 0
+BeginsWithRule text Gmic rest = BeginsAsRule text × IsRuleText text rest
+BeginsWithRule text (Table f) rest = (BeginsAsRule text → ⊥) × IsFunctionText text f rest
+
+-- and the rest is a tableau
+pub record SpellsCutInput (text : List ℕ) (input : CutInput) : Type 0 where
+  pub rest : List ℕ
+  pub «rule» : BeginsWithRule text input.rule rest
+  pub tableau : IsTableauText rest input.tableau
+
+-- the line that refuses an input for the n-th record of its tableau
+abbrev pub refused_record_line : ℕ → RowReason → List ℕ
+refused_record_line n reason = line (codes "refused record " ++ decimal n ++ codes " " ++ reason_word reason)
+
+-- the text names the record that is the first at fault in what follows a rule, and the reason
+pub record NamesRecord (input text : List ℕ) : Type 0 where
+  pub «rule» : CutRule
+  pub rest : List ℕ
+  pub begins : BeginsWithRule input «rule» rest
+  pub record_number : ℕ
+  pub reason : RowReason
+  pub first : IsFirstFaultOfTableau rest record_number reason
+  pub spelled : text ≡ refused_record_line record_number reason
+
+-- why an input is refused: its rule text, its function text, or its tableau is at fault
+pub data RefusesCutInput (input text : List ℕ) : Type 0 where
+  of_rule : BeginsAsRule input → NamesFault (IsFirstFaultOfRule input) text → RefusesCutInput input text
+  of_function : (BeginsAsRule input → ⊥) → NamesFault (IsFirstFault input) text → RefusesCutInput input text
+  of_tableau : NamesRecord input text → RefusesCutInput input text
+
+abbrev pub cut_input : Form CutInput
+cut_input = reading SpellsCutInput RefusesCutInput
+
+-- ---- the answer
+
+-- the term of an entry: the name of its column, the entry, and the rule's value there for this right side
+pub record IsTermFor (r : CutRule) (columns : List (List ℕ)) (row : Row) (e : Entry) (t : CutTerm) : Type 0 where
+  pub name : t.name ≡ get_or columns e.column []
+  pub entry : t.entry ≡ e.value
+  pub value : MeetsValue r row.rhs t
+
+-- the line of a row: its basic variable and its right side, and a term for each entry that is not 0, in the order of the columns,
+-- or why the row has no cut
+abbrev pub IsLineFor : CutRule → List (List ℕ) → Row → CutLine → Type 0
+IsLineFor r columns row (Cut name right terms) = (name ≡ row.basic) × (right ≡ row.rhs) × MeetsFraction r (Cut name right terms)
+    × AllZip (IsTermFor r columns row) row.entries terms
+IsLineFor r columns row (Skip name right reason) = (name ≡ row.basic) × (right ≡ row.rhs) × MeetsFraction r (Skip name right reason)
+
+-- the rule makes cuts: a function is minimal
+abbrev pub MakesCuts : CutRule → Type 0
+MakesCuts Gmic = Unit {0}
+MakesCuts (Table f) = IsMinimal f
+
+-- the text is the proof text of a line for each row, in their order; each cut holds at every solution of its row
+pub record AreCutsOf (input : CutInput) (text : List ℕ) : Type 0 where
+  pub lines : List CutLine
+  pub lines_are : AllZip (IsLineFor input.rule input.tableau.columns) input.tableau.rows lines
+  pub rules : MeetsRules (claim.Cut input.rule lines)
+  pub hold : All CutLineHolds lines
+  pub spelled : IsProofText (claim.Cut input.rule lines) text
+
+-- the text names the first violation of a function that is not minimal
+abbrev pub NamesViolation : CutRule → List ℕ → Type 0
+NamesViolation Gmic text = ⊥
+NamesViolation (Table f) text = (v : Violation) × IsFirstViolation f v × (text ≡ codes "no function " ++ violation_line v)
+
+-- the cuts of the rows, where the rule makes cuts; and else the first violation
+abbrev pub IsCutReply : CutInput → End → List ℕ → Type 0
+IsCutReply input Done text = MakesCuts input.rule × AreCutsOf input text
+IsCutReply input NoFunction text = NamesViolation input.rule text
+IsCutReply input end text = ⊥
+
+-- the headline: the rows that are written are those of the tableau, and each cut holds at every solution of its row
+abbrev pub cut : Task
+cut = record {
+  Thing = CutInput;
+  form = cut_input;
+  work = record { replies = IsCutReply; headline = AreCutsOf };
+}

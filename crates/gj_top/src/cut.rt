@@ -1,0 +1,99 @@
+//! The command `cut`: the cuts of the rows of a tableau, by a function or by the mixed-integer cut.
+ghost use Rattle.std.specs.Prelude.{◌≡◌, ◌++◌, codes, IfOk, IfSome, IfNone, OnOk};
+ghost use Rattle.gj_row.specs.TableauLimits.{IsTableau};
+ghost use Rattle.gj_proof.specs.ProofText.{violation_line};
+ghost use Rattle.gj_top.specs.Task.{IsAnswering};
+ghost use Rattle.gj_top.specs.Cut.{AreCutsOf, IsCutReply, cut};
+ghost use Rattle.gj_top.specs.CutSteps.{IsBoundedRule, IsViolationOf, PassesTests};
+
+use crate::cut_input::{rule_of, tableau_behind};
+use crate::cut_lines::lines_of;
+use crate::reply::{End, Reply, Unanswered};
+use gj_lex::print_frac;
+use gj_lines::push_fraction_line;
+use gj_minimal::find_violation;
+use gj_proof::{Claim, CutRule, Proof, write_proof};
+use gj_row::Tableau;
+use gj_shape::{List, Violation};
+use std::alloc::{AllocError, Global};
+
+/// The cuts of the rows of the tableau behind the function or the rule that the input begins with, or the first violation of the
+/// function.
+pub(crate) fn reply(alloc: Global, input: &[u8]) -> Result<Reply, Unanswered>
+    ensures { IsAnswering cut input.now result }
+{
+    let (rule, len) = rule_of(alloc, input)?;
+    let tableau = tableau_behind(alloc, input, len)?;
+    Ok(cuts_or_violation(alloc, rule, &tableau)?)
+}
+
+/// The cuts of the rows of the tableau, or the first violation of the function of the rule.
+fn cuts_or_violation(alloc: Global, rule: CutRule, tableau: &Tableau) -> Result<Reply, AllocError>
+    requires rule { IsBoundedRule rule }
+    requires tableau { IsTableau tableau.now }
+    ensures { IfOk result (λ reply. IsCutReply (record { «rule» = rule; tableau = tableau.now }) reply.end reply.text.items) }
+{
+    match violation_of(&rule) {
+        Some(violation) => Ok(Reply {
+            end: End::NoFunction,
+            text: violation_text(alloc, violation)?,
+        }),
+        None => Ok(Reply {
+            end: End::Done,
+            text: cuts_text(alloc, rule, tableau)?,
+        }),
+    }
+}
+
+/// The first violation of the function of the rule, if it has one.
+fn violation_of(rule: &CutRule) -> Option<Violation>
+    ensures some { IfSome result (IsViolationOf rule.now) }
+    ensures none { IfNone result (PassesTests rule.now) }
+{
+    match rule {
+        CutRule::Gmic => None,
+        CutRule::Table(shape) => find_violation(shape),
+    }
+}
+
+/// The proof text of the cuts of the rows of the tableau.
+fn cuts_text(alloc: Global, rule: CutRule, tableau: &Tableau) -> Result<Vec<u8>, AllocError>
+    requires rule { IsBoundedRule rule }
+    requires tests { PassesTests rule }
+    requires tableau { IsTableau tableau.now }
+    ensures { IfOk result (λ text. AreCutsOf (record { «rule» = rule; tableau = tableau.now }) text.items) }
+{
+    let lines = lines_of(alloc, &rule, tableau)?;
+    let proof = Proof::new(Claim::Cut(rule, List::of(lines))).unwrap();
+    let text = write_proof(alloc, &proof)?;
+    Ok(text)
+}
+
+/// The line that names the first violation of a function.
+fn violation_text(alloc: Global, violation: Violation) -> Result<Vec<u8>, AllocError>
+    ensures { IfOk result (λ text. text.items ≡ codes "no function " ++ violation_line violation) }
+{
+    let mut text = Vec::from_slice(alloc, b"no function ")?;
+    push_violation_line(alloc, &mut text, violation)?;
+    Ok(text)
+}
+
+/// Appends the line of a violation.
+fn push_violation_line(
+    alloc: Global,
+    out: &mut Vec<u8>,
+    violation: Violation,
+) -> Result<(), AllocError>
+    ensures { OnOk result (out.new.items ≡ out.old.items ++ violation_line violation) }
+{
+    match violation {
+        Violation::Zero => out.extend_from_slice(b"zero\n"),
+        Violation::Negative(x) => push_fraction_line(alloc, out, b"negative ", x),
+        Violation::Asymmetric(x) => push_fraction_line(alloc, out, b"asymmetric ", x),
+        Violation::Superadditive(x, y) => {
+            out.extend_from_slice(b"superadditive ")?;
+            print_frac(alloc, out, x)?;
+            push_fraction_line(alloc, out, b" ", y)
+        }
+    }
+}

@@ -1,0 +1,168 @@
+//! The lines of the cuts of a tableau: a row each, in order.
+ghost use Rattle.std.specs.Prelude.{◌≡◌, ◌<◌, All, IfOk, length};
+ghost use Rattle.std.specs.List.{AllZip};
+ghost use Rattle.gj_shape.specs.FunctionData.{FunctionData, IsWithinBounds};
+ghost use Rattle.gj_theory.specs.Cuts.{IsValueOf};
+ghost use Rattle.gj_row.specs.TableauLimits.{IsTableau, IsWithinLimits};
+ghost use Rattle.gj_rule.specs.Kept.{Evaluates};
+ghost use Rattle.gj_rule.specs.Kind.{IsInRange};
+ghost use Rattle.gj_rule.specs.declared.kind.RuleKind.TheVariants as kind;
+ghost use Rattle.gj_proof.specs.declared.cut.CutRule.TheVariants.{Gmic, Table};
+ghost use Rattle.gj_top.specs.Cut.{IsLineFor};
+ghost use Rattle.gj_top.specs.CutSteps.{AreInColumns, IsBoundedRule, IsLineOf, IsNamedTerm};
+
+use gj_cut::{RowCut, Term, cut_row, gmic_cut_row};
+use gj_frac::Frac;
+use gj_lex::Name;
+use gj_proof::{CutLine, CutRule, CutTerm, SkipReason};
+use gj_row::{Row, Tableau};
+use gj_rule::{Evaluator, Rule, RuleKind, table_value};
+use gj_shape::{List, Shape};
+use std::alloc::{AllocError, Global};
+
+/// The line of each row of the tableau.
+pub(crate) fn lines_of(
+    alloc: Global,
+    rule: &CutRule,
+    tableau: &Tableau,
+) -> Result<Vec<CutLine>, AllocError>
+    requires rule { IsBoundedRule rule.now }
+    requires tableau { IsTableau tableau.now }
+    ensures { IfOk result (λ lines. AllZip (IsLineFor rule.now tableau.now.columns) tableau.now.rows lines.items) }
+{
+    let columns = tableau.columns.as_slice();
+    let rows = tableau.rows.as_slice();
+    match rule {
+        CutRule::Gmic => gmic_lines(alloc, columns, rows),
+        CutRule::Table(shape) => function_lines(alloc, shape, columns, rows),
+    }
+}
+
+/// The line of each row by the mixed-integer cut.
+fn gmic_lines(alloc: Global, columns: &[Name], rows: &[Row]) -> Result<Vec<CutLine>, AllocError>
+    requires { All (IsWithinLimits (length columns.now)) rows.now }
+    ensures { IfOk result (λ lines. AllZip (IsLineFor Gmic columns.now) rows.now lines.items) }
+{
+    let mut lines = Vec::with_capacity(alloc, rows.len())?;
+    for row in rows {
+        lines.push(gmic_line(alloc, columns, row)?)?;
+    }
+    Ok(lines)
+}
+
+/// The line of a row by the mixed-integer cut.
+fn gmic_line(alloc: Global, columns: &[Name], row: &Row) -> Result<CutLine, AllocError>
+    requires { IsWithinLimits (length columns.now) row.now }
+    ensures { IfOk result (IsLineFor Gmic columns.now row.now) }
+{
+    let cut = gmic_cut_row(alloc, row)?;
+    let line = line_of(alloc, columns, row, &cut)?;
+    Ok(line)
+}
+
+/// The line of each row by the function.
+fn function_lines(
+    alloc: Global,
+    shape: &Shape,
+    columns: &[Name],
+    rows: &[Row],
+) -> Result<Vec<CutLine>, AllocError>
+    requires shape { IsWithinBounds shape.now }
+    requires rows { All (IsWithinLimits (length columns.now)) rows.now }
+    ensures { IfOk result (λ lines. AllZip (IsLineFor (Table shape.now) columns.now) rows.now lines.items) }
+{
+    let kept = shape.copy(alloc)?;
+    let eval = |x: Frac|
+        requires { IsInRange x }
+        ensures { IsValueOf shape.entry.now x result }
+    { table_value(shape, x) };
+    let lines = lines_by(alloc, kept, eval, columns, rows)?;
+    Ok(lines)
+}
+
+/// The line of each row by the function with this evaluator.
+fn lines_by<E: Evaluator>(
+    alloc: Global,
+    shape: Shape,
+    eval: E,
+    columns: &[Name],
+    rows: &[Row],
+) -> Result<Vec<CutLine>, AllocError>
+    requires shape { IsWithinBounds shape }
+    requires evaluates { Evaluates E.can_answer E.answers (kind.Table shape) eval }
+    requires rows { All (IsWithinLimits (length columns.now)) rows.now }
+    ensures { IfOk result (λ lines. AllZip (IsLineFor (Table shape) columns.now) rows.now lines.items) }
+{
+    let rule = Rule::new(RuleKind::Table(shape), eval);
+    let mut lines = Vec::with_capacity(alloc, rows.len())?;
+    for row in rows {
+        lines.push(line_by(alloc, &rule, columns, row)?)?;
+    }
+    Ok(lines)
+}
+
+/// The line of a row by a rule that keeps a function.
+fn line_by<E: Evaluator>(
+    alloc: Global,
+    rule: &Rule<E>,
+    columns: &[Name],
+    row: &Row,
+) -> Result<CutLine, AllocError>
+    requires { IsWithinLimits (length columns.now) row.now }
+    ensures { IfOk result (λ line. (f : FunctionData) → IsWithinBounds f →
+        rule.now.kind ≡ kind.Table f → IsLineFor (Table f) columns.now row.now line) }
+{
+    let cut = cut_row(alloc, rule, row)?;
+    let line = line_of(alloc, columns, row, &cut)?;
+    Ok(line)
+}
+
+/// The line of a row with this cut.
+fn line_of(
+    alloc: Global,
+    columns: &[Name],
+    row: &Row,
+    cut: &RowCut,
+) -> Result<CutLine, AllocError>
+    requires { AreInColumns (length columns.now) cut.now }
+    ensures { IfOk result (IsLineOf columns.now row.now cut.now) }
+{
+    let basic = row.basic.copy(alloc)?;
+    match cut {
+        RowCut::Cut(terms) => {
+            let terms = named_terms(alloc, columns, terms.as_slice())?;
+            Ok(CutLine::Cut(basic, row.rhs, List::of(terms)))
+        }
+        RowCut::Integral => Ok(CutLine::Skip(basic, row.rhs, SkipReason::Integral)),
+        RowCut::OtherFraction => Ok(CutLine::Skip(basic, row.rhs, SkipReason::Other)),
+    }
+}
+
+/// The terms with the names of their columns.
+fn named_terms(
+    alloc: Global,
+    columns: &[Name],
+    terms: &[Term],
+) -> Result<Vec<CutTerm>, AllocError>
+    requires { All (λ t. t.column < length columns.now) terms.now }
+    ensures { IfOk result (λ named. AllZip (IsNamedTerm columns.now) terms.now named.items) }
+{
+    let mut named = Vec::with_capacity(alloc, terms.len())?;
+    for term in terms {
+        named.push(named_term(alloc, columns, *term)?)?;
+    }
+    Ok(named)
+}
+
+/// The term with the name of its column.
+fn named_term(alloc: Global, columns: &[Name], term: Term) -> Result<CutTerm, AllocError>
+    requires { term.column < length columns.now }
+    ensures { IfOk result (IsNamedTerm columns.now term) }
+{
+    let name = columns[term.column as usize].copy(alloc)?;
+    Ok(CutTerm {
+        name,
+        entry: term.entry,
+        cut: term.cut,
+    })
+}
