@@ -5,7 +5,7 @@ use Rattle.std.proofs.lemmas.List.Elements.{All-nil, All-cons, All-append, All-h
 use Rattle.gj_frac.specs.declared.Frac.{Frac}
 use Rattle.gj_shape.specs.FirstViolation.{PassesAll}
 use Rattle.gj_tools.specs.FirstThatFails.{IsFirstFailing}
-use Rattle.gj_tools.proofs.FirstThatFails.{first_failing, first_failing_fails, first_failing_in_front, first_failing_in_back}
+use Rattle.gj_tools.proofs.FirstThatFails.{first_failing, first_failing_in_front, first_failing_in_back}
 use Rattle.gj_proof.specs.declared.claim.Claim.{Claim}
 use Rattle.gj_proof.specs.declared.claim.Claim.TheVariants as claims
 use Rattle.gj_proof.specs.declared.cut.CutRule.{CutRule}
@@ -22,7 +22,7 @@ use Rattle.gj_check.specs.declared.rules.CheckRule.{CheckRule}
 use Rattle.gj_check.specs.declared.rules.CheckRule.TheVariants.{Minimal, Fraction, Limit, Name, Value}
 use Rattle.gj_check.specs.declared.rows.RowFailure.{RowFailure}
 use Rattle.gj_check.specs.FirstFailure.{rule_of, IsFirstFailure}
-use Rattle.gj_check.specs.CutRows.{MeetsTerm, FailsTerm, MeetTerms, FailAt, FailTerms, MeetsRow, FailsRow, GivesCut}
+use Rattle.gj_check.specs.CutRows.{MeetsTerm, FailsTerm, MeetTerms, MeetsRow, FailsRow, GivesCut}
 use Rattle.gj_check.specs.CutRows.FailsRow.{at_fraction, at_limit, at_term}
 use Rattle.gj_check.proofs.AtPlaces.{at_index, split_there}
 use Rattle.gj_check.proofs.CutLines.{first_of, count_of, number_of_row, number_of_term}

@@ -1,14 +1,14 @@
 -- The numbers of the lines of rows and of their terms.
-use Rattle.std.proofs.Common.{◌≡◌, ◌≢◌, ℕ, ◌+◌, ◌<◌, ◌≤◌, List, [], ◌∷◌, ◌++◌, All, length, map, refl, sym, ap, subst, ◌∙◌, append_assoc, arith}
+use Rattle.std.proofs.Common.{◌≡◌, ◌≢◌, ℕ, ◌+◌, ◌<◌, List, [], ◌∷◌, ◌++◌, All, length, map, refl, sym, ap, subst, ◌∙◌, append_assoc, arith}
 use Rattle.std.specs.List.{range_with_len}
-use Rattle.std.proofs.lemmas.List.{length-append, length-map, map-append}
+use Rattle.std.proofs.lemmas.List.{length-append, map-append}
 use Rattle.std.proofs.lemmas.List.Elements.{All-nil, All-cons, All-append, All-map}
 use Rattle.gj_tools.proofs.Lists.{All-range}
 use Rattle.gj_proof.specs.declared.claim.Claim.TheVariants as claims
 use Rattle.gj_proof.specs.declared.cut.CutRule.{CutRule}
 use Rattle.gj_proof.specs.declared.cut.CutLine.{CutLine}
 use Rattle.gj_proof.specs.declared.cut.CutTerm.{CutTerm}
-use Rattle.gj_proof.specs.ProofText.{Subject, ProofLine, subject_of_rule, subject_lines, row_line, term_line, terms_of, term_lines, row_lines, HasNumber}
+use Rattle.gj_proof.specs.ProofText.{Subject, ProofLine, subject_of_rule, subject_lines, row_line, terms_of, term_lines, row_lines, HasNumber}
 use Rattle.gj_proof.specs.ProofText.Subject.{function, gmic}
 use Rattle.gj_proof.specs.ProofText.ProofLine.{title, claim, order, place, point, rule_named, cut, term, last}
 
@@ -100,7 +100,7 @@ count_rows i [] = refl
 count_rows i (l ∷ rows) =
     let head = record { name = cut i; bytes = row_line l } ∷ term_lines i 0 (terms_of l) in
     let split = ap length (map-append (λ o. o.name) head (row_lines (i + 1) rows))
-        ∙ length-append (map (λ o. o.name) head) (names_of_rows (i + 1) rows) in
+    ∙ length-append (map (λ o. o.name) head) (names_of_rows (i + 1) rows) in
     let rest = count_rows (i + 1) rows in
     let terms = count_terms i 0 (terms_of l) in
     omega arith
@@ -135,6 +135,7 @@ number_of_row rule rows front back l split =
   where
     regroup : (a b c d : List ProofLine) → a ++ (b ++ c) ++ d ≡ (a ++ b) ++ (c ++ d)
     regroup a b c d = simp append_assoc
+
     other_row : (m i : ℕ) → cut m ≡ cut i → m < i → ⊥
     other_row m i e below = let same : m ≡ i = cc in omega arith
 
@@ -175,7 +176,9 @@ number_of_term rule rows front back l before after t split terms =
     regroup : (a b c d e f g h : List ProofLine) →
         a ++ (b ++ (c ++ ((d ++ (e ++ f)) ++ g))) ++ h ≡ ((a ++ b) ++ (c ++ d)) ++ (e ++ (f ++ g ++ h))
     regroup a b c d e f g h = simp append_assoc
+
     other_row : (m n i j : ℕ) → term m n ≡ term i j → m < i → ⊥
     other_row m n i j e below = let same : m ≡ i = cc in omega arith
+
     other_term : (i m j : ℕ) → term i m ≡ term i j → m < j → ⊥
     other_term i m j e below = let same : m ≡ j = cc in omega arith

@@ -9,7 +9,7 @@ use Rattle.gj_frac.specs.declared.Frac.{Frac}
 use Rattle.gj_frac.specs.Floor.{IsFloor}
 use Rattle.gj_frac.specs.Fraction.{IsRatio, numerator, denominator}
 use Rattle.gj_frac.proofs.Floors.{quotient_is_floor, rest_is, same_from_IsFloor}
-use Rattle.gj_frac.proofs.SameValues.{is_along, same_from_is, same_value_same}
+use Rattle.gj_frac.proofs.SameValues.{is_along, same_from_is}
 use Rattle.gj_tools.proofs.Integers.{mul_cancel_right_z, mul_le_cancel_right_z, mul_lt_cancel_right_z, mul_le_mul_right_z, mul_lt_mul_right_z, add_mul_z, sub_mul_z, swap_last_z, positive_some_z}
 use Rattle.gj_tools.proofs.Ring.{by_ring, ring}
 use Rattle.gj_shape.proofs.LeastDenominator.{denominator_some}
@@ -110,6 +110,7 @@ whole_from_part x n h =
   where
     none_z : (w n d : ℤ) → (w *ℤ n +ℤ pos 0) *ℤ d ≡ (w *ℤ d) *ℤ n
     none_z w n d = by_ring (w ∷ n ∷ d ∷ []) (search ring depth 30) refl
+
     own : (n : ℕ) → n ∣ n
     own n = subst (λ (m : ℕ). n ∣ m) (omega arith) (dvd-mul_left n 1)
 
@@ -183,8 +184,10 @@ along x a b c d n m n_some m_some e f some h =
   where
     left_z : (a d n : ℕ) → (pos a *ℤ pos d) *ℤ pos n ≡ pos a *ℤ pos (d * n)
     left_z a d n = by_ring (pos a ∷ pos d ∷ pos n ∷ []) (search ring depth 30) refl
+
     middle_z : (a b m : ℕ) → pos a *ℤ pos (b * m) ≡ pos (a * m) *ℤ pos b
     middle_z a b m = by_ring (pos a ∷ pos b ∷ pos m ∷ []) (search ring depth 30) refl
+
     right_z : (c n b : ℕ) → pos (c * n) *ℤ pos b ≡ (pos c *ℤ pos b) *ℤ pos n
     right_z c n b = by_ring (pos c ∷ pos n ∷ pos b ∷ []) (search ring depth 30) refl
 

@@ -6,7 +6,7 @@ use Rattle.gj_frac.specs.declared.Frac.{Frac}
 use Rattle.gj_proof.specs.declared.cut.CutRule.{CutRule}
 use Rattle.gj_proof.specs.declared.cut.CutRule.TheVariants.{Gmic, Table}
 use Rattle.gj_proof.specs.declared.cut.CutLine.{CutLine}
-use Rattle.gj_proof.specs.declared.cut.CutLine.TheVariants.{Cut, Skip}
+use Rattle.gj_proof.specs.declared.cut.CutLine.TheVariants.{Cut}
 use Rattle.gj_proof.specs.declared.cut.CutTerm.{CutTerm}
 use Rattle.gj_shape.specs.FunctionData.{IsWithinBounds}
 use Rattle.gj_proof.specs.ProofText.{IfFunction, subject_of_rule}

@@ -1,5 +1,5 @@
 -- The table of a continuous function as sums of two products, and what the code reads of these.
-use Rattle.std.proofs.Common.{◌≡◌, ℕ, zero, suc, ◌+◌, ◌-◌, ◌*◌, ◌/◌, ◌%◌, ◌<◌, ◌≤◌, ◌^◌, ℤ, pos, ◌+ℤ◌, ◌*ℤ◌, unsigned_abs, w64, to_z, of_z, FitsSigned, refl, sym, ap, ap₂, ◌∙◌, mul-le-mul_right, arith}
+use Rattle.std.proofs.Common.{◌≡◌, ℕ, zero, suc, ◌+◌, ◌-◌, ◌*◌, ◌/◌, ◌%◌, ◌<◌, ◌≤◌, ◌^◌, ℤ, pos, ◌+ℤ◌, ◌*ℤ◌, unsigned_abs, w64, to_z, of_z, FitsSigned, sym, ap, ap₂, ◌∙◌, mul-le-mul_right, arith}
 use Rattle.std.proofs.lemmas.Int.{ints, to_z-of_z, unsigned_abs-mul, fits_signed_from_abs}
 use Rattle.gj_tools.proofs.Integers.{abs_add_z}
 use Rattle.gj_shape.specs.FunctionData.{FunctionData, IsContinuous, at}

@@ -1,9 +1,8 @@
 -- The least positive slack of a table that is given as a list, row by row.
-use Rattle.std.proofs.Common.{◌≡◌, ℕ, ◌⊎◌, inl, inr, ◌+◌, ◌-◌, ◌*◌, ◌<◌, ◌≤◌, ◌^◌, ℤ, pos, ◌+ℤ◌, ◌-ℤ◌, ◌<ℤ◌, ◌≤ℤ◌, List, length, get_or, All, unsigned_abs, w64, to_z, of_z, FitsSigned, refl, sym, ap, ap₂, subst, ◌∙◌, below_none, below_more, arith}
+use Rattle.std.proofs.Common.{◌≡◌, ℕ, inl, inr, ◌+◌, ◌-◌, ◌<◌, ◌≤◌, ◌^◌, ℤ, pos, ◌+ℤ◌, ◌-ℤ◌, ◌<ℤ◌, ◌≤ℤ◌, List, unsigned_abs, w64, to_z, of_z, FitsSigned, refl, sym, ap₂, subst, ◌∙◌, below_more, arith}
 use Rattle.std.specs.Int.{int_min}
 use Rattle.std.proofs.lemmas.Int.{ints, clamps, by_lt_z, to_z-of_z}
-use Rattle.std.proofs.lemmas.List.Elements.{All-get_or}
-use Rattle.gj_perturb.specs.ListSlacks.{IsShort, slack_in, IsReached, IsSlackOrNone, IsLeastOfRow, IsLeastOfRows}
+use Rattle.gj_perturb.specs.ListSlacks.{IsShort, slack_in, IsSlackOrNone, IsLeastOfRow, IsLeastOfRows}
 
 -- ---- the lesser of two
 

@@ -1,5 +1,5 @@
 -- The greatest absolute value of the entries of a list.
-use Rattle.std.proofs.Common.{◌≡◌, ℕ, ◌⊎◌, inl, inr, ◌+◌, ◌<◌, ◌≤◌, max, ℤ, pos, List, length, get_or, All, unsigned_abs, refl, sym, ap, subst, ◌∙◌, below_none, below_more, arith}
+use Rattle.std.proofs.Common.{◌≡◌, ℕ, ◌⊎◌, inl, inr, ◌+◌, ◌<◌, ◌≤◌, max, ℤ, pos, List, length, get_or, unsigned_abs, refl, sym, ap, subst, ◌∙◌, below_more, arith}
 use Rattle.std.proofs.lemmas.Bool.{cases_lt}
 use Rattle.std.proofs.lemmas.List.Elements.{All-from_get_or}
 use Rattle.gj_shape.specs.FunctionData.{at}

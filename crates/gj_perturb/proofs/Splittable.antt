@@ -6,7 +6,7 @@ use Rattle.gj_tools.proofs.Lists.{All-made}
 use Rattle.gj_shape.specs.Additive.{IsTight}
 use Rattle.gj_shape.specs.Elimination.{at_column}
 use Rattle.gj_shape.specs.FunctionData.{FunctionData, IsWithinBounds, IsContinuous, at}
-use Rattle.gj_shape.specs.Perturbation.{zigzag, perturbation_of, IsGreatestSize}
+use Rattle.gj_shape.specs.Perturbation.{zigzag, perturbation_of}
 use Rattle.gj_shape.specs.SlopeRows.{SolveRows}
 use Rattle.gj_shape.specs.Table.{table, IsMinimal}
 use Rattle.gj_shape.proofs.AtLemmas.{all_at}

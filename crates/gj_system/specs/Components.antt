@@ -1,5 +1,5 @@
 -- Components of intervals, given as a list.
-use Rattle.std.specs.Prelude.{ℕ, ◌<◌, List, get_or, length}
+use Rattle.std.specs.Prelude.{ℕ, ◌<◌, List, get_or}
 use Rattle.gj_shape.specs.declared.extremality.RowName.{RowName}
 use Rattle.gj_shape.specs.declared.extremality.RowName.TheVariants.{Period, F, Pair}
 

@@ -6,6 +6,7 @@ pub mod CutForm
 pub mod CutParts
 pub mod CutLines
 pub mod Ends
+pub mod FacesTexts
 pub mod GridCoordinates
 pub mod InputRead
 pub mod ProofBytes

@@ -1,6 +1,6 @@
 -- The command `faces`: a function text is answered with the maximal additive faces and the covered intervals of its
 -- function (Light on the Infinite Group Relaxation I and II; the form is own).
-use Rattle.std.specs.Prelude.{ℕ, ◌≡◌, Option, None, List, ◌++◌, codes, decimal, flat_map, length}
+use Rattle.std.specs.Prelude.{ℕ, ◌≡◌, Option, None, List, ◌++◌, codes, decimal, flat_map}
 use Rattle.std.specs.List.{range_with_len}
 use Rattle.gj_shape.specs.FunctionData.{FunctionData, IsContinuous}
 use Rattle.gj_shape.specs.Additive.{IsTight}
@@ -22,9 +22,11 @@ use Rattle.gj_top.specs.Continuity.{NamesFirstJump}
 abbrev pub uncovered_line : ℕ → List ℕ
 uncovered_line i = line (codes "uncovered " ++ decimal i)
 
--- the intervals without a component, ascending
-abbrev pub AreUncovered : List (Option ℕ) → List ℕ → Type 0
-AreUncovered component intervals = ArePicked (λ i. number_at component i ≡ None) (range_with_len 0 (length component)) intervals
+-- behind a text stand the lines of the intervals below n without a component, ascending
+pub record ArePushed (component : List (Option ℕ)) (n : ℕ) (old new : List ℕ) : Type 0 where
+  pub intervals : List ℕ
+  pub picked : ArePicked (λ i. number_at component i ≡ None) (range_with_len 0 n) intervals
+  pub pushed : new ≡ old ++ flat_map uncovered_line intervals
 
 -- the text lists the maximal additive faces in walk order, the cover lines, and the uncovered intervals, ascending
 pub record IsFacesText (f : FunctionData) (text : List ℕ) : Type 0 where

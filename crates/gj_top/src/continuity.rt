@@ -1,5 +1,6 @@
 //! Functions that are not continuous.
-ghost use Rattle.std.specs.Prelude.{IfOk};
+ghost use Rattle.std.specs.Prelude.{pos, ◌<◌, IfOk};
+ghost use Rattle.gj_frac.specs.Fraction.{IsRatio};
 ghost use Rattle.gj_top.specs.Continuity.{IsFirstJump, NamesFirstJump};
 
 use gj_frac::Frac;
@@ -13,7 +14,15 @@ pub(crate) fn jump_line(alloc: Global, shape: &Shape, index: u32) -> Result<Vec<
     ensures { IfOk result (λ text. NamesFirstJump shape.now text.items) }
 {
     let mut text = Vec::new(alloc);
-    let point = Frac::new(i128::from(index), i128::from(shape.order())).unwrap();
+    let point = ratio(index, shape.order());
     push_fraction_line(alloc, &mut text, b"not continuous ", point)?;
     Ok(text)
+}
+
+/// The fraction `n/d`.
+fn ratio(n: u32, d: u32) -> Frac
+    requires { 0 < d }
+    ensures { IsRatio result (pos n) (pos d) }
+{
+    Frac::new(i128::from(n), i128::from(d)).unwrap()
 }

@@ -1,10 +1,10 @@
 //! The command `faces`: the maximal additive faces and the covered intervals of a function.
-ghost use Rattle.std.specs.Prelude.{ℕ, ◌≡◌, ◌++◌, List, flat_map, IfOk, OnOk};
+ghost use Rattle.std.specs.Prelude.{◌≡◌, ◌++◌, codes, decimal, length, flat_map, IfOk, OnOk};
 ghost use Rattle.gj_shape.specs.FunctionData.{IsContinuous};
 ghost use Rattle.gj_lines.specs.FunctionLines.{line};
 ghost use Rattle.gj_lines.specs.FaceLines.{face_text, cover_line};
 ghost use Rattle.gj_top.specs.Task.{IsAnswering};
-ghost use Rattle.gj_top.specs.Faces.{AreUncovered, IsFacesReply, IsFacesText, faces, uncovered_line};
+ghost use Rattle.gj_top.specs.Faces.{ArePushed, IsFacesReply, IsFacesText, faces, uncovered_line};
 
 use crate::continuity::jump_line;
 use crate::forms::function_of;
@@ -12,8 +12,9 @@ use crate::reply::{End, Reply, Unanswered};
 use gj_cover::cover;
 use gj_faces::maximal;
 use gj_lex::print_count;
-use gj_lines::{push_cover_line, push_face_line, push_order_line};
+use gj_lines::{face_word, push_cover_line, push_order_line};
 use gj_shape::{CoverLine, Face, Shape};
+use itoa::Buffer;
 use std::alloc::{AllocError, Global};
 
 /// The faces and intervals of the function that the input spells, or its first jump.
@@ -51,7 +52,7 @@ fn faces_text(alloc: Global, shape: &Shape) -> Result<Vec<u8>, AllocError>
     push_order_line(&mut text, shape.order())?;
     push_face_lines(&mut text, faces.as_slice())?;
     push_cover_lines(&mut text, cover.lines.as_slice())?;
-    push_uncovered_lines(&mut text, cover.component.as_slice())?;
+    push_uncovered_lines(&mut text, cover.component.as_slice(), shape.order())?;
     text.extend_from_slice(b"end\n")?;
     Ok(text)
 }
@@ -66,6 +67,26 @@ fn push_face_lines(out: &mut Vec<u8>, faces: &[Face]) -> Result<(), AllocError>
     Ok(())
 }
 
+/// Appends the line of a face. There may be hundreds of thousands, so their numbers are printed in 32 bits.
+fn push_face_line(out: &mut Vec<u8>, face: Face) -> Result<(), AllocError>
+    ensures { OnOk result (out.new.items ≡ out.old.items ++ line (face_text face)) }
+{
+    out.extend_from_slice(face_word(face.kind))?;
+    push_number(out, face.a)?;
+    push_number(out, face.b)?;
+    out.push(b'\n')?;
+    Ok(())
+}
+
+/// Appends a space and a number.
+fn push_number(out: &mut Vec<u8>, n: u32) -> Result<(), AllocError>
+    ensures { OnOk result (out.new.items ≡ out.old.items ++ (codes " " ++ decimal n)) }
+{
+    let mut buffer = Buffer::new();
+    out.push(b' ')?;
+    out.extend_from_slice(buffer.format(n).as_bytes())
+}
+
 /// Appends the line of each covered interval.
 fn push_cover_lines(out: &mut Vec<u8>, lines: &[CoverLine]) -> Result<(), AllocError>
     ensures { OnOk result (out.new.items ≡ out.old.items ++ flat_map cover_line lines.now) }
@@ -76,14 +97,18 @@ fn push_cover_lines(out: &mut Vec<u8>, lines: &[CoverLine]) -> Result<(), AllocE
     Ok(())
 }
 
-/// Appends a line for each interval without a component, ascending.
-fn push_uncovered_lines(out: &mut Vec<u8>, component: &[Option<u32>]) -> Result<(), AllocError>
-    ensures { OnOk result ((intervals : List ℕ) × AreUncovered component.now intervals
-        × (out.new.items ≡ out.old.items ++ flat_map uncovered_line intervals)) }
+/// Appends a line for each interval without a component, ascending, of as many as the order.
+fn push_uncovered_lines(
+    out: &mut Vec<u8>,
+    component: &[Option<u32>],
+    order: u32,
+) -> Result<(), AllocError>
+    requires { length component.now ≡ order }
+    ensures { OnOk result (ArePushed component.now order out.old.items out.new.items) }
 {
-    for (interval, component) in component.iter().enumerate() {
-        if component.is_none() {
-            push_uncovered_line(out, interval as u32)?;
+    for interval in 0..order {
+        if component[interval as usize].is_none() {
+            push_uncovered_line(out, interval)?;
         }
     }
     Ok(())

@@ -1,6 +1,6 @@
-use Rattle.std.proofs.Common.{◌≡◌, ℕ, ◌*◌, ◌<◌, ◌≤◌, ◌-◌, subst, sym, arith}
+use Rattle.std.proofs.Common.{arith}
 use Rattle.gj_shape.proofs.LeastDenominator.{denominator_some}
-use Rattle.gj_check.proofs.FractionalParts.{place_some, place_below, gmic_rising, gmic_falling}
+use Rattle.gj_check.proofs.FractionalParts.{place_some, gmic_rising, gmic_falling}
 use Rattle.gj_check.proofs.cut_values.gmic_value.Goals as goal
 
 pub ratio-requires : goal.ratio-requires

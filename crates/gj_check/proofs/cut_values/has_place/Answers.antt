@@ -1,4 +1,4 @@
-use Rattle.std.proofs.Common.{◌≡◌, ◌<◌, ◌∙◌, pos, ap, subst₂}
+use Rattle.std.proofs.Common.{◌∙◌, pos, subst₂}
 use Rattle.gj_frac.specs.Fraction.{IsRatio}
 use Rattle.gj_check.proofs.TestsInTurn.{in_other_words}
 use Rattle.gj_check.proofs.FractionalParts.{part_is_fraction}

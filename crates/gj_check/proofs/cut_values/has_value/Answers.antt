@@ -1,4 +1,4 @@
-use Rattle.std.proofs.Common.{◌≡◌, ◌↔◌, IsTrue, ℕ, pos, ◌*ℤ◌, unsigned_abs, sym, subst, arith}
+use Rattle.std.proofs.Common.{◌↔◌, IsTrue, pos, ◌*ℤ◌, unsigned_abs, sym, subst}
 use Rattle.gj_frac.specs.declared.Frac.{Frac}
 use Rattle.gj_shape.specs.FunctionData.{IsWithinBounds}
 use Rattle.gj_shape.specs.Values.{IsValueAt}

@@ -1,8 +1,7 @@
-use Rattle.std.proofs.Common.{◌≡◌, ◌+◌, ◌<◌, ◌≤◌, ℕ, suc, All, length, take, drop, get_or, true, false, Some, [], ◌∷◌, ◌++◌, refl, sym, ap, subst, ◌∙◌, arith}
+use Rattle.std.proofs.Common.{suc, All, take, drop, [], ◌∷◌, ◌++◌, refl, sym, ap, subst, ◌∙◌, arith}
 use Rattle.std.proofs.Math.Seq.{split_at}
 use Rattle.std.proofs.lemmas.List.{take_all}
 use Rattle.std.proofs.lemmas.List.Elements.{All-push}
-use Rattle.gj_proof.specs.ProofText.{terms_of}
 use Rattle.gj_check.specs.CutRows.{MeetsRow, IsRowOutcome}
 use Rattle.gj_check.proofs.AtPlaces.{with_place}
 use Rattle.gj_check.proofs.CutLines.{count_of, count_of-append}

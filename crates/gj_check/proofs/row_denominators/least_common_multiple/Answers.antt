@@ -1,4 +1,4 @@
-use Rattle.std.proofs.Common.{◌≡◌, ◌/◌, ◌≤◌, inl, sym, subst₂, arith}
+use Rattle.std.proofs.Common.{◌/◌, ◌≤◌, inl, sym, subst₂, arith}
 use Rattle.std.specs.Int.{IsGcd}
 use Rattle.std.proofs.Math.Nat.{div-mul_cancel}
 use Rattle.std.proofs.lemmas.Nat.Gcd.{le_of_dvd}

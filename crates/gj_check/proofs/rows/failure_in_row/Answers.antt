@@ -1,4 +1,4 @@
-use Rattle.std.proofs.Common.{◌≡◌, List, [], refl, subst}
+use Rattle.std.proofs.Common.{[], refl, subst}
 use Rattle.std.proofs.lemmas.Result.{IfOk-weaker}
 use Rattle.gj_check.specs.CutRows.{IsTermsOutcome}
 use Rattle.gj_check.specs.CutRows.FailsRow.{at_limit}

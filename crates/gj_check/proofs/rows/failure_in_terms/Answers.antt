@@ -1,4 +1,4 @@
-use Rattle.std.proofs.Common.{◌≡◌, ◌+◌, ◌<◌, ℕ, true, false, length, take, below_more, [], refl, sym, subst, arith}
+use Rattle.std.proofs.Common.{◌≡◌, ◌<◌, ℕ, length, below_more, [], refl, sym, subst, arith}
 use Rattle.gj_proof.specs.Rules.{AtIndex, MeetsName}
 use Rattle.gj_check.specs.declared.rules.CheckRule.TheVariants.{Limit, Name, Value}
 use Rattle.gj_check.specs.CutRows.{MeetsTerm}
@@ -25,9 +25,11 @@ returns-then-index-repeated c =
     let limit = (c.in-Some.ensures.within (numbers c.args.right n terms) c.loop-index.invariant.0).0 in
     let same : c.in_ok-repeated.repeated ≡ n = sym c.if-index-repeated.true in
     let repeated = c.in_ok-repeated.ensures.repeated (omega arith) in
-    fails_at c.args.rule.now c.args.basic.now c.args.right terms n t Name below c.index-terms-index.is c.loop-index.invariant.1
-    (limit, place_has terms (λ before u. MeetsName c.args.basic.now before u → ⊥) n t below c.index-terms-index.is
-    (subst (λ (m : ℕ). AtIndex terms m (λ before u. MeetsName c.args.basic.now before u → ⊥)) same repeated))
+    fails_at c.args.rule.now c.args.basic.now c.args.right terms n t Name below c.index-terms-index.is c.loop-index.invariant.1 (
+      limit,
+      place_has terms (λ before u. MeetsName c.args.basic.now before u → ⊥) n t below c.index-terms-index.is
+          (subst (λ (m : ℕ). AtIndex terms m (λ before u. MeetsName c.args.basic.now before u → ⊥)) same repeated),
+    )
 
 pub has_value-requires-clause-right : goal.has_value-requires-clause-right
 has_value-requires-clause-right c = limit_small [] c.args.right c.requires.limit
@@ -47,9 +49,11 @@ returns-then-not-has_value c =
     let apart = c.if-index-repeated.false in
     let name = place_has terms (MeetsName c.args.basic.now) n t below c.index-terms-index.is
     (c.in_ok-repeated.ensures.new n (omega arith)) in
-    fails_at c.args.rule.now c.args.basic.now c.args.right terms n t Value below c.index-terms-index.is c.loop-index.invariant.1
-    ((c.in-Some.ensures.within (numbers c.args.right n terms) c.loop-index.invariant.0).0, name,
-    λ h. let yes = c.has_value.ensures.1 h in let no = c.if-not-has_value.true in (cc))
+    fails_at c.args.rule.now c.args.basic.now c.args.right terms n t Value below c.index-terms-index.is c.loop-index.invariant.1 (
+      (c.in-Some.ensures.within (numbers c.args.right n terms) c.loop-index.invariant.0).0,
+      name,
+      λ h. let yes = c.has_value.ensures.1 h in let no = c.if-not-has_value.true in (cc),
+    )
 
 pub loop-index-preserved : goal.loop-index-preserved
 loop-index-preserved c =

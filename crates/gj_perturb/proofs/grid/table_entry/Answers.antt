@@ -1,5 +1,4 @@
-use Rattle.std.proofs.Common.{◌≡◌, ◌≤◌, ◌<◌, ◌-◌, ◌+◌, ◌/◌, ◌%◌, pos, ◌+ℤ◌, ◌*ℤ◌, unsigned_abs, sym, ap₂, ◌∙◌, arith}
-use Rattle.gj_shape.specs.FunctionData.{at}
+use Rattle.std.proofs.Common.{◌<◌, ◌-◌, ◌%◌, pos, ◌+ℤ◌, ◌*ℤ◌, sym, ap₂, ◌∙◌, arith}
 use Rattle.gj_perturb.proofs.ContinuousEntries.{table_continuous, sum_fits, sum_read}
 use Rattle.gj_perturb.proofs.grid.table_entry.Goals as goal
 

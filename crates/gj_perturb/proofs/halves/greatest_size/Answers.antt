@@ -1,4 +1,4 @@
-use Rattle.std.proofs.Common.{◌≡◌, pos, get_or, length, unsigned_abs, sym, ap, subst, ◌∙◌, arith, rules}
+use Rattle.std.proofs.Common.{◌≡◌, pos, get_or, length, unsigned_abs, ap, subst, ◌∙◌, arith, rules}
 use Rattle.std.proofs.lemmas.Int.{to_z-of_z}
 use Rattle.gj_perturb.proofs.Sizes.{IsSizeBelow, no_size, one_size_more, size_of_all}
 use Rattle.gj_perturb.proofs.halves.greatest_size.Goals as goal

@@ -1,4 +1,4 @@
-use Rattle.std.proofs.Common.{◌≡◌, ◌+◌, ◌*◌, ◌<◌, ◌≤◌, pos, neg_ℤ, length, map, List, ℕ, ℤ, unsigned_abs, w64, to_z, of_z, sym, ap, ap₂, subst, subst₂, refl, ◌∙◌, mul-pos, arith, rules}
+use Rattle.std.proofs.Common.{◌≡◌, ◌*◌, ◌<◌, pos, neg_ℤ, length, map, List, ℕ, ℤ, unsigned_abs, w64, sym, ap, ap₂, subst, subst₂, refl, ◌∙◌, mul-pos, arith, rules}
 use Rattle.std.specs.List.{range_with_len}
 use Rattle.std.proofs.lemmas.Int.{ints, to_z-of_z, to_z_pos, fits_signed_from_abs}
 use Rattle.std.proofs.lemmas.List.FromFn.{length-map-range_with_len}
@@ -9,7 +9,7 @@ use Rattle.gj_shape.specs.declared.extremality.Halves.{Halves}
 use Rattle.gj_perturb.specs.Moves.{moved_at, IsSmallMove}
 use Rattle.gj_perturb.proofs.MovedEntries.{wide}
 use Rattle.gj_perturb.proofs.TableParts.{listed_short, entry_at_most, scale_small}
-use Rattle.gj_perturb.proofs.SplitParts.{AreParts, AreMade, parts_of, size_fits, factor_read, turned_read, count_is, small_move, are_halves, are_different, fit_proof_text, not_wide}
+use Rattle.gj_perturb.proofs.SplitParts.{AreMade, parts_of, size_fits, factor_read, turned_read, count_is, small_move, are_halves, are_different, fit_proof_text, not_wide}
 use Rattle.gj_perturb.proofs.halves.split.Goals as goal
 use mir.Syntax.{w128}
 

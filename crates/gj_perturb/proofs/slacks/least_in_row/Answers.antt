@@ -1,7 +1,7 @@
-use Rattle.std.proofs.Common.{◌≡◌, ◌+◌, ◌*◌, ◌<◌, pos, ◌+ℤ◌, ◌-ℤ◌, ◌<ℤ◌, ◌≤ℤ◌, length, get_or, w64, to_z, of_z, sym, ap₂, subst, ◌∙◌, arith, rules}
+use Rattle.std.proofs.Common.{◌≡◌, ◌+◌, ◌*◌, ◌<◌, pos, ◌<ℤ◌, ◌≤ℤ◌, length, get_or, w64, to_z, of_z, sym, ap₂, subst, ◌∙◌, arith, rules}
 use Rattle.std.specs.Int.{int_min}
 use Rattle.std.proofs.lemmas.Int.{to_z-of_z}
-use Rattle.gj_perturb.specs.ListSlacks.{IsShort, slack_in, IsLeastOfRow}
+use Rattle.gj_perturb.specs.ListSlacks.{slack_in, IsLeastOfRow}
 use Rattle.gj_perturb.proofs.ListedSlacks.{IsWherePositive, no_pair, one_pair_more, slack_fits, slack_read}
 use Rattle.gj_perturb.proofs.slacks.least_in_row.Goals as goal
 

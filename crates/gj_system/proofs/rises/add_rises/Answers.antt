@@ -1,8 +1,6 @@
-use Rattle.std.proofs.Common.{rules, ◌≡◌, ◌<◌, ◌^◌, ℤ, pos, ◌+ℤ◌, get_or, unsigned_abs, lit≤, sym, ap, subst, ◌∙◌, arith}
-use Rattle.std.proofs.lemmas.Int.{ints, to_z-of_z, fits_signed_from_abs}
-use mir.Syntax.{w128}
+use Rattle.std.proofs.Common.{◌^◌, pos, get_or, arith}
 use Rattle.gj_system.specs.Components.{component_in}
-use Rattle.gj_system.proofs.Counts.{added_none, added_more, added_small, one_more_fits, read_one_more, component_below}
+use Rattle.gj_system.proofs.Counts.{added_more, added_small, one_more_fits, read_one_more, component_below}
 use Rattle.gj_system.proofs.rises.add_rises.Goals as goal
 
 pub overflow_add-row : goal.overflow_add-row

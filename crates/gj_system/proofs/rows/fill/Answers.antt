@@ -1,4 +1,4 @@
-use Rattle.std.proofs.Common.{rules, ℕ, ◌<◌, ◌+◌, ◌%◌, ◌^◌, length, sym, ap, ap₂, subst, ◌∙◌, lit<, lit≤, arith}
+use Rattle.std.proofs.Common.{ℕ, ◌+◌, ◌%◌, ◌^◌, length, sym, ap, ap₂, subst, ◌∙◌, arith}
 use Rattle.gj_shape.specs.SlopeRows.{row_of as row_entries}
 use Rattle.gj_system.specs.Components.{component_in}
 use Rattle.gj_system.proofs.Counts.{HasSubtracted, all_added_small, zeros_small, row_of_one, row_of_three}
