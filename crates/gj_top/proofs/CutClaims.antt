@@ -124,8 +124,12 @@ limit_at xs x ys h =
     let d = h.common.0 in
     record {
       small = All-head IsSmall x ys (All-back IsSmall xs (x ∷ ys) h.small);
-      common = (d, h.common.1, h.common.2,
-          All-front (Divides d) (xs ++ x ∷ []) ys (subst (All (Divides d)) (sym (append_assoc xs (x ∷ []) ys)) h.common.3));
+      common = (
+        d,
+        h.common.1,
+        h.common.2,
+        All-front (Divides d) (xs ++ x ∷ []) ys (subst (All (Divides d)) (sym (append_assoc xs (x ∷ []) ys)) h.common.3),
+      );
     }
 
 -- the name of a term behind others
@@ -236,7 +240,7 @@ pub cuts_of_lines : (r : CutRule) (t : Tableau) (lines : List CutLine) (text : L
 cuts_of_lines r t lines text bounded passes is h spelled =
     let bs = map (λ (row : Row). row.basic) t.rows in
     let rules = cuts_meet r lines passes.tests
-        (rows_meet r t.columns t.rows lines (front_differ t.columns bs is.names.differ) (basics_differ t.columns t.rows is.names.differ) is.each_row h) in
+    (rows_meet r t.columns t.rows lines (front_differ t.columns bs is.names.differ) (basics_differ t.columns t.rows is.names.differ) is.each_row h) in
     record {
       lines = lines;
       lines_are = h;

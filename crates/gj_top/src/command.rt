@@ -25,11 +25,7 @@ fn is_built(command: Command) -> bool
     ensures { result ≡ is_built command }
 {
     match command {
-        Command::Minimal
-        | Command::Show
-        | Command::Check
-        | Command::Faces
-        | Command::Cut => true,
+        Command::Minimal | Command::Show | Command::Check | Command::Faces | Command::Cut => true,
         Command::Extreme | Command::Demo(_) => false,
     }
 }

@@ -118,12 +118,7 @@ fn line_by<E: Evaluator>(
 }
 
 /// The line of a row with this cut.
-fn line_of(
-    alloc: Global,
-    columns: &[Name],
-    row: &Row,
-    cut: &RowCut,
-) -> Result<CutLine, AllocError>
+fn line_of(alloc: Global, columns: &[Name], row: &Row, cut: &RowCut) -> Result<CutLine, AllocError>
     requires { AreInColumns (length columns.now) cut.now }
     ensures { IfOk result (IsLineOf columns.now row.now cut.now) }
 {
@@ -139,11 +134,7 @@ fn line_of(
 }
 
 /// The terms with the names of their columns.
-fn named_terms(
-    alloc: Global,
-    columns: &[Name],
-    terms: &[Term],
-) -> Result<Vec<CutTerm>, AllocError>
+fn named_terms(alloc: Global, columns: &[Name], terms: &[Term]) -> Result<Vec<CutTerm>, AllocError>
     requires { All (λ t. t.column < length columns.now) terms.now }
     ensures { IfOk result (λ named. AllZip (IsNamedTerm columns.now) terms.now named.items) }
 {

@@ -145,7 +145,8 @@ fn other_inputs_are_refused(rt: HostRuntime) -> Result<(), Fail> {
 }
 
 /// A function that is minimal, and a row of a tableau behind it.
-const ROW_BY_FIVE_PIECES: &str = "gj-function 1\norder 5\nf 3/5\npoint 0\npoint 1/3\npoint 2/3\npoint 1\npoint 1/2\nend\nbasic,rhs,x1,x2\nx0,8/5,7/5,-1/5\n";
+const ROW_BY_FIVE_PIECES: &str =
+    "gj-function 1\norder 5\nf 3/5\npoint 0\npoint 1/3\npoint 2/3\npoint 1\npoint 1/2\nend\nbasic,rhs,x1,x2\nx0,8/5,7/5,-1/5\n";
 
 #[test]
 fn cuts_are_written(rt: HostRuntime) -> Result<(), Fail> {
@@ -170,7 +171,11 @@ fn cuts_are_written(rt: HostRuntime) -> Result<(), Fail> {
             Status::Input,
             "refused record 2 fields\n",
         ),
-        ("gj-rule 1\ngmix\nend\n", Status::Input, "refused line 2 form\n"),
+        (
+            "gj-rule 1\ngmix\nend\n",
+            Status::Input,
+            "refused line 2 form\n",
+        ),
     ] {
         let (ended, sink) = ran(rt.alloc(), "cut", input.as_bytes(), &[], &[])?;
         assert_eq!(rt; ended, status, "on {input}");
