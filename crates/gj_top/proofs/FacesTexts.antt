@@ -93,15 +93,15 @@ pub text_of_faces : (f : FunctionData) (n k : ℕ) (faces : List Face) (cover : 
 text_of_faces f n k faces cover title first second third fourth whole n_is k_is maximal covered is p q r some s =
     let pushed : ArePushed cover.component f.order third fourth = subst (λ m. ArePushed cover.component m third fourth) k_is some in
     record {
-  faces = faces;
-  maximal = maximal;
-  lines = cover.lines;
-  cover = covered.lines;
-  intervals = pushed.intervals;
-  uncovered = picked_alike (λ i. number_at cover.component i ≡ None) (λ i. IsCovered f.order (IsTight f) i → ⊥)
-      (All-range (λ i. (number_at cover.component i ≡ None) ↔ (IsCovered f.order (IsTight f) i → ⊥)) 0 f.order
-      (λ i below. covered.component.uncovered i (subst (λ m. i < m) (zero-add f.order) below))) pushed.picked;
-  spelled = in_turn (line (codes "gj-faces 1")) (order_line f.order) (flat_map (λ face. line (face_text face)) faces)
-      (flat_map cover_line cover.lines) (flat_map uncovered_line pushed.intervals) (line (codes "end")) first second third fourth whole
-      (p ∙ ap (λ x. x ++ order_line n) is ∙ ap (λ m. line (codes "gj-faces 1") ++ order_line m) n_is) q r pushed.pushed s;
-}
+      faces = faces;
+      maximal = maximal;
+      lines = cover.lines;
+      cover = covered.lines;
+      intervals = pushed.intervals;
+      uncovered = picked_alike (λ i. number_at cover.component i ≡ None) (λ i. IsCovered f.order (IsTight f) i → ⊥)
+          (All-range (λ i. (number_at cover.component i ≡ None) ↔ (IsCovered f.order (IsTight f) i → ⊥)) 0 f.order
+          (λ i below. covered.component.uncovered i (subst (λ m. i < m) (zero-add f.order) below))) pushed.picked;
+      spelled = in_turn (line (codes "gj-faces 1")) (order_line f.order) (flat_map (λ face. line (face_text face)) faces)
+          (flat_map cover_line cover.lines) (flat_map uncovered_line pushed.intervals) (line (codes "end")) first second third fourth whole
+          (p ∙ ap (λ x. x ++ order_line n) is ∙ ap (λ m. line (codes "gj-faces 1") ++ order_line m) n_is) q r pushed.pushed s;
+    }
