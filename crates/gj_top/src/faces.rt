@@ -1,5 +1,5 @@
 //! The command `faces`: the maximal additive faces and the covered intervals of a function.
-ghost use Rattle.std.specs.Prelude.{◌≡◌, ◌++◌, codes, decimal, length, flat_map, IfOk, OnOk};
+ghost use Rattle.std.specs.Prelude.{◌≡◌, ◌+◌, ◌≤◌, ◌++◌, codes, decimal, drop, length, flat_map, IfOk, OnOk};
 ghost use Rattle.gj_shape.specs.FunctionData.{IsContinuous};
 ghost use Rattle.gj_lines.specs.FunctionLines.{line};
 ghost use Rattle.gj_lines.specs.FaceLines.{face_text, cover_line};
@@ -14,8 +14,11 @@ use gj_faces::maximal;
 use gj_lex::print_count;
 use gj_lines::{face_word, push_cover_line, push_order_line};
 use gj_shape::{CoverLine, Face, Shape};
-use itoa::Buffer;
+use itoa::write_digits;
 use std::alloc::{AllocError, Global};
+
+/// The room for the end of the line of a face: two numbers of at most 20 digits, a space before each, and a line feed.
+const ROOM: usize = 64;
 
 /// The faces and intervals of the function that the input spells, or its first jump.
 pub(crate) fn reply(alloc: Global, input: &[u8]) -> Result<Reply, Unanswered>
@@ -67,24 +70,28 @@ fn push_face_lines(out: &mut Vec<u8>, faces: &[Face]) -> Result<(), AllocError>
     Ok(())
 }
 
-/// Appends the line of a face. There may be hundreds of thousands, so their numbers are printed in 32 bits.
+/// Appends the line of a face. There may be hundreds of thousands, so it is put together in a buffer first.
 fn push_face_line(out: &mut Vec<u8>, face: Face) -> Result<(), AllocError>
     ensures { OnOk result (out.new.items ≡ out.old.items ++ line (face_text face)) }
 {
+    let mut buffer = [b'\n'; ROOM];
+    let behind = write_number(&mut buffer, ROOM - 1, face.b);
+    let start = write_number(&mut buffer, behind, face.a);
     out.extend_from_slice(face_word(face.kind))?;
-    push_number(out, face.a)?;
-    push_number(out, face.b)?;
-    out.push(b'\n')?;
-    Ok(())
+    out.extend_from_slice(&buffer[start..])
 }
 
-/// Appends a space and a number.
-fn push_number(out: &mut Vec<u8>, n: u32) -> Result<(), AllocError>
-    ensures { OnOk result (out.new.items ≡ out.old.items ++ (codes " " ++ decimal n)) }
+/// Writes a space and a number so that they end before `end`, and answers where they start.
+fn write_number(buffer: &mut [u8], end: usize, n: u32) -> usize
+    requires room { 21 ≤ end }
+    requires within { end ≤ length buffer.old }
+    ensures written { drop result buffer.new ≡ codes " " ++ decimal n ++ drop end buffer.old }
+    ensures start { end ≤ result + 21 }
+    ensures length { length buffer.new ≡ length buffer.old }
 {
-    let mut buffer = Buffer::new();
-    out.push(b' ')?;
-    out.extend_from_slice(buffer.format(n).as_bytes())
+    let start = write_digits(u64::from(n), buffer, end) - 1;
+    buffer[start] = b' ';
+    start
 }
 
 /// Appends the line of each covered interval.
