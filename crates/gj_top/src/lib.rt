@@ -40,7 +40,8 @@ pub use status::Status;
 ///
 /// `minimal` reads a function text and writes the proof text of the claim that the function is minimal, or that it is
 /// not, with the first violation. `show` reads a function text and writes its canonical text. `check` reads a proof
-/// text and says whether every rule of the checker holds. `faces` reads the function text of a continuous function and writes its
+/// text and says whether every rule of the checker holds. `cut` reads a function text or a rule text with a tableau behind it, and
+/// writes the proof text of the cuts of its rows. `faces` reads the function text of a continuous function and writes its
 /// maximal additive faces and its covered intervals. With `--json`, `minimal` and `show` read a function in JSON, and
 /// `minimal` writes a report of the proof text, `show` the function in JSON. The whole input is read first, and the whole
 /// answer is made before its first byte is written.
