@@ -18,7 +18,7 @@ IsOver scale x n = IsRatio x n (pos scale)
 
 -- ---- one fraction over a common denominator
 
-denominator_is : (x : Frac) → pos (unsigned_abs (denominator x)) ≡ denominator x
+pub denominator_is : (x : Frac) → pos (unsigned_abs (denominator x)) ≡ denominator x
 denominator_is x = pos_abs_z (denominator x) (omega (arith, ints, x.lowest.positive))
 
 -- the numerator over the scale is the fraction

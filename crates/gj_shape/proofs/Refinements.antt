@@ -3,7 +3,7 @@ use Rattle.std.proofs.Common.{◌≡◌, ℕ, zero, suc, ◌+◌, ◌-◌, ◌*�
 use Rattle.std.proofs.Math.Nat.{mul-le-mul_right, mul-le-mul_left, mul-lt-mul_of_pos_right, mul-pos, mod-lt, mod-mod, div-add-mod'}
 use Rattle.std.proofs.lemmas.Int.{unsigned_abs-mul}
 use Rattle.gj_frac.specs.declared.Frac.{Frac}
-use Rattle.gj_tools.proofs.Integers.{abs_add_z}
+use Rattle.gj_tools.proofs.Integers.{abs_add_z, first_only_z, second_only_z}
 use Rattle.gj_tools.proofs.Quotients.{same_at_remainder, next_place_low, next_place_high}
 use Rattle.gj_tools.proofs.Ring.{by_ring, ring}
 use Rattle.gj_shape.specs.FunctionData.{FunctionData, IsWithinBounds, at}
@@ -84,12 +84,6 @@ refined_all_small f m l v r m_some h are =
 -- the values between a/order and (a + 1)/order at c steps of t, from the limits there
 abbrev between : FunctionData → ℕ → ℕ → ℕ → ℤ
 between f t a c = pos (t - c) *ℤ at f.right a +ℤ pos c *ℤ at f.left (a + 1)
-
-first_only_z : (t : ℕ) (x y : ℤ) → pos t *ℤ x ≡ pos t *ℤ x +ℤ pos 0 *ℤ y
-first_only_z t x y = by_ring (pos t ∷ x ∷ y ∷ []) (search ring depth 20) refl
-
-second_only_z : (t : ℕ) (x y : ℤ) → pos t *ℤ y ≡ pos 0 *ℤ x +ℤ pos t *ℤ y
-second_only_z t x y = by_ring (pos t ∷ x ∷ y ∷ []) (search ring depth 20) refl
 
 right_entry : (f : FunctionData) (t a c : ℕ) → entry_or_value f f.right t a c ≡ between f t a c
 right_entry f t a zero =

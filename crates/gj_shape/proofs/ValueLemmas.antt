@@ -1,5 +1,5 @@
 -- The value of a function at a fraction, read off its table at any index of the place.
-use Rattle.std.proofs.Common.{◌≡◌, ℕ, zero, suc, ◌+◌, ◌-◌, ◌*◌, ◌/◌, ◌%◌, ◌<◌, ℤ, pos, negsuc, ◌+ℤ◌, ◌*ℤ◌, List, length, get_or, unsigned_abs, sym, ap, ap₂, subst, subst₂, ◌∙◌, refl, arith}
+use Rattle.std.proofs.Common.{◌≡◌, ℕ, zero, suc, ◌+◌, ◌-◌, ◌*◌, ◌/◌, ◌%◌, ◌<◌, ℤ, pos, negsuc, ◌+ℤ◌, ◌*ℤ◌, List, [], ◌∷◌, length, get_or, unsigned_abs, sym, ap, ap₂, subst, subst₂, ◌∙◌, refl, arith}
 use Rattle.std.proofs.Math.Nat.{div-add-mod', mod-lt}
 use Rattle.std.proofs.lemmas.Int.{ints}
 use Rattle.std.specs.Int.{int_rem_euclid}
@@ -7,6 +7,7 @@ use Rattle.gj_frac.specs.declared.Frac.{Frac}
 use Rattle.gj_frac.specs.Fraction.{IsRatio, numerator, denominator}
 use Rattle.gj_tools.proofs.Integers.{add_mul_z}
 use Rattle.gj_tools.proofs.Quotients.{same_remainder, same_at_remainder}
+use Rattle.gj_tools.proofs.Ring.{by_ring, ring}
 use Rattle.gj_shape.specs.FunctionData.{FunctionData, IsWithinBounds, at}
 use Rattle.gj_shape.specs.Refinement.{entry_or_value}
 use Rattle.gj_shape.specs.Table.{table, entry}
@@ -29,6 +30,16 @@ congruent_join : (i n j : ℤ) (p : ℕ) → IsCongruent i n p → IsCongruent n
 congruent_join i n j p (k, e) (l, g) =
     let both = add_mul_z k l (pos p) in
     (k +ℤ l, omega (arith, ints))
+
+-- each whole number is congruent to a natural one
+pub natural_index : (a : ℤ) (p : ℕ) → 0 < p → (i : ℕ) × IsCongruent (pos i) a p
+natural_index (pos a) p some = (a, (pos 0, omega (arith, ints)))
+natural_index (negsuc a) zero some = absurd (omega arith)
+natural_index (negsuc a) (suc m) some = (suc a * m, (pos (suc a), omega (arith, ints)))
+
+-- an index on a grid, moved to a finer one
+pub moved_index_z : (a k : ℤ) (n d e : ℕ) → (a +ℤ k *ℤ pos (n * d)) *ℤ pos e ≡ a *ℤ pos e +ℤ k *ℤ pos (n * (d * e))
+moved_index_z a k n d e = by_ring (a ∷ k ∷ pos n ∷ pos d ∷ pos e ∷ []) (search ring depth 30) refl
 
 -- natural numbers that are congruent have one remainder
 pub congruent_rests : (i j p : ℕ) → IsCongruent (pos i) (pos j) p → i % p ≡ j % p

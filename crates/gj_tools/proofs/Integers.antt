@@ -199,3 +199,20 @@ abs_zero_z x e = omega (arith, ints)
 -- two whole numbers are equal or not
 pub same_or_apart_z : (x y : ℤ) → (x ≡ y) ⊎ (x ≢ y)
 same_or_apart_z x y = elim (ℤ_discrete x y) [ yes e ↦ inl e | no n ↦ inr n ]
+
+-- ---- weights
+
+-- a number is 0 where a positive multiple of it is
+pub zero_factor_z : (m : ℕ) (x : ℤ) → 0 < m → pos m *ℤ x ≡ pos 0 → x ≡ pos 0
+zero_factor_z m x some e = mul_cancel_left_z x (pos 0) (pos m) (e ∙ omega (arith, ints)) (omega arith)
+
+-- a sum keeps under a weight
+pub weighted_sum_z : (m : ℕ) (x y z : ℤ) → x +ℤ y ≡ z → pos m *ℤ x +ℤ pos m *ℤ y ≡ pos m *ℤ z
+weighted_sum_z m x y z e = sym (mul_add_z (pos m) x y) ∙ ap (λ w. pos m *ℤ w) e
+
+-- all the weight on the first of two numbers, and on the second
+pub first_only_z : (t : ℕ) (x y : ℤ) → pos t *ℤ x ≡ pos t *ℤ x +ℤ pos 0 *ℤ y
+first_only_z t x y = omega (arith, ints)
+
+pub second_only_z : (t : ℕ) (x y : ℤ) → pos t *ℤ y ≡ pos 0 *ℤ x +ℤ pos t *ℤ y
+second_only_z t x y = omega (arith, ints)

@@ -4,4 +4,5 @@ pub mod Ratios
 pub mod Divisors
 pub mod Quotients
 pub mod Lists
+pub mod Choices
 pub mod FirstThatFails

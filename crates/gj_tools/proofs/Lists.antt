@@ -14,6 +14,17 @@ All-front P xs ys h = subst (All P) (take_at xs ys (length xs) refl) (All-take P
 pub All-back : {X : Type 0} (P : X → Type 0) (xs ys : List X) → All P (xs ++ ys) → All P ys
 All-back P xs ys h = subst (All P) (drop_at xs ys (length xs) refl) (All-drop P (length xs) (xs ++ ys) h)
 
+-- ---- each element of a short list
+
+pub All-one : {X : Type 0} (P : X → Type 0) (x : X) → P x → All P (x ∷ [])
+All-one P x h = All-cons P x [] h (All-nil P)
+
+pub All-two : {X : Type 0} (P : X → Type 0) (x y : X) → P x → P y → All P (x ∷ y ∷ [])
+All-two P x y h k = All-cons P x (y ∷ []) h (All-one P y k)
+
+pub All-three : {X : Type 0} (P : X → Type 0) (x y z : X) → P x → P y → P z → All P (x ∷ y ∷ z ∷ [])
+All-three P x y z h k l = All-cons P x (y ∷ z ∷ []) h (All-two P y z k l)
+
 -- ---- each element of a list made by a range
 
 -- what holds of each index below a + n, holds of each number of the range of n numbers from a on
