@@ -1,7 +1,7 @@
 -- A continuous function is minimal where its table on any grid is.
 use Rattle.std.proofs.Common.{◌≡◌, ℕ, ◌+◌, ◌*◌, ◌%◌, ◌<◌, ℤ, pos, ◌+ℤ◌, ◌*ℤ◌, ◌≤ℤ◌, [], ◌∷◌, refl, sym, ap, ap₂, ◌∙◌, mul-one, arith}
 use Rattle.std.proofs.lemmas.Int.{ints}
-use Rattle.gj_tools.proofs.Integers.{mul_cancel_left_z, mul_le_cancel_right_z}
+use Rattle.gj_tools.proofs.Integers.{mul_cancel_left_z, mul_le_cancel_right_z, zero_factor_z}
 use Rattle.gj_tools.proofs.Ring.{by_ring, ring}
 use Rattle.gj_shape.specs.FunctionData.{FunctionData, IsWithinBounds, IsContinuous}
 use Rattle.gj_shape.specs.Table.{table, IsMinimalOnGrid, IsMinimal}
@@ -10,9 +10,6 @@ use Rattle.gj_theory.proofs.CarriedSteps.{same_place}
 use Rattle.gj_theory.proofs.Continuous.{minimal_from_own_grid}
 
 -- ---- cancelling a factor, over plain numbers
-
-zero_scaled : (m : ℕ) (x : ℤ) → 0 < m → pos m *ℤ x ≡ pos 0 → x ≡ pos 0
-zero_scaled m x some e = mul_cancel_left_z x (pos 0) (pos m) (e ∙ omega (arith, ints)) (omega arith)
 
 nonnegative_scaled : (m : ℕ) (x : ℤ) → 0 < m → pos 0 ≤ℤ (pos m *ℤ x) → pos 0 ≤ℤ x
 nonnegative_scaled m x some h = mul_le_cancel_right_z (pos 0) x (pos m) (omega (arith, ints)) (omega (arith, ints))
@@ -38,7 +35,7 @@ own_grid_minimal f m l some h = record {
   has_period = λ i. table_period f 1 i (omega arith) l;
   zero_at_zero =
       let start : 0 * m ≡ 0 = omega arith in
-      zero_scaled m (table f 1 0) some (sym (at_multiple f m 0 some) ∙ ap (table f m) start ∙ h.zero_at_zero);
+      zero_factor_z m (table f 1 0) some (sym (at_multiple f m 0 some) ∙ ap (table f m) start ∙ h.zero_at_zero);
   nonnegative = λ i. nonnegative_scaled m (table f 1 i) some (rw (← at_multiple f m i some) (h.nonnegative (i * m)));
   subadditive = λ i j.
       let sum : (i + j) * m ≡ i * m + j * m = omega arith in

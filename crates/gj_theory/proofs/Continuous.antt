@@ -15,7 +15,7 @@ use Rattle.gj_theory.proofs.EachTest.{each_test}
 use Rattle.gj_theory.proofs.MinimalFromTests.{minimal_from_tests}
 
 -- a minimal table may be replaced by one with the same entries
-same_minimal_table : (t u : ℕ → ℤ) (n k s : ℕ) → ((i : ℕ) → u i ≡ t i) → IsMinimalTable t n k s → IsMinimalTable u n k s
+pub same_minimal_table : (t u : ℕ → ℤ) (n k s : ℕ) → ((i : ℕ) → u i ≡ t i) → IsMinimalTable t n k s → IsMinimalTable u n k s
 same_minimal_table t u n k s e h = record {
   has_period = λ i. e (i + n) ∙ h.has_period i ∙ sym (e i);
   zero_at_zero = e 0 ∙ h.zero_at_zero;

@@ -5,7 +5,7 @@ use Rattle.std.proofs.Math.Nat.{mod-lt, mod-mod}
 use Rattle.std.proofs.lemmas.Bool.{cases_lt}
 use Rattle.std.proofs.lemmas.Int.{ints}
 use Rattle.std.proofs.lemmas.List.Elements.{All-nil, All-cons}
-use Rattle.gj_tools.proofs.Integers.{mul_cancel_left_z, same_or_apart_z}
+use Rattle.gj_tools.proofs.Integers.{same_or_apart_z, zero_factor_z, weighted_sum_z}
 use Rattle.gj_tools.proofs.Quotients.{same_at_remainder, parts_of_remainder}
 use Rattle.gj_tools.proofs.Ring.{by_ring, ring}
 use Rattle.gj_shape.specs.Additive.{IsTight, IsAdditive, IsInFace}
@@ -112,19 +112,13 @@ filling_additive v q m q_some m_some period kind a b i j additive inside =
 
 -- ---- the entries of a perturbation at the multiples of 1/q
 
-zero_factor : (m : ℕ) (x : ℤ) → 0 < m → pos m *ℤ x ≡ pos 0 → x ≡ pos 0
-zero_factor m x some e = mul_cancel_left_z x (pos 0) (pos m) (e ∙ omega (arith, ints)) (omega arith)
-
-scaled_sum : (m : ℕ) (x y z : ℤ) → x +ℤ y ≡ z → pos m *ℤ x +ℤ pos m *ℤ y ≡ pos m *ℤ z
-scaled_sum m x y z e = by_ring (pos m ∷ x ∷ y ∷ []) (search ring depth 20) refl ∙ ap (λ w. pos m *ℤ w) e
-
 -- a tight pair of the function is one on the grid
 tight_at_multiples : (f : FunctionData) (m x y : ℕ) → 0 < m → IsTight f x y →
     table f m (x * m) +ℤ table f m (y * m) ≡ table f m (x * m + y * m)
 tight_at_multiples f m x y some tight =
     let sum : (x + y) * m ≡ x * m + y * m = omega arith in
     ap₂ (λ v w. v +ℤ w) (table_at f m x some) (table_at f m y some)
-    ∙ scaled_sum m (at f.value x) (at f.value y) (at f.value (x + y)) tight
+    ∙ weighted_sum_z m (at f.value x) (at f.value y) (at f.value (x + y)) tight
     ∙ sym (table_at f m (x + y) some) ∙ ap (table f m) sum
 
 -- a perturbation on any grid gives one on the grid of order 4 q
@@ -159,7 +153,7 @@ zero_at_multiples : (f : FunctionData) (m : ℕ) (p : ℕ → ℤ) → IsWithinB
     HasNoPerturbation (table f 4) (f.order * 4) (f.place * 4) →
     IsPerturbation (table f m) (f.order * m) (f.place * m) p → (a : ℕ) → p (a * m) ≡ pos 0
 zero_at_multiples f m p l c h some none d a =
-    zero_factor 4 (p (a * m)) (omega arith)
+    zero_factor_z 4 (p (a * m)) (omega arith)
     (sym (filling_at_multiple (λ b. p (b * m)) 4 a (omega arith))
     ∙ none (filling (λ b. p (b * m)) 4) (coarse_perturbation f m p l c h some d) (a * 4))
 
@@ -214,7 +208,7 @@ zero_on_run : (p : ℕ → ℤ) (m i : ℕ) (t : ℤ) → 0 < m → HasStepOn p 
     (r : ℕ) → r ≤ m → p (i * m + r) ≡ pos 0
 zero_on_run p m i t some step start end r below =
     let last : (i + 1) * m ≡ i * m + m = omega arith in
-    let flat : t ≡ pos 0 = zero_factor m t some (sym (rises p m i t step start m (omega arith)) ∙ sym (ap p last) ∙ end) in
+    let flat : t ≡ pos 0 = zero_factor_z m t some (sym (rises p m i t step start m (omega arith)) ∙ sym (ap p last) ∙ end) in
     rises p m i t step start r below ∙ ap (λ z. pos r *ℤ z) flat ∙ omega (arith, ints)
 
 -- ---- uncovered intervals

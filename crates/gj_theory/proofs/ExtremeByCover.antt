@@ -7,7 +7,7 @@ use Rattle.std.proofs.lemmas.Int.{ints}
 use Rattle.std.proofs.lemmas.List.FromFn.{length-map-range_with_len}
 use Rattle.std.proofs.lemmas.List.Elements.{All-cons, All-nil, All-map, All-filter, filter_passes}
 use Rattle.std.proofs.lemmas.Nat.{div_below}
-use Rattle.gj_tools.proofs.Integers.{mul_add_z, mul_sub_z, mul_cancel_left_z}
+use Rattle.gj_tools.proofs.Integers.{mul_add_z, mul_sub_z, zero_factor_z}
 use Rattle.gj_tools.proofs.Lists.{All-joined, All-range, made_has}
 use Rattle.gj_tools.proofs.Quotients.{same_at_remainder}
 use Rattle.gj_tools.proofs.Ring.{by_ring, ring}
@@ -60,12 +60,6 @@ value_from_slopes p q m slope start steps (suc i) low =
     let split = mul_add_z (pos m) (sum_before slope i) (slope i) in
     omega (arith, ints)
 
--- a number is 0 where a multiple of it is
-zero_from_multiple : (m : ℕ) (x : ℤ) → 0 < m → pos m *ℤ x ≡ pos 0 → x ≡ pos 0
-zero_from_multiple m x some e =
-    let none : pos m *ℤ pos 0 ≡ pos 0 = omega (arith, ints) in
-    mul_cancel_left_z x (pos 0) (pos m) (e ∙ sym none) (λ z. omega arith)
-
 -- ---- the slopes of a perturbation solve the rows
 
 -- tight pairs among the rows
@@ -112,10 +106,10 @@ slopes_solve f m n p s component l continuous some h start place below steps =
     let whole : f.order * m ≡ 0 + f.order * m = omega arith in
     each_row (λ name. sum_of_products (row_of component n f.order f.place name) (slopes_of s n) ≡ pos 0) f
     (period_row component s n f.order f.place below
-    ∙ zero_from_multiple m (sum_before slope f.order) some
+    ∙ zero_factor_z m (sum_before slope f.order) some
     (sym (value f.order (omega arith)) ∙ ap p whole ∙ h.has_period 0 ∙ start))
     (place_row component s n f.order f.place below place_low
-    ∙ zero_from_multiple m (sum_before slope f.place) some (sym (value f.place place_low) ∙ place))
+    ∙ zero_factor_z m (sum_before slope f.place) some (sym (value f.place place_low) ∙ place))
     (λ a b a_low b_low tight.
     let r = (a + b) % f.order in
     let r_low : r < f.order = mod-lt (a + b) order_some in
@@ -126,7 +120,7 @@ slopes_solve f m n p s component l continuous some h start place below steps =
     let split = mul_sub_z (pos m) (sum_before slope a +ℤ sum_before slope b) (sum_before slope r) in
     let sum = mul_add_z (pos m) (sum_before slope a) (sum_before slope b) in
     pair_row component s n f.order f.place a b below (omega arith) (omega arith) (omega arith)
-    ∙ zero_from_multiple m (sum_before slope a +ℤ sum_before slope b -ℤ sum_before slope r) some (omega (arith, ints)))
+    ∙ zero_factor_z m (sum_before slope a +ℤ sum_before slope b -ℤ sum_before slope r) some (omega (arith, ints)))
 
 -- ---- a table with only the step 0
 

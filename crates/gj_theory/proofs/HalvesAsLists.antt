@@ -11,7 +11,8 @@ use Rattle.gj_shape.specs.Table.{table, IsMinimal}
 use Rattle.gj_shape.specs.declared.extremality.Halves.{Halves}
 use Rattle.gj_shape.proofs.AtLemmas.{at_below, at_wrapped}
 use Rattle.gj_theory.specs.Halves.{IsPerturbation, IsBelowSlacks, raised, lowered, AreDifferentHalves}
-use Rattle.gj_theory.proofs.PerturbedTables.{same_minimal, halves_of_perturbation}
+use Rattle.gj_theory.proofs.PerturbedTables.{halves_of_perturbation}
+use Rattle.gj_theory.proofs.Continuous.{same_minimal_table}
 
 -- the list of the entries over one period has the entries of a table
 pub at_made : (g : ℕ → ℤ) (n : ℕ) → 0 < n → ((i : ℕ) → g (i + n) ≡ g i) → (i : ℕ) → at (map g (range_with_len 0 n)) i ≡ g i
@@ -28,8 +29,8 @@ pub same_halves : (t a b a' b' : ℕ → ℤ) (n k s c : ℕ) → ((i : ℕ) →
     AreDifferentHalves t n k s c a b → AreDifferentHalves t n k s c a' b'
 same_halves t a b a' b' n k s c e g h = record {
   factor = h.factor;
-  first = same_minimal a a' n k (c * s) e h.first;
-  second = same_minimal b b' n k (c * s) g h.second;
+  first = same_minimal_table a a' n k (c * s) e h.first;
+  second = same_minimal_table b b' n k (c * s) g h.second;
   average = λ i. rw (e i, g i) (h.average i);
   index = h.index;
   different = λ same. h.different (sym (e h.index) ∙ same ∙ g h.index);

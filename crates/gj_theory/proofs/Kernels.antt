@@ -15,6 +15,7 @@ use Rattle.std.proofs.Math.Nat.{le_antisymm}
 use Rattle.gj_tools.specs.Divisors.{gcd_of}
 use Rattle.gj_tools.proofs.Integers.{mul_add_z, mul_left_comm_z, mul_assoc_z, mul_comm_z, mul_neg_z, mul_positive_z, mul_lt_cancel_right_z}
 use Rattle.gj_tools.proofs.Divisors.{gcd_of_is}
+use Rattle.gj_tools.proofs.Choices.{not_true, not_false}
 use Rattle.gj_frac.proofs.Reduced.{quotient_of_divisor}
 use Rattle.gj_shape.specs.SlopeRows.{total, sum_of_products}
 use Rattle.gj_shape.specs.Elimination.{KeptRow, Solution, at_column, scaled, row_with_pivot, entries_of, products_behind, solving_gcd, solving_products, solved_at, solution_below, solution_from, free_column, unit_row, kernel}
@@ -90,14 +91,6 @@ some_found p (x ∷ xs) e f = by_test (p x) e f (some_found p xs)
 -- a column has a pivot or not
 abbrev pub has_pivot : List KeptRow → ℕ → Bool
 has_pivot kept c = list_any (λ k. eqb k.pivot c) kept
-
-not_true : (b : Bool) → not b ≡ true → b ≡ false
-not_true true e = absurd cc
-not_true false e = refl
-
-not_false : (b : Bool) → not b ≡ false → b ≡ true
-not_false true e = refl
-not_false false e = absurd cc
 
 pub free_has_no_row : (n : ℕ) (kept : List KeptRow) (c : ℕ) → free_column n kept ≡ Some c →
     (c < n) × (row_with_pivot kept c ≡ None) × ((j : ℕ) → j < c → row_with_pivot kept j ≡ None → ⊥)

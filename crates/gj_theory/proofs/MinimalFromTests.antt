@@ -33,7 +33,7 @@ place_from : (m i a r : ℕ) → i ≡ a * m + r → r < m → Place m i a
 place_from m i a zero e below = at_multiple (omega arith)
 place_from m i a (suc r) e below = inside (suc r) (m - suc r) e (omega arith) (omega arith) (omega arith)
 
-place_of : (m i : ℕ) → 0 < m → Place m i (i / m)
+pub place_of : (m i : ℕ) → 0 < m → Place m i (i / m)
 place_of m i some = place_from m i (i / m) (i % m) (sym (div-add-mod' i m)) (mod-lt i some)
 
 -- ---- signs

@@ -6,16 +6,7 @@ use Rattle.gj_tools.proofs.Quotients.{periods, same_at_remainder}
 use Rattle.gj_tools.proofs.Ring.{by_ring, ring}
 use Rattle.gj_shape.specs.Table.{IsMinimalTable}
 use Rattle.gj_theory.specs.Halves.{IsPerturbation, IsBelowSlacks, raised, lowered, AreDifferentHalves}
-
--- a minimal table may be replaced by one with the same entries
-pub same_minimal : (t a : ℕ → ℤ) (n k s : ℕ) → ((i : ℕ) → a i ≡ t i) → IsMinimalTable t n k s → IsMinimalTable a n k s
-same_minimal t a n k s e h = record {
-  has_period = λ i. e (i + n) ∙ h.has_period i ∙ sym (e i);
-  zero_at_zero = e 0 ∙ h.zero_at_zero;
-  nonnegative = λ i. rw (e i) (h.nonnegative i);
-  subadditive = λ i j. rw (e (i + j), e i, e j) (h.subadditive i j);
-  symmetric = λ i j opposite. rw (e i, e j) (h.symmetric i j opposite);
-}
+use Rattle.gj_theory.proofs.Continuous.{same_minimal_table}
 
 -- ---- over plain numbers: w t + v p, where w is at least the slack of p and v at most that of t
 
@@ -143,7 +134,7 @@ lowered_minimal : (t p : ℕ → ℤ) (n k s u size : ℕ) → 0 < n → IsMinim
     IsBelowSlacks t u → ((j : ℕ) → unsigned_abs (p j) ≤ size) → IsMinimalTable (lowered t p u size) n k (3 * size * s)
 lowered_minimal t p n k s u size some h d slacks sizes =
     let turned = λ (i : ℕ). neg_ℤ (p i) in
-    same_minimal (raised t turned u size) (lowered t p u size) n k (3 * size * s)
+    same_minimal_table (raised t turned u size) (lowered t p u size) n k (3 * size * s)
     (λ i. ap (λ x. pos (3 * size) *ℤ t i +ℤ x) (sym (mul_neg_z (pos u) (p i))))
     (raised_minimal t turned n k s u size some h (opposite_perturbation t n k p d) slacks
     (λ j. let below = sizes j in omega (arith, ints)))

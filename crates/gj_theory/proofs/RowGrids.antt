@@ -7,7 +7,7 @@ use Rattle.std.proofs.lemmas.List.Elements.{All-head, All-tail}
 use Rattle.gj_frac.specs.declared.Frac.{Frac}
 use Rattle.gj_frac.specs.Fraction.{IsRatio, numerator, denominator}
 use Rattle.gj_tools.proofs.Divisors.{cofactor}
-use Rattle.gj_tools.proofs.Integers.{pos_abs_z}
+use Rattle.gj_tools.proofs.Integers.{pos_abs_z, mul_assoc_z, swap_last_z}
 use Rattle.gj_tools.proofs.Ring.{by_ring, ring}
 use Rattle.gj_shape.specs.FunctionData.{FunctionData, IsWithinBounds}
 use Rattle.gj_shape.specs.Given.{IsCommonDenominator}
@@ -17,6 +17,8 @@ use Rattle.gj_shape.specs.Table.{table, IsMinimal}
 use Rattle.gj_shape.specs.Values.{IsCongruent}
 use Rattle.gj_shape.proofs.LeastDenominator.{Divides, denominator_some}
 use Rattle.gj_shape.proofs.TableLemmas.{table_finer}
+use Rattle.gj_shape.proofs.OverScale.{denominator_is}
+use Rattle.gj_shape.proofs.ValueLemmas.{natural_index, moved_index_z}
 use Rattle.gj_theory.specs.Cuts.{HasFractionalPart, IsEntryAt, IsValueOf, IsInside, IsGmicValue}
 use Rattle.gj_theory.proofs.CutsByTables.{product_of, product_some, product_common, cut_by_table}
 use Rattle.gj_theory.proofs.GmicTable.{gmic_minimal}
@@ -24,25 +26,10 @@ use Rattle.gj_theory.proofs.GmicValues.{closed_form}
 
 -- ---- places on a grid
 
--- each whole number is congruent to a natural one
-natural_place : (a : ℤ) (n : ℕ) → 0 < n → (i : ℕ) × IsCongruent (pos i) a n
-natural_place (pos a) n some = (a, (pos 0, omega (arith, ints)))
-natural_place (negsuc a) zero some = absurd (omega arith)
-natural_place (negsuc a) (suc m) some = (suc a * m, (pos (suc a), omega (arith, ints)))
-
-positive_parts : (x : Frac) → pos (unsigned_abs (denominator x)) ≡ denominator x
-positive_parts x = pos_abs_z x.den (omega (arith, ints, x.lowest.positive))
-
-part_left : (r n m : ℤ) → r *ℤ (n *ℤ m) ≡ (r *ℤ n) *ℤ m
-part_left r n m = by_ring (r ∷ n ∷ m ∷ []) (search ring depth 30) refl
-
-part_right : (k d m : ℤ) → (k *ℤ d) *ℤ m ≡ (k *ℤ m) *ℤ d
-part_right k d m = by_ring (k ∷ d ∷ m ∷ []) (search ring depth 30) refl
-
 -- a fractional part on a finer grid
 part_on_grid : (x : Frac) (k n m : ℕ) → HasFractionalPart x (pos k) (pos n) → HasFractionalPart x (pos (k * m)) (pos (n * m))
 part_on_grid x k n m h w floor =
-    part_left _ (pos n) (pos m) ∙ ap (λ z. z *ℤ pos m) (h w floor) ∙ part_right (pos k) x.den (pos m)
+    sym (mul_assoc_z _ (pos n) (pos m)) ∙ ap (λ z. z *ℤ pos m) (h w floor) ∙ swap_last_z (pos k) x.den (pos m)
 
 -- a fraction on a grid of its denominator d times e times n
 place_on_grid : (x : Frac) (n d e : ℕ) → pos d ≡ denominator x → IsRatio x (numerator x *ℤ pos n *ℤ pos e) (pos (n * (d * e)))
@@ -51,11 +38,8 @@ place_on_grid x n d e h = place_moved x.num n d e ∙ ap (λ z. (x.num *ℤ pos 
     place_moved : (a : ℤ) (n d e : ℕ) → a *ℤ pos (n * (d * e)) ≡ (a *ℤ pos n *ℤ pos e) *ℤ pos d
     place_moved a n d e = by_ring (a ∷ pos n ∷ pos d ∷ pos e ∷ []) (search ring depth 30) refl
 
-index_moved : (a k : ℤ) (n d e : ℕ) → (a +ℤ k *ℤ pos (n * d)) *ℤ pos e ≡ a *ℤ pos e +ℤ k *ℤ pos (n * (d * e))
-index_moved a k n d e = by_ring (a ∷ k ∷ pos n ∷ pos d ∷ pos e ∷ []) (search ring depth 30) refl
-
 congruent_on_grid : (i : ℕ) (a : ℤ) (n d e : ℕ) → IsCongruent (pos i) a (n * d) → IsCongruent (pos (i * e)) (a *ℤ pos e) (n * (d * e))
-congruent_on_grid i a n d e (k, h) = (k, ap (λ z. z *ℤ pos e) h ∙ index_moved a k n d e)
+congruent_on_grid i a n d e (k, h) = (k, ap (λ z. z *ℤ pos e) h ∙ moved_index_z a k n d e)
 
 -- ---- values of a function
 
@@ -73,10 +57,10 @@ value_on_grid f x y m order_some some divides value =
     let (e, whole) = cofactor d m divides in
     let e_some : 0 < e = factor_positive d e m whole some in
     let a = numerator x *ℤ pos f.order in
-    let i = natural_place a (f.order * d) (mul-pos order_some d_some) in
+    let i = natural_index a (f.order * d) (mul-pos order_some d_some) in
     subst (λ (n : ℕ). IsEntryAt (table f n) (f.order * n) (f.scale * n) x y) (sym whole) (record {
       place = a *ℤ pos e;
-      place_is = place_on_grid x f.order d e (positive_parts x);
+      place_is = place_on_grid x f.order d e (denominator_is x);
       index = i.0 * e;
       index_is = congruent_on_grid i.0 a f.order d e i.1;
       entry_is =
@@ -129,9 +113,9 @@ gmic_on_grid f x y q p m q_is p_is p_some below some divides value =
     let d = unsigned_abs (denominator x) in
     let (e, whole) = cofactor d m divides in
     let a = numerator x *ℤ pos q *ℤ pos e in
-    let i = natural_place a (q * m) (mul-pos (omega arith) some) in
+    let i = natural_index a (q * m) (mul-pos (omega arith) some) in
     let place_is : IsRatio x a (pos (q * m)) =
-    subst (λ (n : ℕ). IsRatio x a (pos (q * n))) (sym whole) (place_on_grid x q d e (positive_parts x)) in
+    subst (λ (n : ℕ). IsRatio x a (pos (q * n))) (sym whole) (place_on_grid x q d e (denominator_is x)) in
     record {
       place = a;
       place_is = place_is;
@@ -160,7 +144,7 @@ cut_by_gmic f entries right coefficients inside part h =
     let some : 0 < m = product_some entries in
     let q = unsigned_abs (denominator f) in
     let p = unsigned_abs (numerator f) in
-    let q_is : pos q ≡ denominator f = positive_parts f in
+    let q_is : pos q ≡ denominator f = denominator_is f in
     let p_is : pos p ≡ numerator f = pos_abs_z f.num (omega (arith, ints, inside.0)) in
     let p_some : 0 < p = omega (arith, ints, inside.0) in
     let below : p < q = omega (arith, ints, inside.0, inside.1) in

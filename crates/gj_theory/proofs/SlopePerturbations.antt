@@ -81,7 +81,7 @@ pair_row_holds P f all a b low up high tight =
 
 -- ---- the values of the perturbation
 
-total_push : (xs : List ℤ) (x : ℤ) → total (xs ++ x ∷ []) ≡ total xs +ℤ x
+pub total_push : (xs : List ℤ) (x : ℤ) → total (xs ++ x ∷ []) ≡ total xs +ℤ x
 total_push [] x = omega (arith, ints)
 total_push (y ∷ xs) x = let rest = total_push xs x in omega (arith, ints)
 

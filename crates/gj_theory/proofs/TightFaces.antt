@@ -3,6 +3,7 @@ use Rattle.std.proofs.Common.{◌≡◌, ℕ, zero, suc, ◌+◌, ◌-◌, ◌*�
 use Rattle.std.proofs.Math.Nat.{add-zero, add-mod}
 use Rattle.gj_tools.proofs.Quotients.{same_at_remainder}
 use Rattle.gj_tools.proofs.Ring.{by_ring, ring}
+use Rattle.gj_tools.proofs.Integers.{weighted_sum_z, first_only_z, second_only_z}
 use Rattle.gj_shape.specs.Additive.{IsTight, IsTightOnGrid, IsAdditive, IsInFace, IsInClosure}
 use Rattle.gj_shape.specs.FunctionData.{FunctionData, IsWithinBounds, IsContinuous, at}
 use Rattle.gj_shape.specs.Table.{table}
@@ -12,23 +13,17 @@ use Rattle.gj_shape.proofs.TableLemmas.{table_at, table_between, table_period, l
 
 -- ---- the table of a continuous function between two values
 
-first_weight_z : (u : ℕ) (x y : ℤ) → pos u *ℤ x ≡ pos u *ℤ x +ℤ pos 0 *ℤ y
-first_weight_z u x y = by_ring (pos u ∷ x ∷ y ∷ []) (search ring depth 20) refl
-
-second_weight_z : (r : ℕ) (x y : ℤ) → pos r *ℤ y ≡ pos 0 *ℤ x +ℤ pos r *ℤ y
-second_weight_z r x y = by_ring (pos r ∷ x ∷ y ∷ []) (search ring depth 20) refl
-
 -- at the place a m + r, from one multiple of 1/order to the next, both among them
 pub value_at_place : (f : FunctionData) (m i a u r : ℕ) → IsContinuous f → 0 < m → i ≡ a * m + r → u + r ≡ m →
     table f m i ≡ pos u *ℤ at f.value a +ℤ pos r *ℤ at f.value (a + 1)
 value_at_place f m i a u zero continuous some e whole =
     ap (table f m) (e ∙ add-zero (a * m)) ∙ table_at f m a some
-    ∙ ap (λ n. pos n *ℤ at f.value a) (sym whole ∙ add-zero u) ∙ first_weight_z u (at f.value a) (at f.value (a + 1))
+    ∙ ap (λ n. pos n *ℤ at f.value a) (sym whole ∙ add-zero u) ∙ first_only_z u (at f.value a) (at f.value (a + 1))
 value_at_place f m i a zero (suc r) continuous some e whole =
     let next : i ≡ (a + 1) * m = omega arith in
     let rest : m ≡ suc r = omega arith in
     ap (table f m) next ∙ table_at f m (a + 1) some
-    ∙ ap (λ n. pos n *ℤ at f.value (a + 1)) rest ∙ second_weight_z (suc r) (at f.value a) (at f.value (a + 1))
+    ∙ ap (λ n. pos n *ℤ at f.value (a + 1)) rest ∙ second_only_z (suc r) (at f.value a) (at f.value (a + 1))
 value_at_place f m i a (suc u) (suc r) continuous some e whole =
     let weight : m - suc r ≡ suc u = omega arith in
     ap (table f m) e ∙ table_between f m a (suc r) (omega arith) (omega arith)
@@ -44,11 +39,6 @@ place_value f m i a some e = ap (table f m) e ∙ table_at f m a some
 -- three numbers in place of what they are
 sum_by : {x x' y y' z z' : ℤ} → x ≡ x' → y ≡ y' → z ≡ z' → x' +ℤ y' ≡ z' → x +ℤ y ≡ z
 sum_by e g h sum = ap₂ (λ v w. v +ℤ w) e g ∙ sum ∙ sym h
-
-vertex_z : (m : ℕ) (x y t : ℤ) → x +ℤ y ≡ t → pos m *ℤ x +ℤ pos m *ℤ y ≡ pos m *ℤ t
-vertex_z m x y t e =
-    let sum : pos m *ℤ x +ℤ pos m *ℤ y ≡ pos m *ℤ (x +ℤ y) = by_ring (pos m ∷ x ∷ y ∷ []) (search ring depth 20) refl in
-    sum ∙ ap (λ w. pos m *ℤ w) e
 
 horizontal_z : (u r : ℕ) (x x' y t t' : ℤ) → x +ℤ y ≡ t → x' +ℤ y ≡ t' →
     (pos u *ℤ x +ℤ pos r *ℤ x') +ℤ pos (u + r) *ℤ y ≡ pos u *ℤ t +ℤ pos r *ℤ t'
@@ -103,7 +93,7 @@ tight_in_face f m Vertex a b i j continuous some h inside =
     let second = inside.1 in
     sum_by (place_value f m i a some first) (place_value f m j b some second)
     (place_value f m (i + j) (a + b) some (omega arith))
-    (vertex_z m _ _ _ (h 0 (0, 0) (omega arith)))
+    (weighted_sum_z m _ _ _ (h 0 (0, 0) (omega arith)))
 tight_in_face f m Horizontal a b i j continuous some h inside =
     let low = inside.0 in
     let high = inside.1 in

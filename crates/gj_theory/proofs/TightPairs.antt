@@ -4,7 +4,7 @@ use Rattle.std.proofs.Math.Nat.{mod-lt, div-add-mod', add-mod}
 use Rattle.std.proofs.lemmas.Bool.{cases_order}
 use Rattle.std.proofs.lemmas.Int.{ints}
 use Rattle.std.proofs.lemmas.List.Elements.{All-nil, All-cons, All-head, All-tail, All-map}
-use Rattle.gj_tools.proofs.Integers.{mul_nonnegative_z, mul_cancel_left_z}
+use Rattle.gj_tools.proofs.Integers.{mul_nonnegative_z, zero_factor_z}
 use Rattle.gj_tools.proofs.Quotients.{same_at_remainder}
 use Rattle.gj_shape.specs.FunctionData.{FunctionData, IsWithinBounds, IsContinuous}
 use Rattle.gj_shape.specs.Additive.{IsTight, IsTightOnGrid, IsAdditive, IsInFace, IsInClosure}
@@ -15,7 +15,7 @@ use Rattle.gj_shape.specs.declared.faces.FaceKind.TheVariants.{Vertex, Horizonta
 use Rattle.gj_shape.proofs.TableLemmas.{table_of_order, slack_at, limits_are_slacks}
 use Rattle.gj_theory.specs.Steps.{IsAdditiveAtTight}
 use Rattle.gj_theory.proofs.Affine.{weighted, limit_count, slack_on_vertex, slack_on_horizontal, slack_on_vertical, slack_on_diagonal, slack_on_lower, slack_on_upper}
-use Rattle.gj_theory.proofs.MinimalFromTests.{Place}
+use Rattle.gj_theory.proofs.MinimalFromTests.{Place, place_of}
 use Rattle.gj_theory.proofs.MinimalFromTests.Place.{at_multiple, inside}
 
 -- ---- weights above 0
@@ -28,9 +28,6 @@ weighted_nonnegative (w ∷ ws) (x ∷ xs) h =
     let rest = weighted_nonnegative ws xs (All-tail (λ y. pos 0 ≤ℤ y) x xs h) in
     omega (arith, ints)
 
-zero_factor : (w : ℕ) (x : ℤ) → 0 < w → pos w *ℤ x ≡ pos 0 → x ≡ pos 0
-zero_factor w x some e = mul_cancel_left_z x (pos 0) (pos w) (e ∙ omega (arith, ints)) (omega arith)
-
 -- numbers that are not negative are 0 where their sum is, each with a weight above 0
 zero_terms : (ws : List ℕ) (xs : List ℤ) → All (λ w. 0 < w) ws → length xs ≤ length ws →
     All (λ x. pos 0 ≤ℤ x) xs → weighted ws xs ≡ pos 0 → All (λ x. x ≡ pos 0) xs
@@ -41,7 +38,7 @@ zero_terms (w ∷ ws) (x ∷ xs) some long h e =
     let w_some = All-head (λ v. 0 < v) w ws some in
     let first = mul_nonnegative_z (pos w) x (omega (arith, ints)) (All-head P x xs h) in
     let rest = weighted_nonnegative ws xs (All-tail P x xs h) in
-    All-cons (λ y. y ≡ pos 0) x xs (zero_factor w x w_some (omega (arith, ints)))
+    All-cons (λ y. y ≡ pos 0) x xs (zero_factor_z w x w_some (omega (arith, ints)))
     (zero_terms ws xs (All-tail (λ v. 0 < v) w ws some) (omega arith) (All-tail P x xs h) (omega (arith, ints)))
 
 -- ---- the corners of a face
@@ -149,14 +146,6 @@ tight_in_square f c h m i j a b some (at_multiple e) (inside s v g whole v_some 
     (slack_on_vertical f m i j a b v s e g whole v_some s_some) tight)
 tight_in_square f c h m i j a b some (inside r u e whole u_some low) (inside s v g sum v_some more) tight =
     tight_inside f c h m i j a b r s e g low (omega arith) more (omega arith) tight
-
--- where each place lies
-place_from : (m i a r : ℕ) → i ≡ a * m + r → r < m → Place m i a
-place_from m i a zero e below = at_multiple (omega arith)
-place_from m i a (suc r) e below = inside (suc r) (m - suc r) e (omega arith) (omega arith) (omega arith)
-
-place_of : (m i : ℕ) → 0 < m → Place m i (i / m)
-place_of m i some = place_from m i (i / m) (i % m) (sym (div-add-mod' i m)) (mod-lt i some)
 
 pub tight_pair_in_face : (f : FunctionData) (m i j : ℕ) → IsWithinBounds f → IsContinuous f → IsMinimal f → 0 < m →
     IsTightOnGrid f m i j → LiesInAdditiveFace f m i j

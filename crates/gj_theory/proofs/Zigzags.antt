@@ -6,6 +6,7 @@ use Rattle.std.proofs.lemmas.Bool.{eqb-true, eq-eqb, cases_lt}
 use Rattle.std.proofs.lemmas.Int.{ints}
 use Rattle.std.proofs.lemmas.List.Folds.{Any-from_list_any, list_any-from_Any}
 use Rattle.gj_tools.proofs.Quotients.{parts_of_place}
+use Rattle.gj_tools.proofs.Choices.{never_true}
 use Rattle.gj_shape.specs.Additive.{IsTight, IsAdditive, IsInFace}
 use Rattle.gj_shape.specs.Cover.{IsOneOf, AreJoined, IsDirectlyCovered, IsCovered}
 use Rattle.gj_shape.specs.Cover.LeadsTo.{here}
@@ -194,16 +195,12 @@ same_tests true c f g = sym (f refl)
 same_tests false true f g = g refl
 same_tests false false f g = refl
 
-not_true : (b : Bool) → (b ≡ true → ⊥) → b ≡ false
-not_true true h = absurd (h refl)
-not_true false h = refl
-
 apart_from_cover : (q : ℕ) (Tight : ℕ → ℕ → Type 0) (class : List ℕ) → 0 < q → AreUncoveredClasses q Tight class →
     IsApartFromCover q Tight (chosen_by q class)
 apart_from_cover q Tight class some h = record {
   joined = λ i j both. same_tests (chosen_by q class i) (chosen_by q class j) (onto i j both)
       (onto j i (joined_turned q Tight i j both));
-  covered = λ i (kind, a, b, direct). not_true (chosen_by q class i) (λ e.
+  covered = λ i (kind, a, b, direct). never_true (chosen_by q class i) (λ e.
       all_contained (λ c. IsCovered q Tight c → ⊥) class (i % q) h.uncovered (contains_chosen q class i e)
       (i, (kind, a, b, direct), here i (sym (mod-mod i q))));
 }
