@@ -104,10 +104,6 @@ solutions_from b d row w kept same h columns is =
 
 -- ---- the rest of the invariant
 
-pub some_below : (o : Option ℕ) (c n m : ℕ) → IfSome o (λ k. k < n) → o ≡ Some c → n ≡ m → c < m
-some_below None c n m h e same = absurd cc
-some_below (Some k) c n m h e same = let is : k ≡ c = cc in omega arith
-
 pub same_length : (log log' : List LogRow) (rows rows' : List (List ℤ)) (l : LogRow) (r : List ℤ) → length log ≡ length rows →
     log' ≡ log ++ l ∷ [] → rows' ≡ rows ++ r ∷ [] → length log' ≡ length rows'
 same_length log log' rows rows' l r e log_is rows_is =

@@ -4,6 +4,7 @@ use Rattle.std.specs.List.{range_with_len}
 use Rattle.std.specs.Ordering.{int_eq}
 use Rattle.std.proofs.lemmas.Bool.Decides.{Decides-int_eq}
 use Rattle.std.proofs.lemmas.List.{append-nil}
+use Rattle.gj_tools.proofs.Choices.{never_true}
 use Rattle.gj_shape.specs.Elimination.{KeptRow, Insertion, at_column, reduced, marked_in_step, kept_entries, insertion, inserted, inserted_at, row_with_pivot, Passes}
 use Rattle.gj_elim.specs.Progress.{IsLeft}
 use Rattle.gj_elim.proofs.Places.{IsRowAt}
@@ -16,10 +17,6 @@ rest kept n c row = insertion kept (range_with_len c (n - c)) row
 columns_from : (n c : ℕ) → c < n → range_with_len c (n - c) ≡ c ∷ range_with_len (c + 1) (n - (c + 1))
 columns_from n c below =
     let more : n - c ≡ suc (n - (c + 1)) = omega arith in ap (range_with_len c) more
-
-test_false : (b : Bool) → (b ≡ true → ⊥) → b ≡ false
-test_false true h = absurd (h refl)
-test_false false h = refl
 
 rest_zero : (kept : List KeptRow) (n c : ℕ) (row : List ℤ) → c < n → at_column row c ≡ pos 0 →
     rest kept n c row ≡ rest kept n (c + 1) row
@@ -37,7 +34,7 @@ rest_some kept n c row below some =
     ap (λ cs. insertion kept cs row) (columns_from n c below)
     ∙ ap (λ b. if b then insertion kept (range_with_len (c + 1) (n - (c + 1))) row
     else inserted_at (row_with_pivot kept c) c row (insertion kept (range_with_len (c + 1) (n - (c + 1)))))
-    (test_false (int_eq (at_column row c) (pos 0)) (λ t. some ((Decides-int_eq (at_column row c) (pos 0)).0 t)))
+    (never_true (int_eq (at_column row c) (pos 0)) (λ t. some ((Decides-int_eq (at_column row c) (pos 0)).0 t)))
 
 rest_step : (kept : List KeptRow) (n c : ℕ) (row e : List ℤ) → c < n → at_column row c ≢ pos 0 → IsRowAt kept c e →
     rest kept n c row

@@ -41,13 +41,6 @@ pub record IsSummed (row w : List ℤ) (column i : ℕ) (t : ℤ) : Type 0 where
   pub fits : Fits t
   pub marked : Passes (marked_from (pos 0) (products_behind column row w)) ↔ Passes (marked_from t (products_from i row w))
 
-pub summed_start : (row w : List ℤ) (column : ℕ) → IsSummed row w column (column + 1) (pos 0)
-summed_start row w column = record {
-  value = let all = total (products_behind column row w) in omega (arith, ints);
-  fits = omega arith;
-  marked = (λ p. p, λ p. p);
-}
-
 -- one more product
 marked_more : (t p : ℤ) (ps : List ℤ) → Fits p → Fits (t +ℤ p) →
     (Passes (marked_from t (p ∷ ps)) ↔ Passes (marked_from (t +ℤ p) ps))
@@ -124,19 +117,6 @@ summed_wide_sum row w column i t p h inside len p_is wide =
         by_size : (unsigned_abs x < 2 ^ 127) ⊎ (2 ^ 127 ≤ unsigned_abs x) → 2 ^ 127 ≤ unsigned_abs x
         by_size (inl small) = absurd (none small)
         by_size (inr large) = large
-
-pub summed_all : (row w : List ℤ) (column i : ℕ) (t : ℤ) → IsSummed row w column i t → length row ≤ i →
-    t ≡ total (products_behind column row w)
-summed_all row w column i t h past =
-    plus_zero t ∙ sym (h.value ∙ ap (λ ps. t +ℤ total ps) (products_end row w i past))
-  where
-    plus_zero : (t : ℤ) → t ≡ t +ℤ pos 0
-    plus_zero t = omega (arith, ints)
-
-pub summed_narrow : (row w : List ℤ) (column i : ℕ) (t : ℤ) → IsSummed row w column i t → length row ≤ i →
-    Passes (marked_from (pos 0) (products_behind column row w)) → ⊥
-summed_narrow row w column i t h past p =
-    none_passes (subst (λ (ps : List ℤ). Passes (marked_from t ps)) (products_end row w i past) (h.marked.0 p))
 
 -- ---- the multiplied numbers
 

@@ -42,10 +42,6 @@ one_fault_of_rule text n m e d h k = numbers.one_first_fault rule_text rule_text
 
 -- ---- its lines
 
-pub three_lines : (text first second rest : List ℕ) → title_part.Reads text tt first → name_part.Reads first tt second →
-    last_part.Reads second tt rest → IsRuleText text rest
-three_lines text first second rest title name last = (tt, first, title, (tt, second, name, (tt, rest, last, (refl, refl))))
-
 pub fault_in_name : (text first : List ℕ) (fault : PartFault) → title_part.Reads text tt first → IsFaultOf name_part first fault →
     IsFaultOf rule_text text fault
 fault_in_name text first fault title h =

@@ -9,6 +9,7 @@ use Rattle.gj_lex.specs.declared.spelling.Spelling.TheVariants.{Lenient}
 use Rattle.gj_lex.proofs.SpelledWords.{one_fraction}
 use Rattle.gj_lines.proofs.OneTextOfLines.{one_place}
 use Rattle.gj_tools.proofs.FirstThatFails.{first_failing_denies}
+use Rattle.gj_tools.proofs.Choices.{same_some}
 use Rattle.gj_shape.specs.FunctionData.{FunctionData}
 use Rattle.gj_shape.specs.Given.{AreWithinBounds, IsGivenBy}
 use Rattle.gj_shape.proofs.GivenLists.{within_given}
@@ -21,7 +22,7 @@ use Rattle.gj_json.specs.declared.faults.JsonReason.{JsonReason}
 use Rattle.gj_json.specs.declared.faults.JsonReason.TheVariants.{Syntax, Form, Number, Order, Place, Large, Fine}
 use Rattle.gj_json.specs.declared.faults.JsonFault.{JsonFault}
 use Rattle.gj_json.specs.declared.faults.JsonFault.TheVariants.{Refused, Memory}
-use Rattle.gj_json.proofs.Options.{same_some, not_none}
+use Rattle.gj_json.proofs.Options.{not_none}
 use Rattle.gj_json.proofs.Refusals.{string_or_integer, with_form, left_long, right_long}
 
 -- ---- the fractions

@@ -5,12 +5,5 @@ pub none_weaker : {T P Q : Type 0} (o : Option T) → (P → Q) → IfNone o P �
 none_weaker None f p = f p
 none_weaker (Some x) f p = tt
 
-abbrev value_or : {A : Type 0} → A → Option A → A
-value_or d None = d
-value_or d (Some x) = x
-
-pub same_some : {A : Type 0} (x y : A) → Some x ≡ Some y → x ≡ y
-same_some x y e = ap (value_or x) e
-
 pub not_none : {A : Type 0} (x : A) → None ≡ Some x → ⊥
 not_none x e = cc

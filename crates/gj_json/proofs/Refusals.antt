@@ -3,12 +3,13 @@ use Rattle.std.proofs.Common.{◌≡◌, inl, inr, ℕ, List, length, Some, None
 use Rattle.std.specs.List.{AllZip}
 use Rattle.std.proofs.lemmas.Slice.Zip.{AllZip-long}
 use Rattle.gj_frac.specs.declared.Frac.{Frac}
+use Rattle.gj_tools.proofs.Choices.{same_some}
 use Rattle.gj_lex.specs.SpelledNumbers.{IsFractionWord}
 use Rattle.gj_lex.specs.declared.spelling.Spelling.TheVariants.{Lenient}
 use Rattle.gj_shape.specs.FunctionData.{FunctionData}
 use Rattle.serde_json.specs.Data.{Data, null, boolean, number, string, array, object}
 use Rattle.serde_json.specs.Find.{get, as_str, as_array}
-use Rattle.gj_json.proofs.Options.{same_some, not_none}
+use Rattle.gj_json.proofs.Options.{not_none}
 use Rattle.gj_json.specs.JsonFunction.{integer, list_of, list_at, HasLimits, HasForm, Spells, SpellsForm, HasFractions, GivesFunction, SaysFunction}
 use Rattle.gj_json.specs.FirstReason.{RefusesFractions, RefusesValue, NamesReason}
 use Rattle.gj_json.specs.Reading.{SpellsNone, SpellsNoForm}

@@ -5,10 +5,11 @@ use Rattle.std.proofs.lemmas.Bool.{eqb-true, eq-eqb}
 use Rattle.std.proofs.lemmas.List.{drop_more}
 use Rattle.std.proofs.lemmas.List.Elements.{All-weaker, All-from_get_or}
 use Rattle.std.proofs.lemmas.List.Sums.{fails_before_first, passes_at_first}
+use Rattle.gj_tools.proofs.Choices.{not_true, not_false}
 use Rattle.gj_lex.specs.Words.{HasAtFront, is_blank, word_texts}
 use Rattle.gj_lex.specs.TextLines.{IsSkipped}
 use Rattle.gj_lex.proofs.FirstPlaces.{first_place, no_place}
-use Rattle.gj_lex.proofs.WordRuns.{is_word_byte, blank_from_not, not_blank}
+use Rattle.gj_lex.proofs.WordRuns.{is_word_byte}
 use Rattle.gj_lex.proofs.WordTexts.{skip_blanks, take_word}
 
 -- a line that has only blanks has no word
@@ -16,7 +17,7 @@ pub no_words : (line : List ℕ) → position is_word_byte line ≡ None → wor
 no_words line h =
     ap word_texts (sym (append-nil line))
     ∙ skip_blanks line [] (All-weaker (λ b. is_word_byte b ≡ false) (λ b. is_blank b ≡ true)
-    (λ b. blank_from_not (is_blank b)) line (no_place is_word_byte line h))
+    (λ b. not_false (is_blank b)) line (no_place is_word_byte line h))
 
 -- the bytes up to the first blank
 whole_word : (rest : List ℕ) → All (λ b. is_blank b ≡ false) (take (position_or_len is_blank rest) rest)
@@ -61,9 +62,9 @@ first_word line rest k end h is at =
     let same : rest ≡ get_or line k 0 ∷ drop (k + 1) line = is ∙ drop_more line k 0 place.0 in
     ap word_texts (sym (take-append-drop k line) ∙ ap (λ t. take k line ++ t) (sym is))
     ∙ skip_blanks (take k line) rest
-    (All-weaker (λ b. is_word_byte b ≡ false) (λ b. is_blank b ≡ true) (λ b. blank_from_not (is_blank b))
+    (All-weaker (λ b. is_word_byte b ≡ false) (λ b. is_blank b ≡ true) (λ b. not_false (is_blank b))
     (take k line) place.3)
-    ∙ word_at_front (get_or line k 0) (drop (k + 1) line) rest end (not_blank (is_blank (get_or line k 0)) place.2)
+    ∙ word_at_front (get_or line k 0) (drop (k + 1) line) rest end (not_true (is_blank (get_or line k 0)) place.2)
     same at
 
 -- and the line is the blanks before it, the word, and what stands behind it
@@ -72,7 +73,7 @@ pub word_parts : (line rest : List ℕ) (k end : ℕ) → position is_word_byte 
 word_parts line rest k end h is =
     let place = first_place is_word_byte line k h in (
       take k line,
-      All-weaker (λ b. is_word_byte b ≡ false) (λ b. is_blank b ≡ true) (λ b. blank_from_not (is_blank b)) (take k line) place.3,
+      All-weaker (λ b. is_word_byte b ≡ false) (λ b. is_blank b ≡ true) (λ b. not_false (is_blank b)) (take k line) place.3,
       sym (take-append-drop k line) ∙ ap (λ t. take k line ++ t) (sym is ∙ sym (take-append-drop end rest)),
     )
 
@@ -84,7 +85,7 @@ first_word_begins line k h =
     let b = get_or line k 0 in
     let bs = drop (k + 1) line in
     let rest : drop k line ≡ b ∷ bs = drop_more line k 0 place.0 in
-    let blank = not_blank (is_blank b) place.2 in
+    let blank = not_true (is_blank b) place.2 in
     let end : position_or_len is_blank (b ∷ bs) ≡ suc (position_or_len is_blank bs) = rw blank (omega arith) in
     let at = ap (position_or_len is_blank) rest ∙ end in (
       take (position_or_len is_blank bs) bs,

@@ -1,6 +1,7 @@
 -- The words of a line, one after another.
 use Rattle.std.proofs.Common.{◌≡◌, ℕ, zero, suc, ◌+◌, ◌<◌, Bool, true, false, not, List, [], ◌++◌, length, get_or, drop, refl, sym, ◌∙◌, ap, subst, arith, append-nil, true≢false}
 use Rattle.std.specs.List.{position_or_len}
+use Rattle.gj_tools.proofs.Choices.{not_true, not_false}
 use Rattle.gj_lex.specs.Words.{is_blank, AllBlank, IsNextWord, AreWords}
 use Rattle.gj_lex.proofs.Places.{fails_until, passes_there, place_within}
 
@@ -8,19 +9,9 @@ use Rattle.gj_lex.proofs.Places.{fails_until, passes_there, place_within}
 abbrev pub is_word_byte : ℕ → Bool
 is_word_byte b = not (is_blank b)
 
--- what is not such a byte is a blank
-pub blank_from_not : (x : Bool) → not x ≡ false → x ≡ true
-blank_from_not true h = refl
-blank_from_not false h = sym h
-
--- and what is one is no blank
-pub not_blank : (x : Bool) → not x ≡ true → x ≡ false
-not_blank true h = sym h
-not_blank false h = refl
-
 -- blanks up to the first byte that is none
 pub blank_until : (line : List ℕ) (from : ℕ) → AllBlank line from (from + position_or_len is_word_byte (drop from line))
-blank_until line from = λ k low high. blank_from_not (is_blank (get_or line k 0)) (fails_until is_word_byte line from k low high)
+blank_until line from = λ k low high. not_false (is_blank (get_or line k 0)) (fails_until is_word_byte line from k low high)
 
 -- only blanks, where no byte is none
 pub blank_to_end : (line : List ℕ) (from : ℕ) → length line ≡ from + position_or_len is_word_byte (drop from line) → AllBlank line from (length line)
@@ -44,7 +35,7 @@ pub word_at : (line : List ℕ) (from start end : ℕ) → start ≡ from + posi
     end ≡ start + position_or_len is_blank (drop start line) → IsNextWord line from start end
 word_at line from start end start_is high end_is =
     let first : is_blank (get_or line start 0) ≡ false =
-    not_blank (is_blank (get_or line start 0))
+    not_true (is_blank (get_or line start 0))
     (ap (λ i. is_word_byte (get_or line i 0)) start_is ∙ passes_there is_word_byte line from (omega arith)) in
     let longer : start < end = word_is_longer line start end high first end_is in
     record {

@@ -2,6 +2,7 @@
 use Rattle.std.proofs.Common.{◌≡◌, ℕ, ◌+◌, ◌*◌, ◌≤◌, ◌^◌, ℤ, pos, ◌≤ℤ◌, length, All, sym, subst, arith}
 use Rattle.std.proofs.Math.Nat.{mul-le-mul_right}
 use Rattle.std.proofs.lemmas.Int.{ints}
+use Rattle.gj_tools.proofs.Lists.{All-one, All-two, All-three}
 use Rattle.gj_shape.specs.FunctionData.{FunctionData, IsWithinBounds}
 use Rattle.gj_shape.specs.Faces.{corners_of, limits_of, slack_from}
 use Rattle.gj_shape.specs.declared.faces.FaceKind.{FaceKind}
@@ -12,7 +13,7 @@ use Rattle.gj_theory.proofs.Lanes.{AreBounded, are_bounded}
 use Rattle.gj_shape.specs.FirstViolation.Test.{subadditive_at}
 use Rattle.gj_minimal.proofs.Theory.{limit_count, some_corners}
 use Rattle.gj_minimal.proofs.NearPoints.{fine_grid}
-use Rattle.gj_minimal.proofs.NearPairs.{one_of, two_of, three_of, total_at_most}
+use Rattle.gj_minimal.proofs.NearPairs.{total_at_most}
 
 -- so the limits of the slack are at most twice the scale
 slack_at_most : (s : ℕ) (x y z : ℤ) → x ≤ℤ pos s → y ≤ℤ pos s → pos 0 ≤ℤ z → slack_from x y z ≤ℤ pos (2 * s)
@@ -21,27 +22,27 @@ slack_at_most s x y z first second third = omega (arith, ints)
 limits_at_most : (f : FunctionData) (kind : FaceKind) (a b : ℕ) → AreBounded f →
     All (λ n. n ≤ℤ pos (2 * f.scale)) (limits_of f kind a b)
 limits_at_most f Vertex a b h =
-    one_of (λ n. n ≤ℤ pos (2 * f.scale)) _ (slack_at_most f.scale _ _ _ (h.value_high a) (h.value_high b)
+    All-one (λ n. n ≤ℤ pos (2 * f.scale)) _ (slack_at_most f.scale _ _ _ (h.value_high a) (h.value_high b)
     (h.value_low (a + b)))
 limits_at_most f Horizontal a b h =
-    two_of (λ n. n ≤ℤ pos (2 * f.scale)) _ _
+    All-two (λ n. n ≤ℤ pos (2 * f.scale)) _ _
     (slack_at_most f.scale _ _ _ (h.right_high a) (h.value_high b) (h.right_low (a + b)))
     (slack_at_most f.scale _ _ _ (h.left_high (a + 1)) (h.value_high b) (h.left_low (a + b + 1)))
 limits_at_most f Vertical a b h =
-    two_of (λ n. n ≤ℤ pos (2 * f.scale)) _ _
+    All-two (λ n. n ≤ℤ pos (2 * f.scale)) _ _
     (slack_at_most f.scale _ _ _ (h.value_high a) (h.right_high b) (h.right_low (a + b)))
     (slack_at_most f.scale _ _ _ (h.value_high a) (h.left_high (b + 1)) (h.left_low (a + b + 1)))
 limits_at_most f Diagonal a b h =
-    two_of (λ n. n ≤ℤ pos (2 * f.scale)) _ _
+    All-two (λ n. n ≤ℤ pos (2 * f.scale)) _ _
     (slack_at_most f.scale _ _ _ (h.left_high (a + 1)) (h.right_high b) (h.value_low (a + b + 1)))
     (slack_at_most f.scale _ _ _ (h.right_high a) (h.left_high (b + 1)) (h.value_low (a + b + 1)))
 limits_at_most f Lower a b h =
-    three_of (λ n. n ≤ℤ pos (2 * f.scale)) _ _ _
+    All-three (λ n. n ≤ℤ pos (2 * f.scale)) _ _ _
     (slack_at_most f.scale _ _ _ (h.right_high a) (h.right_high b) (h.right_low (a + b)))
     (slack_at_most f.scale _ _ _ (h.left_high (a + 1)) (h.right_high b) (h.left_low (a + b + 1)))
     (slack_at_most f.scale _ _ _ (h.right_high a) (h.left_high (b + 1)) (h.left_low (a + b + 1)))
 limits_at_most f Upper a b h =
-    three_of (λ n. n ≤ℤ pos (2 * f.scale)) _ _ _
+    All-three (λ n. n ≤ℤ pos (2 * f.scale)) _ _ _
     (slack_at_most f.scale _ _ _ (h.left_high (a + 1)) (h.right_high b) (h.right_low (a + b + 1)))
     (slack_at_most f.scale _ _ _ (h.right_high a) (h.left_high (b + 1)) (h.right_low (a + b + 1)))
     (slack_at_most f.scale _ _ _ (h.left_high (a + 1)) (h.left_high (b + 1)) (h.left_low (a + b + 1 + 1)))

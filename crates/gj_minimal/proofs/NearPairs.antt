@@ -5,6 +5,7 @@ use Rattle.std.proofs.Math.ListN.{get_or-map}
 use Rattle.std.proofs.lemmas.List.Elements.{All-nil, All-cons, All-get_or, All-head, All-tail}
 use Rattle.gj_frac.specs.declared.Frac.{Frac}
 use Rattle.gj_frac.specs.Fraction.{IsRatio}
+use Rattle.gj_tools.proofs.Lists.{All-one, All-two, All-three}
 use Rattle.gj_shape.specs.FunctionData.{FunctionData, IsWithinBounds}
 use Rattle.gj_shape.specs.Faces.{corners_of, limits_of}
 use Rattle.gj_shape.specs.Table.{table}
@@ -44,28 +45,19 @@ as_many_limits_in s Upper = refl
 abbrev IsUpTo : ℕ → ℕ × ℕ → Type 0
 IsUpTo q corner = (corner.0 ≤ q) × (corner.1 ≤ q)
 
-pub one_of : {X : Type 0} (P : X → Type 0) (x : X) → P x → All P (x ∷ [])
-one_of P x p = All-cons P x [] p (All-nil P)
-
-pub two_of : {X : Type 0} (P : X → Type 0) (x y : X) → P x → P y → All P (x ∷ y ∷ [])
-two_of P x y p q = All-cons P x (y ∷ []) p (one_of P y q)
-
-pub three_of : {X : Type 0} (P : X → Type 0) (x y z : X) → P x → P y → P z → All P (x ∷ y ∷ z ∷ [])
-three_of P x y z p q r = All-cons P x (y ∷ z ∷ []) p (two_of P y z q r)
-
 corners_up_to : (kind : FaceKind) (a b q : ℕ) → a < q → b < q → All (IsUpTo q) (corners_of kind a b)
-corners_up_to Vertex a b q first second = one_of (IsUpTo q) (a, b) (omega arith, omega arith)
+corners_up_to Vertex a b q first second = All-one (IsUpTo q) (a, b) (omega arith, omega arith)
 corners_up_to Horizontal a b q first second =
-    two_of (IsUpTo q) (a, b) (a + 1, b) (omega arith, omega arith) (omega arith, omega arith)
+    All-two (IsUpTo q) (a, b) (a + 1, b) (omega arith, omega arith) (omega arith, omega arith)
 corners_up_to Vertical a b q first second =
-    two_of (IsUpTo q) (a, b) (a, b + 1) (omega arith, omega arith) (omega arith, omega arith)
+    All-two (IsUpTo q) (a, b) (a, b + 1) (omega arith, omega arith) (omega arith, omega arith)
 corners_up_to Diagonal a b q first second =
-    two_of (IsUpTo q) (a + 1, b) (a, b + 1) (omega arith, omega arith) (omega arith, omega arith)
+    All-two (IsUpTo q) (a + 1, b) (a, b + 1) (omega arith, omega arith) (omega arith, omega arith)
 corners_up_to Lower a b q first second =
-    three_of (IsUpTo q) (a, b) (a + 1, b) (a, b + 1) (omega arith, omega arith) (omega arith, omega arith)
+    All-three (IsUpTo q) (a, b) (a + 1, b) (a, b + 1) (omega arith, omega arith) (omega arith, omega arith)
     (omega arith, omega arith)
 corners_up_to Upper a b q first second =
-    three_of (IsUpTo q) (a + 1, b) (a, b + 1) (a + 1, b + 1) (omega arith, omega arith) (omega arith, omega arith)
+    All-three (IsUpTo q) (a + 1, b) (a, b + 1) (a + 1, b + 1) (omega arith, omega arith) (omega arith, omega arith)
     (omega arith, omega arith)
 
 pub corner_up_to : (kind : FaceKind) (a b c q : ℕ) → a < q → b < q → c < length (corners_of kind a b) →

@@ -66,12 +66,3 @@ sum_read k j n m x y e g few few' small small' =
     let size = sum_size k j x y few few' small small' in
     rw (product_read k n x e few small, product_read j m y g few' small')
     (to_z-of_z w64 _ (fits_signed_from_abs w64 _ (omega arith)))
-
--- so it is small
-pub entry_size : (f : FunctionData) (m i : ℕ) → IsContinuous f → 0 < m → m ≤ 4 →
-    ((a : ℕ) → unsigned_abs (at f.value a) < 2 ^ 51) → unsigned_abs (table f m i) < 2 ^ 54
-entry_size f m i h some few small =
-    let rest : i % m < m = omega arith in
-    rw (table_continuous f m i h)
-    (sum_size (m - i % m) (i % m) (at f.value (i / m)) (at f.value (i / m + 1)) (omega arith) (omega arith)
-    (small (i / m)) (small (i / m + 1)))

@@ -33,6 +33,7 @@ use Rattle.gj_row.specs.declared.faults.RowReason.{RowReason}
 use Rattle.gj_row.specs.declared.faults.RowReason.TheVariants.{Header, Fields, Columns, Rows, Name, Twice, Number, Large, Fine, Entries}
 use Rattle.gj_row.proofs.SpelledNumbers.{entry_none, entry_one}
 use Rattle.gj_row.proofs.RowNumbers.{numbers_long}
+use Rattle.gj_row.proofs.RowsRead.{tableau_of}
 
 -- ---- one number
 
@@ -269,9 +270,6 @@ values_within row values n is h =
         (subst (λ l. All P (map (λ e. e.value) l)) is (All-back P (row.rhs ∷ []) (map (λ e. e.value) row.entries) all)))
 
 -- ---- rows
-
-abbrev tableau_of : List (List ℕ) → List Row → Tableau
-tableau_of cols rs = record { columns = cols; rows = rs }
 
 row_denied : (cols : List (List ℕ)) (before later : List Row) (row : Row) (ws : List (List ℕ)) (e : RowReason) →
     IsTableau (tableau_of cols (before ++ row ∷ later)) → SpellsRow (length cols) ws row → HasRowFault (tableau_of cols before) ws e → ⊥

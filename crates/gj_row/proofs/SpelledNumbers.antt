@@ -1,6 +1,7 @@
 -- What words spell as numbers, and what stops a row.
 use Rattle.std.proofs.Common.{◌≡◌, ℕ, ◌==◌, true, false, List, [], ◌∷◌, refl, length, Option, Some, None, Result, Ok, Err, IfSome, IfNone, IfErr, ap, subst, inl, inr, arith}
 use Rattle.gj_frac.specs.declared.Frac.{Frac}
+use Rattle.gj_tools.proofs.Choices.{same_some}
 use Rattle.gj_lex.specs.SpelledNumbers.{IsFractionWord}
 use Rattle.gj_lex.specs.declared.spelling.Spelling.TheVariants.{Lenient}
 use Rattle.gj_row.specs.TableauText.{SpellsEntry, is_zero, entry_at}
@@ -17,13 +18,6 @@ no_entry word None some none = none_spelled
     none_spelled : (x : Frac) → SpellsEntry word x → ⊥
     none_spelled x (inl h) = let e : length word ≡ 0 = ap length h.0 in absurd (grind arith)
     none_spelled x (inr h) = none x h
-
-abbrev value_or : {A : Type 0} → A → Option A → A
-value_or d None = d
-value_or d (Some x) = x
-
-same_some : {A : Type 0} (x y : A) → Some x ≡ Some y → x ≡ y
-same_some x y e = ap (value_or x) e
 
 found_here : (P : Frac → Type 0) (o : Option Frac) (x : Frac) → o ≡ Some x → IfSome o P → P x
 found_here P None x e found = cc e

@@ -1,11 +1,11 @@
 -- The elimination of all rows, and rows after several steps.
-use Rattle.std.proofs.Common.{◌≡◌, ℕ, zero, suc, ◌+◌, ◌<◌, ◌≤◌, ◌⊎◌, inl, inr, ⊎_elim, ◌↔◌, Bool, true, false, if◌then◌else◌, Option, None, Some, ℤ, pos, List, [], ◌∷◌, length, eqb, refl, sym, ap, subst, ◌∙◌, arith}
+use Rattle.std.proofs.Common.{◌≡◌, ℕ, ◌+◌, ◌≤◌, ◌⊎◌, inl, inr, ◌↔◌, Bool, true, false, if◌then◌else◌, Option, None, Some, ℤ, pos, List, [], ◌∷◌, length, eqb, refl, sym, ap, subst, ◌∙◌}
 use Rattle.std.specs.Prelude.{All, nat_le}
 use Rattle.std.specs.List.{IsDistinct}
 use Rattle.std.proofs.lemmas.Bool.{leb-true}
 use Rattle.std.proofs.lemmas.List.Elements.{All-nil, All-cons, All-head, All-tail, All-from_get_or}
 use Rattle.std.proofs.Math.Nat.{le_antisymm}
-use Rattle.gj_shape.specs.Elimination.{KeptRow, at_column, reduced, eliminated, entries_of, row_with_pivot, inserted, kept_behind, elimination, elimination_from, behind_insertion}
+use Rattle.gj_shape.specs.Elimination.{KeptRow, reduced, eliminated, entries_of, row_with_pivot, inserted, kept_behind, elimination, elimination_from, behind_insertion}
 use Rattle.gj_theory.specs.TriangularRows.{Solves, SolvesKept, IsKeptRow, AreTriangular, present_row}
 use Rattle.gj_theory.proofs.RowSums.{divided_zero}
 use Rattle.gj_theory.proofs.Steps.{solves_reduced, length-reduced}

@@ -1,9 +1,8 @@
 -- An insertion keeps the solutions, and triangular rows.
-use Rattle.std.proofs.Common.{◌≡◌, ◌≢◌, ℕ, zero, suc, ◌+◌, ◌<◌, ◌≤◌, ◌⊎◌, inl, inr, ⊎_elim, ◌↔◌, Bool, true, false, if◌then◌else◌, cond, Option, None, Some, ℤ, pos, ◌<ℤ◌, List, [], ◌∷◌, ◌++◌, length, map, eqb, refl, sym, ap, ap₂, subst, ◌∙◌, below_more, arith}
+use Rattle.std.proofs.Common.{◌≡◌, ◌≢◌, ℕ, zero, suc, ◌+◌, ◌<◌, ◌↔◌, Bool, true, false, if◌then◌else◌, cond, Option, None, Some, ℤ, pos, ◌<ℤ◌, List, [], ◌∷◌, ◌++◌, length, map, eqb, refl, sym, subst, ◌∙◌, below_more, arith}
 use Rattle.std.specs.Prelude.{All}
 use Rattle.std.specs.List.{range_with_len, find, AllByRecursion, IsDistinct}
 use Rattle.std.specs.Ordering.{int_eq}
-use Rattle.std.specs.Bool.{Decides}
 use Rattle.std.proofs.lemmas.Bool.Decides.{Decides-int_eq, Decides-eqb, not_from_Decides}
 use Rattle.std.proofs.lemmas.List.{map_push}
 use Rattle.std.proofs.lemmas.List.Elements.{All-head, All-tail, All-push}

@@ -1,8 +1,8 @@
 -- The kernel of triangular rows: numbers that solve all of them.
-use Rattle.std.proofs.Common.{◌≡◌, ◌≢◌, ℕ, zero, suc, ◌+◌, ◌<◌, ◌≤◌, ◌⊎◌, inl, inr, ◌↔◌, Bool, true, false, not, ◌||◌, cond, if◌then◌else◌, Option, None, Some, ℤ, pos, ◌+ℤ◌, ◌*ℤ◌, neg_ℤ, ◌<ℤ◌, List, [], ◌∷◌, length, map, set, drop, get_or, eqb, unsigned_abs, int_div, refl, sym, ap, ap₂, subst, ◌∙◌, add-one, arith}
+use Rattle.std.proofs.Common.{◌≡◌, ◌≢◌, ℕ, zero, suc, ◌+◌, ◌<◌, ◌≤◌, ◌⊎◌, inl, inr, ◌↔◌, Bool, true, false, not, ◌||◌, cond, if◌then◌else◌, Option, None, Some, ℤ, pos, ◌+ℤ◌, ◌*ℤ◌, neg_ℤ, ◌<ℤ◌, List, [], ◌∷◌, length, map, set, drop, eqb, unsigned_abs, int_div, refl, sym, ap, ap₂, subst, ◌∙◌, add-one, arith}
 use Rattle.std.specs.Prelude.{All, Any, IfSome}
-use Rattle.std.specs.List.{range_with_len, find, list_any, zip, AllByRecursion, IsDistinct}
-use Rattle.std.proofs.lemmas.Bool.{cases_lt, cases_eq, eq-eqb, ne_eqb, cases_Bool}
+use Rattle.std.specs.List.{range_with_len, find, list_any, AllByRecursion, IsDistinct}
+use Rattle.std.proofs.lemmas.Bool.{cases_lt, eq-eqb, ne_eqb}
 use Rattle.std.proofs.lemmas.Bool.Decides.{Decides-eqb}
 use Rattle.std.proofs.lemmas.Int.{ints}
 use Rattle.std.proofs.lemmas.List.{length-map, length-set, get_or-set_same, get_or-set_other, drop-map, drop-set-lt, get_or_default}
@@ -12,16 +12,15 @@ use Rattle.std.proofs.lemmas.Map.Keys.{IsDistinct-head, IsDistinct-tail}
 use Rattle.std.proofs.lemmas.Map.Steps.{le-length_from_below}
 use Rattle.std.proofs.Math.ListN.{get_or-eq_default}
 use Rattle.std.proofs.Math.Nat.{le_antisymm}
-use Rattle.gj_tools.specs.Divisors.{gcd_of}
 use Rattle.gj_tools.proofs.Integers.{mul_add_z, mul_left_comm_z, mul_assoc_z, mul_comm_z, mul_neg_z, mul_positive_z, mul_lt_cancel_right_z}
 use Rattle.gj_tools.proofs.Divisors.{gcd_of_is}
 use Rattle.gj_tools.proofs.Choices.{not_true, not_false}
 use Rattle.gj_frac.proofs.Reduced.{quotient_of_divisor}
 use Rattle.gj_shape.specs.SlopeRows.{total, sum_of_products}
-use Rattle.gj_shape.specs.Elimination.{KeptRow, Solution, at_column, scaled, row_with_pivot, entries_of, products_behind, solving_gcd, solving_products, solved_at, solution_below, solution_from, free_column, unit_row, kernel}
+use Rattle.gj_shape.specs.Elimination.{KeptRow, at_column, scaled, row_with_pivot, entries_of, products_behind, solving_gcd, solving_products, solved_at, solution_below, solution_from, free_column, unit_row, kernel}
 use Rattle.gj_theory.specs.TriangularRows.{Solves, SolvesKept, IsKeptRow, AreTriangular}
 use Rattle.gj_theory.proofs.Entries.{at_scaled}
-use Rattle.gj_theory.proofs.Insertions.{find_has, kept_row_at}
+use Rattle.gj_theory.proofs.Insertions.{kept_row_at}
 use Rattle.gj_theory.proofs.Triangular.{rank_at_most, fewer_rows, only_term}
 
 -- ---- the free column

@@ -1,15 +1,13 @@
 -- Sums of products over rows that are scaled, subtracted and divided.
-use Rattle.std.proofs.Common.{◌≡◌, ℕ, zero, suc, ◌+◌, ◌<◌, ◌≢◌, ◌⊎◌, inl, inr, ⊎_elim, ◌↔◌, Bool, true, false, ℤ, pos, ◌+ℤ◌, ◌-ℤ◌, ◌*ℤ◌, neg_ℤ, ◌<ℤ◌, List, [], ◌∷◌, length, map, eqb, if◌then◌else◌, unsigned_abs, int_div, int_lt, refl, sym, ap, ap₂, subst, ◌∙◌, arith}
-use Rattle.std.specs.List.{zip}
+use Rattle.std.proofs.Common.{◌≡◌, ℕ, zero, suc, ◌<◌, ◌≢◌, ◌⊎◌, inl, inr, ⊎_elim, ◌↔◌, Bool, true, false, ℤ, pos, ◌+ℤ◌, ◌-ℤ◌, ◌*ℤ◌, neg_ℤ, List, [], ◌∷◌, length, map, if◌then◌else◌, unsigned_abs, int_div, int_lt, refl, sym, ap, ap₂, subst, ◌∙◌, arith}
 use Rattle.std.specs.Int.{◌∣◌}
 use Rattle.std.proofs.lemmas.Bool.{eq-eqb, ne_eqb}
 use Rattle.std.proofs.lemmas.Int.{ints}
 use Rattle.std.proofs.lemmas.Nat.Gcd.{dvd_trans, dvd_refl}
 use Rattle.gj_tools.proofs.Integers.{mul_assoc_z, mul_comm_z, mul_add_z, sub_mul_z, neg_mul_z, mul_cancel_left_z}
 use Rattle.gj_tools.proofs.Divisors.{gcd_of_is}
-use Rattle.gj_tools.specs.Divisors.{gcd_of}
 use Rattle.gj_frac.proofs.Reduced.{quotient_of_divisor}
-use Rattle.gj_shape.specs.SlopeRows.{total, sum_of_products}
+use Rattle.gj_shape.specs.SlopeRows.{sum_of_products}
 use Rattle.gj_shape.specs.Elimination.{at_column, divided, scaled, differences, gcd_of_row, kept_entries}
 use Rattle.gj_theory.specs.TriangularRows.{Solves}
 

@@ -1,18 +1,14 @@
 -- A step of the elimination keeps the solutions.
-use Rattle.std.proofs.Common.{◌≡◌, ℕ, suc, ◌<◌, ◌≢◌, ⊎_elim, ◌↔◌, Bool, true, false, if◌then◌else◌, int_lt, neg_ℤ, ℤ, pos, ◌+ℤ◌, ◌-ℤ◌, ◌*ℤ◌, ◌<ℤ◌, List, [], ◌∷◌, length, map, unsigned_abs, int_div, Option, None, Some, refl, sym, ap, ap₂, subst, ◌∙◌, arith}
-use Rattle.std.specs.Prelude.{All}
-use Rattle.std.specs.List.{zip}
-use Rattle.std.specs.Int.{◌∣◌}
+use Rattle.std.proofs.Common.{◌≡◌, ℕ, suc, ◌≢◌, ⊎_elim, Bool, true, false, if◌then◌else◌, int_lt, neg_ℤ, ℤ, pos, ◌-ℤ◌, ◌*ℤ◌, ◌<ℤ◌, List, [], ◌∷◌, length, map, unsigned_abs, refl, sym, ap, ap₂, subst, ◌∙◌, arith}
 use Rattle.std.proofs.lemmas.Int.{ints}
 use Rattle.std.proofs.lemmas.List.{length-map}
-use Rattle.std.proofs.lemmas.List.Elements.{All-head, All-tail}
 use Rattle.gj_tools.proofs.Integers.{mul_cancel_left_z}
 use Rattle.gj_tools.proofs.Divisors.{gcd_of_is}
 use Rattle.gj_tools.specs.Divisors.{gcd_of}
 use Rattle.gj_frac.proofs.Reduced.{quotient_of_divisor}
-use Rattle.gj_shape.specs.SlopeRows.{total, sum_of_products}
-use Rattle.gj_shape.specs.Elimination.{KeptRow, at_column, divided, scaled, differences, row_factor, kept_factor, eliminated, reduced, kept_entries, gcd_of_row}
-use Rattle.gj_theory.specs.TriangularRows.{Solves, SolvesKept, present_row}
+use Rattle.gj_shape.specs.SlopeRows.{sum_of_products}
+use Rattle.gj_shape.specs.Elimination.{at_column, divided, scaled, differences, row_factor, kept_factor, eliminated, reduced, kept_entries, gcd_of_row}
+use Rattle.gj_theory.specs.TriangularRows.{Solves}
 use Rattle.gj_theory.proofs.RowSums.{sum_scaled, sum_differences, solves_divided, divided_zero, divided_some, zero_or_not}
 
 -- ---- sums
