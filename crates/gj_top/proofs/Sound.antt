@@ -10,12 +10,14 @@ use Rattle.gj_json.proofs.OneFunction.{no_reason}
 use Rattle.gj_top.specs.Forms.{function_text, json_function, proof_text}
 use Rattle.gj_top.specs.Report.{reported}
 use Rattle.gj_top.specs.Minimal.{IsVerdict, IsTrueVerdict, minimal, minimal_json}
+use Rattle.gj_top.specs.Extreme.{extreme, extreme_json}
 use Rattle.gj_top.specs.Show.{show, show_json}
 use Rattle.gj_top.specs.Check.{check}
 use Rattle.gj_top.specs.Faces.{faces}
 use Rattle.gj_top.specs.Cut.{cut}
 use Rattle.gj_top.proofs.CutForm.{cut_input_refuses_only_others}
 use Rattle.gj_top.specs.Command.{task_with, task_for}
+use Rattle.gj_top.proofs.Extremality.{extremality_true}
 use Rattle.gj_top.proofs.TextLaws.{function_text_has_no_fault, proof_text_has_no_fault}
 
 -- no input is both in the form and refused
@@ -56,11 +58,17 @@ verdict_true f text (inr v) = inr (v.0, v.4, v.2)
 pub minimal_sound : IsSound minimal
 minimal_sound = record { form = function_text_sound; work = verdict_true }
 
+pub extreme_sound : IsSound extreme
+extreme_sound = record { form = function_text_sound; work = extremality_true }
+
 pub show_sound : IsSound show
 show_sound = record { form = function_text_sound; work = λ f text shown. shown }
 
 minimal_json_sound : IsSound minimal_json
 minimal_json_sound = record { form = json_function_sound; work = reported_keeps minimal.work verdict_true }
+
+extreme_json_sound : IsSound extreme_json
+extreme_json_sound = record { form = json_function_sound; work = reported_keeps extreme.work extremality_true }
 
 show_json_sound : IsSound show_json
 show_json_sound = record { form = json_function_sound; work = λ f text shown. shown }
@@ -79,7 +87,8 @@ sound_with : (c : Command) (json : Bool) → IsSound (task_with c json)
 sound_with Minimal true = minimal_json_sound
 sound_with Minimal false = minimal_sound
 sound_with Check json = check_sound
-sound_with Extreme json = show_sound
+sound_with Extreme true = extreme_json_sound
+sound_with Extreme false = extreme_sound
 sound_with Cut json = cut_sound
 sound_with Show true = show_json_sound
 sound_with Show false = show_sound

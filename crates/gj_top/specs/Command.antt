@@ -3,10 +3,11 @@ use Rattle.std.specs.Prelude.{Bool, true, false, IsTrue, List, map, String, stri
 use Rattle.std.specs.declared.alloc.Global.{Global}
 use Rattle.gj_words.specs.Grammar.{SpellRequest}
 use Rattle.gj_words.specs.declared.requests.Command.{Command}
-use Rattle.gj_words.specs.declared.requests.Command.TheVariants.{Minimal, Cut, Show, Check, Faces}
+use Rattle.gj_words.specs.declared.requests.Command.TheVariants.{Minimal, Extreme, Cut, Show, Check, Faces}
 use Rattle.gj_words.specs.declared.requests.Request.{Request}
 use Rattle.gj_top.specs.Task.{Task}
 use Rattle.gj_top.specs.Minimal.{minimal, minimal_json}
+use Rattle.gj_top.specs.Extreme.{extreme, extreme_json}
 use Rattle.gj_top.specs.Show.{show, show_json}
 use Rattle.gj_top.specs.Check.{check}
 use Rattle.gj_top.specs.Faces.{faces}
@@ -15,6 +16,7 @@ use Rattle.gj_top.specs.Cut.{cut}
 -- the commands that are built
 abbrev pub is_built : Command → Bool
 is_built Minimal = true
+is_built Extreme = true
 is_built Show = true
 is_built Check = true
 is_built Faces = true
@@ -25,6 +27,8 @@ is_built _ = false
 abbrev pub task_with : Command → Bool → Task
 task_with Minimal true = minimal_json
 task_with Minimal false = minimal
+task_with Extreme true = extreme_json
+task_with Extreme false = extreme
 task_with Show true = show_json
 task_with Check json = check
 task_with Faces json = faces

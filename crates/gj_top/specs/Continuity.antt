@@ -1,15 +1,10 @@
 -- The first jump of a function, and the line that names it (own).
-use Rattle.std.specs.Prelude.{ℕ, pos, ◌≡◌, ◌<◌, List, codes}
+use Rattle.std.specs.Prelude.{ℕ, pos, ◌≡◌, List, codes}
 use Rattle.gj_frac.specs.declared.Frac.{Frac}
 use Rattle.gj_frac.specs.Fraction.{IsRatio}
-use Rattle.gj_shape.specs.FunctionData.{FunctionData, IsJump}
+use Rattle.gj_shape.specs.FunctionData.{FunctionData}
 use Rattle.gj_lines.specs.FunctionLines.{fraction_line}
-
--- the function jumps at i/q, and at no multiple of 1/q before
-pub record IsFirstJump (f : FunctionData) (i : ℕ) : Type 0 where
-  pub within : i < f.order
-  pub jump : IsJump f i
-  pub first : (j : ℕ) → j < i → IsJump f j → ⊥
+use Rattle.gj_extreme.specs.Decision.{IsFirstJump}
 
 -- the text names the first jump
 pub record NamesFirstJump (f : FunctionData) (text : List ℕ) : Type 0 where

@@ -43,12 +43,16 @@ IsJumpText f text = IsMinimal f × NamesFirstJump f text
 abbrev pub IsWideText : FunctionData → List ℕ → Type 0
 IsWideText f text = IsMinimal f × IsContinuous f × IsTooWide f × (text ≡ wide_line)
 
+-- why there is no verdict, by the end of the reply
+abbrev pub IsNoVerdict : FunctionData → End → List ℕ → Type 0
+IsNoVerdict f NotContinuous text = IsJumpText f text
+IsNoVerdict f Wide text = IsWideText f text
+IsNoVerdict f end text = ⊥
+
 -- the reply to a function, by its end
 abbrev pub IsExtremality : FunctionData → End → List ℕ → Type 0
 IsExtremality f Done text = IsDecisionText f text
-IsExtremality f NotContinuous text = IsJumpText f text
-IsExtremality f Wide text = IsWideText f text
-IsExtremality f end text = ⊥
+IsExtremality f end text = IsNoVerdict f end text
 
 -- the text claims that f is extreme, by cover lines and rows
 abbrev pub IsExtremeText : FunctionData → List ℕ → Type 0

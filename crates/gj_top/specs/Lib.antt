@@ -6,6 +6,7 @@ pub mod Show
 pub mod Check
 pub mod Continuity
 pub mod Faces
+pub mod Extreme
 pub mod Cut
 pub mod CutSteps
 pub mod Command

@@ -6,7 +6,7 @@ use Rattle.gj_shape.specs.Violation.{ShowsViolation}
 use Rattle.gj_shape.specs.FirstViolation.{IsFirstViolation}
 use Rattle.gj_shape.specs.declared.violations.Violation.{Violation}
 use Rattle.gj_proof.specs.declared.claim.Claim.{Claim}
-use Rattle.gj_proof.specs.declared.claim.Claim.TheVariants.{Minimal, NotMinimal, Cut}
+use Rattle.gj_proof.specs.declared.claim.Claim.TheVariants.{Minimal, NotMinimal}
 use Rattle.gj_proof.specs.ProofText.{IsProofText}
 use Rattle.gj_proof.specs.Rules.{MeetsRules}
 use Rattle.gj_top.specs.declared.reply.End.{End}
@@ -35,7 +35,7 @@ IsVerdict f text =
 abbrev pub IsTrueClaim : FunctionData → Claim → Type 0
 IsTrueClaim f (Minimal g) = (g ≡ f) × IsMinimal f × MeetsRules (Minimal f)
 IsTrueClaim f (NotMinimal g v) = (g ≡ f) × IsFirstViolation f v × ShowsViolation f v × MeetsRules (NotMinimal f v)
-IsTrueClaim f (Cut r rows) = ⊥
+IsTrueClaim f c = ⊥
 
 -- the reply to a function is the verdict on it, and ends with Done
 abbrev pub IsDecision : FunctionData → End → List ℕ → Type 0

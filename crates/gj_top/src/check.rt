@@ -45,5 +45,7 @@ fn accepted(alloc: Global, claim: &Claim) -> Result<Vec<u8>, AllocError>
         Claim::Minimal(_) => Vec::from_slice(alloc, b"accepted minimal\n"),
         Claim::NotMinimal(_, _) => Vec::from_slice(alloc, b"accepted not-minimal\n"),
         Claim::Cut(_, _) => Vec::from_slice(alloc, b"accepted cut\n"),
+        Claim::Extreme(_, _, _) => Vec::from_slice(alloc, b"accepted extreme\n"),
+        Claim::NotExtreme(_, _) => Vec::from_slice(alloc, b"accepted not-extreme\n"),
     }
 }

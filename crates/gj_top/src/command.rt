@@ -4,7 +4,7 @@ ghost use Rattle.gj_top.specs.Command.{is_built, IsFoundIn, task_for};
 ghost use Rattle.gj_top.specs.Task.{reads, IsAnswering};
 
 use crate::reply::{Reply, Unanswered};
-use crate::{check, cut, faces, minimal, show};
+use crate::{check, cut, extreme, faces, minimal, show};
 use gj_words::{Command, Request, WordFault, read_words};
 use std::alloc::{AllocError, Global};
 
@@ -20,13 +20,18 @@ pub(crate) fn request_of(alloc: Global, words: &[String]) -> Result<Option<Reque
     }
 }
 
-/// Whether the command is built. `extreme` and `demo` are not yet.
+/// Whether the command is built. `demo` is not yet.
 fn is_built(command: Command) -> bool
     ensures { result ≡ is_built command }
 {
     match command {
-        Command::Minimal | Command::Show | Command::Check | Command::Faces | Command::Cut => true,
-        Command::Extreme | Command::Demo(_) => false,
+        Command::Minimal
+        | Command::Extreme
+        | Command::Show
+        | Command::Check
+        | Command::Faces
+        | Command::Cut => true,
+        Command::Demo(_) => false,
     }
 }
 
@@ -37,6 +42,7 @@ pub(crate) fn reads_input(request: Request) -> bool
 {
     match request.command {
         Command::Minimal => true,
+        Command::Extreme => true,
         Command::Show => true,
         Command::Check => true,
         Command::Faces => true,
@@ -53,6 +59,8 @@ pub(crate) fn reply_to(alloc: Global, request: Request, input: &[u8]) -> Result<
     match request.command {
         Command::Minimal if request.json => minimal::json_reply(alloc, input),
         Command::Minimal => minimal::reply(alloc, input),
+        Command::Extreme if request.json => extreme::json_reply(alloc, input),
+        Command::Extreme => extreme::reply(alloc, input),
         Command::Show if request.json => show::json_reply(alloc, input),
         Command::Show => show::reply(alloc, input),
         Command::Check => check::reply(alloc, input),

@@ -20,6 +20,7 @@ mod continuity;
 mod cut;
 mod cut_input;
 mod cut_lines;
+mod extreme;
 mod faces;
 mod forms;
 mod laws;
@@ -39,11 +40,12 @@ pub use status::Status;
 /// Answers the request that the words name, over an input from the source, and writes the answer to the sink.
 ///
 /// `minimal` reads a function text and writes the proof text of the claim that the function is minimal, or that it is
-/// not, with the first violation. `show` reads a function text and writes its canonical text. `check` reads a proof
+/// not, with the first violation. `extreme` reads one and writes the proof text of the claim that the function is extreme, or that it is
+/// not, with two halves, or that it is not minimal. `show` reads a function text and writes its canonical text. `check` reads a proof
 /// text and says whether every rule of the checker holds. `cut` reads a function text or a rule text with a tableau behind it, and
 /// writes the proof text of the cuts of its rows. `faces` reads the function text of a continuous function and writes its
-/// maximal additive faces and its covered intervals. With `--json`, `minimal` and `show` read a function in JSON, and
-/// `minimal` writes a report of the proof text, `show` the function in JSON. The whole input is read first, and the whole
+/// maximal additive faces and its covered intervals. With `--json`, `minimal`, `extreme` and `show` read a function in
+/// JSON, and `minimal` and `extreme` write a report of the proof text, `show` the function in JSON. The whole input is read first, and the whole
 /// answer is made before its first byte is written.
 pub fn run<S: Source, K: Sink>(
     alloc: Global,

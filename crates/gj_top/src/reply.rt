@@ -5,7 +5,7 @@ ghost use Rattle.gj_top.specs.Reply.{status_of};
 use crate::status::Status;
 use std::alloc::AllocError;
 
-/// How a reply ends the run, once it is written. `Wide` is for a command to come.
+/// How a reply ends the run, once it is written.
 #[derive(Clone, Copy, Debug, PartialEq, Eq)]
 pub enum End {
     /// The input was answered.

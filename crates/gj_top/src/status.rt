@@ -2,8 +2,8 @@
 ghost use Rattle.std.specs.Prelude.{◌≡◌};
 ghost use Rattle.gj_top.specs.Code.{code_of};
 
-/// How a run of the program ended. `Rejected` comes with the command `check` alone; `Wide`, `NotContinuous` and
-/// `NoFunction` are for commands to come.
+/// How a run of the program ended. `Rejected` comes with the command `check` alone, `Wide` with `extreme`, `NotContinuous` with
+/// `extreme` and `faces`, and `NoFunction` with `cut`.
 #[derive(Clone, Copy, Debug, PartialEq, Eq)]
 pub enum Status {
     /// The answer was written.

@@ -1,9 +1,12 @@
-use Rattle.gj_words.specs.declared.requests.Command.TheVariants.{Minimal, Show, Check, Faces, Cut}
+use Rattle.gj_words.specs.declared.requests.Command.TheVariants.{Minimal, Extreme, Show, Check, Faces, Cut}
 use Rattle.gj_top.proofs.Commands.{each_reads}
 use Rattle.gj_top.proofs.command.reads_input.Goals as goal
 
 pub returns-in-Minimal : goal.returns-in-Minimal
 returns-in-Minimal c = rw c.in-Minimal.is (each_reads Minimal c.args.request.json)
+
+pub returns-in-Extreme : goal.returns-in-Extreme
+returns-in-Extreme c = rw c.in-Extreme.is (each_reads Extreme c.args.request.json)
 
 pub returns-in-Show : goal.returns-in-Show
 returns-in-Show c = rw c.in-Show.is (each_reads Show c.args.request.json)

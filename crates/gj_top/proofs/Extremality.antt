@@ -1,0 +1,112 @@
+-- The proof text of a decision keeps what is promised of it, and calls f extreme exactly where the table of order 4 q is.
+use Rattle.std.proofs.Common.{◌≡◌, ◌↔◌, ◌*◌, ◌<◌, ◌≤◌, ℕ, zero, suc, inl, inr, List, sym, subst, arith}
+use Rattle.gj_shape.specs.FunctionData.{FunctionData, IsWithinBounds, IsContinuous, at}
+use Rattle.gj_shape.specs.Table.{table, IsMinimal}
+use Rattle.gj_shape.specs.Extreme.{IsExtreme, IsExtremeTable}
+use Rattle.gj_shape.specs.Violation.{ShowsViolation}
+use Rattle.gj_theory.proofs.DecidingGrid.{four_times_decides}
+use Rattle.gj_theory.proofs.Fillings.{halves_deny}
+use Rattle.gj_theory.proofs.Violations.{violation_denies}
+use Rattle.gj_proof.specs.declared.claim.Claim.{Claim}
+use Rattle.gj_proof.specs.declared.claim.Claim.TheVariants.{Minimal, NotMinimal, Cut, Extreme, NotExtreme}
+use Rattle.gj_proof.specs.ProofText.{IsBounded, IsProofText}
+use Rattle.gj_proof.specs.Meaning.{ClaimHolds, ShowHalves}
+use Rattle.gj_proof.proofs.OneText.{one_claim}
+use Rattle.gj_extreme.specs.Decision.{IsDecided}
+use Rattle.gj_top.specs.declared.reply.End.{End}
+use Rattle.gj_top.specs.declared.reply.End.TheVariants.{Done, Wide, NotContinuous}
+use Rattle.gj_top.specs.Minimal.{IsNotMinimalText}
+use Rattle.gj_top.specs.Report.{IsReportedReply}
+use Rattle.gj_top.specs.Extreme.{IsDecisionText, IsExtremality, IsExtremeText, IsNotExtremeText, IsTrueExtremality, IsNoVerdict, extreme}
+
+-- ---- what is promised
+
+by_claim : (f : FunctionData) (c : Claim) (text : List ℕ) → IsDecided f c → ClaimHolds c → IsProofText c text → IsTrueExtremality f text
+by_claim f (Extreme g lines rows) text d (continuous, extreme) p =
+    let e : g ≡ f = d.0 in
+    inl (
+      (lines, rows, subst (λ (k : FunctionData). IsProofText (Extreme k lines rows) text) e p),
+      subst IsContinuous e continuous,
+      subst IsExtreme e extreme,
+    )
+by_claim f (NotExtreme g h) text d (continuous, minimal, shown) p =
+    let e : g ≡ f = d.0 in
+    inr (inl (
+      h,
+      subst (λ (k : FunctionData). IsNotExtremeText k h text) e p,
+      subst IsContinuous e continuous,
+      subst IsMinimal e minimal,
+      subst (λ (k : FunctionData). ShowHalves k h) e shown,
+    ))
+by_claim f (NotMinimal g v) text d shown p =
+    let e : g ≡ f = d.0 in
+    inr (inr (
+      v,
+      subst (λ (k : FunctionData). IsNotMinimalText k v text) e p,
+      subst (λ (k : FunctionData). ShowsViolation k v) e shown,
+    ))
+by_claim f (Minimal g) text d shown p = absurd d
+by_claim f (Cut r rows) text d shown p = absurd d
+
+pub extremality_true : (f : FunctionData) (text : List ℕ) → IsDecisionText f text → IsTrueExtremality f text
+extremality_true f text d = by_claim f d.claim text d.decided d.holds d.spelled
+
+-- a decided claim on a function within the limits is about one
+pub decided_is_bounded : (f : FunctionData) (c : Claim) → IsWithinBounds f → IsDecided f c → IsBounded c
+decided_is_bounded f (Extreme g lines rows) within d = subst IsWithinBounds (sym d.0) within
+decided_is_bounded f (NotExtreme g h) within d = subst IsWithinBounds (sym d.0) within
+decided_is_bounded f (NotMinimal g v) within d = subst IsWithinBounds (sym d.0) within
+decided_is_bounded f (Minimal g) within d = absurd d
+decided_is_bounded f (Cut r rows) within d = absurd d
+
+-- ---- order 4 q
+
+-- the table of order 4 q is extreme
+abbrev IsExtremeAtFour : FunctionData → Type 0
+IsExtremeAtFour f = IsExtremeTable (table f 4) (f.order * 4) (f.place * 4) (f.scale * 4)
+
+-- a grid of some order is that of a multiple above 0
+some_multiple : (n q m : ℕ) → 2 ≤ n → n ≡ q * m → 0 < m
+some_multiple n q zero low e = absurd (omega arith)
+some_multiple n q (suc m) low e = omega arith
+
+-- where the text does not call f extreme, it denies that the table of order 4 q is
+from_four : (f : FunctionData) (text : List ℕ) → IsWithinBounds f → IsTrueExtremality f text → IsContinuous f → IsExtremeAtFour f →
+    IsExtremeText f text
+from_four f text within (inl e) continuous four = e.0
+from_four f text within (inr (inl (h, spelled, not_jumping, minimal, (m, c, order, scale, halves)))) continuous four =
+    let extreme : IsExtreme f = (four_times_decides f within continuous).1 four in
+    let some : 0 < m = some_multiple h.order f.order m spelled.has_text.order_low order in
+    absurd (halves_deny (table f m) (f.order * m) (f.place * m) (f.scale * m) c (at h.first) (at h.second) halves (extreme m some))
+from_four f text within (inr (inr (v, spelled, shown))) continuous four =
+    let extreme : IsExtreme f = (four_times_decides f within continuous).1 four in
+    absurd (violation_denies f v within shown (λ m some. (extreme m some).minimal))
+
+-- where it calls f extreme, that table is
+to_four : (f : FunctionData) (text : List ℕ) → IsWithinBounds f → IsDecisionText f text → IsExtremeText f text →
+    IsContinuous f × IsExtremeAtFour f
+to_four f text within d (lines, rows, p) =
+    let same : d.claim ≡ Extreme f lines rows =
+    one_claim d.claim (Extreme f lines rows) text (decided_is_bounded f d.claim within d.decided) within d.spelled p in
+    let holds : IsContinuous f × IsExtreme f = subst ClaimHolds same d.holds in
+    (holds.0, holds.1 4 (omega arith))
+
+pub extreme_at_four : (f : FunctionData) (text : List ℕ) → IsWithinBounds f → IsDecisionText f text →
+    IsExtremeText f text ↔ (IsContinuous f × IsExtremeAtFour f)
+extreme_at_four f text within d = (
+  to_four f text within d,
+  λ h. from_four f text within (extremality_true f text d) h.0 h.1,
+)
+
+-- ---- no verdict
+
+pub no_verdict_is_reply : (f : FunctionData) (end : End) (text : List ℕ) → IsNoVerdict f end text → IsExtremality f end text
+no_verdict_is_reply f Wide text h = h
+no_verdict_is_reply f NotContinuous text h = h
+no_verdict_is_reply f end text h = absurd h
+
+pub no_verdict_is_reported : (f : FunctionData) (end : End) (text : List ℕ) → IsNoVerdict f end text →
+    IsReportedReply extreme.work f end text
+no_verdict_is_reported f Wide text h = h
+no_verdict_is_reported f NotContinuous text h = h
+no_verdict_is_reported f end text h = absurd h
