@@ -14,11 +14,13 @@ use Rattle.gj_top.specs.Forms.{IsProofOf}
 use Rattle.gj_top.specs.Minimal.{IsVerdict, minimal}
 use Rattle.gj_top.specs.Check.{IsJudgement, check}
 use Rattle.gj_top.specs.Cut.{cut}
+use Rattle.gj_top.specs.Extreme.{extreme}
 use Rattle.gj_top.specs.Answer.{IsAnswerTo, input_limit}
 use Rattle.gj_top.specs.Answer.IsAnswerTo.{too_long, refused, replied}
 use Rattle.gj_top.proofs.Clauses.{done_reply}
 use Rattle.gj_check.proofs.DemandsOfClaims.{no_failure}
 use Rattle.gj_top.proofs.CutClaims.{lines_are_bounded}
+use Rattle.gj_top.proofs.Extremality.{decided_is_bounded}
 use Rattle.gj_top.proofs.Sound.{check_sound}
 use Rattle.gj_top.proofs.TextLaws.{function_is_bounded, minimal_proof, not_minimal_proof, one_proof, proof_text_is_short}
 
@@ -84,6 +86,26 @@ verdict_accepted input text answer s m a =
 pub verdict_accepted_reply : (input text answer : List ℕ) (e : End) → IsReply minimal input end.Done text → IsReply check text e answer →
     e ≡ end.Done
 verdict_accepted_reply input text answer e m r = accepted_reply text answer e (good_verdict input text m) r
+
+-- ---- decisions
+
+good_decision : (input text : List ℕ) → IsReply extreme input end.Done text → IsGoodProof text
+good_decision input text r = record {
+  about = r.replied.claim;
+  proof = record {
+    bounded = decided_is_bounded r.thing r.replied.claim (function_is_bounded input r.thing r.spelled) r.replied.decided;
+    spelled = r.replied.spelled;
+  };
+  rules = r.replied.rules;
+}
+
+pub decision_accepted : (input text answer : List ℕ) (s : Status) → length text ≤ input_limit → IsAnswerTo extreme input Done text →
+    IsAnswerTo check text s answer → s ≡ Done
+decision_accepted input text answer s short m a = accepted text answer s short (good_decision input text (done_reply extreme input text m)) a
+
+pub decision_accepted_reply : (input text answer : List ℕ) (e : End) → IsReply extreme input end.Done text →
+    IsReply check text e answer → e ≡ end.Done
+decision_accepted_reply input text answer e m r = accepted_reply text answer e (good_decision input text m) r
 
 -- ---- cuts
 

@@ -1,21 +1,24 @@
 //! Laws between the commands: of their answers, the limit of length included, and of their replies, whatever the length.
 
-ghost use Rattle.std.specs.Prelude.{◌≡◌, ◌≤◌, ℕ, List, length};
+ghost use Rattle.std.specs.Prelude.{◌≡◌, ◌↔◌, ◌*◌, ◌≤◌, ℕ, List, length};
 ghost use Rattle.gj_top.specs.declared.reply.End.{End};
 ghost use Rattle.gj_top.specs.declared.reply.End.TheVariants as end;
 ghost use Rattle.gj_top.specs.declared.status.Status.{Status};
 ghost use Rattle.gj_top.specs.declared.status.Status.TheVariants.{Done};
-ghost use Rattle.gj_shape.specs.FunctionData.{FunctionData};
+ghost use Rattle.gj_shape.specs.FunctionData.{FunctionData, IsContinuous};
+ghost use Rattle.gj_shape.specs.Table.{table};
+ghost use Rattle.gj_shape.specs.Extreme.{IsExtremeTable};
 ghost use Rattle.gj_ftext.specs.FunctionText.{IsWholeFunctionText};
 ghost use Rattle.gj_top.specs.Task.{IsReply};
 ghost use Rattle.gj_top.specs.Minimal.{minimal};
 ghost use Rattle.gj_top.specs.Show.{show};
 ghost use Rattle.gj_top.specs.Check.{check};
 ghost use Rattle.gj_top.specs.Cut.{cut};
+ghost use Rattle.gj_top.specs.Extreme.{IsExtremeText, extreme};
 ghost use Rattle.gj_top.specs.Answer.{IsAnswerTo, input_limit};
 
-/// Every proof that `minimal` writes is one that `check` accepts, and so is every proof that `cut` writes, where its text is
-/// within the limit of length of an input.
+/// Every proof that `minimal` writes is one that `check` accepts, and so is every proof that `cut` or `extreme` writes, where its
+/// text is within the limit of length of an input.
 pub fn written_proofs_are_accepted()
     ensures answer { (input text answer : List ℕ) (s : Status) →
         IsAnswerTo minimal input Done text → IsAnswerTo check text s answer → s ≡ Done }
@@ -25,6 +28,17 @@ pub fn written_proofs_are_accepted()
         IsAnswerTo cut input Done text → IsAnswerTo check text s answer → s ≡ Done }
     ensures cuts_reply { (input text answer : List ℕ) (e : End) →
         IsReply cut input end.Done text → IsReply check text e answer → e ≡ end.Done }
+    ensures decisions { (input text answer : List ℕ) (s : Status) → length text ≤ input_limit →
+        IsAnswerTo extreme input Done text → IsAnswerTo check text s answer → s ≡ Done }
+    ensures decisions_reply { (input text answer : List ℕ) (e : End) →
+        IsReply extreme input end.Done text → IsReply check text e answer → e ≡ end.Done }
+{}
+
+/// What `extreme` writes calls the function extreme exactly where it is continuous and its table of order 4 q is extreme.
+pub fn extreme_exactly_where_order_4q_is()
+    ensures { (f : FunctionData) (input text : List ℕ) → IsWholeFunctionText input f → IsReply extreme input end.Done text →
+        IsExtremeText f text
+        ↔ (IsContinuous f × IsExtremeTable (table f 4) (f.order * 4) (f.place * 4) (f.scale * 4)) }
 {}
 
 /// What `show` writes is a function text of the function that it read, and `show` writes it again as it stands.
