@@ -1,0 +1,4 @@
+pub mod MinimalTables
+pub mod Numbers
+pub mod Halves
+pub mod Values
