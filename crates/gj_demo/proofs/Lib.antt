@@ -2,3 +2,4 @@ pub mod MinimalTables
 pub mod Numbers
 pub mod Halves
 pub mod Values
+pub mod GivenValues
