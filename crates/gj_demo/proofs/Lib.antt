@@ -3,3 +3,7 @@ pub mod Numbers
 pub mod Halves
 pub mod Values
 pub mod GivenValues
+pub mod FewPassing
+pub mod OpeningLines
+pub mod FourIntervals
+pub mod FewComponents
