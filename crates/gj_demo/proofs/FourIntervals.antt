@@ -1,6 +1,6 @@
 -- Each interval of the demonstration is joined to one of the intervals 0, 1, q - 2 and q - 1, or is it.
-use Rattle.std.proofs.Common.{◌≡◌, ℕ, ◌+◌, ◌-◌, ◌*◌, ◌%◌, ◌<◌, ◌≤◌, ◌⊎◌, ⊎_elim, inl, inr, leb, eqb, if◌then◌else◌, [], ◌∷◌, List, All, refl, sym, ap, subst, ◌∙◌, arith}
-use Rattle.std.proofs.Math.Nat.{add-mod_right, mul-one}
+use Rattle.std.proofs.Common.{◌≡◌, ℕ, ◌+◌, ◌-◌, ◌*◌, ◌%◌, ◌<◌, ◌≤◌, ◌⊎◌, ⊎_elim, inl, inr, leb, eqb, if◌then◌else◌, [], ◌∷◌, All, refl, sym, ap, subst, ◌∙◌, arith}
+use Rattle.std.proofs.Math.Nat.{add-mod_right}
 use Rattle.std.proofs.lemmas.Bool.{le-leb, lt-leb, cases_lt}
 use Rattle.std.proofs.lemmas.List.Elements.{All-nil, All-cons}
 use Rattle.gj_shape.specs.Additive.{IsAdditive}
@@ -101,42 +101,58 @@ high_horizontal k Tight i tight k_odd low high even =
 -- ---- the interval to which each is joined
 
 joined_low_even : (k : ℕ) (Tight : ℕ → ℕ → Type 0) (i : ℕ) → AddUpAtTight k Tight → i < k → i % 2 ≡ 0 → AreJoined (2 * k) Tight i 0
-joined_low_even k Tight i tight below even =
-    (Lower, 0, i, record {
-      additive = lower_face k Tight i tight below even;
-      first = (1, i, omega arith, refl, refl);
-      second = (0, 0, omega arith, refl, refl);
-    })
+joined_low_even k Tight i tight below even = (
+  Lower,
+  0,
+  i,
+  record {
+    additive = lower_face k Tight i tight below even;
+    first = (1, i, omega arith, refl, refl);
+    second = (0, 0, omega arith, refl, refl);
+  },
+)
 
 joined_low_odd : (k : ℕ) (Tight : ℕ → ℕ → Type 0) (i : ℕ) → AddUpAtTight k Tight → i < k → i % 2 ≡ 1 → AreJoined (2 * k) Tight i 1
 joined_low_odd k Tight i tight below odd =
     let b = i - 1 in
-    let whole : 1 + b ≡ i = omega arith in
-    (Horizontal, 1, b, record {
-      additive = low_horizontal k Tight b tight (omega arith) (omega arith);
-      first = (1, 1 + b, omega arith, refl, ap (λ j. j % (2 * k)) whole);
-      second = (0, 1, omega arith, refl, refl);
-    })
+    let whole : 1 + b ≡ i = omega arith in (
+      Horizontal,
+      1,
+      b,
+      record {
+        additive = low_horizontal k Tight b tight (omega arith) (omega arith);
+        first = (1, 1 + b, omega arith, refl, ap (λ j. j % (2 * k)) whole);
+        second = (0, 1, omega arith, refl, refl);
+      },
+    )
 
 joined_high_odd : (k : ℕ) (Tight : ℕ → ℕ → Type 0) (i : ℕ) → AddUpAtTight k Tight → k ≤ i → i < 2 * k → i % 2 ≡ 1 →
     AreJoined (2 * k) Tight i (2 * k - 1)
-joined_high_odd k Tight i tight low high odd =
-    (Upper, 2 * k - 1, i, record {
-      additive = upper_face k Tight i tight low high odd;
-      first = (1, i, omega arith, refl, refl);
-      second = (0, 2 * k - 1, omega arith, refl, refl);
-    })
+joined_high_odd k Tight i tight low high odd = (
+  Upper,
+  2 * k - 1,
+  i,
+  record {
+    additive = upper_face k Tight i tight low high odd;
+    first = (1, i, omega arith, refl, refl);
+    second = (0, 2 * k - 1, omega arith, refl, refl);
+  },
+)
 
 joined_high_even : (k : ℕ) (Tight : ℕ → ℕ → Type 0) (i : ℕ) → AddUpAtTight k Tight → k % 2 ≡ 1 → k ≤ i → i < 2 * k → i % 2 ≡ 0 →
     AreJoined (2 * k) Tight i (2 * k - 2)
 joined_high_even k Tight i tight k_odd low high even =
     let a = 2 * k - 2 in
-    let whole : a + (i + 2) ≡ i + 2 * k = omega arith in
-    (Horizontal, a, i + 2, record {
-      additive = high_horizontal k Tight i tight k_odd low high even;
-      first = (1, a + (i + 2), omega arith, refl, ap (λ j. j % (2 * k)) whole ∙ add-mod_right i (2 * k));
-      second = (0, a, omega arith, refl, refl);
-    })
+    let whole : a + (i + 2) ≡ i + 2 * k = omega arith in (
+      Horizontal,
+      a,
+      i + 2,
+      record {
+        additive = high_horizontal k Tight i tight k_odd low high even;
+        first = (1, a + (i + 2), omega arith, refl, ap (λ j. j % (2 * k)) whole ∙ add-mod_right i (2 * k));
+        second = (0, a, omega arith, refl, refl);
+      },
+    )
 
 -- ---- the number of that interval
 

@@ -1,5 +1,5 @@
 -- The two minimal tables whose sum the numbers of the demonstration are.
-use Rattle.std.proofs.Common.{◌≡◌, ℕ, ◌+◌, ◌-◌, ◌*◌, ◌%◌, ◌<◌, ◌≤◌, ⊎_elim, ℤ, pos, ◌+ℤ◌, ◌*ℤ◌, min, refl, sym, ap, ◌∙◌, subst, arith}
+use Rattle.std.proofs.Common.{◌≡◌, ℕ, ◌+◌, ◌-◌, ◌*◌, ◌%◌, ◌<◌, ◌≤◌, ⊎_elim, pos, ◌+ℤ◌, min, sym, ap, ◌∙◌, subst, arith}
 use Rattle.std.proofs.Math.Nat.{mod-lt, mul_comm, mul-one, mul-le-mul_left}
 use Rattle.std.proofs.lemmas.Bool.{cases_lt}
 use Rattle.std.proofs.lemmas.Int.{ints}
@@ -7,7 +7,7 @@ use Rattle.gj_tools.proofs.Quotients.{same_remainder}
 use Rattle.gj_shape.specs.Gmic.{gmic_table, gmic_scale}
 use Rattle.gj_shape.specs.Table.{IsMinimalTable}
 use Rattle.gj_theory.proofs.GmicTable.{entry_rising, entry_falling, gmic_minimal}
-use Rattle.gj_demo.proofs.MinimalTables.{AreMultiples, multiple_minimal, sum_minimal}
+use Rattle.gj_demo.proofs.MinimalTables.{multiple_minimal, sum_minimal}
 use Rattle.gj_demo.proofs.Numbers.{tent, number_at, number_is, same_parity}
 
 -- ---- the tent

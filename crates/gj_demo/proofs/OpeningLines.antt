@@ -1,9 +1,9 @@
 -- No list of joined intervals leads from the interval of one opening line to that of another.
-use Rattle.std.proofs.Common.{◌≡◌, ◌≢◌, ℕ, ◌+◌, ◌%◌, ◌<◌, ◌==◌, inl, inr, Bool, true, List, ◌∷◌, ◌++◌, length, get_or, refl, ap, sym, subst, ◌∙◌, append_assoc, arith}
+use Rattle.std.proofs.Common.{◌≡◌, ℕ, ◌%◌, ◌<◌, inl, inr, List, ◌∷◌, ◌++◌, length, refl, sym, subst, ◌∙◌, append_assoc, arith}
 use Rattle.std.proofs.Math.Nat.{mod-lt, mod-mod, mod-eq_of_lt}
 use Rattle.std.proofs.Math.Seq.{get_or-append_seam}
 use Rattle.std.proofs.lemmas.List.{length-append}
-use Rattle.gj_shape.specs.Cover.{AreCoverLines, AreJoined, HasLine, IsNextLine, JoinsLines, LeadsTo}
+use Rattle.gj_shape.specs.Cover.{AreCoverLines, HasLine, IsNextLine, JoinsLines, LeadsTo}
 use Rattle.gj_shape.specs.Cover.LeadsTo.{here, onward}
 use Rattle.gj_shape.specs.declared.extremality.CoverLine.{CoverLine}
 use Rattle.gj_theory.proofs.CoverPaths.{joined_remainders, joined_turned}

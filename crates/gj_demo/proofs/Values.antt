@@ -1,5 +1,5 @@
 -- The function's values by the numbers of the demonstration: it is minimal, not extreme, and of a small scale.
-use Rattle.std.proofs.Common.{◌≡◌, ◌≢◌, ℕ, ◌+◌, ◌-◌, ◌*◌, ◌/◌, ◌%◌, ◌<◌, ◌≤◌, ℤ, pos, ◌+ℤ◌, ◌*ℤ◌, List, ◌++◌, length, get_or, All, unsigned_abs, inl, refl, sym, ap, ap₂, ◌∙◌, subst, subst₂, arith}
+use Rattle.std.proofs.Common.{◌≡◌, ℕ, ◌+◌, ◌*◌, ◌%◌, ◌<◌, ◌≤◌, ℤ, pos, ◌+ℤ◌, ◌*ℤ◌, ◌++◌, get_or, All, unsigned_abs, inl, refl, sym, ap, ap₂, ◌∙◌, subst₂, arith}
 use Rattle.std.proofs.Math.Nat.{mod-lt, mul-one, one-mul, mul_comm, eq_of_mul-eq-mul_right, le_of_dvd}
 use Rattle.std.specs.Int.{IsGcd, ◌∣◌}
 use Rattle.std.proofs.lemmas.Int.{ints, unsigned_abs-mul}
@@ -8,13 +8,13 @@ use Rattle.std.proofs.lemmas.List.Elements.{All-same, All-append}
 use Rattle.gj_tools.proofs.Divisors.{cofactor, divides_product, gcd_exists, gcd_positive, gcd_quotients, gauss}
 use Rattle.gj_tools.proofs.Integers.{mul_cancel_right_z, add_mul_z, mul_comm_z}
 use Rattle.gj_shape.specs.Additive.{IsTight}
-use Rattle.gj_shape.specs.Extreme.{IsExtreme, IsExtremeTable, AverageTo}
+use Rattle.gj_shape.specs.Extreme.{IsExtreme, AverageTo}
 use Rattle.gj_shape.specs.FunctionData.{FunctionData, IsWithinBounds, IsContinuous, at}
 use Rattle.gj_shape.specs.Table.{table, IsMinimalTable, IsMinimalOnGrid, IsMinimal}
 use Rattle.gj_shape.proofs.AtLemmas.{at_below, at_wrapped}
 use Rattle.gj_shape.proofs.TableLemmas.{table_of_order}
-use Rattle.gj_theory.proofs.Continuous.{same_minimal_table, minimal_from_own_grid}
-use Rattle.gj_demo.specs.Demo.{IsDemo, demo_number}
+use Rattle.gj_theory.proofs.Continuous.{minimal_from_own_grid}
+use Rattle.gj_demo.specs.Demo.{IsDemo}
 use Rattle.gj_demo.proofs.MinimalTables.{AreMultiples, multiple_minimal}
 use Rattle.gj_demo.proofs.Numbers.{tent, number_at, tent_rising}
 use Rattle.gj_demo.proofs.Halves.{alternation, alternation_odd, numbers_are_sums, numbers_minimal, tent_minimal, alternation_minimal}
