@@ -7,3 +7,4 @@ pub mod FewPassing
 pub mod OpeningLines
 pub mod FourIntervals
 pub mod FewComponents
+pub mod Averages
