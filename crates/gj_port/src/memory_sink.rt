@@ -1,5 +1,5 @@
 // A sink over memory.
-ghost use Rattle.std.specs.Prelude.{◌≡◌, ◌+◌, ◌-◌, ◌<◌, ◌≤◌, ◌↔◌, ◌⊎◌, ◌++◌, [], min, Some, length, take, IfOk, IsOk, IsErr, OnErr, Contains};
+ghost use Rattle.std.specs.Prelude.{◌≡◌, ◌+◌, ◌-◌, ◌<◌, ◌≤◌, ◌^◌, ◌↔◌, ◌⊎◌, ◌++◌, [], min, Some, length, take, IfOk, IsOk, IsErr, OnErr, Contains};
 ghost use Rattle.gj_port.specs.Faults.{HasFailed, one_more};
 ghost use Rattle.gj_port.specs.Sink.{Writes};
 ghost use Rattle.gj_port.specs.MemorySink.{sure_room};
@@ -13,6 +13,7 @@ use std::marker::Model;
 pub struct MemSink {
     bytes: Vec<u8>,
     room: usize,
+    step: usize,
     fail: Vec<u64>,
     calls: u64,
     faults: u64,
@@ -27,25 +28,40 @@ impl Model for MemSink {
     ghost view = { λ s. record {
       written = s.bytes.items;
       room = s.room;
+      step = s.step;
       fail = s.fail.items;
       calls = s.calls;
       faults = s.faults;
     } };
 
-    ghost invariant = { λ s. vec_len s.bytes + s.room ≤ vec_capacity s.bytes };
+    ghost invariant = { λ s. (vec_len s.bytes + s.room ≤ vec_capacity s.bytes) × (1 ≤ s.step) };
 }
 
 impl MemSink {
-    /// A sink with room for so many bytes, whose memory is taken here. A write fails exactly where
-    /// its number, counted from 1 and staying at 2^64 - 1 once that is reached, stands in `fail`, or
-    /// where no room is left.
+    /// A sink with room for so many bytes, whose memory is taken here, as many a write as there is room for. A write fails exactly
+    /// where its number, counted from 1 and staying at 2^64 - 1 once that is reached, stands in `fail`, or where no room is left.
     pub fn new(alloc: Global, room: usize, fail: &[u64]) -> Result<MemSink, AllocError>
         ensures { IfOk result (λ sink. sink ≡
-            record { written = []; room = room; fail = fail.now; calls = 0; faults = 0 }) }
+            record { written = []; room = room; step = 2 ^ 64 - 1; fail = fail.now; calls = 0; faults = 0 }) }
+    {
+        MemSink::with_step(alloc, room, usize::MAX, fail)
+    }
+
+    /// The same, but a write takes at most `step` bytes.
+    pub fn with_step(
+        alloc: Global,
+        room: usize,
+        step: usize,
+        fail: &[u64],
+    ) -> Result<MemSink, AllocError>
+        requires { 1 ≤ step }
+        ensures { IfOk result (λ sink. sink ≡
+            record { written = []; room = room; step = step; fail = fail.now; calls = 0; faults = 0 }) }
     {
         Ok(MemSink {
             bytes: Vec::with_capacity(alloc, room)?,
             room,
+            step,
             fail: Vec::from_slice(alloc, fail)?,
             calls: 0,
             faults: 0,
@@ -85,8 +101,8 @@ impl Sink for MemSink {
           faults = one_more self.old.faults;
         }) }
 
-        // It takes as many bytes as there is room for.
-        ensures taken { IfOk result (λ n. n ≡ min (length piece.now) self.old.room) }
+        // It takes as many bytes as there is room for and the step allows.
+        ensures taken { IfOk result (λ n. n ≡ min (min (length piece.now) self.old.room) self.old.step) }
         ensures goes_on { IfOk result (λ n. self.new ≡ record self.old {
           calls = one_more self.old.calls;
           written = self.old.written ++ take n piece.now;
@@ -98,7 +114,7 @@ impl Sink for MemSink {
             self.faults = self.faults.saturating_add(1);
             return Err(Failed);
         }
-        let count = piece.len().min(self.room);
+        let count = piece.len().min(self.room).min(self.step);
         self.bytes.extend_from_slice(&piece[..count]).unwrap();
         self.room -= count;
         Ok(count)

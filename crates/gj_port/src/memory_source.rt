@@ -1,5 +1,5 @@
 // A source over bytes in memory.
-ghost use Rattle.std.specs.Prelude.{◌≡◌, ◌<◌, ◌≤◌, ◌↔◌, min, Some, length, drop, IfOk, IsOk, IsErr, OnErr, IsTrue, Contains};
+ghost use Rattle.std.specs.Prelude.{◌≡◌, ◌-◌, ◌<◌, ◌≤◌, ◌^◌, ◌↔◌, min, Some, length, drop, IfOk, IsOk, IsErr, OnErr, IsTrue, Contains};
 ghost use Rattle.gj_port.specs.Faults.{HasFailed, one_more};
 ghost use Rattle.gj_port.specs.Source.{Reads};
 ghost use Rattle.gj_port.specs.MemorySource.{never_fails};
@@ -13,6 +13,7 @@ use std::marker::Model;
 pub struct MemSource {
     bytes: Vec<u8>,
     given: usize,
+    step: usize,
     fail: Vec<u64>,
     calls: u64,
     faults: u64,
@@ -26,24 +27,40 @@ impl Model for MemSource {
 
     ghost view = { λ s. record {
       left = drop s.given s.bytes.items;
+      step = s.step;
       fail = s.fail.items;
       calls = s.calls;
       faults = s.faults;
     } };
 
-    ghost invariant = { λ s. s.given ≤ vec_len s.bytes };
+    ghost invariant = { λ s. (s.given ≤ vec_len s.bytes) × (1 ≤ s.step) };
 }
 
 impl MemSource {
-    /// A source that gives these bytes. A read fails exactly where its number, counted from 1 and
+    /// A source that gives these bytes, as many a read as fit. A read fails exactly where its number, counted from 1 and
     /// staying at 2^64 - 1 once that is reached, stands in `fail`.
     pub fn new(alloc: Global, bytes: &[u8], fail: &[u64]) -> Result<MemSource, AllocError>
         ensures { IfOk result (λ source. source ≡
-            record { left = bytes.now; fail = fail.now; calls = 0; faults = 0 }) }
+            record { left = bytes.now; step = 2 ^ 64 - 1; fail = fail.now; calls = 0; faults = 0 }) }
+    {
+        MemSource::with_step(alloc, bytes, usize::MAX, fail)
+    }
+
+    /// The same, but a read gives at most `step` bytes.
+    pub fn with_step(
+        alloc: Global,
+        bytes: &[u8],
+        step: usize,
+        fail: &[u64],
+    ) -> Result<MemSource, AllocError>
+        requires { 1 ≤ step }
+        ensures { IfOk result (λ source. source ≡
+            record { left = bytes.now; step = step; fail = fail.now; calls = 0; faults = 0 }) }
     {
         Ok(MemSource {
             bytes: Vec::from_slice(alloc, bytes)?,
             given: 0,
+            step,
             fail: Vec::from_slice(alloc, fail)?,
             calls: 0,
             faults: 0,
@@ -81,8 +98,8 @@ impl Source for MemSource {
           faults = one_more self.old.faults;
         }) }
 
-        // It gives as many bytes as fit.
-        ensures given { IfOk result (λ n. n ≡ min (length buf.old) (length self.old.left)) }
+        // It gives as many bytes as fit and the step allows.
+        ensures given { IfOk result (λ n. n ≡ min (min (length buf.old) (length self.old.left)) self.old.step) }
         ensures goes_on { IfOk result (λ n. self.new ≡ record self.old {
           calls = one_more self.old.calls;
           left = drop n self.old.left;
@@ -93,7 +110,7 @@ impl Source for MemSource {
             self.faults = self.faults.saturating_add(1);
             return Err(Failed);
         }
-        let count = buf.len().min(self.bytes.len() - self.given);
+        let count = buf.len().min(self.bytes.len() - self.given).min(self.step);
         buf[..count].copy_from_slice(&self.bytes[self.given..self.given + count]);
         self.given += count;
         Ok(count)

@@ -63,6 +63,19 @@ fn a_write_fails_in_mid_stream(rt: HostRuntime) -> Result<(), Fail> {
 }
 
 #[test]
+fn steps_are_kept(rt: HostRuntime) -> Result<(), Fail> {
+    let alloc = rt.alloc();
+    let mut source = MemSource::with_step(alloc, b"abc", 1, &[])?;
+    let bytes = read_all(alloc, &mut source, 3)?;
+    assert_eq!(rt; bytes.as_slice(), b"abc".as_slice());
+
+    let mut sink = MemSink::with_step(alloc, 20, 3, &[2])?;
+    assert_eq!(rt; write_all(&mut sink, b"hello"), Err(Failed));
+    assert_eq!(rt; sink.taken(), b"hel".as_slice());
+    Ok(())
+}
+
+#[test]
 fn std_reads_and_writes(rt: HostRuntime) -> Result<(), Fail> {
     let alloc = rt.alloc();
     let mut source = StdSource::new(b"abc".as_slice());

@@ -42,6 +42,12 @@ pub record IsWithinBounds (f : FunctionData) : Type 0 where
 abbrev pub IsJump : FunctionData → ℕ → Type 0
 IsJump f i = (at f.left i ≢ at f.value i) ⊎ (at f.value i ≢ at f.right i)
 
+-- the function jumps at i/order, and at no multiple of 1/order before
+pub record IsFirstJump (f : FunctionData) (i : ℕ) : Type 0 where
+  pub within : i < f.order
+  pub jump : IsJump f i
+  pub first : (j : ℕ) → j < i → IsJump f j → ⊥
+
 -- at each multiple of 1/order the limits are the value
 abbrev pub IsContinuous : FunctionData → Type 0
 IsContinuous f = (f.left ≡ f.value) × (f.right ≡ f.value)

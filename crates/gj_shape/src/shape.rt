@@ -159,6 +159,30 @@ impl Shape {
         over(self.right[i as usize], self.scale)
     }
 
+    /// The limit from the left at i/q, times the common denominator.
+    pub fn left_num(&self, i: u32) -> i128
+        requires { i < self.now.order }
+        ensures { result ≡ at self.now.left i }
+    {
+        i128::from(self.left[i as usize])
+    }
+
+    /// The value at i/q, times the common denominator.
+    pub fn value_num(&self, i: u32) -> i128
+        requires { i < self.now.order }
+        ensures { result ≡ at self.now.value i }
+    {
+        i128::from(self.value[i as usize])
+    }
+
+    /// The limit from the right at i/q, times the common denominator.
+    pub fn right_num(&self, i: u32) -> i128
+        requires { i < self.now.order }
+        ensures { result ≡ at self.now.right i }
+    {
+        i128::from(self.right[i as usize])
+    }
+
     /// The limits from the left at 0, 1/q, .., (q - 1)/q, each times the common denominator.
     pub fn left_numerators(&self) -> &[i64]
         ensures value { result.now ≡ self.now.left }

@@ -1,0 +1,70 @@
+//! The function of the demonstration.
+ghost use Rattle.std.specs.Prelude.{◌≡◌, ◌<◌, ◌≤◌, ◌*◌, pos, length, IfOk};
+ghost use Rattle.gj_frac.specs.Fraction.{IsRatio};
+ghost use Rattle.gj_family.specs.Numerators.{IsMemory};
+ghost use Rattle.gj_shape.specs.FunctionData.{IsWithinBounds};
+ghost use Rattle.gj_shape.specs.Given.{AreOver};
+ghost use Rattle.gj_demo.specs.Demo.{demo_number, IsDemo};
+
+use gj_frac::Frac;
+use gj_shape::{Shape, ShapeFault};
+use std::alloc::{AllocError, Global};
+
+/// The function of the demonstration: with k = 2 n + 1 and q = 2 k, the continuous function of order q with f = 1/2
+/// whose value at i/q is (min(i, q - i)/k + (i mod 2))/2.
+///
+/// ```
+/// let shape = demo_function(alloc, 1)?;
+/// assert_eq!(shape.order(), 6);
+/// assert_eq!(shape.value(1), Frac::new(2, 3).unwrap());
+/// ```
+pub fn demo_function(alloc: Global, n: u32) -> Result<Shape, AllocError>
+    requires low { 1 ≤ n }
+    requires high { n ≤ 249 }
+    ensures closed_form { IfOk result (IsDemo n) }
+    ensures within_bounds { IfOk result IsWithinBounds }
+{
+    let place = 2 * n + 1;
+    let values = demo_values(alloc, place)?;
+    let entries = values.as_slice();
+    match Shape::new(alloc, 2 * place, place, entries, entries, entries) {
+        Ok(shape) => Ok(shape),
+        Err(fault) => Err(want_of_memory(fault)),
+    }
+}
+
+/// The values at all i/(2 k), for this k.
+fn demo_values(alloc: Global, k: u32) -> Result<Vec<Frac>, AllocError>
+    requires low { 0 < k }
+    requires high { k < 500 }
+    ensures length { IfOk result (λ v. length v.items ≡ 2 * k) }
+    ensures values { IfOk result (λ v. AreOver (λ i. pos (demo_number k i)) (2 * k) v.items) }
+{
+    let order = 2 * k;
+    let mut values = Vec::with_capacity(alloc, order as usize)?;
+    for i in 0..order {
+        values.push(demo_value(k, i))?;
+    }
+    Ok(values)
+}
+
+/// The value at i/(2 k), for this k.
+fn demo_value(k: u32, i: u32) -> Frac
+    requires low { 0 < k }
+    requires high { k < 500 }
+    requires within { i < 2 * k }
+    ensures { IsRatio result (pos (demo_number k i)) (pos (2 * k)) }
+{
+    let numerator = i.min(2 * k - i) + k * (i % 2);
+    Frac::new(i128::from(numerator), i128::from(2 * k)).unwrap()
+}
+
+/// The want of memory that the fault is.
+fn want_of_memory(fault: ShapeFault) -> AllocError
+    requires { IsMemory fault }
+{
+    match fault {
+        ShapeFault::Memory(error) => error,
+        _ => unreachable!(),
+    }
+}

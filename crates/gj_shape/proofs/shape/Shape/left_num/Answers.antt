@@ -1,0 +1,17 @@
+use Rattle.std.proofs.Common.{◌≡◌, ◌<◌, length, w64, to_z, of_z, ap, subst, sym, ◌∙◌, rules, arith}
+use Rattle.std.specs.Int.{w128}
+use Rattle.std.proofs.lemmas.Int.{to_z-of_z}
+use Rattle.gj_shape.specs.FunctionData.{FunctionData, at}
+use Rattle.gj_shape.proofs.AtLemmas.{at_read}
+use Rattle.gj_shape.proofs.shape.Shape.left_num.Goals as goal
+
+pub returns : goal.returns
+returns c =
+    let xs = c.self.inside.left.items in
+    let order = ap (λ (f : FunctionData). f.order) c.self.view_is in
+    let within : c.args.i < length xs = omega (arith, c.self.invariant.left_length) in
+    let read : to_z w64 (of_z w64 c.index.result.now) ≡ at xs c.args.i =
+    to_z-of_z w64 c.index.result.now (search rules) ∙ sym (at_read xs c.args.i c.index.result.now within c.index.ensures) in
+    let is : to_z w128 (of_z w128 c.from.result) ≡ at xs c.args.i =
+    to_z-of_z w128 c.from.result (search rules) ∙ c.from.ensures ∙ read in
+    subst (λ (f : FunctionData). to_z w128 (of_z w128 c.from.result) ≡ at f.left c.args.i) c.self.view_is is
