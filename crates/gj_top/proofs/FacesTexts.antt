@@ -1,9 +1,8 @@
 -- The text of the faces, the cover lines and the uncovered intervals of a function, printed piece by piece.
 use Rattle.std.proofs.Common.{◌≡◌, ℕ, ◌+◌, ◌<◌, ◌≤◌, ◌↔◌, List, [], ◌∷◌, ◌++◌, All, codes, flat_map, Option, None, Some, is_some, true, false, refl, sym, ap, subst, ◌∙◌}
 use Rattle.std.specs.List.{range_with_len}
-use Rattle.std.proofs.lemmas.List.{append-nil, flat_map_more, map-id}
+use Rattle.std.proofs.lemmas.List.{append-nil, flat_map_more}
 use Rattle.std.proofs.lemmas.List.Elements.{All-head, All-tail}
-use Rattle.std.proofs.lemmas.List.FromFn.{map-range_with_len_more}
 use Rattle.std.proofs.Math.Nat.{zero-add}
 use Rattle.gj_tools.proofs.Lists.{All-range}
 use Rattle.gj_shape.specs.FunctionData.{FunctionData}
@@ -17,16 +16,11 @@ use Rattle.gj_faces.specs.Picked.{ArePicked, none, kept, dropped}
 use Rattle.gj_faces.proofs.PickedFaces.{picked_joined}
 use Rattle.gj_cover.specs.CoverOf.{IsCoverOf, number_at}
 use Rattle.gj_cover.specs.declared.covered.Cover.{Cover}
+use Rattle.gj_cover.proofs.TruePlaces.{range_next}
 use Rattle.gj_top.specs.Faces.{ArePushed, IsFacesText, uncovered_line}
 
 pub none_pushed : (component : List (Option ℕ)) (text : List ℕ) → ArePushed component 0 text text
 none_pushed component text = record { intervals = []; picked = none; pushed = sym (append-nil text) }
-
--- the numbers below n and n itself
-up_to : (n : ℕ) → range_with_len 0 (n + 1) ≡ range_with_len 0 n ++ n ∷ []
-up_to n =
-    let more = map-range_with_len_more (λ (i : ℕ). i) 0 n n (zero-add n) in
-    sym (map-id (range_with_len 0 (n + 1))) ∙ more ∙ ap (λ xs. xs ++ n ∷ []) (map-id (range_with_len 0 n))
 
 -- the line of an interval without a component
 pub one_pushed : (component : List (Option ℕ)) (n : ℕ) (old mid new : List ℕ) → ArePushed component n old mid →
@@ -35,7 +29,7 @@ one_pushed component n old mid new p open_interval is =
     let P : ℕ → Type 0 = λ i. number_at component i ≡ None in
     record {
       intervals = p.intervals ++ n ∷ [];
-      picked = subst (λ xs. ArePicked P xs (p.intervals ++ n ∷ [])) (sym (up_to n))
+      picked = subst (λ xs. ArePicked P xs (p.intervals ++ n ∷ [])) (sym (range_next n))
           (picked_joined P (n ∷ []) (n ∷ []) p.picked (kept open_interval none));
       pushed = is ∙ ap (λ xs. xs ++ uncovered_line n) p.pushed ∙ flat_map_more uncovered_line old p.intervals n;
     }
@@ -47,7 +41,7 @@ none_more component n old new p closed =
     let P : ℕ → Type 0 = λ i. number_at component i ≡ None in
     record {
       intervals = p.intervals;
-      picked = subst (λ xs. ArePicked P xs p.intervals) (sym (up_to n))
+      picked = subst (λ xs. ArePicked P xs p.intervals) (sym (range_next n))
           (subst (λ ys. ArePicked P (range_with_len 0 n ++ n ∷ []) ys) (append-nil p.intervals)
           (picked_joined P (n ∷ []) [] p.picked (dropped closed none)));
       pushed = p.pushed;
