@@ -8,7 +8,7 @@ use Rattle.gj_shape.specs.Cover.{HasComponent, opened, joined, AreJoined, IsDire
 use Rattle.gj_shape.specs.FirstViolation.{IsLeastFrom}
 use Rattle.gj_shape.specs.declared.extremality.CoverLine.{CoverLine}
 use Rattle.gj_cover.specs.CoverOf.{number_at, opened_by}
-use Rattle.gj_cover.specs.Progress.{AreInTurn, AreNumbered, AreClasses, AreLeastJoined, AreSearched, IsJoinedUpTo, lesser_of, unnumbered}
+use Rattle.gj_cover.specs.Progress.{AreInTurn, AreNumbered, AreClasses, AreLeastJoined, AreSearched, IsJoinedUpTo, IsNotAbove, lesser_of, unnumbered}
 use Rattle.gj_cover.proofs.LineLists.{split_end, component_stays, line_number, number_line, no_number, no_line, number_same, number_from, none_from, number_stays, number_within}
 use Rattle.gj_theory.proofs.CoverPaths.{joined_turned, leads_turned}
 use Rattle.gj_cover.proofs.Joining.{covered_on, covered_directly}
@@ -323,17 +323,21 @@ least_with q T c x m i (Some j) within free none new h = elim (cases_lt j x) [
 ]
 
 least_without : (q : ℕ) (T : ℕ → ℕ → Type 0) (c : List (Option ℕ)) (x m i : ℕ) (o : Option ℕ) → x < length c →
-    number_at c x ≡ None → number_at (set c x (Some m)) i ≡ None → (AreJoined q T i x → ⊥) →
+    number_at c x ≡ None → number_at (set c x (Some m)) i ≡ None → (AreJoined q T i x → ⊥) ⊎ IsNotAbove o x →
     LeastOf q T c i o → LeastOf q T (set c x (Some m)) i o
-least_without q T c x m i None within free none not h = λ k at. elim (joins_before q T c x m i k within at) [
+least_without q T c x m i None within free none (inl not) h = λ k at. elim (joins_before q T c x m i k within at) [
   | inl same ↦ not (subst (AreJoined q T i) same at.joined)
   | inr old ↦ h k old
 ]
-least_without q T c x m i (Some j) within free none not h = record {
+least_without q T c x m i None within free none (inr not_above) h = absurd not_above
+least_without q T c x m i (Some j) within free none other h = record {
   from = omega arith;
   holds = joins_after q T c x m i j free none h.holds;
   least = λ k from k_below at. elim (joins_before q T c x m i k within at) [
-    | inl same ↦ not (subst (AreJoined q T i) same at.joined)
+    | inl same ↦ elim other [
+      | inl not ↦ not (subst (AreJoined q T i) same at.joined)
+      | inr not_above ↦ omega (arith, not_above, same, k_below)
+    ]
     | inr old ↦ h.least k from k_below old
   ];
 }
