@@ -1,7 +1,8 @@
 -- The text of the faces, the cover lines and the uncovered intervals of a function, printed piece by piece.
-use Rattle.std.proofs.Common.{◌≡◌, ℕ, ◌+◌, ◌<◌, ◌≤◌, ◌↔◌, List, [], ◌∷◌, ◌++◌, All, codes, flat_map, Option, None, Some, is_some, true, false, refl, sym, ap, subst, ◌∙◌}
+use Rattle.std.proofs.Common.{◌≡◌, ℕ, ◌+◌, ◌<◌, ◌≤◌, ◌↔◌, List, [], ◌∷◌, ◌++◌, All, codes, flat_map, Option, None, Some, is_some, true, false, refl, sym, ap, subst, ◌∙◌, append_assoc}
 use Rattle.std.specs.List.{range_with_len}
 use Rattle.std.proofs.lemmas.List.{append-nil, flat_map_more}
+use Rattle.std.proofs.lemmas.List.Concat.{flat_map-append}
 use Rattle.std.proofs.lemmas.List.Elements.{All-head, All-tail}
 use Rattle.std.proofs.Math.Nat.{zero-add}
 use Rattle.gj_tools.proofs.Lists.{All-range}
@@ -11,13 +12,36 @@ use Rattle.gj_shape.specs.Cover.{IsCovered}
 use Rattle.gj_shape.specs.declared.faces.Face.{Face}
 use Rattle.gj_lines.specs.FunctionLines.{line, order_line}
 use Rattle.gj_lines.specs.FaceLines.{face_text, cover_line}
-use Rattle.gj_faces.specs.Listed.{AreMaximalFaces}
+use Rattle.gj_faces.specs.Added.{AddsMaximal, faces_of_row}
+use Rattle.gj_faces.proofs.AddedFaces.{picked_row, all_rows_picked}
 use Rattle.gj_faces.specs.Picked.{ArePicked, none, kept, dropped}
 use Rattle.gj_faces.proofs.PickedFaces.{picked_joined}
 use Rattle.gj_cover.specs.CoverOf.{IsCoverOf, number_at}
 use Rattle.gj_cover.specs.declared.covered.Cover.{Cover}
 use Rattle.gj_cover.proofs.TruePlaces.{range_next}
-use Rattle.gj_top.specs.Faces.{ArePushed, IsFacesText, uncovered_line}
+use Rattle.gj_top.specs.Faces.{ArePushed, AreRowsPushed, IsFacesText, uncovered_line}
+
+-- ---- the maximal faces
+
+pub no_rows_pushed : (f : FunctionData) (text : List ℕ) → AreRowsPushed f 0 text text
+no_rows_pushed f text = record { faces = []; picked = none; pushed = sym (append-nil text) }
+
+-- the lines of one row more, of which the faces were added to no others
+pub one_row_pushed : (f : FunctionData) (a : ℕ) (old middle new : List ℕ) (empty row : List Face) → AreRowsPushed f a old middle →
+    empty ≡ [] → AddsMaximal f (faces_of_row f.order a) empty row →
+    new ≡ middle ++ flat_map (λ face. line (face_text face)) row → AreRowsPushed f (a + 1) old new
+one_row_pushed f a old middle new empty row h is k e =
+    let lines : List Face → List ℕ = flat_map (λ face. line (face_text face)) in
+    let whole : row ≡ k.added = k.items ∙ ap (λ xs. xs ++ k.added) is in
+    record {
+      faces = h.faces ++ k.added;
+      picked = picked_row f f.order a h.faces (h.faces ++ k.added) h.picked (record { added = k.added; picked = k.picked; items = refl });
+      pushed = e ∙ ap (λ xs. xs ++ lines row) h.pushed ∙ ap (λ xs. (old ++ lines h.faces) ++ lines xs) whole
+          ∙ append_assoc old (lines h.faces) (lines k.added)
+          ∙ ap (λ xs. old ++ xs) (sym (flat_map-append (λ face. line (face_text face)) h.faces k.added));
+    }
+
+-- ---- the uncovered intervals
 
 pub none_pushed : (component : List (Option ℕ)) (text : List ℕ) → ArePushed component 0 text text
 none_pushed component text = record { intervals = []; picked = none; pushed = sym (append-nil text) }
@@ -79,23 +103,23 @@ picked_alike P Q all (dropped {x} {xs} h more) =
     dropped (λ q. h ((All-head (λ y. P y ↔ Q y) x xs all).1 q)) (picked_alike P Q (All-tail (λ y. P y ↔ Q y) x xs all) more)
 
 -- the text of the faces, the cover and the uncovered intervals
-pub text_of_faces : (f : FunctionData) (n k : ℕ) (faces : List Face) (cover : Cover) (title first second third fourth whole : List ℕ) →
-    n ≡ f.order → k ≡ f.order → AreMaximalFaces f faces → IsCoverOf f.order (IsTight f) cover → title ≡ line (codes "gj-faces 1") →
-    first ≡ title ++ order_line n → second ≡ first ++ flat_map (λ face. line (face_text face)) faces →
+pub text_of_faces : (f : FunctionData) (n k : ℕ) (cover : Cover) (title first second third fourth whole : List ℕ) →
+    n ≡ f.order → k ≡ f.order → IsCoverOf f.order (IsTight f) cover → title ≡ line (codes "gj-faces 1") →
+    first ≡ title ++ order_line n → AreRowsPushed f f.order first second →
     third ≡ second ++ flat_map cover_line cover.lines → ArePushed cover.component k third fourth →
     whole ≡ fourth ++ line (codes "end") → IsFacesText f whole
-text_of_faces f n k faces cover title first second third fourth whole n_is k_is maximal covered is p q r some s =
+text_of_faces f n k cover title first second third fourth whole n_is k_is covered is p rows r some s =
     let pushed : ArePushed cover.component f.order third fourth = subst (λ m. ArePushed cover.component m third fourth) k_is some in
     record {
-      faces = faces;
-      maximal = maximal;
+      faces = rows.faces;
+      maximal = all_rows_picked f f.order rows.faces refl rows.picked;
       lines = cover.lines;
       cover = covered.lines;
       intervals = pushed.intervals;
       uncovered = picked_alike (λ i. number_at cover.component i ≡ None) (λ i. IsCovered f.order (IsTight f) i → ⊥)
           (All-range (λ i. (number_at cover.component i ≡ None) ↔ (IsCovered f.order (IsTight f) i → ⊥)) 0 f.order
           (λ i below. covered.component.uncovered i (subst (λ m. i < m) (zero-add f.order) below))) pushed.picked;
-      spelled = in_turn (line (codes "gj-faces 1")) (order_line f.order) (flat_map (λ face. line (face_text face)) faces)
+      spelled = in_turn (line (codes "gj-faces 1")) (order_line f.order) (flat_map (λ face. line (face_text face)) rows.faces)
           (flat_map cover_line cover.lines) (flat_map uncovered_line pushed.intervals) (line (codes "end")) first second third fourth whole
-          (p ∙ ap (λ x. x ++ order_line n) is ∙ ap (λ m. line (codes "gj-faces 1") ++ order_line m) n_is) q r pushed.pushed s;
+          (p ∙ ap (λ x. x ++ order_line n) is ∙ ap (λ m. line (codes "gj-faces 1") ++ order_line m) n_is) rows.pushed r pushed.pushed s;
     }
