@@ -1,24 +1,30 @@
 -- The text of the faces, the cover lines and the uncovered intervals of a function, printed piece by piece.
-use Rattle.std.proofs.Common.{◌≡◌, ℕ, ◌+◌, ◌<◌, ◌≤◌, ◌↔◌, List, [], ◌∷◌, ◌++◌, All, codes, flat_map, Option, None, Some, is_some, true, false, refl, sym, ap, subst, ◌∙◌, append_assoc}
+use Rattle.std.proofs.Common.{◌≡◌, ℕ, ◌+◌, ◌<◌, ◌≤◌, ◌↔◌, List, [], ◌∷◌, ◌++◌, All, codes, flat_map, Option, None, Some, is_some, true, false, refl, sym, ap, subst, ◌∙◌, append_assoc, length, arith}
 use Rattle.std.specs.List.{range_with_len}
 use Rattle.std.proofs.lemmas.List.{append-nil, flat_map_more}
 use Rattle.std.proofs.lemmas.List.Concat.{flat_map-append}
-use Rattle.std.proofs.lemmas.List.Elements.{All-head, All-tail}
+use Rattle.std.proofs.lemmas.List.Elements.{All-nil, All-cons, All-head, All-tail, All-map}
 use Rattle.std.proofs.Math.Nat.{zero-add}
-use Rattle.gj_tools.proofs.Lists.{All-range}
+use Rattle.gj_tools.proofs.Lists.{All-range, All-joined}
 use Rattle.gj_shape.specs.FunctionData.{FunctionData}
 use Rattle.gj_shape.specs.Additive.{IsTight}
 use Rattle.gj_shape.specs.Cover.{IsCovered}
+use Rattle.gj_shape.specs.WalkOrder.{faces_of_square}
 use Rattle.gj_shape.specs.declared.faces.Face.{Face}
+use Rattle.gj_shape.specs.declared.faces.FaceKind.TheVariants.{Vertex, Horizontal, Vertical, Diagonal, Lower, Upper}
 use Rattle.gj_lines.specs.FunctionLines.{line, order_line}
 use Rattle.gj_lines.specs.FaceLines.{face_text, cover_line}
 use Rattle.gj_faces.specs.Added.{AddsMaximal, faces_of_row}
+use Rattle.gj_faces.specs.Listed.{IsMaximalIn}
 use Rattle.gj_faces.proofs.AddedFaces.{picked_row, all_rows_picked}
 use Rattle.gj_faces.specs.Picked.{ArePicked, none, kept, dropped}
 use Rattle.gj_faces.proofs.PickedFaces.{picked_joined}
 use Rattle.gj_cover.specs.CoverOf.{IsCoverOf, number_at}
 use Rattle.gj_cover.specs.declared.covered.Cover.{Cover}
 use Rattle.gj_cover.proofs.TruePlaces.{range_next}
+use Rattle.gj_top.specs.FacePieces.{HasPieces}
+use Rattle.gj_top.specs.declared.face_lines.Piece.{Piece}
+use Rattle.gj_top.specs.declared.face_lines.Starts.{Starts}
 use Rattle.gj_top.specs.Faces.{ArePushed, AreRowsPushed, IsFacesText, uncovered_line}
 
 -- ---- the maximal faces
@@ -40,6 +46,25 @@ one_row_pushed f a old middle new empty row h is k e =
           ∙ append_assoc old (lines h.faces) (lines k.added)
           ∙ ap (λ xs. old ++ xs) (sym (flat_map-append (λ face. line (face_text face)) h.faces k.added));
     }
+
+-- what holds of each element holds of each that is picked
+picked_keeps : {X : Type 0} (A P : X → Type 0) {xs ys : List X} → All A xs → ArePicked P xs ys → All A ys
+picked_keeps A P all none = All-nil A
+picked_keeps A P all (kept {x} {xs} {ys} h more) =
+    All-cons A x ys (All-head A x xs all) (picked_keeps A P (All-tail A x xs all) more)
+picked_keeps A P all (dropped {x} {xs} h more) = picked_keeps A P (All-tail A x xs all) more
+
+-- there are pieces for each face of a row
+pub row_has_pieces : (f : FunctionData) (a : ℕ) (starts : Starts) (ends : List Piece) (empty row : List Face) → empty ≡ [] →
+    AddsMaximal f (faces_of_row f.order a) empty row → starts.row ≡ a → length ends ≡ f.order → All (HasPieces starts ends) row
+row_has_pieces f a starts ends empty row is h at count =
+    let whole : row ≡ h.added = h.items ∙ ap (λ xs. xs ++ h.added) is in
+    let each : All (HasPieces starts ends) (faces_of_row f.order a) =
+    All-joined (HasPieces starts ends) (faces_of_square a) 0 f.order
+    (λ b below. All-map (HasPieces starts ends) (λ kind. record { kind = kind; a = a; b = b })
+    (Vertex ∷ Horizontal ∷ Vertical ∷ Diagonal ∷ Lower ∷ Upper ∷ [])
+    (λ k kind within. (sym at, let low : b < length ends = omega (arith, below, count) in low))) in
+    subst (All (HasPieces starts ends)) (sym whole) (picked_keeps (HasPieces starts ends) (IsMaximalIn f) each h.picked)
 
 -- ---- the uncovered intervals
 

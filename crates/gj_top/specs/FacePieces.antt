@@ -1,5 +1,6 @@
 -- Pieces of the lines of faces (own).
 use Rattle.std.specs.Prelude.{ℕ, ◌≡◌, ◌<◌, List, ◌++◌, codes, decimal, length, take, get_or}
+use Rattle.gj_shape.specs.declared.faces.Face.{Face}
 use Rattle.gj_shape.specs.declared.faces.FaceKind.{FaceKind}
 use Rattle.gj_shape.specs.declared.faces.FaceKind.TheVariants.{Vertex, Horizontal, Vertical, Diagonal, Lower, Upper}
 use Rattle.gj_lines.specs.FunctionLines.{line}
@@ -27,3 +28,7 @@ AreStarts starts = (kind : FaceKind) → text_of (start_of starts kind) ≡ face
 -- the lines of the faces of each column end with its piece
 abbrev pub AreEnds : List Piece → Type 0
 AreEnds ends = (b : ℕ) (none : Piece) → b < length ends → text_of (get_or ends b none) ≡ line (codes " " ++ decimal b)
+
+-- the face is of the row, and of a column with a piece
+abbrev pub HasPieces : Starts → List Piece → Face → Type 0
+HasPieces starts ends face = (face.a ≡ starts.row) × (face.b < length ends)

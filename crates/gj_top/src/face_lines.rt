@@ -2,10 +2,10 @@
 //!
 //! There may be hundreds of thousands of lines, so the piece up to the row is put together once a row, and the piece
 //! behind it once a column.
-ghost use Rattle.std.specs.Prelude.{◌≡◌, ◌+◌, ◌≤◌, [], ◌++◌, codes, decimal, flat_map, length, IfOk, OnOk};
+ghost use Rattle.std.specs.Prelude.{◌≡◌, ◌+◌, ◌≤◌, [], ◌++◌, All, codes, decimal, flat_map, length, IfOk, OnOk};
 ghost use Rattle.gj_lines.specs.FunctionLines.{line};
 ghost use Rattle.gj_lines.specs.FaceLines.{face_text, face_word};
-ghost use Rattle.gj_top.specs.FacePieces.{text_of, start_of, AreStarts, AreEnds};
+ghost use Rattle.gj_top.specs.FacePieces.{text_of, start_of, AreStarts, AreEnds, HasPieces};
 
 use gj_lines::face_word;
 use gj_shape::{Face, FaceKind};
@@ -39,7 +39,8 @@ pub(crate) struct Starts {
 
 /// The beginnings for a row.
 pub(crate) fn starts_of(row: u32) -> Starts
-    ensures { AreStarts result }
+    ensures starts { AreStarts result }
+    ensures row { result.row ≡ row }
 {
     let mut buffer = Buffer::new();
     let digits = buffer.format(row).as_bytes();
@@ -56,7 +57,8 @@ pub(crate) fn starts_of(row: u32) -> Starts
 
 /// The ends of the lines for the columns below n: a space, the column and a line feed.
 pub(crate) fn ends_below(alloc: Global, n: u32) -> Result<Vec<Piece>, AllocError>
-    ensures { IfOk result (λ ends. AreEnds ends.items) }
+    ensures ends { IfOk result (λ ends. AreEnds ends.items) }
+    ensures count { IfOk result (λ ends. length ends.items ≡ n) }
 {
     let mut ends = Vec::new(alloc);
     for column in 0..n {
@@ -74,6 +76,7 @@ pub(crate) fn push_face_lines(
 ) -> Result<(), AllocError>
     requires starts { AreStarts starts.now }
     requires ends { AreEnds ends.now }
+    requires faces { All (HasPieces starts.now ends.now) faces.now }
     ensures { OnOk result (out.new.items ≡ out.old.items ++ flat_map (λ face. line (face_text face)) faces.now) }
 {
     for face in faces {
@@ -91,14 +94,11 @@ fn push_face_line(
 ) -> Result<(), AllocError>
     requires starts { AreStarts starts.now }
     requires ends { AreEnds ends.now }
+    requires face { HasPieces starts.now ends.now face }
     ensures { OnOk result (out.new.items ≡ out.old.items ++ line (face_text face)) }
 {
-    let column = face.b as usize;
-    if face.a != starts.row || column >= ends.len() {
-        return gj_lines::push_face_line(out, face);
-    }
     push_piece(out, start_for(starts, face.kind))?;
-    push_piece(out, &ends[column])
+    push_piece(out, &ends[face.b as usize])
 }
 
 /// The beginning of the lines of the faces of a kind.
