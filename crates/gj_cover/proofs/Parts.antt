@@ -1,6 +1,6 @@
 -- Additive faces by their corners, and the intervals of a face one by one.
 use Rattle.std.proofs.Common.{◌≡◌, ℕ, zero, suc, ◌⊎◌, ◌+◌, ◌%◌, List, [], ◌∷◌, ◌++◌, refl, sym, ap, ◌∙◌, subst, inl, inr, arith}
-use Rattle.std.specs.List.{All, Any}
+use Rattle.std.specs.List.{Any}
 use Rattle.std.proofs.Math.Nat.{add-mod}
 use Rattle.gj_tools.proofs.Lists.{All-one, All-two, All-three}
 use Rattle.gj_shape.specs.Additive.{IsAdditive}
