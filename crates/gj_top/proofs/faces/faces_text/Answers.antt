@@ -1,4 +1,4 @@
-use Rattle.std.proofs.Common.{◌≡◌, ◌++◌, flat_map, ap, sym, subst, ◌∙◌}
+use Rattle.std.proofs.Common.{◌++◌, flat_map, ap, sym, subst, ◌∙◌}
 use Rattle.gj_shape.specs.Additive.{IsTight}
 use Rattle.gj_faces.specs.Runs.{InRuns, AreInOrder, AreRunsOf}
 use Rattle.gj_cover.specs.CoverOf.{IsCoverOf}

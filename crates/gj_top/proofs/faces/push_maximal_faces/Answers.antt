@@ -1,4 +1,4 @@
-use Rattle.std.proofs.Common.{◌≡◌, ◌++◌, All, length, flat_map, ap, subst, sym, ◌∙◌, arith}
+use Rattle.std.proofs.Common.{◌++◌, All, length, flat_map, ap, subst, sym, ◌∙◌}
 use Rattle.gj_lines.specs.FunctionLines.{line}
 use Rattle.gj_lines.specs.FaceLines.{face_text}
 use Rattle.gj_top.specs.FacePieces.{HasPieces}
