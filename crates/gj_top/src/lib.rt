@@ -20,6 +20,7 @@ mod continuity;
 mod cut;
 mod cut_input;
 mod cut_lines;
+mod face_lines;
 mod faces;
 mod forms;
 mod laws;
