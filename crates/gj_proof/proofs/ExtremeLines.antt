@@ -53,6 +53,10 @@ pub pair_bytes : (i : ℕ) (pairs : List (ℤ × ℤ)) → bytes (pair_lines i p
 pair_bytes i [] = refl
 pair_bytes i (p ∷ pairs) = ap (λ t. pair_line p ++ t) (pair_bytes (i + 1) pairs)
 
+pub halves_bytes : (h : Halves) →
+    bytes (record { name = ProofLine.halves; bytes = halves_line h } ∷ pair_lines 0 (zip h.first h.second)) ≡ halves_text h
+halves_bytes h = ap (λ t. halves_line h ++ t) (pair_bytes 0 (zip h.first h.second))
+
 -- ---- their names differ
 
 -- the line is that of a covered interval, from the i-th on

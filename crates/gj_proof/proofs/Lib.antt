@@ -15,5 +15,9 @@ pub mod CutRead
 pub mod WholeNumbers
 pub mod LineLists
 pub mod ExtremeLines
+pub mod ThenParts
+pub mod ExtremeWords
+pub mod ExtremeParts
+pub mod ExtremeReads
 pub mod OwnLines
 pub mod CutWritten
