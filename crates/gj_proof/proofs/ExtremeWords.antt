@@ -238,7 +238,7 @@ column_is_plain word c h below = two_plain word (decimal c) h (count_is_plain c 
 
 -- ---- the first line of halves
 
-scale_fits : (h : HalvesHead) → IsHeadInBounds h → FitsPair h.scale
+pub scale_fits : (h : HalvesHead) → IsHeadInBounds h → FitsPair h.scale
 scale_fits h b = let low = b.scale_low in let high = b.scale_high in omega (arith, ints)
 
 pub halves_rule_is_exact : IsExactRule halves_rule.Spells halves_rule.Breaks

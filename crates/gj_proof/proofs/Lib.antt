@@ -13,6 +13,7 @@ pub mod CutParts
 pub mod CutTexts
 pub mod CutRead
 pub mod WholeNumbers
+pub mod CountWords
 pub mod LineLists
 pub mod ExtremeLines
 pub mod ThenParts
@@ -20,4 +21,6 @@ pub mod ExtremeWords
 pub mod ExtremeParts
 pub mod ExtremeReads
 pub mod OwnLines
+pub mod ExtremeRead
+pub mod HalvesWords
 pub mod CutWritten

@@ -440,3 +440,9 @@ read_is_text c text
     rest_is ∙ ap (λ ws. line (join_with_byte 32 ws) ++ left) end_is ∙ ap (λ t. last_line ++ t) (left_is ∙ nothing) ∙ append-nil last_line in
     let P : Claim → Type 0 = λ a. IsBounded a × IsProofText a text in
     subst P (sym (c_is ∙ d_is)) (claim_found w e text inner rest reads whole last_is)
+
+-- the lines of a text, read one after another, are those of a claim
+pub lines_read : (text m inner rest behind : List ℕ) (w : ClaimWord) (c : Claim) → title_part.Reads text tt m → word_part.Reads m w inner →
+    (claim_part w).Reads inner c rest → last_part.Reads rest tt behind → behind ≡ [] → proof_text.Reads text c []
+lines_read text m inner rest behind w c title word reads end ended =
+    (c, behind, (tt, m, title, (c, rest, (w, inner, word, reads), (tt, behind, end, (refl, refl)))), (refl, ended, ended))
