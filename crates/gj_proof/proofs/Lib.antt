@@ -23,4 +23,5 @@ pub mod ExtremeReads
 pub mod OwnLines
 pub mod ExtremeRead
 pub mod HalvesWords
+pub mod ExtremeWritten
 pub mod CutWritten
