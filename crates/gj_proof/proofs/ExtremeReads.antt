@@ -1,5 +1,5 @@
 -- The lines of extremality are read as the lines, rows and halves that they spell.
-use Rattle.std.proofs.Common.{◌≡◌, ◌⊎◌, inl, inr, ℕ, zero, suc, ◌<◌, ◌≤◌, ◌^◌, ℤ, unsigned_abs, List, [], ◌∷◌, ◌++◌, All, length, flat_map, zip, codes, decimal, arith, refl, sym, ap, subst, ◌∙◌}
+use Rattle.std.proofs.Common.{◌≡◌, ◌⊎◌, inl, inr, ℕ, zero, suc, ◌<◌, ◌≤◌, ℤ, List, [], ◌∷◌, ◌++◌, All, length, flat_map, zip, codes, decimal, arith, refl, sym, ap, subst, ◌∙◌}
 use Rattle.std.specs.Fmt.{signed_decimal}
 use Rattle.std.specs.List.{join_with_byte}
 use Rattle.std.proofs.lemmas.List.{append_assoc, append-nil}
@@ -13,7 +13,7 @@ use Rattle.gj_shape.specs.declared.extremality.CoverLine.{CoverLine}
 use Rattle.gj_shape.specs.declared.extremality.Halves.{Halves}
 use Rattle.gj_shape.specs.declared.extremality.RowName.{RowName}
 use Rattle.gj_shape.specs.declared.extremality.RowName.TheVariants.{Period, F, Pair}
-use Rattle.gj_lines.specs.FaceLines.{face_word, cover_line}
+use Rattle.gj_lines.specs.FaceLines.{cover_line}
 use Rattle.gj_lines.specs.FunctionLines.{line}
 use Rattle.gj_proof.specs.ProofText.{group_line, reduction_line, pivot_line, halves_line, pair_line, IsCoverLineBelow, IsRowNameBelow, IsPivotRowBelow, FitsPair, AreHalvesInBounds}
 use Rattle.gj_proof.specs.ExtremeTexts.{group_text, halves_text}
@@ -25,7 +25,7 @@ use Rattle.gj_proof.proofs.StrictParts.{line_reads, line_found, strict_line}
 use Rattle.gj_proof.proofs.WhereLaws.{other_line, other_word}
 use Rattle.gj_proof.proofs.CutParts.{end_words}
 use Rattle.gj_proof.proofs.ExtremeWords.{cover_is_plain, bytes_of_cover, row_name_is_plain, bytes_of_row_name, column_is_plain, head_is_plain, bytes_of_head, pair_is_plain, bytes_of_pair}
-use Rattle.gj_proof.proofs.ExtremeParts.{cover_part, name_part, step_part, pivot_part, head_part, pair_part}
+use Rattle.gj_proof.proofs.ExtremeParts.{cover_part, name_part, head_part, pair_part}
 
 -- ---- covered intervals
 
@@ -210,7 +210,8 @@ group_parts row rest = regroup (group_line row.name) (flat_map reduction_line ro
     regroup : (a b c d : List ℕ) → (a ++ b ++ c) ++ d ≡ a ++ (b ++ (c ++ d))
     regroup a b c d = simp append_assoc
 
-group_reads : (q : ℕ) (row : PivotRow) (rest : List ℕ) → q ≤ 1000 → IsPivotRowBelow q row → (group_part q).Reads (group_text row ++ rest) row rest
+group_reads : (q : ℕ) (row : PivotRow) (rest : List ℕ) → q ≤ 1000 → IsPivotRowBelow q row →
+    (group_part q).Reads (group_text row ++ rest) row rest
 group_reads q row rest small h =
     let behind = pivot_line row.pivot ++ rest in
     let steps = flat_map reduction_line row.reduce ++ behind in
@@ -393,7 +394,8 @@ halves_found text rest h (head, middle, first, (lists, pairs, h_is)) =
     let (words, (is, bounds), spelled) = line_found halves_rule text middle head first in
     let found = pairs_found head.order [] [] lists middle rest pairs in
     let made : Halves = record { order = head.order; scale = head.scale; first = found.first; second = found.second } in
-    let made_is : made ≡ h = (λ i. record { order = head.order; scale = head.scale; first = sym found.first_are i; second = sym found.second_are i })
+    let made_is : made ≡ h =
+    (λ i. record { order = head.order; scale = head.scale; first = sym found.first_are i; second = sym found.second_are i })
     ∙ sym h_is in
     let P : Halves → Type 0 = λ g. (text ≡ halves_text g ++ rest) × AreHalvesInBounds g in
     let whole : text ≡ halves_text made ++ rest =

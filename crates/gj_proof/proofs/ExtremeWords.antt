@@ -1,12 +1,11 @@
 -- The words of the lines of extremality: they are those of one line, or break one rule, and are plain.
-use Rattle.std.proofs.Common.{◌≡◌, ◌≢◌, inl, inr, ℕ, ◌+◌, ◌*◌, ◌<◌, ◌≤◌, ◌^◌, ℤ, pos, ◌≤ℤ◌, unsigned_abs, List, [], ◌∷◌, ◌++◌, All, codes, decimal, get_or, refl, sym, ap, subst, ◌∙◌, arith}
+use Rattle.std.proofs.Common.{◌≡◌, inl, inr, ℕ, ◌+◌, ◌*◌, ◌<◌, ◌≤◌, ℤ, List, [], ◌∷◌, ◌++◌, All, codes, decimal, get_or, refl, sym, ap, subst, ◌∙◌, arith}
 use Rattle.std.specs.Fmt.{signed_decimal}
 use Rattle.std.specs.List.{join_with_byte}
 use Rattle.std.proofs.lemmas.Int.{ints}
 use Rattle.std.proofs.lemmas.List.{append_assoc}
 use Rattle.std.proofs.lemmas.List.Elements.{All-nil, All-cons}
 use Rattle.gj_lex.specs.declared.reason.Reason.{Reason}
-use Rattle.gj_lex.specs.declared.reason.Reason.TheVariants as reason
 use Rattle.gj_lex.specs.declared.spelling.Spelling.TheVariants.{Strict}
 use Rattle.gj_lex.specs.Parts.{IsExactRule}
 use Rattle.gj_lex.specs.SpelledNumbers.{IsCountWord}
@@ -15,15 +14,14 @@ use Rattle.gj_lex.proofs.Decimals.{same_from_decimal}
 use Rattle.gj_lex.proofs.SpelledWords.{canonical_count, count_is_plain}
 use Rattle.gj_lex.proofs.StrictLines.{IsPlain}
 use Rattle.gj_shape.specs.declared.extremality.CoverLine.{CoverLine}
-use Rattle.gj_shape.specs.declared.extremality.Halves.{Halves}
 use Rattle.gj_shape.specs.declared.extremality.RowName.{RowName}
 use Rattle.gj_shape.specs.declared.extremality.RowName.TheVariants.{Period, F, Pair}
 use Rattle.gj_shape.specs.declared.faces.FaceKind.{FaceKind}
 use Rattle.gj_shape.specs.declared.faces.FaceKind.TheVariants.{Vertex, Horizontal, Vertical, Diagonal, Lower, Upper}
-use Rattle.gj_lines.specs.FaceLines.{face_word, face_text, cover_line}
+use Rattle.gj_lines.specs.FaceLines.{face_word, cover_line}
 use Rattle.gj_lines.specs.FunctionLines.{line}
 use Rattle.gj_proof.specs.ProofText.{group_line, pair_line, IsCoverLineBelow, IsRowNameBelow, FitsPair}
-use Rattle.gj_proof.specs.ProofGrammar.{IsCountIn, cover_words, BreaksCover, cover_rule, HaveRowNumbers, row_words, BreaksRowName, row_name_rule, column_rule, IsHeadInBounds, halves_words, halves_rule, pair_words, pair_rule}
+use Rattle.gj_proof.specs.ProofGrammar.{IsCountIn, cover_words, BreaksCover, cover_rule, row_words, BreaksRowName, row_name_rule, column_rule, IsHeadInBounds, halves_words, halves_rule, pair_words, pair_rule}
 use Rattle.gj_proof.specs.declared.halves.HalvesHead.{HalvesHead}
 use Rattle.gj_proof.proofs.WholeNumbers.{same_from_whole, whole_is_plain}
 
@@ -50,7 +48,8 @@ six_plain : (w a b c d e : List ℕ) → All IsPlain (w ∷ []) → IsPlain a �
     All IsPlain (w ∷ a ∷ b ∷ c ∷ d ∷ e ∷ [])
 six_plain w a b c d e h i j k l m =
     All-cons IsPlain w (a ∷ b ∷ c ∷ d ∷ e ∷ []) (known_is_plain w h)
-    (All-cons IsPlain a (b ∷ c ∷ d ∷ e ∷ []) i (All-cons IsPlain b (c ∷ d ∷ e ∷ []) j (three_plain c d e (All-cons IsPlain c [] k (All-nil IsPlain)) l m)))
+    (All-cons IsPlain a (b ∷ c ∷ d ∷ e ∷ []) i
+    (All-cons IsPlain b (c ∷ d ∷ e ∷ []) j (three_plain c d e (All-cons IsPlain c [] k (All-nil IsPlain)) l m)))
 
 -- ---- the line of a covered interval
 
@@ -107,7 +106,8 @@ module _ (q : ℕ) (small : q ≤ 1000) where
       All (IsCountIn (λ n. n < q)) (decimal l.interval ∷ decimal l.from ∷ decimal l.face.a ∷ decimal l.face.b ∷ [])
   counts_of l h =
       let P : List ℕ → Type 0 = IsCountIn (λ n. n < q) in
-      All-cons P (decimal l.interval) (decimal l.from ∷ decimal l.face.a ∷ decimal l.face.b ∷ []) (count_in l.interval q h.interval (omega arith))
+      All-cons P (decimal l.interval) (decimal l.from ∷ decimal l.face.a ∷ decimal l.face.b ∷ [])
+      (count_in l.interval q h.interval (omega arith))
       (All-cons P (decimal l.from) (decimal l.face.a ∷ decimal l.face.b ∷ []) (count_in l.from q h.from (omega arith))
       (All-cons P (decimal l.face.a) (decimal l.face.b ∷ []) (count_in l.face.a q h.first (omega arith))
       (All-cons P (decimal l.face.b) [] (count_in l.face.b q h.second (omega arith)) (All-nil P))))
@@ -148,7 +148,9 @@ cover_is_plain q l small h =
 pub bytes_of_cover : (l : CoverLine) →
     line (join_with_byte 32 (cover_words l.face.kind (decimal l.interval) (decimal l.from) (decimal l.face.a) (decimal l.face.b)))
     ≡ cover_line l
-bytes_of_cover l = ap line (five_joined (codes "cover") (decimal l.interval) (decimal l.from) (face_word l.face.kind) (decimal l.face.a) (decimal l.face.b))
+bytes_of_cover l =
+    ap line
+    (five_joined (codes "cover") (decimal l.interval) (decimal l.from) (face_word l.face.kind) (decimal l.face.a) (decimal l.face.b))
   where
     five_joined : (w a b c d e : List ℕ) → w ++ 32 ∷ (a ++ 32 ∷ (b ++ 32 ∷ (c ++ 32 ∷ (d ++ 32 ∷ e))))
         ≡ (w ++ codes " ") ++ a ++ codes " " ++ b ++ codes " " ++ (c ++ codes " " ++ d ++ codes " " ++ e)
@@ -221,11 +223,13 @@ column_rule_is_exact word = record { one_thing = one; one_reason = reason_of; no
     one words c d (is, h) (is', k) =
         let both : word ∷ decimal c ∷ [] ≡ word ∷ decimal d ∷ [] = sym is ∙ is' in
         same_count c d 1000 h k (omega arith) (let same : decimal c ≡ decimal d = cc in same)
+
     reason_of : (words : List (List ℕ)) (e d : Reason) → (column_rule word).Breaks words e → (column_rule word).Breaks words d → e ≡ d
     reason_of words e d (inl h) (inl k) = h.0 ∙ sym k.0
     reason_of words e d (inl (h, none)) (inr (k, (column, is, other))) = absurd (none column is)
     reason_of words e d (inr (h, (column, is, other))) (inl (k, none)) = absurd (none column is)
     reason_of words e d (inr h) (inr k) = h.0 ∙ sym k.0
+
     unbroken : (words : List (List ℕ)) (c : ℕ) (e : Reason) → (column_rule word).Spells words c → (column_rule word).Breaks words e → ⊥
     unbroken words c e (is, h) (inl (form, none)) = none (decimal c) is
     unbroken words c e (is, h) (inr (number, (column, is', none))) =
@@ -255,11 +259,13 @@ halves_rule_is_exact = record { one_thing = one; one_reason = reason_of; not_bot
         let scale = same_from_whole g.scale h.scale (scale_fits g b) (scale_fits h c)
         (let same : signed_decimal g.scale ≡ signed_decimal h.scale = cc in same) in
         λ i. record { order = order i; scale = scale i }
+
     reason_of : (words : List (List ℕ)) (e d : Reason) → halves_rule.Breaks words e → halves_rule.Breaks words d → e ≡ d
     reason_of words e d (inl h) (inl k) = h.0 ∙ sym k.0
     reason_of words e d (inl (h, none)) (inr (k, (order, scale, is, other))) = absurd (none order scale is)
     reason_of words e d (inr (h, (order, scale, is, other))) (inl (k, none)) = absurd (none order scale is)
     reason_of words e d (inr h) (inr k) = h.0 ∙ sym k.0
+
     unbroken : (words : List (List ℕ)) (h : HalvesHead) (e : Reason) → halves_rule.Spells words h → halves_rule.Breaks words e → ⊥
     unbroken words h e (is, b) (inl (form, none)) = none (decimal h.order) (signed_decimal h.scale) is
     unbroken words h e (is, b) (inr (number, (order, scale, is', none))) = none h is b
@@ -286,11 +292,13 @@ pair_rule_is_exact = record { one_thing = one; one_reason = reason_of; not_both 
         let first = same_from_whole p.0 r.0 x z (let same : signed_decimal p.0 ≡ signed_decimal r.0 = cc in same) in
         let second = same_from_whole p.1 r.1 y w (let same : signed_decimal p.1 ≡ signed_decimal r.1 = cc in same) in
         λ i. (first i, second i)
+
     reason_of : (words : List (List ℕ)) (e d : Reason) → pair_rule.Breaks words e → pair_rule.Breaks words d → e ≡ d
     reason_of words e d (inl h) (inl k) = h.0 ∙ sym k.0
     reason_of words e d (inl (h, none)) (inr (k, (x, y, is, other))) = absurd (none x y is)
     reason_of words e d (inr (h, (x, y, is, other))) (inl (k, none)) = absurd (none x y is)
     reason_of words e d (inr h) (inr k) = h.0 ∙ sym k.0
+
     unbroken : (words : List (List ℕ)) (p : ℤ × ℤ) (e : Reason) → pair_rule.Spells words p → pair_rule.Breaks words e → ⊥
     unbroken words p e (is, x, y) (inl (form, none)) = none (signed_decimal p.0) (signed_decimal p.1) is
     unbroken words p e (is, x, y) (inr (number, (a, b, is', none))) = none p is x y

@@ -1,5 +1,5 @@
 -- The text of claims of extremality, written one part after another.
-use Rattle.std.proofs.Common.{◌≡◌, ℕ, ◌+◌, ◌<◌, min, ℤ, pos, Option, Some, Result, OnOk, IfSome, List, [], ◌∷◌, ◌++◌, length, take, flat_map, zip, codes, get_or, refl, sym, ap, subst, ◌∙◌, arith}
+use Rattle.std.proofs.Common.{◌≡◌, ℕ, ◌+◌, ◌<◌, min, ℤ, pos, Option, Some, Result, OnOk, IfSome, List, [], ◌∷◌, ◌++◌, length, take, flat_map, zip, codes, get_or, sym, ap, subst, ◌∙◌, arith}
 use Rattle.std.specs.Fmt.{signed_decimal}
 use Rattle.std.proofs.Math.Seq.{take-length}
 use Rattle.std.proofs.lemmas.Grind.{flat_map-append}
@@ -68,8 +68,10 @@ extreme_written f cover rows first second third text has (lines, are, first_is) 
   spelled = text_is
       ∙ ap (λ t. t ++ line (codes "end"))
       (third_is ∙ ap (λ t. t ++ flat_map group_text rows) (second_is ∙ ap (λ t. t ++ flat_map cover_line cover) first_is)
-      ∙ append_assoc (line (codes "gj-proof 1") ++ line (codes "claim extreme") ++ lines) (flat_map cover_line cover) (flat_map group_text rows))
-      ∙ ap (λ t. line (codes "gj-proof 1") ++ line (codes "claim extreme") ++ lines ++ t ++ line (codes "end")) (sym (extreme_bytes cover rows));
+      ∙ append_assoc (line (codes "gj-proof 1") ++ line (codes "claim extreme") ++ lines) (flat_map cover_line cover)
+      (flat_map group_text rows))
+      ∙ ap (λ t. line (codes "gj-proof 1") ++ line (codes "claim extreme") ++ lines ++ t ++ line (codes "end"))
+      (sym (extreme_bytes cover rows));
 }
 
 pub not_extreme_written : (f : FunctionData) (h : Halves) (first second text : List ℕ) → HasText (NotExtreme f h) →

@@ -1,8 +1,6 @@
 -- Words of the lines of halves that break their rules.
-use Rattle.std.proofs.Common.{◌≡◌, inr, ℕ, ◌<◌, ◌^◌, ◌≤◌, ℤ, List, [], ◌∷◌, codes, decimal, Bool, true, false, ◌↔◌, IsTrue, refl, sym, ap, subst, ◌∙◌, arith}
+use Rattle.std.proofs.Common.{◌≡◌, inr, ℕ, ◌<◌, ◌^◌, ℤ, List, [], ◌∷◌, codes, decimal, refl, sym, subst, ◌∙◌, arith}
 use Rattle.std.specs.Fmt.{signed_decimal}
-use Rattle.std.proofs.lemmas.Int.{ints}
-use Rattle.std.proofs.lemmas.Bool.{false≢true}
 use Rattle.gj_lex.specs.declared.spelling.Spelling.TheVariants.{Strict}
 use Rattle.gj_lex.specs.declared.reason.Reason.TheVariants as reason
 use Rattle.gj_lex.specs.SpelledNumbers.{IsCountWord}
@@ -10,7 +8,7 @@ use Rattle.gj_lex.proofs.SpelledWords.{canonical_count}
 use Rattle.gj_proof.specs.ProofText.{FitsPair}
 use Rattle.gj_proof.specs.ProofGrammar.{IsHeadInBounds, pair_words, pair_rule}
 use Rattle.gj_proof.specs.declared.halves.HalvesHead.{HalvesHead}
-use Rattle.gj_proof.proofs.CountWords.{count_is, word_of_count}
+use Rattle.gj_proof.proofs.CountWords.{count_is}
 use Rattle.gj_proof.proofs.ExtremeWords.{scale_fits}
 use Rattle.gj_proof.proofs.WholeNumbers.{same_from_whole}
 

@@ -1,7 +1,6 @@
 -- Whole numbers as fractions over 1: their texts are those of these fractions.
-use Rattle.std.proofs.Common.{◌≡◌, ℕ, ◌≤◌, ◌^◌, ◌<◌, ℤ, pos, unsigned_abs, List, [], ◌∷◌, ◌++◌, All, length, refl, sym, ap, subst, ◌∙◌, arith}
+use Rattle.std.proofs.Common.{◌≡◌, ℕ, ◌≤◌, ℤ, pos, unsigned_abs, List, ◌++◌, All, length, sym, ap, subst, ◌∙◌, arith}
 use Rattle.std.specs.Fmt.{signed_decimal}
-use Rattle.std.specs.Int.{◌∣◌}
 use Rattle.std.proofs.Math.Nat.{one-dvd}
 use Rattle.std.proofs.lemmas.Int.{ints}
 use Rattle.std.proofs.lemmas.List.{append-nil}
@@ -56,7 +55,8 @@ pub no_whole : (word : List ℕ) → ((x : Frac) → word ≡ fraction_text x �
 no_whole word none n is fits = none (whole n fits) (is ∙ sym (text_of_whole n fits))
 
 -- nor does one that spells a fraction with another denominator than 1
-pub not_over_one : (word : List ℕ) (x : Frac) → word ≡ fraction_text x → (x.den ≡ pos 1 → ⊥) → (n : ℤ) → word ≡ signed_decimal n → FitsPair n → ⊥
+pub not_over_one : (word : List ℕ) (x : Frac) → word ≡ fraction_text x → (x.den ≡ pos 1 → ⊥) → (n : ℤ) →
+    word ≡ signed_decimal n → FitsPair n → ⊥
 not_over_one word x is other n text fits =
     other
     (ap (λ (y : Frac). y.den) (same_from_fraction_text x (whole n fits) (sym is ∙ text ∙ sym (text_of_whole n fits))))

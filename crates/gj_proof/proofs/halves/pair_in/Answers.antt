@@ -1,4 +1,3 @@
-use Rattle.std.proofs.Common.{inr, refl}
 use Rattle.gj_proof.proofs.HalvesWords.{no_pair}
 use Rattle.gj_proof.proofs.halves.pair_in.Goals as goal
 

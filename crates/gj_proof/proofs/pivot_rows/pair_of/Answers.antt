@@ -10,7 +10,7 @@ returns-then-a-lt1-clause-fault c = (
       let a : m ≡ c.in_ok-a.a = count_is _ _ m c.in_ok-a.ensures.found.0 (omega (arith, c.in_ok-a.ensures.found.1)) first in
       let b : n ≡ c.in_ok-b.b = count_is _ _ n c.in_ok-b.ensures.found.0 (omega (arith, c.in_ok-b.ensures.found.1)) second in
       elim c.then-a-lt1.branch [
-        then-a-lt1-via-then-a-lt1 w ↦ omega (arith, below.0)
-      | then-a-lt1-via-else-a-lt1+then-b-a w ↦ omega (arith, below.1)
+        | then-a-lt1-via-then-a-lt1 w ↦ omega (arith, below.0)
+        | then-a-lt1-via-else-a-lt1+then-b-a w ↦ omega (arith, below.1)
       ],
 )

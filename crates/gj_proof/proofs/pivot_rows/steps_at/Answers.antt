@@ -1,6 +1,6 @@
 use Rattle.std.proofs.lemmas.Bool.{false≢true}
 use Rattle.std.proofs.lemmas.Result.{err_from_is_err_and}
-use Rattle.std.proofs.Common.{[], codes}
+use Rattle.std.proofs.Common.{codes}
 use Rattle.gj_lex.specs.Parts.{IsFaultOf}
 use Rattle.gj_lex.proofs.PartLaws.{passed_on}
 use Rattle.gj_proof.specs.ProofGrammar.{column_rule}

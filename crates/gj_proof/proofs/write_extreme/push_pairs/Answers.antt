@@ -1,4 +1,4 @@
-use Rattle.std.proofs.Common.{pos, [], ◌∷◌, length, refl, sym, subst, ◌∙◌, arith, length-append, rules}
+use Rattle.std.proofs.Common.{pos, [], ◌∷◌, length, refl, sym, subst, ◌∙◌, length-append, rules}
 use Rattle.std.proofs.lemmas.Slice.Zip.{zip_turn, zip_end}
 use Rattle.gj_lex.proofs.CanonicalTexts.{within_bits}
 use Rattle.gj_proof.specs.ProofText.{FitsPair}
@@ -7,9 +7,10 @@ use Rattle.gj_proof.proofs.write_extreme.push_pairs.Goals as goal
 
 pub loop-x-preserved : goal.loop-x-preserved
 loop-x-preserved c =
-    let turn = zip_turn c.args.first.now c.args.second.now c.loop-x.yielded c.into_iter-x-iterator.result c.loop-x.x-iterator c.next.new.self c.next.result (search rules) (search rules) c.loop-x.yielded_by
-    (c.in-Some.x, c.in-Some.y) c.in-Some.is c.next.ensures.steps in
     let i = length c.loop-x.yielded in
+    let turn = zip_turn c.args.first.now c.args.second.now c.loop-x.yielded c.into_iter-x-iterator.result c.loop-x.x-iterator
+    c.next.new.self c.next.result (search rules) (search rules) c.loop-x.yielded_by (c.in-Some.x, c.in-Some.y) c.in-Some.is
+    c.next.ensures.steps in
     let x = within_bits c.in-Some.x.now c.in-Some.x.now refl
     (subst FitsPair (sym (turn.2 (pos 0))) (c.requires.first i (pos 0) turn.0)) in
     let y = within_bits c.in-Some.y.now c.in-Some.y.now refl
@@ -21,5 +22,5 @@ loop-x-preserved c =
 pub returns : goal.returns
 returns c =
     pairs_pushed _ _ _ _ _
-    (zip_end c.args.first.now c.args.second.now c.loop-x.yielded c.into_iter-x-iterator.result c.loop-x.x-iterator c.next.new.self c.next.result (search rules) (search rules) c.loop-x.yielded_by c.in-None.is
-    c.next.ensures.steps) c.loop-x.invariant
+    (zip_end c.args.first.now c.args.second.now c.loop-x.yielded c.into_iter-x-iterator.result c.loop-x.x-iterator c.next.new.self
+    c.next.result (search rules) (search rules) c.loop-x.yielded_by c.in-None.is c.next.ensures.steps) c.loop-x.invariant
