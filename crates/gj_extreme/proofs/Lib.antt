@@ -3,3 +3,7 @@ pub mod DecidedGroups
 pub mod DecidedHalves
 pub mod DecidedRules
 pub mod DecidedHolds
+pub mod OneCover
+pub mod SmallNumbers
+pub mod SmallSolutions
+pub mod FewComponents
