@@ -75,7 +75,7 @@ not_not_all P (suc n) h none =
 
 -- ---- the class of the least uncovered interval
 
-abbrev IsLeastUncovered : ℕ → (ℕ → ℕ → Type 0) → ℕ → Type 0
+abbrev pub IsLeastUncovered : ℕ → (ℕ → ℕ → Type 0) → ℕ → Type 0
 IsLeastUncovered q Tight least = IsLeastFrom 0 (λ i. (i < q) × (IsCovered q Tight i → ⊥)) least
 
 -- where none is the least that is uncovered, each is not not covered
@@ -89,7 +89,7 @@ none_uncovered q Tight none (suc n) i low within out =
       least = λ k from before both. none_uncovered q Tight none n k (omega arith) both.0 both.1;
     }
 
-some_least : (q : ℕ) (Tight : ℕ → ℕ → Type 0) (class : List ℕ) → IsLeastClass q Tight class → class ≢ [] →
+pub some_least : (q : ℕ) (Tight : ℕ → ℕ → Type 0) (class : List ℕ) → IsLeastClass q Tight class → class ≢ [] →
     ((least : ℕ) → IsLeastUncovered q Tight least → ⊥) → ⊥
 some_least q Tight class h some none =
     not_not_all (IsCovered q Tight) q (λ i low. none_uncovered q Tight none (suc i) i (omega arith) low)
@@ -180,7 +180,7 @@ record ArePerturbing (f : FunctionData) (component : ℕ → ℕ) (numbers : Lis
   index : ℕ
   not_zero : slope_perturbation f component numbers index ≢ pos 0
 
-components_below : (f : FunctionData) (lines : List CoverLine) (component : ℕ → ℕ) (n : ℕ) → AreAllCovered f lines component n →
+pub components_below : (f : FunctionData) (lines : List CoverLine) (component : ℕ → ℕ) (n : ℕ) → AreAllCovered f lines component n →
     (i : ℕ) → i < f.order → component i < n
 components_below f lines component n covered i low =
     subst (λ (k : ℕ). component i < k) (sym covered.count) (number_below lines (component i) i (covered.numbers i low))

@@ -7,3 +7,6 @@ pub mod OneCover
 pub mod SmallNumbers
 pub mod SmallSolutions
 pub mod FewComponents
+pub mod OneViolation
+pub mod OneDecision
+pub mod NotTooWide
