@@ -126,7 +126,7 @@ extreme_rules f lines rows l minimal continuous h =
 -- ---- not extreme
 
 -- entries of a minimal table are at most its scale
-at_most : (t : ℕ → ℤ) (n k s i : ℕ) → 0 < n → IsMinimalTable t n k s → t i ≤ℤ pos s
+pub at_most : (t : ℕ → ℤ) (n k s i : ℕ) → 0 < n → IsMinimalTable t n k s → t i ≤ℤ pos s
 at_most t n k s i some h =
     let j = k + (n - 1) * i in
     let whole : i + j ≡ k + i * n = omega (arith, ap (λ x. x * i) (let e : n - 1 + 1 ≡ n = omega arith in e)) in

@@ -10,3 +10,4 @@ pub mod FewComponents
 pub mod OneViolation
 pub mod OneDecision
 pub mod NotTooWide
+pub mod DecidedTexts
