@@ -23,5 +23,6 @@ pub mod ExtremeReads
 pub mod OwnLines
 pub mod ExtremeRead
 pub mod HalvesWords
+pub mod ExtremeWritten
 pub mod CutWritten
 pub mod GridCoordinates
