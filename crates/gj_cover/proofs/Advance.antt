@@ -1,5 +1,5 @@
 -- The search for lines goes on by one line.
-use Rattle.std.proofs.Common.{◌≡◌, ◌≢◌, ℕ, ◌⊎◌, ◌+◌, ◌<◌, ◌≤◌, List, [], ◌∷◌, ◌++◌, length, get_or, Option, Some, None, cond, eq-eqb, sym, ap, ◌∙◌, subst, inl, inr, arith}
+use Rattle.std.proofs.Common.{◌≡◌, ◌≢◌, ℕ, ◌+◌, ◌<◌, ◌≤◌, List, [], ◌∷◌, ◌++◌, length, get_or, Option, Some, None, cond, eq-eqb, sym, ap, ◌∙◌, subst, inl, inr, arith}
 use Rattle.std.specs.Option.{unwrap_or}
 use Rattle.std.proofs.Math.ListN.{set, length-set}
 use Rattle.std.specs.Bool.{◌==◌}
@@ -10,7 +10,7 @@ use Rattle.std.proofs.lemmas.Bool.Decides.{eqb_tells}
 use Rattle.gj_shape.specs.Cover.{AreJoined, IsNextLine}
 use Rattle.gj_shape.specs.declared.extremality.CoverLine.{CoverLine}
 use Rattle.gj_cover.specs.CoverOf.{number_at, opened_by}
-use Rattle.gj_cover.specs.Progress.{IsProgress, IsJoinedUpTo, lesser_of, unnumbered, AreClasses, AreSearched}
+use Rattle.gj_cover.specs.Progress.{IsProgress, IsJoinedUpTo, IsNoted, unnumbered, AreClasses, AreSearched}
 use Rattle.gj_cover.specs.declared.progress.Progress.{Progress}
 use Rattle.gj_cover.proofs.NextLines.{next_to, in_turn, numbers, joined_classes, opened_classes, least_joined, searched_on, searched_to, one_less, from_below}
 use Rattle.gj_cover.proofs.Pending.{read}
@@ -133,25 +133,21 @@ line_more q T old new l m o h next was number lines component len joined =
 
 pub noted_more : (q n : ℕ) (T : ℕ → ℕ → Type 0) (x : ℕ) (c old now : List (Option ℕ)) (o so_far : Option ℕ) → n < length now →
     so_far ≡ number_at now n →
-    ((AreJoined q T n x × (o ≡ Some (lesser_of so_far x))) ⊎ ((AreJoined q T n x → ⊥) × (o ≡ so_far))) →
-    IsJoinedUpTo q n T x c old now → IsJoinedUpTo q (n + 1) T x c old (set now n o)
+    IsNoted (AreJoined q T n x) x so_far o → IsJoinedUpTo q n T x c old now → IsJoinedUpTo q (n + 1) T x c old (set now n o)
 noted_more q n T x c old now o so_far within was answer h =
     let at : number_at (set now n o) n ≡ o = get_or-set_same now n o None within in
     let before : so_far ≡ number_at old n = was ∙ h.rest n (omega arith) in
-    let Answer : ℕ → Type 0 = λ k.
-    (AreJoined q T k x × (number_at (set now n o) k ≡ Some (lesser_of (number_at old k) x)))
-    ⊎ ((AreJoined q T k x → ⊥) × (number_at (set now n o) k ≡ number_at old k)) in
-    let here : Answer n = elim answer [
-      | inl (a, e) ↦ inl (a, at ∙ e ∙ ap (λ p. Some (lesser_of p x)) before)
-      | inr (a, e) ↦ inr (a, at ∙ e ∙ before)
-    ] in
+    let Answer : ℕ → Type 0 = λ k. IsNoted (AreJoined q T k x) x (number_at old k) (number_at (set now n o) k) in
+    let here : Answer n =
+    subst (IsNoted (AreJoined q T n x) x (number_at old n)) (sym at)
+    (subst (λ p. IsNoted (AreJoined q T n x) x p o) before answer) in
     record {
       each = λ k below none. elim (eqb_tells k n) [
         | inl (_, same) ↦ subst Answer (sym same) here
         | inr (_, other) ↦
             let stays = get_or-set_other now n k o None other in
             let low : k < n = omega arith in
-            elim (h.each k low none) [ inl (a, e) ↦ inl (a, stays ∙ e) | inr (a, e) ↦ inr (a, stays ∙ e) ]
+            subst (IsNoted (AreJoined q T k x) x (number_at old k)) (sym stays) (h.each k low none)
       ];
       rest = λ k past.
           let other : k ≢ n = omega arith in

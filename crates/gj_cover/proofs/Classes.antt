@@ -1,12 +1,12 @@
 -- The class of the least uncovered interval.
-use Rattle.std.proofs.Common.{◌≡◌, ℕ, ◌+◌, ◌%◌, ◌<◌, ◌≤◌, ◌↔◌, List, [], ◌∷◌, ◌++◌, length, get_or, Bool, true, false, not, cond, replicate, Option, None, refl, sym, ap, ◌∙◌, subst, inl, inr, arith}
+use Rattle.std.proofs.Common.{◌≡◌, ℕ, ◌+◌, ◌%◌, ◌<◌, ◌↔◌, List, [], ◌∷◌, ◌++◌, length, get_or, Bool, true, false, not, cond, Option, None, refl, sym, ap, ◌∙◌, subst, inl, inr, arith}
 use Rattle.std.specs.List.{Contains}
 use Rattle.std.specs.List.Sorted.{IsStrictlyIncreasing}
-use Rattle.std.proofs.Math.ListN.{set, length-set, length-replicate}
+use Rattle.std.proofs.Math.ListN.{set, length-set}
 use Rattle.std.proofs.Math.Nat.{mod-lt, mod-eq_of_lt}
-use Rattle.std.proofs.lemmas.Bool.{cases_order, cases_lt}
+use Rattle.std.proofs.lemmas.Bool.{cases_order}
 use Rattle.std.proofs.lemmas.Bool.Decides.{eqb_tells}
-use Rattle.std.proofs.lemmas.List.{get_or-set_other, get_or-set_same, get_or_past, get_or-replicate, length-append}
+use Rattle.std.proofs.lemmas.List.{get_or-set_other, get_or-set_same, length-append}
 use Rattle.std.proofs.lemmas.List.Elements.{Contains-push, Contains-push_cases, Contains-append_left}
 use Rattle.std.proofs.lemmas.List.Sums.{sum_by-set}
 use Rattle.gj_shape.specs.Cover.{AreJoined, LeadsTo, here, onward, IsCovered, IsInClassOf}
@@ -15,7 +15,8 @@ use Rattle.gj_cover.specs.CoverOf.{number_at, IsLeastClass}
 use Rattle.gj_cover.specs.Reached.{AreUncovered, AreReached, IsReached, IsReachedUpTo, unreached}
 use Rattle.gj_cover.specs.declared.reached.Reached.{Reached}
 use Rattle.gj_cover.proofs.Ends.{joined_rests}
-use Rattle.gj_cover.proofs.Joining.{joined_back, leads_on, leads_back, covered_on}
+use Rattle.gj_theory.proofs.CoverPaths.{joined_turned, leads_turned}
+use Rattle.gj_cover.proofs.Joining.{leads_on, covered_on}
 use Rattle.gj_cover.proofs.LineLists.{number_cases}
 
 -- ---- the least uncovered interval
@@ -106,7 +107,7 @@ reached_start q T start r old below len none reached waiting =
     }
 
 covered_along : (q : ℕ) (T : ℕ → ℕ → Type 0) (start i : ℕ) → LeadsTo q T i start → IsCovered q T i → IsCovered q T start
-covered_along q T start i list (j, direct, rest) = (j, direct, leads_on q T start i j rest (leads_back q T i start list))
+covered_along q T start i list (j, direct, rest) = (j, direct, leads_on q T start i j rest (leads_turned q T i start list))
 
 -- one of those that wait has been looked at
 pub reached_on : (q : ℕ) (T : ℕ → ℕ → Type 0) (c : List (Option ℕ)) (start interval : ℕ) (old popped new : Reached) →
@@ -124,7 +125,7 @@ reached_on q T c start interval old popped new h free below r same waiting next 
     let open' : (j : ℕ) → AreJoined q T j interval → number_at c j ≡ None = λ j a. elim (number_cases (number_at c j)) [
       | inl none ↦ none
       | inr (n, e) ↦ absurd (h.none start below free (covered_along q T start interval list
-          (covered_on q T interval j (joined_back q T j interval a) (h.some j n e))))
+          (covered_on q T interval j (joined_turned q T j interval a) (h.some j n e))))
     ] in
     record {
       reached_length = next.reached_length;
@@ -150,7 +151,7 @@ reached_on q T c start interval old popped new h free below r same waiting next 
       ];
       led = λ i e. elim (next.only i e) [
         | inl before ↦ r.led i (back i before)
-        | inr (i_below, a, at) ↦ (i_below, leads_on q T i interval start list (onward interval i (joined_back q T i interval a) (here i refl)))
+        | inr (i_below, a, at) ↦ (i_below, leads_on q T i interval start list (onward interval i (joined_turned q T i interval a) (here i refl)))
       ];
     }
 
@@ -170,7 +171,7 @@ along : (q : ℕ) (T : ℕ → ℕ → Type 0) (reached : List Bool) (i k : ℕ)
 along q T reached i k some closed (here _ e) at = ap (λ n. get_or reached n false) (sym e) ∙ at
 along q T reached i k some closed (onward _ next a rest) at =
     along q T reached i next some closed rest
-    (closed (k % q) (next % q) at (mod-lt next some) (joined_back q T (k % q) (next % q) (joined_rests q T k next a)))
+    (closed (k % q) (next % q) at (mod-lt next some) (joined_turned q T (k % q) (next % q) (joined_rests q T k next a)))
 
 -- all were looked at
 pub reached_all : (q : ℕ) (T : ℕ → ℕ → Type 0) (start : ℕ) (r : Reached) → start < q → AreReached q T start r →
@@ -235,15 +236,6 @@ reached_more q n T interval c old now new n_below h free a reached waiting =
       ];
       balance = omega (arith, h.balance, fewer, longer);
     }
-
--- a list of false has no true
-pub false_at : (n i : ℕ) → get_or (replicate n false) i false ≡ false
-false_at n i = elim (cases_lt i n) [
-  | inl below ↦ get_or-replicate n i false false below
-  | inr past ↦
-      let long = length-replicate {A = Bool} n false in
-      get_or_past (replicate n false) i false (let le : length (replicate {A = Bool} n false) ≤ i = omega arith in le)
-]
 
 -- the interval n is not joined to it
 pub reached_same : (q n : ℕ) (T : ℕ → ℕ → Type 0) (interval : ℕ) (c : List (Option ℕ)) (old now : Reached) →

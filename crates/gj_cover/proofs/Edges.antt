@@ -6,7 +6,8 @@ use Rattle.gj_shape.specs.Cover.{Joins, AreJoined, Covers}
 use Rattle.gj_shape.specs.declared.faces.FaceKind.{FaceKind}
 use Rattle.gj_shape.specs.declared.faces.FaceKind.TheVariants.{Vertex, Horizontal, Vertical, Diagonal, Lower, Upper}
 use Rattle.gj_cover.specs.Links.{Links, diagonal, horizontal, vertical, LeadsFrom, HasInterval}
-use Rattle.gj_cover.proofs.Parts.{Corners, corners, additive, corners_same, sum_same, Intervals, intervals, one_of, covered_one, HasPeriod}
+use Rattle.gj_faces.proofs.Periods.{same_sum}
+use Rattle.gj_cover.proofs.Parts.{Corners, corners, additive, corners_same, Intervals, intervals, one_of, covered_one, HasPeriod}
 
 -- ---- rests
 
@@ -37,14 +38,14 @@ edge_horizontal : (q : ℕ) (T : ℕ → ℕ → Type 0) → HasPeriod q T → (
     a % q ≡ i % q → (a + b) % q ≡ j % q → Corners T Horizontal a b → Links q T i j
 edge_horizontal q T p a b i j some i_below j_below e g h =
     horizontal (b % q) (mod-lt b some)
-    (sum_same q i (b % q) a b (sym e) (mod-mod b q) ∙ g ∙ mod-eq_of_lt j_below)
+    (same_sum q i (b % q) a b (sym e) (mod-mod b q) ∙ g ∙ mod-eq_of_lt j_below)
     (additive T Horizontal i (b % q) (corners_same q T p Horizontal a b i (b % q) e (sym (mod-mod b q)) h))
 
 edge_vertical : (q : ℕ) (T : ℕ → ℕ → Type 0) → HasPeriod q T → (a b i j : ℕ) → 0 < q → i < q → j < q →
     b % q ≡ i % q → (a + b) % q ≡ j % q → Corners T Vertical a b → Links q T i j
 edge_vertical q T p a b i j some i_below j_below e g h =
     vertical (a % q) (mod-lt a some)
-    (sum_same q (a % q) i a b (mod-mod a q) (sym e) ∙ g ∙ mod-eq_of_lt j_below)
+    (same_sum q (a % q) i a b (mod-mod a q) (sym e) ∙ g ∙ mod-eq_of_lt j_below)
     (additive T Vertical (a % q) i (corners_same q T p Vertical a b (a % q) i (sym (mod-mod a q)) e h))
 
 edge_diagonal : (q : ℕ) (T : ℕ → ℕ → Type 0) → HasPeriod q T → (a b i j : ℕ) →

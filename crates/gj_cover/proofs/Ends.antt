@@ -6,16 +6,17 @@ use Rattle.gj_cover.specs.CoverOf.{number_at, AreComponents}
 use Rattle.gj_cover.specs.Progress.{IsProgress, IsComplete}
 use Rattle.gj_cover.specs.Reached.{AreUncovered}
 use Rattle.gj_cover.specs.declared.progress.Progress.{Progress}
-use Rattle.gj_cover.proofs.Joining.{joined_back, joined_same, directly_same}
+use Rattle.gj_theory.proofs.CoverPaths.{joined_turned}
+use Rattle.gj_cover.proofs.Joining.{joined_same, directly_same}
 use Rattle.gj_cover.proofs.LineLists.{number_cases, no_line, component_number}
 use Rattle.gj_cover.proofs.NextLines.{joins_lines}
 
 -- both intervals as indices below q
 pub joined_rests : (q : ℕ) (T : ℕ → ℕ → Type 0) (i j : ℕ) → AreJoined q T i j → AreJoined q T (i % q) (j % q)
 joined_rests q T i j h =
-    joined_back q T (j % q) (i % q)
+    joined_turned q T (j % q) (i % q)
     (joined_same q T j (i % q) (j % q) (sym (mod-mod j q))
-    (joined_back q T (i % q) j (joined_same q T i j (i % q) (sym (mod-mod i q)) h)))
+    (joined_turned q T (i % q) j (joined_same q T i j (i % q) (sym (mod-mod i q)) h)))
 
 -- a list of joined intervals keeps the number
 led_same : (q : ℕ) (T : ℕ → ℕ → Type 0) (p : Progress) (i j n : ℕ) → 0 < q → IsProgress q T p →
@@ -31,7 +32,7 @@ led_same q T p i j n some h end (onward _ next joined rest) number =
             second_within = mod-lt j some;
             free = free;
             number = (n, number);
-            joined = joined_back q T (j % q) (next % q) both;
+            joined = joined_turned q T (j % q) (next % q) both;
           })))
       | inr (m, e) ↦
           let same = h.classes.one (j % q) (next % q) n m both number e in

@@ -10,7 +10,8 @@ use Rattle.gj_cover.specs.Links.{LeadsFrom, IsSquareFrom, IsSquareOf}
 use Rattle.gj_cover.proofs.Edges.{one_step, joins_where, covers_where}
 use Rattle.gj_cover.proofs.Joining.{joins_within, covers_within}
 use Rattle.gj_cover.proofs.Merging.{Either}
-use Rattle.gj_cover.proofs.Parts.{HasPeriod, sum_same}
+use Rattle.gj_faces.proofs.Periods.{same_sum}
+use Rattle.gj_cover.proofs.Parts.{HasPeriod}
 use Rattle.gj_cover.proofs.WalkPlaces.{first_face}
 
 -- ---- squares one by one
@@ -31,7 +32,7 @@ pub next_leads : (q i step short j : ℕ) → AreSteps q i step short j → (i +
 next_leads q i step short j s =
     let order : i + short + 1 ≡ i + (1 + short) = omega arith in
     ap (λ n. n % q) order
-    ∙ sum_same q i (1 + short) i step refl (s.short_leads ∙ sym (mod-eq_of_lt s.step_below)) ∙ s.step_leads
+    ∙ same_sum q i (1 + short) i step refl (s.short_leads ∙ sym (mod-eq_of_lt s.step_below)) ∙ s.step_leads
 
 -- the sums in another order
 turned : (q a b j : ℕ) → (a + b) % q ≡ j → (b + a) % q ≡ j

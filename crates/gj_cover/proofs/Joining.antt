@@ -2,6 +2,7 @@
 use Rattle.std.proofs.Common.{◌≡◌, ℕ, ◌%◌, refl, sym, ◌∙◌}
 use Rattle.gj_shape.specs.Cover.{Joins, AreJoined, Covers, IsDirectlyCovered, LeadsTo, here, onward, IsCovered}
 use Rattle.gj_shape.specs.declared.faces.FaceKind.{FaceKind}
+use Rattle.gj_theory.proofs.CoverPaths.{joined_turned}
 use Rattle.gj_cover.proofs.Parts.{corners, additive, corners_same, intervals, one_of, intervals_same, interval_same, covered_one, one_covered, HasPeriod}
 
 -- a face of the square (a, b) that joins stands for one with a and b below q
@@ -21,11 +22,7 @@ covers_within q T p kind a b c d i e g h =
       projection = one_covered q kind c d i at.0 (intervals_same q kind a b c d i e g at.1);
     }
 
--- joined is symmetric, and sees no more of the intervals than their rests
-pub joined_back : (q : ℕ) (T : ℕ → ℕ → Type 0) (i j : ℕ) → AreJoined q T i j → AreJoined q T j i
-joined_back q T i j (kind, a, b, h) =
-    (kind, a, b, record { additive = h.additive; first = h.second; second = h.first })
-
+-- joined sees no more of the intervals than their rests
 pub joined_same : (q : ℕ) (T : ℕ → ℕ → Type 0) (i j k : ℕ) → i % q ≡ k % q → AreJoined q T i j → AreJoined q T k j
 joined_same q T i j k e (kind, a, b, h) = (
   kind,
@@ -61,15 +58,10 @@ pub leads_on : (q : ℕ) (T : ℕ → ℕ → Type 0) (k j i : ℕ) → LeadsTo 
 leads_on q T k j i (here _ g) last = leads_same q T k j i (sym g) last
 leads_on q T k j i (onward _ next h rest) last = onward i next h (leads_on q T k j next rest last)
 
-pub leads_back : (q : ℕ) (T : ℕ → ℕ → Type 0) (j i : ℕ) → LeadsTo q T j i → LeadsTo q T i j
-leads_back q T j i (here _ g) = here j (sym g)
-leads_back q T j i (onward _ next h rest) =
-    leads_on q T i next j (leads_back q T j next rest) (onward next i (joined_back q T i next h) (here i refl))
-
 -- an interval that is joined to a covered one is covered
 pub covered_on : (q : ℕ) (T : ℕ → ℕ → Type 0) (i j : ℕ) → AreJoined q T i j → IsCovered q T j → IsCovered q T i
 covered_on q T i j h (k, direct, list) =
-    (k, direct, leads_on q T i j k list (onward j i (joined_back q T i j h) (here i refl)))
+    (k, direct, leads_on q T i j k list (onward j i (joined_turned q T i j h) (here i refl)))
 
 pub covered_directly : (q : ℕ) (T : ℕ → ℕ → Type 0) (i : ℕ) → IsDirectlyCovered q T i → IsCovered q T i
 covered_directly q T i h = (i, h, here i refl)

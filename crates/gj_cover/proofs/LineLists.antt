@@ -1,5 +1,5 @@
 -- Lists of cover lines, one more line, and the intervals that have one.
-use Rattle.std.proofs.Common.{◌≡◌, ◌≢◌, ℕ, ◌⊎◌, ◌<◌, ◌≤◌, List, [], ◌∷◌, ◌++◌, length, Option, Some, None, refl, sym, ap, ◌∙◌, subst, inl, inr, append_assoc, arith}
+use Rattle.std.proofs.Common.{◌≡◌, ◌≢◌, ℕ, ◌⊎◌, ◌<◌, ◌≤◌, List, [], ◌∷◌, ◌++◌, length, Option, Some, None, refl, sym, ap, ◌∙◌, inl, inr, append_assoc, arith}
 use Rattle.std.proofs.Math.ListN.{set}
 use Rattle.std.proofs.Common.{get_or-set_same, get_or-set_other}
 use Rattle.std.proofs.lemmas.Bool.Decides.{eqb_tells}
@@ -7,6 +7,7 @@ use Rattle.std.proofs.lemmas.Bool.{cases_lt}
 use Rattle.std.proofs.lemmas.List.{get_or_past}
 use Rattle.gj_shape.specs.Cover.{HasLine, HasComponent, opened, joined}
 use Rattle.gj_shape.specs.declared.extremality.CoverLine.{CoverLine}
+use Rattle.gj_theory.proofs.LineComponents.{line_of_component}
 use Rattle.gj_cover.specs.CoverOf.{number_at, opened_by}
 use Rattle.gj_cover.specs.Progress.{AreNumbered}
 use Rattle.gj_cover.proofs.Parts.{any_none, any_cases, any_here, any_there}
@@ -56,13 +57,6 @@ line_place (l ∷ lines) i h = elim (any_cases (λ m. m.interval ≡ i) l lines 
       (l ∷ rest.0, rest.1, rest.2, ap (λ ys. l ∷ ys) rest.3, rest.4)
 ]
 
-pub line_stays : (lines : List CoverLine) (l : CoverLine) (i : ℕ) → HasLine lines i → HasLine (lines ++ l ∷ []) i
-line_stays lines l i h =
-    let at = line_place lines i h in
-    subst (HasLine (lines ++ l ∷ [])) at.4
-    (subst (λ ys. HasLine ys at.1.interval) (sym (one_more lines at.0 at.1 at.2 l at.3))
-    (line_here at.0 at.1 (at.2 ++ l ∷ [])))
-
 -- ---- numbers of components
 
 pub component_stays : (lines : List CoverLine) (l : CoverLine) (n i : ℕ) → HasComponent lines n i →
@@ -71,12 +65,6 @@ component_stays lines l n i (opened before m after e f g) =
     opened before m (after ++ l ∷ []) (one_more lines before m after l e) f g
 component_stays lines l n i (joined before m after e f h) =
     joined before m (after ++ l ∷ []) (one_more lines before m after l e) f (component_stays lines l n m.from h)
-
-pub component_line : (lines : List CoverLine) (n i : ℕ) → HasComponent lines n i → HasLine lines i
-component_line lines n i (opened before m after e f g) =
-    subst (λ ys. HasLine ys m.interval) (sym e) (line_here before m after)
-component_line lines n i (joined before m after e f h) =
-    subst (λ ys. HasLine ys m.interval) (sym e) (line_here before m after)
 
 -- a number or none
 pub number_cases : (o : Option ℕ) → (o ≡ None) ⊎ ((n : ℕ) × (o ≡ Some n))
@@ -95,7 +83,7 @@ line_number lines component i h line =
 
 pub number_line : (lines : List CoverLine) (component : List (Option ℕ)) (i n : ℕ) → AreNumbered lines component →
     number_at component i ≡ Some n → HasLine lines i
-number_line lines component i n h e = component_line lines n i (h.shown i n e)
+number_line lines component i n h e = line_of_component lines n i (h.shown i n e)
 
 pub no_number : (lines : List CoverLine) (component : List (Option ℕ)) (i : ℕ) → AreNumbered lines component →
     (HasLine lines i → ⊥) → number_at component i ≡ None

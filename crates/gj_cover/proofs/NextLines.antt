@@ -8,9 +8,10 @@ use Rattle.gj_shape.specs.Cover.{HasComponent, opened, joined, AreJoined, IsDire
 use Rattle.gj_shape.specs.FirstViolation.{IsLeastFrom}
 use Rattle.gj_shape.specs.declared.extremality.CoverLine.{CoverLine}
 use Rattle.gj_cover.specs.CoverOf.{number_at, opened_by}
-use Rattle.gj_cover.specs.Progress.{AreInTurn, AreNumbered, AreClasses, AreLeastJoined, AreSearched, IsJoinedUpTo, lesser_of, unnumbered}
+use Rattle.gj_cover.specs.Progress.{AreInTurn, AreNumbered, AreClasses, AreLeastJoined, AreSearched, IsJoinedUpTo, IsNotAbove, lesser_of, unnumbered}
 use Rattle.gj_cover.proofs.LineLists.{split_end, component_stays, line_number, number_line, no_number, no_line, number_same, number_from, none_from, number_stays, number_within}
-use Rattle.gj_cover.proofs.Joining.{joined_back, leads_back, covered_on, covered_directly}
+use Rattle.gj_theory.proofs.CoverPaths.{joined_turned, leads_turned}
+use Rattle.gj_cover.proofs.Joining.{covered_on, covered_directly}
 
 -- ---- the next line by numbers
 
@@ -166,7 +167,7 @@ pub joined_classes : (q : ℕ) (T : ℕ → ℕ → Type 0) (c : List (Option �
 joined_classes q T c count l m len h in' free j =
     let x = l.interval in
     let within : l.interval < length c = omega (arith, in') in
-    let top : m + 1 ≡ count = h.last l.from x m in' (joined_back q T x l.from j.joined) j.number free in
+    let top : m + 1 ≡ count = h.last l.from x m in' (joined_turned q T x l.from j.joined) j.number free in
     let led : (k : ℕ) → number_at c k ≡ Some m → LeadsTo q T k x = λ k e.
     onward x l.from j.joined (h.linked l.from k m j.number e) in
     record {
@@ -174,7 +175,7 @@ joined_classes q T c count l m len h in' free j =
         | inl (i_is, u_is) ↦ elim (number_from c x m k v within f) [
           | inl (k_is, v_is) ↦ u_is ∙ sym v_is
           | inr f' ↦
-              let up = h.last k x v in' (joined_back q T x k (subst (λ y. AreJoined q T y k) i_is a)) f' free in
+              let up = h.last k x v in' (joined_turned q T x k (subst (λ y. AreJoined q T y k) i_is a)) f' free in
               omega arith
         ]
         | inr e' ↦ elim (number_from c x m k v within f) [
@@ -195,7 +196,7 @@ joined_classes q T c count l m len h in' free j =
         ]
         | inr e' ↦ elim (number_from c x m k n within f) [
           | inl (k_is, n_is) ↦
-              subst (λ y. LeadsTo q T y i) (sym k_is) (leads_back q T i x (led i (e' ∙ ap Some n_is)))
+              subst (λ y. LeadsTo q T y i) (sym k_is) (leads_turned q T i x (led i (e' ∙ ap Some n_is)))
           | inr f' ↦ h.linked i k n e' f'
         ]
       ];
@@ -224,7 +225,7 @@ opened_classes q T c count l m len h in' free o =
           | inr f' ↦ absurd (alone k v f' (subst (λ y. AreJoined q T y k) i_is a))
         ]
         | inr e' ↦ elim (number_from c x m k v within f) [
-          | inl (k_is, v_is) ↦ absurd (alone i u e' (joined_back q T i x (subst (λ y. AreJoined q T i y) k_is a)))
+          | inl (k_is, v_is) ↦ absurd (alone i u e' (joined_turned q T i x (subst (λ y. AreJoined q T i y) k_is a)))
           | inr f' ↦ h.one i k u v a e' f'
         ]
       ];
@@ -237,7 +238,7 @@ opened_classes q T c count l m len h in' free o =
               second_within = size i n e';
               free = old.1;
               number = (n, e');
-              joined = joined_back q T i k a;
+              joined = joined_turned q T i k a;
             }))
           ];
       linked = λ i k n e f. elim (number_from c x m i n within e) [
@@ -322,17 +323,21 @@ least_with q T c x m i (Some j) within free none new h = elim (cases_lt j x) [
 ]
 
 least_without : (q : ℕ) (T : ℕ → ℕ → Type 0) (c : List (Option ℕ)) (x m i : ℕ) (o : Option ℕ) → x < length c →
-    number_at c x ≡ None → number_at (set c x (Some m)) i ≡ None → (AreJoined q T i x → ⊥) →
+    number_at c x ≡ None → number_at (set c x (Some m)) i ≡ None → (AreJoined q T i x → ⊥) ⊎ IsNotAbove o x →
     LeastOf q T c i o → LeastOf q T (set c x (Some m)) i o
-least_without q T c x m i None within free none not h = λ k at. elim (joins_before q T c x m i k within at) [
+least_without q T c x m i None within free none (inl not) h = λ k at. elim (joins_before q T c x m i k within at) [
   | inl same ↦ not (subst (AreJoined q T i) same at.joined)
   | inr old ↦ h k old
 ]
-least_without q T c x m i (Some j) within free none not h = record {
+least_without q T c x m i None within free none (inr not_above) h = absurd not_above
+least_without q T c x m i (Some j) within free none other h = record {
   from = omega arith;
   holds = joins_after q T c x m i j free none h.holds;
   least = λ k from k_below at. elim (joins_before q T c x m i k within at) [
-    | inl same ↦ not (subst (AreJoined q T i) same at.joined)
+    | inl same ↦ elim other [
+      | inl not ↦ not (subst (AreJoined q T i) same at.joined)
+      | inr not_above ↦ omega (arith, not_above, same, k_below)
+    ]
     | inr old ↦ h.least k from k_below old
   ];
 }

@@ -64,9 +64,6 @@ onto q Upper a b i below (inr (inr x)) = inr (inr (wrap q (a + b + 1) i below x)
 abbrev pub IsOneOfAll : ℕ → FaceKind → ℕ → ℕ → ℕ → Type 0
 IsOneOfAll q kind a b i = IsOneOf q (links_of kind a b ++ triangle_projections kind a b) i
 
-pub one_by_first : (q : ℕ) (kind : FaceKind) (a b i : ℕ) → i < q → (projections_of q kind a b).x ≡ Some i → IsOneOfAll q kind a b i
-one_by_first q kind a b i below e = one_of q kind a b i (onto_first q kind a b i below e)
-
 pub one_by_second : (q : ℕ) (kind : FaceKind) (a b i : ℕ) → i < q → (projections_of q kind a b).y ≡ Some i → IsOneOfAll q kind a b i
 one_by_second q kind a b i below e = one_of q kind a b i (onto_second q kind a b i below e)
 

@@ -1,12 +1,13 @@
 -- Additive faces by their corners, and the intervals of a face one by one.
 use Rattle.std.proofs.Common.{◌≡◌, ℕ, zero, suc, ◌⊎◌, ◌+◌, ◌%◌, List, [], ◌∷◌, ◌++◌, refl, sym, ap, ◌∙◌, subst, inl, inr, arith}
-use Rattle.std.specs.List.{All, Any}
-use Rattle.std.proofs.lemmas.List.Elements.{All-nil, All-cons}
+use Rattle.std.specs.List.{Any}
 use Rattle.std.proofs.Math.Nat.{add-mod}
+use Rattle.gj_tools.proofs.Lists.{All-one, All-two, All-three}
 use Rattle.gj_shape.specs.Additive.{IsAdditive}
 use Rattle.gj_shape.specs.Cover.{IsOneOf, links_of, triangle_projections}
 use Rattle.gj_shape.specs.declared.faces.FaceKind.{FaceKind}
 use Rattle.gj_shape.specs.declared.faces.FaceKind.TheVariants.{Vertex, Horizontal, Vertical, Diagonal, Lower, Upper}
+use Rattle.gj_faces.proofs.Periods.{same_sum}
 
 -- ---- the corners
 
@@ -27,22 +28,13 @@ corners T Diagonal a b h = (h 0 (0, 0) (omega arith), h 1 (0, 0) (omega arith))
 corners T Lower a b h = (h 0 (0, 0) (omega arith), h 1 (0, 0) (omega arith), h 2 (0, 0) (omega arith))
 corners T Upper a b h = (h 0 (0, 0) (omega arith), h 1 (0, 0) (omega arith), h 2 (0, 0) (omega arith))
 
-one : {X : Type 0} (P : X → Type 0) (x : X) → P x → All P (x ∷ [])
-one P x h = All-cons P x [] h (All-nil P)
-
-two : {X : Type 0} (P : X → Type 0) (x y : X) → P x → P y → All P (x ∷ y ∷ [])
-two P x y h k = All-cons P x (y ∷ []) h (one P y k)
-
-three : {X : Type 0} (P : X → Type 0) (x y z : X) → P x → P y → P z → All P (x ∷ y ∷ z ∷ [])
-three P x y z h k l = All-cons P x (y ∷ z ∷ []) h (two P y z k l)
-
 pub additive : (T : ℕ → ℕ → Type 0) (kind : FaceKind) (a b : ℕ) → Corners T kind a b → IsAdditive T kind a b
-additive T Vertex a b h = one (λ c. T c.0 c.1) (a, b) h
-additive T Horizontal a b h = two (λ c. T c.0 c.1) (a, b) (a + 1, b) h.0 h.1
-additive T Vertical a b h = two (λ c. T c.0 c.1) (a, b) (a, b + 1) h.0 h.1
-additive T Diagonal a b h = two (λ c. T c.0 c.1) (a + 1, b) (a, b + 1) h.0 h.1
-additive T Lower a b h = three (λ c. T c.0 c.1) (a, b) (a + 1, b) (a, b + 1) h.0 h.1 h.2
-additive T Upper a b h = three (λ c. T c.0 c.1) (a + 1, b) (a, b + 1) (a + 1, b + 1) h.0 h.1 h.2
+additive T Vertex a b h = All-one (λ c. T c.0 c.1) (a, b) h
+additive T Horizontal a b h = All-two (λ c. T c.0 c.1) (a, b) (a + 1, b) h.0 h.1
+additive T Vertical a b h = All-two (λ c. T c.0 c.1) (a, b) (a, b + 1) h.0 h.1
+additive T Diagonal a b h = All-two (λ c. T c.0 c.1) (a + 1, b) (a, b + 1) h.0 h.1
+additive T Lower a b h = All-three (λ c. T c.0 c.1) (a, b) (a + 1, b) (a, b + 1) h.0 h.1 h.2
+additive T Upper a b h = All-three (λ c. T c.0 c.1) (a + 1, b) (a, b + 1) (a + 1, b + 1) h.0 h.1 h.2
 
 -- ---- relations of pairs modulo q
 
@@ -53,10 +45,6 @@ HasPeriod q T = (i j k l : ℕ) → i % q ≡ k % q → j % q ≡ l % q → T i 
 -- equal rests stay equal where the same is added
 pub add_same : (q x a b : ℕ) → a % q ≡ b % q → (a + x) % q ≡ (b + x) % q
 add_same q x a b e = add-mod a x q ∙ ap (λ n. (n + x % q) % q) e ∙ sym (add-mod b x q)
-
-pub sum_same : (q a b c d : ℕ) → a % q ≡ c % q → b % q ≡ d % q → (a + b) % q ≡ (c + d) % q
-sum_same q a b c d e g =
-    add-mod a b q ∙ ap (λ n. (n + b % q) % q) e ∙ ap (λ n. (c % q + n) % q) g ∙ sym (add-mod c d q)
 
 pub corners_same : (q : ℕ) (T : ℕ → ℕ → Type 0) → HasPeriod q T → (kind : FaceKind) (a b c d : ℕ) →
     a % q ≡ c % q → b % q ≡ d % q → Corners T kind a b → Corners T kind c d
@@ -162,9 +150,6 @@ one_covered q Lower a b i t h = of_triple (λ c. c % q ≡ i % q) a b (a + b) h
 one_covered q Upper a b i t h = of_triple (λ c. c % q ≡ i % q) a b (a + b + 1) h
 
 -- the same intervals at equal rests
-other_start : (q x y a c i : ℕ) → x % q ≡ y % q → (x % q ≡ i % q) → (y % q ≡ i % q)
-other_start q x y a c i e h = sym e ∙ h
-
 pub either : {A B C D : Type 0} → (A → C) → (B → D) → A ⊎ B → C ⊎ D
 either f g (inl x) = inl (f x)
 either f g (inr x) = inr (g x)
@@ -172,14 +157,14 @@ either f g (inr x) = inr (g x)
 pub intervals_same : (q : ℕ) (kind : FaceKind) (a b c d i : ℕ) → a % q ≡ c % q → b % q ≡ d % q →
     Intervals q kind a b i → Intervals q kind c d i
 intervals_same q Vertex a b c d i e g h = h
-intervals_same q Horizontal a b c d i e g h = either (λ x. sym e ∙ x) (λ x. sym (sum_same q a b c d e g) ∙ x) h
-intervals_same q Vertical a b c d i e g h = either (λ x. sym g ∙ x) (λ x. sym (sum_same q a b c d e g) ∙ x) h
+intervals_same q Horizontal a b c d i e g h = either (λ x. sym e ∙ x) (λ x. sym (same_sum q a b c d e g) ∙ x) h
+intervals_same q Vertical a b c d i e g h = either (λ x. sym g ∙ x) (λ x. sym (same_sum q a b c d e g) ∙ x) h
 intervals_same q Diagonal a b c d i e g h = either (λ x. sym e ∙ x) (λ x. sym g ∙ x) h
 intervals_same q Lower a b c d i e g h =
-    either (λ x. sym e ∙ x) (either (λ x. sym g ∙ x) (λ x. sym (sum_same q a b c d e g) ∙ x)) h
+    either (λ x. sym e ∙ x) (either (λ x. sym g ∙ x) (λ x. sym (same_sum q a b c d e g) ∙ x)) h
 intervals_same q Upper a b c d i e g h =
     either (λ x. sym e ∙ x)
-    (either (λ x. sym g ∙ x) (λ x. sym (add_same q 1 (a + b) (c + d) (sum_same q a b c d e g)) ∙ x)) h
+    (either (λ x. sym g ∙ x) (λ x. sym (add_same q 1 (a + b) (c + d) (same_sum q a b c d e g)) ∙ x)) h
 
 -- the same of an interval with an equal rest
 pub interval_same : (q : ℕ) (kind : FaceKind) (a b i j : ℕ) → i % q ≡ j % q →

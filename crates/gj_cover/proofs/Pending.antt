@@ -1,5 +1,5 @@
 -- What is read from the lists of numbers, and where the search for lines begins and goes on.
-use Rattle.std.proofs.Common.{◌≡◌, ℕ, ◌<◌, ◌≤◌, List, [], length, get_or, Bool, true, false, not, Option, Some, None, MatchOption, replicate, refl, sym, ap, ◌∙◌, subst, inl, inr, arith}
+use Rattle.std.proofs.Common.{◌≡◌, ℕ, ◌<◌, ◌≤◌, List, [], length, get_or, Bool, true, not, Option, Some, None, MatchOption, replicate, refl, sym, ap, ◌∙◌, subst, inl, inr, arith}
 use Rattle.std.specs.Option.{is_some, is_none}
 use Rattle.std.proofs.lemmas.List.Sums.{count_by-le-length}
 use Rattle.gj_cover.specs.declared.progress.Progress.{Progress}
@@ -22,10 +22,6 @@ read xs i o within e = sym (e ∙ get_or_default xs i o None within)
 pub is_free : (o : Option ℕ) (b : Bool) → is_some o ≡ not b → b ≡ true → o ≡ None
 is_free None b e t = refl
 is_free (Some n) b e t = let clash : true ≡ not true = e ∙ ap not t in absurd (cc)
-
-pub is_free_not : (o : Option ℕ) (b : Bool) → is_some o ≡ b → b ≡ false → o ≡ None
-is_free_not None b e t = refl
-is_free_not (Some n) b e t = let clash : true ≡ false = e ∙ t in absurd (cc)
 
 -- ---- the beginning
 
@@ -95,13 +91,6 @@ next_interval q T lines c to x j h k below free found before =
       least = λ i _ i_below (n, at).
           none_joins_it q T lines c to i n h k (before i i_below (no_number lines c i h at.no_line)) at;
     }
-
-pub next_from : (q : ℕ) (T : ℕ → ℕ → Type 0) (lines : List CoverLine) (c to : List (Option ℕ)) (x j : ℕ) →
-    AreLeastJoined q T lines c to → x < q → number_at c x ≡ None → number_at to x ≡ Some j →
-    IsLeastFrom 0 (JoinsLines q T lines x) j
-next_from q T lines c to x j k below free found =
-    subst (λ o. MatchOption o ((j : ℕ) → JoinsLines q T lines x j → ⊥) (IsLeastFrom 0 (JoinsLines q T lines x)))
-    found (k.each x below free)
 
 pub none_pending : (q n : ℕ) (T : ℕ → ℕ → Type 0) (lines : List CoverLine) (c to : List (Option ℕ)) →
     AreNumbered lines c → AreLeastJoined q T lines c to → q ≤ n → NonePending c to n →

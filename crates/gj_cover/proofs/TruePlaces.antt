@@ -16,7 +16,8 @@ true_at xs i = get_or xs i false
 abbrev pub places : List Bool → ℕ → List ℕ
 places xs n = filter (true_at xs) (range_with_len 0 n)
 
-range_next : (n : ℕ) → range_with_len 0 (n + 1) ≡ range_with_len 0 n ++ n ∷ []
+-- the numbers below n and n itself
+pub range_next : (n : ℕ) → range_with_len 0 (n + 1) ≡ range_with_len 0 n ++ n ∷ []
 range_next n = range_split 0 n 1 ∙ ap (λ k. range_with_len 0 n ++ k ∷ []) (zero-add n)
 
 places_next : (xs : List Bool) (n : ℕ) → places xs (n + 1) ≡ places xs n ++ filter (true_at xs) (n ∷ [])

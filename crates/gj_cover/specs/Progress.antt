@@ -56,11 +56,20 @@ abbrev pub lesser_of : Option ℕ → ℕ → ℕ
 lesser_of None i = i
 lesser_of (Some j) i = min j i
 
+-- the least of the interval so far is not above the interval
+abbrev pub IsNotAbove : Option ℕ → ℕ → Type 0
+IsNotAbove None i = ⊥
+IsNotAbove (Some j) i = j ≤ i
+
+-- the least interval so far and then, where one more interval is one of those of which it is the least, or not
+abbrev pub IsNoted : Type 0 → ℕ → Option ℕ → Option ℕ → Type 0
+IsNoted IsOne i old new =
+    (IsOne × (new ≡ Some (lesser_of old i))) ⊎ (((IsOne → ⊥) ⊎ IsNotAbove old i) × (new ≡ old))
+
 -- at each interval without a number that is joined to the interval stands the least so far or this one
 pub record IsJoinedUpTo (q n : ℕ) (Tight : ℕ → ℕ → Type 0) (interval : ℕ) (component old new : List (Option ℕ)) : Type 0 where
   pub each : (k : ℕ) → k < n → number_at component k ≡ None →
-      (AreJoined q Tight k interval × (number_at new k ≡ Some (lesser_of (number_at old k) interval)))
-      ⊎ ((AreJoined q Tight k interval → ⊥) × (number_at new k ≡ number_at old k))
+      IsNoted (AreJoined q Tight k interval) interval (number_at old k) (number_at new k)
   pub rest : (k : ℕ) → n ≤ k → number_at new k ≡ number_at old k
 
 -- no line comes next: no interval without one is joined to one with a line, or directly covered

@@ -1,10 +1,10 @@
 //! The search for cover lines.
-ghost use Rattle.std.specs.Prelude.{ℕ, ◌≡◌, ◌≢◌, ◌⊎◌, ◌<◌, length, replicate, OnOk, IfOk, IfSome, IfNone};
+ghost use Rattle.std.specs.Prelude.{ℕ, ◌≡◌, ◌≢◌, ◌↔◌, ◌<◌, length, replicate, OnOk, IfOk, IfSome, IfNone, IsTrue};
 ghost use Rattle.gj_shape.specs.Cover.{JoinsLines, IsOpen, IsOpeningLine, IsNextLine};
 ghost use Rattle.gj_shape.specs.FirstViolation.{IsLeastFrom};
 ghost use Rattle.gj_cover.specs.CoverOf.{number_at};
 ghost use Rattle.gj_cover.specs.Table.{IsTightIn, AreJoinedBy};
-ghost use Rattle.gj_cover.specs.Progress.{IsComplete, IsJoinedUpTo, lesser_of};
+ghost use Rattle.gj_cover.specs.Progress.{IsComplete, IsJoinedUpTo, IsNotAbove, IsNoted};
 
 use crate::covered::Cover;
 use crate::first_faces::{first_covering, first_joining};
@@ -188,27 +188,26 @@ fn no_numbers(alloc: Global, count: usize) -> Result<Vec<Option<u32>>, AllocErro
     vec![in alloc; None; count]
 }
 
-/// The least interval to which the other is joined, of the least so far and one more.
+/// The least interval to which the other is joined, of the least so far and one more. Where the least so far is not above
+/// the one more, the table is not read.
 fn noted(table: &Table, so_far: Option<u32>, other: u32, interval: u32) -> Option<u32>
     requires first { other < table.now.order }
     requires second { interval < table.now.order }
     requires different { other ≢ interval }
-    ensures { (AreJoinedBy table.now other interval × (result ≡ Some (lesser_of so_far interval)))
-        ⊎ ((AreJoinedBy table.now other interval → ⊥) × (result ≡ so_far)) }
+    ensures { IsNoted (AreJoinedBy table.now other interval) interval so_far result }
 {
-    if are_joined(table, other, interval) {
-        Some(lesser(so_far, interval))
-    } else {
-        so_far
+    if is_not_above(so_far, interval) || !are_joined(table, other, interval) {
+        return so_far;
     }
+    Some(interval)
 }
 
-/// The least of the interval so far and one more.
-fn lesser(so_far: Option<u32>, interval: u32) -> u32
-    ensures { result ≡ lesser_of so_far interval }
+/// Whether the least interval so far is not above one more.
+fn is_not_above(so_far: Option<u32>, interval: u32) -> bool
+    ensures { IsTrue result ↔ IsNotAbove so_far interval }
 {
     match so_far {
-        Some(least) => least.min(interval),
-        None => interval,
+        Some(least) => least <= interval,
+        None => false,
     }
 }

@@ -303,18 +303,18 @@ are_around f a b before here next limits below west middle east = record {
         (sym (one_back f.order (b + 1) (b + 2) some (ap (λ n. n % f.order) two))) (h (b + 2) (omega arith))
 
 -- rows with equal remainders
-pub wide_at_same : (f : FunctionData) (i k : ℕ) (row : List Bool) → IsWithinBounds f → i % f.order ≡ k % f.order →
+wide_at_same : (f : FunctionData) (i k : ℕ) (row : List Bool) → IsWithinBounds f → i % f.order ≡ k % f.order →
     TellsWideRow f i row → TellsWideRow f k row
 wide_at_same f i k row limits e h place below = (
   λ p. tight_is_periodic f limits i (place + (f.order - 1)) k (place + (f.order - 1)) e refl ((h place below).0 p),
   λ p. (h place below).1 (tight_is_periodic f limits k (place + (f.order - 1)) i (place + (f.order - 1)) (sym e) refl p),
 )
 
--- the row behind row a
-pub next_row : (f : FunctionData) (a n : ℕ) (row : List Bool) → IsWithinBounds f → n ≡ f.order →
-    TellsWideRow f ((a + 1) % n) row → TellsWideRow f (a + 1) row
-next_row f a n row limits e h =
-    wide_at_same f ((a + 1) % n) (a + 1) row limits (ap (λ m. (a + 1) % m % f.order) e ∙ mod-mod (a + 1) f.order) h
+-- the row of an index is that of its remainder
+pub row_of_index : (f : FunctionData) (i n : ℕ) (row : List Bool) → IsWithinBounds f → n ≡ f.order →
+    TellsWideRow f (i % n) row → TellsWideRow f i row
+row_of_index f i n row limits e h =
+    wide_at_same f (i % n) i row limits (ap (λ m. i % m % f.order) e ∙ mod-mod i f.order) h
 
 -- a row with its places before the first and behind the last
 pub wide_from_row : (f : FunctionData) (a n : ℕ) (row wide : List Bool) → IsWithinBounds f → n ≡ f.order →

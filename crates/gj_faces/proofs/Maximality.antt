@@ -2,11 +2,11 @@
 use Rattle.std.proofs.Common.{◌≡◌, ◌⊎◌, inl, inr, ℕ, ◌+◌, ◌-◌, ◌%◌, ◌<◌, List, [], ◌∷◌, get_or, length, All, Any, refl, sym, ap, subst, lit<, ◌∙◌, arith}
 use Rattle.std.proofs.Math.Nat.{add-mod_right}
 use Rattle.std.proofs.lemmas.List.Elements.{All-nil, All-cons, All-weaker}
+use Rattle.gj_tools.proofs.Lists.{All-one, All-two, All-three}
 use Rattle.gj_shape.specs.Additive.{IsAdditive, IsSameFace, IsMaximalFace, border_of, edges_of}
 use Rattle.gj_shape.specs.Faces.{corners_of}
 use Rattle.gj_shape.specs.declared.faces.FaceKind.{FaceKind}
 use Rattle.gj_shape.specs.declared.faces.FaceKind.TheVariants.{Vertex, Horizontal, Vertical, Diagonal, Lower, Upper}
-use Rattle.gj_faces.proofs.Corners.{all_one, all_two, all_three}
 use Rattle.gj_faces.proofs.Periods.{same_sum}
 use Rattle.gj_faces.proofs.RunSteps.{IsPeriodic}
 
@@ -43,22 +43,22 @@ dimension Upper = 2
 module _ (q : ℕ) (Tight : ℕ → ℕ → Type 0) (some : 0 < q) (periodic : IsPeriodic q Tight) where
   -- the face's own tight pairs, by the corners
   pub vertex : (a b : ℕ) → Tight a b → IsAdditive Tight Vertex a b
-  vertex a b h = all_one (λ c. Tight c.0 c.1) (a, b) h
+  vertex a b h = All-one (λ c. Tight c.0 c.1) (a, b) h
 
   pub horizontal : (a b : ℕ) → Tight a b → Tight (a + 1) b → IsAdditive Tight Horizontal a b
-  horizontal a b h k = all_two (λ c. Tight c.0 c.1) (a, b) (a + 1, b) h k
+  horizontal a b h k = All-two (λ c. Tight c.0 c.1) (a, b) (a + 1, b) h k
 
   pub vertical : (a b : ℕ) → Tight a b → Tight a (b + 1) → IsAdditive Tight Vertical a b
-  vertical a b h k = all_two (λ c. Tight c.0 c.1) (a, b) (a, b + 1) h k
+  vertical a b h k = All-two (λ c. Tight c.0 c.1) (a, b) (a, b + 1) h k
 
   pub diagonal : (a b : ℕ) → Tight (a + 1) b → Tight a (b + 1) → IsAdditive Tight Diagonal a b
-  diagonal a b h k = all_two (λ c. Tight c.0 c.1) (a + 1, b) (a, b + 1) h k
+  diagonal a b h k = All-two (λ c. Tight c.0 c.1) (a + 1, b) (a, b + 1) h k
 
   pub lower : (a b : ℕ) → Tight a b → Tight (a + 1) b → Tight a (b + 1) → IsAdditive Tight Lower a b
-  lower a b h k l = all_three (λ c. Tight c.0 c.1) (a, b) (a + 1, b) (a, b + 1) h k l
+  lower a b h k l = All-three (λ c. Tight c.0 c.1) (a, b) (a + 1, b) (a, b + 1) h k l
 
   pub upper : (a b : ℕ) → Tight (a + 1) b → Tight a (b + 1) → Tight (a + 1) (b + 1) → IsAdditive Tight Upper a b
-  upper a b h k l = all_three (λ c. Tight c.0 c.1) (a + 1, b) (a, b + 1) (a + 1, b + 1) h k l
+  upper a b h k l = All-three (λ c. Tight c.0 c.1) (a + 1, b) (a, b + 1) (a + 1, b + 1) h k l
 
   pub corner : (kind : FaceKind) (a b k : ℕ) → k < length (corners_of kind a b) → IsAdditive Tight kind a b →
       Tight (get_or (corners_of kind a b) k (0, 0)).0 (get_or (corners_of kind a b) k (0, 0)).1

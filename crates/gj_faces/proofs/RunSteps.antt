@@ -1,9 +1,9 @@
 -- Runs, row by row.
-use Rattle.std.proofs.Common.{◌≡◌, inl, inr, ◌↔◌, ℕ, ◌+◌, ◌-◌, ◌%◌, ◌<◌, ◌≤◌, Bool, true, false, List, [], ◌∷◌, ◌++◌, length, get_or, refl, sym, ap, subst, ◌∙◌, length-append, arith}
+use Rattle.std.proofs.Common.{◌≡◌, inl, inr, ◌↔◌, ℕ, ◌+◌, ◌-◌, ◌%◌, ◌<◌, ◌≤◌, Bool, true, false, List, [], ◌∷◌, ◌++◌, length, get_or, refl, sym, ap, subst, ◌∙◌, arith}
 use Rattle.std.proofs.Math.Nat.{mod-eq_of_lt, mod-mod, mod-lt}
 use Rattle.std.proofs.lemmas.Bool.{cases_eq, cases_lt, false_from_ne_true, true_from_ne_false}
 use Rattle.std.proofs.lemmas.List.{get_or_append_left, get_or_push, length_push}
-use Rattle.std.proofs.lemmas.List.Elements.{All-nil, All-push, All-weaker}
+use Rattle.std.proofs.lemmas.List.Elements.{All-push, All-weaker}
 use Rattle.gj_faces.specs.declared.run.Run.{Run}
 use Rattle.gj_faces.specs.Runs.{InRuns, IsRunOf, EndsBefore, IsWhole, AreRunsOf}
 use Rattle.gj_faces.specs.RunsBefore.{ComesBefore, IsTightRun, AreRunsBefore}
@@ -12,19 +12,6 @@ use Rattle.gj_faces.proofs.RunLists.{AreAscending, ascending_by_index, in_order_
 -- indices with equal remainders serve alike
 abbrev pub IsPeriodic : ℕ → (ℕ → ℕ → Type 0) → Type 0
 IsPeriodic q Tight = (i j k l : ℕ) → i % q ≡ k % q → j % q ≡ l % q → Tight i j → Tight k l
-
--- before the first pair there is none
-pub none_before : (q : ℕ) (Tight : ℕ → ℕ → Type 0) → AreRunsBefore q Tight 0 0 []
-none_before q Tight = record {
-  in_order = record {
-    each = All-nil (IsRunOf q);
-    ascending = λ before r s after e. absurd (let lengths = ap length e in omega (arith, length-append before (r ∷ s ∷ after)));
-  };
-  whole = All-nil (IsWhole q Tight);
-  tight = All-nil (IsTightRun Tight);
-  behind = All-nil (λ r. ComesBefore r.a r.to 0 0);
-  complete = λ i j first second before tight. absurd (omega (arith, before));
-}
 
 -- pairs that are not tight add no run
 pub skipped : (q : ℕ) (Tight : ℕ → ℕ → Type 0) (a b c : ℕ) (runs : List Run) → AreRunsBefore q Tight a b runs → b ≤ c →
@@ -112,30 +99,6 @@ pushed q Tight a b c runs h row some within tight start stop =
             record { row = omega (arith, place.0); start = omega arith; stop = omega (arith, place.1) },
           )
         ]
-
--- the end of a row
-pub row_done : (q : ℕ) (Tight : ℕ → ℕ → Type 0) (a : ℕ) (runs : List Run) → AreRunsBefore q Tight a q runs →
-    AreRunsBefore q Tight (a + 1) 0 runs
-row_done q Tight a runs h = record {
-  in_order = h.in_order;
-  whole = h.whole;
-  tight = h.tight;
-  behind = All-weaker (λ r. ComesBefore r.a r.to a q) (λ r. ComesBefore r.a r.to (a + 1) 0) (λ r before. later r before) runs
-      h.behind;
-  complete = λ i j first second before tight. found i j first second before tight;
-}
-  where
-    later : (r : Run) → ComesBefore r.a r.to a q → ComesBefore r.a r.to (a + 1) 0
-    later r (inl row) = inl (omega arith)
-    later r (inr place) = inl (omega (arith, place.0))
-
-    found : (i j : ℕ) → i < q → j < q → ComesBefore i j (a + 1) 0 → Tight i j → InRuns q runs i j
-    found i j first second (inl row) tight =
-        elim (cases_lt i a) [
-          | inl early ↦ h.complete i j first second (inl early) tight
-          | inr late ↦ h.complete i j first second (inr (omega arith, second)) tight
-        ]
-    found i j first second (inr place) tight = absurd (omega (arith, place.1))
 
 -- all rows
 pub all_rows : (q : ℕ) (Tight : ℕ → ℕ → Type 0) (runs : List Run) → 0 < q → IsPeriodic q Tight →

@@ -3,7 +3,7 @@
 //! A pair (a, b) is tight where the values at a/q and b/q add up to the value at (a + b)/q, and a face is additive where
 //! each of its corners is tight. `runs` gives the tight pairs as runs of neighbouring b, `in_runs` tests a face on them,
 //! `is_additive` tests it on the function, and `maximal` lists the additive faces that lie in the closure of no additive
-//! face of higher dimension.
+//! face of higher dimension; `push_maximal_row` lists those of one row of squares.
 #![tactic(auto)]
 
 mod additive;
@@ -20,7 +20,7 @@ mod tight_runs;
 
 pub use additive::is_additive;
 pub use laws::additive_by_runs;
-pub use maximal_faces::maximal;
+pub use maximal_faces::{maximal, push_maximal_row};
 pub use run::Run;
 pub use search::in_runs;
 pub use tight_runs::runs;

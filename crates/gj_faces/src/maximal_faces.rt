@@ -30,29 +30,42 @@ pub fn maximal(alloc: Global, shape: &Shape) -> Result<Vec<Face>, AllocError>
     ensures closures { IfOk result (λ faces. HoldAdditive shape.now faces.items) }
     ensures tight_pairs { IfOk result (λ faces. IsMinimal shape.now → TellTightPairs shape.now faces.items) }
 {
-    let order = shape.order();
     let tight = runs(alloc, shape)?;
     let mut faces = Vec::new(alloc);
-    let mut alone = Alone::new();
-    let mut before = wide_row(&tight, shape, order - 1);
-    let mut here = wide_row(&tight, shape, 0);
-    for a in 0..order {
-        let next = wide_row(&tight, shape, (a + 1) % order);
-        alone.read(shape, a, &before, &here, &next);
-        push_row(&mut faces, &alone, shape, a)?;
-        before = here;
-        here = next;
+    for a in 0..shape.order() {
+        push_maximal_row(&mut faces, shape, &tight, a)?;
     }
     Ok(faces)
 }
 
-/// For each b from -1 to the order whether the pair (a, b) is in the runs, indices modulo the order.
-fn wide_row(tight: &[Run], shape: &Shape, a: u32) -> [bool; WIDTH]
+/// Adds the maximal additive faces of the squares (a, b) with this a and b below the order, in walk order.
+///
+/// The runs are those of the function's tight pairs, as `runs` gives them. So all rows in turn add what `maximal` lists,
+/// and a caller that is done with a row can empty the list.
+pub fn push_maximal_row(
+    faces: &mut Vec<Face>,
+    shape: &Shape,
+    tight: &[Run],
+    a: u32,
+) -> Result<(), AllocError>
     requires runs { AreRunsOf shape.now.order (IsTight shape.now) tight.now }
-    requires order { IsOrder shape.now.order }
     requires within { a < shape.now.order }
-    ensures { TellsWideRow shape.now a result }
+    ensures { OnOk result (AddsMaximal shape.now (faces_of_row shape.now.order a) faces.old.items faces.new.items) }
 {
+    let before = wide_row(tight, shape, a + (shape.order() - 1));
+    let here = wide_row(tight, shape, a);
+    let next = wide_row(tight, shape, a + 1);
+    let mut alone = Alone::new();
+    alone.read(shape, a, &before, &here, &next);
+    push_row(faces, &alone, shape, a)
+}
+
+/// For each b from -1 to the order whether the pair (i, b) is in the runs, indices modulo the order.
+fn wide_row(tight: &[Run], shape: &Shape, i: u32) -> [bool; WIDTH]
+    requires { AreRunsOf shape.now.order (IsTight shape.now) tight.now }
+    ensures { TellsWideRow shape.now i result }
+{
+    let a = i % shape.order();
     widened(shape, a, &row_of(tight, shape, a))
 }
 

@@ -1,0 +1,17 @@
+pub mod Accepted
+pub mod Clauses
+pub mod Commands
+pub mod CutClaims
+pub mod CutForm
+pub mod CutLines
+pub mod CutParts
+pub mod Ends
+pub mod Extremality
+pub mod FacesTexts
+pub mod InputRead
+pub mod ProofBytes
+pub mod Refusals
+pub mod Shown
+pub mod Sound
+pub mod TextLaws
+pub mod Verdicts

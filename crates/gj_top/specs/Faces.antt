@@ -9,7 +9,8 @@ use Rattle.gj_shape.specs.declared.faces.Face.{Face}
 use Rattle.gj_shape.specs.declared.extremality.CoverLine.{CoverLine}
 use Rattle.gj_faces.specs.Picked.{ArePicked}
 use Rattle.gj_cover.specs.CoverOf.{number_at}
-use Rattle.gj_faces.specs.Listed.{AreMaximalFaces}
+use Rattle.gj_faces.specs.Added.{faces_of_row}
+use Rattle.gj_faces.specs.Listed.{AreMaximalFaces, IsMaximalIn}
 use Rattle.gj_lines.specs.FunctionLines.{line, order_line}
 use Rattle.gj_lines.specs.FaceLines.{face_text, cover_line}
 use Rattle.gj_top.specs.declared.reply.End.{End}
@@ -27,6 +28,12 @@ pub record ArePushed (component : List (Option ℕ)) (n : ℕ) (old new : List �
   pub intervals : List ℕ
   pub picked : ArePicked (λ i. number_at component i ≡ None) (range_with_len 0 n) intervals
   pub pushed : new ≡ old ++ flat_map uncovered_line intervals
+
+-- behind a text stand the lines of the maximal additive faces of the first n rows of squares, in walk order
+pub record AreRowsPushed (f : FunctionData) (n : ℕ) (old new : List ℕ) : Type 0 where
+  pub faces : List Face
+  pub picked : ArePicked (IsMaximalIn f) (flat_map (faces_of_row f.order) (range_with_len 0 n)) faces
+  pub pushed : new ≡ old ++ flat_map (λ face. line (face_text face)) faces
 
 -- the text lists the maximal additive faces in walk order, the cover lines, and the uncovered intervals, ascending
 pub record IsFacesText (f : FunctionData) (text : List ℕ) : Type 0 where

@@ -1,7 +1,7 @@
 //! Functions that are not continuous.
 ghost use Rattle.std.specs.Prelude.{pos, ◌<◌, IfOk};
 ghost use Rattle.gj_frac.specs.Fraction.{IsRatio};
-ghost use Rattle.gj_extreme.specs.Decision.{IsFirstJump};
+ghost use Rattle.gj_shape.specs.FunctionData.{IsFirstJump};
 ghost use Rattle.gj_top.specs.Continuity.{NamesFirstJump};
 
 use gj_frac::Frac;

@@ -21,6 +21,7 @@ mod cut;
 mod cut_input;
 mod cut_lines;
 mod extreme;
+mod face_lines;
 mod faces;
 mod forms;
 mod laws;

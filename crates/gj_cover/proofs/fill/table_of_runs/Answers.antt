@@ -2,7 +2,7 @@ use Rattle.std.proofs.Common.{◌≡◌, ◌*◌, ◌∙◌, length, get_or, Boo
 use Rattle.std.proofs.Math.ListN.{length-replicate}
 use Rattle.std.proofs.lemmas.List.{get_or_default}
 use Rattle.gj_faces.specs.declared.run.Run.{Run}
-use Rattle.gj_cover.proofs.Classes.{false_at}
+use Rattle.gj_faces.proofs.PaintedRows.{blank}
 use Rattle.gj_cover.proofs.Marks.{HoldRuns, no_runs, one_run_more, tells_runs}
 use Rattle.gj_cover.proofs.fill.table_of_runs.Goals as goal
 
@@ -11,7 +11,7 @@ loop-run-init c =
     let items = c.in_ok-tight.ensures.items_if_clones_equal (λ y e. e) in (
       ap (λ l. length l) items ∙ length-replicate {A = Bool} (c.args.q * c.args.q) false,
       no_runs c.args.q c.args.runs.now c.in_ok-tight.tight.items
-          (λ p. ap (λ l. get_or l p false) items ∙ false_at (c.args.q * c.args.q) p),
+          (λ p. ap (λ l. get_or l p false) items ∙ blank (c.args.q * c.args.q) p),
     )
 
 pub loop-run-preserved : goal.loop-run-preserved

@@ -1,0 +1,169 @@
+//! The lines of faces, from pieces that are kept.
+//!
+//! There may be hundreds of thousands of lines, so the piece up to the row is put together once a row, and the piece
+//! behind it once a column.
+ghost use Rattle.std.specs.Prelude.{◌≡◌, ◌+◌, ◌≤◌, [], ◌++◌, All, codes, decimal, flat_map, length, IfOk, OnOk};
+ghost use Rattle.gj_lines.specs.FunctionLines.{line};
+ghost use Rattle.gj_lines.specs.FaceLines.{face_text, face_word};
+ghost use Rattle.gj_top.specs.FacePieces.{text_of, start_of, AreStarts, AreEnds, HasPieces};
+
+use gj_lines::face_word;
+use gj_shape::{Face, FaceKind};
+use itoa::Buffer;
+use std::alloc::{AllocError, Global};
+
+/// The room of a piece: a word of at most 10 bytes, a space, and a number of at most 10 digits.
+const ROOM: usize = 24;
+
+/// A text of at most 24 bytes.
+///
+/// All of its room is copied and what is behind the text cut off again, since a copy of so many bytes that are known
+/// beforehand is fast.
+#[derive(Clone, Copy)]
+pub(crate) struct Piece {
+    bytes: [u8; ROOM],
+    length: u32,
+}
+
+/// The beginnings of the lines of the faces of one row of squares: the word of the kind, a space and the row.
+#[derive(Clone, Copy)]
+pub(crate) struct Starts {
+    row: u32,
+    vertex: Piece,
+    horizontal: Piece,
+    vertical: Piece,
+    diagonal: Piece,
+    lower: Piece,
+    upper: Piece,
+}
+
+/// The beginnings for a row.
+pub(crate) fn starts_of(row: u32) -> Starts
+    ensures starts { AreStarts result }
+    ensures row { result.row ≡ row }
+{
+    let mut buffer = Buffer::new();
+    let digits = buffer.format(row).as_bytes();
+    Starts {
+        row,
+        vertex: start(FaceKind::Vertex, digits),
+        horizontal: start(FaceKind::Horizontal, digits),
+        vertical: start(FaceKind::Vertical, digits),
+        diagonal: start(FaceKind::Diagonal, digits),
+        lower: start(FaceKind::Lower, digits),
+        upper: start(FaceKind::Upper, digits),
+    }
+}
+
+/// The ends of the lines for the columns below n: a space, the column and a line feed.
+pub(crate) fn ends_below(alloc: Global, n: u32) -> Result<Vec<Piece>, AllocError>
+    ensures ends { IfOk result (λ ends. AreEnds ends.items) }
+    ensures count { IfOk result (λ ends. length ends.items ≡ n) }
+{
+    let mut ends = Vec::new(alloc);
+    for column in 0..n {
+        ends.push(end(column))?;
+    }
+    Ok(ends)
+}
+
+/// Appends the line of each face.
+pub(crate) fn push_face_lines(
+    out: &mut Vec<u8>,
+    starts: &Starts,
+    ends: &[Piece],
+    faces: &[Face],
+) -> Result<(), AllocError>
+    requires starts { AreStarts starts.now }
+    requires ends { AreEnds ends.now }
+    requires faces { All (HasPieces starts.now ends.now) faces.now }
+    ensures { OnOk result (out.new.items ≡ out.old.items ++ flat_map (λ face. line (face_text face)) faces.now) }
+{
+    for face in faces {
+        push_face_line(out, starts, ends, *face)?;
+    }
+    Ok(())
+}
+
+/// Appends the line of a face.
+fn push_face_line(
+    out: &mut Vec<u8>,
+    starts: &Starts,
+    ends: &[Piece],
+    face: Face,
+) -> Result<(), AllocError>
+    requires starts { AreStarts starts.now }
+    requires ends { AreEnds ends.now }
+    requires face { HasPieces starts.now ends.now face }
+    ensures { OnOk result (out.new.items ≡ out.old.items ++ line (face_text face)) }
+{
+    push_piece(out, start_for(starts, face.kind))?;
+    push_piece(out, &ends[face.b as usize])
+}
+
+/// The beginning of the lines of the faces of a kind.
+fn start_for(starts: &Starts, kind: FaceKind) -> &Piece
+    ensures { result.now ≡ start_of starts.now kind }
+{
+    match kind {
+        FaceKind::Vertex => &starts.vertex,
+        FaceKind::Horizontal => &starts.horizontal,
+        FaceKind::Vertical => &starts.vertical,
+        FaceKind::Diagonal => &starts.diagonal,
+        FaceKind::Lower => &starts.lower,
+        FaceKind::Upper => &starts.upper,
+    }
+}
+
+/// Appends the text of a piece.
+#[inline(always)]
+fn push_piece(out: &mut Vec<u8>, piece: &Piece) -> Result<(), AllocError>
+    ensures { OnOk result (out.new.items ≡ out.old.items ++ text_of piece.now) }
+{
+    let before = out.len();
+    out.extend_from_slice(&piece.bytes)?;
+    out.truncate(before + piece.length as usize);
+    Ok(())
+}
+
+/// The beginning for a kind and a row of these digits.
+fn start(kind: FaceKind, digits: &[u8]) -> Piece
+    requires { length digits.now ≤ 10 }
+    ensures { text_of result ≡ face_word kind ++ codes " " ++ digits.now }
+{
+    joined(joined(joined(empty(), face_word(kind)), b" "), digits)
+}
+
+/// The end for a column.
+fn end(column: u32) -> Piece
+    ensures { text_of result ≡ line (codes " " ++ decimal column) }
+{
+    let mut buffer = Buffer::new();
+    let digits = buffer.format(column).as_bytes();
+    joined(joined(joined(empty(), b" "), digits), b"\n")
+}
+
+/// No text.
+fn empty() -> Piece
+    ensures text { text_of result ≡ [] }
+    ensures length { result.length ≡ 0 }
+{
+    Piece {
+        bytes: [0; ROOM],
+        length: 0,
+    }
+}
+
+/// The text of the piece with one more behind it.
+fn joined(piece: Piece, text: &[u8]) -> Piece
+    requires { piece.length + length text.now ≤ ROOM }
+    ensures text { text_of result ≡ text_of piece ++ text.now }
+    ensures length { result.length ≡ piece.length + length text.now }
+{
+    let mut longer = piece;
+    for byte in text {
+        longer.bytes[longer.length as usize] = *byte;
+        longer.length += 1;
+    }
+    longer
+}
