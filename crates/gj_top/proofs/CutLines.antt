@@ -3,6 +3,7 @@ use Rattle.std.proofs.Common.{◌≡◌, ℕ, ◌<◌, List, [], ◌∷◌, All,
 use Rattle.std.specs.List.{AllZip}
 use Rattle.std.proofs.lemmas.List.Elements.{All-nil, All-cons, All-head, All-tail}
 use Rattle.gj_frac.specs.declared.Frac.{Frac}
+use Rattle.gj_check.proofs.CutMeaning.{part_of_function}
 use Rattle.gj_shape.specs.FunctionData.{FunctionData, IsWithinBounds}
 use Rattle.gj_rule.specs.Kept.{KeptRule}
 use Rattle.gj_rule.specs.Kind.{IsKindValue}
@@ -25,7 +26,7 @@ use Rattle.gj_proof.specs.declared.cut.CutTerm.{CutTerm}
 use Rattle.gj_proof.specs.declared.cut.SkipReason.TheVariants.{Integral, Other}
 use Rattle.gj_top.specs.Cut.{IsTermFor, IsLineFor}
 use Rattle.gj_top.specs.CutSteps.{AreInColumns, IsNamedTerm, IsLineOf}
-use Rattle.gj_top.proofs.CutParts.{part_of_cut, part_of_rule, gmic_value_at}
+use Rattle.gj_top.proofs.CutParts.{part_of_cut, gmic_value_at}
 
 -- ---- the columns of terms
 
@@ -109,7 +110,7 @@ function_line f columns row row_cut.OtherFraction (Skip name right Other) within
   l.1,
   (
     λ whole. h.0 (subst IsWhole l.1 whole),
-    λ part. h.1 (subst (HasPart (kind.Table f)) l.1 (part_of_rule right f.place f.order part)),
+    λ part. h.1 (subst (HasPart (kind.Table f)) l.1 (part_of_function right f.place f.order part)),
   ),
 )
 function_line f columns row row_cut.OtherFraction (Skip name right Integral) within h l = absurd l

@@ -30,9 +30,6 @@ part_of_cut x k q below has =
     let taken = sub_mul_z x.num (w *ℤ x.den) (pos q) in
     record { below = below; whole = w; is = omega (arith, ints) }
 
-pub part_of_rule : (x : Frac) (k q : ℕ) → HasPart x k q → HasFractionalPart x (pos k) (pos q)
-part_of_rule x k q h w floor = part_left x k q h w floor
-
 -- ---- the mixed-integer cut
 
 -- f is the fractional part of the right side

@@ -27,6 +27,7 @@ use Rattle.gj_proof.specs.declared.cut.SkipReason.{SkipReason}
 use Rattle.gj_proof.specs.declared.cut.SkipReason.TheVariants.{Integral, Other}
 use Rattle.gj_lex.specs.Name.{IsNameByte, IsName}
 use Rattle.gj_proof.specs.ProofText.{claim_word, OwnLine, own_lines, violation_line, row_line, term_line, reason_word, terms_of, term_lines, row_lines, HasNames, subject_of, AreSubjectLines, IsBounded, IsProofText}
+use Rattle.gj_proof.proofs.OwnLines.{names_of_terms}
 use Rattle.gj_json.specs.JsonText.{IsPrintable, IsProofByte, IsEnded}
 
 -- ---- known texts
@@ -179,10 +180,6 @@ terms_bytes i j [] h = All-nil (λ (l : OwnLine). All IsProofByte l.bytes)
 terms_bytes i j (t ∷ terms) h =
     All-cons (λ (l : OwnLine). All IsProofByte l.bytes) _ (term_lines i (j + 1) terms)
     (term_bytes t (All-head (λ u. IsName u.name) t terms h)) (terms_bytes i (j + 1) terms (All-tail (λ u. IsName u.name) t terms h))
-
-names_of_terms : (l : CutLine) → HasNames l → All (λ t. IsName t.name) (terms_of l)
-names_of_terms (cuts.Cut name right terms) h = h.1
-names_of_terms (cuts.Skip name right reason) h = All-nil (λ t. IsName t.name)
 
 rows_bytes : (i : ℕ) (rows : List CutLine) → All HasNames rows → All (λ (l : OwnLine). All IsProofByte l.bytes) (row_lines i rows)
 rows_bytes i [] h = All-nil (λ (l : OwnLine). All IsProofByte l.bytes)
