@@ -1,5 +1,5 @@
--- Where there are at most three components, no number is too wide.
-use Rattle.std.proofs.Common.{◌≡◌, ℕ, zero, suc, inl, inr, ◌+◌, ◌-◌, ◌*◌, ◌%◌, ◌<◌, ◌≤◌, ◌^◌, Bool, true, false, cond, Some, ℤ, pos, ◌+ℤ◌, ◌<ℤ◌, List, [], length, map, count_by, eqb, unsigned_abs, refl, sym, ap, subst, ◌∙◌, mul-le-mul, arith}
+-- Where there are few components no number is too wide: with at most three at every scale.
+use Rattle.std.proofs.Common.{◌≡◌, ℕ, zero, suc, inl, inr, ◌+◌, ◌*◌, ◌%◌, ◌<◌, ◌≤◌, ◌^◌, Bool, true, false, cond, Some, ℤ, pos, ◌+ℤ◌, ◌<ℤ◌, List, [], length, map, count_by, eqb, unsigned_abs, refl, sym, ap, subst, ◌∙◌, mul-le-mul, arith}
 use Rattle.std.specs.Prelude.{All}
 use Rattle.std.specs.List.{range_with_len}
 use Rattle.std.proofs.Math.Nat.{mod-lt}
@@ -24,7 +24,7 @@ use Rattle.gj_extreme.specs.Decision.{AreAllCovered, slope_elimination, slope_pe
 use Rattle.gj_extreme.specs.Decision.IsWideBehind.{kernel_passes, perturbation_passes, scale_passes}
 use Rattle.gj_extreme.proofs.DecidedHalves.{begun_columns}
 use Rattle.gj_extreme.proofs.OneCover.{one_cover}
-use Rattle.gj_extreme.proofs.SmallNumbers.{IsSmall, small_at, bound, bound_up, EliminationIsSmall, elimination_small}
+use Rattle.gj_extreme.proofs.SmallNumbers.{IsSmall, small_at, bound, bound_at, EliminationIsSmall, elimination_small}
 use Rattle.gj_extreme.proofs.SmallSolutions.{small_total, grown, SolutionIsSmall, kernel_small}
 
 -- ---- the rows of the system
@@ -72,52 +72,19 @@ entries_small f component n l =
         IsSmall 3000 (named_row f component n name)
     each name low = All-made (λ x. unsigned_abs x ≤ 3000) (row_entry component f.order f.place name) 0 n (λ c below. low c)
 
-elimination_is_small : (f : FunctionData) (component : ℕ → ℕ) (n : ℕ) → IsWithinBounds f →
-    EliminationIsSmall 3000 n (slope_elimination f component n)
-elimination_is_small f component n l =
-    elimination_small 3000 n [] 0 (map (named_row f component n) (row_names f)) (omega arith)
-    (All-nil (λ (k : KeptRow). IsSmall (bound 3000 k.pivot) k.entries))
+elimination_is_small : (f : FunctionData) (component : ℕ → ℕ) (n t : ℕ) → IsWithinBounds f → n ≤ suc t →
+    EliminationIsSmall 3000 t (slope_elimination f component n)
+elimination_is_small f component n t l few =
+    elimination_small 3000 t n [] 0 (map (named_row f component n) (row_names f)) (omega arith) few
+    (All-nil (λ (k : KeptRow). IsSmall (bound_at 3000 [] k.pivot) k.entries))
     (All-map (IsSmall 3000) (named_row f component n) (row_names f) (entries_small f component n l))
 
--- ---- the bounds
-
-three_columns : bound 3000 3 ≡ 839808000000000000000000000000
-unfolding bound
-three_columns = refl
-
-one_column : bound 3000 1 ≡ 18000000
-unfolding bound
-one_column = refl
-
-two_solved : grown 18000000 1 2 ≡ 2916000000000000
-unfolding grown
-two_solved = refl
-
-narrow : (b : ℕ) (xs : List ℤ) → b < 2 ^ 127 → IsSmall b xs → Passes xs → ⊥
-narrow b xs low small passes =
-    let found = all_of_any (λ x. unsigned_abs x ≤ b) (λ x. 2 ^ 127 ≤ unsigned_abs x) xs small passes in
-    apart b (2 ^ 127) (unsigned_abs found.0) low found.1 found.2
-  where
-    apart : (b top x : ℕ) → b < top → x ≤ b → top ≤ x → ⊥
-    apart b top x low small high = omega arith
-
-pub few_components_fit : (f : FunctionData) (component : ℕ → ℕ) (n : ℕ) → IsWithinBounds f → n ≤ 3 →
-    Passes (slope_elimination f component n).marked → ⊥
-few_components_fit f component n l few =
-    narrow (bound 3000 n) (slope_elimination f component n).marked
-    (let up = bound_up 3000 n (3 - n) (omega arith) in
-    let same = ap (bound 3000) (let e : n + (3 - n) ≡ 3 = omega arith in e) in
-    let top = three_columns in
-    omega arith)
-    (elimination_is_small f component n l).marked
-
-solution_is_small : (f : FunctionData) (component : ℕ → ℕ) (n : ℕ) (s : Solution) → IsWithinBounds f → n ≤ 3 →
-    kernel n (slope_elimination f component n).kept ≡ Some s → SolutionIsSmall 2916000000000000 s
-solution_is_small f component n s l few e =
-    subst (λ (b : ℕ). SolutionIsSmall b s) (ap (λ k. grown k 1 2) one_column ∙ two_solved)
-    (kernel_small 3000 n (slope_elimination f component n).kept s (omega arith) (let one = one_column in omega arith) few
+solution_is_small : (f : FunctionData) (component : ℕ → ℕ) (n t : ℕ) (s : Solution) → IsWithinBounds f → 1 ≤ t → n ≤ suc t →
+    kernel n (slope_elimination f component n).kept ≡ Some s → SolutionIsSmall (grown 3000 t t) s
+solution_is_small f component n t s l some few e =
+    kernel_small 3000 t n (slope_elimination f component n).kept s (omega arith) some few
     (elimination_has n (map (named_row f component n) (row_names f)) (begun_columns f component n (row_names f))).triangular
-    (elimination_is_small f component n l).kept e)
+    (elimination_is_small f component n t l few).kept e
 
 perturbation_small : (f : FunctionData) (component : ℕ → ℕ) (numbers : List ℤ) (b i : ℕ) → IsWithinBounds f → IsSmall b numbers →
     unsigned_abs (slope_perturbation f component numbers i) ≤ 1000 * b
@@ -132,38 +99,81 @@ perturbation_small f component numbers b i l small =
     let times : length slopes * b ≤ 1000 * b = mul-le-mul (let e : length slopes ≤ 1000 = omega arith in e) (let e : b ≤ b = omega arith in e) in
     omega arith
 
-pub few_components_fit_behind : (f : FunctionData) (component : ℕ → ℕ) (n : ℕ) (s : Solution) → IsWithinBounds f → n ≤ 3 →
-    kernel n (slope_elimination f component n).kept ≡ Some s → IsWideBehind f component s → ⊥
-few_components_fit_behind f component n s l few e (kernel_passes passes) =
-    narrow 2916000000000000 s.marked (omega arith) (solution_is_small f component n s l few e).marked passes
-few_components_fit_behind f component n s l few e (perturbation_passes i below wide) =
-    let small = perturbation_small f component s.numbers 2916000000000000 i l (solution_is_small f component n s l few e).numbers in
-    apart (1000 * 2916000000000000) (2 ^ 127) (unsigned_abs (slope_perturbation f component s.numbers i)) (omega arith) small wide
+-- ---- the widths
+
+-- with at most t rows before each, and a scale of at most d, all bounds are below the widths
+pub record BoundsFit (t d : ℕ) : Type 0 where
+  pub some : 1 ≤ t
+  pub elimination : bound 3000 t < 2 ^ 127
+  pub perturbation : 1000 * grown 3000 t t < 2 ^ 127
+  pub scale : 3 * (1000 * grown 3000 t t) * d ≤ 2 ^ 124
+
+apart : (b top x : ℕ) → b < top → x ≤ b → top ≤ x → ⊥
+apart b top x low small high = omega arith
+
+narrow : (b : ℕ) (xs : List ℤ) → b < 2 ^ 127 → IsSmall b xs → Passes xs → ⊥
+narrow b xs low small passes =
+    let found = all_of_any (λ x. unsigned_abs x ≤ b) (λ x. 2 ^ 127 ≤ unsigned_abs x) xs small passes in
+    apart b (2 ^ 127) (unsigned_abs found.0) low found.1 found.2
+
+narrow_behind : (f : FunctionData) (component : ℕ → ℕ) (s : Solution) (g d : ℕ) → IsWithinBounds f → f.scale ≤ d →
+    1000 * g < 2 ^ 127 → 3 * (1000 * g) * d ≤ 2 ^ 124 → SolutionIsSmall g s → IsWideBehind f component s → ⊥
+narrow_behind f component s g d l low fits scale_fits small (kernel_passes passes) =
+    narrow g s.marked (below g (2 ^ 127) fits) small.marked passes
   where
-    apart : (b top x : ℕ) → b < top → x ≤ b → top ≤ x → ⊥
-    apart b top x low small high = omega arith
-few_components_fit_behind f component n s l few e (scale_passes h halves wide) =
-    let small = perturbation_small f component s.numbers 2916000000000000 halves.greatest_size.i l
-    (solution_is_small f component n s l few e).numbers in
-    let p_low : halves.p ≤ 1000 * 2916000000000000 =
-    subst (λ (x : ℕ). x ≤ 1000 * 2916000000000000) halves.greatest_size.reached small in
-    let scale_low : f.scale * 1 ≤ 2 ^ 31 = let high = l.scale_high in omega arith in
-    let thrice : 3 * halves.p ≤ 3 * (1000 * 2916000000000000) = omega arith in
-    let product : 3 * halves.p * (f.scale * 1) ≤ 3 * (1000 * 2916000000000000) * 2 ^ 31 = mul-le-mul thrice scale_low in
-    apart (3 * (1000 * 2916000000000000) * 2 ^ 31) (2 ^ 124) (3 * halves.p * (f.scale * 1)) (omega arith) product
+    below : (g top : ℕ) → 1000 * g < top → g < top
+    below g top fits = omega arith
+narrow_behind f component s g d l low fits scale_fits small (perturbation_passes i within wide) =
+    apart (1000 * g) (2 ^ 127) (unsigned_abs (slope_perturbation f component s.numbers i)) fits
+    (perturbation_small f component s.numbers g i l small.numbers) wide
+narrow_behind f component s g d l low fits scale_fits small (scale_passes h halves wide) =
+    let p_low : halves.p ≤ 1000 * g =
+    subst (λ (x : ℕ). x ≤ 1000 * g) halves.greatest_size.reached
+    (perturbation_small f component s.numbers g halves.greatest_size.i l small.numbers) in
+    let thrice : 3 * halves.p ≤ 3 * (1000 * g) = omega arith in
+    let product : 3 * halves.p * (f.scale * 1) ≤ 3 * (1000 * g) * d =
+    mul-le-mul thrice (let e : f.scale * 1 ≤ d = omega arith in e) in
+    scale_apart (3 * (1000 * g) * d) (2 ^ 124) (3 * halves.p * (f.scale * 1)) scale_fits product
     (subst (λ (x : ℤ). pos (2 ^ 124) <ℤ x) halves.scale wide)
   where
-    apart : (b top x : ℕ) → b ≤ top → x ≤ b → pos top <ℤ pos x → ⊥
-    apart b top x low small high = omega (arith, ints)
+    scale_apart : (b top x : ℕ) → b ≤ top → x ≤ b → pos top <ℤ pos x → ⊥
+    scale_apart b top x low small high = omega (arith, ints)
+
+pub narrow_components : (f : FunctionData) (lines : List CoverLine) (component : ℕ → ℕ) (n t d : ℕ) → IsWithinBounds f → f.scale ≤ d →
+    AreAllCovered f lines component n → n ≤ suc t → BoundsFit t d → IsTooWide f → ⊥
+narrow_components f lines component n t d l low covered few fits wide =
+    let same : wide.n ≡ n =
+    wide.covered.count ∙ ap components_in (one_cover f.order (IsTight f) wide.lines lines wide.covered.are_lines covered.are_lines)
+    ∙ sym covered.count in
+    let so_few : wide.n ≤ suc t = omega arith in
+    elim (wide.passes) [
+      | inl passes ↦
+          narrow (bound 3000 t) (slope_elimination f wide.component wide.n).marked fits.elimination
+          (elimination_is_small f wide.component wide.n t l so_few).marked passes
+      | inr behind ↦
+          narrow_behind f wide.component behind.0 (grown 3000 t t) d l low fits.perturbation fits.scale
+          (solution_is_small f wide.component wide.n t behind.0 l fits.some so_few behind.1) behind.2
+    ]
+
+-- ---- at most three components
+
+two_steps : bound 3000 2 ≡ 648000000000000
+unfolding bound
+two_steps = refl
+
+two_solved : grown 3000 2 2 ≡ 216000000000
+unfolding bound grown
+two_solved = refl
+
+three_fit : BoundsFit 2 (2 ^ 31)
+three_fit = record {
+  some = omega arith;
+  elimination = let e = two_steps in omega arith;
+  perturbation = let e = two_solved in omega arith;
+  scale = subst (λ (g : ℕ). 3 * (1000 * g) * 2 ^ 31 ≤ 2 ^ 124) (sym two_solved) (omega arith);
+}
 
 pub few_components : (f : FunctionData) (lines : List CoverLine) (component : ℕ → ℕ) (n : ℕ) → IsWithinBounds f →
     AreAllCovered f lines component n → n ≤ 3 → IsTooWide f → ⊥
 few_components f lines component n l covered few wide =
-    let same : wide.n ≡ n =
-    wide.covered.count ∙ ap components_in (one_cover f.order (IsTight f) wide.lines lines wide.covered.are_lines covered.are_lines)
-    ∙ sym covered.count in
-    let low : wide.n ≤ 3 = omega arith in
-    elim (wide.passes) [
-      | inl passes ↦ few_components_fit f wide.component wide.n l low passes
-      | inr behind ↦ few_components_fit_behind f wide.component wide.n behind.0 l low behind.1 behind.2
-    ]
+    narrow_components f lines component n 2 (2 ^ 31) l (let high = l.scale_high in omega arith) covered few three_fit wide
