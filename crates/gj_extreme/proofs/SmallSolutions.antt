@@ -73,7 +73,8 @@ solving_small m k v row j w m_some row_small w_small short some =
     let sum = total ps in
     let q = int_div sum (pos g) in
     let is = gcd_of_is (unsigned_abs sum) (unsigned_abs (at_column row j)) in
-    let g_some : 0 < g = gcd_positive (unsigned_abs sum) (unsigned_abs (at_column row j)) g is (inr (abs_positive_z (at_column row j) some)) in
+    let g_some : 0 < g =
+    gcd_positive (unsigned_abs sum) (unsigned_abs (at_column row j)) g is (inr (abs_positive_z (at_column row j) some)) in
     let u_low = factor_small u g (at_column row j) g_some (quotient_of_divisor (at_column row j) (pos g) is.1) in
     let q_low = factor_small q g sum g_some (quotient_of_divisor sum (pos g) is.0) in
     let row_at = small_at k row j row_small in
