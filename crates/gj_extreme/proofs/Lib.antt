@@ -7,6 +7,7 @@ pub mod OneCover
 pub mod SmallNumbers
 pub mod SmallSolutions
 pub mod FewComponents
+pub mod FourComponents
 pub mod OneViolation
 pub mod OneDecision
 pub mod NotTooWide
