@@ -5,3 +5,6 @@ pub mod Combinations
 pub mod Rows
 pub mod Reduction
 pub mod Counts
+pub mod AtPlaces
+pub mod StepsInTurn
+pub mod Tables

@@ -1,5 +1,7 @@
 //! The rules on one group.
-ghost use Rattle.std.specs.Prelude.{ℤ, pos, ◌≡◌, ◌≢◌, ◌<◌, ◌↔◌, List, All, IfNone, IsTrue, length};
+ghost use Rattle.std.specs.Prelude.{ℤ, pos, ◌≡◌, ◌<◌, ◌^◌, ◌↔◌, ◌+ℤ◌, List, All, IfNone, IfSome, IsTrue, get_or, length, unsigned_abs};
+ghost use Rattle.std.specs.declared.option.Option.TheVariants.{Some, None};
+ghost use Rattle.gj_shape.specs.Additive.{IsTight};
 ghost use Rattle.gj_shape.specs.Elimination.{KeptRow};
 ghost use Rattle.gj_rank.specs.Numbers.{Fits};
 ghost use Rattle.gj_rank.specs.KeptTable.{IsTable, AreRowsAt};
@@ -52,12 +54,28 @@ fn meets_row(shape: &Shape, name: RowName) -> bool
 {
     match name {
         RowName::Period | RowName::F => true,
-        RowName::Pair(a, b) => {
-            let values = shape.value_numerators();
-            let sum = (a as usize + b as usize) % values.len();
-            values[a as usize] + values[b as usize] == values[sum]
-        }
+        RowName::Pair(a, b) => is_tight(shape, a as usize, b as usize),
     }
+}
+
+/// Whether the pair is tight.
+fn is_tight(shape: &Shape, a: usize, b: usize) -> bool
+    requires first { a < shape.now.order }
+    requires second { b < shape.now.order }
+    ensures { IsTrue result ↔ IsTight shape.now a b }
+{
+    let values = shape.value_numerators();
+    let sum = (a + b) % values.len();
+    adds_up(values[a], values[b], values[sum])
+}
+
+/// Whether the sum of two numbers is the third.
+fn adds_up(x: i64, y: i64, sum: i64) -> bool
+    requires first { unsigned_abs x < 2 ^ 51 }
+    requires second { unsigned_abs y < 2 ^ 51 }
+    ensures { IsTrue result ↔ (x +ℤ y ≡ sum) }
+{
+    x + y == sum
 }
 
 /// Reduces a row at these columns in turn. The answer is the first rule that fails; the row is no longer used then.
@@ -96,15 +114,29 @@ fn failure_in_step(
     ensures fits { IfNone result (All Fits row.new) }
 {
     let column = column as usize;
-    let Some(Some(kept)) = table.get(column) else {
+    let Some(kept) = row_at(table, column) else {
         return Some(GroupRule::Reduce);
     };
     if row[column] == 0 {
         return Some(GroupRule::Reduce);
     }
-    match reduce_by(kept.as_slice(), row, column) {
+    match reduce_by(kept, row, column) {
         Ok(()) => None,
         Err(_) => Some(GroupRule::Size),
+    }
+}
+
+/// The entries of the kept row with its pivot at the column.
+fn row_at(table: &[Option<List<i128>>], column: usize) -> Option<&[i128]>
+    ensures some { IfSome result (λ entries. Some entries.now ≡ get_or table.now column None) }
+    ensures none { IfNone result (None ≡ get_or table.now column None) }
+{
+    if column >= table.len() {
+        return None;
+    }
+    match &table[column] {
+        Some(entries) => Some(entries.as_slice()),
+        None => None,
     }
 }
 
@@ -118,8 +150,20 @@ fn meets_pivot(table: &[Option<List<i128>>], row: &[i128], column: u32) -> bool
     if column >= row.len() {
         return false;
     }
-    if table[column].is_some() || row[column] == 0 {
+    if table[column].is_some() {
         return false;
     }
-    row[..column].iter().all(|x| *x == 0)
+    row[column] != 0 && are_zeros(&row[..column])
+}
+
+/// Whether all entries are 0.
+fn are_zeros(row: &[i128]) -> bool
+    ensures { IsTrue result ↔ All (λ x. x ≡ pos 0) row.now }
+{
+    for x in row {
+        if *x != 0 {
+            return false;
+        }
+    }
+    true
 }
