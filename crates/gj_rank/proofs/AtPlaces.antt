@@ -2,7 +2,7 @@
 use Rattle.std.proofs.Common.{◌≡◌, ℕ, zero, suc, ◌+◌, ◌<◌, ◌≤◌, List, [], ◌∷◌, ◌++◌, length, take, drop, get_or, refl, sym, ap, subst, subst₂, ◌∙◌, arith}
 use Rattle.std.proofs.Math.Seq.{split_at}
 use Rattle.std.proofs.lemmas.List.{length-append, length-take-le, take_more}
-use Rattle.gj_rank.specs.Stub.{AtIndex}
+use Rattle.gj_proof.specs.Rules.{AtIndex}
 
 -- a list is split at an index in one way
 one_split : {A : Type 0} (b c : List A) (x y : A) (xs ys : List A) → b ++ x ∷ xs ≡ c ++ y ∷ ys → length b ≡ length c →

@@ -5,7 +5,7 @@ use Rattle.std.proofs.lemmas.List.{take_all}
 use Rattle.gj_shape.specs.Elimination.{KeptRow, entries_of, row_with_pivot, reduced}
 use Rattle.gj_theory.specs.TriangularRows.{present_row}
 use Rattle.gj_rank.specs.declared.failure.GroupRule.{GroupRule}
-use Rattle.gj_rank.specs.Stub.{AtIndex}
+use Rattle.gj_proof.specs.Rules.{AtIndex}
 use Rattle.gj_rank.specs.GroupOutcomes.{MeetsStep, FailsStep, MeetsStepBehind, FailAt, IsStepOutcome}
 use Rattle.gj_rank.proofs.AtPlaces.{at_place, with_place, each_item}
 

@@ -5,7 +5,9 @@ use Rattle.std.specs.List.{find}
 use Rattle.std.proofs.lemmas.Bool.{cases_eq, eqb-eq, eq-eqb, ne_eqb}
 use Rattle.std.proofs.lemmas.List.{get_or-set_same, get_or-set_other}
 use Rattle.std.proofs.lemmas.List.Elements.{All-nil, All-cons}
-use Rattle.gj_shape.specs.Elimination.{KeptRow, at_column, kept_entries, row_with_pivot}
+use Rattle.gj_shape.specs.Elimination.{KeptRow, at_column, entries_of, kept_entries, row_with_pivot, reduced, marked_in_step, Passes}
+use Rattle.gj_proof.specs.Rules.{MeetsReduce, MeetsSize, MeetsPivot}
+use Rattle.gj_rank.specs.GroupOutcomes.{MeetsStep}
 use Rattle.gj_rank.specs.KeptTable.{entries_kept, AreRowsAt, IsKeptAt, IsTable}
 
 -- ---- the row with a pivot
@@ -64,3 +66,56 @@ row_of_entries (Some k) e h = (k, refl, cc)
 pub no_entries : (o : Option KeptRow) → None ≡ entries_kept o → o ≡ None
 no_entries None h = refl
 no_entries (Some k) h = absurd cc
+
+-- ---- a step
+
+pub no_step : (kept : List KeptRow) (table : List (Option (List ℤ))) (row : List ℤ) (c : ℕ) → AreRowsAt kept table →
+    None ≡ get_or table c None → MeetsReduce kept row c → ⊥
+no_step kept table row c rows none h = none_has_pivot kept c (no_entries (row_with_pivot kept c) (none ∙ rows c)) h.pivot
+
+-- the entries of the kept row
+pub entries_at : (kept : List KeptRow) (table : List (Option (List ℤ))) (c : ℕ) (e : List ℤ) → AreRowsAt kept table →
+    Some e ≡ get_or table c None → (Any (λ r. r.pivot ≡ c) kept) × (entries_of (row_with_pivot kept c) ≡ e)
+unfolding entries_of
+entries_at kept table c e rows some =
+    let (k, found, is) = row_of_entries (row_with_pivot kept c) e (some ∙ rows c) in
+    (any_with_pivot kept c k found, ap entries_of found ∙ is)
+
+pub step_reduces : (kept : List KeptRow) (table : List (Option (List ℤ))) (row e : List ℤ) (c : ℕ) → AreRowsAt kept table →
+    Some e ≡ get_or table c None → at_column row c ≢ pos 0 → MeetsReduce kept row c
+step_reduces kept table row e c rows some not_zero = record { pivot = (entries_at kept table c e rows some).0; not_zero = not_zero }
+
+pub step_meets : (kept : List KeptRow) (table : List (Option (List ℤ))) (row e after : List ℤ) (c : ℕ) → AreRowsAt kept table →
+    Some e ≡ get_or table c None → at_column row c ≢ pos 0 → (Passes (marked_in_step e row c) → ⊥) → after ≡ reduced e row c →
+    MeetsStep kept row c × (after ≡ reduced (entries_of (row_with_pivot kept c)) row c)
+step_meets kept table row e after c rows some not_zero narrow is =
+    let same = sym (entries_at kept table c e rows some).1 in (
+      record {
+        reduce = step_reduces kept table row e c rows some not_zero;
+        size = subst (λ (xs : List ℤ). Passes (marked_in_step xs row c) → ⊥) same narrow;
+      },
+      is ∙ ap (λ xs. reduced xs row c) same,
+    )
+
+pub step_too_wide : (kept : List KeptRow) (table : List (Option (List ℤ))) (row e : List ℤ) (c : ℕ) → AreRowsAt kept table →
+    Some e ≡ get_or table c None → at_column row c ≢ pos 0 → Passes (marked_in_step e row c) →
+    MeetsReduce kept row c × (MeetsSize kept row c → ⊥)
+step_too_wide kept table row e c rows some not_zero wide =
+    let same = sym (entries_at kept table c e rows some).1 in (
+      step_reduces kept table row e c rows some not_zero,
+      λ narrow. narrow (subst (λ (xs : List ℤ). Passes (marked_in_step xs row c)) same wide),
+    )
+
+-- ---- a pivot
+
+-- no row has its pivot at a column of the table without entries
+pub new_pivot : (kept : List KeptRow) (table : List (Option (List ℤ))) (c : ℕ) → AreRowsAt kept table →
+    None ≡ get_or table c None → All (λ r. r.pivot ≢ c) kept
+new_pivot kept table c rows none = none_with_pivot kept c (no_entries (row_with_pivot kept c) (none ∙ rows c))
+
+-- and one has at a column with entries
+pub no_new_pivot : (kept : List KeptRow) (table : List (Option (List ℤ))) (c : ℕ) (e : List ℤ) → AreRowsAt kept table →
+    Some e ≡ get_or table c None → All (λ r. r.pivot ≢ c) kept → ⊥
+no_new_pivot kept table c e rows some new =
+    let (i, x, below, is, at) = (entries_at kept table c e rows some).0 in
+    new i x below (ap (λ r. r.pivot) is ∙ at)

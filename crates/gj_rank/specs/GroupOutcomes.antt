@@ -5,8 +5,8 @@ use Rattle.std.specs.declared.option.Option.TheVariants.{Some, None}
 use Rattle.gj_shape.specs.Elimination.{KeptRow, entries_of, row_with_pivot, reduced}
 use Rattle.gj_shape.specs.FunctionData.{FunctionData}
 use Rattle.gj_theory.specs.TriangularRows.{present_row}
-use Rattle.gj_rank.specs.declared.stub.PivotRow.{PivotRow}
-use Rattle.gj_rank.specs.Stub.{AtIndex, MeetsRow, MeetsReduce, MeetsSize, MeetsPivot}
+use Rattle.gj_proof.specs.declared.pivot.PivotRow.{PivotRow}
+use Rattle.gj_proof.specs.Rules.{AtIndex, MeetsRow, MeetsReduce, MeetsSize, MeetsPivot}
 use Rattle.gj_rank.specs.declared.failure.GroupRule.{GroupRule}
 use Rattle.gj_rank.specs.declared.failure.GroupRule.TheVariants.{Row, Reduce, Size, Pivot}
 use Rattle.gj_rank.specs.declared.failure.GroupFailure.{GroupFailure}

@@ -1,5 +1,5 @@
 pub mod Numbers
 pub mod Components
-pub mod Stub
+pub mod Groups
 pub mod KeptTable
 pub mod GroupOutcomes

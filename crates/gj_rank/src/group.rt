@@ -5,12 +5,13 @@ ghost use Rattle.gj_shape.specs.Additive.{IsTight};
 ghost use Rattle.gj_shape.specs.Elimination.{KeptRow};
 ghost use Rattle.gj_rank.specs.Numbers.{Fits};
 ghost use Rattle.gj_rank.specs.KeptTable.{IsTable, AreRowsAt};
-ghost use Rattle.gj_rank.specs.Stub.{IsRowNameBelow, MeetsRow, MeetsPivot};
+ghost use Rattle.gj_proof.specs.ProofText.{IsRowNameBelow};
+ghost use Rattle.gj_proof.specs.Rules.{MeetsRow, MeetsPivot};
 ghost use Rattle.gj_rank.specs.GroupOutcomes.{IsStepOutcome, IsStepsOutcome, IsGroupOutcome};
 
 use crate::failure::{GroupFailure, GroupRule};
 use crate::step::reduce_by;
-use crate::stub::PivotRow;
+use gj_proof::PivotRow;
 use gj_shape::{List, RowName, Shape};
 
 /// The first rule that fails in a group, where the row is that of its name; none where all hold, and then the row is as its steps

@@ -11,7 +11,7 @@ loop-x-preserved c =
     let row = c.args.row.now in
     let i = c.loop-x.x-index in
     let x = get_or row i (pos 0) in
-    let zero : x ≡ pos 0 = zero_from_bits x (search rules) ? in
+    let zero : x ≡ pos 0 = zero_from_bits x (search rules) c.if-x-ne0.false in
     let more = with_place row i x c.loop-x-test.true (get_or_default row i (pos 0) x c.loop-x-test.true) in
     subst (All (λ y. y ≡ pos 0)) (sym more) (All-push (λ y. y ≡ pos 0) (take i row) x c.loop-x.invariant zero)
 
