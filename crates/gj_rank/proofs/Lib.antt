@@ -10,3 +10,4 @@ pub mod StepsInTurn
 pub mod Tables
 pub mod GroupsInTurn
 pub mod GroupDemands
+pub mod ClaimGroups
