@@ -103,11 +103,7 @@ fn failure_in_steps(
 }
 
 /// Reduces a row at a column. The answer is the first rule that fails; the row is no longer used then.
-fn failure_in_step(
-    table: &[Option<List<i128>>],
-    row: &mut [i128],
-    column: u32,
-) -> Option<GroupRule>
+fn failure_in_step(table: &[Option<List<i128>>], row: &mut [i128], column: u32) -> Option<GroupRule>
     requires table { IsTable (length row.old) table.now }
     requires fits { All Fits row.old }
     ensures outcome { (kept : List KeptRow) → AreRowsAt kept table.now →
