@@ -111,8 +111,9 @@ fn failure_in_step(table: &[Option<List<i128>>], row: &mut [i128], column: u32) 
     ensures fits { IfNone result (All Fits row.new) }
 {
     let column = column as usize;
-    let Some(kept) = row_at(table, column) else {
-        return Some(GroupRule::Reduce);
+    let kept = match row_at(table, column) {
+        Some(kept) => kept,
+        None => return Some(GroupRule::Reduce),
     };
     if row[column] == 0 {
         return Some(GroupRule::Reduce);

@@ -11,7 +11,7 @@ use gj_shape::{List, RowName, Shape};
 use std::alloc::AllocError;
 use std::test::Fail;
 
-/// The continuous function with f = place/order and these values, each over 3, 6 or another denominator.
+/// The continuous function with f = place/order that has these values, each over the denominator, at the multiples of 1/order.
 fn function(
     rt: &HostRuntime,
     order: u32,
