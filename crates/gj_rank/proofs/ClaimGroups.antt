@@ -23,7 +23,7 @@ use Rattle.gj_proof.specs.ProofText.ProofLine.{point}
 use Rattle.gj_proof.specs.Rules.{Demand, AtIndex, MeetsReduce, MeetsSize, MeetsPivot, step_demands, group_demands, line_of, Holds}
 use Rattle.gj_proof.specs.Rules.Demand.{row, reduce, size, pivot}
 use Rattle.gj_proof.proofs.LineNumbers.{number_of_own}
-use Rattle.gj_rank.proofs.Counts.{rises_more}
+use Rattle.gj_theory.proofs.RiseCounts.{rises_more}
 use Rattle.gj_rank.specs.declared.failure.GroupFailure.{GroupFailure}
 use Rattle.gj_rank.specs.Groups.{IfGroupOf, GroupHolds, IsRuleOf, IsFirstGroupFailure}
 

@@ -1,5 +1,5 @@
 use Rattle.std.proofs.Common.{pos, get_or}
-use Rattle.gj_rank.proofs.Numbers.{some_from_bits}
+use Rattle.gj_theory.proofs.WideNumbers.{some_from_bits}
 use Rattle.gj_rank.proofs.Tables.{no_step, step_meets, step_too_wide}
 use Rattle.gj_rank.proofs.group.failure_in_step.Goals as goal
 

@@ -1,7 +1,7 @@
 use Rattle.std.proofs.Common.{pos, get_or, sym, ◌∙◌, arith}
 use Rattle.std.specs.Prelude.{None}
 use Rattle.std.proofs.lemmas.List.{get_or_default}
-use Rattle.gj_rank.proofs.Numbers.{some_from_bits}
+use Rattle.gj_theory.proofs.WideNumbers.{some_from_bits}
 use Rattle.gj_rank.proofs.Tables.{taken, not_taken, no_new_pivot, pivot_tested}
 use Rattle.gj_rank.proofs.group.meets_pivot.Goals as goal
 

@@ -9,8 +9,8 @@ use Rattle.gj_shape.specs.SlopeRows.{row_of}
 use Rattle.gj_proof.specs.PresentRows.{rows_before, named_row}
 use Rattle.gj_proof.specs.ProofText.{IsRowNameBelow}
 use Rattle.gj_rank.specs.Components.{component_in}
-use Rattle.gj_rank.specs.Numbers.{Fits}
-use Rattle.gj_rank.proofs.Counts.{row_fits}
+use Rattle.gj_theory.specs.Fitting.{Fits}
+use Rattle.gj_rank.proofs.RowSizes.{row_fits}
 use Rattle.gj_rank.proofs.GroupsInTurn.{checked_start, checked_more, checked_all}
 use Rattle.gj_rank.proofs.groups.failure_in_turn.Goals as goal
 

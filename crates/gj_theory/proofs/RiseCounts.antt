@@ -1,21 +1,16 @@
 -- Counts of the intervals in each component.
-use Rattle.std.proofs.Common.{◌≡◌, ◌≢◌, ℕ, ◌+◌, ◌%◌, ◌<◌, ◌≤◌, ◌^◌, ◌⊎◌, inl, inr, cond, ℤ, pos, ◌+ℤ◌, ◌-ℤ◌, List, [], ◌∷◌, ◌++◌, length, map, get_or, set, eqb, unsigned_abs, FitsSigned, to_z, of_z, refl, sym, ap, subst, ◌∙◌, zero-add, arith}
+use Rattle.std.proofs.Common.{◌≡◌, ◌≢◌, ℕ, ◌+◌, ◌<◌, ◌≤◌, ◌^◌, ◌⊎◌, inl, inr, cond, ℤ, pos, ◌+ℤ◌, ◌-ℤ◌, List, [], ◌∷◌, ◌++◌, length, map, get_or, set, eqb, unsigned_abs, FitsSigned, to_z, of_z, refl, sym, ap, subst, ◌∙◌, zero-add, arith}
 use Rattle.std.specs.Prelude.{count_by, All}
 use Rattle.std.specs.List.{range_with_len}
 use Rattle.std.proofs.lemmas.Bool.{cases_eq, eq-eqb, ne_eqb}
 use Rattle.std.proofs.lemmas.Int.{ints, to_z-of_z, fits_signed_from_abs}
 use mir.Syntax.{w128}
 use Rattle.std.proofs.lemmas.List.{get_or-set_same, get_or-set_other}
-use Rattle.std.proofs.lemmas.List.Elements.{All-get_or, All-from_get_or, All-map}
-use Rattle.std.proofs.lemmas.Nat.{mod_below}
+use Rattle.std.proofs.lemmas.List.Elements.{All-get_or, All-from_get_or}
 use Rattle.std.proofs.lemmas.List.Sums.{sum_by_push, count_by-le-length}
 use Rattle.std.proofs.lemmas.List.FromFn.{length-range_with_len, fill_by_all}
-use Rattle.gj_tools.proofs.Lists.{range_split, All-range}
-use Rattle.gj_shape.specs.SlopeRows.{rises, row_entry, row_of}
-use Rattle.gj_shape.specs.declared.extremality.RowName.{RowName}
-use Rattle.gj_shape.specs.declared.extremality.RowName.TheVariants.{Period, F, Pair}
-use Rattle.gj_proof.specs.ProofText.{IsRowNameBelow}
-use Rattle.gj_rank.specs.Numbers.{Fits}
+use Rattle.gj_tools.proofs.Lists.{range_split}
+use Rattle.gj_shape.specs.SlopeRows.{rises}
 
 -- ---- one more interval
 
@@ -44,6 +39,9 @@ rises_at_most f i c =
 
 pub record HasAdded (f : ℕ → ℕ) (i : ℕ) (old row : List ℤ) : Type 0 where
   pub at : (c : ℕ) → c < length old → get_or row c (pos 0) ≡ get_or old c (pos 0) +ℤ pos (rises f i c)
+
+pub added_none : (f : ℕ → ℕ) (old : List ℤ) → HasAdded f 0 old old
+added_none f old = record { at = λ c below. omega (arith, ints) }
 
 pub added_more : (f : ℕ → ℕ) (i : ℕ) (old row : List ℤ) (z : ℤ) → HasAdded f i old row → length row ≡ length old →
     f i < length old → z ≡ get_or row (f i) (pos 0) +ℤ pos 1 → HasAdded f (i + 1) old (set row (f i) z)
@@ -74,6 +72,9 @@ added_small f i c m old row h small below =
 
 pub record HasSubtracted (f : ℕ → ℕ) (i : ℕ) (old row : List ℤ) : Type 0 where
   pub at : (c : ℕ) → c < length old → get_or row c (pos 0) ≡ get_or old c (pos 0) -ℤ pos (rises f i c)
+
+pub subtracted_none : (f : ℕ → ℕ) (old : List ℤ) → HasSubtracted f 0 old old
+subtracted_none f old = record { at = λ c below. omega (arith, ints) }
 
 pub subtracted_more : (f : ℕ → ℕ) (i : ℕ) (old row : List ℤ) (z : ℤ) → HasSubtracted f i old row → length row ≡ length old →
     f i < length old → z ≡ get_or row (f i) (pos 0) -ℤ pos 1 → HasSubtracted f (i + 1) old (set row (f i) z)
@@ -176,22 +177,3 @@ pub read_one_less : (x : ℤ) (i : ℕ) → unsigned_abs x < 2 ^ 100 + i → i <
     to_z w128 (of_z w128 (to_z w128 (of_z w128 x) -ℤ pos 1)) ≡ x -ℤ pos 1
 read_one_less x i h below =
     ap (λ z. to_z w128 (of_z w128 (z -ℤ pos 1))) (read_small x i h below) ∙ to_z-of_z w128 (x -ℤ pos 1) (less_fits x i h below)
-
--- ---- a row of counts has small entries
-
-entry_fits : (f : ℕ → ℕ) (q k c : ℕ) (name : RowName) → k < q → IsRowNameBelow q name → q < 2 ^ 64 → Fits (row_entry f q k name c)
-entry_fits f q k c Period place below small = let most = rises_at_most f q c in omega (arith, ints)
-entry_fits f q k c F place below small = let most = rises_at_most f k c in omega (arith, ints)
-entry_fits f q k c (Pair a b) place below small =
-    let first = rises_at_most f a c in
-    let second = rises_at_most f b c in
-    let third = rises_at_most f ((a + b) % q) c in
-    let rest = mod_below (a + b) q (omega arith) in
-    let order : a ≤ b = below.1 in
-    let within : b < q = below.2 in
-    omega (arith, ints)
-
-pub row_fits : (f : ℕ → ℕ) (n q k : ℕ) (name : RowName) → k < q → IsRowNameBelow q name → q < 2 ^ 64 → All Fits (row_of f n q k name)
-row_fits f n q k name place below small =
-    All-map Fits (row_entry f q k name) (range_with_len 0 n)
-    (All-range (λ c. Fits (row_entry f q k name c)) 0 n (λ c low. entry_fits f q k c name place below small))
