@@ -14,7 +14,7 @@ use Rattle.gj_shape.specs.SlopeRows.{rises}
 
 -- ---- one more interval
 
-rises_more : (f : ℕ → ℕ) (i c : ℕ) → rises f (i + 1) c ≡ rises f i c + cond (eqb (f i) c) 1 0
+pub rises_more : (f : ℕ → ℕ) (i c : ℕ) → rises f (i + 1) c ≡ rises f i c + cond (eqb (f i) c) 1 0
 rises_more f i c =
     ap (count_by (λ a. eqb (f a) c)) (range_split 0 i 1 ∙ ap (λ k. range_with_len 0 i ++ k ∷ []) (zero-add i))
     ∙ sum_by_push (λ a. cond (eqb (f a) c) 1 0) (range_with_len 0 i) i
