@@ -55,6 +55,13 @@ impl SlopeRows {
         })
     }
 
+    /// How many components there are.
+    pub fn columns(&self) -> u32
+        ensures { result ≡ self.now.columns }
+    {
+        self.columns
+    }
+
     /// Writes the row with this name, for a function with f at the place: at each component the rise up to 1, up to f, or up
     /// to both points of the pair less that up to their sum. It takes no memory.
     pub fn write_row(&self, place: u32, name: RowName, row: &mut [i128])
