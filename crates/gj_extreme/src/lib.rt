@@ -1,4 +1,15 @@
-//! The decision whether a function is extreme, with its proof.
+//! The decision whether a minimal function is extreme, with its proof.
+//!
+//! `specs/Decision.antt` says which proof the decision gives of a function, and when its numbers are too wide.
 #![tactic(auto)]
 
+mod covered;
+mod decision;
+mod faults;
+mod groups;
 mod rows;
+mod slopes;
+mod uncovered;
+
+pub use decision::decide;
+pub use faults::DecideFault;

@@ -1,8 +1,8 @@
 //! The rows of the linear system for the slopes, inserted in their order until there is one for each component.
-ghost use Rattle.std.specs.Prelude.{ℕ, ◌≡◌, ◌<◌, ◌≤◌, ◌+◌, ◌*◌, ◌%◌, ◌^◌, ◌↔◌, ◌+ℤ◌, ◌∷◌, [], List, length, IfOk, OnOk, IsErrOf, IsTrue, unsigned_abs};
+ghost use Rattle.std.specs.Prelude.{ℕ, ◌≡◌, ◌<◌, ◌≤◌, ◌+◌, ◌*◌, ◌%◌, ◌^◌, ◌↔◌, ◌+ℤ◌, ◌∷◌, [], List, length, All, IfOk, OnOk, IsErrOf, IsTrue, unsigned_abs};
 ghost use Rattle.gj_shape.specs.Additive.{IsTight};
 ghost use Rattle.gj_shape.specs.Elimination.{Passes};
-ghost use Rattle.gj_shape.specs.FunctionData.{FunctionData, at};
+ghost use Rattle.gj_shape.specs.FunctionData.{FunctionData, IsWithinBounds, at};
 ghost use Rattle.gj_shape.specs.SlopeRows.{row_names};
 ghost use Rattle.gj_shape.specs.declared.extremality.RowName.{RowName};
 ghost use Rattle.gj_system.specs.Components.{component_in, IsNameBelow};
@@ -23,18 +23,40 @@ pub(crate) struct Rows {
     pub(crate) row: Vec<i128>,
 }
 
-/// Inserts the rows of the system in their order, until there is one for each component.
-pub(crate) fn insert_rows(
+/// The rows of the system for intervals in these components, inserted in their order until there is one for each of the `count`
+/// components.
+pub(crate) fn rows_of(
     alloc: Global,
     shape: &Shape,
+    component: &[u32],
+    count: u32,
+) -> Result<Rows, ElimFault>
+    requires order { length component.now ≡ shape.now.order }
+    requires components { All (λ c. c < count) component.now }
+    ensures limits { IsWithinBounds shape.now }
+    ensures rows { IfOk result (AreInserted shape.now (component_in component.now) count) }
+    ensures wide { IsErrOf result ElimFault.Wide →
+        Passes (slope_elimination shape.now (component_in component.now) count).marked }
+{
+    let order = shape.order();
+    let system = SlopeRows::new(alloc, component, count)?;
+    insert_rows(alloc, shape, order, &system)
+}
+
+/// Inserts the rows of the system for a function of this order, until there is one for each component.
+fn insert_rows(
+    alloc: Global,
+    shape: &Shape,
+    order: u32,
     system: &SlopeRows,
 ) -> Result<Rows, ElimFault>
-    requires { length system.now.component ≡ shape.now.order }
+    requires limits { IsWithinBounds shape.now }
+    requires order { order ≡ shape.now.order }
+    requires components { length system.now.component ≡ shape.now.order }
     ensures rows { IfOk result (AreInserted shape.now (component_in system.now.component) system.now.columns) }
     ensures wide { IsErrOf result ElimFault.Wide →
         Passes (slope_elimination shape.now (component_in system.now.component) system.now.columns).marked }
 {
-    let order = shape.order();
     let mut rows = Rows::new(alloc, system)?;
     rows.insert(shape, system, RowName::Period)?;
     rows.insert(shape, system, RowName::F)?;

@@ -10,7 +10,7 @@ use Rattle.gj_extreme.proofs.rows.insert_rows.Goals as goal
 pub insert-requires-clause-ready : goal.insert-requires-clause-ready
 insert-requires-clause-ready c =
     rows_are_ready c.args.shape.now (component_in c.args.system.now.component) c.args.system.now.columns c.in_ok-rows.rows _
-    c.order-order.ensures.limits (c.in_ok-rows.ensures c.args.shape.now)
+    c.requires.limits (c.in_ok-rows.ensures c.args.shape.now)
 
 pub returns-in_err-insert-clause-wide : goal.returns-in_err-insert-clause-wide
 returns-in_err-insert-clause-wide c = λ e.
@@ -22,7 +22,7 @@ returns-in_err-insert-clause-wide c = λ e.
 pub insert-requires-2-clause-ready : goal.insert-requires-2-clause-ready
 insert-requires-2-clause-ready c =
     rows_are_ready c.args.shape.now (component_in c.args.system.now.component) c.args.system.now.columns c.insert.new.self
-    (F ∷ rows_from c.args.shape.now 1) c.order-order.ensures.limits
+    (F ∷ rows_from c.args.shape.now 1) c.requires.limits
     (c.in_ok-insert.ensures.to_come (F ∷ rows_from c.args.shape.now 1) (c.in_ok-rows.ensures c.args.shape.now))
 
 pub returns-in_err-insert-2-clause-wide : goal.returns-in_err-insert-2-clause-wide
@@ -53,4 +53,4 @@ returns-clause-rows c =
     let comp = component_in c.args.system.now.component in
     let n = c.args.system.now.columns in
     all_inserted f comp n c.loop-a.rows
-    (subst (AreToCome f comp n c.loop-a.rows) (no_rows f c.loop-a.a (omega (arith, c.order-order.ensures.value))) c.loop-a.invariant)
+    (subst (AreToCome f comp n c.loop-a.rows) (no_rows f c.loop-a.a (omega (arith, c.requires.order))) c.loop-a.invariant)
