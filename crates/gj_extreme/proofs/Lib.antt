@@ -1,2 +1,11 @@
+pub mod KeptGroups
+pub mod DecidedGroups
+pub mod DecidedHalves
+pub mod DecidedRules
+pub mod DecidedHolds
+pub mod OneCover
+pub mod SmallNumbers
+pub mod SmallSolutions
+pub mod FewComponents
 pub mod RowOrder
 pub mod TakenRows

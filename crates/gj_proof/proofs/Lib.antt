@@ -14,3 +14,4 @@ pub mod CutTexts
 pub mod CutRead
 pub mod OwnLines
 pub mod CutWritten
+pub mod GridCoordinates
