@@ -9,3 +9,9 @@ pub mod SmallSolutions
 pub mod FewComponents
 pub mod RowOrder
 pub mod TakenRows
+pub mod GroupLists
+pub mod KernelFits
+pub mod ListedHalves
+pub mod CoveredNumbers
+pub mod WideParts
+pub mod FaultCases
