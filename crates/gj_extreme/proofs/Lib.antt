@@ -15,3 +15,6 @@ pub mod ListedHalves
 pub mod CoveredNumbers
 pub mod WideParts
 pub mod FaultCases
+pub mod FoundKernel
+pub mod LineCounts
+pub mod ClaimTexts

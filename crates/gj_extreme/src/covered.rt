@@ -29,6 +29,7 @@ pub(crate) fn extreme_or_slopes(
     ensures decided { IfOk result (IsDecided shape.now) }
     ensures text { IfOk result HasText }
     ensures wide { IsErrOf result DecideFault.Wide → IsTooWide shape.now }
+    ensures no_jump { (i : ℕ) → ¬ IsErrOf result (DecideFault.NotContinuous i) }
 {
     let component = numbers_of(alloc, cover.component.as_slice())?;
     let rows = rows_of(alloc, shape, component.as_slice(), cover.count)?;

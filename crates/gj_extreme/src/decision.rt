@@ -66,7 +66,7 @@ fn claim_of_continuous(alloc: Global, shape: &Shape) -> Result<Claim, DecideFaul
     requires continuous { IsContinuous shape.now }
     ensures decided { IfOk result (IsDecided shape.now) }
     ensures text { IfOk result HasText }
-    ensures continuous { (i : ℕ) → ¬ IsErrOf result (DecideFault.NotContinuous i) }
+    ensures no_jump { (i : ℕ) → ¬ IsErrOf result (DecideFault.NotContinuous i) }
     ensures wide { IsErrOf result DecideFault.Wide → IsTooWide shape.now }
 {
     let cover = cover(alloc, shape)?;

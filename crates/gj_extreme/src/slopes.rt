@@ -1,5 +1,5 @@
 //! The halves of a function whose intervals are all covered, where slopes solve the linear system.
-ghost use Rattle.std.specs.Prelude.{◌≡◌, ◌<◌, List, length, IfOk, IsErrOf};
+ghost use Rattle.std.specs.Prelude.{ℕ, ◌≡◌, ◌<◌, List, length, IfOk, IsErrOf};
 ghost use Rattle.gj_shape.specs.FunctionData.{IsWithinBounds, IsContinuous};
 ghost use Rattle.gj_shape.specs.Table.{IsMinimal};
 ghost use Rattle.gj_shape.specs.declared.extremality.CoverLine.{CoverLine};
@@ -32,6 +32,7 @@ pub(crate) fn slope_halves(
     ensures halves { IfOk result (AreSlopeHalves shape.now) }
     ensures limits { IfOk result FitProofText }
     ensures wide { IsErrOf result DecideFault.Wide → IsTooWide shape.now }
+    ensures no_jump { (i : ℕ) → ¬ IsErrOf result (DecideFault.NotContinuous i) }
 {
     let numbers = rows.basis.kernel()?.unwrap();
     let perturbation = from_slopes(alloc, component, numbers.as_slice())?;

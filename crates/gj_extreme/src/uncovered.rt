@@ -1,5 +1,5 @@
 //! The halves of a function with an uncovered interval.
-ghost use Rattle.std.specs.Prelude.{◌≡◌, ◌≢◌, [], IfOk, IsErrOf};
+ghost use Rattle.std.specs.Prelude.{ℕ, ◌≡◌, ◌≢◌, [], IfOk, IsErrOf};
 ghost use Rattle.gj_shape.specs.Additive.{IsTight};
 ghost use Rattle.gj_shape.specs.FunctionData.{IsContinuous};
 ghost use Rattle.gj_shape.specs.Table.{IsMinimal};
@@ -27,6 +27,7 @@ pub(crate) fn zigzag_halves(
     ensures halves { IfOk result (AreZigzagHalves shape.now) }
     ensures limits { IfOk result FitProofText }
     ensures narrow { ¬ IsErrOf result DecideFault.Wide }
+    ensures no_jump { (i : ℕ) → ¬ IsErrOf result (DecideFault.NotContinuous i) }
 {
     let order = shape.order();
     let perturbation = zigzag(alloc, order, class)?;

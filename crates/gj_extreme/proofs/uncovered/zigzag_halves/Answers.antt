@@ -3,7 +3,7 @@ use Rattle.std.specs.List.{range_with_len}
 use Rattle.gj_shape.specs.Perturbation.{zigzag}
 use Rattle.gj_perturb.proofs.Splittable.{zigzag_splits, zigzag_narrow}
 use Rattle.gj_extreme.proofs.DecidedHalves.{first_of_class}
-use Rattle.gj_extreme.proofs.FaultCases.{wide_split}
+use Rattle.gj_extreme.proofs.FaultCases.{wide_split, no_jump_split}
 use Rattle.gj_extreme.proofs.ListedHalves.{zigzag_halves_are}
 use Rattle.gj_extreme.proofs.uncovered.zigzag_halves.Goals as goal
 
@@ -35,3 +35,8 @@ returns-clause-halves c = record {
     ∙ ap (λ q. map (zigzag q c.args.class.now) (range_with_len 0 (q * 4))) c.order-order.ensures.value)
       c.in_ok-split.ensures.halves;
 }
+
+pub returns-in_err-split-clause-no_jump : goal.returns-in_err-split-clause-no_jump
+returns-in_err-split-clause-no_jump c = λ i.
+    no_jump_split c.from_residual-in_err-split.result c.in_err-split.field-0.0 i c.from_residual-in_err-split.ensures.0
+    c.from_residual-in_err-split.ensures.1
