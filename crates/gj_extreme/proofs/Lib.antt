@@ -12,3 +12,14 @@ pub mod OneViolation
 pub mod OneDecision
 pub mod NotTooWide
 pub mod DecidedTexts
+pub mod RowOrder
+pub mod TakenRows
+pub mod GroupLists
+pub mod KernelFits
+pub mod ListedHalves
+pub mod CoveredNumbers
+pub mod WideParts
+pub mod FaultCases
+pub mod FoundKernel
+pub mod LineCounts
+pub mod ClaimTexts

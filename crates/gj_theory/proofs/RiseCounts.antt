@@ -19,10 +19,10 @@ rises_more f i c =
     ap (count_by (λ a. eqb (f a) c)) (range_split 0 i 1 ∙ ap (λ k. range_with_len 0 i ++ k ∷ []) (zero-add i))
     ∙ sum_by_push (λ a. cond (eqb (f a) c) 1 0) (range_with_len 0 i) i
 
-rises_here : (f : ℕ → ℕ) (i c : ℕ) → f i ≡ c → rises f (i + 1) c ≡ rises f i c + 1
+pub rises_here : (f : ℕ → ℕ) (i c : ℕ) → f i ≡ c → rises f (i + 1) c ≡ rises f i c + 1
 rises_here f i c e = rises_more f i c ∙ ap (λ b. rises f i c + cond b 1 0) (eq-eqb (f i) c e)
 
-rises_elsewhere : (f : ℕ → ℕ) (i c : ℕ) → f i ≢ c → rises f (i + 1) c ≡ rises f i c
+pub rises_elsewhere : (f : ℕ → ℕ) (i c : ℕ) → f i ≢ c → rises f (i + 1) c ≡ rises f i c
 rises_elsewhere f i c e =
     rises_more f i c ∙ ap (λ b. rises f i c + cond b 1 0) (ne_eqb (f i) c e) ∙ plus_zero (rises f i c)
   where
