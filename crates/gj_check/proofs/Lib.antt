@@ -18,3 +18,5 @@ pub mod CutDemands
 pub mod CutMeaning
 pub mod RowOutcomes
 pub mod ValuesOfCuts
+pub mod TableTests
+pub mod NumberedLines

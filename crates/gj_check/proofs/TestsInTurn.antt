@@ -1,5 +1,5 @@
 -- Answers of tests, one after the other.
-use Rattle.std.proofs.Common.{◌≡◌, ◌↔◌, Bool, true, false, IsTrue, sym, ◌∙◌}
+use Rattle.std.proofs.Common.{◌≡◌, ◌↔◌, Bool, true, false, IsTrue, Result, Ok, Err, IfOk, sym, ◌∙◌}
 
 -- the first test failed
 pub first_fails : (a : Bool) (P Q R : Type 0) → a ≡ false → IsTrue a ↔ P → (P × Q) ↔ R → IsTrue a ↔ R
@@ -12,6 +12,11 @@ first_passes a b P Q R e p q both = (λ h. both.0 (p.0 e, q.0 h), λ r. q.1 (bot
 -- a test answers what it says in other words
 pub in_other_words : (a : Bool) (P Q : Type 0) → IsTrue a ↔ P → P ↔ Q → IsTrue a ↔ Q
 in_other_words a P Q p same = (λ h. same.0 (p.0 h), λ q. p.1 (same.1 q))
+
+-- one that may give none
+pub in_other_words_ok : {E : Type 0} (r : Result Bool E) (P Q : Type 0) → IfOk r (λ a. IsTrue a ↔ P) → P ↔ Q → IfOk r (λ a. IsTrue a ↔ Q)
+in_other_words_ok (Ok a) P Q p same = in_other_words a P Q p same
+in_other_words_ok (Err e) P Q p same = tt
 
 -- one test of many failed
 pub one_fails : (a : Bool) (P R : Type 0) → a ≡ false → IsTrue a ↔ P → (R → P) → IsTrue false ↔ R

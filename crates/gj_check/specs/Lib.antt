@@ -6,3 +6,6 @@ pub mod Lanes
 pub mod Coordinates
 pub mod RowLimits
 pub mod CutRows
+pub mod Tables
+pub mod CoverLines
+pub mod Stub

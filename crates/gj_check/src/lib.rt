@@ -6,6 +6,7 @@
 #![tactic(auto)]
 
 mod checker;
+mod cover_lines;
 mod cut_values;
 mod cuts;
 mod denominators;
@@ -19,6 +20,7 @@ mod row_denominators;
 mod rows;
 mod rules;
 mod squares;
+mod tables;
 
 pub use checker::check;
 pub use faults::CheckFault;
