@@ -65,9 +65,6 @@ term_at_fault text rest terms e h is fault =
 
 -- ---- one row
 
-pub fault_in_head : (text : List ℕ) (e : PartFault) → IsFaultOf head_part text e → IsFaultOf row_part text e
-fault_in_head text e h = fault_in_first head_part behind text e h
-
 pub fault_in_terms : (text middle : List ℕ) (head : RowHead) (e : PartFault) → head_part.Reads text head middle → head.kind ≡ WithCut →
     IsFaultOf (terms_part []) middle e → IsFaultOf row_part text e
 fault_in_terms text middle head e line kind h =

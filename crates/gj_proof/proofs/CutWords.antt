@@ -149,39 +149,3 @@ bytes_of_skip name x r = ap line (three_joined (codes "skip") name (fraction_tex
 pub bytes_of_term : (t : CutTerm) →
     line (join_with_byte 32 (term_words t.name (fraction_text t.entry) (fraction_text t.cut))) ≡ term_line t
 bytes_of_term t = ap line (three_joined (codes "term") t.name (fraction_text t.entry) (fraction_text t.cut))
-
--- ---- words that break the rule
-
-pub no_head_words : (words : List (List ℕ)) (e : Reason) → e ≡ reason.Form →
-    ((kind : RowKind) (name right : List ℕ) → words ≡ head_words kind name right → ⊥) → BreaksHead words e
-no_head_words words e form none = inl (form, λ kind name right is named. none kind name right is)
-
-pub no_head_name : (words : List (List ℕ)) (kind : RowKind) (name right : List ℕ) (e : Reason) → words ≡ head_words kind name right →
-    (e ≡ reason.Form) × (IsName name → ⊥) → BreaksHead words e
-no_head_name words kind name right e is (form, none) =
-    inl (
-      form,
-      λ kind' name' right' is' named.
-          none (subst IsName (sym (parts_of_head kind kind' name name' right right' (sym is ∙ is')).1) named),
-    )
-
-pub no_head_number : (words : List (List ℕ)) (kind : RowKind) (name right : List ℕ) (e : Reason) → words ≡ head_words kind name right →
-    IsName name → (e ≡ reason.Number) × (IsFraction right → ⊥) → BreaksHead words e
-no_head_number words kind name right e is named (number, none) = inr (number, (kind, name, right, is, named, none))
-
-pub no_term_words : (words : List (List ℕ)) (e : Reason) → e ≡ reason.Form →
-    ((name x y : List ℕ) → words ≡ term_words name x y → ⊥) → BreaksTerm words e
-no_term_words words e form none = inl (form, λ name x y is named. none name x y is)
-
-pub no_term_name : (words : List (List ℕ)) (name x y : List ℕ) (e : Reason) → words ≡ term_words name x y →
-    (e ≡ reason.Form) × (IsName name → ⊥) → BreaksTerm words e
-no_term_name words name x y e is (form, none) =
-    inl (
-      form,
-      λ name' x' y' is' named.
-          none (subst IsName (sym (parts_of_term name name' x x' y y' (sym is ∙ is')).0) named),
-    )
-
-pub no_term_number : (words : List (List ℕ)) (name x y : List ℕ) (e : Reason) → words ≡ term_words name x y → IsName name →
-    (e ≡ reason.Number) × (IsFraction x × IsFraction y → ⊥) → BreaksTerm words e
-no_term_number words name x y e is named (number, none) = inr (number, (name, x, y, is, named, none))

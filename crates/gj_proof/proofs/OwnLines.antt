@@ -315,7 +315,7 @@ terms_have_one_feed i j (t ∷ terms) named =
     All-cons HasOneFeed (record { name = ProofLine.term i j; bytes = term_line t }) (term_lines i (j + 1) terms)
     (feeds_of_term t (All-head P t terms named)) (terms_have_one_feed i (j + 1) terms (All-tail P t terms named))
 
-names_of_terms : (l : CutLine) → HasNames l → All (λ t. IsName t.name) (terms_of l)
+pub names_of_terms : (l : CutLine) → HasNames l → All (λ t. IsName t.name) (terms_of l)
 names_of_terms (cuts.Cut name right terms) h = h.1
 names_of_terms (cuts.Skip name right r) h = All-nil (λ t. IsName t.name)
 

@@ -1,5 +1,6 @@
 -- Proof texts as a part of a text: what each line says, and which rule it breaks first (own).
-use Rattle.std.specs.Prelude.{ℕ, ◌≡◌, ◌⊎◌, List, [], ◌∷◌, ◌++◌, All, codes}
+use Rattle.std.specs.Prelude.{ℕ, zero, suc, ℤ, pos, ◌≡◌, ◌≢◌, ◌⊎◌, ◌<◌, ◌≤◌, ◌^◌, ◌≤ℤ◌, List, [], ◌∷◌, ◌++◌, All, codes, decimal}
+use Rattle.std.specs.Fmt.{signed_decimal}
 use Rattle.std.proofs.Common.{inl, inr}
 use Rattle.gj_frac.specs.declared.Frac.{Frac}
 use Rattle.gj_lex.specs.declared.spelling.Spelling.TheVariants.{Strict}
@@ -7,22 +8,31 @@ use Rattle.gj_lex.specs.declared.reason.Reason.{Reason}
 use Rattle.gj_lex.specs.declared.reason.Reason.TheVariants as reason
 use Rattle.gj_lex.specs.Name.{IsName}
 use Rattle.gj_lex.specs.NumberText.{fraction_text}
-use Rattle.gj_lex.specs.SpelledNumbers.{IsFractionWord}
+use Rattle.gj_lex.specs.SpelledNumbers.{IsCountWord, IsFractionWord}
 use Rattle.gj_lex.specs.Parts.{LineRule, Part, words_rule, line_part, empty_part, then_part, made_part, loop_part, framed_part, end_part}
+use Rattle.gj_shape.specs.declared.extremality.CoverLine.{CoverLine}
+use Rattle.gj_shape.specs.declared.extremality.Halves.{Halves}
+use Rattle.gj_shape.specs.declared.extremality.RowName.{RowName}
+use Rattle.gj_shape.specs.declared.extremality.RowName.TheVariants.{Period, F, Pair}
+use Rattle.gj_shape.specs.declared.faces.FaceKind.{FaceKind}
+use Rattle.gj_shape.specs.declared.faces.FaceKind.TheVariants.{Vertex}
 use Rattle.gj_shape.specs.declared.violations.Violation.{Violation}
 use Rattle.gj_shape.specs.declared.violations.Violation.TheVariants as violation
+use Rattle.gj_lines.specs.FaceLines.{face_word}
 use Rattle.gj_lines.specs.FunctionGrammar.{function_part}
-use Rattle.gj_proof.specs.ProofText.{reason_word}
+use Rattle.gj_proof.specs.ProofText.{reason_word, IsCoverLineBelow, IsRowNameBelow, FitsPair}
 use Rattle.gj_proof.specs.WhereParts.{BeginsWithLine, BeginsWithWord, where_part}
 use Rattle.gj_proof.specs.declared.claim.Claim.{Claim}
 use Rattle.gj_proof.specs.declared.claim.Claim.TheVariants as claim
 use Rattle.gj_proof.specs.declared.claim.ClaimWord.{ClaimWord}
-use Rattle.gj_proof.specs.declared.claim.ClaimWord.TheVariants.{Minimal, NotMinimal, Cut}
+use Rattle.gj_proof.specs.declared.claim.ClaimWord.TheVariants.{Minimal, NotMinimal, Cut, Extreme, NotExtreme}
 use Rattle.gj_proof.specs.declared.cut.CutRule.{CutRule}
 use Rattle.gj_proof.specs.declared.cut.CutRule.TheVariants.{Gmic, Table}
 use Rattle.gj_proof.specs.declared.cut.CutLine.{CutLine}
 use Rattle.gj_proof.specs.declared.cut.CutLine.TheVariants as cuts
 use Rattle.gj_proof.specs.declared.cut.CutTerm.{CutTerm}
+use Rattle.gj_proof.specs.declared.halves.HalvesHead.{HalvesHead}
+use Rattle.gj_proof.specs.declared.pivot.PivotRow.{PivotRow}
 use Rattle.gj_proof.specs.declared.cut_rows.RowKind.{RowKind}
 use Rattle.gj_proof.specs.declared.cut_rows.RowKind.TheVariants.{WithCut, Skipped}
 use Rattle.gj_proof.specs.declared.cut_rows.RowHead.{RowHead}
@@ -33,6 +43,8 @@ abbrev pub claim_words : ClaimWord → List (List ℕ)
 claim_words Minimal = codes "claim" ∷ codes "minimal" ∷ []
 claim_words NotMinimal = codes "claim" ∷ codes "not-minimal" ∷ []
 claim_words Cut = codes "claim" ∷ codes "cut" ∷ []
+claim_words Extreme = codes "claim" ∷ codes "extreme" ∷ []
+claim_words NotExtreme = codes "claim" ∷ codes "not-extreme" ∷ []
 
 abbrev pub claim_rule : LineRule ClaimWord
 claim_rule = record {
@@ -147,6 +159,140 @@ next_row rows =
 abbrev pub rows_part : List CutLine → Part (List CutLine)
 rows_part = loop_part next_row
 
+-- ---- numbers of lines
+
+-- the word is a count that lies in a range
+abbrev pub IsCountIn : (ℕ → Type 0) → List ℕ → Type 0
+IsCountIn In word = (n : ℕ) × IsCountWord Strict word n × In n
+
+-- ---- `cover I J KIND A B`
+
+-- the words of such a line, with these for its numbers
+abbrev pub cover_words : FaceKind → List ℕ → List ℕ → List ℕ → List ℕ → List (List ℕ)
+cover_words kind interval from a b = codes "cover" ∷ interval ∷ from ∷ face_word kind ∷ a ∷ b ∷ []
+
+-- no face but a vertex has such words; a number of the line is no count below the order
+abbrev pub BreaksCover : ℕ → List (List ℕ) → Reason → Type 0
+BreaksCover q words e =
+    ((e ≡ reason.Form) × ((kind : FaceKind) (i j a b : List ℕ) → words ≡ cover_words kind i j a b → kind ≢ Vertex → ⊥))
+    ⊎ ((e ≡ reason.Number) × ((kind : FaceKind) × (i : List ℕ) × (j : List ℕ) × (a : List ℕ) × (b : List ℕ)
+    × (words ≡ cover_words kind i j a b) × (kind ≢ Vertex) × (All (IsCountIn (λ n. n < q)) (i ∷ j ∷ a ∷ b ∷ []) → ⊥)))
+
+abbrev pub cover_rule : ℕ → LineRule CoverLine
+cover_rule q = record {
+  Spells = λ words l. (words ≡ cover_words l.face.kind (decimal l.interval) (decimal l.from) (decimal l.face.a) (decimal l.face.b))
+      × IsCoverLineBelow q l;
+  Breaks = BreaksCover q;
+}
+
+-- so many lines behind these; with them they are all
+abbrev pub covered_part : ℕ → ℕ → List CoverLine → Part (List CoverLine)
+covered_part q zero lines = empty_part lines
+covered_part q (suc n) lines = then_part (line_part Strict (cover_rule q)) (λ l. covered_part q n (lines ++ l ∷ []))
+
+-- ---- groups of a row, its steps and its pivot
+
+-- `row period`, `row f`, or `row A B` with these words for its numbers
+abbrev pub HaveRowNumbers : List (List ℕ) → List (List ℕ) → Type 0
+HaveRowNumbers words [] = (words ≡ codes "row" ∷ codes "period" ∷ []) ⊎ (words ≡ codes "row" ∷ codes "f" ∷ [])
+HaveRowNumbers words (a ∷ b ∷ []) = words ≡ codes "row" ∷ a ∷ b ∷ []
+HaveRowNumbers words other = ⊥
+
+-- the words are those of a row's name
+abbrev pub row_words : RowName → List (List ℕ)
+row_words Period = codes "row" ∷ codes "period" ∷ []
+row_words F = codes "row" ∷ codes "f" ∷ []
+row_words (Pair a b) = codes "row" ∷ decimal a ∷ decimal b ∷ []
+
+-- no row has such words; two numbers are no counts that ascend from 1 to below the order
+abbrev pub BreaksRowName : ℕ → List (List ℕ) → Reason → Type 0
+BreaksRowName q words e =
+    ((e ≡ reason.Form) × ((numbers : List (List ℕ)) → HaveRowNumbers words numbers → ⊥))
+    ⊎ ((e ≡ reason.Number) × ((a : List ℕ) × (b : List ℕ) × HaveRowNumbers words (a ∷ b ∷ [])
+    × ((m n : ℕ) → IsCountWord Strict a m → IsCountWord Strict b n → IsRowNameBelow q (Pair m n) → ⊥)))
+
+abbrev pub row_name_rule : ℕ → LineRule RowName
+row_name_rule q = record {
+  Spells = λ words name. (words ≡ row_words name) × IsRowNameBelow q name;
+  Breaks = BreaksRowName q;
+}
+
+-- a word and a column below 1,000: `reduce C` or `pivot C`
+abbrev pub column_rule : List ℕ → LineRule ℕ
+column_rule word = record {
+  Spells = λ words c. (words ≡ word ∷ decimal c ∷ []) × (c < 1000);
+  Breaks = λ words e. ((e ≡ reason.Form) × ((column : List ℕ) → words ≡ word ∷ column ∷ [] → ⊥))
+      ⊎ ((e ≡ reason.Number) × ((column : List ℕ) × (words ≡ word ∷ column ∷ []) × (IsCountIn (λ n. n < 1000) column → ⊥)));
+}
+
+-- one step more behind these, where the next line begins with `reduce`; else these are all
+abbrev pub next_step : List ℕ → Part (List ℕ ⊎ List ℕ)
+next_step columns =
+    where_part (BeginsWithWord (codes "reduce"))
+    (made_part (λ c next. next ≡ inl (columns ++ c ∷ [])) (line_part Strict (column_rule (codes "reduce"))))
+    (empty_part (inr columns))
+
+abbrev pub group_part : ℕ → Part PivotRow
+group_part q =
+    then_part (line_part Strict (row_name_rule q)) (λ name.
+    then_part (loop_part next_step []) (λ columns.
+    made_part (λ c row. row ≡ record { name = name; reduce = columns; pivot = c }) (line_part Strict (column_rule (codes "pivot")))))
+
+-- before a line `end` these are all groups; and else there is one more behind these
+abbrev pub next_group : ℕ → List PivotRow → Part (List PivotRow ⊎ List PivotRow)
+next_group q rows =
+    where_part (BeginsWithLine (codes "end" ∷ []))
+    (empty_part (inr rows))
+    (made_part (λ row next. next ≡ inl (rows ++ row ∷ [])) (group_part q))
+
+abbrev pub groups_part : ℕ → List PivotRow → Part (List PivotRow)
+groups_part q = loop_part (next_group q)
+
+-- ---- halves
+
+-- the order and the scale are within the limits
+pub record IsHeadInBounds (h : HalvesHead) : Type 0 where
+  pub order_low : 2 ≤ h.order
+  pub order_high : h.order ≤ 4000
+  pub scale_low : pos 1 ≤ℤ h.scale
+  pub scale_high : h.scale ≤ℤ pos (2 ^ 124)
+
+-- `halves N S`
+abbrev pub halves_words : List ℕ → List ℕ → List (List ℕ)
+halves_words order scale = codes "halves" ∷ order ∷ scale ∷ []
+
+abbrev pub halves_rule : LineRule HalvesHead
+halves_rule = record {
+  Spells = λ words h. (words ≡ halves_words (decimal h.order) (signed_decimal h.scale)) × IsHeadInBounds h;
+  Breaks = λ words e. ((e ≡ reason.Form) × ((order scale : List ℕ) → words ≡ halves_words order scale → ⊥))
+      ⊎ ((e ≡ reason.Number) × ((order : List ℕ) × (scale : List ℕ) × (words ≡ halves_words order scale)
+      × ((h : HalvesHead) → words ≡ halves_words (decimal h.order) (signed_decimal h.scale) → IsHeadInBounds h → ⊥)));
+}
+
+-- `pair A B`
+abbrev pub pair_words : List ℕ → List ℕ → List (List ℕ)
+pair_words first second = codes "pair" ∷ first ∷ second ∷ []
+
+abbrev pub pair_rule : LineRule (ℤ × ℤ)
+pair_rule = record {
+  Spells = λ words p. (words ≡ pair_words (signed_decimal p.0) (signed_decimal p.1)) × FitsPair p.0 × FitsPair p.1;
+  Breaks = λ words e. ((e ≡ reason.Form) × ((first second : List ℕ) → words ≡ pair_words first second → ⊥))
+      ⊎ ((e ≡ reason.Number) × ((first : List ℕ) × (second : List ℕ) × (words ≡ pair_words first second)
+      × ((p : ℤ × ℤ) → words ≡ pair_words (signed_decimal p.0) (signed_decimal p.1) → FitsPair p.0 → FitsPair p.1 → ⊥)));
+}
+
+-- so many lines behind these values; with them they are all
+abbrev pub pairs_part : ℕ → List ℤ → List ℤ → Part (List ℤ × List ℤ)
+pairs_part zero first second = empty_part (first, second)
+pairs_part (suc n) first second =
+    then_part (line_part Strict pair_rule) (λ p. pairs_part n (first ++ p.0 ∷ []) (second ++ p.1 ∷ []))
+
+abbrev pub halves_part : Part Halves
+halves_part =
+    then_part (line_part Strict halves_rule) (λ head.
+    made_part (λ lists h. h ≡ record { order = head.order; scale = head.scale; first = lists.0; second = lists.1 })
+    (pairs_part head.order [] []))
+
 -- ---- the whole text
 
 -- the lines between the word of the claim and `end`: those of its subject and its own
@@ -155,6 +301,12 @@ claim_part Minimal = made_part (λ f c. c ≡ claim.Minimal f) (function_part St
 claim_part NotMinimal =
     then_part (function_part Strict) (λ f. made_part (λ v c. c ≡ claim.NotMinimal f v) (line_part Strict violation_rule))
 claim_part Cut = then_part rule_part (λ rule. made_part (λ rows c. c ≡ claim.Cut rule rows) (rows_part []))
+claim_part Extreme =
+    then_part (function_part Strict) (λ f.
+    then_part (covered_part f.order f.order []) (λ lines.
+    made_part (λ rows c. c ≡ claim.Extreme f lines rows) (groups_part f.order [])))
+claim_part NotExtreme =
+    then_part (function_part Strict) (λ f. made_part (λ h c. c ≡ claim.NotExtreme f h) halves_part)
 
 -- `gj-proof 1`, the line `claim W`, those lines, `end`, and nothing more
 abbrev pub proof_text : Part Claim

@@ -1,14 +1,21 @@
 -- The one spelling of a proof (own).
-use Rattle.std.specs.Prelude.{ℕ, ◌≡◌, ◌≢◌, ◌⊎◌, ◌+◌, List, [], ◌∷◌, ◌++◌, All, Contains, length, map, flat_map, codes}
+use Rattle.std.specs.Prelude.{ℕ, ℤ, pos, ◌≡◌, ◌≢◌, ◌⊎◌, ◌+◌, ◌<◌, ◌≤◌, ◌^◌, ◌≤ℤ◌, List, [], ◌∷◌, ◌++◌, All, Contains, length, map, flat_map, zip, codes, decimal, unsigned_abs}
+use Rattle.std.specs.Fmt.{signed_decimal}
 use Rattle.std.specs.List.{range_with_len}
 use Rattle.gj_lex.specs.Name.{IsName}
 use Rattle.gj_lex.specs.NumberText.{fraction_text}
 use Rattle.gj_shape.specs.FunctionData.{FunctionData, IsWithinBounds}
+use Rattle.gj_shape.specs.declared.extremality.CoverLine.{CoverLine}
+use Rattle.gj_shape.specs.declared.extremality.Halves.{Halves}
+use Rattle.gj_shape.specs.declared.extremality.RowName.{RowName}
+use Rattle.gj_shape.specs.declared.extremality.RowName.TheVariants.{Period, F, Pair}
+use Rattle.gj_shape.specs.declared.faces.FaceKind.TheVariants.{Vertex}
 use Rattle.gj_shape.specs.declared.violations.Violation.{Violation}
 use Rattle.gj_shape.specs.declared.violations.Violation.TheVariants as violation
+use Rattle.gj_lines.specs.FaceLines.{cover_line}
 use Rattle.gj_lines.specs.FunctionLines.{line, fraction_line, AreFunctionLines}
 use Rattle.gj_proof.specs.declared.claim.Claim.{Claim}
-use Rattle.gj_proof.specs.declared.claim.Claim.TheVariants.{Minimal, NotMinimal, Cut}
+use Rattle.gj_proof.specs.declared.claim.Claim.TheVariants.{Minimal, NotMinimal, Cut, Extreme, NotExtreme}
 use Rattle.gj_proof.specs.declared.cut.CutRule.{CutRule}
 use Rattle.gj_proof.specs.declared.cut.CutRule.TheVariants.{Gmic, Table}
 use Rattle.gj_proof.specs.declared.cut.CutLine.{CutLine}
@@ -16,6 +23,7 @@ use Rattle.gj_proof.specs.declared.cut.CutLine.TheVariants as cuts
 use Rattle.gj_proof.specs.declared.cut.CutTerm.{CutTerm}
 use Rattle.gj_proof.specs.declared.cut.SkipReason.{SkipReason}
 use Rattle.gj_proof.specs.declared.cut.SkipReason.TheVariants.{Integral, Other}
+use Rattle.gj_proof.specs.declared.pivot.PivotRow.{PivotRow}
 
 -- ---- what a claim is about
 
@@ -32,6 +40,8 @@ abbrev pub subject_of : Claim → Subject
 subject_of (Minimal f) = function f
 subject_of (NotMinimal f v) = function f
 subject_of (Cut rule rows) = subject_of_rule rule
+subject_of (Extreme f lines rows) = function f
+subject_of (NotExtreme f halves) = function f
 
 -- the subject, where it is a function, has a property of functions
 abbrev pub IfFunction : Subject → (FunctionData → Type 0) → Type 0
@@ -48,12 +58,16 @@ abbrev pub IsBounded : Claim → Type 0
 IsBounded (Minimal f) = IsWithinBounds f
 IsBounded (NotMinimal f v) = IsWithinBounds f
 IsBounded (Cut rule rows) = IfFunction (subject_of_rule rule) IsWithinBounds × All HasNames rows
+IsBounded (Extreme f lines rows) = IsWithinBounds f
+IsBounded (NotExtreme f halves) = IsWithinBounds f
 
--- a claim that has one line of its own at most, and so a short text
+-- a claim whose lines are not any number, so that its text is short
 abbrev pub IsShort : Claim → Type 0
 IsShort (Minimal f) = Unit {0}
 IsShort (NotMinimal f v) = Unit {0}
 IsShort (Cut rule rows) = ⊥
+IsShort (Extreme f lines rows) = ⊥
+IsShort (NotExtreme f halves) = Unit {0}
 
 -- ---- the lines of a claim
 
@@ -62,9 +76,12 @@ abbrev pub claim_word : Claim → List ℕ
 claim_word (Minimal f) = codes "minimal"
 claim_word (NotMinimal f v) = codes "not-minimal"
 claim_word (Cut rule rows) = codes "cut"
+claim_word (Extreme f lines rows) = codes "extreme"
+claim_word (NotExtreme f halves) = codes "not-extreme"
 
 -- a line of a proof text, by its place in the form: of a claim about cuts, the line of the i-th row, and that of the j-th term of
--- the i-th row, from 0
+-- the i-th row; of an extreme function, the line of the i-th covered interval, the first line of the g-th group, its r-th step and
+-- its pivot; of one that is not extreme, the line of its halves, and that of their i-th values; all from 0
 pub data ProofLine : Type 0 where
   title : ProofLine
   claim : ProofLine
@@ -75,7 +92,18 @@ pub data ProofLine : Type 0 where
   violation_shown : ProofLine
   cut : ℕ → ProofLine
   term : ℕ → ℕ → ProofLine
+  covered : ℕ → ProofLine
+  group : ℕ → ProofLine
+  reduction : ℕ → ℕ → ProofLine
+  group_pivot : ℕ → ProofLine
+  halves : ProofLine
+  pair : ℕ → ProofLine
   last : ProofLine
+
+-- a line between the subject and `end`: which one it is, and its bytes
+pub record OwnLine : Type 0 where
+  pub name : ProofLine
+  pub bytes : List ℕ
 
 -- the lines of a subject
 abbrev pub subject_lines : Subject → List ProofLine
@@ -116,13 +144,6 @@ abbrev pub terms_of : CutLine → List CutTerm
 terms_of (cuts.Cut name right terms) = terms
 terms_of (cuts.Skip name right reason) = []
 
--- ---- the claim's own lines
-
--- a line between the subject and `end`: which one it is, and its bytes
-pub record OwnLine : Type 0 where
-  pub name : ProofLine
-  pub bytes : List ℕ
-
 -- the lines of terms of the i-th row, from the j-th on
 abbrev pub term_lines : ℕ → ℕ → List CutTerm → List OwnLine
 term_lines i j [] = []
@@ -133,11 +154,66 @@ abbrev pub row_lines : ℕ → List CutLine → List OwnLine
 row_lines i [] = []
 row_lines i (l ∷ more) = record { name = cut i; bytes = row_line l } ∷ term_lines i 0 (terms_of l) ++ row_lines (i + 1) more
 
+-- ---- the lines of an extreme function
+
+-- `row period`, `row f` or `row A B`
+abbrev pub row_name_text : RowName → List ℕ
+row_name_text Period = codes "period"
+row_name_text F = codes "f"
+row_name_text (Pair a b) = decimal a ++ codes " " ++ decimal b
+
+abbrev pub group_line : RowName → List ℕ
+group_line name = line (codes "row " ++ row_name_text name)
+
+-- `reduce C`
+abbrev pub reduction_line : ℕ → List ℕ
+reduction_line c = line (codes "reduce " ++ decimal c)
+
+-- `pivot C`
+abbrev pub pivot_line : ℕ → List ℕ
+pivot_line c = line (codes "pivot " ++ decimal c)
+
+-- the lines of covered intervals, from the i-th on
+abbrev pub covered_lines : ℕ → List CoverLine → List OwnLine
+covered_lines i [] = []
+covered_lines i (l ∷ more) = record { name = covered i; bytes = cover_line l } ∷ covered_lines (i + 1) more
+
+-- the lines of the steps of the g-th group, from the r-th on
+abbrev pub reduction_lines : ℕ → ℕ → List ℕ → List OwnLine
+reduction_lines g r [] = []
+reduction_lines g r (c ∷ more) = record { name = reduction g r; bytes = reduction_line c } ∷ reduction_lines g (r + 1) more
+
+-- the lines of groups, from the g-th on
+abbrev pub group_lines : ℕ → List PivotRow → List OwnLine
+group_lines g [] = []
+group_lines g (row ∷ more) =
+    record { name = group g; bytes = group_line row.name } ∷ reduction_lines g 0 row.reduce
+    ++ record { name = group_pivot g; bytes = pivot_line row.pivot } ∷ group_lines (g + 1) more
+
+-- ---- the lines of halves
+
+-- `halves N S`
+abbrev pub halves_line : Halves → List ℕ
+halves_line h = line (codes "halves " ++ decimal h.order ++ codes " " ++ signed_decimal h.scale)
+
+-- `pair A B`
+abbrev pub pair_line : ℤ × ℤ → List ℕ
+pair_line p = line (codes "pair " ++ signed_decimal p.0 ++ codes " " ++ signed_decimal p.1)
+
+-- the lines of the halves' values, from the i-th on
+abbrev pub pair_lines : ℕ → List (ℤ × ℤ) → List OwnLine
+pair_lines i [] = []
+pair_lines i (p ∷ more) = record { name = pair i; bytes = pair_line p } ∷ pair_lines (i + 1) more
+
+-- ---- the claim's own lines
+
 -- the lines of the claim's own, as many as it has, in their order
 abbrev pub own_lines : Claim → List OwnLine
 own_lines (Minimal f) = []
 own_lines (NotMinimal f v) = record { name = violation_shown; bytes = violation_line v } ∷ []
 own_lines (Cut rule rows) = row_lines 0 rows
+own_lines (Extreme f lines rows) = covered_lines 0 lines ++ group_lines 0 rows
+own_lines (NotExtreme f h) = record { name = halves; bytes = halves_line h } ∷ pair_lines 0 (zip h.first h.second)
 
 -- all lines of the text of a claim
 abbrev pub lines_of : Claim → List ProofLine
@@ -158,11 +234,49 @@ pub record HasNumber (c : Claim) (l : ProofLine) (n : ℕ) : Type 0 where
 
 -- ---- the text of a claim
 
--- the names, ranges and counts of the claim are those of the form: these claims hold none but names
+-- the intervals and the square of a line of a covered interval are below the order, and its face is no vertex
+pub record IsCoverLineBelow (q : ℕ) (l : CoverLine) : Type 0 where
+  pub interval : l.interval < q
+  pub from : l.from < q
+  pub first : l.face.a < q
+  pub second : l.face.b < q
+  pub not_vertex : l.face.kind ≢ Vertex
+
+-- a pair that names a row is ascending, from 1 to below the order
+abbrev pub IsRowNameBelow : ℕ → RowName → Type 0
+IsRowNameBelow q Period = Unit {0}
+IsRowNameBelow q F = Unit {0}
+IsRowNameBelow q (Pair a b) = (1 ≤ a) × (a ≤ b) × (b < q)
+
+-- the columns of a row are below 1,000
+pub record IsPivotRowBelow (q : ℕ) (row : PivotRow) : Type 0 where
+  pub name : IsRowNameBelow q row.name
+  pub reduce : All (λ c. c < 1000) row.reduce
+  pub pivot : row.pivot < 1000
+
+-- the number is at most 2^127 - 1 in absolute value
+abbrev pub FitsPair : ℤ → Type 0
+FitsPair n = unsigned_abs n < 2 ^ 127
+
+-- the order, the scale and the values of halves are within the limits, and there are as many values as the order says
+pub record AreHalvesInBounds (h : Halves) : Type 0 where
+  pub order_low : 2 ≤ h.order
+  pub order_high : h.order ≤ 4000
+  pub scale_low : pos 1 ≤ℤ h.scale
+  pub scale_high : h.scale ≤ℤ pos (2 ^ 124)
+  pub first_length : length h.first ≡ h.order
+  pub second_length : length h.second ≡ h.order
+  pub first_fit : All FitsPair h.first
+  pub second_fit : All FitsPair h.second
+
+-- the ranges and counts of the claim are those of the form; names are names by their type
 abbrev pub HasText : Claim → Type 0
 HasText (Minimal f) = Unit {0}
 HasText (NotMinimal f v) = Unit {0}
 HasText (Cut rule rows) = Unit {0}
+HasText (Extreme f lines rows) =
+    (length lines ≡ f.order) × All (IsCoverLineBelow f.order) lines × All (IsPivotRowBelow f.order) rows
+HasText (NotExtreme f h) = AreHalvesInBounds h
 
 -- the text is the proof text of the claim
 pub record IsProofText (c : Claim) (text : List ℕ) : Type 0 where

@@ -1,9 +1,12 @@
 //! Claims about a function or about cuts, and those among them that have a proof text.
 
-ghost use Rattle.std.specs.Prelude.{◌≡◌, ◌↔◌, IfSome, IsSome};
+ghost use Rattle.std.specs.Prelude.{◌≡◌, ◌↔◌, IfSome, IsSome, IsTrue};
+ghost use Rattle.gj_proof.specs.ProofText.{HasText};
 
+use crate::bounds::{are_cover_lines_below, are_halves_in_bounds, are_pivot_rows_below};
 use crate::cut::{CutLine, CutRule};
-use gj_shape::{List, Shape, Violation};
+use crate::pivot::PivotRow;
+use gj_shape::{CoverLine, Halves, List, Shape, Violation};
 use std::marker::Model;
 
 /// A claim about a function, or about cuts.
@@ -15,6 +18,10 @@ pub enum Claim {
     NotMinimal(Shape, Violation),
     /// Each cut that is made by the rule holds at every solution of its row.
     Cut(CutRule, List<CutLine>),
+    /// The function is extreme: the lines tell why each interval is covered, and the rows leave no other slopes than 0.
+    Extreme(Shape, List<CoverLine>, List<PivotRow>),
+    /// The function is not extreme: it is the average of the halves.
+    NotExtreme(Shape, Halves),
 }
 
 /// The word of a claim.
@@ -23,6 +30,8 @@ pub(crate) enum ClaimWord {
     Minimal,
     NotMinimal,
     Cut,
+    Extreme,
+    NotExtreme,
 }
 
 /// A claim that has a proof text. Contracts see it as the claim.
@@ -46,12 +55,15 @@ impl Model for Proof {
 impl Proof {
     ghost use Rattle.gj_proof.specs.ProofText.{HasText};
 
-    /// The proof of a claim. None exactly where the claim has no text; these three claims have one always.
+    /// The proof of a claim. None exactly where the claim has no text: where a range or a count is not that of the form.
     /// It takes no memory.
     pub fn new(claim: Claim) -> Option<Proof>
         ensures some { IsSome result ↔ HasText claim }
         ensures claim { IfSome result (λ p. p ≡ claim) }
     {
+        if !has_text(&claim) {
+            return None;
+        }
         Some(Proof { claim })
     }
 
@@ -61,5 +73,21 @@ impl Proof {
         ensures has_text { HasText self.now }
     {
         &self.claim
+    }
+}
+
+/// Whether the claim has a proof text.
+fn has_text(claim: &Claim) -> bool
+    ensures { IsTrue result ↔ HasText claim.now }
+{
+    match claim {
+        Claim::Minimal(_) | Claim::NotMinimal(_, _) | Claim::Cut(_, _) => true,
+        Claim::Extreme(shape, lines, rows) => {
+            let order = shape.order();
+            lines.as_slice().len() == order as usize
+                && are_cover_lines_below(order, lines.as_slice())
+                && are_pivot_rows_below(order, rows.as_slice())
+        }
+        Claim::NotExtreme(_, halves) => are_halves_in_bounds(halves),
     }
 }

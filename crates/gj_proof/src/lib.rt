@@ -6,16 +6,22 @@
 #![tactic(auto)]
 
 mod begins;
+mod bounds;
 mod claim;
+mod cover_rows;
 mod cut;
 mod cut_rows;
 mod faults;
 mod fields;
+mod halves;
 mod laws;
+mod pivot;
+mod pivot_rows;
 mod read;
 mod violations;
 mod write;
 mod write_cuts;
+mod write_extreme;
 
 pub use claim::{Claim, Proof};
 pub use cut::{CutLine, CutRule, CutTerm, SkipReason};
@@ -24,6 +30,7 @@ pub use laws::{
     no_fault_in_proof_text, numbers_of_lines, one_first_fault, one_spelling, proof_text_is_short,
     proof_texts_are_read,
 };
+pub use pivot::PivotRow;
 pub use read::read_proof;
 pub use write::write_proof;
 

@@ -9,11 +9,14 @@ ghost use Rattle.gj_proof.specs.ProofGrammar.{claim_words, claim_rule, claim_par
 ghost use Rattle.gj_proof.specs.FirstFault.{NamesFirstFault, IsMemoryFault};
 ghost use Rattle.gj_proof.specs.declared.claim.Claim.{Claim};
 ghost use Rattle.gj_proof.specs.declared.claim.ClaimWord.{ClaimWord};
-ghost use Rattle.gj_proof.specs.declared.claim.ClaimWord.TheVariants.{Minimal, NotMinimal, Cut};
+ghost use Rattle.gj_proof.specs.declared.claim.ClaimWord.TheVariants.{Minimal, NotMinimal, Cut, Extreme, NotExtreme};
 
 use crate::claim::{Claim, ClaimWord, Proof};
+use crate::cover_rows::cover_lines_at;
 use crate::cut_rows::{rows_at, rule_at};
 use crate::faults::ProofFault;
+use crate::halves::halves_at;
+use crate::pivot_rows::groups_at;
 use crate::violations::violation_at;
 use gj_lex::{PartFault, Reason, Spelling, end_at, has_words, line_at, line_number, words_at};
 use gj_lines::function_at;
@@ -81,6 +84,12 @@ fn claim_word_of(line: &[u8]) -> Option<ClaimWord>
     if has_words(line, b"claim cut") {
         return Some(ClaimWord::Cut);
     }
+    if has_words(line, b"claim extreme") {
+        return Some(ClaimWord::Extreme);
+    }
+    if has_words(line, b"claim not-extreme") {
+        return Some(ClaimWord::NotExtreme);
+    }
     None
 }
 
@@ -93,6 +102,8 @@ fn claim_at(alloc: Global, text: &[u8], word: ClaimWord) -> Result<(Claim, &[u8]
         ClaimWord::Minimal => minimal_at(alloc, text),
         ClaimWord::NotMinimal => not_minimal_at(alloc, text),
         ClaimWord::Cut => cut_at(alloc, text),
+        ClaimWord::Extreme => extreme_at(alloc, text),
+        ClaimWord::NotExtreme => not_extreme_at(alloc, text),
     }
 }
 
@@ -123,4 +134,26 @@ fn cut_at(alloc: Global, text: &[u8]) -> Result<(Claim, &[u8]), PartFault>
     let (rule, rest) = rule_at(alloc, text)?;
     let (rows, rest) = rows_at(alloc, rest)?;
     Ok((Claim::Cut(rule, List::of(rows)), rest))
+}
+
+/// The claim that the function of the next lines is extreme, as the lines and the groups behind it show, and what follows.
+fn extreme_at(alloc: Global, text: &[u8]) -> Result<(Claim, &[u8]), PartFault>
+    ensures found { IfOk result (λ r. (claim_part Extreme).Reads text.now r.0 r.1.now) }
+    ensures fault { IfErr result (IsFaultOf (claim_part Extreme) text.now) }
+{
+    let (shape, rest) = function_at(alloc, Spelling::Strict, text)?;
+    let order = shape.order();
+    let (lines, rest) = cover_lines_at(alloc, rest, order)?;
+    let (rows, rest) = groups_at(alloc, rest, order)?;
+    Ok((Claim::Extreme(shape, List::of(lines), List::of(rows)), rest))
+}
+
+/// The claim that the function of the next lines is not extreme, as the halves behind it show, and what follows.
+fn not_extreme_at(alloc: Global, text: &[u8]) -> Result<(Claim, &[u8]), PartFault>
+    ensures found { IfOk result (λ r. (claim_part NotExtreme).Reads text.now r.0 r.1.now) }
+    ensures fault { IfErr result (IsFaultOf (claim_part NotExtreme) text.now) }
+{
+    let (shape, rest) = function_at(alloc, Spelling::Strict, text)?;
+    let (halves, rest) = halves_at(alloc, rest)?;
+    Ok((Claim::NotExtreme(shape, halves), rest))
 }

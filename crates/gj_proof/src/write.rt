@@ -1,16 +1,18 @@
 //! Proof texts, printed.
 
 ghost use Rattle.std.specs.Prelude.{◌≡◌, ◌++◌, ℕ, List, codes, IfOk, OnOk};
-ghost use Rattle.gj_proof.specs.declared.claim.Claim.TheVariants.{Minimal, NotMinimal, Cut};
+ghost use Rattle.gj_proof.specs.declared.claim.Claim.TheVariants.{Minimal, NotMinimal, Cut, Extreme, NotExtreme};
 ghost use Rattle.gj_lines.specs.FunctionLines.{line, AreFunctionLines};
-ghost use Rattle.gj_proof.specs.ProofText.{violation_line, IsProofText};
+ghost use Rattle.gj_proof.specs.ProofText.{violation_line, HasText, IsProofText};
 
 use crate::claim::{Claim, Proof};
 use crate::cut::{CutLine, CutRule};
+use crate::pivot::PivotRow;
 use crate::write_cuts::{push_rows, push_rule_lines};
+use crate::write_extreme::{push_cover_lines, push_groups, push_halves};
 use gj_lex::print_frac;
 use gj_lines::{push_fraction_line, push_function_lines};
-use gj_shape::{Shape, Violation};
+use gj_shape::{CoverLine, Halves, Shape, Violation};
 use std::alloc::{AllocError, Global};
 
 /// The one text of the proof.
@@ -21,6 +23,10 @@ pub fn write_proof(alloc: Global, proof: &Proof) -> Result<Vec<u8>, AllocError>
         Claim::Minimal(shape) => write_minimal(alloc, shape),
         Claim::NotMinimal(shape, violation) => write_not_minimal(alloc, shape, *violation),
         Claim::Cut(rule, rows) => write_cut(alloc, rule, rows.as_slice()),
+        Claim::Extreme(shape, lines, rows) => {
+            write_extreme(alloc, shape, lines.as_slice(), rows.as_slice())
+        }
+        Claim::NotExtreme(shape, halves) => write_not_extreme(alloc, shape, halves),
     }
 }
 
@@ -55,6 +61,38 @@ fn write_cut(alloc: Global, rule: &CutRule, rows: &[CutLine]) -> Result<Vec<u8>,
     text.extend_from_slice(b"gj-proof 1\nclaim cut\n")?;
     push_rule_lines(alloc, &mut text, rule)?;
     push_rows(alloc, &mut text, rows)?;
+    text.extend_from_slice(b"end\n")?;
+    Ok(text)
+}
+
+/// The proof text of the claim that the function is extreme, as the lines and the rows show.
+fn write_extreme(
+    alloc: Global,
+    shape: &Shape,
+    lines: &[CoverLine],
+    rows: &[PivotRow],
+) -> Result<Vec<u8>, AllocError>
+    requires { HasText (Extreme shape.now lines.now rows.now) }
+    ensures { IfOk result (λ text. IsProofText (Extreme shape.now lines.now rows.now) text.items) }
+{
+    let mut text = start_text(alloc, b"extreme", shape)?;
+    push_cover_lines(&mut text, lines)?;
+    push_groups(&mut text, rows)?;
+    text.extend_from_slice(b"end\n")?;
+    Ok(text)
+}
+
+/// The proof text of the claim that the function is not extreme, as the halves show.
+fn write_not_extreme(
+    alloc: Global,
+    shape: &Shape,
+    halves: &Halves,
+) -> Result<Vec<u8>, AllocError>
+    requires { HasText (NotExtreme shape.now halves.now) }
+    ensures { IfOk result (λ text. IsProofText (NotExtreme shape.now halves.now) text.items) }
+{
+    let mut text = start_text(alloc, b"not-extreme", shape)?;
+    push_halves(alloc, &mut text, halves)?;
     text.extend_from_slice(b"end\n")?;
     Ok(text)
 }

@@ -1,0 +1,101 @@
+-- Which proof the decision gives of a function, and when its numbers are too wide (Equivariant Perturbation I; which halves
+-- and which rows are own choices).
+use Rattle.std.specs.Prelude.{ℕ, ℤ, pos, ◌≡◌, ◌≢◌, ◌⊎◌, ◌*◌, ◌<◌, ◌≤◌, ◌^◌, ◌<ℤ◌, List, [], Option, Some, length, map, get_or, unsigned_abs}
+use Rattle.gj_shape.specs.Additive.{IsTight}
+use Rattle.gj_shape.specs.Cover.{AreCoverLines}
+use Rattle.gj_shape.specs.Elimination.{KeptRow, Elimination, Solution, Passes, at_column, elimination, kernel}
+use Rattle.gj_shape.specs.FirstViolation.{IsFirstViolation}
+use Rattle.gj_shape.specs.FunctionData.{FunctionData, IsJump, IsContinuous}
+use Rattle.gj_shape.specs.Perturbation.{AreHalvesOf, perturbation_of, zigzag}
+use Rattle.gj_shape.specs.SlopeRows.{row_names}
+use Rattle.gj_shape.specs.Table.{IsMinimal}
+use Rattle.gj_shape.specs.declared.extremality.CoverLine.{CoverLine}
+use Rattle.gj_shape.specs.declared.extremality.Halves.{Halves}
+use Rattle.gj_shape.specs.declared.extremality.RowName.{RowName}
+use Rattle.gj_shape.specs.declared.extremality.RowName.TheVariants.{Period}
+use Rattle.gj_cover.specs.CoverOf.{IsLeastClass}
+use Rattle.gj_proof.specs.PresentRows.{AreNumbersOf, components_in, named_row}
+use Rattle.gj_proof.specs.declared.claim.Claim.{Claim}
+use Rattle.gj_proof.specs.declared.claim.Claim.TheVariants.{Minimal, NotMinimal, Cut, Extreme, NotExtreme}
+use Rattle.gj_proof.specs.declared.pivot.PivotRow.{PivotRow}
+
+-- ---- the linear system for the slopes
+
+-- the cover lines are those of the function, and cover all its intervals, with these numbers of n components
+pub record AreAllCovered (f : FunctionData) (lines : List CoverLine) (component : ℕ → ℕ) (n : ℕ) : Type 0 where
+  pub are_lines : AreCoverLines f.order (IsTight f) lines
+  pub numbers : AreNumbersOf f lines component
+  pub count : n ≡ components_in lines
+
+-- the elimination of all rows of the system, in their order
+abbrev pub slope_elimination : FunctionData → (ℕ → ℕ) → ℕ → Elimination
+slope_elimination f component n = elimination n (map (named_row f component n) (row_names f))
+
+-- the group of a row that it keeps
+abbrev pub group_of : FunctionData → KeptRow → PivotRow
+group_of f k = record { name = get_or (row_names f) k.number Period; reduce = k.reduce; pivot = k.pivot }
+
+-- the perturbation with the numbers as slopes of the components
+abbrev pub slope_perturbation : FunctionData → (ℕ → ℕ) → List ℤ → ℕ → ℤ
+slope_perturbation f component numbers i = perturbation_of f.order (λ a. at_column numbers (component a)) i
+
+-- ---- the three ends of the decision on a minimal continuous function
+
+-- all intervals are covered, and the rows that are kept, one for each component, leave only the slopes 0
+pub record AreExtremeRows (f : FunctionData) (lines : List CoverLine) (rows : List PivotRow) : Type 0 where
+  pub component : ℕ → ℕ
+  pub n : ℕ
+  pub covered : AreAllCovered f lines component n
+  pub fits : Passes (slope_elimination f component n).marked → ⊥
+  pub all : length (slope_elimination f component n).kept ≡ n
+  pub rows_are : rows ≡ map (group_of f) (slope_elimination f component n).kept
+
+-- an interval is uncovered, and the halves are those of the zigzag of the class of the least one
+pub record AreZigzagHalves (f : FunctionData) (h : Halves) : Type 0 where
+  pub intervals : List ℕ
+  pub least : IsLeastClass f.order (IsTight f) intervals
+  pub some : intervals ≢ []
+  pub halves : AreHalvesOf f 4 (zigzag f.order intervals) h
+
+-- all intervals are covered, fewer rows are kept than there are components, and the halves are those of the slopes that solve them
+pub record AreSlopeHalves (f : FunctionData) (h : Halves) : Type 0 where
+  pub lines : List CoverLine
+  pub component : ℕ → ℕ
+  pub n : ℕ
+  pub covered : AreAllCovered f lines component n
+  pub fits : Passes (slope_elimination f component n).marked → ⊥
+  pub solution : Solution
+  pub solves : kernel n (slope_elimination f component n).kept ≡ Some solution
+  pub solution_fits : Passes solution.marked → ⊥
+  pub halves : AreHalvesOf f 1 (slope_perturbation f component solution.numbers) h
+
+-- what the decision gives: the first violation; or, of a minimal continuous function, the cover and the rows, or the halves
+abbrev pub IsDecided : FunctionData → Claim → Type 0
+IsDecided f (Minimal g) = ⊥
+IsDecided f (NotMinimal g v) = (g ≡ f) × IsFirstViolation f v
+IsDecided f (Cut rule rows) = ⊥
+IsDecided f (Extreme g lines rows) = (g ≡ f) × IsMinimal f × IsContinuous f × AreExtremeRows f lines rows
+IsDecided f (NotExtreme g h) = (g ≡ f) × IsMinimal f × IsContinuous f × (AreZigzagHalves f h ⊎ AreSlopeHalves f h)
+
+-- ---- where it gives none
+
+-- a number of the kernel, of the perturbation or of the halves is too wide
+pub data IsWideBehind (f : FunctionData) (component : ℕ → ℕ) (s : Solution) : Type 0 where
+  kernel_passes : Passes s.marked → IsWideBehind f component s
+  perturbation_passes : (i : ℕ) → i < f.order → 2 ^ 127 ≤ unsigned_abs (slope_perturbation f component s.numbers i) → IsWideBehind f component s
+  scale_passes : (h : Halves) → AreHalvesOf f 1 (slope_perturbation f component s.numbers) h → pos (2 ^ 124) <ℤ h.scale → IsWideBehind f component s
+
+-- all intervals are covered, and a number of the elimination is above 2^127 - 1 in absolute value, or one of those behind it
+pub record IsTooWide (f : FunctionData) : Type 0 where
+  pub lines : List CoverLine
+  pub component : ℕ → ℕ
+  pub n : ℕ
+  pub covered : AreAllCovered f lines component n
+  pub passes : Passes (slope_elimination f component n).marked
+      ⊎ ((s : Solution) × (kernel n (slope_elimination f component n).kept ≡ Some s) × IsWideBehind f component s)
+
+-- the function jumps at i/q, and at no multiple of 1/q before
+pub record IsFirstJump (f : FunctionData) (i : ℕ) : Type 0 where
+  pub within : i < f.order
+  pub jump : IsJump f i
+  pub first : (j : ℕ) → j < i → IsJump f j → ⊥

@@ -1,0 +1,4 @@
+//! The decision whether a minimal function is extreme, with its proof.
+//!
+//! `specs/Decision.antt` says which proof the decision gives of a function, and when its numbers are too wide.
+#![tactic(auto)]

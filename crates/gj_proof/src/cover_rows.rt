@@ -1,0 +1,120 @@
+//! The lines of covered intervals, read.
+ghost use Rattle.std.specs.Prelude.{◌≡◌, ◌≢◌, [], ℕ, List, IfOk, IfErr, IfSome, IfNone};
+ghost use Rattle.gj_lex.specs.Words.{word_texts};
+ghost use Rattle.gj_lex.specs.Parts.{line_part, IsFaultOf};
+ghost use Rattle.gj_lex.specs.declared.spelling.Spelling.TheVariants.{Strict};
+ghost use Rattle.gj_shape.specs.declared.faces.FaceKind.{FaceKind};
+ghost use Rattle.gj_shape.specs.declared.faces.FaceKind.TheVariants.{Vertex};
+ghost use Rattle.gj_lines.specs.FaceLines.{face_word};
+ghost use Rattle.gj_proof.specs.ProofGrammar.{cover_words, BreaksCover, cover_rule, covered_part};
+
+use crate::fields::{count_below, five_fields_of};
+use gj_lex::{PartFault, Reason, Spelling, line_at};
+use gj_shape::{CoverLine, Face, FaceKind};
+use std::alloc::Global;
+
+/// The words of the line of a covered interval that differ from line to line.
+#[derive(Clone, Copy, Debug)]
+pub(crate) struct CoverWords<'a> {
+    pub kind: FaceKind,
+    pub interval: &'a [u8],
+    pub from: &'a [u8],
+    pub a: &'a [u8],
+    pub b: &'a [u8],
+}
+
+/// The lines of all intervals of a function of this order, and what follows them.
+pub(crate) fn cover_lines_at(
+    alloc: Global,
+    text: &[u8],
+    order: u32,
+) -> Result<(Vec<CoverLine>, &[u8]), PartFault>
+    ensures found { IfOk result (λ r. (covered_part order order []).Reads text.now r.0.items r.1.now) }
+    ensures fault { IfErr result (IsFaultOf (covered_part order order []) text.now) }
+{
+    let mut lines = Vec::new(alloc);
+    let mut rest = text;
+    for _ in 0..order {
+        let (line, behind) = cover_line_at(rest, order)?;
+        lines.push(line)?;
+        rest = behind;
+    }
+    Ok((lines, rest))
+}
+
+/// The line of a covered interval that comes next, and what follows it. It takes no memory.
+fn cover_line_at(text: &[u8], order: u32) -> Result<(CoverLine, &[u8]), PartFault>
+    ensures found { IfOk result (λ r. (line_part Strict (cover_rule order)).Reads text.now r.0 r.1.now) }
+    ensures fault { IfErr result (IsFaultOf (line_part Strict (cover_rule order)) text.now) }
+{
+    let line = line_at(Spelling::Strict, text)?;
+    match cover_line_in(line.bytes, order) {
+        Ok(cover) => Ok((cover, line.rest)),
+        Err(reason) => Err(PartFault::at(line.start, reason)),
+    }
+}
+
+/// What the line of a covered interval tells.
+fn cover_line_in(line: &[u8], order: u32) -> Result<CoverLine, Reason>
+    ensures found { IfOk result ((cover_rule order).Spells (word_texts line.now)) }
+    ensures fault { IfErr result (BreaksCover order (word_texts line.now)) }
+{
+    let Some(words) = cover_words(line) else {
+        return Err(Reason::Form);
+    };
+    let interval = count_below(words.interval, order)?;
+    let from = count_below(words.from, order)?;
+    let a = count_below(words.a, order)?;
+    let b = count_below(words.b, order)?;
+    let face = Face {
+        kind: words.kind,
+        a,
+        b,
+    };
+    Ok(CoverLine {
+        interval,
+        from,
+        face,
+    })
+}
+
+/// The words of the line, where they are of a covered interval.
+fn cover_words(line: &[u8]) -> Option<CoverWords<'_>>
+    ensures found { IfSome result (λ w. word_texts line.now ≡ cover_words w.kind w.interval.now w.from.now w.a.now w.b.now) }
+    ensures kind { IfSome result (λ w. w.kind ≢ Vertex) }
+    ensures none { IfNone result ((kind : FaceKind) (i j a b : List ℕ) →
+        word_texts line.now ≡ cover_words kind i j a b → kind ≢ Vertex → ⊥) }
+{
+    let (interval, from, word, a, b) = five_fields_of(line, b"cover")?;
+    let kind = face_kind(word)?;
+    Some(CoverWords {
+        kind,
+        interval,
+        from,
+        a,
+        b,
+    })
+}
+
+/// The kind of face, no vertex, that the word names.
+fn face_kind(word: &[u8]) -> Option<FaceKind>
+    ensures found { IfSome result (λ kind. (word.now ≡ face_word kind) × (kind ≢ Vertex)) }
+    ensures none { IfNone result ((kind : FaceKind) → word.now ≡ face_word kind → kind ≢ Vertex → ⊥) }
+{
+    if word == b"horizontal".as_slice() {
+        return Some(FaceKind::Horizontal);
+    }
+    if word == b"vertical".as_slice() {
+        return Some(FaceKind::Vertical);
+    }
+    if word == b"diagonal".as_slice() {
+        return Some(FaceKind::Diagonal);
+    }
+    if word == b"lower".as_slice() {
+        return Some(FaceKind::Lower);
+    }
+    if word == b"upper".as_slice() {
+        return Some(FaceKind::Upper);
+    }
+    None
+}

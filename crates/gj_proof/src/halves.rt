@@ -1,0 +1,137 @@
+//! The lines of halves, read.
+ghost use Rattle.std.specs.Prelude.{◌≡◌, [], ℤ, decimal, IfOk, IfErr, IfSome, IfNone};
+ghost use Rattle.std.specs.Fmt.{signed_decimal};
+ghost use Rattle.gj_lex.specs.Words.{word_texts};
+ghost use Rattle.gj_lex.specs.Parts.{line_part, IsFaultOf};
+ghost use Rattle.gj_lex.specs.declared.spelling.Spelling.TheVariants.{Strict};
+ghost use Rattle.gj_proof.specs.ProofText.{FitsPair};
+ghost use Rattle.gj_proof.specs.ProofGrammar.{IsHeadInBounds, halves_rule, pair_rule, pairs_part, halves_part};
+ghost use Rattle.gj_proof.specs.declared.halves.HalvesHead.{HalvesHead};
+
+use crate::bounds::is_head_in_bounds;
+use crate::fields::{two_fields_of, whole_of};
+use gj_lex::{PartFault, Reason, Spelling, count_of, line_at};
+use gj_shape::{Halves, List};
+use std::alloc::Global;
+
+/// The order and the scale of halves.
+#[derive(Clone, Copy, Debug, PartialEq, Eq)]
+pub(crate) struct HalvesHead {
+    pub order: u32,
+    pub scale: i128,
+}
+
+/// The halves in the next lines, and what follows them.
+pub(crate) fn halves_at(alloc: Global, text: &[u8]) -> Result<(Halves, &[u8]), PartFault>
+    ensures found { IfOk result (λ r. halves_part.Reads text.now r.0 r.1.now) }
+    ensures fault { IfErr result (IsFaultOf halves_part text.now) }
+{
+    let (head, rest) = halves_head_at(text)?;
+    let ((first, second), rest) = pairs_at(alloc, rest, head.order)?;
+    let halves = Halves {
+        order: head.order,
+        scale: head.scale,
+        first: List::of(first),
+        second: List::of(second),
+    };
+    Ok((halves, rest))
+}
+
+/// The order and the scale in the next line, and what follows the line. It takes no memory.
+fn halves_head_at(text: &[u8]) -> Result<(HalvesHead, &[u8]), PartFault>
+    ensures found { IfOk result (λ r. (line_part Strict halves_rule).Reads text.now r.0 r.1.now) }
+    ensures fault { IfErr result (IsFaultOf (line_part Strict halves_rule) text.now) }
+{
+    let line = line_at(Spelling::Strict, text)?;
+    match halves_head_in(line.bytes) {
+        Ok(head) => Ok((head, line.rest)),
+        Err(reason) => Err(PartFault::at(line.start, reason)),
+    }
+}
+
+/// The order and the scale that the line tells.
+fn halves_head_in(line: &[u8]) -> Result<HalvesHead, Reason>
+    ensures found { IfOk result (halves_rule.Spells (word_texts line.now)) }
+    ensures fault { IfErr result (halves_rule.Breaks (word_texts line.now)) }
+{
+    let Some((first, second)) = two_fields_of(line, b"halves") else {
+        return Err(Reason::Form);
+    };
+    match head_of(first, second) {
+        Some(head) => Ok(head),
+        None => Err(Reason::Number),
+    }
+}
+
+/// The order and the scale that the two words spell.
+fn head_of(first: &[u8], second: &[u8]) -> Option<HalvesHead>
+    ensures found { IfSome result (λ h. (first.now ≡ decimal h.order) × (second.now ≡ signed_decimal h.scale) × IsHeadInBounds h) }
+    ensures none { IfNone result ((h : HalvesHead) → first.now ≡ decimal h.order → second.now ≡ signed_decimal h.scale →
+        IsHeadInBounds h → ⊥) }
+{
+    let order = count_of(Spelling::Strict, first)?;
+    let scale = whole_of(second)?;
+    if !is_head_in_bounds(order, scale) {
+        return None;
+    }
+    Some(HalvesHead { order, scale })
+}
+
+/// So many pairs of values in the next lines, the first ones and the second ones, and what follows the lines.
+fn pairs_at(
+    alloc: Global,
+    text: &[u8],
+    count: u32,
+) -> Result<((Vec<i128>, Vec<i128>), &[u8]), PartFault>
+    ensures found { IfOk result (λ r. (pairs_part count [] []).Reads text.now (r.0.0.items, r.0.1.items) r.1.now) }
+    ensures fault { IfErr result (IsFaultOf (pairs_part count [] []) text.now) }
+{
+    let mut first = Vec::new(alloc);
+    let mut second = Vec::new(alloc);
+    let mut rest = text;
+    for _ in 0..count {
+        let ((x, y), behind) = pair_at(rest)?;
+        first.push(x)?;
+        second.push(y)?;
+        rest = behind;
+    }
+    Ok(((first, second), rest))
+}
+
+/// The pair of values in the next line, and what follows the line. It takes no memory.
+fn pair_at(text: &[u8]) -> Result<((i128, i128), &[u8]), PartFault>
+    ensures found { IfOk result (λ r. (line_part Strict pair_rule).Reads text.now r.0 r.1.now) }
+    ensures fault { IfErr result (IsFaultOf (line_part Strict pair_rule) text.now) }
+{
+    let line = line_at(Spelling::Strict, text)?;
+    match pair_in(line.bytes) {
+        Ok(pair) => Ok((pair, line.rest)),
+        Err(reason) => Err(PartFault::at(line.start, reason)),
+    }
+}
+
+/// The pair of values of the line.
+fn pair_in(line: &[u8]) -> Result<(i128, i128), Reason>
+    ensures found { IfOk result (pair_rule.Spells (word_texts line.now)) }
+    ensures fault { IfErr result (pair_rule.Breaks (word_texts line.now)) }
+{
+    let Some((first, second)) = two_fields_of(line, b"pair") else {
+        return Err(Reason::Form);
+    };
+    match wholes_of(first, second) {
+        Some(pair) => Ok(pair),
+        None => Err(Reason::Number),
+    }
+}
+
+/// The two whole numbers that the words spell.
+fn wholes_of(first: &[u8], second: &[u8]) -> Option<(i128, i128)>
+    ensures found { IfSome result (λ p. (first.now ≡ signed_decimal p.0) × (second.now ≡ signed_decimal p.1)
+        × FitsPair p.0 × FitsPair p.1) }
+    ensures none { IfNone result ((x y : ℤ) → first.now ≡ signed_decimal x → second.now ≡ signed_decimal y →
+        FitsPair x → FitsPair y → ⊥) }
+{
+    let x = whole_of(first)?;
+    let y = whole_of(second)?;
+    Some((x, y))
+}

@@ -1,0 +1,136 @@
+//! The groups of a row, its steps and its pivot, read.
+ghost use Rattle.std.specs.Prelude.{◌≡◌, [], ◌∷◌, ℕ, codes, IfOk, IfErr};
+ghost use Rattle.gj_lex.specs.SpelledNumbers.{IsCountWord};
+ghost use Rattle.gj_lex.specs.Words.{word_texts};
+ghost use Rattle.gj_lex.specs.Parts.{line_part, loop_part, IsFaultOf};
+ghost use Rattle.gj_lex.specs.declared.spelling.Spelling.TheVariants.{Strict};
+ghost use Rattle.gj_lex.specs.declared.reason.Reason.TheVariants.{Number};
+ghost use Rattle.gj_shape.specs.declared.extremality.RowName.TheVariants.{Pair};
+ghost use Rattle.gj_proof.specs.ProofText.{IsRowNameBelow};
+ghost use Rattle.gj_proof.specs.ProofGrammar.{row_words, BreaksRowName, row_name_rule, column_rule, next_step, group_part, groups_part};
+
+use crate::begins::{begins_with_line, begins_with_word};
+use crate::fields::{count_below, two_fields_of};
+use crate::pivot::PivotRow;
+use gj_lex::{PartFault, Reason, Spelling, field_of, has_words, line_at};
+use gj_shape::{List, RowName};
+use std::alloc::Global;
+
+/// The groups up to a line `end`, for a function of this order, and that line with what follows it.
+pub(crate) fn groups_at(
+    alloc: Global,
+    text: &[u8],
+    order: u32,
+) -> Result<(Vec<PivotRow>, &[u8]), PartFault>
+    ensures found { IfOk result (λ r. (groups_part order []).Reads text.now r.0.items r.1.now) }
+    ensures fault { IfErr result (IsFaultOf (groups_part order []) text.now) }
+{
+    let mut rows = Vec::new(alloc);
+    let mut rest = text;
+    while !begins_with_line(rest, b"end") {
+        let (row, behind) = group_at(alloc, rest, order)?;
+        rows.push(row)?;
+        rest = behind;
+    }
+    Ok((rows, rest))
+}
+
+/// The group in the next lines, and what follows them.
+fn group_at(alloc: Global, text: &[u8], order: u32) -> Result<(PivotRow, &[u8]), PartFault>
+    ensures found { IfOk result (λ r. (group_part order).Reads text.now r.0 r.1.now) }
+    ensures fault { IfErr result (IsFaultOf (group_part order) text.now) }
+{
+    let (name, rest) = row_name_at(text, order)?;
+    let (columns, rest) = steps_at(alloc, rest)?;
+    let (pivot, rest) = column_at(rest, b"pivot")?;
+    let reduce = List::of(columns);
+    Ok((
+        PivotRow {
+            name,
+            reduce,
+            pivot,
+        },
+        rest,
+    ))
+}
+
+/// The steps in the next lines, as long as these begin with `reduce`, and what follows them.
+fn steps_at(alloc: Global, text: &[u8]) -> Result<(Vec<u32>, &[u8]), PartFault>
+    ensures found { IfOk result (λ r. (loop_part next_step []).Reads text.now r.0.items r.1.now) }
+    ensures fault { IfErr result (IsFaultOf (loop_part next_step []) text.now) }
+{
+    let mut columns = Vec::new(alloc);
+    let mut rest = text;
+    while begins_with_word(rest, b"reduce") {
+        let (column, behind) = column_at(rest, b"reduce")?;
+        columns.push(column)?;
+        rest = behind;
+    }
+    Ok((columns, rest))
+}
+
+/// The column in the next line, behind the word, and what follows the line. It takes no memory.
+fn column_at<'a>(text: &'a [u8], word: &[u8]) -> Result<(u32, &'a [u8]), PartFault>
+    ensures found { IfOk result (λ r. (line_part Strict (column_rule word.now)).Reads text.now r.0 r.1.now) }
+    ensures fault { IfErr result (IsFaultOf (line_part Strict (column_rule word.now)) text.now) }
+{
+    let line = line_at(Spelling::Strict, text)?;
+    match column_in(line.bytes, word) {
+        Ok(column) => Ok((column, line.rest)),
+        Err(reason) => Err(PartFault::at(line.start, reason)),
+    }
+}
+
+/// The column of the line, behind the word.
+fn column_in(line: &[u8], word: &[u8]) -> Result<u32, Reason>
+    ensures found { IfOk result ((column_rule word.now).Spells (word_texts line.now)) }
+    ensures fault { IfErr result ((column_rule word.now).Breaks (word_texts line.now)) }
+{
+    let Some(column) = field_of(line, word) else {
+        return Err(Reason::Form);
+    };
+    count_below(column, 1000)
+}
+
+/// The name of the row in the next line, and what follows the line. It takes no memory.
+fn row_name_at(text: &[u8], order: u32) -> Result<(RowName, &[u8]), PartFault>
+    ensures found { IfOk result (λ r. (line_part Strict (row_name_rule order)).Reads text.now r.0 r.1.now) }
+    ensures fault { IfErr result (IsFaultOf (line_part Strict (row_name_rule order)) text.now) }
+{
+    let line = line_at(Spelling::Strict, text)?;
+    match row_name_in(line.bytes, order) {
+        Ok(name) => Ok((name, line.rest)),
+        Err(reason) => Err(PartFault::at(line.start, reason)),
+    }
+}
+
+/// The name of the row that the line tells.
+fn row_name_in(line: &[u8], order: u32) -> Result<RowName, Reason>
+    ensures found { IfOk result ((row_name_rule order).Spells (word_texts line.now)) }
+    ensures fault { IfErr result (BreaksRowName order (word_texts line.now)) }
+{
+    if has_words(line, b"row period") {
+        return Ok(RowName::Period);
+    }
+    if has_words(line, b"row f") {
+        return Ok(RowName::F);
+    }
+    let Some((first, second)) = two_fields_of(line, b"row") else {
+        return Err(Reason::Form);
+    };
+    pair_of(first, second, order)
+}
+
+/// The pair that the two words spell: ascending, from 1 to below the order.
+fn pair_of(first: &[u8], second: &[u8], order: u32) -> Result<RowName, Reason>
+    ensures found { IfOk result (λ name. (codes "row" ∷ first.now ∷ second.now ∷ [] ≡ row_words name) × IsRowNameBelow order name) }
+    ensures fault { IfErr result (λ e. (e ≡ Number) × ((m n : ℕ) → IsCountWord Strict first.now m →
+        IsCountWord Strict second.now n → IsRowNameBelow order (Pair m n) → ⊥)) }
+{
+    let a = count_below(first, order)?;
+    let b = count_below(second, order)?;
+    if a < 1 || b < a {
+        return Err(Reason::Number);
+    }
+    Ok(RowName::Pair(a, b))
+}

@@ -1,0 +1,140 @@
+//! The lines of an extreme function and those of halves, printed.
+ghost use Rattle.std.specs.Prelude.{◌≡◌, ◌++◌, All, codes, decimal, flat_map, zip, OnOk};
+ghost use Rattle.std.specs.Fmt.{signed_decimal};
+ghost use Rattle.gj_lines.specs.FaceLines.{cover_line};
+ghost use Rattle.gj_lines.specs.FunctionLines.{line};
+ghost use Rattle.gj_proof.specs.ProofText.{AreHalvesInBounds, FitsPair, group_line, reduction_line, pair_line};
+ghost use Rattle.gj_proof.specs.ExtremeTexts.{group_text, halves_text};
+
+use crate::pivot::PivotRow;
+use gj_frac::Frac;
+use gj_lex::{print_count, print_frac};
+use gj_lines::push_cover_line;
+use gj_shape::{CoverLine, Halves, RowName};
+use std::alloc::{AllocError, Global};
+
+/// Appends the lines of covered intervals.
+pub(crate) fn push_cover_lines(out: &mut Vec<u8>, lines: &[CoverLine]) -> Result<(), AllocError>
+    ensures { OnOk result (out.new.items ≡ out.old.items ++ flat_map cover_line lines.now) }
+{
+    for line in lines {
+        push_cover_line(out, *line)?;
+    }
+    Ok(())
+}
+
+/// Appends the lines of groups.
+pub(crate) fn push_groups(out: &mut Vec<u8>, rows: &[PivotRow]) -> Result<(), AllocError>
+    ensures { OnOk result (out.new.items ≡ out.old.items ++ flat_map group_text rows.now) }
+{
+    for row in rows {
+        push_group(out, row)?;
+    }
+    Ok(())
+}
+
+/// Appends the lines of a group: its row, its steps and its pivot.
+fn push_group(out: &mut Vec<u8>, row: &PivotRow) -> Result<(), AllocError>
+    ensures { OnOk result (out.new.items ≡ out.old.items ++ group_text row.now) }
+{
+    push_row_name(out, row.name)?;
+    push_reductions(out, row.reduce.as_slice())?;
+    push_column(out, b"pivot ", row.pivot)
+}
+
+/// Appends the first line of a group.
+fn push_row_name(out: &mut Vec<u8>, name: RowName) -> Result<(), AllocError>
+    ensures { OnOk result (out.new.items ≡ out.old.items ++ group_line name) }
+{
+    match name {
+        RowName::Period => out.extend_from_slice(b"row period\n"),
+        RowName::F => out.extend_from_slice(b"row f\n"),
+        RowName::Pair(a, b) => {
+            out.extend_from_slice(b"row ")?;
+            print_count(out, a)?;
+            push_column(out, b" ", b)
+        }
+    }
+}
+
+/// Appends the lines of steps.
+fn push_reductions(out: &mut Vec<u8>, columns: &[u32]) -> Result<(), AllocError>
+    ensures { OnOk result (out.new.items ≡ out.old.items ++ flat_map reduction_line columns.now) }
+{
+    for column in columns {
+        push_column(out, b"reduce ", *column)?;
+    }
+    Ok(())
+}
+
+/// Appends a word, a count and the end of the line.
+fn push_column(out: &mut Vec<u8>, word: &[u8], column: u32) -> Result<(), AllocError>
+    ensures { OnOk result (out.new.items ≡ out.old.items ++ line (word.now ++ decimal column)) }
+{
+    out.extend_from_slice(word)?;
+    print_count(out, column)?;
+    out.push(b'\n')?;
+    Ok(())
+}
+
+/// Appends the lines of halves.
+pub(crate) fn push_halves(
+    alloc: Global,
+    out: &mut Vec<u8>,
+    halves: &Halves,
+) -> Result<(), AllocError>
+    requires { AreHalvesInBounds halves.now }
+    ensures { OnOk result (out.new.items ≡ out.old.items ++ halves_text halves.now) }
+{
+    out.extend_from_slice(b"halves ")?;
+    print_count(out, halves.order)?;
+    push_whole_line(alloc, out, halves.scale)?;
+    push_pairs(alloc, out, halves.first.as_slice(), halves.second.as_slice())
+}
+
+/// Appends the lines of the halves' values.
+fn push_pairs(
+    alloc: Global,
+    out: &mut Vec<u8>,
+    first: &[i128],
+    second: &[i128],
+) -> Result<(), AllocError>
+    requires first { All FitsPair first.now }
+    requires second { All FitsPair second.now }
+    ensures { OnOk result (out.new.items ≡ out.old.items ++ flat_map pair_line (zip first.now second.now)) }
+{
+    for (x, y) in first.iter().zip(second) {
+        push_pair(alloc, out, *x, *y)?;
+    }
+    Ok(())
+}
+
+/// Appends the line of a pair of values.
+fn push_pair(alloc: Global, out: &mut Vec<u8>, x: i128, y: i128) -> Result<(), AllocError>
+    requires first { FitsPair x }
+    requires second { FitsPair y }
+    ensures { OnOk result (out.new.items ≡ out.old.items ++ pair_line (x, y)) }
+{
+    out.extend_from_slice(b"pair ")?;
+    push_whole(alloc, out, x)?;
+    push_whole_line(alloc, out, y)
+}
+
+/// Appends a space, a whole number and the end of the line.
+fn push_whole_line(alloc: Global, out: &mut Vec<u8>, n: i128) -> Result<(), AllocError>
+    requires { FitsPair n }
+    ensures { OnOk result (out.new.items ≡ out.old.items ++ line (codes " " ++ signed_decimal n)) }
+{
+    out.push(b' ')?;
+    push_whole(alloc, out, n)?;
+    out.push(b'\n')?;
+    Ok(())
+}
+
+/// Appends a whole number.
+fn push_whole(alloc: Global, out: &mut Vec<u8>, n: i128) -> Result<(), AllocError>
+    requires { FitsPair n }
+    ensures { OnOk result (out.new.items ≡ out.old.items ++ signed_decimal n) }
+{
+    print_frac(alloc, out, Frac::new(n, 1).unwrap())
+}
