@@ -1,6 +1,6 @@
 -- Where every rule holds, so does what the claim says.
 use Rattle.gj_proof.specs.declared.claim.Claim.{Claim}
-use Rattle.gj_proof.specs.declared.claim.Claim.TheVariants.{Minimal, NotMinimal, Cut}
+use Rattle.gj_proof.specs.declared.claim.Claim.TheVariants.{Minimal, NotMinimal, Cut, Extreme, NotExtreme}
 use Rattle.gj_proof.specs.ProofText.{IsBounded}
 use Rattle.gj_proof.specs.Rules.{MeetsRules}
 use Rattle.gj_proof.specs.Meaning.{ClaimHolds}
@@ -12,3 +12,5 @@ pub meaning_of_rules : (c : Claim) → IsBounded c → MeetsRules c → ClaimHol
 meaning_of_rules (Minimal f) b rules = minimal_from_tests f b ((minimal_rules f).1 rules)
 meaning_of_rules (NotMinimal f v) b rules = ((point_rules f v).1 rules).shown
 meaning_of_rules (Cut rule rows) b rules = cuts_meaning rule rows b rules
+meaning_of_rules (Extreme f lines rows) b rules = ?
+meaning_of_rules (NotExtreme f h) b rules = ?

@@ -5,7 +5,7 @@ use Rattle.gj_shape.specs.Cover.{HasLine}
 use Rattle.gj_shape.specs.FunctionData.{FunctionData}
 use Rattle.gj_shape.specs.declared.extremality.CoverLine.{CoverLine}
 use Rattle.gj_theory.specs.CoverRules.{MeetsCoverRule}
-use Rattle.gj_check.specs.Stub.{AreNumbersOf, components_in}
+use Rattle.gj_proof.specs.PresentRows.{AreNumbersOf, components_in}
 use Rattle.gj_proof.specs.Rules.{AtIndex}
 use Rattle.gj_check.specs.declared.cover_lines.Components.{Components}
 use Rattle.gj_check.specs.declared.cover_lines.Covered.{Covered}

@@ -8,4 +8,3 @@ pub mod RowLimits
 pub mod CutRows
 pub mod Tables
 pub mod CoverLines
-pub mod Stub

@@ -1,10 +1,10 @@
 //! The rule `cover`: each cover line opens a component, or puts an interval into the component of another.
-ghost use Rattle.std.specs.Prelude.{ℕ, ◌≡◌, ◌↔◌, ◌+◌, ◌<◌, ◌++◌, List, All, IsTrue, IfOk, length};
+ghost use Rattle.std.specs.Prelude.{ℕ, ◌≡◌, ◌↔◌, ◌+◌, ◌<◌, ◌≤◌, ◌++◌, List, All, IsTrue, IfOk, length};
 ghost use Rattle.gj_shape.specs.Additive.{IsAdditive, IsTight};
 ghost use Rattle.gj_shape.specs.Cover.{IsOneOf, links_of, triangle_projections};
 ghost use Rattle.gj_shape.specs.declared.extremality.CoverLine.{CoverLine};
 ghost use Rattle.gj_theory.specs.CoverRules.{MeetsCoverRule};
-ghost use Rattle.gj_check.specs.Stub.{IsCoverLineBelow};
+ghost use Rattle.gj_proof.specs.ProofText.{IsCoverLineBelow};
 ghost use Rattle.gj_check.specs.CoverLines.{HaveLines, IsCoverOutcome};
 
 use crate::pieces::adds_up;
@@ -66,6 +66,7 @@ fn meets_rule(shape: &Shape, has_line: &[bool], line: CoverLine) -> bool
     ensures { (before : List CoverLine) → HaveLines before has_line.now →
         (IsTrue result ↔ MeetsCoverRule shape.now.order (IsTight shape.now) before line) }
 {
+    let order = shape.order();
     if has_line[line.interval as usize] {
         return false;
     }
@@ -73,18 +74,18 @@ fn meets_rule(shape: &Shape, has_line: &[bool], line: CoverLine) -> bool
         return false;
     }
     if line.from == line.interval {
-        return covers(line.face, line.interval, shape.order());
+        return covers(line.face, line.interval, order);
     }
     if !has_line[line.from as usize] {
         return false;
     }
-    joins(line.face, line.interval, line.from, shape.order())
+    joins(line.face, line.interval, line.from, order)
 }
 
 /// Whether each corner of the face is tight.
 fn is_additive(shape: &Shape, face: Face) -> bool
-    requires first { face.a < shape.now.order }
-    requires second { face.b < shape.now.order }
+    requires first { face.a < 1000 }
+    requires second { face.b < 1000 }
     ensures { IsTrue result ↔ IsAdditive (IsTight shape.now) face.kind face.a face.b }
 {
     let a = face.a as usize;
@@ -101,8 +102,8 @@ fn is_additive(shape: &Shape, face: Face) -> bool
 
 /// Whether both ends of the diagonal of the square (a, b) are tight.
 fn has_tight_diagonal(shape: &Shape, a: usize, b: usize) -> bool
-    requires first { a < shape.now.order }
-    requires second { b < shape.now.order }
+    requires first { a < 1000 }
+    requires second { b < 1000 }
     ensures { IsTrue result ↔ (IsTight shape.now (a + 1) b × IsTight shape.now a (b + 1)) }
 {
     is_tight(shape, a + 1, b) && is_tight(shape, a, b + 1)
@@ -110,8 +111,8 @@ fn has_tight_diagonal(shape: &Shape, a: usize, b: usize) -> bool
 
 /// Whether the values at a/q and b/q add up to the value at their sum.
 fn is_tight(shape: &Shape, a: usize, b: usize) -> bool
-    requires first { a < 2000 }
-    requires second { b < 2000 }
+    requires first { a ≤ 1000 }
+    requires second { b ≤ 1000 }
     ensures { IsTrue result ↔ IsTight shape.now a b }
 {
     let values = shape.value_numerators();
@@ -121,7 +122,7 @@ fn is_tight(shape: &Shape, a: usize, b: usize) -> bool
 
 /// Whether the face is a triangle that projects on the interval.
 fn covers(face: Face, interval: u32, order: u32) -> bool
-    requires order { order < 2000 }
+    requires order { order ≤ 1000 }
     requires first { face.a < order }
     requires second { face.b < order }
     ensures { IsTrue result ↔ IsOneOf order (triangle_projections face.kind face.a face.b) interval }
@@ -134,7 +135,7 @@ fn covers(face: Face, interval: u32, order: u32) -> bool
 
 /// Whether the face is an edge that links both intervals, or a triangle that projects on both.
 fn joins(face: Face, first: u32, second: u32, order: u32) -> bool
-    requires order { order < 2000 }
+    requires order { order ≤ 1000 }
     requires first { face.a < order }
     requires second { face.b < order }
     ensures { IsTrue result
@@ -146,7 +147,7 @@ fn joins(face: Face, first: u32, second: u32, order: u32) -> bool
 
 /// Whether the interval is one of those that the edge links, or on which the triangle projects.
 fn meets_interval(face: Face, interval: u32, order: u32) -> bool
-    requires order { order < 2000 }
+    requires order { order ≤ 1000 }
     requires first { face.a < order }
     requires second { face.b < order }
     ensures { IsTrue result
