@@ -8,6 +8,8 @@ pub mod ShownPoints
 pub mod PieceTests
 pub mod RowTests
 pub mod DemandsOfClaims
+pub mod ExtremeMeaning
+pub mod HalvesMeaning
 pub mod RulesGiveMeaning
 pub mod AtPlaces
 pub mod CutLines

@@ -15,12 +15,12 @@ use Rattle.gj_theory.proofs.Triangular.{rank_at_most, all_zero, sum_at_zeros}
 -- ---- rows after several steps
 
 -- a step by no row leaves no entries
-reduced_by_none : (row : List ℤ) (c : ℕ) → reduced [] row c ≡ []
+pub reduced_by_none : (row : List ℤ) (c : ℕ) → reduced [] row c ≡ []
 unfolding reduced eliminated
 reduced_by_none [] c = divided_zero [] refl
 reduced_by_none (x ∷ row) c = divided_zero [] refl
 
-reduced_of_none : (kept : List ℤ) (c : ℕ) → reduced kept [] c ≡ []
+pub reduced_of_none : (kept : List ℤ) (c : ℕ) → reduced kept [] c ≡ []
 unfolding reduced eliminated
 reduced_of_none kept c = divided_zero [] refl
 

@@ -73,7 +73,7 @@ pair_is_tight : (f : FunctionData) (a b : ℕ) → is_tight f a b ≡ true → I
 pair_is_tight f a b e = (Decides-int_eq (at f.value a +ℤ at f.value b) (at f.value (a + b))).0 e
 
 -- what holds at the period, at f and at tight pairs below the order holds of all rows
-each_row : (P : RowName → Type 0) (f : FunctionData) → P Period → P F →
+pub each_row : (P : RowName → Type 0) (f : FunctionData) → P Period → P F →
     ((a b : ℕ) → a < f.order → b < f.order → IsTight f a b → P (Pair a b)) → All P (row_names f)
 each_row P f period place pairs =
     let partners = λ (a : ℕ). filter (is_tight f a) (range_with_len a (f.order - a)) in

@@ -77,7 +77,7 @@ step_same n kept row c k h len found w all =
     )
 
 -- the row is 0 before the column a
-abbrev IsZeroBefore : List ℤ → ℕ → Type 0
+abbrev pub IsZeroBefore : List ℤ → ℕ → Type 0
 IsZeroBefore row a = (j : ℕ) → j < a → at_column row j ≡ pos 0
 
 zero_before_next : (row : List ℤ) (a : ℕ) → IsZeroBefore row a → at_column row a ≡ pos 0 → IsZeroBefore row (a + 1)
@@ -92,7 +92,7 @@ step_zero n kept row c k h len found none =
     (λ j below. reduced_at_zero k.entries row c j columns (is.zero_before j (subst (λ (i : ℕ). j < i) (sym at) below)) (none j below))
     (reduced_at_column k.entries row c columns)
 
-kept_here : (n : ℕ) (kept : List KeptRow) (row : List ℤ) (c : ℕ) → length row ≡ n → c < n →
+pub kept_here : (n : ℕ) (kept : List KeptRow) (row : List ℤ) (c : ℕ) → length row ≡ n → c < n →
     row_with_pivot kept c ≡ None → IsZeroBefore row c → at_column row c ≢ pos 0 → IsKept n kept row c (kept_entries row c)
 kept_here n kept row c len below free none some = record {
   free = free;

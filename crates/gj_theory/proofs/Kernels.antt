@@ -287,7 +287,7 @@ unit_here : (n c : ℕ) → c < n → at_column (unit_row n c) c ≡ pos 1
 unit_here n c below = unit_at n c c below ∙ ap (λ b. if b then pos 1 else pos 0) (eq-eqb c c refl)
 
 -- no row has its pivot at the free column
-no_pivot_at : (kept : List KeptRow) (c : ℕ) → row_with_pivot kept c ≡ None → All (λ k. k.pivot ≢ c) kept
+pub no_pivot_at : (kept : List KeptRow) (c : ℕ) → row_with_pivot kept c ≡ None → All (λ k. k.pivot ≢ c) kept
 no_pivot_at [] c e = All-nil (λ k. k.pivot ≢ c)
 no_pivot_at (k ∷ kept) c e = by_test (eqb k.pivot c) refl e (no_pivot_at kept c)
   where
@@ -333,7 +333,7 @@ none_with_pivot (x ∷ kept) p j apart same k =
     (λ e. let t = eq-eqb p x.pivot (same ∙ sym e) in let f = apart.0 in absurd cc)
     (none_with_pivot kept p j apart.1 same k)
 
-only_row : (kept : List KeptRow) (j : ℕ) (k : KeptRow) → IsDistinct (λ a b. eqb a b) (map (λ r. r.pivot) kept) →
+pub only_row : (kept : List KeptRow) (j : ℕ) (k : KeptRow) → IsDistinct (λ a b. eqb a b) (map (λ r. r.pivot) kept) →
     row_with_pivot kept j ≡ Some k → All (λ r. r.pivot ≡ j → r ≡ k) kept
 only_row [] j k h e = All-nil (λ r. r.pivot ≡ j → r ≡ k)
 only_row (x ∷ kept) j k h e =

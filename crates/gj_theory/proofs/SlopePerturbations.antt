@@ -66,12 +66,12 @@ abbrev rows_of_pairs : FunctionData → List RowName
 rows_of_pairs f = flat_map (rows_with_first f) (range_with_len 1 (f.order - 1))
 
 -- the first two rows, and the row of a tight pair
-first_rows_hold : (P : RowName → Type 0) (f : FunctionData) → All P (row_names f) → P Period × P F
+pub first_rows_hold : (P : RowName → Type 0) (f : FunctionData) → All P (row_names f) → P Period × P F
 first_rows_hold P f all =
     let pairs = rows_of_pairs f in
     (All-head P Period (F ∷ pairs) all, All-head P F pairs (All-tail P Period (F ∷ pairs) all))
 
-pair_row_holds : (P : RowName → Type 0) (f : FunctionData) → All P (row_names f) → (a b : ℕ) → 1 ≤ a → a ≤ b → b < f.order →
+pub pair_row_holds : (P : RowName → Type 0) (f : FunctionData) → All P (row_names f) → (a b : ℕ) → 1 ≤ a → a ≤ b → b < f.order →
     IsTight f a b → P (Pair a b)
 pair_row_holds P f all a b low up high tight =
     let pairs = rows_of_pairs f in

@@ -18,7 +18,7 @@ use Rattle.gj_theory.proofs.Insertions.{find_has, kept_row_at, pivots_push}
 
 -- ---- the pivots
 
-below_from_any : (n : ℕ) (xs : List ℕ) (q : ℕ) → All (λ x. x < n) xs → list_any (eqb q) xs ≡ true → q < n
+pub below_from_any : (n : ℕ) (xs : List ℕ) (q : ℕ) → All (λ x. x < n) xs → list_any (eqb q) xs ≡ true → q < n
 below_from_any n [] q all e = absurd cc
 below_from_any n (x ∷ xs) q all e =
     by_test (eqb q x) refl e (below_from_any n xs q (All-tail (λ y. y < n) x xs all))

@@ -245,6 +245,6 @@ cuts_of_lines r t lines text bounded passes is h spelled =
       lines = lines;
       lines_are = h;
       rules = rules;
-      hold = meaning_of_rules (claim.Cut r lines) (claim_is_bounded r t lines bounded is h) rules;
+      hold = meaning_of_rules (claim.Cut r lines) (claim_is_bounded r t lines bounded is h) tt rules;
       spelled = spelled;
     }

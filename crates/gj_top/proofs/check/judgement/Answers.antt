@@ -9,6 +9,6 @@ returns-in_ok-accepted-in-Ok c =
     let rules : MeetsRules c.args.proof.now = c.in-Ok.ensures.ok in
     record {
       rules = rules;
-      holds = meaning_of_rules c.args.proof.now c.requires rules;
+      holds = meaning_of_rules c.args.proof.now c.requires c.claim.ensures.has_text rules;
       spelled = c.in_ok-accepted-in-Ok.ensures ∙ ap accepted_line c.claim.ensures.claim;
     }
