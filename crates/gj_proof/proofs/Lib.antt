@@ -12,5 +12,8 @@ pub mod CutWords
 pub mod CutParts
 pub mod CutTexts
 pub mod CutRead
+pub mod WholeNumbers
+pub mod LineLists
+pub mod ExtremeLines
 pub mod OwnLines
 pub mod CutWritten

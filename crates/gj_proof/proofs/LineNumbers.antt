@@ -20,8 +20,9 @@ use Rattle.gj_tools.proofs.Lists.{All-front, All-back, All-range}
 use Rattle.gj_proof.specs.ProofText.{ProofLine, OwnLine, Subject, function, gmic, IfFunction, IsBounded, claim_word, subject_of, subject_lines, AreSubjectLines, own_lines, lines_of, HasBytes, HasNumber, violation_line, IsProofText}
 use Rattle.gj_proof.specs.ProofText.ProofLine.{title, claim, order, place, point, rule_named, violation_shown, last}
 use Rattle.gj_proof.specs.declared.claim.Claim.{Claim}
-use Rattle.gj_proof.specs.declared.claim.Claim.TheVariants.{Minimal, NotMinimal, Cut}
-use Rattle.gj_proof.proofs.OwnLines.{names, bytes, bytes_append, Differ, differs_from_those_before, own_lines_differ, IsOwn, own_lines_are_own, HasOneFeed, own_lines_have_one_feed, feeds_of_own, feeds_of_line, feeds_of_two, feeds_of_word, feeds_of_fraction}
+use Rattle.gj_proof.specs.declared.claim.Claim.TheVariants.{Minimal, NotMinimal, Cut, Extreme, NotExtreme}
+use Rattle.gj_proof.proofs.LineLists.{names, bytes, bytes_append, Differ, differs_from_those_before, HasOneFeed, feeds_of_own, feeds_of_line, feeds_of_two, feeds_of_word, feeds_of_fraction}
+use Rattle.gj_proof.proofs.OwnLines.{own_lines_differ, IsOwn, own_lines_are_own, own_lines_have_one_feed}
 
 -- ---- one number
 
@@ -165,11 +166,15 @@ feeds_of_claim : (c : Claim) → line_feeds (line (codes "claim " ++ claim_word 
 feeds_of_claim (Minimal f) = refl
 feeds_of_claim (NotMinimal f v) = refl
 feeds_of_claim (Cut rule rows) = refl
+feeds_of_claim (Extreme f lines rows) = refl
+feeds_of_claim (NotExtreme f h) = refl
 
 subject_is_bounded : (c : Claim) → IsBounded c → IfFunction (subject_of c) IsWithinBounds
 subject_is_bounded (Minimal f) b = b
 subject_is_bounded (NotMinimal f v) b = b
 subject_is_bounded (Cut rule rows) b = b.0
+subject_is_bounded (Extreme f lines rows) b = b
+subject_is_bounded (NotExtreme f h) b = b
 
 own_at : (c : Claim) (text : List ℕ) (a b : List OwnLine) (l : OwnLine) → IsBounded c → IsProofText c text → own_lines c ≡ a ++ l ∷ b →
     StandsAt text l.bytes (length (subject_lines (subject_of c)) + length a + 3)
@@ -177,7 +182,7 @@ own_at c text a b l within p is =
     let title_bytes = line (codes "gj-proof 1") in
     let claim_bytes = line (codes "claim " ++ claim_word c) in
     let front = title_bytes ++ claim_bytes ++ p.subject ++ bytes a in
-    let ones : All HasOneFeed a = All-front HasOneFeed a (l ∷ b) (subst (All HasOneFeed) is (own_lines_have_one_feed c within)) in
+    let ones : All HasOneFeed a = All-front HasOneFeed a (l ∷ b) (subst (All HasOneFeed) is (own_lines_have_one_feed c within p.has_text)) in
     let own = feeds_of_own a ones in
     let subject = feeds_of_subject (subject_of c) p.subject (subject_is_bounded c within) p.are_subject_lines in
     let one : line_feeds title_bytes ≡ 1 = refl in

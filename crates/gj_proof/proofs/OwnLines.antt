@@ -1,39 +1,26 @@
 -- The lines of a claim's own: their names differ, and each has one line feed, at its end.
-use Rattle.std.proofs.Common.{◌≡◌, ◌≢◌, ℕ, suc, ◌+◌, ◌≤◌, ◌==◌, false, List, [], ◌∷◌, ◌++◌, All, length, map, flat_map, codes, cond, refl, sym, ap, subst, ◌∙◌, arith}
-use Rattle.std.proofs.lemmas.Bool.{ne_eqb}
+use Rattle.std.proofs.Common.{◌≡◌, ◌≢◌, ℕ, suc, ◌+◌, ◌≤◌, List, [], ◌∷◌, ◌++◌, All, length, flat_map, zip, codes, refl, sym, ap, subst, ◌∙◌, arith}
 use Rattle.std.proofs.lemmas.List.{append_assoc, map-append}
 use Rattle.std.proofs.lemmas.List.Elements.{All-nil, All-cons, All-head, All-tail, All-append, All-weaker}
 use Rattle.gj_frac.specs.declared.Frac.{Frac}
-use Rattle.gj_tools.proofs.Lists.{All-back}
 use Rattle.gj_lex.specs.Name.{IsName, IsNameByte}
-use Rattle.gj_lex.specs.NumberText.{fraction_text, IsWordByte}
+use Rattle.gj_lex.specs.NumberText.{fraction_text}
 use Rattle.gj_lex.specs.TextLines.{line_feeds}
-use Rattle.gj_lex.proofs.LineNumbers.{line_feeds_append}
-use Rattle.gj_lex.proofs.WordBytes.{fraction_is_word}
 use Rattle.gj_shape.specs.declared.violations.Violation.{Violation}
 use Rattle.gj_shape.specs.declared.violations.Violation.TheVariants as violation
-use Rattle.gj_lines.specs.FunctionLines.{line}
-use Rattle.gj_proof.specs.ProofText.{ProofLine, OwnLine, IsBounded, HasNames, own_lines, violation_line, reason_word, row_line, term_line, terms_of, term_lines, row_lines}
+use Rattle.gj_proof.specs.ProofText.{ProofLine, OwnLine, IsBounded, HasNames, HasText, own_lines, violation_line, reason_word, row_line, term_line, terms_of, term_lines, row_lines, covered_lines, group_lines, pair_lines}
 use Rattle.gj_proof.specs.CutTexts.{row_text}
 use Rattle.gj_proof.specs.declared.claim.Claim.{Claim}
-use Rattle.gj_proof.specs.declared.claim.Claim.TheVariants.{Minimal, NotMinimal, Cut}
+use Rattle.gj_proof.specs.declared.claim.Claim.TheVariants.{Minimal, NotMinimal, Cut, Extreme, NotExtreme}
 use Rattle.gj_proof.specs.declared.cut.CutLine.{CutLine}
 use Rattle.gj_proof.specs.declared.cut.CutLine.TheVariants as cuts
 use Rattle.gj_proof.specs.declared.cut.CutTerm.{CutTerm}
 use Rattle.gj_proof.specs.declared.cut.SkipReason.{SkipReason}
 use Rattle.gj_proof.specs.declared.cut.SkipReason.TheVariants.{Integral, Other}
-
-abbrev pub names : List OwnLine → List ProofLine
-names ls = map (λ l. l.name) ls
-
-abbrev pub bytes : List OwnLine → List ℕ
-bytes ls = flat_map (λ l. l.bytes) ls
+use Rattle.gj_proof.proofs.LineLists.{names, bytes, bytes_append, Differ, differ_append, no_feeds, feeds_of_line, feeds_of_two, feeds_of_fraction, HasOneFeed}
+use Rattle.gj_proof.proofs.ExtremeLines.{IsCoveredFrom, covered_are, IsGroupFrom, groups_are, IsPairFrom, pairs_are, extreme_lines_differ, halves_lines_differ, covered_have_one_feed, groups_have_one_feed, halves_have_one_feed}
 
 -- ---- the bytes of the lines of cuts
-
-pub bytes_append : (a b : List OwnLine) → bytes (a ++ b) ≡ bytes a ++ bytes b
-bytes_append [] b = refl
-bytes_append (l ∷ a) b = ap (λ t. l.bytes ++ t) (bytes_append a b) ∙ sym (append_assoc l.bytes (bytes a) (bytes b))
 
 term_bytes : (i j : ℕ) (terms : List CutTerm) → bytes (term_lines i j terms) ≡ flat_map term_line terms
 term_bytes i j [] = refl
@@ -68,26 +55,6 @@ row_lines_append i (l ∷ a) b =
 
 -- ---- their names differ
 
--- each differs from those behind it
-abbrev pub Differ : List ProofLine → Type 0
-Differ [] = Unit {0}
-Differ (l ∷ more) = All (λ k. k ≢ l) more × Differ more
-
-differ_append : (a b : List ProofLine) → Differ a → Differ b → All (λ l. All (λ k. k ≢ l) b) a → Differ (a ++ b)
-differ_append [] b h k apart = k
-differ_append (l ∷ a) b h k apart =
-    let P : ProofLine → Type 0 = λ l. All (λ k. k ≢ l) b in (
-      All-append (λ k. k ≢ l) a b h.0 (All-head P l a apart),
-      differ_append a b h.1 k (All-tail P l a apart),
-    )
-
--- one that stands between others differs from those before it
-pub differs_from_those_before : (a b : List ProofLine) (l : ProofLine) → Differ (a ++ l ∷ b) → All (λ k. k ≢ l) a
-differs_from_those_before [] b l h = All-nil (λ k. k ≢ l)
-differs_from_those_before (m ∷ a) b l h =
-    let here : l ≢ m = All-head (λ k. k ≢ m) l b (All-back (λ k. k ≢ m) a (l ∷ b) h.0) in
-    All-cons (λ k. k ≢ l) m a (λ e. here (sym e)) (differs_from_those_before a b l h.1)
-
 -- the line is of a term of the i-th row, from the j-th on
 abbrev IsTermFrom : ℕ → ℕ → ProofLine → Type 0
 IsTermFrom i j (ProofLine.term k m) = (k ≡ i) × (j ≤ m)
@@ -101,39 +68,16 @@ IsRowFrom i l = ⊥
 
 later_term : (i j : ℕ) (l : ProofLine) → IsTermFrom i (j + 1) l → IsTermFrom i j l
 later_term i j (ProofLine.term k m) h = (h.0, omega (arith, h.1))
-later_term i j ProofLine.title h = absurd h
-later_term i j ProofLine.claim h = absurd h
-later_term i j ProofLine.order h = absurd h
-later_term i j ProofLine.place h = absurd h
-later_term i j (ProofLine.point k) h = absurd h
-later_term i j ProofLine.rule_named h = absurd h
-later_term i j ProofLine.violation_shown h = absurd h
-later_term i j (ProofLine.cut k) h = absurd h
-later_term i j ProofLine.last h = absurd h
+later_term i j l h = absurd h
 
 later_row : (i : ℕ) (l : ProofLine) → IsRowFrom (i + 1) l → IsRowFrom i l
 later_row i (ProofLine.cut k) h = omega (arith, h)
 later_row i (ProofLine.term k m) h = omega (arith, h)
-later_row i ProofLine.title h = absurd h
-later_row i ProofLine.claim h = absurd h
-later_row i ProofLine.order h = absurd h
-later_row i ProofLine.place h = absurd h
-later_row i (ProofLine.point k) h = absurd h
-later_row i ProofLine.rule_named h = absurd h
-later_row i ProofLine.violation_shown h = absurd h
-later_row i ProofLine.last h = absurd h
+later_row i l h = absurd h
 
 term_is_of_row : (i : ℕ) (l : ProofLine) → IsTermFrom i 0 l → IsRowFrom i l
 term_is_of_row i (ProofLine.term k m) h = omega (arith, h.0)
-term_is_of_row i ProofLine.title h = absurd h
-term_is_of_row i ProofLine.claim h = absurd h
-term_is_of_row i ProofLine.order h = absurd h
-term_is_of_row i ProofLine.place h = absurd h
-term_is_of_row i (ProofLine.point k) h = absurd h
-term_is_of_row i ProofLine.rule_named h = absurd h
-term_is_of_row i ProofLine.violation_shown h = absurd h
-term_is_of_row i (ProofLine.cut k) h = absurd h
-term_is_of_row i ProofLine.last h = absurd h
+term_is_of_row i l h = absurd h
 
 terms_are : (i j : ℕ) (terms : List CutTerm) → All (IsTermFrom i j) (names (term_lines i j terms))
 terms_are i j [] = All-nil (IsTermFrom i j)
@@ -168,15 +112,7 @@ term_apart i l m h k e = both l h (subst (IsRowFrom (i + 1)) e k)
   where
     both : (l : ProofLine) → IsTermFrom i 0 l → IsRowFrom (i + 1) l → ⊥
     both (ProofLine.term k m) h r = omega (arith, h.0, r)
-    both ProofLine.title h r = h
-    both ProofLine.claim h r = h
-    both ProofLine.order h r = h
-    both ProofLine.place h r = h
-    both (ProofLine.point k) h r = h
-    both ProofLine.rule_named h r = h
-    both ProofLine.violation_shown h r = h
-    both (ProofLine.cut k) h r = h
-    both ProofLine.last h r = h
+    both l h r = absurd h
 
 terms_differ : (i j : ℕ) (terms : List CutTerm) → Differ (names (term_lines i j terms))
 terms_differ i j [] = tt
@@ -211,6 +147,8 @@ pub own_lines_differ : (c : Claim) → Differ (names (own_lines c))
 own_lines_differ (Minimal f) = tt
 own_lines_differ (NotMinimal f v) = (All-nil (λ k. k ≢ ProofLine.violation_shown), tt)
 own_lines_differ (Cut rule rows) = rows_differ 0 rows
+own_lines_differ (Extreme f lines rows) = extreme_lines_differ lines rows
+own_lines_differ (NotExtreme f h) = halves_lines_differ h
 
 -- ---- and differ from all others
 
@@ -218,47 +156,48 @@ abbrev pub IsOwn : ProofLine → Type 0
 IsOwn ProofLine.violation_shown = Unit {0}
 IsOwn (ProofLine.cut i) = Unit {0}
 IsOwn (ProofLine.term i j) = Unit {0}
+IsOwn (ProofLine.covered i) = Unit {0}
+IsOwn (ProofLine.group g) = Unit {0}
+IsOwn (ProofLine.reduction g r) = Unit {0}
+IsOwn (ProofLine.group_pivot g) = Unit {0}
+IsOwn ProofLine.halves = Unit {0}
+IsOwn (ProofLine.pair i) = Unit {0}
 IsOwn l = ⊥
 
 row_is_own : (i : ℕ) (l : ProofLine) → IsRowFrom i l → IsOwn l
 row_is_own i (ProofLine.cut k) h = tt
 row_is_own i (ProofLine.term k m) h = tt
-row_is_own i ProofLine.title h = h
-row_is_own i ProofLine.claim h = h
-row_is_own i ProofLine.order h = h
-row_is_own i ProofLine.place h = h
-row_is_own i (ProofLine.point k) h = h
-row_is_own i ProofLine.rule_named h = h
-row_is_own i ProofLine.violation_shown h = tt
-row_is_own i ProofLine.last h = h
+row_is_own i l h = absurd h
+
+covered_is_own : (l : ProofLine) → IsCoveredFrom 0 l → IsOwn l
+covered_is_own (ProofLine.covered k) h = tt
+covered_is_own l h = absurd h
+
+group_is_own : (l : ProofLine) → IsGroupFrom 0 l → IsOwn l
+group_is_own (ProofLine.group k) h = tt
+group_is_own (ProofLine.reduction k m) h = tt
+group_is_own (ProofLine.group_pivot k) h = tt
+group_is_own l h = absurd h
+
+pair_is_own : (l : ProofLine) → IsPairFrom 0 l → IsOwn l
+pair_is_own (ProofLine.pair k) h = tt
+pair_is_own l h = absurd h
 
 pub own_lines_are_own : (c : Claim) → All IsOwn (names (own_lines c))
 own_lines_are_own (Minimal f) = All-nil IsOwn
 own_lines_are_own (NotMinimal f v) = All-cons IsOwn ProofLine.violation_shown [] tt (All-nil IsOwn)
 own_lines_are_own (Cut rule rows) = All-weaker (IsRowFrom 0) IsOwn (row_is_own 0) (names (row_lines 0 rows)) (rows_are 0 rows)
+own_lines_are_own (Extreme f lines rows) =
+    subst (All IsOwn) (sym (map-append (λ (o : OwnLine). o.name) (covered_lines 0 lines) (group_lines 0 rows)))
+    (All-append IsOwn (names (covered_lines 0 lines)) (names (group_lines 0 rows))
+    (All-weaker (IsCoveredFrom 0) IsOwn covered_is_own (names (covered_lines 0 lines)) (covered_are 0 lines))
+    (All-weaker (IsGroupFrom 0) IsOwn group_is_own (names (group_lines 0 rows)) (groups_are 0 rows)))
+own_lines_are_own (NotExtreme f h) =
+    let pairs = pair_lines 0 (zip h.first h.second) in
+    All-cons IsOwn ProofLine.halves (names pairs) tt
+    (All-weaker (IsPairFrom 0) IsOwn pair_is_own (names pairs) (pairs_are 0 (zip h.first h.second)))
 
 -- ---- line feeds
-
-pub no_feeds : (x : List ℕ) → All (λ b. b ≢ 10) x → line_feeds x ≡ 0
-no_feeds [] h = refl
-no_feeds (b ∷ x) h =
-    let other : (b == 10) ≡ false = ne_eqb b 10 (All-head (λ b. b ≢ 10) b x h) in
-    let first : line_feeds (b ∷ []) ≡ 0 = ap (λ t. 0 + cond t 1 0) other in
-    let rest = no_feeds x (All-tail (λ b. b ≢ 10) b x h) in
-    let none : line_feeds (b ∷ []) + line_feeds x ≡ 0 = omega arith in
-    line_feeds_append (b ∷ []) x ∙ none
-
-pub feeds_of_line : (x : List ℕ) → line_feeds x ≡ 0 → line_feeds (line x) ≡ 1
-feeds_of_line x none = let whole = line_feeds_append x (10 ∷ []) in let feed : line_feeds (10 ∷ []) ≡ 1 = refl in omega arith
-
-pub feeds_of_two : (x y : List ℕ) → line_feeds x ≡ 0 → line_feeds y ≡ 0 → line_feeds (x ++ y) ≡ 0
-feeds_of_two x y h k = let both = line_feeds_append x y in omega arith
-
-pub feeds_of_word : (w : List ℕ) → All IsWordByte w → line_feeds w ≡ 0
-feeds_of_word w h = no_feeds w (All-weaker IsWordByte (λ b. b ≢ 10) (λ b i. i.no_line_feed) w h)
-
-pub feeds_of_fraction : (x : Frac) → line_feeds (fraction_text x) ≡ 0
-feeds_of_fraction x = feeds_of_word (fraction_text x) (fraction_is_word x)
 
 feeds_of_name : (name : List ℕ) → IsName name → line_feeds name ≡ 0
 feeds_of_name name h =
@@ -304,10 +243,6 @@ feeds_of_violation (violation.Superadditive x y) =
     (feeds_of_two front (codes " ") (feeds_of_two (codes "superadditive ") (fraction_text x) refl (feeds_of_fraction x)) refl)
     (feeds_of_fraction y))
 
--- the line has one line feed
-abbrev pub HasOneFeed : OwnLine → Type 0
-HasOneFeed l = line_feeds l.bytes ≡ 1
-
 terms_have_one_feed : (i j : ℕ) (terms : List CutTerm) → All (λ t. IsName t.name) terms → All HasOneFeed (term_lines i j terms)
 terms_have_one_feed i j [] named = All-nil HasOneFeed
 terms_have_one_feed i j (t ∷ terms) named =
@@ -328,17 +263,13 @@ rows_have_one_feed i (l ∷ rows) named =
     (All-append HasOneFeed (term_lines i 0 (terms_of l)) (row_lines (i + 1) rows)
     (terms_have_one_feed i 0 (terms_of l) (names_of_terms l here)) (rows_have_one_feed (i + 1) rows (All-tail HasNames l rows named)))
 
-pub own_lines_have_one_feed : (c : Claim) → IsBounded c → All HasOneFeed (own_lines c)
-own_lines_have_one_feed (Minimal f) b = All-nil HasOneFeed
-own_lines_have_one_feed (NotMinimal f v) b =
+pub own_lines_have_one_feed : (c : Claim) → IsBounded c → HasText c → All HasOneFeed (own_lines c)
+own_lines_have_one_feed (Minimal f) b t = All-nil HasOneFeed
+own_lines_have_one_feed (NotMinimal f v) b t =
     All-cons HasOneFeed (record { name = ProofLine.violation_shown; bytes = violation_line v }) [] (feeds_of_violation v)
     (All-nil HasOneFeed)
-own_lines_have_one_feed (Cut rule rows) b = rows_have_one_feed 0 rows b.1
-
-pub feeds_of_own : (ls : List OwnLine) → All HasOneFeed ls → line_feeds (bytes ls) ≡ length ls
-feeds_of_own [] h = refl
-feeds_of_own (l ∷ ls) h =
-    let here : line_feeds l.bytes ≡ 1 = All-head HasOneFeed l ls h in
-    let more = feeds_of_own ls (All-tail HasOneFeed l ls h) in
-    let both = line_feeds_append l.bytes (bytes ls) in
-    omega arith
+own_lines_have_one_feed (Cut rule rows) b t = rows_have_one_feed 0 rows b.1
+own_lines_have_one_feed (Extreme f lines rows) b t =
+    All-append HasOneFeed (covered_lines 0 lines) (group_lines 0 rows) (covered_have_one_feed 0 f.order lines b.order_high t.1)
+    (groups_have_one_feed 0 f.order rows b.order_high t.2)
+own_lines_have_one_feed (NotExtreme f h) b t = halves_have_one_feed h t

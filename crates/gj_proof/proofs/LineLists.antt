@@ -1,0 +1,80 @@
+-- Lists of lines: their names, their bytes and their line feeds.
+use Rattle.std.proofs.Common.{◌≡◌, ◌≢◌, ℕ, ◌+◌, ◌==◌, false, List, [], ◌∷◌, ◌++◌, All, length, map, flat_map, cond, refl, sym, ap, ◌∙◌, arith}
+use Rattle.std.proofs.lemmas.Bool.{ne_eqb}
+use Rattle.std.proofs.lemmas.List.{append_assoc}
+use Rattle.std.proofs.lemmas.List.Elements.{All-nil, All-cons, All-head, All-tail, All-append, All-weaker}
+use Rattle.gj_frac.specs.declared.Frac.{Frac}
+use Rattle.gj_tools.proofs.Lists.{All-back}
+use Rattle.gj_lex.specs.NumberText.{fraction_text, IsWordByte}
+use Rattle.gj_lex.specs.TextLines.{line_feeds}
+use Rattle.gj_lex.proofs.LineNumbers.{line_feeds_append}
+use Rattle.gj_lex.proofs.WordBytes.{fraction_is_word}
+use Rattle.gj_lines.specs.FunctionLines.{line}
+use Rattle.gj_proof.specs.ProofText.{ProofLine, OwnLine}
+
+abbrev pub names : List OwnLine → List ProofLine
+names ls = map (λ l. l.name) ls
+
+abbrev pub bytes : List OwnLine → List ℕ
+bytes ls = flat_map (λ l. l.bytes) ls
+
+pub bytes_append : (a b : List OwnLine) → bytes (a ++ b) ≡ bytes a ++ bytes b
+bytes_append [] b = refl
+bytes_append (l ∷ a) b = ap (λ t. l.bytes ++ t) (bytes_append a b) ∙ sym (append_assoc l.bytes (bytes a) (bytes b))
+
+-- ---- their names differ
+
+-- each differs from those behind it
+abbrev pub Differ : List ProofLine → Type 0
+Differ [] = Unit {0}
+Differ (l ∷ more) = All (λ k. k ≢ l) more × Differ more
+
+pub differ_append : (a b : List ProofLine) → Differ a → Differ b → All (λ l. All (λ k. k ≢ l) b) a → Differ (a ++ b)
+differ_append [] b h k apart = k
+differ_append (l ∷ a) b h k apart =
+    let P : ProofLine → Type 0 = λ l. All (λ k. k ≢ l) b in (
+      All-append (λ k. k ≢ l) a b h.0 (All-head P l a apart),
+      differ_append a b h.1 k (All-tail P l a apart),
+    )
+
+-- one that stands between others differs from those before it
+pub differs_from_those_before : (a b : List ProofLine) (l : ProofLine) → Differ (a ++ l ∷ b) → All (λ k. k ≢ l) a
+differs_from_those_before [] b l h = All-nil (λ k. k ≢ l)
+differs_from_those_before (m ∷ a) b l h =
+    let here : l ≢ m = All-head (λ k. k ≢ m) l b (All-back (λ k. k ≢ m) a (l ∷ b) h.0) in
+    All-cons (λ k. k ≢ l) m a (λ e. here (sym e)) (differs_from_those_before a b l h.1)
+
+-- ---- line feeds
+
+pub no_feeds : (x : List ℕ) → All (λ b. b ≢ 10) x → line_feeds x ≡ 0
+no_feeds [] h = refl
+no_feeds (b ∷ x) h =
+    let other : (b == 10) ≡ false = ne_eqb b 10 (All-head (λ b. b ≢ 10) b x h) in
+    let first : line_feeds (b ∷ []) ≡ 0 = ap (λ t. 0 + cond t 1 0) other in
+    let rest = no_feeds x (All-tail (λ b. b ≢ 10) b x h) in
+    let none : line_feeds (b ∷ []) + line_feeds x ≡ 0 = omega arith in
+    line_feeds_append (b ∷ []) x ∙ none
+
+pub feeds_of_line : (x : List ℕ) → line_feeds x ≡ 0 → line_feeds (line x) ≡ 1
+feeds_of_line x none = let whole = line_feeds_append x (10 ∷ []) in let feed : line_feeds (10 ∷ []) ≡ 1 = refl in omega arith
+
+pub feeds_of_two : (x y : List ℕ) → line_feeds x ≡ 0 → line_feeds y ≡ 0 → line_feeds (x ++ y) ≡ 0
+feeds_of_two x y h k = let both = line_feeds_append x y in omega arith
+
+pub feeds_of_word : (w : List ℕ) → All IsWordByte w → line_feeds w ≡ 0
+feeds_of_word w h = no_feeds w (All-weaker IsWordByte (λ b. b ≢ 10) (λ b i. i.no_line_feed) w h)
+
+pub feeds_of_fraction : (x : Frac) → line_feeds (fraction_text x) ≡ 0
+feeds_of_fraction x = feeds_of_word (fraction_text x) (fraction_is_word x)
+
+-- the line has one line feed
+abbrev pub HasOneFeed : OwnLine → Type 0
+HasOneFeed l = line_feeds l.bytes ≡ 1
+
+pub feeds_of_own : (ls : List OwnLine) → All HasOneFeed ls → line_feeds (bytes ls) ≡ length ls
+feeds_of_own [] h = refl
+feeds_of_own (l ∷ ls) h =
+    let here : line_feeds l.bytes ≡ 1 = All-head HasOneFeed l ls h in
+    let more = feeds_of_own ls (All-tail HasOneFeed l ls h) in
+    let both = line_feeds_append l.bytes (bytes ls) in
+    omega arith

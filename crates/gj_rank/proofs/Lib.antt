@@ -1,0 +1,10 @@
+pub mod Passing
+pub mod Gcds
+pub mod Numbers
+pub mod Combinations
+pub mod Rows
+pub mod Reduction
+pub mod Counts
+pub mod AtPlaces
+pub mod StepsInTurn
+pub mod Tables

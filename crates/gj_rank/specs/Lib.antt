@@ -1,0 +1,5 @@
+pub mod Numbers
+pub mod Components
+pub mod Groups
+pub mod KeptTable
+pub mod GroupOutcomes
