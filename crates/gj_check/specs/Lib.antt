@@ -8,3 +8,4 @@ pub mod RowLimits
 pub mod CutRows
 pub mod Tables
 pub mod CoverLines
+pub mod HalvesRules
