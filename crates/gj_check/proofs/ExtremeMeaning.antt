@@ -85,7 +85,7 @@ intervals_distinct q Tight lines rules front (l ∷ rest) place h =
     (never_true (list_any (eqb l.interval) (intervals_of front))
     (λ t. (rules front l rest place).new (line_listed front l.interval t)))))
 
-line_for_each : (q : ℕ) (Tight : ℕ → ℕ → Type 0) (lines : List CoverLine) → MeetsCoverRules q Tight lines →
+pub line_for_each : (q : ℕ) (Tight : ℕ → ℕ → Type 0) (lines : List CoverLine) → MeetsCoverRules q Tight lines →
     All (λ l. l.interval < q) lines → length lines ≡ q → (i : ℕ) → i < q → HasLine lines i
 line_for_each q Tight lines rules below long i low = by_test (list_any (eqb i) (intervals_of lines)) refl
   where
