@@ -22,3 +22,4 @@ pub mod RowOutcomes
 pub mod ValuesOfCuts
 pub mod TableTests
 pub mod NumberedLines
+pub mod HalvesTests

@@ -1,9 +1,9 @@
 //! The rules on halves: two different minimal tables that average to that of the function.
-ghost use Rattle.std.specs.Prelude.{ℕ, pos, ◌≡◌, ◌↔◌, ◌+ℤ◌, ◌*ℤ◌, ◌*◌, ◌<◌, ◌≤◌, ◌^◌, ◌≤ℤ◌, IsTrue, OnOk, IfErr, IfSome, IfNone, length, unsigned_abs};
-ghost use Rattle.gj_shape.specs.FunctionData.{IsContinuous};
+ghost use Rattle.std.specs.Prelude.{ℕ, pos, ◌≡◌, ◌↔◌, ◌+ℤ◌, ◌*ℤ◌, ◌*◌, ◌<◌, ◌≤◌, ◌^◌, ◌≤ℤ◌, IsTrue, OnOk, IfOk, IfErr, IfSome, IfNone, length, unsigned_abs};
+ghost use Rattle.gj_shape.specs.FunctionData.{IsWithinBounds, IsContinuous, at};
 ghost use Rattle.gj_shape.specs.Table.{table};
 ghost use Rattle.gj_proof.specs.ProofText.{AreHalvesInBounds};
-ghost use Rattle.gj_proof.specs.Rules.{MeetsRules, MeetsScale, MeetsAverage};
+ghost use Rattle.gj_proof.specs.Rules.{MeetsRules, MeetsScale, MeetsRange, MeetsAverage, IsMinimalHalf};
 ghost use Rattle.gj_proof.specs.declared.claim.Claim.TheVariants as claim;
 ghost use Rattle.gj_check.specs.FirstFailure.{IsFaultOf};
 ghost use Rattle.gj_check.specs.HalvesRules.{IsRefinement, IsPairsOutcome, AreDifferent, IsBetween};
@@ -14,7 +14,7 @@ use crate::points::times;
 use crate::rules::CheckRule;
 use crate::tables::is_minimal_table;
 use gj_shape::{Halves, Shape};
-use std::alloc::Global;
+use std::alloc::{AllocError, Global};
 
 /// How much finer the grid and the scale of halves are than those of the function.
 #[derive(Clone, Copy)]
@@ -56,13 +56,12 @@ pub(crate) fn check_halves(
         let below = failure.index as u64 + 1;
         return Err(CheckFault::Rejected(line + below, failure.rule));
     }
-    let place = (shape.place() * refinement.times) as usize;
     let first = halves.first.as_slice();
-    if !is_minimal_table(alloc, first, place, halves.scale)? {
+    if !is_minimal_half(alloc, shape, halves, refinement, first)? {
         return Err(CheckFault::Rejected(line, CheckRule::First));
     }
     let second = halves.second.as_slice();
-    if !is_minimal_table(alloc, second, place, halves.scale)? {
+    if !is_minimal_half(alloc, shape, halves, refinement, second)? {
         return Err(CheckFault::Rejected(line, CheckRule::Second));
     }
     if !are_different(first, second) {
@@ -96,22 +95,19 @@ fn refinement_of(shape: &Shape, halves: &Halves) -> Option<Refinement>
 /// The first pair that breaks `range` or `average`.
 fn failure_in_pairs(shape: &Shape, halves: &Halves, refinement: Refinement) -> Option<PairFailure>
     requires halves { AreHalvesInBounds halves.now }
+    requires limits { IsWithinBounds shape.now }
     requires continuous { IsContinuous shape.now }
     requires refinement { IsRefinement shape.now halves.now refinement }
     ensures { IsPairsOutcome shape.now halves.now result }
 {
-    let first = halves.first.as_slice();
-    let second = halves.second.as_slice();
     for index in 0..halves.order as usize {
-        let a = first[index];
-        let b = second[index];
-        if !is_between(a, halves.scale) || !is_between(b, halves.scale) {
+        if !meets_range(halves, index) {
             return Some(PairFailure {
                 index,
                 rule: CheckRule::Range,
             });
         }
-        if !meets_average(shape, refinement, index, a + b) {
+        if !meets_average(shape, halves, refinement, index) {
             return Some(PairFailure {
                 index,
                 rule: CheckRule::Average,
@@ -121,6 +117,18 @@ fn failure_in_pairs(shape: &Shape, halves: &Halves, refinement: Refinement) -> O
     None
 }
 
+/// Whether both values of the pair lie from 0 to the scale.
+fn meets_range(halves: &Halves, index: usize) -> bool
+    requires halves { AreHalvesInBounds halves.now }
+    requires within { index < halves.now.order }
+    ensures { IsTrue result ↔ MeetsRange halves.now index }
+{
+    if !is_between(halves.first.as_slice()[index], halves.scale) {
+        return false;
+    }
+    is_between(halves.second.as_slice()[index], halves.scale)
+}
+
 /// Whether the value lies from 0 to the scale.
 fn is_between(value: i128, scale: i128) -> bool
     ensures { IsTrue result ↔ IsBetween value scale }
@@ -128,8 +136,22 @@ fn is_between(value: i128, scale: i128) -> bool
     0 <= value && value <= scale
 }
 
-/// Whether the sum is that of twice the function's value, over the scale of the halves.
-fn meets_average(shape: &Shape, refinement: Refinement, index: usize, sum: i128) -> bool
+/// Whether both values of the pair average to that of the function.
+fn meets_average(shape: &Shape, halves: &Halves, refinement: Refinement, index: usize) -> bool
+    requires halves { AreHalvesInBounds halves.now }
+    requires limits { IsWithinBounds shape.now }
+    requires continuous { IsContinuous shape.now }
+    requires refinement { IsRefinement shape.now halves.now refinement }
+    requires within { index < halves.now.order }
+    requires range { MeetsRange halves.now index }
+    ensures { IsTrue result ↔ MeetsAverage shape.now halves.now index }
+{
+    let sum = halves.first.as_slice()[index] + halves.second.as_slice()[index];
+    is_twice_the_value(shape, refinement, index, sum)
+}
+
+/// Whether the sum is twice the function's value, over the scale of the halves.
+fn is_twice_the_value(shape: &Shape, refinement: Refinement, index: usize, sum: i128) -> bool
     requires continuous { IsContinuous shape.now }
     requires some { 0 < refinement.times }
     requires factor { refinement.factor ≤ 2 ^ 124 }
@@ -158,9 +180,28 @@ fn table_entry(shape: &Shape, times_finer: u32, index: usize) -> i128
     times(i128::from(values[here]), times_finer - rest) + times(i128::from(values[next]), rest)
 }
 
+/// Whether the table of these values is minimal, over the scale of the halves and with the function's place.
+fn is_minimal_half(
+    alloc: Global,
+    shape: &Shape,
+    halves: &Halves,
+    refinement: Refinement,
+    values: &[i128],
+) -> Result<bool, AllocError>
+    requires halves { AreHalvesInBounds halves.now }
+    requires refinement { IsRefinement shape.now halves.now refinement }
+    requires length { length values.now ≡ halves.now.order }
+    requires range { (i : ℕ) → i < halves.now.order → IsBetween (at values.now i) halves.now.scale }
+    ensures { IfOk result (λ minimal. IsTrue minimal ↔ IsMinimalHalf shape.now halves.now values.now) }
+{
+    let place = (shape.place() * refinement.times) as usize;
+    is_minimal_table(alloc, values, place, halves.scale)
+}
+
 /// Whether some values differ.
 fn are_different(first: &[i128], second: &[i128]) -> bool
-    requires { length first.now ≡ length second.now }
+    requires some { 0 < length first.now }
+    requires lengths { length first.now ≡ length second.now }
     ensures { IsTrue result ↔ AreDifferent first.now second.now }
 {
     for i in 0..first.len() {
