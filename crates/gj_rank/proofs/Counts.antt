@@ -1,20 +1,25 @@
 -- Counts of the intervals in each component.
-use Rattle.std.proofs.Common.{◌≡◌, ◌≢◌, ℕ, ◌+◌, ◌<◌, ◌≤◌, ◌^◌, ◌⊎◌, inl, inr, cond, ℤ, pos, ◌+ℤ◌, ◌-ℤ◌, List, [], ◌∷◌, ◌++◌, length, map, get_or, set, eqb, unsigned_abs, FitsSigned, to_z, of_z, refl, sym, ap, subst, ◌∙◌, zero-add, arith}
+use Rattle.std.proofs.Common.{◌≡◌, ◌≢◌, ℕ, ◌+◌, ◌%◌, ◌<◌, ◌≤◌, ◌^◌, ◌⊎◌, inl, inr, cond, ℤ, pos, ◌+ℤ◌, ◌-ℤ◌, List, [], ◌∷◌, ◌++◌, length, map, get_or, set, eqb, unsigned_abs, FitsSigned, to_z, of_z, refl, sym, ap, subst, ◌∙◌, zero-add, arith}
 use Rattle.std.specs.Prelude.{count_by, All}
 use Rattle.std.specs.List.{range_with_len}
 use Rattle.std.proofs.lemmas.Bool.{cases_eq, eq-eqb, ne_eqb}
 use Rattle.std.proofs.lemmas.Int.{ints, to_z-of_z, fits_signed_from_abs}
 use mir.Syntax.{w128}
 use Rattle.std.proofs.lemmas.List.{get_or-set_same, get_or-set_other}
-use Rattle.std.proofs.lemmas.List.Elements.{All-get_or, All-from_get_or}
+use Rattle.std.proofs.lemmas.List.Elements.{All-get_or, All-from_get_or, All-map}
+use Rattle.std.proofs.lemmas.Nat.{mod_below}
 use Rattle.std.proofs.lemmas.List.Sums.{sum_by_push, count_by-le-length}
 use Rattle.std.proofs.lemmas.List.FromFn.{length-range_with_len, fill_by_all}
-use Rattle.gj_tools.proofs.Lists.{range_split}
-use Rattle.gj_shape.specs.SlopeRows.{rises}
+use Rattle.gj_tools.proofs.Lists.{range_split, All-range}
+use Rattle.gj_shape.specs.SlopeRows.{rises, row_entry, row_of}
+use Rattle.gj_shape.specs.declared.extremality.RowName.{RowName}
+use Rattle.gj_shape.specs.declared.extremality.RowName.TheVariants.{Period, F, Pair}
+use Rattle.gj_proof.specs.ProofText.{IsRowNameBelow}
+use Rattle.gj_rank.specs.Numbers.{Fits}
 
 -- ---- one more interval
 
-rises_more : (f : ℕ → ℕ) (i c : ℕ) → rises f (i + 1) c ≡ rises f i c + cond (eqb (f i) c) 1 0
+pub rises_more : (f : ℕ → ℕ) (i c : ℕ) → rises f (i + 1) c ≡ rises f i c + cond (eqb (f i) c) 1 0
 rises_more f i c =
     ap (count_by (λ a. eqb (f a) c)) (range_split 0 i 1 ∙ ap (λ k. range_with_len 0 i ++ k ∷ []) (zero-add i))
     ∙ sum_by_push (λ a. cond (eqb (f a) c) 1 0) (range_with_len 0 i) i
@@ -177,3 +182,22 @@ pub read_one_less : (x : ℤ) (i : ℕ) → unsigned_abs x < 2 ^ 100 + i → i <
     to_z w128 (of_z w128 (to_z w128 (of_z w128 x) -ℤ pos 1)) ≡ x -ℤ pos 1
 read_one_less x i h below =
     ap (λ z. to_z w128 (of_z w128 (z -ℤ pos 1))) (read_small x i h below) ∙ to_z-of_z w128 (x -ℤ pos 1) (less_fits x i h below)
+
+-- ---- a row of counts has small entries
+
+entry_fits : (f : ℕ → ℕ) (q k c : ℕ) (name : RowName) → k < q → IsRowNameBelow q name → q < 2 ^ 64 → Fits (row_entry f q k name c)
+entry_fits f q k c Period place below small = let most = rises_at_most f q c in omega (arith, ints)
+entry_fits f q k c F place below small = let most = rises_at_most f k c in omega (arith, ints)
+entry_fits f q k c (Pair a b) place below small =
+    let first = rises_at_most f a c in
+    let second = rises_at_most f b c in
+    let third = rises_at_most f ((a + b) % q) c in
+    let rest = mod_below (a + b) q (omega arith) in
+    let order : a ≤ b = below.1 in
+    let within : b < q = below.2 in
+    omega (arith, ints)
+
+pub row_fits : (f : ℕ → ℕ) (n q k : ℕ) (name : RowName) → k < q → IsRowNameBelow q name → q < 2 ^ 64 → All Fits (row_of f n q k name)
+row_fits f n q k name place below small =
+    All-map Fits (row_entry f q k name) (range_with_len 0 n)
+    (All-range (λ c. Fits (row_entry f q k name c)) 0 n (λ c low. entry_fits f q k c name place below small))

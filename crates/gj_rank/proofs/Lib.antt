@@ -8,3 +8,6 @@ pub mod Counts
 pub mod AtPlaces
 pub mod StepsInTurn
 pub mod Tables
+pub mod GroupsInTurn
+pub mod GroupDemands
+pub mod ClaimGroups

@@ -1,10 +1,10 @@
 -- The kept rows, as a table over the columns.
-use Rattle.std.proofs.Common.{◌≡◌, ◌≢◌, ◌↔◌, ℕ, zero, suc, ◌+◌, ◌<◌, ◌≤◌, Bool, true, false, IsTrue, cond, ℤ, pos, ◌<ℤ◌, List, [], ◌∷◌, ◌++◌, length, get_or, set, eqb, refl, sym, ap, subst, ◌∙◌, arith}
+use Rattle.std.proofs.Common.{◌≡◌, ◌≢◌, ◌↔◌, ℕ, zero, suc, ◌+◌, ◌<◌, ◌≤◌, Bool, true, false, IsTrue, cond, ℤ, pos, ◌<ℤ◌, List, [], ◌∷◌, ◌++◌, length, take, get_or, set, eqb, refl, sym, ap, subst, ◌∙◌, arith}
 use Rattle.std.specs.Prelude.{Option, None, Some, All, Any, IfSome, is_some}
 use Rattle.std.specs.List.{find}
-use Rattle.std.proofs.lemmas.Bool.{cases_eq, eqb-eq, eq-eqb, ne_eqb}
-use Rattle.std.proofs.lemmas.List.{get_or-set_same, get_or-set_other}
-use Rattle.std.proofs.lemmas.List.Elements.{All-nil, All-cons}
+use Rattle.std.proofs.lemmas.Bool.{cases_eq, eqb-true, eq-eqb, ne_eqb}
+use Rattle.std.proofs.lemmas.List.{get_or-set_same, get_or-set_other, get_or-take, length-take-le}
+use Rattle.std.proofs.lemmas.List.Elements.{All-nil, All-cons, All-get_or, All-from_get_or}
 use Rattle.gj_shape.specs.Elimination.{KeptRow, at_column, entries_of, kept_entries, row_with_pivot, reduced, marked_in_step, Passes}
 use Rattle.gj_proof.specs.Rules.{MeetsReduce, MeetsSize, MeetsPivot}
 use Rattle.gj_rank.specs.GroupOutcomes.{MeetsStep}
@@ -15,23 +15,25 @@ use Rattle.gj_rank.specs.KeptTable.{entries_kept, AreRowsAt, IsKeptAt, IsTable}
 -- where there is one, a kept row has its pivot there
 pub any_with_pivot : (kept : List KeptRow) (c : ℕ) (k : KeptRow) → row_with_pivot kept c ≡ Some k → Any (λ r. r.pivot ≡ c) kept
 any_with_pivot [] c k e = absurd cc
-any_with_pivot (r ∷ kept) c k e = by_test (eqb r.pivot c) refl e
+any_with_pivot (r ∷ kept) c k e = by_test (eqb r.pivot c) refl e (any_with_pivot kept c k)
   where
-    by_test : (b : Bool) → eqb r.pivot c ≡ b → cond b (Some r) (row_with_pivot kept c) ≡ Some k → Any (λ r. r.pivot ≡ c) (r ∷ kept)
-    by_test true t e = (0, r, omega arith, refl, eqb-eq r.pivot c t)
-    by_test false t e =
-        let (i, x, below, is, at) = any_with_pivot kept c k e in
+    by_test : (b : Bool) → eqb r.pivot c ≡ b → cond b (Some r) (row_with_pivot kept c) ≡ Some k →
+        (row_with_pivot kept c ≡ Some k → Any (λ r. r.pivot ≡ c) kept) → Any (λ r. r.pivot ≡ c) (r ∷ kept)
+    by_test true t e later = (0, r, omega arith, refl, eqb-true r.pivot c t)
+    by_test false t e later =
+        let (i, x, below, is, at) = later e in
         (suc i, x, omega arith, is, at)
 
 -- where there is none, no kept row has
 pub none_with_pivot : (kept : List KeptRow) (c : ℕ) → row_with_pivot kept c ≡ None → All (λ r. r.pivot ≢ c) kept
 none_with_pivot [] c e = All-nil (λ r. r.pivot ≢ c)
-none_with_pivot (r ∷ kept) c e = by_test (eqb r.pivot c) refl e
+none_with_pivot (r ∷ kept) c e = by_test (eqb r.pivot c) refl e (none_with_pivot kept c)
   where
-    by_test : (b : Bool) → eqb r.pivot c ≡ b → cond b (Some r) (row_with_pivot kept c) ≡ None → All (λ r. r.pivot ≢ c) (r ∷ kept)
-    by_test true t e = absurd cc
-    by_test false t e =
-        All-cons (λ r. r.pivot ≢ c) r kept (λ same. let yes = eq-eqb r.pivot c same in cc) (none_with_pivot kept c e)
+    by_test : (b : Bool) → eqb r.pivot c ≡ b → cond b (Some r) (row_with_pivot kept c) ≡ None →
+        (row_with_pivot kept c ≡ None → All (λ r. r.pivot ≢ c) kept) → All (λ r. r.pivot ≢ c) (r ∷ kept)
+    by_test true t e later = absurd cc
+    by_test false t e later =
+        All-cons (λ r. r.pivot ≢ c) r kept (λ same. let yes = eq-eqb r.pivot c same in cc) (later e)
 
 -- the way back
 pub no_row_with_pivot : (kept : List KeptRow) (c : ℕ) → All (λ r. r.pivot ≢ c) kept → row_with_pivot kept c ≡ None
@@ -119,3 +121,33 @@ pub no_new_pivot : (kept : List KeptRow) (table : List (Option (List ℤ))) (c :
 no_new_pivot kept table c e rows some new =
     let (i, x, below, is, at) = (entries_at kept table c e rows some).0 in
     new i x below (ap (λ r. r.pivot) is ∙ at)
+
+-- as the code reads the table
+pub taken : (table : List (Option (List ℤ))) (c : ℕ) (o : Option (List ℤ)) → o ≡ get_or table c None → is_some o ≡ true →
+    (e : List ℤ) × (Some e ≡ get_or table c None)
+taken table c None is some = absurd cc
+taken table c (Some e) is some = (e, is)
+
+pub not_taken : (table : List (Option (List ℤ))) (c : ℕ) (o : Option (List ℤ)) → o ≡ get_or table c None → is_some o ≡ false →
+    None ≡ get_or table c None
+not_taken table c None is none = is
+not_taken table c (Some e) is none = absurd cc
+
+-- a test of the entries before a column
+pub pivot_tested : (b : Bool) (kept : List KeptRow) (table : List (Option (List ℤ))) (row : List ℤ) (c : ℕ) → AreRowsAt kept table →
+    c < length row → None ≡ get_or table c None → at_column row c ≢ pos 0 →
+    IsTrue b ↔ All (λ x. x ≡ pos 0) (take c row) → IsTrue b ↔ MeetsPivot (length row) kept row c
+pivot_tested b kept table row c rows within none not_zero test = (
+  λ t. record {
+    column = within;
+    new = new_pivot kept table c rows none;
+    zero_before = λ j before.
+        sym (get_or-take c row j (pos 0) before)
+        ∙ All-get_or (λ x. x ≡ pos 0) (take c row) j (pos 0) (omega (arith, length-take-le c row (omega arith))) (test.0 t);
+    not_zero = not_zero;
+  },
+  λ h. test.1 (All-from_get_or (λ x. x ≡ pos 0) (take c row) (pos 0)
+      (λ j below.
+      let before : j < c = omega (arith, length-take-le c row (omega arith)) in
+      get_or-take c row j (pos 0) before ∙ h.zero_before j before)),
+)

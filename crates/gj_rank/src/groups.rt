@@ -1,5 +1,7 @@
 //! The rules on all groups, in the order of their lines.
-ghost use Rattle.std.specs.Prelude.{◌≡◌, ◌+◌, ◌<◌, length, All, IfOk};
+ghost use Rattle.std.specs.Prelude.{◌≡◌, ◌+◌, ◌<◌, length, map, All, IfOk};
+ghost use Rattle.std.specs.List.{range_with_len};
+ghost use Rattle.std.specs.declared.option.Option.TheVariants.{None};
 ghost use Rattle.gj_rank.specs.Components.{component_in};
 ghost use Rattle.gj_proof.specs.ProofText.{IsPivotRowBelow};
 ghost use Rattle.gj_rank.specs.Groups.{IsGroupsOutcome};
@@ -28,24 +30,50 @@ pub fn failure_in_groups(
 {
     let mut table = no_rows(alloc, count)?;
     let mut row = vec![in alloc; 0; count as usize]?;
+    failure_in_turn(
+        alloc,
+        shape,
+        component,
+        table.as_mut_slice(),
+        row.as_mut_slice(),
+        rows,
+    )
+}
+
+/// The first rule that fails on groups, from a table without rows on. The row is used for one group after another.
+fn failure_in_turn(
+    alloc: Global,
+    shape: &Shape,
+    component: &[u32],
+    table: &mut [Option<List<i128>>],
+    row: &mut [i128],
+    rows: &[PivotRow],
+) -> Result<Option<GroupFailure>, AllocError>
+    requires order { length component.now ≡ shape.now.order }
+    requires components { All (λ c. c < length row.old) component.now }
+    requires rows { All (IsPivotRowBelow shape.now.order) rows.now }
+    requires table { table.old ≡ map (λ i. None) (range_with_len 0 (length row.old)) }
+    ensures { IfOk result (IsGroupsOutcome shape.now (component_in component.now) (length row.old) rows.now) }
+{
     let mut above = 0;
     for group in rows {
-        begin_row(row.as_mut_slice(), component, shape.place(), group.name);
-        let failure = failure_in_group(shape, table.as_slice(), row.as_mut_slice(), group);
-        if let Some(failure) = failure {
+        begin_row(row, component, shape.place(), group.name);
+        if let Some(failure) = failure_in_group(shape, table, row, group) {
             return Ok(Some(GroupFailure {
                 below: lines_behind(above, failure.below)?,
                 rule: failure.rule,
             }));
         }
-        keep(alloc, table.as_mut_slice(), row.as_slice(), group.pivot)?;
+        keep(alloc, table, row, group.pivot)?;
         above = lines_behind(above, group.reduce.as_slice().len() + 2)?;
     }
     Ok(None)
 }
 
 /// A table of so many columns without rows.
-fn no_rows(alloc: Global, columns: u32) -> Result<Vec<Option<List<i128>>>, AllocError> {
+fn no_rows(alloc: Global, columns: u32) -> Result<Vec<Option<List<i128>>>, AllocError>
+    ensures { IfOk result (λ v. v.items ≡ map (λ i. None) (range_with_len 0 columns)) }
+{
     (0..columns).map(|_| None).collect(alloc)
 }
 
