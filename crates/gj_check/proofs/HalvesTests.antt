@@ -11,7 +11,7 @@ use Rattle.gj_shape.proofs.AtLemmas.{at_below}
 use Rattle.gj_shape.proofs.TableLemmas.{left_is_value, right_is_value}
 use Rattle.gj_theory.proofs.Everywhere.{everywhere, at_same}
 use Rattle.gj_proof.specs.ProofText.{AreHalvesInBounds, FitsPair}
-use Rattle.gj_proof.specs.Rules.{MeetsRange, MeetsAverage, IsMinimalHalf}
+use Rattle.gj_proof.specs.Rules.{MeetsScale, MeetsRange, MeetsAverage, IsMinimalHalf}
 use Rattle.gj_check.specs.Tables.{IsTableInRange}
 use Rattle.gj_check.specs.HalvesRules.{IsRefinement, IsBetween}
 use Rattle.gj_check.specs.declared.halves.Refinement.{Refinement}
@@ -175,3 +175,7 @@ sum_of_halves h i x y b m x_is y_is =
     let second_low = m.second_low in
     let second_high = m.second_high in
     to_z-of_z w128 (x +ℤ y) (omega (arith, ints)) ∙ ap₂ (λ a b. a +ℤ b) x_is y_is
+
+-- the rule `scale`
+pub scale_met : (f : FunctionData) (h : Halves) (r : Refinement) → IsRefinement f h r → MeetsScale f h
+scale_met f h r is = (r.times, r.factor, is.order, is.scale)

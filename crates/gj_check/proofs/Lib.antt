@@ -16,6 +16,7 @@ pub mod CutLines
 pub mod FractionalParts
 pub mod LimitsOfRows
 pub mod SeenNames
+pub mod FirstDemand
 pub mod CutDemands
 pub mod CutMeaning
 pub mod RowOutcomes
@@ -23,3 +24,5 @@ pub mod ValuesOfCuts
 pub mod TableTests
 pub mod NumberedLines
 pub mod HalvesTests
+pub mod OwnLineNumbers
+pub mod ExtremeDemands

@@ -25,3 +25,7 @@ one_fails a P R e p has = (λ h. absurd (let k : false ≡ true = h in cc), λ r
 -- two things
 pub as_they_are : (P Q : Type 0) → (P × Q) ↔ (P × Q)
 as_they_are P Q = (λ h. h, λ h. h)
+
+-- a test that failed
+pub denied : (a : Bool) (P : Type 0) → a ≡ false → IsTrue a ↔ P → P → ⊥
+denied a P e p h = let k : false ≡ true = sym e ∙ p.1 h in cc

@@ -9,3 +9,4 @@ pub mod CutRows
 pub mod Tables
 pub mod CoverLines
 pub mod HalvesRules
+pub mod GroupRules
