@@ -4,9 +4,6 @@ use Rattle.std.proofs.lemmas.List.{append-nil, length-append}
 use Rattle.std.proofs.lemmas.List.Elements.{All-nil, All-cons, All-append, All-head, All-tail}
 use Rattle.gj_frac.specs.declared.Frac.{Frac}
 use Rattle.gj_shape.specs.FirstViolation.{PassesAll}
-use Rattle.gj_tools.specs.FirstThatFails.{IsFirstFailing}
-use Rattle.gj_tools.proofs.FirstThatFails.{first_failing, first_failing_in_front, first_failing_in_back}
-use Rattle.gj_proof.specs.declared.claim.Claim.{Claim}
 use Rattle.gj_proof.specs.declared.claim.Claim.TheVariants as claims
 use Rattle.gj_proof.specs.declared.cut.CutRule.{CutRule}
 use Rattle.gj_proof.specs.declared.cut.CutRule.TheVariants.{Gmic, Table}
@@ -15,13 +12,13 @@ use Rattle.gj_proof.specs.declared.cut.CutLine.TheVariants as cuts
 use Rattle.gj_proof.specs.declared.cut.CutTerm.{CutTerm}
 use Rattle.gj_proof.specs.ProofText.{ProofLine, IfFunction, subject_of_rule, terms_of, HasNumber}
 use Rattle.gj_proof.specs.ProofText.ProofLine.{claim, cut, term}
-use Rattle.gj_proof.specs.Rules.{Demand, AtIndex, IfCut, IfTerm, MeetsFraction, MeetsLimit, MeetsName, MeetsValue, rule_demands, term_demands, row_demands, cut_demands, demands_of, line_of, Holds, MeetsRules}
+use Rattle.gj_proof.specs.Rules.{Demand, AtIndex, IfCut, IfTerm, MeetsFraction, MeetsLimit, MeetsName, MeetsValue, rule_demands, term_demands, row_demands, cut_demands, Holds, MeetsRules}
 use Rattle.gj_proof.specs.Rules.Demand.{minimal, fraction, limit, term_limit, term_name, term_value}
 use Rattle.gj_proof.proofs.LineNumbers.{number_of_claim}
 use Rattle.gj_check.specs.declared.rules.CheckRule.{CheckRule}
 use Rattle.gj_check.specs.declared.rules.CheckRule.TheVariants.{Minimal, Fraction, Limit, Name, Value}
 use Rattle.gj_check.specs.declared.rows.RowFailure.{RowFailure}
-use Rattle.gj_check.specs.FirstFailure.{rule_of, IsFirstFailure}
+use Rattle.gj_check.specs.FirstFailure.{IsFirstFailure}
 use Rattle.gj_check.specs.CutRows.{MeetsTerm, FailsTerm, MeetTerms, MeetsRow, FailsRow, GivesCut}
 use Rattle.gj_check.specs.CutRows.FailsRow.{at_fraction, at_limit, at_term}
 use Rattle.gj_check.proofs.AtPlaces.{at_index, split_there}

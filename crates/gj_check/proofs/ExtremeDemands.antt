@@ -1,22 +1,21 @@
 -- The demands of claims of extremality: when all hold, and which is the first that fails.
-use Rattle.std.proofs.Common.{◌≡◌, ◌≢◌, ◌↔◌, ℕ, zero, ◌+◌, ◌-◌, ◌<◌, List, [], ◌∷◌, ◌++◌, All, length, map, get_or, suc, refl, sym, ap, subst, ◌∙◌, arith}
+use Rattle.std.proofs.Common.{◌≡◌, ◌≢◌, ℕ, zero, ◌+◌, ◌-◌, ◌<◌, List, [], ◌∷◌, ◌++◌, All, length, map, get_or, suc, refl, sym, ap, subst, ◌∙◌, arith}
 use Rattle.std.specs.List.{range_with_len}
 use Rattle.std.proofs.lemmas.List.Elements.{All-nil, All-cons, All-append}
 use Rattle.gj_tools.proofs.FirstThatFails.{first_failing_in_map, first_failing_in_range}
-use Rattle.gj_tools.proofs.Lists.{All-made, All-range, range_at}
+use Rattle.gj_tools.proofs.Lists.{All-made, range_at}
 use Rattle.gj_shape.specs.Additive.{IsTight}
 use Rattle.gj_shape.specs.FunctionData.{FunctionData, IsWithinBounds, IsContinuous}
 use Rattle.gj_shape.specs.FirstViolation.{PassesAll}
 use Rattle.gj_shape.specs.declared.extremality.CoverLine.{CoverLine}
 use Rattle.gj_shape.specs.declared.extremality.Halves.{Halves}
-use Rattle.gj_theory.specs.CoverRules.{MeetsCoverRule, MeetsCoverRules}
+use Rattle.gj_theory.specs.CoverRules.{MeetsCoverRules}
 use Rattle.gj_theory.proofs.LineComponents.{one_component}
 use Rattle.gj_proof.specs.declared.claim.Claim.{Claim}
 use Rattle.gj_proof.specs.declared.claim.Claim.TheVariants.{Extreme, NotExtreme}
 use Rattle.gj_proof.specs.declared.pivot.PivotRow.{PivotRow}
-use Rattle.gj_proof.specs.PresentRows.{components_in}
 use Rattle.gj_proof.specs.ProofText.{ProofLine, AreHalvesInBounds, IsPivotRowBelow, HasNumber, group_lines}
-use Rattle.gj_proof.specs.Rules.{Demand, MeetsScale, MeetsSame, IsMinimalHalf, pair_demands, group_demands, demands_of, line_of, Holds, MeetsRules}
+use Rattle.gj_proof.specs.Rules.{Demand, MeetsScale, MeetsSame, IsMinimalHalf, pair_demands, group_demands, line_of, Holds, MeetsRules}
 use Rattle.gj_proof.specs.Rules.Demand.{minimal, continuous, cover, row, reduce, size, pivot, rank, scale, range, average, first, second, same}
 use Rattle.gj_proof.proofs.LineNumbers.{number_of_claim}
 use Rattle.gj_rank.specs.declared.failure.GroupRule.{GroupRule}

@@ -1,12 +1,10 @@
-use Rattle.std.proofs.Common.{◌≡◌, ◌+◌, ◌*◌, ℕ, List, length, get_or, sym, subst, subst₂, ◌∙◌, arith}
+use Rattle.std.proofs.Common.{◌≡◌, ◌+◌, ℕ, List, length, get_or, sym, subst, subst₂, ◌∙◌, arith}
 use Rattle.gj_proof.specs.declared.claim.Claim.TheVariants.{Extreme}
 use Rattle.gj_proof.specs.ProofText.{group_lines}
 use Rattle.gj_rank.specs.Groups.{IsGroupsOutcome}
-use Rattle.gj_check.specs.declared.rules.CheckRule.{CheckRule}
 use Rattle.gj_check.specs.declared.rules.CheckRule.TheVariants.{Cover, Rank}
 use Rattle.gj_check.specs.CoverLines.{IsCoverOutcome}
 use Rattle.gj_check.specs.FirstFailure.{IsFirstFailure}
-use Rattle.gj_check.specs.GroupRules.{rule_on_groups}
 use Rattle.gj_check.proofs.TestsInTurn.{denied}
 use Rattle.gj_check.proofs.ExtremeDemands.{extreme_not_minimal, extreme_not_continuous, extreme_cover_broken, extreme_group_fails, extreme_rank_fails, extreme_meets}
 use Rattle.gj_check.proofs.extremality.check_extreme.Goals as goal

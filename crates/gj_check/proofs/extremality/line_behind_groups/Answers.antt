@@ -1,4 +1,4 @@
-use Rattle.std.proofs.Common.{◌≡◌, ◌++◌, ◌∷◌, [], length, take, get_or, ap, ◌∙◌, arith}
+use Rattle.std.proofs.Common.{length, take, ap, ◌∙◌, arith}
 use Rattle.gj_proof.specs.ProofText.{group_lines}
 use Rattle.gj_check.proofs.AtPlaces.{with_place}
 use Rattle.gj_check.proofs.OwnLineNumbers.{one_group_more}

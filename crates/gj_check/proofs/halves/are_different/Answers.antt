@@ -1,7 +1,6 @@
-use Rattle.std.proofs.Common.{◌≡◌, ◌+◌, ◌<◌, length, pos, get_or, FitsSigned, to_z, of_z, below_more, refl, sym, ap, ◌∙◌, rules, arith}
+use Rattle.std.proofs.Common.{pos, get_or, FitsSigned, to_z, of_z, below_more, refl, sym, ap, ◌∙◌, rules, arith}
 use mir.Syntax.{w128}
-use Rattle.std.proofs.lemmas.Int.{ints, to_z-of_z}
-use Rattle.gj_shape.specs.FunctionData.{at}
+use Rattle.std.proofs.lemmas.Int.{to_z-of_z}
 use Rattle.gj_shape.proofs.AtLemmas.{at_below}
 use Rattle.gj_check.proofs.HalvesTests.{same_everywhere}
 use Rattle.gj_check.proofs.halves.are_different.Goals as goal

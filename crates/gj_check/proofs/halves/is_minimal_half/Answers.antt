@@ -1,5 +1,4 @@
-use Rattle.std.proofs.Common.{◌↔◌, ◌*◌, length, unsigned_abs, to_z, of_z, IsTrue, IfOk, subst₂, sym}
-use mir.Syntax.{w128}
+use Rattle.std.proofs.Common.{◌↔◌, ◌*◌, length, unsigned_abs, IsTrue, IfOk, subst₂, sym}
 use Rattle.gj_shape.specs.FunctionData.{at}
 use Rattle.gj_shape.specs.Table.{IsMinimalTable}
 use Rattle.gj_check.specs.Tables.{IsTableInRange}

@@ -1,9 +1,8 @@
-use Rattle.std.proofs.Common.{◌≡◌, ◌↔◌, ◌+ℤ◌, ◌*ℤ◌, ◌*◌, pos, to_z, of_z, IsTrue, subst, arith}
-use mir.Syntax.{w128}
+use Rattle.std.proofs.Common.{◌≡◌, ◌↔◌, ◌*ℤ◌, ◌*◌, pos, IsTrue, subst, arith}
 use Rattle.std.proofs.lemmas.Int.{ints}
 use Rattle.gj_shape.specs.Table.{table}
 use Rattle.gj_check.proofs.TestsInTurn.{in_other_words}
-use Rattle.gj_check.proofs.HalvesTests.{half_read, sum_of_halves, some_times, small_factor, average_by}
+use Rattle.gj_check.proofs.HalvesTests.{half_read, sum_of_halves, average_by}
 use Rattle.gj_check.proofs.halves.meets_average.Goals as goal
 
 pub overflow_add-sum : goal.overflow_add-sum

@@ -1,4 +1,4 @@
-use Rattle.std.proofs.Common.{◌≡◌, subst₂, sym}
+use Rattle.std.proofs.Common.{subst₂, sym}
 use Rattle.gj_check.specs.HalvesRules.{IsBetween}
 use Rattle.gj_check.proofs.HalvesTests.{half_read, halves_scale_read}
 use Rattle.gj_check.proofs.halves.meets_range.Goals as goal

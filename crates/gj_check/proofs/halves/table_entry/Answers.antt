@@ -1,8 +1,6 @@
-use Rattle.std.proofs.Common.{◌≡◌, ◌+◌, ◌-◌, ◌*◌, ◌/◌, ◌%◌, ◌<◌, ◌^◌, pos, ◌+ℤ◌, ◌*ℤ◌, to_z, of_z, length, ap, ap₂, refl, sym, rules, ◌∙◌, arith}
-use mir.Syntax.{w128}
+use Rattle.std.proofs.Common.{◌+◌, ◌-◌, ◌/◌, ◌%◌, ◌<◌, length, ap, refl, sym, rules, ◌∙◌, arith}
 use Rattle.std.proofs.Math.Nat.{div-lt_iff_lt-mul}
-use Rattle.std.proofs.lemmas.Int.{ints, to_z-of_z}
-use Rattle.gj_shape.specs.FunctionData.{at}
+use Rattle.std.proofs.lemmas.Int.{ints}
 use Rattle.gj_shape.proofs.NumeratorReadings.{entry_read, rest_read, value_below}
 use Rattle.gj_check.proofs.HalvesTests.{table_by_values, sum_of_parts}
 use Rattle.gj_check.proofs.halves.table_entry.Goals as goal
