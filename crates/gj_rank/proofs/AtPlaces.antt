@@ -33,13 +33,6 @@ at_place items P j x below is h =
     (at_index items P (take j items) x (drop (suc j) items)
     (split_at items j x below ∙ ap (λ y. take j items ++ y ∷ drop (suc j) items) (sym is)) h)
 
--- the way back
-pub place_has : {A : Type 0} (items : List A) (P : List A → A → Type 0) (j : ℕ) (x : A) → j < length items →
-    x ≡ get_or items j x → AtIndex items j P → P (take j items) x
-place_has items P j x below is h =
-    h (take j items) x (drop (suc j) items)
-    (split_at items j x below ∙ ap (λ y. take j items ++ y ∷ drop (suc j) items) (sym is)) (length-take-le j items (omega arith))
-
 -- one more item
 pub with_place : {A : Type 0} (items : List A) (j : ℕ) (x : A) → j < length items → x ≡ get_or items j x →
     take (j + 1) items ≡ take j items ++ x ∷ []

@@ -1,17 +1,15 @@
 -- The demands on the groups of a claim that a function is extreme, by those on the groups alone.
 use Rattle.std.proofs.Common.{◌≡◌, ◌↔◌, ℕ, zero, suc, ◌+◌, ◌%◌, ◌<◌, ◌≤◌, ℤ, pos, ◌+ℤ◌, ◌-ℤ◌, List, [], ◌∷◌, ◌++◌, All, length, map, get_or, cond, eqb, add-one, refl, sym, ap, ap₂, subst, subst₂, ◌∙◌, append_assoc, arith}
-use Rattle.std.specs.Prelude.{None, Some, count_by}
 use Rattle.std.specs.List.{range_with_len}
 use Rattle.std.proofs.lemmas.Nat.{mod_below}
-use Rattle.std.proofs.lemmas.List.{length-append, length-map}
+use Rattle.std.proofs.lemmas.List.{length-append}
 use Rattle.std.proofs.lemmas.List.Elements.{All-nil, All-cons, All-append, All-head, All-tail}
 use Rattle.std.proofs.lemmas.List.FromFn.{length-map-range_with_len}
 use Rattle.gj_tools.specs.FirstThatFails.{IsFirstFailing}
-use Rattle.gj_tools.proofs.FirstThatFails.{first_failing}
 use Rattle.gj_tools.proofs.Lists.{All-front, All-back}
 use Rattle.gj_shape.specs.Elimination.{KeptRow, kept_entries}
 use Rattle.gj_shape.specs.FunctionData.{FunctionData, IsWithinBounds}
-use Rattle.gj_shape.specs.SlopeRows.{rises, row_entry, row_of}
+use Rattle.gj_shape.specs.SlopeRows.{rises, row_entry}
 use Rattle.gj_shape.specs.declared.extremality.CoverLine.{CoverLine}
 use Rattle.gj_shape.specs.declared.extremality.RowName.{RowName}
 use Rattle.gj_shape.specs.declared.extremality.RowName.TheVariants.{Period, F, Pair}
@@ -19,7 +17,7 @@ use Rattle.gj_theory.specs.TriangularRows.{present_row}
 use Rattle.gj_proof.specs.declared.claim.Claim.TheVariants.{Extreme}
 use Rattle.gj_proof.specs.declared.pivot.PivotRow.{PivotRow}
 use Rattle.gj_proof.specs.PresentRows.{components_in, AreNumbersOf, named_row, row_kept, rows_behind, rows_before}
-use Rattle.gj_proof.specs.ProofText.{ProofLine, OwnLine, IsRowNameBelow, IsPivotRowBelow, covered_lines, group_lines, subject_lines, HasNumber}
+use Rattle.gj_proof.specs.ProofText.{IsRowNameBelow, IsPivotRowBelow, covered_lines, subject_lines, HasNumber}
 use Rattle.gj_proof.specs.ProofText.Subject.{function}
 use Rattle.gj_proof.specs.ProofText.ProofLine.{point}
 use Rattle.gj_proof.specs.Rules.{Demand, AtIndex, MeetsReduce, MeetsSize, MeetsPivot, step_demands, group_demands, line_of, Holds}

@@ -45,9 +45,6 @@ rises_at_most f i c =
 pub record HasAdded (f : ℕ → ℕ) (i : ℕ) (old row : List ℤ) : Type 0 where
   pub at : (c : ℕ) → c < length old → get_or row c (pos 0) ≡ get_or old c (pos 0) +ℤ pos (rises f i c)
 
-pub added_none : (f : ℕ → ℕ) (old : List ℤ) → HasAdded f 0 old old
-added_none f old = record { at = λ c below. omega (arith, ints) }
-
 pub added_more : (f : ℕ → ℕ) (i : ℕ) (old row : List ℤ) (z : ℤ) → HasAdded f i old row → length row ≡ length old →
     f i < length old → z ≡ get_or row (f i) (pos 0) +ℤ pos 1 → HasAdded f (i + 1) old (set row (f i) z)
 added_more f i old row z h len inside is = record { at = λ c below. by_column c below (cases_eq (f i) c) }
@@ -77,9 +74,6 @@ added_small f i c m old row h small below =
 
 pub record HasSubtracted (f : ℕ → ℕ) (i : ℕ) (old row : List ℤ) : Type 0 where
   pub at : (c : ℕ) → c < length old → get_or row c (pos 0) ≡ get_or old c (pos 0) -ℤ pos (rises f i c)
-
-pub subtracted_none : (f : ℕ → ℕ) (old : List ℤ) → HasSubtracted f 0 old old
-subtracted_none f old = record { at = λ c below. omega (arith, ints) }
 
 pub subtracted_more : (f : ℕ → ℕ) (i : ℕ) (old row : List ℤ) (z : ℤ) → HasSubtracted f i old row → length row ≡ length old →
     f i < length old → z ≡ get_or row (f i) (pos 0) -ℤ pos 1 → HasSubtracted f (i + 1) old (set row (f i) z)

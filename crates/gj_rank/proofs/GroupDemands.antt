@@ -1,25 +1,24 @@
 -- The demands on groups: when all hold, and which is the first that fails.
-use Rattle.std.proofs.Common.{◌≡◌, ℕ, zero, suc, ◌+◌, ◌<◌, ◌≤◌, ◌⊎◌, inl, inr, ℤ, List, [], ◌∷◌, ◌++◌, All, length, take, drop, get_or, refl, sym, ap, ap₂, subst, ◌∙◌, append_assoc, arith}
+use Rattle.std.proofs.Common.{◌≡◌, ℕ, suc, ◌+◌, ◌<◌, ◌≤◌, ◌⊎◌, inl, inr, ℤ, List, [], ◌∷◌, ◌++◌, All, length, take, drop, get_or, refl, sym, ap, subst, ◌∙◌, append_assoc, arith}
 use Rattle.std.proofs.Math.Seq.{split_at}
 use Rattle.std.proofs.lemmas.Bool.{cases_lt}
 use Rattle.std.proofs.lemmas.List.{length-append, length-take-le}
 use Rattle.std.proofs.lemmas.List.Elements.{All-nil, All-cons, All-append}
-use Rattle.gj_shape.specs.Elimination.{KeptRow}
 use Rattle.gj_shape.specs.FunctionData.{FunctionData}
 use Rattle.gj_theory.specs.TriangularRows.{present_row}
 use Rattle.gj_tools.specs.FirstThatFails.{IsFirstFailing}
 use Rattle.gj_tools.proofs.FirstThatFails.{first_failing, first_failing_in_front, first_failing_in_back}
 use Rattle.gj_proof.specs.declared.pivot.PivotRow.{PivotRow}
 use Rattle.gj_proof.specs.PresentRows.{named_row, rows_before}
-use Rattle.gj_proof.specs.ProofText.{ProofLine, OwnLine, group_line, reduction_line, pivot_line, reduction_lines, group_lines}
+use Rattle.gj_proof.specs.ProofText.{OwnLine, group_line, reduction_line, pivot_line, reduction_lines, group_lines}
 use Rattle.gj_proof.specs.ProofText.ProofLine.{group, reduction, group_pivot}
-use Rattle.gj_proof.specs.Rules.{Demand, AtIndex, MeetsRow, MeetsReduce, MeetsSize, MeetsPivot, step_demands, group_demands, line_of}
+use Rattle.gj_proof.specs.Rules.{Demand, AtIndex, MeetsRow, MeetsReduce, MeetsSize, step_demands, group_demands, line_of}
 use Rattle.gj_proof.specs.Rules.Demand.{row, reduce, size, pivot}
 use Rattle.gj_rank.specs.declared.failure.GroupRule.{GroupRule}
-use Rattle.gj_rank.specs.declared.failure.GroupRule.TheVariants.{Row, Reduce, Size, Pivot}
+use Rattle.gj_rank.specs.declared.failure.GroupRule.TheVariants.{Reduce, Size}
 use Rattle.gj_rank.specs.declared.failure.GroupFailure.{GroupFailure}
 use Rattle.gj_rank.specs.Groups.{GroupHolds, IsRuleOf, IsFirstGroupFailure}
-use Rattle.gj_rank.specs.GroupOutcomes.{MeetsStep, FailsStep, MeetsStepBehind, FailAt, FailSteps, MeetsGroup, FailsGroup}
+use Rattle.gj_rank.specs.GroupOutcomes.{FailsStep, MeetsStepBehind, FailsGroup}
 use Rattle.gj_rank.specs.GroupOutcomes.FailsGroup.{at_row, at_step, at_pivot}
 use Rattle.gj_rank.proofs.AtPlaces.{at_index, split_there}
 use Rattle.gj_rank.proofs.GroupsInTurn.{MeetsBehind, count_of}
@@ -339,6 +338,12 @@ group_fails_as f component n rows g front one back failure at (at_pivot below ru
 
 -- ---- the first failure
 
+-- a line in the rest of some lines
+line_in_rest : (all front rest above : List OwnLine) (line : OwnLine) (under : List OwnLine) → all ≡ front ++ rest →
+    rest ≡ above ++ line ∷ under → all ≡ (front ++ above) ++ line ∷ under
+line_in_rest all front rest above line under first second =
+    first ∙ ap (λ ls. front ++ ls) second ∙ sym (append_assoc front above (line ∷ under))
+
 pub first_group_failure : (f : FunctionData) (component : ℕ → ℕ) (n : ℕ) (rows : List PivotRow) (g above below : ℕ) (one : PivotRow)
     (begun : List ℤ) (failure : GroupFailure) → ((i : ℕ) → i < g → AtIndex rows i (MeetsBehind f component n)) →
     above ≡ count_of (take g rows) → g < length rows → one ≡ get_or rows g one → begun ≡ named_row f component n one.name →
@@ -356,6 +361,8 @@ first_group_failure f component n rows g above below one begun failure meet abov
     subst (λ (xs : List PivotRow). FailsFirst H (group_demands 0 xs) here.demand) (sym place)
     (groups_fail H 0 g front one back here.demand (omega arith) (λ j before. all_hold_at f component n rows j (meet j before)) here.fails) in
     let lines = group_lines 0 front in
+    let split : group_lines 0 rows ≡ lines ++ group_lines g (one ∷ back) =
+    ap (group_lines 0) place ∙ groups_split 0 g front (one ∷ back) (omega arith) in
     let counted = length-groups 0 front in
     let both = length-append lines here.above in
     let at_line : failure.below ≡ length here.above = here.below in
@@ -367,8 +374,7 @@ first_group_failure f component n rows g above below one begun failure meet abov
       above = lines ++ here.above;
       line = here.line;
       under = here.under;
-      place = ap (group_lines 0) place ∙ groups_split 0 g front (one ∷ back) (omega arith) ∙ ap (λ ls. lines ++ ls) here.place
-          ∙ sym (append_assoc lines here.above (here.line ∷ here.under));
+      place = line_in_rest (group_lines 0 rows) lines (group_lines g (one ∷ back)) here.above here.line here.under split here.place;
       line_is = here.line_is;
       below = omega arith;
     }

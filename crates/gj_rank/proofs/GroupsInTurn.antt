@@ -2,8 +2,8 @@
 use Rattle.std.proofs.Common.{◌≡◌, ◌≢◌, ℕ, zero, suc, ◌+◌, ◌<◌, ◌≤◌, ◌⊎◌, inl, inr, ℤ, pos, List, [], ◌∷◌, ◌++◌, length, map, take, get_or, set, below_more, refl, sym, ap, subst, subst₂, ◌∙◌, arith}
 use Rattle.std.specs.Prelude.{Option, None, Some, All, IfSome}
 use Rattle.std.specs.List.{range_with_len}
-use Rattle.std.proofs.lemmas.Bool.{cases_eq, cases_lt}
-use Rattle.std.proofs.lemmas.List.{take_all, get_or-set_same, get_or-set_other, length-set, get_or_past}
+use Rattle.std.proofs.lemmas.Bool.{cases_eq}
+use Rattle.std.proofs.lemmas.List.{get_or-set_same, get_or-set_other, length-set}
 use Rattle.std.proofs.lemmas.List.FromFn.{length-map-range_with_len}
 use Rattle.gj_shape.specs.Elimination.{KeptRow, at_column, row_with_pivot, kept_entries}
 use Rattle.gj_shape.specs.FunctionData.{FunctionData}
@@ -12,11 +12,10 @@ use Rattle.gj_theory.proofs.Entries.{kept_at_pivot}
 use Rattle.gj_theory.proofs.Steps.{length-kept_entries}
 use Rattle.gj_proof.specs.declared.pivot.PivotRow.{PivotRow}
 use Rattle.gj_proof.specs.PresentRows.{named_row, row_kept, rows_behind, rows_before}
-use Rattle.gj_proof.specs.Rules.{AtIndex, MeetsPivot}
+use Rattle.gj_proof.specs.Rules.{AtIndex}
 use Rattle.gj_rank.specs.Numbers.{Fits}
 use Rattle.gj_rank.specs.KeptTable.{entries_kept, AreRowsAt, IsKeptAt, IsTable}
-use Rattle.gj_rank.specs.GroupOutcomes.{MeetsGroup, FailsGroup, IsGroupOutcome}
-use Rattle.gj_rank.specs.declared.failure.GroupFailure.{GroupFailure}
+use Rattle.gj_rank.specs.GroupOutcomes.{MeetsGroup, IsGroupOutcome}
 use Rattle.gj_rank.proofs.AtPlaces.{at_place, with_place, each_item}
 use Rattle.gj_rank.proofs.Tables.{row_with_pivot_push, row_with_new_pivot}
 

@@ -1,6 +1,6 @@
 -- The steps of a group, one after another.
-use Rattle.std.proofs.Common.{◌≡◌, ℕ, ◌+◌, ◌<◌, ◌≤◌, ℤ, List, [], ◌∷◌, ◌++◌, length, take, get_or, below_more, refl, sym, ap, subst, ◌∙◌, arith}
-use Rattle.std.specs.Prelude.{Option, None, Some}
+use Rattle.std.proofs.Common.{◌≡◌, ℕ, ◌+◌, ◌<◌, ◌≤◌, ℤ, List, [], ◌∷◌, ◌++◌, length, take, get_or, below_more, refl, sym, ap, subst, ◌∙◌}
+use Rattle.std.specs.Prelude.{None}
 use Rattle.std.proofs.lemmas.List.{take_all}
 use Rattle.gj_shape.specs.Elimination.{KeptRow, entries_of, row_with_pivot, reduced}
 use Rattle.gj_theory.specs.TriangularRows.{present_row}
@@ -19,9 +19,6 @@ present_row_push kept row (d ∷ columns) c = present_row_push kept (reduced (en
 pub record AreStepped (kept : List KeptRow) (begun : List ℤ) (columns : List ℕ) (r : ℕ) (row : List ℤ) : Type 0 where
   pub row_is : row ≡ present_row kept begun (take r columns)
   pub meet : (i : ℕ) → i < r → AtIndex columns i (MeetsStepBehind kept begun)
-
-pub stepped_start : (kept : List KeptRow) (begun : List ℤ) (columns : List ℕ) → AreStepped kept begun columns 0 begun
-stepped_start kept begun columns = record { row_is = refl; meet = λ i below. absurd (omega arith) }
 
 pub stepped_more : (kept : List KeptRow) (begun : List ℤ) (columns : List ℕ) (r c : ℕ) (row after : List ℤ) →
     AreStepped kept begun columns r row → r < length columns → c ≡ get_or columns r c →

@@ -1,14 +1,13 @@
 -- The kept rows, as a table over the columns.
-use Rattle.std.proofs.Common.{◌≡◌, ◌≢◌, ◌↔◌, ℕ, zero, suc, ◌+◌, ◌<◌, ◌≤◌, Bool, true, false, IsTrue, cond, ℤ, pos, ◌<ℤ◌, List, [], ◌∷◌, ◌++◌, length, take, get_or, set, eqb, refl, sym, ap, subst, ◌∙◌, arith}
-use Rattle.std.specs.Prelude.{Option, None, Some, All, Any, IfSome, is_some}
-use Rattle.std.specs.List.{find}
-use Rattle.std.proofs.lemmas.Bool.{cases_eq, eqb-true, eq-eqb, ne_eqb}
-use Rattle.std.proofs.lemmas.List.{get_or-set_same, get_or-set_other, get_or-take, length-take-le}
+use Rattle.std.proofs.Common.{◌≡◌, ◌≢◌, ◌↔◌, ℕ, suc, ◌<◌, Bool, true, false, IsTrue, cond, ℤ, pos, List, [], ◌∷◌, ◌++◌, length, take, get_or, eqb, refl, sym, ap, subst, ◌∙◌, arith}
+use Rattle.std.specs.Prelude.{Option, None, Some, All, Any, is_some}
+use Rattle.std.proofs.lemmas.Bool.{eqb-true, eq-eqb, ne_eqb}
+use Rattle.std.proofs.lemmas.List.{get_or-take, length-take-le}
 use Rattle.std.proofs.lemmas.List.Elements.{All-nil, All-cons, All-get_or, All-from_get_or}
-use Rattle.gj_shape.specs.Elimination.{KeptRow, at_column, entries_of, kept_entries, row_with_pivot, reduced, marked_in_step, Passes}
+use Rattle.gj_shape.specs.Elimination.{KeptRow, at_column, entries_of, row_with_pivot, reduced, marked_in_step, Passes}
 use Rattle.gj_proof.specs.Rules.{MeetsReduce, MeetsSize, MeetsPivot}
 use Rattle.gj_rank.specs.GroupOutcomes.{MeetsStep}
-use Rattle.gj_rank.specs.KeptTable.{entries_kept, AreRowsAt, IsKeptAt, IsTable}
+use Rattle.gj_rank.specs.KeptTable.{entries_kept, AreRowsAt}
 
 -- ---- the row with a pivot
 
@@ -35,14 +34,7 @@ none_with_pivot (r ∷ kept) c e = by_test (eqb r.pivot c) refl e (none_with_piv
     by_test false t e later =
         All-cons (λ r. r.pivot ≢ c) r kept (λ same. let yes = eq-eqb r.pivot c same in cc) (later e)
 
--- the way back
-pub no_row_with_pivot : (kept : List KeptRow) (c : ℕ) → All (λ r. r.pivot ≢ c) kept → row_with_pivot kept c ≡ None
-no_row_with_pivot kept c all = by (row_with_pivot kept c) refl
-  where
-    by : (o : Option KeptRow) → row_with_pivot kept c ≡ o → row_with_pivot kept c ≡ None
-    by None e = e
-    by (Some k) e = let (i, x, below, is, at) = any_with_pivot kept c k e in absurd (all i x below (ap (λ r. r.pivot) is ∙ at))
-
+-- and none has, said otherwise
 pub none_has_pivot : (kept : List KeptRow) (c : ℕ) → row_with_pivot kept c ≡ None → Any (λ r. r.pivot ≡ c) kept → ⊥
 none_has_pivot kept c e (i, x, below, is, at) = none_with_pivot kept c e i x below (ap (λ r. r.pivot) is ∙ at)
 

@@ -1,7 +1,8 @@
 //! The row with which a group begins.
 ghost use Rattle.std.specs.Prelude.{pos, ◌≡◌, ◌<◌, length, All};
 ghost use Rattle.gj_shape.specs.SlopeRows.{row_of};
-ghost use Rattle.gj_rank.specs.Components.{component_in, IsNameBelow};
+ghost use Rattle.gj_proof.specs.ProofText.{IsRowNameBelow};
+ghost use Rattle.gj_rank.specs.Components.{component_in};
 
 use crate::rises::{add_rises, subtract_rises};
 use gj_shape::RowName;
@@ -10,7 +11,7 @@ use gj_shape::RowName;
 fn add_named(row: &mut [i128], component: &[u32], place: u32, name: RowName)
     requires components { All (λ c. c < length row.old) component.now }
     requires place_within { place < length component.now }
-    requires name_within { IsNameBelow name (length component.now) }
+    requires name_within { IsRowNameBelow (length component.now) name }
     requires zeros { All (λ x. x ≡ pos 0) row.old }
     ensures { row.new ≡ row_of (component_in component.now) (length row.old) (length component.now) place name }
 {
@@ -32,7 +33,7 @@ fn add_named(row: &mut [i128], component: &[u32], place: u32, name: RowName)
 pub(crate) fn begin_row(row: &mut [i128], component: &[u32], place: u32, name: RowName)
     requires components { All (λ c. c < length row.old) component.now }
     requires place_within { place < length component.now }
-    requires name_within { IsNameBelow name (length component.now) }
+    requires name_within { IsRowNameBelow (length component.now) name }
     ensures { row.new ≡ row_of (component_in component.now) (length row.old) (length component.now) place name }
 {
     row.fill(0);

@@ -103,11 +103,7 @@ fn failure_in_steps(
 }
 
 /// Reduces a row at a column. The answer is the first rule that fails; the row is no longer used then.
-fn failure_in_step(
-    table: &[Option<List<i128>>],
-    row: &mut [i128],
-    column: u32,
-) -> Option<GroupRule>
+fn failure_in_step(table: &[Option<List<i128>>], row: &mut [i128], column: u32) -> Option<GroupRule>
     requires table { IsTable (length row.old) table.now }
     requires fits { All Fits row.old }
     ensures outcome { (kept : List KeptRow) → AreRowsAt kept table.now →
@@ -115,8 +111,9 @@ fn failure_in_step(
     ensures fits { IfNone result (All Fits row.new) }
 {
     let column = column as usize;
-    let Some(kept) = row_at(table, column) else {
-        return Some(GroupRule::Reduce);
+    let kept = match row_at(table, column) {
+        Some(kept) => kept,
+        None => return Some(GroupRule::Reduce),
     };
     if row[column] == 0 {
         return Some(GroupRule::Reduce);

@@ -8,13 +8,15 @@
 
 mod begin;
 mod failure;
+mod fitting;
 mod group;
 mod groups;
 mod keep;
-mod fitting;
 mod rises;
 mod step;
 
 pub use failure::{GroupFailure, GroupRule};
 pub use groups::failure_in_groups;
 
+#[cfg(test)]
+mod tests;

@@ -1,9 +1,9 @@
-use Rattle.std.proofs.Common.{rules, ◌≡◌, ℤ, pos, List, take, get_or, IsTrue, refl, subst, sym, ◌∙◌, arith}
+use Rattle.std.proofs.Common.{rules, ◌≡◌, pos, take, get_or, refl, subst, sym}
 use Rattle.std.specs.Prelude.{All}
 use Rattle.std.proofs.lemmas.List.{take_all, get_or_default}
-use Rattle.std.proofs.lemmas.List.Elements.{All-push, All-get_or}
+use Rattle.std.proofs.lemmas.List.Elements.{All-push}
 use Rattle.gj_rank.proofs.AtPlaces.{with_place}
-use Rattle.gj_rank.proofs.Numbers.{zero_from_bits, some_from_bits}
+use Rattle.gj_rank.proofs.Numbers.{zero_from_bits}
 use Rattle.gj_rank.proofs.group.are_zeros.Goals as goal
 
 pub loop-x-preserved : goal.loop-x-preserved

@@ -3,9 +3,9 @@ use Rattle.gj_rank.proofs.Numbers.{some_from_bits}
 use Rattle.gj_rank.proofs.Tables.{no_step, step_meets, step_too_wide}
 use Rattle.gj_rank.proofs.group.failure_in_step.Goals as goal
 
-pub returns-in_default-clause-outcome : goal.returns-in_default-clause-outcome
-returns-in_default-clause-outcome c kept rows =
-    no_step kept c.args.table.now c.args.row.now c.args.column rows c.in_default.ensures.none
+pub returns-in-None-clause-outcome : goal.returns-in-None-clause-outcome
+returns-in-None-clause-outcome c kept rows =
+    no_step kept c.args.table.now c.args.row.now c.args.column rows c.in-None.ensures.none
 
 pub returns-in-Ok-clause-outcome : goal.returns-in-Ok-clause-outcome
 returns-in-Ok-clause-outcome c kept rows =

@@ -1,7 +1,5 @@
-use Rattle.std.proofs.Common.{rules, refl, get_or, subst, arith}
-use Rattle.std.specs.Prelude.{None}
+use Rattle.std.proofs.Common.{refl, get_or, arith}
 use Rattle.std.proofs.lemmas.List.{get_or_default}
-use Rattle.gj_rank.specs.GroupOutcomes.{IsStepOutcome}
 use Rattle.gj_rank.proofs.StepsInTurn.{stepped_fails, stepped_more, stepped_all}
 use Rattle.gj_rank.proofs.group.failure_in_steps.Goals as goal
 

@@ -1,4 +1,4 @@
-use Rattle.std.proofs.Common.{List, All, length}
+use Rattle.std.proofs.Common.{List, All}
 use Rattle.gj_shape.specs.Elimination.{KeptRow}
 use Rattle.gj_rank.specs.Numbers.{Fits}
 use Rattle.gj_rank.specs.KeptTable.{AreRowsAt}

@@ -1,15 +1,13 @@
-use Rattle.std.proofs.Common.{rules, ◌≡◌, ◌+◌, ◌<◌, ◌^◌, length, take, drop, get_or, suc, ◌∷◌, ◌++◌, ap, ap₂, sym, subst, ◌∙◌, arith}
+use Rattle.std.proofs.Common.{◌≡◌, ◌+◌, length, take, ap, ap₂, sym, subst, ◌∙◌, arith}
 use Rattle.std.specs.Prelude.{ℕ, ℤ, List, All, None}
 use Rattle.gj_shape.specs.FunctionData.{FunctionData}
 use Rattle.gj_shape.specs.declared.extremality.RowName.{RowName}
 use Rattle.gj_rank.specs.GroupOutcomes.{FailsGroup, IsGroupOutcome}
 use Rattle.gj_proof.specs.declared.pivot.PivotRow.{PivotRow}
 use Rattle.gj_rank.proofs.GroupDemands.{first_group_failure, all_groups_hold}
-use Rattle.std.proofs.Math.Seq.{split_at}
-use Rattle.std.proofs.lemmas.List.Elements.{All-get_or}
 use Rattle.gj_shape.specs.SlopeRows.{row_of}
 use Rattle.gj_proof.specs.PresentRows.{rows_before, named_row}
-use Rattle.gj_proof.specs.ProofText.{IsPivotRowBelow, IsRowNameBelow}
+use Rattle.gj_proof.specs.ProofText.{IsRowNameBelow}
 use Rattle.gj_rank.specs.Components.{component_in}
 use Rattle.gj_rank.specs.Numbers.{Fits}
 use Rattle.gj_rank.proofs.Counts.{row_fits}
