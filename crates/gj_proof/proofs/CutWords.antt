@@ -1,11 +1,10 @@
 -- The words of the lines of cuts: they are those of one line, or break one rule, and are plain.
-use Rattle.std.proofs.Common.{◌≡◌, inl, inr, ℕ, List, [], ◌∷◌, ◌++◌, All, codes, refl, sym, ap, subst, ◌∙◌, arith}
+use Rattle.std.proofs.Common.{◌≡◌, inl, inr, ℕ, List, [], ◌∷◌, ◌++◌, All, codes, refl, sym, ap, ◌∙◌, arith}
 use Rattle.std.specs.List.{join_with_byte}
 use Rattle.std.proofs.lemmas.List.{append_assoc}
 use Rattle.std.proofs.lemmas.List.Elements.{All-nil, All-cons, All-weaker}
 use Rattle.gj_frac.specs.declared.Frac.{Frac}
 use Rattle.gj_lex.specs.declared.reason.Reason.{Reason}
-use Rattle.gj_lex.specs.declared.reason.Reason.TheVariants as reason
 use Rattle.gj_lex.specs.Name.{IsName, IsNameByte}
 use Rattle.gj_lex.specs.NumberText.{fraction_text, IsWordByte}
 use Rattle.gj_lex.specs.Parts.{IsExactRule}
@@ -15,7 +14,7 @@ use Rattle.gj_lex.proofs.StrictLines.{IsPlain}
 use Rattle.gj_lex.proofs.SpelledWords.{fraction_is_plain}
 use Rattle.gj_lines.specs.FunctionLines.{line}
 use Rattle.gj_proof.specs.ProofText.{reason_word, row_line, term_line}
-use Rattle.gj_proof.specs.ProofGrammar.{IsFraction, head_words, BreaksHead, head_rule, term_words, BreaksTerm, term_rule}
+use Rattle.gj_proof.specs.ProofGrammar.{head_words, BreaksHead, head_rule, term_words, BreaksTerm, term_rule}
 use Rattle.gj_proof.specs.declared.cut.CutLine.TheVariants as cuts
 use Rattle.gj_proof.specs.declared.cut.CutTerm.{CutTerm}
 use Rattle.gj_proof.specs.declared.cut.SkipReason.{SkipReason}

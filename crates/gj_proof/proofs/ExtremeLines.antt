@@ -1,5 +1,5 @@
 -- The lines of an extreme function and those of halves: their names differ, and each has one line feed, at its end.
-use Rattle.std.proofs.Common.{◌≡◌, ◌≢◌, ℕ, ℤ, zero, suc, ◌+◌, ◌<◌, ◌≤◌, ◌^◌, ◌≤ℤ◌, pos, unsigned_abs, List, [], ◌∷◌, ◌++◌, All, map, flat_map, zip, codes, decimal, refl, sym, ap, subst, ◌∙◌, arith}
+use Rattle.std.proofs.Common.{◌≡◌, ◌≢◌, ℕ, ℤ, ◌+◌, ◌<◌, ◌≤◌, List, [], ◌∷◌, ◌++◌, All, flat_map, zip, codes, decimal, refl, sym, ap, subst, ◌∙◌, arith}
 use Rattle.std.proofs.lemmas.Int.{ints}
 use Rattle.std.specs.Fmt.{signed_decimal}
 use Rattle.std.proofs.lemmas.List.{append_assoc, map-append}
@@ -52,6 +52,10 @@ extreme_bytes lines rows =
 pub pair_bytes : (i : ℕ) (pairs : List (ℤ × ℤ)) → bytes (pair_lines i pairs) ≡ flat_map pair_line pairs
 pair_bytes i [] = refl
 pair_bytes i (p ∷ pairs) = ap (λ t. pair_line p ++ t) (pair_bytes (i + 1) pairs)
+
+pub halves_bytes : (h : Halves) →
+    bytes (record { name = ProofLine.halves; bytes = halves_line h } ∷ pair_lines 0 (zip h.first h.second)) ≡ halves_text h
+halves_bytes h = ap (λ t. halves_line h ++ t) (pair_bytes 0 (zip h.first h.second))
 
 -- ---- their names differ
 

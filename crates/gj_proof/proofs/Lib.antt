@@ -13,7 +13,15 @@ pub mod CutParts
 pub mod CutTexts
 pub mod CutRead
 pub mod WholeNumbers
+pub mod CountWords
 pub mod LineLists
 pub mod ExtremeLines
+pub mod ThenParts
+pub mod ExtremeWords
+pub mod ExtremeParts
+pub mod ExtremeReads
 pub mod OwnLines
+pub mod ExtremeRead
+pub mod HalvesWords
+pub mod ExtremeWritten
 pub mod CutWritten

@@ -8,7 +8,7 @@ use Rattle.gj_proof.specs.ProofText.{IsBounded, subject_of, AreSubjectLines, cla
 use Rattle.gj_proof.specs.ProofGrammar.{proof_text}
 use Rattle.gj_proof.specs.FirstFault.{IsFirstFault}
 use Rattle.gj_proof.specs.declared.claim.Claim.{Claim}
-use Rattle.gj_proof.specs.declared.claim.Claim.TheVariants.{Minimal, NotMinimal, Cut}
+use Rattle.gj_proof.specs.declared.claim.Claim.TheVariants.{Minimal, NotMinimal, Cut, Extreme, NotExtreme}
 use Rattle.gj_proof.specs.declared.cut.CutRule.TheVariants.{Gmic, Table}
 use Rattle.gj_proof.proofs.ReadTexts.{proof_text_is_exact, text_is_read}
 
@@ -22,6 +22,8 @@ one_subject (Minimal f) s t b l m = one_text_of_lines f s t b l m
 one_subject (NotMinimal f v) s t b l m = one_text_of_lines f s t b l m
 one_subject (Cut (Table f) rows) s t b l m = one_text_of_lines f s t b.0 l m
 one_subject (Cut Gmic rows) s t b l m = l ∙ sym m
+one_subject (Extreme f lines rows) s t b l m = one_text_of_lines f s t b l m
+one_subject (NotExtreme f h) s t b l m = one_text_of_lines f s t b l m
 
 pub one_text : (c : Claim) (s t : List ℕ) → IsBounded c → IsProofText c s → IsProofText c t → s ≡ t
 one_text c s t b p q =

@@ -1,5 +1,5 @@
 -- The texts that the part `proof_text` reads are the proof texts of claims.
-use Rattle.std.proofs.Common.{◌≡◌, inl, inr, ℕ, List, [], ◌∷◌, ◌++◌, All, flat_map, codes, refl, sym, ap, subst, ◌∙◌}
+use Rattle.std.proofs.Common.{◌≡◌, inl, inr, ℕ, ◌+◌, ◌*◌, List, [], ◌∷◌, ◌++◌, All, length, flat_map, codes, get_or, arith, refl, sym, ap, subst, ◌∙◌}
 use Rattle.std.specs.List.{join_with_byte}
 use Rattle.std.proofs.lemmas.List.{append_assoc, append-nil}
 use Rattle.gj_lex.specs.declared.spelling.Spelling.TheVariants.{Strict}
@@ -8,29 +8,38 @@ use Rattle.gj_lex.proofs.CanonicalLines.{plain_by_test}
 use Rattle.gj_lex.proofs.StrictLines.{IsPlain}
 use Rattle.gj_lex.proofs.PartLaws.{line_part_is_exact, then_part_is_exact, made_part_is_exact, framed_part_is_exact, end_part_is_exact}
 use Rattle.gj_shape.specs.FunctionData.{FunctionData, IsWithinBounds}
+use Rattle.gj_shape.specs.declared.extremality.CoverLine.{CoverLine}
+use Rattle.gj_shape.specs.declared.extremality.Halves.{Halves}
 use Rattle.gj_shape.specs.declared.violations.Violation.{Violation}
+use Rattle.gj_lines.specs.FaceLines.{cover_line}
 use Rattle.gj_lines.specs.FunctionLines.{line, AreFunctionLines}
 use Rattle.gj_lines.specs.FunctionGrammar.{order_words, function_part}
 use Rattle.gj_lines.proofs.CanonicalFunctions.{canonical_lines_are_read}
 use Rattle.gj_lines.proofs.ExactFunctions.{function_part_is_exact}
 use Rattle.gj_lines.proofs.FunctionRead.{within_bounds}
 use Rattle.gj_lines.proofs.StrictFunctions.{strict_lines_are_canonical}
-use Rattle.gj_proof.specs.ProofText.{IfFunction, HasNames, IsBounded, subject_of_rule, AreSubjectLines, violation_line, IsProofText}
+use Rattle.gj_proof.specs.ProofText.{IfFunction, HasNames, IsBounded, subject_of_rule, AreSubjectLines, violation_line, IsCoverLineBelow, IsPivotRowBelow, IsProofText}
 use Rattle.gj_proof.specs.CutTexts.{row_text}
+use Rattle.gj_proof.specs.ExtremeTexts.{group_text, halves_text}
 use Rattle.gj_proof.specs.WhereParts.{BeginsWithLine}
-use Rattle.gj_proof.specs.ProofGrammar.{claim_words, claim_rule, violation_words, violation_rule, rule_part, rows_part, claim_part, proof_text}
+use Rattle.gj_proof.specs.ProofGrammar.{claim_words, claim_rule, violation_words, violation_rule, rule_part, rows_part, covered_part, groups_part, halves_part, claim_part, proof_text}
 use Rattle.gj_proof.specs.declared.claim.Claim.{Claim}
 use Rattle.gj_proof.specs.declared.claim.Claim.TheVariants as claims
 use Rattle.gj_proof.specs.declared.claim.ClaimWord.{ClaimWord}
-use Rattle.gj_proof.specs.declared.claim.ClaimWord.TheVariants.{Minimal, NotMinimal, Cut}
+use Rattle.gj_proof.specs.declared.claim.ClaimWord.TheVariants.{Minimal, NotMinimal, Cut, Extreme, NotExtreme}
 use Rattle.gj_proof.specs.declared.cut.CutRule.{CutRule}
 use Rattle.gj_proof.specs.declared.cut.CutRule.TheVariants.{Gmic, Table}
 use Rattle.gj_proof.specs.declared.cut.CutLine.{CutLine}
+use Rattle.gj_proof.specs.declared.pivot.PivotRow.{PivotRow}
 use Rattle.gj_proof.proofs.StrictParts.{line_reads, line_found}
 use Rattle.gj_proof.proofs.WhereLaws.{other_line, begins_so}
 use Rattle.gj_proof.proofs.CutParts.{gmic_words, end_words, rule_part_is_exact, rows_part_is_exact}
 use Rattle.gj_proof.proofs.CutRead.{gmic_read, table_read}
 use Rattle.gj_proof.proofs.CutTexts.{rows_read, rows_found}
+use Rattle.gj_proof.proofs.ThenParts.{then_read_is_exact}
+use Rattle.gj_proof.proofs.ExtremeLines.{extreme_bytes, halves_bytes}
+use Rattle.gj_proof.proofs.ExtremeParts.{covered_part_is_exact, groups_part_is_exact, halves_part_is_exact}
+use Rattle.gj_proof.proofs.ExtremeReads.{covered_read, covered_found, groups_read, groups_found, halves_read, halves_found}
 use Rattle.gj_proof.proofs.OwnLines.{row_bytes}
 use Rattle.gj_proof.proofs.ViolationRule.{bytes_of_words, some_words, violation_is_plain, violation_rule_is_exact}
 
@@ -65,16 +74,18 @@ lines_part = then_part title_part (λ _. after_title)
 
 -- ---- each is exact
 
+-- the words of claims are told apart by their lengths and their fifth bytes
+word_number : List (List ℕ) → ℕ
+word_number words = length (get_or words 1 []) * 1000 + get_or (get_or words 1 []) 4 0
+
 one_word : (w v : ClaimWord) → claim_words w ≡ claim_words v → w ≡ v
+unfolding word_number
 one_word Minimal Minimal e = refl
 one_word NotMinimal NotMinimal e = refl
-one_word Minimal NotMinimal e = cc
-one_word NotMinimal Minimal e = cc
 one_word Cut Cut e = refl
-one_word Cut Minimal e = cc
-one_word Cut NotMinimal e = cc
-one_word Minimal Cut e = cc
-one_word NotMinimal Cut e = cc
+one_word Extreme Extreme e = refl
+one_word NotExtreme NotExtreme e = refl
+one_word w v e = absurd (let n : word_number (claim_words w) ≡ word_number (claim_words v) = ap word_number e in omega arith)
 
 claim_rule_is_exact : IsExactRule claim_rule.Spells claim_rule.Breaks
 claim_rule_is_exact = record {
@@ -82,6 +93,23 @@ claim_rule_is_exact = record {
   one_reason = λ words e d h k. h.0 ∙ sym k.0;
   not_both = λ words a e h k. k.1 a h;
 }
+
+-- what follows the function of a claim that it is extreme, and what follows the lines of covered intervals
+abbrev pub makes_extreme : FunctionData → List CoverLine → List PivotRow → Claim → Type 0
+makes_extreme f lines rows c = c ≡ claims.Extreme f lines rows
+
+abbrev pub behind_cover : FunctionData → List CoverLine → Part Claim
+behind_cover f lines = made_part (makes_extreme f lines) (groups_part f.order [])
+
+abbrev pub behind_function : FunctionData → Part Claim
+behind_function f = then_part (covered_part f.order f.order []) (behind_cover f)
+
+-- what follows the function of a claim that it is not extreme
+abbrev pub makes_not_extreme : FunctionData → Halves → Claim → Type 0
+makes_not_extreme f h c = c ≡ claims.NotExtreme f h
+
+abbrev pub behind_subject : FunctionData → Part Claim
+behind_subject f = made_part (makes_not_extreme f) halves_part
 
 claim_part_is_exact : (w : ClaimWord) → IsExactPart (claim_part w).Reads (claim_part w).Faults
 claim_part_is_exact Minimal =
@@ -97,6 +125,16 @@ claim_part_is_exact Cut =
     then_part_is_exact rule_part behind rule_part_is_exact
     (λ rule. made_part_is_exact (λ (rows : List CutLine) c. c ≡ claims.Cut rule rows) (λ rows c d h k. h ∙ sym k) (rows_part [])
     (rows_part_is_exact []))
+claim_part_is_exact Extreme =
+    then_read_is_exact (function_part Strict) behind_function (function_part_is_exact Strict)
+    (λ text f m h.
+    let small = (within_bounds Strict text f m h).order_high in
+    then_part_is_exact (covered_part f.order f.order []) (behind_cover f) (covered_part_is_exact f.order f.order [] small)
+    (λ lines. made_part_is_exact (makes_extreme f lines) (λ rows c d h k. h ∙ sym k) (groups_part f.order [])
+    (groups_part_is_exact f.order [] small)))
+claim_part_is_exact NotExtreme =
+    then_part_is_exact (function_part Strict) behind_subject (function_part_is_exact Strict)
+    (λ f. made_part_is_exact (makes_not_extreme f) (λ h c d k l. k ∙ sym l) halves_part halves_part_is_exact)
 
 pub proof_text_is_exact : IsExactPart proof_text.Reads proof_text.Faults
 proof_text_is_exact =
@@ -120,6 +158,8 @@ claim_is_plain : (w : ClaimWord) → All IsPlain (claim_words w)
 claim_is_plain Minimal = plain_by_test (claim_words Minimal) refl
 claim_is_plain NotMinimal = plain_by_test (claim_words NotMinimal) refl
 claim_is_plain Cut = plain_by_test (claim_words Cut) refl
+claim_is_plain Extreme = plain_by_test (claim_words Extreme) refl
+claim_is_plain NotExtreme = plain_by_test (claim_words NotExtreme) refl
 
 title_reads : (rest : List ℕ) → title_part.Reads (title_line ++ rest) tt rest
 title_reads rest =
@@ -138,6 +178,8 @@ claim_reads w rest = line_reads claim_rule (claim_line w ++ rest) rest (claim_wo
     some Minimal e = cc
     some NotMinimal e = cc
     some Cut e = cc
+    some Extreme e = cc
+    some NotExtreme e = cc
 
 violation_reads : (v : Violation) (rest : List ℕ) → violation_part.Reads (violation_line v ++ rest) v rest
 violation_reads v rest =
@@ -214,6 +256,36 @@ text_is_read (claims.Cut rule rows) text b p =
     (rule, behind, rule_reads rule p.subject behind b.0 p.are_subject_lines, (rows, rows_read [] rows last_line b.1 end_begins, refl))
     (p.spelled ∙ ap (λ t. title_line ++ claim_line Cut ++ p.subject ++ t ++ last_line) (row_bytes 0 rows)
     ∙ regroup title_line (claim_line Cut) p.subject (flat_map row_text rows) last_line)
+  where
+    regroup : (a b c d e : List ℕ) → a ++ b ++ c ++ d ++ e ≡ a ++ (b ++ (c ++ (d ++ e)))
+    regroup a b c d e = simp append_assoc
+text_is_read (claims.Extreme f lines rows) text b p =
+    let groups = flat_map group_text rows ++ last_line in
+    let behind = flat_map cover_line lines ++ groups in
+    let covered : (covered_part f.order f.order []).Reads behind lines groups =
+    subst (λ (n : ℕ). (covered_part f.order n []).Reads behind lines groups) p.has_text.0
+    (covered_read f.order [] lines groups b.order_high p.has_text.1) in
+    whole_reads Extreme (claims.Extreme f lines rows) (p.subject ++ behind) text (
+      f,
+      behind,
+      canonical_lines_are_read Strict f p.subject behind b p.are_subject_lines,
+      (lines, groups, covered, (rows, groups_read f.order [] rows last_line b.order_high p.has_text.2 end_begins, refl)),
+    )
+    (p.spelled ∙ ap (λ t. title_line ++ claim_line Extreme ++ p.subject ++ t ++ last_line) (extreme_bytes lines rows)
+    ∙ regroup title_line (claim_line Extreme) p.subject (flat_map cover_line lines) (flat_map group_text rows) last_line)
+  where
+    regroup : (a b c d e g : List ℕ) → a ++ b ++ c ++ (d ++ e) ++ g ≡ a ++ (b ++ (c ++ (d ++ (e ++ g))))
+    regroup a b c d e g = simp append_assoc
+text_is_read (claims.NotExtreme f h) text b p =
+    let behind = halves_text h ++ last_line in
+    whole_reads NotExtreme (claims.NotExtreme f h) (p.subject ++ behind) text (
+      f,
+      behind,
+      canonical_lines_are_read Strict f p.subject behind b p.are_subject_lines,
+      (h, halves_read h last_line p.has_text, refl),
+    )
+    (p.spelled ∙ ap (λ t. title_line ++ claim_line NotExtreme ++ p.subject ++ t ++ last_line) (halves_bytes h)
+    ∙ regroup title_line (claim_line NotExtreme) p.subject (halves_text h) last_line)
   where
     regroup : (a b c d e : List ℕ) → a ++ b ++ c ++ d ++ e ≡ a ++ (b ++ (c ++ (d ++ e)))
     regroup a b c d e = simp append_assoc
@@ -307,6 +379,53 @@ claim_found Cut c text inner rest (rule, middle, reads, (rows, more, c_is)) is r
   where
     regroup : (a b c d e : List ℕ) → a ++ (b ++ (c ++ (d ++ e))) ≡ a ++ b ++ c ++ d ++ e
     regroup a b c d e = simp append_assoc
+claim_found Extreme c text inner rest (f, middle, reads, (lines, groups, covered, (rows, more, c_is))) is rest_is =
+    let (within, bytes, subject, inner_is) = function_found inner f middle reads in
+    let cover = covered_found f.order f.order [] lines middle groups covered in
+    let found = groups_found f.order rows rest [] groups more in
+    let P : Claim → Type 0 = λ d. IsBounded d × IsProofText d text in
+    let count : length lines ≡ f.order = ap length cover.all_are ∙ cover.count in
+    let lines_below : All (IsCoverLineBelow f.order) lines = subst (All (IsCoverLineBelow f.order)) (sym cover.all_are) cover.below in
+    let rows_below : All (IsPivotRowBelow f.order) rows = subst (All (IsPivotRowBelow f.order)) (sym found.all_are) found.below in
+    let groups_are : groups ≡ flat_map group_text rows ++ last_line =
+    found.spelled ∙ ap (λ rs. flat_map group_text rs ++ rest) (sym found.all_are) ∙ ap (λ t. flat_map group_text rows ++ t) rest_is in
+    let own : middle ≡ flat_map cover_line lines ++ (flat_map group_text rows ++ last_line) =
+    cover.spelled ∙ ap (λ ls. flat_map cover_line ls ++ groups) (sym cover.all_are) ∙ ap (λ t. flat_map cover_line lines ++ t) groups_are in
+    subst P (sym c_is) (
+      within,
+      record {
+        has_text = (count, lines_below, rows_below);
+        subject = bytes;
+        are_subject_lines = subject;
+        spelled = is
+            ∙ ap (λ t. title_line ++ (claim_line Extreme ++ t)) (inner_is ∙ ap (λ t. bytes ++ t) own)
+            ∙ regroup title_line (claim_line Extreme) bytes (flat_map cover_line lines) (flat_map group_text rows) last_line
+            ∙ ap (λ t. title_line ++ claim_line Extreme ++ bytes ++ t ++ last_line) (sym (extreme_bytes lines rows));
+      },
+    )
+  where
+    regroup : (a b c d e g : List ℕ) → a ++ (b ++ (c ++ (d ++ (e ++ g)))) ≡ a ++ b ++ c ++ (d ++ e) ++ g
+    regroup a b c d e g = simp append_assoc
+claim_found NotExtreme c text inner rest (f, middle, reads, (h, shown, c_is)) is rest_is =
+    let (within, bytes, subject, inner_is) = function_found inner f middle reads in
+    let found = halves_found middle rest h shown in
+    let P : Claim → Type 0 = λ d. IsBounded d × IsProofText d text in
+    subst P (sym c_is) (
+      within,
+      record {
+        has_text = found.1;
+        subject = bytes;
+        are_subject_lines = subject;
+        spelled = is
+            ∙ ap (λ t. title_line ++ (claim_line NotExtreme ++ t))
+            (inner_is ∙ ap (λ t. bytes ++ t) (found.0 ∙ ap (λ t. halves_text h ++ t) rest_is))
+            ∙ regroup title_line (claim_line NotExtreme) bytes (halves_text h) last_line
+            ∙ ap (λ t. title_line ++ claim_line NotExtreme ++ bytes ++ t ++ last_line) (sym (halves_bytes h));
+      },
+    )
+  where
+    regroup : (a b c d e : List ℕ) → a ++ (b ++ (c ++ (d ++ e))) ≡ a ++ b ++ c ++ d ++ e
+    regroup a b c d e = simp append_assoc
 
 pub read_is_text : (c : Claim) (text : List ℕ) → proof_text.Reads text c [] → IsBounded c × IsProofText c text
 read_is_text c text
@@ -321,3 +440,9 @@ read_is_text c text
     rest_is ∙ ap (λ ws. line (join_with_byte 32 ws) ++ left) end_is ∙ ap (λ t. last_line ++ t) (left_is ∙ nothing) ∙ append-nil last_line in
     let P : Claim → Type 0 = λ a. IsBounded a × IsProofText a text in
     subst P (sym (c_is ∙ d_is)) (claim_found w e text inner rest reads whole last_is)
+
+-- the lines of a text, read one after another, are those of a claim
+pub lines_read : (text m inner rest behind : List ℕ) (w : ClaimWord) (c : Claim) → title_part.Reads text tt m → word_part.Reads m w inner →
+    (claim_part w).Reads inner c rest → last_part.Reads rest tt behind → behind ≡ [] → proof_text.Reads text c []
+lines_read text m inner rest behind w c title word reads end ended =
+    (c, behind, (tt, m, title, (c, rest, (w, inner, word, reads), (tt, behind, end, (refl, refl)))), (refl, ended, ended))

@@ -1,5 +1,5 @@
 -- The rows of a proof that a function is extreme: how they begin, and what each group keeps (own).
-use Rattle.std.specs.Prelude.{ℕ, ℤ, ◌≡◌, ◌<◌, ◌==◌, List, [], ◌∷◌, ◌++◌, count_by, length}
+use Rattle.std.specs.Prelude.{ℕ, ℤ, ◌<◌, ◌==◌, List, [], ◌∷◌, ◌++◌, count_by, length}
 use Rattle.gj_shape.specs.Cover.{HasComponent}
 use Rattle.gj_shape.specs.Elimination.{KeptRow, kept_entries}
 use Rattle.gj_shape.specs.FunctionData.{FunctionData}

@@ -22,6 +22,18 @@ term x1 0 0\nskip #,' 1/3 other\nend\n";
 const WITH_JUMPS: &[u8] =
     b"gj-proof 1\nclaim minimal\norder 2\nf 1/2\npoint 1/2 0 1/2\npoint 1/2 1 1/2\nend\n";
 
+const EXTREME: &[u8] =
+    b"gj-proof 1\nclaim extreme\norder 5\nf 3/5\npoint 0\npoint 1/3\npoint 2/3\npoint 1\npoint 1/2\n\
+cover 0 0 lower 0 0\ncover 1 0 upper 0 0\ncover 2 0 upper 0 1\ncover 3 3 upper 3 4\n\
+cover 4 3 diagonal 3 4\nrow period\npivot 0\nrow f\nreduce 0\npivot 1\nend\n";
+
+const NOT_EXTREME: &[u8] =
+    b"gj-proof 1\nclaim not-extreme\norder 6\nf 1/2\npoint 0\npoint 2/3\npoint 1/3\npoint 1\npoint 1/3\npoint 2/3\n\
+halves 24 36\npair 0 0\npair 6 6\npair 12 12\npair 18 18\npair 24 24\npair 22 20\npair 18 18\n\
+pair 14 16\npair 12 12\npair 18 18\npair 24 24\npair 30 30\npair 36 36\npair 30 30\npair 24 24\n\
+pair 18 18\npair 12 12\npair 15 15\npair 18 18\npair 21 21\npair 24 24\npair 18 18\npair 12 12\n\
+pair 6 6\nend\n";
+
 #[test]
 fn minimal_is_read_and_written(rt: HostRuntime) -> Result<(), Fail> {
     let proof = read_proof(rt.alloc(), MINIMAL)?;
@@ -70,10 +82,19 @@ fn cuts_are_read_and_written(rt: HostRuntime) -> Result<(), Fail> {
 }
 
 #[test]
+fn claims_of_extremality_are_read_and_written(rt: HostRuntime) -> Result<(), Fail> {
+    for text in [EXTREME, NOT_EXTREME] {
+        let proof = read_proof(rt.alloc(), text)?;
+        assert_eq!(rt; write_proof(rt.alloc(), &proof)?.as_slice(), text);
+    }
+    Ok(())
+}
+
+#[test]
 fn refused(rt: HostRuntime) {
-    let texts: [(&[u8], u64, Reason); 34] = [
+    let texts: [(&[u8], u64, Reason); 38] = [
         (b"", 1, Reason::Form),
-        (b"gj-proof 1\nclaim extreme\norder 5\n", 2, Reason::Form),
+        (b"gj-proof 1\nclaim extremal\norder 5\n", 2, Reason::Form),
         (b"gj-proof 1\nclaim minimal\norder  5\n", 3, Reason::Form),
         (b"gj-proof 1\nclaim minimal\norder 5\r\n", 3, Reason::Form),
         (b"gj-proof 1\nclaim minimal\norder 05\n", 3, Reason::Number),
@@ -147,6 +168,28 @@ fn refused(rt: HostRuntime) {
             b"gj-proof 1\nclaim minimal\norder 5\nf 3/5\npoint 0\npoint 1/3\npoint 2/3\npoint 1\npoint 1/2\nend\nx\n",
             11,
             Reason::Tail,
+        ),
+        (
+            b"gj-proof 1\nclaim extreme\norder 2\nf 1/2\npoint 0\npoint 1\ncover 0 0 vertex 0 0\n",
+            7,
+            Reason::Form,
+        ),
+        (
+            b"gj-proof 1\nclaim extreme\norder 2\nf 1/2\npoint 0\npoint 1\n\
+cover 0 0 lower 0 0\ncover 1 1 upper 1 1\nrow X\npivot 0\nend\n",
+            9,
+            Reason::Form,
+        ),
+        (
+            b"gj-proof 1\nclaim extreme\norder 2\nf 1/2\npoint 0\npoint 1\n\
+cover 0 0 lower 0 0\ncover 1 1 upper 1 1\nrow period\npivot 1000\nend\n",
+            10,
+            Reason::Number,
+        ),
+        (
+            b"gj-proof 1\nclaim not-extreme\norder 2\nf 1/2\npoint 0\npoint 1\nhalves 2 0\n",
+            7,
+            Reason::Number,
         ),
         (b"gj-proof 1\nclaim cut\nrule gmix\nend\n", 3, Reason::Form),
         (b"gj-proof 1\nclaim cut\norder x\n", 3, Reason::Number),

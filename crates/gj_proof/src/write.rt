@@ -83,11 +83,7 @@ fn write_extreme(
 }
 
 /// The proof text of the claim that the function is not extreme, as the halves show.
-fn write_not_extreme(
-    alloc: Global,
-    shape: &Shape,
-    halves: &Halves,
-) -> Result<Vec<u8>, AllocError>
+fn write_not_extreme(alloc: Global, shape: &Shape, halves: &Halves) -> Result<Vec<u8>, AllocError>
     requires { HasText (NotExtreme shape.now halves.now) }
     ensures { IfOk result (λ text. IsProofText (NotExtreme shape.now halves.now) text.items) }
 {

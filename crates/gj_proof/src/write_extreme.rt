@@ -89,7 +89,12 @@ pub(crate) fn push_halves(
     out.extend_from_slice(b"halves ")?;
     print_count(out, halves.order)?;
     push_whole_line(alloc, out, halves.scale)?;
-    push_pairs(alloc, out, halves.first.as_slice(), halves.second.as_slice())
+    push_pairs(
+        alloc,
+        out,
+        halves.first.as_slice(),
+        halves.second.as_slice(),
+    )
 }
 
 /// Appends the lines of the halves' values.

@@ -1,8 +1,9 @@
-use Rattle.std.proofs.Common.{◌≡◌, [], refl, sym, subst, rules}
+use Rattle.std.proofs.Common.{◌≡◌, [], sym, subst, rules}
 use Rattle.std.proofs.lemmas.Result.{err_from_is_err_and}
 use Rattle.gj_lex.specs.Parts.{IsFaultOf}
 use Rattle.gj_proof.specs.ProofGrammar.{proof_text}
 use Rattle.gj_proof.specs.declared.claim.Claim.{Claim}
+use Rattle.gj_proof.proofs.ReadTexts.{lines_read, read_is_text}
 use Rattle.gj_proof.proofs.ReadFaults.{passed_on, fault_in_word, fault_in_claim, fault_in_last, fault_behind_last}
 use Rattle.gj_proof.proofs.read.proof_at.Goals as goal
 
@@ -32,24 +33,15 @@ returns-in_err-end_at-clause-fault c =
     (fault_behind_last _ _ _ _ _ _ _ _ c.in_ok-rest.ensures.found c.in_ok-word.ensures.found c.in_ok-claim.ensures.found
     c.in_ok-rest-2.ensures.found c.in_err-end_at.ensures.fault)
 
+pub unwrap-requires : goal.unwrap-requires
+unwrap-requires c =
+    let whole = lines_read _ _ _ _ _ _ _ c.in_ok-rest.ensures.found c.in_ok-word.ensures.found c.in_ok-claim.ensures.found
+    c.in_ok-rest-2.ensures.found c.in_ok-end_at.ensures.ended in
+    c.new.ensures.some.1 (read_is_text _ _ whole).1.has_text
+
 pub returns-clause-found : goal.returns-clause-found
 returns-clause-found c =
-    let ended = c.in_ok-end_at.ensures.ended in
-    let whole : proof_text.Reads c.args.text.now c.in_ok-claim.claim [] = (
-      c.in_ok-claim.claim,
-      c.in_ok-rest-2.rest.now,
-      (
-        tt,
-        c.in_ok-rest.rest.now,
-        c.in_ok-rest.ensures.found,
-        (
-          c.in_ok-claim.claim,
-          c.in_ok-claim.rest.now,
-          (c.in_ok-word.word, c.in_ok-word.rest.now, c.in_ok-word.ensures.found, c.in_ok-claim.ensures.found),
-          (tt, c.in_ok-rest-2.rest.now, c.in_ok-rest-2.ensures.found, (refl, refl)),
-        ),
-      ),
-      (refl, ended, ended),
-    ) in
+    let whole = lines_read _ _ _ _ _ _ _ c.in_ok-rest.ensures.found c.in_ok-word.ensures.found c.in_ok-claim.ensures.found
+    c.in_ok-rest-2.ensures.found c.in_ok-end_at.ensures.ended in
     let is : c.unwrap.result ≡ c.in_ok-claim.claim = search rules in
     subst (λ (d : Claim). proof_text.Reads c.args.text.now d []) (sym is) whole

@@ -1,0 +1,86 @@
+-- The text of claims of extremality, written one part after another.
+use Rattle.std.proofs.Common.{◌≡◌, ℕ, ◌+◌, ◌<◌, min, ℤ, pos, Option, Some, Result, OnOk, IfSome, List, [], ◌∷◌, ◌++◌, length, take, flat_map, zip, codes, get_or, sym, ap, subst, ◌∙◌, arith}
+use Rattle.std.specs.Fmt.{signed_decimal}
+use Rattle.std.proofs.Math.Seq.{take-length}
+use Rattle.std.proofs.lemmas.Grind.{flat_map-append}
+use Rattle.std.proofs.lemmas.List.{append_assoc, append-nil, take_more}
+use Rattle.std.proofs.lemmas.Result.{on_ok_weaker}
+use Rattle.std.proofs.lemmas.Slice.Zip.{length-zip, get_or-zip}
+use Rattle.gj_frac.specs.Fraction.{IsRatio}
+use Rattle.gj_frac.specs.declared.Frac.{Frac}
+use Rattle.gj_lex.specs.NumberText.{fraction_text}
+use Rattle.gj_shape.specs.FunctionData.{FunctionData}
+use Rattle.gj_shape.specs.declared.extremality.CoverLine.{CoverLine}
+use Rattle.gj_shape.specs.declared.extremality.Halves.{Halves}
+use Rattle.gj_lines.specs.FaceLines.{cover_line}
+use Rattle.gj_lines.specs.FunctionLines.{line, AreFunctionLines}
+use Rattle.gj_proof.specs.ProofText.{pair_line, FitsPair, HasText, IsProofText}
+use Rattle.gj_proof.specs.ExtremeTexts.{group_text, halves_text}
+use Rattle.gj_proof.specs.declared.claim.Claim.TheVariants.{Extreme, NotExtreme}
+use Rattle.gj_proof.specs.declared.pivot.PivotRow.{PivotRow}
+use Rattle.gj_proof.proofs.ExtremeLines.{extreme_bytes, halves_bytes}
+use Rattle.gj_proof.proofs.WholeNumbers.{text_of_ratio}
+
+-- a whole number, printed as the fraction over 1
+pub whole_pushed : {E : Type 0} (r : Result (Unit {0}) E) (o : Option Frac) (x : Frac) (m n : ℤ) (old new : List ℕ) → FitsPair n → m ≡ n →
+    o ≡ Some x → IfSome o (λ y. IsRatio y m (pos 1)) → OnOk r (new ≡ old ++ fraction_text x) → OnOk r (new ≡ old ++ signed_decimal n)
+whole_pushed r o x m n old new fits same o_is is =
+    let value : IsRatio x n (pos 1) =
+    subst (λ (k : ℤ). IsRatio x k (pos 1)) same (subst (λ (p : Option Frac). IfSome p (λ y. IsRatio y m (pos 1))) o_is is) in
+    on_ok_weaker r (λ e. e ∙ ap (λ t. old ++ t) (text_of_ratio x n fits value))
+
+-- one pair more
+pub pair_pushed : (first second : List ℤ) (i n : ℕ) (x y : ℤ) (start old new : List ℕ) → i < length first → i < length second → n ≡ i + 1 →
+    x ≡ get_or first i (pos 0) → y ≡ get_or second i (pos 0) → old ≡ start ++ flat_map pair_line (take i (zip first second)) →
+    new ≡ old ++ pair_line (x, y) → new ≡ start ++ flat_map pair_line (take n (zip first second))
+pair_pushed first second i n x y start old new h k n_is x_is y_is old_is new_is =
+    let pairs = zip first second in
+    let long : i < length pairs = omega (arith, length-zip first second) in
+    let pair : ◌≡◌ {A = ℤ × ℤ} (x, y) (get_or pairs i (pos 0, pos 0)) =
+    (λ j. (x_is j, y_is j)) ∙ sym (get_or-zip first second i (pos 0, pos 0) h k) in
+    let more : flat_map pair_line (take n pairs) ≡ flat_map pair_line (take i pairs) ++ pair_line (x, y) =
+    ap (λ m. flat_map pair_line (take m pairs)) n_is
+    ∙ ap (flat_map pair_line) (take_more pairs i (pos 0, pos 0) long ∙ ap (λ (p : ℤ × ℤ). take i pairs ++ p ∷ []) (sym pair))
+    ∙ flat_map-append pair_line (take i pairs) ((x, y) ∷ [])
+    ∙ ap (λ t. flat_map pair_line (take i pairs) ++ t) (append-nil (pair_line (x, y))) in
+    new_is ∙ ap (λ t. t ++ pair_line (x, y)) old_is ∙ append_assoc start (flat_map pair_line (take i pairs)) (pair_line (x, y))
+    ∙ ap (λ t. start ++ t) (sym more)
+
+-- all pairs
+pub pairs_pushed : (first second : List ℤ) (n : ℕ) (start new : List ℕ) → n ≡ min (length first) (length second) →
+    new ≡ start ++ flat_map pair_line (take n (zip first second)) → new ≡ start ++ flat_map pair_line (zip first second)
+pairs_pushed first second n start new n_is new_is =
+    new_is ∙ ap (λ ps. start ++ flat_map pair_line ps)
+    (ap (λ k. take k (zip first second)) (n_is ∙ sym (length-zip first second)) ∙ take-length (zip first second))
+
+-- what a text of some function begins with
+abbrev StartsText : FunctionData → List ℕ → List ℕ → Type 0
+StartsText f word text =
+    (lines : List ℕ) × AreFunctionLines f lines × (text ≡ line (codes "gj-proof 1") ++ line (codes "claim " ++ word) ++ lines)
+
+pub extreme_written : (f : FunctionData) (cover : List CoverLine) (rows : List PivotRow) (first second third text : List ℕ) →
+    HasText (Extreme f cover rows) → StartsText f (codes "extreme") first → second ≡ first ++ flat_map cover_line cover →
+    third ≡ second ++ flat_map group_text rows → text ≡ third ++ codes "end\n" → IsProofText (Extreme f cover rows) text
+extreme_written f cover rows first second third text has (lines, are, first_is) second_is third_is text_is = record {
+  has_text = has;
+  subject = lines;
+  are_subject_lines = are;
+  spelled = text_is
+      ∙ ap (λ t. t ++ line (codes "end"))
+      (third_is ∙ ap (λ t. t ++ flat_map group_text rows) (second_is ∙ ap (λ t. t ++ flat_map cover_line cover) first_is)
+      ∙ append_assoc (line (codes "gj-proof 1") ++ line (codes "claim extreme") ++ lines) (flat_map cover_line cover)
+      (flat_map group_text rows))
+      ∙ ap (λ t. line (codes "gj-proof 1") ++ line (codes "claim extreme") ++ lines ++ t ++ line (codes "end"))
+      (sym (extreme_bytes cover rows));
+}
+
+pub not_extreme_written : (f : FunctionData) (h : Halves) (first second text : List ℕ) → HasText (NotExtreme f h) →
+    StartsText f (codes "not-extreme") first → second ≡ first ++ halves_text h → text ≡ second ++ codes "end\n" →
+    IsProofText (NotExtreme f h) text
+not_extreme_written f h first second text has (lines, are, first_is) second_is text_is = record {
+  has_text = has;
+  subject = lines;
+  are_subject_lines = are;
+  spelled = text_is ∙ ap (λ t. t ++ line (codes "end")) (second_is ∙ ap (λ t. t ++ halves_text h) first_is)
+      ∙ ap (λ t. line (codes "gj-proof 1") ++ line (codes "claim not-extreme") ++ lines ++ t ++ line (codes "end")) (sym (halves_bytes h));
+}

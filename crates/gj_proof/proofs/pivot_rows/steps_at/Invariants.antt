@@ -1,0 +1,10 @@
+use Rattle.std.proofs.Common.{[], length}
+use Rattle.gj_proof.specs.ProofGrammar.{next_step}
+use Rattle.gj_proof.proofs.LoopRead.{LeadsOn}
+use Rattle.gj_proof.proofs.pivot_rows.steps_at.Given as goal
+
+abbrev pub invariant-loop-rest : goal.invariant-loop-rest
+invariant-loop-rest l = LeadsOn next_step [] l.text l.columns.items l.rest
+
+abbrev pub decreases-loop-rest : goal.decreases-loop-rest
+decreases-loop-rest l = length l.rest
