@@ -1,19 +1,15 @@
 -- Where the rules of a claim that a function is extreme hold, the function is extreme.
-use Rattle.std.proofs.Common.{◌≡◌, ◌≢◌, ℕ, suc, ◌⊎◌, inl, inr, ◌+◌, ◌<◌, ◌≤◌, Bool, true, false, ◌||◌, cond, Option, None, Some, ℤ, pos, List, [], ◌∷◌, ◌++◌, length, map, eqb, refl, sym, ap, subst, ◌∙◌, append_assoc, arith}
+use Rattle.std.proofs.Common.{◌≡◌, ◌≢◌, ℕ, ◌⊎◌, inl, inr, ◌+◌, ◌<◌, ◌≤◌, Bool, true, false, cond, Option, None, Some, ℤ, pos, List, [], ◌∷◌, ◌++◌, length, map, eqb, refl, sym, ap, subst, ◌∙◌, append_assoc, arith}
 use Rattle.std.specs.Prelude.{All}
-use Rattle.std.specs.Cmp.{IsEquivalence}
-use Rattle.std.specs.List.{range_with_len, list_any, IsDistinct}
-use Rattle.std.proofs.lemmas.Bool.{cases_lt, eq-eqb}
+use Rattle.std.specs.List.{range_with_len}
+use Rattle.std.proofs.lemmas.Bool.{cases_lt}
 use Rattle.std.proofs.lemmas.Bool.Decides.{Decides-eqb}
-use Rattle.std.proofs.lemmas.List.{append-nil, length-append, length-map, length_push, map_push}
+use Rattle.std.proofs.lemmas.List.{length-append, length_push}
 use Rattle.std.proofs.lemmas.List.FromFn.{length-map-range_with_len}
-use Rattle.std.proofs.lemmas.List.Elements.{All-nil, All-head, All-tail, All-push, All-map}
-use Rattle.std.proofs.lemmas.Map.Keys.{IsDistinct-push}
-use Rattle.std.proofs.lemmas.Map.Steps.{length-le_from_distinct_below}
-use Rattle.gj_tools.proofs.Choices.{never_true}
+use Rattle.std.proofs.lemmas.List.Elements.{All-nil, All-head, All-tail}
 use Rattle.gj_tools.proofs.Lists.{All-front, All-back, made_has}
 use Rattle.gj_shape.specs.Additive.{IsTight}
-use Rattle.gj_shape.specs.Cover.{HasLine, HasComponent}
+use Rattle.gj_shape.specs.Cover.{HasComponent}
 use Rattle.gj_shape.specs.Elimination.{KeptRow, at_column, reduced, entries_of, row_with_pivot, kept_entries, kept_behind}
 use Rattle.gj_shape.specs.FunctionData.{FunctionData, IsWithinBounds}
 use Rattle.gj_shape.specs.SlopeRows.{row_entry, SolveRows}
@@ -26,82 +22,16 @@ use Rattle.gj_theory.proofs.Eliminations.{reduced_by_none, reduced_of_none, pres
 use Rattle.gj_theory.proofs.ExtremeByCover.{extreme_by_cover}
 use Rattle.gj_theory.proofs.Insertions.{find_has, IsKept, kept_here, triangular_behind, solutions_behind}
 use Rattle.gj_theory.proofs.LineComponents.{component_of_line}
+use Rattle.gj_theory.proofs.LineIntervals.{line_for_each}
 use Rattle.gj_theory.proofs.MinimalFromTests.{minimal_from_tests}
 use Rattle.gj_theory.proofs.SlopePerturbations.{first_rows_hold, pair_row_holds}
 use Rattle.gj_theory.proofs.Steps.{length-reduced}
-use Rattle.gj_theory.proofs.Triangular.{below_from_any}
 use Rattle.gj_proof.specs.declared.claim.Claim.TheVariants.{Extreme}
 use Rattle.gj_proof.specs.declared.pivot.PivotRow.{PivotRow}
 use Rattle.gj_proof.specs.PresentRows.{components_in, AreNumbersOf, named_row, row_kept, rows_behind, rows_before}
 use Rattle.gj_proof.specs.ProofText.{HasText, IsRowNameBelow, IsPivotRowBelow}
 use Rattle.gj_proof.specs.Rules.{Demand, MeetsRow, MeetsPivot, step_demands, group_demands, Holds, MeetsRules}
 use Rattle.gj_proof.specs.Meaning.{ClaimHolds}
-
--- ---- as many lines as intervals are lines for all
-
-equal_turned : (x y : ℕ) → eqb x y ≡ eqb y x
-equal_turned x y = by_test (eqb x y) refl
-  where
-    by_test : (b : Bool) → eqb x y ≡ b → eqb x y ≡ eqb y x
-    by_test true t = t ∙ sym (eq-eqb y x (sym ((Decides-eqb x y).0 t)))
-    by_test false t =
-        t ∙ sym (never_true (eqb y x) (λ u. let v = eq-eqb x y (sym ((Decides-eqb y x).0 u)) in absurd cc))
-
-equal_laws : IsEquivalence eqb
-equal_laws = record {
-  refl = λ x. eq-eqb x x refl;
-  symm = equal_turned;
-  congr = λ x y z e. ap (λ k. eqb k z) ((Decides-eqb x y).0 e);
-}
-
-abbrev intervals_of : List CoverLine → List ℕ
-intervals_of lines = map (λ l. l.interval) lines
-
-line_listed : (lines : List CoverLine) (i : ℕ) → list_any (eqb i) (intervals_of lines) ≡ true → HasLine lines i
-line_listed [] i e = absurd cc
-line_listed (l ∷ lines) i e = by_test (eqb i l.interval) refl e (line_listed lines i)
-  where
-    by_test : (b : Bool) → eqb i l.interval ≡ b → (b || list_any (eqb i) (intervals_of lines)) ≡ true →
-        (list_any (eqb i) (intervals_of lines) ≡ true → HasLine lines i) → HasLine (l ∷ lines) i
-    by_test true t e later = (0, l, omega arith, refl, sym ((Decides-eqb i l.interval).0 t))
-    by_test false t e later = one_further (later e)
-      where
-        one_further : HasLine lines i → HasLine (l ∷ lines) i
-        one_further (k, m, low, there, is) = (suc k, m, omega arith, there, is)
-
-none_distinct : IsDistinct eqb []
-unfolding IsDistinct
-none_distinct = tt
-
--- no two lines have one interval
-intervals_distinct : (q : ℕ) (Tight : ℕ → ℕ → Type 0) (lines : List CoverLine) → MeetsCoverRules q Tight lines →
-    (front rest : List CoverLine) → lines ≡ front ++ rest → IsDistinct eqb (intervals_of front) → IsDistinct eqb (intervals_of lines)
-intervals_distinct q Tight lines rules front [] place h =
-    subst (λ (ls : List CoverLine). IsDistinct eqb (intervals_of ls)) (sym (place ∙ append-nil front)) h
-intervals_distinct q Tight lines rules front (l ∷ rest) place h =
-    intervals_distinct q Tight lines rules (front ++ l ∷ []) rest (place ∙ sym (append_assoc front (l ∷ []) rest))
-    (subst (IsDistinct eqb) (sym (map_push (λ m. m.interval) front l))
-    (IsDistinct-push equal_laws (intervals_of front) l.interval h
-    (never_true (list_any (eqb l.interval) (intervals_of front))
-    (λ t. (rules front l rest place).new (line_listed front l.interval t)))))
-
-pub line_for_each : (q : ℕ) (Tight : ℕ → ℕ → Type 0) (lines : List CoverLine) → MeetsCoverRules q Tight lines →
-    All (λ l. l.interval < q) lines → length lines ≡ q → (i : ℕ) → i < q → HasLine lines i
-line_for_each q Tight lines rules below long i low = by_test (list_any (eqb i) (intervals_of lines)) refl
-  where
-    by_test : (b : Bool) → list_any (eqb i) (intervals_of lines) ≡ b → HasLine lines i
-    by_test true t = line_listed lines i t
-    by_test false t =
-        let xs : List ℕ = intervals_of lines in
-        let distinct =
-        IsDistinct-push equal_laws xs i (intervals_distinct q Tight lines rules [] lines refl none_distinct) t in
-        let within =
-        All-push (λ x. x < q) xs i (All-map (λ x. x < q) (λ l. l.interval) lines below) low in
-        let count =
-        length-le_from_distinct_below (xs ++ i ∷ []) q distinct (λ p has. below_from_any q (xs ++ i ∷ []) p within has) in
-        let more = length_push xs i in
-        let len = length-map lines (λ l. l.interval) in
-        absurd (omega arith)
 
 -- ---- the numbers of components
 

@@ -1,0 +1,13 @@
+pub mod KeptGroups
+pub mod DecidedGroups
+pub mod DecidedHalves
+pub mod DecidedRules
+pub mod DecidedHolds
+pub mod OneCover
+pub mod SmallNumbers
+pub mod SmallSolutions
+pub mod FewComponents
+pub mod OneViolation
+pub mod OneDecision
+pub mod NotTooWide
+pub mod DecidedTexts

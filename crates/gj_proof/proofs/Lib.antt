@@ -25,3 +25,4 @@ pub mod ExtremeRead
 pub mod HalvesWords
 pub mod ExtremeWritten
 pub mod CutWritten
+pub mod GridCoordinates

@@ -15,7 +15,7 @@ pub record HasPassing {X : Type 0} (test : X → Bool) (xs : List X) (c : ℕ) :
   pub passes : test x ≡ true
   pub number : c ≡ count_by test before
 
-count_first : {X : Type 0} (test : X → Bool) (x : X) (xs : List X) →
+pub count_first : {X : Type 0} (test : X → Bool) (x : X) (xs : List X) →
     count_by test (x ∷ xs) ≡ cond (test x) 1 0 + count_by test xs
 count_first test x xs =
     let one : 0 + cond (test x) 1 0 ≡ cond (test x) 1 0 = omega arith in

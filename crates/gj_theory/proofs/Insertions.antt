@@ -80,10 +80,10 @@ step_same n kept row c k h len found w all =
 abbrev pub IsZeroBefore : List ℤ → ℕ → Type 0
 IsZeroBefore row a = (j : ℕ) → j < a → at_column row j ≡ pos 0
 
-zero_before_next : (row : List ℤ) (a : ℕ) → IsZeroBefore row a → at_column row a ≡ pos 0 → IsZeroBefore row (a + 1)
+pub zero_before_next : (row : List ℤ) (a : ℕ) → IsZeroBefore row a → at_column row a ≡ pos 0 → IsZeroBefore row (a + 1)
 zero_before_next row a h here = below_more _ a h here
 
-step_zero : (n : ℕ) (kept : List KeptRow) (row : List ℤ) (c : ℕ) (k : KeptRow) → AreTriangular n kept → length row ≡ n →
+pub step_zero : (n : ℕ) (kept : List KeptRow) (row : List ℤ) (c : ℕ) (k : KeptRow) → AreTriangular n kept → length row ≡ n →
     row_with_pivot kept c ≡ Some k → IsZeroBefore row c → IsZeroBefore (reduced k.entries row c) (c + 1)
 step_zero n kept row c k h len found none =
     let (is, at) = kept_row_at n kept c k h found in

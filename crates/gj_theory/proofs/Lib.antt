@@ -38,5 +38,6 @@ pub mod GmicValues
 pub mod RowGrids
 pub mod CutsByTables
 pub mod LineComponents
+pub mod LineIntervals
 pub mod SlopePerturbations
 pub mod ComponentIntervals

@@ -7,7 +7,6 @@ pub mod CutParts
 pub mod CutLines
 pub mod Ends
 pub mod FacesTexts
-pub mod GridCoordinates
 pub mod InputRead
 pub mod ProofBytes
 pub mod Refusals

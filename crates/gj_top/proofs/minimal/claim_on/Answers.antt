@@ -1,6 +1,6 @@
 use Rattle.std.proofs.Common.{refl}
 use Rattle.gj_check.proofs.DemandsOfClaims.{minimal_rules, point_rules}
-use Rattle.gj_top.proofs.GridCoordinates.{meets_point}
+use Rattle.gj_proof.proofs.GridCoordinates.{meets_point}
 use Rattle.gj_top.proofs.minimal.claim_on.Goals as goal
 
 pub returns-in-Some : goal.returns-in-Some

@@ -1,0 +1,51 @@
+-- What the decision gives holds.
+use Rattle.std.proofs.Common.{inl, inr, ◌*◌, List, map, sym, subst}
+use Rattle.std.proofs.lemmas.List.Elements.{All-nil, All-map}
+use Rattle.gj_shape.specs.Additive.{IsTight}
+use Rattle.gj_shape.specs.Elimination.{KeptRow}
+use Rattle.gj_shape.specs.Extreme.{IsExtreme}
+use Rattle.gj_shape.specs.FunctionData.{FunctionData, IsWithinBounds, IsContinuous}
+use Rattle.gj_shape.specs.SlopeRows.{row_names}
+use Rattle.gj_shape.specs.Table.{IsMinimal}
+use Rattle.gj_shape.specs.declared.extremality.CoverLine.{CoverLine}
+use Rattle.gj_theory.specs.TriangularRows.{Solves}
+use Rattle.gj_theory.proofs.CoverLines.{lines_meet_rules}
+use Rattle.gj_theory.proofs.Eliminations.{elimination_has, zeros_of}
+use Rattle.gj_theory.proofs.ExtremeByCover.{extreme_by_cover}
+use Rattle.gj_theory.proofs.Violations.{first_shown}
+use Rattle.gj_proof.specs.declared.claim.Claim.{Claim}
+use Rattle.gj_proof.specs.declared.claim.Claim.TheVariants.{Minimal, NotMinimal, Cut, Extreme, NotExtreme}
+use Rattle.gj_proof.specs.declared.pivot.PivotRow.{PivotRow}
+use Rattle.gj_proof.specs.Meaning.{ClaimHolds}
+use Rattle.gj_proof.specs.PresentRows.{named_row}
+use Rattle.gj_extreme.specs.Decision.{slope_elimination, AreExtremeRows, IsDecided}
+use Rattle.gj_extreme.proofs.DecidedHalves.{begun_columns, zigzag_halves, slope_halves}
+
+pub extreme_holds : (f : FunctionData) (lines : List CoverLine) (rows : List PivotRow) → IsWithinBounds f → IsMinimal f → IsContinuous f →
+    AreExtremeRows f lines rows → IsExtreme f
+extreme_holds f lines rows l minimal continuous h =
+    let n = h.n in
+    let begun = map (named_row f h.component n) (row_names f) in
+    let kept = (slope_elimination f h.component n).kept in
+    let has = elimination_has n begun (begun_columns f h.component n (row_names f)) in
+    extreme_by_cover f lines h.component n l continuous minimal (lines_meet_rules f.order (IsTight f) lines h.covered.are_lines)
+    h.covered.numbers h.covered.count
+    (λ slopes long solve.
+    zeros_of n kept slopes has.triangular h.all long
+    ((has.same slopes long).1
+    (All-nil (λ (k : KeptRow). Solves slopes k.entries), All-map (Solves slopes) (named_row f h.component n) (row_names f) solve)))
+
+-- what the decision gives of a function within the limits is true
+pub decided_holds : (f : FunctionData) (c : Claim) → IsWithinBounds f → IsDecided f c → ClaimHolds c
+decided_holds f (Minimal g) l h = absurd h
+decided_holds f (NotMinimal g v) l h =
+    subst (λ (x : FunctionData). ClaimHolds (NotMinimal x v)) (sym h.0) (first_shown f v l h.1)
+decided_holds f (Cut rule rows) l h = absurd h
+decided_holds f (Extreme g lines rows) l h =
+    subst (λ (x : FunctionData). ClaimHolds (Extreme x lines rows)) (sym h.0) (h.2, extreme_holds f lines rows l h.1 h.2 h.3)
+decided_holds f (NotExtreme g halves) l (is, minimal, continuous, inl zig) =
+    subst (λ (x : FunctionData). ClaimHolds (NotExtreme x halves)) (sym is)
+    (continuous, minimal, (4, 3 * zig.halves.p, zig.halves.order, zig.halves.scale, zigzag_halves f halves l continuous minimal zig))
+decided_holds f (NotExtreme g halves) l (is, minimal, continuous, inr slope) =
+    subst (λ (x : FunctionData). ClaimHolds (NotExtreme x halves)) (sym is)
+    (continuous, minimal, (1, 3 * slope.halves.p, slope.halves.order, slope.halves.scale, slope_halves f halves l minimal slope))

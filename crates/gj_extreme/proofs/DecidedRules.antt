@@ -1,0 +1,248 @@
+-- What the decision gives meets the rules of the checker.
+use Rattle.std.proofs.Common.{◌≡◌, ℕ, zero, suc, ◌⊎◌, inl, inr, ◌+◌, ◌-◌, ◌*◌, ◌/◌, ◌%◌, ◌<◌, ◌≤◌, ◌^◌, ℤ, pos, ◌+ℤ◌, ◌*ℤ◌, ◌≤ℤ◌, List, [], ◌∷◌, ◌++◌, length, map, unsigned_abs, sym, ap, subst, ◌∙◌, mul-pos, arith}
+use Rattle.std.specs.Prelude.{All}
+use Rattle.std.specs.List.{range_with_len}
+use Rattle.std.proofs.Math.Nat.{add-mul-mod_self_right, mul-div_cancel_left}
+use Rattle.std.proofs.lemmas.Int.{ints}
+use Rattle.std.proofs.lemmas.List.{length-map}
+use Rattle.std.proofs.lemmas.List.Elements.{All-nil, All-cons, All-append}
+use Rattle.gj_tools.proofs.Lists.{All-made, All-one, All-three}
+use Rattle.gj_shape.specs.Additive.{IsTight}
+use Rattle.gj_shape.specs.Elimination.{Passes}
+use Rattle.gj_shape.specs.FunctionData.{FunctionData, IsWithinBounds, IsContinuous, at}
+use Rattle.gj_shape.specs.Table.{table, IsMinimalTable, IsMinimal}
+use Rattle.gj_shape.specs.declared.extremality.CoverLine.{CoverLine}
+use Rattle.gj_shape.specs.declared.extremality.Halves.{Halves}
+use Rattle.gj_shape.specs.declared.violations.Violation.{Violation}
+use Rattle.gj_theory.specs.CoverRules.{MeetsCoverRule}
+use Rattle.gj_theory.specs.GridPoints.{IsAtGridPoints}
+use Rattle.gj_theory.specs.Halves.{AreDifferentHalves}
+use Rattle.gj_theory.proofs.CoverLines.{lines_meet_rules}
+use Rattle.gj_theory.proofs.LineComponents.{one_component}
+use Rattle.gj_theory.proofs.Violations.{first_shown}
+use Rattle.gj_theory.proofs.TestsFromMinimal.{tests_from_minimal}
+use Rattle.gj_proof.specs.declared.claim.Claim.TheVariants as claim
+use Rattle.gj_proof.specs.declared.pivot.PivotRow.{PivotRow}
+use Rattle.gj_proof.proofs.GridCoordinates.{meets_point}
+use Rattle.gj_proof.specs.PresentRows.{AreNumbersOf, components_in, named_row, rows_before}
+use Rattle.gj_proof.specs.Rules.{Demand, MeetsRange, MeetsAverage, IsMinimalHalf, step_demands, group_demands, pair_demands, Holds, MeetsRules}
+use Rattle.gj_extreme.specs.Decision.{group_of, slope_elimination, AreExtremeRows, AreZigzagHalves, AreSlopeHalves, IsDecided}
+use Rattle.gj_extreme.proofs.KeptGroups.{all_kept_meet}
+use Rattle.gj_extreme.proofs.DecidedGroups.{elimination_same, GroupIsMet, group_is_met, step_is_met}
+use Rattle.gj_extreme.proofs.DecidedHalves.{zigzag_halves, slope_halves}
+
+-- ---- demands that hold at each place
+
+each_step : (P : Demand → Type 0) (g r : ℕ) (columns : List ℕ) → ((i : ℕ) → P (Demand.reduce g i)) → ((i : ℕ) → P (Demand.size g i)) →
+    All P (step_demands g r columns)
+each_step P g r [] reduce size = All-nil P
+each_step P g r (c ∷ columns) reduce size =
+    All-cons P (Demand.reduce g r) (Demand.size g r ∷ step_demands g (r + 1) columns) (reduce r)
+    (All-cons P (Demand.size g r) (step_demands g (r + 1) columns) (size r) (each_step P g (r + 1) columns reduce size))
+
+-- what holds at each group
+record HoldAtGroups (P : Demand → Type 0) : Type 0 where
+  row : (g : ℕ) → P (Demand.row g)
+  reduce : (g r : ℕ) → P (Demand.reduce g r)
+  size : (g r : ℕ) → P (Demand.size g r)
+  pivot : (g : ℕ) → P (Demand.pivot g)
+
+each_group : (P : Demand → Type 0) (g : ℕ) (rows : List PivotRow) → HoldAtGroups P → All P (group_demands g rows)
+each_group P g [] h = All-nil P
+each_group P g (one ∷ more) h =
+    All-cons P (Demand.row g) (step_demands g 0 one.reduce ++ Demand.pivot g ∷ group_demands (g + 1) more) (h.row g)
+    (All-append P (step_demands g 0 one.reduce) (Demand.pivot g ∷ group_demands (g + 1) more)
+    (each_step P g 0 one.reduce (h.reduce g) (h.size g))
+    (All-cons P (Demand.pivot g) (group_demands (g + 1) more) (h.pivot g) (each_group P (g + 1) more h)))
+
+each_pair : (P : Demand → Type 0) (a n : ℕ) → ((i : ℕ) → i < a + n → P (Demand.range i) × P (Demand.average i)) →
+    All P (pair_demands (range_with_len a n))
+each_pair P a zero h = All-nil P
+each_pair P a (suc n) h =
+    let here = h a (omega arith) in
+    let later = pair_demands (range_with_len (a + 1) n) in
+    All-cons P (Demand.range a) (Demand.average a ∷ later) here.0
+    (All-cons P (Demand.average a) later here.1 (each_pair P (a + 1) n (λ i below. h i (omega arith))))
+
+-- ---- extreme
+
+extreme_rules : (f : FunctionData) (lines : List CoverLine) (rows : List PivotRow) → IsWithinBounds f → IsMinimal f → IsContinuous f →
+    AreExtremeRows f lines rows → MeetsRules (claim.Extreme f lines rows)
+extreme_rules f lines rows l minimal continuous h =
+    All-append P (early ++ group_demands 0 rows) (Demand.rank ∷ [])
+    (All-append P early (group_demands 0 rows)
+    (All-cons P Demand.minimal (Demand.continuous ∷ covers) (tests_from_minimal f l minimal)
+    (All-cons P Demand.continuous covers continuous
+    (All-made P Demand.cover 0 (length lines) (λ i below before line after place index. cover_rules before line after place))))
+    (each_group P 0 rows groups))
+    (All-one P Demand.rank rank)
+  where
+    P : Demand → Type 0
+    P = Holds (claim.Extreme f lines rows)
+
+    covers : List Demand
+    covers = map Demand.cover (range_with_len 0 (length lines))
+
+    early : List Demand
+    early = Demand.minimal ∷ Demand.continuous ∷ covers
+
+    n : ℕ
+    n = components_in lines
+
+    cover_rules : (before : List CoverLine) (line : CoverLine) (after : List CoverLine) → lines ≡ before ++ line ∷ after →
+        MeetsCoverRule f.order (IsTight f) before line
+    cover_rules = lines_meet_rules f.order (IsTight f) lines h.covered.are_lines
+
+    -- the elimination by other numbers
+    same : (component : ℕ → ℕ) → AreNumbersOf f lines component → slope_elimination f h.component h.n ≡ slope_elimination f component n
+    same component numbers =
+        elimination_same f h.component component h.n l
+        (λ i low. one_component f.order (IsTight f) lines i (h.component i) (component i) cover_rules (h.covered.numbers i low) (numbers i low))
+        ∙ ap (slope_elimination f component) h.covered.count
+
+    met : (component : ℕ → ℕ) → AreNumbersOf f lines component → (before : List PivotRow) (one : PivotRow) (after : List PivotRow) →
+        rows ≡ before ++ one ∷ after → GroupIsMet f component n before one
+    met component numbers before one after place =
+        let e = same component numbers in
+        group_is_met f component n (slope_elimination f component n).kept rows before one after
+        (h.rows_are ∙ ap (λ x. map (group_of f) x.kept) e)
+        (all_kept_meet f component n (subst (λ x. Passes x.marked → ⊥) e h.fits)) place
+
+    groups : HoldAtGroups P
+    groups = record {
+      row = λ g before one after place index. (met h.component h.covered.numbers before one after place).row;
+      reduce = λ g r before one after place index component numbers first c last there at.
+          (step_is_met (rows_before f component n before) (named_row f component n one.name) one.reduce first c last there
+          (met component numbers before one after place).steps).0;
+      size = λ g r before one after place index component numbers first c last there at.
+          (step_is_met (rows_before f component n before) (named_row f component n one.name) one.reduce first c last there
+          (met component numbers before one after place).steps).1;
+      pivot = λ g before one after place index component numbers. (met component numbers before one after place).pivot;
+    }
+
+    rank : length rows ≡ components_in lines
+    rank = ap length h.rows_are ∙ length-map (slope_elimination f h.component h.n).kept _ ∙ h.all ∙ h.covered.count
+
+-- ---- not extreme
+
+-- entries of a minimal table are at most its scale
+pub at_most : (t : ℕ → ℤ) (n k s i : ℕ) → 0 < n → IsMinimalTable t n k s → t i ≤ℤ pos s
+at_most t n k s i some h =
+    let j = k + (n - 1) * i in
+    let whole : i + j ≡ k + i * n = omega (arith, ap (λ x. x * i) (let e : n - 1 + 1 ≡ n = omega arith in e)) in
+    let sum = h.symmetric i j (ap (λ x. x % n) whole ∙ add-mul-mod_self_right k i n) in
+    let sign = h.nonnegative j in
+    omega (arith, ints)
+
+same_factor : (q m k : ℕ) → 0 < q → q * m ≡ q * k → m ≡ k
+same_factor q m k some e = sym (mul-div_cancel_left m some) ∙ ap (λ x. x / q) e ∙ mul-div_cancel_left k some
+
+-- the halves on the grid of order m times the function's, over c times the scale
+record AreHalvesOn (f : FunctionData) (h : Halves) (m c : ℕ) : Type 0 where
+  some : 0 < m
+  order : h.order ≡ f.order * m
+  scale : h.scale ≡ pos (c * (f.scale * m))
+  different : AreDifferentHalves (table f m) (f.order * m) (f.place * m) (f.scale * m) c (at h.first) (at h.second)
+
+halves_rules : (f : FunctionData) (h : Halves) (m c : ℕ) → IsWithinBounds f → IsMinimal f → IsContinuous f → AreHalvesOn f h m c →
+    MeetsRules (claim.NotExtreme f h)
+halves_rules f h m c l minimal continuous on =
+    All-append P early (Demand.first ∷ Demand.second ∷ Demand.same ∷ [])
+    (All-cons P Demand.minimal (Demand.continuous ∷ Demand.scale ∷ pairs) (tests_from_minimal f l minimal)
+    (All-cons P Demand.continuous (Demand.scale ∷ pairs) continuous
+    (All-cons P Demand.scale pairs (m, c, on.order, on.scale) (each_pair P 0 h.order (λ i below. (range i, average i))))))
+    (All-three P Demand.first Demand.second Demand.same (half h.first on.different.first) (half h.second on.different.second)
+    (on.different.index, on.different.different))
+  where
+    P : Demand → Type 0
+    P = Holds (claim.NotExtreme f h)
+
+    pairs : List Demand
+    pairs = pair_demands (range_with_len 0 h.order)
+
+    early : List Demand
+    early = Demand.minimal ∷ Demand.continuous ∷ Demand.scale ∷ pairs
+
+    order_some : 0 < f.order
+    order_some = omega (arith, l.order_low)
+
+    n_some : 0 < f.order * m
+    n_some = mul-pos order_some on.some
+
+    same_order : (k : ℕ) → h.order ≡ f.order * k → k ≡ m
+    same_order k e = same_factor f.order k m order_some (sym e ∙ on.order)
+
+    same_pos : (x y : ℕ) → pos x ≡ pos y → x ≡ y
+    same_pos x y e = ap unsigned_abs e
+
+    same_scale : (k d : ℕ) → h.order ≡ f.order * k → h.scale ≡ pos (d * (f.scale * k)) → d ≡ c
+    same_scale k d e s =
+        let scale_some : 0 < f.scale * m = mul-pos (omega (arith, l.scale_low)) on.some in
+        let over : h.scale ≡ pos (d * (f.scale * m)) = s ∙ ap (λ x. pos (d * (f.scale * x))) (same_order k e) in
+        let numbers : d * (f.scale * m) ≡ c * (f.scale * m) =
+        same_pos (d * (f.scale * m)) (c * (f.scale * m)) (sym over ∙ on.scale) in
+        same_factor (f.scale * m) d c scale_some
+        (let left : f.scale * m * d ≡ d * (f.scale * m) = omega arith in
+        let right : f.scale * m * c ≡ c * (f.scale * m) = omega arith in left ∙ numbers ∙ sym right)
+
+    high : (values : List ℤ) → IsMinimalTable (at values) (f.order * m) (f.place * m) (c * (f.scale * m)) → (i : ℕ) →
+        at values i ≤ℤ h.scale
+    high values t i =
+        subst (λ (s : ℤ). at values i ≤ℤ s) (sym on.scale)
+        (at_most (at values) (f.order * m) (f.place * m) (c * (f.scale * m)) i n_some t)
+
+    range : (i : ℕ) → MeetsRange h i
+    range i = record {
+      first_low = on.different.first.nonnegative i;
+      first_high = high h.first on.different.first i;
+      second_low = on.different.second.nonnegative i;
+      second_high = high h.second on.different.second i;
+    }
+
+    average : (i : ℕ) → MeetsAverage f h i
+    average i k d e s =
+        subst (λ (x : ℕ). at h.first i +ℤ at h.second i ≡ pos (2 * x) *ℤ table f k i) (sym (same_scale k d e s))
+        (subst (λ (x : ℕ). at h.first i +ℤ at h.second i ≡ pos (2 * c) *ℤ table f x i) (sym (same_order k e)) (on.different.average i))
+
+    half : (values : List ℤ) → IsMinimalTable (at values) (f.order * m) (f.place * m) (c * (f.scale * m)) → IsMinimalHalf f h values
+    half values t k e =
+        subst (λ (x : ℕ). IsMinimalTable (at values) h.order (f.place * x) (unsigned_abs h.scale)) (sym (same_order k e))
+        (subst (λ (x : ℕ). IsMinimalTable (at values) x (f.place * m) (unsigned_abs h.scale)) (sym on.order)
+        (subst (λ (s : ℤ). IsMinimalTable (at values) (f.order * m) (f.place * m) (unsigned_abs s)) (sym on.scale) t))
+
+-- the halves that the decision gives are such halves
+halves_decided : (f : FunctionData) (h : Halves) → IsWithinBounds f → IsMinimal f → IsContinuous f →
+    AreZigzagHalves f h ⊎ AreSlopeHalves f h → MeetsRules (claim.NotExtreme f h)
+halves_decided f h l minimal continuous (inl zig) =
+    halves_rules f h 4 (3 * zig.halves.p) l minimal continuous record {
+      some = omega arith;
+      order = zig.halves.order;
+      scale = zig.halves.scale;
+      different = zigzag_halves f h l continuous minimal zig;
+    }
+halves_decided f h l minimal continuous (inr slope) =
+    halves_rules f h 1 (3 * slope.halves.p) l minimal continuous record {
+      some = omega arith;
+      order = slope.halves.order;
+      scale = slope.halves.scale;
+      different = slope_halves f h l minimal slope;
+    }
+
+-- ---- each claim
+
+-- a first violation at points of a grid of order at most 2^62, as the search finds it
+pub decided_violation_rules : (f g : FunctionData) (v : Violation) (h : ℕ) → IsWithinBounds f → f.order * h ≤ 2 ^ 62 →
+    IsAtGridPoints f h v → IsDecided f (claim.NotMinimal g v) → MeetsRules (claim.NotMinimal g v)
+decided_violation_rules f g v h l fine at_points decided =
+    subst (λ (x : FunctionData). MeetsRules (claim.NotMinimal x v)) (sym decided.0)
+    (All-one (Holds (claim.NotMinimal f v)) Demand.point (meets_point f v h fine at_points (first_shown f v l decided.1)))
+
+pub decided_extreme_rules : (f g : FunctionData) (lines : List CoverLine) (rows : List PivotRow) → IsWithinBounds f →
+    IsDecided f (claim.Extreme g lines rows) → MeetsRules (claim.Extreme g lines rows)
+decided_extreme_rules f g lines rows l h =
+    subst (λ (x : FunctionData). MeetsRules (claim.Extreme x lines rows)) (sym h.0) (extreme_rules f lines rows l h.1 h.2 h.3)
+
+pub decided_halves_rules : (f g : FunctionData) (halves : Halves) → IsWithinBounds f → IsDecided f (claim.NotExtreme g halves) →
+    MeetsRules (claim.NotExtreme g halves)
+decided_halves_rules f g halves l h =
+    subst (λ (x : FunctionData). MeetsRules (claim.NotExtreme x halves)) (sym h.0) (halves_decided f halves l h.1 h.2 h.3)

@@ -1,0 +1,24 @@
+//! Laws of the decision.
+ghost use Rattle.std.specs.Prelude.{ℕ, ◌≡◌, ◌*◌, ◌≤◌, ◌^◌, List};
+ghost use Rattle.gj_shape.specs.FunctionData.{FunctionData, IsWithinBounds};
+ghost use Rattle.gj_shape.specs.Table.{IsMinimal};
+ghost use Rattle.gj_shape.specs.declared.extremality.CoverLine.{CoverLine};
+ghost use Rattle.gj_proof.specs.Meaning.{ClaimHolds};
+ghost use Rattle.gj_proof.specs.ProofText.{HasText};
+ghost use Rattle.gj_proof.specs.declared.claim.Claim.{Claim};
+ghost use Rattle.gj_extreme.specs.Decision.{AreAllCovered, IsDecided, IsTooWide};
+
+/// What the decision gives of a function within the limits holds, and is decided by the function alone. A proof of a minimal
+/// function excludes numbers that are too wide.
+pub fn decided_claims()
+    ensures holds { (f : FunctionData) (c : Claim) → IsWithinBounds f → IsDecided f c → ClaimHolds c }
+    ensures one { (f : FunctionData) (c d : Claim) → IsWithinBounds f → IsDecided f c → IsDecided f d → c ≡ d }
+    ensures not_wide { (f : FunctionData) (c : Claim) → IsWithinBounds f → IsMinimal f → HasText c → IsDecided f c →
+        IsTooWide f → ⊥ }
+{}
+
+/// With at most three components no number is too wide.
+pub fn few_components_are_not_wide()
+    ensures { (f : FunctionData) (lines : List CoverLine) (component : ℕ → ℕ) (n : ℕ) → IsWithinBounds f →
+        AreAllCovered f lines component n → n ≤ 3 → IsTooWide f → ⊥ }
+{}
