@@ -26,3 +26,4 @@ pub mod NumberedLines
 pub mod HalvesTests
 pub mod OwnLineNumbers
 pub mod ExtremeDemands
+pub mod HalvesDemands

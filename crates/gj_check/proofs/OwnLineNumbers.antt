@@ -17,6 +17,7 @@ use Rattle.gj_proof.specs.ProofText.ProofLine.{title, claim, order, place, point
 use Rattle.gj_proof.proofs.LineLists.{names}
 use Rattle.gj_proof.proofs.LineNumbers.{number_of_own}
 use Rattle.gj_proof.proofs.OwnLines.{IsOwn, own_lines_are_own}
+use Rattle.gj_rank.proofs.ClaimGroups.{length-covered}
 use Rattle.gj_check.proofs.AtPlaces.{split_there}
 
 abbrev own_line : ProofLine → List ℕ → OwnLine
@@ -68,10 +69,6 @@ covered_split i (l ∷ front) rest =
     ap₂ (λ x ls. x ∷ ls) refl
     (covered_split (i + 1) front rest ∙ ap (λ (k : ℕ). covered_lines (i + 1) front ++ covered_lines k rest) next)
 
-count_covered : (i : ℕ) (lines : List CoverLine) → length (covered_lines i lines) ≡ length lines
-count_covered i [] = refl
-count_covered i (l ∷ lines) = ap suc (count_covered (i + 1) lines)
-
 -- the line of the i-th covered interval
 pub number_of_cover : (f : FunctionData) (lines : List CoverLine) (rows : List PivotRow) (i : ℕ) → i < length lines →
     HasNumber (Extreme f lines rows) (covered i) (f.order + 5 + i)
@@ -84,7 +81,7 @@ number_of_cover f lines rows i below =
     ∙ ap (λ ls. ls ++ group_lines 0 rows) (covered_split 0 split.before (split.item ∷ split.after))
     ∙ append_assoc front back (group_lines 0 rows) in
     let subject = function_lines f in
-    let long = count_covered 0 split.before in
+    let long = length-covered 0 split.before in
     let index = split.index in
     let number : length (subject_lines (function f)) + length front + 3 ≡ f.order + 5 + i = omega arith in
     let same : 0 + length split.before ≡ i = omega arith in
@@ -95,19 +92,6 @@ number_of_cover f lines rows i below =
 count_reductions : (g r : ℕ) (columns : List ℕ) → length (reduction_lines g r columns) ≡ length columns
 count_reductions g r [] = refl
 count_reductions g r (c ∷ columns) = ap suc (count_reductions g (r + 1) columns)
-
--- the number of lines of groups does not depend on the number of the first
-groups_counted : (g h : ℕ) (rows : List PivotRow) → length (group_lines g rows) ≡ length (group_lines h rows)
-groups_counted g h [] = refl
-groups_counted g h (row ∷ rows) =
-    let one = length-append (own_line (group g) (group_line row.name) ∷ reduction_lines g 0 row.reduce)
-    (own_line (group_pivot g) (pivot_line row.pivot) ∷ group_lines (g + 1) rows) in
-    let other = length-append (own_line (group h) (group_line row.name) ∷ reduction_lines h 0 row.reduce)
-    (own_line (group_pivot h) (pivot_line row.pivot) ∷ group_lines (h + 1) rows) in
-    let steps = count_reductions g 0 row.reduce in
-    let steps' = count_reductions h 0 row.reduce in
-    let more = groups_counted (g + 1) (h + 1) rows in
-    omega arith
 
 -- one group more
 pub one_group_more : (g : ℕ) (rows : List PivotRow) (row : PivotRow) →
@@ -130,7 +114,7 @@ pub number_behind_groups : (f : FunctionData) (lines : List CoverLine) (rows : L
     HasNumber (Extreme f lines rows) last (f.order + 5 + length lines + length (group_lines 0 rows))
 number_behind_groups f lines rows =
     let subject = function_lines f in
-    let covers = count_covered 0 lines in
+    let covers = length-covered 0 lines in
     let both = length-append (covered_lines 0 lines) (group_lines 0 rows) in
     let number : length (subject_lines (function f)) + length (covered_lines 0 lines ++ group_lines 0 rows) + 3
         ≡ f.order + 5 + length lines + length (group_lines 0 rows) = omega arith in

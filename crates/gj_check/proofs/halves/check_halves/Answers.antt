@@ -6,7 +6,7 @@ use Rattle.gj_check.specs.FirstFailure.{IsFirstFailure}
 use Rattle.gj_check.specs.HalvesRules.{AreDifferent}
 use Rattle.gj_check.proofs.TestsInTurn.{denied}
 use Rattle.gj_check.proofs.HalvesTests.{scale_met}
-use Rattle.gj_check.proofs.ExtremeDemands.{halves_not_minimal, halves_not_continuous, halves_scale_fails, halves_pair_fails, halves_first_fails, halves_second_fails, halves_same_fails, halves_meet}
+use Rattle.gj_check.proofs.HalvesDemands.{halves_not_minimal, halves_not_continuous, halves_scale_fails, halves_pair_fails, halves_first_fails, halves_second_fails, halves_same_fails, halves_meet}
 use Rattle.gj_check.proofs.halves.check_halves.Goals as goal
 
 pub returns-then-not-is_minimal-clause-fault : goal.returns-then-not-is_minimal-clause-fault
