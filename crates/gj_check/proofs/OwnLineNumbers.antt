@@ -12,7 +12,7 @@ use Rattle.gj_shape.specs.declared.extremality.Halves.{Halves}
 use Rattle.gj_proof.specs.declared.claim.Claim.{Claim}
 use Rattle.gj_proof.specs.declared.claim.Claim.TheVariants.{Extreme, NotExtreme}
 use Rattle.gj_proof.specs.declared.pivot.PivotRow.{PivotRow}
-use Rattle.gj_proof.specs.ProofText.{ProofLine, OwnLine, Subject, function, gmic, subject_of, subject_lines, own_lines, covered_lines, reduction_lines, group_lines, group_line, pivot_line, halves_line, pair_line, pair_lines, AreHalvesInBounds, HasNumber}
+use Rattle.gj_proof.specs.ProofText.{ProofLine, OwnLine, Subject, function, gmic, subject_of, subject_lines, own_lines, covered_lines, reduction_lines, group_lines, group_line, pivot_line, halves_line, pair_lines, AreHalvesInBounds, HasNumber}
 use Rattle.gj_proof.specs.ProofText.ProofLine.{title, claim, order, place, point, rule_named, covered, group, group_pivot, halves, pair, last}
 use Rattle.gj_proof.proofs.LineLists.{names}
 use Rattle.gj_proof.proofs.LineNumbers.{number_of_own}
@@ -117,7 +117,7 @@ number_behind_groups f lines rows =
     let covers = length-covered 0 lines in
     let both = length-append (covered_lines 0 lines) (group_lines 0 rows) in
     let number : length (subject_lines (function f)) + length (covered_lines 0 lines ++ group_lines 0 rows) + 3
-        ≡ f.order + 5 + length lines + length (group_lines 0 rows) = omega arith in
+    ≡ f.order + 5 + length lines + length (group_lines 0 rows) = omega arith in
     subst (HasNumber (Extreme f lines rows) last) number (number_of_last (Extreme f lines rows))
 
 -- ---- one that is not extreme
@@ -128,19 +128,13 @@ number_of_halves f h =
     let subject = function_lines f in
     let number : length (subject_lines (function f)) + 0 + 3 ≡ f.order + 5 = omega arith in
     subst (HasNumber (NotExtreme f h) halves) number
-    (number_of_own (NotExtreme f h) [] (pair_lines 0 (zip h.first h.second)) (own_line (halves) (halves_line h)) refl)
+    (number_of_own (NotExtreme f h) [] (pair_lines 0 (zip h.first h.second)) (own_line halves (halves_line h)) refl)
 
-pairs_split : (i : ℕ) (front : List (ℤ × ℤ)) (p : ℤ × ℤ) (back : List (ℤ × ℤ)) →
-    pair_lines i (front ++ p ∷ back)
-    ≡ pair_lines i front ++ own_line (pair (i + length front)) (pair_line p) ∷ pair_lines (i + length front + 1) back
-pairs_split i [] p back =
-    let none : i ≡ i + 0 = omega arith in
-    ap (λ (k : ℕ). own_line (pair k) (pair_line p) ∷ pair_lines (k + 1) back) none
-pairs_split i (m ∷ front) p back =
+pairs_split : (i : ℕ) (front rest : List (ℤ × ℤ)) → pair_lines i (front ++ rest) ≡ pair_lines i front ++ pair_lines (i + length front) rest
+pairs_split i [] rest = let none : i ≡ i + 0 = omega arith in ap (λ (k : ℕ). pair_lines k rest) none
+pairs_split i (p ∷ front) rest =
     let next : i + 1 + length front ≡ i + suc (length front) = omega arith in
-    ap (λ ls. own_line (pair i) (pair_line m) ∷ ls)
-    (pairs_split (i + 1) front p back
-    ∙ ap (λ (k : ℕ). pair_lines (i + 1) front ++ own_line (pair k) (pair_line p) ∷ pair_lines (k + 1) back) next)
+    ap₂ (λ x ls. x ∷ ls) refl (pairs_split (i + 1) front rest ∙ ap (λ (k : ℕ). pair_lines (i + 1) front ++ pair_lines k rest) next)
 
 count_pairs : (i : ℕ) (pairs : List (ℤ × ℤ)) → length (pair_lines i pairs) ≡ length pairs
 count_pairs i [] = refl
@@ -156,13 +150,12 @@ number_of_pair f h i b below =
     let counted_pairs = length-zip h.first h.second in
     let long : length pairs ≡ h.order = omega arith in
     let split = split_there pairs i (omega arith) in
-    let head = own_line (halves) (halves_line h) in
+    let head = own_line halves (halves_line h) in
     let front = pair_lines 0 split.before in
-    let line = own_line (pair (0 + length split.before)) (pair_line split.item) in
-    let back = pair_lines (0 + length split.before + 1) split.after in
-    let own : own_lines (NotExtreme f h) ≡ (head ∷ front) ++ line ∷ back =
+    let back = pair_lines (0 + length split.before) (split.item ∷ split.after) in
+    let own : own_lines (NotExtreme f h) ≡ (head ∷ front) ++ back =
     ap (λ ps. head ∷ pair_lines 0 ps) split.place
-    ∙ ap (λ ls. head ∷ ls) (pairs_split 0 split.before split.item split.after) in
+    ∙ ap (λ ls. head ∷ ls) (pairs_split 0 split.before (split.item ∷ split.after)) in
     let subject = function_lines f in
     let counted = count_pairs 0 split.before in
     let index = split.index in
@@ -170,4 +163,4 @@ number_of_pair f h i b below =
     let same : 0 + length split.before ≡ i = omega arith in
     subst (HasNumber (NotExtreme f h) (pair i)) number
     (subst (λ (k : ℕ). HasNumber (NotExtreme f h) (pair k) (length (subject_lines (function f)) + length (head ∷ front) + 3)) same
-    (number_of_own (NotExtreme f h) (head ∷ front) back line own))
+    (number_of_own (NotExtreme f h) (head ∷ front) _ _ own))

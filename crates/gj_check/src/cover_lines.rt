@@ -117,7 +117,11 @@ fn is_tight(shape: &Shape, a: usize, b: usize) -> bool
 {
     let values = shape.value_numerators();
     let order = values.len();
-    adds_up(values[a % order], values[b % order], values[(a + b) % order])
+    adds_up(
+        values[a % order],
+        values[b % order],
+        values[(a + b) % order],
+    )
 }
 
 /// Whether the face is a triangle that projects on the interval.

@@ -33,11 +33,7 @@ pub(crate) struct PairFailure {
 }
 
 /// Checks every rule on halves of a function, in the order of the lines of their proof.
-pub(crate) fn check_halves(
-    alloc: Global,
-    shape: &Shape,
-    halves: &Halves,
-) -> Result<(), CheckFault>
+pub(crate) fn check_halves(alloc: Global, shape: &Shape, halves: &Halves) -> Result<(), CheckFault>
     requires { AreHalvesInBounds halves.now }
     ensures ok { OnOk result (MeetsRules (claim.NotExtreme shape.now halves.now)) }
     ensures fault { IfErr result (IsFaultOf (claim.NotExtreme shape.now halves.now)) }

@@ -270,7 +270,7 @@ fn checked_extreme(
         cover_line(1, 0, FaceKind::Upper, 0, 0),
         cover_line(2, 0, FaceKind::Upper, 0, 1),
         cover_line(3, 3, FaceKind::Upper, 3, 4),
-        cover_line(4, 3, FaceKind::Diagonal, 3, 4)
+        cover_line(4, 3, FaceKind::Diagonal, 3, 4),
     ]?;
     checked(rt, Claim::Extreme(shape, List::of(lines), List::of(rows)))
 }
@@ -360,7 +360,10 @@ fn not_extreme(rt: HostRuntime) -> Result<(), Fail> {
     let other = [0, 28, 37, 46, 74, 83, 93, 120];
     let values = [0, 2, 3, 4, 6, 7, 8, 10];
     assert_eq!(rt; checked_halves(&rt, 120, &first, &second, 1)?, Ok(()));
-    assert_eq!(rt; checked_halves(&rt, 120, &first, &second, 1 << 100)?, Ok(()));
+    assert_eq!(rt;
+        checked_halves(&rt, 120, &first, &second, 1 << 100)?,
+        Ok(())
+    );
     assert_eq!(rt;
         checked_halves(&rt, 120, &first, &other, 1)?,
         Err(CheckFault::Rejected(20, CheckRule::Average))

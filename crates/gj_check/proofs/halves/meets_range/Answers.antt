@@ -11,10 +11,10 @@ returns-then-not-is_between c =
     let scale = halves_scale_read h b in (
       λ none. absurd cc,
       λ m. absurd (
-        let yes = c.is_between.ensures.1 (subst₂ IsBetween (sym first) (sym scale) (m.first_low, m.first_high)) in
-        let no = c.if-not-is_between.true in
-        cc
-      ),
+          let yes = c.is_between.ensures.1 (subst₂ IsBetween (sym first) (sym scale) (m.first_low, m.first_high)) in
+          let no = c.if-not-is_between.true in
+          cc
+          ),
     )
 
 pub returns : goal.returns
