@@ -182,7 +182,7 @@ pub record FirstGroupFails (f : FunctionData) (lines : List CoverLine) (rows : L
   pub rule_is : IsRuleOf failure.rule demand
   pub number : HasNumber (Extreme f lines rows) (line_of demand) (f.order + length lines + 5 + failure.below)
 
-length-covered : (i : ℕ) (lines : List CoverLine) → length (covered_lines i lines) ≡ length lines
+pub length-covered : (i : ℕ) (lines : List CoverLine) → length (covered_lines i lines) ≡ length lines
 length-covered i [] = refl
 length-covered i (l ∷ lines) = ap suc (length-covered (i + 1) lines)
 
