@@ -22,7 +22,7 @@ use Rattle.gj_extreme.proofs.KeptGroups.{StepsMeet, MeetsKept, AllMeet}
 
 -- ---- the system by other numbers of the components
 
-map_same : {X Y : Type 0} (g h : X → Y) (xs : List X) → All (λ x. g x ≡ h x) xs → map g xs ≡ map h xs
+pub map_same : {X Y : Type 0} (g h : X → Y) (xs : List X) → All (λ x. g x ≡ h x) xs → map g xs ≡ map h xs
 map_same g h [] e = refl
 map_same g h (x ∷ xs) e =
     ap₂ (λ y ys. y ∷ ys) (All-head (λ z. g z ≡ h z) x xs e) (map_same g h xs (All-tail (λ z. g z ≡ h z) x xs e))

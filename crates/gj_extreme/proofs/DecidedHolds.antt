@@ -21,7 +21,7 @@ use Rattle.gj_proof.specs.PresentRows.{named_row}
 use Rattle.gj_extreme.specs.Decision.{slope_elimination, AreExtremeRows, IsDecided}
 use Rattle.gj_extreme.proofs.DecidedHalves.{begun_columns, zigzag_halves, slope_halves}
 
-extreme_holds : (f : FunctionData) (lines : List CoverLine) (rows : List PivotRow) → IsWithinBounds f → IsMinimal f → IsContinuous f →
+pub extreme_holds : (f : FunctionData) (lines : List CoverLine) (rows : List PivotRow) → IsWithinBounds f → IsMinimal f → IsContinuous f →
     AreExtremeRows f lines rows → IsExtreme f
 extreme_holds f lines rows l minimal continuous h =
     let n = h.n in
