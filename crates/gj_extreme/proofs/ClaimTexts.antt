@@ -1,12 +1,12 @@
 -- The claims of the decision have a text: their ranges and counts are those of the form.
-use Rattle.std.proofs.Common.{◌≡◌, ◌≢◌, ℕ, zero, suc, ◌+◌, ◌-◌, ◌<◌, ◌≤◌, ◌==◌, ◌%◌, ◌⊎◌, inl, inr, ℤ, List, [], ◌∷◌, ◌++◌, length, map, get_or, count_by, refl, sym, ap, subst, ◌∙◌, append_assoc, arith}
+use Rattle.std.proofs.Common.{◌≡◌, ◌≢◌, ℕ, zero, suc, ◌+◌, ◌-◌, ◌<◌, ◌≤◌, ◌==◌, ◌%◌, ◌⊎◌, inl, inr, ℤ, List, [], ◌∷◌, ◌++◌, length, map, get_or, refl, sym, ap, subst, ◌∙◌, append_assoc, arith}
 use Rattle.std.specs.Prelude.{All, Any}
 use Rattle.std.specs.List.{range_with_len, filter, flat_map}
 use Rattle.std.proofs.lemmas.Bool.{cases_lt}
 use Rattle.std.proofs.lemmas.List.{get_or_past}
-use Rattle.std.proofs.lemmas.List.Elements.{All-nil, All-cons, All-head, All-tail, All-append, All-map, All-get_or, All-filter}
+use Rattle.std.proofs.lemmas.List.Elements.{All-nil, All-cons, All-head, All-append, All-map, All-get_or, All-filter}
 use Rattle.std.proofs.lemmas.List.Sums.{count_by-le-length}
-use Rattle.gj_tools.proofs.Lists.{All-back, All-range, All-made, All-joined, All-flat_map}
+use Rattle.gj_tools.proofs.Lists.{All-back, All-joined, All-flat_map}
 use Rattle.gj_cover.proofs.Parts.{any_none}
 use Rattle.gj_shape.specs.Additive.{IsTight}
 use Rattle.gj_shape.specs.Cover.{Joins, Covers, IsFirstFace, IsNextLine, AreCoverLines}
@@ -16,20 +16,18 @@ use Rattle.gj_shape.specs.SlopeRows.{is_tight, row_names}
 use Rattle.gj_shape.specs.WalkOrder.{faces_of, faces_of_square, faces_in}
 use Rattle.gj_shape.specs.declared.extremality.CoverLine.{CoverLine}
 use Rattle.gj_shape.specs.declared.extremality.Halves.{Halves}
-use Rattle.gj_shape.specs.declared.extremality.RowName.{RowName}
 use Rattle.gj_shape.specs.declared.extremality.RowName.TheVariants.{Period, F, Pair}
 use Rattle.gj_shape.specs.declared.faces.Face.{Face}
 use Rattle.gj_shape.specs.declared.faces.FaceKind.{FaceKind}
 use Rattle.gj_shape.specs.declared.faces.FaceKind.TheVariants.{Vertex, Horizontal, Vertical, Diagonal, Lower, Upper}
 use Rattle.gj_theory.proofs.CoverLines.{lines_meet_rules}
-use Rattle.gj_theory.proofs.LineComponents.{split_at_any, line_of_component}
-use Rattle.gj_proof.specs.PresentRows.{components_in, named_row}
-use Rattle.gj_proof.specs.ProofText.{IsCoverLineBelow, IsRowNameBelow, IsPivotRowBelow, AreHalvesInBounds, HasText}
+use Rattle.gj_theory.proofs.LineComponents.{line_of_component}
+use Rattle.gj_proof.specs.ProofText.{IsCoverLineBelow, IsRowNameBelow, IsPivotRowBelow, HasText}
 use Rattle.gj_proof.specs.declared.claim.Claim.TheVariants as claim
 use Rattle.gj_proof.specs.declared.pivot.PivotRow.{PivotRow}
 use Rattle.gj_perturb.specs.Split.{FitProofText}
 use Rattle.gj_extreme.specs.Decision.{AreAllCovered, AreExtremeRows, group_of, slope_elimination}
-use Rattle.gj_extreme.proofs.KeptGroups.{StepsMeet, MeetsKept, AllMeet, all_kept_meet}
+use Rattle.gj_extreme.proofs.KeptGroups.{StepsMeet, AllMeet, all_kept_meet}
 use Rattle.gj_extreme.proofs.LineCounts.{as_many_lines}
 
 -- ---- halves

@@ -8,7 +8,7 @@ use Rattle.gj_perturb.specs.declared.faults.SplitFault.{SplitFault}
 use Rattle.gj_perturb.specs.declared.faults.SplitFault.TheVariants as split
 use Rattle.gj_extreme.specs.Faults.{of_elimination, of_split}
 use Rattle.gj_extreme.specs.declared.faults.DecideFault.{DecideFault}
-use Rattle.gj_extreme.specs.declared.faults.DecideFault.TheVariants.{NotContinuous, Wide, Memory}
+use Rattle.gj_extreme.specs.declared.faults.DecideFault.TheVariants.{NotContinuous, Wide}
 
 -- Wide comes from a part only where the part is too wide
 pub wide_elimination : {T U : Type 0} (r : Result T DecideFault) (x : ElimFault) → IsErr r → IsErrAnd r (λ e. e ≡ of_elimination x) →

@@ -1,5 +1,5 @@
 -- The numbers of the kernel that the decision finds.
-use Rattle.std.proofs.Common.{◌≡◌, ℕ, ◌<◌, ◌^◌, Option, None, Some, ℤ, List, length, get_or, refl, sym, ap, subst, ◌∙◌, arith}
+use Rattle.std.proofs.Common.{◌≡◌, ℕ, ◌<◌, Option, None, Some, ℤ, List, length, refl, sym, ap, subst, ◌∙◌, arith}
 use Rattle.std.specs.Prelude.{All, IfSome}
 use Rattle.std.proofs.lemmas.List.{get_or_default}
 use Rattle.gj_shape.specs.Elimination.{KeptRow, Solution, kernel, Passes}
@@ -10,7 +10,6 @@ use Rattle.gj_theory.proofs.Eliminations.{elimination_has}
 use Rattle.gj_theory.proofs.Kernels.{kernel_none}
 use Rattle.gj_elim.specs.Data.{Fits}
 use Rattle.gj_elim.specs.KeptRows.{marked_in}
-use Rattle.gj_proof.specs.PresentRows.{named_row}
 use Rattle.gj_system.specs.Components.{component_in}
 use Rattle.gj_extreme.specs.Decision.{AreAllCovered, slope_elimination}
 use Rattle.gj_extreme.proofs.DecidedHalves.{begun_columns, solution_solves, components_below}

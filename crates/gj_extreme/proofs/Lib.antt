@@ -23,3 +23,5 @@ pub mod FaultCases
 pub mod FoundKernel
 pub mod LineCounts
 pub mod ClaimTexts
+pub mod DecidedNotWide
+pub mod ClaimRules

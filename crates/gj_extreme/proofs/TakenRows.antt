@@ -1,17 +1,16 @@
 -- Rows that are taken one after another from those to come.
-use Rattle.std.proofs.Common.{◌≡◌, ℕ, suc, ◌+◌, ◌<◌, ◌≤◌, ◌^◌, ◌↔◌, ◌⊎◌, inl, inr, ⊎_elim, Bool, true, false, if◌then◌else◌, Option, None, Some, ℤ, List, [], ◌∷◌, ◌++◌, length, map, get_or, refl, sym, ap, ap₂, ◌∙◌, subst, append_assoc, arith}
+use Rattle.std.proofs.Common.{◌≡◌, ℕ, ◌+◌, ◌<◌, ◌≤◌, ◌^◌, ◌↔◌, ◌⊎◌, inl, inr, Bool, true, false, Option, None, Some, ℤ, List, [], ◌∷◌, ◌++◌, length, map, get_or, refl, sym, ap, ap₂, ◌∙◌, subst, append_assoc, arith}
 use Rattle.std.specs.Prelude.{nat_le, IsTrue}
 use Rattle.std.proofs.Math.Seq.{get_or-append_seam}
 use Rattle.std.proofs.lemmas.Bool.{lt-leb, le-leb, cases_lt}
 use Rattle.std.proofs.lemmas.List.{length-append, map-append}
-use Rattle.gj_shape.specs.Elimination.{KeptRow, Elimination, Insertion, elimination_from, behind_insertion, inserted, kept_behind, Passes}
+use Rattle.gj_shape.specs.Elimination.{KeptRow, Elimination, elimination_from, behind_insertion, inserted, kept_behind, Passes}
 use Rattle.gj_shape.specs.FunctionData.{FunctionData, IsWithinBounds}
 use Rattle.gj_shape.specs.SlopeRows.{row_names}
 use Rattle.gj_shape.specs.declared.extremality.RowName.{RowName}
 use Rattle.gj_shape.specs.declared.extremality.RowName.TheVariants.{Period}
 use Rattle.gj_elim.specs.Data.{BasisData, behind}
 use Rattle.gj_elim.specs.KeptRows.{answer_of}
-use Rattle.gj_elim.specs.declared.log.Inserted.{Inserted}
 use Rattle.gj_elim.specs.declared.log.Inserted.TheVariants.{Pivot, Nothing}
 use Rattle.gj_elim.proofs.Passing.{none_passes, front_passes, back_passes, either_passes}
 use Rattle.gj_proof.specs.PresentRows.{named_row}

@@ -4,15 +4,15 @@ use Rattle.std.specs.List.{range_with_len}
 use Rattle.std.proofs.lemmas.Bool.{cases_lt}
 use Rattle.std.proofs.lemmas.Int.{ints}
 use Rattle.gj_shape.specs.Elimination.{KeptRow, Solution, kernel, Passes}
-use Rattle.gj_shape.specs.FunctionData.{FunctionData, IsWithinBounds, at}
-use Rattle.gj_shape.specs.Perturbation.{perturbation_of, AreHalvesOf, IsGreatestSize}
+use Rattle.gj_shape.specs.FunctionData.{FunctionData, IsWithinBounds}
+use Rattle.gj_shape.specs.Perturbation.{perturbation_of, IsGreatestSize}
 use Rattle.gj_shape.specs.Table.{table, IsMinimal}
 use Rattle.gj_shape.specs.declared.extremality.CoverLine.{CoverLine}
 use Rattle.gj_shape.specs.declared.extremality.Halves.{Halves}
 use Rattle.gj_theory.proofs.SlacksAndSizes.{least_slack}
 use Rattle.gj_elim.specs.KeptRows.{marked_in}
 use Rattle.gj_elim.proofs.Passing.{none_passes}
-use Rattle.gj_perturb.specs.SlopeSums.{Fits, slope_sum, slope_at, IsWideSum}
+use Rattle.gj_perturb.specs.SlopeSums.{slope_sum, slope_at, IsWideSum}
 use Rattle.gj_perturb.specs.Split.{IsWide}
 use Rattle.gj_perturb.specs.declared.tables.Perturbation.{Perturbation}
 use Rattle.gj_system.specs.Components.{component_in}

@@ -1,5 +1,5 @@
 -- Rows of the system that are inserted, and those that are still to come (own).
-use Rattle.std.specs.Prelude.{ℕ, ◌≡◌, ◌↔◌, ◌+◌, ◌-◌, ◌<◌, ◌≤◌, ◌^◌, List, ◌++◌, length, map, filter, flat_map, get_or}
+use Rattle.std.specs.Prelude.{ℕ, ◌≡◌, ◌↔◌, ◌-◌, ◌<◌, ◌^◌, List, ◌++◌, length, map, filter, flat_map, get_or}
 use Rattle.std.specs.List.{range_with_len}
 use Rattle.gj_shape.specs.Elimination.{KeptRow, Elimination, elimination_from, Passes}
 use Rattle.gj_shape.specs.FunctionData.{FunctionData}

@@ -1,9 +1,13 @@
 //! The decision.
-ghost use Rattle.std.specs.Prelude.{ℕ, ◌≡◌, IfOk, IfErr, IsErrOf, Err};
-ghost use Rattle.gj_shape.specs.FunctionData.{IsContinuous};
+ghost use Rattle.std.specs.Prelude.{ℕ, ◌≡◌, ◌≤◌, ◌↔◌, List, IfOk, IsErrOf, Err};
+ghost use Rattle.gj_shape.specs.Extreme.{IsExtreme};
+ghost use Rattle.gj_shape.specs.FunctionData.{IsWithinBounds, IsContinuous};
 ghost use Rattle.gj_shape.specs.Table.{IsMinimal};
+ghost use Rattle.gj_shape.specs.declared.extremality.CoverLine.{CoverLine};
+ghost use Rattle.gj_proof.specs.Meaning.{ClaimHolds};
 ghost use Rattle.gj_proof.specs.ProofText.{HasText, IsBounded};
-ghost use Rattle.gj_extreme.specs.Decision.{IsDecided, IsTooWide, IsFirstJump};
+ghost use Rattle.gj_proof.specs.Rules.{MeetsRules};
+ghost use Rattle.gj_extreme.specs.Decision.{AreAllCovered, IsDecided, IsByTable, IsExtremeOnGrid4, IsTooWide, IsFirstJump};
 
 use crate::covered::extreme_or_slopes;
 use crate::faults::DecideFault;
@@ -18,11 +22,20 @@ use std::alloc::Global;
 pub fn decide(alloc: Global, shape: &Shape) -> Result<Proof, DecideFault>
     ensures decided { IfOk result (IsDecided shape.now) }
     ensures bounded { IfOk result IsBounded }
+    ensures rules { IfOk result MeetsRules }
+    ensures holds { IfOk result ClaimHolds }
     ensures not_continuous { (i : ℕ) → result ≡ Err (DecideFault.NotContinuous i) → IsMinimal shape.now × IsFirstJump shape.now i }
     ensures wide { result ≡ Err DecideFault.Wide → IsMinimal shape.now × IsContinuous shape.now × IsTooWide shape.now }
     ensures not_wide { IsMinimal shape.now → IfOk result (λ c. IsTooWide shape.now → ⊥) }
+    ensures few_components { (lines : List CoverLine) (component : ℕ → ℕ) (n : ℕ) →
+        AreAllCovered shape.now lines component n → n ≤ 3 → IsTooWide shape.now → ⊥ }
+    ensures by_table { IfOk result (IsByTable shape.now) }
+    ensures order_4q { IsContinuous shape.now → IsExtreme shape.now ↔ IsExtremeOnGrid4 shape.now }
 {
-    Ok(proof_of(claim_of(alloc, shape)?))
+    let order = shape.order();
+    prove!(order >= 2);
+    let claim = claim_of(alloc, shape)?;
+    Ok(proof_of(claim))
 }
 
 /// The proof of a claim that has a text.
@@ -35,8 +48,10 @@ fn proof_of(claim: Claim) -> Proof
 
 /// What is claimed of the function.
 fn claim_of(alloc: Global, shape: &Shape) -> Result<Claim, DecideFault>
+    requires { IsWithinBounds shape.now }
     ensures decided { IfOk result (IsDecided shape.now) }
     ensures text { IfOk result HasText }
+    ensures rules { IfOk result MeetsRules }
     ensures not_continuous { (i : ℕ) → IsErrOf result (DecideFault.NotContinuous i) → IsMinimal shape.now × IsFirstJump shape.now i }
     ensures wide { IsErrOf result DecideFault.Wide → IsMinimal shape.now × IsContinuous shape.now × IsTooWide shape.now }
 {

@@ -1,4 +1,4 @@
-use Rattle.std.proofs.Common.{◌≡◌, ◌≢◌, [], sym, ap, subst, ◌∙◌, arith}
+use Rattle.std.proofs.Common.{◌≢◌, ◌==◌, [], length, sym, ap, subst, ◌∙◌}
 use Rattle.gj_shape.specs.Additive.{IsTight}
 use Rattle.gj_theory.specs.Uncovered.{AreUncoveredClasses}
 use Rattle.gj_elim.proofs.Keeping.{same_error}
@@ -6,7 +6,11 @@ use Rattle.gj_extreme.proofs.DecidedHalves.{least_class_uncovered}
 use Rattle.gj_extreme.proofs.decision.claim_of_continuous.Goals as goal
 
 pub zigzag_halves-requires-clause-uncovered : goal.zigzag_halves-requires-clause-uncovered
-zigzag_halves-requires-clause-uncovered c = let e = c.is_empty.ensures in let s = c.as_slice.ensures in let f = c.if-is_empty.false in ?
+zigzag_halves-requires-clause-uncovered c =
+    let some : c.in_ok-cover.cover.class ≢ [] =
+    λ none. let e = c.is_empty.ensures ∙ ap (λ xs. length xs == 0) (c.as_slice.ensures ∙ none) in let f = c.if-is_empty.false in absurd cc in
+    subst (AreUncoveredClasses c.args.shape.now.order (IsTight c.args.shape.now)) (sym c.as_slice-2.ensures)
+    (least_class_uncovered c.args.shape.now c.in_ok-cover.cover.class c.in_ok-cover.ensures.class some)
 
 pub returns-in_err-halves-clause-no_jump : goal.returns-in_err-halves-clause-no_jump
 returns-in_err-halves-clause-no_jump c = λ i e.

@@ -1,5 +1,4 @@
-use Rattle.std.proofs.Common.{◌≡◌, ◌+◌, ◌++◌, true, false, List, sym, ap, ◌∙◌, subst, arith}
-use Rattle.gj_shape.specs.declared.extremality.RowName.{RowName}
+use Rattle.std.proofs.Common.{◌+◌, ◌++◌, sym, ap, subst, arith}
 use Rattle.gj_elim.proofs.Keeping.{same_error}
 use Rattle.gj_system.specs.Components.{component_in}
 use Rattle.gj_extreme.specs.RowsToCome.{AreToCome, pairs_from, rows_from}

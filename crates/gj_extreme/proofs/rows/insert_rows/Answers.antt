@@ -1,4 +1,4 @@
-use Rattle.std.proofs.Common.{◌∷◌, true, length, ap, ◌∙◌, subst, arith}
+use Rattle.std.proofs.Common.{◌∷◌, subst, arith}
 use Rattle.gj_shape.specs.declared.extremality.RowName.TheVariants.{F}
 use Rattle.gj_elim.proofs.Keeping.{same_error}
 use Rattle.gj_system.specs.Components.{component_in}

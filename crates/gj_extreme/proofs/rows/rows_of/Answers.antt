@@ -1,4 +1,4 @@
-use Rattle.std.proofs.Common.{◌≡◌, ap₂, sym, subst₂}
+use Rattle.std.proofs.Common.{subst₂}
 use Rattle.gj_shape.specs.Elimination.{Passes}
 use Rattle.gj_system.specs.Components.{component_in}
 use Rattle.gj_extreme.specs.Decision.{slope_elimination}

@@ -1,4 +1,4 @@
-use Rattle.std.proofs.Common.{◌≡◌, ◌<◌, ◌*◌, ◌^◌, ℤ, pos, get_or, length, unsigned_abs, w64, sym, ap, ◌∙◌, subst, arith, rules}
+use Rattle.std.proofs.Common.{◌<◌, ◌^◌, ℤ, pos, get_or, length, unsigned_abs, w64, sym, ap, ◌∙◌, subst, arith, rules}
 use Rattle.std.proofs.lemmas.Int.{to_z-of_z}
 use Rattle.gj_shape.specs.FunctionData.{at}
 use Rattle.gj_shape.proofs.AtLemmas.{at_below, at_value_small}
