@@ -22,27 +22,15 @@ use Rattle.gj_shape.specs.declared.faces.FaceKind.{FaceKind}
 use Rattle.gj_shape.specs.declared.faces.FaceKind.TheVariants.{Vertex, Horizontal, Vertical, Diagonal, Lower, Upper}
 use Rattle.gj_theory.proofs.CoverLines.{lines_meet_rules}
 use Rattle.gj_theory.proofs.LineComponents.{line_of_component}
+use Rattle.gj_theory.proofs.LineIntervals.{lines_for_all}
 use Rattle.gj_proof.specs.ProofText.{IsCoverLineBelow, IsRowNameBelow, IsPivotRowBelow, HasText}
 use Rattle.gj_proof.specs.declared.claim.Claim.TheVariants as claim
 use Rattle.gj_proof.specs.declared.pivot.PivotRow.{PivotRow}
 use Rattle.gj_perturb.specs.Split.{FitProofText}
 use Rattle.gj_extreme.specs.Decision.{AreAllCovered, AreExtremeRows, group_of, slope_elimination}
 use Rattle.gj_extreme.proofs.KeptGroups.{StepsMeet, AllMeet, all_kept_meet}
-use Rattle.gj_extreme.proofs.LineCounts.{as_many_lines}
 
 -- ---- halves
-
-pub halves_have_text : (f : FunctionData) (h : Halves) → FitProofText h → HasText (claim.NotExtreme f h)
-halves_have_text f h fit = record {
-  order_low = fit.order_low;
-  order_high = fit.order_high;
-  scale_low = fit.scale_low;
-  scale_high = fit.scale_high;
-  first_length = fit.first_length;
-  second_length = fit.second_length;
-  first_fit = fit.first;
-  second_fit = fit.second;
-}
 
 -- ---- lines
 
@@ -119,7 +107,7 @@ lines_below_order q Tight lines h =
 lines_are_all : (f : FunctionData) (lines : List CoverLine) (component : ℕ → ℕ) (n : ℕ) → AreAllCovered f lines component n →
     length lines ≡ f.order
 lines_are_all f lines component n h =
-    as_many_lines f.order (IsTight f) lines (lines_meet_rules f.order (IsTight f) lines h.are_lines)
+    lines_for_all f.order (IsTight f) lines (lines_meet_rules f.order (IsTight f) lines h.are_lines)
     (each_line (λ l. l.interval < f.order) lines
     (λ before l after place. (line_below f.order (IsTight f) before l (h.are_lines.in_turn before l after place)).interval))
     (λ i low. line_of_component lines (component i) i (h.numbers i low))

@@ -1,4 +1,4 @@
--- Where there are at most three components, no number is too wide.
+-- Where there are at most four components, no number is too wide.
 use Rattle.std.proofs.Common.{◌≡◌, ℕ, suc, inl, inr, ◌+◌, ◌-◌, ◌*◌, ◌%◌, ◌<◌, ◌≤◌, ◌^◌, ◌⊎◌, Bool, cond, Some, ℤ, pos, ◌<ℤ◌, List, [], length, map, count_by, eqb, unsigned_abs, refl, sym, ap, subst, ◌∙◌, mul-le-mul, arith}
 use Rattle.std.specs.Prelude.{All}
 use Rattle.std.specs.List.{range_with_len}
@@ -168,24 +168,24 @@ narrow_components f lines component n t l covered few fits wide =
           (solution_is_small f wide.component wide.n t behind.0 l fits.some so_few behind.1) behind.2
     ]
 
--- ---- at most three components
+-- ---- at most four components
 
-two_steps : bound 1000 2 ≡ 8000000000000
+three_steps : bound 1000 3 ≡ 128000000000000000000000000
 unfolding bound
-two_steps = refl
+three_steps = refl
 
-two_solved : grown 1000 2 2 ≡ 8000000000
+three_solved : grown 1000 3 3 ≡ 432000000000000000000000
 unfolding bound grown
-two_solved = refl
+three_solved = refl
 
-three_fit : BoundsFit 2
-three_fit = record {
+four_fit : BoundsFit 3
+four_fit = record {
   some = omega arith;
-  elimination = let e = two_steps in omega arith;
-  perturbation = let e = two_solved in omega arith;
-  scale = subst (λ (g : ℕ). 3 * (1000 * g) * 2 ^ 31 ≤ 2 ^ 124) (sym two_solved) (omega arith);
+  elimination = let e = three_steps in omega arith;
+  perturbation = let e = three_solved in omega arith;
+  scale = subst (λ (g : ℕ). 3 * (1000 * g) * 2 ^ 31 ≤ 2 ^ 124) (sym three_solved) (omega arith);
 }
 
 pub few_components : (f : FunctionData) (lines : List CoverLine) (component : ℕ → ℕ) (n : ℕ) → IsWithinBounds f →
-    AreAllCovered f lines component n → n ≤ 3 → IsTooWide f → ⊥
-few_components f lines component n l covered few wide = narrow_components f lines component n 2 l covered few three_fit wide
+    AreAllCovered f lines component n → n ≤ 4 → IsTooWide f → ⊥
+few_components f lines component n l covered few wide = narrow_components f lines component n 3 l covered few four_fit wide

@@ -8,7 +8,7 @@ use Rattle.gj_shape.specs.SlopeRows.{row_names}
 use Rattle.gj_shape.specs.declared.extremality.CoverLine.{CoverLine}
 use Rattle.gj_theory.proofs.Eliminations.{elimination_has}
 use Rattle.gj_theory.proofs.Kernels.{kernel_none}
-use Rattle.gj_elim.specs.Data.{Fits}
+use Rattle.gj_theory.specs.Fitting.{Fits}
 use Rattle.gj_elim.specs.KeptRows.{marked_in}
 use Rattle.gj_system.specs.Components.{component_in}
 use Rattle.gj_extreme.specs.Decision.{AreAllCovered, slope_elimination}

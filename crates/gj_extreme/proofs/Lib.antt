@@ -7,11 +7,9 @@ pub mod OneCover
 pub mod SmallNumbers
 pub mod SmallSolutions
 pub mod FewComponents
-pub mod FourComponents
 pub mod OneViolation
 pub mod OneDecision
 pub mod NotTooWide
-pub mod DecidedTexts
 pub mod RowOrder
 pub mod TakenRows
 pub mod GroupLists
@@ -21,7 +19,5 @@ pub mod CoveredNumbers
 pub mod WideParts
 pub mod FaultCases
 pub mod FoundKernel
-pub mod LineCounts
 pub mod ClaimTexts
-pub mod DecidedNotWide
 pub mod ClaimRules

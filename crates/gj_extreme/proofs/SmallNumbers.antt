@@ -7,6 +7,7 @@ use Rattle.std.proofs.lemmas.Bool.{cases_eq, ne_eqb, leb-false}
 use Rattle.std.proofs.lemmas.Bool.Decides.{Decides-eqb, Decides-int_eq, not_from_Decides}
 use Rattle.std.proofs.lemmas.Int.{ints}
 use Rattle.std.proofs.lemmas.List.Elements.{All-nil, All-cons, All-head, All-tail, All-append, All-push, All-map}
+use Rattle.gj_perturb.proofs.SplitParts.{product_at_most}
 use Rattle.gj_tools.specs.Divisors.{gcd_of}
 use Rattle.gj_tools.proofs.Divisors.{gcd_of_is, gcd_positive}
 use Rattle.gj_tools.proofs.Integers.{unsigned_abs-mul, abs_sub_z, abs_zero_z}
@@ -29,12 +30,9 @@ small_at b [] c h = omega arith
 small_at b (x ∷ xs) zero h = All-head (λ y. unsigned_abs y ≤ b) x xs h
 small_at b (x ∷ xs) (suc c) h = small_at b xs c (All-tail (λ y. unsigned_abs y ≤ b) x xs h)
 
-pub small_product : (a b : ℕ) (x y : ℤ) → unsigned_abs x ≤ a → unsigned_abs y ≤ b → unsigned_abs (x *ℤ y) ≤ a * b
-small_product a b x y h k = subst (λ (n : ℕ). n ≤ a * b) (sym (unsigned_abs-mul x y)) (mul-le-mul h k)
-
 pub small_scaled : (a b : ℕ) (u : ℤ) (xs : List ℤ) → unsigned_abs u ≤ a → IsSmall b xs → IsSmall (a * b) (scaled u xs)
 small_scaled a b u xs h small =
-    All-map (λ y. unsigned_abs y ≤ a * b) (λ x. u *ℤ x) xs (λ k d low. small_product a b u _ h (small k d low))
+    All-map (λ y. unsigned_abs y ≤ a * b) (λ x. u *ℤ x) xs (λ k d low. product_at_most a b u _ h (small k d low))
 
 small_differences : (a b : ℕ) (xs ys : List ℤ) → IsSmall a xs → IsSmall b ys → IsSmall (a + b) (differences xs ys)
 small_differences a b [] ys h k = All-nil (λ x. unsigned_abs x ≤ a + b)

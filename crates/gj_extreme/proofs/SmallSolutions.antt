@@ -6,6 +6,7 @@ use Rattle.std.proofs.lemmas.List.{length-drop}
 use Rattle.std.proofs.lemmas.List.FromFn.{length-map-range_with_len}
 use Rattle.std.proofs.lemmas.List.Elements.{All-nil, All-cons, All-head, All-tail, All-append, All-drop, All-set}
 use Rattle.gj_frac.proofs.Reduced.{quotient_of_divisor}
+use Rattle.gj_perturb.proofs.SplitParts.{product_at_most}
 use Rattle.gj_tools.proofs.Divisors.{gcd_of_is, gcd_positive}
 use Rattle.gj_tools.proofs.Integers.{abs_add_z, abs_positive_z}
 use Rattle.gj_tools.proofs.Lists.{All-made}
@@ -14,7 +15,7 @@ use Rattle.gj_shape.specs.SlopeRows.{total}
 use Rattle.gj_theory.specs.TriangularRows.{AreTriangular}
 use Rattle.gj_theory.proofs.Insertions.{kept_row_at}
 use Rattle.gj_theory.proofs.Kernels.{free_has_no_row, length-solved}
-use Rattle.gj_extreme.proofs.SmallNumbers.{IsSmall, small_up, small_at, small_product, small_scaled, factor_small, small_negated, bound, bound_some, bound_up, pivots_before, pivots_by_column, bound_at, AreSmall, kept_small_at}
+use Rattle.gj_extreme.proofs.SmallNumbers.{IsSmall, small_up, small_at, small_scaled, factor_small, small_negated, bound, bound_some, bound_up, pivots_before, pivots_by_column, bound_at, AreSmall, kept_small_at}
 
 -- ---- sums and products
 
@@ -23,7 +24,7 @@ small_products a b [] ys h k = All-nil (λ x. unsigned_abs x ≤ a * b)
 small_products a b (x ∷ xs) [] h k = All-nil (λ x. unsigned_abs x ≤ a * b)
 small_products a b (x ∷ xs) (y ∷ ys) h k =
     All-cons (λ z. unsigned_abs z ≤ a * b) (x *ℤ y) (map (λ p. p.0 *ℤ p.1) (zip xs ys))
-    (small_product a b x y (All-head (λ z. unsigned_abs z ≤ a) x xs h) (All-head (λ z. unsigned_abs z ≤ b) y ys k))
+    (product_at_most a b x y (All-head (λ z. unsigned_abs z ≤ a) x xs h) (All-head (λ z. unsigned_abs z ≤ b) y ys k))
     (small_products a b xs ys (All-tail (λ z. unsigned_abs z ≤ a) x xs h) (All-tail (λ z. unsigned_abs z ≤ b) y ys k))
 
 products_short : (xs ys : List ℤ) → length (map (λ p. p.0 *ℤ p.1) (zip xs ys)) ≤ length ys

@@ -12,7 +12,7 @@ use Rattle.gj_shape.specs.declared.extremality.RowName.TheVariants.{Period}
 use Rattle.gj_elim.specs.Data.{BasisData, behind}
 use Rattle.gj_elim.specs.KeptRows.{answer_of}
 use Rattle.gj_elim.specs.declared.log.Inserted.TheVariants.{Pivot, Nothing}
-use Rattle.gj_elim.proofs.Passing.{none_passes, front_passes, back_passes, either_passes}
+use Rattle.gj_theory.proofs.Passing.{none_passes, front_passes, back_passes, either_passes}
 use Rattle.gj_proof.specs.PresentRows.{named_row}
 use Rattle.gj_extreme.specs.Decision.{slope_elimination}
 use Rattle.gj_extreme.specs.RowsToCome.{name_of, elimination_behind, AreNextNames, AreToCome, AreInserted, IsReady}

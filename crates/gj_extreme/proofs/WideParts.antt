@@ -11,7 +11,7 @@ use Rattle.gj_shape.specs.declared.extremality.CoverLine.{CoverLine}
 use Rattle.gj_shape.specs.declared.extremality.Halves.{Halves}
 use Rattle.gj_theory.proofs.SlacksAndSizes.{least_slack}
 use Rattle.gj_elim.specs.KeptRows.{marked_in}
-use Rattle.gj_elim.proofs.Passing.{none_passes}
+use Rattle.gj_theory.proofs.Passing.{none_passes}
 use Rattle.gj_perturb.specs.SlopeSums.{slope_sum, slope_at, IsWideSum}
 use Rattle.gj_perturb.specs.Split.{IsWide}
 use Rattle.gj_perturb.specs.declared.tables.Perturbation.{Perturbation}

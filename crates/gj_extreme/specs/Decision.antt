@@ -107,9 +107,3 @@ pub record IsTooWide (f : FunctionData) : Type 0 where
   pub covered : AreAllCovered f lines component n
   pub passes : Passes (slope_elimination f component n).marked
       ⊎ ((s : Solution) × (kernel n (slope_elimination f component n).kept ≡ Some s) × IsWideBehind f component s)
-
--- the function jumps at i/q, and at no multiple of 1/q before
-pub record IsFirstJump (f : FunctionData) (i : ℕ) : Type 0 where
-  pub within : i < f.order
-  pub jump : IsJump f i
-  pub first : (j : ℕ) → j < i → IsJump f j → ⊥

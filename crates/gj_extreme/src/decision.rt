@@ -1,13 +1,13 @@
 //! The decision.
 ghost use Rattle.std.specs.Prelude.{ℕ, ◌≡◌, ◌≤◌, ◌↔◌, List, IfOk, IsErrOf, Err};
 ghost use Rattle.gj_shape.specs.Extreme.{IsExtreme};
-ghost use Rattle.gj_shape.specs.FunctionData.{IsWithinBounds, IsContinuous};
+ghost use Rattle.gj_shape.specs.FunctionData.{IsWithinBounds, IsContinuous, IsFirstJump};
 ghost use Rattle.gj_shape.specs.Table.{IsMinimal};
 ghost use Rattle.gj_shape.specs.declared.extremality.CoverLine.{CoverLine};
 ghost use Rattle.gj_proof.specs.Meaning.{ClaimHolds};
 ghost use Rattle.gj_proof.specs.ProofText.{HasText, IsBounded};
 ghost use Rattle.gj_proof.specs.Rules.{MeetsRules};
-ghost use Rattle.gj_extreme.specs.Decision.{AreAllCovered, IsDecided, IsByTable, IsExtremeOnGrid4, IsTooWide, IsFirstJump};
+ghost use Rattle.gj_extreme.specs.Decision.{AreAllCovered, IsDecided, IsByTable, IsExtremeOnGrid4, IsTooWide};
 
 use crate::covered::extreme_or_slopes;
 use crate::faults::DecideFault;
@@ -28,7 +28,7 @@ pub fn decide(alloc: Global, shape: &Shape) -> Result<Proof, DecideFault>
     ensures wide { result ≡ Err DecideFault.Wide → IsMinimal shape.now × IsContinuous shape.now × IsTooWide shape.now }
     ensures not_wide { IsMinimal shape.now → IfOk result (λ c. IsTooWide shape.now → ⊥) }
     ensures few_components { (lines : List CoverLine) (component : ℕ → ℕ) (n : ℕ) →
-        AreAllCovered shape.now lines component n → n ≤ 3 → IsTooWide shape.now → ⊥ }
+        AreAllCovered shape.now lines component n → n ≤ 4 → IsTooWide shape.now → ⊥ }
     ensures by_table { IfOk result (IsByTable shape.now) }
     ensures order_4q { IsContinuous shape.now → IsExtreme shape.now ↔ IsExtremeOnGrid4 shape.now }
 {

@@ -6,7 +6,7 @@ use Rattle.gj_proof.specs.Rules.{MeetsRules}
 use Rattle.gj_extreme.specs.Decision.{IsByTable}
 use Rattle.gj_extreme.proofs.ClaimRules.{decided_by_table}
 use Rattle.gj_extreme.proofs.DecidedHolds.{decided_holds}
-use Rattle.gj_extreme.proofs.DecidedNotWide.{decided_not_wide}
+use Rattle.gj_extreme.proofs.NotTooWide.{decided_not_wide}
 use Rattle.gj_extreme.proofs.FewComponents.{few_components}
 use Rattle.gj_extreme.proofs.decision.decide.Goals as goal
 

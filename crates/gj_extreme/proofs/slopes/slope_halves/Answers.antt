@@ -1,8 +1,8 @@
 use Rattle.std.proofs.Common.{◌≡◌, ◌<◌, length, map, sym, ap, subst, ◌∙◌}
 use Rattle.std.specs.Prelude.{All, IfSome}
 use Rattle.std.specs.List.{range_with_len}
+use Rattle.gj_theory.specs.Fitting.{Fits}
 use Rattle.gj_shape.specs.Elimination.{kernel}
-use Rattle.gj_elim.specs.Data.{Fits}
 use Rattle.gj_perturb.specs.SlopeSums.{slope_sum, IsWideSum}
 use Rattle.gj_system.specs.Components.{component_in}
 use Rattle.gj_extreme.proofs.FaultCases.{wide_elimination, wide_split, no_jump_elimination, no_jump_split}
