@@ -4,9 +4,6 @@ use Rattle.std.proofs.lemmas.List.{append-nil, length-append}
 use Rattle.std.proofs.lemmas.List.Elements.{All-nil, All-cons, All-append, All-head, All-tail}
 use Rattle.gj_frac.specs.declared.Frac.{Frac}
 use Rattle.gj_shape.specs.FirstViolation.{PassesAll}
-use Rattle.gj_tools.specs.FirstThatFails.{IsFirstFailing}
-use Rattle.gj_tools.proofs.FirstThatFails.{first_failing, first_failing_in_front, first_failing_in_back}
-use Rattle.gj_proof.specs.declared.claim.Claim.{Claim}
 use Rattle.gj_proof.specs.declared.claim.Claim.TheVariants as claims
 use Rattle.gj_proof.specs.declared.cut.CutRule.{CutRule}
 use Rattle.gj_proof.specs.declared.cut.CutRule.TheVariants.{Gmic, Table}
@@ -15,68 +12,18 @@ use Rattle.gj_proof.specs.declared.cut.CutLine.TheVariants as cuts
 use Rattle.gj_proof.specs.declared.cut.CutTerm.{CutTerm}
 use Rattle.gj_proof.specs.ProofText.{ProofLine, IfFunction, subject_of_rule, terms_of, HasNumber}
 use Rattle.gj_proof.specs.ProofText.ProofLine.{claim, cut, term}
-use Rattle.gj_proof.specs.Rules.{Demand, AtIndex, IfCut, IfTerm, MeetsFraction, MeetsLimit, MeetsName, MeetsValue, rule_demands, term_demands, row_demands, cut_demands, demands_of, line_of, Holds, MeetsRules}
+use Rattle.gj_proof.specs.Rules.{Demand, AtIndex, IfCut, IfTerm, MeetsFraction, MeetsLimit, MeetsName, MeetsValue, rule_demands, term_demands, row_demands, cut_demands, Holds, MeetsRules}
 use Rattle.gj_proof.specs.Rules.Demand.{minimal, fraction, limit, term_limit, term_name, term_value}
 use Rattle.gj_proof.proofs.LineNumbers.{number_of_claim}
 use Rattle.gj_check.specs.declared.rules.CheckRule.{CheckRule}
 use Rattle.gj_check.specs.declared.rules.CheckRule.TheVariants.{Minimal, Fraction, Limit, Name, Value}
 use Rattle.gj_check.specs.declared.rows.RowFailure.{RowFailure}
-use Rattle.gj_check.specs.FirstFailure.{rule_of, IsFirstFailure}
+use Rattle.gj_check.specs.FirstFailure.{IsFirstFailure}
 use Rattle.gj_check.specs.CutRows.{MeetsTerm, FailsTerm, MeetTerms, MeetsRow, FailsRow, GivesCut}
 use Rattle.gj_check.specs.CutRows.FailsRow.{at_fraction, at_limit, at_term}
 use Rattle.gj_check.proofs.AtPlaces.{at_index, split_there}
+use Rattle.gj_check.proofs.FirstDemand.{FirstFails, fails_here, fails_behind, fails_next, fails_in_front, failure_of}
 use Rattle.gj_check.proofs.CutLines.{first_of, count_of, number_of_row, number_of_term}
-
--- ---- the first demand that fails
-
--- its line and its rule
-pub record FirstFails (c : Claim) (demands : List Demand) (l : ProofLine) (r : CheckRule) : Type 0 where
-  pub before : List Demand
-  pub demand : Demand
-  pub first : IsFirstFailing (All (Holds c)) demands before demand
-  pub line_is : line_of demand ≡ l
-  pub rule_is : r ≡ rule_of demand
-
-fails_here : (c : Claim) (d : Demand) (more : List Demand) → (Holds c d → ⊥) → FirstFails c (d ∷ more) (line_of d) (rule_of d)
-fails_here c d more fails = record {
-  before = [];
-  demand = d;
-  first = first_failing (Holds c) (d ∷ more) [] more d refl (All-nil (Holds c)) fails;
-  line_is = refl;
-  rule_is = refl;
-}
-
-fails_behind : (c : Claim) (xs ys : List Demand) (l : ProofLine) (r : CheckRule) → All (Holds c) xs → FirstFails c ys l r →
-    FirstFails c (xs ++ ys) l r
-fails_behind c xs ys l r all h = record {
-  before = xs ++ h.before;
-  demand = h.demand;
-  first = first_failing_in_back (Holds c) xs ys h.before h.demand all h.first;
-  line_is = h.line_is;
-  rule_is = h.rule_is;
-}
-
-fails_next : (c : Claim) (d : Demand) (ys : List Demand) (l : ProofLine) (r : CheckRule) → Holds c d → FirstFails c ys l r →
-    FirstFails c (d ∷ ys) l r
-fails_next c d ys l r holds h = fails_behind c (d ∷ []) ys l r (All-cons (Holds c) d [] holds (All-nil (Holds c))) h
-
-fails_in_front : (c : Claim) (xs ys : List Demand) (l : ProofLine) (r : CheckRule) → FirstFails c xs l r → FirstFails c (xs ++ ys) l r
-fails_in_front c xs ys l r h = record {
-  before = h.before;
-  demand = h.demand;
-  first = first_failing_in_front (All (Holds c)) xs ys h.before h.demand h.first;
-  line_is = h.line_is;
-  rule_is = h.rule_is;
-}
-
-pub failure_of : (c : Claim) (l : ProofLine) (r : CheckRule) (n : ℕ) → FirstFails c (demands_of c) l r → HasNumber c l n → IsFirstFailure c n r
-failure_of c l r n h number = record {
-  before = h.before;
-  demand = h.demand;
-  first = h.first;
-  rule_is = h.rule_is;
-  number = subst (λ k. HasNumber c k n) (sym h.line_is) number;
-}
 
 -- ---- the demands of a row
 
@@ -358,8 +305,3 @@ pub gives : (rule : CutRule) (basic : List ℕ) (right : Frac) (terms : List Cut
     GivesCut rule right
 gives (Table f) basic right terms h = h
 gives Gmic basic right terms h = h
-
-pub given_back : (rule : CutRule) (basic : List ℕ) (right : Frac) (terms : List CutTerm) → GivesCut rule right →
-    MeetsFraction rule (cuts.Cut basic right terms)
-given_back (Table f) basic right terms h = h
-given_back Gmic basic right terms h = h

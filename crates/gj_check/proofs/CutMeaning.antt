@@ -44,7 +44,7 @@ IsMinimalRule Gmic = Unit {0}
 
 -- ---- by a function
 
-part_of_function : (x : Frac) (k q : ℕ) → HasPart x k q → HasFractionalPart x (pos k) (pos q)
+pub part_of_function : (x : Frac) (k q : ℕ) → HasPart x k q → HasFractionalPart x (pos k) (pos q)
 part_of_function x k q h w floor = part_left x k q h w floor
 
 values_zip : (R : Frac → Frac → Type 0) (terms : List CutTerm) → All (λ t. R t.entry t.cut) terms →

@@ -10,7 +10,7 @@ use Rattle.gj_frac.specs.Floor.{IsFloor}
 use Rattle.gj_frac.specs.Fraction.{IsRatio, numerator, denominator}
 use Rattle.gj_frac.proofs.Floors.{quotient_is_floor, rest_is, same_from_IsFloor}
 use Rattle.gj_frac.proofs.SameValues.{is_along, same_from_is}
-use Rattle.gj_tools.proofs.Integers.{mul_cancel_right_z, mul_le_cancel_right_z, mul_lt_cancel_right_z, mul_le_mul_right_z, mul_lt_mul_right_z, add_mul_z, sub_mul_z, swap_last_z, positive_some_z}
+use Rattle.gj_tools.proofs.Integers.{mul_assoc_z, mul_cancel_right_z, mul_le_cancel_right_z, mul_lt_cancel_right_z, mul_le_mul_right_z, mul_lt_mul_right_z, add_mul_z, sub_mul_z, swap_last_z, positive_some_z}
 use Rattle.gj_tools.proofs.Ring.{by_ring, ring}
 use Rattle.gj_shape.proofs.LeastDenominator.{denominator_some}
 use Rattle.gj_proof.specs.Rules.{IsWhole, HasPart, IsGmicOver, IsGmicAt}
@@ -46,9 +46,6 @@ some_part x =
 
 -- ---- over a multiple of the denominator
 
-scaled_left_z : (x n m : ℤ) → x *ℤ (n *ℤ m) ≡ (x *ℤ n) *ℤ m
-scaled_left_z x n m = by_ring (x ∷ n ∷ m ∷ []) (search ring depth 30) refl
-
 scaled_right_z : (w n i d m : ℤ) → ((w *ℤ n +ℤ i) *ℤ d) *ℤ m ≡ (w *ℤ (n *ℤ m) +ℤ i *ℤ m) *ℤ d
 scaled_right_z w n i d m = by_ring (w ∷ n ∷ i ∷ d ∷ m ∷ []) (search ring depth 30) refl
 
@@ -56,7 +53,7 @@ pub scaled_part : (x : Frac) (i n m : ℕ) → 0 < m → HasPart x i n → HasPa
 scaled_part x i n m some h = record {
   below = mul-lt-mul_of_pos_right h.below some;
   whole = h.whole;
-  is = scaled_left_z x.num (pos n) (pos m) ∙ ap (λ z. z *ℤ pos m) h.is ∙ scaled_right_z h.whole (pos n) (pos i) x.den (pos m);
+  is = sym (mul_assoc_z x.num (pos n) (pos m)) ∙ ap (λ z. z *ℤ pos m) h.is ∙ scaled_right_z h.whole (pos n) (pos i) x.den (pos m);
 }
 
 -- ---- one fractional part

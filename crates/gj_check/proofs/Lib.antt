@@ -16,7 +16,14 @@ pub mod CutLines
 pub mod FractionalParts
 pub mod LimitsOfRows
 pub mod SeenNames
+pub mod FirstDemand
 pub mod CutDemands
 pub mod CutMeaning
 pub mod RowOutcomes
 pub mod ValuesOfCuts
+pub mod TableTests
+pub mod NumberedLines
+pub mod HalvesTests
+pub mod OwnLineNumbers
+pub mod ExtremeDemands
+pub mod HalvesDemands

@@ -1,6 +1,6 @@
 -- The value of a function at a fraction, read off the table of any grid that holds the fraction.
-use Rattle.std.proofs.Common.{◌≡◌, ℕ, suc, ◌-◌, ◌*◌, ◌<◌, ◌≤◌, ◌^◌, ℤ, pos, negsuc, ◌+ℤ◌, ◌-ℤ◌, ◌*ℤ◌, unsigned_abs, [], ◌∷◌, refl, sym, ap, ◌∙◌, arith}
-use Rattle.std.proofs.Math.Nat.{mul-pos, mul-le-mul, le-mul_of_pos_right}
+use Rattle.std.proofs.Common.{◌≡◌, ℕ, ◌*◌, ◌<◌, ◌≤◌, ◌^◌, ℤ, pos, ◌+ℤ◌, ◌-ℤ◌, ◌*ℤ◌, unsigned_abs, [], ◌∷◌, refl, sym, ap, ◌∙◌, arith}
+use Rattle.std.proofs.Math.Nat.{mul-pos, mul-le-mul}
 use Rattle.std.proofs.lemmas.Int.{ints}
 use Rattle.gj_frac.specs.declared.Frac.{Frac}
 use Rattle.gj_frac.specs.Fraction.{IsRatio, numerator, denominator}
@@ -17,24 +17,14 @@ use Rattle.gj_shape.specs.Violation.{value_of}
 use Rattle.gj_shape.proofs.LeastDenominator.{denominator_some}
 use Rattle.gj_shape.proofs.Refinements.{table_small}
 use Rattle.gj_shape.proofs.TableLemmas.{table_period}
-use Rattle.gj_shape.proofs.ValueLemmas.{congruent_rests}
+use Rattle.gj_shape.proofs.ValueLemmas.{natural_index, moved_index_z, congruent_rests}
 use Rattle.gj_theory.proofs.ShownPoints.{same_on_both}
 use Rattle.gj_check.proofs.Ratios.{denominator_is}
 
 -- ---- one place on two grids
 
--- a natural number that is congruent to a whole number
-pub natural_index : (a : ℤ) (p : ℕ) → 0 < p → (i : ℕ) × IsCongruent (pos i) a p
-natural_index (pos a) p some = (a, (pos 0, omega (arith, ints)))
-natural_index (negsuc a) p some =
-    let large = le-mul_of_pos_right (suc a) some in
-    (suc a * p - suc a, (pos (suc a), omega (arith, ints)))
-
 place_z : (a h : ℤ) (q d e : ℕ) → (a +ℤ h *ℤ pos (q * e)) *ℤ pos d ≡ a *ℤ pos d +ℤ h *ℤ pos (q * (d * e))
 place_z a h q d e = by_ring (a ∷ h ∷ pos q ∷ pos d ∷ pos e ∷ []) (search ring depth 30) refl
-
-other_place_z : (t k : ℤ) (q d e : ℕ) → (t +ℤ k *ℤ pos (q * d)) *ℤ pos e ≡ t *ℤ pos e +ℤ k *ℤ pos (q * (d * e))
-other_place_z t k q d e = by_ring (t ∷ k ∷ pos q ∷ pos d ∷ pos e ∷ []) (search ring depth 30) refl
 
 difference_z : (x h k n : ℤ) → x +ℤ h *ℤ n ≡ (x +ℤ k *ℤ n) +ℤ (h -ℤ k) *ℤ n
 difference_z x h k n = by_ring (x ∷ h ∷ k ∷ n ∷ []) (search ring depth 30) refl
@@ -46,7 +36,7 @@ places_congruent q i j d e a t same (h, i_is) (k, j_is) = (
   h -ℤ k,
   ap (λ z. z *ℤ pos d) i_is ∙ place_z a h q d e ∙ ap (λ z. z +ℤ h *ℤ pos (q * (d * e))) same
       ∙ difference_z (t *ℤ pos e) h k (pos (q * (d * e)))
-      ∙ ap (λ z. z +ℤ (h -ℤ k) *ℤ pos (q * (d * e))) (sym (ap (λ z. z *ℤ pos e) j_is ∙ other_place_z t k q d e)),
+      ∙ ap (λ z. z +ℤ (h -ℤ k) *ℤ pos (q * (d * e))) (sym (ap (λ z. z *ℤ pos e) j_is ∙ moved_index_z t k q d e)),
 )
 
 scaled_left_z : (s d : ℕ) (x : ℤ) → x *ℤ pos (s * d) ≡ pos s *ℤ (pos d *ℤ x)

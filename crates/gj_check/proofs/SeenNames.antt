@@ -1,5 +1,5 @@
 -- The names that were seen in a row.
-use Rattle.std.proofs.Common.{◌≡◌, ◌≢◌, ℕ, List, [], ◌∷◌, ◌++◌, All, Bool, true, false, cond, not, ◌||◌, refl, sym, ap, ◌∙◌}
+use Rattle.std.proofs.Common.{◌≡◌, ◌≢◌, ℕ, List, [], ◌∷◌, ◌++◌, All, Bool, true, false, cond, ◌||◌, refl, sym, ap, ◌∙◌}
 use Rattle.std.specs.List.{list_any}
 use Rattle.std.specs.Ordering.{nat_cmp}
 use Rattle.std.specs.Cmp.Lexicographic.{slice_cmp}
@@ -103,13 +103,3 @@ is_repeated basic before t e meets = by (bytes_eq basic t.name) refl
     by true is = meets.not_basic (sym ((bytes_eq-Decides basic t.name).0 is))
     by false is =
         one_of t.name before (ap (λ b. b || list_any (λ u. bytes_eq u.name t.name) before) (sym is) ∙ e) meets.new
-
--- ---- what the set answers
-
-pub not_true : (b : Bool) → not b ≡ true → b ≡ false
-not_true true e = absurd (cc)
-not_true false e = refl
-
-pub not_false : (b : Bool) → not b ≡ false → b ≡ true
-not_false true e = refl
-not_false false e = absurd (cc)

@@ -7,7 +7,7 @@ use Rattle.gj_frac.proofs.SameValues.{same_from_is}
 use Rattle.gj_shape.specs.FunctionData.{FunctionData, IsWithinBounds}
 use Rattle.gj_shape.specs.Table.{table}
 use Rattle.gj_shape.specs.Values.{IsValueAt}
-use Rattle.gj_check.proofs.SamePlaces.{natural_index}
+use Rattle.gj_shape.proofs.ValueLemmas.{natural_index}
 
 pub one_value : (f : FunctionData) (n : ℤ) (d : ℕ) (x y : Frac) → IsWithinBounds f → 0 < d → IsValueAt f n d x → IsValueAt f n d y → x ≡ y
 one_value f n d x y l some x_is y_is =

@@ -6,3 +6,7 @@ pub mod Lanes
 pub mod Coordinates
 pub mod RowLimits
 pub mod CutRows
+pub mod Tables
+pub mod CoverLines
+pub mod HalvesRules
+pub mod GroupRules

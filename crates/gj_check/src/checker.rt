@@ -4,7 +4,9 @@ ghost use Rattle.gj_proof.specs.Rules.{MeetsRules};
 ghost use Rattle.gj_check.specs.FirstFailure.{IsFaultOf, IsWantOfMemory};
 
 use crate::cuts::check_cuts;
+use crate::extremality::check_extreme;
 use crate::faults::CheckFault;
+use crate::halves::check_halves;
 use crate::minimality::is_minimal;
 use crate::points::is_shown;
 use crate::rules::CheckRule;
@@ -14,7 +16,8 @@ use std::alloc::Global;
 /// Checks every rule on a proof, in the order of its lines.
 ///
 /// Ok exactly where every rule holds; else the line and the rule of the first that fails. `Memory` may come in place of
-/// either where the claim is about cuts, and never for another claim, whose check takes no memory.
+/// either where the claim is about cuts, or says that a function is extreme or not extreme, and never for another claim,
+/// whose check takes no memory.
 pub fn check(alloc: Global, proof: &Proof) -> Result<(), CheckFault>
     // Where it answers Ok, every rule holds.
     ensures ok { OnOk result (MeetsRules proof.now) }
@@ -36,6 +39,10 @@ pub fn check(alloc: Global, proof: &Proof) -> Result<(), CheckFault>
             }
         }
         Claim::Cut(rule, rows) => return check_cuts(alloc, rule, rows.as_slice()),
+        Claim::Extreme(shape, lines, rows) => {
+            return check_extreme(alloc, shape, lines.as_slice(), rows.as_slice());
+        }
+        Claim::NotExtreme(shape, halves) => return check_halves(alloc, shape, halves),
     }
     Ok(())
 }

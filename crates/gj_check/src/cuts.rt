@@ -66,7 +66,7 @@ fn line_behind(line: u64, row: &CutLine) -> Result<u64, AllocError>
 
 /// The number of the line that stands so many lines below. A text with a line whose number is not below 2^64 does not
 /// fit any memory.
-fn line_below(line: u64, count: usize) -> Result<u64, AllocError>
+pub(crate) fn line_below(line: u64, count: usize) -> Result<u64, AllocError>
     ensures { IfOk result (λ n. n ≡ line + count) }
 {
     line.checked_add(count as u64).ok_or(AllocError)

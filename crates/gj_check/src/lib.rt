@@ -2,14 +2,18 @@
 //!
 //! `check` takes the demands of a claim in their order, and answers the first that fails by its rule and the number of its line.
 //! `rules_give_meaning`: where every rule holds, what the claim says is true. Its loops over pairs and its arithmetic are its own;
-//! with the search it shares the definitions of `gj_shape` and the theorems of `gj_theory`.
+//! with the search it shares the definitions of `gj_shape` and the theorems of `gj_theory`. The rules on the rows of a proof that a
+//! function is extreme are those of `gj_rank`.
 #![tactic(auto)]
 
 mod checker;
+mod cover_lines;
 mod cut_values;
 mod cuts;
 mod denominators;
+mod extremality;
 mod faults;
+mod halves;
 mod laws;
 mod minimality;
 mod names;
@@ -19,6 +23,7 @@ mod row_denominators;
 mod rows;
 mod rules;
 mod squares;
+mod tables;
 
 pub use checker::check;
 pub use faults::CheckFault;

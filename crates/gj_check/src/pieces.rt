@@ -60,7 +60,7 @@ pub(crate) fn adds_up(x: i64, y: i64, total: i64) -> bool
 }
 
 /// The index modulo the order, where it is below twice the order.
-fn wrapped(i: usize, order: usize) -> usize
+pub(crate) fn wrapped(i: usize, order: usize) -> usize
     requires { i < 2 * order }
     ensures { result ≡ i % order }
 {

@@ -87,7 +87,7 @@ fn ratio(num: i128, den: i128) -> Frac
 }
 
 /// The product of a whole number of at most 2^62 in absolute value and a natural number.
-fn times(n: i128, factor: u32) -> i128
+pub(crate) fn times(n: i128, factor: u32) -> i128
     requires { unsigned_abs n ≤ 2 ^ 62 }
     ensures value { result ≡ n *ℤ pos factor }
     ensures fits { unsigned_abs result ≤ 2 ^ 94 }

@@ -3,8 +3,8 @@ use crate::minimality::is_minimal;
 use crate::{CheckFault, CheckRule, check};
 use gj_frac::Frac;
 use gj_lex::Name;
-use gj_proof::{Claim, CutLine, CutRule, CutTerm, Proof, SkipReason};
-use gj_shape::{List, Shape, Violation};
+use gj_proof::{Claim, CutLine, CutRule, CutTerm, PivotRow, Proof, SkipReason};
+use gj_shape::{CoverLine, Face, FaceKind, Halves, List, RowName, Shape, Violation};
 use std::test::Fail;
 
 /// The fraction n/d.
@@ -245,5 +245,132 @@ fn mixed_integer_cut(rt: HostRuntime) -> Result<(), Fail> {
     let row = CutLine::Cut(name(&rt, b"x")?, right, List::of(terms));
     let rows = vec![in rt.alloc(); row]?;
     assert_eq!(rt; checked_cuts(&rt, CutRule::Gmic, rows)?, Ok(()));
+    Ok(())
+}
+
+/// A line of a covered interval.
+fn cover_line(interval: u32, from: u32, kind: FaceKind, a: u32, b: u32) -> CoverLine {
+    CoverLine {
+        interval,
+        from,
+        face: Face { kind, a, b },
+    }
+}
+
+/// What the check says of the claim that a function of order 5 with f = 3/5 is extreme, by its five cover lines, the first
+/// of which has this kind of face, and these rows.
+fn checked_extreme(
+    rt: &HostRuntime,
+    first: FaceKind,
+    rows: Vec<PivotRow>,
+) -> Result<Result<(), CheckFault>, Fail> {
+    let shape = five(rt, fraction(0, 1)?, fraction(1, 3)?)?;
+    let lines = vec![in rt.alloc();
+        cover_line(0, 0, first, 0, 0),
+        cover_line(1, 0, FaceKind::Upper, 0, 0),
+        cover_line(2, 0, FaceKind::Upper, 0, 1),
+        cover_line(3, 3, FaceKind::Upper, 3, 4),
+        cover_line(4, 3, FaceKind::Diagonal, 3, 4),
+    ]?;
+    checked(rt, Claim::Extreme(shape, List::of(lines), List::of(rows)))
+}
+
+/// A row that is reduced at these columns.
+fn row(name: RowName, reduce: Vec<u32>, pivot: u32) -> PivotRow {
+    PivotRow {
+        name,
+        reduce: List::of(reduce),
+        pivot,
+    }
+}
+
+/// An extreme function; an edge where a triangle has to stand, a row without its step, and too few rows.
+#[test]
+fn extreme(rt: HostRuntime) -> Result<(), Fail> {
+    let period = row(RowName::Period, Vec::new(rt.alloc()), 0);
+    let at_f = row(RowName::F, vec![in rt.alloc(); 0]?, 1);
+    let rows = vec![in rt.alloc(); period, at_f]?;
+    assert_eq!(rt; checked_extreme(&rt, FaceKind::Lower, rows)?, Ok(()));
+
+    let none = Vec::new(rt.alloc());
+    assert_eq!(rt;
+        checked_extreme(&rt, FaceKind::Horizontal, none)?,
+        Err(CheckFault::Rejected(10, CheckRule::Cover))
+    );
+
+    let period = row(RowName::Period, Vec::new(rt.alloc()), 0);
+    let at_f = row(RowName::F, Vec::new(rt.alloc()), 1);
+    let rows = vec![in rt.alloc(); period, at_f]?;
+    assert_eq!(rt;
+        checked_extreme(&rt, FaceKind::Lower, rows)?,
+        Err(CheckFault::Rejected(18, CheckRule::Pivot))
+    );
+
+    let period = row(RowName::Period, Vec::new(rt.alloc()), 0);
+    let rows = vec![in rt.alloc(); period]?;
+    assert_eq!(rt;
+        checked_extreme(&rt, FaceKind::Lower, rows)?,
+        Err(CheckFault::Rejected(17, CheckRule::Rank))
+    );
+    Ok(())
+}
+
+/// The numbers, each times the factor.
+fn scaled(rt: &HostRuntime, numbers: &[i128], factor: i128) -> Result<List<i128>, Fail> {
+    let mut items = Vec::new(rt.alloc());
+    for n in numbers {
+        items.push(n.checked_mul(factor).ok_or("too large")?)?;
+    }
+    Ok(List::of(items))
+}
+
+/// What the check says of these halves of a function of order 8 with f = 7/8, each number times the factor.
+fn checked_halves(
+    rt: &HostRuntime,
+    scale: i128,
+    first: &[i128],
+    second: &[i128],
+    factor: i128,
+) -> Result<Result<(), CheckFault>, Fail> {
+    let values = [
+        fraction(0, 1)?,
+        fraction(1, 5)?,
+        fraction(3, 10)?,
+        fraction(2, 5)?,
+        fraction(3, 5)?,
+        fraction(7, 10)?,
+        fraction(4, 5)?,
+        fraction(1, 1)?,
+    ];
+    let shape = function(rt, 8, 7, &values)?;
+    let halves = Halves {
+        order: 8,
+        scale: scale.checked_mul(factor).ok_or("too large")?,
+        first: scaled(rt, first, factor)?,
+        second: scaled(rt, second, factor)?,
+    };
+    checked(rt, Claim::NotExtreme(shape, halves))
+}
+
+/// Two halves of a function, over a small and a large scale; a sum that is not twice the value, and twice the function.
+#[test]
+fn not_extreme(rt: HostRuntime) -> Result<(), Fail> {
+    let first = [0, 20, 35, 50, 70, 85, 100, 120];
+    let second = [0, 28, 37, 46, 74, 83, 92, 120];
+    let other = [0, 28, 37, 46, 74, 83, 93, 120];
+    let values = [0, 2, 3, 4, 6, 7, 8, 10];
+    assert_eq!(rt; checked_halves(&rt, 120, &first, &second, 1)?, Ok(()));
+    assert_eq!(rt;
+        checked_halves(&rt, 120, &first, &second, 1 << 100)?,
+        Ok(())
+    );
+    assert_eq!(rt;
+        checked_halves(&rt, 120, &first, &other, 1)?,
+        Err(CheckFault::Rejected(20, CheckRule::Average))
+    );
+    assert_eq!(rt;
+        checked_halves(&rt, 10, &values, &values, 1)?,
+        Err(CheckFault::Rejected(13, CheckRule::Same))
+    );
     Ok(())
 }

@@ -6,12 +6,12 @@ use Rattle.gj_shape.specs.declared.faces.FaceKind.TheVariants.{Vertex}
 use Rattle.gj_complex.specs.Walk.{faces_of, faces_of_square, faces_in, row_from, rows_from}
 use Rattle.gj_complex.specs.Walk.{faces_after, faces_from, kinds_after}
 
-range_step : (i q : ℕ) → i < q → range_with_len i (q - i) ≡ i ∷ range_with_len (i + 1) (q - (i + 1))
+pub range_step : (i q : ℕ) → i < q → range_with_len i (q - i) ≡ i ∷ range_with_len (i + 1) (q - (i + 1))
 range_step i q h =
     let e : q - i ≡ suc (q - (i + 1)) = omega arith in
     ap (range_with_len i) e
 
-range_end : (i q : ℕ) → q ≤ i → range_with_len i (q - i) ≡ []
+pub range_end : (i q : ℕ) → q ≤ i → range_with_len i (q - i) ≡ []
 range_end i q h =
     let e : q - i ≡ 0 = omega arith in
     ap (range_with_len i) e

@@ -25,7 +25,7 @@ abbrev pub IsUncovered : ℕ → (ℕ → ℕ → Type 0) → ℕ → Type 0
 IsUncovered q T i = (i < q) × (IsCovered q T i → ⊥)
 
 -- there is one least
-one_least : (P : ℕ → Type 0) (a b : ℕ) → IsLeastFrom 0 P a → IsLeastFrom 0 P b → a ≡ b
+pub one_least : (P : ℕ → Type 0) (a b : ℕ) → IsLeastFrom 0 P a → IsLeastFrom 0 P b → a ≡ b
 one_least P a b h k = elim (cases_order a b) [
   | inl e ↦ e
   | inr d ↦ elim d [

@@ -8,7 +8,7 @@ use Rattle.gj_theory.proofs.Kernels.{kernel_none, kernel_solves, kernel_positive
 use Rattle.gj_elim.specs.Data.{BasisData}
 use Rattle.gj_elim.specs.KeptRows.{marked_in}
 use Rattle.gj_elim.proofs.Places.{IsRowAt}
-use Rattle.gj_elim.proofs.Passing.{none_passes, front_passes, back_passes, either_passes}
+use Rattle.gj_theory.proofs.Passing.{none_passes, front_passes, back_passes, either_passes}
 
 -- the columns from j on are solved, and none of the numbers so far passes
 pub record IsSolvedTo (kept : List KeptRow) (n free j : ℕ) (w : List ℤ) : Type 0 where

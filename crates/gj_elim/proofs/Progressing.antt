@@ -8,7 +8,7 @@ use Rattle.gj_tools.proofs.Choices.{never_true}
 use Rattle.gj_shape.specs.Elimination.{KeptRow, Insertion, at_column, reduced, marked_in_step, kept_entries, insertion, inserted, inserted_at, row_with_pivot, Passes}
 use Rattle.gj_elim.specs.Progress.{IsLeft}
 use Rattle.gj_elim.proofs.Places.{IsRowAt}
-use Rattle.gj_elim.proofs.Passing.{none_passes, front_passes, back_passes, either_passes}
+use Rattle.gj_theory.proofs.Passing.{none_passes, front_passes, back_passes, either_passes}
 
 -- the rest of the insertion from a column on
 abbrev pub rest : List KeptRow → ℕ → ℕ → List ℤ → Insertion

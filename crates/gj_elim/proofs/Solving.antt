@@ -10,13 +10,13 @@ use Rattle.gj_tools.specs.Divisors.{gcd_of}
 use Rattle.gj_shape.specs.SlopeRows.{total}
 use Rattle.gj_shape.specs.Elimination.{at_column, scaled, products_behind, partial_sums, solving_gcd, solving_products, solved_at, marked_in_solving, Passes}
 use Rattle.gj_theory.proofs.Entries.{at_scaled}
-use Rattle.gj_elim.specs.Data.{Fits}
+use Rattle.gj_theory.specs.Fitting.{Fits}
 use Rattle.gj_tools.proofs.Integers.{mul_comm_z}
 use Rattle.gj_tools.proofs.Divisors.{gcd_of_is}
 use Rattle.gj_frac.proofs.Reduced.{quotient_of_divisor}
-use Rattle.gj_elim.proofs.Numbers.{fits_width, read_fitting}
-use Rattle.gj_elim.proofs.Rows.{smaller, negated_fits, read_negated, read_signed_quotient}
-use Rattle.gj_elim.proofs.Passing.{none_passes, first_passes, later_passes, passes_cases, front_passes, back_passes, either_passes, passes_at, none_pass}
+use Rattle.gj_theory.proofs.WideNumbers.{fits_width, read_fitting}
+use Rattle.gj_theory.proofs.DividedRows.{smaller, negated_fits, read_negated, read_signed_quotient}
+use Rattle.gj_theory.proofs.Passing.{none_passes, first_passes, later_passes, passes_cases, front_passes, back_passes, either_passes, passes_at, none_pass}
 
 -- ---- the sum of products
 

@@ -1,5 +1,5 @@
 -- A basis as data, and what an insertion makes of it.
-use Rattle.std.specs.Prelude.{ℕ, ℤ, ◌+◌, ◌<◌, ◌^◌, List, unsigned_abs}
+use Rattle.std.specs.Prelude.{ℕ, ℤ, ◌+◌, List}
 use Rattle.gj_shape.specs.Elimination.{KeptRow, inserted, kept_behind}
 
 -- how many columns the rows have, how many rows were inserted, and the rows that were kept
@@ -15,7 +15,3 @@ behind b row = record {
   inserted = b.inserted + 1;
   kept = kept_behind b.kept b.inserted (inserted b.columns b.kept row).reduce (inserted b.columns b.kept row).kept;
 }
-
--- the number is at most 2^127 - 1 in absolute value
-abbrev pub Fits : ℤ → Type 0
-Fits x = unsigned_abs x < 2 ^ 127

@@ -2,7 +2,8 @@
 ghost use Rattle.std.specs.Prelude.{ℕ, ℤ, pos, ◌≡◌, ◌+◌, ◌<◌, ◌^◌, ◌<ℤ◌, ◌↔◌, [], List, length, map, All, Any, IfOk, IfSome, IsNone, OnOk, OnErr, IsErrOf};
 ghost use Rattle.gj_shape.specs.Elimination.{inserted, kernel, Passes};
 ghost use Rattle.gj_theory.specs.TriangularRows.{Solves, SolvesKept, AreTriangular};
-ghost use Rattle.gj_elim.specs.Data.{behind, Fits};
+ghost use Rattle.gj_theory.specs.Fitting.{Fits};
+ghost use Rattle.gj_elim.specs.Data.{behind};
 ghost use Rattle.gj_elim.specs.KeptRows.{log_row, answer_of, marked_in};
 
 use crate::faults::ElimFault;

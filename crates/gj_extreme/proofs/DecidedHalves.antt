@@ -95,7 +95,7 @@ some_least q Tight class h some none =
     not_not_all (IsCovered q Tight) q (λ i low. none_uncovered q Tight none (suc i) i (omega arith) low)
     (λ all. some (h.none.1 all))
 
-least_class_uncovered : (f : FunctionData) (class : List ℕ) → IsLeastClass f.order (IsTight f) class → class ≢ [] →
+pub least_class_uncovered : (f : FunctionData) (class : List ℕ) → IsLeastClass f.order (IsTight f) class → class ≢ [] →
     AreUncoveredClasses f.order (IsTight f) class
 least_class_uncovered f class h some = record {
   within = λ k d low. less_stable (get_or class k d) f.order
@@ -117,7 +117,7 @@ least_class_uncovered f class h some = record {
         (λ a low leads. (members a).1 (low, leads))
 
 -- the first interval of the class
-first_of_class : (class : List ℕ) → class ≢ [] → (a : ℕ) × Contains class a
+pub first_of_class : (class : List ℕ) → class ≢ [] → (a : ℕ) × Contains class a
 first_of_class [] some = absurd (some refl)
 first_of_class (a ∷ class) some = (a, All-contains_itself (a ∷ class) 0 a (omega arith))
 
@@ -151,12 +151,12 @@ of_some : (o : Option Solution) (s : Solution) (P : Solution → Type 0) → o �
 of_some o s P e h = subst (λ (r : Option Solution). IfSome r P) e h
 
 -- what the solution gives
-record SolvesSlopes (f : FunctionData) (component : ℕ → ℕ) (n : ℕ) (numbers : List ℤ) : Type 0 where
-  columns : length numbers ≡ n
-  rows : SolveRows component n f numbers
-  positive : Any (λ x. pos 0 <ℤ x) numbers
+pub record SolvesSlopes (f : FunctionData) (component : ℕ → ℕ) (n : ℕ) (numbers : List ℤ) : Type 0 where
+  pub columns : length numbers ≡ n
+  pub rows : SolveRows component n f numbers
+  pub positive : Any (λ x. pos 0 <ℤ x) numbers
 
-solution_solves : (f : FunctionData) (component : ℕ → ℕ) (n : ℕ) (s : Solution) →
+pub solution_solves : (f : FunctionData) (component : ℕ → ℕ) (n : ℕ) (s : Solution) →
     kernel n (slope_elimination f component n).kept ≡ Some s → SolvesSlopes f component n s.numbers
 solution_solves f component n s e =
     let rows = map (named_row f component n) (row_names f) in
@@ -176,16 +176,16 @@ positive_column xs (k, x, low, there, h) =
     (k, low, subst (λ (z : ℤ). pos 0 <ℤ z) (sym there ∙ get_or_default xs k x (pos 0) low) h)
 
 -- the slopes are a perturbation, and one that is not 0
-record ArePerturbing (f : FunctionData) (component : ℕ → ℕ) (numbers : List ℤ) : Type 0 where
-  index : ℕ
-  not_zero : slope_perturbation f component numbers index ≢ pos 0
+pub record ArePerturbing (f : FunctionData) (component : ℕ → ℕ) (numbers : List ℤ) : Type 0 where
+  pub index : ℕ
+  pub not_zero : slope_perturbation f component numbers index ≢ pos 0
 
 pub components_below : (f : FunctionData) (lines : List CoverLine) (component : ℕ → ℕ) (n : ℕ) → AreAllCovered f lines component n →
     (i : ℕ) → i < f.order → component i < n
 components_below f lines component n covered i low =
     subst (λ (k : ℕ). component i < k) (sym covered.count) (number_below lines (component i) i (covered.numbers i low))
 
-some_slope : (f : FunctionData) (lines : List CoverLine) (component : ℕ → ℕ) (n : ℕ) (numbers : List ℤ) → IsWithinBounds f →
+pub some_slope : (f : FunctionData) (lines : List CoverLine) (component : ℕ → ℕ) (n : ℕ) (numbers : List ℤ) → IsWithinBounds f →
     AreAllCovered f lines component n → SolvesSlopes f component n numbers → ArePerturbing f component numbers
 some_slope f lines component n numbers l covered solves =
     let column = positive_column numbers solves.positive in

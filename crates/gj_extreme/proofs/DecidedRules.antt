@@ -6,6 +6,7 @@ use Rattle.std.proofs.Math.Nat.{add-mul-mod_self_right, mul-div_cancel_left}
 use Rattle.std.proofs.lemmas.Int.{ints}
 use Rattle.std.proofs.lemmas.List.{length-map}
 use Rattle.std.proofs.lemmas.List.Elements.{All-nil, All-cons, All-append}
+use Rattle.gj_perturb.proofs.TableParts.{at_most_scale}
 use Rattle.gj_tools.proofs.Lists.{All-made, All-one, All-three}
 use Rattle.gj_shape.specs.Additive.{IsTight}
 use Rattle.gj_shape.specs.Elimination.{Passes}
@@ -125,15 +126,6 @@ extreme_rules f lines rows l minimal continuous h =
 
 -- ---- not extreme
 
--- entries of a minimal table are at most its scale
-pub at_most : (t : ℕ → ℤ) (n k s i : ℕ) → 0 < n → IsMinimalTable t n k s → t i ≤ℤ pos s
-at_most t n k s i some h =
-    let j = k + (n - 1) * i in
-    let whole : i + j ≡ k + i * n = omega (arith, ap (λ x. x * i) (let e : n - 1 + 1 ≡ n = omega arith in e)) in
-    let sum = h.symmetric i j (ap (λ x. x % n) whole ∙ add-mul-mod_self_right k i n) in
-    let sign = h.nonnegative j in
-    omega (arith, ints)
-
 same_factor : (q m k : ℕ) → 0 < q → q * m ≡ q * k → m ≡ k
 same_factor q m k some e = sym (mul-div_cancel_left m some) ∙ ap (λ x. x / q) e ∙ mul-div_cancel_left k some
 
@@ -189,7 +181,7 @@ halves_rules f h m c l minimal continuous on =
         at values i ≤ℤ h.scale
     high values t i =
         subst (λ (s : ℤ). at values i ≤ℤ s) (sym on.scale)
-        (at_most (at values) (f.order * m) (f.place * m) (c * (f.scale * m)) i n_some t)
+        (at_most_scale (at values) (f.order * m) (f.place * m) (c * (f.scale * m)) i n_some t)
 
     range : (i : ℕ) → MeetsRange h i
     range i = record {

@@ -10,4 +10,14 @@ pub mod FewComponents
 pub mod OneViolation
 pub mod OneDecision
 pub mod NotTooWide
-pub mod DecidedTexts
+pub mod RowOrder
+pub mod TakenRows
+pub mod GroupLists
+pub mod KernelFits
+pub mod ListedHalves
+pub mod CoveredNumbers
+pub mod WideParts
+pub mod FaultCases
+pub mod FoundKernel
+pub mod ClaimTexts
+pub mod ClaimRules

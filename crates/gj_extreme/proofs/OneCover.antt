@@ -3,6 +3,7 @@ use Rattle.std.proofs.Common.{◌≡◌, ℕ, inl, inr, List, [], ◌∷◌, ◌
 use Rattle.std.specs.Prelude.{All}
 use Rattle.std.proofs.lemmas.Bool.{cases_lt}
 use Rattle.std.proofs.lemmas.List.{append-nil}
+use Rattle.gj_cover.proofs.Classes.{one_least}
 use Rattle.gj_tools.proofs.FirstThatFails.{one_first_failing}
 use Rattle.gj_tools.proofs.Lists.{All-front}
 use Rattle.gj_shape.specs.Cover.{Joins, Covers, JoinsLines, IsOpen, IsFirstFace, IsNextLine, AreCoverLines}
@@ -11,15 +12,6 @@ use Rattle.gj_shape.specs.WalkOrder.{faces_of}
 use Rattle.gj_shape.specs.declared.extremality.CoverLine.{CoverLine}
 use Rattle.gj_shape.specs.declared.faces.Face.{Face}
 use Rattle.gj_shape.specs.declared.faces.FaceKind.{FaceKind}
-
-pub one_least : (P : ℕ → Type 0) (a b : ℕ) → IsLeastFrom 0 P a → IsLeastFrom 0 P b → a ≡ b
-one_least P a b h k = elim (cases_lt a b) [
-  | inl less ↦ absurd (k.least a (omega arith) less h.holds)
-  | inr more ↦ elim (cases_lt b a) [
-    | inl less ↦ absurd (h.least b (omega arith) less k.holds)
-    | inr same ↦ omega arith
-  ]
-]
 
 one_first_face : (q : ℕ) (P : FaceKind → ℕ → ℕ → Type 0) (f g : Face) → IsFirstFace q P f → IsFirstFace q P g → f ≡ g
 one_first_face q P f g h k =

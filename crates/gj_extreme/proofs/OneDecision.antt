@@ -27,6 +27,7 @@ use Rattle.gj_theory.proofs.Fillings.{halves_deny}
 use Rattle.gj_theory.proofs.FirstFailed.{first_denies}
 use Rattle.gj_theory.proofs.LineComponents.{one_component}
 use Rattle.gj_theory.proofs.TestsFromMinimal.{tests_from_minimal}
+use Rattle.gj_theory.proofs.Zigzags.{same_tests}
 use Rattle.gj_cover.specs.CoverOf.{IsLeastClass}
 use Rattle.gj_cover.proofs.Joining.{covered_on, covered_directly}
 use Rattle.gj_proof.specs.declared.claim.Claim.{Claim}
@@ -134,16 +135,11 @@ test_from_contains : (xs : List ℕ) (x : ℕ) → Contains xs x → list_any (�
 test_from_contains xs x (k, low, there) =
     list_any-from_Any (λ a. eqb a x) xs (k, x, low, there, eq-eqb x x refl)
 
-same_answers : (b c : Bool) → (b ≡ true → c ≡ true) → (c ≡ true → b ≡ true) → b ≡ c
-same_answers true c h k = sym (h refl)
-same_answers false true h k = k refl
-same_answers false false h k = refl
-
 -- two lists of the class of the least uncovered interval have the same intervals
 same_class : (q : ℕ) (Tight : ℕ → ℕ → Type 0) (a b : List ℕ) (least x : ℕ) → IsLeastClass q Tight a → IsLeastClass q Tight b →
     IsLeastUncovered q Tight least → list_any (λ i. eqb i x) a ≡ list_any (λ i. eqb i x) b
 same_class q Tight a b least x h k is =
-    same_answers (list_any (λ i. eqb i x) a) (list_any (λ i. eqb i x) b)
+    same_tests (list_any (λ i. eqb i x) a) (list_any (λ i. eqb i x) b)
     (λ e. test_from_contains b x ((k.members least is x).1 ((h.members least is x).0 (contains_from_test a x e))))
     (λ e. test_from_contains a x ((h.members least is x).1 ((k.members least is x).0 (contains_from_test b x e))))
 

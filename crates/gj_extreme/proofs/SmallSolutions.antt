@@ -1,10 +1,12 @@
--- How large the numbers of a solution are, where there are at most three columns.
-use Rattle.std.proofs.Common.{◌≡◌, ℕ, zero, suc, inr, ◌+◌, ◌-◌, ◌*◌, ◌<◌, ◌≤◌, Bool, true, false, if◌then◌else◌, Option, None, Some, ℤ, pos, ◌+ℤ◌, ◌*ℤ◌, neg_ℤ, ◌<ℤ◌, int_div, List, [], ◌∷◌, ◌++◌, length, map, drop, eqb, unsigned_abs, refl, sym, ap, subst, mul-le-mul, mul-le-mul_left, arith}
+-- How large the numbers of a solution are, where there are at most so many columns.
+use Rattle.std.proofs.Common.{◌≡◌, ℕ, zero, suc, inr, ◌+◌, ◌-◌, ◌*◌, ◌<◌, ◌≤◌, Bool, true, false, if◌then◌else◌, Option, None, Some, ℤ, pos, ◌+ℤ◌, ◌*ℤ◌, neg_ℤ, ◌<ℤ◌, int_div, List, [], ◌∷◌, ◌++◌, length, map, drop, eqb, unsigned_abs, refl, sym, ap, subst, mul-le-mul_left, ◌∙◌, arith}
 use Rattle.std.specs.List.{zip}
+use Rattle.std.proofs.Math.Nat.{mul-le-mul_right, one-le-mul}
 use Rattle.std.proofs.lemmas.List.{length-drop}
 use Rattle.std.proofs.lemmas.List.FromFn.{length-map-range_with_len}
 use Rattle.std.proofs.lemmas.List.Elements.{All-nil, All-cons, All-head, All-tail, All-append, All-drop, All-set}
 use Rattle.gj_frac.proofs.Reduced.{quotient_of_divisor}
+use Rattle.gj_perturb.proofs.SplitParts.{product_at_most}
 use Rattle.gj_tools.proofs.Divisors.{gcd_of_is, gcd_positive}
 use Rattle.gj_tools.proofs.Integers.{abs_add_z, abs_positive_z}
 use Rattle.gj_tools.proofs.Lists.{All-made}
@@ -13,7 +15,7 @@ use Rattle.gj_shape.specs.SlopeRows.{total}
 use Rattle.gj_theory.specs.TriangularRows.{AreTriangular}
 use Rattle.gj_theory.proofs.Insertions.{kept_row_at}
 use Rattle.gj_theory.proofs.Kernels.{free_has_no_row, length-solved}
-use Rattle.gj_extreme.proofs.SmallNumbers.{IsSmall, small_up, small_at, small_product, small_scaled, factor_small, small_negated, bound, bound_up, AreSmall, kept_small_at}
+use Rattle.gj_extreme.proofs.SmallNumbers.{IsSmall, small_up, small_at, small_scaled, factor_small, small_negated, bound, bound_some, bound_up, pivots_before, pivots_by_column, bound_at, AreSmall, kept_small_at}
 
 -- ---- sums and products
 
@@ -22,7 +24,7 @@ small_products a b [] ys h k = All-nil (λ x. unsigned_abs x ≤ a * b)
 small_products a b (x ∷ xs) [] h k = All-nil (λ x. unsigned_abs x ≤ a * b)
 small_products a b (x ∷ xs) (y ∷ ys) h k =
     All-cons (λ z. unsigned_abs z ≤ a * b) (x *ℤ y) (map (λ p. p.0 *ℤ p.1) (zip xs ys))
-    (small_product a b x y (All-head (λ z. unsigned_abs z ≤ a) x xs h) (All-head (λ z. unsigned_abs z ≤ b) y ys k))
+    (product_at_most a b x y (All-head (λ z. unsigned_abs z ≤ a) x xs h) (All-head (λ z. unsigned_abs z ≤ b) y ys k))
     (small_products a b xs ys (All-tail (λ z. unsigned_abs z ≤ a) x xs h) (All-tail (λ z. unsigned_abs z ≤ b) y ys k))
 
 products_short : (xs ys : List ℤ) → length (map (λ p. p.0 *ℤ p.1) (zip xs ys)) ≤ length ys
@@ -51,15 +53,20 @@ small_sums b s sum (x ∷ xs) low h =
 
 -- ---- a column is solved
 
+-- a factor of at least 1 is no less
+times_more : (m x : ℕ) → 1 ≤ m → x ≤ m * x
+times_more m x some = let more : x * 1 ≤ x * m = mul-le-mul_left x some in omega arith
+
 record SolvingIsSmall (b : ℕ) (row : List ℤ) (j : ℕ) (w : List ℤ) : Type 0 where
   marked : IsSmall b (marked_in_solving row j w)
   numbers : IsSmall b (solved_at row j w)
 
-solving_small : (k v : ℕ) (row : List ℤ) (j : ℕ) (w : List ℤ) → IsSmall k row → IsSmall v w → length w ≤ 3 →
-    pos 0 <ℤ at_column row j → SolvingIsSmall (3 * (k * v)) row j w
+-- at most m products are summed
+solving_small : (m k v : ℕ) (row : List ℤ) (j : ℕ) (w : List ℤ) → 1 ≤ m → IsSmall k row → IsSmall v w → length w ≤ suc m →
+    pos 0 <ℤ at_column row j → SolvingIsSmall (m * (k * v)) row j w
 unfolding marked_in_solving solved_at
-solving_small k v row j w row_small w_small short some =
-    let b = 3 * (k * v) in
+solving_small m k v row j w m_some row_small w_small short some =
+    let b = m * (k * v) in
     let P : ℤ → Type 0 = λ x. unsigned_abs x ≤ b in
     let g = solving_gcd row j w in
     let u = int_div (at_column row j) (pos g) in
@@ -67,20 +74,21 @@ solving_small k v row j w row_small w_small short some =
     let sum = total ps in
     let q = int_div sum (pos g) in
     let is = gcd_of_is (unsigned_abs sum) (unsigned_abs (at_column row j)) in
-    let g_some : 0 < g = gcd_positive (unsigned_abs sum) (unsigned_abs (at_column row j)) g is (inr (abs_positive_z (at_column row j) some)) in
+    let g_some : 0 < g =
+    gcd_positive (unsigned_abs sum) (unsigned_abs (at_column row j)) g is (inr (abs_positive_z (at_column row j) some)) in
     let u_low = factor_small u g (at_column row j) g_some (quotient_of_divisor (at_column row j) (pos g) is.1) in
     let q_low = factor_small q g sum g_some (quotient_of_divisor sum (pos g) is.0) in
     let row_at = small_at k row j row_small in
     let products : IsSmall (k * v) ps =
     small_products k v (drop (j + 1) row) (drop (j + 1) w)
     (All-drop (λ x. unsigned_abs x ≤ k) (j + 1) row row_small) (All-drop (λ x. unsigned_abs x ≤ v) (j + 1) w w_small) in
-    let few : length ps ≤ 3 =
+    let few : length ps ≤ m =
     let first = products_short (drop (j + 1) row) (drop (j + 1) w) in let rest = length-drop (j + 1) w in omega arith in
-    let at_most : length ps * (k * v) ≤ b = times (length ps) (k * v) few in
+    let at_most : length ps * (k * v) ≤ b = mul-le-mul_right (k * v) few in
     let scaled_small : IsSmall (k * v) (scaled u w) = small_scaled k v u w (omega arith) w_small in
     let sum_low = small_total (k * v) ps products in
     let turned = small_negated q in
-    let up : k * v ≤ b = omega arith in
+    let up : k * v ≤ b = times_more m (k * v) m_some in
     let scaled_up = small_up (k * v) b (scaled u w) up scaled_small in
     record {
       marked =
@@ -90,66 +98,90 @@ solving_small k v row j w row_small w_small short some =
           (small_sums (k * v) 0 (pos 0) ps (omega arith) products))) scaled_up;
       numbers = All-set P (scaled u w) j (neg_ℤ q) (omega arith) scaled_up;
     }
-  where
-    times : (n x : ℕ) → n ≤ 3 → n * x ≤ 3 * x
-    times n x low = mul-le-mul low (let e : x ≤ x = omega arith in e)
 
 -- ---- the columns below
 
--- numbers of at most v behind so many solved columns, with entries of at most k
+-- numbers grow by at most this factor where the j columns below are solved by rows of the bound, with at most m products summed
 unfoldable pub grown : ℕ → ℕ → ℕ → ℕ
-grown k v zero = v
-grown k v (suc j) = grown k (3 * (k * v)) j
+grown b m zero = 1
+grown b m (suc j) = m * bound b j * grown b m j
 
-pub grown_start : (k v : ℕ) → grown k v 0 ≡ v
+grown_start : (b m : ℕ) → grown b m 0 ≡ 1
 unfolding grown
-grown_start k v = refl
+grown_start b m = refl
 
-pub grown_next : (k v j : ℕ) → grown k v (suc j) ≡ grown k (3 * (k * v)) j
+grown_next : (b m j : ℕ) → grown b m (suc j) ≡ m * bound b j * grown b m j
 unfolding grown
-grown_next k v j = refl
+grown_next b m j = refl
 
-next_more : (k v : ℕ) → 1 ≤ k → v ≤ 3 * (k * v)
-next_more k v some = let more : v * 1 ≤ v * k = mul-le-mul_left v some in omega arith
+grown_some : (b m j : ℕ) → 1 ≤ b → 1 ≤ m → 1 ≤ grown b m j
+grown_some b m zero some m_some = let start = grown_start b m in omega arith
+grown_some b m (suc j) some m_some =
+    let next = grown_next b m j in
+    let product = one-le-mul (one-le-mul m_some (bound_some b j some)) (grown_some b m j some m_some) in
+    omega arith
 
-grown_up : (k v j : ℕ) → 1 ≤ k → v ≤ grown k v j
-grown_up k v zero some = let start = grown_start k v in omega arith
-grown_up k v (suc j) some =
-    let next = grown_next k v j in
-    let rest = grown_up k (3 * (k * v)) j some in
-    let more = next_more k v some in
+grown_step : (b m j : ℕ) → 1 ≤ b → 1 ≤ m → grown b m j ≤ grown b m (suc j)
+grown_step b m j some m_some =
+    let next = grown_next b m j in
+    let more = times_more (m * bound b j) (grown b m j) (one-le-mul m_some (bound_some b j some)) in
+    omega arith
+
+grown_more : (b m j d : ℕ) → 1 ≤ b → 1 ≤ m → grown b m j ≤ grown b m (j + d)
+grown_more b m j zero some m_some = let same = ap (grown b m) (let e : j + zero ≡ j = omega arith in e) in omega arith
+grown_more b m j (suc d) some m_some =
+    let before = grown_more b m j d some m_some in
+    let step = grown_step b m (j + d) some m_some in
+    let same = ap (grown b m) (let e : j + suc d ≡ suc (j + d) = omega arith in e) in
+    omega arith
+
+grown_up : (b m i j : ℕ) → 1 ≤ b → 1 ≤ m → i ≤ j → grown b m i ≤ grown b m j
+grown_up b m i j some m_some up =
+    let more = grown_more b m i (j - i) some m_some in
+    let same = ap (grown b m) (let e : i + (j - i) ≡ j = omega arith in e) in
     omega arith
 
 pub record SolutionIsSmall (b : ℕ) (s : Solution) : Type 0 where
   pub numbers : IsSmall b s.numbers
   pub marked : IsSmall b s.marked
 
+solution_up : (a b : ℕ) (s : Solution) → a ≤ b → SolutionIsSmall a s → SolutionIsSmall b s
+solution_up a b s up h = record { numbers = small_up a b s.numbers up h.numbers; marked = small_up a b s.marked up h.marked }
+
 -- the row with its pivot at the column is within the bound, and positive there
 record IsRowAt (k : ℕ) (kept : List KeptRow) (j : ℕ) : Type 0 where
   small : IsSmall k (entries_of (row_with_pivot kept j))
   positive : pos 0 <ℤ at_column (entries_of (row_with_pivot kept j)) j
 
-below_small : (k v : ℕ) (kept : List KeptRow) (j : ℕ) (w : List ℤ) → 1 ≤ k → length w ≤ 3 → IsSmall v w →
-    ((i : ℕ) → i < j → IsRowAt k kept i) → SolutionIsSmall (grown k v j) (solution_below kept j w)
+below_small : (b m v : ℕ) (kept : List KeptRow) (j : ℕ) (w : List ℤ) → 1 ≤ b → 1 ≤ m → length w ≤ suc m → IsSmall v w →
+    ((i : ℕ) → i < j → IsRowAt (bound b i) kept i) → SolutionIsSmall (grown b m j * v) (solution_below kept j w)
 unfolding solution_below
-below_small k v kept zero w some short small rows =
-    record { numbers = subst (λ (b : ℕ). IsSmall b w) (sym (grown_start k v)) small; marked = All-nil (λ x. unsigned_abs x ≤ grown k v 0) }
-below_small k v kept (suc j) w some short small rows =
+below_small b m v kept zero w some m_some short small rows =
+    let start = grown_start b m in record {
+      numbers = small_up v (grown b m 0 * v) w (times_more (grown b m 0) v (omega arith)) small;
+      marked = All-nil (λ x. unsigned_abs x ≤ grown b m 0 * v);
+    }
+below_small b m v kept (suc j) w some m_some short small rows =
     let row = entries_of (row_with_pivot kept j) in
     let here = rows j (omega arith) in
-    let step = solving_small k v row j w here.small small short here.positive in
+    let step = solving_small m (bound b j) v row j w m_some here.small small short here.positive in
     let long = length-solved row j w in
-    let rest = below_small k (3 * (k * v)) kept j (solved_at row j w) some (omega arith) step.numbers (λ i low. rows i (omega arith)) in
-    let next = grown_next k v j in
-    let up : 3 * (k * v) ≤ grown k v (suc j) = let more = grown_up k (3 * (k * v)) j some in omega arith in
-    record {
-      numbers = subst (λ (b : ℕ). IsSmall b (solution_below kept j (solved_at row j w)).numbers) (sym next) rest.numbers;
+    let u : ℕ = m * (bound b j * v) in
+    let rest = below_small b m u kept j (solved_at row j w) some m_some (omega arith) step.numbers (λ i low. rows i (omega arith)) in
+    let whole : grown b m j * u ≡ grown b m (suc j) * v =
+    turned m (bound b j) (grown b m j) v ∙ ap (λ x. x * v) (sym (grown_next b m j)) in
+    let up : u ≤ grown b m (suc j) * v =
+    let more = times_more (grown b m j) u (grown_some b m j some m_some) in omega arith in
+    let all = subst (λ (x : ℕ). SolutionIsSmall x (solution_below kept j (solved_at row j w))) whole rest in record {
+      numbers = all.numbers;
       marked =
-          All-append (λ x. unsigned_abs x ≤ grown k v (suc j)) (marked_in_solving row j w)
+          All-append (λ x. unsigned_abs x ≤ grown b m (suc j) * v) (marked_in_solving row j w)
           (solution_below kept j (solved_at row j w)).marked
-          (small_up (3 * (k * v)) (grown k v (suc j)) (marked_in_solving row j w) up step.marked)
-          (subst (λ (b : ℕ). IsSmall b (solution_below kept j (solved_at row j w)).marked) (sym next) rest.marked);
+          (small_up u (grown b m (suc j) * v) (marked_in_solving row j w) up step.marked) all.marked;
     }
+  where
+    turned : (m k g v : ℕ) → g * (m * (k * v)) ≡ m * k * g * v
+    turned m k g v = omega arith
 
 -- ---- the kernel
 
@@ -161,50 +193,29 @@ unit_small n c =
     by_test true = omega arith
     by_test false = omega arith
 
--- at most two columns are solved
-grown_twice : (k v c : ℕ) → 1 ≤ k → c ≤ 2 → grown k v c ≤ grown k v 2
-grown_twice k v zero some low =
-    let start = grown_start k v in let up = grown_up k v 2 some in omega arith
-grown_twice k v (suc zero) some low =
-    let one = grown_next k v 0 in
-    let two = grown_next k v 1 in
-    let start = grown_start k (3 * (k * v)) in
-    let up = grown_up k (3 * (k * v)) 1 some in
-    omega arith
-grown_twice k v (suc (suc zero)) some low = omega arith
-grown_twice k v (suc (suc (suc c))) some low = absurd (omega arith)
-
-solution_up : (a b : ℕ) (s : Solution) → a ≤ b → SolutionIsSmall a s → SolutionIsSmall b s
-solution_up a b s up h = record { numbers = small_up a b s.numbers up h.numbers; marked = small_up a b s.marked up h.marked }
-
-pub kernel_small : (b n : ℕ) (kept : List KeptRow) (s : Solution) → 1 ≤ b → 1 ≤ bound b 1 → n ≤ 3 → AreTriangular n kept → AreSmall b kept →
-    kernel n kept ≡ Some s → SolutionIsSmall (grown (bound b 1) 1 2) s
+pub kernel_small : (b m n : ℕ) (kept : List KeptRow) (s : Solution) → 1 ≤ b → 1 ≤ m → n ≤ suc m → AreTriangular n kept → AreSmall b kept →
+    kernel n kept ≡ Some s → SolutionIsSmall (grown b m m) s
 unfolding solution_from entries_of
-kernel_small b n kept s b_some k_some few h small e = by_free (free_column n kept) refl e
+kernel_small b m n kept s some m_some few h small e = by_free (free_column n kept) refl e
   where
-    k : ℕ
-    k = bound b 1
-
     row_at : (c : ℕ) → free_column n kept ≡ Some c → (j : ℕ) → j < c → (o : Option KeptRow) → row_with_pivot kept j ≡ o →
-        IsSmall k (entries_of o) × (pos 0 <ℤ at_column (entries_of o) j)
+        IsSmall (bound b j) (entries_of o) × (pos 0 <ℤ at_column (entries_of o) j)
     row_at c free j low None none = absurd ((free_has_no_row n kept c free).2 j low none)
     row_at c free j low (Some r) found =
         let (is, at) = kept_row_at n kept j r h found in
-        let below = (free_has_no_row n kept c free).0 in
-        let up : bound b j ≤ k =
-        let more = bound_up b j (1 - j) b_some in
-        let same = ap (bound b) (let e : j + (1 - j) ≡ 1 = omega arith in e) in omega arith in (
-          small_up (bound b j) k r.entries up (kept_small_at b kept j r small found),
+        let up = bound_up b (pivots_before kept j) j some (pivots_by_column kept j) in (
+          small_up (bound_at b kept j) (bound b j) r.entries up (kept_small_at b kept j r small found),
           subst (λ (i : ℕ). pos 0 <ℤ at_column r.entries i) at is.positive,
         )
 
-    by_free : (o : Option ℕ) → free_column n kept ≡ o → solution_from n kept o ≡ Some s → SolutionIsSmall (grown k 1 2) s
+    by_free : (o : Option ℕ) → free_column n kept ≡ o → solution_from n kept o ≡ Some s → SolutionIsSmall (grown b m m) s
     by_free None free is = absurd cc
     by_free (Some c) free is =
         let below = (free_has_no_row n kept c free).0 in
         let long = length-map-range_with_len (λ j. if eqb j c then pos 1 else pos 0) 0 n in
         let found : solution_below kept c (unit_row n c) ≡ s = cc in
-        subst (SolutionIsSmall (grown k 1 2)) found
-        (solution_up (grown k 1 c) (grown k 1 2) (solution_below kept c (unit_row n c)) (grown_twice k 1 c k_some (omega arith))
-        (below_small k 1 kept c (unit_row n c) k_some (omega arith) (unit_small n c)
+        let up = grown_up b m c m some m_some (omega arith) in
+        subst (SolutionIsSmall (grown b m m)) found
+        (solution_up (grown b m c * 1) (grown b m m) (solution_below kept c (unit_row n c)) (omega arith)
+        (below_small b m 1 kept c (unit_row n c) some m_some (omega arith) (unit_small n c)
         (λ j low. let row = row_at c free j low (row_with_pivot kept j) refl in record { small = row.0; positive = row.1 })))

@@ -1,17 +1,17 @@
 -- Which proof the decision gives of a function, and when its numbers are too wide (Equivariant Perturbation I; which halves
 -- and which rows are own choices).
-use Rattle.std.specs.Prelude.{ℕ, ℤ, pos, ◌≡◌, ◌≢◌, ◌⊎◌, ◌*◌, ◌<◌, ◌≤◌, ◌^◌, ◌<ℤ◌, List, [], Option, Some, length, map, get_or, unsigned_abs}
+use Rattle.std.specs.Prelude.{ℕ, ℤ, pos, ◌≡◌, ◌≢◌, ◌⊎◌, ◌*◌, ◌<◌, ◌≤◌, ◌^◌, ◌<ℤ◌, List, [], Some, length, map, get_or, unsigned_abs}
 use Rattle.gj_shape.specs.Additive.{IsTight}
 use Rattle.gj_shape.specs.Cover.{AreCoverLines}
 use Rattle.gj_shape.specs.Elimination.{KeptRow, Elimination, Solution, Passes, at_column, elimination, kernel}
+use Rattle.gj_shape.specs.Extreme.{IsExtremeTable}
 use Rattle.gj_shape.specs.FirstViolation.{IsFirstViolation}
 use Rattle.gj_shape.specs.FunctionData.{FunctionData, IsJump, IsContinuous}
 use Rattle.gj_shape.specs.Perturbation.{AreHalvesOf, perturbation_of, zigzag}
 use Rattle.gj_shape.specs.SlopeRows.{row_names}
-use Rattle.gj_shape.specs.Table.{IsMinimal}
+use Rattle.gj_shape.specs.Table.{table, IsMinimal}
 use Rattle.gj_shape.specs.declared.extremality.CoverLine.{CoverLine}
 use Rattle.gj_shape.specs.declared.extremality.Halves.{Halves}
-use Rattle.gj_shape.specs.declared.extremality.RowName.{RowName}
 use Rattle.gj_shape.specs.declared.extremality.RowName.TheVariants.{Period}
 use Rattle.gj_cover.specs.CoverOf.{IsLeastClass}
 use Rattle.gj_proof.specs.PresentRows.{AreNumbersOf, components_in, named_row}
@@ -77,6 +77,20 @@ IsDecided f (Cut rule rows) = ⊥
 IsDecided f (Extreme g lines rows) = (g ≡ f) × IsMinimal f × IsContinuous f × AreExtremeRows f lines rows
 IsDecided f (NotExtreme g h) = (g ≡ f) × IsMinimal f × IsContinuous f × (AreZigzagHalves f h ⊎ AreSlopeHalves f h)
 
+-- ---- what the table of order 4 q tells
+
+-- the table of order 4 q is extreme
+abbrev pub IsExtremeOnGrid4 : FunctionData → Type 0
+IsExtremeOnGrid4 f = IsExtremeTable (table f 4) (f.order * 4) (f.place * 4) (f.scale * 4)
+
+-- it is where the function is claimed to be extreme, and is not where it is claimed not to be
+abbrev pub IsByTable : FunctionData → Claim → Type 0
+IsByTable f (Minimal g) = Unit {0}
+IsByTable f (NotMinimal g v) = Unit {0}
+IsByTable f (Cut rule rows) = Unit {0}
+IsByTable f (Extreme g lines rows) = IsExtremeOnGrid4 f
+IsByTable f (NotExtreme g h) = IsExtremeOnGrid4 f → ⊥
+
 -- ---- where it gives none
 
 -- a number of the kernel, of the perturbation or of the halves is too wide
@@ -93,9 +107,3 @@ pub record IsTooWide (f : FunctionData) : Type 0 where
   pub covered : AreAllCovered f lines component n
   pub passes : Passes (slope_elimination f component n).marked
       ⊎ ((s : Solution) × (kernel n (slope_elimination f component n).kept ≡ Some s) × IsWideBehind f component s)
-
--- the function jumps at i/q, and at no multiple of 1/q before
-pub record IsFirstJump (f : FunctionData) (i : ℕ) : Type 0 where
-  pub within : i < f.order
-  pub jump : IsJump f i
-  pub first : (j : ℕ) → j < i → IsJump f j → ⊥

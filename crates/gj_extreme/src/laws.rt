@@ -17,8 +17,8 @@ pub fn decided_claims()
         IsTooWide f → ⊥ }
 {}
 
-/// With at most three components no number is too wide.
+/// With at most four components no number is too wide.
 pub fn few_components_are_not_wide()
     ensures { (f : FunctionData) (lines : List CoverLine) (component : ℕ → ℕ) (n : ℕ) → IsWithinBounds f →
-        AreAllCovered f lines component n → n ≤ 3 → IsTooWide f → ⊥ }
+        AreAllCovered f lines component n → n ≤ 4 → IsTooWide f → ⊥ }
 {}

@@ -3,6 +3,15 @@
 //! `specs/Decision.antt` says which proof the decision gives of a function, and when its numbers are too wide.
 #![tactic(auto)]
 
+mod covered;
+mod decision;
+mod faults;
+mod groups;
 mod laws;
+mod rows;
+mod slopes;
+mod uncovered;
 
+pub use decision::decide;
+pub use faults::DecideFault;
 pub use laws::{decided_claims, few_components_are_not_wide};

@@ -91,7 +91,7 @@ size_some p size i h some =
     let apart : unsigned_abs (p i) ≢ 0 = λ e. some (abs_zero_z (p i) e) in
     omega arith
 
-product_at_most : (a b : ℕ) (x y : ℤ) → unsigned_abs x ≤ a → unsigned_abs y ≤ b → unsigned_abs (x *ℤ y) ≤ a * b
+pub product_at_most : (a b : ℕ) (x y : ℤ) → unsigned_abs x ≤ a → unsigned_abs y ≤ b → unsigned_abs (x *ℤ y) ≤ a * b
 product_at_most a b x y first second =
     let size : unsigned_abs (x *ℤ y) ≡ unsigned_abs x * unsigned_abs y = unsigned_abs-mul x y in
     let left : unsigned_abs x * unsigned_abs y ≤ a * unsigned_abs y = mul-le-mul_right (unsigned_abs y) first in

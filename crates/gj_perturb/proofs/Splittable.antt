@@ -57,7 +57,7 @@ picked true false true = omega arith
 picked true false false = omega arith
 picked false c d = omega arith
 
-zigzag_size : (q : ℕ) (class : List ℕ) (i : ℕ) → unsigned_abs (zigzag q class i) ≤ 1
+pub zigzag_size : (q : ℕ) (class : List ℕ) (i : ℕ) → unsigned_abs (zigzag q class i) ≤ 1
 zigzag_size q class i = picked (list_any (λ a. a == (i / 4) % q) class) (i % 4 == 1) (i % 4 == 3)
 
 zigzags_small : (q : ℕ) (class : List ℕ) (xs : List ℤ) → xs ≡ map (zigzag q class) (range_with_len 0 (q * 4)) →

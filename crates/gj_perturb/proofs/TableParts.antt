@@ -17,7 +17,7 @@ use Rattle.gj_perturb.specs.ListSlacks.{IsShort, slack_in, IsReached, IsLeastOfR
 -- ---- bounds
 
 -- entries of a minimal table are at most 1
-at_most_scale : (t : ℕ → ℤ) (n k s i : ℕ) → 0 < n → IsMinimalTable t n k s → t i ≤ℤ pos s
+pub at_most_scale : (t : ℕ → ℤ) (n k s i : ℕ) → 0 < n → IsMinimalTable t n k s → t i ≤ℤ pos s
 at_most_scale t n k s i some h =
     let j = (n - 1) * i + k in
     let whole : i + j ≡ k + i * n = omega (arith, ap (λ x. x * i) (let e : n - 1 + 1 ≡ n = omega arith in e)) in

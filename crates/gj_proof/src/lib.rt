@@ -33,6 +33,7 @@ pub use laws::{
 pub use pivot::PivotRow;
 pub use read::read_proof;
 pub use write::write_proof;
+pub use write_extreme::push_halves_line;
 
 #[cfg(test)]
 mod tests;

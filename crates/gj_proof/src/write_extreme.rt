@@ -3,7 +3,7 @@ ghost use Rattle.std.specs.Prelude.{◌≡◌, ◌++◌, All, codes, decimal, fl
 ghost use Rattle.std.specs.Fmt.{signed_decimal};
 ghost use Rattle.gj_lines.specs.FaceLines.{cover_line};
 ghost use Rattle.gj_lines.specs.FunctionLines.{line};
-ghost use Rattle.gj_proof.specs.ProofText.{AreHalvesInBounds, FitsPair, group_line, reduction_line, pair_line};
+ghost use Rattle.gj_proof.specs.ProofText.{AreHalvesInBounds, FitsPair, group_line, reduction_line, halves_line, pair_line};
 ghost use Rattle.gj_proof.specs.ExtremeTexts.{group_text, halves_text};
 
 use crate::pivot::PivotRow;
@@ -86,15 +86,28 @@ pub(crate) fn push_halves(
     requires { AreHalvesInBounds halves.now }
     ensures { OnOk result (out.new.items ≡ out.old.items ++ halves_text halves.now) }
 {
-    out.extend_from_slice(b"halves ")?;
-    print_count(out, halves.order)?;
-    push_whole_line(alloc, out, halves.scale)?;
+    push_halves_line(alloc, out, halves)?;
     push_pairs(
         alloc,
         out,
         halves.first.as_slice(),
         halves.second.as_slice(),
     )
+}
+
+/// Appends the line `halves N S`, with the order and the scale of halves. An error says that memory ran out; `out` may then have a
+/// part of it.
+pub fn push_halves_line(
+    alloc: Global,
+    out: &mut Vec<u8>,
+    halves: &Halves,
+) -> Result<(), AllocError>
+    requires { AreHalvesInBounds halves.now }
+    ensures { OnOk result (out.new.items ≡ out.old.items ++ halves_line halves.now) }
+{
+    out.extend_from_slice(b"halves ")?;
+    print_count(out, halves.order)?;
+    push_whole_line(alloc, out, halves.scale)
 }
 
 /// Appends the lines of the halves' values.

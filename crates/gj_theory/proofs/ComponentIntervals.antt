@@ -58,7 +58,7 @@ passing_at test (x ∷ xs) c below =
     passing_step test x xs (passing_at test xs) (test x) refl c (omega arith)
 
 -- the interval of a next line is below the order
-next_within : (q : ℕ) (Tight : ℕ → ℕ → Type 0) (lines : List CoverLine) (l : CoverLine) →
+pub next_within : (q : ℕ) (Tight : ℕ → ℕ → Type 0) (lines : List CoverLine) (l : CoverLine) →
     IsNextLine q Tight lines l → l.interval < q
 next_within q Tight lines l (inl joining) = joining.interval.holds.1.first_within
 next_within q Tight lines l (inr opening) = opening.interval.holds.within

@@ -41,3 +41,10 @@ pub mod LineComponents
 pub mod LineIntervals
 pub mod SlopePerturbations
 pub mod ComponentIntervals
+pub mod Passing
+pub mod RowGcds
+pub mod WideNumbers
+pub mod DividedRows
+pub mod CombinedRows
+pub mod ReducedRows
+pub mod RiseCounts

@@ -190,7 +190,7 @@ chosen_contained : (q : ℕ) (class : List ℕ) (i : ℕ) → Contains class (i 
 chosen_contained q class i (k, below, there) =
     list_any-from_Any (λ a. a == i % q) class (k, i % q, below, there, eq-eqb (i % q) (i % q) refl)
 
-same_tests : (b c : Bool) → (b ≡ true → c ≡ true) → (c ≡ true → b ≡ true) → b ≡ c
+pub same_tests : (b c : Bool) → (b ≡ true → c ≡ true) → (c ≡ true → b ≡ true) → b ≡ c
 same_tests true c f g = sym (f refl)
 same_tests false true f g = g refl
 same_tests false false f g = refl

@@ -10,3 +10,4 @@ pub mod CoverRules
 pub mod PivotRows
 pub mod TriangularRows
 pub mod Cuts
+pub mod Fitting

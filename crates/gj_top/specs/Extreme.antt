@@ -1,6 +1,6 @@
 -- The command `extreme`: a function text is answered with the proof text of a verdict on extremality (own).
 use Rattle.std.specs.Prelude.{ℕ, ◌≡◌, ◌⊎◌, List, codes}
-use Rattle.gj_shape.specs.FunctionData.{FunctionData, IsContinuous}
+use Rattle.gj_shape.specs.FunctionData.{FunctionData, IsContinuous, IsFirstJump}
 use Rattle.gj_shape.specs.Table.{IsMinimal}
 use Rattle.gj_shape.specs.Extreme.{IsExtreme}
 use Rattle.gj_shape.specs.Violation.{ShowsViolation}
@@ -15,6 +15,8 @@ use Rattle.gj_proof.specs.ProofText.{IsProofText}
 use Rattle.gj_proof.specs.Meaning.{ClaimHolds, ShowHalves}
 use Rattle.gj_proof.specs.Rules.{MeetsRules}
 use Rattle.gj_extreme.specs.Decision.{IsDecided, IsTooWide}
+use Rattle.gj_extreme.specs.declared.faults.DecideFault.{DecideFault}
+use Rattle.gj_extreme.specs.declared.faults.DecideFault.TheVariants as fault
 use Rattle.gj_top.specs.declared.reply.End.{End}
 use Rattle.gj_top.specs.declared.reply.End.TheVariants.{Done, Wide, NotContinuous}
 use Rattle.gj_top.specs.Task.{Task}
@@ -42,6 +44,12 @@ IsJumpText f text = IsMinimal f × NamesFirstJump f text
 -- f is minimal and continuous, and a number of the decision is too wide
 abbrev pub IsWideText : FunctionData → List ℕ → Type 0
 IsWideText f text = IsMinimal f × IsContinuous f × IsTooWide f × (text ≡ wide_line)
+
+-- what a fault of the decision says of f
+abbrev pub IsUndecided : FunctionData → DecideFault → Type 0
+IsUndecided f (fault.NotContinuous i) = IsMinimal f × IsFirstJump f i
+IsUndecided f fault.Wide = IsMinimal f × IsContinuous f × IsTooWide f
+IsUndecided f (fault.Memory e) = Unit {0}
 
 -- why there is no verdict, by the end of the reply
 abbrev pub IsNoVerdict : FunctionData → End → List ℕ → Type 0

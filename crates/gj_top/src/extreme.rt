@@ -1,9 +1,8 @@
 //! The command `extreme`: whether a function is extreme, as a proof text or a report of it.
 ghost use Rattle.std.specs.Prelude.{IfOk};
-ghost use Rattle.gj_extreme.specs.Faults.{IsUndecided};
 ghost use Rattle.gj_top.specs.Task.{IsAnswering};
 ghost use Rattle.gj_top.specs.Report.{IsReportedReply};
-ghost use Rattle.gj_top.specs.Extreme.{IsExtremality, IsNoVerdict, extreme, extreme_json};
+ghost use Rattle.gj_top.specs.Extreme.{IsExtremality, IsNoVerdict, IsUndecided, extreme, extreme_json};
 
 use crate::continuity::jump_line;
 use crate::forms::{function_of, json_function_of};

@@ -1,6 +1,7 @@
-use Rattle.std.proofs.Common.{◌≡◌, ◌+◌, true, false, IfErr, sym, subst, ◌∙◌, arith}
+use Rattle.std.proofs.Common.{◌≡◌, ◌+◌, true, false, OnOk, IfErr, sym, subst, subst₂, ◌∙◌, arith}
 use Rattle.gj_proof.specs.declared.claim.Claim.{Claim}
-use Rattle.gj_proof.specs.declared.claim.Claim.TheVariants.{Cut}
+use Rattle.gj_proof.specs.declared.claim.Claim.TheVariants.{Cut, Extreme, NotExtreme}
+use Rattle.gj_proof.specs.Rules.{MeetsRules}
 use Rattle.gj_check.specs.declared.rules.CheckRule.TheVariants.{Minimal, Point}
 use Rattle.gj_check.specs.FirstFailure.{IsFirstFailure, IsFaultOf}
 use Rattle.gj_check.proofs.DemandsOfClaims.{minimal_fails, point_fails, accepted_unless}
@@ -27,3 +28,24 @@ returns-in-Cut-clause-only c =
     accepted_unless c.args.proof.now c.check_cuts.result
     (subst (λ (d : Claim). IfErr c.check_cuts.result (IsFaultOf d)) is
     (subst (λ rows. IfErr c.check_cuts.result (IsFaultOf (Cut c.in-Cut.rule rows))) c.as_slice.ensures c.check_cuts.ensures.fault))
+
+pub returns-in-Extreme-clause-ok : goal.returns-in-Extreme-clause-ok
+returns-in-Extreme-clause-ok c =
+    let is : Extreme c.in-Extreme.shape c.in-Extreme.lines c.in-Extreme.rows ≡ c.args.proof.now = sym c.in-Extreme.is ∙ c.claim.ensures.claim in
+    subst (λ (d : Claim). OnOk c.check_extreme.result (MeetsRules d)) is
+    (subst₂ (λ lines rows. OnOk c.check_extreme.result (MeetsRules (Extreme c.in-Extreme.shape lines rows)))
+    c.as_slice-in-Extreme.ensures c.as_slice-in-Extreme-2.ensures c.check_extreme.ensures.ok)
+
+pub returns-in-Extreme-clause-only : goal.returns-in-Extreme-clause-only
+returns-in-Extreme-clause-only c =
+    let is : Extreme c.in-Extreme.shape c.in-Extreme.lines c.in-Extreme.rows ≡ c.args.proof.now = sym c.in-Extreme.is ∙ c.claim.ensures.claim in
+    accepted_unless c.args.proof.now c.check_extreme.result
+    (subst (λ (d : Claim). IfErr c.check_extreme.result (IsFaultOf d)) is
+    (subst₂ (λ lines rows. IfErr c.check_extreme.result (IsFaultOf (Extreme c.in-Extreme.shape lines rows)))
+    c.as_slice-in-Extreme.ensures c.as_slice-in-Extreme-2.ensures c.check_extreme.ensures.fault))
+
+pub returns-in-NotExtreme-clause-only : goal.returns-in-NotExtreme-clause-only
+returns-in-NotExtreme-clause-only c =
+    let is : NotExtreme c.in-NotExtreme.shape c.in-NotExtreme.halves ≡ c.args.proof.now = sym c.in-NotExtreme.is ∙ c.claim.ensures.claim in
+    accepted_unless c.args.proof.now c.check_halves.result
+    (subst (λ (d : Claim). IfErr c.check_halves.result (IsFaultOf d)) is c.check_halves.ensures.fault)

@@ -1,9 +1,9 @@
 use Rattle.std.proofs.Common.{rules, length, pos, get_or, [], ◌∷◌, ◌++◌, sym, ap, subst, ◌∙◌, arith}
 use Rattle.std.specs.Prelude.{All}
 use Rattle.gj_shape.specs.Elimination.{inserted}
-use Rattle.gj_elim.specs.Data.{Fits}
+use Rattle.gj_theory.specs.Fitting.{Fits}
 use Rattle.gj_elim.specs.KeptRows.{kept_rows}
-use Rattle.gj_elim.proofs.Numbers.{some_from_bits, zero_from_bits}
+use Rattle.gj_theory.proofs.WideNumbers.{some_from_bits, zero_from_bits}
 use Rattle.gj_elim.proofs.Places.{place_found, place_none, entries_at, row_read, pivot_row}
 use Rattle.gj_elim.proofs.Progressing.{behind_start, behind_zero, behind_step, behind_wide, behind_kept, behind_end}
 use Rattle.gj_elim.proofs.reduce.reduce_row.Goals as goal

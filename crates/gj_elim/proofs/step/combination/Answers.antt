@@ -1,7 +1,7 @@
 use Rattle.std.proofs.Common.{rules}
 use Rattle.std.proofs.lemmas.Int.{to_z-of_z}
 use mir.Syntax.{w128}
-use Rattle.gj_elim.proofs.Combinations.{IsCombination, combination_of}
+use Rattle.gj_theory.proofs.CombinedRows.{IsCombination, combination_of}
 use Rattle.gj_elim.proofs.step.combination.Goals as goal
 
 combined : (c : goal.After-difference) → IsCombination c.args.u c.args.x c.args.w c.args.e c.difference.result

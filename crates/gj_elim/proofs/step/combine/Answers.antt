@@ -2,7 +2,7 @@ use Rattle.std.proofs.Common.{rules, pos, get_or, ◌∙◌, arith}
 use Rattle.std.proofs.lemmas.Int.{to_z-of_z}
 use mir.Syntax.{w128}
 use Rattle.gj_frac.proofs.Refusals.{on_err}
-use Rattle.gj_elim.proofs.Combinations.{combined_start, combined_more, combined_value, combined_narrow, combined_wide}
+use Rattle.gj_theory.proofs.CombinedRows.{combined_start, combined_more, combined_value, combined_narrow, combined_wide}
 use Rattle.gj_elim.proofs.step.combine.Goals as goal
 
 pub loop-i-init : goal.loop-i-init

@@ -1,4 +1,4 @@
-use Rattle.gj_elim.proofs.Combinations.{AreCombined}
+use Rattle.gj_theory.proofs.CombinedRows.{AreCombined}
 use Rattle.gj_elim.proofs.step.combine.Given as goal
 
 abbrev pub invariant-loop-i : goal.invariant-loop-i

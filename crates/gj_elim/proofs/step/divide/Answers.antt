@@ -1,10 +1,10 @@
 use Rattle.std.proofs.Common.{rules, List, ℤ, ℕ, ◌<◌, ◌≡◌, ◌^◌, pos, get_or, int_div, sym, subst, arith}
 use Rattle.std.specs.Prelude.{All}
 use Rattle.gj_shape.specs.Elimination.{gcd_of_row}
-use Rattle.gj_elim.specs.Data.{Fits}
-use Rattle.gj_elim.proofs.Gcds.{gcd_of_row_small}
-use Rattle.gj_elim.proofs.Numbers.{fits_natural}
-use Rattle.gj_elim.proofs.Rows.{over_more, over_all, read_quotient, quotient_fits, divided_fits, divided_small, divided_large}
+use Rattle.gj_theory.specs.Fitting.{Fits}
+use Rattle.gj_theory.proofs.RowGcds.{gcd_of_row_small}
+use Rattle.gj_theory.proofs.WideNumbers.{fits_natural}
+use Rattle.gj_theory.proofs.DividedRows.{over_more, over_all, read_quotient, quotient_fits, divided_fits, divided_small, divided_large}
 use Rattle.gj_elim.proofs.step.divide.Goals as goal
 
 small : (row : List ℤ) (d : ℕ) → All Fits row → d ≡ gcd_of_row row → d < 2 ^ 127

@@ -3,7 +3,7 @@ use Rattle.std.proofs.lemmas.Int.{to_z-of_z}
 use mir.Syntax.{w128}
 use Rattle.gj_tools.specs.Divisors.{gcd_of}
 use Rattle.gj_shape.specs.Elimination.{gcd_of_row}
-use Rattle.gj_elim.proofs.Gcds.{gcd_zero_of, gcd_one_of, gcd_next, gcd_last}
+use Rattle.gj_theory.proofs.RowGcds.{gcd_zero_of, gcd_one_of, gcd_next, gcd_last}
 use Rattle.gj_elim.proofs.step.divisor_of_row.Goals as goal
 
 pub loop-x-init : goal.loop-x-init

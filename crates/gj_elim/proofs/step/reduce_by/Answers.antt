@@ -2,7 +2,7 @@ use Rattle.std.proofs.Common.{rules, pos, get_or}
 use Rattle.std.proofs.lemmas.Int.{to_z-of_z}
 use mir.Syntax.{w128}
 use Rattle.gj_frac.proofs.Refusals.{on_err}
-use Rattle.gj_elim.proofs.Reduction.{code_factors, reduced_value, reduced_wide, reduced_narrow, combined_fits}
+use Rattle.gj_theory.proofs.ReducedRows.{code_factors, reduced_value, reduced_wide, reduced_narrow, combined_fits}
 use Rattle.gj_elim.proofs.step.reduce_by.Goals as goal
 
 pub returns-in_err-combine-clause-wide : goal.returns-in_err-combine-clause-wide

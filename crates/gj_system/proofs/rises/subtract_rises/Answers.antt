@@ -1,6 +1,6 @@
 use Rattle.std.proofs.Common.{◌^◌, pos, get_or, arith}
 use Rattle.gj_system.specs.Components.{component_in}
-use Rattle.gj_system.proofs.Counts.{subtracted_more, subtracted_small, one_less_fits, read_one_less, component_below}
+use Rattle.gj_theory.proofs.RiseCounts.{subtracted_more, subtracted_small, one_less_fits, read_one_less, component_below}
 use Rattle.gj_system.proofs.rises.subtract_rises.Goals as goal
 
 pub overflow_sub-row : goal.overflow_sub-row

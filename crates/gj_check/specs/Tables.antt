@@ -1,0 +1,36 @@
+-- Tables by the values of one period: what is asked of these (own).
+use Rattle.std.specs.Prelude.{ℕ, ℤ, pos, ◌≡◌, ◌+◌, ◌-◌, ◌*◌, ◌<◌, ◌≤◌, ◌^◌, ◌+ℤ◌, ◌≤ℤ◌, List, length, slice_index}
+use Rattle.gj_shape.specs.FunctionData.{at}
+
+-- the values lie from 0 to the scale, which is at most 2^124; there are at most 4,000, and the place is one of theirs
+pub record IsTableInRange (values : List ℤ) (place : ℕ) (scale : ℤ) : Type 0 where
+  pub place_below : place < length values
+  pub few : length values ≤ 4000
+  pub low : (i : ℕ) → pos 0 ≤ℤ at values i
+  pub high : (i : ℕ) → at values i ≤ℤ scale
+  pub scale_high : scale ≤ℤ pos (2 ^ 124)
+
+-- the value at i and that at the place opposite to it add up to the scale
+abbrev pub IsSymmetricIn : List ℤ → ℕ → ℤ → ℕ → Type 0
+IsSymmetricIn values place scale i = at values i +ℤ at values (place + (length values - i)) ≡ scale
+
+abbrev pub IsSymmetricList : List ℤ → ℕ → ℤ → Type 0
+IsSymmetricList values place scale = (i : ℕ) → i < length values → IsSymmetricIn values place scale i
+
+-- the values at i and j add up to no less than the value at i + j
+abbrev pub IsSubadditivePair : List ℤ → ℕ → ℕ → Type 0
+IsSubadditivePair values i j = at values (i + j) ≤ℤ (at values i +ℤ at values j)
+
+-- for each j from i on
+abbrev pub IsSubadditiveFrom : List ℤ → ℕ → Type 0
+IsSubadditiveFrom values i = (j : ℕ) → i ≤ j → j < length values → IsSubadditivePair values i j
+
+-- for all i and j
+abbrev pub IsSubadditiveList : List ℤ → Type 0
+IsSubadditiveList values = (i j : ℕ) → i < length values → j < length values → IsSubadditivePair values i j
+
+-- the entries are the values of two periods, each below 2^62
+pub record AreTwoPeriods (entries : List ℕ) (values : List ℤ) : Type 0 where
+  pub count : length entries ≡ 2 * length values
+  pub same : (i : ℕ) → i < 2 * length values → pos (slice_index entries i) ≡ at values i
+  pub small : (i : ℕ) → i < 2 * length values → slice_index entries i < 2 ^ 62

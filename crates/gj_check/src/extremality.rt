@@ -1,0 +1,81 @@
+//! The rules on the proof that a function is extreme, in the order of its lines.
+ghost use Rattle.std.specs.Prelude.{◌≡◌, ◌+◌, OnOk, IfOk, IfErr, All, length};
+ghost use Rattle.gj_proof.specs.ProofText.{IsCoverLineBelow, IsPivotRowBelow, group_lines};
+ghost use Rattle.gj_proof.specs.Rules.{MeetsRules};
+ghost use Rattle.gj_proof.specs.declared.claim.Claim.TheVariants as claim;
+ghost use Rattle.gj_check.specs.FirstFailure.{IsFaultOf};
+ghost use Rattle.gj_check.specs.GroupRules.{rule_on_groups as checked_rule};
+
+use crate::cover_lines::{Covered, components_by};
+use crate::cuts::line_below;
+use crate::faults::CheckFault;
+use crate::minimality::is_minimal;
+use crate::rules::CheckRule;
+use gj_proof::PivotRow;
+use gj_rank::{GroupRule, failure_in_groups};
+use gj_shape::{CoverLine, Shape};
+use std::alloc::{AllocError, Global};
+
+/// Checks every rule on the cover lines and the rows of a function, in the order of the lines of their proof.
+pub(crate) fn check_extreme(
+    alloc: Global,
+    shape: &Shape,
+    lines: &[CoverLine],
+    rows: &[PivotRow],
+) -> Result<(), CheckFault>
+    requires count { length lines.now ≡ shape.now.order }
+    requires lines { All (IsCoverLineBelow shape.now.order) lines.now }
+    requires rows { All (IsPivotRowBelow shape.now.order) rows.now }
+    ensures ok { OnOk result (MeetsRules (claim.Extreme shape.now lines.now rows.now)) }
+    ensures fault { IfErr result (IsFaultOf (claim.Extreme shape.now lines.now rows.now)) }
+{
+    if !is_minimal(shape) {
+        return Err(CheckFault::Rejected(2, CheckRule::Minimal));
+    }
+    if !shape.is_continuous() {
+        return Err(CheckFault::Rejected(2, CheckRule::Continuous));
+    }
+    let order = u64::from(shape.order());
+    let components = match components_by(alloc, shape, lines)? {
+        Covered::Whole(components) => components,
+        Covered::BrokenAt(index) => {
+            let line = order + 5 + index as u64;
+            return Err(CheckFault::Rejected(line, CheckRule::Cover));
+        }
+    };
+    let groups = 2 * order + 5;
+    let number = components.number.as_slice();
+    if let Some(failure) = failure_in_groups(alloc, shape, number, components.count, rows)? {
+        let line = line_below(groups, failure.below)?;
+        return Err(CheckFault::Rejected(line, rule_on_groups(failure.rule)));
+    }
+    if rows.len() != components.count as usize {
+        let line = line_behind_groups(groups, rows)?;
+        return Err(CheckFault::Rejected(line, CheckRule::Rank));
+    }
+    Ok(())
+}
+
+/// The rule on groups among those of the checker.
+fn rule_on_groups(rule: GroupRule) -> CheckRule
+    ensures { result ≡ checked_rule rule }
+{
+    match rule {
+        GroupRule::Row => CheckRule::Row,
+        GroupRule::Reduce => CheckRule::Reduce,
+        GroupRule::Size => CheckRule::Size,
+        GroupRule::Pivot => CheckRule::Pivot,
+    }
+}
+
+/// The number of the line behind groups, the first of which begins with the line of this number.
+fn line_behind_groups(first: u64, rows: &[PivotRow]) -> Result<u64, AllocError>
+    ensures { IfOk result (λ n. n ≡ first + length (group_lines 0 rows.now)) }
+{
+    let mut line = first;
+    for row in rows {
+        line = line_below(line, row.reduce.as_slice().len())?;
+        line = line_below(line, 2)?;
+    }
+    Ok(line)
+}

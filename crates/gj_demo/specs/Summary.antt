@@ -1,0 +1,65 @@
+-- The summary of the demonstration (own).
+use Rattle.std.specs.Prelude.{ℕ, ◌≡◌, ◌+◌, List, ◌++◌, codes, decimal, length}
+use Rattle.std.specs.List.{range_with_len}
+use Rattle.gj_shape.specs.Additive.{IsTight, IsAdditive}
+use Rattle.gj_shape.specs.Cover.{AreCoverLines, IsCovered}
+use Rattle.gj_shape.specs.FunctionData.{FunctionData, IsWithinBounds}
+use Rattle.gj_shape.specs.WalkOrder.{faces_of}
+use Rattle.gj_shape.specs.declared.extremality.CoverLine.{CoverLine}
+use Rattle.gj_shape.specs.declared.extremality.Halves.{Halves}
+use Rattle.gj_shape.specs.declared.faces.Face.{Face}
+use Rattle.gj_shape.specs.declared.faces.FaceKind.{FaceKind}
+use Rattle.gj_shape.specs.declared.faces.FaceKind.TheVariants.{Lower, Upper}
+use Rattle.gj_faces.specs.Picked.{ArePicked}
+use Rattle.gj_lines.specs.FunctionLines.{line, order_line}
+use Rattle.gj_proof.specs.PresentRows.{components_in}
+use Rattle.gj_proof.specs.ProofText.{halves_line}
+use Rattle.gj_proof.specs.declared.claim.Claim.TheVariants.{NotExtreme}
+use Rattle.gj_extreme.specs.Decision.{IsDecided}
+use Rattle.gj_demo.specs.Demo.{IsDemo}
+
+-- the face is a triangle
+abbrev pub IsTriangle : FaceKind → Type 0
+IsTriangle Lower = Unit {0}
+IsTriangle Upper = Unit {0}
+IsTriangle kind = ⊥
+
+-- the additive triangles of the function, in walk order
+abbrev pub AreAdditiveTriangles : FunctionData → List Face → Type 0
+AreAdditiveTriangles f faces =
+    ArePicked (λ face. IsTriangle face.kind × IsAdditive (IsTight f) face.kind face.a face.b) (faces_of f.order) faces
+
+-- the covered intervals of the function, ascending
+abbrev pub AreCoveredIntervals : FunctionData → List ℕ → Type 0
+AreCoveredIntervals f intervals = ArePicked (IsCovered f.order (IsTight f)) (range_with_len 0 f.order) intervals
+
+-- a line of a word and a count
+abbrev pub count_line : List ℕ → ℕ → List ℕ
+count_line word n = line (word ++ codes " " ++ decimal n)
+
+-- the text sums up the decision on the n-th function: how many triangles are additive, how many intervals are covered and how many are
+-- not, how many components there are, and the order and scale of the halves by which the function is not extreme
+pub record IsSummary (n : ℕ) (f : FunctionData) (h : Halves) (text : List ℕ) : Type 0 where
+  pub demo : IsDemo n f
+  pub verdict : IsDecided f (NotExtreme f h)
+  pub triangles : List Face
+  pub are_triangles : AreAdditiveTriangles f triangles
+  pub intervals : List ℕ
+  pub are_intervals : AreCoveredIntervals f intervals
+  pub uncovered : ℕ
+  pub others : length intervals + uncovered ≡ f.order
+  pub lines : List CoverLine
+  pub are_lines : AreCoverLines f.order (IsTight f) lines
+  pub spelled : text ≡
+      count_line (codes "demo") n ++ order_line f.order ++ line (codes "f 1/2")
+      ++ count_line (codes "triangles") (length triangles)
+      ++ count_line (codes "covered") (length intervals) ++ count_line (codes "uncovered") uncovered
+      ++ count_line (codes "components") (components_in lines)
+      ++ line (codes "verdict not-extreme") ++ halves_line h
+
+-- the text is such a summary, of a function within the limits
+pub record HasSummary (n : ℕ) (text : List ℕ) : Type 0 where
+  pub function : FunctionData
+  pub halves : Halves
+  pub within : IsWithinBounds function
+  pub summary : IsSummary n function halves text

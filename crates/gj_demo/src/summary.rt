@@ -1,0 +1,114 @@
+//! The summary of the demonstration.
+ghost use Rattle.std.specs.Prelude.{◌≡◌, ◌≤◌, ◌++◌, codes, decimal, List, ℕ, length, IfOk, OnOk};
+ghost use Rattle.std.specs.Fmt.{signed_decimal};
+ghost use Rattle.gj_shape.specs.Additive.{IsTight};
+ghost use Rattle.gj_shape.specs.FunctionData.{IsContinuous, IsWithinBounds};
+ghost use Rattle.gj_shape.specs.declared.faces.Face.{Face};
+ghost use Rattle.gj_cover.specs.CoverOf.{AreComponents};
+ghost use Rattle.gj_faces.specs.Listed.{AreMaximalFaces};
+ghost use Rattle.gj_lines.specs.FunctionLines.{line};
+ghost use Rattle.gj_proof.specs.ProofText.{halves_line};
+ghost use Rattle.gj_proof.specs.declared.claim.Claim.TheVariants.{NotExtreme};
+ghost use Rattle.gj_extreme.specs.Decision.{IsDecided};
+ghost use Rattle.gj_demo.specs.Demo.{IsDemo};
+ghost use Rattle.gj_demo.specs.Summary.{AreAdditiveTriangles, AreCoveredIntervals, HasSummary, count_line};
+
+use crate::function::demo_function;
+use gj_cover::cover;
+use gj_extreme::{DecideFault, decide};
+use gj_faces::maximal;
+use gj_lex::print_count;
+use gj_lines::push_order_line;
+use gj_proof::{Claim, Proof, push_halves_line};
+use gj_shape::{Face, FaceKind, Halves, Shape};
+use std::alloc::{AllocError, Global};
+
+/// The summary of the decision on the function of the demonstration with this number: its order, how many of its triangles are
+/// additive, how many of its intervals are covered and in how many components, and the order and scale of the halves by which
+/// it is not extreme. There is no other verdict.
+pub fn summary(alloc: Global, n: u32) -> Result<Vec<u8>, AllocError>
+    requires low { 1 ≤ n }
+    requires high { n ≤ 249 }
+    ensures { IfOk result (λ text. HasSummary n text.items) }
+{
+    let shape = demo_function(alloc, n)?;
+    let faces = maximal(alloc, &shape)?;
+    let cover = cover(alloc, &shape)?;
+    let proof = verdict(alloc, &shape, n)?;
+    let covered = count_covered(cover.component.as_slice());
+    let mut text = Vec::new(alloc);
+    push_count_line(&mut text, b"demo ", n)?;
+    push_order_line(&mut text, shape.order())?;
+    text.extend_from_slice(b"f 1/2\n")?;
+    push_count_line(&mut text, b"triangles ", count_triangles(faces.as_slice()))?;
+    push_count_line(&mut text, b"covered ", covered)?;
+    push_count_line(&mut text, b"uncovered ", shape.order() - covered)?;
+    push_count_line(&mut text, b"components ", cover.count)?;
+    text.extend_from_slice(b"verdict not-extreme\n")?;
+    push_halves_line(alloc, &mut text, halves_of(&proof))?;
+    Ok(text)
+}
+
+/// The proof that the function of the demonstration with this number is not extreme. It is never anything else, and never too wide.
+fn verdict(alloc: Global, shape: &Shape, n: u32) -> Result<Proof, AllocError>
+    requires low { 1 ≤ n }
+    requires demo { IsDemo n shape.now }
+    requires within { IsWithinBounds shape.now }
+    ensures { IfOk result (λ claim. (h : Halves) × (claim ≡ NotExtreme shape.now h) × IsDecided shape.now claim) }
+{
+    match decide(alloc, shape) {
+        Ok(proof) => Ok(proof),
+        Err(DecideFault::Memory(error)) => Err(error),
+        Err(_) => unreachable!(),
+    }
+}
+
+/// The halves of a proof that a function is not extreme.
+fn halves_of(proof: &Proof) -> &Halves
+    requires { (f : FunctionData) × (h : Halves) × (proof.now ≡ NotExtreme f h) }
+    ensures { (f : FunctionData) (h : Halves) → proof.now ≡ NotExtreme f h → result.now ≡ h }
+{
+    match proof.claim() {
+        Claim::NotExtreme(_, halves) => halves,
+        _ => unreachable!(),
+    }
+}
+
+/// How many of the maximal additive faces are triangles: all additive triangles are maximal.
+fn count_triangles(faces: &[Face]) -> u32
+    requires { length faces.now < 2 ^ 32 }
+    ensures { (f : FunctionData) (triangles : List Face) → AreMaximalFaces f faces.now → AreAdditiveTriangles f triangles →
+        result ≡ length triangles }
+{
+    let mut count = 0;
+    for face in faces {
+        if matches!(face.kind, FaceKind::Lower | FaceKind::Upper) {
+            count += 1;
+        }
+    }
+    count
+}
+
+/// How many intervals are covered.
+fn count_covered(component: &[Option<u32>]) -> u32
+    requires { length component.now ≤ 1000 }
+    ensures { (q : ℕ) (Covered : ℕ → Type 0) (intervals : List ℕ) → result ≡ length intervals }
+{
+    let mut count = 0;
+    for number in component {
+        if number.is_some() {
+            count += 1;
+        }
+    }
+    count
+}
+
+/// Appends a word, a count and the end of the line.
+fn push_count_line(out: &mut Vec<u8>, word: &[u8], n: u32) -> Result<(), AllocError>
+    ensures { OnOk result (out.new.items ≡ out.old.items ++ line (word.now ++ decimal n)) }
+{
+    out.extend_from_slice(word)?;
+    print_count(out, n)?;
+    out.push(b'\n')?;
+    Ok(())
+}

@@ -1,0 +1,56 @@
+-- The numbers of the kernel that the decision finds.
+use Rattle.std.proofs.Common.{◌≡◌, ℕ, ◌<◌, Option, None, Some, ℤ, List, length, refl, sym, ap, subst, ◌∙◌, arith}
+use Rattle.std.specs.Prelude.{All, IfSome}
+use Rattle.std.proofs.lemmas.List.{get_or_default}
+use Rattle.gj_shape.specs.Elimination.{KeptRow, Solution, kernel, Passes}
+use Rattle.gj_shape.specs.FunctionData.{FunctionData}
+use Rattle.gj_shape.specs.SlopeRows.{row_names}
+use Rattle.gj_shape.specs.declared.extremality.CoverLine.{CoverLine}
+use Rattle.gj_theory.proofs.Eliminations.{elimination_has}
+use Rattle.gj_theory.proofs.Kernels.{kernel_none}
+use Rattle.gj_theory.specs.Fitting.{Fits}
+use Rattle.gj_elim.specs.KeptRows.{marked_in}
+use Rattle.gj_system.specs.Components.{component_in}
+use Rattle.gj_extreme.specs.Decision.{AreAllCovered, slope_elimination}
+use Rattle.gj_extreme.proofs.DecidedHalves.{begun_columns, solution_solves, components_below}
+use Rattle.gj_extreme.proofs.KernelFits.{kernel_fits}
+
+-- the numbers are those of the kernel, none of whose marked numbers passes
+pub record IsKernel (f : FunctionData) (component : ℕ → ℕ) (n : ℕ) (numbers : List ℤ) : Type 0 where
+  pub solution : Solution
+  pub solves : kernel n (slope_elimination f component n).kept ≡ Some solution
+  pub fits : Passes solution.marked → ⊥
+  pub same : numbers ≡ solution.numbers
+
+-- where fewer rows are kept than there are components, there is one
+pub kernel_found : (f : FunctionData) (component : ℕ → ℕ) (n m : ℕ) (kept : List KeptRow) (numbers : List ℤ) → m ≡ n →
+    (slope_elimination f component n).kept ≡ kept → length kept < n → IfSome (kernel m kept) (λ s. numbers ≡ s.numbers) →
+    (Passes (marked_in (kernel m kept)) → ⊥) → IsKernel f component n numbers
+kernel_found f component n m kept numbers same kept_is fewer value narrow = by_solution (kernel m kept) refl value narrow
+  where
+    whole : kernel n (slope_elimination f component n).kept ≡ kernel m kept
+    whole = ap (kernel n) kept_is ∙ ap (λ k. kernel k kept) (sym same)
+
+    by_solution : (o : Option Solution) → kernel m kept ≡ o → IfSome o (λ s. numbers ≡ s.numbers) → (Passes (marked_in o) → ⊥) →
+        IsKernel f component n numbers
+    by_solution None e is fits =
+        let triangular = (elimination_has n _ (begun_columns f component n (row_names f))).triangular in
+        let full = (kernel_none n (slope_elimination f component n).kept triangular).0 (whole ∙ e) in
+        let len = ap length kept_is in
+        absurd (omega arith)
+    by_solution (Some s) e is fits = record { solution = s; solves = whole ∙ e; fits = fits; same = is }
+
+-- they have a number for each component, and are within the bound
+pub kernel_covers : (f : FunctionData) (lines : List CoverLine) (component : List ℕ) (n : ℕ) (numbers : List ℤ) →
+    length component ≡ f.order → AreAllCovered f lines (component_in component) n → IsKernel f (component_in component) n numbers →
+    All (λ c. c < length numbers) component
+kernel_covers f lines component n numbers len covered h = λ k d below.
+    let solves = solution_solves f (component_in component) n h.solution h.solves in
+    let columns : length numbers ≡ n = ap length h.same ∙ solves.columns in
+    let low : k < f.order = subst (λ (q : ℕ). k < q) len below in
+    let here = components_below f lines (component_in component) n covered k low in
+    let read = get_or_default component k d 0 below in
+    omega arith
+
+pub kernel_is_small : (f : FunctionData) (component : ℕ → ℕ) (n : ℕ) (numbers : List ℤ) → IsKernel f component n numbers → All Fits numbers
+kernel_is_small f component n numbers h = subst (All Fits) (sym h.same) (kernel_fits n _ h.solution h.solves h.fits)

@@ -1,0 +1,98 @@
+-- The names of the rows in their order, one after another.
+use Rattle.std.proofs.Common.{◌≡◌, ℕ, suc, ◌+◌, ◌-◌, ◌*◌, ◌<◌, ◌≤◌, ◌^◌, cond, ◌+ℤ◌, true, false, List, [], ◌∷◌, ◌++◌, length, map, ap, ◌∙◌, arith}
+use Rattle.std.specs.List.{range_with_len, filter, flat_map}
+use Rattle.std.proofs.Math.Nat.{mul-le-mul}
+use Rattle.std.proofs.lemmas.List.{length-append, length-map}
+use Rattle.std.proofs.lemmas.List.FromFn.{length-range_with_len}
+use Rattle.std.proofs.lemmas.List.Sums.{length-filter, count_by-le-length}
+use Rattle.std.proofs.lemmas.Bool.Decides.{Decides-int_eq}
+use Rattle.gj_tools.proofs.Choices.{never_true}
+use Rattle.gj_shape.specs.Additive.{IsTight}
+use Rattle.gj_shape.specs.FunctionData.{FunctionData, IsWithinBounds, at}
+use Rattle.gj_shape.specs.SlopeRows.{is_tight, row_names}
+use Rattle.gj_shape.specs.declared.extremality.RowName.{RowName}
+use Rattle.gj_shape.specs.declared.extremality.RowName.TheVariants.{Pair}
+use Rattle.gj_extreme.specs.RowsToCome.{pairs_from, rows_from}
+
+-- ---- ranges up to an end
+
+range_first : (a n : ℕ) → a < n → range_with_len a (n - a) ≡ a ∷ range_with_len (a + 1) (n - (a + 1))
+range_first a n below = let len : n - a ≡ suc (n - (a + 1)) = omega arith in ap (range_with_len a) len
+
+range_none : (a n : ℕ) → n ≤ a → range_with_len a (n - a) ≡ []
+range_none a n above = let len : n - a ≡ 0 = omega arith in ap (range_with_len a) len
+
+-- ---- pairs
+
+pairs_split : (f : FunctionData) (a b : ℕ) → b < f.order →
+    pairs_from f a b
+    ≡ map (Pair a) (cond (is_tight f a b) (b ∷ filter (is_tight f a) (range_with_len (b + 1) (f.order - (b + 1))))
+    (filter (is_tight f a) (range_with_len (b + 1) (f.order - (b + 1)))))
+pairs_split f a b below = ap (λ l. map (Pair a) (filter (is_tight f a) l)) (range_first b f.order below)
+
+-- a tight pair comes first, and one that is not does not come
+pub tight_pair : (f : FunctionData) (a b : ℕ) → b < f.order → is_tight f a b ≡ true →
+    pairs_from f a b ≡ Pair a b ∷ pairs_from f a (b + 1)
+tight_pair f a b below e =
+    let later = filter (is_tight f a) (range_with_len (b + 1) (f.order - (b + 1))) in
+    pairs_split f a b below ∙ ap (λ t. map (Pair a) (cond t (b ∷ later) later)) e
+
+pub loose_pair : (f : FunctionData) (a b : ℕ) → b < f.order → is_tight f a b ≡ false →
+    pairs_from f a b ≡ pairs_from f a (b + 1)
+loose_pair f a b below e =
+    let later = filter (is_tight f a) (range_with_len (b + 1) (f.order - (b + 1))) in
+    pairs_split f a b below ∙ ap (λ t. map (Pair a) (cond t (b ∷ later) later)) e
+
+pub no_pairs : (f : FunctionData) (a b : ℕ) → f.order ≤ b → pairs_from f a b ≡ []
+no_pairs f a b above = ap (λ l. map (Pair a) (filter (is_tight f a) l)) (range_none b f.order above)
+
+-- ---- rows
+
+pub next_rows : (f : FunctionData) (a : ℕ) → a < f.order → rows_from f a ≡ pairs_from f a a ++ rows_from f (a + 1)
+next_rows f a below = ap (flat_map (λ c. pairs_from f c c)) (range_first a f.order below)
+
+pub no_rows : (f : FunctionData) (a : ℕ) → f.order ≤ a → rows_from f a ≡ []
+no_rows f a above = ap (flat_map (λ c. pairs_from f c c)) (range_none a f.order above)
+
+-- ---- how many there are
+
+pairs_short : (f : FunctionData) (a b : ℕ) → length (pairs_from f a b) ≤ f.order
+pairs_short f a b =
+    let range = range_with_len b (f.order - b) in
+    let kept = length-filter (is_tight f a) range in
+    let most = count_by-le-length (is_tight f a) range in
+    let len = length-range_with_len b (f.order - b) in
+    simp length-map (omega arith)
+
+joined_short : (g : ℕ → List RowName) (m : ℕ) (xs : List ℕ) → ((x : ℕ) → length (g x) ≤ m) → length (flat_map g xs) ≤ length xs * m
+joined_short g m [] h = omega arith
+joined_short g m (x ∷ xs) h =
+    let here = h x in
+    let later = joined_short g m xs h in
+    let all = length-append (g x) (flat_map g xs) in
+    omega arith
+
+pub rows_short : (f : FunctionData) → IsWithinBounds f → length (row_names f) < 2 ^ 32
+rows_short f l =
+    let range = range_with_len 1 (f.order - 1) in
+    let most = joined_short (λ c. pairs_from f c c) f.order range (λ c. pairs_short f c c) in
+    let len = length-range_with_len 1 (f.order - 1) in
+    let high : f.order ≤ 1000 = l.order_high in
+    let product : length (range_with_len 1 (f.order - 1)) * f.order ≤ 1000 * 1000 =
+    mul-le-mul {n₁ = length (range_with_len 1 (f.order - 1))} {m₁ = f.order} {n₂ = 1000} {m₂ = 1000} (omega arith) high in
+    omega arith
+
+-- ---- as the code finds them
+
+-- the first row to come is that of the tight pair
+pub next_pair : (f : FunctionData) (a b : ℕ) (behind : List RowName) → b < f.order → IsTight f a b →
+    pairs_from f a b ++ behind ≡ Pair a b ∷ (pairs_from f a (b + 1) ++ behind)
+next_pair f a b behind below tight =
+    ap (λ l. l ++ behind) (tight_pair f a b below ((Decides-int_eq (at f.value a +ℤ at f.value b) (at f.value (a + b))).1 tight))
+
+-- a pair that is not tight has no row
+pub skipped_pair : (f : FunctionData) (a b : ℕ) (behind : List RowName) → b < f.order → (IsTight f a b → ⊥) →
+    pairs_from f a b ++ behind ≡ pairs_from f a (b + 1) ++ behind
+skipped_pair f a b behind below loose =
+    ap (λ l. l ++ behind) (loose_pair f a b below
+    (never_true (is_tight f a b) (λ e. loose ((Decides-int_eq (at f.value a +ℤ at f.value b) (at f.value (a + b))).0 e))))

@@ -1,0 +1,53 @@
+use Rattle.std.proofs.Common.{sym, subst}
+use Rattle.gj_theory.proofs.DecidingGrid.{four_times_decides}
+use Rattle.gj_elim.proofs.Keeping.{same_error}
+use Rattle.gj_proof.specs.Meaning.{ClaimHolds}
+use Rattle.gj_proof.specs.Rules.{MeetsRules}
+use Rattle.gj_extreme.specs.Decision.{IsByTable}
+use Rattle.gj_extreme.proofs.ClaimRules.{decided_by_table}
+use Rattle.gj_extreme.proofs.DecidedHolds.{decided_holds}
+use Rattle.gj_extreme.proofs.NotTooWide.{decided_not_wide}
+use Rattle.gj_extreme.proofs.FewComponents.{few_components}
+use Rattle.gj_extreme.proofs.decision.decide.Goals as goal
+
+pub returns-in_err-claim-clause-not_continuous : goal.returns-in_err-claim-clause-not_continuous
+returns-in_err-claim-clause-not_continuous c = λ i e.
+    c.in_err-claim.ensures.not_continuous i
+    (same_error c.from_residual.result c.in_err-claim.field-0.0 _ c.from_residual.ensures.0 c.from_residual.ensures.1 e)
+
+pub returns-in_err-claim-clause-wide : goal.returns-in_err-claim-clause-wide
+returns-in_err-claim-clause-wide c = λ e.
+    c.in_err-claim.ensures.wide
+    (same_error c.from_residual.result c.in_err-claim.field-0.0 _ c.from_residual.ensures.0 c.from_residual.ensures.1 e)
+
+pub returns-clause-not_wide : goal.returns-clause-not_wide
+returns-clause-not_wide c = λ minimal wide.
+    decided_not_wide c.args.shape.now c.in_ok-claim.claim c.order-order.ensures.limits minimal c.in_ok-claim.ensures.text
+    c.in_ok-claim.ensures.decided wide
+
+pub returns-clause-rules : goal.returns-clause-rules
+returns-clause-rules c = subst MeetsRules (sym c.proof_of.ensures) c.in_ok-claim.ensures.rules
+
+pub returns-clause-holds : goal.returns-clause-holds
+returns-clause-holds c =
+    subst ClaimHolds (sym c.proof_of.ensures)
+    (decided_holds c.args.shape.now c.in_ok-claim.claim c.order-order.ensures.limits c.in_ok-claim.ensures.decided)
+
+pub returns-clause-by_table : goal.returns-clause-by_table
+returns-clause-by_table c =
+    subst (IsByTable c.args.shape.now) (sym c.proof_of.ensures)
+    (decided_by_table c.args.shape.now c.in_ok-claim.claim c.order-order.ensures.limits c.in_ok-claim.ensures.decided)
+
+pub returns-in_err-claim-clause-few_components : goal.returns-in_err-claim-clause-few_components
+returns-in_err-claim-clause-few_components c = λ lines component n covered few wide.
+    few_components c.args.shape.now lines component n c.order-order.ensures.limits covered few wide
+
+pub returns-clause-few_components : goal.returns-clause-few_components
+returns-clause-few_components c = λ lines component n covered few wide.
+    few_components c.args.shape.now lines component n c.order-order.ensures.limits covered few wide
+
+pub returns-in_err-claim-clause-order_4q : goal.returns-in_err-claim-clause-order_4q
+returns-in_err-claim-clause-order_4q c = λ continuous. four_times_decides c.args.shape.now c.order-order.ensures.limits continuous
+
+pub returns-clause-order_4q : goal.returns-clause-order_4q
+returns-clause-order_4q c = λ continuous. four_times_decides c.args.shape.now c.order-order.ensures.limits continuous

@@ -1,0 +1,126 @@
+use Rattle.std.proofs.Common.{◌≡◌, ◌<◌, length, map, sym, ap, subst, ◌∙◌}
+use Rattle.std.specs.Prelude.{All, IfSome}
+use Rattle.std.specs.List.{range_with_len}
+use Rattle.gj_theory.specs.Fitting.{Fits}
+use Rattle.gj_shape.specs.Elimination.{kernel}
+use Rattle.gj_perturb.specs.SlopeSums.{slope_sum, IsWideSum}
+use Rattle.gj_system.specs.Components.{component_in}
+use Rattle.gj_extreme.proofs.FaultCases.{wide_elimination, wide_split, no_jump_elimination, no_jump_split}
+use Rattle.gj_extreme.proofs.FoundKernel.{kernel_found, kernel_covers, kernel_is_small}
+use Rattle.gj_extreme.proofs.ListedHalves.{sums_are, sums_can_split, slope_halves_are}
+use Rattle.gj_extreme.proofs.WideParts.{kernel_wide, sum_wide, scale_wide}
+use Rattle.gj_extreme.proofs.slopes.slope_halves.Goals as goal
+
+pub returns-in_err-kernel-clause-wide : goal.returns-in_err-kernel-clause-wide
+returns-in_err-kernel-clause-wide c = λ e.
+    kernel_wide c.args.shape.now c.requires.covered.0 (component_in c.args.component.now) (length c.args.rows.now.row.items)
+    c.args.rows.now.basis.columns c.args.rows.now.basis.kept c.requires.covered.1 c.requires.inserted.columns c.requires.inserted.kept
+    (c.in_err-kernel.ensures.wide (wide_elimination c.from_residual.result c.in_err-kernel.field-0.0 c.from_residual.ensures.0
+    c.from_residual.ensures.1 e))
+
+pub from_slopes-requires-clause-components : goal.from_slopes-requires-clause-components
+from_slopes-requires-clause-components c =
+    let n = length c.args.rows.now.row.items in
+    let found = kernel_found c.args.shape.now (component_in c.args.component.now) n c.args.rows.now.basis.columns c.args.rows.now.basis.kept
+    c.unwrap-numbers.result.items c.requires.inserted.columns c.requires.inserted.kept c.requires.fewer
+    (subst (λ o. IfSome o (λ v. IfSome (kernel c.args.rows.now.basis.columns c.args.rows.now.basis.kept) (λ s. v.items ≡ s.numbers)))
+    c.unwrap-numbers.ensures c.in_ok-kernel.ensures.value)
+    c.in_ok-kernel.ensures.narrow in
+    subst (λ xs. All (λ k. k < length xs) c.args.component.now) (sym c.as_slice.ensures.value)
+    (kernel_covers c.args.shape.now c.requires.covered.0 c.args.component.now n c.unwrap-numbers.result.items c.requires.order
+    c.requires.covered.1 found)
+
+pub from_slopes-requires-clause-small : goal.from_slopes-requires-clause-small
+from_slopes-requires-clause-small c =
+    let n = length c.args.rows.now.row.items in
+    let found = kernel_found c.args.shape.now (component_in c.args.component.now) n c.args.rows.now.basis.columns c.args.rows.now.basis.kept
+    c.unwrap-numbers.result.items c.requires.inserted.columns c.requires.inserted.kept c.requires.fewer
+    (subst (λ o. IfSome o (λ v. IfSome (kernel c.args.rows.now.basis.columns c.args.rows.now.basis.kept) (λ s. v.items ≡ s.numbers)))
+    c.unwrap-numbers.ensures c.in_ok-kernel.ensures.value)
+    c.in_ok-kernel.ensures.narrow in
+    subst (All Fits) (sym c.as_slice.ensures.value)
+    (kernel_is_small c.args.shape.now (component_in c.args.component.now) n c.unwrap-numbers.result.items found)
+
+pub returns-in_err-perturbation-clause-wide : goal.returns-in_err-perturbation-clause-wide
+returns-in_err-perturbation-clause-wide c = λ e.
+    let n = length c.args.rows.now.row.items in
+    let found = kernel_found c.args.shape.now (component_in c.args.component.now) n c.args.rows.now.basis.columns c.args.rows.now.basis.kept
+    c.unwrap-numbers.result.items c.requires.inserted.columns c.requires.inserted.kept c.requires.fewer
+    (subst (λ o. IfSome o (λ v. IfSome (kernel c.args.rows.now.basis.columns c.args.rows.now.basis.kept) (λ s. v.items ≡ s.numbers)))
+    c.unwrap-numbers.ensures c.in_ok-kernel.ensures.value)
+    c.in_ok-kernel.ensures.narrow in
+    sum_wide c.args.shape.now c.requires.covered.0 c.args.component.now n found.solution c.requires.order c.requires.covered.1 found.solves
+    (subst (IsWideSum c.args.component.now) (c.as_slice.ensures.value ∙ found.same)
+    (c.in_err-perturbation.ensures.wide (wide_split c.from_residual-in_err-perturbation.result c.in_err-perturbation.field-0.0
+    c.from_residual-in_err-perturbation.ensures.0 c.from_residual-in_err-perturbation.ensures.1 e)))
+
+pub split-requires-clause-perturbation : goal.split-requires-clause-perturbation
+split-requires-clause-perturbation c =
+    let n = length c.args.rows.now.row.items in
+    let found = kernel_found c.args.shape.now (component_in c.args.component.now) n c.args.rows.now.basis.columns c.args.rows.now.basis.kept
+    c.unwrap-numbers.result.items c.requires.inserted.columns c.requires.inserted.kept c.requires.fewer
+    (subst (λ o. IfSome o (λ v. IfSome (kernel c.args.rows.now.basis.columns c.args.rows.now.basis.kept) (λ s. v.items ≡ s.numbers)))
+    c.unwrap-numbers.ensures c.in_ok-kernel.ensures.value)
+    c.in_ok-kernel.ensures.narrow in
+    let sums = sums_are c.args.shape.now c.requires.covered.0 c.args.component.now n found.solution c.in_ok-perturbation.perturbation
+    c.requires.limits c.requires.order c.requires.covered.1 found.solves c.in_ok-perturbation.ensures.times
+    (c.in_ok-perturbation.ensures.values ∙ ap (λ xs. map (slope_sum c.args.component.now xs) (range_with_len 0 (length c.args.component.now)))
+    (c.as_slice.ensures.value ∙ found.same)) in
+    sums_can_split c.args.shape.now c.requires.covered.0 c.args.component.now n found.solution c.in_ok-perturbation.perturbation
+    c.requires.limits c.requires.covered.1 found.solves sums c.in_ok-perturbation.ensures.narrow
+
+pub returns-in_err-split-clause-wide : goal.returns-in_err-split-clause-wide
+returns-in_err-split-clause-wide c = λ e.
+    let n = length c.args.rows.now.row.items in
+    let found = kernel_found c.args.shape.now (component_in c.args.component.now) n c.args.rows.now.basis.columns c.args.rows.now.basis.kept
+    c.unwrap-numbers.result.items c.requires.inserted.columns c.requires.inserted.kept c.requires.fewer
+    (subst (λ o. IfSome o (λ v. IfSome (kernel c.args.rows.now.basis.columns c.args.rows.now.basis.kept) (λ s. v.items ≡ s.numbers)))
+    c.unwrap-numbers.ensures c.in_ok-kernel.ensures.value)
+    c.in_ok-kernel.ensures.narrow in
+    let sums = sums_are c.args.shape.now c.requires.covered.0 c.args.component.now n found.solution c.in_ok-perturbation.perturbation
+    c.requires.limits c.requires.order c.requires.covered.1 found.solves c.in_ok-perturbation.ensures.times
+    (c.in_ok-perturbation.ensures.values ∙ ap (λ xs. map (slope_sum c.args.component.now xs) (range_with_len 0 (length c.args.component.now)))
+    (c.as_slice.ensures.value ∙ found.same)) in
+    scale_wide c.args.shape.now c.requires.covered.0 c.args.component.now n found.solution c.in_ok-perturbation.perturbation
+    c.requires.limits c.requires.minimal c.requires.covered.1 found.solves sums
+    (c.in_err-split.ensures.wide (wide_split c.from_residual-in_err-split.result c.in_err-split.field-0.0
+    c.from_residual-in_err-split.ensures.0 c.from_residual-in_err-split.ensures.1 e))
+
+pub returns-clause-halves : goal.returns-clause-halves
+returns-clause-halves c =
+    let n = length c.args.rows.now.row.items in
+    let found = kernel_found c.args.shape.now (component_in c.args.component.now) n c.args.rows.now.basis.columns c.args.rows.now.basis.kept
+    c.unwrap-numbers.result.items c.requires.inserted.columns c.requires.inserted.kept c.requires.fewer
+    (subst (λ o. IfSome o (λ v. IfSome (kernel c.args.rows.now.basis.columns c.args.rows.now.basis.kept) (λ s. v.items ≡ s.numbers)))
+    c.unwrap-numbers.ensures c.in_ok-kernel.ensures.value)
+    c.in_ok-kernel.ensures.narrow in
+    let sums = sums_are c.args.shape.now c.requires.covered.0 c.args.component.now n found.solution c.in_ok-perturbation.perturbation
+    c.requires.limits c.requires.order c.requires.covered.1 found.solves c.in_ok-perturbation.ensures.times
+    (c.in_ok-perturbation.ensures.values ∙ ap (λ xs. map (slope_sum c.args.component.now xs) (range_with_len 0 (length c.args.component.now)))
+    (c.as_slice.ensures.value ∙ found.same)) in
+    record {
+      lines = c.requires.covered.0;
+      component = component_in c.args.component.now;
+      n = n;
+      covered = c.requires.covered.1;
+      fits = c.requires.inserted.fits;
+      solution = found.solution;
+      solves = found.solves;
+      solution_fits = found.fits;
+      halves = slope_halves_are c.args.shape.now c.args.component.now found.solution.numbers c.in_ok-perturbation.perturbation
+          c.in_ok-split.field-0 sums c.in_ok-split.ensures.halves;
+    }
+
+pub returns-in_err-kernel-clause-no_jump : goal.returns-in_err-kernel-clause-no_jump
+returns-in_err-kernel-clause-no_jump c = λ i.
+    no_jump_elimination c.from_residual.result c.in_err-kernel.field-0.0 i c.from_residual.ensures.0 c.from_residual.ensures.1
+
+pub returns-in_err-perturbation-clause-no_jump : goal.returns-in_err-perturbation-clause-no_jump
+returns-in_err-perturbation-clause-no_jump c = λ i.
+    no_jump_split c.from_residual-in_err-perturbation.result c.in_err-perturbation.field-0.0 i
+    c.from_residual-in_err-perturbation.ensures.0 c.from_residual-in_err-perturbation.ensures.1
+
+pub returns-in_err-split-clause-no_jump : goal.returns-in_err-split-clause-no_jump
+returns-in_err-split-clause-no_jump c = λ i.
+    no_jump_split c.from_residual-in_err-split.result c.in_err-split.field-0.0 i c.from_residual-in_err-split.ensures.0
+    c.from_residual-in_err-split.ensures.1

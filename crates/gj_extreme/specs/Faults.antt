@@ -1,0 +1,17 @@
+-- Faults of the decision by those of its parts.
+use Rattle.gj_elim.specs.declared.faults.ElimFault.{ElimFault}
+use Rattle.gj_elim.specs.declared.faults.ElimFault.TheVariants as elimination
+use Rattle.gj_perturb.specs.declared.faults.SplitFault.{SplitFault}
+use Rattle.gj_perturb.specs.declared.faults.SplitFault.TheVariants as split
+use Rattle.gj_extreme.specs.declared.faults.DecideFault.{DecideFault}
+use Rattle.gj_extreme.specs.declared.faults.DecideFault.TheVariants.{Wide, Memory}
+
+-- the fault by that of the elimination
+abbrev pub of_elimination : ElimFault → DecideFault
+of_elimination elimination.Wide = Wide
+of_elimination (elimination.Memory e) = Memory e
+
+-- the fault by that of the halves
+abbrev pub of_split : SplitFault → DecideFault
+of_split split.Wide = Wide
+of_split (split.Memory e) = Memory e

@@ -1,0 +1,58 @@
+//! The decision on a function whose intervals are all covered.
+ghost use Rattle.std.specs.Prelude.{ℕ, ◌≡◌, [], Some, length, map, All, IfOk, IsErrOf, IsSome};
+ghost use Rattle.gj_shape.specs.Additive.{IsTight};
+ghost use Rattle.gj_shape.specs.FunctionData.{IsContinuous};
+ghost use Rattle.gj_shape.specs.Table.{IsMinimal};
+ghost use Rattle.gj_cover.specs.CoverOf.{IsCoverOf};
+ghost use Rattle.gj_proof.specs.ProofText.{HasText};
+ghost use Rattle.gj_extreme.specs.Decision.{IsDecided, IsTooWide};
+
+use crate::faults::DecideFault;
+use crate::groups::groups;
+use crate::rows::rows_of;
+use crate::slopes::slope_halves;
+use gj_cover::Cover;
+use gj_proof::Claim;
+use gj_shape::{List, Shape};
+use std::alloc::{AllocError, Global};
+
+/// The claim that the function is extreme, where the rows leave no other slopes than 0, and that it is not, where they do.
+pub(crate) fn extreme_or_slopes(
+    alloc: Global,
+    shape: &Shape,
+    cover: Cover,
+) -> Result<Claim, DecideFault>
+    requires minimal { IsMinimal shape.now }
+    requires continuous { IsContinuous shape.now }
+    requires cover { IsCoverOf shape.now.order (IsTight shape.now) cover }
+    requires covered { cover.class ≡ [] }
+    ensures decided { IfOk result (IsDecided shape.now) }
+    ensures text { IfOk result HasText }
+    ensures wide { IsErrOf result DecideFault.Wide → IsTooWide shape.now }
+    ensures no_jump { (i : ℕ) → ¬ IsErrOf result (DecideFault.NotContinuous i) }
+{
+    let component = numbers_of(alloc, cover.component.as_slice())?;
+    let rows = rows_of(alloc, shape, component.as_slice(), cover.count)?;
+    if rows.is_full() {
+        let groups = groups(alloc, &rows)?;
+        return Ok(Claim::Extreme(
+            shape.copy(alloc)?,
+            cover.lines,
+            List::of(groups),
+        ));
+    }
+    let halves = slope_halves(alloc, shape, component.as_slice(), &rows)?;
+    Ok(Claim::NotExtreme(shape.copy(alloc)?, halves))
+}
+
+/// The numbers of the components, where each interval has one.
+fn numbers_of(alloc: Global, component: &[Option<u32>]) -> Result<Vec<u32>, AllocError>
+    requires { All IsSome component.now }
+    ensures { IfOk result (λ v. map Some v.items ≡ component.now) }
+{
+    let mut numbers = Vec::with_capacity(alloc, component.len())?;
+    for number in component {
+        numbers.push(number.unwrap())?;
+    }
+    Ok(numbers)
+}

@@ -1,0 +1,93 @@
+//! The decision.
+ghost use Rattle.std.specs.Prelude.{ℕ, ◌≡◌, ◌≤◌, ◌↔◌, List, IfOk, IsErrOf, Err};
+ghost use Rattle.gj_shape.specs.Extreme.{IsExtreme};
+ghost use Rattle.gj_shape.specs.FunctionData.{IsWithinBounds, IsContinuous, IsFirstJump};
+ghost use Rattle.gj_shape.specs.Table.{IsMinimal};
+ghost use Rattle.gj_shape.specs.declared.extremality.CoverLine.{CoverLine};
+ghost use Rattle.gj_proof.specs.Meaning.{ClaimHolds};
+ghost use Rattle.gj_proof.specs.ProofText.{HasText, IsBounded};
+ghost use Rattle.gj_proof.specs.Rules.{MeetsRules};
+ghost use Rattle.gj_extreme.specs.Decision.{AreAllCovered, IsDecided, IsByTable, IsExtremeOnGrid4, IsTooWide};
+
+use crate::covered::extreme_or_slopes;
+use crate::faults::DecideFault;
+use crate::uncovered::zigzag_halves;
+use gj_cover::cover;
+use gj_minimal::find_violation;
+use gj_proof::{Claim, Proof};
+use gj_shape::Shape;
+use std::alloc::Global;
+
+/// Whether the function is extreme, with a proof.
+pub fn decide(alloc: Global, shape: &Shape) -> Result<Proof, DecideFault>
+    ensures decided { IfOk result (IsDecided shape.now) }
+    ensures bounded { IfOk result IsBounded }
+    ensures rules { IfOk result MeetsRules }
+    ensures holds { IfOk result ClaimHolds }
+    ensures not_continuous { (i : ℕ) → result ≡ Err (DecideFault.NotContinuous i) → IsMinimal shape.now × IsFirstJump shape.now i }
+    ensures wide { result ≡ Err DecideFault.Wide → IsMinimal shape.now × IsContinuous shape.now × IsTooWide shape.now }
+    ensures not_wide { IsMinimal shape.now → IfOk result (λ c. IsTooWide shape.now → ⊥) }
+    ensures few_components { (lines : List CoverLine) (component : ℕ → ℕ) (n : ℕ) →
+        AreAllCovered shape.now lines component n → n ≤ 4 → IsTooWide shape.now → ⊥ }
+    ensures by_table { IfOk result (IsByTable shape.now) }
+    ensures order_4q { IsContinuous shape.now → IsExtreme shape.now ↔ IsExtremeOnGrid4 shape.now }
+{
+    let order = shape.order();
+    prove!(order >= 2);
+    let claim = claim_of(alloc, shape)?;
+    Ok(proof_of(claim))
+}
+
+/// The proof of a claim that has a text.
+fn proof_of(claim: Claim) -> Proof
+    requires { HasText claim }
+    ensures { result ≡ claim }
+{
+    Proof::new(claim).unwrap()
+}
+
+/// What is claimed of the function.
+fn claim_of(alloc: Global, shape: &Shape) -> Result<Claim, DecideFault>
+    requires { IsWithinBounds shape.now }
+    ensures decided { IfOk result (IsDecided shape.now) }
+    ensures text { IfOk result HasText }
+    ensures rules { IfOk result MeetsRules }
+    ensures not_continuous { (i : ℕ) → IsErrOf result (DecideFault.NotContinuous i) → IsMinimal shape.now × IsFirstJump shape.now i }
+    ensures wide { IsErrOf result DecideFault.Wide → IsMinimal shape.now × IsContinuous shape.now × IsTooWide shape.now }
+{
+    match find_violation(shape) {
+        Some(violation) => Ok(Claim::NotMinimal(shape.copy(alloc)?, violation)),
+        None => claim_of_minimal(alloc, shape),
+    }
+}
+
+/// What is claimed of a minimal function.
+fn claim_of_minimal(alloc: Global, shape: &Shape) -> Result<Claim, DecideFault>
+    requires { IsMinimal shape.now }
+    ensures decided { IfOk result (IsDecided shape.now) }
+    ensures text { IfOk result HasText }
+    ensures not_continuous { (i : ℕ) → IsErrOf result (DecideFault.NotContinuous i) → IsFirstJump shape.now i }
+    ensures wide { IsErrOf result DecideFault.Wide → IsContinuous shape.now × IsTooWide shape.now }
+{
+    match shape.first_jump() {
+        Some(i) => Err(DecideFault::NotContinuous(i)),
+        None => claim_of_continuous(alloc, shape),
+    }
+}
+
+/// What is claimed of a minimal continuous function.
+fn claim_of_continuous(alloc: Global, shape: &Shape) -> Result<Claim, DecideFault>
+    requires minimal { IsMinimal shape.now }
+    requires continuous { IsContinuous shape.now }
+    ensures decided { IfOk result (IsDecided shape.now) }
+    ensures text { IfOk result HasText }
+    ensures no_jump { (i : ℕ) → ¬ IsErrOf result (DecideFault.NotContinuous i) }
+    ensures wide { IsErrOf result DecideFault.Wide → IsTooWide shape.now }
+{
+    let cover = cover(alloc, shape)?;
+    if cover.class.as_slice().is_empty() {
+        return extreme_or_slopes(alloc, shape, cover);
+    }
+    let halves = zigzag_halves(alloc, shape, cover.class.as_slice())?;
+    Ok(Claim::NotExtreme(shape.copy(alloc)?, halves))
+}

@@ -1,0 +1,184 @@
+//! The rows of the linear system for the slopes, inserted in their order until there is one for each component.
+ghost use Rattle.std.specs.Prelude.{ℕ, ◌≡◌, ◌<◌, ◌≤◌, ◌+◌, ◌*◌, ◌%◌, ◌^◌, ◌↔◌, ◌+ℤ◌, ◌∷◌, [], List, length, All, IfOk, OnOk, IsErrOf, IsTrue, unsigned_abs};
+ghost use Rattle.gj_shape.specs.Additive.{IsTight};
+ghost use Rattle.gj_shape.specs.Elimination.{Passes};
+ghost use Rattle.gj_shape.specs.FunctionData.{FunctionData, IsWithinBounds, at};
+ghost use Rattle.gj_shape.specs.SlopeRows.{row_names};
+ghost use Rattle.gj_shape.specs.declared.extremality.RowName.{RowName};
+ghost use Rattle.gj_system.specs.Components.{component_in, IsNameBelow};
+ghost use Rattle.gj_extreme.specs.Decision.{slope_elimination};
+ghost use Rattle.gj_extreme.specs.RowsToCome.{AreToCome, AreInserted, IsReady, rows_from};
+
+use gj_elim::{Basis, ElimFault, Inserted};
+use gj_shape::{RowName, Shape};
+use gj_system::SlopeRows;
+use std::alloc::{AllocError, Global};
+
+/// Rows that are inserted, with the names of those that are kept.
+#[derive(Drop)]
+pub(crate) struct Rows {
+    pub(crate) basis: Basis,
+    pub(crate) names: Vec<RowName>,
+    /// The row that is being inserted.
+    pub(crate) row: Vec<i128>,
+}
+
+/// The rows of the system for intervals in these components, inserted in their order until there is one for each of the `count`
+/// components.
+pub(crate) fn rows_of(
+    alloc: Global,
+    shape: &Shape,
+    component: &[u32],
+    count: u32,
+) -> Result<Rows, ElimFault>
+    requires order { length component.now ≡ shape.now.order }
+    requires components { All (λ c. c < count) component.now }
+    ensures limits { IsWithinBounds shape.now }
+    ensures rows { IfOk result (AreInserted shape.now (component_in component.now) count) }
+    ensures wide { IsErrOf result ElimFault.Wide →
+        Passes (slope_elimination shape.now (component_in component.now) count).marked }
+{
+    let order = shape.order();
+    let system = SlopeRows::new(alloc, component, count)?;
+    insert_rows(alloc, shape, order, &system)
+}
+
+/// Inserts the rows of the system for a function of this order, until there is one for each component.
+fn insert_rows(
+    alloc: Global,
+    shape: &Shape,
+    order: u32,
+    system: &SlopeRows,
+) -> Result<Rows, ElimFault>
+    requires limits { IsWithinBounds shape.now }
+    requires order { order ≡ shape.now.order }
+    requires components { length system.now.component ≡ shape.now.order }
+    ensures rows { IfOk result (AreInserted shape.now (component_in system.now.component) system.now.columns) }
+    ensures wide { IsErrOf result ElimFault.Wide →
+        Passes (slope_elimination shape.now (component_in system.now.component) system.now.columns).marked }
+{
+    let mut rows = Rows::new(alloc, system)?;
+    rows.insert(shape, system, RowName::Period)?;
+    rows.insert(shape, system, RowName::F)?;
+    for a in 1..order {
+        if rows.is_full() {
+            return Ok(rows);
+        }
+        insert_pairs(shape, system, a, &mut rows)?;
+    }
+    Ok(rows)
+}
+
+/// Inserts the rows of the tight pairs (a, b) with b from a on.
+fn insert_pairs(
+    shape: &Shape,
+    system: &SlopeRows,
+    a: u32,
+    rows: &mut Rows,
+) -> Result<(), ElimFault>
+    requires order { length system.now.component ≡ shape.now.order }
+    requires below { a < shape.now.order }
+    requires to_come { AreToCome shape.now (component_in system.now.component) system.now.columns rows.old (rows_from shape.now a) }
+    ensures to_come { OnOk result
+        (AreToCome shape.now (component_in system.now.component) system.now.columns rows.new (rows_from shape.now (a + 1))) }
+    ensures wide { IsErrOf result ElimFault.Wide →
+        Passes (slope_elimination shape.now (component_in system.now.component) system.now.columns).marked }
+{
+    for b in a..shape.order() {
+        if is_tight(shape, a, b) {
+            rows.insert(shape, system, RowName::Pair(a, b))?;
+        }
+    }
+    Ok(())
+}
+
+impl Rows {
+    /// No rows, of which all are still to come.
+    fn new(alloc: Global, system: &SlopeRows) -> Result<Rows, AllocError>
+        ensures { IfOk result (λ rows. (f : FunctionData) →
+            AreToCome f (component_in system.now.component) system.now.columns rows (row_names f)) }
+    {
+        let columns = system.columns();
+        Ok(Rows {
+            basis: Basis::new(alloc, columns)?,
+            names: Vec::new(alloc),
+            row: vec![in alloc; 0; columns as usize]?,
+        })
+    }
+
+    /// Whether there is a row for each component.
+    pub(crate) fn is_full(&self) -> bool
+        ensures { IsTrue result ↔ (length self.now.row.items ≤ length self.now.basis.kept) }
+    {
+        self.row.len() <= self.basis.rank() as usize
+    }
+
+    /// Inserts the row with this name, where there is not yet one for each component.
+    fn insert(
+        &mut self,
+        shape: &Shape,
+        system: &SlopeRows,
+        name: RowName,
+    ) -> Result<(), ElimFault>
+        requires order { length system.now.component ≡ shape.now.order }
+        requires name { IsNameBelow name shape.now.order }
+        requires ready { IsReady self.old system.now.columns }
+        ensures to_come { OnOk result ((rest : List RowName) →
+            AreToCome shape.now (component_in system.now.component) system.now.columns self.old (name ∷ rest) →
+            AreToCome shape.now (component_in system.now.component) system.now.columns self.new rest) }
+        ensures wide { IsErrOf result ElimFault.Wide → (rest : List RowName) →
+            AreToCome shape.now (component_in system.now.component) system.now.columns self.old (name ∷ rest) →
+            Passes (slope_elimination shape.now (component_in system.now.component) system.now.columns).marked }
+    {
+        if self.is_full() {
+            return Ok(());
+        }
+        system.write_row(shape.place(), name, self.row.as_mut_slice());
+        self.names.reserve(1)?;
+        if let Inserted::Pivot(_) = self.basis.insert(self.row.as_slice())? {
+            self.names.push_reserved(name);
+        }
+        Ok(())
+    }
+}
+
+/// Whether the pair of indices below the order is tight.
+fn is_tight(shape: &Shape, a: u32, b: u32) -> bool
+    requires first { a < shape.now.order }
+    requires second { b < shape.now.order }
+    ensures { IsTrue result ↔ IsTight shape.now a b }
+{
+    let order = shape.order();
+    let sum = wrapped(a + b, order);
+    add_up(
+        value_at(shape, a),
+        value_at(shape, b),
+        value_at(shape, sum),
+    )
+}
+
+/// The value at i/q, times the common denominator.
+fn value_at(shape: &Shape, i: u32) -> i64
+    requires { i < shape.now.order }
+    ensures value { result ≡ at shape.now.value i }
+    ensures small { unsigned_abs result < 2 ^ 51 }
+{
+    shape.value_numerators()[i as usize]
+}
+
+/// Whether two numerators add up to a third.
+fn add_up(first: i64, second: i64, sum: i64) -> bool
+    requires first { unsigned_abs first < 2 ^ 51 }
+    requires second { unsigned_abs second < 2 ^ 51 }
+    ensures { IsTrue result ↔ (first +ℤ second ≡ sum) }
+{
+    first + second == sum
+}
+
+/// An index below twice the order, modulo the order.
+fn wrapped(index: u32, order: u32) -> u32
+    requires { index < 2 * order }
+    ensures { result ≡ index % order }
+{
+    if index < order { index } else { index - order }
+}

@@ -1,0 +1,40 @@
+//! The halves of a function whose intervals are all covered, where slopes solve the linear system.
+ghost use Rattle.std.specs.Prelude.{ℕ, ◌≡◌, ◌<◌, List, length, IfOk, IsErrOf};
+ghost use Rattle.gj_shape.specs.FunctionData.{IsWithinBounds, IsContinuous};
+ghost use Rattle.gj_shape.specs.Table.{IsMinimal};
+ghost use Rattle.gj_shape.specs.declared.extremality.CoverLine.{CoverLine};
+ghost use Rattle.gj_perturb.specs.Split.{FitProofText};
+ghost use Rattle.gj_system.specs.Components.{component_in};
+ghost use Rattle.gj_extreme.specs.Decision.{AreAllCovered, AreSlopeHalves, IsTooWide};
+ghost use Rattle.gj_extreme.specs.RowsToCome.{AreInserted};
+
+use crate::faults::DecideFault;
+use crate::rows::Rows;
+use gj_perturb::{from_slopes, split};
+use gj_shape::{Halves, Shape};
+use std::alloc::Global;
+
+/// The halves of the slopes that solve the rows, of which there are fewer than components.
+pub(crate) fn slope_halves(
+    alloc: Global,
+    shape: &Shape,
+    component: &[u32],
+    rows: &Rows,
+) -> Result<Halves, DecideFault>
+    requires limits { IsWithinBounds shape.now }
+    requires minimal { IsMinimal shape.now }
+    requires continuous { IsContinuous shape.now }
+    requires order { length component.now ≡ shape.now.order }
+    requires covered { (lines : List CoverLine) ×
+        AreAllCovered shape.now lines (component_in component.now) (length rows.now.row.items) }
+    requires inserted { AreInserted shape.now (component_in component.now) (length rows.now.row.items) rows.now }
+    requires fewer { length rows.now.basis.kept < length rows.now.row.items }
+    ensures halves { IfOk result (AreSlopeHalves shape.now) }
+    ensures limits { IfOk result FitProofText }
+    ensures wide { IsErrOf result DecideFault.Wide → IsTooWide shape.now }
+    ensures no_jump { (i : ℕ) → ¬ IsErrOf result (DecideFault.NotContinuous i) }
+{
+    let numbers = rows.basis.kernel()?.unwrap();
+    let perturbation = from_slopes(alloc, component, numbers.as_slice())?;
+    Ok(split(alloc, shape, &perturbation)?)
+}

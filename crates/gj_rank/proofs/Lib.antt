@@ -1,0 +1,7 @@
+pub mod RowSizes
+pub mod AtPlaces
+pub mod StepsInTurn
+pub mod Tables
+pub mod GroupsInTurn
+pub mod GroupDemands
+pub mod ClaimGroups

@@ -1,0 +1,33 @@
+use Rattle.std.proofs.Common.{refl, get_or, arith}
+use Rattle.std.proofs.lemmas.List.{get_or_default}
+use Rattle.gj_rank.proofs.StepsInTurn.{stepped_fails, stepped_more, stepped_all}
+use Rattle.gj_rank.proofs.group.failure_in_steps.Goals as goal
+
+pub returns-in-Some-clause-outcome : goal.returns-in-Some-clause-outcome
+returns-in-Some-clause-outcome c kept rows =
+    let columns = c.args.columns.now in
+    let r = c.loop-place.place in
+    record {
+      index = r;
+      below = refl;
+      fails = stepped_fails kept c.args.row.now columns r (get_or columns r 0) c.loop-place.row c.in-Some.rule
+          (c.loop-place.invariant.stepped kept rows) (omega arith) (get_or_default columns r 0 (get_or columns r 0) (omega arith))
+          (c.in-Some.ensures.outcome kept rows);
+    }
+
+pub loop-place-preserved : goal.loop-place-preserved
+loop-place-preserved c =
+    let columns = c.args.columns.now in
+    let r = c.loop-place.place in
+    record {
+      fits = c.in_default.ensures.fits;
+      stepped = λ kept rows.
+          stepped_more kept c.args.row.now columns r (get_or columns r 0) c.loop-place.row c.failure_in_step.new.row
+          (c.loop-place.invariant.stepped kept rows) (omega arith) (get_or_default columns r 0 (get_or columns r 0) (omega arith))
+          (c.in_default.ensures.outcome kept rows);
+    }
+
+pub returns-clause-outcome : goal.returns-clause-outcome
+returns-clause-outcome c kept rows =
+    stepped_all kept c.args.row.now c.args.columns.now c.loop-place.place c.loop-place.row
+    (c.loop-place.invariant.stepped kept rows) (omega arith)

@@ -1,0 +1,44 @@
+use Rattle.std.proofs.Common.{rules, List, ℤ, ℕ, ◌<◌, ◌≡◌, ◌^◌, pos, get_or, int_div, sym, subst, arith}
+use Rattle.std.specs.Prelude.{All}
+use Rattle.gj_shape.specs.Elimination.{gcd_of_row}
+use Rattle.gj_theory.specs.Fitting.{Fits}
+use Rattle.gj_theory.proofs.RowGcds.{gcd_of_row_small}
+use Rattle.gj_theory.proofs.WideNumbers.{fits_natural}
+use Rattle.gj_theory.proofs.DividedRows.{over_more, over_all, read_quotient, quotient_fits, divided_fits, divided_small, divided_large}
+use Rattle.gj_rank.proofs.step.divide.Goals as goal
+
+small : (row : List ℤ) (d : ℕ) → All Fits row → d ≡ gcd_of_row row → d < 2 ^ 127
+small row d fits is = subst (λ (n : ℕ). n < 2 ^ 127) (sym is) (gcd_of_row_small row fits)
+
+pub overflow_cast-x : goal.overflow_cast-x
+overflow_cast-x c =
+    fits_natural c.divisor_of_row-divisor.result
+    (small c.args.row.now c.divisor_of_row-divisor.result c.requires c.divisor_of_row-divisor.ensures)
+
+pub nonzero_div-x : goal.nonzero_div-x
+nonzero_div-x c = (
+  omega arith,
+  quotient_fits (get_or c.loop-x.row c.loop-x.x-index (pos 0)) c.divisor_of_row-divisor.result (search rules) (omega arith)
+      (small c.args.row.now c.divisor_of_row-divisor.result c.requires c.divisor_of_row-divisor.ensures),
+)
+
+pub loop-x-preserved : goal.loop-x-preserved
+loop-x-preserved c =
+    over_more (λ x. int_div x (pos c.divisor_of_row-divisor.result)) c.args.row.now c.loop-x.row c.loop-x.x-index _
+    (omega arith) c.loop-x.auto.row c.loop-x.invariant
+    (read_quotient (get_or c.loop-x.row c.loop-x.x-index (pos 0)) c.divisor_of_row-divisor.result (search rules) (omega arith)
+    (small c.args.row.now c.divisor_of_row-divisor.result c.requires c.divisor_of_row-divisor.ensures))
+
+pub returns-after-loop-x-clause-value : goal.returns-after-loop-x-clause-value
+returns-after-loop-x-clause-value c =
+    divided_large c.args.row.now c.loop-x.row c.divisor_of_row-divisor.result c.divisor_of_row-divisor.ensures (omega arith)
+    (over_all (λ x. int_div x (pos c.divisor_of_row-divisor.result)) c.args.row.now c.loop-x.row c.loop-x.x-index (omega arith)
+    c.loop-x.auto.row c.loop-x.invariant)
+
+pub returns-after-loop-x-clause-fits : goal.returns-after-loop-x-clause-fits
+returns-after-loop-x-clause-fits c =
+    subst (All Fits) (sym (returns-after-loop-x-clause-value c)) (divided_fits c.args.row.now c.requires)
+
+pub returns-else-divisor-gt1-clause-value : goal.returns-else-divisor-gt1-clause-value
+returns-else-divisor-gt1-clause-value c =
+    divided_small c.args.row.now c.divisor_of_row-divisor.result c.divisor_of_row-divisor.ensures (omega arith)

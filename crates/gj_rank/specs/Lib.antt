@@ -1,0 +1,4 @@
+pub mod Components
+pub mod Groups
+pub mod KeptTable
+pub mod GroupOutcomes

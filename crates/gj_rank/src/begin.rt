@@ -1,0 +1,41 @@
+//! The row with which a group begins.
+ghost use Rattle.std.specs.Prelude.{pos, ◌≡◌, ◌<◌, length, All};
+ghost use Rattle.gj_shape.specs.SlopeRows.{row_of};
+ghost use Rattle.gj_proof.specs.ProofText.{IsRowNameBelow};
+ghost use Rattle.gj_rank.specs.Components.{component_in};
+
+use crate::rises::{add_rises, subtract_rises};
+use gj_shape::RowName;
+
+/// Adds the row of this name to a row of zeros.
+fn add_named(row: &mut [i128], component: &[u32], place: u32, name: RowName)
+    requires components { All (λ c. c < length row.old) component.now }
+    requires place_within { place < length component.now }
+    requires name_within { IsRowNameBelow (length component.now) name }
+    requires zeros { All (λ x. x ≡ pos 0) row.old }
+    ensures { row.new ≡ row_of (component_in component.now) (length row.old) (length component.now) place name }
+{
+    let order = component.len();
+    match name {
+        RowName::Period => add_rises(row, component, order),
+        RowName::F => add_rises(row, component, place as usize),
+        RowName::Pair(a, b) => {
+            let sum = (u64::from(a) + u64::from(b)) % order as u64;
+            add_rises(row, component, a as usize);
+            add_rises(row, component, b as usize);
+            subtract_rises(row, component, sum as usize);
+        }
+    }
+}
+
+/// Puts the row of this name, of one entry for each component, in the place of a row. `component` has the component of each
+/// interval, and its length is the order.
+pub(crate) fn begin_row(row: &mut [i128], component: &[u32], place: u32, name: RowName)
+    requires components { All (λ c. c < length row.old) component.now }
+    requires place_within { place < length component.now }
+    requires name_within { IsRowNameBelow (length component.now) name }
+    ensures { row.new ≡ row_of (component_in component.now) (length row.old) (length component.now) place name }
+{
+    row.fill(0);
+    add_named(row, component, place, name);
+}

@@ -1,0 +1,85 @@
+//! The rules on all groups, in the order of their lines.
+ghost use Rattle.std.specs.Prelude.{◌≡◌, ◌+◌, ◌<◌, length, map, All, IfOk};
+ghost use Rattle.std.specs.List.{range_with_len};
+ghost use Rattle.std.specs.declared.option.Option.TheVariants.{None};
+ghost use Rattle.gj_rank.specs.Components.{component_in};
+ghost use Rattle.gj_proof.specs.ProofText.{IsPivotRowBelow};
+ghost use Rattle.gj_rank.specs.Groups.{IsGroupsOutcome};
+
+use crate::begin::begin_row;
+use crate::failure::GroupFailure;
+use crate::group::failure_in_group;
+use crate::keep::keep;
+use gj_proof::PivotRow;
+use gj_shape::{List, Shape};
+use std::alloc::{AllocError, Global};
+
+/// The first rule that fails on the groups of a proof that a function is extreme, of the rules `row`, `reduce`, `size` and `pivot`;
+/// none where all hold. `component` has the component of each interval, and `count` is the number of components.
+pub fn failure_in_groups(
+    alloc: Global,
+    shape: &Shape,
+    component: &[u32],
+    count: u32,
+    rows: &[PivotRow],
+) -> Result<Option<GroupFailure>, AllocError>
+    requires order { length component.now ≡ shape.now.order }
+    requires components { All (λ c. c < count) component.now }
+    requires rows { All (IsPivotRowBelow shape.now.order) rows.now }
+    ensures { IfOk result (IsGroupsOutcome shape.now (component_in component.now) count rows.now) }
+{
+    let mut table = no_rows(alloc, count)?;
+    let mut row = vec![in alloc; 0; count as usize]?;
+    failure_in_turn(
+        alloc,
+        shape,
+        component,
+        table.as_mut_slice(),
+        row.as_mut_slice(),
+        rows,
+    )
+}
+
+/// The first rule that fails on groups, from a table without rows on. The row is used for one group after another.
+fn failure_in_turn(
+    alloc: Global,
+    shape: &Shape,
+    component: &[u32],
+    table: &mut [Option<List<i128>>],
+    row: &mut [i128],
+    rows: &[PivotRow],
+) -> Result<Option<GroupFailure>, AllocError>
+    requires order { length component.now ≡ shape.now.order }
+    requires components { All (λ c. c < length row.old) component.now }
+    requires rows { All (IsPivotRowBelow shape.now.order) rows.now }
+    requires table { table.old ≡ map (λ i. None) (range_with_len 0 (length row.old)) }
+    ensures { IfOk result (IsGroupsOutcome shape.now (component_in component.now) (length row.old) rows.now) }
+{
+    let mut above = 0;
+    for group in rows {
+        begin_row(row, component, shape.place(), group.name);
+        if let Some(failure) = failure_in_group(shape, table, row, group) {
+            return Ok(Some(GroupFailure {
+                below: lines_behind(above, failure.below)?,
+                rule: failure.rule,
+            }));
+        }
+        keep(alloc, table, row, group.pivot)?;
+        above = lines_behind(above, group.reduce.as_slice().len() + 2)?;
+    }
+    Ok(None)
+}
+
+/// A table of so many columns without rows.
+fn no_rows(alloc: Global, columns: u32) -> Result<Vec<Option<List<i128>>>, AllocError>
+    ensures { IfOk result (λ v. v.items ≡ map (λ i. None) (range_with_len 0 columns)) }
+{
+    (0..columns).map(|_| None).collect(alloc)
+}
+
+/// So many lines and others behind them. A text with more lines than 2^64 - 1 does not fit any memory.
+fn lines_behind(lines: usize, others: usize) -> Result<usize, AllocError>
+    ensures { IfOk result (λ n. n ≡ lines + others) }
+{
+    lines.checked_add(others).ok_or(AllocError)
+}

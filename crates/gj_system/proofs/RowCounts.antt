@@ -1,0 +1,112 @@
+-- The counts of the intervals before each grid point, and the rows that are made from them.
+use Rattle.std.proofs.Common.{◌≡◌, ◌≢◌, ℕ, ◌+◌, ◌%◌, ◌<◌, ◌≤◌, ◌^◌, ◌⊎◌, inl, inr, ℤ, pos, ◌+ℤ◌, ◌-ℤ◌, List, [], ◌∷◌, ◌++◌, length, map, get_or, set, replicate, unsigned_abs, refl, sym, ap, ap₂, subst, ◌∙◌, zero-add, arith}
+use Rattle.std.specs.Prelude.{All}
+use Rattle.std.specs.List.{range_with_len}
+use Rattle.std.proofs.Math.ListN.{length-set, length-replicate}
+use Rattle.std.proofs.lemmas.Bool.{cases_eq}
+use Rattle.std.proofs.lemmas.Int.{ints}
+use Rattle.std.proofs.lemmas.List.{get_or-set_same, get_or-set_other, get_or-replicate}
+use Rattle.std.proofs.lemmas.List.Elements.{All-from_get_or}
+use Rattle.std.proofs.lemmas.List.FromFn.{length-map-range_with_len, get_or-map-range_with_len, map-range_with_len_more, fill_by_all}
+use Rattle.gj_shape.specs.SlopeRows.{rises, row_of}
+use Rattle.gj_shape.specs.declared.extremality.RowName.{RowName}
+use Rattle.gj_shape.specs.declared.extremality.RowName.TheVariants.{Period, F, Pair}
+use Rattle.gj_system.specs.Components.{rises_at, IsNameBelow}
+use Rattle.gj_tools.proofs.Lists.{All-made}
+use Rattle.gj_theory.proofs.RiseCounts.{rises_here, rises_elsewhere, rises_at_most}
+
+-- ---- counts
+
+pub length-rises_at : (f : ℕ → ℕ) (n i : ℕ) → length (rises_at f n i) ≡ n
+length-rises_at f n i = length-map-range_with_len (rises f i) 0 n
+
+pub count_at : (f : ℕ → ℕ) (n i c : ℕ) → c < n → get_or (rises_at f n i) c 0 ≡ rises f i c
+count_at f n i c below = get_or-map-range_with_len (rises f i) 0 n c c 0 below (zero-add c)
+
+-- before 0 there are none
+pub no_counts : (f : ℕ → ℕ) (n : ℕ) → replicate n 0 ≡ rises_at f n 0
+no_counts f n =
+    fill_by_all (rises f 0) (replicate n 0) n 0 (length-replicate {A = ℕ} n 0)
+    (λ c below. get_or-replicate n c 0 0 below)
+
+-- one more interval
+pub one_count_more : (f : ℕ → ℕ) (n i x : ℕ) (counts : List ℕ) → counts ≡ rises_at f n i → f i < n →
+    x ≡ get_or counts (f i) 0 + 1 → set counts (f i) x ≡ rises_at f n (i + 1)
+one_count_more f n i x counts are inside is =
+    fill_by_all (rises f (i + 1)) (set counts (f i) x) n 0 (length-set counts (f i) x ∙ len)
+    (λ c below. by_column c below (cases_eq (f i) c))
+  where
+    len : length counts ≡ n
+    len = ap length are ∙ length-rises_at f n i
+    by_column : (c : ℕ) → c < n → (f i ≡ c) ⊎ (f i ≡ c → ⊥) → get_or (set counts (f i) x) c 0 ≡ rises f (i + 1) c
+    by_column c below (inl e) =
+        let here : get_or (set counts (f i) x) (f i) 0 ≡ x = get_or-set_same counts (f i) x 0 (omega (arith, len)) in
+        let before : get_or counts (f i) 0 ≡ rises f i (f i) = ap (λ l. get_or l (f i) 0) are ∙ count_at f n i (f i) inside in
+        let more = rises_here f i (f i) refl in
+        let all : get_or (set counts (f i) x) (f i) 0 ≡ rises f (i + 1) (f i) = omega arith in
+        subst (λ (k : ℕ). get_or (set counts (f i) x) k 0 ≡ rises f (i + 1) k) e all
+    by_column c below (inr e) =
+        get_or-set_other counts (f i) c x 0 (λ same. e (sym same)) ∙ ap (λ l. get_or l c 0) are ∙ count_at f n i c below
+        ∙ sym (rises_elsewhere f i c e)
+
+-- a count is at most that of all intervals before
+pub count_at_most : (f : ℕ → ℕ) (n i c : ℕ) (counts : List ℕ) → counts ≡ rises_at f n i → c < n → get_or counts c 0 ≤ i
+count_at_most f n i c counts are below =
+    let is : get_or counts c 0 ≡ rises f i c = ap (λ l. get_or l c 0) are ∙ count_at f n i c below in
+    let most = rises_at_most f i c in
+    omega arith
+
+-- the counts of one more grid point behind those of the first
+pub one_point_more : (f : ℕ → ℕ) (n i : ℕ) (counts pushed : List (List ℕ)) (last : List ℕ) →
+    counts ≡ map (rises_at f n) (range_with_len 0 (i + 1)) → last ≡ rises_at f n (i + 1) → pushed ≡ counts ++ last ∷ [] →
+    pushed ≡ map (rises_at f n) (range_with_len 0 (i + 1 + 1))
+one_point_more f n i counts pushed last are is e =
+    e ∙ ap₂ (λ xs x. xs ++ x ∷ []) are is ∙ sym (map-range_with_len_more (rises_at f n) 0 (i + 1) (i + 1) (zero-add (i + 1)))
+
+-- ---- rows
+
+-- each entry is that of the row
+pub row_of_rises : (f : ℕ → ℕ) (n i : ℕ) (counts : List ℕ) (row : List ℤ) → counts ≡ rises_at f n i →
+    length row ≡ n → ((c : ℕ) → c < n → get_or row c (pos 0) ≡ pos (get_or counts c 0)) →
+    row ≡ map (λ c. pos (rises f i c)) (range_with_len 0 n)
+row_of_rises f n i counts row are len h =
+    fill_by_all (λ c. pos (rises f i c)) row n (pos 0) len
+    (λ c below. h c below ∙ ap (λ l. pos (get_or l c 0)) are ∙ ap pos (count_at f n i c below))
+
+pub row_of_slacks : (f : ℕ → ℕ) (n a b s : ℕ) (first second third : List ℕ) (row : List ℤ) → first ≡ rises_at f n a →
+    second ≡ rises_at f n b → third ≡ rises_at f n s → length row ≡ n →
+    ((c : ℕ) → c < n → get_or row c (pos 0) ≡ pos (get_or first c 0) +ℤ pos (get_or second c 0) -ℤ pos (get_or third c 0)) →
+    row ≡ map (λ c. pos (rises f a c) +ℤ pos (rises f b c) -ℤ pos (rises f s c)) (range_with_len 0 n)
+row_of_slacks f n a b s first second third row first_is second_is third_is len h =
+    fill_by_all (λ c. pos (rises f a c) +ℤ pos (rises f b c) -ℤ pos (rises f s c)) row n (pos 0) len
+    (λ c below.
+    let x : get_or first c 0 ≡ rises f a c = ap (λ l. get_or l c 0) first_is ∙ count_at f n a c below in
+    let y : get_or second c 0 ≡ rises f b c = ap (λ l. get_or l c 0) second_is ∙ count_at f n b c below in
+    let z : get_or third c 0 ≡ rises f s c = ap (λ l. get_or l c 0) third_is ∙ count_at f n s c below in
+    h c below ∙ ap₂ (λ u v. pos u +ℤ pos v -ℤ pos (get_or third c 0)) x y ∙ ap (λ w. pos (rises f a c) +ℤ pos (rises f b c) -ℤ pos w) z)
+
+slack_small : (x y z q : ℕ) → x ≤ q → y ≤ q → z ≤ q → q < 2 ^ 64 → (unsigned_abs (pos x +ℤ pos y -ℤ pos z) < 2 ^ 127)
+slack_small x y z q first second third small = omega (arith, ints)
+
+count_small : (x q : ℕ) → x ≤ q → q < 2 ^ 64 → (unsigned_abs (pos x) < 2 ^ 127)
+count_small x q most small = omega (arith, ints)
+
+-- so all entries are small
+pub entries_small : (f : ℕ → ℕ) (n q k : ℕ) (name : RowName) → q < 2 ^ 64 → k < q → IsNameBelow name q →
+    All (λ x. unsigned_abs x < 2 ^ 127) (row_of f n q k name)
+entries_small f n q k Period small place within =
+    All-made (λ x. unsigned_abs x < 2 ^ 127) (λ c. pos (rises f q c)) 0 n
+    (λ c below. count_small (rises f q c) q (rises_at_most f q c) small)
+entries_small f n q k F small place within =
+    All-made (λ x. unsigned_abs x < 2 ^ 127) (λ c. pos (rises f k c)) 0 n
+    (λ c below. let most = rises_at_most f k c in count_small (rises f k c) q (omega arith) small)
+entries_small f n q k (Pair a b) small place within =
+    All-made (λ x. unsigned_abs x < 2 ^ 127)
+    (λ c. pos (rises f a c) +ℤ pos (rises f b c) -ℤ pos (rises f ((a + b) % q) c)) 0 n
+    (λ c below.
+    let x = rises_at_most f a c in
+    let y = rises_at_most f b c in
+    let z = rises_at_most f ((a + b) % q) c in
+    let first = within.0 in
+    let second = within.1 in
+    slack_small (rises f a c) (rises f b c) (rises f ((a + b) % q) c) q (omega arith) (omega arith) (omega arith) small)

@@ -1,0 +1,9 @@
+use Rattle.std.proofs.Common.{◌≡◌, ◌+◌, map}
+use Rattle.std.specs.List.{range_with_len}
+use Rattle.gj_system.specs.Components.{component_in, rises_at}
+use Rattle.gj_system.proofs.counted.SlopeRows.new.Given as goal
+
+abbrev pub invariant-loop-c : goal.invariant-loop-c
+invariant-loop-c l =
+    (l.count.items ≡ rises_at (component_in l.component) l.columns l.c-index)
+    × (l.counts.items ≡ map (rises_at (component_in l.component) l.columns) (range_with_len 0 (l.c-index + 1)))

@@ -1,0 +1,13 @@
+-- What always holds of the counts from which rows are made.
+use Rattle.std.specs.Prelude.{◌≡◌, ◌+◌, length, map}
+use Rattle.std.specs.List.{range_with_len}
+use Rattle.gj_system.specs.Components.{ComponentData, component_in, rises_at}
+use Rattle.gj_system.specs.declared.counted.SlopeRows.TheInside.{Inside}
+
+-- the components with these fields
+abbrev pub data_of : Inside → ComponentData
+data_of s = record { component = s.component.items; columns = s.columns }
+
+-- there are counts for each grid point
+pub record IsCounted (s : Inside) : Type 0 where
+  pub counts : s.counts.items ≡ map (rises_at (component_in s.component.items) s.columns) (range_with_len 0 (length s.component.items + 1))

@@ -1,0 +1,128 @@
+//! Rows that are made from counts of intervals, which are made once for all rows.
+ghost use Rattle.std.specs.Prelude.{ℕ, ℤ, pos, ◌≡◌, ◌<◌, ◌≤◌, ◌^◌, ◌+ℤ◌, ◌-ℤ◌, get_or, length, map, All, IfOk, unsigned_abs};
+ghost use Rattle.gj_shape.specs.SlopeRows.{row_of as row_entries};
+ghost use Rattle.gj_system.specs.Components.{component_in, rises_at, IsNameBelow};
+
+use gj_shape::{List, RowName};
+use std::alloc::{AllocError, Global};
+use std::marker::Model;
+
+/// All rows of the system for a function of order q. Contracts see the component of each of the q intervals, and how many
+/// components there are.
+#[derive(Drop)]
+pub struct SlopeRows {
+    component: Vec<u32>,
+    columns: u32,
+    /// For each i up to q, how many of the intervals before i/q are in each component.
+    counts: Vec<List<u32>>,
+}
+
+impl Model for SlopeRows {
+    ghost use Rattle.gj_system.specs.Components.{ComponentData};
+
+    ghost Value = { ComponentData };
+
+    ghost use Rattle.gj_system.specs.Counted.{data_of, IsCounted};
+
+    ghost view = { data_of };
+
+    ghost invariant = { IsCounted };
+}
+
+impl SlopeRows {
+    /// The rows for intervals in these components, of which there are `columns`.
+    pub fn new(
+        alloc: Global,
+        component: &[u32],
+        columns: u32,
+    ) -> Result<SlopeRows, AllocError>
+        requires components { All (λ c. c < columns) component.now }
+        requires count { length component.now < 2 ^ 31 }
+        ensures component { IfOk result (λ s. s.component ≡ component.now) }
+        ensures columns { IfOk result (λ s. s.columns ≡ columns) }
+    {
+        let mut count = vec![in alloc; 0; columns as usize]?;
+        let mut counts = Vec::with_capacity(alloc, component.len() + 1)?;
+        counts.push(List::of(Vec::from_slice(alloc, count.as_slice())?))?;
+        for c in component {
+            count[*c as usize] += 1;
+            counts.push(List::of(Vec::from_slice(alloc, count.as_slice())?))?;
+        }
+        Ok(SlopeRows {
+            component: Vec::from_slice(alloc, component)?,
+            columns,
+            counts,
+        })
+    }
+
+    /// How many components there are.
+    pub fn columns(&self) -> u32
+        ensures { result ≡ self.now.columns }
+    {
+        self.columns
+    }
+
+    /// Writes the row with this name, for a function with f at the place: at each component the rise up to 1, up to f, or up
+    /// to both points of the pair less that up to their sum. It takes no memory.
+    pub fn write_row(&self, place: u32, name: RowName, row: &mut [i128])
+        requires columns { length row.old ≡ self.now.columns }
+        requires place_within { place < length self.now.component }
+        requires name_within { IsNameBelow name (length self.now.component) }
+        ensures row { row.new ≡
+            row_entries (component_in self.now.component) self.now.columns (length self.now.component) place name }
+        ensures small { All (λ x. unsigned_abs x < 2 ^ 127) row.new }
+    {
+        let order = self.component.len();
+        match name {
+            RowName::Period => write_counts(self.counts_before(order), row),
+            RowName::F => write_counts(self.counts_before(place as usize), row),
+            RowName::Pair(a, b) => {
+                let sum = (u64::from(a) + u64::from(b)) % order as u64;
+                write_slacks(
+                    self.counts_before(a as usize),
+                    self.counts_before(b as usize),
+                    self.counts_before(sum as usize),
+                    row,
+                );
+            }
+        }
+    }
+
+    /// How many of the intervals before i/q are in each component.
+    fn counts_before(&self, i: usize) -> &[u32]
+        requires { i ≤ length self.now.component }
+        ensures { result.now ≡ rises_at (component_in self.now.component) self.now.columns i }
+    {
+        self.counts[i].as_slice()
+    }
+}
+
+/// Writes the counts.
+fn write_counts(counts: &[u32], row: &mut [i128])
+    requires { length counts.now ≡ length row.old }
+    ensures { (c : ℕ) → c < length row.old → get_or row.new c (pos 0) ≡ pos (get_or counts.now c 0) }
+{
+    for c in 0..row.len() {
+        row[c] = i128::from(counts[c]);
+    }
+}
+
+/// Writes the sums of the counts of two, less those of a third.
+fn write_slacks(first: &[u32], second: &[u32], third: &[u32], row: &mut [i128])
+    requires first { length first.now ≡ length row.old }
+    requires second { length second.now ≡ length row.old }
+    requires third { length third.now ≡ length row.old }
+    ensures { (c : ℕ) → c < length row.old → get_or row.new c (pos 0)
+        ≡ pos (get_or first.now c 0) +ℤ pos (get_or second.now c 0) -ℤ pos (get_or third.now c 0) }
+{
+    for c in 0..row.len() {
+        row[c] = slack(first[c], second[c], third[c]);
+    }
+}
+
+/// The sum of two counts, less a third.
+fn slack(first: u32, second: u32, third: u32) -> i128
+    ensures { result ≡ pos first +ℤ pos second -ℤ pos third }
+{
+    i128::from(first) + i128::from(second) - i128::from(third)
+}
