@@ -1,6 +1,6 @@
 -- The proof text of a decision keeps what is promised of it, and calls f extreme exactly where the table of order 4 q is.
-use Rattle.std.proofs.Common.{◌≡◌, ◌↔◌, ◌*◌, ◌<◌, ◌≤◌, ℕ, zero, suc, inl, inr, List, sym, subst, arith}
-use Rattle.gj_shape.specs.FunctionData.{FunctionData, IsWithinBounds, IsContinuous, at}
+use Rattle.std.proofs.Common.{◌≡◌, ◌↔◌, ◌*◌, ◌<◌, ◌≤◌, ℕ, zero, suc, inl, inr, List, Result, Err, sym, subst, arith}
+use Rattle.gj_shape.specs.FunctionData.{FunctionData, IsWithinBounds, IsContinuous, IsFirstJump, at}
 use Rattle.gj_shape.specs.Table.{table, IsMinimal}
 use Rattle.gj_shape.specs.Extreme.{IsExtreme, IsExtremeTable}
 use Rattle.gj_shape.specs.Violation.{ShowsViolation}
@@ -12,12 +12,14 @@ use Rattle.gj_proof.specs.declared.claim.Claim.TheVariants.{Minimal, NotMinimal,
 use Rattle.gj_proof.specs.ProofText.{IsBounded, IsProofText}
 use Rattle.gj_proof.specs.Meaning.{ClaimHolds, ShowHalves}
 use Rattle.gj_proof.proofs.OneText.{one_claim}
-use Rattle.gj_extreme.specs.Decision.{IsDecided}
+use Rattle.gj_extreme.specs.Decision.{IsDecided, IsTooWide}
+use Rattle.gj_extreme.specs.declared.faults.DecideFault.{DecideFault}
+use Rattle.gj_extreme.specs.declared.faults.DecideFault.TheVariants as fault
 use Rattle.gj_top.specs.declared.reply.End.{End}
 use Rattle.gj_top.specs.declared.reply.End.TheVariants.{Done, Wide, NotContinuous}
 use Rattle.gj_top.specs.Minimal.{IsNotMinimalText}
 use Rattle.gj_top.specs.Report.{IsReportedReply}
-use Rattle.gj_top.specs.Extreme.{IsDecisionText, IsExtremality, IsExtremeText, IsNotExtremeText, IsTrueExtremality, IsNoVerdict, extreme}
+use Rattle.gj_top.specs.Extreme.{IsDecisionText, IsExtremality, IsExtremeText, IsNotExtremeText, IsTrueExtremality, IsNoVerdict, IsUndecided, extreme}
 
 -- ---- what is promised
 
@@ -110,3 +112,12 @@ pub no_verdict_is_reported : (f : FunctionData) (end : End) (text : List ℕ) �
 no_verdict_is_reported f Wide text h = h
 no_verdict_is_reported f NotContinuous text h = h
 no_verdict_is_reported f end text h = absurd h
+
+-- ---- faults of the decision
+
+pub undecided : {T : Type 0} (f : FunctionData) (r : Result T DecideFault) (e : DecideFault) → r ≡ Err e →
+    ((i : ℕ) → r ≡ Err (fault.NotContinuous i) → IsMinimal f × IsFirstJump f i) →
+    (r ≡ Err fault.Wide → IsMinimal f × IsContinuous f × IsTooWide f) → IsUndecided f e
+undecided f r (fault.NotContinuous i) is jumps wide = jumps i is
+undecided f r fault.Wide is jumps wide = wide is
+undecided f r (fault.Memory error) is jumps wide = tt

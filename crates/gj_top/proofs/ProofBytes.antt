@@ -1,8 +1,10 @@
 -- The bytes of a proof text are printable or line feeds, and the last is a line feed.
-use Rattle.std.proofs.Common.{◌≡◌, inl, inr, ℕ, ◌+◌, ◌≤◌, nat_le, ◌&&◌, Bool, true, false, List, [], ◌∷◌, ◌++◌, flat_map, codes, decimal}
+use Rattle.std.proofs.Common.{◌≡◌, inl, inr, ℕ, ◌+◌, ◌<◌, ◌≤◌, ◌^◌, ℤ, pos, ◌≤ℤ◌, zip, nat_le, ◌&&◌, Bool, true, false, List, [], ◌∷◌, ◌++◌, flat_map, codes, decimal}
 use Rattle.std.proofs.Common.{refl, sym, subst, ◌∙◌, arith, append_assoc}
 use Rattle.std.specs.List.{All, list_all}
 use Rattle.std.specs.Char.{IsAsciiDigit}
+use Rattle.std.specs.Fmt.{signed_decimal}
+use Rattle.std.proofs.lemmas.Int.{ints}
 use Rattle.std.proofs.lemmas.Bool.{and_parts}
 use Rattle.std.proofs.lemmas.Bool.Decides.{nat_tests}
 use Rattle.std.proofs.lemmas.List.Elements.{All-nil, All-cons, All-head, All-tail, All-append, All-weaker}
@@ -12,13 +14,20 @@ use Rattle.gj_frac.specs.declared.Frac.{Frac}
 use Rattle.gj_lex.specs.NumberText.{fraction_text, IsNumberByte}
 use Rattle.gj_lex.proofs.WordBytes.{decimal_bytes, fraction_bytes}
 use Rattle.gj_lines.specs.FunctionLines.{line, fraction_line, order_line, place_line, point_text, point_line, has_no_jump, AreFunctionLines}
+use Rattle.gj_lines.specs.FaceLines.{face_word, cover_line}
 use Rattle.gj_lines.proofs.PointLines.{text_of_one, text_of_three}
 use Rattle.gj_shape.specs.FunctionData.{FunctionData, IsWithinBounds}
+use Rattle.gj_shape.specs.declared.extremality.CoverLine.{CoverLine}
+use Rattle.gj_shape.specs.declared.extremality.Halves.{Halves}
+use Rattle.gj_shape.specs.declared.extremality.RowName.{RowName}
+use Rattle.gj_shape.specs.declared.extremality.RowName.TheVariants.{Period, F, Pair}
+use Rattle.gj_shape.specs.declared.faces.FaceKind.{FaceKind}
+use Rattle.gj_shape.specs.declared.faces.FaceKind.TheVariants.{Vertex, Horizontal, Vertical, Diagonal, Lower, Upper}
 use Rattle.gj_shape.specs.declared.points.Point.{Point}
 use Rattle.gj_shape.specs.declared.violations.Violation.{Violation}
 use Rattle.gj_shape.specs.declared.violations.Violation.TheVariants as violation
 use Rattle.gj_proof.specs.declared.claim.Claim.{Claim}
-use Rattle.gj_proof.specs.declared.claim.Claim.TheVariants.{Minimal, NotMinimal, Cut}
+use Rattle.gj_proof.specs.declared.claim.Claim.TheVariants.{Minimal, NotMinimal, Cut, Extreme, NotExtreme}
 use Rattle.gj_proof.specs.declared.cut.CutLine.{CutLine}
 use Rattle.gj_proof.specs.declared.cut.CutLine.TheVariants as cuts
 use Rattle.gj_proof.specs.declared.cut.CutRule.TheVariants.{Gmic, Table}
@@ -26,8 +35,11 @@ use Rattle.gj_proof.specs.declared.cut.CutTerm.{CutTerm}
 use Rattle.gj_proof.specs.declared.cut.SkipReason.{SkipReason}
 use Rattle.gj_proof.specs.declared.cut.SkipReason.TheVariants.{Integral, Other}
 use Rattle.gj_lex.specs.Name.{IsNameByte, IsName}
-use Rattle.gj_proof.specs.ProofText.{claim_word, OwnLine, own_lines, violation_line, row_line, term_line, reason_word, terms_of, term_lines, row_lines, HasNames, subject_of, AreSubjectLines, IsBounded, IsProofText}
+use Rattle.gj_proof.specs.ProofText.{HasText, IsCoverLineBelow, IsRowNameBelow, IsPivotRowBelow, AreHalvesInBounds, FitsPair, covered_lines, group_line, reduction_lines, pivot_line, group_lines, halves_line, pair_line, pair_lines, claim_word, OwnLine, own_lines, violation_line, row_line, term_line, reason_word, terms_of, term_lines, row_lines, HasNames, subject_of, AreSubjectLines, IsBounded, IsProofText}
+use Rattle.gj_proof.specs.ProofText.ProofLine.{group_pivot}
+use Rattle.gj_proof.specs.declared.pivot.PivotRow.{PivotRow}
 use Rattle.gj_proof.proofs.OwnLines.{names_of_terms}
+use Rattle.gj_proof.proofs.WholeNumbers.{whole, text_of_whole}
 use Rattle.gj_json.specs.JsonText.{IsPrintable, IsProofByte, IsEnded}
 
 -- ---- known texts
@@ -71,7 +83,7 @@ number_printable b (inr (inr e)) = (omega (arith, e), omega (arith, e))
 fraction_printable : (x : Frac) → All IsPrintable (fraction_text x)
 fraction_printable x = All-weaker IsNumberByte IsPrintable number_printable (fraction_text x) (fraction_bytes x)
 
-decimal_printable : (n : ℕ) → n ≤ 1000 → All IsPrintable (decimal n)
+decimal_printable : (n : ℕ) → n ≤ 4000 → All IsPrintable (decimal n)
 decimal_printable n small =
     All-weaker IsAsciiDigit IsPrintable (λ b d. number_printable b (inl d)) (decimal n) (decimal_bytes n (omega arith))
 
@@ -108,7 +120,7 @@ function_bytes f text within a =
     (both (order_line f.order ++ place_line a.place) (flat_map point_line a.points)
     (both (order_line f.order) (place_line a.place)
     (line_bytes (codes "order " ++ decimal f.order)
-    (joined (codes "order ") (decimal f.order) (known (codes "order ") refl) (decimal_printable f.order within.order_high)))
+    (joined (codes "order ") (decimal f.order) (known (codes "order ") refl) (decimal_printable f.order (let high = within.order_high in omega arith))))
     (fraction_line_bytes (codes "f ") a.place (known (codes "f ") refl)))
     (points_bytes a.points))
 
@@ -118,11 +130,15 @@ pub claim_word_printable : (c : Claim) → All IsPrintable (claim_word c)
 claim_word_printable (Minimal f) = known (codes "minimal") refl
 claim_word_printable (NotMinimal f v) = known (codes "not-minimal") refl
 claim_word_printable (Cut r rows) = known (codes "cut") refl
+claim_word_printable (Extreme f lines rows) = known (codes "extreme") refl
+claim_word_printable (NotExtreme f h) = known (codes "not-extreme") refl
 
 subject_bytes : (c : Claim) (text : List ℕ) → IsBounded c → AreSubjectLines (subject_of c) text → All IsProofByte text
 subject_bytes (Minimal f) text within a = function_bytes f text within a
 subject_bytes (NotMinimal f v) text within a = function_bytes f text within a
 subject_bytes (Cut (Table f) rows) text within a = function_bytes f text within.0 a
+subject_bytes (Extreme f lines rows) text within a = function_bytes f text within a
+subject_bytes (NotExtreme f h) text within a = function_bytes f text within a
 subject_bytes (Cut Gmic rows) text within a =
     subst (All IsProofByte) (sym a) (line_bytes (codes "rule gmic") (known (codes "rule gmic") refl))
 
@@ -190,10 +206,137 @@ rows_bytes i (l ∷ rows) h =
     (All-append P (term_lines i 0 (terms_of l)) (row_lines (i + 1) rows) (terms_bytes i 0 (terms_of l) (names_of_terms l names))
     (rows_bytes (i + 1) rows (All-tail HasNames l rows h)))
 
-own_bytes : (c : Claim) → IsBounded c → All IsProofByte (flat_map (λ l. l.bytes) (own_lines c))
-own_bytes (Minimal f) within = All-nil IsProofByte
-own_bytes (NotMinimal f v) within = both (violation_line v) [] (violation_bytes v) (All-nil IsProofByte)
-own_bytes (Cut r rows) within = All-flat_map IsProofByte (λ (l : OwnLine). l.bytes) (row_lines 0 rows) (rows_bytes 0 rows within.1)
+-- ---- the lines of an extreme function
+
+-- a word, and a count of at most 1,000 behind it
+counted : (word : List ℕ) (n : ℕ) → All IsPrintable word → n ≤ 1000 → All IsPrintable (word ++ decimal n)
+counted word n h low = joined word (decimal n) h (decimal_printable n (omega arith))
+
+-- and a blank
+spaced : (word : List ℕ) (n : ℕ) → All IsPrintable word → n ≤ 1000 → All IsPrintable (word ++ decimal n ++ codes " ")
+spaced word n h low = joined (word ++ decimal n) (codes " ") (counted word n h low) (known (codes " ") refl)
+
+kind_printable : (kind : FaceKind) → All IsPrintable (face_word kind ++ codes " ")
+kind_printable Vertex = known (codes "vertex ") refl
+kind_printable Horizontal = known (codes "horizontal ") refl
+kind_printable Vertical = known (codes "vertical ") refl
+kind_printable Diagonal = known (codes "diagonal ") refl
+kind_printable Lower = known (codes "lower ") refl
+kind_printable Upper = known (codes "upper ") refl
+
+cover_bytes : (q : ℕ) (l : CoverLine) → q ≤ 1000 → IsCoverLineBelow q l → All IsProofByte (cover_line l)
+cover_bytes q l high below =
+    let i_low = below.interval in
+    let j_low = below.from in
+    let a_low = below.first in
+    let b_low = below.second in
+    let front = codes "cover " ++ decimal l.interval ++ codes " " in
+    let place = front ++ decimal l.from ++ codes " " in
+    let face = place ++ face_word l.face.kind ++ codes " " in
+    line_bytes (face ++ decimal l.face.a ++ codes " " ++ decimal l.face.b)
+    (counted (face ++ decimal l.face.a ++ codes " ") l.face.b
+    (spaced face l.face.a
+    (joined place (face_word l.face.kind ++ codes " ")
+    (spaced front l.from (spaced (codes "cover ") l.interval (known (codes "cover ") refl) (omega arith)) (omega arith))
+    (kind_printable l.face.kind))
+    (omega arith))
+    (omega arith))
+
+covers_bytes : (q i : ℕ) (lines : List CoverLine) → q ≤ 1000 → All (IsCoverLineBelow q) lines →
+    All (λ (l : OwnLine). All IsProofByte l.bytes) (covered_lines i lines)
+covers_bytes q i [] high h = All-nil (λ (l : OwnLine). All IsProofByte l.bytes)
+covers_bytes q i (l ∷ lines) high h =
+    All-cons (λ (o : OwnLine). All IsProofByte o.bytes) _ (covered_lines (i + 1) lines)
+    (cover_bytes q l high (All-head (IsCoverLineBelow q) l lines h))
+    (covers_bytes q (i + 1) lines high (All-tail (IsCoverLineBelow q) l lines h))
+
+-- the line of a word and a column
+column_bytes : (word : List ℕ) (c : ℕ) → All IsPrintable word → c < 1000 → All IsProofByte (line (word ++ decimal c))
+column_bytes word c h low = line_bytes (word ++ decimal c) (counted word c h (omega arith))
+
+name_bytes : (q : ℕ) (name : RowName) → q ≤ 1000 → IsRowNameBelow q name → All IsProofByte (group_line name)
+name_bytes q Period high below = line_bytes (codes "row period") (known (codes "row period") refl)
+name_bytes q F high below = line_bytes (codes "row f") (known (codes "row f") refl)
+name_bytes q (Pair a b) high (a_low, up, b_low) =
+    let front = codes "row " ++ decimal a ++ codes " " in
+    line_bytes (front ++ decimal b)
+    (counted front b (spaced (codes "row ") a (known (codes "row ") refl) (omega arith)) (omega arith))
+
+steps_bytes : (g r : ℕ) (columns : List ℕ) → All (λ c. c < 1000) columns →
+    All (λ (l : OwnLine). All IsProofByte l.bytes) (reduction_lines g r columns)
+steps_bytes g r [] h = All-nil (λ (l : OwnLine). All IsProofByte l.bytes)
+steps_bytes g r (c ∷ columns) h =
+    All-cons (λ (o : OwnLine). All IsProofByte o.bytes) _ (reduction_lines g (r + 1) columns)
+    (column_bytes (codes "reduce ") c (known (codes "reduce ") refl) (All-head (λ d. d < 1000) c columns h))
+    (steps_bytes g (r + 1) columns (All-tail (λ d. d < 1000) c columns h))
+
+groups_bytes : (q g : ℕ) (rows : List PivotRow) → q ≤ 1000 → All (IsPivotRowBelow q) rows →
+    All (λ (l : OwnLine). All IsProofByte l.bytes) (group_lines g rows)
+groups_bytes q g [] high h = All-nil (λ (l : OwnLine). All IsProofByte l.bytes)
+groups_bytes q g (row ∷ rows) high h =
+    let P : OwnLine → Type 0 = λ o. All IsProofByte o.bytes in
+    let here = All-head (IsPivotRowBelow q) row rows h in
+    All-cons P _ (reduction_lines g 0 row.reduce ++ record { name = group_pivot g; bytes = pivot_line row.pivot } ∷ group_lines (g + 1) rows)
+    (name_bytes q row.name high here.name)
+    (All-append P (reduction_lines g 0 row.reduce) (record { name = group_pivot g; bytes = pivot_line row.pivot } ∷ group_lines (g + 1) rows)
+    (steps_bytes g 0 row.reduce here.reduce)
+    (All-cons P (record { name = group_pivot g; bytes = pivot_line row.pivot }) (group_lines (g + 1) rows)
+    (column_bytes (codes "pivot ") row.pivot (known (codes "pivot ") refl) here.pivot)
+    (groups_bytes q (g + 1) rows high (All-tail (IsPivotRowBelow q) row rows h))))
+
+-- ---- the lines of halves
+
+whole_printable : (n : ℤ) → FitsPair n → All IsPrintable (signed_decimal n)
+whole_printable n fits = subst (All IsPrintable) (text_of_whole n fits) (fraction_printable (whole n fits))
+
+halves_bytes : (h : Halves) → AreHalvesInBounds h → All IsProofByte (halves_line h)
+halves_bytes h in_bounds =
+    let order_high = in_bounds.order_high in
+    let low = in_bounds.scale_low in
+    let high = in_bounds.scale_high in
+    let fits : FitsPair h.scale = scale_fits h.scale low high in
+    let front = codes "halves " ++ decimal h.order in
+    line_bytes (front ++ codes " " ++ signed_decimal h.scale)
+    (joined (front ++ codes " ") (signed_decimal h.scale)
+    (joined front (codes " ")
+    (joined (codes "halves ") (decimal h.order) (known (codes "halves ") refl) (decimal_printable h.order order_high)) (known (codes " ") refl))
+    (whole_printable h.scale fits))
+  where
+    scale_fits : (s : ℤ) → pos 1 ≤ℤ s → s ≤ℤ pos (2 ^ 124) → FitsPair s
+    scale_fits s low high = omega (arith, ints)
+
+pair_bytes : (x y : ℤ) → FitsPair x → FitsPair y → All IsProofByte (pair_line (x, y))
+pair_bytes x y x_fits y_fits =
+    let front = codes "pair " ++ signed_decimal x in
+    line_bytes (front ++ codes " " ++ signed_decimal y)
+    (joined (front ++ codes " ") (signed_decimal y)
+    (joined front (codes " ") (joined (codes "pair ") (signed_decimal x) (known (codes "pair ") refl) (whole_printable x x_fits))
+    (known (codes " ") refl))
+    (whole_printable y y_fits))
+
+pairs_bytes : (i : ℕ) (xs ys : List ℤ) → All FitsPair xs → All FitsPair ys →
+    All (λ (l : OwnLine). All IsProofByte l.bytes) (pair_lines i (zip xs ys))
+pairs_bytes i [] ys h k = All-nil (λ (l : OwnLine). All IsProofByte l.bytes)
+pairs_bytes i (x ∷ xs) [] h k = All-nil (λ (l : OwnLine). All IsProofByte l.bytes)
+pairs_bytes i (x ∷ xs) (y ∷ ys) h k =
+    All-cons (λ (o : OwnLine). All IsProofByte o.bytes) _ (pair_lines (i + 1) (zip xs ys))
+    (pair_bytes x y (All-head FitsPair x xs h) (All-head FitsPair y ys k))
+    (pairs_bytes (i + 1) xs ys (All-tail FitsPair x xs h) (All-tail FitsPair y ys k))
+
+-- ---- all lines of the claim's own
+
+own_bytes : (c : Claim) → IsBounded c → HasText c → All IsProofByte (flat_map (λ l. l.bytes) (own_lines c))
+own_bytes (Minimal f) within has = All-nil IsProofByte
+own_bytes (NotMinimal f v) within has = both (violation_line v) [] (violation_bytes v) (All-nil IsProofByte)
+own_bytes (Cut r rows) within has = All-flat_map IsProofByte (λ (l : OwnLine). l.bytes) (row_lines 0 rows) (rows_bytes 0 rows within.1)
+own_bytes (Extreme f lines rows) within has =
+    All-flat_map IsProofByte (λ (l : OwnLine). l.bytes) (covered_lines 0 lines ++ group_lines 0 rows)
+    (All-append (λ (l : OwnLine). All IsProofByte l.bytes) (covered_lines 0 lines) (group_lines 0 rows)
+    (covers_bytes f.order 0 lines within.order_high has.1) (groups_bytes f.order 0 rows within.order_high has.2))
+own_bytes (NotExtreme f h) within has =
+    both (halves_line h) (flat_map (λ (l : OwnLine). l.bytes) (pair_lines 0 (zip h.first h.second))) (halves_bytes h has)
+    (All-flat_map IsProofByte (λ (l : OwnLine). l.bytes) (pair_lines 0 (zip h.first h.second))
+    (pairs_bytes 0 h.first h.second has.first_fit has.second_fit))
 
 pub proof_bytes : (c : Claim) (text : List ℕ) → IsBounded c → IsProofText c text → All IsProofByte text
 proof_bytes c text within p =
@@ -208,7 +351,7 @@ proof_bytes c text within p =
     (line_bytes (codes "claim " ++ claim_word c)
     (joined (codes "claim ") (claim_word c) (known (codes "claim ") refl) (claim_word_printable c))))
     (subject_bytes c p.subject within p.are_subject_lines))
-    (own_bytes c within))
+    (own_bytes c within p.has_text))
     (line_bytes (codes "end") (known (codes "end") refl)))
 
 pub proof_is_ended : (c : Claim) (text : List ℕ) → IsProofText c text → IsEnded text
