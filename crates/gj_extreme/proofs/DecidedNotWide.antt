@@ -102,16 +102,17 @@ behind_narrow : (f : FunctionData) (g : Halves) (p : ℕ → ℤ) (h : Halves) �
     g.scale ≤ℤ pos (2 ^ 124) → ((i : ℕ) → 2 ^ 127 ≤ unsigned_abs (p i) → ⊥) × (AreHalvesOf f 1 p h → pos (2 ^ 124) <ℤ h.scale → ⊥)
 behind_narrow f g p h l halves narrow =
     let scale : 3 * halves.p * (f.scale * 1) ≤ 2 ^ 124 =
-    scale_narrow (3 * halves.p * (f.scale * 1)) (subst (λ (z : ℤ). z ≤ℤ pos (2 ^ 124)) halves.scale narrow) in
-    (λ i wide.
-    let some : 1 ≤ f.scale * 1 = let low = l.scale_low in omega arith in
-    let more : 3 * halves.p * 1 ≤ 3 * halves.p * (f.scale * 1) = mul-le-mul_left (3 * halves.p) some in
-    let most = halves.greatest_size.greatest i in
-    absurd (omega arith),
-    λ others wide.
-    let same = one_size p others.p halves.p others.greatest_size halves.greatest_size in
-    let small : 3 * others.p * (f.scale * 1) ≤ 2 ^ 124 = subst (λ (k : ℕ). 3 * k * (f.scale * 1) ≤ 2 ^ 124) (sym same) scale in
-    scale_apart (3 * others.p * (f.scale * 1)) small (subst (λ (z : ℤ). pos (2 ^ 124) <ℤ z) others.scale wide))
+    scale_narrow (3 * halves.p * (f.scale * 1)) (subst (λ (z : ℤ). z ≤ℤ pos (2 ^ 124)) halves.scale narrow) in (
+      λ i wide.
+          let some : 1 ≤ f.scale * 1 = let low = l.scale_low in omega arith in
+          let more : 3 * halves.p * 1 ≤ 3 * halves.p * (f.scale * 1) = mul-le-mul_left (3 * halves.p) some in
+          let most = halves.greatest_size.greatest i in
+          absurd (omega arith),
+      λ others wide.
+          let same = one_size p others.p halves.p others.greatest_size halves.greatest_size in
+          let small : 3 * others.p * (f.scale * 1) ≤ 2 ^ 124 = subst (λ (k : ℕ). 3 * k * (f.scale * 1) ≤ 2 ^ 124) (sym same) scale in
+          scale_apart (3 * others.p * (f.scale * 1)) small (subst (λ (z : ℤ). pos (2 ^ 124) <ℤ z) others.scale wide),
+    )
 
 -- ---- each claim
 

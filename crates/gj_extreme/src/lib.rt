@@ -13,3 +13,6 @@ mod uncovered;
 
 pub use decision::decide;
 pub use faults::DecideFault;
+
+#[cfg(test)]
+mod tests;
