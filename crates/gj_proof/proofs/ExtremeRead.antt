@@ -1,5 +1,5 @@
 -- The lines of extremality, read one after another.
-use Rattle.std.proofs.Common.{◌≡◌, ◌⊎◌, inl, inr, ℕ, suc, ◌+◌, ◌-◌, ◌<◌, ◌≤◌, ℤ, List, [], ◌∷◌, ◌++◌, codes, refl, sym, subst, arith}
+use Rattle.std.proofs.Common.{◌≡◌, ◌⊎◌, inl, inr, ℕ, suc, ◌+◌, ◌-◌, ◌<◌, ℤ, List, [], ◌∷◌, ◌++◌, codes, refl, sym, subst, arith}
 use Rattle.gj_lex.specs.declared.spelling.Spelling.TheVariants.{Strict}
 use Rattle.gj_lex.specs.declared.fault.PartFault.{PartFault}
 use Rattle.gj_lex.specs.Parts.{Part, empty_part, IsFaultOf}
@@ -11,21 +11,17 @@ use Rattle.gj_lines.specs.FunctionGrammar.{function_part}
 use Rattle.gj_proof.specs.WhereParts.{BeginsWithLine, BeginsWithWord}
 use Rattle.gj_proof.specs.ProofGrammar.{covered_part, next_step, group_part, next_group, groups_part, pairs_part, halves_part, claim_part}
 use Rattle.gj_proof.specs.declared.claim.ClaimWord.TheVariants.{Extreme, NotExtreme}
-use Rattle.gj_proof.specs.declared.halves.HalvesHead.{HalvesHead}
 use Rattle.gj_proof.specs.declared.pivot.PivotRow.{PivotRow}
 use Rattle.gj_proof.proofs.LoopRead.{LeadsOn, leads_on, leads_to_end, leads_to_fault}
 use Rattle.gj_proof.proofs.WhereLaws.{fault_where, fault_else}
 use Rattle.gj_proof.proofs.CutParts.{end_words}
-use Rattle.gj_proof.proofs.ExtremeParts.{cover_part, name_part, step_part, pivot_part, more_steps, steps_part, makes_row, behind_steps, behind_name, more_groups, head_part, pair_part, makes_halves, behind_head}
+use Rattle.gj_proof.proofs.ExtremeParts.{cover_part, name_part, step_part, pivot_part, more_steps, steps_part, makes_row, behind_steps, behind_name, more_groups, pair_part}
 use Rattle.gj_proof.proofs.ReadTexts.{makes_extreme, behind_cover, behind_function, makes_not_extreme, behind_subject}
 
 -- what the part r reads of the rest, the part p reads of the text, and so its faults
 pub record Leads {A : Type 0} (p : Part A) (text : List ℕ) (r : Part A) (rest : List ℕ) : Type 0 where
   pub reads : (a : A) (end : List ℕ) → r.Reads rest a end → p.Reads text a end
   pub faults : (e : PartFault) → IsFaultOf r rest e → IsFaultOf p text e
-
-pub leads_at_once : {A : Type 0} (p : Part A) (text : List ℕ) → Leads p text p text
-leads_at_once p text = record { reads = λ a end h. h; faults = λ e h. h }
 
 -- ---- covered intervals
 
@@ -45,11 +41,6 @@ module _ (q n i : ℕ) (text rest : List ℕ) (lines : List CoverLine)
         reads = λ a end k. here.reads a end (l, behind, one, k);
         faults = λ e k. here.faults e (fault_in_next (cover_part q) next rest l behind e one k);
       })
-
-  pub covered_end : n ≤ i → (covered_part q n []).Reads text lines rest
-  covered_end all =
-      let e : n - i ≡ 0 = omega arith in
-      (subst (λ (m : ℕ). Leads (covered_part q n []) text (covered_part q m lines) rest) e h).reads lines rest (refl, refl)
 
   pub covered_at_fault : (e : PartFault) → i < n → IsFaultOf (cover_part q) rest e → IsFaultOf (covered_part q n []) text e
   covered_at_fault e below fault =
@@ -130,22 +121,10 @@ module _ (n i : ℕ) (text rest : List ℕ) (first second : List ℤ)
       subst (λ (xs : List ℤ). Leads (pairs_part n [] []) text (pairs_part (n - (i + 1)) xs new_second) behind) (sym first_is)
       (subst (λ (ys : List ℤ). Leads (pairs_part n [] []) text (pairs_part (n - (i + 1)) (first ++ p.0 ∷ []) ys) behind) (sym second_is) made)
 
-  pub pairs_end : n ≤ i → (pairs_part n [] []).Reads text (first, second) rest
-  pairs_end all =
-      let e : n - i ≡ 0 = omega arith in
-      (subst (λ (m : ℕ). Leads (pairs_part n [] []) text (pairs_part m first second) rest) e h).reads (first, second) rest (refl, refl)
-
   pub pair_at_fault : (e : PartFault) → i < n → IsFaultOf pair_part rest e → IsFaultOf (pairs_part n [] []) text e
   pair_at_fault e below fault =
       (one_pair_more below).faults e
       (fault_in_first pair_part (λ r. pairs_part (n - (i + 1)) (first ++ r.0 ∷ []) (second ++ r.1 ∷ [])) rest e fault)
-
--- ---- halves
-
-pub fault_in_pairs : (text middle : List ℕ) (head : HalvesHead) (e : PartFault) → head_part.Reads text head middle →
-    IsFaultOf (pairs_part head.order [] []) middle e → IsFaultOf halves_part text e
-fault_in_pairs text middle head e first h =
-    fault_in_next head_part behind_head text head middle e first (fault_in_made (makes_halves head) (pairs_part head.order [] []) middle e h)
 
 -- ---- the claims
 
