@@ -4,6 +4,7 @@ use Rattle.std.proofs.Math.Seq.{split_at}
 use Rattle.std.proofs.lemmas.Bool.{cases_lt}
 use Rattle.std.proofs.lemmas.List.{length-append, length-take-le}
 use Rattle.std.proofs.lemmas.List.Elements.{All-nil, All-cons, All-append}
+use Rattle.gj_shape.specs.Elimination.{KeptRow}
 use Rattle.gj_shape.specs.FunctionData.{FunctionData}
 use Rattle.gj_theory.specs.TriangularRows.{present_row}
 use Rattle.gj_tools.specs.FirstThatFails.{IsFirstFailing}
@@ -208,19 +209,24 @@ of_group : (rows : List PivotRow) (g : ℕ) (front : List PivotRow) (one : Pivot
     IsGroup rows g front one back → (P : List PivotRow → PivotRow → Type 0) → P front one → AtIndex rows g P
 of_group rows g front one back at P h = subst (λ (k : ℕ). AtIndex rows k P) at.index (at_index rows P front one back at.place h)
 
+-- a rule holds of a step of a group behind others
+abbrev OnStep : FunctionData → (ℕ → ℕ) → ℕ → (List KeptRow → List ℤ → ℕ → Type 0) → List PivotRow → PivotRow → List ℕ → ℕ → Type 0
+OnStep f component n P before one steps c =
+    P (rows_before f component n before) (present_row (rows_before f component n before) (named_row f component n one.name) steps) c
+
+-- of the r-th
+abbrev OnStepAt : FunctionData → (ℕ → ℕ) → ℕ → ℕ → (List KeptRow → List ℤ → ℕ → Type 0) → List PivotRow → PivotRow → Type 0
+OnStepAt f component n r P before one = AtIndex one.reduce r (OnStep f component n P before one)
+
 -- the demands on a step of the group hold where its rules do
 step_holds : (f : FunctionData) (component : ℕ → ℕ) (n : ℕ) (rows : List PivotRow) (g : ℕ) (front : List PivotRow) (one : PivotRow)
     (back : List PivotRow) → IsGroup rows g front one back → (r : ℕ) →
     AtIndex one.reduce r (MeetsStepBehind (rows_before f component n front) (named_row f component n one.name)) →
     StepHolds (GroupHolds f component n rows) g r
 step_holds f component n rows g front one back at r h = record {
-  reduces = of_group rows g front one back at
-      (λ before x. AtIndex x.reduce r (λ steps c.
-      MeetsReduce (rows_before f component n before) (present_row (rows_before f component n before) (named_row f component n x.name) steps) c))
+  reduces = of_group rows g front one back at (OnStepAt f component n r MeetsReduce)
       (λ steps c more split index. (h steps c more split index).reduce);
-  fits = of_group rows g front one back at
-      (λ before x. AtIndex x.reduce r (λ steps c.
-      MeetsSize (rows_before f component n before) (present_row (rows_before f component n before) (named_row f component n x.name) steps) c))
+  fits = of_group rows g front one back at (OnStepAt f component n r MeetsSize)
       (λ steps c more split index. (h steps c more split index).size);
 }
 
@@ -234,7 +240,7 @@ record StepFailsAs (H : Demand → Type 0) (g r : ℕ) (rule : GroupRule) : Type
 step_fails_as : (f : FunctionData) (component : ℕ → ℕ) (n : ℕ) (rows : List PivotRow) (g : ℕ) (front : List PivotRow) (one : PivotRow)
     (back : List PivotRow) → IsGroup rows g front one back → (r : ℕ) (rule : GroupRule) (steps : List ℕ) (c : ℕ) (more : List ℕ) →
     one.reduce ≡ steps ++ c ∷ more → length steps ≡ r →
-    FailsStep rule (rows_before f component n front) (present_row (rows_before f component n front) (named_row f component n one.name) steps) c →
+    OnStep f component n (FailsStep rule) front one steps c →
     StepFailsAs (GroupHolds f component n rows) g r rule
 step_fails_as f component n rows g front one back at r Reduce steps c more split index h = record {
   demand = reduce g r;
@@ -246,14 +252,9 @@ step_fails_as f component n rows g front one back at r Size steps c more split i
   demand = size g r;
   fails = inr (
     refl,
-    of_group rows g front one back at
-        (λ before x. AtIndex x.reduce r (λ passed d.
-        MeetsReduce (rows_before f component n before) (present_row (rows_before f component n before) (named_row f component n x.name) passed) d))
-        (subst (λ (k : ℕ). AtIndex one.reduce k (λ passed d.
-        MeetsReduce (rows_before f component n front) (present_row (rows_before f component n front) (named_row f component n one.name) passed) d)) index
-        (at_index one.reduce (λ passed d.
-        MeetsReduce (rows_before f component n front) (present_row (rows_before f component n front) (named_row f component n one.name) passed) d)
-        steps c more split h.0)),
+    of_group rows g front one back at (OnStepAt f component n r MeetsReduce)
+        (subst (λ (k : ℕ). AtIndex one.reduce k (OnStep f component n MeetsReduce front one)) index
+        (at_index one.reduce (OnStep f component n MeetsReduce front one) steps c more split h.0)),
     λ holds. h.1 (holds front one back at.place at.index steps c more split index),
   );
   rule_is = refl;
@@ -292,8 +293,8 @@ group_fails_as f component n rows g front one back failure at (at_step meets h) 
     let H = GroupHolds f component n rows in
     let r = h.index in
     let split = split_there one.reduce r h.fails.within in
-    let step = step_fails_as f component n rows g front one back at r failure.rule split.before split.item split.after split.place split.index
-    (h.fails.here split.before split.item split.after split.place split.index) in
+    let step = step_fails_as f component n rows g front one back at r failure.rule split.before split.item split.after
+    split.place split.index (h.fails.here split.before split.item split.after split.place split.index) in
     let steps = reduction_lines g 0 split.before in
     let behind = reduction_lines g (r + 1) split.after in
     let here : OwnLine = record { name = reduction g r; bytes = reduction_line split.item } in
@@ -359,7 +360,8 @@ first_group_failure f component n rows g above below one begun failure meet abov
     (subst (λ (b : List ℤ). FailsGroup f n (rows_before f component n front) b one failure) begun_is fails) in
     let first : FailsFirst H (group_demands 0 rows) here.demand =
     subst (λ (xs : List PivotRow). FailsFirst H (group_demands 0 xs) here.demand) (sym place)
-    (groups_fail H 0 g front one back here.demand (omega arith) (λ j before. all_hold_at f component n rows j (meet j before)) here.fails) in
+    (groups_fail H 0 g front one back here.demand (omega arith)
+    (λ j before. all_hold_at f component n rows j (meet j before)) here.fails) in
     let lines = group_lines 0 front in
     let split : group_lines 0 rows ≡ lines ++ group_lines g (one ∷ back) =
     ap (group_lines 0) place ∙ groups_split 0 g front (one ∷ back) (omega arith) in

@@ -112,7 +112,8 @@ pub checked_more : (f : FunctionData) (component : ℕ → ℕ) (n : ℕ) (rows 
 checked_more f component n rows g table after above next one begun row h below is begun_is columns fits (began, left) after_is next_is =
     let before = take g rows in
     let kept = rows_before f component n before in
-    let meets : MeetsGroup f n kept (named_row f component n one.name) one = subst (λ (b : List ℤ). MeetsGroup f n kept b one) begun_is began in
+    let meets : MeetsGroup f n kept (named_row f component n one.name) one =
+    subst (λ (b : List ℤ). MeetsGroup f n kept b one) begun_is began in
     let row_is : row ≡ present_row kept (named_row f component n one.name) one.reduce =
     left ∙ ap (λ b. present_row kept b one.reduce) begun_is in
     let more = with_place rows g one below is in
@@ -131,7 +132,8 @@ checked_more f component n rows g table after above next one begun row h below i
           (table_with n one.pivot table (kept_entries row one.pivot) h.table_is meets.pivot.column entries);
       rows_are = subst₂ AreRowsAt (sym rows_now) (sym table_now)
           (rows_with kept k table h.rows_are (omega (arith, h.table_is.columns, meets.pivot.column)) meets.pivot.new);
-      meet = below_more (λ i. AtIndex rows i (MeetsBehind f component n)) g h.meet (at_place rows (MeetsBehind f component n) g one below is meets);
+      meet = below_more (λ i. AtIndex rows i (MeetsBehind f component n)) g h.meet
+          (at_place rows (MeetsBehind f component n) g one below is meets);
       above_is = next_is ∙ ap (λ m. m + (length one.reduce + 2)) h.above_is ∙ sym (count_of_push before one) ∙ ap count_of (sym more);
     }
 

@@ -29,4 +29,5 @@ loop-place-preserved c =
 
 pub returns-clause-outcome : goal.returns-clause-outcome
 returns-clause-outcome c kept rows =
-    stepped_all kept c.args.row.now c.args.columns.now c.loop-place.place c.loop-place.row (c.loop-place.invariant.stepped kept rows) (omega arith)
+    stepped_all kept c.args.row.now c.args.columns.now c.loop-place.place c.loop-place.row
+    (c.loop-place.invariant.stepped kept rows) (omega arith)

@@ -18,8 +18,10 @@ adds_up-requires c =
     let e = c.value_numerators-values.ensures.value in
     let f = c.args.shape.now in
     record {
-      first = small _ _ (entry_read _ f.value c.args.a e (omega (arith, l.value_length, c.requires.first)) (search rules)) (value_below f c.args.a l);
-      second = small _ _ (entry_read _ f.value c.args.b e (omega (arith, l.value_length, c.requires.second)) (search rules)) (value_below f c.args.b l);
+      first = small _ _ (entry_read _ f.value c.args.a e (omega (arith, l.value_length, c.requires.first)) (search rules))
+          (value_below f c.args.a l);
+      second = small _ _ (entry_read _ f.value c.args.b e (omega (arith, l.value_length, c.requires.second)) (search rules))
+          (value_below f c.args.b l);
     }
 
 pub returns : goal.returns

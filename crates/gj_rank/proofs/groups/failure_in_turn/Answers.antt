@@ -48,7 +48,8 @@ returns-in-Some c =
     let same : length c.begin_row.new.row ≡ n = c.begin_row.auto.row ∙ c.loop-group.auto.row in
     first_group_failure f component n rows g c.loop-group.above c.in_ok-lines_behind.field-0 c.group-item.result c.begin_row.new.row
     c.in-Some.failure c.loop-group.invariant.meet c.loop-group.invariant.above_is c.loop-group-test.true c.group-item.is
-    (begun f component n _ _ _ c.group-item.result.name c.begin_row.new.row c.begin_row.ensures c.loop-group.auto.row c.requires.order c.place.ensures.value)
+    (begun f component n _ _ _ c.group-item.result.name c.begin_row.new.row c.begin_row.ensures c.loop-group.auto.row
+    c.requires.order c.place.ensures.value)
     (subst (λ (m : ℕ). FailsGroup f m (rows_before f component n (take g rows)) c.begin_row.new.row c.group-item.result c.in-Some.failure) same
     (c.in-Some.ensures.outcome (rows_before f component n (take g rows)) c.loop-group.invariant.rows_are))
     c.in_ok-lines_behind.ensures
@@ -56,8 +57,8 @@ returns-in-Some c =
 pub returns : goal.returns
 returns c =
     all_groups_hold c.args.shape.now (component_in c.args.component.now) (length c.args.row.now) c.args.rows.now
-    (checked_all c.args.shape.now (component_in c.args.component.now) (length c.args.row.now) c.args.rows.now c.loop-group.group-index c.loop-group.table
-    c.loop-group.above c.loop-group.invariant c.loop-group-test.false)
+    (checked_all c.args.shape.now (component_in c.args.component.now) (length c.args.row.now) c.args.rows.now
+    c.loop-group.group-index c.loop-group.table c.loop-group.above c.loop-group.invariant c.loop-group-test.false)
 
 pub loop-group-preserved : goal.loop-group-preserved
 loop-group-preserved c =
@@ -70,7 +71,8 @@ loop-group-preserved c =
     let same : length c.begin_row.new.row ≡ n = c.begin_row.auto.row ∙ c.loop-group.auto.row in
     checked_more f component n rows g c.loop-group.table c.keep.new.table c.loop-group.above c.in_ok-above.above c.group-item.result
     c.begin_row.new.row c.failure_in_group.new.row c.loop-group.invariant c.loop-group-test.true c.group-item.is
-    (begun f component n _ _ _ c.group-item.result.name c.begin_row.new.row c.begin_row.ensures c.loop-group.auto.row c.requires.order c.place.ensures.value)
+    (begun f component n _ _ _ c.group-item.result.name c.begin_row.new.row c.begin_row.ensures c.loop-group.auto.row
+    c.requires.order c.place.ensures.value)
     (c.failure_in_group.auto.row ∙ same) c.in_ok-keep.ensures.fits
     (subst (λ (m : ℕ). IsGroupOutcome f m kept c.begin_row.new.row c.group-item.result c.failure_in_group.new.row None) same
     (c.in_default.ensures.outcome kept c.loop-group.invariant.rows_are))
