@@ -67,7 +67,8 @@ numbering f lines c meet h =
     let rules : MeetsCoverRules f.order (IsTight f) lines = λ before l after place. meet (length before) before l after place refl in
     record {
       numbers = h.numbers;
-      only = λ other are i low. one_component f.order (IsTight f) lines i (other i) (get_or c.number.items i 0) rules (are i low) (h.numbers i low);
+      only = λ other are i low.
+          one_component f.order (IsTight f) lines i (other i) (get_or c.number.items i 0) rules (are i low) (h.numbers i low);
       count = h.count;
     }
 
