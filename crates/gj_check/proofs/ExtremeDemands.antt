@@ -28,7 +28,7 @@ use Rattle.gj_check.specs.CoverLines.{MeetsCover, AreComponentsOf, IsFirstBroken
 use Rattle.gj_check.specs.FirstFailure.{rule_of, IsFirstFailure}
 use Rattle.gj_check.specs.GroupRules.{rule_on_groups}
 use Rattle.gj_check.proofs.FirstDemand.{FirstFails, fails_here, fails_behind, fails_next, fails_in_front, failure_of}
-use Rattle.gj_check.proofs.AtPlaces.{split_there}
+use Rattle.gj_proof.proofs.AtPlaces.{split_there}
 use Rattle.gj_check.proofs.OwnLineNumbers.{number_of_cover, number_behind_groups}
 
 -- ---- cover lines

@@ -16,7 +16,7 @@ use Rattle.gj_proof.specs.ProofText.{IsCoverLineBelow}
 use Rattle.gj_check.specs.CoverLines.{HaveLines, MeetsCover, IsFirstBroken, IsCoverOutcome}
 use Rattle.gj_check.specs.declared.cover_lines.Components.{Components}
 use Rattle.gj_check.specs.declared.cover_lines.Covered.TheVariants.{Whole}
-use Rattle.gj_check.proofs.AtPlaces.{at_place, with_place, each_item}
+use Rattle.gj_proof.proofs.AtPlaces.{at_place, with_place, each_item}
 use Rattle.gj_theory.proofs.LineIntervals.{line_for_each}
 
 -- ---- one item more
