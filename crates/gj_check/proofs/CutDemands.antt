@@ -21,7 +21,7 @@ use Rattle.gj_check.specs.declared.rows.RowFailure.{RowFailure}
 use Rattle.gj_check.specs.FirstFailure.{IsFirstFailure}
 use Rattle.gj_check.specs.CutRows.{MeetsTerm, FailsTerm, MeetTerms, MeetsRow, FailsRow, GivesCut}
 use Rattle.gj_check.specs.CutRows.FailsRow.{at_fraction, at_limit, at_term}
-use Rattle.gj_check.proofs.AtPlaces.{at_index, split_there}
+use Rattle.gj_proof.proofs.AtPlaces.{at_index, split_there}
 use Rattle.gj_check.proofs.FirstDemand.{FirstFails, fails_here, fails_behind, fails_next, fails_in_front, failure_of}
 use Rattle.gj_check.proofs.CutLines.{first_of, count_of, number_of_row, number_of_term}
 

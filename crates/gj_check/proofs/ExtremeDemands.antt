@@ -28,7 +28,7 @@ use Rattle.gj_check.specs.CoverLines.{MeetsCover, AreComponentsOf, IsFirstBroken
 use Rattle.gj_check.specs.FirstFailure.{rule_of, IsFirstFailure}
 use Rattle.gj_check.specs.GroupRules.{rule_on_groups}
 use Rattle.gj_check.proofs.FirstDemand.{FirstFails, fails_here, fails_behind, fails_next, fails_in_front, failure_of}
-use Rattle.gj_check.proofs.AtPlaces.{split_there}
+use Rattle.gj_proof.proofs.AtPlaces.{split_there}
 use Rattle.gj_check.proofs.OwnLineNumbers.{number_of_cover, number_behind_groups}
 
 -- ---- cover lines
@@ -67,7 +67,8 @@ numbering f lines c meet h =
     let rules : MeetsCoverRules f.order (IsTight f) lines = λ before l after place. meet (length before) before l after place refl in
     record {
       numbers = h.numbers;
-      only = λ other are i low. one_component f.order (IsTight f) lines i (other i) (get_or c.number.items i 0) rules (are i low) (h.numbers i low);
+      only = λ other are i low.
+          one_component f.order (IsTight f) lines i (other i) (get_or c.number.items i 0) rules (are i low) (h.numbers i low);
       count = h.count;
     }
 

@@ -7,6 +7,7 @@ use Rattle.std.proofs.lemmas.Bool.Decides.{Decides-eqb}
 use Rattle.std.proofs.lemmas.List.{length-append, length_push}
 use Rattle.std.proofs.lemmas.List.FromFn.{length-map-range_with_len}
 use Rattle.std.proofs.lemmas.List.Elements.{All-nil, All-head, All-tail}
+use Rattle.gj_rank.proofs.GroupsInTurn.{rows_behind_push}
 use Rattle.gj_tools.proofs.Lists.{All-front, All-back, made_has}
 use Rattle.gj_shape.specs.Additive.{IsTight}
 use Rattle.gj_shape.specs.Cover.{HasComponent}
@@ -147,13 +148,6 @@ groups_keep f component n w kept (group ∷ more) all h solved meets =
 
 -- ---- from the demands
 
-rows_push : (f : FunctionData) (component : ℕ → ℕ) (n : ℕ) (kept : List KeptRow) (front : List PivotRow) (one : PivotRow) →
-    rows_behind f component n kept (front ++ one ∷ [])
-    ≡ rows_behind f component n kept front ++ row_kept f component n (rows_behind f component n kept front) one ∷ []
-rows_push f component n kept [] one = refl
-rows_push f component n kept (group ∷ front) one =
-    rows_push f component n (kept ++ row_kept f component n kept group ∷ []) front one
-
 groups_meet : (f : FunctionData) (lines : List CoverLine) (rows : List PivotRow) (component : ℕ → ℕ) →
     AreNumbersOf f lines component → All (IsPivotRowBelow f.order) rows → (front rest : List PivotRow) →
     rows ≡ front ++ rest → All (Holds (Extreme f lines rows)) (group_demands (length front) rest) →
@@ -173,7 +167,7 @@ groups_meet f lines rows component numbers below front (one ∷ rest) place h =
     (All-back (IsPivotRowBelow f.order) front (one ∷ rest) (subst (All (IsPivotRowBelow f.order)) place below)) in
     let long : g + 1 ≡ length (front ++ one ∷ []) = sym (length_push front one) in (
       record { below = within.name; row = tight; pivot = last },
-      subst (λ (kept : List KeptRow). MeetGroups f component n kept rest) (rows_push f component n [] front one)
+      subst (λ (kept : List KeptRow). MeetGroups f component n kept rest) (rows_behind_push f component n [] front one)
           (groups_meet f lines rows component numbers below (front ++ one ∷ []) rest
           (place ∙ sym (append_assoc front (one ∷ []) rest))
           (subst (λ (k : ℕ). All P (group_demands k rest)) long (All-tail P (Demand.pivot g) later behind))),

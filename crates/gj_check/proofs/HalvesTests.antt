@@ -1,7 +1,7 @@
 -- The tests of halves, as the code makes them.
 use Rattle.std.proofs.Common.{◌≡◌, ◌↔◌, ℕ, zero, suc, ◌+◌, ◌-◌, ◌*◌, ◌/◌, ◌%◌, ◌<◌, ◌≤◌, ◌^◌, ℤ, pos, ◌+ℤ◌, ◌*ℤ◌, List, [], ◌∷◌, All, length, get_or, unsigned_abs, to_z, of_z, refl, sym, ap, ap₂, subst, ◌∙◌, arith}
 use mir.Syntax.{w128}
-use Rattle.std.proofs.Math.Nat.{mul_comm, mul-mod_left, mul-div_left, mod-lt, mod-mod, le-mul_of_pos_right, mul-pos, mul-lt-mul_of_pos_right, eq_of_mul-eq-mul_right}
+use Rattle.std.proofs.Math.Nat.{mul_comm, mul-mod_left, mul-div_left, mod-lt, mod-mod, mul-pos, mul-lt-mul_of_pos_right, eq_of_mul-eq-mul_right}
 use Rattle.std.proofs.lemmas.Int.{ints, to_z-of_z}
 use Rattle.gj_tools.proofs.Ring.{by_ring, ring}
 use Rattle.gj_shape.specs.FunctionData.{FunctionData, IsWithinBounds, IsContinuous, at}
@@ -44,14 +44,6 @@ some_times f h r b is = some r.times is.order
     some : (t : ℕ) → h.order ≡ f.order * t → 0 < t
     some zero e = absurd (let low = b.order_low in omega arith)
     some (suc t) e = omega arith
-
-pub small_factor : (f : FunctionData) (h : Halves) (r : Refinement) → IsWithinBounds f → AreHalvesInBounds h → IsRefinement f h r →
-    r.factor ≤ 2 ^ 124
-small_factor f h r l b is =
-    let high = b.scale_high in
-    let scale = is.scale in
-    let least = le-mul_of_pos_right r.factor (mul-pos l.scale_low (some_times f h r b is)) in
-    omega (arith, ints)
 
 -- ---- averages
 

@@ -11,7 +11,6 @@ pub mod DemandsOfClaims
 pub mod ExtremeMeaning
 pub mod HalvesMeaning
 pub mod RulesGiveMeaning
-pub mod AtPlaces
 pub mod CutLines
 pub mod FractionalParts
 pub mod LimitsOfRows

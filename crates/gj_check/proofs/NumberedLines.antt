@@ -16,7 +16,7 @@ use Rattle.gj_proof.specs.ProofText.{IsCoverLineBelow}
 use Rattle.gj_check.specs.CoverLines.{HaveLines, MeetsCover, IsFirstBroken, IsCoverOutcome}
 use Rattle.gj_check.specs.declared.cover_lines.Components.{Components}
 use Rattle.gj_check.specs.declared.cover_lines.Covered.TheVariants.{Whole}
-use Rattle.gj_check.proofs.AtPlaces.{at_place, with_place, each_item}
+use Rattle.gj_proof.proofs.AtPlaces.{at_place, with_place, each_item}
 use Rattle.gj_theory.proofs.LineIntervals.{line_for_each}
 
 -- ---- one item more
@@ -54,21 +54,6 @@ pub record AreNumbered (f : FunctionData) (lines : List CoverLine) (k : ℕ) (ha
   pub counted : count ≡ count_by (λ l. l.from == l.interval) (take k lines)
   pub small : count ≤ k
 
--- no lines
-pub numbered_none : (f : FunctionData) (lines : List CoverLine) (has_line : List Bool) (number : List ℕ) →
-    length has_line ≡ f.order → length number ≡ f.order → ((i : ℕ) → get_or has_line i false ≡ false) →
-    AreNumbered f lines 0 has_line number 0
-numbered_none f lines has_line number has_length number_length none = record {
-  has_length = has_length;
-  number_length = number_length;
-  meet = λ j below. absurd (omega arith);
-  have = λ i below. (λ h. absurd (let no = none i in cc), λ (k, l, low, there, is). absurd (omega arith));
-  shown = λ i below h. absurd (let no = none i in cc);
-  few = λ i below h. absurd (let no = none i in cc);
-  counted = refl;
-  small = omega arith;
-}
-
 -- one more line, whose interval has this number
 numbered_more : (f : FunctionData) (lines : List CoverLine) (k : ℕ) (has_line : List Bool) (number : List ℕ) (count n more : ℕ) (l : CoverLine) →
     AreNumbered f lines k has_line number count → k < length lines → l ≡ get_or lines k l → l.interval < f.order →
@@ -101,7 +86,8 @@ numbered_more f lines k has_line number count n more l h below is within meets c
       ];
       shown = λ j low t. elim (cases_eq j i) [
         | inl e ↦
-            let new : get_or (set number i n) j 0 ≡ n = ap (λ (m : ℕ). get_or (set number i n) m 0) e ∙ get_or-set_same number i n 0 number_within in
+            let new : get_or (set number i n) j 0 ≡ n =
+            ap (λ (m : ℕ). get_or (set number i n) m 0) e ∙ get_or-set_same number i n 0 number_within in
             subst (λ (m : ℕ). HasComponent lines m j) (sym new) (subst (HasComponent lines n) (sym e) component)
         | inr ne ↦
             let same : get_or (set number i n) j 0 ≡ get_or number j 0 = get_or-set_other number i j n 0 ne in
@@ -110,7 +96,8 @@ numbered_more f lines k has_line number count n more l h below is within meets c
       ];
       few = λ j low t. elim (cases_eq j i) [
         | inl e ↦
-            let new : get_or (set number i n) j 0 ≡ n = ap (λ (m : ℕ). get_or (set number i n) m 0) e ∙ get_or-set_same number i n 0 number_within in
+            let new : get_or (set number i n) j 0 ≡ n =
+            ap (λ (m : ℕ). get_or (set number i n) m 0) e ∙ get_or-set_same number i n 0 number_within in
             omega arith
         | inr ne ↦
             let same : get_or (set number i n) j 0 ≡ get_or number j 0 = get_or-set_other number i j n 0 ne in

@@ -18,7 +18,8 @@ use Rattle.gj_proof.proofs.LineLists.{names}
 use Rattle.gj_proof.proofs.LineNumbers.{number_of_own}
 use Rattle.gj_proof.proofs.OwnLines.{IsOwn, own_lines_are_own}
 use Rattle.gj_rank.proofs.ClaimGroups.{length-covered}
-use Rattle.gj_check.proofs.AtPlaces.{split_there}
+use Rattle.gj_rank.proofs.GroupDemands.{length-reductions}
+use Rattle.gj_proof.proofs.AtPlaces.{split_there}
 
 abbrev own_line : ProofLine → List ℕ → OwnLine
 own_line name bytes = record { name = name; bytes = bytes }
@@ -89,17 +90,13 @@ number_of_cover f lines rows i below =
     (subst (λ (k : ℕ). HasNumber (Extreme f lines rows) (covered k) (length (subject_lines (function f)) + length front + 3)) same
     (number_of_own (Extreme f lines rows) front _ _ own))
 
-count_reductions : (g r : ℕ) (columns : List ℕ) → length (reduction_lines g r columns) ≡ length columns
-count_reductions g r [] = refl
-count_reductions g r (c ∷ columns) = ap suc (count_reductions g (r + 1) columns)
-
 -- one group more
 pub one_group_more : (g : ℕ) (rows : List PivotRow) (row : PivotRow) →
     length (group_lines g (rows ++ row ∷ [])) ≡ length (group_lines g rows) + length row.reduce + 2
 one_group_more g [] row =
     let one = length-append (own_line (group g) (group_line row.name) ∷ reduction_lines g 0 row.reduce)
     (own_line (group_pivot g) (pivot_line row.pivot) ∷ []) in
-    let steps = count_reductions g 0 row.reduce in
+    let steps = length-reductions g 0 row.reduce in
     omega arith
 one_group_more g (first ∷ rows) row =
     let one = length-append (own_line (group g) (group_line first.name) ∷ reduction_lines g 0 first.reduce)

@@ -11,7 +11,7 @@ use Rattle.gj_check.specs.declared.rules.CheckRule.{CheckRule}
 use Rattle.gj_check.specs.declared.rows.RowFailure.{RowFailure}
 use Rattle.gj_check.specs.CutRows.{MeetsTerm, FailsTerm, MeetTerms, FailTerms, IsTermsOutcome, IsRowOutcome}
 use Rattle.gj_check.specs.CutRows.FailsRow.{at_term}
-use Rattle.gj_check.proofs.AtPlaces.{at_place, with_place}
+use Rattle.gj_proof.proofs.AtPlaces.{at_place, with_place}
 
 -- the numbers of a row up to the n-th term
 abbrev pub numbers : Frac → ℕ → List CutTerm → List Frac

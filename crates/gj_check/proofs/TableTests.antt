@@ -144,12 +144,17 @@ one_more_entry entries more values place scale n x t narrow is pushed h =
     let Entry = λ (i k : ℕ). (pos k ≡ at values i) × (k < 2 ^ 62) in
     let low = t.low n in
     let high = t.high n in
-    let long = ap length pushed ∙ length-append entries (unsigned_abs x ∷ []) in
-    let count = h.0 in (
+    let y = unsigned_abs x in
+    let long = ap length pushed ∙ length-append entries (y ∷ []) in
+    let count = h.0 in
+    let is : pos y ≡ at values n = omega (arith, ints) in
+    let small : y < 2 ^ 62 = omega (arith, ints) in
+    let before = λ (i : ℕ) (below : i < n).
+    ap (λ xs. get_or xs i 0) pushed ∙ get_or-append entries (y ∷ []) 0 i (let low = below in omega arith) in
+    let last = ap (λ xs. get_or xs n 0) pushed ∙ last_of entries y n count in (
       omega arith,
       below_more (λ i. Entry i (get_or more i 0)) n
-          (λ i below. subst (Entry i) (sym (ap (λ xs. get_or xs i 0) pushed ∙ get_or-append entries (unsigned_abs x ∷ []) 0 i (omega arith))) (h.1 i below))
-          (subst (Entry n) (sym (ap (λ xs. get_or xs n 0) pushed ∙ last_of entries (unsigned_abs x) n count)) ((let e : pos (unsigned_abs x) ≡ at values n = omega (arith, ints) in e), omega (arith, ints))),
+          (λ i below. subst (Entry i) (sym (before i below)) (h.1 i below)) (subst (Entry n) (sym last) (is, small)),
     )
   where
     last_of : (xs : List ℕ) (y n : ℕ) → length xs ≡ n → get_or (xs ++ y ∷ []) n 0 ≡ y

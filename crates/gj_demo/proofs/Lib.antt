@@ -8,3 +8,6 @@ pub mod OpeningLines
 pub mod FourIntervals
 pub mod FewComponents
 pub mod Averages
+pub mod Counts
+pub mod Verdicts
+pub mod SummaryTexts

@@ -1,5 +1,5 @@
 -- The summary of the demonstration (own).
-use Rattle.std.specs.Prelude.{ℕ, ◌≡◌, ◌+◌, List, ◌++◌, codes, decimal, length}
+use Rattle.std.specs.Prelude.{ℕ, ◌≡◌, ◌+◌, Bool, true, false, IsTrue, List, ◌++◌, codes, decimal, length}
 use Rattle.std.specs.List.{range_with_len}
 use Rattle.gj_shape.specs.Additive.{IsTight, IsAdditive}
 use Rattle.gj_shape.specs.Cover.{AreCoverLines, IsCovered}
@@ -18,16 +18,16 @@ use Rattle.gj_proof.specs.declared.claim.Claim.TheVariants.{NotExtreme}
 use Rattle.gj_extreme.specs.Decision.{IsDecided}
 use Rattle.gj_demo.specs.Demo.{IsDemo}
 
--- the face is a triangle
-abbrev pub IsTriangle : FaceKind → Type 0
-IsTriangle Lower = Unit {0}
-IsTriangle Upper = Unit {0}
-IsTriangle kind = ⊥
+-- whether a face of this kind is a triangle
+abbrev pub is_triangle : FaceKind → Bool
+is_triangle Lower = true
+is_triangle Upper = true
+is_triangle kind = false
 
 -- the additive triangles of the function, in walk order
 abbrev pub AreAdditiveTriangles : FunctionData → List Face → Type 0
 AreAdditiveTriangles f faces =
-    ArePicked (λ face. IsTriangle face.kind × IsAdditive (IsTight f) face.kind face.a face.b) (faces_of f.order) faces
+    ArePicked (λ face. IsTrue (is_triangle face.kind) × IsAdditive (IsTight f) face.kind face.a face.b) (faces_of f.order) faces
 
 -- the covered intervals of the function, ascending
 abbrev pub AreCoveredIntervals : FunctionData → List ℕ → Type 0
@@ -36,6 +36,13 @@ AreCoveredIntervals f intervals = ArePicked (IsCovered f.order (IsTight f)) (ran
 -- a line of a word and a count
 abbrev pub count_line : List ℕ → ℕ → List ℕ
 count_line word n = line (word ++ codes " " ++ decimal n)
+
+-- the lines of a summary with these numbers
+abbrev pub lines_with : ℕ → ℕ → ℕ → ℕ → ℕ → ℕ → Halves → List ℕ
+lines_with n order triangles covered uncovered components h =
+    count_line (codes "demo") n ++ order_line order ++ line (codes "f 1/2") ++ count_line (codes "triangles") triangles
+    ++ count_line (codes "covered") covered ++ count_line (codes "uncovered") uncovered
+    ++ count_line (codes "components") components ++ line (codes "verdict not-extreme") ++ halves_line h
 
 -- the text sums up the decision on the n-th function: how many triangles are additive, how many intervals are covered and how many are
 -- not, how many components there are, and the order and scale of the halves by which the function is not extreme
@@ -50,12 +57,7 @@ pub record IsSummary (n : ℕ) (f : FunctionData) (h : Halves) (text : List ℕ)
   pub others : length intervals + uncovered ≡ f.order
   pub lines : List CoverLine
   pub are_lines : AreCoverLines f.order (IsTight f) lines
-  pub spelled : text ≡
-      count_line (codes "demo") n ++ order_line f.order ++ line (codes "f 1/2")
-      ++ count_line (codes "triangles") (length triangles)
-      ++ count_line (codes "covered") (length intervals) ++ count_line (codes "uncovered") uncovered
-      ++ count_line (codes "components") (components_in lines)
-      ++ line (codes "verdict not-extreme") ++ halves_line h
+  pub spelled : text ≡ lines_with n f.order (length triangles) (length intervals) uncovered (components_in lines) h
 
 -- the text is such a summary, of a function within the limits
 pub record HasSummary (n : ℕ) (text : List ℕ) : Type 0 where

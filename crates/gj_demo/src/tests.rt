@@ -1,5 +1,6 @@
 //! Examples with values by hand.
 use crate::function::demo_function;
+use crate::summary_text::summary;
 use gj_frac::Frac;
 use std::test::Fail;
 
@@ -33,5 +34,15 @@ fn last(rt: HostRuntime) -> Result<(), Fail> {
     assert_eq!(rt; shape.value(499), fraction(1, 1)?);
     assert_eq!(rt; shape.value(500), fraction(249, 499)?);
     assert_eq!(rt; shape.value(997), fraction(250, 499)?);
+    Ok(())
+}
+
+/// The summary of the function with the fewest pieces.
+#[test]
+fn summary_of_one(rt: HostRuntime) -> Result<(), Fail> {
+    let text = summary(rt.alloc(), 1)?;
+    let expected =
+        b"demo 1\norder 6\nf 1/2\ntriangles 6\ncovered 4\nuncovered 2\ncomponents 2\nverdict not-extreme\nhalves 24 36\n";
+    assert_eq!(rt; text.as_slice(), expected.as_slice());
     Ok(())
 }

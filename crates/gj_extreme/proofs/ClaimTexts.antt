@@ -15,7 +15,6 @@ use Rattle.gj_shape.specs.FunctionData.{FunctionData, IsWithinBounds}
 use Rattle.gj_shape.specs.SlopeRows.{is_tight, row_names}
 use Rattle.gj_shape.specs.WalkOrder.{faces_of, faces_of_square, faces_in}
 use Rattle.gj_shape.specs.declared.extremality.CoverLine.{CoverLine}
-use Rattle.gj_shape.specs.declared.extremality.Halves.{Halves}
 use Rattle.gj_shape.specs.declared.extremality.RowName.TheVariants.{Period, F, Pair}
 use Rattle.gj_shape.specs.declared.faces.Face.{Face}
 use Rattle.gj_shape.specs.declared.faces.FaceKind.{FaceKind}
@@ -26,7 +25,6 @@ use Rattle.gj_theory.proofs.LineIntervals.{lines_for_all}
 use Rattle.gj_proof.specs.ProofText.{IsCoverLineBelow, IsRowNameBelow, IsPivotRowBelow, HasText}
 use Rattle.gj_proof.specs.declared.claim.Claim.TheVariants as claim
 use Rattle.gj_proof.specs.declared.pivot.PivotRow.{PivotRow}
-use Rattle.gj_perturb.specs.Split.{FitProofText}
 use Rattle.gj_extreme.specs.Decision.{AreAllCovered, AreExtremeRows, group_of, slope_elimination}
 use Rattle.gj_extreme.proofs.KeptGroups.{StepsMeet, AllMeet, all_kept_meet}
 

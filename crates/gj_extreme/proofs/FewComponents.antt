@@ -19,6 +19,7 @@ use Rattle.gj_shape.specs.declared.extremality.RowName.TheVariants.{Period, F, P
 use Rattle.gj_theory.proofs.CarriedSteps.{all_of_any}
 use Rattle.gj_theory.proofs.Eliminations.{elimination_has}
 use Rattle.gj_theory.proofs.ExtremeByCover.{each_row}
+use Rattle.gj_theory.proofs.RiseCounts.{rises_at_most}
 use Rattle.gj_proof.specs.PresentRows.{components_in, named_row}
 use Rattle.gj_extreme.specs.Decision.{AreAllCovered, slope_elimination, slope_perturbation, IsWideBehind, IsTooWide}
 use Rattle.gj_extreme.specs.Decision.IsWideBehind.{kernel_passes, perturbation_passes, scale_passes}
@@ -28,12 +29,6 @@ use Rattle.gj_extreme.proofs.SmallNumbers.{IsSmall, small_at, bound, bound_at, E
 use Rattle.gj_extreme.proofs.SmallSolutions.{small_total, grown, SolutionIsSmall, kernel_small}
 
 -- ---- the rows of the system
-
-rises_low : (component : ℕ → ℕ) (i c : ℕ) → rises component i c ≤ i
-rises_low component i c =
-    let most = count_by-le-length (λ a. eqb (component a) c) (range_with_len 0 i) in
-    let long = length-range_with_len 0 i in
-    omega arith
 
 -- from one place to a later one a component rises, by at most their distance
 rises_between : (component : ℕ → ℕ) (i j c : ℕ) → i ≤ j →
@@ -60,22 +55,22 @@ pair_low component q k a b c a_low b_low = by_place (cases_lt (a + b) q)
     by_place (inl below) =
         let place : r ≡ a + b = mod-eq_of_lt below in
         let (up, most) = rises_between component b r c (omega arith) in
-        let first = rises_low component a c in
+        let first = rises_at_most component a c in
         omega (arith, ints)
     by_place (inr behind) =
         let place : r ≡ a + b - q =
         ap (λ i. i % q) (let e : a + b ≡ q + (a + b - q) = omega arith in e) ∙ add-mod_left q (a + b - q)
         ∙ mod-eq_of_lt (let low : a + b - q < q = omega arith in low) in
         let (up, most) = rises_between component r a c (omega arith) in
-        let second = rises_low component b c in
+        let second = rises_at_most component b c in
         omega (arith, ints)
 
 entries_small : (f : FunctionData) (component : ℕ → ℕ) (n : ℕ) → IsWithinBounds f →
     All (λ name. IsSmall 1000 (named_row f component n name)) (row_names f)
 entries_small f component n l =
     each_row (λ name. IsSmall 1000 (named_row f component n name)) f
-    (each Period (λ c. rises_low component f.order c))
-    (each F (λ c. let low = rises_low component f.place c in let place = l.place_high in omega arith))
+    (each Period (λ c. rises_at_most component f.order c))
+    (each F (λ c. let low = rises_at_most component f.place c in let place = l.place_high in omega arith))
     (λ a b a_low b_low tight. each (Pair a b) (λ c. pair_low component f.order f.place a b c a_low b_low))
   where
     each : (name : RowName) → ((c : ℕ) → unsigned_abs (row_entry component f.order f.place name c) ≤ f.order) →

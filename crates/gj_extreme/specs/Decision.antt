@@ -6,7 +6,7 @@ use Rattle.gj_shape.specs.Cover.{AreCoverLines}
 use Rattle.gj_shape.specs.Elimination.{KeptRow, Elimination, Solution, Passes, at_column, elimination, kernel}
 use Rattle.gj_shape.specs.Extreme.{IsExtremeTable}
 use Rattle.gj_shape.specs.FirstViolation.{IsFirstViolation}
-use Rattle.gj_shape.specs.FunctionData.{FunctionData, IsJump, IsContinuous}
+use Rattle.gj_shape.specs.FunctionData.{FunctionData, IsContinuous}
 use Rattle.gj_shape.specs.Perturbation.{AreHalvesOf, perturbation_of, zigzag}
 use Rattle.gj_shape.specs.SlopeRows.{row_names}
 use Rattle.gj_shape.specs.Table.{table, IsMinimal}

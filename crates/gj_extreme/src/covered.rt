@@ -35,11 +35,7 @@ pub(crate) fn extreme_or_slopes(
     let rows = rows_of(alloc, shape, component.as_slice(), cover.count)?;
     if rows.is_full() {
         let groups = groups(alloc, &rows)?;
-        return Ok(Claim::Extreme(
-            shape.copy(alloc)?,
-            cover.lines,
-            List::of(groups),
-        ));
+        return Ok(Claim::Extreme(shape.copy(alloc)?, cover.lines, List::of(groups)));
     }
     let halves = slope_halves(alloc, shape, component.as_slice(), &rows)?;
     Ok(Claim::NotExtreme(shape.copy(alloc)?, halves))

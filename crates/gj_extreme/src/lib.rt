@@ -15,3 +15,6 @@ mod uncovered;
 pub use decision::decide;
 pub use faults::DecideFault;
 pub use laws::{decided_claims, few_components_are_not_wide};
+
+#[cfg(test)]
+mod tests;

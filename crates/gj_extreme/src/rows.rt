@@ -70,12 +70,7 @@ fn insert_rows(
 }
 
 /// Inserts the rows of the tight pairs (a, b) with b from a on.
-fn insert_pairs(
-    shape: &Shape,
-    system: &SlopeRows,
-    a: u32,
-    rows: &mut Rows,
-) -> Result<(), ElimFault>
+fn insert_pairs(shape: &Shape, system: &SlopeRows, a: u32, rows: &mut Rows) -> Result<(), ElimFault>
     requires order { length system.now.component ≡ shape.now.order }
     requires below { a < shape.now.order }
     requires to_come { AreToCome shape.now (component_in system.now.component) system.now.columns rows.old (rows_from shape.now a) }
@@ -114,12 +109,7 @@ impl Rows {
     }
 
     /// Inserts the row with this name, where there is not yet one for each component.
-    fn insert(
-        &mut self,
-        shape: &Shape,
-        system: &SlopeRows,
-        name: RowName,
-    ) -> Result<(), ElimFault>
+    fn insert(&mut self, shape: &Shape, system: &SlopeRows, name: RowName) -> Result<(), ElimFault>
         requires order { length system.now.component ≡ shape.now.order }
         requires name { IsNameBelow name shape.now.order }
         requires ready { IsReady self.old system.now.columns }
@@ -150,11 +140,7 @@ fn is_tight(shape: &Shape, a: u32, b: u32) -> bool
 {
     let order = shape.order();
     let sum = wrapped(a + b, order);
-    add_up(
-        value_at(shape, a),
-        value_at(shape, b),
-        value_at(shape, sum),
-    )
+    add_up(value_at(shape, a), value_at(shape, b), value_at(shape, sum))
 }
 
 /// The value at i/q, times the common denominator.

@@ -103,7 +103,7 @@ name_is_plain name h = (omega (arith, h.some), All-weaker IsNameByte IsWordByte 
 known_is_plain : (w : List ℕ) (ws : List (List ℕ)) → IsPlain w → All IsPlain ws → All IsPlain (w ∷ ws)
 known_is_plain w ws h k = All-cons IsPlain w ws h k
 
-plain_word : (w : List ℕ) → All IsPlain (w ∷ []) → IsPlain w
+pub plain_word : (w : List ℕ) → All IsPlain (w ∷ []) → IsPlain w
 plain_word w h = h 0 w (omega arith)
 
 word_is_plain : (r : SkipReason) → All IsPlain (reason_word r ∷ [])
@@ -131,7 +131,7 @@ term_is_plain name x y named =
 
 -- ---- their bytes
 
-two_joined : (a b c : List ℕ) → a ++ 32 ∷ (b ++ 32 ∷ c) ≡ (a ++ codes " ") ++ b ++ codes " " ++ c
+pub two_joined : (a b c : List ℕ) → a ++ 32 ∷ (b ++ 32 ∷ c) ≡ (a ++ codes " ") ++ b ++ codes " " ++ c
 two_joined a b c = simp append_assoc
 
 three_joined : (a b c d : List ℕ) → a ++ 32 ∷ (b ++ 32 ∷ (c ++ 32 ∷ d)) ≡ (a ++ codes " ") ++ b ++ codes " " ++ c ++ codes " " ++ d

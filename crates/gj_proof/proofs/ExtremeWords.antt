@@ -24,6 +24,7 @@ use Rattle.gj_proof.specs.ProofText.{group_line, pair_line, IsCoverLineBelow, Is
 use Rattle.gj_proof.specs.ProofGrammar.{IsCountIn, cover_words, BreaksCover, cover_rule, row_words, BreaksRowName, row_name_rule, column_rule, IsHeadInBounds, halves_words, halves_rule, pair_words, pair_rule}
 use Rattle.gj_proof.specs.declared.halves.HalvesHead.{HalvesHead}
 use Rattle.gj_proof.proofs.WholeNumbers.{same_from_whole, whole_is_plain}
+use Rattle.gj_proof.proofs.CutWords.{two_joined, plain_word}
 
 -- a count below some limit up to 4,001 is spelled so in one way
 same_count : (m n limit : ℕ) → m < limit → n < limit → limit ≤ 4001 → decimal m ≡ decimal n → m ≡ n
@@ -34,20 +35,17 @@ count_in n limit h small = (n, canonical_count Strict n (omega arith), h)
 
 -- ---- plain words
 
-known_is_plain : (w : List ℕ) → All IsPlain (w ∷ []) → IsPlain w
-known_is_plain w h = h 0 w (omega arith)
-
 two_plain : (w x : List ℕ) → All IsPlain (w ∷ []) → IsPlain x → All IsPlain (w ∷ x ∷ [])
-two_plain w x h k = All-cons IsPlain w (x ∷ []) (known_is_plain w h) (All-cons IsPlain x [] k (All-nil IsPlain))
+two_plain w x h k = All-cons IsPlain w (x ∷ []) (plain_word w h) (All-cons IsPlain x [] k (All-nil IsPlain))
 
 three_plain : (w x y : List ℕ) → All IsPlain (w ∷ []) → IsPlain x → IsPlain y → All IsPlain (w ∷ x ∷ y ∷ [])
 three_plain w x y h k l =
-    All-cons IsPlain w (x ∷ y ∷ []) (known_is_plain w h) (All-cons IsPlain x (y ∷ []) k (All-cons IsPlain y [] l (All-nil IsPlain)))
+    All-cons IsPlain w (x ∷ y ∷ []) (plain_word w h) (All-cons IsPlain x (y ∷ []) k (All-cons IsPlain y [] l (All-nil IsPlain)))
 
 six_plain : (w a b c d e : List ℕ) → All IsPlain (w ∷ []) → IsPlain a → IsPlain b → IsPlain c → IsPlain d → IsPlain e →
     All IsPlain (w ∷ a ∷ b ∷ c ∷ d ∷ e ∷ [])
 six_plain w a b c d e h i j k l m =
-    All-cons IsPlain w (a ∷ b ∷ c ∷ d ∷ e ∷ []) (known_is_plain w h)
+    All-cons IsPlain w (a ∷ b ∷ c ∷ d ∷ e ∷ []) (plain_word w h)
     (All-cons IsPlain a (b ∷ c ∷ d ∷ e ∷ []) i
     (All-cons IsPlain b (c ∷ d ∷ e ∷ []) j (three_plain c d e (All-cons IsPlain c [] k (All-nil IsPlain)) l m)))
 
@@ -134,7 +132,7 @@ cover_is_plain q l small h =
     let second = h.second in
     six_plain (codes "cover") (decimal l.interval) (decimal l.from) (face_word l.face.kind) (decimal l.face.a) (decimal l.face.b)
     (plain_by_test (codes "cover" ∷ []) refl) (count_is_plain l.interval (omega arith)) (count_is_plain l.from (omega arith))
-    (known_is_plain (face_word l.face.kind) (kind_is_plain l.face.kind)) (count_is_plain l.face.a (omega arith))
+    (plain_word (face_word l.face.kind) (kind_is_plain l.face.kind)) (count_is_plain l.face.a (omega arith))
     (count_is_plain l.face.b (omega arith))
   where
     kind_is_plain : (k : FaceKind) → All IsPlain (face_word k ∷ [])
@@ -202,9 +200,6 @@ row_name_is_plain q F small h = plain_by_test (codes "row" ∷ codes "f" ∷ [])
 row_name_is_plain q (Pair a b) small h =
     three_plain (codes "row") (decimal a) (decimal b) (plain_by_test (codes "row" ∷ []) refl)
     (count_is_plain a (omega (arith, h.1, h.2))) (count_is_plain b (omega (arith, h.2)))
-
-two_joined : (w a b : List ℕ) → w ++ 32 ∷ (a ++ 32 ∷ b) ≡ (w ++ codes " ") ++ a ++ codes " " ++ b
-two_joined w a b = simp append_assoc
 
 pub bytes_of_row_name : (n : RowName) → line (join_with_byte 32 (row_words n)) ≡ group_line n
 bytes_of_row_name Period = refl

@@ -26,3 +26,4 @@ pub mod HalvesWords
 pub mod ExtremeWritten
 pub mod CutWritten
 pub mod GridCoordinates
+pub mod AtPlaces

@@ -97,11 +97,7 @@ pub(crate) fn push_halves(
 
 /// Appends the line `halves N S`, with the order and the scale of halves. An error says that memory ran out; `out` may then have a
 /// part of it.
-pub fn push_halves_line(
-    alloc: Global,
-    out: &mut Vec<u8>,
-    halves: &Halves,
-) -> Result<(), AllocError>
+pub fn push_halves_line(alloc: Global, out: &mut Vec<u8>, halves: &Halves) -> Result<(), AllocError>
     requires { AreHalvesInBounds halves.now }
     ensures { OnOk result (out.new.items ≡ out.old.items ++ halves_line halves.now) }
 {

@@ -21,7 +21,7 @@ use Rattle.gj_rank.specs.declared.failure.GroupFailure.{GroupFailure}
 use Rattle.gj_rank.specs.Groups.{GroupHolds, IsRuleOf, IsFirstGroupFailure}
 use Rattle.gj_rank.specs.GroupOutcomes.{FailsStep, MeetsStepBehind, FailsGroup}
 use Rattle.gj_rank.specs.GroupOutcomes.FailsGroup.{at_row, at_step, at_pivot}
-use Rattle.gj_rank.proofs.AtPlaces.{at_index, split_there}
+use Rattle.gj_proof.proofs.AtPlaces.{at_index, split_there}
 use Rattle.gj_rank.proofs.GroupsInTurn.{MeetsBehind, count_of}
 
 -- ---- the first of some demands that fails
@@ -158,7 +158,7 @@ all_groups_hold f component n rows h =
 
 -- ---- the lines of groups
 
-length-reductions : (g r : ℕ) (columns : List ℕ) → length (reduction_lines g r columns) ≡ length columns
+pub length-reductions : (g r : ℕ) (columns : List ℕ) → length (reduction_lines g r columns) ≡ length columns
 length-reductions g r [] = refl
 length-reductions g r (c ∷ columns) = ap suc (length-reductions g (r + 1) columns)
 

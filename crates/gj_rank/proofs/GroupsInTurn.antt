@@ -16,7 +16,7 @@ use Rattle.gj_proof.specs.Rules.{AtIndex}
 use Rattle.gj_theory.specs.Fitting.{Fits}
 use Rattle.gj_rank.specs.KeptTable.{entries_kept, AreRowsAt, IsKeptAt, IsTable}
 use Rattle.gj_rank.specs.GroupOutcomes.{MeetsGroup, IsGroupOutcome}
-use Rattle.gj_rank.proofs.AtPlaces.{at_place, with_place, each_item}
+use Rattle.gj_proof.proofs.AtPlaces.{at_place, with_place, each_item}
 use Rattle.gj_rank.proofs.Tables.{row_with_pivot_push, row_with_new_pivot}
 
 -- ---- the kept rows

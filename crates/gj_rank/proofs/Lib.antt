@@ -1,5 +1,4 @@
 pub mod RowSizes
-pub mod AtPlaces
 pub mod StepsInTurn
 pub mod Tables
 pub mod GroupsInTurn

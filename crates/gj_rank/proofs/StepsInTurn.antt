@@ -7,7 +7,7 @@ use Rattle.gj_theory.specs.TriangularRows.{present_row}
 use Rattle.gj_rank.specs.declared.failure.GroupRule.{GroupRule}
 use Rattle.gj_proof.specs.Rules.{AtIndex}
 use Rattle.gj_rank.specs.GroupOutcomes.{MeetsStep, FailsStep, MeetsStepBehind, FailAt, IsStepOutcome}
-use Rattle.gj_rank.proofs.AtPlaces.{at_place, with_place, each_item}
+use Rattle.gj_proof.proofs.AtPlaces.{at_place, with_place, each_item}
 
 -- a step more
 pub present_row_push : (kept : List KeptRow) (row : List ℤ) (columns : List ℕ) (c : ℕ) →

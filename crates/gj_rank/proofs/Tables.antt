@@ -3,7 +3,8 @@ use Rattle.std.proofs.Common.{◌≡◌, ◌≢◌, ◌↔◌, ℕ, suc, ◌<◌
 use Rattle.std.specs.Prelude.{Option, None, Some, All, Any, is_some}
 use Rattle.std.proofs.lemmas.Bool.{eqb-true, eq-eqb, ne_eqb}
 use Rattle.std.proofs.lemmas.List.{get_or-take, length-take-le}
-use Rattle.std.proofs.lemmas.List.Elements.{All-nil, All-cons, All-get_or, All-from_get_or}
+use Rattle.std.proofs.lemmas.List.Elements.{All-get_or, All-from_get_or}
+use Rattle.gj_theory.proofs.Kernels.{no_pivot_at}
 use Rattle.gj_shape.specs.Elimination.{KeptRow, at_column, entries_of, row_with_pivot, reduced, marked_in_step, Passes}
 use Rattle.gj_proof.specs.Rules.{MeetsReduce, MeetsSize, MeetsPivot}
 use Rattle.gj_rank.specs.GroupOutcomes.{MeetsStep}
@@ -23,20 +24,9 @@ any_with_pivot (r ∷ kept) c k e = by_test (eqb r.pivot c) refl e (any_with_piv
         let (i, x, below, is, at) = later e in
         (suc i, x, omega arith, is, at)
 
--- where there is none, no kept row has
-pub none_with_pivot : (kept : List KeptRow) (c : ℕ) → row_with_pivot kept c ≡ None → All (λ r. r.pivot ≢ c) kept
-none_with_pivot [] c e = All-nil (λ r. r.pivot ≢ c)
-none_with_pivot (r ∷ kept) c e = by_test (eqb r.pivot c) refl e (none_with_pivot kept c)
-  where
-    by_test : (b : Bool) → eqb r.pivot c ≡ b → cond b (Some r) (row_with_pivot kept c) ≡ None →
-        (row_with_pivot kept c ≡ None → All (λ r. r.pivot ≢ c) kept) → All (λ r. r.pivot ≢ c) (r ∷ kept)
-    by_test true t e later = absurd cc
-    by_test false t e later =
-        All-cons (λ r. r.pivot ≢ c) r kept (λ same. let yes = eq-eqb r.pivot c same in cc) (later e)
-
 -- and none has, said otherwise
 pub none_has_pivot : (kept : List KeptRow) (c : ℕ) → row_with_pivot kept c ≡ None → Any (λ r. r.pivot ≡ c) kept → ⊥
-none_has_pivot kept c e (i, x, below, is, at) = none_with_pivot kept c e i x below (ap (λ r. r.pivot) is ∙ at)
+none_has_pivot kept c e (i, x, below, is, at) = no_pivot_at kept c e i x below (ap (λ r. r.pivot) is ∙ at)
 
 -- behind a new row
 pub row_with_pivot_push : (kept : List KeptRow) (k : KeptRow) (c : ℕ) → k.pivot ≢ c →
@@ -105,7 +95,7 @@ step_too_wide kept table row e c rows some not_zero wide =
 -- no row has its pivot at a column of the table without entries
 pub new_pivot : (kept : List KeptRow) (table : List (Option (List ℤ))) (c : ℕ) → AreRowsAt kept table →
     None ≡ get_or table c None → All (λ r. r.pivot ≢ c) kept
-new_pivot kept table c rows none = none_with_pivot kept c (no_entries (row_with_pivot kept c) (none ∙ rows c))
+new_pivot kept table c rows none = no_pivot_at kept c (no_entries (row_with_pivot kept c) (none ∙ rows c))
 
 -- and one has at a column with entries
 pub no_new_pivot : (kept : List KeptRow) (table : List (Option (List ℤ))) (c : ℕ) (e : List ℤ) → AreRowsAt kept table →

@@ -26,16 +26,18 @@ loop-index-preserved c =
     let within = c.requires.lines k zero_line low in
     let have = subst (HaveLines (take k lines)) (sym c.as_slice.ensures.value) h.have in
     let meets = (c.meets_rule.ensures (take k lines) have).0 c.if-not-meets_rule.false in
-    let Next = λ (number : List ℕ) (count : ℕ). AreNumbered c.args.shape.now lines (k + 1) (set c.loop-index.has_line.items l.interval true) number count in
+    let has_line = c.loop-index.has_line.items in
+    let numbers = c.loop-index.number.items in
+    let Next = λ (number : List ℕ) (count : ℕ).
+    AreNumbered c.args.shape.now lines (k + 1) (set has_line l.interval true) number count in
     elim c.if-line.branch [
       | then-line w ↦
-          let opening = numbered_opening c.args.shape.now lines k c.loop-index.has_line.items c.loop-index.number.items c.loop-index.count l h low is
+          let opening = numbered_opening c.args.shape.now lines k has_line numbers c.loop-index.count l h low is
           within.interval meets w.if-line.true in
           subst₂ Next (sym (ap (λ v. v.items) w.number-is)) (sym w.count-is) opening
       | else-line w ↦
-          let joining = numbered_joining c.args.shape.now lines k c.loop-index.has_line.items c.loop-index.number.items c.loop-index.count l h low is
+          let joining = numbered_joining c.args.shape.now lines k has_line numbers c.loop-index.count l h low is
           within.interval within.from meets w.if-line.false in
-          let numbers = c.loop-index.number.items in
           let number_length = h.number_length in
           let from = within.from in
           let read : w.index.result.now ≡ get_or numbers l.from 0 = w.index.ensures ∙ get_or_default numbers l.from _ 0 (omega arith) in

@@ -10,7 +10,8 @@ returns c before h =
     let i_low = c.requires.line.interval in
     let j_low = c.requires.line.from in
     let all = links_of l.face.kind l.face.a l.face.b ++ triangle_projections l.face.kind l.face.a l.face.b in
-    let joins = subst (λ q. IsTrue c.joins.result ↔ (IsOneOf q all l.interval × IsOneOf q all l.from)) c.order-order.ensures.value c.joins.ensures in
+    let joins = subst (λ q. IsTrue c.joins.result ↔ (IsOneOf q all l.interval × IsOneOf q all l.from)) c.order-order.ensures.value
+    c.joins.ensures in
     let additive = c.is_additive.ensures.0 c.if-not-is_additive.false in (
       λ t. record {
         additive = additive;

@@ -3,7 +3,7 @@ use Rattle.std.proofs.Math.Seq.{split_at}
 use Rattle.std.proofs.lemmas.List.{take_all}
 use Rattle.std.proofs.lemmas.List.Elements.{All-push}
 use Rattle.gj_check.specs.CutRows.{MeetsRow, IsRowOutcome}
-use Rattle.gj_check.proofs.AtPlaces.{with_place}
+use Rattle.gj_proof.proofs.AtPlaces.{with_place}
 use Rattle.gj_check.proofs.CutLines.{count_of, count_of-append}
 use Rattle.gj_check.proofs.CutDemands.{rule_fails, cut_fails, cuts_meet}
 use Rattle.gj_check.proofs.cuts.check_cuts.Goals as goal

@@ -1,6 +1,6 @@
 use Rattle.std.proofs.Common.{length, take, ap, ◌∙◌, arith}
 use Rattle.gj_proof.specs.ProofText.{group_lines}
-use Rattle.gj_check.proofs.AtPlaces.{with_place}
+use Rattle.gj_proof.proofs.AtPlaces.{with_place}
 use Rattle.gj_check.proofs.OwnLineNumbers.{one_group_more}
 use Rattle.gj_check.proofs.extremality.line_behind_groups.Goals as goal
 

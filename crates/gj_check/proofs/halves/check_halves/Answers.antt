@@ -71,8 +71,8 @@ returns-then-not-are_different-clause-fault c =
     c.in_ok-is_minimal_half.ensures in
     let two = subst (λ (values : List ℤ). IsTrue c.in_ok-is_minimal_half-2.field-0 ↔ IsMinimalHalf f h values) c.as_slice-second.ensures
     c.in_ok-is_minimal_half-2.ensures in
-    let differ = subst₂ (λ (xs ys : List ℤ). IsTrue c.are_different.result ↔ AreDifferent xs ys) c.as_slice-first.ensures c.as_slice-second.ensures
-    c.are_different.ensures in
+    let differ = subst₂ (λ (xs ys : List ℤ). IsTrue c.are_different.result ↔ AreDifferent xs ys) c.as_slice-first.ensures
+    c.as_slice-second.ensures c.are_different.ensures in
     subst (λ (n : ℕ). IsFirstFailure (NotExtreme f h) (n + 5) Same) (sym order)
     (halves_same_fails f h (c.is_minimal.ensures.0 c.if-not-is_minimal.false) (c.is_continuous.ensures.0 c.if-not-is_continuous.false)
     (scale_met f h c.in-Some.refinement c.in-Some.ensures.some) c.in_default-failure_in_pairs.ensures
@@ -86,8 +86,8 @@ returns-clause-ok c =
     c.in_ok-is_minimal_half.ensures in
     let two = subst (λ (values : List ℤ). IsTrue c.in_ok-is_minimal_half-2.field-0 ↔ IsMinimalHalf f h values) c.as_slice-second.ensures
     c.in_ok-is_minimal_half-2.ensures in
-    let differ = subst₂ (λ (xs ys : List ℤ). IsTrue c.are_different.result ↔ AreDifferent xs ys) c.as_slice-first.ensures c.as_slice-second.ensures
-    c.are_different.ensures in
+    let differ = subst₂ (λ (xs ys : List ℤ). IsTrue c.are_different.result ↔ AreDifferent xs ys) c.as_slice-first.ensures
+    c.as_slice-second.ensures c.are_different.ensures in
     halves_meet f h (c.is_minimal.ensures.0 c.if-not-is_minimal.false) (c.is_continuous.ensures.0 c.if-not-is_continuous.false)
     (scale_met f h c.in-Some.refinement c.in-Some.ensures.some) c.in_default-failure_in_pairs.ensures
     (one.0 c.if-not-branch.false) (two.0 c.if-not-branch-2.false) (differ.0 c.if-not-are_different.false)

@@ -3,7 +3,7 @@ use Rattle.gj_proof.specs.Rules.{AtIndex, MeetsName}
 use Rattle.gj_check.specs.declared.rules.CheckRule.TheVariants.{Limit, Name, Value}
 use Rattle.gj_check.specs.CutRows.{MeetsTerm}
 use Rattle.gj_check.specs.RowLimits.{IsRowDenominator}
-use Rattle.gj_check.proofs.AtPlaces.{at_place, place_has, each_item}
+use Rattle.gj_proof.proofs.AtPlaces.{at_place, place_has, each_item}
 use Rattle.gj_check.proofs.LimitsOfRows.{limit_small}
 use Rattle.gj_check.proofs.RowOutcomes.{numbers, next_number, fails_at}
 use Rattle.gj_check.proofs.rows.failure_in_terms.Goals as goal

@@ -4,4 +4,5 @@ use Rattle.gj_check.proofs.tables.two_periods.Given as goal
 
 abbrev pub invariant-loop-i : goal.invariant-loop-i
 invariant-loop-i l =
-    (length l.entries.items ≡ l.i) × ((i : ℕ) → i < l.i → (pos (get_or l.entries.items i 0) ≡ at l.values i) × (get_or l.entries.items i 0 < 2 ^ 62))
+    (length l.entries.items ≡ l.i)
+    × ((i : ℕ) → i < l.i → (pos (get_or l.entries.items i 0) ≡ at l.values i) × (get_or l.entries.items i 0 < 2 ^ 62))

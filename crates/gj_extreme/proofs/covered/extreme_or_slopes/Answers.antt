@@ -41,15 +41,19 @@ returns-then-is_full-clause-decided c =
     let full = c.is_full.ensures.0 c.if-is_full.true in
     let most = rank_at_most n (slope_elimination f comp n).kept (elimination_has n _ (begun_columns f comp n (row_names f))).triangular in
     let len = ap length rows.kept in
-    let all : length (slope_elimination f comp n).kept ≡ c.args.cover.count = omega (arith, rows.width) in
-    (c.in_ok-copy.ensures, c.requires.minimal, c.requires.continuous, record {
-      component = comp;
-      n = n;
-      covered = covered;
-      fits = rows.fits;
-      all = all;
-      rows_are = c.of.ensures ∙ c.in_ok-groups.ensures f rows.names ∙ ap (map (group_of f)) (sym rows.kept);
-    })
+    let all : length (slope_elimination f comp n).kept ≡ c.args.cover.count = omega (arith, rows.width) in (
+      c.in_ok-copy.ensures,
+      c.requires.minimal,
+      c.requires.continuous,
+      record {
+        component = comp;
+        n = n;
+        covered = covered;
+        fits = rows.fits;
+        all = all;
+        rows_are = c.of.ensures ∙ c.in_ok-groups.ensures f rows.names ∙ ap (map (group_of f)) (sym rows.kept);
+      },
+    )
 
 pub returns-then-is_full-clause-text : goal.returns-then-is_full-clause-text
 returns-then-is_full-clause-text c =
@@ -60,9 +64,11 @@ pub slope_halves-requires-clause-covered : goal.slope_halves-requires-clause-cov
 slope_halves-requires-clause-covered c =
     let f = c.args.shape.now in
     let covered = subst (λ xs. AreAllCovered f c.args.cover.lines (component_in xs) c.args.cover.count) (sym c.as_slice-3.ensures.value)
-    (are_all_covered f c.args.cover c.in_ok-component.component.items c.requires.cover (c.in_ok-component.ensures ∙ c.as_slice.ensures)) in
-    (c.args.cover.lines, subst (λ m. AreAllCovered f c.args.cover.lines (component_in c.as_slice-3.result.now) m)
-    (sym c.in_ok-rows.ensures.rows.width) covered)
+    (are_all_covered f c.args.cover c.in_ok-component.component.items c.requires.cover (c.in_ok-component.ensures ∙ c.as_slice.ensures)) in (
+      c.args.cover.lines,
+      subst (λ m. AreAllCovered f c.args.cover.lines (component_in c.as_slice-3.result.now) m)
+          (sym c.in_ok-rows.ensures.rows.width) covered,
+    )
 
 pub returns-in_err-rows-clause-no_jump : goal.returns-in_err-rows-clause-no_jump
 returns-in_err-rows-clause-no_jump c = λ i.

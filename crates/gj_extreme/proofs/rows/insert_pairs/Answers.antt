@@ -33,12 +33,12 @@ loop-b-preserved c =
     let behind = rows_from c.args.shape.now (c.args.a + 1) in
     let rest = pairs_from c.args.shape.now c.args.a (c.loop-b.b + 1) ++ behind in
     elim c.if-is_tight.branch [
-      | then-is_tight+in_ok-insert w ↦ 
+      | then-is_tight+in_ok-insert w ↦
           let next = next_pair c.args.shape.now c.args.a c.loop-b.b behind (omega (arith, c.order-b-end.ensures.value))
           (c.is_tight.ensures.0 w.if-is_tight.true) in
           subst (λ rows. come rows rest) (sym w.rows-is)
           (w.in_ok-insert.ensures.to_come rest (subst (come c.loop-b.rows) next c.loop-b.invariant))
-      | else-is_tight w ↦ 
+      | else-is_tight w ↦
           let skip = skipped_pair c.args.shape.now c.args.a c.loop-b.b behind (omega (arith, c.order-b-end.ensures.value))
           (λ tight. let t = c.is_tight.ensures.1 tight in absurd cc) in
           subst (λ rows. come rows rest) (sym w.rows-is) (subst (come c.loop-b.rows) skip c.loop-b.invariant)

@@ -32,7 +32,7 @@ returns-clause-halves c = record {
   halves = zigzag_halves_are c.args.shape.now c.args.class.now c.in_ok-perturbation.perturbation c.in_ok-split.field-0
       c.order-order.ensures.limits c.requires.continuous c.requires.minimal c.requires.uncovered c.in_ok-perturbation.ensures.times
       (c.in_ok-perturbation.ensures.values
-    ∙ ap (λ q. map (zigzag q c.args.class.now) (range_with_len 0 (q * 4))) c.order-order.ensures.value)
+      ∙ ap (λ q. map (zigzag q c.args.class.now) (range_with_len 0 (q * 4))) c.order-order.ensures.value)
       c.in_ok-split.ensures.halves;
 }
 

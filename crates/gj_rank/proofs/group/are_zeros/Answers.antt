@@ -2,7 +2,7 @@ use Rattle.std.proofs.Common.{rules, ◌≡◌, pos, take, get_or, refl, subst, 
 use Rattle.std.specs.Prelude.{All}
 use Rattle.std.proofs.lemmas.List.{take_all, get_or_default}
 use Rattle.std.proofs.lemmas.List.Elements.{All-push}
-use Rattle.gj_rank.proofs.AtPlaces.{with_place}
+use Rattle.gj_proof.proofs.AtPlaces.{with_place}
 use Rattle.gj_theory.proofs.WideNumbers.{zero_from_bits}
 use Rattle.gj_rank.proofs.group.are_zeros.Goals as goal
 

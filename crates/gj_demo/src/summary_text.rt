@@ -1,17 +1,13 @@
 //! The summary of the demonstration.
-ghost use Rattle.std.specs.Prelude.{◌≡◌, ◌≤◌, ◌++◌, codes, decimal, List, ℕ, length, IfOk, OnOk};
-ghost use Rattle.std.specs.Fmt.{signed_decimal};
-ghost use Rattle.gj_shape.specs.Additive.{IsTight};
-ghost use Rattle.gj_shape.specs.FunctionData.{IsContinuous, IsWithinBounds};
-ghost use Rattle.gj_shape.specs.declared.faces.Face.{Face};
-ghost use Rattle.gj_cover.specs.CoverOf.{AreComponents};
-ghost use Rattle.gj_faces.specs.Listed.{AreMaximalFaces};
+ghost use Rattle.std.specs.Prelude.{◌≡◌, ◌-◌, ◌<◌, ◌≤◌, ◌^◌, ◌++◌, count_by, decimal, is_some, length, IfOk, OnOk};
+ghost use Rattle.gj_shape.specs.FunctionData.{FunctionData, IsWithinBounds};
+ghost use Rattle.gj_shape.specs.declared.extremality.Halves.{Halves};
 ghost use Rattle.gj_lines.specs.FunctionLines.{line};
-ghost use Rattle.gj_proof.specs.ProofText.{halves_line};
+ghost use Rattle.gj_proof.specs.ProofText.{AreHalvesInBounds};
 ghost use Rattle.gj_proof.specs.declared.claim.Claim.TheVariants.{NotExtreme};
 ghost use Rattle.gj_extreme.specs.Decision.{IsDecided};
 ghost use Rattle.gj_demo.specs.Demo.{IsDemo};
-ghost use Rattle.gj_demo.specs.Summary.{AreAdditiveTriangles, AreCoveredIntervals, HasSummary, count_line};
+ghost use Rattle.gj_demo.specs.Summary.{HasSummary, is_triangle, lines_with};
 
 use crate::function::demo_function;
 use gj_cover::cover;
@@ -35,17 +31,43 @@ pub fn summary(alloc: Global, n: u32) -> Result<Vec<u8>, AllocError>
     let faces = maximal(alloc, &shape)?;
     let cover = cover(alloc, &shape)?;
     let proof = verdict(alloc, &shape, n)?;
+    let triangles = count_triangles(faces.as_slice());
     let covered = count_covered(cover.component.as_slice());
+    text_of(
+        alloc,
+        n,
+        shape.order(),
+        triangles,
+        covered,
+        cover.count,
+        halves_of(&proof),
+    )
+}
+
+/// The summary with these numbers and halves.
+fn text_of(
+    alloc: Global,
+    n: u32,
+    order: u32,
+    triangles: u32,
+    covered: u32,
+    components: u32,
+    halves: &Halves,
+) -> Result<Vec<u8>, AllocError>
+    requires covered { covered ≤ order }
+    requires halves { AreHalvesInBounds halves.now }
+    ensures { IfOk result (λ text. text.items ≡ lines_with n order triangles covered (order - covered) components halves.now) }
+{
     let mut text = Vec::new(alloc);
     push_count_line(&mut text, b"demo ", n)?;
-    push_order_line(&mut text, shape.order())?;
+    push_order_line(&mut text, order)?;
     text.extend_from_slice(b"f 1/2\n")?;
-    push_count_line(&mut text, b"triangles ", count_triangles(faces.as_slice()))?;
+    push_count_line(&mut text, b"triangles ", triangles)?;
     push_count_line(&mut text, b"covered ", covered)?;
-    push_count_line(&mut text, b"uncovered ", shape.order() - covered)?;
-    push_count_line(&mut text, b"components ", cover.count)?;
+    push_count_line(&mut text, b"uncovered ", order - covered)?;
+    push_count_line(&mut text, b"components ", components)?;
     text.extend_from_slice(b"verdict not-extreme\n")?;
-    push_halves_line(alloc, &mut text, halves_of(&proof))?;
+    push_halves_line(alloc, &mut text, halves)?;
     Ok(text)
 }
 
@@ -54,19 +76,22 @@ fn verdict(alloc: Global, shape: &Shape, n: u32) -> Result<Proof, AllocError>
     requires low { 1 ≤ n }
     requires demo { IsDemo n shape.now }
     requires within { IsWithinBounds shape.now }
-    ensures { IfOk result (λ claim. (h : Halves) × (claim ≡ NotExtreme shape.now h) × IsDecided shape.now claim) }
+    ensures decided { IfOk result (IsDecided shape.now) }
+    ensures not_extreme { IfOk result (λ claim. (h : Halves) × (claim ≡ NotExtreme shape.now h)) }
 {
     match decide(alloc, shape) {
         Ok(proof) => Ok(proof),
         Err(DecideFault::Memory(error)) => Err(error),
-        Err(_) => unreachable!(),
+        Err(DecideFault::NotContinuous(_index)) => unreachable!(),
+        Err(DecideFault::Wide) => unreachable!(),
     }
 }
 
 /// The halves of a proof that a function is not extreme.
 fn halves_of(proof: &Proof) -> &Halves
     requires { (f : FunctionData) × (h : Halves) × (proof.now ≡ NotExtreme f h) }
-    ensures { (f : FunctionData) (h : Halves) → proof.now ≡ NotExtreme f h → result.now ≡ h }
+    ensures halves { (f : FunctionData) (h : Halves) → proof.now ≡ NotExtreme f h → result.now ≡ h }
+    ensures bounds { AreHalvesInBounds result.now }
 {
     match proof.claim() {
         Claim::NotExtreme(_, halves) => halves,
@@ -74,25 +99,31 @@ fn halves_of(proof: &Proof) -> &Halves
     }
 }
 
-/// How many of the maximal additive faces are triangles: all additive triangles are maximal.
+/// How many of the faces are triangles.
 fn count_triangles(faces: &[Face]) -> u32
     requires { length faces.now < 2 ^ 32 }
-    ensures { (f : FunctionData) (triangles : List Face) → AreMaximalFaces f faces.now → AreAdditiveTriangles f triangles →
-        result ≡ length triangles }
+    ensures { result ≡ count_by (λ face. is_triangle face.kind) faces.now }
 {
     let mut count = 0;
     for face in faces {
-        if matches!(face.kind, FaceKind::Lower | FaceKind::Upper) {
+        if is_triangle(face.kind) {
             count += 1;
         }
     }
     count
 }
 
-/// How many intervals are covered.
+/// Whether a face of this kind is a triangle.
+fn is_triangle(kind: FaceKind) -> bool
+    ensures { result ≡ is_triangle kind }
+{
+    matches!(kind, FaceKind::Lower | FaceKind::Upper)
+}
+
+/// How many of the intervals have a component.
 fn count_covered(component: &[Option<u32>]) -> u32
-    requires { length component.now ≤ 1000 }
-    ensures { (q : ℕ) (Covered : ℕ → Type 0) (intervals : List ℕ) → result ≡ length intervals }
+    requires { length component.now < 2 ^ 32 }
+    ensures { result ≡ count_by is_some component.now }
 {
     let mut count = 0;
     for number in component {
