@@ -1,4 +1,4 @@
--- Words name at most one request, and each reads an input.
+-- Words name at most one request, and each but `demo` reads an input.
 use Rattle.std.proofs.Common.{◌≡◌, Bool, true, false, List, map, String, string_bytes, refl}
 use Rattle.std.specs.declared.alloc.Global.{Global}
 use Rattle.gj_words.specs.declared.requests.Command.{Command}
@@ -9,9 +9,14 @@ use Rattle.gj_top.specs.Task.{reads}
 use Rattle.gj_top.specs.Command.{IsNamed, task_with}
 
 pub one_named : (words : List (String Global)) (a b : Request) → IsNamed words a → IsNamed words b → a ≡ b
-one_named words a b m n = one (map string_bytes words) a b m.spelled n.spelled
+one_named words a b m n = one (map string_bytes words) a b m n
 
-pub each_reads : (c : Command) (json : Bool) → true ≡ reads (task_with c json).form
+-- whether a command reads an input
+abbrev pub reads_one : Command → Bool
+reads_one (Demo n) = false
+reads_one c = true
+
+pub each_reads : (c : Command) (json : Bool) → reads_one c ≡ reads (task_with c json).form
 each_reads Minimal true = refl
 each_reads Minimal false = refl
 each_reads Show true = refl

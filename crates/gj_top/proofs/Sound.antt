@@ -15,6 +15,12 @@ use Rattle.gj_top.specs.Show.{show, show_json}
 use Rattle.gj_top.specs.Check.{check}
 use Rattle.gj_top.specs.Faces.{faces}
 use Rattle.gj_top.specs.Cut.{cut}
+use Rattle.gj_top.specs.Demo.{IsTrueDemonstration, demo}
+use Rattle.gj_demo.specs.Summary.{HasSummary}
+use Rattle.gj_extreme.proofs.DecidedHolds.{decided_holds}
+use Rattle.gj_proof.specs.Meaning.{ClaimHolds, ShowHalves}
+use Rattle.gj_proof.specs.declared.claim.Claim.TheVariants.{NotExtreme}
+use Rattle.gj_shape.specs.declared.extremality.Halves.{Halves}
 use Rattle.gj_top.proofs.CutForm.{cut_input_refuses_only_others}
 use Rattle.gj_top.specs.Command.{task_with, task_for}
 use Rattle.gj_top.proofs.Extremality.{extremality_true}
@@ -82,6 +88,24 @@ faces_sound = record { form = function_text_sound; work = λ f text listed. list
 pub cut_sound : IsSound cut
 cut_sound = record { form = cut_input_refuses_only_others; work = λ input text made. made.1 }
 
+demo_true : (n : ℕ) (text : List ℕ) → HasSummary n text → IsTrueDemonstration n text
+demo_true n text h =
+    let holds = decided_holds h.function (NotExtreme h.function h.halves) h.within h.summary.verdict in
+    record {
+      function = h.function;
+      halves = h.halves;
+      summary = h.summary;
+      continuous = holds.0;
+      minimal = holds.1;
+      shown = shown_of h.function h.halves holds;
+    }
+  where
+    shown_of : (f : FunctionData) (halves : Halves) → ClaimHolds (NotExtreme f halves) → ShowHalves f halves
+    shown_of f halves (continuous, minimal, shown) = shown
+
+demo_sound : (n : ℕ) → IsSound (demo n)
+demo_sound n = record { form = λ input text thing spelled refused. refused; work = demo_true }
+
 -- the task of each request is sound
 sound_with : (c : Command) (json : Bool) → IsSound (task_with c json)
 sound_with Minimal true = minimal_json_sound
@@ -93,7 +117,7 @@ sound_with Cut json = cut_sound
 sound_with Show true = show_json_sound
 sound_with Show false = show_sound
 sound_with Faces json = faces_sound
-sound_with (Demo n) json = show_sound
+sound_with (Demo n) json = demo_sound n
 
 pub sound : (r : Request) → IsSound (task_for r)
 sound r = sound_with r.command r.json

@@ -8,6 +8,7 @@ pub mod Continuity
 pub mod FacePieces
 pub mod Faces
 pub mod Extreme
+pub mod Demo
 pub mod Cut
 pub mod CutSteps
 pub mod Command

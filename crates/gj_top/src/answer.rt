@@ -1,6 +1,7 @@
 //! The answer to words and an input, before it is written.
-ghost use Rattle.std.specs.Prelude.{◌≡◌, ◌≤◌, length, IfOk, OnErr, IsTrue};
-ghost use Rattle.gj_top.specs.Command.{is_built, task_for};
+ghost use Rattle.std.specs.Prelude.{◌≡◌, ◌≤◌, length, IfOk, OnErr};
+ghost use Rattle.gj_words.specs.Grammar.{IsInBounds};
+ghost use Rattle.gj_top.specs.Command.{task_for};
 ghost use Rattle.gj_top.specs.Answer.{IsAnswer, IsAnswerTo, IsSourceFault, IsUnanswered, answer_status, answer_text, input_limit};
 
 use crate::command::{reads_input, reply_to, request_of};
@@ -81,9 +82,9 @@ pub(crate) fn answer_to<S: Source>(
     }
 }
 
-/// The answer to the request, whose command is built, over an input within the limit, or over none where it reads none.
+/// The answer to the request over an input within the limit, or over none where it reads none.
 fn answer_of(alloc: Global, request: Request, input: &[u8]) -> Result<Answer, AllocError>
-    requires built { IsTrue (is_built request.command) }
+    requires in_bounds { IsInBounds request.command }
     requires within { length input.now ≤ input_limit }
     ensures { IfOk result (λ answer. IsAnswerTo (task_for request) input.now (answer_status answer) (answer_text answer)) }
 {

@@ -20,6 +20,7 @@ mod continuity;
 mod cut;
 mod cut_input;
 mod cut_lines;
+mod demo;
 mod extreme;
 mod face_lines;
 mod faces;
@@ -46,7 +47,8 @@ pub use status::Status;
 /// text and says whether every rule of the checker holds. `cut` reads a function text or a rule text with a tableau behind it, and
 /// writes the proof text of the cuts of its rows. `faces` reads the function text of a continuous function and writes its
 /// maximal additive faces and its covered intervals. With `--json`, `minimal`, `extreme` and `show` read a function in
-/// JSON, and `minimal` and `extreme` write a report of the proof text, `show` the function in JSON. The whole input is read first, and the whole
+/// JSON, and `minimal` and `extreme` write a report of the proof text, `show` the function in JSON. `demo` reads nothing, and writes the summary of
+/// the decision on a function of its own. The whole input is read first, and the whole
 /// answer is made before its first byte is written.
 pub fn run<S: Source, K: Sink>(
     alloc: Global,

@@ -1,4 +1,4 @@
-use Rattle.gj_words.specs.declared.requests.Command.TheVariants.{Minimal, Extreme, Show, Check, Faces, Cut}
+use Rattle.gj_words.specs.declared.requests.Command.TheVariants.{Minimal, Extreme, Show, Check, Faces, Cut, Demo}
 use Rattle.gj_top.proofs.Commands.{each_reads}
 use Rattle.gj_top.proofs.command.reads_input.Goals as goal
 
@@ -19,3 +19,6 @@ returns-in-Faces c = rw c.in-Faces.is (each_reads Faces c.args.request.json)
 
 pub returns-in-Cut : goal.returns-in-Cut
 returns-in-Cut c = rw c.in-Cut.is (each_reads Cut c.args.request.json)
+
+pub returns-in-Demo : goal.returns-in-Demo
+returns-in-Demo c = rw c.in-Demo.is (each_reads (Demo c.in-Demo.field-0) c.args.request.json)

@@ -1,0 +1,32 @@
+-- The command `demo`: the summary of the decision on a function that no text gives (own).
+use Rattle.std.specs.Prelude.{ℕ, List}
+use Rattle.gj_shape.specs.FunctionData.{FunctionData, IsContinuous}
+use Rattle.gj_shape.specs.Table.{IsMinimal}
+use Rattle.gj_shape.specs.declared.extremality.Halves.{Halves}
+use Rattle.gj_proof.specs.Meaning.{ShowHalves}
+use Rattle.gj_demo.specs.Summary.{IsSummary, HasSummary}
+use Rattle.gj_top.specs.declared.reply.End.{End}
+use Rattle.gj_top.specs.declared.reply.End.TheVariants.{Done}
+use Rattle.gj_top.specs.Task.{Task}
+use Rattle.gj_top.specs.Task.Form.{reading_nothing}
+
+-- the reply to a number is the summary, and ends with Done
+abbrev pub IsDemoReply : ℕ → End → List ℕ → Type 0
+IsDemoReply n Done text = HasSummary n text
+IsDemoReply n end text = ⊥
+
+-- the headline: the text sums up the decision on the n-th function, which is minimal and, as the halves show, not extreme
+pub record IsTrueDemonstration (n : ℕ) (text : List ℕ) : Type 0 where
+  pub function : FunctionData
+  pub halves : Halves
+  pub summary : IsSummary n function halves text
+  pub continuous : IsContinuous function
+  pub minimal : IsMinimal function
+  pub shown : ShowHalves function halves
+
+abbrev pub demo : ℕ → Task
+demo n = record {
+  Thing = ℕ;
+  form = reading_nothing n;
+  work = record { replies = IsDemoReply; headline = IsTrueDemonstration };
+}
