@@ -3,6 +3,7 @@ use Rattle.std.proofs.Common.{◌≡◌, ℕ, ◌+◌, ◌-◌, ◌*◌, ◌%◌
 use Rattle.std.proofs.Math.Nat.{add-mod_right}
 use Rattle.std.proofs.lemmas.Bool.{le-leb, lt-leb, cases_lt}
 use Rattle.std.proofs.lemmas.List.Elements.{All-nil, All-cons}
+use Rattle.gj_tools.proofs.Lists.{All-two, All-three}
 use Rattle.gj_shape.specs.Additive.{IsAdditive}
 use Rattle.gj_shape.specs.Cover.{AreJoined, LeadsTo}
 use Rattle.gj_shape.specs.Cover.LeadsTo.{here, onward}
@@ -32,13 +33,6 @@ high_odd k i some low high odd =
 
 -- ---- additive faces
 
--- what holds of each corner holds of all
-all_two : {A : Type 0} (P : A → Type 0) (x y : A) → P x → P y → All P (x ∷ y ∷ [])
-all_two P x y first second = All-cons P x (y ∷ []) first (All-cons P y [] second (All-nil P))
-
-all_three : {A : Type 0} (P : A → Type 0) (x y z : A) → P x → P y → P z → All P (x ∷ y ∷ z ∷ [])
-all_three P x y z first second third = All-cons P x (y ∷ z ∷ []) first (all_two P y z second third)
-
 -- the pairs at which the numbers add up are tight
 abbrev pub AddUpAtTight : ℕ → (ℕ → ℕ → Type 0) → Type 0
 AddUpAtTight k Tight = (a b : ℕ) → number_at k a + number_at k b ≡ number_at k (a + b) → Tight a b
@@ -53,7 +47,7 @@ lower_face k Tight i tight below even =
     let next_is = low_odd k (i + 1) some (omega arith) (omega arith) in
     let next_too = low_odd k (0 + (i + 1)) some (omega arith) (omega arith) in
     let next_turned = low_odd k (1 + i) some (omega arith) (omega arith) in
-    all_three (λ corner. Tight corner.0 corner.1) (0, i) (1, i) (0, i + 1)
+    All-three (λ corner. Tight corner.0 corner.1) (0, i) (1, i) (0, i + 1)
     (tight 0 i (omega arith)) (tight 1 i (omega arith)) (tight 0 (i + 1) (omega arith))
 
 low_horizontal : (k : ℕ) (Tight : ℕ → ℕ → Type 0) (b : ℕ) → AddUpAtTight k Tight → b + 2 ≤ k → b % 2 ≡ 0 →
@@ -65,7 +59,7 @@ low_horizontal k Tight b tight below even =
     let here_is = low_even k b some (omega arith) even in
     let next_is = low_odd k (1 + b) some (omega arith) (omega arith) in
     let last_is = low_even k (2 + b) some (omega arith) (omega arith) in
-    all_two (λ corner. Tight corner.0 corner.1) (1, b) (2, b) (tight 1 b (omega arith)) (tight 2 b (omega arith))
+    All-two (λ corner. Tight corner.0 corner.1) (1, b) (2, b) (tight 1 b (omega arith)) (tight 2 b (omega arith))
 
 upper_face : (k : ℕ) (Tight : ℕ → ℕ → Type 0) (i : ℕ) → AddUpAtTight k Tight → k ≤ i → i < 2 * k → i % 2 ≡ 1 →
     IsAdditive Tight Upper (2 * k - 1) i
@@ -79,7 +73,7 @@ upper_face k Tight i tight low high odd =
     let first_sum = number_beyond k (a + 1 + i) i (omega arith) in
     let second_sum = number_beyond k (a + (i + 1)) i (omega arith) in
     let third_sum = number_beyond k (a + 1 + (i + 1)) (i + 1) (omega arith) in
-    all_three (λ corner. Tight corner.0 corner.1) (a + 1, i) (a, i + 1) (a + 1, i + 1)
+    All-three (λ corner. Tight corner.0 corner.1) (a + 1, i) (a, i + 1) (a + 1, i + 1)
     (tight (a + 1) i (omega arith)) (tight a (i + 1) (omega arith)) (tight (a + 1) (i + 1) (omega arith))
 
 high_horizontal : (k : ℕ) (Tight : ℕ → ℕ → Type 0) (i : ℕ) → AddUpAtTight k Tight → k % 2 ≡ 1 → k ≤ i → i < 2 * k → i % 2 ≡ 0 →
@@ -95,7 +89,7 @@ high_horizontal k Tight i tight k_odd low high even =
     let next_is = high_odd k (i + 1) some (omega arith) (omega arith) (omega arith) in
     let first_sum = number_beyond k (a + (i + 2)) i (omega arith) in
     let second_sum = number_beyond k (a + 1 + (i + 2)) (i + 1) (omega arith) in
-    all_two (λ corner. Tight corner.0 corner.1) (a, i + 2) (a + 1, i + 2)
+    All-two (λ corner. Tight corner.0 corner.1) (a, i + 2) (a + 1, i + 2)
     (tight a (i + 2) (omega arith)) (tight (a + 1) (i + 2) (omega arith))
 
 -- ---- the interval to which each is joined

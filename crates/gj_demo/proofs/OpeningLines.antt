@@ -3,10 +3,12 @@ use Rattle.std.proofs.Common.{◌≡◌, ℕ, ◌%◌, ◌<◌, inl, inr, List, 
 use Rattle.std.proofs.Math.Nat.{mod-lt, mod-mod, mod-eq_of_lt}
 use Rattle.std.proofs.Math.Seq.{get_or-append_seam}
 use Rattle.std.proofs.lemmas.List.{length-append}
+use Rattle.gj_cover.proofs.LineLists.{line_here}
 use Rattle.gj_shape.specs.Cover.{AreCoverLines, HasLine, IsNextLine, JoinsLines, LeadsTo}
 use Rattle.gj_shape.specs.Cover.LeadsTo.{here, onward}
 use Rattle.gj_shape.specs.declared.extremality.CoverLine.{CoverLine}
 use Rattle.gj_theory.proofs.CoverPaths.{joined_remainders, joined_turned}
+use Rattle.gj_theory.proofs.ComponentIntervals.{next_within}
 
 -- where no interval without a line is joined to one with a line, lists of joined intervals lead from intervals with a
 -- line to such alone
@@ -23,20 +25,6 @@ line_along q Tight lines some none j _ (onward i next both rest) line out =
       joined = joined_remainders q Tight next i (next % q) (i % q) (sym (mod-mod next q)) (sym (mod-mod i q))
           (joined_turned q Tight i next both);
     })
-
-next_within : (q : ℕ) (Tight : ℕ → ℕ → Type 0) (lines : List CoverLine) (l : CoverLine) →
-    IsNextLine q Tight lines l → l.interval < q
-next_within q Tight lines l (inl joining) = joining.interval.holds.1.first_within
-next_within q Tight lines l (inr opening) = opening.interval.holds.within
-
-line_between : (before : List CoverLine) (l : CoverLine) (after : List CoverLine) → HasLine (before ++ l ∷ after) l.interval
-line_between before l after = (
-  length before,
-  l,
-  (let parts = length-append before (l ∷ after) in omega arith),
-  get_or-append_seam before l after l,
-  refl,
-)
 
 opens_apart : (q : ℕ) (Tight : ℕ → ℕ → Type 0) (front : List CoverLine) (i : ℕ) (l : CoverLine) → l.from ≡ l.interval →
     i < q → HasLine front i → IsNextLine q Tight front l → LeadsTo q Tight l.interval i → ⊥
@@ -56,7 +44,7 @@ openings_apart q Tight lines before l middle m after h place same leads =
     let later : lines ≡ front ++ m ∷ after = place ∙ sym (append_assoc before (l ∷ middle) (m ∷ after)) in
     opens_apart q Tight front l.interval m same
     (next_within q Tight before l (h.in_turn before l (middle ++ m ∷ after) place))
-    (line_between before l middle) (h.in_turn front m after later) leads
+    (line_here before l middle) (h.in_turn front m after later) leads
 
 -- both are below the order
 pub line_within : (q : ℕ) (Tight : ℕ → ℕ → Type 0) (lines before : List CoverLine) (l : CoverLine) (after : List CoverLine) →

@@ -7,7 +7,7 @@ use Rattle.gj_proof.specs.declared.claim.Claim.{Claim}
 use Rattle.gj_proof.specs.declared.claim.Claim.TheVariants.{Minimal, NotMinimal, Cut, Extreme, NotExtreme}
 use Rattle.gj_extreme.specs.Decision.{IsDecided, IsTooWide}
 use Rattle.gj_extreme.proofs.DecidedHolds.{extreme_holds}
-use Rattle.gj_extreme.proofs.FourComponents.{four_components}
+use Rattle.gj_extreme.proofs.FewComponents.{few_components as few_are_narrow}
 use Rattle.gj_demo.specs.Demo.{IsDemo}
 use Rattle.gj_demo.proofs.FewComponents.{few_components}
 use Rattle.gj_demo.proofs.Values.{demo_continuous, demo_minimal, demo_not_extreme}
@@ -25,7 +25,7 @@ demo_decided n f (NotExtreme g halves) some h bounds (is, minimal, continuous, r
 pub demo_not_wide : (n : ℕ) (f : FunctionData) → IsDemo n f → IsWithinBounds f → IsTooWide f → ⊥
 demo_not_wide n f h bounds wide =
     let covered = wide.covered in
-    four_components f wide.lines wide.component wide.n bounds covered
+    few_are_narrow f wide.lines wide.component wide.n bounds covered
     (subst (λ m. m ≤ 4) (sym covered.count) (few_components n f wide.lines h bounds covered.are_lines)) wide
 
 pub demo_no_jump : (n : ℕ) (f : FunctionData) (i : ℕ) → IsDemo n f → IsJump f i → ⊥
