@@ -38,6 +38,7 @@ one_count_more f n i x counts are inside is =
   where
     len : length counts ≡ n
     len = ap length are ∙ length-rises_at f n i
+
     by_column : (c : ℕ) → c < n → (f i ≡ c) ⊎ (f i ≡ c → ⊥) → get_or (set counts (f i) x) c 0 ≡ rises f (i + 1) c
     by_column c below (inl e) =
         let here : get_or (set counts (f i) x) (f i) 0 ≡ x = get_or-set_same counts (f i) x 0 (omega (arith, len)) in

@@ -31,11 +31,7 @@ impl Model for SlopeRows {
 
 impl SlopeRows {
     /// The rows for intervals in these components, of which there are `columns`.
-    pub fn new(
-        alloc: Global,
-        component: &[u32],
-        columns: u32,
-    ) -> Result<SlopeRows, AllocError>
+    pub fn new(alloc: Global, component: &[u32], columns: u32) -> Result<SlopeRows, AllocError>
         requires components { All (λ c. c < columns) component.now }
         requires count { length component.now < 2 ^ 31 }
         ensures component { IfOk result (λ s. s.component ≡ component.now) }

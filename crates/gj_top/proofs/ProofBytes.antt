@@ -216,13 +216,13 @@ counted word n h low = joined word (decimal n) h (decimal_printable n (omega ari
 spaced : (word : List ℕ) (n : ℕ) → All IsPrintable word → n ≤ 1000 → All IsPrintable (word ++ decimal n ++ codes " ")
 spaced word n h low = joined (word ++ decimal n) (codes " ") (counted word n h low) (known (codes " ") refl)
 
-kind_printable : (kind : FaceKind) → All IsPrintable (face_word kind ++ codes " ")
-kind_printable Vertex = known (codes "vertex ") refl
-kind_printable Horizontal = known (codes "horizontal ") refl
-kind_printable Vertical = known (codes "vertical ") refl
-kind_printable Diagonal = known (codes "diagonal ") refl
-kind_printable Lower = known (codes "lower ") refl
-kind_printable Upper = known (codes "upper ") refl
+kind_printable : (kind : FaceKind) → All IsPrintable (face_word kind)
+kind_printable Vertex = known (codes "vertex") refl
+kind_printable Horizontal = known (codes "horizontal") refl
+kind_printable Vertical = known (codes "vertical") refl
+kind_printable Diagonal = known (codes "diagonal") refl
+kind_printable Lower = known (codes "lower") refl
+kind_printable Upper = known (codes "upper") refl
 
 cover_bytes : (q : ℕ) (l : CoverLine) → q ≤ 1000 → IsCoverLineBelow q l → All IsProofByte (cover_line l)
 cover_bytes q l high below =
@@ -236,9 +236,11 @@ cover_bytes q l high below =
     line_bytes (face ++ decimal l.face.a ++ codes " " ++ decimal l.face.b)
     (counted (face ++ decimal l.face.a ++ codes " ") l.face.b
     (spaced face l.face.a
-    (joined place (face_word l.face.kind ++ codes " ")
+    (joined (place ++ face_word l.face.kind) (codes " ")
+    (joined place (face_word l.face.kind)
     (spaced front l.from (spaced (codes "cover ") l.interval (known (codes "cover ") refl) (omega arith)) (omega arith))
     (kind_printable l.face.kind))
+    (known (codes " ") refl))
     (omega arith))
     (omega arith))
 

@@ -101,7 +101,7 @@ demo_true n text h =
     }
   where
     shown_of : (f : FunctionData) (halves : Halves) → ClaimHolds (NotExtreme f halves) → ShowHalves f halves
-    shown_of f halves (continuous, minimal, shown) = shown
+    shown_of f halves (jumps_not, is_minimal, shown) = shown
 
 demo_sound : (n : ℕ) → IsSound (demo n)
 demo_sound n = record { form = λ input text thing spelled refused. refused; work = demo_true }

@@ -36,7 +36,9 @@ mod status;
 mod tests;
 
 use answer::answer_to;
-pub use laws::{extreme_exactly_where_order_4q_is, shown_text_is_read, written_proofs_are_accepted};
+pub use laws::{
+    extreme_exactly_where_order_4q_is, shown_text_is_read, written_proofs_are_accepted,
+};
 pub use status::Status;
 
 /// Answers the request that the words name, over an input from the source, and writes the answer to the sink.
