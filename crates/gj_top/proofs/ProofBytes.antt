@@ -14,13 +14,14 @@ use Rattle.gj_frac.specs.declared.Frac.{Frac}
 use Rattle.gj_lex.specs.NumberText.{fraction_text, IsNumberByte}
 use Rattle.gj_lex.proofs.WordBytes.{decimal_bytes, fraction_bytes}
 use Rattle.gj_lines.specs.FunctionLines.{line, fraction_line, order_line, place_line, point_text, point_line, has_no_jump, AreFunctionLines}
-use Rattle.gj_lines.specs.FaceLines.{face_word, cover_line}
+use Rattle.gj_lines.specs.FaceLines.{face_word, face_text, cover_line}
 use Rattle.gj_lines.proofs.PointLines.{text_of_one, text_of_three}
 use Rattle.gj_shape.specs.FunctionData.{FunctionData, IsWithinBounds}
 use Rattle.gj_shape.specs.declared.extremality.CoverLine.{CoverLine}
 use Rattle.gj_shape.specs.declared.extremality.Halves.{Halves}
 use Rattle.gj_shape.specs.declared.extremality.RowName.{RowName}
 use Rattle.gj_shape.specs.declared.extremality.RowName.TheVariants.{Period, F, Pair}
+use Rattle.gj_shape.specs.declared.faces.Face.{Face}
 use Rattle.gj_shape.specs.declared.faces.FaceKind.{FaceKind}
 use Rattle.gj_shape.specs.declared.faces.FaceKind.TheVariants.{Vertex, Horizontal, Vertical, Diagonal, Lower, Upper}
 use Rattle.gj_shape.specs.declared.points.Point.{Point}
@@ -224,6 +225,12 @@ kind_printable Diagonal = known (codes "diagonal") refl
 kind_printable Lower = known (codes "lower") refl
 kind_printable Upper = known (codes "upper") refl
 
+face_printable : (face : Face) → face.a ≤ 1000 → face.b ≤ 1000 → All IsPrintable (face_text face)
+face_printable face a_low b_low =
+    let word = face_word face.kind ++ codes " " in
+    counted (word ++ decimal face.a ++ codes " ") face.b
+    (spaced word face.a (joined (face_word face.kind) (codes " ") (kind_printable face.kind) (known (codes " ") refl)) a_low) b_low
+
 cover_bytes : (q : ℕ) (l : CoverLine) → q ≤ 1000 → IsCoverLineBelow q l → All IsProofByte (cover_line l)
 cover_bytes q l high below =
     let i_low = below.interval in
@@ -232,17 +239,10 @@ cover_bytes q l high below =
     let b_low = below.second in
     let front = codes "cover " ++ decimal l.interval ++ codes " " in
     let place = front ++ decimal l.from ++ codes " " in
-    let face = place ++ face_word l.face.kind ++ codes " " in
-    line_bytes (face ++ decimal l.face.a ++ codes " " ++ decimal l.face.b)
-    (counted (face ++ decimal l.face.a ++ codes " ") l.face.b
-    (spaced face l.face.a
-    (joined (place ++ face_word l.face.kind) (codes " ")
-    (joined place (face_word l.face.kind)
+    line_bytes (place ++ face_text l.face)
+    (joined place (face_text l.face)
     (spaced front l.from (spaced (codes "cover ") l.interval (known (codes "cover ") refl) (omega arith)) (omega arith))
-    (kind_printable l.face.kind))
-    (known (codes " ") refl))
-    (omega arith))
-    (omega arith))
+    (face_printable l.face (omega arith) (omega arith)))
 
 covers_bytes : (q i : ℕ) (lines : List CoverLine) → q ≤ 1000 → All (IsCoverLineBelow q) lines →
     All (λ (l : OwnLine). All IsProofByte l.bytes) (covered_lines i lines)

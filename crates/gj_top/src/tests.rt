@@ -113,6 +113,97 @@ fn proofs_are_judged(rt: HostRuntime) -> Result<(), Fail> {
     Ok(())
 }
 
+const FIVE_PIECES_EXTREME: &str =
+    "gj-proof 1\nclaim extreme\norder 5\nf 3/5\npoint 0\npoint 1/3\npoint 2/3\npoint 1\npoint 1/2\ncover 0 0 lower 0 0\ncover 1 0 upper 0 0\ncover 2 0 upper 0 1\ncover 3 3 upper 3 4\ncover 4 3 diagonal 3 4\nrow period\npivot 0\nrow f\nreduce 0\npivot 1\nend\n";
+
+#[test]
+fn extremality_is_decided(rt: HostRuntime) -> Result<(), Fail> {
+    for (line, input, status, output) in [
+        ("extreme", FIVE_PIECES, Status::Done, FIVE_PIECES_EXTREME),
+        (
+            "extreme",
+            "gj-function 1\nfamily half 1/2\nend\n",
+            Status::NotContinuous,
+            "not continuous 0\n",
+        ),
+        (
+            "check",
+            FIVE_PIECES_EXTREME,
+            Status::Done,
+            "accepted extreme\n",
+        ),
+        (
+            "demo 1",
+            "",
+            Status::Done,
+            "demo 1\norder 6\nf 1/2\ntriangles 6\ncovered 4\nuncovered 2\ncomponents 2\nverdict not-extreme\nhalves 24 36\n",
+        ),
+    ] {
+        let (ended, sink) = ran(rt.alloc(), line, input.as_bytes(), &[], &[])?;
+        assert_eq!(rt; ended, status, "on {line} of {input}");
+        assert_eq!(rt; sink.taken(), output.as_bytes(), "on {line} of {input}");
+    }
+    Ok(())
+}
+
+const TWO_PIECES: &str = "gj-function 1\norder 2\nf 1/2\npoint 0\npoint 1\nend\n";
+
+const TWO_PIECES_EXTREME: &str =
+    "gj-proof 1\nclaim extreme\norder 2\nf 1/2\npoint 0\npoint 1\ncover 0 0 lower 0 0\ncover 1 1 upper 1 1\nrow period\npivot 0\nrow f\nreduce 0\npivot 1\nend\n";
+
+/// Input and output in steps, and reads and writes that fail between them.
+#[test]
+fn steps_do_not_matter(rt: HostRuntime) -> Result<(), Fail> {
+    let alloc = rt.alloc();
+    let mut words = Vec::new(alloc);
+    words.push(String::from_str(alloc, "extreme")?)?;
+    let input = TWO_PIECES.as_bytes();
+    let output = TWO_PIECES_EXTREME.as_bytes();
+
+    let mut source = MemSource::with_step(alloc, input, 1, &[])?;
+    let mut sink = MemSink::new(alloc, output.len(), &[])?;
+    assert_eq!(rt;
+        run(alloc, words.as_slice(), &mut source, &mut sink),
+        Status::Done
+    );
+    assert_eq!(rt; sink.taken(), output);
+
+    let mut source = MemSource::new(alloc, input, &[])?;
+    let mut sink = MemSink::with_step(alloc, ROOM, 7, &[3])?;
+    assert_eq!(rt;
+        run(alloc, words.as_slice(), &mut source, &mut sink),
+        Status::WriteFault
+    );
+    assert_eq!(rt; sink.taken(), b"gj-proof 1\ncla".as_slice());
+
+    let mut source = MemSource::new(alloc, input, &[])?;
+    let mut sink = MemSink::new(alloc, 14, &[])?;
+    assert_eq!(rt;
+        run(alloc, words.as_slice(), &mut source, &mut sink),
+        Status::WriteFault
+    );
+    assert_eq!(rt; sink.taken(), b"gj-proof 1\ncla".as_slice());
+
+    for call in 1..=input.len() as u64 + 1 {
+        let mut source = MemSource::with_step(alloc, input, 1, &[call])?;
+        let mut sink = MemSink::new(alloc, ROOM, &[])?;
+        assert_eq!(rt;
+            run(alloc, words.as_slice(), &mut source, &mut sink),
+            Status::ReadFault,
+            "at {call}"
+        );
+        assert_eq!(rt; sink.taken(), b"read fault\n".as_slice(), "at {call}");
+    }
+
+    let (status, sink) = ran(alloc, "x", input, &[], &[1])?;
+    assert_eq!(rt; status, Status::WriteFault);
+    assert_eq!(rt; sink.taken(), b"".as_slice());
+    let (status, sink) = ran(alloc, "extreme", input, &[1], &[1])?;
+    assert_eq!(rt; status, Status::WriteFault);
+    assert_eq!(rt; sink.taken(), b"".as_slice());
+    Ok(())
+}
+
 #[test]
 fn other_words_are_refused(rt: HostRuntime) -> Result<(), Fail> {
     for line in [
@@ -125,9 +216,8 @@ fn other_words_are_refused(rt: HostRuntime) -> Result<(), Fail> {
         "--help",
         "--",
         "--json=x",
-        "demo 1",
-        "extreme",
-        "extreme --json",
+        "demo",
+        "extreme --json --json",
     ] {
         let (status, sink) = ran(rt.alloc(), line, FIVE_PIECES.as_bytes(), &[], &[])?;
         assert_eq!(rt; status, Status::Words, "on {line}");

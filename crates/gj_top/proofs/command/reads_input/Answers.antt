@@ -21,4 +21,4 @@ pub returns-in-Cut : goal.returns-in-Cut
 returns-in-Cut c = rw c.in-Cut.is (each_reads Cut c.args.request.json)
 
 pub returns-in-Demo : goal.returns-in-Demo
-returns-in-Demo c = rw c.in-Demo.is (each_reads (Demo c.in-Demo.n) c.args.request.json)
+returns-in-Demo c = rw c.in-Demo.is (each_reads (Demo c.in-Demo.field-0) c.args.request.json)
