@@ -6,7 +6,7 @@ use Rattle.std.proofs.lemmas.Bool.{cases_lt}
 use Rattle.std.proofs.lemmas.Int.{ints}
 use Rattle.std.proofs.lemmas.List.Elements.{All-nil, All-cons, All-head, All-tail}
 use Rattle.gj_frac.specs.declared.Frac.{Frac}
-use Rattle.gj_frac.specs.Fraction.{IsRatio}
+use Rattle.gj_frac.specs.Fraction.{IsRatio, IsWhole}
 use Rattle.gj_frac.proofs.SameValues.{is_along}
 use Rattle.gj_tools.proofs.Divisors.{cofactor}
 use Rattle.gj_tools.proofs.Integers.{neg_mul_z}
@@ -26,7 +26,7 @@ use Rattle.gj_theory.proofs.RowGrids.{cut_by_function}
 use Rattle.gj_proof.specs.declared.cut.CutRule.{CutRule}
 use Rattle.gj_proof.specs.declared.cut.CutRule.TheVariants.{Gmic, Table}
 use Rattle.gj_proof.specs.declared.cut.CutTerm.{CutTerm}
-use Rattle.gj_proof.specs.Rules.{Demand, IsWhole, HasPart, IsGmicOver, MeetsFraction, MeetsValue, rule_demands, term_demands, row_demands, cut_demands, Holds, MeetsRules}
+use Rattle.gj_proof.specs.Rules.{Demand, HasPart, IsGmicOver, MeetsFraction, MeetsValue, rule_demands, term_demands, row_demands, cut_demands, Holds, MeetsRules}
 use Rattle.gj_proof.specs.Rules.Demand.{minimal, fraction, limit, term_limit, term_name, term_value}
 use Rattle.gj_proof.specs.declared.claim.Claim.TheVariants as claims
 use Rattle.gj_proof.specs.declared.cut.CutLine.{CutLine}

@@ -10,7 +10,7 @@ use Rattle.std.proofs.lemmas.List.Elements.{All-nil, All-head, All-tail}
 use Rattle.gj_rank.proofs.GroupsInTurn.{rows_behind_push}
 use Rattle.gj_tools.proofs.Lists.{All-front, All-back, made_has}
 use Rattle.gj_shape.specs.Additive.{IsTight}
-use Rattle.gj_shape.specs.Cover.{HasComponent}
+use Rattle.gj_shape.specs.Cover.{HasComponent, components_in}
 use Rattle.gj_shape.specs.Elimination.{KeptRow, at_column, reduced, entries_of, row_with_pivot, kept_entries, kept_behind}
 use Rattle.gj_shape.specs.FunctionData.{FunctionData, IsWithinBounds}
 use Rattle.gj_shape.specs.SlopeRows.{row_entry, SolveRows}
@@ -29,7 +29,7 @@ use Rattle.gj_theory.proofs.SlopePerturbations.{first_rows_hold, pair_row_holds}
 use Rattle.gj_theory.proofs.Steps.{length-reduced}
 use Rattle.gj_proof.specs.declared.claim.Claim.TheVariants.{Extreme}
 use Rattle.gj_proof.specs.declared.pivot.PivotRow.{PivotRow}
-use Rattle.gj_proof.specs.PresentRows.{components_in, AreNumbersOf, named_row, row_kept, rows_behind, rows_before}
+use Rattle.gj_proof.specs.PresentRows.{AreNumbersOf, named_row, row_kept, rows_behind, rows_before}
 use Rattle.gj_proof.specs.ProofText.{HasText, IsRowNameBelow, IsPivotRowBelow}
 use Rattle.gj_proof.specs.Rules.{Demand, MeetsRow, MeetsPivot, step_demands, group_demands, Holds, MeetsRules}
 use Rattle.gj_proof.specs.Meaning.{ClaimHolds}

@@ -7,13 +7,13 @@ use Rattle.std.proofs.lemmas.Nat.Gcd.{le_of_dvd}
 use Rattle.std.specs.Int.{◌∣◌, int_div_euclid, int_rem_euclid}
 use Rattle.gj_frac.specs.declared.Frac.{Frac}
 use Rattle.gj_frac.specs.Floor.{IsFloor}
-use Rattle.gj_frac.specs.Fraction.{IsRatio, numerator, denominator}
+use Rattle.gj_frac.specs.Fraction.{IsRatio, numerator, denominator, IsWhole}
 use Rattle.gj_frac.proofs.Floors.{quotient_is_floor, rest_is, same_from_IsFloor}
 use Rattle.gj_frac.proofs.SameValues.{is_along, same_from_is}
 use Rattle.gj_tools.proofs.Integers.{mul_assoc_z, mul_cancel_right_z, mul_le_cancel_right_z, mul_lt_cancel_right_z, mul_le_mul_right_z, mul_lt_mul_right_z, add_mul_z, sub_mul_z, swap_last_z, positive_some_z}
 use Rattle.gj_tools.proofs.Ring.{by_ring, ring}
 use Rattle.gj_shape.proofs.LeastDenominator.{denominator_some}
-use Rattle.gj_proof.specs.Rules.{IsWhole, HasPart, IsGmicOver, IsGmicAt}
+use Rattle.gj_proof.specs.Rules.{HasPart, IsGmicOver, IsGmicAt}
 use Rattle.gj_check.proofs.Ratios.{denominator_is}
 
 -- ---- the rest of a division is a fractional part

@@ -2,12 +2,13 @@
 use Rattle.std.proofs.Common.{◌≡◌, ℕ, zero, ◌+◌, ◌-◌, ◌<◌, List, [], ◌∷◌, ◌++◌, All, suc, refl, sym, ap, subst, ◌∙◌, arith}
 use Rattle.std.specs.List.{range_with_len}
 use Rattle.std.proofs.lemmas.List.Elements.{All-nil, All-cons, All-append}
+use Rattle.gj_shape.specs.Perturbation.{AreHalvesInBounds}
 use Rattle.gj_tools.proofs.Lists.{range_at}
 use Rattle.gj_shape.specs.FunctionData.{FunctionData, IsContinuous}
 use Rattle.gj_shape.specs.FirstViolation.{PassesAll}
 use Rattle.gj_shape.specs.declared.extremality.Halves.{Halves}
 use Rattle.gj_proof.specs.declared.claim.Claim.TheVariants.{NotExtreme}
-use Rattle.gj_proof.specs.ProofText.{ProofLine, AreHalvesInBounds, HasNumber}
+use Rattle.gj_proof.specs.ProofText.{ProofLine, HasNumber}
 use Rattle.gj_proof.specs.Rules.{Demand, MeetsScale, MeetsSame, IsMinimalHalf, pair_demands, Holds, MeetsRules}
 use Rattle.gj_proof.specs.Rules.Demand.{minimal, continuous, scale, range, average, first, second, same}
 use Rattle.gj_proof.proofs.LineNumbers.{number_of_claim}

@@ -43,6 +43,7 @@ halves_shown : (f : FunctionData) (h : Halves) (m c : ℕ) → IsMinimal f → 2
 halves_shown f h m c minimal order_low scale_low meets = (
   m,
   c,
+  m_some,
   meets.order,
   meets.scale,
   record {

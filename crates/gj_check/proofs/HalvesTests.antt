@@ -3,6 +3,8 @@ use Rattle.std.proofs.Common.{◌≡◌, ◌↔◌, ℕ, zero, suc, ◌+◌, ◌
 use mir.Syntax.{w128}
 use Rattle.std.proofs.Math.Nat.{mul_comm, mul-mod_left, mul-div_left, mod-lt, mod-mod, mul-pos, mul-lt-mul_of_pos_right, eq_of_mul-eq-mul_right}
 use Rattle.std.proofs.lemmas.Int.{ints, to_z-of_z}
+use Rattle.gj_frac.specs.Fraction.{Fits}
+use Rattle.gj_shape.specs.Perturbation.{AreHalvesInBounds}
 use Rattle.gj_tools.proofs.Ring.{by_ring, ring}
 use Rattle.gj_shape.specs.FunctionData.{FunctionData, IsWithinBounds, IsContinuous, at}
 use Rattle.gj_shape.specs.Table.{table, entry, IsMinimalTable}
@@ -10,7 +12,6 @@ use Rattle.gj_shape.specs.declared.extremality.Halves.{Halves}
 use Rattle.gj_shape.proofs.AtLemmas.{at_below}
 use Rattle.gj_shape.proofs.TableLemmas.{left_is_value, right_is_value}
 use Rattle.gj_theory.proofs.Everywhere.{everywhere, at_same}
-use Rattle.gj_proof.specs.ProofText.{AreHalvesInBounds, FitsPair}
 use Rattle.gj_proof.specs.Rules.{MeetsScale, MeetsRange, MeetsAverage, IsMinimalHalf}
 use Rattle.gj_check.specs.Tables.{IsTableInRange}
 use Rattle.gj_check.specs.HalvesRules.{IsRefinement, IsBetween}
@@ -142,7 +143,7 @@ sum_of_parts x y p q a b u s a_small b_small x_is y_is p_is q_is p_fits q_fits =
     whole ∙ ap₂ (λ n m. n +ℤ m) first second
 
 -- a value of a half
-pub half_read : (h : Halves) (values slice : List ℤ) (i : ℕ) → slice ≡ values → length values ≡ h.order → All FitsPair values → i < h.order →
+pub half_read : (h : Halves) (values slice : List ℤ) (i : ℕ) → slice ≡ values → length values ≡ h.order → All Fits values → i < h.order →
     to_z w128 (of_z w128 (get_or slice i (pos 0))) ≡ at values i
 half_read h values slice i same len fit below =
     let low : i < length values = omega arith in

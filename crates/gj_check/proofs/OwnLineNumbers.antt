@@ -5,6 +5,7 @@ use Rattle.std.proofs.lemmas.List.{length-append, length-map}
 use Rattle.std.proofs.lemmas.Slice.Zip.{length-zip}
 use Rattle.std.proofs.lemmas.List.Elements.{All-nil, All-cons, All-append, All-map, All-weaker}
 use Rattle.std.proofs.lemmas.List.FromFn.{length-map-range_with_len}
+use Rattle.gj_shape.specs.Perturbation.{AreHalvesInBounds}
 use Rattle.gj_tools.proofs.Lists.{All-range}
 use Rattle.gj_shape.specs.FunctionData.{FunctionData}
 use Rattle.gj_shape.specs.declared.extremality.CoverLine.{CoverLine}
@@ -12,7 +13,7 @@ use Rattle.gj_shape.specs.declared.extremality.Halves.{Halves}
 use Rattle.gj_proof.specs.declared.claim.Claim.{Claim}
 use Rattle.gj_proof.specs.declared.claim.Claim.TheVariants.{Extreme, NotExtreme}
 use Rattle.gj_proof.specs.declared.pivot.PivotRow.{PivotRow}
-use Rattle.gj_proof.specs.ProofText.{ProofLine, OwnLine, Subject, function, gmic, subject_of, subject_lines, own_lines, covered_lines, reduction_lines, group_lines, group_line, pivot_line, halves_line, pair_lines, AreHalvesInBounds, HasNumber}
+use Rattle.gj_proof.specs.ProofText.{ProofLine, OwnLine, Subject, function, gmic, subject_of, subject_lines, own_lines, covered_lines, reduction_lines, group_lines, group_line, pivot_line, halves_line, pair_lines, HasNumber}
 use Rattle.gj_proof.specs.ProofText.ProofLine.{title, claim, order, place, point, rule_named, covered, group, group_pivot, halves, pair, last}
 use Rattle.gj_proof.proofs.LineLists.{names}
 use Rattle.gj_proof.proofs.LineNumbers.{number_of_own}

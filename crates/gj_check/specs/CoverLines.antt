@@ -1,11 +1,11 @@
 -- The rule `cover` over cover lines in turn: whether all meet it, and which is the first that does not (own).
 use Rattle.std.specs.Prelude.{ℕ, ◌≡◌, ◌↔◌, ◌<◌, Bool, false, List, All, IsTrue, length, get_or}
 use Rattle.gj_shape.specs.Additive.{IsTight}
-use Rattle.gj_shape.specs.Cover.{HasLine}
+use Rattle.gj_shape.specs.Cover.{HasLine, components_in}
 use Rattle.gj_shape.specs.FunctionData.{FunctionData}
 use Rattle.gj_shape.specs.declared.extremality.CoverLine.{CoverLine}
 use Rattle.gj_theory.specs.CoverRules.{MeetsCoverRule}
-use Rattle.gj_proof.specs.PresentRows.{AreNumbersOf, components_in}
+use Rattle.gj_proof.specs.PresentRows.{AreNumbersOf}
 use Rattle.gj_proof.specs.Rules.{AtIndex}
 use Rattle.gj_check.specs.declared.cover_lines.Components.{Components}
 use Rattle.gj_check.specs.declared.cover_lines.Covered.{Covered}

@@ -3,14 +3,13 @@ use Rattle.std.specs.Prelude.{ℕ, ◌≡◌, ◌+◌, ◌<◌, List, [], ◌∷
 use Rattle.std.specs.declared.option.Option.{Option}
 use Rattle.std.specs.declared.option.Option.TheVariants.{Some, None}
 use Rattle.gj_frac.specs.declared.Frac.{Frac}
+use Rattle.gj_frac.specs.Fraction.{IsWhole}
 use Rattle.gj_proof.specs.declared.cut.CutRule.{CutRule}
 use Rattle.gj_proof.specs.declared.cut.CutRule.TheVariants.{Gmic, Table}
 use Rattle.gj_proof.specs.declared.cut.CutLine.{CutLine}
 use Rattle.gj_proof.specs.declared.cut.CutLine.TheVariants.{Cut}
 use Rattle.gj_proof.specs.declared.cut.CutTerm.{CutTerm}
-use Rattle.gj_shape.specs.FunctionData.{IsWithinBounds}
-use Rattle.gj_proof.specs.ProofText.{IfFunction, subject_of_rule}
-use Rattle.gj_proof.specs.Rules.{AtIndex, IfCut, IsWhole, HasPart, MeetsFraction, MeetsLimit, MeetsName, MeetsValue}
+use Rattle.gj_proof.specs.Rules.{AtIndex, IfCut, HasPart, MeetsFraction, MeetsLimit, MeetsName, MeetsValue}
 use Rattle.gj_check.specs.declared.rules.CheckRule.{CheckRule}
 use Rattle.gj_check.specs.declared.rules.CheckRule.TheVariants.{Fraction, Limit, Name, Value}
 use Rattle.gj_check.specs.declared.rows.RowFailure.{RowFailure}
@@ -53,10 +52,6 @@ IsTermsOutcome rule basic right terms None = MeetTerms rule basic right terms
 IsTermsOutcome rule basic right terms (Some f) = FailTerms rule basic right terms f
 
 -- ---- a row
-
--- the function of the rule, where it has one, is within the limits
-abbrev pub IsBoundedRule : CutRule → Type 0
-IsBoundedRule rule = IfFunction (subject_of_rule rule) IsWithinBounds
 
 -- a right side with which the rule gives a cut
 abbrev pub GivesCut : CutRule → Frac → Type 0

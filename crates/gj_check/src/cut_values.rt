@@ -1,8 +1,9 @@
 //! The rules `fraction` and `value`: fractional parts, and the values of cuts.
 ghost use Rattle.std.specs.Prelude.{◌≡◌, ◌≢◌, ◌<◌, ◌^◌, ◌↔◌, pos, IsTrue, unsigned_abs};
-ghost use Rattle.gj_frac.specs.Fraction.{IsRatio, denominator};
-ghost use Rattle.gj_proof.specs.Rules.{IsWhole, HasPart, IsGmicAt, MeetsFraction, MeetsValue};
-ghost use Rattle.gj_check.specs.CutRows.{IsBoundedRule, GivesCut, GivesNoCut};
+ghost use Rattle.gj_frac.specs.Fraction.{IsRatio, denominator, IsWhole};
+ghost use Rattle.gj_proof.specs.ProofText.{IsBoundedRule};
+ghost use Rattle.gj_proof.specs.Rules.{HasPart, IsGmicAt, MeetsFraction, MeetsValue};
+ghost use Rattle.gj_check.specs.CutRows.{GivesCut, GivesNoCut};
 ghost use Rattle.gj_check.specs.RowLimits.{IsWithinLimits};
 
 use crate::row_denominators::denominator_of;

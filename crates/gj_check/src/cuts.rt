@@ -2,10 +2,9 @@
 ghost use Rattle.std.specs.Prelude.{◌≡◌, ◌+◌, ◌↔◌, IsTrue, OnOk, IfOk, IfErr, length};
 ghost use Rattle.gj_shape.specs.FirstViolation.{PassesAll};
 ghost use Rattle.gj_proof.specs.declared.claim.Claim.TheVariants as claim;
-ghost use Rattle.gj_proof.specs.ProofText.{IfFunction, subject_of_rule, subject_lines, terms_of};
+ghost use Rattle.gj_proof.specs.ProofText.{IfFunction, subject_of_rule, subject_lines, terms_of, IsBoundedRule};
 ghost use Rattle.gj_proof.specs.Rules.{MeetsRules};
 ghost use Rattle.gj_check.specs.FirstFailure.{IsFaultOf};
-ghost use Rattle.gj_check.specs.CutRows.{IsBoundedRule};
 
 use crate::faults::CheckFault;
 use crate::minimality::is_minimal;

@@ -1,8 +1,8 @@
 //! The rules on halves: two different minimal tables that average to that of the function.
 ghost use Rattle.std.specs.Prelude.{ℕ, pos, ◌≡◌, ◌↔◌, ◌+ℤ◌, ◌*ℤ◌, ◌*◌, ◌<◌, ◌≤◌, ◌^◌, ◌≤ℤ◌, IsTrue, OnOk, IfOk, IfErr, IfSome, IfNone, length, unsigned_abs};
+ghost use Rattle.gj_shape.specs.Perturbation.{AreHalvesInBounds};
 ghost use Rattle.gj_shape.specs.FunctionData.{IsWithinBounds, IsContinuous, at};
 ghost use Rattle.gj_shape.specs.Table.{table};
-ghost use Rattle.gj_proof.specs.ProofText.{AreHalvesInBounds};
 ghost use Rattle.gj_proof.specs.Rules.{MeetsRules, MeetsScale, MeetsRange, MeetsAverage, IsMinimalHalf};
 ghost use Rattle.gj_proof.specs.declared.claim.Claim.TheVariants as claim;
 ghost use Rattle.gj_check.specs.FirstFailure.{IsFaultOf};

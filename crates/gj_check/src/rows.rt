@@ -1,8 +1,9 @@
 //! The rules on the rows of a claim about cuts, in the order of its lines.
 ghost use Rattle.std.specs.Prelude.{[], ◌∷◌, IfOk};
+ghost use Rattle.gj_proof.specs.ProofText.{IsBoundedRule};
 ghost use Rattle.gj_proof.specs.Rules.{MeetsLimit};
 ghost use Rattle.gj_check.specs.RowLimits.{IsRowDenominator};
-ghost use Rattle.gj_check.specs.CutRows.{IsBoundedRule, GivesCut, IsTermsOutcome, IsRowOutcome};
+ghost use Rattle.gj_check.specs.CutRows.{GivesCut, IsTermsOutcome, IsRowOutcome};
 
 use crate::cut_values::{has_value, meets_fraction};
 use crate::names::first_repeated;

@@ -1,20 +1,11 @@
 -- The walk over the faces, square by square and row by row.
-use Rattle.std.proofs.Common.{◌≡◌, ℕ, suc, ◌+◌, ◌-◌, ◌<◌, ◌≤◌, List, [], ◌∷◌, ◌++◌, Some, ap, sym, ◌∙◌, arith}
+use Rattle.std.proofs.Common.{◌≡◌, ℕ, ◌+◌, ◌-◌, ◌<◌, ◌≤◌, List, [], ◌++◌, Some, ap, sym, ◌∙◌, arith}
 use Rattle.std.specs.List.{range_with_len, flat_map}
+use Rattle.gj_tools.proofs.Lists.{range_step, range_end}
 use Rattle.gj_shape.specs.declared.faces.Face.{Face}
 use Rattle.gj_shape.specs.declared.faces.FaceKind.TheVariants.{Vertex}
 use Rattle.gj_complex.specs.Walk.{faces_of, faces_of_square, faces_in, row_from, rows_from}
 use Rattle.gj_complex.specs.Walk.{faces_after, faces_from, kinds_after}
-
-pub range_step : (i q : ℕ) → i < q → range_with_len i (q - i) ≡ i ∷ range_with_len (i + 1) (q - (i + 1))
-range_step i q h =
-    let e : q - i ≡ suc (q - (i + 1)) = omega arith in
-    ap (range_with_len i) e
-
-pub range_end : (i q : ℕ) → q ≤ i → range_with_len i (q - i) ≡ []
-range_end i q h =
-    let e : q - i ≡ 0 = omega arith in
-    ap (range_with_len i) e
 
 -- the first square of what is left of a row
 pub row_step : (q a b : ℕ) → b < q → row_from q a b ≡ faces_of_square a b ++ row_from q a (b + 1)

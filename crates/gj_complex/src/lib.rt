@@ -11,7 +11,6 @@
 mod all_faces;
 mod face_walk;
 mod faces;
-mod index;
 mod intervals;
 mod limits;
 mod projecting;

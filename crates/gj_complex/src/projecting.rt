@@ -3,9 +3,8 @@ ghost use Rattle.std.specs.Prelude.{◌≡◌, ◌<◌};
 ghost use Rattle.gj_shape.specs.Given.{IsOrder};
 ghost use Rattle.gj_complex.specs.Projections.{projections_of};
 
-use crate::index::wrapped;
 use crate::intervals::Projections;
-use gj_shape::{Face, FaceKind};
+use gj_shape::{Face, FaceKind, wrapped};
 
 /// The intervals onto which the face projects, in the complex of order q, from 2 to 1,000.
 ///

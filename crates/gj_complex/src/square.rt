@@ -4,8 +4,7 @@ ghost use Rattle.gj_shape.specs.FunctionData.{at};
 ghost use Rattle.gj_shape.specs.Faces.{corners_of, slack_from};
 ghost use Rattle.gj_complex.specs.Bounds.{IsNumerator, AreNumerators};
 
-use crate::index::wrapped;
-use gj_shape::{FaceKind, Shape};
+use gj_shape::{FaceKind, Shape, wrapped};
 
 /// The numbers that the limits of the slack in one square are made of, over the function's common denominator.
 #[derive(Clone, Copy, Debug, PartialEq, Eq)]

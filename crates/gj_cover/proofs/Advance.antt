@@ -7,9 +7,9 @@ use Rattle.std.proofs.lemmas.List.{get_or-set_other, get_or-set_same}
 use Rattle.std.proofs.lemmas.List.Sums.{sum_by-append}
 use Rattle.std.proofs.lemmas.Bool.{ne_eqb}
 use Rattle.std.proofs.lemmas.Bool.Decides.{eqb_tells}
-use Rattle.gj_shape.specs.Cover.{AreJoined, IsNextLine}
+use Rattle.gj_shape.specs.Cover.{AreJoined, IsNextLine, components_in}
 use Rattle.gj_shape.specs.declared.extremality.CoverLine.{CoverLine}
-use Rattle.gj_cover.specs.CoverOf.{number_at, opened_by}
+use Rattle.gj_cover.specs.CoverOf.{number_at}
 use Rattle.gj_cover.specs.Progress.{IsProgress, IsJoinedUpTo, IsNoted, unnumbered, AreClasses, AreSearched}
 use Rattle.gj_cover.specs.declared.progress.Progress.{Progress}
 use Rattle.gj_cover.proofs.NextLines.{next_to, in_turn, numbers, joined_classes, opened_classes, least_joined, searched_on, searched_to, one_less, from_below}
@@ -24,7 +24,7 @@ pub record HasLineMore (q : ℕ) (T : ℕ → ℕ → Type 0) (old new : Progres
   pub joined : IsJoinedUpTo q q T l.interval new.component.items old.joined_to.items new.joined_to.items
 
 opened_joining : (lines : List CoverLine) (l : CoverLine) → l.from ≢ l.interval →
-    opened_by (lines ++ l ∷ []) ≡ opened_by lines
+    components_in (lines ++ l ∷ []) ≡ components_in lines
 opened_joining lines l other =
     let f : CoverLine → ℕ = λ k. cond (k.from == k.interval) 1 0 in
     let last : ◌≡◌ {A = ℕ} (cond (l.from == l.interval) 1 0) 0 = ap (λ b. cond b 1 0) (ne_eqb l.from l.interval other) in
@@ -32,7 +32,7 @@ opened_joining lines l other =
     omega (arith, sums, last)
 
 opened_opening : (lines : List CoverLine) (l : CoverLine) → l.from ≡ l.interval →
-    opened_by (lines ++ l ∷ []) ≡ opened_by lines + 1
+    components_in (lines ++ l ∷ []) ≡ components_in lines + 1
 opened_opening lines l same =
     let f : CoverLine → ℕ = λ k. cond (k.from == k.interval) 1 0 in
     let last : ◌≡◌ {A = ℕ} (cond (l.from == l.interval) 1 0) 1 = ap (λ b. cond b 1 0) (eq-eqb l.from l.interval same) in
@@ -41,7 +41,7 @@ opened_opening lines l same =
 
 -- the facts on the lists alone
 pub record IsAdded (q : ℕ) (T : ℕ → ℕ → Type 0) (old new : Progress) (l : CoverLine) (m count done : ℕ) : Type 0 where
-  pub is_count : count ≡ opened_by (old.lines.items ++ l ∷ [])
+  pub is_count : count ≡ components_in (old.lines.items ++ l ∷ [])
   pub few : count + unnumbered (set old.component.items l.interval (Some m)) ≤ q
   pub classes : AreClasses q T (set old.component.items l.interval (Some m)) count
   pub searched : AreSearched q T (set old.component.items l.interval (Some m)) done

@@ -5,10 +5,10 @@ use Rattle.std.proofs.Common.{get_or-set_same, get_or-set_other}
 use Rattle.std.proofs.lemmas.Bool.Decides.{eqb_tells}
 use Rattle.std.proofs.lemmas.Bool.{cases_lt}
 use Rattle.std.proofs.lemmas.List.{get_or_past}
-use Rattle.gj_shape.specs.Cover.{HasLine, HasComponent, opened, joined}
+use Rattle.gj_shape.specs.Cover.{HasLine, HasComponent, opened, joined, components_in}
 use Rattle.gj_shape.specs.declared.extremality.CoverLine.{CoverLine}
 use Rattle.gj_theory.proofs.LineComponents.{line_of_component}
-use Rattle.gj_cover.specs.CoverOf.{number_at, opened_by}
+use Rattle.gj_cover.specs.CoverOf.{number_at}
 use Rattle.gj_cover.specs.Progress.{AreNumbered}
 use Rattle.gj_cover.proofs.Parts.{any_none, any_cases, any_here, any_there}
 
@@ -77,7 +77,7 @@ line_number lines component i h line =
     let at = line_place lines i line in
     let same = ap (number_at component) (sym at.4) in
     elim (eqb_tells at.1.from at.1.interval) [
-      | inl (t, e) ↦ (opened_by at.0, same ∙ h.opened at.0 at.1 at.2 at.3 e)
+      | inl (t, e) ↦ (components_in at.0, same ∙ h.opened at.0 at.1 at.2 at.3 e)
       | inr (t, e) ↦ let from = h.joined at.0 at.1 at.2 at.3 e in (from.0, same ∙ from.1)
     ]
 

@@ -4,10 +4,10 @@ use Rattle.std.specs.Option.{unwrap_or, is_none}
 use Rattle.std.proofs.Math.ListN.{set}
 use Rattle.std.proofs.lemmas.Bool.{cases_lt}
 use Rattle.std.proofs.lemmas.List.Sums.{sum_by-set}
-use Rattle.gj_shape.specs.Cover.{HasComponent, opened, joined, AreJoined, IsDirectlyCovered, LeadsTo, here, onward, IsCovered, JoinsLines, IsNextLine}
+use Rattle.gj_shape.specs.Cover.{HasComponent, opened, joined, AreJoined, IsDirectlyCovered, LeadsTo, here, onward, IsCovered, JoinsLines, IsNextLine, components_in}
 use Rattle.gj_shape.specs.FirstViolation.{IsLeastFrom}
 use Rattle.gj_shape.specs.declared.extremality.CoverLine.{CoverLine}
-use Rattle.gj_cover.specs.CoverOf.{number_at, opened_by}
+use Rattle.gj_cover.specs.CoverOf.{number_at}
 use Rattle.gj_cover.specs.Progress.{AreInTurn, AreNumbered, AreClasses, AreLeastJoined, AreSearched, IsJoinedUpTo, IsNotAbove, lesser_of, unnumbered}
 use Rattle.gj_cover.proofs.LineLists.{split_end, component_stays, line_number, number_line, no_number, no_line, number_same, number_from, none_from, number_stays, number_within}
 use Rattle.gj_theory.proofs.CoverPaths.{joined_turned, leads_turned}
@@ -109,7 +109,7 @@ in_turn q T lines l h next = record {
 }
 
 pub numbers : (q : ℕ) (T : ℕ → ℕ → Type 0) (lines : List CoverLine) (c : List (Option ℕ)) (count : ℕ) (l : CoverLine) (m : ℕ) →
-    length c ≡ q → AreNumbered lines c → count ≡ opened_by lines → IsNextTo q T c count l m →
+    length c ≡ q → AreNumbered lines c → count ≡ components_in lines → IsNextTo q T c count l m →
     AreNumbered (lines ++ l ∷ []) (set c l.interval (Some m))
 numbers q T lines c count l m len h is next =
     let within : l.interval < length c = omega (arith, next.within) in
@@ -122,10 +122,10 @@ numbers q T lines c count l m len h is next =
               absurd (j.other back)
           | inr o ↦
               ap (λ x. number_at (set c l.interval (Some m)) x.interval) last ∙ at
-              ∙ ap Some (o.number ∙ is ∙ ap opened_by (sym front))
+              ∙ ap Some (o.number ∙ is ∙ ap components_in (sym front))
         ]
         | inr (rest, place) ↦
-            number_stays c l.interval m k.interval (opened_by before) next.free (h.opened before k rest place same)
+            number_stays c l.interval m k.interval (components_in before) next.free (h.opened before k rest place same)
       ];
       joined = λ before k after e other. elim (split_end lines l before k after e) [
         | inl (front, last) ↦ elim next.kind [

@@ -14,15 +14,6 @@ unwrap q c i below e = let same : c % q ≡ i = cc in same ∙ sym (mod-eq_of_lt
 wrap : (q c i : ℕ) → i < q → c % q ≡ i % q → Some (c % q) ≡ Some i
 wrap q c i below e = ap Some (e ∙ mod-eq_of_lt below)
 
-onto_first : (q : ℕ) (kind : FaceKind) (a b i : ℕ) → i < q → (projections_of q kind a b).x ≡ Some i →
-    Intervals q kind a b i
-onto_first q Vertex a b i below e = cc
-onto_first q Horizontal a b i below e = inl (unwrap q a i below e)
-onto_first q Vertical a b i below e = absurd (cc)
-onto_first q Diagonal a b i below e = inl (unwrap q a i below e)
-onto_first q Lower a b i below e = inl (unwrap q a i below e)
-onto_first q Upper a b i below e = inl (unwrap q a i below e)
-
 onto_second : (q : ℕ) (kind : FaceKind) (a b i : ℕ) → i < q → (projections_of q kind a b).y ≡ Some i →
     Intervals q kind a b i
 onto_second q Vertex a b i below e = cc

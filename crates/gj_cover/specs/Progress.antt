@@ -1,9 +1,9 @@
 -- Where the search for cover lines stands (own): what is kept while lines are added.
 use Rattle.std.specs.Prelude.{ℕ, ◌≡◌, ◌≢◌, ◌⊎◌, ◌+◌, ◌<◌, ◌≤◌, min, List, ◌∷◌, ◌++◌, Option, Some, None, MatchOption, is_none, length, count_by}
-use Rattle.gj_shape.specs.Cover.{AreJoined, IsDirectlyCovered, LeadsTo, IsCovered, JoinsLines, IsOpen, IsNextLine, HasComponent}
+use Rattle.gj_shape.specs.Cover.{AreJoined, IsDirectlyCovered, LeadsTo, IsCovered, JoinsLines, IsOpen, IsNextLine, HasComponent, components_in}
 use Rattle.gj_shape.specs.FirstViolation.{IsLeastFrom}
 use Rattle.gj_shape.specs.declared.extremality.CoverLine.{CoverLine}
-use Rattle.gj_cover.specs.CoverOf.{number_at, opened_by}
+use Rattle.gj_cover.specs.CoverOf.{number_at}
 use Rattle.gj_cover.specs.declared.progress.Progress.{Progress}
 
 -- each line is the next behind those before it
@@ -13,7 +13,7 @@ pub record AreInTurn (q : ℕ) (Tight : ℕ → ℕ → Type 0) (lines : List Co
 -- the intervals that have a line have a number, which is that of their component
 pub record AreNumbered (lines : List CoverLine) (component : List (Option ℕ)) : Type 0 where
   pub opened : (before : List CoverLine) (l : CoverLine) (after : List CoverLine) → lines ≡ before ++ l ∷ after →
-      l.from ≡ l.interval → number_at component l.interval ≡ Some (opened_by before)
+      l.from ≡ l.interval → number_at component l.interval ≡ Some (components_in before)
   pub joined : (before : List CoverLine) (l : CoverLine) (after : List CoverLine) → lines ≡ before ++ l ∷ after →
       l.from ≢ l.interval → (n : ℕ) × (number_at component l.interval ≡ Some n) × (number_at component l.from ≡ Some n)
   pub shown : (i n : ℕ) → number_at component i ≡ Some n → HasComponent lines n i
@@ -45,7 +45,7 @@ pub record IsProgress (q : ℕ) (Tight : ℕ → ℕ → Type 0) (p : Progress) 
   pub joined_length : length p.joined_to.items ≡ q
   pub lines : AreInTurn q Tight p.lines.items
   pub numbers : AreNumbered p.lines.items p.component.items
-  pub count : p.count ≡ opened_by p.lines.items
+  pub count : p.count ≡ components_in p.lines.items
   pub few : p.count + unnumbered p.component.items ≤ q
   pub classes : AreClasses q Tight p.component.items p.count
   pub least : AreLeastJoined q Tight p.lines.items p.component.items p.joined_to.items

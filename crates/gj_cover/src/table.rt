@@ -1,9 +1,9 @@
 //! The tight pairs as a table.
-ghost use Rattle.std.specs.Prelude.{◌≡◌, ◌↔◌, ◌+◌, ◌*◌, ◌%◌, ◌<◌, ◌≤◌, length, IsTrue};
+ghost use Rattle.std.specs.Prelude.{◌≡◌, ◌↔◌, ◌+◌, ◌*◌, ◌<◌, ◌≤◌, length, IsTrue};
 ghost use Rattle.gj_shape.specs.Additive.{IsAdditive};
 ghost use Rattle.gj_shape.specs.Given.{IsOrder};
 
-use gj_shape::FaceKind;
+use gj_shape::{FaceKind, wrapped};
 
 /// Which pairs of indices below the order are tight, row by row.
 #[derive(Drop)]
@@ -70,14 +70,4 @@ impl Table {
     {
         self.is_tight(a + 1, b) && self.is_tight(a, b + 1)
     }
-}
-
-/// The index modulo the order, where it is not above the order.
-fn wrapped(index: u32, order: u32) -> u32
-    requires some { 0 < order }
-    requires within { index ≤ order }
-    ensures value { result ≡ index % order }
-    ensures below { result < order }
-{
-    if index == order { 0 } else { index }
 }

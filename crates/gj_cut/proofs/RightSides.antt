@@ -6,7 +6,7 @@ use Rattle.std.proofs.lemmas.Nat.Gcd.{le_of_dvd}
 use Rattle.std.proofs.lemmas.List.Elements.{All-head}
 use Rattle.gj_frac.specs.declared.Frac.{Frac}
 use Rattle.gj_frac.specs.Floor.{IsFloor}
-use Rattle.gj_frac.specs.Fraction.{IsRatio, numerator, denominator}
+use Rattle.gj_frac.specs.Fraction.{IsRatio, numerator, denominator, IsWhole}
 use Rattle.gj_frac.proofs.Floors.{quotient_is_floor}
 use Rattle.gj_frac.proofs.SameValues.{is_along, same_from_is}
 use Rattle.gj_tools.proofs.Divisors.{whole_multiple}
@@ -17,7 +17,7 @@ use Rattle.gj_theory.specs.Cuts.{HasFractionalPart}
 use Rattle.gj_rule.specs.Kind.{IsKind, IsBounded, HasPlace}
 use Rattle.gj_rule.specs.declared.kind.RuleKind.{RuleKind}
 use Rattle.gj_rule.specs.declared.kind.RuleKind.TheVariants.{Gmic, Table}
-use Rattle.gj_cut.specs.RowCuts.{IsWhole, HasPart}
+use Rattle.gj_cut.specs.RowCuts.{HasPart}
 
 -- ---- the fractional part
 

@@ -2,7 +2,7 @@
 use Rattle.std.specs.Prelude.{pos, ◌≡◌, map}
 use Rattle.std.specs.List.{AllZip}
 use Rattle.gj_frac.specs.declared.Frac.{Frac}
-use Rattle.gj_frac.specs.Fraction.{numerator, denominator}
+use Rattle.gj_frac.specs.Fraction.{numerator, denominator, IsWhole}
 use Rattle.gj_shape.specs.RowCut.{CutHolds}
 use Rattle.gj_theory.specs.Cuts.{HasFractionalPart}
 use Rattle.gj_rule.specs.Kept.{KeptRule}
@@ -14,10 +14,6 @@ use Rattle.gj_row.specs.declared.tableau.Row.{Row}
 use Rattle.gj_cut.specs.declared.cut.Term.{Term}
 use Rattle.gj_cut.specs.declared.cut.RowCut.{RowCut}
 use Rattle.gj_cut.specs.declared.cut.RowCut.TheVariants.{Cut, Integral, OtherFraction}
-
--- x is whole
-abbrev pub IsWhole : Frac → Type 0
-IsWhole x = denominator x ≡ pos 1
 
 -- the fractional part of x is the kind's f
 abbrev pub HasPart : RuleKind → Frac → Type 0

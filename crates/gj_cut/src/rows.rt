@@ -1,13 +1,13 @@
 //! The cut of a row by a rule.
 ghost use Rattle.std.specs.Prelude.{◌≡◌, ◌<◌, ◌^◌, ◌↔◌, IsTrue, IfOk, All, unsigned_abs};
 ghost use Rattle.std.specs.List.{AllZip};
-ghost use Rattle.gj_frac.specs.Fraction.{numerator, denominator};
+ghost use Rattle.gj_frac.specs.Fraction.{numerator, denominator, IsWhole};
 ghost use Rattle.gj_theory.specs.Cuts.{HasFractionalPart};
 ghost use Rattle.gj_row.specs.TableauLimits.{AreWithinLimits, numbers_of};
 ghost use Rattle.gj_rule.specs.Kind.{IsInRange, IsKind, IsBounded, IsMinimalKind};
 ghost use Rattle.gj_rule.specs.Kept.{Evaluates};
 ghost use Rattle.gj_rule.specs.declared.kind.RuleKind.TheVariants.{Gmic};
-ghost use Rattle.gj_cut.specs.RowCuts.{IsWhole, HasPart, IsTermOf, IsCutOf, IsCutOfKind, IsGmicCutOf, HoldsFor};
+ghost use Rattle.gj_cut.specs.RowCuts.{HasPart, IsTermOf, IsCutOf, IsCutOfKind, IsGmicCutOf, HoldsFor};
 
 use crate::cut::{RowCut, Term};
 use gj_frac::Frac;

@@ -8,10 +8,9 @@ use Rattle.std.proofs.lemmas.List.FromFn.{get_or-map-range_with_len, length-map-
 use Rattle.gj_frac.specs.declared.Frac.{Frac}
 use Rattle.gj_frac.specs.Fraction.{IsRatio}
 use Rattle.gj_shape.specs.FunctionData.{FunctionData, IsSmallOver, at}
-use Rattle.gj_shape.specs.Given.{HasFault, IsGivenBy, AreOver}
+use Rattle.gj_shape.specs.Given.{HasFault, IsGivenBy, AreOver, IsMemory}
 use Rattle.gj_shape.specs.declared.faults.ShapeFault.{ShapeFault}
 use Rattle.gj_shape.proofs.AtLemmas.{at_below}
-use Rattle.gj_family.specs.Numerators.{IsMemory}
 use Rattle.gj_family.proofs.Given.{AreFractions, only_memory, over_from_given}
 use Rattle.gj_demo.specs.Demo.{IsDemo, demo_number}
 

@@ -26,10 +26,6 @@ number_is k i = ap (λ p. min (i % (2 * k)) (2 * k - i % (2 * k)) + k * p) (same
 
 -- ---- the tent
 
-pub tent_period : (k i : ℕ) → tent k (i + 2 * k) ≡ tent k i
-unfolding tent
-tent_period k i = ap (λ r. min r (2 * k - r)) (add-mod_right i (2 * k))
-
 pub tent_rising : (k i : ℕ) → 0 < k → i ≤ k → tent k i ≡ i
 unfolding tent
 tent_rising k i some low =

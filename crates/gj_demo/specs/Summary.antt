@@ -2,7 +2,7 @@
 use Rattle.std.specs.Prelude.{ℕ, ◌≡◌, ◌+◌, Bool, true, false, IsTrue, List, ◌++◌, codes, decimal, length}
 use Rattle.std.specs.List.{range_with_len}
 use Rattle.gj_shape.specs.Additive.{IsTight, IsAdditive}
-use Rattle.gj_shape.specs.Cover.{AreCoverLines, IsCovered}
+use Rattle.gj_shape.specs.Cover.{AreCoverLines, IsCovered, components_in}
 use Rattle.gj_shape.specs.FunctionData.{FunctionData, IsWithinBounds}
 use Rattle.gj_shape.specs.WalkOrder.{faces_of}
 use Rattle.gj_shape.specs.declared.extremality.CoverLine.{CoverLine}
@@ -12,7 +12,6 @@ use Rattle.gj_shape.specs.declared.faces.FaceKind.{FaceKind}
 use Rattle.gj_shape.specs.declared.faces.FaceKind.TheVariants.{Lower, Upper}
 use Rattle.gj_faces.specs.Picked.{ArePicked}
 use Rattle.gj_lines.specs.FunctionLines.{line, order_line}
-use Rattle.gj_proof.specs.PresentRows.{components_in}
 use Rattle.gj_proof.specs.ProofText.{halves_line}
 use Rattle.gj_proof.specs.declared.claim.Claim.TheVariants.{NotExtreme}
 use Rattle.gj_extreme.specs.Decision.{IsDecided}

@@ -1,13 +1,12 @@
 //! The function of the demonstration.
 ghost use Rattle.std.specs.Prelude.{◌≡◌, ◌<◌, ◌≤◌, ◌*◌, pos, length, IfOk};
 ghost use Rattle.gj_frac.specs.Fraction.{IsRatio};
-ghost use Rattle.gj_family.specs.Numerators.{IsMemory};
 ghost use Rattle.gj_shape.specs.FunctionData.{IsWithinBounds};
 ghost use Rattle.gj_shape.specs.Given.{AreOver};
 ghost use Rattle.gj_demo.specs.Demo.{demo_number, IsDemo};
 
 use gj_frac::Frac;
-use gj_shape::{Shape, ShapeFault};
+use gj_shape::Shape;
 use std::alloc::{AllocError, Global};
 
 /// The function of the demonstration: with k = 2 n + 1 and q = 2 k, the continuous function of order q with f = 1/2
@@ -29,7 +28,7 @@ pub fn demo_function(alloc: Global, n: u32) -> Result<Shape, AllocError>
     let entries = values.as_slice();
     match Shape::new(alloc, 2 * place, place, entries, entries, entries) {
         Ok(shape) => Ok(shape),
-        Err(fault) => Err(want_of_memory(fault)),
+        Err(fault) => Err(fault.want_of_memory()),
     }
 }
 
@@ -56,15 +55,5 @@ fn demo_value(k: u32, i: u32) -> Frac
     ensures { IsRatio result (pos (demo_number k i)) (pos (2 * k)) }
 {
     let numerator = i.min(2 * k - i) + k * (i % 2);
-    Frac::new(i128::from(numerator), i128::from(2 * k)).unwrap()
-}
-
-/// The want of memory that the fault is.
-fn want_of_memory(fault: ShapeFault) -> AllocError
-    requires { IsMemory fault }
-{
-    match fault {
-        ShapeFault::Memory(error) => error,
-        _ => unreachable!(),
-    }
+    Frac::ratio(i64::from(numerator), 2 * k)
 }

@@ -1,9 +1,9 @@
 //! The summary of the demonstration.
 ghost use Rattle.std.specs.Prelude.{◌≡◌, ◌-◌, ◌<◌, ◌≤◌, ◌^◌, ◌++◌, count_by, decimal, is_some, length, IfOk, OnOk};
+ghost use Rattle.gj_shape.specs.Perturbation.{AreHalvesInBounds};
 ghost use Rattle.gj_shape.specs.FunctionData.{FunctionData, IsWithinBounds};
 ghost use Rattle.gj_shape.specs.declared.extremality.Halves.{Halves};
 ghost use Rattle.gj_lines.specs.FunctionLines.{line};
-ghost use Rattle.gj_proof.specs.ProofText.{AreHalvesInBounds};
 ghost use Rattle.gj_proof.specs.declared.claim.Claim.TheVariants.{NotExtreme};
 ghost use Rattle.gj_extreme.specs.Decision.{IsDecided};
 ghost use Rattle.gj_demo.specs.Demo.{IsDemo};

@@ -7,7 +7,7 @@ use Rattle.gj_shape.specs.Elimination.{KeptRow, Insertion, inserted, kept_behind
 use Rattle.gj_theory.specs.TriangularRows.{Solves, SolvesKept, AreTriangular}
 use Rattle.gj_theory.proofs.Insertions.{inserted_leaves, triangular_behind, solutions_behind}
 use Rattle.gj_elim.specs.declared.log.LogRow.{LogRow}
-use Rattle.gj_theory.specs.Fitting.{Fits}
+use Rattle.gj_frac.specs.Fraction.{Fits}
 use Rattle.gj_elim.specs.Data.{BasisData, behind}
 use Rattle.gj_elim.specs.KeptRows.{kept_rows, log_row}
 use Rattle.gj_elim.specs.Progress.{IsLeft, kept_at}

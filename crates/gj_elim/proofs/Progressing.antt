@@ -1,10 +1,11 @@
 -- An insertion goes on, column after column.
-use Rattle.std.proofs.Common.{◌≡◌, ◌≢◌, ℕ, suc, ◌+◌, ◌-◌, ◌<◌, ◌≤◌, ◌⊎◌, inl, inr, ◌↔◌, Bool, true, false, if◌then◌else◌, Option, None, Some, ℤ, pos, List, [], ◌∷◌, ◌++◌, refl, sym, ap, subst, ◌∙◌, append_assoc, arith}
+use Rattle.std.proofs.Common.{◌≡◌, ◌≢◌, ℕ, ◌+◌, ◌-◌, ◌<◌, ◌≤◌, ◌⊎◌, inl, inr, ◌↔◌, Bool, true, false, if◌then◌else◌, Option, None, Some, ℤ, pos, List, [], ◌∷◌, ◌++◌, refl, sym, ap, subst, ◌∙◌, append_assoc, arith}
 use Rattle.std.specs.List.{range_with_len}
 use Rattle.std.specs.Ordering.{int_eq}
 use Rattle.std.proofs.lemmas.Bool.Decides.{Decides-int_eq}
 use Rattle.std.proofs.lemmas.List.{append-nil}
 use Rattle.gj_tools.proofs.Choices.{never_true}
+use Rattle.gj_tools.proofs.Lists.{range_step}
 use Rattle.gj_shape.specs.Elimination.{KeptRow, Insertion, at_column, reduced, marked_in_step, kept_entries, insertion, inserted, inserted_at, row_with_pivot, Passes}
 use Rattle.gj_elim.specs.Progress.{IsLeft}
 use Rattle.gj_elim.proofs.Places.{IsRowAt}
@@ -14,15 +15,11 @@ use Rattle.gj_theory.proofs.Passing.{none_passes, front_passes, back_passes, eit
 abbrev pub rest : List KeptRow → ℕ → ℕ → List ℤ → Insertion
 rest kept n c row = insertion kept (range_with_len c (n - c)) row
 
-columns_from : (n c : ℕ) → c < n → range_with_len c (n - c) ≡ c ∷ range_with_len (c + 1) (n - (c + 1))
-columns_from n c below =
-    let more : n - c ≡ suc (n - (c + 1)) = omega arith in ap (range_with_len c) more
-
 rest_zero : (kept : List KeptRow) (n c : ℕ) (row : List ℤ) → c < n → at_column row c ≡ pos 0 →
     rest kept n c row ≡ rest kept n (c + 1) row
 unfolding insertion
 rest_zero kept n c row below e =
-    ap (λ cs. insertion kept cs row) (columns_from n c below)
+    ap (λ cs. insertion kept cs row) (range_step c n below)
     ∙ ap (λ b. if b then insertion kept (range_with_len (c + 1) (n - (c + 1))) row
     else inserted_at (row_with_pivot kept c) c row (insertion kept (range_with_len (c + 1) (n - (c + 1)))))
     ((Decides-int_eq (at_column row c) (pos 0)).1 e)
@@ -31,7 +28,7 @@ rest_some : (kept : List KeptRow) (n c : ℕ) (row : List ℤ) → c < n → at_
     rest kept n c row ≡ inserted_at (row_with_pivot kept c) c row (rest kept n (c + 1))
 unfolding insertion
 rest_some kept n c row below some =
-    ap (λ cs. insertion kept cs row) (columns_from n c below)
+    ap (λ cs. insertion kept cs row) (range_step c n below)
     ∙ ap (λ b. if b then insertion kept (range_with_len (c + 1) (n - (c + 1))) row
     else inserted_at (row_with_pivot kept c) c row (insertion kept (range_with_len (c + 1) (n - (c + 1)))))
     (never_true (int_eq (at_column row c) (pos 0)) (λ t. some ((Decides-int_eq (at_column row c) (pos 0)).0 t)))

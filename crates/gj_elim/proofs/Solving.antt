@@ -4,13 +4,12 @@ use Rattle.std.specs.List.{zip}
 use Rattle.std.proofs.lemmas.Bool.{cases_lt}
 use Rattle.std.proofs.lemmas.Int.{ints, to_z-of_z}
 use Rattle.std.proofs.lemmas.List.{drop_more, length-map}
-use Rattle.std.proofs.Math.ListN.{drop_of_length-le}
 use mir.Syntax.{w128}
 use Rattle.gj_tools.specs.Divisors.{gcd_of}
 use Rattle.gj_shape.specs.SlopeRows.{total}
 use Rattle.gj_shape.specs.Elimination.{at_column, scaled, products_behind, partial_sums, solving_gcd, solving_products, solved_at, marked_in_solving, Passes}
 use Rattle.gj_theory.proofs.Entries.{at_scaled}
-use Rattle.gj_theory.specs.Fitting.{Fits}
+use Rattle.gj_frac.specs.Fraction.{Fits}
 use Rattle.gj_tools.proofs.Integers.{mul_comm_z}
 use Rattle.gj_tools.proofs.Divisors.{gcd_of_is}
 use Rattle.gj_frac.proofs.Reduced.{quotient_of_divisor}
@@ -28,9 +27,6 @@ products_next : (row w : List ℤ) (i : ℕ) → i < length row → i < length w
     products_from i row w ≡ (at_column row i *ℤ at_column w i) ∷ products_from (i + 1) row w
 products_next row w i in_row in_w =
     ap₂ (λ xs ys. map (λ p. p.0 *ℤ p.1) (zip xs ys)) (drop_more row i (pos 0) in_row) (drop_more w i (pos 0) in_w)
-
-products_end : (row w : List ℤ) (i : ℕ) → length row ≤ i → products_from i row w ≡ []
-products_end row w i past = ap (λ xs. map (λ p. p.0 *ℤ p.1) (zip xs (drop i w))) (drop_of_length-le row past)
 
 -- the numbers that are marked where so much is summed up
 abbrev pub marked_from : ℤ → List ℤ → List ℤ

@@ -1,7 +1,7 @@
 -- What always holds of the fields of a basis.
 use Rattle.std.specs.Prelude.{◌≡◌, ◌<◌, ◌^◌, length, All}
 use Rattle.gj_theory.specs.TriangularRows.{AreTriangular}
-use Rattle.gj_theory.specs.Fitting.{Fits}
+use Rattle.gj_frac.specs.Fraction.{Fits}
 use Rattle.gj_elim.specs.Data.{BasisData}
 use Rattle.gj_elim.specs.KeptRows.{kept_rows}
 use Rattle.gj_elim.specs.declared.basis.Basis.TheInside.{Inside}

@@ -2,7 +2,7 @@
 ghost use Rattle.std.specs.Prelude.{ℕ, ℤ, pos, ◌≡◌, ◌+◌, ◌<◌, ◌^◌, ◌<ℤ◌, ◌↔◌, [], List, length, map, All, Any, IfOk, IfSome, IsNone, OnOk, OnErr, IsErrOf};
 ghost use Rattle.gj_shape.specs.Elimination.{inserted, kernel, Passes};
 ghost use Rattle.gj_theory.specs.TriangularRows.{Solves, SolvesKept, AreTriangular};
-ghost use Rattle.gj_theory.specs.Fitting.{Fits};
+ghost use Rattle.gj_frac.specs.Fraction.{Fits};
 ghost use Rattle.gj_elim.specs.Data.{behind};
 ghost use Rattle.gj_elim.specs.KeptRows.{log_row, answer_of, marked_in};
 

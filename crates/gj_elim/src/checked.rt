@@ -1,7 +1,7 @@
 //! Products, sums and differences of at most 2^127 - 1 in absolute value.
 ghost use Rattle.std.specs.Prelude.{◌*ℤ◌, ◌+ℤ◌, ◌-ℤ◌, IsErr, MatchOption};
 ghost use Rattle.std.specs.Result.{OkIff};
-ghost use Rattle.gj_theory.specs.Fitting.{Fits};
+ghost use Rattle.gj_frac.specs.Fraction.{Fits};
 
 /// A number passes 2^127 - 1 in absolute value.
 #[derive(Clone, Copy)]

@@ -1,7 +1,7 @@
 //! What is left of a row is kept.
 ghost use Rattle.std.specs.Prelude.{ℤ, ◌≡◌, ◌<◌, [], ◌∷◌, ◌++◌, length, All, OnOk, OnErr};
 ghost use Rattle.gj_shape.specs.Elimination.{kept_entries};
-ghost use Rattle.gj_theory.specs.Fitting.{Fits};
+ghost use Rattle.gj_frac.specs.Fraction.{Fits};
 
 use crate::log::LogRow;
 use crate::step::make_kept;

@@ -3,7 +3,7 @@ ghost use Rattle.std.specs.Prelude.{ℤ, ◌≡◌, ◌<◌, ◌^◌, ◌==◌, 
 ghost use Rattle.std.specs.List.{position};
 ghost use Rattle.gj_shape.specs.Elimination.{free_column, inserted, Passes};
 ghost use Rattle.gj_theory.specs.TriangularRows.{AreTriangular};
-ghost use Rattle.gj_theory.specs.Fitting.{Fits};
+ghost use Rattle.gj_frac.specs.Fraction.{Fits};
 ghost use Rattle.gj_elim.specs.KeptRows.{kept_rows};
 ghost use Rattle.gj_elim.specs.Progress.{IsLeft};
 

@@ -2,7 +2,7 @@
 ghost use Rattle.std.specs.Prelude.{ℕ, ℤ, pos, ◌≡◌, ◌≢◌, ◌<◌, ◌+◌, ◌^◌, ◌*ℤ◌, ◌<ℤ◌, ◌++◌, List, length, map, All, IfOk, OnOk, OnErr, unsigned_abs};
 ghost use Rattle.gj_shape.specs.Elimination.{at_column, scaled, products_behind, partial_sums, solved_at, marked_in_solving, unit_row, Passes};
 ghost use Rattle.gj_shape.specs.SlopeRows.{total};
-ghost use Rattle.gj_theory.specs.Fitting.{Fits};
+ghost use Rattle.gj_frac.specs.Fraction.{Fits};
 
 use crate::checked::{TooWide, product, sum};
 use crate::step::common_divisor;

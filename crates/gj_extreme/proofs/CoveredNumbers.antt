@@ -2,11 +2,11 @@
 use Rattle.std.proofs.Common.{◌≡◌, ℕ, ◌<◌, Option, None, Some, List, [], length, map, get_or, refl, sym, ap, subst, ◌∙◌, arith}
 use Rattle.std.specs.Prelude.{All, IsSome}
 use Rattle.std.proofs.lemmas.List.{get_or-map, get_or_default, length-map}
+use Rattle.gj_shape.specs.SlopeRows.{component_in}
 use Rattle.gj_shape.specs.Additive.{IsTight}
 use Rattle.gj_shape.specs.FunctionData.{FunctionData}
 use Rattle.gj_cover.specs.CoverOf.{number_at, IsCoverOf}
 use Rattle.gj_cover.specs.declared.covered.Cover.{Cover}
-use Rattle.gj_system.specs.Components.{component_in}
 use Rattle.gj_extreme.specs.Decision.{AreAllCovered}
 
 -- each interval has a number

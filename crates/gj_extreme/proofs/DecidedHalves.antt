@@ -10,7 +10,7 @@ use Rattle.std.proofs.lemmas.List.Elements.{All-nil, All-cons, All-head, All-tai
 use Rattle.std.proofs.lemmas.List.FromFn.{length-map-range_with_len}
 use Rattle.std.proofs.lemmas.Map.Views.{Contains-from_any}
 use Rattle.gj_shape.specs.Additive.{IsTight}
-use Rattle.gj_shape.specs.Cover.{IsCovered}
+use Rattle.gj_shape.specs.Cover.{IsCovered, components_in}
 use Rattle.gj_shape.specs.Elimination.{Solution, at_column, kernel}
 use Rattle.gj_shape.specs.FirstViolation.{IsLeastFrom}
 use Rattle.gj_shape.specs.FunctionData.{FunctionData, IsWithinBounds, IsContinuous, at}
@@ -34,7 +34,7 @@ use Rattle.gj_theory.proofs.LineComponents.{one_component}
 use Rattle.gj_theory.proofs.SlopePerturbations.{slopes_perturb, slopes_not_zero}
 use Rattle.gj_theory.proofs.Zigzags.{zigzag_perturbs, zigzag_at_quarter}
 use Rattle.gj_cover.specs.CoverOf.{IsLeastClass}
-use Rattle.gj_proof.specs.PresentRows.{components_in, named_row}
+use Rattle.gj_proof.specs.PresentRows.{named_row}
 use Rattle.gj_extreme.specs.Decision.{AreAllCovered, slope_elimination, slope_perturbation, AreZigzagHalves, AreSlopeHalves}
 
 -- ---- what is not not so

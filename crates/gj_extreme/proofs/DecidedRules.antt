@@ -5,6 +5,7 @@ use Rattle.std.specs.List.{range_with_len}
 use Rattle.std.proofs.Math.Nat.{mul-div_cancel_left}
 use Rattle.std.proofs.lemmas.List.{length-map}
 use Rattle.std.proofs.lemmas.List.Elements.{All-nil, All-cons, All-append}
+use Rattle.gj_shape.specs.Cover.{components_in}
 use Rattle.gj_perturb.proofs.TableParts.{at_most_scale}
 use Rattle.gj_tools.proofs.Lists.{All-made, All-one, All-three}
 use Rattle.gj_shape.specs.Additive.{IsTight}
@@ -24,7 +25,7 @@ use Rattle.gj_theory.proofs.TestsFromMinimal.{tests_from_minimal}
 use Rattle.gj_proof.specs.declared.claim.Claim.TheVariants as claim
 use Rattle.gj_proof.specs.declared.pivot.PivotRow.{PivotRow}
 use Rattle.gj_proof.proofs.GridCoordinates.{meets_point}
-use Rattle.gj_proof.specs.PresentRows.{AreNumbersOf, components_in, named_row, rows_before}
+use Rattle.gj_proof.specs.PresentRows.{AreNumbersOf, named_row, rows_before}
 use Rattle.gj_proof.specs.Rules.{Demand, MeetsRange, MeetsAverage, IsMinimalHalf, step_demands, group_demands, pair_demands, Holds, MeetsRules}
 use Rattle.gj_extreme.specs.Decision.{group_of, slope_elimination, AreExtremeRows, AreZigzagHalves, AreSlopeHalves, IsDecided}
 use Rattle.gj_extreme.proofs.KeptGroups.{all_kept_meet}

@@ -8,6 +8,7 @@ use Rattle.std.proofs.lemmas.List.Sums.{sum_by-append, count_by-le-length}
 use Rattle.std.proofs.lemmas.Int.{ints}
 use Rattle.std.proofs.lemmas.List.FromFn.{length-range_with_len, length-map-range_with_len}
 use Rattle.std.proofs.lemmas.List.Elements.{All-nil, All-map}
+use Rattle.gj_shape.specs.Cover.{components_in}
 use Rattle.gj_tools.proofs.Lists.{All-made, range_split}
 use Rattle.gj_shape.specs.Additive.{IsTight}
 use Rattle.gj_shape.specs.Elimination.{KeptRow, Solution, at_column, kernel, Passes}
@@ -20,7 +21,7 @@ use Rattle.gj_theory.proofs.CarriedSteps.{all_of_any}
 use Rattle.gj_theory.proofs.Eliminations.{elimination_has}
 use Rattle.gj_theory.proofs.ExtremeByCover.{each_row}
 use Rattle.gj_theory.proofs.RiseCounts.{rises_at_most}
-use Rattle.gj_proof.specs.PresentRows.{components_in, named_row}
+use Rattle.gj_proof.specs.PresentRows.{named_row}
 use Rattle.gj_extreme.specs.Decision.{AreAllCovered, slope_elimination, slope_perturbation, IsWideBehind, IsTooWide}
 use Rattle.gj_extreme.specs.Decision.IsWideBehind.{kernel_passes, perturbation_passes, scale_passes}
 use Rattle.gj_extreme.proofs.DecidedHalves.{begun_columns}

@@ -4,13 +4,12 @@ use Rattle.std.specs.Prelude.{All, IfSome}
 use Rattle.std.proofs.lemmas.List.{get_or_default}
 use Rattle.gj_shape.specs.Elimination.{KeptRow, Solution, kernel, Passes}
 use Rattle.gj_shape.specs.FunctionData.{FunctionData}
-use Rattle.gj_shape.specs.SlopeRows.{row_names}
+use Rattle.gj_shape.specs.SlopeRows.{row_names, component_in}
 use Rattle.gj_shape.specs.declared.extremality.CoverLine.{CoverLine}
 use Rattle.gj_theory.proofs.Eliminations.{elimination_has}
 use Rattle.gj_theory.proofs.Kernels.{kernel_none}
-use Rattle.gj_theory.specs.Fitting.{Fits}
+use Rattle.gj_frac.specs.Fraction.{Fits}
 use Rattle.gj_elim.specs.KeptRows.{marked_in}
-use Rattle.gj_system.specs.Components.{component_in}
 use Rattle.gj_extreme.specs.Decision.{AreAllCovered, slope_elimination}
 use Rattle.gj_extreme.proofs.DecidedHalves.{begun_columns, solution_solves, components_below}
 use Rattle.gj_extreme.proofs.KernelFits.{kernel_fits}

@@ -1,10 +1,10 @@
 -- The rows that the elimination keeps meet the rules for groups.
-use Rattle.std.proofs.Common.{◌≡◌, ◌≢◌, ℕ, zero, suc, inl, inr, ◌+◌, ◌<◌, ◌≤◌, Bool, true, false, cond, if◌then◌else◌, Option, None, Some, ℤ, pos, List, [], ◌∷◌, ◌++◌, length, map, get_or, eqb, unsigned_abs, ◌^◌, refl, sym, ap, subst, ◌∙◌, append_assoc, arith}
+use Rattle.std.proofs.Common.{◌≡◌, ◌≢◌, ℕ, zero, suc, inl, inr, ◌+◌, ◌<◌, ◌≤◌, Bool, true, false, if◌then◌else◌, Option, None, Some, ℤ, pos, List, [], ◌∷◌, ◌++◌, length, map, get_or, unsigned_abs, ◌^◌, refl, sym, ap, subst, ◌∙◌, append_assoc, arith}
 use Rattle.std.specs.Prelude.{All, Any, nat_le}
 use Rattle.std.specs.List.{range_with_len}
 use Rattle.std.specs.Ordering.{int_eq}
 use Rattle.std.proofs.Math.Seq.{get_or-append_seam}
-use Rattle.std.proofs.lemmas.Bool.Decides.{Decides-eqb, Decides-int_eq, not_from_Decides}
+use Rattle.std.proofs.lemmas.Bool.Decides.{Decides-int_eq, not_from_Decides}
 use Rattle.std.proofs.lemmas.List.{append-nil, length_push}
 use Rattle.std.proofs.lemmas.List.FromFn.{length-map-range_with_len}
 use Rattle.std.proofs.lemmas.List.Elements.{All-head, All-tail}
@@ -18,7 +18,7 @@ use Rattle.gj_theory.specs.TriangularRows.{AreTriangular, present_row}
 use Rattle.gj_theory.proofs.Eliminations.{no_rows_triangular}
 use Rattle.gj_theory.proofs.ExtremeByCover.{each_row}
 use Rattle.gj_theory.proofs.Insertions.{kept_row_at, inserted_leaves, triangular_behind, IsZeroBefore, zero_before_next, step_zero}
-use Rattle.gj_theory.proofs.Kernels.{no_pivot_at}
+use Rattle.gj_theory.proofs.Kernels.{any_with_pivot, no_pivot_at}
 use Rattle.gj_theory.proofs.Steps.{length-reduced}
 use Rattle.gj_proof.specs.PresentRows.{named_row}
 use Rattle.gj_proof.specs.Rules.{MeetsRow, MeetsReduce, MeetsSize, MeetsPivot}
@@ -58,15 +58,6 @@ record InsertionMeets (n : ℕ) (kept : List KeptRow) (row : List ℤ) (i : Inse
   steps : StepsMeet kept row i.reduce
   pivot : PivotMeets n kept row i.reduce i.kept
 
-pivot_listed : (kept : List KeptRow) (c : ℕ) (k : KeptRow) → row_with_pivot kept c ≡ Some k → Any (λ r. r.pivot ≡ c) kept
-pivot_listed [] c k e = absurd cc
-pivot_listed (r ∷ kept) c k e = by_test (eqb r.pivot c) refl e (pivot_listed kept c k)
-  where
-    by_test : (b : Bool) → eqb r.pivot c ≡ b → cond b (Some r) (row_with_pivot kept c) ≡ Some k →
-        (row_with_pivot kept c ≡ Some k → Any (λ q. q.pivot ≡ c) kept) → Any (λ q. q.pivot ≡ c) (r ∷ kept)
-    by_test true t e later = any_here (λ q. q.pivot ≡ c) r kept ((Decides-eqb r.pivot c).0 t)
-    by_test false t e later = any_there (λ q. q.pivot ≡ c) r kept (later e)
-
 -- one step in front
 steps_behind : (n : ℕ) (kept : List KeptRow) (row entries : List ℤ) (c : ℕ) (i : Insertion) →
     entries_of (row_with_pivot kept c) ≡ entries → MeetsReduce kept row c → (Passes (marked_in_step entries row c) → ⊥) →
@@ -98,7 +89,7 @@ meets_here n kept a row onward h below len none later None e some fits = record 
 meets_here n kept a row onward h below len none later (Some k) e some fits =
     let next = reduced k.entries row a in
     steps_behind n kept row k.entries a (onward next) (ap entries_of e)
-    (record { pivot = pivot_listed kept a k e; not_zero = some })
+    (record { pivot = any_with_pivot kept a k e; not_zero = some })
     (λ p. fits (any_front IsWide (marked_in_step k.entries row a) (onward next).marked p))
     (later next (length-reduced k.entries row a ((kept_row_at n kept a k h e).0.columns ∙ sym len) ∙ len)
     (step_zero n kept row a k h len e none)

@@ -12,7 +12,7 @@ use Rattle.gj_frac.proofs.Reduced.{quotient_of_divisor}
 use Rattle.gj_shape.specs.SlopeRows.{total}
 use Rattle.gj_shape.specs.Elimination.{KeptRow, Solution, at_column, row_with_pivot, entries_of, products_behind, partial_sums, solving_gcd, solving_products, solved_at, marked_in_solving, solution_below, solution_from, free_column, unit_row, kernel, Passes}
 use Rattle.gj_theory.proofs.Passing.{first_passes, later_passes, front_passes, back_passes, all_fit}
-use Rattle.gj_theory.specs.Fitting.{Fits}
+use Rattle.gj_frac.specs.Fraction.{Fits}
 use Rattle.gj_extreme.proofs.SmallNumbers.{factor_small, small_negated}
 
 -- ---- one row is solved

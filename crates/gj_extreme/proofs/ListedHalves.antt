@@ -4,6 +4,8 @@ use Rattle.std.specs.Prelude.{All}
 use Rattle.std.specs.List.{range_with_len}
 use Rattle.std.proofs.Math.Path.{fun_ext}
 use Rattle.std.proofs.lemmas.List.FromFn.{length-map-range_with_len}
+use Rattle.gj_frac.specs.Fraction.{Fits}
+use Rattle.gj_shape.specs.SlopeRows.{component_in}
 use Rattle.gj_shape.specs.Additive.{IsTight}
 use Rattle.gj_shape.specs.Elimination.{Solution, kernel}
 use Rattle.gj_shape.specs.FunctionData.{FunctionData, IsWithinBounds, IsContinuous, at}
@@ -16,10 +18,9 @@ use Rattle.gj_theory.specs.Uncovered.{AreUncoveredClasses}
 use Rattle.gj_theory.proofs.HalvesAsLists.{at_made}
 use Rattle.gj_theory.proofs.SlopePerturbations.{slopes_perturb}
 use Rattle.gj_theory.proofs.Zigzags.{zigzag_perturbs}
-use Rattle.gj_perturb.specs.SlopeSums.{Fits, slope_sum, slope_at}
+use Rattle.gj_perturb.specs.SlopeSums.{slope_sum, slope_at}
 use Rattle.gj_perturb.specs.Split.{CanSplit}
 use Rattle.gj_perturb.specs.declared.tables.Perturbation.{Perturbation}
-use Rattle.gj_system.specs.Components.{component_in}
 use Rattle.gj_extreme.specs.Decision.{AreAllCovered, slope_elimination, slope_perturbation}
 use Rattle.gj_extreme.proofs.DecidedHalves.{solution_solves, some_slope, components_below}
 

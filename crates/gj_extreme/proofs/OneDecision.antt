@@ -12,7 +12,7 @@ use Rattle.gj_tools.proofs.Choices.{same_some}
 use Rattle.gj_tools.proofs.Integers.{same_or_apart_z}
 use Rattle.gj_tools.proofs.Lists.{All-range}
 use Rattle.gj_shape.specs.Additive.{IsTight}
-use Rattle.gj_shape.specs.Cover.{IsCovered, HasComponent}
+use Rattle.gj_shape.specs.Cover.{IsCovered, HasComponent, components_in}
 use Rattle.gj_shape.specs.Cover.HasComponent.{opened, joined}
 use Rattle.gj_shape.specs.Elimination.{Solution, at_column, kernel}
 use Rattle.gj_shape.specs.FunctionData.{FunctionData, IsWithinBounds, IsContinuous}
@@ -33,7 +33,6 @@ use Rattle.gj_cover.proofs.Joining.{covered_on, covered_directly}
 use Rattle.gj_proof.specs.declared.claim.Claim.{Claim}
 use Rattle.gj_proof.specs.declared.claim.Claim.TheVariants.{Minimal, NotMinimal, Cut, Extreme, NotExtreme}
 use Rattle.gj_proof.specs.declared.pivot.PivotRow.{PivotRow}
-use Rattle.gj_proof.specs.PresentRows.{components_in}
 use Rattle.gj_extreme.specs.Decision.{AreAllCovered, slope_elimination, group_of, slope_perturbation, AreExtremeRows, AreZigzagHalves, AreSlopeHalves, IsDecided}
 use Rattle.gj_extreme.proofs.DecidedGroups.{elimination_same, map_same}
 use Rattle.gj_extreme.proofs.DecidedHalves.{IsLeastUncovered, some_least, zigzag_halves, slope_halves}

@@ -1,5 +1,5 @@
 -- The names of the rows in their order, one after another.
-use Rattle.std.proofs.Common.{◌≡◌, ℕ, suc, ◌+◌, ◌-◌, ◌*◌, ◌<◌, ◌≤◌, ◌^◌, cond, ◌+ℤ◌, true, false, List, [], ◌∷◌, ◌++◌, length, map, ap, ◌∙◌, arith}
+use Rattle.std.proofs.Common.{◌≡◌, ℕ, ◌+◌, ◌-◌, ◌*◌, ◌<◌, ◌≤◌, ◌^◌, cond, ◌+ℤ◌, true, false, List, [], ◌∷◌, ◌++◌, length, map, ap, ◌∙◌, arith}
 use Rattle.std.specs.List.{range_with_len, filter, flat_map}
 use Rattle.std.proofs.Math.Nat.{mul-le-mul}
 use Rattle.std.proofs.lemmas.List.{length-append, length-map}
@@ -7,6 +7,7 @@ use Rattle.std.proofs.lemmas.List.FromFn.{length-range_with_len}
 use Rattle.std.proofs.lemmas.List.Sums.{length-filter, count_by-le-length}
 use Rattle.std.proofs.lemmas.Bool.Decides.{Decides-int_eq}
 use Rattle.gj_tools.proofs.Choices.{never_true}
+use Rattle.gj_tools.proofs.Lists.{range_step, range_end}
 use Rattle.gj_shape.specs.Additive.{IsTight}
 use Rattle.gj_shape.specs.FunctionData.{FunctionData, IsWithinBounds, at}
 use Rattle.gj_shape.specs.SlopeRows.{is_tight, row_names}
@@ -14,21 +15,13 @@ use Rattle.gj_shape.specs.declared.extremality.RowName.{RowName}
 use Rattle.gj_shape.specs.declared.extremality.RowName.TheVariants.{Pair}
 use Rattle.gj_extreme.specs.RowsToCome.{pairs_from, rows_from}
 
--- ---- ranges up to an end
-
-range_first : (a n : ℕ) → a < n → range_with_len a (n - a) ≡ a ∷ range_with_len (a + 1) (n - (a + 1))
-range_first a n below = let len : n - a ≡ suc (n - (a + 1)) = omega arith in ap (range_with_len a) len
-
-range_none : (a n : ℕ) → n ≤ a → range_with_len a (n - a) ≡ []
-range_none a n above = let len : n - a ≡ 0 = omega arith in ap (range_with_len a) len
-
 -- ---- pairs
 
 pairs_split : (f : FunctionData) (a b : ℕ) → b < f.order →
     pairs_from f a b
     ≡ map (Pair a) (cond (is_tight f a b) (b ∷ filter (is_tight f a) (range_with_len (b + 1) (f.order - (b + 1))))
     (filter (is_tight f a) (range_with_len (b + 1) (f.order - (b + 1)))))
-pairs_split f a b below = ap (λ l. map (Pair a) (filter (is_tight f a) l)) (range_first b f.order below)
+pairs_split f a b below = ap (λ l. map (Pair a) (filter (is_tight f a) l)) (range_step b f.order below)
 
 -- a tight pair comes first, and one that is not does not come
 pub tight_pair : (f : FunctionData) (a b : ℕ) → b < f.order → is_tight f a b ≡ true →
@@ -44,15 +37,15 @@ loose_pair f a b below e =
     pairs_split f a b below ∙ ap (λ t. map (Pair a) (cond t (b ∷ later) later)) e
 
 pub no_pairs : (f : FunctionData) (a b : ℕ) → f.order ≤ b → pairs_from f a b ≡ []
-no_pairs f a b above = ap (λ l. map (Pair a) (filter (is_tight f a) l)) (range_none b f.order above)
+no_pairs f a b above = ap (λ l. map (Pair a) (filter (is_tight f a) l)) (range_end b f.order above)
 
 -- ---- rows
 
 pub next_rows : (f : FunctionData) (a : ℕ) → a < f.order → rows_from f a ≡ pairs_from f a a ++ rows_from f (a + 1)
-next_rows f a below = ap (flat_map (λ c. pairs_from f c c)) (range_first a f.order below)
+next_rows f a below = ap (flat_map (λ c. pairs_from f c c)) (range_step a f.order below)
 
 pub no_rows : (f : FunctionData) (a : ℕ) → f.order ≤ a → rows_from f a ≡ []
-no_rows f a above = ap (flat_map (λ c. pairs_from f c c)) (range_none a f.order above)
+no_rows f a above = ap (flat_map (λ c. pairs_from f c c)) (range_end a f.order above)
 
 -- ---- how many there are
 

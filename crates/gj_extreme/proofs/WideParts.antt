@@ -3,6 +3,7 @@ use Rattle.std.proofs.Common.{◌≡◌, ℕ, ◌*◌, ◌<◌, ◌≤◌, ◌^�
 use Rattle.std.specs.List.{range_with_len}
 use Rattle.std.proofs.lemmas.Bool.{cases_lt}
 use Rattle.std.proofs.lemmas.Int.{ints}
+use Rattle.gj_shape.specs.SlopeRows.{component_in}
 use Rattle.gj_shape.specs.Elimination.{KeptRow, Solution, kernel, Passes}
 use Rattle.gj_shape.specs.FunctionData.{FunctionData, IsWithinBounds}
 use Rattle.gj_shape.specs.Perturbation.{perturbation_of, IsGreatestSize}
@@ -15,7 +16,6 @@ use Rattle.gj_theory.proofs.Passing.{none_passes}
 use Rattle.gj_perturb.specs.SlopeSums.{slope_sum, slope_at, IsWideSum}
 use Rattle.gj_perturb.specs.Split.{IsWide}
 use Rattle.gj_perturb.specs.declared.tables.Perturbation.{Perturbation}
-use Rattle.gj_system.specs.Components.{component_in}
 use Rattle.gj_extreme.specs.Decision.{AreAllCovered, slope_elimination, slope_perturbation, IsWideBehind, IsTooWide}
 use Rattle.gj_extreme.specs.Decision.IsWideBehind.{kernel_passes, perturbation_passes, scale_passes}
 use Rattle.gj_extreme.proofs.ListedHalves.{AreSums}

@@ -18,7 +18,13 @@ use gj_proof::{Claim, Proof};
 use gj_shape::Shape;
 use std::alloc::Global;
 
-/// Whether the function is extreme, with a proof.
+/// Whether the function is extreme, with a proof: the first violation of a function that is not minimal; of one that is minimal
+/// and continuous, cover lines and rows of an elimination, or two different minimal tables that average to its own.
+///
+/// `NotContinuous` comes exactly if the function is minimal and jumps, with the first index of a jump. `Wide` comes exactly if it
+/// is minimal and continuous, all its intervals are covered, and a number of the elimination, of its kernel or of the halves is
+/// above 2^127 - 1, or their scale above 2^124; never with at most four components. The only other error is want of memory.
+/// Source: Basu, Hildebrand and Köppe, "Equivariant Perturbation in Gomory and Johnson's infinite group problem I".
 pub fn decide(alloc: Global, shape: &Shape) -> Result<Proof, DecideFault>
     ensures decided { IfOk result (IsDecided shape.now) }
     ensures bounded { IfOk result IsBounded }
@@ -32,6 +38,7 @@ pub fn decide(alloc: Global, shape: &Shape) -> Result<Proof, DecideFault>
     ensures by_table { IfOk result (IsByTable shape.now) }
     ensures order_4q { IsContinuous shape.now → IsExtreme shape.now ↔ IsExtremeOnGrid4 shape.now }
 {
+    // the call tells the proofs the bounds of the function
     let order = shape.order();
     prove!(order >= 2);
     let claim = claim_of(alloc, shape)?;

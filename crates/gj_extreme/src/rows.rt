@@ -1,16 +1,16 @@
 //! The rows of the linear system for the slopes, inserted in their order until there is one for each component.
-ghost use Rattle.std.specs.Prelude.{ℕ, ◌≡◌, ◌<◌, ◌≤◌, ◌+◌, ◌*◌, ◌%◌, ◌^◌, ◌↔◌, ◌+ℤ◌, ◌∷◌, [], List, length, All, IfOk, OnOk, IsErrOf, IsTrue, unsigned_abs};
+ghost use Rattle.std.specs.Prelude.{ℕ, ◌≡◌, ◌<◌, ◌≤◌, ◌+◌, ◌^◌, ◌↔◌, ◌+ℤ◌, ◌∷◌, [], List, length, All, IfOk, OnOk, IsErrOf, IsTrue, unsigned_abs};
 ghost use Rattle.gj_shape.specs.Additive.{IsTight};
 ghost use Rattle.gj_shape.specs.Elimination.{Passes};
 ghost use Rattle.gj_shape.specs.FunctionData.{FunctionData, IsWithinBounds, at};
-ghost use Rattle.gj_shape.specs.SlopeRows.{row_names};
+ghost use Rattle.gj_shape.specs.SlopeRows.{row_names, component_in};
 ghost use Rattle.gj_shape.specs.declared.extremality.RowName.{RowName};
-ghost use Rattle.gj_system.specs.Components.{component_in, IsNameBelow};
+ghost use Rattle.gj_system.specs.Components.{IsNameBelow};
 ghost use Rattle.gj_extreme.specs.Decision.{slope_elimination};
 ghost use Rattle.gj_extreme.specs.RowsToCome.{AreToCome, AreInserted, IsReady, rows_from};
 
 use gj_elim::{Basis, ElimFault, Inserted};
-use gj_shape::{RowName, Shape};
+use gj_shape::{RowName, Shape, wrapped};
 use gj_system::SlopeRows;
 use std::alloc::{AllocError, Global};
 
@@ -159,12 +159,4 @@ fn add_up(first: i64, second: i64, sum: i64) -> bool
     ensures { IsTrue result ↔ (first +ℤ second ≡ sum) }
 {
     first + second == sum
-}
-
-/// An index below twice the order, modulo the order.
-fn wrapped(index: u32, order: u32) -> u32
-    requires { index < 2 * order }
-    ensures { result ≡ index % order }
-{
-    if index < order { index } else { index - order }
 }

@@ -1,10 +1,10 @@
 //! The halves of a function whose intervals are all covered, where slopes solve the linear system.
 ghost use Rattle.std.specs.Prelude.{ℕ, ◌≡◌, ◌<◌, List, length, IfOk, IsErrOf};
+ghost use Rattle.gj_shape.specs.Perturbation.{AreHalvesInBounds};
+ghost use Rattle.gj_shape.specs.SlopeRows.{component_in};
 ghost use Rattle.gj_shape.specs.FunctionData.{IsWithinBounds, IsContinuous};
 ghost use Rattle.gj_shape.specs.Table.{IsMinimal};
 ghost use Rattle.gj_shape.specs.declared.extremality.CoverLine.{CoverLine};
-ghost use Rattle.gj_perturb.specs.Split.{FitProofText};
-ghost use Rattle.gj_system.specs.Components.{component_in};
 ghost use Rattle.gj_extreme.specs.Decision.{AreAllCovered, AreSlopeHalves, IsTooWide};
 ghost use Rattle.gj_extreme.specs.RowsToCome.{AreInserted};
 
@@ -30,7 +30,7 @@ pub(crate) fn slope_halves(
     requires inserted { AreInserted shape.now (component_in component.now) (length rows.now.row.items) rows.now }
     requires fewer { length rows.now.basis.kept < length rows.now.row.items }
     ensures halves { IfOk result (AreSlopeHalves shape.now) }
-    ensures limits { IfOk result FitProofText }
+    ensures limits { IfOk result AreHalvesInBounds }
     ensures wide { IsErrOf result DecideFault.Wide → IsTooWide shape.now }
     ensures no_jump { (i : ℕ) → ¬ IsErrOf result (DecideFault.NotContinuous i) }
 {

@@ -1,10 +1,10 @@
 //! The halves of a function with an uncovered interval.
 ghost use Rattle.std.specs.Prelude.{ℕ, ◌≡◌, ◌≢◌, [], IfOk, IsErrOf};
+ghost use Rattle.gj_shape.specs.Perturbation.{AreHalvesInBounds};
 ghost use Rattle.gj_shape.specs.Additive.{IsTight};
 ghost use Rattle.gj_shape.specs.FunctionData.{IsContinuous};
 ghost use Rattle.gj_shape.specs.Table.{IsMinimal};
 ghost use Rattle.gj_cover.specs.CoverOf.{IsLeastClass};
-ghost use Rattle.gj_perturb.specs.Split.{FitProofText};
 ghost use Rattle.gj_theory.specs.Uncovered.{AreUncoveredClasses};
 ghost use Rattle.gj_extreme.specs.Decision.{AreZigzagHalves};
 
@@ -25,7 +25,7 @@ pub(crate) fn zigzag_halves(
     requires uncovered { AreUncoveredClasses shape.now.order (IsTight shape.now) class.now }
     requires some { class.now ≢ [] }
     ensures halves { IfOk result (AreZigzagHalves shape.now) }
-    ensures limits { IfOk result FitProofText }
+    ensures limits { IfOk result AreHalvesInBounds }
     ensures narrow { ¬ IsErrOf result DecideFault.Wide }
     ensures no_jump { (i : ℕ) → ¬ IsErrOf result (DecideFault.NotContinuous i) }
 {

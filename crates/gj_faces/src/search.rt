@@ -1,12 +1,12 @@
 //! The search for a face in runs.
-ghost use Rattle.std.specs.Prelude.{◌≡◌, ◌*◌, ◌%◌, ◌<◌, ◌↔◌, IsTrue};
+ghost use Rattle.std.specs.Prelude.{◌*◌, ◌<◌, ◌↔◌, IsTrue};
 ghost use Rattle.gj_shape.specs.Additive.{IsAdditive};
 ghost use Rattle.gj_shape.specs.Given.{IsOrder};
 ghost use Rattle.gj_faces.specs.Runs.{InRuns, AreInOrder};
 
 use crate::run::Run;
 use gj_complex::{corner, corners};
-use gj_shape::Face;
+use gj_shape::{Face, wrapped};
 
 /// Whether each corner of the face is in one of the runs, indices modulo the order q, from 2 to 1,000.
 ///
@@ -51,13 +51,4 @@ fn is_in_runs(runs: &[Run], q: u32, i: u32, j: u32) -> bool
         }
     }
     false
-}
-
-/// The index modulo the order, where it is below twice the order.
-fn wrapped(index: u32, order: u32) -> u32
-    requires { index < 2 * order }
-    ensures value { result ≡ index % order }
-    ensures below { result < order }
-{
-    if index < order { index } else { index - order }
 }

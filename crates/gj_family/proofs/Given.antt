@@ -7,14 +7,14 @@ use Rattle.gj_tools.proofs.Integers.{mul_comm_z, pos_abs_z}
 use Rattle.gj_tools.proofs.FirstThatFails.{first_failing_denies}
 use Rattle.std.proofs.lemmas.Int.{ints}
 use Rattle.gj_shape.specs.FunctionData.{FunctionData, IsSmallOver, at}
-use Rattle.gj_shape.specs.Given.{in_order, IsSmall, IsCommonDenominator, AreWithinBounds, IsOrder, IsPlace, HaveLength, HasFault, IsGivenBy, AreOver}
+use Rattle.gj_shape.specs.Given.{in_order, IsSmall, IsCommonDenominator, AreWithinBounds, IsOrder, IsPlace, HaveLength, HasFault, IsGivenBy, AreOver, IsMemory}
 use Rattle.gj_shape.specs.declared.faults.ShapeFault.{ShapeFault}
 use Rattle.gj_shape.specs.declared.faults.ShapeFault.TheVariants as fault
 use Rattle.gj_shape.proofs.AtLemmas.{at_wrapped, all_at}
 use Rattle.gj_shape.proofs.GivenFractions.{all_small, list_is_at}
 use Rattle.gj_shape.proofs.InOrder.{all_in_order, all_from_in_order}
 use Rattle.gj_shape.proofs.LeastDenominator.{Divides, within_bounds_closed}
-use Rattle.gj_family.specs.Numerators.{IsMemory, IsOver}
+use Rattle.gj_family.specs.Numerators.{IsOver}
 
 -- ---- fractions over one denominator are within bounds
 

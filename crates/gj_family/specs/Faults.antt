@@ -1,15 +1,11 @@
 -- Why a family has no function: the first test that fails, or want of memory.
 use Rattle.std.specs.Prelude.{ℕ, pos, ◌<◌, ◌≤◌, ◌<ℤ◌, List, Bool, length, unsigned_abs}
 use Rattle.gj_frac.specs.declared.Frac.{Frac}
-use Rattle.gj_frac.specs.Fraction.{numerator, denominator}
+use Rattle.gj_frac.specs.Fraction.{numerator, denominator, IsInside}
 use Rattle.gj_shape.specs.Given.{IsPlace}
 use Rattle.gj_family.specs.Signs.{rises, falls, height}
 use Rattle.gj_family.specs.declared.faults.FamilyFault.{FamilyFault}
 use Rattle.gj_family.specs.declared.faults.FamilyFault.TheVariants as fault
-
--- f is between 0 and 1, both excluded
-abbrev pub IsInside : Frac → Type 0
-IsInside f = (pos 0 <ℤ numerator f) × (numerator f <ℤ denominator f)
 
 -- the order of a function with this f, and the place of f
 abbrev pub order_of : Frac → ℕ

@@ -1,8 +1,6 @@
 -- Functions whose values and limits are whole numbers over one denominator.
 use Rattle.std.specs.Prelude.{ℕ, ℤ, pos, ◌≡◌, ◌<◌, ◌*ℤ◌, List, length, nat_eq, if◌then◌else◌}
 use Rattle.gj_shape.specs.FunctionData.{FunctionData, IsWithinBounds, at}
-use Rattle.gj_shape.specs.declared.faults.ShapeFault.{ShapeFault}
-use Rattle.gj_shape.specs.declared.faults.ShapeFault.TheVariants as fault
 
 -- the list has the entries t 0, t 1, .., t (n - 1)
 pub record HasEntries (t : ℕ → ℤ) (n : ℕ) (xs : List ℤ) : Type 0 where
@@ -21,12 +19,3 @@ pub record IsOver (k d : ℕ) (limits values : List ℤ) (f : FunctionData) : Ty
 -- twice the values of the function that is 1/2 almost everywhere
 abbrev pub doubled_value : ℕ → ℕ → ℤ
 doubled_value k i = pos (if nat_eq i 0 then 0 else (if nat_eq i k then 2 else 1))
-
--- the fault is want of memory
-abbrev pub IsMemory : ShapeFault → Type 0
-IsMemory fault.Order = ⊥
-IsMemory fault.Place = ⊥
-IsMemory fault.Count = ⊥
-IsMemory (fault.TooLarge i) = ⊥
-IsMemory (fault.TooFine i) = ⊥
-IsMemory (fault.Memory e) = Unit {0}

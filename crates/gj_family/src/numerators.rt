@@ -1,21 +1,12 @@
 //! Functions by whole numbers over one denominator.
-ghost use Rattle.std.specs.Prelude.{◌≡◌, ◌<◌, ◌^◌, pos, All, IfOk, length};
-ghost use Rattle.gj_frac.specs.Fraction.{IsRatio};
+ghost use Rattle.std.specs.Prelude.{◌≡◌, ◌<◌, ◌^◌, All, IfOk, length};
 ghost use Rattle.gj_shape.specs.FunctionData.{IsSmallOver, at};
 ghost use Rattle.gj_shape.specs.Given.{AreOver, IsOrder, IsPlace};
-ghost use Rattle.gj_family.specs.Numerators.{IsMemory, IsOver};
+ghost use Rattle.gj_family.specs.Numerators.{IsOver};
 
 use gj_frac::Frac;
-use gj_shape::{Shape, ShapeFault};
+use gj_shape::Shape;
 use std::alloc::{AllocError, Global};
-
-/// The fraction with this numerator and denominator.
-fn fraction(numerator: i64, denominator: u32) -> Frac
-    requires { 0 < denominator }
-    ensures { IsRatio result numerator (pos denominator) }
-{
-    Frac::new(i128::from(numerator), i128::from(denominator)).unwrap()
-}
 
 /// The whole numbers over the denominator.
 fn fractions(alloc: Global, numerators: &[i64], denominator: u32) -> Result<Vec<Frac>, AllocError>
@@ -25,7 +16,7 @@ fn fractions(alloc: Global, numerators: &[i64], denominator: u32) -> Result<Vec<
 {
     let mut items = Vec::with_capacity(alloc, numerators.len())?;
     for i in 0..numerators.len() {
-        items.push(fraction(numerators[i], denominator))?;
+        items.push(Frac::ratio(numerators[i], denominator))?;
     }
     Ok(items)
 }
@@ -59,16 +50,6 @@ pub(crate) fn shape_over(
         sides.as_slice(),
     ) {
         Ok(shape) => Ok(shape),
-        Err(fault) => Err(want_of_memory(fault)),
-    }
-}
-
-/// The want of memory that the fault is.
-fn want_of_memory(fault: ShapeFault) -> AllocError
-    requires { IsMemory fault }
-{
-    match fault {
-        ShapeFault::Memory(error) => error,
-        _ => unreachable!(),
+        Err(fault) => Err(fault.want_of_memory()),
     }
 }

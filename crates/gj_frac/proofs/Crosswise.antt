@@ -5,7 +5,7 @@ use Rattle.std.proofs.lemmas.Int.{unsigned_abs-mul}
 use Rattle.std.proofs.lemmas.Nat.Gcd.{IsGcd-swap}
 use Rattle.std.specs.Int.{IsGcd, ◌∣◌}
 use Rattle.gj_frac.specs.declared.Frac.{Frac}
-use Rattle.gj_frac.specs.Fraction.{FitsPart, IsRatio, SameValue, fraction_of, product_of}
+use Rattle.gj_frac.specs.Fraction.{Fits, IsRatio, SameValue, fraction_of, product_of}
 use Rattle.gj_frac.specs.Fits.{FitsProduct}
 use Rattle.gj_tools.proofs.Divisors.{gauss, coprime_product, coprime_divisor}
 use Rattle.gj_tools.proofs.Integers.{mul_comm_z, mul_positive_z, mul_some_z, positive_some_z}
@@ -41,14 +41,14 @@ product_parts x y z h k same =
 
 -- and where the product fits, they fit
 pub numerators_fit : (x y : Frac) → IsGcd (unsigned_abs x.num) (unsigned_abs y.den) 1 →
-    IsGcd (unsigned_abs y.num) (unsigned_abs x.den) 1 → FitsProduct x y → FitsPart (x.num *ℤ y.num)
+    IsGcd (unsigned_abs y.num) (unsigned_abs x.den) 1 → FitsProduct x y → Fits (x.num *ℤ y.num)
 numerators_fit x y h k fits =
-    subst FitsPart ((product_parts x y fits.0 h k fits.1).0) fits.0.lowest.num_fits
+    subst Fits ((product_parts x y fits.0 h k fits.1).0) fits.0.lowest.num_fits
 
 pub denominators_fit : (x y : Frac) → IsGcd (unsigned_abs x.num) (unsigned_abs y.den) 1 →
-    IsGcd (unsigned_abs y.num) (unsigned_abs x.den) 1 → FitsProduct x y → FitsPart (x.den *ℤ y.den)
+    IsGcd (unsigned_abs y.num) (unsigned_abs x.den) 1 → FitsProduct x y → Fits (x.den *ℤ y.den)
 denominators_fit x y h k fits =
-    subst FitsPart ((product_parts x y fits.0 h k fits.1).1) fits.0.lowest.den_fits
+    subst Fits ((product_parts x y fits.0 h k fits.1).1) fits.0.lowest.den_fits
 
 -- the product of two denominators is not 0
 pub denominators_some : (x y : Frac) → unsigned_abs (x.den *ℤ y.den) ≢ 0

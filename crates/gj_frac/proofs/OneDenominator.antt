@@ -5,7 +5,7 @@ use Rattle.std.proofs.lemmas.Int.{unsigned_abs-mul}
 use Rattle.std.proofs.lemmas.Nat.Gcd.{IsGcd-swap}
 use Rattle.std.specs.Int.{◌∣◌}
 use Rattle.gj_frac.specs.declared.Frac.{Frac}
-use Rattle.gj_frac.specs.Fraction.{IsRatio, FitsPart}
+use Rattle.gj_frac.specs.Fraction.{IsRatio, Fits}
 use Rattle.gj_frac.specs.Fits.{IsDenominatorGcd, scaled_numerator, common_denominator, FitsSum, FitsDifference, FitsOverOneDenominator}
 use Rattle.gj_tools.proofs.Integers.{mul_assoc_z, mul_left_comm_z, mul_add_z, mul_sub_z, mul_cancel_right_z, abs_add_z, abs_sub_z, abs_positive_z}
 use Rattle.gj_tools.proofs.Divisors.{gauss, gcd_positive, lcm_from_gcd}
@@ -68,8 +68,8 @@ multiplier x y g n m d h x_is y_is some =
     )
 
 -- two fractions over one denominator can be added where their parts and the sum of the numerators fit there
-pub fits_sum_over : (x y : Frac) (n m d : ℤ) → IsRatio x n d → IsRatio y m d → unsigned_abs d ≢ 0 → FitsPart d →
-    FitsPart n → FitsPart m → FitsPart (n +ℤ m) → FitsSum x y
+pub fits_sum_over : (x y : Frac) (n m d : ℤ) → IsRatio x n d → IsRatio y m d → unsigned_abs d ≢ 0 → Fits d →
+    Fits n → Fits m → Fits (n +ℤ m) → FitsSum x y
 fits_sum_over x y n m d x_is y_is some d_fits n_fits m_fits total_fits g h =
     let (k, by) = multiplier x y g n m d h x_is y_is some in
     let total = mul_add_z k (scaled_numerator x y g) (scaled_numerator y x g) ∙ (λ i. by.first i +ℤ by.second i) in
@@ -80,8 +80,8 @@ fits_sum_over x y n m d x_is y_is some d_fits n_fits m_fits total_fits g h =
     record { first = omega arith; second = omega arith; total = omega arith; bottom = omega arith }
 
 -- they can be subtracted where their parts and the difference of the numerators fit
-pub fits_difference_over : (x y : Frac) (n m d : ℤ) → IsRatio x n d → IsRatio y m d → unsigned_abs d ≢ 0 → FitsPart d →
-    FitsPart n → FitsPart m → FitsPart (n -ℤ m) → FitsDifference x y
+pub fits_difference_over : (x y : Frac) (n m d : ℤ) → IsRatio x n d → IsRatio y m d → unsigned_abs d ≢ 0 → Fits d →
+    Fits n → Fits m → Fits (n -ℤ m) → FitsDifference x y
 fits_difference_over x y n m d x_is y_is some d_fits n_fits m_fits difference_fits g h =
     let (k, by) = multiplier x y g n m d h x_is y_is some in
     let difference = mul_sub_z k (scaled_numerator x y g) (scaled_numerator y x g) ∙ (λ i. by.first i -ℤ by.second i) in

@@ -5,7 +5,7 @@ use Rattle.std.specs.Option.{SomeIff}
 use Rattle.std.specs.Result.{OkIff}
 use Rattle.std.specs.Prelude.{MatchOption, IsErr, IfOk, OnErr}
 use Rattle.gj_frac.specs.declared.Frac.{Frac}
-use Rattle.gj_frac.specs.Fraction.{FitsPart}
+use Rattle.gj_frac.specs.Fraction.{Fits}
 use Rattle.gj_frac.specs.Fits.{IsDenominatorGcd, FitsTogether, FitsSum, FitsDifference, scaled_numerator}
 use mir.Syntax.{w128}
 
@@ -13,11 +13,11 @@ use mir.Syntax.{w128}
 
 -- where the number that i128 gives is tested for the one that does not fit a part, all is tested
 pub step_fits : {E : Type 0} → (number : Option ℤ) (result : Result ℤ E) (v : ℤ) → SomeIff number (FitsSigned w128 v) v →
-    MatchOption number (IsErr result) (λ n. OkIff result (FitsPart n) n) → OkIff result (FitsPart v) v
+    MatchOption number (IsErr result) (λ n. OkIff result (Fits n) n) → OkIff result (Fits v) v
 step_fits (Some n) (Ok r) v given tested =
     let same = given.1 in
-    (subst FitsPart same tested.0, tested.1 ∙ same)
-step_fits (Some n) (Err e) v given tested = λ fits. tested (subst FitsPart (sym given.1) fits)
+    (subst Fits same tested.0, tested.1 ∙ same)
+step_fits (Some n) (Err e) v given tested = λ fits. tested (subst Fits (sym given.1) fits)
 step_fits None (Ok r) v given tested = absurd (cc)
 step_fits None (Err e) v given tested = λ fits. given (fits_signed_from_abs w128 v fits)
 
@@ -51,13 +51,13 @@ difference_together x y fits g h =
 
 -- with it the sum of the numerators is all that is left
 pub sum_from : (x y : Frac) → FitsTogether x y →
-    ((g : ℕ) → IsDenominatorGcd x y g → FitsPart (scaled_numerator x y g +ℤ scaled_numerator y x g)) → FitsSum x y
+    ((g : ℕ) → IsDenominatorGcd x y g → Fits (scaled_numerator x y g +ℤ scaled_numerator y x g)) → FitsSum x y
 sum_from x y fits total g h =
     let over = fits g h in
     record { first = over.first; second = over.second; total = total g h; bottom = over.bottom }
 
 pub difference_from : (x y : Frac) → FitsTogether x y →
-    ((g : ℕ) → IsDenominatorGcd x y g → FitsPart (scaled_numerator x y g -ℤ scaled_numerator y x g)) →
+    ((g : ℕ) → IsDenominatorGcd x y g → Fits (scaled_numerator x y g -ℤ scaled_numerator y x g)) →
     FitsDifference x y
 difference_from x y fits difference g h =
     let over = fits g h in

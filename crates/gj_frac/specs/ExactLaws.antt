@@ -6,7 +6,7 @@ use Rattle.std.specs.Cmp.{int_cmp_is}
 use Rattle.std.specs.declared.cmp.Ordering.TheVariants.{Less}
 use Rattle.std.specs.Ordering.{MatchOrdering}
 use Rattle.gj_frac.specs.declared.Frac.{Frac}
-use Rattle.gj_frac.specs.Fraction.{FitsPart, IsRatio, SameValue, fraction_of, sum_of, product_of}
+use Rattle.gj_frac.specs.Fraction.{Fits, IsRatio, SameValue, fraction_of, sum_of, product_of}
 use Rattle.gj_frac.specs.Fits.{IsDenominatorGcd, FitsSum, FitsProduct, scaled_numerator}
 use Rattle.gj_frac.specs.CompareValues.{compare_values}
 use Rattle.gj_frac.specs.SameParts.{ratio, same_value_same}
@@ -30,8 +30,8 @@ can_add_swapped x y fits g h =
     record {
       first = over.second;
       second = over.first;
-      total = subst FitsPart (add_comm_z (scaled_numerator x y g) (scaled_numerator y x g)) over.total;
-      bottom = subst FitsPart (crossed_quotients x.den y.den g x.lowest.positive y.lowest.positive turned) over.bottom;
+      total = subst Fits (add_comm_z (scaled_numerator x y g) (scaled_numerator y x g)) over.total;
+      bottom = subst Fits (crossed_quotients x.den y.den g x.lowest.positive y.lowest.positive turned) over.bottom;
     }
 
 -- x + y and y + x are equal

@@ -2,7 +2,7 @@
 use Rattle.std.specs.Prelude.{ℕ, ℤ, pos, ◌≢◌, ◌≤◌, ◌^◌, ◌/◌, ◌*ℤ◌, ◌+ℤ◌, ◌-ℤ◌, unsigned_abs}
 use Rattle.std.specs.Int.{IsGcd}
 use Rattle.gj_frac.specs.declared.Frac.{Frac}
-use Rattle.gj_frac.specs.Fraction.{FitsPart, IsRatio, SameValue, fraction_of, product_of, quotient_of, numerator, denominator}
+use Rattle.gj_frac.specs.Fraction.{Fits, IsRatio, SameValue, fraction_of, product_of, quotient_of, numerator, denominator}
 
 -- g is the greatest common divisor of the two denominators
 abbrev pub IsDenominatorGcd : Frac → Frac → ℕ → Type 0
@@ -18,9 +18,9 @@ common_denominator x y g = pos (unsigned_abs (denominator x) / g) *ℤ denominat
 
 -- both scaled numerators and the common denominator fit
 pub record FitsTogetherOver (x y : Frac) (g : ℕ) : Type 0 where
-  pub first : FitsPart (scaled_numerator x y g)
-  pub second : FitsPart (scaled_numerator y x g)
-  pub bottom : FitsPart (common_denominator x y g)
+  pub first : Fits (scaled_numerator x y g)
+  pub second : Fits (scaled_numerator y x g)
+  pub bottom : Fits (common_denominator x y g)
 
 -- x and y can be brought over their common denominator
 abbrev pub FitsTogether : Frac → Frac → Type 0
@@ -28,10 +28,10 @@ FitsTogether x y = (g : ℕ) → IsDenominatorGcd x y g → FitsTogetherOver x y
 
 -- the two scaled numerators, their sum and the common denominator fit
 pub record FitsSumOver (x y : Frac) (g : ℕ) : Type 0 where
-  pub first : FitsPart (scaled_numerator x y g)
-  pub second : FitsPart (scaled_numerator y x g)
-  pub total : FitsPart (scaled_numerator x y g +ℤ scaled_numerator y x g)
-  pub bottom : FitsPart (common_denominator x y g)
+  pub first : Fits (scaled_numerator x y g)
+  pub second : Fits (scaled_numerator y x g)
+  pub total : Fits (scaled_numerator x y g +ℤ scaled_numerator y x g)
+  pub bottom : Fits (common_denominator x y g)
 
 -- x + y can be computed
 abbrev pub FitsSum : Frac → Frac → Type 0
@@ -39,10 +39,10 @@ FitsSum x y = (g : ℕ) → IsDenominatorGcd x y g → FitsSumOver x y g
 
 -- the two scaled numerators, their difference and the common denominator fit
 pub record FitsDifferenceOver (x y : Frac) (g : ℕ) : Type 0 where
-  pub first : FitsPart (scaled_numerator x y g)
-  pub second : FitsPart (scaled_numerator y x g)
-  pub difference : FitsPart (scaled_numerator x y g -ℤ scaled_numerator y x g)
-  pub bottom : FitsPart (common_denominator x y g)
+  pub first : Fits (scaled_numerator x y g)
+  pub second : Fits (scaled_numerator y x g)
+  pub difference : Fits (scaled_numerator x y g -ℤ scaled_numerator y x g)
+  pub bottom : Fits (common_denominator x y g)
 
 -- x - y can be computed
 abbrev pub FitsDifference : Frac → Frac → Type 0

@@ -1,5 +1,5 @@
 -- The value of a fraction, and what a `Frac` is (own; the usual cross products over whole numbers without bound).
-use Rattle.std.specs.Prelude.{ℤ, ◌≡◌, ◌*ℤ◌, ◌+ℤ◌, ◌-ℤ◌, neg_ℤ, ◌<ℤ◌, ◌^◌, ◌<◌, unsigned_abs}
+use Rattle.std.specs.Prelude.{ℤ, pos, ◌≡◌, ◌*ℤ◌, ◌+ℤ◌, ◌-ℤ◌, neg_ℤ, ◌<ℤ◌, ◌^◌, ◌<◌, unsigned_abs}
 use Rattle.gj_frac.specs.declared.Frac.{Frac}
 
 -- a fraction of whole numbers without bound; its bottom is not 0
@@ -46,6 +46,14 @@ fraction_of x = record { top = x.num; bottom = x.den }
 abbrev pub IsRatio : Frac → ℤ → ℤ → Type 0
 IsRatio x n d = SameValue (fraction_of x) (record { top = n; bottom = d })
 
--- a whole number that fits a part of a `Frac`: at most 2^127 - 1 in absolute value
-abbrev pub FitsPart : ℤ → Type 0
-FitsPart n = unsigned_abs n < 2 ^ 127
+-- a whole number that fits a part of a `Frac`: it is at most 2^127 - 1 in absolute value
+abbrev pub Fits : ℤ → Type 0
+Fits n = unsigned_abs n < 2 ^ 127
+
+-- x is a whole number: in lowest terms its denominator is 1
+abbrev pub IsWhole : Frac → Type 0
+IsWhole x = denominator x ≡ pos 1
+
+-- x is between 0 and 1, both excluded
+abbrev pub IsInside : Frac → Type 0
+IsInside x = (pos 0 <ℤ numerator x) × (numerator x <ℤ denominator x)

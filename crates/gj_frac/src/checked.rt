@@ -2,7 +2,7 @@
 ghost use Rattle.std.specs.Prelude.{◌≡◌, ◌≢◌, ◌↔◌, ℕ, pos, ◌*ℤ◌, ◌+ℤ◌, ◌-ℤ◌, unsigned_abs, IfOk, OnOk, OnErr, IsErr, IsErrOf, MatchOption};
 ghost use Rattle.std.specs.Int.{IsGcd};
 ghost use Rattle.std.specs.Result.{OkIff};
-ghost use Rattle.gj_frac.specs.Fraction.{FitsPart, SameValue, fraction_of, sum_of, difference_of, product_of, quotient_of, numerator, denominator};
+ghost use Rattle.gj_frac.specs.Fraction.{Fits, SameValue, fraction_of, sum_of, difference_of, product_of, quotient_of, numerator, denominator};
 ghost use Rattle.gj_frac.specs.Fits.{FitsTogether, FitsSum, FitsDifference, FitsProduct, FitsQuotient, IsDenominatorGcd, scaled_numerator, common_denominator};
 
 use crate::Frac;
@@ -39,7 +39,7 @@ impl From<Wide> for DivFault {
 
 /// A whole number, where there is one and it fits a part of a fraction.
 fn part(number: Option<i128>) -> Result<i128, Wide>
-    ensures { MatchOption number (IsErr result) (λ n. OkIff result (FitsPart n) n) }
+    ensures { MatchOption number (IsErr result) (λ n. OkIff result (Fits n) n) }
 {
     match number {
         Some(n) if n != i128::MIN => Ok(n),
@@ -49,21 +49,21 @@ fn part(number: Option<i128>) -> Result<i128, Wide>
 
 /// The product of two whole numbers, where it fits a part of a fraction.
 fn checked_product(n: i128, m: i128) -> Result<i128, Wide>
-    ensures { OkIff result (FitsPart (n *ℤ m)) (n *ℤ m) }
+    ensures { OkIff result (Fits (n *ℤ m)) (n *ℤ m) }
 {
     part(n.checked_mul(m))
 }
 
 /// The sum of two whole numbers, where it fits a part of a fraction.
 fn checked_total(n: i128, m: i128) -> Result<i128, Wide>
-    ensures { OkIff result (FitsPart (n +ℤ m)) (n +ℤ m) }
+    ensures { OkIff result (Fits (n +ℤ m)) (n +ℤ m) }
 {
     part(n.checked_add(m))
 }
 
 /// The difference of two whole numbers, where it fits a part of a fraction.
 fn checked_difference(n: i128, m: i128) -> Result<i128, Wide>
-    ensures { OkIff result (FitsPart (n -ℤ m)) (n -ℤ m) }
+    ensures { OkIff result (Fits (n -ℤ m)) (n -ℤ m) }
 {
     part(n.checked_sub(m))
 }

@@ -1,5 +1,7 @@
 //! The greatest common divisor.
+ghost use Rattle.std.specs.Prelude.{◌<◌};
 ghost use Rattle.std.specs.Int.{IsGcd};
+ghost use Rattle.gj_tools.specs.Divisors.{IsLcm};
 
 /// The greatest common divisor of two whole numbers, by Euclid's algorithm; that of 0 and 0 is 0.
 ///
@@ -33,4 +35,13 @@ fn gcd_in_64_bits(a: u64, b: u64) -> u64
         y = rest;
     }
     x
+}
+
+/// The least common multiple of two whole numbers, the first not 0; that of a number and 0 is 0.
+pub fn lcm(a: u32, b: u32) -> u64
+    requires { 0 < a }
+    ensures { IsLcm a b result }
+{
+    let divisor = gcd(u128::from(a), u128::from(b)) as u32;
+    u64::from(a / divisor) * u64::from(b)
 }

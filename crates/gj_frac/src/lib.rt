@@ -6,7 +6,8 @@
 //! order is that of the values, without a condition.
 //!
 //! `ExactNumber` has the laws that generic code may rely on: the order and the grouping of sums and products do not
-//! matter where they can be formed. `gcd` is the greatest common divisor that all crates use.
+//! matter where they can be formed. `gcd` and `lcm` are the greatest common divisor and the least common
+//! multiple that all crates use.
 #![tactic(auto)]
 
 ghost use Rattle.std.specs.Prelude.{◌≡◌, ◌≢◌, ◌⊎◌, ◌↔◌, pos, ◌^◌, ◌<◌, unsigned_abs, IsNone, IfSome};
@@ -26,7 +27,7 @@ mod rounding;
 mod tests;
 
 pub use checked::{DivFault, Wide};
-pub use divisors::gcd;
+pub use divisors::{gcd, lcm};
 pub use laws::{ExactNumber, equal_values_are_one};
 pub use operators::fits_over_one_denominator;
 use parts::{common_divisor, quotient};
@@ -61,6 +62,14 @@ impl Frac {
             return None;
         }
         Some(Frac::reduced(num, den))
+    }
+
+    /// The fraction `n/d`; d is not 0.
+    pub fn ratio(n: i64, d: u32) -> Frac
+        requires { 0 < d }
+        ensures { IsRatio result n (pos d) }
+    {
+        Frac::reduced(i128::from(n), i128::from(d))
     }
 
     /// The numerator in lowest terms.

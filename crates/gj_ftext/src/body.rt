@@ -1,12 +1,11 @@
 //! What tells the function in a function text, read.
-ghost use Rattle.std.specs.Prelude.{◌≡◌, ◌↔◌, ◌∷◌, ℕ, List, IfOk, IfErr, IsTrue};
-ghost use Rattle.gj_lex.specs.Words.{word_texts};
+ghost use Rattle.std.specs.Prelude.{◌↔◌, IfOk, IfErr, IsTrue};
 ghost use Rattle.gj_lex.specs.Parts.{IsFaultOf};
 ghost use Rattle.gj_ftext.specs.ByFirstWord.{BeginsWith};
 ghost use Rattle.gj_ftext.specs.FunctionText.{body_part};
 
 use crate::family::family_at;
-use gj_lex::{PartFault, Spelling, behind_name, line_at};
+use gj_lex::{PartFault, Spelling, has_first_word, line_at};
 use gj_lines::function_at;
 use gj_shape::Shape;
 use std::alloc::Global;
@@ -32,11 +31,4 @@ pub(crate) fn begins_with(text: &[u8], word: &[u8]) -> bool
         Ok(line) => has_first_word(line.bytes, word),
         Err(_) => false,
     }
-}
-
-/// Whether the first word of the line is this word.
-fn has_first_word(line: &[u8], word: &[u8]) -> bool
-    ensures { IsTrue result ↔ ((words : List (List ℕ)) × (word_texts line.now ≡ word.now ∷ words)) }
-{
-    behind_name(line, word).is_some()
 }

@@ -58,7 +58,7 @@ fn scale_of(shape: &Shape) -> u32
 fn place_of(shape: &Shape) -> Frac
     ensures { IsRatio result (pos shape.now.place) (pos shape.now.order) }
 {
-    ratio(i64::from(shape.place()), shape.order())
+    Frac::ratio(i64::from(shape.place()), shape.order())
 }
 
 /// The object of a function.
@@ -85,17 +85,9 @@ fn fraction_values(alloc: Global, numerators: &[i64], scale: u32) -> Result<Valu
 {
     let mut values = Vec::new(alloc);
     for numerator in numerators {
-        values.push(fraction_value(alloc, ratio(*numerator, scale))?)?;
+        values.push(fraction_value(alloc, Frac::ratio(*numerator, scale))?)?;
     }
     Ok(Value::Array(values))
-}
-
-/// The fraction `n/d`.
-fn ratio(n: i64, d: u32) -> Frac
-    requires { 0 < d }
-    ensures { IsRatio result n (pos d) }
-{
-    Frac::new(i128::from(n), i128::from(d)).unwrap()
 }
 
 /// The fraction as a string.

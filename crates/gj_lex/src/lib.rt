@@ -36,7 +36,9 @@ pub use reason::Reason;
 pub use spelled::{count_of, fraction_of, is_count};
 pub use spelling::Spelling;
 pub use text_lines::{TextLine, end_at, line_at, line_number, words_at};
-pub use words::{behind_name, field_of, has_no_word, has_words, only_word, split_word, words_of};
+pub use words::{
+    behind_name, field_of, has_first_word, has_no_word, has_words, only_word, split_word, words_of,
+};
 
 #[cfg(test)]
 mod tests;

@@ -1,5 +1,5 @@
 //! The lines of faces and of covered intervals, printed.
-ghost use Rattle.std.specs.Prelude.{◌≡◌, ◌++◌, OnOk};
+ghost use Rattle.std.specs.Prelude.{◌≡◌, ◌++◌, flat_map, OnOk};
 ghost use Rattle.gj_lines.specs.FunctionLines.{line};
 ghost use Rattle.gj_lines.specs.FaceLines.{face_word, face_text, cover_line};
 
@@ -7,19 +7,18 @@ use gj_lex::print_count;
 use gj_shape::{CoverLine, Face, FaceKind};
 use std::alloc::AllocError;
 
-/// Appends the line of a face: the word of its kind and its square. An error says that memory ran out; `out` may then have a
-/// part of it.
-pub fn push_face_line(out: &mut Vec<u8>, face: Face) -> Result<(), AllocError>
-    ensures { OnOk result (out.new.items ≡ out.old.items ++ line (face_text face)) }
+/// Appends the lines of covered intervals. An error says that memory ran out; `out` may then have a part of them.
+pub fn push_cover_lines(out: &mut Vec<u8>, lines: &[CoverLine]) -> Result<(), AllocError>
+    ensures { OnOk result (out.new.items ≡ out.old.items ++ flat_map cover_line lines.now) }
 {
-    push_face(out, face)?;
-    out.push(b'\n')?;
+    for line in lines {
+        push_cover_line(out, *line)?;
+    }
     Ok(())
 }
 
-/// Appends the line `cover I J KIND A B` of a covered interval. An error says that memory ran out; `out` may then have a part
-/// of it.
-pub fn push_cover_line(out: &mut Vec<u8>, line: CoverLine) -> Result<(), AllocError>
+/// Appends the line `cover I J KIND A B` of a covered interval.
+fn push_cover_line(out: &mut Vec<u8>, line: CoverLine) -> Result<(), AllocError>
     ensures { OnOk result (out.new.items ≡ out.old.items ++ cover_line line) }
 {
     out.extend_from_slice(b"cover ")?;
@@ -28,6 +27,15 @@ pub fn push_cover_line(out: &mut Vec<u8>, line: CoverLine) -> Result<(), AllocEr
     print_count(out, line.from)?;
     out.push(b' ')?;
     push_face_line(out, line.face)
+}
+
+/// Appends the line of a face: the word of its kind and its square.
+fn push_face_line(out: &mut Vec<u8>, face: Face) -> Result<(), AllocError>
+    ensures { OnOk result (out.new.items ≡ out.old.items ++ line (face_text face)) }
+{
+    push_face(out, face)?;
+    out.push(b'\n')?;
+    Ok(())
 }
 
 /// Appends a face: the word of its kind and its square.

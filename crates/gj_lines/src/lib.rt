@@ -2,8 +2,7 @@
 //!
 //! `function_at` reads them in either spelling, and tests them in their order; `push_function_lines` prints them in
 //! their one spelling. The form stands in `specs/FunctionGrammar` (what is read, and the first fault) and in
-//! `specs/FunctionLines` (what is printed). `push_face_line` and `push_cover_line` print the lines of faces and of covered
-//! intervals.
+//! `specs/FunctionLines` (what is printed). `push_cover_lines` prints the lines of covered intervals.
 #![tactic(auto)]
 
 mod faces;
@@ -16,7 +15,7 @@ mod print;
 #[cfg(test)]
 mod tests;
 
-pub use faces::{face_word, push_cover_line, push_face_line};
+pub use faces::{face_word, push_cover_lines};
 pub use function::function_at;
 pub use laws::{
     canonical_lines_are_read, function_has_one_text, function_lines_are_exact,

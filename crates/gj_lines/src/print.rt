@@ -1,6 +1,5 @@
 //! The lines of a function, printed.
-ghost use Rattle.std.specs.Prelude.{◌≡◌, ◌<◌, ◌++◌, ℕ, List, codes, pos, flat_map, OnOk};
-ghost use Rattle.gj_frac.specs.Fraction.{IsRatio};
+ghost use Rattle.std.specs.Prelude.{◌≡◌, ◌<◌, ◌++◌, ℕ, List, codes, flat_map, OnOk};
 ghost use Rattle.gj_lex.specs.NumberText.{fraction_text};
 ghost use Rattle.gj_shape.specs.Points.{ArePointsOf, IsPointAt};
 ghost use Rattle.gj_lines.specs.FunctionLines.{fraction_line, order_line, place_line, has_no_jump, point_text, point_line, AreFunctionLines};
@@ -41,7 +40,7 @@ pub fn push_function_lines(
         alloc,
         out,
         shape.order(),
-        ratio(shape.place(), shape.order()),
+        Frac::ratio(i64::from(shape.place()), shape.order()),
     )?;
     push_point_lines(alloc, out, shape)
 }
@@ -62,14 +61,6 @@ pub fn push_order_line(out: &mut Vec<u8>, order: u32) -> Result<(), AllocError>
     print_count(out, order)?;
     out.push(b'\n')?;
     Ok(())
-}
-
-/// The fraction `n/d`.
-fn ratio(n: u32, d: u32) -> Frac
-    requires { 0 < d }
-    ensures { IsRatio result (pos n) (pos d) }
-{
-    Frac::new(i128::from(n), i128::from(d)).unwrap()
 }
 
 /// Appends a point line for each multiple of 1/q.

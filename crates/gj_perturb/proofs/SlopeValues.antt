@@ -5,10 +5,11 @@ use Rattle.std.proofs.Math.Nat.{mod-eq_of_lt, zero-add}
 use Rattle.std.proofs.lemmas.Int.{ints}
 use Rattle.std.proofs.lemmas.List.Elements.{All-nil, All-push}
 use Rattle.std.proofs.lemmas.List.FromFn.{map-range_with_len_more}
+use Rattle.gj_frac.specs.Fraction.{Fits}
 use Rattle.gj_theory.proofs.SlopePerturbations.{total_push}
 use Rattle.gj_shape.specs.Perturbation.{perturbation_of}
 use Rattle.gj_shape.specs.SlopeRows.{total}
-use Rattle.gj_perturb.specs.SlopeSums.{Fits, slope_at, slope_sum, IsWideSum}
+use Rattle.gj_perturb.specs.SlopeSums.{slope_at, slope_sum, IsWideSum}
 
 sum_more : (q : ℕ) (slope : ℕ → ℤ) (i : ℕ) → i + 1 < q →
     perturbation_of q slope (i + 1) ≡ perturbation_of q slope i +ℤ slope i

@@ -7,7 +7,7 @@ use Rattle.std.proofs.lemmas.List.FromFn.{fill_by_all, get_or-map-range_with_len
 use Rattle.gj_tools.proofs.Integers.{abs_add_z, abs_zero_z, neg_mul_z}
 use Rattle.gj_tools.proofs.Lists.{All-made}
 use Rattle.gj_shape.specs.FunctionData.{FunctionData, IsWithinBounds, at}
-use Rattle.gj_shape.specs.Perturbation.{IsGreatestSize, AreHalvesOf}
+use Rattle.gj_shape.specs.Perturbation.{IsGreatestSize, AreHalvesOf, AreHalvesInBounds}
 use Rattle.gj_shape.specs.Table.{table, IsMinimal}
 use Rattle.gj_shape.specs.declared.extremality.Halves.{Halves}
 use Rattle.gj_shape.proofs.AtLemmas.{at_below}
@@ -15,8 +15,8 @@ use Rattle.gj_theory.specs.Halves.{AreDifferentHalves}
 use Rattle.gj_theory.proofs.HalvesAsLists.{lists_are_halves}
 use Rattle.gj_perturb.specs.ListSlacks.{IsLeastOfRows}
 use Rattle.gj_perturb.specs.Moves.{moved_at, IsSmallMove}
-use Rattle.gj_perturb.specs.SlopeSums.{Fits}
-use Rattle.gj_perturb.specs.Split.{CanSplit, IsWide, FitProofText}
+use Rattle.gj_frac.specs.Fraction.{Fits}
+use Rattle.gj_perturb.specs.Split.{CanSplit, IsWide}
 use Rattle.gj_perturb.specs.declared.tables.Perturbation.{Perturbation}
 use Rattle.gj_perturb.proofs.TableParts.{entry_at_most, listed_at, HasLeastSlack, least_from_rows}
 use Rattle.gj_perturb.proofs.MovedEntries.{wide}
@@ -203,7 +203,7 @@ all_fit xs factor values step ys small e =
     omega arith))
 
 pub fit_proof_text : (f : FunctionData) (p : Perturbation) (size : ℕ) (x : ℤ) (values xs : List ℤ) (made : Halves) →
-    AreParts f p size x values xs → AreMade f p size x values xs made → FitProofText made
+    AreParts f p size x values xs → AreMade f p size x values xs made → AreHalvesInBounds made
 fit_proof_text f p size x values xs made h d =
     let count : length values ≡ f.order * p.times = count_is f p size x values xs h in
     let some : 0 < size = size_some (at p.values) size h.can.index
@@ -226,8 +226,8 @@ fit_proof_text f p size x values xs made h d =
       scale_high = subst (λ z. z ≤ℤ pos (2 ^ 124)) (sym scale) (omega (arith, ints));
       first_length = ap length d.first ∙ length-map-range_with_len _ 0 (length values) ∙ count ∙ sym order;
       second_length = ap length d.second ∙ length-map-range_with_len _ 0 (length values) ∙ count ∙ sym order;
-      first = all_fit xs (pos (3 * size)) values x made.first (small_move f p size x values xs h x refl) d.first;
-      second = all_fit xs (pos (3 * size)) values (neg_ℤ x) made.second
+      first_fit = all_fit xs (pos (3 * size)) values x made.first (small_move f p size x values xs h x refl) d.first;
+      second_fit = all_fit xs (pos (3 * size)) values (neg_ℤ x) made.second
           (small_move f p size x values xs h (neg_ℤ x) (omega (arith, ints))) d.second;
     }
 

@@ -2,6 +2,7 @@
 use Rattle.std.proofs.Common.{◌≡◌, ◌≢◌, ℕ, ◌+◌, ◌*◌, ◌/◌, ◌%◌, ◌<◌, ◌≤◌, ◌==◌, ◌^◌, Bool, true, false, if◌then◌else◌, ℤ, pos, ◌-ℤ◌, ◌+ℤ◌, List, length, get_or, map, All, Contains, unsigned_abs, refl, sym, ap, ap₂, subst, ◌∙◌, mul-pos, mul-le-mul_right, arith}
 use Rattle.std.specs.List.{range_with_len, list_any}
 use Rattle.std.proofs.lemmas.List.FromFn.{length-map-range_with_len}
+use Rattle.gj_frac.specs.Fraction.{Fits}
 use Rattle.gj_tools.proofs.Lists.{All-made}
 use Rattle.gj_shape.specs.Additive.{IsTight}
 use Rattle.gj_shape.specs.Elimination.{at_column}
@@ -16,7 +17,7 @@ use Rattle.gj_theory.proofs.CoverPaths.{all_contained}
 use Rattle.gj_theory.proofs.HalvesAsLists.{at_made}
 use Rattle.gj_theory.proofs.SlopePerturbations.{slopes_perturb, slopes_not_zero}
 use Rattle.gj_theory.proofs.Zigzags.{zigzag_perturbs, zigzag_at_quarter}
-use Rattle.gj_perturb.specs.SlopeSums.{Fits, slope_at, slope_sum}
+use Rattle.gj_perturb.specs.SlopeSums.{slope_at, slope_sum}
 use Rattle.gj_perturb.specs.Split.{CanSplit, IsWide}
 use Rattle.gj_perturb.specs.declared.tables.Perturbation.{Perturbation}
 use Rattle.gj_perturb.proofs.TableParts.{scale_small}

@@ -1,11 +1,8 @@
 -- The sums of slopes of intervals (Equivariant Perturbation I).
-use Rattle.std.specs.Prelude.{ℕ, ℤ, ◌<◌, ◌^◌, List, length, get_or, unsigned_abs}
+use Rattle.std.specs.Prelude.{ℕ, ℤ, ◌<◌, List, length, get_or}
+use Rattle.gj_frac.specs.Fraction.{Fits}
 use Rattle.gj_shape.specs.Elimination.{at_column}
 use Rattle.gj_shape.specs.Perturbation.{perturbation_of}
-
--- the number is at most 2^127 - 1 in absolute value
-abbrev pub Fits : ℤ → Type 0
-Fits x = unsigned_abs x < 2 ^ 127
 
 -- the slope of an interval is that of its component
 abbrev pub slope_at : List ℕ → List ℤ → ℕ → ℤ

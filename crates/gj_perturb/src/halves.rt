@@ -2,11 +2,11 @@
 ghost use Rattle.std.specs.Prelude.{ℕ, ℤ, pos, ◌≡◌, ◌+◌, ◌*◌, ◌+ℤ◌, ◌*ℤ◌, ◌<◌, ◌≤◌, ◌^◌, length, map, get_or, All, IfOk, OnOk, IsErrOf, MatchOption, unsigned_abs};
 ghost use Rattle.std.specs.List.{range_with_len};
 ghost use Rattle.gj_shape.specs.FunctionData.{IsWithinBounds, IsContinuous, at};
-ghost use Rattle.gj_shape.specs.Perturbation.{IsGreatestSize, AreHalvesOf};
+ghost use Rattle.gj_shape.specs.Perturbation.{IsGreatestSize, AreHalvesOf, AreHalvesInBounds};
 ghost use Rattle.gj_shape.specs.Table.{table, IsMinimal};
 ghost use Rattle.gj_theory.specs.Halves.{AreDifferentHalves};
 ghost use Rattle.gj_perturb.specs.Moves.{moved_at, IsSmallMove};
-ghost use Rattle.gj_perturb.specs.Split.{CanSplit, IsWide, FitProofText};
+ghost use Rattle.gj_perturb.specs.Split.{CanSplit, IsWide};
 
 use crate::faults::SplitFault;
 use crate::grid::doubled_table;
@@ -30,7 +30,7 @@ pub fn split(alloc: Global, shape: &Shape, p: &Perturbation) -> Result<Halves, S
     ensures different { IfOk result (λ h. (size : ℕ) → IsGreatestSize (at p.now.values) size →
         AreDifferentHalves (table shape.now p.now.times) (shape.now.order * p.now.times)
         (shape.now.place * p.now.times) (shape.now.scale * p.now.times) (3 * size) (at h.first) (at h.second)) }
-    ensures limits { IfOk result FitProofText }
+    ensures limits { IfOk result AreHalvesInBounds }
 
     ensures narrow { OnOk result (¬ IsWide shape.now p.now) }
     ensures wide { IsErrOf result SplitFault.Wide → IsWide shape.now p.now }

@@ -1,6 +1,7 @@
 //! When the perturbations of this crate can be split.
 ghost use Rattle.std.specs.Prelude.{ℕ, ℤ, pos, ◌≡◌, ◌≢◌, ◌*◌, ◌<◌, List, All, Contains, length, map, get_or};
 ghost use Rattle.std.specs.List.{range_with_len};
+ghost use Rattle.gj_frac.specs.Fraction.{Fits};
 ghost use Rattle.gj_shape.specs.Additive.{IsTight};
 ghost use Rattle.gj_shape.specs.Elimination.{at_column};
 ghost use Rattle.gj_shape.specs.FunctionData.{FunctionData, IsWithinBounds, IsContinuous};
@@ -8,7 +9,7 @@ ghost use Rattle.gj_shape.specs.Perturbation.{zigzag};
 ghost use Rattle.gj_shape.specs.SlopeRows.{SolveRows};
 ghost use Rattle.gj_shape.specs.Table.{IsMinimal};
 ghost use Rattle.gj_theory.specs.Uncovered.{AreUncoveredClasses};
-ghost use Rattle.gj_perturb.specs.SlopeSums.{Fits, slope_sum};
+ghost use Rattle.gj_perturb.specs.SlopeSums.{slope_sum};
 ghost use Rattle.gj_perturb.specs.Split.{CanSplit, IsWide};
 ghost use Rattle.gj_perturb.specs.declared.tables.Perturbation.{Perturbation};
 

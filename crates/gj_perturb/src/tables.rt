@@ -2,8 +2,9 @@
 ghost use Rattle.std.specs.Prelude.{ℕ, ℤ, pos, ◌≡◌, ◌-ℤ◌, ◌+ℤ◌, ◌*◌, ◌<◌, ◌≤◌, ◌==◌, length, map, All, Any, IfOk, IsErrOf, if◌then◌else◌};
 ghost use Rattle.std.specs.List.{range_with_len, list_any};
 ghost use Rattle.std.specs.Result.{OkIff};
+ghost use Rattle.gj_frac.specs.Fraction.{Fits};
 ghost use Rattle.gj_shape.specs.Perturbation.{zigzag as zigzag_at};
-ghost use Rattle.gj_perturb.specs.SlopeSums.{Fits, slope_sum, IsWideSum};
+ghost use Rattle.gj_perturb.specs.SlopeSums.{slope_sum, IsWideSum};
 
 use crate::faults::SplitFault;
 use gj_shape::List;

@@ -4,6 +4,8 @@ use Rattle.std.proofs.lemmas.Int.{ints}
 use Rattle.std.specs.Fmt.{signed_decimal}
 use Rattle.std.proofs.lemmas.List.{append_assoc, map-append}
 use Rattle.std.proofs.lemmas.List.Elements.{All-nil, All-cons, All-head, All-tail, All-append, All-weaker}
+use Rattle.gj_frac.specs.Fraction.{Fits}
+use Rattle.gj_shape.specs.Perturbation.{AreHalvesInBounds}
 use Rattle.gj_lex.specs.TextLines.{line_feeds}
 use Rattle.gj_lex.proofs.WordBytes.{decimal_is_word}
 use Rattle.gj_shape.specs.declared.extremality.CoverLine.{CoverLine}
@@ -14,7 +16,7 @@ use Rattle.gj_shape.specs.declared.faces.FaceKind.{FaceKind}
 use Rattle.gj_shape.specs.declared.faces.FaceKind.TheVariants.{Vertex, Horizontal, Vertical, Diagonal, Lower, Upper}
 use Rattle.gj_lines.specs.FaceLines.{face_word, face_text, cover_line}
 use Rattle.gj_lines.specs.FunctionLines.{line}
-use Rattle.gj_proof.specs.ProofText.{ProofLine, OwnLine, group_line, reduction_line, pivot_line, covered_lines, reduction_lines, group_lines, halves_line, pair_line, pair_lines, IsCoverLineBelow, IsRowNameBelow, IsPivotRowBelow, FitsPair, AreHalvesInBounds}
+use Rattle.gj_proof.specs.ProofText.{ProofLine, OwnLine, group_line, reduction_line, pivot_line, covered_lines, reduction_lines, group_lines, halves_line, pair_line, pair_lines, IsCoverLineBelow, IsRowNameBelow, IsPivotRowBelow}
 use Rattle.gj_proof.specs.ExtremeTexts.{group_text, halves_text}
 use Rattle.gj_proof.specs.declared.pivot.PivotRow.{PivotRow}
 use Rattle.gj_proof.proofs.LineLists.{names, bytes, bytes_append, Differ, differ_append, HasOneFeed, feeds_of_line, feeds_of_two, feeds_of_word}
@@ -254,7 +256,7 @@ halves_lines_differ h =
 feeds_of_count : (n : ℕ) → n < 4001 → line_feeds (decimal n) ≡ 0
 feeds_of_count n small = feeds_of_word (decimal n) (decimal_is_word n (omega arith))
 
-feeds_of_whole : (n : ℤ) → FitsPair n → line_feeds (signed_decimal n) ≡ 0
+feeds_of_whole : (n : ℤ) → Fits n → line_feeds (signed_decimal n) ≡ 0
 feeds_of_whole n fits = feeds_of_word (signed_decimal n) (whole_is_word n fits)
 
 -- two parts with a space between
@@ -303,7 +305,7 @@ feeds_of_halves h b =
     (feeds_of_spaced (codes "halves " ++ decimal h.order) (signed_decimal h.scale)
     (feeds_of_two (codes "halves ") (decimal h.order) refl order) scale)
 
-feeds_of_pair : (p : ℤ × ℤ) → FitsPair p.0 → FitsPair p.1 → line_feeds (pair_line p) ≡ 1
+feeds_of_pair : (p : ℤ × ℤ) → Fits p.0 → Fits p.1 → line_feeds (pair_line p) ≡ 1
 feeds_of_pair p first second =
     feeds_of_line (codes "pair " ++ signed_decimal p.0 ++ codes " " ++ signed_decimal p.1)
     (feeds_of_spaced (codes "pair " ++ signed_decimal p.0) (signed_decimal p.1)
@@ -337,14 +339,14 @@ groups_have_one_feed g q (row ∷ rows) small h =
     (All-cons HasOneFeed last more (feeds_of_column (codes "pivot ") row.pivot refl here.pivot)
     (groups_have_one_feed (g + 1) q rows small (All-tail (IsPivotRowBelow q) row rows h))))
 
-pairs_have_one_feed : (i : ℕ) (first second : List ℤ) → All FitsPair first → All FitsPair second →
+pairs_have_one_feed : (i : ℕ) (first second : List ℤ) → All Fits first → All Fits second →
     All HasOneFeed (pair_lines i (zip first second))
 pairs_have_one_feed i [] second h k = All-nil HasOneFeed
 pairs_have_one_feed i (x ∷ first) [] h k = All-nil HasOneFeed
 pairs_have_one_feed i (x ∷ first) (y ∷ second) h k =
     All-cons HasOneFeed (record { name = ProofLine.pair i; bytes = pair_line (x, y) }) (pair_lines (i + 1) (zip first second))
-    (feeds_of_pair (x, y) (All-head FitsPair x first h) (All-head FitsPair y second k))
-    (pairs_have_one_feed (i + 1) first second (All-tail FitsPair x first h) (All-tail FitsPair y second k))
+    (feeds_of_pair (x, y) (All-head Fits x first h) (All-head Fits y second k))
+    (pairs_have_one_feed (i + 1) first second (All-tail Fits x first h) (All-tail Fits y second k))
 
 pub halves_have_one_feed : (h : Halves) → AreHalvesInBounds h →
     All HasOneFeed (record { name = ProofLine.halves; bytes = halves_line h } ∷ pair_lines 0 (zip h.first h.second))

@@ -4,6 +4,8 @@ use Rattle.std.specs.Fmt.{signed_decimal}
 use Rattle.std.specs.List.{join_with_byte}
 use Rattle.std.proofs.lemmas.List.{append_assoc, append-nil}
 use Rattle.std.proofs.lemmas.List.Elements.{All-nil, All-cons, All-head, All-tail}
+use Rattle.gj_frac.specs.Fraction.{Fits}
+use Rattle.gj_shape.specs.Perturbation.{AreHalvesInBounds}
 use Rattle.gj_lex.specs.declared.spelling.Spelling.TheVariants.{Strict}
 use Rattle.gj_lex.specs.Parts.{line_part, loop_part}
 use Rattle.gj_lex.specs.Parts.ReadsInTurn.{last, onward}
@@ -15,7 +17,7 @@ use Rattle.gj_shape.specs.declared.extremality.RowName.{RowName}
 use Rattle.gj_shape.specs.declared.extremality.RowName.TheVariants.{Period, F, Pair}
 use Rattle.gj_lines.specs.FaceLines.{cover_line}
 use Rattle.gj_lines.specs.FunctionLines.{line}
-use Rattle.gj_proof.specs.ProofText.{group_line, reduction_line, pivot_line, halves_line, pair_line, IsCoverLineBelow, IsRowNameBelow, IsPivotRowBelow, FitsPair, AreHalvesInBounds}
+use Rattle.gj_proof.specs.ProofText.{group_line, reduction_line, pivot_line, halves_line, pair_line, IsCoverLineBelow, IsRowNameBelow, IsPivotRowBelow}
 use Rattle.gj_proof.specs.ExtremeTexts.{group_text, halves_text}
 use Rattle.gj_proof.specs.WhereParts.{BeginsWithLine, BeginsWithWord}
 use Rattle.gj_proof.specs.ProofGrammar.{cover_words, cover_rule, covered_part, row_words, row_name_rule, column_rule, next_step, group_part, groups_part, halves_words, halves_rule, IsHeadInBounds, pair_words, pair_rule, pairs_part, halves_part}
@@ -298,17 +300,17 @@ groups_found q all rest before text (onward _ _ next middle (inr (apart, (row, g
 
 -- ---- halves
 
-pair_reads : (p : ℤ × ℤ) (rest : List ℕ) → FitsPair p.0 → FitsPair p.1 → pair_part.Reads (pair_line p ++ rest) p rest
+pair_reads : (p : ℤ × ℤ) (rest : List ℕ) → Fits p.0 → Fits p.1 → pair_part.Reads (pair_line p ++ rest) p rest
 pair_reads p rest x y =
     line_reads pair_rule (pair_line p ++ rest) rest (pair_words (signed_decimal p.0) (signed_decimal p.1)) p (λ e. cc)
     (pair_is_plain p x y) (refl, x, y) (ap (λ u. u ++ rest) (sym (bytes_of_pair p)))
 
-pair_found : (text rest : List ℕ) (p : ℤ × ℤ) → pair_part.Reads text p rest → (text ≡ pair_line p ++ rest) × FitsPair p.0 × FitsPair p.1
+pair_found : (text rest : List ℕ) (p : ℤ × ℤ) → pair_part.Reads text p rest → (text ≡ pair_line p ++ rest) × Fits p.0 × Fits p.1
 pair_found text rest p h =
     let (words, (is, x, y), spelled) = line_found pair_rule text rest p h in
     (spelled ∙ ap (λ ws. line (join_with_byte 32 ws) ++ rest) is ∙ ap (λ u. u ++ rest) (bytes_of_pair p), x, y)
 
-pairs_read : (f s first second : List ℤ) (rest : List ℕ) → length second ≡ length first → All FitsPair first → All FitsPair second →
+pairs_read : (f s first second : List ℤ) (rest : List ℕ) → length second ≡ length first → All Fits first → All Fits second →
     (pairs_part (length first) f s).Reads (flat_map pair_line (zip first second) ++ rest) (f ++ first, s ++ second) rest
 pairs_read f s [] [] rest same h k = (λ i. (append-nil f i, append-nil s i), refl)
 pairs_read f s [] (y ∷ second) rest same h k = absurd (omega arith)
@@ -316,7 +318,7 @@ pairs_read f s (x ∷ first) [] rest same h k = absurd (omega arith)
 pairs_read f s (x ∷ first) (y ∷ second) rest same h k =
     let behind = flat_map pair_line (zip first second) ++ rest in
     let here : (pairs_part (length first) (f ++ x ∷ []) (s ++ y ∷ [])).Reads behind ((f ++ x ∷ []) ++ first, (s ++ y ∷ []) ++ second) rest =
-    pairs_read (f ++ x ∷ []) (s ++ y ∷ []) first second rest (omega arith) (All-tail FitsPair x first h) (All-tail FitsPair y second k) in
+    pairs_read (f ++ x ∷ []) (s ++ y ∷ []) first second rest (omega arith) (All-tail Fits x first h) (All-tail Fits y second k) in
     let lists_are : ◌≡◌ {A = List ℤ × List ℤ} ((f ++ x ∷ []) ++ first, (s ++ y ∷ []) ++ second) (f ++ x ∷ first, s ++ y ∷ second) =
     λ i. (append_assoc f (x ∷ []) first i, append_assoc s (y ∷ []) second i) in
     let more : (pairs_part (length first) (f ++ x ∷ []) (s ++ y ∷ [])).Reads behind (f ++ x ∷ first, s ++ y ∷ second) rest =
@@ -324,7 +326,7 @@ pairs_read f s (x ∷ first) (y ∷ second) rest same h k =
     let whole : flat_map pair_line (zip (x ∷ first) (y ∷ second)) ++ rest ≡ pair_line (x, y) ++ behind =
     append_assoc (pair_line (x, y)) (flat_map pair_line (zip first second)) rest in
     subst (λ text. (pairs_part (suc (length first)) f s).Reads text (f ++ x ∷ first, s ++ y ∷ second) rest) (sym whole)
-    ((x, y), behind, pair_reads (x, y) behind (All-head FitsPair x first h) (All-head FitsPair y second k), more)
+    ((x, y), behind, pair_reads (x, y) behind (All-head Fits x first h) (All-head Fits y second k), more)
 
 -- what was read behind these values: the pairs that follow
 record PairsFound (n : ℕ) (f s : List ℤ) (lists : List ℤ × List ℤ) (text rest : List ℕ) : Type 0 where
@@ -334,8 +336,8 @@ record PairsFound (n : ℕ) (f s : List ℤ) (lists : List ℤ × List ℤ) (tex
   pub second_are : lists.1 ≡ s ++ second
   pub first_count : length first ≡ n
   pub second_count : length second ≡ n
-  pub first_fit : All FitsPair first
-  pub second_fit : All FitsPair second
+  pub first_fit : All Fits first
+  pub second_fit : All Fits second
   pub spelled : text ≡ flat_map pair_line (zip first second) ++ rest
 
 pairs_found : (n : ℕ) (f s : List ℤ) (lists : List ℤ × List ℤ) (text rest : List ℕ) → (pairs_part n f s).Reads text lists rest →
@@ -347,8 +349,8 @@ pairs_found zero f s lists text rest (is, text_is) = record {
   second_are = ap (λ (l : List ℤ × List ℤ). l.1) is ∙ sym (append-nil s);
   first_count = refl;
   second_count = refl;
-  first_fit = All-nil FitsPair;
-  second_fit = All-nil FitsPair;
+  first_fit = All-nil Fits;
+  second_fit = All-nil Fits;
   spelled = text_is;
 }
 pairs_found (suc n) f s lists text rest (p, middle, one_line, more) =
@@ -360,8 +362,8 @@ pairs_found (suc n) f s lists text rest (p, middle, one_line, more) =
       second_are = found.second_are ∙ append_assoc s (p.1 ∷ []) found.second;
       first_count = ap suc found.first_count;
       second_count = ap suc found.second_count;
-      first_fit = All-cons FitsPair p.0 found.first one.1 found.first_fit;
-      second_fit = All-cons FitsPair p.1 found.second one.2 found.second_fit;
+      first_fit = All-cons Fits p.0 found.first one.1 found.first_fit;
+      second_fit = All-cons Fits p.1 found.second one.2 found.second_fit;
       spelled = one.0 ∙ ap (λ m. pair_line p ++ m) found.spelled
           ∙ sym (append_assoc (pair_line p) (flat_map pair_line (zip found.first found.second)) rest);
     }

@@ -5,6 +5,7 @@ use Rattle.std.specs.List.{join_with_byte}
 use Rattle.std.proofs.lemmas.Int.{ints}
 use Rattle.std.proofs.lemmas.List.{append_assoc}
 use Rattle.std.proofs.lemmas.List.Elements.{All-nil, All-cons}
+use Rattle.gj_frac.specs.Fraction.{Fits}
 use Rattle.gj_lex.specs.declared.reason.Reason.{Reason}
 use Rattle.gj_lex.specs.declared.spelling.Spelling.TheVariants.{Strict}
 use Rattle.gj_lex.specs.Parts.{IsExactRule}
@@ -20,7 +21,7 @@ use Rattle.gj_shape.specs.declared.faces.FaceKind.{FaceKind}
 use Rattle.gj_shape.specs.declared.faces.FaceKind.TheVariants.{Vertex, Horizontal, Vertical, Diagonal, Lower, Upper}
 use Rattle.gj_lines.specs.FaceLines.{face_word, cover_line}
 use Rattle.gj_lines.specs.FunctionLines.{line}
-use Rattle.gj_proof.specs.ProofText.{group_line, pair_line, IsCoverLineBelow, IsRowNameBelow, FitsPair}
+use Rattle.gj_proof.specs.ProofText.{group_line, pair_line, IsCoverLineBelow, IsRowNameBelow}
 use Rattle.gj_proof.specs.ProofGrammar.{IsCountIn, cover_words, BreaksCover, cover_rule, row_words, BreaksRowName, row_name_rule, column_rule, IsHeadInBounds, halves_words, halves_rule, pair_words, pair_rule}
 use Rattle.gj_proof.specs.declared.halves.HalvesHead.{HalvesHead}
 use Rattle.gj_proof.proofs.WholeNumbers.{same_from_whole, whole_is_plain}
@@ -237,7 +238,7 @@ column_is_plain word c h below = two_plain word (decimal c) h (count_is_plain c 
 
 -- ---- the first line of halves
 
-pub scale_fits : (h : HalvesHead) → IsHeadInBounds h → FitsPair h.scale
+pub scale_fits : (h : HalvesHead) → IsHeadInBounds h → Fits h.scale
 scale_fits h b = let low = b.scale_low in let high = b.scale_high in omega (arith, ints)
 
 pub halves_rule_is_exact : IsExactRule halves_rule.Spells halves_rule.Breaks
@@ -298,7 +299,7 @@ pair_rule_is_exact = record { one_thing = one; one_reason = reason_of; not_both 
     unbroken words p e (is, x, y) (inl (form, none)) = none (signed_decimal p.0) (signed_decimal p.1) is
     unbroken words p e (is, x, y) (inr (number, (a, b, is', none))) = none p is x y
 
-pub pair_is_plain : (p : ℤ × ℤ) → FitsPair p.0 → FitsPair p.1 → All IsPlain (pair_words (signed_decimal p.0) (signed_decimal p.1))
+pub pair_is_plain : (p : ℤ × ℤ) → Fits p.0 → Fits p.1 → All IsPlain (pair_words (signed_decimal p.0) (signed_decimal p.1))
 pair_is_plain p x y =
     three_plain (codes "pair") (signed_decimal p.0) (signed_decimal p.1) (plain_by_test (codes "pair" ∷ []) refl) (whole_is_plain p.0 x)
     (whole_is_plain p.1 y)

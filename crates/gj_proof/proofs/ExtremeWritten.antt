@@ -6,7 +6,7 @@ use Rattle.std.proofs.lemmas.Grind.{flat_map-append}
 use Rattle.std.proofs.lemmas.List.{append_assoc, append-nil, take_more}
 use Rattle.std.proofs.lemmas.Result.{on_ok_weaker}
 use Rattle.std.proofs.lemmas.Slice.Zip.{length-zip, get_or-zip}
-use Rattle.gj_frac.specs.Fraction.{IsRatio}
+use Rattle.gj_frac.specs.Fraction.{IsRatio, Fits}
 use Rattle.gj_frac.specs.declared.Frac.{Frac}
 use Rattle.gj_lex.specs.NumberText.{fraction_text}
 use Rattle.gj_shape.specs.FunctionData.{FunctionData}
@@ -14,7 +14,7 @@ use Rattle.gj_shape.specs.declared.extremality.CoverLine.{CoverLine}
 use Rattle.gj_shape.specs.declared.extremality.Halves.{Halves}
 use Rattle.gj_lines.specs.FaceLines.{cover_line}
 use Rattle.gj_lines.specs.FunctionLines.{line, AreFunctionLines}
-use Rattle.gj_proof.specs.ProofText.{pair_line, FitsPair, HasText, IsProofText}
+use Rattle.gj_proof.specs.ProofText.{pair_line, HasText, IsProofText}
 use Rattle.gj_proof.specs.ExtremeTexts.{group_text, halves_text}
 use Rattle.gj_proof.specs.declared.claim.Claim.TheVariants.{Extreme, NotExtreme}
 use Rattle.gj_proof.specs.declared.pivot.PivotRow.{PivotRow}
@@ -22,7 +22,7 @@ use Rattle.gj_proof.proofs.ExtremeLines.{extreme_bytes, halves_bytes}
 use Rattle.gj_proof.proofs.WholeNumbers.{text_of_ratio}
 
 -- a whole number, printed as the fraction over 1
-pub whole_pushed : {E : Type 0} (r : Result (Unit {0}) E) (o : Option Frac) (x : Frac) (m n : ℤ) (old new : List ℕ) → FitsPair n → m ≡ n →
+pub whole_pushed : {E : Type 0} (r : Result (Unit {0}) E) (o : Option Frac) (x : Frac) (m n : ℤ) (old new : List ℕ) → Fits n → m ≡ n →
     o ≡ Some x → IfSome o (λ y. IsRatio y m (pos 1)) → OnOk r (new ≡ old ++ fraction_text x) → OnOk r (new ≡ old ++ signed_decimal n)
 whole_pushed r o x m n old new fits same o_is is =
     let value : IsRatio x n (pos 1) =

@@ -1,11 +1,11 @@
 -- Words of the lines of halves that break their rules.
 use Rattle.std.proofs.Common.{◌≡◌, inr, ℕ, ◌<◌, ◌^◌, ℤ, List, [], ◌∷◌, codes, decimal, refl, sym, subst, ◌∙◌, arith}
 use Rattle.std.specs.Fmt.{signed_decimal}
+use Rattle.gj_frac.specs.Fraction.{Fits}
 use Rattle.gj_lex.specs.declared.spelling.Spelling.TheVariants.{Strict}
 use Rattle.gj_lex.specs.declared.reason.Reason.TheVariants as reason
 use Rattle.gj_lex.specs.SpelledNumbers.{IsCountWord}
 use Rattle.gj_lex.proofs.SpelledWords.{canonical_count}
-use Rattle.gj_proof.specs.ProofText.{FitsPair}
 use Rattle.gj_proof.specs.ProofGrammar.{IsHeadInBounds, pair_words, pair_rule}
 use Rattle.gj_proof.specs.declared.halves.HalvesHead.{HalvesHead}
 use Rattle.gj_proof.proofs.CountWords.{count_is}
@@ -21,7 +21,7 @@ no_order first second none h order scale b =
 
 -- the numbers are outside the limits
 pub not_in_bounds : (first second : List ℕ) (order : ℕ) (scale : ℤ) → order < 2 ^ 32 → IsCountWord Strict first order →
-    second ≡ signed_decimal scale → FitsPair scale → (IsHeadInBounds (record { order = order; scale = scale }) → ⊥) →
+    second ≡ signed_decimal scale → Fits scale → (IsHeadInBounds (record { order = order; scale = scale }) → ⊥) →
     (h : HalvesHead) → first ≡ decimal h.order → second ≡ signed_decimal h.scale → IsHeadInBounds h → ⊥
 not_in_bounds first second order scale small count is fits not h order_is scale_is b =
     let high = b.order_high in
@@ -31,7 +31,7 @@ not_in_bounds first second order scale small count is fits not h order_is scale_
 
 -- the words are not those of two numbers
 pub no_pair : (words : List (List ℕ)) (first second : List ℕ) → words ≡ codes "pair" ∷ first ∷ second ∷ [] →
-    ((x y : ℤ) → first ≡ signed_decimal x → second ≡ signed_decimal y → FitsPair x → FitsPair y → ⊥) →
+    ((x y : ℤ) → first ≡ signed_decimal x → second ≡ signed_decimal y → Fits x → Fits y → ⊥) →
     pair_rule.Breaks words reason.Number
 no_pair words first second is none =
     inr (

@@ -4,6 +4,8 @@ use Rattle.std.specs.Fmt.{signed_decimal}
 use Rattle.std.proofs.lemmas.Int.{ints}
 use Rattle.std.proofs.lemmas.List.{length-append}
 use Rattle.std.proofs.lemmas.List.Elements.{All-head, All-tail}
+use Rattle.gj_frac.specs.Fraction.{Fits}
+use Rattle.gj_shape.specs.Perturbation.{AreHalvesInBounds}
 use Rattle.gj_lex.specs.NumberText.{fraction_text}
 use Rattle.gj_lex.proofs.SpelledWords.{fraction_is_short, count_is_short}
 use Rattle.gj_shape.specs.declared.extremality.Halves.{Halves}
@@ -11,7 +13,7 @@ use Rattle.gj_shape.specs.declared.violations.Violation.{Violation}
 use Rattle.gj_shape.specs.declared.violations.Violation.TheVariants as violation
 use Rattle.gj_lines.specs.FunctionLines.{line}
 use Rattle.gj_lines.proofs.StrictFunctions.{function_lines_are_short}
-use Rattle.gj_proof.specs.ProofText.{IsBounded, IsShort, own_lines, violation_line, halves_line, pair_line, FitsPair, AreHalvesInBounds, IsProofText}
+use Rattle.gj_proof.specs.ProofText.{IsBounded, IsShort, own_lines, violation_line, halves_line, pair_line, IsProofText}
 use Rattle.gj_proof.specs.ExtremeTexts.{halves_text}
 use Rattle.gj_proof.specs.declared.claim.Claim.{Claim}
 use Rattle.gj_proof.specs.declared.claim.Claim.TheVariants.{Minimal, NotMinimal, Cut, Extreme, NotExtreme}
@@ -38,7 +40,7 @@ violation_is_short (violation.Superadditive x y) =
 
 -- ---- halves
 
-pair_is_short : (p : ℤ × ℤ) → FitsPair p.0 → FitsPair p.1 → length (pair_line p) ≤ 167
+pair_is_short : (p : ℤ × ℤ) → Fits p.0 → Fits p.1 → length (pair_line p) ≤ 167
 pair_is_short p x y =
     omega (
       arith,
@@ -49,15 +51,15 @@ pair_is_short p x y =
       length-append (codes "pair ") (signed_decimal p.0),
     )
 
-pairs_are_short : (first second : List ℤ) → All FitsPair first → All FitsPair second →
+pairs_are_short : (first second : List ℤ) → All Fits first → All Fits second →
     length (flat_map pair_line (zip first second)) ≤ 167 * length first
 pairs_are_short [] second h k = omega arith
 pairs_are_short (x ∷ first) [] h k = omega arith
 pairs_are_short (x ∷ first) (y ∷ second) h k =
     omega (
       arith,
-      pair_is_short (x, y) (All-head FitsPair x first h) (All-head FitsPair y second k),
-      pairs_are_short first second (All-tail FitsPair x first h) (All-tail FitsPair y second k),
+      pair_is_short (x, y) (All-head Fits x first h) (All-head Fits y second k),
+      pairs_are_short first second (All-tail Fits x first h) (All-tail Fits y second k),
       length-append (pair_line (x, y)) (flat_map pair_line (zip first second)),
     )
 

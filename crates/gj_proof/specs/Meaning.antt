@@ -1,5 +1,5 @@
 -- What a claim says of its function, or of its cuts (Gomory and Johnson 1972).
-use Rattle.std.specs.Prelude.{ℕ, pos, ◌≡◌, ◌*◌, All, map}
+use Rattle.std.specs.Prelude.{ℕ, pos, ◌≡◌, ◌*◌, ◌<◌, All, map}
 use Rattle.gj_shape.specs.Extreme.{IsExtreme}
 use Rattle.gj_shape.specs.FunctionData.{FunctionData, at, IsContinuous}
 use Rattle.gj_shape.specs.RowCut.{CutHolds}
@@ -20,7 +20,8 @@ CutLineHolds (cuts.Skip name right reason) = Unit {0}
 -- the halves are two different minimal tables, on a grid of order a multiple of the function's and over their scale, that average
 -- to the function's table
 abbrev pub ShowHalves : FunctionData → Halves → Type 0
-ShowHalves f h = (m : ℕ) × (c : ℕ) × (h.order ≡ f.order * m) × (h.scale ≡ pos (c * (f.scale * m)))
+ShowHalves f h =
+    (m : ℕ) × (c : ℕ) × (0 < m) × (h.order ≡ f.order * m) × (h.scale ≡ pos (c * (f.scale * m)))
     × AreDifferentHalves (table f m) (f.order * m) (f.place * m) (f.scale * m) c (at h.first) (at h.second)
 
 -- a minimal function, its table on every grid; the violation shows that the function is not minimal; each cut holds; a continuous

@@ -1,5 +1,5 @@
 -- The rows of a proof that a function is extreme: how they begin, and what each group keeps (own).
-use Rattle.std.specs.Prelude.{ℕ, ℤ, ◌<◌, ◌==◌, List, [], ◌∷◌, ◌++◌, count_by, length}
+use Rattle.std.specs.Prelude.{ℕ, ℤ, ◌<◌, List, [], ◌∷◌, ◌++◌, length}
 use Rattle.gj_shape.specs.Cover.{HasComponent}
 use Rattle.gj_shape.specs.Elimination.{KeptRow, kept_entries}
 use Rattle.gj_shape.specs.FunctionData.{FunctionData}
@@ -8,10 +8,6 @@ use Rattle.gj_shape.specs.declared.extremality.CoverLine.{CoverLine}
 use Rattle.gj_shape.specs.declared.extremality.RowName.{RowName}
 use Rattle.gj_theory.specs.TriangularRows.{present_row}
 use Rattle.gj_proof.specs.declared.pivot.PivotRow.{PivotRow}
-
--- how many of the lines open a component
-abbrev pub components_in : List CoverLine → ℕ
-components_in lines = count_by (λ l. l.from == l.interval) lines
 
 -- the numbers are those of the components of all intervals, by the lines
 abbrev pub AreNumbersOf : FunctionData → List CoverLine → (ℕ → ℕ) → Type 0

@@ -2,6 +2,7 @@
 use Rattle.std.specs.Prelude.{ℕ, zero, suc, ℤ, pos, ◌≡◌, ◌≢◌, ◌⊎◌, ◌<◌, ◌≤◌, ◌^◌, ◌≤ℤ◌, List, [], ◌∷◌, ◌++◌, All, codes, decimal}
 use Rattle.std.specs.Fmt.{signed_decimal}
 use Rattle.std.proofs.Common.{inl, inr}
+use Rattle.gj_frac.specs.Fraction.{Fits}
 use Rattle.gj_frac.specs.declared.Frac.{Frac}
 use Rattle.gj_lex.specs.declared.spelling.Spelling.TheVariants.{Strict}
 use Rattle.gj_lex.specs.declared.reason.Reason.{Reason}
@@ -20,7 +21,7 @@ use Rattle.gj_shape.specs.declared.violations.Violation.{Violation}
 use Rattle.gj_shape.specs.declared.violations.Violation.TheVariants as violation
 use Rattle.gj_lines.specs.FaceLines.{face_word}
 use Rattle.gj_lines.specs.FunctionGrammar.{function_part}
-use Rattle.gj_proof.specs.ProofText.{reason_word, IsCoverLineBelow, IsRowNameBelow, FitsPair}
+use Rattle.gj_proof.specs.ProofText.{reason_word, IsCoverLineBelow, IsRowNameBelow}
 use Rattle.gj_proof.specs.WhereParts.{BeginsWithLine, BeginsWithWord, where_part}
 use Rattle.gj_proof.specs.declared.claim.Claim.{Claim}
 use Rattle.gj_proof.specs.declared.claim.Claim.TheVariants as claim
@@ -275,10 +276,10 @@ pair_words first second = codes "pair" ∷ first ∷ second ∷ []
 
 abbrev pub pair_rule : LineRule (ℤ × ℤ)
 pair_rule = record {
-  Spells = λ words p. (words ≡ pair_words (signed_decimal p.0) (signed_decimal p.1)) × FitsPair p.0 × FitsPair p.1;
+  Spells = λ words p. (words ≡ pair_words (signed_decimal p.0) (signed_decimal p.1)) × Fits p.0 × Fits p.1;
   Breaks = λ words e. ((e ≡ reason.Form) × ((first second : List ℕ) → words ≡ pair_words first second → ⊥))
       ⊎ ((e ≡ reason.Number) × ((first : List ℕ) × (second : List ℕ) × (words ≡ pair_words first second)
-      × ((p : ℤ × ℤ) → words ≡ pair_words (signed_decimal p.0) (signed_decimal p.1) → FitsPair p.0 → FitsPair p.1 → ⊥)));
+      × ((p : ℤ × ℤ) → words ≡ pair_words (signed_decimal p.0) (signed_decimal p.1) → Fits p.0 → Fits p.1 → ⊥)));
 }
 
 -- so many lines behind these values; with them they are all

@@ -1,7 +1,8 @@
 -- The one spelling of a proof (own).
-use Rattle.std.specs.Prelude.{ℕ, ℤ, pos, ◌≡◌, ◌≢◌, ◌⊎◌, ◌+◌, ◌<◌, ◌≤◌, ◌^◌, ◌≤ℤ◌, List, [], ◌∷◌, ◌++◌, All, Contains, length, map, flat_map, zip, codes, decimal, unsigned_abs}
+use Rattle.std.specs.Prelude.{ℕ, ℤ, ◌≡◌, ◌≢◌, ◌⊎◌, ◌+◌, ◌<◌, ◌≤◌, List, [], ◌∷◌, ◌++◌, All, Contains, length, map, flat_map, zip, codes, decimal}
 use Rattle.std.specs.Fmt.{signed_decimal}
 use Rattle.std.specs.List.{range_with_len}
+use Rattle.gj_shape.specs.Perturbation.{AreHalvesInBounds}
 use Rattle.gj_lex.specs.Name.{IsName}
 use Rattle.gj_lex.specs.NumberText.{fraction_text}
 use Rattle.gj_shape.specs.FunctionData.{FunctionData, IsWithinBounds}
@@ -53,11 +54,15 @@ abbrev pub HasNames : CutLine → Type 0
 HasNames (cuts.Cut name right terms) = IsName name × All (λ t. IsName t.name) terms
 HasNames (cuts.Skip name right reason) = IsName name
 
+-- the function of the rule, where it has one, is within the limits
+abbrev pub IsBoundedRule : CutRule → Type 0
+IsBoundedRule rule = IfFunction (subject_of_rule rule) IsWithinBounds
+
 -- what the types of a claim promise: a function that it is about is within the limits, and names are names
 abbrev pub IsBounded : Claim → Type 0
 IsBounded (Minimal f) = IsWithinBounds f
 IsBounded (NotMinimal f v) = IsWithinBounds f
-IsBounded (Cut rule rows) = IfFunction (subject_of_rule rule) IsWithinBounds × All HasNames rows
+IsBounded (Cut rule rows) = IsBoundedRule rule × All HasNames rows
 IsBounded (Extreme f lines rows) = IsWithinBounds f
 IsBounded (NotExtreme f halves) = IsWithinBounds f
 
@@ -253,21 +258,6 @@ pub record IsPivotRowBelow (q : ℕ) (row : PivotRow) : Type 0 where
   pub name : IsRowNameBelow q row.name
   pub reduce : All (λ c. c < 1000) row.reduce
   pub pivot : row.pivot < 1000
-
--- the number is at most 2^127 - 1 in absolute value
-abbrev pub FitsPair : ℤ → Type 0
-FitsPair n = unsigned_abs n < 2 ^ 127
-
--- the order, the scale and the values of halves are within the limits, and there are as many values as the order says
-pub record AreHalvesInBounds (h : Halves) : Type 0 where
-  pub order_low : 2 ≤ h.order
-  pub order_high : h.order ≤ 4000
-  pub scale_low : pos 1 ≤ℤ h.scale
-  pub scale_high : h.scale ≤ℤ pos (2 ^ 124)
-  pub first_length : length h.first ≡ h.order
-  pub second_length : length h.second ≡ h.order
-  pub first_fit : All FitsPair h.first
-  pub second_fit : All FitsPair h.second
 
 -- the ranges and counts of the claim are those of the form; names are names by their type
 abbrev pub HasText : Claim → Type 0

@@ -2,7 +2,8 @@
 use Rattle.std.specs.Prelude.{ℕ, ℤ, pos, ◌≡◌, ◌≢◌, ◌+◌, ◌-◌, ◌*◌, ◌<◌, ◌≤◌, ◌^◌, ◌+ℤ◌, ◌*ℤ◌, ◌≤ℤ◌, ◌<ℤ◌, List, [], ◌∷◌, ◌++◌, All, Any, length, map, unsigned_abs}
 use Rattle.std.specs.List.{range_with_len}
 use Rattle.gj_frac.specs.declared.Frac.{Frac}
-use Rattle.gj_frac.specs.Fraction.{numerator, denominator, IsRatio}
+use Rattle.gj_frac.specs.Fraction.{numerator, denominator, IsRatio, IsWhole}
+use Rattle.gj_shape.specs.Cover.{components_in}
 use Rattle.gj_shape.specs.Additive.{IsTight}
 use Rattle.gj_shape.specs.Elimination.{KeptRow, at_column, entries_of, row_with_pivot, marked_in_step, Passes}
 use Rattle.gj_shape.specs.FunctionData.{FunctionData, at, IsContinuous}
@@ -19,7 +20,7 @@ use Rattle.gj_shape.specs.declared.violations.Violation.{Violation}
 use Rattle.gj_shape.specs.declared.violations.Violation.TheVariants as violation
 use Rattle.gj_theory.specs.CoverRules.{MeetsCoverRule}
 use Rattle.gj_theory.specs.TriangularRows.{present_row}
-use Rattle.gj_proof.specs.PresentRows.{components_in, AreNumbersOf, named_row, rows_before}
+use Rattle.gj_proof.specs.PresentRows.{AreNumbersOf, named_row, rows_before}
 use Rattle.gj_proof.specs.ProofText.{ProofLine, subject_of, IfFunction}
 use Rattle.gj_proof.specs.ProofText.ProofLine.{claim, violation_shown, cut, term, covered, group, reduction, group_pivot, halves, pair, last}
 use Rattle.gj_proof.specs.declared.claim.Claim.{Claim}
@@ -55,10 +56,6 @@ pub record MeetsPoint (f : FunctionData) (v : Violation) : Type 0 where
   pub shown : ShowsViolation f v
 
 -- ---- the rules of cuts
-
--- x is a whole number: in lowest terms its denominator is 1
-abbrev pub IsWhole : Frac → Type 0
-IsWhole x = denominator x ≡ pos 1
 
 -- the fractional part of x is i/n
 pub record HasPart (x : Frac) (i n : ℕ) : Type 0 where

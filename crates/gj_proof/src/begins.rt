@@ -1,9 +1,9 @@
 //! How a text begins.
-ghost use Rattle.std.specs.Prelude.{◌≡◌, ◌↔◌, ◌∷◌, ℕ, List, IsTrue};
+ghost use Rattle.std.specs.Prelude.{◌↔◌, IsTrue};
 ghost use Rattle.gj_lex.specs.Words.{word_texts};
 ghost use Rattle.gj_proof.specs.WhereParts.{BeginsWithLine, BeginsWithWord};
 
-use gj_lex::{Spelling, behind_name, line_at, words_at};
+use gj_lex::{Spelling, has_first_word, line_at, words_at};
 
 /// Whether the text begins with a line of these words. It takes no memory.
 pub(crate) fn begins_with_line(text: &[u8], words: &[u8]) -> bool
@@ -20,11 +20,4 @@ pub(crate) fn begins_with_word(text: &[u8], word: &[u8]) -> bool
         Ok(line) => has_first_word(line.bytes, word),
         Err(_) => false,
     }
-}
-
-/// Whether the first word of the line is this word.
-fn has_first_word(line: &[u8], word: &[u8]) -> bool
-    ensures { IsTrue result ↔ ((words : List (List ℕ)) × (word_texts line.now ≡ word.now ∷ words)) }
-{
-    behind_name(line, word).is_some()
 }

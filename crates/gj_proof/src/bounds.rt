@@ -1,6 +1,8 @@
 //! The ranges and counts of claims of extremality, tested.
 ghost use Rattle.std.specs.Prelude.{◌≡◌, ◌↔◌, All, IsTrue};
-ghost use Rattle.gj_proof.specs.ProofText.{IsCoverLineBelow, IsRowNameBelow, IsPivotRowBelow, FitsPair, AreHalvesInBounds};
+ghost use Rattle.gj_frac.specs.Fraction.{Fits};
+ghost use Rattle.gj_shape.specs.Perturbation.{AreHalvesInBounds};
+ghost use Rattle.gj_proof.specs.ProofText.{IsCoverLineBelow, IsRowNameBelow, IsPivotRowBelow};
 ghost use Rattle.gj_proof.specs.ProofGrammar.{IsHeadInBounds};
 
 use crate::pivot::PivotRow;
@@ -71,7 +73,7 @@ pub(crate) fn is_head_in_bounds(order: u32, scale: i128) -> bool
 
 /// Whether all numbers are at most 2^127 - 1 in absolute value.
 fn fit_pairs(numbers: &[i128]) -> bool
-    ensures { IsTrue result ↔ All FitsPair numbers.now }
+    ensures { IsTrue result ↔ All Fits numbers.now }
 {
     numbers.iter().all(|n| *n != i128::MIN)
 }

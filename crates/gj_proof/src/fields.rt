@@ -1,10 +1,10 @@
 //! The words of a line of known length, and the numbers that they spell.
 ghost use Rattle.std.specs.Prelude.{◌≡◌, ◌<◌, [], ◌∷◌, ℕ, ℤ, List, decimal, IfOk, IfErr, IfSome, IfNone};
 ghost use Rattle.std.specs.Fmt.{signed_decimal};
+ghost use Rattle.gj_frac.specs.Fraction.{Fits};
 ghost use Rattle.gj_lex.specs.NumberText.{fraction_text};
 ghost use Rattle.gj_lex.specs.Words.{word_texts};
 ghost use Rattle.gj_lex.specs.declared.reason.Reason.TheVariants.{Number};
-ghost use Rattle.gj_proof.specs.ProofText.{FitsPair};
 ghost use Rattle.gj_proof.specs.ProofGrammar.{IsFraction, IsCountIn};
 
 use gj_frac::Frac;
@@ -78,8 +78,8 @@ pub(crate) fn count_below(word: &[u8], limit: u32) -> Result<u32, Reason>
 
 /// The whole number, at most 2^127 - 1 in absolute value, that the word spells.
 pub(crate) fn whole_of(word: &[u8]) -> Option<i128>
-    ensures found { IfSome result (λ n. (word.now ≡ signed_decimal n) × FitsPair n) }
-    ensures none { IfNone result ((n : ℤ) → word.now ≡ signed_decimal n → FitsPair n → ⊥) }
+    ensures found { IfSome result (λ n. (word.now ≡ signed_decimal n) × Fits n) }
+    ensures none { IfNone result ((n : ℤ) → word.now ≡ signed_decimal n → Fits n → ⊥) }
 {
     let x = fraction_of(Spelling::Strict, word)?;
     if x.den() != 1 {

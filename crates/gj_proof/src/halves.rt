@@ -1,10 +1,10 @@
 //! The lines of halves, read.
 ghost use Rattle.std.specs.Prelude.{◌≡◌, [], ℤ, decimal, IfOk, IfErr, IfSome, IfNone};
 ghost use Rattle.std.specs.Fmt.{signed_decimal};
+ghost use Rattle.gj_frac.specs.Fraction.{Fits};
 ghost use Rattle.gj_lex.specs.Words.{word_texts};
 ghost use Rattle.gj_lex.specs.Parts.{line_part, IsFaultOf};
 ghost use Rattle.gj_lex.specs.declared.spelling.Spelling.TheVariants.{Strict};
-ghost use Rattle.gj_proof.specs.ProofText.{FitsPair};
 ghost use Rattle.gj_proof.specs.ProofGrammar.{IsHeadInBounds, halves_rule, pair_rule, pairs_part, halves_part};
 ghost use Rattle.gj_proof.specs.declared.halves.HalvesHead.{HalvesHead};
 
@@ -127,9 +127,9 @@ fn pair_in(line: &[u8]) -> Result<(i128, i128), Reason>
 /// The two whole numbers that the words spell.
 fn wholes_of(first: &[u8], second: &[u8]) -> Option<(i128, i128)>
     ensures found { IfSome result (λ p. (first.now ≡ signed_decimal p.0) × (second.now ≡ signed_decimal p.1)
-        × FitsPair p.0 × FitsPair p.1) }
+        × Fits p.0 × Fits p.1) }
     ensures none { IfNone result ((x y : ℤ) → first.now ≡ signed_decimal x → second.now ≡ signed_decimal y →
-        FitsPair x → FitsPair y → ⊥) }
+        Fits x → Fits y → ⊥) }
 {
     let x = whole_of(first)?;
     let y = whole_of(second)?;

@@ -9,9 +9,9 @@ use crate::claim::{Claim, Proof};
 use crate::cut::{CutLine, CutRule};
 use crate::pivot::PivotRow;
 use crate::write_cuts::{push_rows, push_rule_lines};
-use crate::write_extreme::{push_cover_lines, push_groups, push_halves};
+use crate::write_extreme::{push_groups, push_halves};
 use gj_lex::print_frac;
-use gj_lines::{push_fraction_line, push_function_lines};
+use gj_lines::{push_cover_lines, push_fraction_line, push_function_lines};
 use gj_shape::{CoverLine, Halves, Shape, Violation};
 use std::alloc::{AllocError, Global};
 
@@ -106,8 +106,8 @@ fn start_text(alloc: Global, claim: &[u8], shape: &Shape) -> Result<Vec<u8>, All
     Ok(text)
 }
 
-/// Appends the line of a violation.
-fn push_violation_line(
+/// Appends the line of a violation. An error says that memory ran out; `out` may then have a part of it.
+pub fn push_violation_line(
     alloc: Global,
     out: &mut Vec<u8>,
     violation: Violation,

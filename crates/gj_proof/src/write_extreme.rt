@@ -1,27 +1,17 @@
 //! The lines of an extreme function and those of halves, printed.
 ghost use Rattle.std.specs.Prelude.{◌≡◌, ◌++◌, All, codes, decimal, flat_map, zip, OnOk};
 ghost use Rattle.std.specs.Fmt.{signed_decimal};
-ghost use Rattle.gj_lines.specs.FaceLines.{cover_line};
+ghost use Rattle.gj_frac.specs.Fraction.{Fits};
+ghost use Rattle.gj_shape.specs.Perturbation.{AreHalvesInBounds};
 ghost use Rattle.gj_lines.specs.FunctionLines.{line};
-ghost use Rattle.gj_proof.specs.ProofText.{AreHalvesInBounds, FitsPair, group_line, reduction_line, halves_line, pair_line};
+ghost use Rattle.gj_proof.specs.ProofText.{group_line, reduction_line, halves_line, pair_line};
 ghost use Rattle.gj_proof.specs.ExtremeTexts.{group_text, halves_text};
 
 use crate::pivot::PivotRow;
 use gj_frac::Frac;
 use gj_lex::{print_count, print_frac};
-use gj_lines::push_cover_line;
-use gj_shape::{CoverLine, Halves, RowName};
+use gj_shape::{Halves, RowName};
 use std::alloc::{AllocError, Global};
-
-/// Appends the lines of covered intervals.
-pub(crate) fn push_cover_lines(out: &mut Vec<u8>, lines: &[CoverLine]) -> Result<(), AllocError>
-    ensures { OnOk result (out.new.items ≡ out.old.items ++ flat_map cover_line lines.now) }
-{
-    for line in lines {
-        push_cover_line(out, *line)?;
-    }
-    Ok(())
-}
 
 /// Appends the lines of groups.
 pub(crate) fn push_groups(out: &mut Vec<u8>, rows: &[PivotRow]) -> Result<(), AllocError>
@@ -113,8 +103,8 @@ fn push_pairs(
     first: &[i128],
     second: &[i128],
 ) -> Result<(), AllocError>
-    requires first { All FitsPair first.now }
-    requires second { All FitsPair second.now }
+    requires first { All Fits first.now }
+    requires second { All Fits second.now }
     ensures { OnOk result (out.new.items ≡ out.old.items ++ flat_map pair_line (zip first.now second.now)) }
 {
     for (x, y) in first.iter().zip(second) {
@@ -125,8 +115,8 @@ fn push_pairs(
 
 /// Appends the line of a pair of values.
 fn push_pair(alloc: Global, out: &mut Vec<u8>, x: i128, y: i128) -> Result<(), AllocError>
-    requires first { FitsPair x }
-    requires second { FitsPair y }
+    requires first { Fits x }
+    requires second { Fits y }
     ensures { OnOk result (out.new.items ≡ out.old.items ++ pair_line (x, y)) }
 {
     out.extend_from_slice(b"pair ")?;
@@ -136,7 +126,7 @@ fn push_pair(alloc: Global, out: &mut Vec<u8>, x: i128, y: i128) -> Result<(), A
 
 /// Appends a space, a whole number and the end of the line.
 fn push_whole_line(alloc: Global, out: &mut Vec<u8>, n: i128) -> Result<(), AllocError>
-    requires { FitsPair n }
+    requires { Fits n }
     ensures { OnOk result (out.new.items ≡ out.old.items ++ line (codes " " ++ signed_decimal n)) }
 {
     out.push(b' ')?;
@@ -147,7 +137,7 @@ fn push_whole_line(alloc: Global, out: &mut Vec<u8>, n: i128) -> Result<(), Allo
 
 /// Appends a whole number.
 fn push_whole(alloc: Global, out: &mut Vec<u8>, n: i128) -> Result<(), AllocError>
-    requires { FitsPair n }
+    requires { Fits n }
     ensures { OnOk result (out.new.items ≡ out.old.items ++ signed_decimal n) }
 {
     print_frac(alloc, out, Frac::new(n, 1).unwrap())

@@ -5,6 +5,7 @@ use Rattle.std.proofs.lemmas.Nat.{mod_below}
 use Rattle.std.proofs.lemmas.List.{length-append}
 use Rattle.std.proofs.lemmas.List.Elements.{All-nil, All-cons, All-append, All-head, All-tail}
 use Rattle.std.proofs.lemmas.List.FromFn.{length-map-range_with_len}
+use Rattle.gj_shape.specs.Cover.{components_in}
 use Rattle.gj_tools.specs.FirstThatFails.{IsFirstFailing}
 use Rattle.gj_tools.proofs.Lists.{All-front, All-back}
 use Rattle.gj_shape.specs.Elimination.{KeptRow, kept_entries}
@@ -16,7 +17,7 @@ use Rattle.gj_shape.specs.declared.extremality.RowName.TheVariants.{Period, F, P
 use Rattle.gj_theory.specs.TriangularRows.{present_row}
 use Rattle.gj_proof.specs.declared.claim.Claim.TheVariants.{Extreme}
 use Rattle.gj_proof.specs.declared.pivot.PivotRow.{PivotRow}
-use Rattle.gj_proof.specs.PresentRows.{components_in, AreNumbersOf, named_row, row_kept, rows_behind, rows_before}
+use Rattle.gj_proof.specs.PresentRows.{AreNumbersOf, named_row, row_kept, rows_behind, rows_before}
 use Rattle.gj_proof.specs.ProofText.{IsRowNameBelow, IsPivotRowBelow, covered_lines, subject_lines, HasNumber}
 use Rattle.gj_proof.specs.ProofText.Subject.{function}
 use Rattle.gj_proof.specs.ProofText.ProofLine.{point}

@@ -13,7 +13,7 @@ use Rattle.gj_theory.proofs.Steps.{length-kept_entries}
 use Rattle.gj_proof.specs.declared.pivot.PivotRow.{PivotRow}
 use Rattle.gj_proof.specs.PresentRows.{named_row, row_kept, rows_behind, rows_before}
 use Rattle.gj_proof.specs.Rules.{AtIndex}
-use Rattle.gj_theory.specs.Fitting.{Fits}
+use Rattle.gj_frac.specs.Fraction.{Fits}
 use Rattle.gj_rank.specs.KeptTable.{entries_kept, AreRowsAt, IsKeptAt, IsTable}
 use Rattle.gj_rank.specs.GroupOutcomes.{MeetsGroup, IsGroupOutcome}
 use Rattle.gj_proof.proofs.AtPlaces.{at_place, with_place, each_item}

@@ -9,7 +9,7 @@ use Rattle.gj_tools.proofs.Lists.{All-range}
 use Rattle.gj_shape.specs.SlopeRows.{row_entry, row_of}
 use Rattle.gj_shape.specs.declared.extremality.RowName.{RowName}
 use Rattle.gj_shape.specs.declared.extremality.RowName.TheVariants.{Period, F, Pair}
-use Rattle.gj_theory.specs.Fitting.{Fits}
+use Rattle.gj_frac.specs.Fraction.{Fits}
 use Rattle.gj_theory.proofs.RiseCounts.{rises_at_most}
 use Rattle.gj_proof.specs.ProofText.{IsRowNameBelow}
 

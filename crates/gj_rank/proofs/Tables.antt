@@ -1,10 +1,10 @@
 -- The kept rows, as a table over the columns.
 use Rattle.std.proofs.Common.{◌≡◌, ◌≢◌, ◌↔◌, ℕ, suc, ◌<◌, Bool, true, false, IsTrue, cond, ℤ, pos, List, [], ◌∷◌, ◌++◌, length, take, get_or, eqb, refl, sym, ap, subst, ◌∙◌, arith}
 use Rattle.std.specs.Prelude.{Option, None, Some, All, Any, is_some}
-use Rattle.std.proofs.lemmas.Bool.{eqb-true, eq-eqb, ne_eqb}
+use Rattle.std.proofs.lemmas.Bool.{eq-eqb, ne_eqb}
 use Rattle.std.proofs.lemmas.List.{get_or-take, length-take-le}
 use Rattle.std.proofs.lemmas.List.Elements.{All-get_or, All-from_get_or}
-use Rattle.gj_theory.proofs.Kernels.{no_pivot_at}
+use Rattle.gj_theory.proofs.Kernels.{any_with_pivot, no_pivot_at}
 use Rattle.gj_shape.specs.Elimination.{KeptRow, at_column, entries_of, row_with_pivot, reduced, marked_in_step, Passes}
 use Rattle.gj_proof.specs.Rules.{MeetsReduce, MeetsSize, MeetsPivot}
 use Rattle.gj_rank.specs.GroupOutcomes.{MeetsStep}
@@ -12,19 +12,7 @@ use Rattle.gj_rank.specs.KeptTable.{entries_kept, AreRowsAt}
 
 -- ---- the row with a pivot
 
--- where there is one, a kept row has its pivot there
-pub any_with_pivot : (kept : List KeptRow) (c : ℕ) (k : KeptRow) → row_with_pivot kept c ≡ Some k → Any (λ r. r.pivot ≡ c) kept
-any_with_pivot [] c k e = absurd cc
-any_with_pivot (r ∷ kept) c k e = by_test (eqb r.pivot c) refl e (any_with_pivot kept c k)
-  where
-    by_test : (b : Bool) → eqb r.pivot c ≡ b → cond b (Some r) (row_with_pivot kept c) ≡ Some k →
-        (row_with_pivot kept c ≡ Some k → Any (λ r. r.pivot ≡ c) kept) → Any (λ r. r.pivot ≡ c) (r ∷ kept)
-    by_test true t e later = (0, r, omega arith, refl, eqb-true r.pivot c t)
-    by_test false t e later =
-        let (i, x, below, is, at) = later e in
-        (suc i, x, omega arith, is, at)
-
--- and none has, said otherwise
+-- none has, said otherwise
 pub none_has_pivot : (kept : List KeptRow) (c : ℕ) → row_with_pivot kept c ≡ None → Any (λ r. r.pivot ≡ c) kept → ⊥
 none_has_pivot kept c e (i, x, below, is, at) = no_pivot_at kept c e i x below (ap (λ r. r.pivot) is ∙ at)
 

@@ -3,7 +3,7 @@ use Rattle.std.specs.Prelude.{ℕ, ℤ, pos, ◌≡◌, ◌<ℤ◌, List, All, I
 use Rattle.std.specs.declared.option.Option.{Option}
 use Rattle.std.specs.declared.option.Option.TheVariants.{Some, None}
 use Rattle.gj_shape.specs.Elimination.{KeptRow, at_column, row_with_pivot}
-use Rattle.gj_theory.specs.Fitting.{Fits}
+use Rattle.gj_frac.specs.Fraction.{Fits}
 
 -- the entries of a kept row, where there is one
 abbrev pub entries_kept : Option KeptRow → Option (List ℤ)

@@ -1,4 +1,3 @@
-pub mod Components
 pub mod Groups
 pub mod KeptTable
 pub mod GroupOutcomes

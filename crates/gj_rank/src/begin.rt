@@ -1,8 +1,7 @@
 //! The row with which a group begins.
 ghost use Rattle.std.specs.Prelude.{pos, ◌≡◌, ◌<◌, length, All};
-ghost use Rattle.gj_shape.specs.SlopeRows.{row_of};
+ghost use Rattle.gj_shape.specs.SlopeRows.{row_of, component_in};
 ghost use Rattle.gj_proof.specs.ProofText.{IsRowNameBelow};
-ghost use Rattle.gj_rank.specs.Components.{component_in};
 
 use crate::rises::{add_rises, subtract_rises};
 use gj_shape::RowName;

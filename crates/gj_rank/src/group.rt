@@ -3,7 +3,7 @@ ghost use Rattle.std.specs.Prelude.{ℤ, pos, ◌≡◌, ◌<◌, ◌^◌, ◌�
 ghost use Rattle.std.specs.declared.option.Option.TheVariants.{Some, None};
 ghost use Rattle.gj_shape.specs.Additive.{IsTight};
 ghost use Rattle.gj_shape.specs.Elimination.{KeptRow};
-ghost use Rattle.gj_theory.specs.Fitting.{Fits};
+ghost use Rattle.gj_frac.specs.Fraction.{Fits};
 ghost use Rattle.gj_rank.specs.KeptTable.{IsTable, AreRowsAt};
 ghost use Rattle.gj_proof.specs.ProofText.{IsRowNameBelow};
 ghost use Rattle.gj_proof.specs.Rules.{MeetsRow, MeetsPivot};

@@ -2,7 +2,7 @@
 ghost use Rattle.std.specs.Prelude.{◌≡◌, ◌+◌, ◌<◌, length, map, All, IfOk};
 ghost use Rattle.std.specs.List.{range_with_len};
 ghost use Rattle.std.specs.declared.option.Option.TheVariants.{None};
-ghost use Rattle.gj_rank.specs.Components.{component_in};
+ghost use Rattle.gj_shape.specs.SlopeRows.{component_in};
 ghost use Rattle.gj_proof.specs.ProofText.{IsPivotRowBelow};
 ghost use Rattle.gj_rank.specs.Groups.{IsGroupsOutcome};
 

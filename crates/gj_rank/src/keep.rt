@@ -2,7 +2,7 @@
 ghost use Rattle.std.specs.Prelude.{◌≡◌, ◌<◌, All, OnOk, length, set};
 ghost use Rattle.std.specs.declared.option.Option.TheVariants.{Some, None};
 ghost use Rattle.gj_shape.specs.Elimination.{kept_entries};
-ghost use Rattle.gj_theory.specs.Fitting.{Fits};
+ghost use Rattle.gj_frac.specs.Fraction.{Fits};
 
 use crate::step::make_kept;
 use gj_shape::List;

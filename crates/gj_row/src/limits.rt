@@ -1,12 +1,12 @@
 //! The limits of the numbers in a row.
-ghost use Rattle.std.specs.Prelude.{◌≡◌, ◌<◌, ◌↔◌, ◌^◌, Some, SomeIff, IfOk, IfErr, IsTrue, unsigned_abs};
+ghost use Rattle.std.specs.Prelude.{◌≡◌, ◌<◌, ◌↔◌, ◌^◌, Some, IfOk, IfErr, IsTrue, unsigned_abs};
 ghost use Rattle.gj_frac.specs.Fraction.{denominator};
-ghost use Rattle.gj_tools.specs.Divisors.{IsLcm};
 ghost use Rattle.gj_row.specs.TableauLimits.{IsSmall};
 ghost use Rattle.gj_row.specs.Reading.{Extends, StopsAt};
 
 use crate::faults::RowReason;
-use gj_frac::{Frac, gcd};
+use gj_frac::{Frac, lcm};
+use gj_shape::small_denominator;
 
 /// The number that was read, behind numbers with the least common denominator `scale`, and the least common denominator with it.
 ///
@@ -27,7 +27,7 @@ pub(crate) fn within(scale: u32, number: Option<Frac>) -> Result<(Frac, u32), Ro
     let Some(den) = small_denominator(x) else {
         return Err(RowReason::Fine);
     };
-    let multiple = least_common_multiple(scale, den);
+    let multiple = lcm(scale, den);
     if multiple >= 1 << 31 {
         return Err(RowReason::Fine);
     }
@@ -39,22 +39,4 @@ fn is_small(x: Frac) -> bool
     ensures { IsTrue result ↔ IsSmall x }
 {
     x.num().unsigned_abs() <= x.den().unsigned_abs().saturating_mul(1 << 31)
-}
-
-/// The denominator of the number, where it is at most 2^31 - 1.
-fn small_denominator(x: Frac) -> Option<u32>
-    ensures { SomeIff result (unsigned_abs (denominator x) < 2 ^ 31) (unsigned_abs (denominator x)) }
-{
-    u32::try_from(x.den())
-        .ok()
-        .filter(|d| *d <= i32::MAX as u32)
-}
-
-/// The least common multiple of two whole numbers, the first not 0.
-fn least_common_multiple(a: u32, b: u32) -> u64
-    requires { 0 < a }
-    ensures { IsLcm a b result }
-{
-    let divisor = gcd(u128::from(a), u128::from(b)) as u32;
-    u64::from(a / divisor) * u64::from(b)
 }

@@ -1,10 +1,10 @@
 -- The kinds of rules, their values and their places (Gomory and Johnson 1972; the range is own).
 use Rattle.std.specs.Prelude.{pos, ◌<◌, ◌≤◌, ◌*◌, ◌^◌, unsigned_abs}
 use Rattle.gj_frac.specs.declared.Frac.{Frac}
-use Rattle.gj_frac.specs.Fraction.{IsRatio, numerator, denominator}
+use Rattle.gj_frac.specs.Fraction.{IsRatio, numerator, denominator, IsInside}
 use Rattle.gj_shape.specs.FunctionData.{IsWithinBounds}
 use Rattle.gj_shape.specs.Table.{IsMinimal}
-use Rattle.gj_theory.specs.Cuts.{IsInside, IsGmicValue, IsValueOf}
+use Rattle.gj_theory.specs.Cuts.{IsGmicValue, IsValueOf}
 use Rattle.gj_rule.specs.declared.kind.RuleKind.{RuleKind}
 use Rattle.gj_rule.specs.declared.kind.RuleKind.TheVariants.{Gmic, Table}
 

@@ -1,8 +1,8 @@
 //! Evaluators.
 ghost use Rattle.std.specs.Prelude.{ℤ, ◌≡◌, ◌≢◌, ◌↔◌, IsTrue, ◌≤◌, ◌<◌, ◌^◌, ◌-ℤ◌, ◌*ℤ◌, ◌≤ℤ◌, ◌<ℤ◌, pos, unsigned_abs};
 ghost use Rattle.gj_frac.specs.Floor.{IsFloor};
-ghost use Rattle.gj_frac.specs.Fraction.{IsRatio, numerator, denominator};
-ghost use Rattle.gj_theory.specs.Cuts.{IsInside, IsGmicValue, IsValueOf};
+ghost use Rattle.gj_frac.specs.Fraction.{IsRatio, numerator, denominator, IsInside};
+ghost use Rattle.gj_theory.specs.Cuts.{IsGmicValue, IsValueOf};
 ghost use Rattle.gj_rule.specs.Kind.{IsInRange};
 
 use gj_frac::Frac;

@@ -86,5 +86,5 @@ fn place_of(shape: &Shape) -> Frac
     ensures value { IsRatio result (pos shape.now.place) (pos shape.now.order) }
     ensures limits { IsWithinBounds shape.now }
 {
-    Frac::new(i128::from(shape.place()), i128::from(shape.order())).unwrap()
+    Frac::ratio(i64::from(shape.place()), shape.order())
 }

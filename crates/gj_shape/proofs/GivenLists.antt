@@ -4,8 +4,6 @@ use Rattle.std.proofs.lemmas.List.{length-map}
 use Rattle.gj_frac.specs.declared.Frac.{Frac}
 use Rattle.gj_shape.specs.FunctionData.{FunctionData}
 use Rattle.gj_shape.specs.Given.{in_order, IsSmall, AreWithinBounds, HaveLength, numerator_over, IsGivenBy}
-use Rattle.gj_shape.specs.declared.faults.ShapeFault.{ShapeFault}
-use Rattle.gj_shape.specs.declared.faults.ShapeFault.TheVariants as fault
 use Rattle.gj_shape.proofs.InOrder.{all_in_order, all_from_in_order}
 use Rattle.gj_shape.proofs.LeastDenominator.{Divides}
 use Rattle.gj_shape.proofs.OverScale.{all_small}
@@ -35,12 +33,3 @@ within_given q k l v r f g = record {
   small = all_small_given q k l v r f g;
   common = (f.scale, g.within.scale_low, g.within.scale_high, g.common);
 }
-
--- the fault is want of memory
-abbrev pub IsMemory : ShapeFault → Type 0
-IsMemory (fault.Memory e) = Unit {0}
-IsMemory fault.Order = ⊥
-IsMemory fault.Place = ⊥
-IsMemory fault.Count = ⊥
-IsMemory (fault.TooLarge i) = ⊥
-IsMemory (fault.TooFine i) = ⊥

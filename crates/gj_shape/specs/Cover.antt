@@ -109,9 +109,13 @@ pub record AreCoverLines (q : ℕ) (Tight : ℕ → ℕ → Type 0) (lines : Lis
   pub in_turn : (before : List CoverLine) (l : CoverLine) (after : List CoverLine) → lines ≡ before ++ l ∷ after → IsNextLine q Tight before l
   pub complete : (l : CoverLine) → IsNextLine q Tight lines l → ⊥
 
+-- how many of the lines open a component
+abbrev pub components_in : List CoverLine → ℕ
+components_in lines = count_by (λ l. l.from == l.interval) lines
+
 -- the number of the interval's component: of the lines that open one, from 0, the one from which lines lead to it
 pub data HasComponent (lines : List CoverLine) (number : ℕ) : ℕ → Type 0 where
   opened : (before : List CoverLine) (l : CoverLine) (after : List CoverLine) → lines ≡ before ++ l ∷ after →
-      l.from ≡ l.interval → number ≡ count_by (λ m. m.from == m.interval) before → HasComponent lines number l.interval
+      l.from ≡ l.interval → number ≡ components_in before → HasComponent lines number l.interval
   joined : (before : List CoverLine) (l : CoverLine) (after : List CoverLine) → lines ≡ before ++ l ∷ after →
       l.from ≢ l.interval → HasComponent lines number l.from → HasComponent lines number l.interval

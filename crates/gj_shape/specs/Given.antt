@@ -92,3 +92,12 @@ IsTooFineOf P fault.Order = ⊥
 IsTooFineOf P fault.Place = ⊥
 IsTooFineOf P fault.Count = ⊥
 IsTooFineOf P (fault.TooLarge i) = ⊥
+
+-- the fault is want of memory
+abbrev pub IsMemory : ShapeFault → Type 0
+IsMemory fault.Order = ⊥
+IsMemory fault.Place = ⊥
+IsMemory fault.Count = ⊥
+IsMemory (fault.TooLarge i) = ⊥
+IsMemory (fault.TooFine i) = ⊥
+IsMemory (fault.Memory e) = Unit {0}

@@ -1,6 +1,7 @@
 -- Perturbations of a minimal function, and the two functions that they give (Equivariant Perturbation I; the halves' numbers are own).
-use Rattle.std.specs.Prelude.{ℕ, ℤ, pos, ◌≡◌, ◌+◌, ◌*◌, ◌/◌, ◌%◌, ◌==◌, ◌≤◌, ◌+ℤ◌, ◌-ℤ◌, ◌*ℤ◌, ◌<ℤ◌, ◌≤ℤ◌, if◌then◌else◌, List, map, unsigned_abs}
+use Rattle.std.specs.Prelude.{ℕ, ℤ, pos, ◌≡◌, ◌+◌, ◌*◌, ◌/◌, ◌%◌, ◌==◌, ◌≤◌, ◌^◌, ◌+ℤ◌, ◌-ℤ◌, ◌*ℤ◌, ◌<ℤ◌, ◌≤ℤ◌, if◌then◌else◌, List, length, map, All, unsigned_abs}
 use Rattle.std.specs.List.{range_with_len, list_any}
+use Rattle.gj_frac.specs.Fraction.{Fits}
 use Rattle.gj_shape.specs.FunctionData.{FunctionData}
 use Rattle.gj_shape.specs.Table.{table}
 use Rattle.gj_shape.specs.SlopeRows.{total}
@@ -46,3 +47,15 @@ pub record AreHalvesOf (f : FunctionData) (m : ℕ) (perturbation : ℕ → ℤ)
       map (λ i. pos (3 * p) *ℤ table f m i +ℤ pos u *ℤ perturbation i) (range_with_len 0 (f.order * m))
   pub second : h.second ≡
       map (λ i. pos (3 * p) *ℤ table f m i -ℤ pos u *ℤ perturbation i) (range_with_len 0 (f.order * m))
+
+-- the order, the scale and the values of halves are within the limits of a proof text, and there are as many values as the order
+-- says
+pub record AreHalvesInBounds (h : Halves) : Type 0 where
+  pub order_low : 2 ≤ h.order
+  pub order_high : h.order ≤ 4000
+  pub scale_low : pos 1 ≤ℤ h.scale
+  pub scale_high : h.scale ≤ℤ pos (2 ^ 124)
+  pub first_length : length h.first ≡ h.order
+  pub second_length : length h.second ≡ h.order
+  pub first_fit : All Fits h.first
+  pub second_fit : All Fits h.second

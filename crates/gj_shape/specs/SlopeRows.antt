@@ -1,10 +1,14 @@
 -- The linear system for the slopes of a perturbation, one slope for each component (Equivariant Perturbation I).
-use Rattle.std.specs.Prelude.{ℕ, ℤ, pos, ◌≡◌, ◌+◌, ◌-◌, ◌%◌, ◌==◌, ◌+ℤ◌, ◌-ℤ◌, ◌*ℤ◌, Bool, List, [], ◌∷◌, map, flat_map, filter, count_by, zip, All}
+use Rattle.std.specs.Prelude.{ℕ, ℤ, pos, ◌≡◌, ◌+◌, ◌-◌, ◌%◌, ◌==◌, ◌+ℤ◌, ◌-ℤ◌, ◌*ℤ◌, Bool, List, [], ◌∷◌, map, flat_map, filter, count_by, get_or, zip, All}
 use Rattle.std.specs.List.{range_with_len}
 use Rattle.std.specs.Ordering.{int_eq}
 use Rattle.gj_shape.specs.FunctionData.{FunctionData, at}
 use Rattle.gj_shape.specs.declared.extremality.RowName.{RowName}
 use Rattle.gj_shape.specs.declared.extremality.RowName.TheVariants.{Period, F, Pair}
+
+-- the component of an interval, in a list with an entry for each
+abbrev pub component_in : List ℕ → ℕ → ℕ
+component_in components i = get_or components i 0
 
 -- how many of the intervals before i/order are in the component
 abbrev pub rises : (ℕ → ℕ) → ℕ → ℕ → ℕ

@@ -2,23 +2,13 @@
 ghost use Rattle.std.specs.Prelude.{◌≡◌, ◌<◌, ◌≤◌, ◌^◌, ◌↔◌, ◌++◌, List, length, SomeIff, IfOk, IfErr, IsTrue, unsigned_abs};
 ghost use Rattle.gj_frac.specs.declared.Frac.{Frac};
 ghost use Rattle.gj_frac.specs.Fraction.{denominator};
-ghost use Rattle.gj_tools.specs.Divisors.{IsLcm};
 ghost use Rattle.gj_shape.specs.Given.{in_order, IsSmall};
 ghost use Rattle.gj_shape.specs.Denominators.{Extends, ExtendsBy, IsLeastDenominator, IsRefused, IsRefusedBehind, IsFaultIn, fault_at};
 ghost use Rattle.gj_shape.specs.Points.{fractions_of};
 
 use crate::faults::{FractionFault, ShapeFault};
 use crate::points::Point;
-use gj_frac::{Frac, gcd};
-
-/// The least common multiple of two whole numbers, the first not 0.
-fn least_common_multiple(a: u32, b: u32) -> u64
-    requires { 0 < a }
-    ensures { IsLcm a b result }
-{
-    let divisor = gcd(u128::from(a), u128::from(b)) as u32;
-    u64::from(a / divisor) * u64::from(b)
-}
+use gj_frac::{Frac, lcm};
 
 /// Whether the fraction is at most 2^20 in absolute value.
 fn is_small(x: Frac) -> bool
@@ -28,7 +18,7 @@ fn is_small(x: Frac) -> bool
 }
 
 /// The denominator of the fraction, where it is at most 2^31 - 1.
-fn small_denominator(x: Frac) -> Option<u32>
+pub fn small_denominator(x: Frac) -> Option<u32>
     ensures { SomeIff result (unsigned_abs (denominator x) < 2 ^ 31) (unsigned_abs (denominator x)) }
 {
     u32::try_from(x.den())
@@ -48,7 +38,7 @@ fn extended(scale: u32, x: Frac) -> Result<u32, FractionFault>
     let Some(den) = small_denominator(x) else {
         return Err(FractionFault::Fine);
     };
-    let multiple = least_common_multiple(scale, den);
+    let multiple = lcm(scale, den);
     if multiple >= 1 << 31 {
         return Err(FractionFault::Fine);
     }

@@ -2,6 +2,7 @@
 ghost use Rattle.std.specs.Prelude.{◌≡◌, alloc_error};
 ghost use Rattle.gj_shape.specs.declared.faults.ShapeFault.TheVariants.{Memory};
 ghost use Rattle.gj_shape.specs.Denominators.{fault_at};
+ghost use Rattle.gj_shape.specs.Given.{IsMemory};
 
 use std::alloc::{AllocError, AllocFailed};
 use thiserror::Error;
@@ -27,6 +28,18 @@ pub enum ShapeFault {
     /// There was no memory.
     #[error("out of memory")]
     Memory(AllocError),
+}
+
+impl ShapeFault {
+    /// The want of memory that the fault is: for lists that pass all tests.
+    pub fn want_of_memory(self) -> AllocError
+        requires { IsMemory self }
+    {
+        match self {
+            ShapeFault::Memory(error) => error,
+            _ => unreachable!(),
+        }
+    }
 }
 
 impl From<AllocError> for ShapeFault {

@@ -1,7 +1,7 @@
 //! Fractions as whole numbers over a common denominator.
-ghost use Rattle.std.specs.Prelude.{◌≡◌, ◌<◌, ◌≤◌, ◌^◌, pos, map, All, IfOk, unsigned_abs};
+ghost use Rattle.std.specs.Prelude.{◌≡◌, ◌<◌, ◌≤◌, ◌^◌, map, All, IfOk, unsigned_abs};
 ghost use Rattle.std.specs.Int.{◌∣◌};
-ghost use Rattle.gj_frac.specs.Fraction.{denominator, IsRatio};
+ghost use Rattle.gj_frac.specs.Fraction.{denominator};
 ghost use Rattle.gj_shape.specs.Given.{IsSmall, IsCommonDenominator, numerator_over as over_scale};
 
 use gj_frac::Frac;
@@ -32,12 +32,4 @@ pub(crate) fn numerators(alloc: Global, xs: &[Frac], scale: u32) -> Result<Vec<i
         items.push(numerator_over(*x, scale))?;
     }
     Ok(items)
-}
-
-/// The fraction with this numerator over a common denominator.
-pub(crate) fn over(numerator: i64, scale: u32) -> Frac
-    requires { 1 ≤ scale }
-    ensures { IsRatio result numerator (pos scale) }
-{
-    Frac::new(i128::from(numerator), i128::from(scale)).unwrap()
 }

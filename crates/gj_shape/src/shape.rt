@@ -7,7 +7,7 @@ ghost use Rattle.gj_shape.specs.Denominators.{IsLeastDenominator};
 
 use crate::denominators::common_denominator;
 use crate::faults::ShapeFault;
-use crate::numerators::{numerators, over};
+use crate::numerators::numerators;
 use gj_frac::Frac;
 use std::alloc::{AllocError, Global};
 use std::marker::Model;
@@ -140,7 +140,7 @@ impl Shape {
         requires { i < self.now.order }
         ensures { IsRatio result (at self.now.left i) (pos self.now.scale) }
     {
-        over(self.left[i as usize], self.scale)
+        Frac::ratio(self.left[i as usize], self.scale)
     }
 
     /// The value at i/q.
@@ -148,7 +148,7 @@ impl Shape {
         requires { i < self.now.order }
         ensures { IsRatio result (at self.now.value i) (pos self.now.scale) }
     {
-        over(self.value[i as usize], self.scale)
+        Frac::ratio(self.value[i as usize], self.scale)
     }
 
     /// The limit from the right at i/q.
@@ -156,7 +156,7 @@ impl Shape {
         requires { i < self.now.order }
         ensures { IsRatio result (at self.now.right i) (pos self.now.scale) }
     {
-        over(self.right[i as usize], self.scale)
+        Frac::ratio(self.right[i as usize], self.scale)
     }
 
     /// The limit from the left at i/q, times the common denominator.

@@ -1,13 +1,9 @@
 -- Components of intervals, given as a list.
-use Rattle.std.specs.Prelude.{ℕ, ◌<◌, List, get_or, map}
+use Rattle.std.specs.Prelude.{ℕ, ◌<◌, List, map}
 use Rattle.std.specs.List.{range_with_len}
 use Rattle.gj_shape.specs.SlopeRows.{rises}
 use Rattle.gj_shape.specs.declared.extremality.RowName.{RowName}
 use Rattle.gj_shape.specs.declared.extremality.RowName.TheVariants.{Period, F, Pair}
-
--- the component of an interval
-abbrev pub component_in : List ℕ → ℕ → ℕ
-component_in components i = get_or components i 0
 
 -- a pair of grid points is below the order
 abbrev pub IsNameBelow : RowName → ℕ → Type 0

@@ -1,7 +1,8 @@
 -- What always holds of the counts from which rows are made.
 use Rattle.std.specs.Prelude.{◌≡◌, ◌+◌, length, map}
 use Rattle.std.specs.List.{range_with_len}
-use Rattle.gj_system.specs.Components.{ComponentData, component_in, rises_at}
+use Rattle.gj_shape.specs.SlopeRows.{component_in}
+use Rattle.gj_system.specs.Components.{ComponentData, rises_at}
 use Rattle.gj_system.specs.declared.counted.SlopeRows.TheInside.{Inside}
 
 -- the components with these fields

@@ -1,7 +1,7 @@
 //! Rows that are made from counts of intervals, which are made once for all rows.
 ghost use Rattle.std.specs.Prelude.{ℕ, ℤ, pos, ◌≡◌, ◌<◌, ◌≤◌, ◌^◌, ◌+ℤ◌, ◌-ℤ◌, get_or, length, map, All, IfOk, unsigned_abs};
-ghost use Rattle.gj_shape.specs.SlopeRows.{row_of as row_entries};
-ghost use Rattle.gj_system.specs.Components.{component_in, rises_at, IsNameBelow};
+ghost use Rattle.gj_shape.specs.SlopeRows.{row_of as row_entries, component_in};
+ghost use Rattle.gj_system.specs.Components.{rises_at, IsNameBelow};
 
 use gj_shape::{List, RowName};
 use std::alloc::{AllocError, Global};

@@ -1,7 +1,6 @@
 //! How many intervals before a grid point are in each component.
 ghost use Rattle.std.specs.Prelude.{ℕ, pos, ◌≡◌, ◌<◌, ◌≤◌, ◌^◌, ◌+ℤ◌, ◌-ℤ◌, get_or, length, All, unsigned_abs};
-ghost use Rattle.gj_shape.specs.SlopeRows.{rises};
-ghost use Rattle.gj_system.specs.Components.{component_in};
+ghost use Rattle.gj_shape.specs.SlopeRows.{rises, component_in};
 
 /// Adds to each column the number of intervals before the grid point that are in its component.
 pub(crate) fn add_rises(row: &mut [i128], component: &[u32], before: usize)

@@ -1,7 +1,7 @@
 //! A row of the system.
 ghost use Rattle.std.specs.Prelude.{pos, ◌≡◌, ◌<◌, length, All, IfOk};
-ghost use Rattle.gj_shape.specs.SlopeRows.{row_of as row_entries};
-ghost use Rattle.gj_system.specs.Components.{component_in, IsNameBelow};
+ghost use Rattle.gj_shape.specs.SlopeRows.{row_of as row_entries, component_in};
+ghost use Rattle.gj_system.specs.Components.{IsNameBelow};
 
 use crate::rises::{add_rises, subtract_rises};
 use gj_shape::RowName;

@@ -7,7 +7,7 @@ use Rattle.std.proofs.lemmas.List.{same_lists, get_or_default, length-map, get_o
 use Rattle.gj_shape.specs.Elimination.{at_column, scaled, differences, Passes}
 use Rattle.gj_theory.proofs.Steps.{length-differences}
 use Rattle.gj_theory.proofs.Entries.{at_scaled, at_differences}
-use Rattle.gj_theory.specs.Fitting.{Fits}
+use Rattle.gj_frac.specs.Fraction.{Fits}
 use Rattle.gj_theory.specs.Fitting.{FitsCombined}
 use Rattle.gj_theory.proofs.Passing.{front_passes, back_passes, either_passes, passes_at, none_pass}
 

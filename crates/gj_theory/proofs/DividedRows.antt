@@ -13,7 +13,7 @@ use Rattle.gj_shape.specs.Elimination.{at_column, divided, scaled, gcd_of_row, k
 use Rattle.gj_theory.proofs.RowSums.{divided_zero, divided_some, scaled_quotients, zero_or_not}
 use Rattle.gj_theory.proofs.Steps.{length-divided}
 use Rattle.gj_theory.proofs.Entries.{at_divided, at_negated}
-use Rattle.gj_theory.specs.Fitting.{Fits}
+use Rattle.gj_frac.specs.Fraction.{Fits}
 use Rattle.gj_theory.proofs.WideNumbers.{read_natural, read_fitting}
 
 -- ---- a loop over all entries

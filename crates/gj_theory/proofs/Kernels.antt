@@ -2,7 +2,7 @@
 use Rattle.std.proofs.Common.{◌≡◌, ◌≢◌, ℕ, zero, suc, ◌+◌, ◌<◌, ◌≤◌, ◌⊎◌, inl, inr, ◌↔◌, Bool, true, false, not, ◌||◌, cond, if◌then◌else◌, Option, None, Some, ℤ, pos, ◌+ℤ◌, ◌*ℤ◌, neg_ℤ, ◌<ℤ◌, List, [], ◌∷◌, length, map, set, drop, eqb, unsigned_abs, int_div, refl, sym, ap, ap₂, subst, ◌∙◌, add-one, arith}
 use Rattle.std.specs.Prelude.{All, Any, IfSome}
 use Rattle.std.specs.List.{range_with_len, find, list_any, AllByRecursion, IsDistinct}
-use Rattle.std.proofs.lemmas.Bool.{cases_lt, eq-eqb, ne_eqb}
+use Rattle.std.proofs.lemmas.Bool.{eqb-true, cases_lt, eq-eqb, ne_eqb}
 use Rattle.std.proofs.lemmas.Bool.Decides.{Decides-eqb}
 use Rattle.std.proofs.lemmas.Int.{ints}
 use Rattle.std.proofs.lemmas.List.{length-map, length-set, get_or-set_same, get_or-set_other, drop-map, drop-set-lt, get_or_default}
@@ -288,6 +288,18 @@ no_pivot_at (k ∷ kept) c e = by_test (eqb k.pivot c) refl e (no_pivot_at kept 
     by_test true t e later = absurd cc
     by_test false t e later =
         All-cons (λ r. r.pivot ≢ c) k kept (λ same. let u = eq-eqb k.pivot c same in absurd cc) (later e)
+
+-- where there is one, a kept row has its pivot there
+pub any_with_pivot : (kept : List KeptRow) (c : ℕ) (k : KeptRow) → row_with_pivot kept c ≡ Some k → Any (λ r. r.pivot ≡ c) kept
+any_with_pivot [] c k e = absurd cc
+any_with_pivot (r ∷ kept) c k e = by_test (eqb r.pivot c) refl e (any_with_pivot kept c k)
+  where
+    by_test : (b : Bool) → eqb r.pivot c ≡ b → cond b (Some r) (row_with_pivot kept c) ≡ Some k →
+        (row_with_pivot kept c ≡ Some k → Any (λ r. r.pivot ≡ c) kept) → Any (λ r. r.pivot ≡ c) (r ∷ kept)
+    by_test true t e later = (0, r, omega arith, refl, eqb-true r.pivot c t)
+    by_test false t e later =
+        let (i, x, below, is, at) = later e in
+        (suc i, x, omega arith, is, at)
 
 -- at the start the rows with a pivot behind the free column are solved
 unit_solves : (n c : ℕ) (kept : List KeptRow) → All (IsKeptRow n) kept → All (λ k. k.pivot ≢ c) kept →

@@ -3,7 +3,7 @@ use Rattle.std.proofs.Common.{◌≡◌, ℕ, ℤ, pos, ◌<ℤ◌, int_div, Fit
 use Rattle.std.specs.Prelude.{All}
 use Rattle.gj_tools.specs.Divisors.{gcd_of}
 use Rattle.gj_shape.specs.Elimination.{at_column, scaled, differences, divided, eliminated, reduced, marked_in_step, row_factor, kept_factor, Passes}
-use Rattle.gj_theory.specs.Fitting.{Fits}
+use Rattle.gj_frac.specs.Fraction.{Fits}
 use mir.Syntax.{w128}
 use Rattle.gj_theory.proofs.DividedRows.{read_signed_quotient}
 use Rattle.gj_theory.proofs.Passing.{back_passes, all_fit}

@@ -9,7 +9,7 @@ use Rattle.std.proofs.Math.ListN.{drop_of_length-le}
 use Rattle.gj_tools.specs.Divisors.{gcd_of}
 use Rattle.gj_tools.proofs.Divisors.{gcd_of_is, gcd_is_gcd_of}
 use Rattle.gj_shape.specs.Elimination.{gcd_of_row}
-use Rattle.gj_theory.specs.Fitting.{Fits}
+use Rattle.gj_frac.specs.Fraction.{Fits}
 
 pub gcd_of_zero : (a : ℕ) → gcd_of a 0 ≡ a
 gcd_of_zero a = sym (gcd_is_gcd_of a 0 a (IsGcd-from_zero a 0 refl))

@@ -5,7 +5,7 @@ use Rattle.std.proofs.Math.Nat.{mul-pos, mul-lt-mul_of_pos_right}
 use Rattle.std.proofs.lemmas.Int.{ints}
 use Rattle.std.proofs.lemmas.List.Elements.{All-head, All-tail}
 use Rattle.gj_frac.specs.declared.Frac.{Frac}
-use Rattle.gj_frac.specs.Fraction.{IsRatio, numerator, denominator}
+use Rattle.gj_frac.specs.Fraction.{IsRatio, numerator, denominator, IsInside}
 use Rattle.gj_tools.proofs.Divisors.{cofactor}
 use Rattle.gj_tools.proofs.Integers.{pos_abs_z, mul_assoc_z, swap_last_z}
 use Rattle.gj_tools.proofs.Ring.{by_ring, ring}
@@ -19,7 +19,7 @@ use Rattle.gj_shape.proofs.LeastDenominator.{Divides, denominator_some}
 use Rattle.gj_shape.proofs.TableLemmas.{table_finer}
 use Rattle.gj_shape.proofs.OverScale.{denominator_is}
 use Rattle.gj_shape.proofs.ValueLemmas.{natural_index, moved_index_z}
-use Rattle.gj_theory.specs.Cuts.{HasFractionalPart, IsEntryAt, IsValueOf, IsInside, IsGmicValue}
+use Rattle.gj_theory.specs.Cuts.{HasFractionalPart, IsEntryAt, IsValueOf, IsGmicValue}
 use Rattle.gj_theory.proofs.CutsByTables.{product_of, product_some, product_common, cut_by_table}
 use Rattle.gj_theory.proofs.GmicTable.{gmic_minimal}
 use Rattle.gj_theory.proofs.GmicValues.{closed_form}

@@ -7,7 +7,7 @@ use mir.Syntax.{w128}
 use Rattle.gj_tools.specs.Divisors.{gcd_of}
 use Rattle.gj_tools.proofs.Divisors.{gcd_is_gcd_of, gcd_positive}
 use Rattle.gj_tools.proofs.Integers.{abs_zero_z}
-use Rattle.gj_theory.specs.Fitting.{Fits}
+use Rattle.gj_frac.specs.Fraction.{Fits}
 
 pub fits_width : (z : ℤ) → Fits z → FitsSigned w128 z
 fits_width z h = fits_signed_from_abs w128 z h

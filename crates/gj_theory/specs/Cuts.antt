@@ -1,5 +1,5 @@
 -- Entries of tables and values of functions at fractions, for the cuts of rows (Gomory 1960; Gomory and Johnson 1972).
-use Rattle.std.specs.Prelude.{ℕ, ℤ, pos, ◌-ℤ◌, ◌*ℤ◌, ◌<ℤ◌, unsigned_abs}
+use Rattle.std.specs.Prelude.{ℕ, ℤ, pos, ◌-ℤ◌, ◌*ℤ◌, unsigned_abs}
 use Rattle.gj_frac.specs.declared.Frac.{Frac}
 use Rattle.gj_frac.specs.Floor.{IsFloor}
 use Rattle.gj_frac.specs.Fraction.{Fraction, SameValue, LessValue, IsRatio, fraction_of, difference_of, quotient_of, numerator, denominator}
@@ -25,10 +25,6 @@ pub record IsEntryAt (t : ℕ → ℤ) (n s : ℕ) (x c : Frac) : Type 0 where
 -- y is the value of the function at x
 abbrev pub IsValueOf : FunctionData → Frac → Frac → Type 0
 IsValueOf f x y = IsValueAt f (numerator x *ℤ pos f.order) (unsigned_abs (denominator x)) y
-
--- f is between 0 and 1, both excluded
-abbrev pub IsInside : Frac → Type 0
-IsInside f = (pos 0 <ℤ numerator f) × (numerator f <ℤ denominator f)
 
 -- 1 minus a fraction
 abbrev pub one_minus : Fraction → Fraction

@@ -2,13 +2,13 @@
 ghost use Rattle.std.specs.Prelude.{ℕ, ℤ, pos, ◌<◌, List};
 ghost use Rattle.std.specs.List.{AllZip};
 ghost use Rattle.gj_frac.specs.declared.Frac.{Frac};
-ghost use Rattle.gj_frac.specs.Fraction.{IsRatio, numerator, denominator};
+ghost use Rattle.gj_frac.specs.Fraction.{IsRatio, numerator, denominator, IsInside};
 ghost use Rattle.gj_shape.specs.FunctionData.{FunctionData, IsWithinBounds};
 ghost use Rattle.gj_shape.specs.Gmic.{gmic_table, gmic_scale};
 ghost use Rattle.gj_shape.specs.RowCut.{CutHolds};
 ghost use Rattle.gj_shape.specs.Table.{IsMinimalTable, IsMinimal};
 ghost use Rattle.gj_shape.specs.Values.{IsCongruent};
-ghost use Rattle.gj_theory.specs.Cuts.{HasFractionalPart, IsEntryAt, IsValueOf, IsInside, IsGmicValue};
+ghost use Rattle.gj_theory.specs.Cuts.{HasFractionalPart, IsEntryAt, IsValueOf, IsGmicValue};
 
 /// A row gives a cut where its right side has the fractional part f: by a minimal table whose entries are the
 /// coefficients, and by a minimal function whose values at the row's entries they are.

@@ -1,5 +1,5 @@
 -- Lists made by ranges: what holds of each element, and where an element stands.
-use Rattle.std.proofs.Common.{◌≡◌, ℕ, zero, suc, ◌+◌, ◌-◌, ◌<◌, List, [], ◌∷◌, ◌++◌, length, map, refl, ap, ◌∙◌, subst, zero-add, arith}
+use Rattle.std.proofs.Common.{◌≡◌, ℕ, zero, suc, ◌+◌, ◌-◌, ◌<◌, ◌≤◌, List, [], ◌∷◌, ◌++◌, length, map, refl, ap, ◌∙◌, subst, zero-add, arith}
 use Rattle.std.specs.List.{range_with_len, flat_map, All}
 use Rattle.std.proofs.lemmas.List.{take_at, drop_at}
 use Rattle.std.proofs.lemmas.List.Elements.{All-nil, All-cons, All-head, All-tail, All-append, All-map, All-take, All-drop}
@@ -51,6 +51,14 @@ All-flat_map P g (y ∷ ys) h =
 pub All-joined : {X : Type 0} (P : X → Type 0) (g : ℕ → List X) (a n : ℕ) → ((i : ℕ) → i < a + n → All P (g i)) →
     All P (flat_map g (range_with_len a n))
 All-joined P g a n h = All-flat_map P g (range_with_len a n) (All-range (λ i. All P (g i)) a n h)
+
+-- ---- a range up to an end
+
+pub range_step : (a n : ℕ) → a < n → range_with_len a (n - a) ≡ a ∷ range_with_len (a + 1) (n - (a + 1))
+range_step a n below = let more : n - a ≡ suc (n - (a + 1)) = omega arith in ap (range_with_len a) more
+
+pub range_end : (a n : ℕ) → n ≤ a → range_with_len a (n - a) ≡ []
+range_end a n above = let none : n - a ≡ 0 = omega arith in ap (range_with_len a) none
 
 -- ---- where an index stands
 

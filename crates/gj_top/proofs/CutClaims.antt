@@ -13,7 +13,7 @@ use Rattle.gj_row.specs.TableauLimits.{IsSmall, AreWithinLimits, IsWithinLimits,
 use Rattle.gj_row.specs.declared.tableau.Entry.{Entry}
 use Rattle.gj_row.specs.declared.tableau.Row.{Row}
 use Rattle.gj_row.specs.declared.tableau.Tableau.{Tableau}
-use Rattle.gj_proof.specs.ProofText.{HasNames, IsBounded, IsProofText}
+use Rattle.gj_proof.specs.ProofText.{HasNames, IsBounded, IsProofText, IsBoundedRule}
 use Rattle.gj_proof.specs.Rules.{MeetsLimit, MeetsName, MeetsValue}
 use Rattle.gj_proof.specs.declared.claim.Claim.TheVariants as claim
 use Rattle.gj_proof.specs.declared.cut.CutLine.{CutLine}
@@ -24,7 +24,7 @@ use Rattle.gj_check.specs.CutRows.{MeetsTerm, MeetTerms, MeetsRow}
 use Rattle.gj_check.proofs.CutDemands.{cuts_meet}
 use Rattle.gj_check.proofs.RulesGiveMeaning.{meaning_of_rules}
 use Rattle.gj_top.specs.Cut.{CutInput, SpellsCutInput, IsTermFor, IsLineFor, AreCutsOf}
-use Rattle.gj_top.specs.CutSteps.{IsBoundedRule, PassesTests}
+use Rattle.gj_top.specs.CutSteps.{PassesTests}
 use Rattle.gj_top.proofs.CutForm.{rule_is_bounded}
 
 -- ---- names that all differ

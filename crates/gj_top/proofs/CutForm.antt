@@ -1,5 +1,6 @@
 -- What follows a rule, and why no input of `cut` is both in its form and refused.
 use Rattle.std.proofs.Common.{◌≡◌, ℕ, List, sym, subst}
+use Rattle.gj_proof.specs.ProofText.{IsBoundedRule}
 use Rattle.gj_lex.specs.declared.reason.Reason.{Reason}
 use Rattle.gj_ftext.specs.RuleText.{BeginsAsRule, IsFirstFaultOfRule}
 use Rattle.gj_ftext.specs.FirstFault.{IsFirstFault}
@@ -18,7 +19,7 @@ use Rattle.gj_top.specs.Task.{IsRefusal, IsReply}
 use Rattle.gj_top.specs.Forms.{IsRefusalOf}
 use Rattle.gj_top.specs.Cut.{BeginsWithRule, CutInput, SpellsCutInput, RefusesCutInput, IsCutReply, cut_input, cut}
 use Rattle.gj_top.specs.Cut.RefusesCutInput.{of_rule, of_function, of_tableau}
-use Rattle.gj_top.specs.CutSteps.{IsBoundedRule, IsTableauRefusal}
+use Rattle.gj_top.specs.CutSteps.{IsTableauRefusal}
 
 -- ---- what follows a rule
 

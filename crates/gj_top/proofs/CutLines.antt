@@ -3,6 +3,7 @@ use Rattle.std.proofs.Common.{◌≡◌, ℕ, ◌<◌, List, [], ◌∷◌, All,
 use Rattle.std.specs.List.{AllZip}
 use Rattle.std.proofs.lemmas.List.Elements.{All-nil, All-cons, All-head, All-tail}
 use Rattle.gj_frac.specs.declared.Frac.{Frac}
+use Rattle.gj_frac.specs.Fraction.{IsWhole}
 use Rattle.gj_check.proofs.CutMeaning.{part_of_function}
 use Rattle.gj_shape.specs.FunctionData.{FunctionData, IsWithinBounds}
 use Rattle.gj_rule.specs.Kept.{KeptRule}
@@ -17,7 +18,7 @@ use Rattle.gj_cut.specs.declared.cut.RowCut.{RowCut}
 use Rattle.gj_cut.specs.declared.cut.RowCut.TheVariants as row_cut
 use Rattle.gj_cut.specs.declared.cut.Term.{Term}
 use Rattle.gj_cut.proofs.RowTerms.{cut_of_kind}
-use Rattle.gj_proof.specs.Rules.{IsWhole, MeetsFraction, MeetsValue}
+use Rattle.gj_proof.specs.Rules.{MeetsFraction, MeetsValue}
 use Rattle.gj_proof.specs.declared.cut.CutLine.{CutLine}
 use Rattle.gj_proof.specs.declared.cut.CutLine.TheVariants.{Cut, Skip}
 use Rattle.gj_proof.specs.declared.cut.CutRule.{CutRule}

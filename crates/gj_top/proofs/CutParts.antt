@@ -5,7 +5,7 @@ use Rattle.std.proofs.lemmas.Int.{ints}
 use Rattle.std.specs.Int.{int_div_euclid}
 use Rattle.gj_frac.specs.declared.Frac.{Frac}
 use Rattle.gj_frac.specs.Floor.{IsFloor}
-use Rattle.gj_frac.specs.Fraction.{IsRatio, numerator, denominator}
+use Rattle.gj_frac.specs.Fraction.{IsRatio, numerator, denominator, IsWhole}
 use Rattle.gj_frac.proofs.Floors.{quotient_is_floor}
 use Rattle.gj_frac.proofs.SameValues.{is_along}
 use Rattle.gj_tools.proofs.Integers.{add_mul_z, sub_mul_z, neg_mul_z, swap_last_z, positive_some_z}
@@ -16,7 +16,7 @@ use Rattle.gj_shape.specs.Values.{IsCongruent}
 use Rattle.gj_theory.specs.Cuts.{HasFractionalPart, IsGmicValue}
 use Rattle.gj_theory.proofs.GmicTable.{entry_rising, entry_falling}
 use Rattle.gj_theory.proofs.GmicValues.{closed_form}
-use Rattle.gj_proof.specs.Rules.{IsWhole, HasPart, IsGmicOver, IsGmicAt}
+use Rattle.gj_proof.specs.Rules.{HasPart, IsGmicOver, IsGmicAt}
 use Rattle.gj_check.proofs.FractionalParts.{part_left, part_some}
 
 -- ---- fractional parts

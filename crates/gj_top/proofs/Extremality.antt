@@ -15,11 +15,9 @@ use Rattle.gj_proof.proofs.OneText.{one_claim}
 use Rattle.gj_extreme.specs.Decision.{IsDecided, IsTooWide}
 use Rattle.gj_extreme.specs.declared.faults.DecideFault.{DecideFault}
 use Rattle.gj_extreme.specs.declared.faults.DecideFault.TheVariants as fault
-use Rattle.gj_top.specs.declared.reply.End.{End}
-use Rattle.gj_top.specs.declared.reply.End.TheVariants.{Done, Wide, NotContinuous}
+use Rattle.gj_top.specs.declared.reply.End.TheVariants.{Wide, NotContinuous}
 use Rattle.gj_top.specs.Minimal.{IsNotMinimalText}
-use Rattle.gj_top.specs.Report.{IsReportedReply}
-use Rattle.gj_top.specs.Extreme.{IsDecisionText, IsExtremality, IsExtremeText, IsNotExtremeText, IsTrueExtremality, IsNoVerdict, IsUndecided, extreme}
+use Rattle.gj_top.specs.Extreme.{IsDecisionText, IsExtremeText, IsNotExtremeText, IsTrueExtremality, IsUndecided, extreme}
 
 -- ---- what is promised
 
@@ -67,18 +65,12 @@ decided_is_bounded f (Cut r rows) within d = absurd d
 abbrev IsExtremeAtFour : FunctionData → Type 0
 IsExtremeAtFour f = IsExtremeTable (table f 4) (f.order * 4) (f.place * 4) (f.scale * 4)
 
--- a grid of some order is that of a multiple above 0
-some_multiple : (n q m : ℕ) → 2 ≤ n → n ≡ q * m → 0 < m
-some_multiple n q zero low e = absurd (omega arith)
-some_multiple n q (suc m) low e = omega arith
-
 -- where the text does not call f extreme, it denies that the table of order 4 q is
 from_four : (f : FunctionData) (text : List ℕ) → IsWithinBounds f → IsTrueExtremality f text → IsContinuous f → IsExtremeAtFour f →
     IsExtremeText f text
 from_four f text within (inl e) continuous four = e.0
-from_four f text within (inr (inl (h, spelled, not_jumping, minimal, (m, c, order, scale, halves)))) continuous four =
+from_four f text within (inr (inl (h, spelled, not_jumping, minimal, (m, c, some, order, scale, halves)))) continuous four =
     let extreme : IsExtreme f = (four_times_decides f within continuous).1 four in
-    let some : 0 < m = some_multiple h.order f.order m spelled.has_text.order_low order in
     absurd (halves_deny (table f m) (f.order * m) (f.place * m) (f.scale * m) c (at h.first) (at h.second) halves (extreme m some))
 from_four f text within (inr (inr (v, spelled, shown))) continuous four =
     let extreme : IsExtreme f = (four_times_decides f within continuous).1 four in
@@ -99,19 +91,6 @@ extreme_at_four f text within d = (
   to_four f text within d,
   λ h. from_four f text within (extremality_true f text d) h.0 h.1,
 )
-
--- ---- no verdict
-
-pub no_verdict_is_reply : (f : FunctionData) (end : End) (text : List ℕ) → IsNoVerdict f end text → IsExtremality f end text
-no_verdict_is_reply f Wide text h = h
-no_verdict_is_reply f NotContinuous text h = h
-no_verdict_is_reply f end text h = absurd h
-
-pub no_verdict_is_reported : (f : FunctionData) (end : End) (text : List ℕ) → IsNoVerdict f end text →
-    IsReportedReply extreme.work f end text
-no_verdict_is_reported f Wide text h = h
-no_verdict_is_reported f NotContinuous text h = h
-no_verdict_is_reported f end text h = absurd h
 
 -- ---- faults of the decision
 

@@ -10,7 +10,9 @@ use Rattle.std.proofs.lemmas.Bool.Decides.{nat_tests}
 use Rattle.std.proofs.lemmas.List.Elements.{All-nil, All-cons, All-head, All-tail, All-append, All-weaker}
 use Rattle.gj_tools.proofs.Lists.{All-flat_map}
 use Rattle.std.proofs.lemmas.List.Sums.{AllPass-from_list_all}
+use Rattle.gj_frac.specs.Fraction.{Fits}
 use Rattle.gj_frac.specs.declared.Frac.{Frac}
+use Rattle.gj_shape.specs.Perturbation.{AreHalvesInBounds}
 use Rattle.gj_lex.specs.NumberText.{fraction_text, IsNumberByte}
 use Rattle.gj_lex.proofs.WordBytes.{decimal_bytes, fraction_bytes}
 use Rattle.gj_lines.specs.FunctionLines.{line, fraction_line, order_line, place_line, point_text, point_line, has_no_jump, AreFunctionLines}
@@ -36,7 +38,7 @@ use Rattle.gj_proof.specs.declared.cut.CutTerm.{CutTerm}
 use Rattle.gj_proof.specs.declared.cut.SkipReason.{SkipReason}
 use Rattle.gj_proof.specs.declared.cut.SkipReason.TheVariants.{Integral, Other}
 use Rattle.gj_lex.specs.Name.{IsNameByte, IsName}
-use Rattle.gj_proof.specs.ProofText.{HasText, IsCoverLineBelow, IsRowNameBelow, IsPivotRowBelow, AreHalvesInBounds, FitsPair, covered_lines, group_line, reduction_lines, pivot_line, group_lines, halves_line, pair_line, pair_lines, claim_word, OwnLine, own_lines, violation_line, row_line, term_line, reason_word, terms_of, term_lines, row_lines, HasNames, subject_of, AreSubjectLines, IsBounded, IsProofText}
+use Rattle.gj_proof.specs.ProofText.{HasText, IsCoverLineBelow, IsRowNameBelow, IsPivotRowBelow, covered_lines, group_line, reduction_lines, pivot_line, group_lines, halves_line, pair_line, pair_lines, claim_word, OwnLine, own_lines, violation_line, row_line, term_line, reason_word, terms_of, term_lines, row_lines, HasNames, subject_of, AreSubjectLines, IsBounded, IsProofText}
 use Rattle.gj_proof.specs.ProofText.ProofLine.{group_pivot}
 use Rattle.gj_proof.specs.declared.pivot.PivotRow.{PivotRow}
 use Rattle.gj_proof.proofs.OwnLines.{names_of_terms}
@@ -288,7 +290,7 @@ groups_bytes q g (row ∷ rows) high h =
 
 -- ---- the lines of halves
 
-whole_printable : (n : ℤ) → FitsPair n → All IsPrintable (signed_decimal n)
+whole_printable : (n : ℤ) → Fits n → All IsPrintable (signed_decimal n)
 whole_printable n fits = subst (All IsPrintable) (text_of_whole n fits) (fraction_printable (whole n fits))
 
 halves_bytes : (h : Halves) → AreHalvesInBounds h → All IsProofByte (halves_line h)
@@ -296,7 +298,7 @@ halves_bytes h in_bounds =
     let order_high = in_bounds.order_high in
     let low = in_bounds.scale_low in
     let high = in_bounds.scale_high in
-    let fits : FitsPair h.scale = scale_fits h.scale low high in
+    let fits : Fits h.scale = scale_fits h.scale low high in
     let front = codes "halves " ++ decimal h.order in
     line_bytes (front ++ codes " " ++ signed_decimal h.scale)
     (joined (front ++ codes " ") (signed_decimal h.scale)
@@ -304,10 +306,10 @@ halves_bytes h in_bounds =
     (joined (codes "halves ") (decimal h.order) (known (codes "halves ") refl) (decimal_printable h.order order_high)) (known (codes " ") refl))
     (whole_printable h.scale fits))
   where
-    scale_fits : (s : ℤ) → pos 1 ≤ℤ s → s ≤ℤ pos (2 ^ 124) → FitsPair s
+    scale_fits : (s : ℤ) → pos 1 ≤ℤ s → s ≤ℤ pos (2 ^ 124) → Fits s
     scale_fits s low high = omega (arith, ints)
 
-pair_bytes : (x y : ℤ) → FitsPair x → FitsPair y → All IsProofByte (pair_line (x, y))
+pair_bytes : (x y : ℤ) → Fits x → Fits y → All IsProofByte (pair_line (x, y))
 pair_bytes x y x_fits y_fits =
     let front = codes "pair " ++ signed_decimal x in
     line_bytes (front ++ codes " " ++ signed_decimal y)
@@ -316,14 +318,14 @@ pair_bytes x y x_fits y_fits =
     (known (codes " ") refl))
     (whole_printable y y_fits))
 
-pairs_bytes : (i : ℕ) (xs ys : List ℤ) → All FitsPair xs → All FitsPair ys →
+pairs_bytes : (i : ℕ) (xs ys : List ℤ) → All Fits xs → All Fits ys →
     All (λ (l : OwnLine). All IsProofByte l.bytes) (pair_lines i (zip xs ys))
 pairs_bytes i [] ys h k = All-nil (λ (l : OwnLine). All IsProofByte l.bytes)
 pairs_bytes i (x ∷ xs) [] h k = All-nil (λ (l : OwnLine). All IsProofByte l.bytes)
 pairs_bytes i (x ∷ xs) (y ∷ ys) h k =
     All-cons (λ (o : OwnLine). All IsProofByte o.bytes) _ (pair_lines (i + 1) (zip xs ys))
-    (pair_bytes x y (All-head FitsPair x xs h) (All-head FitsPair y ys k))
-    (pairs_bytes (i + 1) xs ys (All-tail FitsPair x xs h) (All-tail FitsPair y ys k))
+    (pair_bytes x y (All-head Fits x xs h) (All-head Fits y ys k))
+    (pairs_bytes (i + 1) xs ys (All-tail Fits x xs h) (All-tail Fits y ys k))
 
 -- ---- all lines of the claim's own
 

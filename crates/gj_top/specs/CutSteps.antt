@@ -2,7 +2,6 @@
 use Rattle.std.specs.Prelude.{ℕ, ◌≡◌, ◌<◌, List, [], All, get_or}
 use Rattle.std.specs.List.{AllZip}
 use Rattle.gj_shape.specs.FirstViolation.{IsFirstViolation, PassesAll}
-use Rattle.gj_shape.specs.FunctionData.{IsWithinBounds}
 use Rattle.gj_shape.specs.declared.violations.Violation.{Violation}
 use Rattle.gj_row.specs.FirstFault.{IsFirstFault as IsFirstFaultOfTableau}
 use Rattle.gj_row.specs.declared.faults.RowReason.{RowReason}
@@ -35,10 +34,6 @@ IsTableauRefusal rest (Refused text) =
 IsTableauRefusal rest (Memory e) = Unit {0}
 
 -- ---- the rule
-
--- the function of the rule, where it has one, is within the limits
-abbrev pub IsBoundedRule : CutRule → Type 0
-IsBoundedRule rule = IfFunction (subject_of_rule rule) IsWithinBounds
 
 -- the violation is the first of the rule's function
 abbrev pub IsViolationOf : CutRule → Violation → Type 0

@@ -1,6 +1,5 @@
 //! Functions that are not continuous.
-ghost use Rattle.std.specs.Prelude.{pos, ◌<◌, IfOk};
-ghost use Rattle.gj_frac.specs.Fraction.{IsRatio};
+ghost use Rattle.std.specs.Prelude.{◌<◌, IfOk};
 ghost use Rattle.gj_shape.specs.FunctionData.{IsFirstJump};
 ghost use Rattle.gj_top.specs.Continuity.{NamesFirstJump};
 
@@ -15,15 +14,7 @@ pub(crate) fn jump_line(alloc: Global, shape: &Shape, index: u32) -> Result<Vec<
     ensures { IfOk result (λ text. NamesFirstJump shape.now text.items) }
 {
     let mut text = Vec::new(alloc);
-    let point = ratio(index, shape.order());
+    let point = Frac::ratio(i64::from(index), shape.order());
     push_fraction_line(alloc, &mut text, b"not continuous ", point)?;
     Ok(text)
-}
-
-/// The fraction `n/d`.
-fn ratio(n: u32, d: u32) -> Frac
-    requires { 0 < d }
-    ensures { IsRatio result (pos n) (pos d) }
-{
-    Frac::new(i128::from(n), i128::from(d)).unwrap()
 }

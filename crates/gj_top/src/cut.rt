@@ -1,18 +1,16 @@
 //! The command `cut`: the cuts of the rows of a tableau, by a function or by the mixed-integer cut.
-ghost use Rattle.std.specs.Prelude.{◌≡◌, ◌++◌, codes, IfOk, IfSome, IfNone, OnOk};
+ghost use Rattle.std.specs.Prelude.{◌≡◌, ◌++◌, codes, IfOk, IfSome, IfNone};
 ghost use Rattle.gj_row.specs.TableauLimits.{IsTableau};
-ghost use Rattle.gj_proof.specs.ProofText.{violation_line};
+ghost use Rattle.gj_proof.specs.ProofText.{violation_line, IsBoundedRule};
 ghost use Rattle.gj_top.specs.Task.{IsAnswering};
 ghost use Rattle.gj_top.specs.Cut.{AreCutsOf, IsCutReply, cut};
-ghost use Rattle.gj_top.specs.CutSteps.{IsBoundedRule, IsViolationOf, PassesTests};
+ghost use Rattle.gj_top.specs.CutSteps.{IsViolationOf, PassesTests};
 
 use crate::cut_input::{rule_of, tableau_behind};
 use crate::cut_lines::lines_of;
 use crate::reply::{End, Reply, Unanswered};
-use gj_lex::print_frac;
-use gj_lines::push_fraction_line;
 use gj_minimal::find_violation;
-use gj_proof::{Claim, CutRule, Proof, write_proof};
+use gj_proof::{Claim, CutRule, Proof, push_violation_line, write_proof};
 use gj_row::Tableau;
 use gj_shape::{List, Violation};
 use std::alloc::{AllocError, Global};
@@ -76,24 +74,4 @@ fn violation_text(alloc: Global, violation: Violation) -> Result<Vec<u8>, AllocE
     let mut text = Vec::from_slice(alloc, b"no function ")?;
     push_violation_line(alloc, &mut text, violation)?;
     Ok(text)
-}
-
-/// Appends the line of a violation.
-fn push_violation_line(
-    alloc: Global,
-    out: &mut Vec<u8>,
-    violation: Violation,
-) -> Result<(), AllocError>
-    ensures { OnOk result (out.new.items ≡ out.old.items ++ violation_line violation) }
-{
-    match violation {
-        Violation::Zero => out.extend_from_slice(b"zero\n"),
-        Violation::Negative(x) => push_fraction_line(alloc, out, b"negative ", x),
-        Violation::Asymmetric(x) => push_fraction_line(alloc, out, b"asymmetric ", x),
-        Violation::Superadditive(x, y) => {
-            out.extend_from_slice(b"superadditive ")?;
-            print_frac(alloc, out, x)?;
-            push_fraction_line(alloc, out, b" ", y)
-        }
-    }
 }

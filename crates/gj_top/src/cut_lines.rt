@@ -1,6 +1,7 @@
 //! The lines of the cuts of a tableau: a row each, in order.
 ghost use Rattle.std.specs.Prelude.{◌≡◌, ◌<◌, All, IfOk, length};
 ghost use Rattle.std.specs.List.{AllZip};
+ghost use Rattle.gj_proof.specs.ProofText.{IsBoundedRule};
 ghost use Rattle.gj_shape.specs.FunctionData.{FunctionData, IsWithinBounds};
 ghost use Rattle.gj_theory.specs.Cuts.{IsValueOf};
 ghost use Rattle.gj_row.specs.TableauLimits.{IsTableau, IsWithinLimits};
@@ -9,7 +10,7 @@ ghost use Rattle.gj_rule.specs.Kind.{IsInRange};
 ghost use Rattle.gj_rule.specs.declared.kind.RuleKind.TheVariants as kind;
 ghost use Rattle.gj_proof.specs.declared.cut.CutRule.TheVariants.{Gmic, Table};
 ghost use Rattle.gj_top.specs.Cut.{IsLineFor};
-ghost use Rattle.gj_top.specs.CutSteps.{AreInColumns, IsBoundedRule, IsLineOf, IsNamedTerm};
+ghost use Rattle.gj_top.specs.CutSteps.{AreInColumns, IsLineOf, IsNamedTerm};
 
 use gj_cut::{RowCut, Term, cut_row, gmic_cut_row};
 use gj_frac::Frac;

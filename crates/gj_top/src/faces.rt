@@ -1,9 +1,8 @@
 //! The command `faces`: the maximal additive faces and the covered intervals of a function.
-ghost use Rattle.std.specs.Prelude.{◌≡◌, ◌++◌, length, flat_map, IfOk, OnOk};
+ghost use Rattle.std.specs.Prelude.{◌≡◌, ◌++◌, length, IfOk, OnOk};
 ghost use Rattle.gj_shape.specs.Additive.{IsTight};
 ghost use Rattle.gj_shape.specs.FunctionData.{IsContinuous};
 ghost use Rattle.gj_faces.specs.Runs.{AreRunsOf};
-ghost use Rattle.gj_lines.specs.FaceLines.{cover_line};
 ghost use Rattle.gj_top.specs.Task.{IsAnswering};
 ghost use Rattle.gj_top.specs.Faces.{ArePushed, AreRowsPushed, IsFacesReply, IsFacesText, faces, uncovered_line};
 
@@ -14,8 +13,8 @@ use crate::reply::{End, Reply, Unanswered};
 use gj_cover::cover_of_runs;
 use gj_faces::{Run, push_maximal_row, runs};
 use gj_lex::print_count;
-use gj_lines::{push_cover_line, push_order_line};
-use gj_shape::{CoverLine, Shape};
+use gj_lines::{push_cover_lines, push_order_line};
+use gj_shape::Shape;
 use std::alloc::{AllocError, Global};
 
 /// The faces and intervals of the function that the input spells, or its first jump.
@@ -74,16 +73,6 @@ fn push_maximal_faces(
         row.clear();
         push_maximal_row(&mut row, shape, tight, a)?;
         push_face_lines(out, &starts_of(a), ends.as_slice(), row.as_slice())?;
-    }
-    Ok(())
-}
-
-/// Appends the line of each covered interval.
-fn push_cover_lines(out: &mut Vec<u8>, lines: &[CoverLine]) -> Result<(), AllocError>
-    ensures { OnOk result (out.new.items ≡ out.old.items ++ flat_map cover_line lines.now) }
-{
-    for line in lines {
-        push_cover_line(out, *line)?;
     }
     Ok(())
 }

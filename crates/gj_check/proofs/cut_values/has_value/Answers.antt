@@ -1,11 +1,12 @@
 use Rattle.std.proofs.Common.{◌↔◌, IsTrue, pos, ◌*ℤ◌, unsigned_abs, sym, subst}
 use Rattle.gj_frac.specs.declared.Frac.{Frac}
+use Rattle.gj_proof.specs.ProofText.{IsBoundedRule}
 use Rattle.gj_shape.specs.FunctionData.{IsWithinBounds}
 use Rattle.gj_shape.specs.Values.{IsValueAt}
 use Rattle.gj_shape.proofs.LeastDenominator.{denominator_some}
 use Rattle.gj_proof.specs.declared.cut.CutRule.{CutRule}
 use Rattle.gj_proof.specs.Rules.{MeetsValue, IsGmicAt}
-use Rattle.gj_check.specs.CutRows.{IsBoundedRule, GivesCut}
+use Rattle.gj_check.specs.CutRows.{GivesCut}
 use Rattle.gj_check.proofs.FractionalParts.{one_gmic}
 use Rattle.gj_check.proofs.ValuesOfCuts.{one_value}
 use Rattle.gj_check.proofs.cut_values.has_value.Goals as goal

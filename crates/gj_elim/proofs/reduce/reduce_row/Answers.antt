@@ -1,7 +1,7 @@
 use Rattle.std.proofs.Common.{rules, length, pos, get_or, [], ◌∷◌, ◌++◌, sym, ap, subst, ◌∙◌, arith}
 use Rattle.std.specs.Prelude.{All}
 use Rattle.gj_shape.specs.Elimination.{inserted}
-use Rattle.gj_theory.specs.Fitting.{Fits}
+use Rattle.gj_frac.specs.Fraction.{Fits}
 use Rattle.gj_elim.specs.KeptRows.{kept_rows}
 use Rattle.gj_theory.proofs.WideNumbers.{some_from_bits, zero_from_bits}
 use Rattle.gj_elim.proofs.Places.{place_found, place_none, entries_at, row_read, pivot_row}

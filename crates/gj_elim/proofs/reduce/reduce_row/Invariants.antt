@@ -1,7 +1,7 @@
 use Rattle.std.proofs.Common.{length}
 use Rattle.std.specs.Prelude.{All}
 use Rattle.gj_shape.specs.Elimination.{inserted}
-use Rattle.gj_theory.specs.Fitting.{Fits}
+use Rattle.gj_frac.specs.Fraction.{Fits}
 use Rattle.gj_elim.specs.KeptRows.{kept_rows}
 use Rattle.gj_elim.proofs.Progressing.{IsBehind, rest}
 use Rattle.gj_elim.proofs.reduce.reduce_row.Given as goal

@@ -2,7 +2,7 @@ use Rattle.std.proofs.Common.{rules, ◌*ℤ◌, pos, get_or, subst, below_more,
 use Rattle.std.proofs.lemmas.Int.{to_z-of_z}
 use mir.Syntax.{w128}
 use Rattle.gj_frac.proofs.Refusals.{on_err}
-use Rattle.gj_theory.specs.Fitting.{Fits}
+use Rattle.gj_frac.specs.Fraction.{Fits}
 use Rattle.gj_theory.proofs.DividedRows.{over_more, over_same}
 use Rattle.gj_elim.proofs.Solving.{scaled_wide, scaled_narrow}
 use Rattle.gj_elim.proofs.solve.multiply.Goals as goal

@@ -1,6 +1,6 @@
 use Rattle.std.proofs.Common.{◌≡◌, ℕ, ◌<◌, ◌*ℤ◌, ◌++◌, map, take, drop}
 use Rattle.gj_shape.specs.Elimination.{at_column}
-use Rattle.gj_theory.specs.Fitting.{Fits}
+use Rattle.gj_frac.specs.Fraction.{Fits}
 use Rattle.gj_elim.proofs.solve.multiply.Given as goal
 
 abbrev pub invariant-loop-x : goal.invariant-loop-x

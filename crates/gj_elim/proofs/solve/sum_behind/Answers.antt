@@ -2,7 +2,7 @@ use Rattle.std.proofs.Common.{rules, pos, get_or, sym, subst, ◌∙◌, arith}
 use Rattle.std.proofs.lemmas.Int.{to_z-of_z}
 use mir.Syntax.{w128}
 use Rattle.gj_frac.proofs.Refusals.{on_err}
-use Rattle.gj_theory.specs.Fitting.{Fits}
+use Rattle.gj_frac.specs.Fraction.{Fits}
 use Rattle.gj_elim.proofs.Solving.{summed_more, summed_wide_product, summed_wide_sum}
 use Rattle.gj_elim.proofs.solve.sum_behind.Goals as goal
 

@@ -1,7 +1,7 @@
 use Rattle.std.proofs.Common.{rules, List, ℤ, ℕ, ◌<◌, ◌≡◌, ◌^◌, pos, get_or, int_div, sym, subst, arith}
 use Rattle.std.specs.Prelude.{All}
 use Rattle.gj_shape.specs.Elimination.{gcd_of_row}
-use Rattle.gj_theory.specs.Fitting.{Fits}
+use Rattle.gj_frac.specs.Fraction.{Fits}
 use Rattle.gj_theory.proofs.RowGcds.{gcd_of_row_small}
 use Rattle.gj_theory.proofs.WideNumbers.{fits_natural}
 use Rattle.gj_theory.proofs.DividedRows.{over_more, over_all, read_quotient, quotient_fits, divided_fits, divided_small, divided_large}

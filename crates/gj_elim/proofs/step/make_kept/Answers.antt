@@ -2,7 +2,7 @@ use Rattle.std.proofs.Common.{rules, ◌≡◌, pos, get_or, neg_ℤ, map, sym, 
 use Rattle.std.specs.Prelude.{All}
 use Rattle.std.proofs.lemmas.Int.{to_z-of_z}
 use mir.Syntax.{w128}
-use Rattle.gj_theory.specs.Fitting.{Fits}
+use Rattle.gj_frac.specs.Fraction.{Fits}
 use Rattle.gj_theory.proofs.DividedRows.{over_more, over_all, over_open, read_negated, all_negated, kept_negative, kept_positive}
 use Rattle.gj_elim.proofs.step.make_kept.Goals as goal
 

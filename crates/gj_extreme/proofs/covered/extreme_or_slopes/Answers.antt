@@ -1,11 +1,10 @@
 use Rattle.std.proofs.Common.{◌≡◌, ◌<◌, length, map, sym, ap, subst, ◌∙◌, arith}
 use Rattle.std.specs.Prelude.{All}
 use Rattle.gj_shape.specs.Additive.{IsTight}
-use Rattle.gj_shape.specs.SlopeRows.{row_names}
+use Rattle.gj_shape.specs.SlopeRows.{row_names, component_in}
 use Rattle.gj_theory.proofs.Eliminations.{elimination_has}
 use Rattle.gj_theory.proofs.Triangular.{rank_at_most}
 use Rattle.gj_elim.proofs.Keeping.{same_error}
-use Rattle.gj_system.specs.Components.{component_in}
 use Rattle.gj_extreme.specs.Decision.{AreAllCovered, slope_elimination, group_of}
 use Rattle.gj_extreme.proofs.ClaimTexts.{extreme_has_text}
 use Rattle.gj_extreme.proofs.CoveredNumbers.{numbers_below, are_all_covered}

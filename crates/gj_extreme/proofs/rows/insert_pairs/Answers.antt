@@ -1,6 +1,6 @@
 use Rattle.std.proofs.Common.{◌+◌, ◌++◌, sym, ap, subst, arith}
+use Rattle.gj_shape.specs.SlopeRows.{component_in}
 use Rattle.gj_elim.proofs.Keeping.{same_error}
-use Rattle.gj_system.specs.Components.{component_in}
 use Rattle.gj_extreme.specs.RowsToCome.{AreToCome, pairs_from, rows_from}
 use Rattle.gj_extreme.proofs.RowOrder.{next_rows, no_pairs, next_pair, skipped_pair}
 use Rattle.gj_extreme.proofs.TakenRows.{rows_are_ready}

@@ -1,5 +1,5 @@
 use Rattle.std.proofs.Common.{◌+◌, ◌++◌}
-use Rattle.gj_system.specs.Components.{component_in}
+use Rattle.gj_shape.specs.SlopeRows.{component_in}
 use Rattle.gj_extreme.specs.RowsToCome.{AreToCome, pairs_from, rows_from}
 use Rattle.gj_extreme.proofs.rows.insert_pairs.Given as goal
 

@@ -1,7 +1,7 @@
 use Rattle.std.proofs.Common.{◌∷◌, subst, arith}
+use Rattle.gj_shape.specs.SlopeRows.{component_in}
 use Rattle.gj_shape.specs.declared.extremality.RowName.TheVariants.{F}
 use Rattle.gj_elim.proofs.Keeping.{same_error}
-use Rattle.gj_system.specs.Components.{component_in}
 use Rattle.gj_extreme.specs.RowsToCome.{AreToCome, rows_from}
 use Rattle.gj_extreme.proofs.RowOrder.{no_rows}
 use Rattle.gj_extreme.proofs.TakenRows.{rows_are_ready, full_takes_any, all_inserted}

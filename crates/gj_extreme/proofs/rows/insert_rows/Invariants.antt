@@ -1,5 +1,5 @@
-use Rattle.gj_system.specs.Components.{component_in}
 use Rattle.gj_extreme.specs.RowsToCome.{AreToCome, rows_from}
+use Rattle.gj_shape.specs.SlopeRows.{component_in}
 use Rattle.gj_extreme.proofs.rows.insert_rows.Given as goal
 
 abbrev pub invariant-loop-a : goal.invariant-loop-a

@@ -1,6 +1,6 @@
 use Rattle.std.proofs.Common.{subst₂}
+use Rattle.gj_shape.specs.SlopeRows.{component_in}
 use Rattle.gj_shape.specs.Elimination.{Passes}
-use Rattle.gj_system.specs.Components.{component_in}
 use Rattle.gj_extreme.specs.Decision.{slope_elimination}
 use Rattle.gj_extreme.proofs.rows.rows_of.Goals as goal
 

@@ -1,10 +1,10 @@
 use Rattle.std.proofs.Common.{◌≡◌, ◌<◌, length, map, sym, ap, subst, ◌∙◌}
 use Rattle.std.specs.Prelude.{All, IfSome}
 use Rattle.std.specs.List.{range_with_len}
-use Rattle.gj_theory.specs.Fitting.{Fits}
+use Rattle.gj_frac.specs.Fraction.{Fits}
+use Rattle.gj_shape.specs.SlopeRows.{component_in}
 use Rattle.gj_shape.specs.Elimination.{kernel}
 use Rattle.gj_perturb.specs.SlopeSums.{slope_sum, IsWideSum}
-use Rattle.gj_system.specs.Components.{component_in}
 use Rattle.gj_extreme.proofs.FaultCases.{wide_elimination, wide_split, no_jump_elimination, no_jump_split}
 use Rattle.gj_extreme.proofs.FoundKernel.{kernel_found, kernel_covers, kernel_is_small}
 use Rattle.gj_extreme.proofs.ListedHalves.{sums_are, sums_can_split, slope_halves_are}

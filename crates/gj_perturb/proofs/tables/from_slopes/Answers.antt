@@ -2,7 +2,8 @@ use Rattle.std.proofs.Common.{◌≡◌, ◌+◌, ◌-◌, ◌<◌, ◌++◌, �
 use Rattle.std.specs.List.{range_with_len}
 use Rattle.std.proofs.lemmas.Int.{to_z-of_z}
 use Rattle.std.proofs.lemmas.List.{get_or-take, length-take}
-use Rattle.gj_perturb.specs.SlopeSums.{Fits, slope_at, slope_sum}
+use Rattle.gj_frac.specs.Fraction.{Fits}
+use Rattle.gj_perturb.specs.SlopeSums.{slope_at, slope_sum}
 use Rattle.gj_perturb.proofs.SlopeValues.{first_sum, one_sum_more, wide_sum}
 use Rattle.gj_perturb.proofs.tables.from_slopes.Goals as goal
 use mir.Syntax.{w128}

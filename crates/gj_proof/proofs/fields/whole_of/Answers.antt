@@ -1,8 +1,8 @@
 use Rattle.std.proofs.Common.{◌≡◌, pos, ap, sym, subst, ◌∙◌, arith}
 use Rattle.std.specs.Fmt.{signed_decimal}
 use Rattle.std.proofs.lemmas.Int.{ints}
+use Rattle.gj_frac.specs.Fraction.{Fits}
 use Rattle.gj_lex.proofs.CanonicalTexts.{within_bits}
-use Rattle.gj_proof.specs.ProofText.{FitsPair}
 use Rattle.gj_proof.proofs.WholeNumbers.{text_over_one, no_whole, not_over_one}
 use Rattle.gj_proof.proofs.fields.whole_of.Goals as goal
 
@@ -20,5 +20,5 @@ returns-clause-found c =
     let one : x.den ≡ pos 1 = sym c.den.ensures ∙ omega (arith, ints) in
     let same = within_bits c.num.result x.num c.num.ensures x.lowest.num_fits in (
       c.in_ok-x.ensures.found ∙ text_over_one x one ∙ ap signed_decimal (sym same),
-      subst FitsPair (sym same) x.lowest.num_fits,
+      subst Fits (sym same) x.lowest.num_fits,
     )

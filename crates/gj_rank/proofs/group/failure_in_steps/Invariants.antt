@@ -1,6 +1,6 @@
 use Rattle.std.proofs.Common.{List, All}
 use Rattle.gj_shape.specs.Elimination.{KeptRow}
-use Rattle.gj_theory.specs.Fitting.{Fits}
+use Rattle.gj_frac.specs.Fraction.{Fits}
 use Rattle.gj_rank.specs.KeptTable.{AreRowsAt}
 use Rattle.gj_rank.proofs.StepsInTurn.{AreStepped}
 use Rattle.gj_rank.proofs.group.failure_in_steps.Given as goal

@@ -5,11 +5,10 @@ use Rattle.gj_shape.specs.declared.extremality.RowName.{RowName}
 use Rattle.gj_rank.specs.GroupOutcomes.{FailsGroup, IsGroupOutcome}
 use Rattle.gj_proof.specs.declared.pivot.PivotRow.{PivotRow}
 use Rattle.gj_rank.proofs.GroupDemands.{first_group_failure, all_groups_hold}
-use Rattle.gj_shape.specs.SlopeRows.{row_of}
+use Rattle.gj_shape.specs.SlopeRows.{row_of, component_in}
 use Rattle.gj_proof.specs.PresentRows.{rows_before, named_row}
 use Rattle.gj_proof.specs.ProofText.{IsRowNameBelow}
-use Rattle.gj_rank.specs.Components.{component_in}
-use Rattle.gj_theory.specs.Fitting.{Fits}
+use Rattle.gj_frac.specs.Fraction.{Fits}
 use Rattle.gj_rank.proofs.RowSizes.{row_fits}
 use Rattle.gj_rank.proofs.GroupsInTurn.{checked_start, checked_more, checked_all}
 use Rattle.gj_rank.proofs.groups.failure_in_turn.Goals as goal

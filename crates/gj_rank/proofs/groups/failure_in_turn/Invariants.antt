@@ -1,5 +1,5 @@
 use Rattle.std.proofs.Common.{length}
-use Rattle.gj_rank.specs.Components.{component_in}
+use Rattle.gj_shape.specs.SlopeRows.{component_in}
 use Rattle.gj_rank.proofs.GroupsInTurn.{AreChecked}
 use Rattle.gj_rank.proofs.groups.failure_in_turn.Given as goal
 

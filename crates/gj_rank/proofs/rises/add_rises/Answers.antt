@@ -1,5 +1,5 @@
 use Rattle.std.proofs.Common.{◌^◌, pos, get_or, arith}
-use Rattle.gj_rank.specs.Components.{component_in}
+use Rattle.gj_shape.specs.SlopeRows.{component_in}
 use Rattle.gj_theory.proofs.RiseCounts.{added_more, added_small, one_more_fits, read_one_more, component_below}
 use Rattle.gj_rank.proofs.rises.add_rises.Goals as goal
 

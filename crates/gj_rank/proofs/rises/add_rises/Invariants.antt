@@ -1,5 +1,5 @@
-use Rattle.gj_rank.specs.Components.{component_in}
 use Rattle.gj_theory.proofs.RiseCounts.{HasAdded}
+use Rattle.gj_shape.specs.SlopeRows.{component_in}
 use Rattle.gj_rank.proofs.rises.add_rises.Given as goal
 
 abbrev pub invariant-loop-i : goal.invariant-loop-i

@@ -1,5 +1,5 @@
 use Rattle.std.proofs.Common.{◌^◌, pos, get_or, arith}
-use Rattle.gj_rank.specs.Components.{component_in}
+use Rattle.gj_shape.specs.SlopeRows.{component_in}
 use Rattle.gj_theory.proofs.RiseCounts.{subtracted_more, subtracted_small, one_less_fits, read_one_less, component_below}
 use Rattle.gj_rank.proofs.rises.subtract_rises.Goals as goal
 

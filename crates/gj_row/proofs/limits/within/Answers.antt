@@ -21,7 +21,7 @@ returns-then-multiple-clause-refused c = (
   c.in-Some.is,
   c.if-not-is_small.ensures.0 refl,
   λ m low high a b.
-      let lcm = c.least_common_multiple-multiple.ensures in
+      let lcm = c.lcm-multiple.ensures in
       let den : c.in-Some-small_denominator.den ∣ m = subst (λ n. n ∣ m) (sym c.in-Some-small_denominator.ensures.1) b in
       let less = le_of_dvd low (lcm.2 m a den) in
       omega (arith, c.if-multiple.true),
@@ -30,7 +30,7 @@ returns-then-multiple-clause-refused c = (
 pub returns-clause-least : goal.returns-clause-least
 returns-clause-least c = record {
   small = c.if-not-is_small.ensures.0 refl;
-  least = subst (λ n. IsLcm c.args.scale n c.least_common_multiple-multiple.result) c.in-Some-small_denominator.ensures.1
-      c.least_common_multiple-multiple.ensures;
+  least = subst (λ n. IsLcm c.args.scale n c.lcm-multiple.result) c.in-Some-small_denominator.ensures.1
+      c.lcm-multiple.ensures;
   high = omega (arith, c.if-multiple.false);
 }

@@ -1,6 +1,5 @@
 use Rattle.std.proofs.Common.{ℕ, ◌+◌, ◌%◌, ◌^◌, length, sym, ap, ap₂, subst, ◌∙◌, arith}
-use Rattle.gj_shape.specs.SlopeRows.{row_of as row_entries}
-use Rattle.gj_system.specs.Components.{component_in}
+use Rattle.gj_shape.specs.SlopeRows.{row_of as row_entries, component_in}
 use Rattle.gj_theory.proofs.RiseCounts.{HasSubtracted, all_added_small, zeros_small, row_of_one, row_of_three}
 use Rattle.gj_system.proofs.rows.fill.Goals as goal
 

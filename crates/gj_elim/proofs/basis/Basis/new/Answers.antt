@@ -3,7 +3,7 @@ use Rattle.std.specs.Prelude.{All}
 use Rattle.std.proofs.lemmas.List.Elements.{All-nil}
 use Rattle.gj_theory.specs.TriangularRows.{AreTriangular}
 use Rattle.gj_theory.proofs.Eliminations.{no_rows_triangular}
-use Rattle.gj_theory.specs.Fitting.{Fits}
+use Rattle.gj_frac.specs.Fraction.{Fits}
 use Rattle.gj_elim.specs.KeptRows.{kept_rows}
 use Rattle.gj_elim.proofs.basis.Basis.new.Goals as goal
 

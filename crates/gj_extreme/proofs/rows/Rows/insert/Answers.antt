@@ -1,11 +1,10 @@
 use Rattle.std.proofs.Common.{◌++◌, ◌∷◌, [], length, sym, ap, ap₂, ◌∙◌, subst, arith}
 use Rattle.std.proofs.lemmas.List.{with_items_is}
 use Rattle.gj_shape.specs.Elimination.{inserted, Passes}
-use Rattle.gj_shape.specs.SlopeRows.{row_of}
+use Rattle.gj_shape.specs.SlopeRows.{row_of, component_in}
 use Rattle.gj_elim.specs.Data.{behind}
 use Rattle.gj_elim.specs.KeptRows.{answer_of}
 use Rattle.gj_elim.proofs.Keeping.{same_error}
-use Rattle.gj_system.specs.Components.{component_in}
 use Rattle.gj_extreme.proofs.TakenRows.{row_is_kept, row_is_nothing, row_is_wide, full_takes_any, not_full}
 use Rattle.gj_extreme.proofs.rows.Rows.insert.Goals as goal
 

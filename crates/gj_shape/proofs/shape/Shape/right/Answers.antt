@@ -12,5 +12,5 @@ returns c =
     let within : c.args.i < length xs = omega (arith, c.self.invariant.right_length) in
     let read : to_z w64 (of_z w64 c.index.result.now) ≡ at xs c.args.i =
     to_z-of_z w64 c.index.result.now (search rules) ∙ sym (at_read xs c.args.i c.index.result.now within c.index.ensures) in
-    let over = subst (λ n. IsRatio c.over.result n (pos c.self.inside.scale)) read c.over.ensures in
-    subst (λ (f : FunctionData). IsRatio c.over.result (at f.right c.args.i) (pos f.scale)) c.self.view_is over
+    let over = subst (λ n. IsRatio c.ratio.result n (pos c.self.inside.scale)) read c.ratio.ensures in
+    subst (λ (f : FunctionData). IsRatio c.ratio.result (at f.right c.args.i) (pos f.scale)) c.self.view_is over

@@ -1,6 +1,7 @@
 use Rattle.std.proofs.Common.{◌≡◌, ◌<◌, ◌+◌, get_or, length, ap, ◌∙◌, zero-add, arith}
 use Rattle.std.proofs.lemmas.List.FromFn.{length-map-range_with_len, get_or-map-range_with_len}
-use Rattle.gj_system.specs.Components.{component_in, rises_at}
+use Rattle.gj_shape.specs.SlopeRows.{component_in}
+use Rattle.gj_system.specs.Components.{rises_at}
 use Rattle.gj_system.proofs.counted.SlopeRows.counts_before.Goals as goal
 
 pub index-requires : goal.index-requires

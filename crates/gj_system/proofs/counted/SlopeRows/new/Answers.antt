@@ -1,7 +1,7 @@
 use Rattle.std.proofs.Common.{◌≡◌, ◌<◌, ◌+◌, ◌++◌, ◌∷◌, [], get_or, length, refl, sym, ap, ap₂, ◌∙◌, arith}
 use Rattle.std.proofs.lemmas.List.{get_or_default}
 use Rattle.std.proofs.lemmas.List.Elements.{All-get_or}
-use Rattle.gj_system.specs.Components.{component_in}
+use Rattle.gj_shape.specs.SlopeRows.{component_in}
 use Rattle.gj_system.proofs.RowCounts.{no_counts, length-rises_at, one_count_more, one_point_more, count_at_most}
 use Rattle.gj_system.proofs.counted.SlopeRows.new.Goals as goal
 

@@ -1,7 +1,7 @@
 use Rattle.std.proofs.Common.{◌≡◌, ◌<◌, ◌+◌, ◌%◌, ◌^◌, length, sym, ap, ap₂, subst, ◌∙◌, arith}
 use Rattle.std.specs.Prelude.{All, unsigned_abs}
-use Rattle.gj_shape.specs.SlopeRows.{row_of}
-use Rattle.gj_system.specs.Components.{component_in, rises_at}
+use Rattle.gj_shape.specs.SlopeRows.{row_of, component_in}
+use Rattle.gj_system.specs.Components.{rises_at}
 use Rattle.gj_system.proofs.RowCounts.{length-rises_at, row_of_rises, row_of_slacks, entries_small}
 use Rattle.gj_system.proofs.counted.SlopeRows.write_row.Goals as goal
 

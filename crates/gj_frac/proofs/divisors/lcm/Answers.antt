@@ -3,7 +3,7 @@ use Rattle.std.specs.Int.{IsGcd}
 use Rattle.std.proofs.Math.Nat.{div-mul_cancel}
 use Rattle.std.proofs.lemmas.Nat.Gcd.{le_of_dvd}
 use Rattle.gj_tools.proofs.Divisors.{gcd_positive, lcm_from_gcd}
-use Rattle.gj_shape.proofs.denominators.least_common_multiple.Goals as goal
+use Rattle.gj_frac.proofs.divisors.lcm.Goals as goal
 
 pub overflow_cast-divisor : goal.overflow_cast-divisor
 overflow_cast-divisor c =
