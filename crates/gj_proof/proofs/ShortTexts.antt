@@ -1,24 +1,33 @@
 -- Proof texts are short.
-use Rattle.std.proofs.Common.{◌≡◌, ℕ, ◌+◌, ◌*◌, ◌≤◌, ℤ, List, [], ◌∷◌, ◌++◌, All, length, flat_map, zip, codes, decimal, ap, arith}
+use Rattle.std.proofs.Common.{◌≡◌, ℕ, ◌+◌, ◌*◌, ◌<◌, ◌≤◌, ℤ, List, [], ◌∷◌, ◌++◌, All, length, flat_map, zip, codes, decimal, ap, arith}
 use Rattle.std.specs.Fmt.{signed_decimal}
+use Rattle.std.proofs.lemmas.Fmt.{length-decimal-le_wide}
 use Rattle.std.proofs.lemmas.Int.{ints}
 use Rattle.std.proofs.lemmas.List.{length-append}
 use Rattle.std.proofs.lemmas.List.Elements.{All-head, All-tail}
 use Rattle.gj_frac.specs.Fraction.{Fits}
+use Rattle.gj_shape.specs.FunctionData.{FunctionData, IsWithinBounds}
 use Rattle.gj_shape.specs.Perturbation.{AreHalvesInBounds}
 use Rattle.gj_lex.specs.NumberText.{fraction_text}
 use Rattle.gj_lex.proofs.SpelledWords.{fraction_is_short, count_is_short}
+use Rattle.gj_shape.specs.declared.extremality.CoverLine.{CoverLine}
 use Rattle.gj_shape.specs.declared.extremality.Halves.{Halves}
+use Rattle.gj_shape.specs.declared.extremality.RowName.{RowName}
+use Rattle.gj_shape.specs.declared.extremality.RowName.TheVariants.{Period, F, Pair}
+use Rattle.gj_shape.specs.declared.faces.FaceKind.{FaceKind}
+use Rattle.gj_shape.specs.declared.faces.FaceKind.TheVariants.{Vertex, Horizontal, Vertical, Diagonal, Lower, Upper}
 use Rattle.gj_shape.specs.declared.violations.Violation.{Violation}
 use Rattle.gj_shape.specs.declared.violations.Violation.TheVariants as violation
+use Rattle.gj_lines.specs.FaceLines.{face_word, face_text, cover_line}
 use Rattle.gj_lines.specs.FunctionLines.{line}
 use Rattle.gj_lines.proofs.StrictFunctions.{function_lines_are_short}
-use Rattle.gj_proof.specs.ProofText.{IsBounded, IsShort, own_lines, violation_line, halves_line, pair_line, IsProofText}
-use Rattle.gj_proof.specs.ExtremeTexts.{halves_text}
+use Rattle.gj_proof.specs.ProofText.{IsBounded, IsShort, own_lines, violation_line, group_line, reduction_line, pivot_line, halves_line, pair_line, IsCoverLineBelow, IsRowNameBelow, IsPivotRowBelow, HaveFewSteps, IsProofText}
+use Rattle.gj_proof.specs.ExtremeTexts.{group_text, halves_text}
 use Rattle.gj_proof.specs.declared.claim.Claim.{Claim}
 use Rattle.gj_proof.specs.declared.claim.Claim.TheVariants.{Minimal, NotMinimal, Cut, Extreme, NotExtreme}
+use Rattle.gj_proof.specs.declared.pivot.PivotRow.{PivotRow}
 use Rattle.gj_proof.proofs.LineLists.{bytes}
-use Rattle.gj_proof.proofs.ExtremeLines.{halves_bytes}
+use Rattle.gj_proof.proofs.ExtremeLines.{extreme_bytes, halves_bytes}
 use Rattle.gj_proof.proofs.WholeNumbers.{whole_is_short}
 
 line_is_long : (a b : List ℕ) → length (line (a ++ b)) ≡ length a + length b + 1
@@ -114,4 +123,118 @@ text_is_short (NotExtreme f h) text few b p =
           (line (codes "end")),
       function_lines_are_short f p.subject b p.are_subject_lines,
       halves_are_short h p.has_text,
+    )
+
+-- ---- texts of extreme functions
+
+face_word_is_short : (kind : FaceKind) → length (face_word kind) ≤ 10
+face_word_is_short Vertex = omega arith
+face_word_is_short Horizontal = omega arith
+face_word_is_short Vertical = omega arith
+face_word_is_short Diagonal = omega arith
+face_word_is_short Lower = omega arith
+face_word_is_short Upper = omega arith
+
+cover_is_short : (q : ℕ) (l : CoverLine) → q ≤ 1000 → IsCoverLineBelow q l → length (cover_line l) ≤ 61
+cover_is_short q l small h =
+    let interval = h.interval in
+    let from = h.from in
+    let first = h.first in
+    let second = h.second in
+    omega (
+      arith,
+      count_is_short l.interval (omega arith),
+      count_is_short l.from (omega arith),
+      count_is_short l.face.a (omega arith),
+      count_is_short l.face.b (omega arith),
+      face_word_is_short l.face.kind,
+      line_is_long (codes "cover " ++ decimal l.interval ++ codes " " ++ decimal l.from ++ codes " ") (face_text l.face),
+      length-append (codes "cover " ++ decimal l.interval ++ codes " " ++ decimal l.from) (codes " "),
+      length-append (codes "cover " ++ decimal l.interval ++ codes " ") (decimal l.from),
+      length-append (codes "cover " ++ decimal l.interval) (codes " "),
+      length-append (codes "cover ") (decimal l.interval),
+      length-append (face_word l.face.kind ++ codes " " ++ decimal l.face.a ++ codes " ") (decimal l.face.b),
+      length-append (face_word l.face.kind ++ codes " " ++ decimal l.face.a) (codes " "),
+      length-append (face_word l.face.kind ++ codes " ") (decimal l.face.a),
+      length-append (face_word l.face.kind) (codes " "),
+    )
+
+covers_are_short : (q : ℕ) (lines : List CoverLine) → q ≤ 1000 → All (IsCoverLineBelow q) lines →
+    length (flat_map cover_line lines) ≤ 61 * length lines
+covers_are_short q [] small h = omega arith
+covers_are_short q (l ∷ lines) small h =
+    omega (
+      arith,
+      cover_is_short q l small (All-head (IsCoverLineBelow q) l lines h),
+      covers_are_short q lines small (All-tail (IsCoverLineBelow q) l lines h),
+      length-append (cover_line l) (flat_map cover_line lines),
+    )
+
+row_name_is_short : (q : ℕ) (name : RowName) → q ≤ 1000 → IsRowNameBelow q name → length (group_line name) ≤ 26
+row_name_is_short q Period small h = omega arith
+row_name_is_short q F small h = omega arith
+row_name_is_short q (Pair a b) small h =
+    omega (
+      arith,
+      count_is_short a (omega (arith, h.1, h.2)),
+      count_is_short b (omega (arith, h.2)),
+      line_is_long (codes "row ") (decimal a ++ codes " " ++ decimal b),
+      length-append (decimal a ++ codes " ") (decimal b),
+      length-append (decimal a) (codes " "),
+    )
+
+-- a column has three digits at most
+column_is_short : (c : ℕ) → c < 1000 → length (decimal c) ≤ 3
+column_is_short c small = length-decimal-le_wide 3 c (omega arith) (omega arith) (omega arith)
+
+steps_are_short : (columns : List ℕ) → All (λ c. c < 1000) columns → length (flat_map reduction_line columns) ≤ 11 * length columns
+steps_are_short [] h = omega arith
+steps_are_short (c ∷ columns) h =
+    omega (
+      arith,
+      column_is_short c (All-head (λ c. c < 1000) c columns h),
+      steps_are_short columns (All-tail (λ c. c < 1000) c columns h),
+      line_is_long (codes "reduce ") (decimal c),
+      length-append (reduction_line c) (flat_map reduction_line columns),
+    )
+
+group_is_short : (q : ℕ) (row : PivotRow) → q ≤ 1000 → IsPivotRowBelow q row → length row.reduce ≤ 1000 → length (group_text row) ≤ 11036
+group_is_short q row small h few =
+    omega (
+      arith,
+      row_name_is_short q row.name small h.name,
+      steps_are_short row.reduce h.reduce,
+      column_is_short row.pivot h.pivot,
+      line_is_long (codes "pivot ") (decimal row.pivot),
+      length-append (group_line row.name ++ flat_map reduction_line row.reduce) (pivot_line row.pivot),
+      length-append (group_line row.name) (flat_map reduction_line row.reduce),
+    )
+
+groups_are_short : (q : ℕ) (rows : List PivotRow) → q ≤ 1000 → All (IsPivotRowBelow q) rows → All (λ row. length row.reduce ≤ 1000) rows →
+    length (flat_map group_text rows) ≤ 11036 * length rows
+groups_are_short q [] small h few = omega arith
+groups_are_short q (row ∷ rows) small h few =
+    omega (
+      arith,
+      group_is_short q row small (All-head (IsPivotRowBelow q) row rows h) (All-head (λ r. length r.reduce ≤ 1000) row rows few),
+      groups_are_short q rows small (All-tail (IsPivotRowBelow q) row rows h) (All-tail (λ r. length r.reduce ≤ 1000) row rows few),
+      length-append (group_text row) (flat_map group_text rows),
+    )
+
+pub extreme_text_is_short : (f : FunctionData) (lines : List CoverLine) (rows : List PivotRow) (text : List ℕ) → IsWithinBounds f →
+    HaveFewSteps rows → IsProofText (Extreme f lines rows) text → length text ≤ 12000000
+extreme_text_is_short f lines rows text b few p =
+    let small = b.order_high in
+    let groups = few.groups in
+    let count = p.has_text.0 in
+    omega (
+      arith,
+      ap length p.spelled,
+      ap length (extreme_bytes lines rows),
+      text_is_long (line (codes "gj-proof 1")) (line (codes "claim extreme")) p.subject (bytes (own_lines (Extreme f lines rows)))
+          (line (codes "end")),
+      length-append (flat_map cover_line lines) (flat_map group_text rows),
+      function_lines_are_short f p.subject b p.are_subject_lines,
+      covers_are_short f.order lines small p.has_text.1,
+      groups_are_short f.order rows small p.has_text.2 few.steps,
     )

@@ -259,6 +259,11 @@ pub record IsPivotRowBelow (q : ℕ) (row : PivotRow) : Type 0 where
   pub reduce : All (λ c. c < 1000) row.reduce
   pub pivot : row.pivot < 1000
 
+-- at most 1,000 groups, and at most 1,000 steps in each
+pub record HaveFewSteps (rows : List PivotRow) : Type 0 where
+  pub groups : length rows ≤ 1000
+  pub steps : All (λ row. length row.reduce ≤ 1000) rows
+
 -- the ranges and counts of the claim are those of the form; names are names by their type
 abbrev pub HasText : Claim → Type 0
 HasText (Minimal f) = Unit {0}

@@ -27,8 +27,8 @@ pub use claim::{Claim, Proof};
 pub use cut::{CutLine, CutRule, CutTerm, SkipReason};
 pub use faults::ProofFault;
 pub use laws::{
-    no_fault_in_proof_text, numbers_of_lines, one_first_fault, one_spelling, proof_text_is_short,
-    proof_texts_are_read,
+    extreme_proof_text_is_short, no_fault_in_proof_text, numbers_of_lines, one_first_fault,
+    one_spelling, proof_text_is_short, proof_texts_are_read,
 };
 pub use pivot::PivotRow;
 pub use read::read_proof;
