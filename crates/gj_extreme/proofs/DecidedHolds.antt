@@ -1,5 +1,5 @@
 -- What the decision gives holds.
-use Rattle.std.proofs.Common.{inl, inr, ◌*◌, List, map, sym, subst}
+use Rattle.std.proofs.Common.{inl, inr, ◌*◌, List, map, sym, subst, arith}
 use Rattle.std.proofs.lemmas.List.Elements.{All-nil, All-map}
 use Rattle.gj_shape.specs.Additive.{IsTight}
 use Rattle.gj_shape.specs.Elimination.{KeptRow}
@@ -45,7 +45,7 @@ decided_holds f (Extreme g lines rows) l h =
     subst (λ (x : FunctionData). ClaimHolds (Extreme x lines rows)) (sym h.0) (h.2, extreme_holds f lines rows l h.1 h.2 h.3)
 decided_holds f (NotExtreme g halves) l (is, minimal, continuous, inl zig) =
     subst (λ (x : FunctionData). ClaimHolds (NotExtreme x halves)) (sym is)
-    (continuous, minimal, (4, 3 * zig.halves.p, zig.halves.order, zig.halves.scale, zigzag_halves f halves l continuous minimal zig))
+    (continuous, minimal, (4, 3 * zig.halves.p, omega arith, zig.halves.order, zig.halves.scale, zigzag_halves f halves l continuous minimal zig))
 decided_holds f (NotExtreme g halves) l (is, minimal, continuous, inr slope) =
     subst (λ (x : FunctionData). ClaimHolds (NotExtreme x halves)) (sym is)
-    (continuous, minimal, (1, 3 * slope.halves.p, slope.halves.order, slope.halves.scale, slope_halves f halves l minimal slope))
+    (continuous, minimal, (1, 3 * slope.halves.p, omega arith, slope.halves.order, slope.halves.scale, slope_halves f halves l minimal slope))
