@@ -168,14 +168,22 @@ groups_below f component n kept (k ∷ more) few low h =
     (groups_below f component n (kept ++ k ∷ []) more few (All-append (λ r. r.pivot < n) kept (k ∷ []) low
     (All-cons (λ r. r.pivot < n) k [] pivot (All-nil (λ r. r.pivot < n)))) h.1)
 
+-- there are at most as many components as lines
+pub components_are_few : (f : FunctionData) (lines : List CoverLine) (component : ℕ → ℕ) (n : ℕ) → IsWithinBounds f →
+    AreAllCovered f lines component n → n ≤ 1000
+components_are_few f lines component n l h =
+    let len = lines_are_all f lines component n h in
+    let most = count_by-le-length (λ m. m.from == m.interval) lines in
+    let count = h.count in
+    let top = l.order_high in
+    omega arith
+
 pub extreme_has_text : (f g : FunctionData) (lines : List CoverLine) (rows : List PivotRow) → IsWithinBounds f → g ≡ f →
     AreExtremeRows f lines rows → HasText (claim.Extreme g lines rows)
 extreme_has_text f g lines rows l same h =
-    let len = lines_are_all f lines h.component h.n h.covered in
-    let most = count_by-le-length (λ m. m.from == m.interval) lines in
-    let few : h.n ≤ 1000 = let e = h.covered.count in let top = l.order_high in omega arith in
+    let few = components_are_few f lines h.component h.n l h.covered in
     subst (λ (x : FunctionData). HasText (claim.Extreme x lines rows)) (sym same) (
-      len,
+      lines_are_all f lines h.component h.n h.covered,
       lines_below_order f.order (IsTight f) lines h.covered.are_lines,
       subst (All (IsPivotRowBelow f.order)) (sym h.rows_are)
           (groups_below f h.component h.n [] (slope_elimination f h.component h.n).kept few (All-nil (λ k. k.pivot < h.n))

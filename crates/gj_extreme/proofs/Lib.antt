@@ -20,4 +20,5 @@ pub mod WideParts
 pub mod FaultCases
 pub mod FoundKernel
 pub mod ClaimTexts
+pub mod DecidedTexts
 pub mod ClaimRules

@@ -1,10 +1,10 @@
 //! Laws of the decision.
-ghost use Rattle.std.specs.Prelude.{ℕ, ◌≡◌, ◌*◌, ◌≤◌, ◌^◌, List};
+ghost use Rattle.std.specs.Prelude.{ℕ, ◌≡◌, ◌*◌, ◌≤◌, ◌^◌, List, length};
 ghost use Rattle.gj_shape.specs.FunctionData.{FunctionData, IsWithinBounds};
 ghost use Rattle.gj_shape.specs.Table.{IsMinimal};
 ghost use Rattle.gj_shape.specs.declared.extremality.CoverLine.{CoverLine};
 ghost use Rattle.gj_proof.specs.Meaning.{ClaimHolds};
-ghost use Rattle.gj_proof.specs.ProofText.{HasText};
+ghost use Rattle.gj_proof.specs.ProofText.{HasText, IsProofText};
 ghost use Rattle.gj_proof.specs.declared.claim.Claim.{Claim};
 ghost use Rattle.gj_extreme.specs.Decision.{AreAllCovered, IsDecided, IsTooWide};
 
@@ -15,6 +15,12 @@ pub fn decided_claims()
     ensures one { (f : FunctionData) (c d : Claim) → IsWithinBounds f → IsDecided f c → IsDecided f d → c ≡ d }
     ensures not_wide { (f : FunctionData) (c : Claim) → IsWithinBounds f → IsMinimal f → HasText c → IsDecided f c →
         IsTooWide f → ⊥ }
+{}
+
+/// The proof text of what the decision gives of a function within the limits is at most 12,000,000 bytes long.
+pub fn decided_texts_are_short()
+    ensures { (f : FunctionData) (c : Claim) (text : List ℕ) → IsWithinBounds f → IsDecided f c → IsProofText c text →
+        length text ≤ 12_000_000 }
 {}
 
 /// With at most four components no number is too wide.
