@@ -4,6 +4,7 @@ use Rattle.gj_shape.specs.FunctionData.{FunctionData}
 use Rattle.gj_proof.specs.declared.claim.Claim.{Claim}
 use Rattle.gj_proof.specs.declared.claim.Claim.TheVariants as claim
 use Rattle.gj_proof.specs.Rules.{MeetsRules}
+use Rattle.gj_extreme.proofs.DecidedTexts.{decided_is_bounded, decided_text_is_short}
 use Rattle.gj_top.specs.declared.reply.End.{End}
 use Rattle.gj_top.specs.declared.reply.End.TheVariants as end
 use Rattle.gj_top.specs.declared.status.Status.{Status}
@@ -20,7 +21,6 @@ use Rattle.gj_top.specs.Answer.IsAnswerTo.{too_long, refused, replied}
 use Rattle.gj_top.proofs.Clauses.{done_reply}
 use Rattle.gj_check.proofs.DemandsOfClaims.{no_failure}
 use Rattle.gj_top.proofs.CutClaims.{lines_are_bounded}
-use Rattle.gj_top.proofs.Extremality.{decided_is_bounded}
 use Rattle.gj_top.proofs.Sound.{check_sound}
 use Rattle.gj_top.proofs.TextLaws.{function_is_bounded, minimal_proof, not_minimal_proof, one_proof, proof_text_is_short}
 
@@ -99,9 +99,13 @@ good_decision input text r = record {
   rules = r.replied.rules;
 }
 
-pub decision_accepted : (input text answer : List ℕ) (s : Status) → length text ≤ input_limit → IsAnswerTo extreme input Done text →
-    IsAnswerTo check text s answer → s ≡ Done
-decision_accepted input text answer s short m a = accepted text answer s short (good_decision input text (done_reply extreme input text m)) a
+pub decision_accepted : (input text answer : List ℕ) (s : Status) → IsAnswerTo extreme input Done text → IsAnswerTo check text s answer → s ≡ Done
+decision_accepted input text answer s m a =
+    let r = done_reply extreme input text m in
+    let d = r.replied in
+    let short : length text ≤ 12000000 =
+    decided_text_is_short r.thing d.claim text (function_is_bounded input r.thing r.spelled) d.decided d.spelled in
+    accepted text answer s (omega arith) (good_decision input text r) a
 
 pub decision_accepted_reply : (input text answer : List ℕ) (e : End) → IsReply extreme input end.Done text →
     IsReply check text e answer → e ≡ end.Done

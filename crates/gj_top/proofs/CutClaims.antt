@@ -1,7 +1,6 @@
 -- The claim about the cuts of the rows of a tableau: every rule of the checker holds of it.
-use Rattle.std.proofs.Common.{◌≡◌, ◌≢◌, ℕ, suc, ◌+◌, ◌<◌, List, [], ◌∷◌, ◌++◌, All, AllPairs, length, map, get_or, refl, sym, ap, ap₂, subst, subst₂, ◌∙◌, append_assoc, arith}
+use Rattle.std.proofs.Common.{◌≡◌, ◌≢◌, ℕ, suc, ◌<◌, List, [], ◌∷◌, ◌++◌, All, AllPairs, length, map, get_or, refl, sym, ap, ap₂, subst, subst₂, ◌∙◌, append_assoc, arith}
 use Rattle.std.specs.List.{AllZip}
-use Rattle.std.specs.List.Sorted.{IsStrictlyIncreasing}
 use Rattle.std.proofs.lemmas.List.{map-append}
 use Rattle.std.proofs.lemmas.List.Elements.{All-nil, All-cons, All-head, All-tail, All-append, All-map}
 use Rattle.std.proofs.lemmas.List.Kept.{AllPairs-cons, AllPairs-from_increasing}
@@ -9,18 +8,18 @@ use Rattle.gj_frac.specs.declared.Frac.{Frac}
 use Rattle.gj_tools.proofs.Lists.{All-front, All-back}
 use Rattle.gj_shape.proofs.LeastDenominator.{Divides}
 use Rattle.gj_lex.specs.Name.{IsName}
-use Rattle.gj_row.specs.TableauLimits.{IsSmall, AreWithinLimits, IsWithinLimits, IsTableau, numbers_of}
+use Rattle.gj_row.specs.TableauLimits.{IsSmall, AreWithinLimits, IsWithinLimits, IsTableau}
 use Rattle.gj_row.specs.declared.tableau.Entry.{Entry}
 use Rattle.gj_row.specs.declared.tableau.Row.{Row}
 use Rattle.gj_row.specs.declared.tableau.Tableau.{Tableau}
 use Rattle.gj_proof.specs.ProofText.{HasNames, IsBounded, IsProofText, IsBoundedRule}
-use Rattle.gj_proof.specs.Rules.{MeetsLimit, MeetsName, MeetsValue}
+use Rattle.gj_proof.specs.Rules.{MeetsLimit, MeetsValue}
 use Rattle.gj_proof.specs.declared.claim.Claim.TheVariants as claim
 use Rattle.gj_proof.specs.declared.cut.CutLine.{CutLine}
 use Rattle.gj_proof.specs.declared.cut.CutLine.TheVariants.{Cut, Skip}
 use Rattle.gj_proof.specs.declared.cut.CutRule.{CutRule}
 use Rattle.gj_proof.specs.declared.cut.CutTerm.{CutTerm}
-use Rattle.gj_check.specs.CutRows.{MeetsTerm, MeetTerms, MeetsRow}
+use Rattle.gj_check.specs.CutRows.{MeetTerms, MeetsRow}
 use Rattle.gj_check.proofs.CutDemands.{cuts_meet}
 use Rattle.gj_check.proofs.RulesGiveMeaning.{meaning_of_rules}
 use Rattle.gj_top.specs.Cut.{CutInput, SpellsCutInput, IsTermFor, IsLineFor, AreCutsOf}

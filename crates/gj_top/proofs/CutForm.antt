@@ -1,5 +1,5 @@
 -- What follows a rule, and why no input of `cut` is both in its form and refused.
-use Rattle.std.proofs.Common.{◌≡◌, ℕ, List, sym, subst}
+use Rattle.std.proofs.Common.{◌≡◌, ℕ, List, subst}
 use Rattle.gj_proof.specs.ProofText.{IsBoundedRule}
 use Rattle.gj_lex.specs.declared.reason.Reason.{Reason}
 use Rattle.gj_ftext.specs.RuleText.{BeginsAsRule, IsFirstFaultOfRule}

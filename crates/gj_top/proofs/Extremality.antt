@@ -1,5 +1,5 @@
 -- The proof text of a decision keeps what is promised of it, and calls f extreme exactly where the table of order 4 q is.
-use Rattle.std.proofs.Common.{◌≡◌, ◌↔◌, ◌*◌, ◌<◌, ◌≤◌, ℕ, zero, suc, inl, inr, List, Result, Err, sym, subst, arith}
+use Rattle.std.proofs.Common.{◌≡◌, ◌↔◌, ◌*◌, ℕ, inl, inr, List, Result, Err, subst, arith}
 use Rattle.gj_shape.specs.FunctionData.{FunctionData, IsWithinBounds, IsContinuous, IsFirstJump, at}
 use Rattle.gj_shape.specs.Table.{table, IsMinimal}
 use Rattle.gj_shape.specs.Extreme.{IsExtreme, IsExtremeTable}
@@ -9,13 +9,13 @@ use Rattle.gj_theory.proofs.Fillings.{halves_deny}
 use Rattle.gj_theory.proofs.Violations.{violation_denies}
 use Rattle.gj_proof.specs.declared.claim.Claim.{Claim}
 use Rattle.gj_proof.specs.declared.claim.Claim.TheVariants.{Minimal, NotMinimal, Cut, Extreme, NotExtreme}
-use Rattle.gj_proof.specs.ProofText.{IsBounded, IsProofText}
+use Rattle.gj_proof.specs.ProofText.{IsProofText}
 use Rattle.gj_proof.specs.Meaning.{ClaimHolds, ShowHalves}
 use Rattle.gj_proof.proofs.OneText.{one_claim}
 use Rattle.gj_extreme.specs.Decision.{IsDecided, IsTooWide}
 use Rattle.gj_extreme.specs.declared.faults.DecideFault.{DecideFault}
 use Rattle.gj_extreme.specs.declared.faults.DecideFault.TheVariants as fault
-use Rattle.gj_top.specs.declared.reply.End.TheVariants.{Wide, NotContinuous}
+use Rattle.gj_extreme.proofs.DecidedTexts.{decided_is_bounded}
 use Rattle.gj_top.specs.Minimal.{IsNotMinimalText}
 use Rattle.gj_top.specs.Extreme.{IsDecisionText, IsExtremeText, IsNotExtremeText, IsTrueExtremality, IsUndecided, extreme}
 
@@ -50,14 +50,6 @@ by_claim f (Cut r rows) text d shown p = absurd d
 
 pub extremality_true : (f : FunctionData) (text : List ℕ) → IsDecisionText f text → IsTrueExtremality f text
 extremality_true f text d = by_claim f d.claim text d.decided d.holds d.spelled
-
--- a decided claim on a function within the limits is about one
-pub decided_is_bounded : (f : FunctionData) (c : Claim) → IsWithinBounds f → IsDecided f c → IsBounded c
-decided_is_bounded f (Extreme g lines rows) within d = subst IsWithinBounds (sym d.0) within
-decided_is_bounded f (NotExtreme g h) within d = subst IsWithinBounds (sym d.0) within
-decided_is_bounded f (NotMinimal g v) within d = subst IsWithinBounds (sym d.0) within
-decided_is_bounded f (Minimal g) within d = absurd d
-decided_is_bounded f (Cut r rows) within d = absurd d
 
 -- ---- order 4 q
 

@@ -1,6 +1,6 @@
 -- The command `cut`: a function or a rule, and a tableau behind it, are answered with the cuts of its rows (Gomory and Johnson
 -- 1972; the form is own).
-use Rattle.std.specs.Prelude.{ℕ, ◌≡◌, ◌⊎◌, List, [], ◌++◌, All, codes, decimal, get_or}
+use Rattle.std.specs.Prelude.{ℕ, ◌≡◌, List, [], ◌++◌, All, codes, decimal, get_or}
 use Rattle.std.specs.List.{AllZip}
 use Rattle.gj_shape.specs.FirstViolation.{IsFirstViolation}
 use Rattle.gj_shape.specs.Table.{IsMinimal}

@@ -17,7 +17,7 @@ ghost use Rattle.gj_top.specs.Cut.{cut};
 ghost use Rattle.gj_top.specs.Extreme.{IsExtremeText, extreme};
 ghost use Rattle.gj_top.specs.Answer.{IsAnswerTo, input_limit};
 
-/// Every proof that `minimal` writes is one that `check` accepts, and so is every proof that `cut` or `extreme` writes, where its
+/// Every proof that `minimal` or `extreme` writes is one that `check` accepts, and so is every proof that `cut` writes, where its
 /// text is within the limit of length of an input.
 pub fn written_proofs_are_accepted()
     ensures answer { (input text answer : List ℕ) (s : Status) →
@@ -28,7 +28,7 @@ pub fn written_proofs_are_accepted()
         IsAnswerTo cut input Done text → IsAnswerTo check text s answer → s ≡ Done }
     ensures cuts_reply { (input text answer : List ℕ) (e : End) →
         IsReply cut input end.Done text → IsReply check text e answer → e ≡ end.Done }
-    ensures decisions { (input text answer : List ℕ) (s : Status) → length text ≤ input_limit →
+    ensures decisions { (input text answer : List ℕ) (s : Status) →
         IsAnswerTo extreme input Done text → IsAnswerTo check text s answer → s ≡ Done }
     ensures decisions_reply { (input text answer : List ℕ) (e : End) →
         IsReply extreme input end.Done text → IsReply check text e answer → e ≡ end.Done }

@@ -1,4 +1,4 @@
-use Rattle.std.proofs.Common.{refl, ap, ◌∙◌}
+use Rattle.std.proofs.Common.{ap, ◌∙◌}
 use Rattle.gj_proof.specs.Rules.{MeetsRules}
 use Rattle.gj_check.proofs.RulesGiveMeaning.{meaning_of_rules}
 use Rattle.gj_top.specs.Check.{accepted_line}

@@ -1,4 +1,4 @@
-use Rattle.std.proofs.Common.{◌≡◌, sym, subst}
+use Rattle.std.proofs.Common.{◌≡◌, subst}
 use Rattle.gj_shape.specs.FunctionData.{FunctionData}
 use Rattle.gj_top.specs.Extreme.{IsDecisionText}
 use Rattle.gj_top.proofs.Extremality.{extreme_at_four}
