@@ -57,7 +57,7 @@ fn is_symmetric(shape: &Shape) -> bool
     true
 }
 
-/// Whether they do at i/q.
+/// Whether the values at i/q and f - i/q add up to 1.
 fn is_symmetric_at(shape: &Shape, i: usize) -> bool
     requires { i < shape.now.order }
     ensures { IsTrue result ↔ Passes shape.now (symmetric_at i) }
@@ -71,7 +71,7 @@ fn is_symmetric_at(shape: &Shape, i: usize) -> bool
     )
 }
 
-/// Whether they do from i/q to the next grid point.
+/// Whether the limits at both ends of the open interval from i/q add up to 1 with those of the opposite interval.
 fn is_symmetric_after(shape: &Shape, i: usize) -> bool
     requires { i < shape.now.order }
     ensures { IsTrue result ↔ Passes shape.now (symmetric_between i) }
@@ -93,7 +93,7 @@ fn is_subadditive(shape: &Shape) -> bool
     is_subadditive_between(shape, &lanes)
 }
 
-/// Whether no slack at grid points is negative. It does not change where the points change places.
+/// Whether no slack at grid points is negative. The slack is the same if the two points change places, so half of the pairs are tested.
 fn is_subadditive_on_grid(shape: &Shape, lanes: &Lanes) -> bool
     requires { AreLanesOf shape.now lanes.now }
     ensures { IsTrue result ↔ IsSubadditiveOnGrid shape.now }
@@ -106,7 +106,7 @@ fn is_subadditive_on_grid(shape: &Shape, lanes: &Lanes) -> bool
     true
 }
 
-/// Whether no limit of the slack is negative in any square. They are those of the square (b, a) in the square (a, b).
+/// Whether no limit of the slack is negative in any square. The squares (a, b) and (b, a) have the same limits, so half are tested.
 fn is_subadditive_between(shape: &Shape, lanes: &Lanes) -> bool
     requires { AreLanesOf shape.now lanes.now }
     ensures { IsTrue result ↔ IsSubadditive shape.now }

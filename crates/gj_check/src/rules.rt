@@ -7,7 +7,7 @@ pub enum CheckRule {
     Minimal,
     /// The function is continuous.
     Continuous,
-    /// The coordinates of a violation lie from 0 to below 1, and the violation is shown there.
+    /// The coordinates of a violation lie from 0 to below 1, with a common denominator of at most 2^62, and the violation is shown there.
     Point,
     /// A line of a cover extends a component.
     Cover,
@@ -15,7 +15,7 @@ pub enum CheckRule {
     Row,
     /// A row is reduced at a column where it has an entry and an earlier row has its pivot.
     Reduce,
-    /// The numbers of a reduction fit 128 bits.
+    /// The numbers of a reduction are at most 2^127 - 1 in absolute value.
     Size,
     /// The pivot of a row is its first entry, in a column with no earlier pivot.
     Pivot,
@@ -33,13 +33,14 @@ pub enum CheckRule {
     Second,
     /// The halves differ.
     Same,
-    /// The fractional part of a right side is the place of the function.
+    /// The fractional part of a right side fits the line: for a cut it is the function's f, or for the mixed-integer cut not 0; for a
+    /// skipped row it is 0, or another than f, as the line says.
     Fraction,
     /// The numbers of a row are within the limits.
     Limit,
     /// The names of a row differ.
     Name,
-    /// A coefficient is the value of the function.
+    /// A coefficient is the value of the function, or that of the mixed-integer cut.
     Value,
 }
 

@@ -22,8 +22,8 @@ use std::alloc::Global;
 /// and continuous, cover lines and rows of an elimination, or two different minimal tables that average to its own.
 ///
 /// `NotContinuous` comes exactly if the function is minimal and jumps, with the first index of a jump. `Wide` comes exactly if it
-/// is minimal and continuous, all its intervals are covered, and a number of the elimination, of its kernel or of the halves is
-/// above 2^127 - 1, or their scale above 2^124; never with at most four components. The only other error is want of memory.
+/// is minimal and continuous, all its intervals are covered, and a number of the elimination, of its kernel or of the perturbation
+/// is above 2^127 - 1 in absolute value, or the scale of the halves above 2^124; never with at most four components. The only other error is want of memory.
 /// Source: Basu, Hildebrand and Köppe, "Equivariant Perturbation in Gomory and Johnson's infinite group problem I".
 pub fn decide(alloc: Global, shape: &Shape) -> Result<Proof, DecideFault>
     ensures decided { IfOk result (IsDecided shape.now) }

@@ -2,8 +2,8 @@
 //!
 //! A group of lines names a row of the linear system for the slopes of a perturbation, reduces it by the rows that the groups
 //! before it keep, and keeps what is left. `failure_in_groups` takes the rules `row`, `reduce`, `size` and `pivot` of all groups in
-//! the order of their lines, and answers the first that fails. Its loops and its arithmetic are its own: with the elimination that
-//! finds such rows it shares the definitions of `gj_shape` and the theorems of `gj_theory`.
+//! the order of their lines, and answers the first that fails. It calls nothing of the elimination that finds such rows: the step on
+//! two rows and the counts of a row, the natural loops for their definitions, are written out here too.
 #![tactic(auto)]
 
 mod begin;

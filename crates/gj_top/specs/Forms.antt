@@ -37,7 +37,7 @@ pub record NamesFault (IsFirst : ℕ → Reason → Type 0) (text : List ℕ) : 
 abbrev pub function_text : Form FunctionData
 function_text = reading IsWholeFunctionText (λ input text. NamesFault (IsFirstFaultOfWhole input) text)
 
--- the input is the proof text of a claim about a function within the limits
+-- the input is the proof text of a claim; a function that it is about is within the limits
 pub record IsProofOf (input : List ℕ) (c : Claim) : Type 0 where
   pub bounded : IsBounded c
   pub spelled : IsProofText c input

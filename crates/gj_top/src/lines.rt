@@ -4,7 +4,7 @@ ghost use Rattle.gj_lines.specs.FunctionLines.{line};
 
 use std::alloc::{AllocError, Global};
 
-/// A line that names a line of the input and says something of it.
+/// A line that names a line or a record of the input by its number, and says something of it.
 pub(crate) fn numbered_line(
     alloc: Global,
     front: &[u8],

@@ -19,7 +19,7 @@ pub enum Command {
     Check,
     /// Prints a function in its one canonical spelling.
     Show,
-    /// Prints the additive faces of a function.
+    /// Prints the maximal additive faces and the covered intervals of a function.
     Faces,
     /// Decides a function that no text has to give, of order 2(2n + 1) for this number n.
     Demo(u32),
