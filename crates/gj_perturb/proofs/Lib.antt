@@ -1,5 +1,6 @@
 pub mod ContinuousEntries
 pub mod ListedSlacks
+pub mod LaneSlacks
 pub mod Sizes
 pub mod MovedEntries
 pub mod ChosenIntervals

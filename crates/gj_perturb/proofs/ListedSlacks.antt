@@ -64,7 +64,7 @@ one_pair_more t n i j x y i_below j_below h more = record {
 pub no_row : (t : List ℤ) (n : ℕ) → IsLeastOfRows t n 0 (pos (2 ^ 63 - 1))
 no_row t n = record { reached = inl refl; least = λ i below. absurd (omega arith) }
 
-pub one_row_more : (t : List ℤ) (n i : ℕ) (x y : ℤ) → IsLeastOfRows t n i x → IsLeastOfRow t n i n y →
+one_row_more : (t : List ℤ) (n i : ℕ) (x y : ℤ) → IsLeastOfRows t n i x → IsLeastOfRow t n i n y →
     IsLeastOfRows t n (i + 1) (int_min x y)
 one_row_more t n i x y h row = record {
   reached = lesser_reached t n x y h.reached row.reached;
@@ -83,6 +83,12 @@ one_row_more t n i x y h row = record {
 
 abbrev read : ℤ → ℤ
 read z = to_z w64 (of_z w64 z)
+
+pub one_row_read : (t : List ℤ) (n i : ℕ) (x y m : ℤ) → FitsSigned w64 y → FitsSigned w64 m → m ≡ int_min x (read y) →
+    IsLeastOfRows t n i x → IsLeastOfRow t n i n y → IsLeastOfRows t n (i + 1) (read m)
+one_row_read t n i x y m y_fits m_fits e h row =
+    subst (IsLeastOfRows t n (i + 1)) (sym (to_z-of_z w64 m m_fits ∙ e))
+    (one_row_more t n i x (read y) h (subst (IsLeastOfRow t n i n) (sym (to_z-of_z w64 y y_fits)) row))
 
 short_read : (x : ℤ) → unsigned_abs x < 2 ^ 62 → read x ≡ x
 short_read x small = to_z-of_z w64 x (omega (arith, ints))

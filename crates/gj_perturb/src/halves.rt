@@ -43,7 +43,8 @@ pub fn split(alloc: Global, shape: &Shape, p: &Perturbation) -> Result<Halves, S
     };
     let doubled = doubled_table(alloc, shape, p.times)?;
     let table = doubled.as_slice();
-    let step = i128::from(least_slack(table, values.len()));
+    let least = least_slack(alloc, table, values.len())?;
+    let step = i128::from(least);
     let factor = 3 * size as i128;
     let first = moved(alloc, table, factor, values, step)?;
     let second = moved(alloc, table, factor, values, -step)?;

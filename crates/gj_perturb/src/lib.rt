@@ -8,6 +8,7 @@
 mod faults;
 mod grid;
 mod halves;
+mod lanes;
 mod laws;
 mod slacks;
 mod tables;

@@ -1,9 +1,24 @@
 //! The least positive slack of a table.
-ghost use Rattle.std.specs.Prelude.{ℕ, ℤ, pos, ◌≡◌, ◌-◌, ◌*◌, ◌<◌, ◌^◌, ◌<ℤ◌, ◌≤ℤ◌, length, All};
+ghost use Rattle.std.specs.Prelude.{ℕ, ℤ, pos, ◌≡◌, ◌-◌, ◌*◌, ◌<◌, ◌^◌, ◌<ℤ◌, ◌≤ℤ◌, length, All, IfOk};
 ghost use Rattle.gj_perturb.specs.ListSlacks.{IsShort, IsLeastOfRow, IsLeastOfRows};
 
+use crate::lanes::{lanes_of, least_over_lanes};
+use std::alloc::{AllocError, Global};
+
 /// The least positive slack of a table over two periods of n entries each; `i64::MAX` where no slack is positive.
-pub(crate) fn least_slack(table: &[i64], n: usize) -> i64
+pub(crate) fn least_slack(alloc: Global, table: &[i64], n: usize) -> Result<i64, AllocError>
+    requires length { length table.now ≡ 2 * n }
+    requires short { All IsShort table.now }
+    ensures { IfOk result (IsLeastOfRows table.now n n) }
+{
+    let Some(lanes) = lanes_of(alloc, table)? else {
+        return Ok(least_over_entries(table, n));
+    };
+    Ok(least_over_lanes(lanes.as_slice(), n))
+}
+
+/// The same over the entries, which have up to 60 bits.
+fn least_over_entries(table: &[i64], n: usize) -> i64
     requires length { length table.now ≡ 2 * n }
     requires short { All IsShort table.now }
     ensures { IsLeastOfRows table.now n n result }

@@ -60,12 +60,12 @@ moved-requires-clause-length c =
     let f = c.args.shape.now in
     let p = c.args.p.now in
     let size = c.greatest_size-size.result in
-    let x = c.least_slack.result in
+    let x = c.in_ok-least.least in
     let values = c.as_slice-values.result.now in
     let xs = c.as_slice-table.result.now in
     let parts = parts_of f p size x values xs c.order.ensures.limits c.requires.minimal c.requires.perturbation
     c.as_slice-values.ensures c.greatest_size-size.ensures c.in-Some.ensures.1
-    (c.as_slice-table.ensures.value ∙ c.in_ok-doubled.ensures) c.least_slack.ensures in
+    (c.as_slice-table.ensures.value ∙ c.in_ok-doubled.ensures) c.in_ok-least.ensures in
     let count : length c.as_slice-values.result.now ≡ c.args.shape.now.order * c.args.p.now.times =
     count_is f p size x values xs parts in
     let whole : length c.as_slice-table.result.now ≡ 2 * (c.args.shape.now.order * c.args.p.now.times) =
@@ -77,12 +77,12 @@ moved-requires-2-clause-length c =
     let f = c.args.shape.now in
     let p = c.args.p.now in
     let size = c.greatest_size-size.result in
-    let x = c.least_slack.result in
+    let x = c.in_ok-least.least in
     let values = c.as_slice-values.result.now in
     let xs = c.as_slice-table.result.now in
     let parts = parts_of f p size x values xs c.order.ensures.limits c.requires.minimal c.requires.perturbation
     c.as_slice-values.ensures c.greatest_size-size.ensures c.in-Some.ensures.1
-    (c.as_slice-table.ensures.value ∙ c.in_ok-doubled.ensures) c.least_slack.ensures in
+    (c.as_slice-table.ensures.value ∙ c.in_ok-doubled.ensures) c.in_ok-least.ensures in
     let count : length c.as_slice-values.result.now ≡ c.args.shape.now.order * c.args.p.now.times =
     count_is f p size x values xs parts in
     let whole : length c.as_slice-table.result.now ≡ 2 * (c.args.shape.now.order * c.args.p.now.times) =
@@ -94,17 +94,17 @@ moved-requires-clause-small c =
     let f = c.args.shape.now in
     let p = c.args.p.now in
     let size = c.greatest_size-size.result in
-    let x = c.least_slack.result in
+    let x = c.in_ok-least.least in
     let values = c.as_slice-values.result.now in
     let xs = c.as_slice-table.result.now in
     let parts = parts_of f p size x values xs c.order.ensures.limits c.requires.minimal c.requires.perturbation
     c.as_slice-values.ensures c.greatest_size-size.ensures c.in-Some.ensures.1
-    (c.as_slice-table.ensures.value ∙ c.in_ok-doubled.ensures) c.least_slack.ensures in
+    (c.as_slice-table.ensures.value ∙ c.in_ok-doubled.ensures) c.in_ok-least.ensures in
     let factor_is = factor_read size (size_fits size f.scale p.times c.order.ensures.limits.scale_low
     c.requires.perturbation.times_low c.in-Some.ensures.1) in
-    let step_is : wide c.from-step.result ≡ c.least_slack.result =
+    let step_is : wide c.from-step.result ≡ c.in_ok-least.least =
     to_z-of_z w128 c.from-step.result (search rules) ∙ c.from-step.ensures
-    ∙ to_z-of_z w64 c.least_slack.result (search rules) in
+    ∙ to_z-of_z w64 c.in_ok-least.least (search rules) in
     λ i below. subst₂ (λ a b. IsSmallMove xs a values b i) (sym factor_is) (sym step_is)
     (small_move f p size x values xs parts x refl i below)
 
@@ -113,17 +113,17 @@ moved-requires-2-clause-small c =
     let f = c.args.shape.now in
     let p = c.args.p.now in
     let size = c.greatest_size-size.result in
-    let x = c.least_slack.result in
+    let x = c.in_ok-least.least in
     let values = c.as_slice-values.result.now in
     let xs = c.as_slice-table.result.now in
     let parts = parts_of f p size x values xs c.order.ensures.limits c.requires.minimal c.requires.perturbation
     c.as_slice-values.ensures c.greatest_size-size.ensures c.in-Some.ensures.1
-    (c.as_slice-table.ensures.value ∙ c.in_ok-doubled.ensures) c.least_slack.ensures in
+    (c.as_slice-table.ensures.value ∙ c.in_ok-doubled.ensures) c.in_ok-least.ensures in
     let factor_is = factor_read size (size_fits size f.scale p.times c.order.ensures.limits.scale_low
     c.requires.perturbation.times_low c.in-Some.ensures.1) in
-    let step_is : wide c.from-step.result ≡ c.least_slack.result =
+    let step_is : wide c.from-step.result ≡ c.in_ok-least.least =
     to_z-of_z w128 c.from-step.result (search rules) ∙ c.from-step.ensures
-    ∙ to_z-of_z w64 c.least_slack.result (search rules) in
+    ∙ to_z-of_z w64 c.in_ok-least.least (search rules) in
     let turned_is = turned_read (wide c.from-step.result) x step_is (search rules) in
     λ i below. subst₂ (λ a b. IsSmallMove xs a values b i) (sym factor_is) (sym turned_is)
     (small_move f p size x values xs parts (neg_ℤ x) (same_size x) i below)
@@ -133,17 +133,17 @@ returns c =
     let f = c.args.shape.now in
     let p = c.args.p.now in
     let size = c.greatest_size-size.result in
-    let x = c.least_slack.result in
+    let x = c.in_ok-least.least in
     let values = c.as_slice-values.result.now in
     let xs = c.as_slice-table.result.now in
     let parts = parts_of f p size x values xs c.order.ensures.limits c.requires.minimal c.requires.perturbation
     c.as_slice-values.ensures c.greatest_size-size.ensures c.in-Some.ensures.1
-    (c.as_slice-table.ensures.value ∙ c.in_ok-doubled.ensures) c.least_slack.ensures in
+    (c.as_slice-table.ensures.value ∙ c.in_ok-doubled.ensures) c.in_ok-least.ensures in
     let factor_is = factor_read size (size_fits size f.scale p.times c.order.ensures.limits.scale_low
     c.requires.perturbation.times_low c.in-Some.ensures.1) in
-    let step_is : wide c.from-step.result ≡ c.least_slack.result =
+    let step_is : wide c.from-step.result ≡ c.in_ok-least.least =
     to_z-of_z w128 c.from-step.result (search rules) ∙ c.from-step.ensures
-    ∙ to_z-of_z w64 c.least_slack.result (search rules) in
+    ∙ to_z-of_z w64 c.in_ok-least.least (search rules) in
     let turned_is = turned_read (wide c.from-step.result) x step_is (search rules) in
     let scale_is : wide c.in-Some.scale ≡ pos (3 * c.greatest_size-size.result * (c.args.shape.now.scale * c.args.p.now.times)) =
     to_z-of_z w128 c.in-Some.scale (search rules) ∙ c.in-Some.ensures.0 in
