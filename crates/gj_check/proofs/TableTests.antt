@@ -1,18 +1,16 @@
 -- A table is minimal exactly where the values of one period pass their tests.
-use Rattle.std.proofs.Common.{◌≡◌, ◌↔◌, ℕ, ◌+◌, ◌-◌, ◌%◌, ◌<◌, ◌^◌, ℤ, pos, ◌+ℤ◌, ◌<ℤ◌, List, [], ◌∷◌, ◌++◌, length, get_or, subst, below_more, unsigned_abs, Fits, w64, to_z, of_z, FitsSigned, refl, sym, ap, ap₂, ◌∙◌, arith}
+use Rattle.std.proofs.Common.{◌≡◌, ◌↔◌, ℕ, ◌+◌, ◌-◌, ◌*◌, ◌%◌, ◌<◌, ◌≤◌, ℤ, pos, ◌+ℤ◌, ◌-ℤ◌, ◌<ℤ◌, ◌≤ℤ◌, List, [], ◌∷◌, ◌++◌, length, get_or, subst, below_more, unsigned_abs, to_z, of_z, FitsSigned, refl, sym, ap, ap₂, ◌∙◌, arith}
 use mir.Syntax.{w128}
-use lib.Dec.{T}
-use lib.Signed.{non_neg}
 use Rattle.std.proofs.Math.Nat.{add_comm, add-mod, add-mod_right, mod-lt}
 use Rattle.std.proofs.Math.ListN.{get_or-append}
 use Rattle.std.proofs.Math.Seq.{get_or-append_seam}
 use Rattle.std.proofs.lemmas.List.{length-append}
-use Rattle.std.proofs.lemmas.Int.{ints, to_z-of_z}
+use Rattle.std.specs.Int.{int_max}
+use Rattle.std.proofs.lemmas.Int.{ints, int_max_is, to_z-of_z}
 use Rattle.gj_shape.specs.FunctionData.{at}
 use Rattle.gj_shape.specs.Table.{IsMinimalTable}
 use Rattle.gj_shape.proofs.AtLemmas.{at_below, at_wrapped, at_plus_length}
 use Rattle.gj_theory.proofs.Everywhere.{symmetric_everywhere}
-use Rattle.gj_theory.proofs.Lanes.{no_excess}
 use Rattle.gj_check.specs.Tables.{IsTableInRange, IsSymmetricList, IsSubadditivePair, IsSubadditiveList, AreTwoPeriods}
 
 -- ---- one pair
@@ -23,16 +21,28 @@ mirrored_pair values i j h =
     let turned = ap (at values) (add_comm j i) in
     omega (arith, ints)
 
--- over the entries of two periods
-pub pair_read : (entries : List ℕ) (values : List ℤ) (i j x : ℕ) → AreTwoPeriods entries values → i < length values → j < length values →
-    x ≡ get_or entries (i + j) 0 - (get_or entries i 0 + get_or entries j 0) → (x ≡ 0) ↔ IsSubadditivePair values i j
-pair_read entries values i j x h i_below j_below is =
-    let none = no_excess _ _ x is in
-    let first = h.same i (omega arith) in
-    let second = h.same j (omega arith) in
-    let sum = h.same (i + j) (omega arith) in (
-      λ e. let fits = none.0 e in omega (arith, ints),
-      λ p. none.1 (omega (arith, ints)),
+-- ---- one row over the entries of two periods
+
+-- the greatest of the value at i and of the rises over the pairs before j is that value exactly where these pairs pass
+abbrev pub BoundsRises : List ℤ → ℕ → ℕ → ℤ → Type 0
+BoundsRises values i j rise = (rise ≤ℤ at values i) ↔ ((k : ℕ) → k < j → i ≤ k → IsSubadditivePair values i k)
+
+-- an entry that was read
+pub entry_read : {E : Type 0} (number : E → ℤ) (entries : List E) (values : List ℤ) (i : ℕ) (e : E) → AreTwoPeriods number entries values →
+    i < 2 * length values → e ≡ get_or entries i e → number e ≡ at values i
+entry_read number entries values i e p below is = ap number is ∙ p.same i e below
+
+-- one pair more
+pub one_more_rise : (values : List ℤ) (i j : ℕ) (rise more second sum : ℤ) → i ≤ j → second ≡ at values j → sum ≡ at values (i + j) →
+    more ≡ int_max rise (sum -ℤ second) → BoundsRises values i j rise → BoundsRises values i (j + 1) more
+one_more_rise values i j rise more second sum from second_is sum_is greater h =
+    let greatest = int_max_is rise (sum -ℤ second) in (
+      λ all.
+          below_more (λ k. i ≤ k → IsSubadditivePair values i k) j (h.0 (omega (arith, ints))) (λ _. omega (arith, ints)),
+      λ all.
+          let before = h.1 (λ k below. all k (omega arith)) in
+          let here = all j (omega arith) from in
+          omega (arith, ints),
     )
 
 -- ---- all pairs
@@ -115,15 +125,40 @@ pub sum_of_values : (values : List ℤ) (place : ℕ) (scale : ℤ) (i j : ℕ) 
 sum_of_values values place scale i j x y t x_is y_is =
     to_z-of_z w128 (x +ℤ y) (values_fit values place scale i j x y t x_is y_is) ∙ ap₂ (λ a b. a +ℤ b) x_is y_is
 
--- a value of a narrow table as a number of 64 bits
-pub narrow_cast : (values : List ℤ) (place : ℕ) (scale : ℤ) (i : ℕ) (x : ℤ) → IsTableInRange values place scale →
-    scale <ℤ pos (2 ^ 62) → x ≡ at values i → T (non_neg x) × Fits w64 (unsigned_abs x)
-narrow_cast values place scale i x t narrow is =
+-- ---- the entries of two periods are made
+
+-- a value that was read can be an entry
+pub value_fits : (values : List ℤ) (place : ℕ) (scale : ℤ) (bound i : ℕ) (x : ℤ) → IsTableInRange values place scale →
+    scale <ℤ pos bound → x ≡ at values i → (pos 0 ≤ℤ x) × (x <ℤ pos bound)
+value_fits values place scale bound i x t fits is =
     let low = t.low i in
     let high = t.high i in (
       omega (arith, ints),
       omega (arith, ints),
     )
+
+-- the entries are the values at the indices below n
+abbrev pub AreEntriesBelow : {E : Type 0} → (E → ℤ) → List E → List ℤ → ℕ → Type 0
+AreEntriesBelow {E} number entries values n = (length entries ≡ n) × ((i : ℕ) → i < n → (e : E) → number (get_or entries i e) ≡ at values i)
+
+-- one entry more
+pub one_more_entry : {E : Type 0} (number : E → ℤ) (entries more : List E) (values : List ℤ) (n : ℕ) (entry : E) →
+    number entry ≡ at values n → more ≡ entries ++ entry ∷ [] →
+    AreEntriesBelow number entries values n → AreEntriesBelow number more values (n + 1)
+one_more_entry {E} number entries more values n entry is pushed h =
+    let long = ap length pushed ∙ length-append entries (entry ∷ []) in
+    let count = h.0 in
+    let before = λ (i : ℕ) (below : i < n) (e : E).
+    ap (λ xs. number (get_or xs i e)) pushed
+    ∙ ap number (get_or-append entries (entry ∷ []) e i (let low = below in omega arith))
+    ∙ h.1 i below e in
+    let last = λ (e : E). ap (λ xs. number (get_or xs n e)) pushed ∙ ap number (last_of entries entry n e count) ∙ is in (
+      omega arith,
+      below_more (λ i. (e : E) → number (get_or more i e) ≡ at values i) n before last,
+    )
+  where
+    last_of : {E : Type 0} (xs : List E) (y : E) (n : ℕ) (e : E) → length xs ≡ n → get_or (xs ++ y ∷ []) n e ≡ y
+    last_of xs y n e count = subst (λ (k : ℕ). get_or (xs ++ y ∷ []) k e ≡ y) count (get_or-append_seam xs y [] e)
 
 -- ---- the tests in turn
 
@@ -134,28 +169,3 @@ pub list_decides : (values : List ℤ) (place : ℕ) (scale : ℤ) → IsTableIn
 list_decides values place scale t zero symmetric =
     let all = minimal_list values place scale t in
     (λ h. all.0 ((zero, symmetric), h), λ m. (all.1 m).1)
-
--- one value more among the entries
-pub one_more_entry : (entries more : List ℕ) (values : List ℤ) (place : ℕ) (scale : ℤ) (n : ℕ) (x : ℤ) → IsTableInRange values place scale →
-    scale <ℤ pos (2 ^ 62) → x ≡ at values n → more ≡ entries ++ unsigned_abs x ∷ [] →
-    (length entries ≡ n) × ((i : ℕ) → i < n → (pos (get_or entries i 0) ≡ at values i) × (get_or entries i 0 < 2 ^ 62)) →
-    (length more ≡ n + 1) × ((i : ℕ) → i < n + 1 → (pos (get_or more i 0) ≡ at values i) × (get_or more i 0 < 2 ^ 62))
-one_more_entry entries more values place scale n x t narrow is pushed h =
-    let Entry = λ (i k : ℕ). (pos k ≡ at values i) × (k < 2 ^ 62) in
-    let low = t.low n in
-    let high = t.high n in
-    let y = unsigned_abs x in
-    let long = ap length pushed ∙ length-append entries (y ∷ []) in
-    let count = h.0 in
-    let is : pos y ≡ at values n = omega (arith, ints) in
-    let small : y < 2 ^ 62 = omega (arith, ints) in
-    let before = λ (i : ℕ) (below : i < n).
-    ap (λ xs. get_or xs i 0) pushed ∙ get_or-append entries (y ∷ []) 0 i (let low = below in omega arith) in
-    let last = ap (λ xs. get_or xs n 0) pushed ∙ last_of entries y n count in (
-      omega arith,
-      below_more (λ i. Entry i (get_or more i 0)) n
-          (λ i below. subst (Entry i) (sym (before i below)) (h.1 i below)) (subst (Entry n) (sym last) (is, small)),
-    )
-  where
-    last_of : (xs : List ℕ) (y n : ℕ) → length xs ≡ n → get_or (xs ++ y ∷ []) n 0 ≡ y
-    last_of xs y n e = subst (λ (k : ℕ). get_or (xs ++ y ∷ []) k 0 ≡ y) e (get_or-append_seam xs y [] 0)

@@ -1,5 +1,5 @@
 -- Tables by the values of one period: what is asked of these (own).
-use Rattle.std.specs.Prelude.{ℕ, ℤ, pos, ◌≡◌, ◌+◌, ◌-◌, ◌*◌, ◌<◌, ◌≤◌, ◌^◌, ◌+ℤ◌, ◌≤ℤ◌, List, length, slice_index}
+use Rattle.std.specs.Prelude.{ℕ, ℤ, pos, ◌≡◌, ◌+◌, ◌-◌, ◌*◌, ◌<◌, ◌≤◌, ◌^◌, ◌+ℤ◌, ◌≤ℤ◌, List, length, slice_index_or}
 use Rattle.gj_shape.specs.FunctionData.{at}
 
 -- the values lie from 0 to the scale, which is at most 2^124; there are at most 4,000, and the place is one of theirs
@@ -29,8 +29,8 @@ IsSubadditiveFrom values i = (j : ℕ) → i ≤ j → j < length values → IsS
 abbrev pub IsSubadditiveList : List ℤ → Type 0
 IsSubadditiveList values = (i j : ℕ) → i < length values → j < length values → IsSubadditivePair values i j
 
--- the entries are the values of two periods, each below 2^62
-pub record AreTwoPeriods (entries : List ℕ) (values : List ℤ) : Type 0 where
+-- the entries are the values of two periods, none of them negative
+pub record AreTwoPeriods {E : Type 0} (number : E → ℤ) (entries : List E) (values : List ℤ) : Type 0 where
   pub count : length entries ≡ 2 * length values
-  pub same : (i : ℕ) → i < 2 * length values → pos (slice_index entries i) ≡ at values i
-  pub small : (i : ℕ) → i < 2 * length values → slice_index entries i < 2 ^ 62
+  pub same : (i : ℕ) (e : E) → i < 2 * length values → number (slice_index_or entries i e) ≡ at values i
+  pub low : (i : ℕ) → pos 0 ≤ℤ at values i

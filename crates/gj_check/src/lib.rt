@@ -11,6 +11,7 @@ mod cover_lines;
 mod cut_values;
 mod cuts;
 mod denominators;
+mod entries;
 mod extremality;
 mod faults;
 mod halves;

@@ -352,7 +352,7 @@ fn checked_halves(
     checked(rt, Claim::NotExtreme(shape, halves))
 }
 
-/// Two halves of a function, over a small and a large scale; a sum that is not twice the value, and twice the function.
+/// Two halves of a function, over scales of 32, 64 and 128 bits; a sum that is not twice the value, and twice the function.
 #[test]
 fn not_extreme(rt: HostRuntime) -> Result<(), Fail> {
     let first = [0, 20, 35, 50, 70, 85, 100, 120];
@@ -360,6 +360,7 @@ fn not_extreme(rt: HostRuntime) -> Result<(), Fail> {
     let other = [0, 28, 37, 46, 74, 83, 93, 120];
     let values = [0, 2, 3, 4, 6, 7, 8, 10];
     assert_eq!(rt; checked_halves(&rt, 120, &first, &second, 1)?, Ok(()));
+    assert_eq!(rt; checked_halves(&rt, 120, &first, &second, 1 << 40)?, Ok(()));
     assert_eq!(rt;
         checked_halves(&rt, 120, &first, &second, 1 << 100)?,
         Ok(())

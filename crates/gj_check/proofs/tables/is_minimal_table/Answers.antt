@@ -2,7 +2,7 @@ use Rattle.std.proofs.Common.{◌↔◌, IsTrue, subst, arith}
 use mir.Syntax.{w128}
 use Rattle.std.proofs.lemmas.Int.{ints, to_z-of_z}
 use Rattle.gj_check.specs.Tables.{IsSymmetricList}
-use Rattle.gj_check.proofs.TestsInTurn.{one_fails, in_other_words, in_other_words_ok}
+use Rattle.gj_check.proofs.TestsInTurn.{one_fails, in_other_words_ok}
 use Rattle.gj_check.proofs.TableTests.{value_read, minimal_list, list_decides}
 use Rattle.gj_check.proofs.tables.is_minimal_table.Goals as goal
 
@@ -21,18 +21,6 @@ returns-then-not-is_symmetric_list c =
     c.is_symmetric_list.ensures in
     one_fails _ _ _ c.if-not-is_symmetric_list.true symmetric (λ m. ((minimal_list _ _ _ c.requires).1 m).0.1)
 
-pub returns-then-scale-lt-NARROW : goal.returns-then-scale-lt-NARROW
-returns-then-scale-lt-NARROW c =
-    let t = c.requires in
-    let low = t.place_below in
-    let first = value_read c.args.values.now _ _ 0 t (omega arith) in
-    let zero = c.if-values-ne0.false in
-    let scale = to_z-of_z w128 c.args.scale c.ranges.scale in
-    let symmetric = subst (λ s. IsTrue c.is_symmetric_list.result ↔ IsSymmetricList c.args.values.now c.args.place s) scale
-    c.is_symmetric_list.ensures in
-    in_other_words_ok c.is_subadditive_narrow.result _ _ c.is_subadditive_narrow.ensures
-    (list_decides _ _ _ t (omega (arith, ints)) (symmetric.0 c.if-not-is_symmetric_list.false))
-
 pub returns : goal.returns
 returns c =
     let t = c.requires in
@@ -42,5 +30,5 @@ returns c =
     let scale = to_z-of_z w128 c.args.scale c.ranges.scale in
     let symmetric = subst (λ s. IsTrue c.is_symmetric_list.result ↔ IsSymmetricList c.args.values.now c.args.place s) scale
     c.is_symmetric_list.ensures in
-    in_other_words _ _ _ c.is_subadditive_wide.ensures
+    in_other_words_ok c.is_subadditive_list.result _ _ c.is_subadditive_list.ensures
     (list_decides _ _ _ t (omega (arith, ints)) (symmetric.0 c.if-not-is_symmetric_list.false))

@@ -1,6 +1,5 @@
-use Rattle.std.proofs.Common.{◌≡◌, ◌↔◌, ℕ, ◌<◌, ◌≤◌}
-use Rattle.gj_check.specs.Tables.{IsSubadditivePair}
+use Rattle.gj_check.proofs.TableTests.{BoundsRises}
 use Rattle.gj_check.proofs.tables.is_subadditive_row.Given as goal
 
 abbrev pub invariant-loop-j : goal.invariant-loop-j
-invariant-loop-j l = (l.excess ≡ 0) ↔ ((j : ℕ) → j < l.j → l.i ≤ j → IsSubadditivePair l.values l.i j)
+invariant-loop-j g l = BoundsRises l.values l.i l.j (g.E.Entry.number l.rise)

@@ -1,13 +1,21 @@
-use Rattle.gj_check.proofs.TableTests.{rest_value, narrow_cast, one_more_entry}
+use Rattle.std.proofs.Common.{◌∙◌}
+use Rattle.gj_check.proofs.TableTests.{rest_value, value_fits, one_more_entry}
 use Rattle.gj_check.proofs.tables.two_periods.Goals as goal
 
-pub overflow_cast-values : goal.overflow_cast-values
-overflow_cast-values c =
+pub of-requires-clause-low : goal.of-requires-clause-low
+of-requires-clause-low g c =
     let t = c.requires.table in
-    narrow_cast _ _ _ _ _ t c.requires.narrow (rest_value c.args.values.now _ _ c.loop-i.i _ t c.wrapped.ensures)
+    (value_fits _ _ _ _ _ _ t c.requires.fits (rest_value c.args.values.now _ _ c.loop-i.i _ t c.wrapped.ensures)).0
+
+pub of-requires-clause-high : goal.of-requires-clause-high
+of-requires-clause-high g c =
+    let t = c.requires.table in
+    (value_fits _ _ _ _ _ _ t c.requires.fits (rest_value c.args.values.now _ _ c.loop-i.i _ t c.wrapped.ensures)).1
 
 pub loop-i-preserved : goal.loop-i-preserved
-loop-i-preserved c =
+loop-i-preserved g c =
     let t = c.requires.table in
-    one_more_entry c.loop-i.entries.items c.push.new.self.items c.args.values.now _ _ c.loop-i.i _ t c.requires.narrow
-    (rest_value c.args.values.now _ _ c.loop-i.i _ t c.wrapped.ensures) c.in_ok-push.ensures.items c.loop-i.invariant
+    let values = c.args.values.now in
+    let value = rest_value values _ _ c.loop-i.i _ t c.wrapped.ensures in
+    one_more_entry g.E.Entry.number c.loop-i.entries.items c.push.new.self.items values c.loop-i.i _ (c.of.ensures ∙ value)
+    c.in_ok-push.ensures.items c.loop-i.invariant
