@@ -9,6 +9,7 @@ pub mod Ends
 pub mod Extremality
 pub mod FacesTexts
 pub mod InputRead
+pub mod OneReport
 pub mod ProofBytes
 pub mod Refusals
 pub mod Shown

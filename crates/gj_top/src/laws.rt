@@ -1,4 +1,4 @@
-//! Laws between the commands: of their answers, the limit of length included, and of their replies, whatever the length.
+//! Laws of the answers of commands, the limit of length included, of their replies, whatever the length, and of reports.
 
 ghost use Rattle.std.specs.Prelude.{◌≡◌, ◌↔◌, ◌*◌, ◌≤◌, ℕ, List, length};
 ghost use Rattle.gj_top.specs.declared.reply.End.{End};
@@ -9,6 +9,9 @@ ghost use Rattle.gj_shape.specs.FunctionData.{FunctionData, IsContinuous};
 ghost use Rattle.gj_shape.specs.Table.{table};
 ghost use Rattle.gj_shape.specs.Extreme.{IsExtremeTable};
 ghost use Rattle.gj_ftext.specs.FunctionText.{IsWholeFunctionText};
+ghost use Rattle.gj_proof.specs.declared.claim.Claim.{Claim};
+ghost use Rattle.gj_proof.specs.ProofText.{IsBounded, IsProofText};
+ghost use Rattle.gj_json.specs.JsonText.{IsReport};
 ghost use Rattle.gj_top.specs.Task.{IsReply};
 ghost use Rattle.gj_top.specs.Minimal.{minimal};
 ghost use Rattle.gj_top.specs.Show.{show};
@@ -49,4 +52,12 @@ pub fn shown_text_is_read()
         IsAnswerTo show input Done text → IsAnswerTo show text s again → (s ≡ Done) × (again ≡ text) }
     ensures reply { (input text again : List ℕ) (e : End) →
         IsReply show input end.Done text → IsReply show text e again → (e ≡ end.Done) × (again ≡ text) }
+{}
+
+/// A text is the report of one verdict and of one proof text, and so of one claim.
+pub fn one_proof_in_a_report()
+    ensures text { (verdict word first second text : List ℕ) → IsReport verdict first text → IsReport word second text →
+        (verdict ≡ word) × (first ≡ second) }
+    ensures claim { (c d : Claim) (verdict word first second text : List ℕ) → IsBounded c → IsBounded d →
+        IsProofText c first → IsProofText d second → IsReport verdict first text → IsReport word second text → c ≡ d }
 {}

@@ -1,0 +1,71 @@
+-- A report has one verdict and one proof text.
+use Rattle.std.proofs.Common.{◌≡◌, ℕ, List, [], ◌∷◌, ◌++◌, flat_map, codes, Some, refl, sym, ap, ap₂, subst, ◌∙◌, arith}
+use Rattle.std.proofs.lemmas.List.{append_cancel_right}
+use Rattle.json.specs.Json as json
+use Rattle.json.specs.Tree.{items_depth, ItemsHaveNumbers}
+use Rattle.json.proofs.Printed.Trees.{document-print}
+use Rattle.serde_json.specs.Written.{outline, items_outline, compact_text}
+use Rattle.serde_json.proofs.Texts.{print-outline}
+use Rattle.gj_tools.proofs.Choices.{same_some}
+use Rattle.gj_json.specs.JsonText.{strings, report_value, IsReport}
+use Rattle.gj_proof.specs.ProofText.{IsBounded, IsProofText}
+use Rattle.gj_proof.specs.declared.claim.Claim.{Claim}
+use Rattle.gj_proof.proofs.OneText.{one_claim}
+
+-- ---- the lines as strings
+
+abbrev line_strings : List (List ℕ) → json.Items
+line_strings lines = items_outline (strings lines)
+
+strings_have_no_numbers : (lines : List (List ℕ)) → ItemsHaveNumbers (line_strings lines)
+strings_have_no_numbers [] = tt
+strings_have_no_numbers (l ∷ lines) = (tt, strings_have_no_numbers lines)
+
+strings_are_shallow : (lines : List (List ℕ)) → items_depth (line_strings lines) ≡ 0
+strings_are_shallow [] = refl
+strings_are_shallow (l ∷ lines) = rw (strings_are_shallow lines) refl
+
+same_lines : (ls ms : List (List ℕ)) → line_strings ls ≡ line_strings ms → ls ≡ ms
+same_lines [] [] e = refl
+same_lines [] (m ∷ ms) e = absurd (cc)
+same_lines (l ∷ ls) [] e = absurd (cc)
+same_lines (l ∷ ls) (m ∷ ms) e =
+    let first : l ≡ m = cc in
+    let rest : line_strings ls ≡ line_strings ms = cc in
+    ap₂ (λ x xs. x ∷ xs) first (same_lines ls ms rest)
+
+-- ---- the value
+
+abbrev value_of : json.Items → List ℕ → json.Json
+value_of lines verdict =
+    json.object (json.member (codes "proof") (json.array lines) (json.member (codes "verdict") (json.string verdict) json.no_members))
+
+same_parts : (ls ms : json.Items) (v w : List ℕ) → value_of ls v ≡ value_of ms w → (v ≡ w) × (ls ≡ ms)
+same_parts ls ms v w e = (cc, cc)
+
+-- what is printed of the value is read as it
+read_again : (lines : List (List ℕ)) (verdict : List ℕ) →
+    json.document (compact_text (report_value lines verdict)) ≡ Some (value_of (line_strings lines) verdict)
+read_again lines verdict =
+    let d = report_value lines verdict in
+    ap json.document (sym (print-outline d))
+    ∙ document-print (outline d) (strings_have_no_numbers lines, (tt, tt)) (omega (arith, strings_are_shallow lines))
+
+same_value : (ls ms : List (List ℕ)) (v w : List ℕ) → compact_text (report_value ls v) ≡ compact_text (report_value ms w) →
+    value_of (line_strings ls) v ≡ value_of (line_strings ms) w
+same_value ls ms v w e = same_some _ _ (sym (read_again ls v) ∙ ap json.document e ∙ read_again ms w)
+
+-- ---- the report
+
+pub one_report : (verdict word first second text : List ℕ) → IsReport verdict first text → IsReport word second text →
+    (verdict ≡ word) × (first ≡ second)
+one_report verdict word first second text (ls, first_has, first_is) (ms, second_has, second_is) =
+    let printed = append_cancel_right _ _ (10 ∷ []) (sym first_is ∙ second_is) in
+    let same = same_parts (line_strings ls) (line_strings ms) verdict word (same_value ls ms verdict word printed) in
+    (same.0, first_has.joined ∙ ap (flat_map (λ line. line ++ 10 ∷ [])) (same_lines ls ms same.1) ∙ sym second_has.joined)
+
+pub one_claim_reported : (c d : Claim) (verdict word first second text : List ℕ) → IsBounded c → IsBounded d → IsProofText c first →
+    IsProofText d second → IsReport verdict first text → IsReport word second text → c ≡ d
+one_claim_reported c d verdict word first second text b e p q r s =
+    let same : second ≡ first = sym (one_report verdict word first second text r s).1 in
+    one_claim c d first b e p (subst (IsProofText d) same q)
