@@ -20,3 +20,5 @@ pub mod SlopeRows
 pub mod Elimination
 pub mod Perturbation
 pub mod RowCut
+pub mod Breaks
+pub mod KeptBreaks

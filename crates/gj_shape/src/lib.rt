@@ -2,7 +2,8 @@
 //!
 //! A [`Shape`] is such a function: affine between neighbouring multiples of 1/q, with a value and two limits at each
 //! of them. `Shape::new` makes one of three lists of fractions, and [`Points`] of points that come one after another;
-//! both test the bounds on the fractions in one way, and keep whole numbers over the least common denominator.
+//! both test the bounds on the fractions in one way, and keep whole numbers over the least common denominator. [`Breaks`]
+//! are breakpoints at any fractions, of which `Shape::from_breaks` makes the function on the grid that holds them all.
 //!
 //! The definitions of the subject stand in `specs/`: tables on grids and minimal functions (`Table`), faces and the
 //! limits of the slack on them (`Faces`), violations (`Violation`) and the order in which minimality is tested
@@ -10,6 +11,7 @@
 #![tactic(auto)]
 
 mod average;
+mod breaks;
 mod denominators;
 mod extremality;
 mod faces;
@@ -24,6 +26,7 @@ mod shape;
 mod values;
 mod violations;
 
+pub use breaks::{Break, BreakFault, Breaks};
 pub use denominators::small_denominator;
 pub use extremality::{CoverLine, Halves, RowName};
 pub use faces::{Face, FaceKind};
