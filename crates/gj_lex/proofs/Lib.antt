@@ -17,3 +17,4 @@ pub mod SpelledWords
 pub mod CursorLines
 pub mod LoopLaws
 pub mod CanonicalLines
+pub mod WhereLaws

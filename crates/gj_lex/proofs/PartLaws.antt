@@ -111,8 +111,9 @@ empty_part_is_exact a = record {
   fault_ends = λ text t e h. absurd h;
 }
 
+-- a part and one behind it are exact if the second is exact for each thing that the first reads
 module _ {A B : Type 0} (p : Part A) (next : A → Part B) (exact : IsExactPart p.Reads p.Faults)
-    (exact_next : (a : A) → IsExactPart (next a).Reads (next a).Faults) where
+    (exact_next : (text : List ℕ) (a : A) (m : List ℕ) → p.Reads text a m → IsExactPart (next a).Reads (next a).Faults) where
   -- behind the first part both go on in the same way
   next_reads : (text : List ℕ) (a a' : A) (m m' : List ℕ) (b : B) (r : List ℕ) → p.Reads text a m → p.Reads text a' m' →
       (next a).Reads m b r → (next a').Reads m' b r
@@ -129,7 +130,7 @@ module _ {A B : Type 0} (p : Part A) (next : A → Part B) (exact : IsExactPart 
   then_thing : (text : List ℕ) (b c : B) (r t : List ℕ) → (then_part p next).Reads text b r → (then_part p next).Reads text c t →
       (b ≡ c) × (r ≡ t)
   then_thing text b c r t (a, m, h, n) (a', m', h', n') =
-      (exact_next a').one_thing m' b c r t (next_reads text a a' m m' b r h h' n) n'
+      (exact_next text a' m' h').one_thing m' b c r t (next_reads text a a' m m' b r h h' n) n'
 
   then_fault : (text s t : List ℕ) (e d : Reason) → (then_part p next).Faults text s e → (then_part p next).Faults text t d →
       (s ≡ t) × (e ≡ d)
@@ -137,27 +138,33 @@ module _ {A B : Type 0} (p : Part A) (next : A → Part B) (exact : IsExactPart 
   then_fault text s t e d (inl f) (inr (a, m, h, g)) = absurd (exact.not_both text a m s e h f)
   then_fault text s t e d (inr (a, m, h, f)) (inl g) = absurd (exact.not_both text a m t d h g)
   then_fault text s t e d (inr (a, m, h, f)) (inr (a', m', h', g)) =
-      (exact_next a').one_fault m' s t e d (next_faults text a a' m m' s e h h' f) g
+      (exact_next text a' m' h').one_fault m' s t e d (next_faults text a a' m m' s e h h' f) g
 
   then_not_both : (text : List ℕ) (b : B) (r t : List ℕ) (e : Reason) → (then_part p next).Reads text b r →
       (then_part p next).Faults text t e → ⊥
   then_not_both text b r t e (a, m, h, n) (inl f) = exact.not_both text a m t e h f
   then_not_both text b r t e (a, m, h, n) (inr (a', m', h', f)) =
-      (exact_next a').not_both m' b r t e (next_reads text a a' m m' b r h h' n) f
+      (exact_next text a' m' h').not_both m' b r t e (next_reads text a a' m m' b r h h' n) f
 
   then_fault_ends : (text t : List ℕ) (e : Reason) → (then_part p next).Faults text t e → (front : List ℕ) × (text ≡ front ++ t)
   then_fault_ends text t e (inl f) = exact.fault_ends text t e f
   then_fault_ends text t e (inr (a, m, h, f)) =
-      ends_in_turn text m t (exact.rest_ends text a m h) ((exact_next a).fault_ends m t e f)
+      ends_in_turn text m t (exact.rest_ends text a m h) ((exact_next text a m h).fault_ends m t e f)
 
-  pub then_part_is_exact : IsExactPart (then_part p next).Reads (then_part p next).Faults
-  then_part_is_exact = record {
+  pub then_read_is_exact : IsExactPart (then_part p next).Reads (then_part p next).Faults
+  then_read_is_exact = record {
     one_thing = then_thing;
     one_fault = then_fault;
     not_both = then_not_both;
-    rest_ends = λ text b r h. ends_in_turn text h.1 r (exact.rest_ends text h.0 h.1 h.2) ((exact_next h.0).rest_ends h.1 b r h.3);
+    rest_ends = λ text b r h.
+        ends_in_turn text h.1 r (exact.rest_ends text h.0 h.1 h.2) ((exact_next text h.0 h.1 h.2).rest_ends h.1 b r h.3);
     fault_ends = then_fault_ends;
   }
+
+-- or for each thing at all
+pub then_part_is_exact : {A B : Type 0} (p : Part A) (next : A → Part B) → IsExactPart p.Reads p.Faults →
+    ((a : A) → IsExactPart (next a).Reads (next a).Faults) → IsExactPart (then_part p next).Reads (then_part p next).Faults
+then_part_is_exact p next exact exact_next = then_read_is_exact p next exact (λ text a m h. exact_next a)
 
 module _ {A B : Type 0} (Makes : A → B → Type 0) (one : (a : A) (b c : B) → Makes a b → Makes a c → b ≡ c) (p : Part A)
     (exact : IsExactPart p.Reads p.Faults) where

@@ -1,6 +1,6 @@
 -- Parts of texts: what each spells, and where a text that does not spell it is at fault first (own). A form of text is
 -- a part made of lines, one after the other.
-use Rattle.std.specs.Prelude.{ℕ, ◌≡◌, ◌≢◌, ◌⊎◌, List, ◌++◌, length}
+use Rattle.std.specs.Prelude.{ℕ, ◌≡◌, ◌≢◌, ◌⊎◌, List, ◌∷◌, ◌++◌, length}
 use Rattle.std.proofs.Common.{inl, inr}
 use Rattle.gj_lex.specs.declared.spelling.Spelling.{Spelling}
 use Rattle.gj_lex.specs.declared.reason.Reason.{Reason}
@@ -55,6 +55,21 @@ made_part {A} Makes p = record { Reads = λ text b rest. (a : A) × p.Reads text
 abbrev pub framed_part : {A : Type 0} → Spelling → List (List ℕ) → Part A → List (List ℕ) → Part A
 framed_part s title p end =
     then_part (line_part s (words_rule title)) (λ t. then_part p (λ a. then_part (line_part s (words_rule end)) (λ t. empty_part a)))
+
+-- the next line of the text has these words
+abbrev pub BeginsWithLine : Spelling → List (List ℕ) → List ℕ → Type 0
+BeginsWithLine s words text = (start : List ℕ) × (rest : List ℕ) × HasLine s text start words rest
+
+-- the next line of the text begins with this word
+abbrev pub BeginsWithWord : Spelling → List ℕ → List ℕ → Type 0
+BeginsWithWord s word text = (words : List (List ℕ)) × BeginsWithLine s (word ∷ words) text
+
+-- the one part if the text begins so, and the other if it does not
+abbrev pub where_part : {A : Type 0} → (List ℕ → Type 0) → Part A → Part A → Part A
+where_part Begins p q = record {
+  Reads = λ text a rest. (Begins text × p.Reads text a rest) ⊎ ((Begins text → ⊥) × q.Reads text a rest);
+  Faults = λ text start e. (Begins text × p.Faults text start e) ⊎ ((Begins text → ⊥) × q.Faults text start e);
+}
 
 -- the part of each state is read in turn: it leads to a next state, or ends with what the whole spells
 pub data ReadsInTurn {S A : Type 0} (Reads : S → List ℕ → S ⊎ A → List ℕ → Type 0) (a : A) (rest : List ℕ) : S → List ℕ → Type 0 where

@@ -1,7 +1,7 @@
 -- The words by which a refused line is explained (own).
 use Rattle.std.specs.Prelude.{ℕ, List, codes}
 use Rattle.gj_lex.specs.declared.reason.Reason.{Reason}
-use Rattle.gj_lex.specs.declared.reason.Reason.TheVariants.{Form, Number, Order, Place, Large, Fine, BadF, Pieces, Signs, Slopes, Tail}
+use Rattle.gj_lex.specs.declared.reason.Reason.TheVariants.{Form, Number, Order, Place, Large, Fine, Break, BadF, Pieces, Signs, Slopes, Tail}
 
 -- the word of a reason
 abbrev pub reason_word : Reason → List ℕ
@@ -11,6 +11,7 @@ reason_word Order = codes "order"
 reason_word Place = codes "place"
 reason_word Large = codes "large"
 reason_word Fine = codes "fine"
+reason_word Break = codes "break"
 reason_word BadF = codes "bad-f"
 reason_word Pieces = codes "pieces"
 reason_word Signs = codes "signs"

@@ -8,6 +8,7 @@
 //! fault. `proofs/PartLaws.antt` has the laws that crates above cite: parts made of exact parts are exact.
 #![tactic(auto)]
 
+mod begins;
 mod canonical;
 mod cursor;
 mod digits;
@@ -22,6 +23,7 @@ mod spelling;
 mod text_lines;
 mod words;
 
+pub use begins::{begins_with_line, begins_with_word};
 pub use canonical::{read_canonical, read_count};
 pub use cursor::{Cursor, LineSpan};
 pub use fault::PartFault;
@@ -37,7 +39,8 @@ pub use spelled::{count_of, fraction_of, is_count};
 pub use spelling::Spelling;
 pub use text_lines::{TextLine, end_at, line_at, line_number, words_at};
 pub use words::{
-    behind_name, field_of, has_first_word, has_no_word, has_words, only_word, split_word, words_of,
+    behind_name, field_of, has_first_word, has_no_word, has_words, only_word, split_word, two_fields_of,
+    words_of,
 };
 
 #[cfg(test)]

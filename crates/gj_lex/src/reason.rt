@@ -12,15 +12,17 @@ pub enum Reason {
     Number,
     /// The order is not from 2 to 1,000.
     Order,
-    /// The place of f is not on the grid, strictly between 0 and 1.
+    /// f is not strictly between 0 and 1, or not on the grid.
     Place,
     /// A value is above 2^20 in absolute value.
     Large,
     /// The common denominator of the values so far passes 2^31 - 1.
     Fine,
+    /// A breakpoint is not in its place: the first at 0, each further one behind the one before and below 1.
+    Break,
     /// f is not strictly between 0 and 1.
     BadF,
-    /// The function would have more than 1,000 pieces.
+    /// The function would have more than 1,000 pieces: its order would pass 1,000.
     Pieces,
     /// There are fewer than two signs, or a byte among them is neither `+` nor `-`.
     Signs,
@@ -42,6 +44,7 @@ impl Reason {
             Reason::Place => b"place",
             Reason::Large => b"large",
             Reason::Fine => b"fine",
+            Reason::Break => b"break",
             Reason::BadF => b"bad-f",
             Reason::Pieces => b"pieces",
             Reason::Signs => b"signs",

@@ -114,6 +114,17 @@ pub fn field_of<'a>(line: &'a [u8], name: &[u8]) -> Option<&'a [u8]>
     only_word(behind_name(line, name)?)
 }
 
+/// The two words behind the name, where the line has these three words.
+pub fn two_fields_of<'a>(line: &'a [u8], name: &[u8]) -> Option<(&'a [u8], &'a [u8])>
+    ensures found { IfSome result (λ r. word_texts line.now ≡ name.now ∷ r.0.now ∷ r.1.now ∷ []) }
+    ensures none { IfNone result ((first second : List ℕ) →
+        word_texts line.now ≡ name.now ∷ first ∷ second ∷ [] → ⊥) }
+{
+    let (first, rest) = split_word(behind_name(line, name)?)?;
+    let second = only_word(rest)?;
+    Some((first, second))
+}
+
 /// Whether the line has the words of the other, in their order, and no more.
 pub fn has_words(line: &[u8], other: &[u8]) -> bool
     ensures { IsTrue result ↔ (word_texts line.now ≡ word_texts other.now) }

@@ -8,7 +8,7 @@ use Rattle.gj_lex.proofs.LoopLaws.{loop_part_is_exact}
 use Rattle.gj_shape.specs.FunctionData.{FunctionData}
 use Rattle.gj_lines.specs.FunctionGrammar.{function_part}
 use Rattle.gj_lines.proofs.ExactFunctions.{function_part_is_exact}
-use Rattle.gj_proof.specs.WhereParts.{BeginsWithLine, BeginsWithWord}
+use Rattle.gj_lex.specs.Parts.{BeginsWithLine, BeginsWithWord}
 use Rattle.gj_proof.specs.ProofGrammar.{rule_part, head_rule, term_rule, next_term, terms_part, behind_head, row_part, next_row, rows_part}
 use Rattle.gj_proof.specs.declared.cut.CutRule.{CutRule}
 use Rattle.gj_proof.specs.declared.cut.CutRule.TheVariants.{Gmic, Table}
@@ -18,7 +18,7 @@ use Rattle.gj_proof.specs.declared.cut.CutTerm.{CutTerm}
 use Rattle.gj_proof.specs.declared.cut_rows.RowKind.{RowKind}
 use Rattle.gj_proof.specs.declared.cut_rows.RowKind.TheVariants.{WithCut, Skipped}
 use Rattle.gj_proof.specs.declared.cut_rows.RowHead.{RowHead}
-use Rattle.gj_proof.proofs.WhereLaws.{where_part_is_exact, shorter_behind_line}
+use Rattle.gj_lex.proofs.WhereLaws.{where_part_is_exact, shorter_behind_line}
 use Rattle.gj_proof.proofs.CutWords.{head_rule_is_exact, term_rule_is_exact}
 
 -- ---- the rule
@@ -34,7 +34,7 @@ table_part = made_part (λ (f : FunctionData) r. r ≡ Table f) (function_part S
 
 pub rule_part_is_exact : IsExactPart rule_part.Reads rule_part.Faults
 rule_part_is_exact =
-    where_part_is_exact (BeginsWithLine gmic_words) gmic_part table_part
+    where_part_is_exact (BeginsWithLine Strict gmic_words) gmic_part table_part
     (made_part_is_exact (λ (t : Unit {0}) r. r ≡ Gmic) (λ t r s h k. h ∙ sym k) (line_part Strict (words_rule gmic_words))
     (line_part_is_exact Strict (words_rule gmic_words) (words_rule_is_exact gmic_words)))
     (made_part_is_exact (λ (f : FunctionData) r. r ≡ Table f) (λ f r s h k. h ∙ sym k) (function_part Strict)
@@ -50,7 +50,7 @@ more_terms terms = made_part (λ (t : CutTerm) next. next ≡ inl (terms ++ t �
 
 next_term_is_exact : (terms : List CutTerm) → IsExactPart (next_term terms).Reads (next_term terms).Faults
 next_term_is_exact terms =
-    where_part_is_exact (BeginsWithWord (codes "term")) (more_terms terms) (empty_part (inr terms))
+    where_part_is_exact (BeginsWithWord Strict (codes "term")) (more_terms terms) (empty_part (inr terms))
     (made_part_is_exact (λ (t : CutTerm) next. next ≡ inl (terms ++ t ∷ [])) (λ t m n h k. h ∙ sym k) term_part
     (line_part_is_exact Strict term_rule term_rule_is_exact))
     (empty_part_is_exact (inr terms))
@@ -88,7 +88,7 @@ more_rows rows = made_part (λ (l : CutLine) next. next ≡ inl (rows ++ l ∷ [
 
 next_row_is_exact : (rows : List CutLine) → IsExactPart (next_row rows).Reads (next_row rows).Faults
 next_row_is_exact rows =
-    where_part_is_exact (BeginsWithLine end_words) (empty_part (inr rows)) (more_rows rows) (empty_part_is_exact (inr rows))
+    where_part_is_exact (BeginsWithLine Strict end_words) (empty_part (inr rows)) (more_rows rows) (empty_part_is_exact (inr rows))
     (made_part_is_exact (λ (l : CutLine) next. next ≡ inl (rows ++ l ∷ [])) (λ l m n h k. h ∙ sym k) row_part row_part_is_exact)
 
 pub rows_part_is_exact : (rows : List CutLine) → IsExactPart (rows_part rows).Reads (rows_part rows).Faults
@@ -98,6 +98,6 @@ rows_part_is_exact = loop_part_is_exact next_row next_row_is_exact
 
 pub shorter_behind_row : (text rest : List ℕ) (l : CutLine) → row_part.Reads text l rest → length rest < length text
 shorter_behind_row text rest l (h, middle, head, more) =
-    let less = shorter_behind_line head_rule text middle h head in
+    let less = shorter_behind_line Strict head_rule text middle h head in
     let ends = (behind_head_is_exact h.name h.right h.kind).rest_ends middle l rest more in
     omega (arith, ap length ends.1, length-append ends.0 rest)

@@ -6,7 +6,7 @@ use Rattle.gj_lex.specs.Parts.{words_rule, line_part, empty_part, made_part, IsF
 use Rattle.gj_lex.proofs.PartLaws.{fault_in_first, fault_in_next, fault_in_made}
 use Rattle.gj_shape.specs.FunctionData.{FunctionData}
 use Rattle.gj_lines.specs.FunctionGrammar.{function_part}
-use Rattle.gj_proof.specs.WhereParts.{BeginsWithLine, BeginsWithWord}
+use Rattle.gj_lex.specs.Parts.{BeginsWithLine, BeginsWithWord}
 use Rattle.gj_proof.specs.ProofGrammar.{rule_part, next_term, terms_part, behind_head, row_part, next_row, rows_part, claim_part}
 use Rattle.gj_proof.specs.declared.claim.ClaimWord.TheVariants.{Cut}
 use Rattle.gj_proof.specs.declared.claim.Claim.{Claim}
@@ -19,48 +19,48 @@ use Rattle.gj_proof.specs.declared.cut_rows.RowHead.{RowHead}
 use Rattle.gj_proof.specs.declared.cut_rows.RowKind.{RowKind}
 use Rattle.gj_proof.specs.declared.cut_rows.RowKind.TheVariants.{WithCut}
 use Rattle.gj_proof.proofs.LoopRead.{LeadsOn, leads_on, leads_to_end, leads_to_fault}
-use Rattle.gj_proof.proofs.WhereLaws.{fault_where, fault_else}
+use Rattle.gj_lex.proofs.WhereLaws.{fault_where, fault_else}
 use Rattle.gj_proof.proofs.CutParts.{gmic_words, gmic_part, table_part, term_part, more_terms, head_part, behind, with_terms, end_words, more_rows}
 
 -- ---- the rule
 
-pub fault_in_gmic : (text : List ℕ) (e : PartFault) → BeginsWithLine gmic_words text →
+pub fault_in_gmic : (text : List ℕ) (e : PartFault) → BeginsWithLine Strict gmic_words text →
     IsFaultOf (line_part Strict (words_rule gmic_words)) text e → IsFaultOf rule_part text e
 fault_in_gmic text e is h =
-    fault_where (BeginsWithLine gmic_words) gmic_part table_part text e is
+    fault_where (BeginsWithLine Strict gmic_words) gmic_part table_part text e is
     (fault_in_made (λ (t : Unit {0}) r. r ≡ Gmic) (line_part Strict (words_rule gmic_words)) text e h)
 
-pub fault_in_table : (text : List ℕ) (e : PartFault) → (BeginsWithLine gmic_words text → ⊥) →
+pub fault_in_table : (text : List ℕ) (e : PartFault) → (BeginsWithLine Strict gmic_words text → ⊥) →
     IsFaultOf (function_part Strict) text e → IsFaultOf rule_part text e
 fault_in_table text e not h =
-    fault_else (BeginsWithLine gmic_words) gmic_part table_part text e not
+    fault_else (BeginsWithLine Strict gmic_words) gmic_part table_part text e not
     (fault_in_made (λ (f : FunctionData) r. r ≡ Table f) (function_part Strict) text e h)
 
-pub gmic_read : (text rest : List ℕ) → BeginsWithLine gmic_words text →
+pub gmic_read : (text rest : List ℕ) → BeginsWithLine Strict gmic_words text →
     (line_part Strict (words_rule gmic_words)).Reads text tt rest → rule_part.Reads text Gmic rest
 gmic_read text rest is h = inl (is, (tt, h, refl))
 
-pub table_read : (text rest : List ℕ) (f : FunctionData) → (BeginsWithLine gmic_words text → ⊥) →
+pub table_read : (text rest : List ℕ) (f : FunctionData) → (BeginsWithLine Strict gmic_words text → ⊥) →
     (function_part Strict).Reads text f rest → rule_part.Reads text (Table f) rest
 table_read text rest f not h = inr (not, (f, h, refl))
 
 -- ---- terms
 
 pub term_on : (text rest behind : List ℕ) (terms new : List CutTerm) (t : CutTerm) → LeadsOn next_term [] text terms rest →
-    BeginsWithWord (codes "term") rest → term_part.Reads rest t behind → new ≡ terms ++ t ∷ [] → LeadsOn next_term [] text new behind
+    BeginsWithWord Strict (codes "term") rest → term_part.Reads rest t behind → new ≡ terms ++ t ∷ [] → LeadsOn next_term [] text new behind
 term_on text rest behind terms new t h is line new_is =
     subst (λ (ts : List CutTerm). LeadsOn next_term [] text ts behind) (sym new_is)
     (leads_on next_term [] text terms (terms ++ t ∷ []) rest behind h (inl (is, (t, line, refl))))
 
 pub terms_end : (text rest : List ℕ) (terms : List CutTerm) → LeadsOn next_term [] text terms rest →
-    (BeginsWithWord (codes "term") rest → ⊥) → (terms_part []).Reads text terms rest
+    (BeginsWithWord Strict (codes "term") rest → ⊥) → (terms_part []).Reads text terms rest
 terms_end text rest terms h not = leads_to_end next_term [] text terms rest terms rest h (inr (not, (refl, refl)))
 
 pub term_at_fault : (text rest : List ℕ) (terms : List CutTerm) (e : PartFault) → LeadsOn next_term [] text terms rest →
-    BeginsWithWord (codes "term") rest → IsFaultOf term_part rest e → IsFaultOf (terms_part []) text e
+    BeginsWithWord Strict (codes "term") rest → IsFaultOf term_part rest e → IsFaultOf (terms_part []) text e
 term_at_fault text rest terms e h is fault =
     leads_to_fault next_term [] text terms rest e h
-    (fault_where (BeginsWithWord (codes "term")) (more_terms terms) (empty_part (inr terms)) rest e is
+    (fault_where (BeginsWithWord Strict (codes "term")) (more_terms terms) (empty_part (inr terms)) rest e is
     (fault_in_made {B = List CutTerm ⊎ List CutTerm} (λ t next. next ≡ inl (terms ++ t ∷ [])) term_part rest e fault))
 
 -- ---- one row
@@ -80,20 +80,20 @@ row_read text middle rest head k l line kind h =
 -- ---- all rows
 
 pub row_on : (text rest behind : List ℕ) (rows new : List CutLine) (l : CutLine) → LeadsOn next_row [] text rows rest →
-    (BeginsWithLine end_words rest → ⊥) → row_part.Reads rest l behind → new ≡ rows ++ l ∷ [] → LeadsOn next_row [] text new behind
+    (BeginsWithLine Strict end_words rest → ⊥) → row_part.Reads rest l behind → new ≡ rows ++ l ∷ [] → LeadsOn next_row [] text new behind
 row_on text rest behind rows new l h not row new_is =
     subst (λ (ls : List CutLine). LeadsOn next_row [] text ls behind) (sym new_is)
     (leads_on next_row [] text rows (rows ++ l ∷ []) rest behind h (inr (not, (l, row, refl))))
 
-pub rows_end : (text rest : List ℕ) (rows : List CutLine) → LeadsOn next_row [] text rows rest → BeginsWithLine end_words rest →
+pub rows_end : (text rest : List ℕ) (rows : List CutLine) → LeadsOn next_row [] text rows rest → BeginsWithLine Strict end_words rest →
     (rows_part []).Reads text rows rest
 rows_end text rest rows h is = leads_to_end next_row [] text rows rest rows rest h (inl (is, (refl, refl)))
 
 pub row_at_fault : (text rest : List ℕ) (rows : List CutLine) (e : PartFault) → LeadsOn next_row [] text rows rest →
-    (BeginsWithLine end_words rest → ⊥) → IsFaultOf row_part rest e → IsFaultOf (rows_part []) text e
+    (BeginsWithLine Strict end_words rest → ⊥) → IsFaultOf row_part rest e → IsFaultOf (rows_part []) text e
 row_at_fault text rest rows e h not fault =
     leads_to_fault next_row [] text rows rest e h
-    (fault_else (BeginsWithLine end_words) (empty_part (inr rows)) (more_rows rows) rest e not
+    (fault_else (BeginsWithLine Strict end_words) (empty_part (inr rows)) (more_rows rows) rest e not
     (fault_in_made {B = List CutLine ⊎ List CutLine} (λ l next. next ≡ inl (rows ++ l ∷ [])) row_part rest e fault))
 
 -- ---- the claim

@@ -4,13 +4,14 @@ use Rattle.std.specs.List.{join_with_byte}
 use Rattle.std.proofs.lemmas.List.{append_assoc, append-nil}
 use Rattle.std.proofs.lemmas.List.Elements.{All-nil, All-cons, All-head, All-tail}
 use Rattle.gj_frac.specs.declared.Frac.{Frac}
+use Rattle.gj_lex.specs.declared.spelling.Spelling.TheVariants.{Strict}
 use Rattle.gj_lex.specs.Name.{IsName}
 use Rattle.gj_lex.specs.NumberText.{fraction_text}
 use Rattle.gj_lex.specs.Parts.ReadsInTurn.{last, onward}
 use Rattle.gj_lines.specs.FunctionLines.{line}
 use Rattle.gj_proof.specs.ProofText.{HasNames, reason_word, row_line, term_line, terms_of}
 use Rattle.gj_proof.specs.CutTexts.{row_text}
-use Rattle.gj_proof.specs.WhereParts.{BeginsWithLine, BeginsWithWord}
+use Rattle.gj_lex.specs.Parts.{BeginsWithLine, BeginsWithWord}
 use Rattle.gj_proof.specs.ProofGrammar.{head_words, head_rule, term_words, term_rule, terms_part, behind_head, row_part, rows_part}
 use Rattle.gj_proof.specs.declared.cut.CutLine.{CutLine}
 use Rattle.gj_proof.specs.declared.cut.CutLine.TheVariants as cuts
@@ -19,7 +20,7 @@ use Rattle.gj_proof.specs.declared.cut_rows.RowKind.{RowKind}
 use Rattle.gj_proof.specs.declared.cut_rows.RowKind.TheVariants.{WithCut, Skipped}
 use Rattle.gj_proof.specs.declared.cut_rows.RowHead.{RowHead}
 use Rattle.gj_proof.proofs.StrictParts.{line_reads, line_found, strict_line}
-use Rattle.gj_proof.proofs.WhereLaws.{other_line, other_word}
+use Rattle.gj_lex.proofs.WhereLaws.{other_line, other_word}
 use Rattle.gj_proof.proofs.CutWords.{head_is_plain, term_is_plain, bytes_of_cut, bytes_of_skip, bytes_of_term}
 use Rattle.gj_proof.proofs.CutParts.{term_part, head_part, end_words}
 
@@ -36,14 +37,18 @@ term_found text rest t h =
     (spelled ∙ ap (λ ws. line (join_with_byte 32 ws) ++ rest) is ∙ ap (λ u. u ++ rest) (bytes_of_term t), named)
 
 -- the line of a term begins with `term`
-begins_term : (t : CutTerm) (rest : List ℕ) → IsName t.name → BeginsWithWord (codes "term") (term_line t ++ rest)
+begins_term : (t : CutTerm) (rest : List ℕ) → IsName t.name → BeginsWithWord Strict (codes "term") (term_line t ++ rest)
 begins_term t rest named =
     let words = name_words t in (
       words,
       (
+        term_line t ++ rest,
         rest,
-        strict_line (term_line t ++ rest) rest (codes "term") words (term_is_plain t.name t.entry t.cut named)
-            (ap (λ u. u ++ rest) (sym (bytes_of_term t))),
+        (
+          refl,
+          strict_line (term_line t ++ rest) rest (codes "term") words (term_is_plain t.name t.entry t.cut named)
+              (ap (λ u. u ++ rest) (sym (bytes_of_term t))),
+        ),
       ),
     )
   where
@@ -71,20 +76,20 @@ not_skip words more e = absurd (let b : 115 ≡ 116 = ap first_byte e in omega a
 
 -- it begins neither with `term` nor as a line `end`
 head_begins_not : (k : RowKind) (name : List ℕ) (right : Frac) (text rest : List ℕ) → IsName name → text ≡ head_line k name right ++ rest →
-    (BeginsWithWord (codes "term") text → ⊥) × (BeginsWithLine end_words text → ⊥)
+    (BeginsWithWord Strict (codes "term") text → ⊥) × (BeginsWithLine Strict end_words text → ⊥)
 head_begins_not WithCut name right text rest named is =
     let strict = strict_line text rest (codes "cut") (name ∷ fraction_text right ∷ []) (head_is_plain WithCut name right named) is in
-    (other_word text _ (codes "term") rest strict (λ more e. cc), other_line text _ end_words rest strict (λ e. cc))
+    (other_word Strict text text _ (codes "term") rest (refl, strict) (λ more e. cc), other_line Strict text text _ end_words rest (refl, strict) (λ e. cc))
 head_begins_not (Skipped r) name right text rest named is =
     let strict = strict_line text rest (codes "skip") (name ∷ fraction_text right ∷ reason_word r ∷ [])
     (head_is_plain (Skipped r) name right named) is in
-    (other_word text _ (codes "term") rest strict (λ more e. not_skip _ more e), other_line text _ end_words rest strict (λ e. cc))
+    (other_word Strict text text _ (codes "term") rest (refl, strict) (λ more e. not_skip _ more e), other_line Strict text text _ end_words rest (refl, strict) (λ e. cc))
 
 -- ---- terms
 
 -- a text goes on with no term
 abbrev EndsTerms : List ℕ → Type 0
-EndsTerms rest = BeginsWithWord (codes "term") rest → ⊥
+EndsTerms rest = BeginsWithWord Strict (codes "term") rest → ⊥
 
 pub terms_read : (before terms : List CutTerm) (rest : List ℕ) → All (λ t. IsName t.name) terms → EndsTerms rest →
     (terms_part before).Reads (flat_map term_line terms ++ rest) (before ++ terms) rest
@@ -150,7 +155,7 @@ line_of_row (cuts.Cut name right terms) = bytes_of_cut name right terms
 line_of_row (cuts.Skip name right reason) = bytes_of_skip name right reason
 
 row_begins_not : (l : CutLine) (text rest : List ℕ) → HasNames l → text ≡ row_line l ++ rest →
-    EndsTerms text × (BeginsWithLine end_words text → ⊥)
+    EndsTerms text × (BeginsWithLine Strict end_words text → ⊥)
 row_begins_not l text rest named is =
     head_begins_not (head_of l).kind (head_of l).name (head_of l).right text rest (name_of_row l named)
     (is ∙ ap (λ t. t ++ rest) (sym (line_of_row l)))
@@ -201,10 +206,10 @@ row_found text rest l (h, middle, head, more) =
 
 -- a text goes on with a line `end`
 abbrev EndsRows : List ℕ → Type 0
-EndsRows rest = BeginsWithLine end_words rest
+EndsRows rest = BeginsWithLine Strict end_words rest
 
 ends_terms : (rest : List ℕ) → EndsRows rest → EndsTerms rest
-ends_terms rest (r, line) = other_word rest end_words (codes "term") r line (λ more e. cc)
+ends_terms rest (start, r, line) = other_word Strict rest start end_words (codes "term") r line (λ more e. cc)
 
 rows_end_terms : (rows : List CutLine) (rest : List ℕ) → All HasNames rows → EndsRows rest → EndsTerms (flat_map row_text rows ++ rest)
 rows_end_terms [] rest named ends = ends_terms rest ends

@@ -7,11 +7,11 @@ use Rattle.gj_lex.proofs.LoopLaws.{loop_part_is_exact}
 use Rattle.gj_shape.specs.declared.extremality.CoverLine.{CoverLine}
 use Rattle.gj_shape.specs.declared.extremality.Halves.{Halves}
 use Rattle.gj_shape.specs.declared.extremality.RowName.{RowName}
-use Rattle.gj_proof.specs.WhereParts.{BeginsWithLine, BeginsWithWord}
+use Rattle.gj_lex.specs.Parts.{BeginsWithLine, BeginsWithWord}
 use Rattle.gj_proof.specs.ProofGrammar.{cover_rule, covered_part, row_name_rule, column_rule, next_step, group_part, next_group, groups_part, halves_rule, pair_rule, pairs_part, halves_part}
 use Rattle.gj_proof.specs.declared.halves.HalvesHead.{HalvesHead}
 use Rattle.gj_proof.specs.declared.pivot.PivotRow.{PivotRow}
-use Rattle.gj_proof.proofs.WhereLaws.{where_part_is_exact, shorter_behind_line}
+use Rattle.gj_lex.proofs.WhereLaws.{where_part_is_exact, shorter_behind_line}
 use Rattle.gj_proof.proofs.CutParts.{end_words}
 use Rattle.gj_proof.proofs.ExtremeWords.{cover_rule_is_exact, row_name_rule_is_exact, column_rule_is_exact, halves_rule_is_exact, pair_rule_is_exact}
 
@@ -44,7 +44,7 @@ more_steps columns = made_part (λ (c : ℕ) next. next ≡ inl (columns ++ c �
 
 next_step_is_exact : (columns : List ℕ) → IsExactPart (next_step columns).Reads (next_step columns).Faults
 next_step_is_exact columns =
-    where_part_is_exact (BeginsWithWord (codes "reduce")) (more_steps columns) (empty_part (inr columns))
+    where_part_is_exact (BeginsWithWord Strict (codes "reduce")) (more_steps columns) (empty_part (inr columns))
     (made_part_is_exact (λ (c : ℕ) next. next ≡ inl (columns ++ c ∷ [])) (λ c m n h k. h ∙ sym k) step_part
     (line_part_is_exact Strict (column_rule (codes "reduce")) (column_rule_is_exact (codes "reduce"))))
     (empty_part_is_exact (inr columns))
@@ -81,7 +81,7 @@ more_groups q rows = made_part (λ (row : PivotRow) next. next ≡ inl (rows ++ 
 
 next_group_is_exact : (q : ℕ) → q ≤ 1000 → (rows : List PivotRow) → IsExactPart (next_group q rows).Reads (next_group q rows).Faults
 next_group_is_exact q small rows =
-    where_part_is_exact (BeginsWithLine end_words) (empty_part (inr rows)) (more_groups q rows) (empty_part_is_exact (inr rows))
+    where_part_is_exact (BeginsWithLine Strict end_words) (empty_part (inr rows)) (more_groups q rows) (empty_part_is_exact (inr rows))
     (made_part_is_exact (λ (row : PivotRow) next. next ≡ inl (rows ++ row ∷ [])) (λ row m n h k. h ∙ sym k) (group_part q)
     (group_part_is_exact q small))
 
@@ -92,7 +92,7 @@ groups_part_is_exact q rows small = loop_part_is_exact (next_group q) (next_grou
 -- less is left behind a group
 pub shorter_behind_group : (q : ℕ) (text rest : List ℕ) (row : PivotRow) → (group_part q).Reads text row rest → length rest < length text
 shorter_behind_group q text rest row (name, middle, first, more) =
-    let less = shorter_behind_line (row_name_rule q) text middle name first in
+    let less = shorter_behind_line Strict (row_name_rule q) text middle name first in
     let ends = (behind_name_is_exact name).rest_ends middle row rest more in
     omega (arith, ap length ends.1, length-append ends.0 rest)
 

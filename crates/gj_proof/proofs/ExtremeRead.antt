@@ -8,12 +8,12 @@ use Rattle.gj_shape.specs.FunctionData.{FunctionData}
 use Rattle.gj_shape.specs.declared.extremality.CoverLine.{CoverLine}
 use Rattle.gj_shape.specs.declared.extremality.RowName.{RowName}
 use Rattle.gj_lines.specs.FunctionGrammar.{function_part}
-use Rattle.gj_proof.specs.WhereParts.{BeginsWithLine, BeginsWithWord}
+use Rattle.gj_lex.specs.Parts.{BeginsWithLine, BeginsWithWord}
 use Rattle.gj_proof.specs.ProofGrammar.{covered_part, next_step, group_part, next_group, groups_part, pairs_part, halves_part, claim_part}
 use Rattle.gj_proof.specs.declared.claim.ClaimWord.TheVariants.{Extreme, NotExtreme}
 use Rattle.gj_proof.specs.declared.pivot.PivotRow.{PivotRow}
 use Rattle.gj_proof.proofs.LoopRead.{LeadsOn, leads_on, leads_to_end, leads_to_fault}
-use Rattle.gj_proof.proofs.WhereLaws.{fault_where, fault_else}
+use Rattle.gj_lex.proofs.WhereLaws.{fault_where, fault_else}
 use Rattle.gj_proof.proofs.CutParts.{end_words}
 use Rattle.gj_proof.proofs.ExtremeParts.{cover_part, name_part, step_part, pivot_part, more_steps, steps_part, makes_row, behind_steps, behind_name, more_groups, pair_part}
 use Rattle.gj_proof.proofs.ReadTexts.{makes_extreme, behind_cover, behind_function, makes_not_extreme, behind_subject}
@@ -49,20 +49,20 @@ module _ (q n i : ℕ) (text rest : List ℕ) (lines : List CoverLine)
 -- ---- steps
 
 pub step_on : (text rest behind : List ℕ) (columns new : List ℕ) (c : ℕ) → LeadsOn next_step [] text columns rest →
-    BeginsWithWord (codes "reduce") rest → step_part.Reads rest c behind → new ≡ columns ++ c ∷ [] → LeadsOn next_step [] text new behind
+    BeginsWithWord Strict (codes "reduce") rest → step_part.Reads rest c behind → new ≡ columns ++ c ∷ [] → LeadsOn next_step [] text new behind
 step_on text rest behind columns new c h is line new_is =
     subst (λ (cs : List ℕ). LeadsOn next_step [] text cs behind) (sym new_is)
     (leads_on next_step [] text columns (columns ++ c ∷ []) rest behind h (inl (is, (c, line, refl))))
 
 pub steps_end : (text rest : List ℕ) (columns : List ℕ) → LeadsOn next_step [] text columns rest →
-    (BeginsWithWord (codes "reduce") rest → ⊥) → steps_part.Reads text columns rest
+    (BeginsWithWord Strict (codes "reduce") rest → ⊥) → steps_part.Reads text columns rest
 steps_end text rest columns h not = leads_to_end next_step [] text columns rest columns rest h (inr (not, (refl, refl)))
 
 pub step_at_fault : (text rest : List ℕ) (columns : List ℕ) (e : PartFault) → LeadsOn next_step [] text columns rest →
-    BeginsWithWord (codes "reduce") rest → IsFaultOf step_part rest e → IsFaultOf steps_part text e
+    BeginsWithWord Strict (codes "reduce") rest → IsFaultOf step_part rest e → IsFaultOf steps_part text e
 step_at_fault text rest columns e h is fault =
     leads_to_fault next_step [] text columns rest e h
-    (fault_where (BeginsWithWord (codes "reduce")) (more_steps columns) (empty_part (inr columns)) rest e is
+    (fault_where (BeginsWithWord Strict (codes "reduce")) (more_steps columns) (empty_part (inr columns)) rest e is
     (fault_in_made {B = List ℕ ⊎ List ℕ} (λ c next. next ≡ inl (columns ++ c ∷ [])) step_part rest e fault))
 
 -- ---- one group
@@ -82,21 +82,21 @@ fault_in_pivot q text middle behind name columns e first steps h =
 -- ---- all groups
 
 pub group_on : (q : ℕ) (text rest behind : List ℕ) (rows new : List PivotRow) (row : PivotRow) → LeadsOn (next_group q) [] text rows rest →
-    (BeginsWithLine end_words rest → ⊥) → (group_part q).Reads rest row behind → new ≡ rows ++ row ∷ [] →
+    (BeginsWithLine Strict end_words rest → ⊥) → (group_part q).Reads rest row behind → new ≡ rows ++ row ∷ [] →
     LeadsOn (next_group q) [] text new behind
 group_on q text rest behind rows new row h not group new_is =
     subst (λ (rs : List PivotRow). LeadsOn (next_group q) [] text rs behind) (sym new_is)
     (leads_on (next_group q) [] text rows (rows ++ row ∷ []) rest behind h (inr (not, (row, group, refl))))
 
 pub groups_end : (q : ℕ) (text rest : List ℕ) (rows : List PivotRow) → LeadsOn (next_group q) [] text rows rest →
-    BeginsWithLine end_words rest → (groups_part q []).Reads text rows rest
+    BeginsWithLine Strict end_words rest → (groups_part q []).Reads text rows rest
 groups_end q text rest rows h is = leads_to_end (next_group q) [] text rows rest rows rest h (inl (is, (refl, refl)))
 
 pub group_at_fault : (q : ℕ) (text rest : List ℕ) (rows : List PivotRow) (e : PartFault) → LeadsOn (next_group q) [] text rows rest →
-    (BeginsWithLine end_words rest → ⊥) → IsFaultOf (group_part q) rest e → IsFaultOf (groups_part q []) text e
+    (BeginsWithLine Strict end_words rest → ⊥) → IsFaultOf (group_part q) rest e → IsFaultOf (groups_part q []) text e
 group_at_fault q text rest rows e h not fault =
     leads_to_fault (next_group q) [] text rows rest e h
-    (fault_else (BeginsWithLine end_words) (empty_part (inr rows)) (more_groups q rows) rest e not
+    (fault_else (BeginsWithLine Strict end_words) (empty_part (inr rows)) (more_groups q rows) rest e not
     (fault_in_made {B = List PivotRow ⊎ List PivotRow} (λ row next. next ≡ inl (rows ++ row ∷ [])) (group_part q) rest e fault))
 
 -- ---- pairs of values

@@ -19,12 +19,12 @@ use Rattle.gj_lines.specs.FaceLines.{cover_line}
 use Rattle.gj_lines.specs.FunctionLines.{line}
 use Rattle.gj_proof.specs.ProofText.{group_line, reduction_line, pivot_line, halves_line, pair_line, IsCoverLineBelow, IsRowNameBelow, IsPivotRowBelow}
 use Rattle.gj_proof.specs.ExtremeTexts.{group_text, halves_text}
-use Rattle.gj_proof.specs.WhereParts.{BeginsWithLine, BeginsWithWord}
+use Rattle.gj_lex.specs.Parts.{BeginsWithLine, BeginsWithWord}
 use Rattle.gj_proof.specs.ProofGrammar.{cover_words, cover_rule, covered_part, row_words, row_name_rule, column_rule, next_step, group_part, groups_part, halves_words, halves_rule, IsHeadInBounds, pair_words, pair_rule, pairs_part, halves_part}
 use Rattle.gj_proof.specs.declared.halves.HalvesHead.{HalvesHead}
 use Rattle.gj_proof.specs.declared.pivot.PivotRow.{PivotRow}
 use Rattle.gj_proof.proofs.StrictParts.{line_reads, line_found, strict_line}
-use Rattle.gj_proof.proofs.WhereLaws.{other_line, other_word}
+use Rattle.gj_lex.proofs.WhereLaws.{other_line, other_word}
 use Rattle.gj_proof.proofs.CutParts.{end_words}
 use Rattle.gj_proof.proofs.ExtremeWords.{cover_is_plain, bytes_of_cover, row_name_is_plain, bytes_of_row_name, column_is_plain, head_is_plain, bytes_of_head, pair_is_plain, bytes_of_pair}
 use Rattle.gj_proof.proofs.ExtremeParts.{cover_part, name_part, head_part, pair_part}
@@ -108,21 +108,25 @@ pivot_plain = plain_by_test (codes "pivot" ∷ []) refl
 
 -- a text goes on with no step
 abbrev EndsSteps : List ℕ → Type 0
-EndsSteps rest = BeginsWithWord (codes "reduce") rest → ⊥
+EndsSteps rest = BeginsWithWord Strict (codes "reduce") rest → ⊥
 
-begins_step : (c : ℕ) (rest : List ℕ) → c < 1000 → BeginsWithWord (codes "reduce") (reduction_line c ++ rest)
+begins_step : (c : ℕ) (rest : List ℕ) → c < 1000 → BeginsWithWord Strict (codes "reduce") (reduction_line c ++ rest)
 begins_step c rest below = (
   decimal c ∷ [],
   (
+    reduction_line c ++ rest,
     rest,
-    strict_line (reduction_line c ++ rest) rest (codes "reduce") (decimal c ∷ []) (column_is_plain (codes "reduce") c reduce_plain below) refl,
+    (
+      refl,
+      strict_line (reduction_line c ++ rest) rest (codes "reduce") (decimal c ∷ []) (column_is_plain (codes "reduce") c reduce_plain below) refl,
+    ),
   ),
 )
 
 pivot_ends_steps : (c : ℕ) (rest : List ℕ) → c < 1000 → EndsSteps (pivot_line c ++ rest)
 pivot_ends_steps c rest below =
-    other_word (pivot_line c ++ rest) (codes "pivot" ∷ decimal c ∷ []) (codes "reduce") rest
-    (strict_line (pivot_line c ++ rest) rest (codes "pivot") (decimal c ∷ []) (column_is_plain (codes "pivot") c pivot_plain below) refl)
+    other_word Strict (pivot_line c ++ rest) (pivot_line c ++ rest) (codes "pivot" ∷ decimal c ∷ []) (codes "reduce") rest
+    (refl, strict_line (pivot_line c ++ rest) rest (codes "pivot") (decimal c ∷ []) (column_is_plain (codes "pivot") c pivot_plain below) refl)
     (λ more e. cc)
 
 steps_read : (before columns : List ℕ) (rest : List ℕ) → All (λ c. c < 1000) columns → EndsSteps rest →
@@ -193,16 +197,17 @@ name_found q text rest n h =
 
 -- the first line of a group is no line `end`
 no_end : (q : ℕ) (n : RowName) (text rest : List ℕ) → q ≤ 1000 → IsRowNameBelow q n → text ≡ group_line n ++ rest →
-    BeginsWithLine end_words text → ⊥
+    BeginsWithLine Strict end_words text → ⊥
 no_end q Period text rest small h is =
-    other_line text (row_words Period) end_words rest
-    (strict_line text rest (codes "row") (codes "period" ∷ []) (row_name_is_plain q Period small h) is) (λ e. cc)
+    other_line Strict text text (row_words Period) end_words rest
+    (refl, strict_line text rest (codes "row") (codes "period" ∷ []) (row_name_is_plain q Period small h) is) (λ e. cc)
 no_end q F text rest small h is =
-    other_line text (row_words F) end_words rest (strict_line text rest (codes "row") (codes "f" ∷ []) (row_name_is_plain q F small h) is)
+    other_line Strict text text (row_words F) end_words rest
+    (refl, strict_line text rest (codes "row") (codes "f" ∷ []) (row_name_is_plain q F small h) is)
     (λ e. cc)
 no_end q (Pair a b) text rest small h is =
-    other_line text (row_words (Pair a b)) end_words rest
-    (strict_line text rest (codes "row") (decimal a ∷ decimal b ∷ []) (row_name_is_plain q (Pair a b) small h)
+    other_line Strict text text (row_words (Pair a b)) end_words rest
+    (refl, strict_line text rest (codes "row") (decimal a ∷ decimal b ∷ []) (row_name_is_plain q (Pair a b) small h)
     (is ∙ ap (λ u. u ++ rest) (sym (bytes_of_row_name (Pair a b))))) (λ e. cc)
 
 group_parts : (row : PivotRow) (rest : List ℕ) →
@@ -249,7 +254,7 @@ group_found q text rest row (name, middle, first, (columns, behind, steps, (c, p
 -- ---- all groups
 
 pub groups_read : (q : ℕ) (before rows : List PivotRow) (rest : List ℕ) → q ≤ 1000 → All (IsPivotRowBelow q) rows →
-    BeginsWithLine end_words rest → (groups_part q before).Reads (flat_map group_text rows ++ rest) (before ++ rows) rest
+    BeginsWithLine Strict end_words rest → (groups_part q before).Reads (flat_map group_text rows ++ rest) (before ++ rows) rest
 groups_read q before [] rest small h ends = last before rest (inl (ends, (ap inr (append-nil before), refl)))
 groups_read q before (row ∷ rows) rest small h ends =
     let first = All-head (IsPivotRowBelow q) row rows h in

@@ -6,7 +6,6 @@ pub mod OneText
 pub mod LineNumbers
 pub mod ViolationLines
 pub mod ShortTexts
-pub mod WhereLaws
 pub mod LoopRead
 pub mod CutWords
 pub mod CutParts
@@ -16,7 +15,6 @@ pub mod WholeNumbers
 pub mod CountWords
 pub mod LineLists
 pub mod ExtremeLines
-pub mod ThenParts
 pub mod ExtremeWords
 pub mod ExtremeParts
 pub mod ExtremeReads

@@ -6,7 +6,7 @@ use Rattle.gj_lex.specs.declared.spelling.Spelling.TheVariants.{Strict}
 use Rattle.gj_lex.specs.Parts.{Part, words_rule, line_part, empty_part, then_part, made_part, end_part, IsExactRule, IsExactPart}
 use Rattle.gj_lex.proofs.CanonicalLines.{plain_by_test}
 use Rattle.gj_lex.proofs.StrictLines.{IsPlain}
-use Rattle.gj_lex.proofs.PartLaws.{line_part_is_exact, then_part_is_exact, made_part_is_exact, framed_part_is_exact, end_part_is_exact}
+use Rattle.gj_lex.proofs.PartLaws.{line_part_is_exact, then_part_is_exact, then_read_is_exact, made_part_is_exact, framed_part_is_exact, end_part_is_exact}
 use Rattle.gj_shape.specs.FunctionData.{FunctionData, IsWithinBounds}
 use Rattle.gj_shape.specs.declared.extremality.CoverLine.{CoverLine}
 use Rattle.gj_shape.specs.declared.extremality.Halves.{Halves}
@@ -21,7 +21,7 @@ use Rattle.gj_lines.proofs.StrictFunctions.{strict_lines_are_canonical}
 use Rattle.gj_proof.specs.ProofText.{IfFunction, HasNames, IsBounded, subject_of_rule, AreSubjectLines, violation_line, IsCoverLineBelow, IsPivotRowBelow, IsProofText}
 use Rattle.gj_proof.specs.CutTexts.{row_text}
 use Rattle.gj_proof.specs.ExtremeTexts.{group_text, halves_text}
-use Rattle.gj_proof.specs.WhereParts.{BeginsWithLine}
+use Rattle.gj_lex.specs.Parts.{BeginsWithLine}
 use Rattle.gj_proof.specs.ProofGrammar.{claim_words, claim_rule, violation_words, violation_rule, rule_part, rows_part, covered_part, groups_part, halves_part, claim_part, proof_text}
 use Rattle.gj_proof.specs.declared.claim.Claim.{Claim}
 use Rattle.gj_proof.specs.declared.claim.Claim.TheVariants as claims
@@ -32,11 +32,10 @@ use Rattle.gj_proof.specs.declared.cut.CutRule.TheVariants.{Gmic, Table}
 use Rattle.gj_proof.specs.declared.cut.CutLine.{CutLine}
 use Rattle.gj_proof.specs.declared.pivot.PivotRow.{PivotRow}
 use Rattle.gj_proof.proofs.StrictParts.{line_reads, line_found}
-use Rattle.gj_proof.proofs.WhereLaws.{other_line, begins_so}
+use Rattle.gj_lex.proofs.WhereLaws.{other_line, begins_so}
 use Rattle.gj_proof.proofs.CutParts.{gmic_words, end_words, rule_part_is_exact, rows_part_is_exact}
 use Rattle.gj_proof.proofs.CutRead.{gmic_read, table_read}
 use Rattle.gj_proof.proofs.CutTexts.{rows_read, rows_found}
-use Rattle.gj_proof.proofs.ThenParts.{then_read_is_exact}
 use Rattle.gj_proof.proofs.ExtremeLines.{extreme_bytes, halves_bytes}
 use Rattle.gj_proof.proofs.ExtremeParts.{covered_part_is_exact, groups_part_is_exact, halves_part_is_exact}
 use Rattle.gj_proof.proofs.ExtremeReads.{covered_read, covered_found, groups_read, groups_found, halves_read, halves_found}
@@ -199,9 +198,9 @@ gmic_reads rest =
     refl
 
 -- the lines of a function begin with none of that rule
-no_gmic_line : (text rest : List ℕ) (f : FunctionData) → (function_part Strict).Reads text f rest → BeginsWithLine gmic_words text → ⊥
-no_gmic_line text rest f (q, next, (start, words, (at, strict), (word, is, spelled, order_is)), h) =
-    other_line text words gmic_words next strict (λ e. not_both word (sym is ∙ e))
+no_gmic_line : (text rest : List ℕ) (f : FunctionData) → (function_part Strict).Reads text f rest → BeginsWithLine Strict gmic_words text → ⊥
+no_gmic_line text rest f (q, next, (start, words, strict, (word, is, spelled, order_is)), h) =
+    other_line Strict text start words gmic_words next strict (λ e. not_both word (sym is ∙ e))
   where
     not_both : (word : List ℕ) → order_words word ≡ gmic_words → ⊥
     not_both word e = cc
@@ -213,11 +212,11 @@ rule_reads (Table f) lines rest b are =
     table_read (lines ++ rest) rest f (no_gmic_line (lines ++ rest) rest f reads) reads
 rule_reads Gmic lines rest b are =
     subst (λ t. rule_part.Reads (t ++ rest) Gmic rest) (sym are)
-    (gmic_read (line (codes "rule gmic") ++ rest) rest (begins_so _ rest gmic_words (gmic_reads rest)) (gmic_reads rest))
+    (gmic_read (line (codes "rule gmic") ++ rest) rest (begins_so Strict _ rest gmic_words (gmic_reads rest)) (gmic_reads rest))
 
 -- the line of the end begins as one
-end_begins : BeginsWithLine end_words last_line
-end_begins = begins_so last_line [] end_words last_reads
+end_begins : BeginsWithLine Strict end_words last_line
+end_begins = begins_so Strict last_line [] end_words last_reads
 
 -- ---- a text of a claim is read as the claim
 

@@ -1,6 +1,5 @@
 pub mod PresentRows
 pub mod ProofText
-pub mod WhereParts
 pub mod ProofGrammar
 pub mod LineFaults
 pub mod CutTexts

@@ -22,7 +22,7 @@ use Rattle.gj_shape.specs.declared.violations.Violation.TheVariants as violation
 use Rattle.gj_lines.specs.FaceLines.{face_word}
 use Rattle.gj_lines.specs.FunctionGrammar.{function_part}
 use Rattle.gj_proof.specs.ProofText.{reason_word, IsCoverLineBelow, IsRowNameBelow}
-use Rattle.gj_proof.specs.WhereParts.{BeginsWithLine, BeginsWithWord, where_part}
+use Rattle.gj_lex.specs.Parts.{BeginsWithLine, BeginsWithWord, where_part}
 use Rattle.gj_proof.specs.declared.claim.Claim.{Claim}
 use Rattle.gj_proof.specs.declared.claim.Claim.TheVariants as claim
 use Rattle.gj_proof.specs.declared.claim.ClaimWord.{ClaimWord}
@@ -87,7 +87,7 @@ violation_rule = record { Spells = λ words v. words ≡ violation_words v; Brea
 -- the line `rule gmic`, where the text begins with it, and else the lines of a function
 abbrev pub rule_part : Part CutRule
 rule_part =
-    where_part (BeginsWithLine (codes "rule" ∷ codes "gmic" ∷ []))
+    where_part (BeginsWithLine Strict (codes "rule" ∷ codes "gmic" ∷ []))
     (made_part (λ t r. r ≡ Gmic) (line_part Strict (words_rule (codes "rule" ∷ codes "gmic" ∷ []))))
     (made_part (λ f r. r ≡ Table f) (function_part Strict))
 
@@ -133,7 +133,7 @@ term_rule = record {
 -- one term more behind these, where the next line begins with `term`; else these are all
 abbrev pub next_term : List CutTerm → Part (List CutTerm ⊎ List CutTerm)
 next_term terms =
-    where_part (BeginsWithWord (codes "term"))
+    where_part (BeginsWithWord Strict (codes "term"))
     (made_part (λ t next. next ≡ inl (terms ++ t ∷ [])) (line_part Strict term_rule))
     (empty_part (inr terms))
 
@@ -153,7 +153,7 @@ row_part = then_part (line_part Strict head_rule) (λ h. behind_head h.name h.ri
 -- before a line `end` these are all rows; and else there is one row more behind these
 abbrev pub next_row : List CutLine → Part (List CutLine ⊎ List CutLine)
 next_row rows =
-    where_part (BeginsWithLine (codes "end" ∷ []))
+    where_part (BeginsWithLine Strict (codes "end" ∷ []))
     (empty_part (inr rows))
     (made_part (λ l next. next ≡ inl (rows ++ l ∷ [])) row_part)
 
@@ -229,7 +229,7 @@ column_rule word = record {
 -- one step more behind these, where the next line begins with `reduce`; else these are all
 abbrev pub next_step : List ℕ → Part (List ℕ ⊎ List ℕ)
 next_step columns =
-    where_part (BeginsWithWord (codes "reduce"))
+    where_part (BeginsWithWord Strict (codes "reduce"))
     (made_part (λ c next. next ≡ inl (columns ++ c ∷ [])) (line_part Strict (column_rule (codes "reduce"))))
     (empty_part (inr columns))
 
@@ -242,7 +242,7 @@ group_part q =
 -- before a line `end` these are all groups; and else there is one more behind these
 abbrev pub next_group : ℕ → List PivotRow → Part (List PivotRow ⊎ List PivotRow)
 next_group q rows =
-    where_part (BeginsWithLine (codes "end" ∷ []))
+    where_part (BeginsWithLine Strict (codes "end" ∷ []))
     (empty_part (inr rows))
     (made_part (λ row next. next ≡ inl (rows ++ row ∷ [])) (group_part q))
 

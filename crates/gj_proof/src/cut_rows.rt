@@ -13,11 +13,13 @@ ghost use Rattle.gj_proof.specs.LineFaults.{IsRefusedFor, texts_of_head};
 ghost use Rattle.gj_proof.specs.declared.cut.SkipReason.{SkipReason};
 ghost use Rattle.gj_proof.specs.declared.cut_rows.RowKind.{RowKind};
 
-use crate::begins::{begins_with_line, begins_with_word};
 use crate::cut::{CutLine, CutRule, CutTerm, SkipReason};
-use crate::fields::{number_of, three_fields_of, two_fields_of};
+use crate::fields::{number_of, three_fields_of};
 use gj_frac::Frac;
-use gj_lex::{Name, NameFault, PartFault, Reason, Spelling, line_at, words_at};
+use gj_lex::{
+    Name, NameFault, PartFault, Reason, Spelling, begins_with_line, begins_with_word, line_at, two_fields_of,
+    words_at,
+};
 use gj_lines::function_at;
 use gj_shape::List;
 use std::alloc::{AllocError, Global};
@@ -65,7 +67,7 @@ pub(crate) fn rule_at(alloc: Global, text: &[u8]) -> Result<(CutRule, &[u8]), Pa
     ensures found { IfOk result (λ r. rule_part.Reads text.now r.0 r.1.now) }
     ensures fault { IfErr result (IsFaultOf rule_part text.now) }
 {
-    if begins_with_line(text, b"rule gmic") {
+    if begins_with_line(Spelling::Strict, text, b"rule gmic") {
         let rest = words_at(Spelling::Strict, text, b"rule gmic")?;
         return Ok((CutRule::Gmic, rest));
     }
@@ -82,7 +84,7 @@ pub(crate) fn rows_at(alloc: Global, text: &[u8]) -> Result<(Vec<CutLine>, &[u8]
 {
     let mut rows = Vec::new(alloc);
     let mut rest = text;
-    while !begins_with_line(rest, b"end") {
+    while !begins_with_line(Spelling::Strict, rest, b"end") {
         let (row, behind) = row_at(alloc, rest)?;
         rows.push(row)?;
         rest = behind;
@@ -182,7 +184,7 @@ fn terms_at(alloc: Global, text: &[u8]) -> Result<(Vec<CutTerm>, &[u8]), PartFau
 {
     let mut terms = Vec::new(alloc);
     let mut rest = text;
-    while begins_with_word(rest, b"term") {
+    while begins_with_word(Spelling::Strict, rest, b"term") {
         let (term, behind) = term_at(alloc, rest)?;
         terms.push(term)?;
         rest = behind;

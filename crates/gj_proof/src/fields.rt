@@ -10,17 +10,6 @@ ghost use Rattle.gj_proof.specs.ProofGrammar.{IsFraction, IsCountIn};
 use gj_frac::Frac;
 use gj_lex::{Reason, Spelling, behind_name, count_of, fraction_of, only_word, split_word};
 
-/// The two words behind the name, where the line has these three words.
-pub(crate) fn two_fields_of<'a>(line: &'a [u8], name: &[u8]) -> Option<(&'a [u8], &'a [u8])>
-    ensures found { IfSome result (λ r. word_texts line.now ≡ name.now ∷ r.0.now ∷ r.1.now ∷ []) }
-    ensures none { IfNone result ((first second : List ℕ) →
-        word_texts line.now ≡ name.now ∷ first ∷ second ∷ [] → ⊥) }
-{
-    let (first, rest) = split_word(behind_name(line, name)?)?;
-    let second = only_word(rest)?;
-    Some((first, second))
-}
-
 /// The three words behind the name, where the line has these four words.
 pub(crate) fn three_fields_of<'a>(
     line: &'a [u8],

@@ -9,8 +9,8 @@ ghost use Rattle.gj_proof.specs.ProofGrammar.{IsHeadInBounds, halves_rule, pair_
 ghost use Rattle.gj_proof.specs.declared.halves.HalvesHead.{HalvesHead};
 
 use crate::bounds::is_head_in_bounds;
-use crate::fields::{two_fields_of, whole_of};
-use gj_lex::{PartFault, Reason, Spelling, count_of, line_at};
+use crate::fields::whole_of;
+use gj_lex::{PartFault, Reason, Spelling, count_of, line_at, two_fields_of};
 use gj_shape::{Halves, List};
 use std::alloc::Global;
 

@@ -5,7 +5,6 @@
 //! and a text is that of one claim.
 #![tactic(auto)]
 
-mod begins;
 mod bounds;
 mod claim;
 mod cover_rows;

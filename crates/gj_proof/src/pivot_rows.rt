@@ -9,10 +9,11 @@ ghost use Rattle.gj_shape.specs.declared.extremality.RowName.TheVariants.{Pair};
 ghost use Rattle.gj_proof.specs.ProofText.{IsRowNameBelow};
 ghost use Rattle.gj_proof.specs.ProofGrammar.{row_words, BreaksRowName, row_name_rule, column_rule, next_step, group_part, groups_part};
 
-use crate::begins::{begins_with_line, begins_with_word};
-use crate::fields::{count_below, two_fields_of};
+use crate::fields::count_below;
 use crate::pivot::PivotRow;
-use gj_lex::{PartFault, Reason, Spelling, field_of, has_words, line_at};
+use gj_lex::{
+    PartFault, Reason, Spelling, begins_with_line, begins_with_word, field_of, has_words, line_at, two_fields_of,
+};
 use gj_shape::{List, RowName};
 use std::alloc::Global;
 
@@ -27,7 +28,7 @@ pub(crate) fn groups_at(
 {
     let mut rows = Vec::new(alloc);
     let mut rest = text;
-    while !begins_with_line(rest, b"end") {
+    while !begins_with_line(Spelling::Strict, rest, b"end") {
         let (row, behind) = group_at(alloc, rest, order)?;
         rows.push(row)?;
         rest = behind;
@@ -61,7 +62,7 @@ fn steps_at(alloc: Global, text: &[u8]) -> Result<(Vec<u32>, &[u8]), PartFault>
 {
     let mut columns = Vec::new(alloc);
     let mut rest = text;
-    while begins_with_word(rest, b"reduce") {
+    while begins_with_word(Spelling::Strict, rest, b"reduce") {
         let (column, behind) = column_at(rest, b"reduce")?;
         columns.push(column)?;
         rest = behind;

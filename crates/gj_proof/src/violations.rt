@@ -6,8 +6,8 @@ ghost use Rattle.gj_lex.specs.Parts.{line_part, IsFaultOf};
 ghost use Rattle.gj_lex.specs.declared.spelling.Spelling.TheVariants.{Strict};
 ghost use Rattle.gj_proof.specs.ProofGrammar.{violation_words, BreaksViolation, violation_rule};
 
-use crate::fields::{number_of, two_fields_of};
-use gj_lex::{PartFault, Reason, Spelling, field_of, has_words, line_at};
+use crate::fields::number_of;
+use gj_lex::{PartFault, Reason, Spelling, field_of, has_words, line_at, two_fields_of};
 use gj_shape::Violation;
 
 /// The violation in the first line of the text, and what follows the line. It takes no memory.

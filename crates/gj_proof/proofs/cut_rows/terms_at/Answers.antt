@@ -1,10 +1,11 @@
+use Rattle.gj_lex.specs.declared.spelling.Spelling.TheVariants.{Strict}
 use Rattle.std.proofs.lemmas.Bool.{false≢true}
 use Rattle.std.proofs.lemmas.Result.{err_from_is_err_and}
 use Rattle.std.proofs.Common.{[]}
 use Rattle.gj_lex.specs.Parts.{IsFaultOf}
 use Rattle.gj_lex.proofs.PartLaws.{passed_on}
 use Rattle.gj_proof.specs.ProofGrammar.{term_rule, terms_part}
-use Rattle.gj_proof.proofs.WhereLaws.{shorter_behind_line}
+use Rattle.gj_lex.proofs.WhereLaws.{shorter_behind_line}
 use Rattle.gj_proof.proofs.CutRead.{term_on, terms_end, term_at_fault}
 use Rattle.gj_proof.proofs.cut_rows.terms_at.Goals as goal
 
@@ -14,7 +15,7 @@ loop-alloc-preserved c =
     c.in_ok-push.ensures.items
 
 pub loop-alloc-smaller : goal.loop-alloc-smaller
-loop-alloc-smaller c = shorter_behind_line term_rule _ _ c.in_ok-term.term c.in_ok-term.ensures.found
+loop-alloc-smaller c = shorter_behind_line Strict term_rule _ _ c.in_ok-term.term c.in_ok-term.ensures.found
 
 pub returns-clause-found : goal.returns-clause-found
 returns-clause-found c = terms_end _ _ _ c.loop-alloc.invariant (λ is. false≢true (c.loop-alloc-test.ensures.1 is))

@@ -1,10 +1,11 @@
+use Rattle.gj_lex.specs.declared.spelling.Spelling.TheVariants.{Strict}
 use Rattle.std.proofs.lemmas.Bool.{false≢true}
 use Rattle.std.proofs.lemmas.Result.{err_from_is_err_and}
 use Rattle.std.proofs.Common.{codes}
 use Rattle.gj_lex.specs.Parts.{IsFaultOf}
 use Rattle.gj_lex.proofs.PartLaws.{passed_on}
 use Rattle.gj_proof.specs.ProofGrammar.{column_rule}
-use Rattle.gj_proof.proofs.WhereLaws.{shorter_behind_line}
+use Rattle.gj_lex.proofs.WhereLaws.{shorter_behind_line}
 use Rattle.gj_proof.proofs.ExtremeParts.{steps_part}
 use Rattle.gj_proof.proofs.ExtremeRead.{step_on, steps_end, step_at_fault}
 use Rattle.gj_proof.proofs.pivot_rows.steps_at.Goals as goal
@@ -15,7 +16,7 @@ loop-rest-preserved c =
     c.in_ok-push.ensures.items
 
 pub loop-rest-smaller : goal.loop-rest-smaller
-loop-rest-smaller c = shorter_behind_line (column_rule (codes "reduce")) _ _ c.in_ok-column.column c.in_ok-column.ensures.found
+loop-rest-smaller c = shorter_behind_line Strict (column_rule (codes "reduce")) _ _ c.in_ok-column.column c.in_ok-column.ensures.found
 
 pub returns-clause-found : goal.returns-clause-found
 returns-clause-found c = steps_end _ _ _ c.loop-rest.invariant (λ is. false≢true (c.loop-rest-test.ensures.1 is))
