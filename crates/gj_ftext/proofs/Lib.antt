@@ -1,4 +1,3 @@
-pub mod FirstWords
 pub mod FamilyLines
 pub mod FamilyRead
 pub mod FunctionTexts

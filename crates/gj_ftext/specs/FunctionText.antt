@@ -1,19 +1,20 @@
--- Function text: a function by its points or as one of a family, in lenient spelling, and its one canonical text (own).
+-- Function text: a function by its points, as one of a family or by its breakpoints, in lenient spelling, and its one
+-- canonical text (own).
 use Rattle.std.specs.Prelude.{ℕ, ◌≡◌, List, [], ◌∷◌, ◌++◌, codes}
-use Rattle.gj_lex.specs.Parts.{Part, line_part, framed_part, then_part, end_part}
+use Rattle.gj_lex.specs.Parts.{Part, words_rule, line_part, framed_part, then_part, where_part, end_part, BeginsWithLine, BeginsWithWord}
 use Rattle.gj_lex.specs.declared.spelling.Spelling.TheVariants.{Lenient}
 use Rattle.gj_shape.specs.FunctionData.{FunctionData}
 use Rattle.gj_lines.specs.FunctionGrammar.{function_part}
 use Rattle.gj_lines.specs.FunctionLines.{line, AreFunctionLines}
 use Rattle.gj_ftext.specs.FamilyLine.{family_rule}
-use Rattle.gj_ftext.specs.ByFirstWord.{by_first_word}
+use Rattle.gj_ftext.specs.BreaksText.{end_words, breaks_part}
 
--- the words of the first and of the last line
+-- the words of the first line: of a text by points or by a family, and of one by breakpoints
 abbrev pub title_words : List (List ℕ)
 title_words = codes "gj-function" ∷ codes "1" ∷ []
 
-abbrev pub end_words : List (List ℕ)
-end_words = codes "end" ∷ []
+abbrev pub breaks_title_words : List (List ℕ)
+breaks_title_words = codes "gj-function" ∷ codes "2" ∷ []
 
 -- a line that names a function of a family
 abbrev pub family_part : Part FunctionData
@@ -21,11 +22,19 @@ family_part = line_part Lenient family_rule
 
 -- what tells the function: such a line where the next one begins with `family`, and else its points
 abbrev pub body_part : Part FunctionData
-body_part = by_first_word Lenient (codes "family") family_part (function_part Lenient)
+body_part = where_part (BeginsWithWord Lenient (codes "family")) family_part (function_part Lenient)
 
--- a function text: the line `gj-function 1`, what tells the function, and the line `end`
+-- text 1: the line `gj-function 1`, what tells the function, and the line `end`
+abbrev pub points_text : Part FunctionData
+points_text = framed_part Lenient title_words body_part end_words
+
+-- text 2: the line `gj-function 2`, and the lines of the breakpoints to the line `end`
+abbrev pub breaks_text : Part FunctionData
+breaks_text = then_part (line_part Lenient (words_rule breaks_title_words)) (λ t. breaks_part)
+
+-- a function text: the one or the other, told apart by the first line
 abbrev pub function_text : Part FunctionData
-function_text = framed_part Lenient title_words body_part end_words
+function_text = where_part (BeginsWithLine Lenient breaks_title_words) breaks_text points_text
 
 -- a whole one: after it nothing follows
 abbrev pub whole_function_text : Part FunctionData

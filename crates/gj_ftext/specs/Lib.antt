@@ -1,4 +1,5 @@
-pub mod ByFirstWord
+pub mod BreaksText
+pub mod BreaksRead
 pub mod FamilyLine
 pub mod FamilyRead
 pub mod FunctionText

@@ -11,7 +11,8 @@ use Rattle.gj_shape.specs.Points.{ArePointsOf}
 use Rattle.gj_shape.specs.declared.points.Point.{Point}
 use Rattle.gj_lines.specs.FunctionGrammar.{SpellPoint, order_words, place_words, point_words}
 use Rattle.gj_ftext.specs.FamilyLine.{FamilyWords, words_of_line, Names}
-use Rattle.gj_ftext.specs.FunctionText.{title_words, end_words}
+use Rattle.gj_ftext.specs.BreaksText.{end_words}
+use Rattle.gj_ftext.specs.FunctionText.{title_words}
 
 -- ---- functions by their points
 

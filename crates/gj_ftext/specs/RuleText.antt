@@ -1,10 +1,9 @@
 -- Rule text: a cut rule that is not told as a function, in lenient spelling (own).
 use Rattle.std.specs.Prelude.{ℕ, List, [], ◌∷◌, codes}
-use Rattle.gj_lex.specs.Parts.{Part, words_rule, line_part, framed_part, IsFirstFaultIn}
+use Rattle.gj_lex.specs.Parts.{Part, words_rule, line_part, framed_part, BeginsWithWord, IsFirstFaultIn}
 use Rattle.gj_lex.specs.declared.reason.Reason.{Reason}
 use Rattle.gj_lex.specs.declared.spelling.Spelling.TheVariants.{Lenient}
-use Rattle.gj_ftext.specs.ByFirstWord.{BeginsWith}
-use Rattle.gj_ftext.specs.FunctionText.{end_words}
+use Rattle.gj_ftext.specs.BreaksText.{end_words}
 
 -- the words of the first line, and of the line that names the rule: the mixed-integer cut for any f
 abbrev pub rule_title_words : List (List ℕ)
@@ -27,4 +26,4 @@ IsFirstFaultOfRule text n e = IsFirstFaultIn rule_text text n e
 
 -- the first line that is not skipped begins with the word `gj-rule`
 abbrev pub BeginsAsRule : List ℕ → Type 0
-BeginsAsRule text = BeginsWith Lenient (codes "gj-rule") text
+BeginsAsRule text = BeginsWithWord Lenient (codes "gj-rule") text

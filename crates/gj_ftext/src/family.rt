@@ -1,5 +1,5 @@
 //! Lines that name a function of a family, read.
-ghost use Rattle.std.specs.Prelude.{◌≡◌, ◌↔◌, [], ◌∷◌, ℕ, List, All, IfSome, IfNone, IfOk, IfErr, IsTrue};
+ghost use Rattle.std.specs.Prelude.{◌≡◌, ◌↔◌, ℕ, List, All, IfSome, IfNone, IfOk, IfErr, IsTrue};
 ghost use Rattle.std.specs.Str.Parse.{digits_value};
 ghost use Rattle.gj_lex.specs.Words.{word_texts};
 ghost use Rattle.gj_lex.specs.Parts.{IsFaultOf};
@@ -11,7 +11,7 @@ ghost use Rattle.gj_ftext.specs.FunctionText.{family_part};
 use gj_family::{FamilyFault, gmic, half, two_slope};
 use gj_lex::{
     PartFault, Reason, Spelling, behind_name, count_of, field_of, fraction_of, is_count, line_at,
-    only_word, split_word,
+    two_fields_of,
 };
 use gj_shape::Shape;
 use std::alloc::{AllocError, Global};
@@ -72,17 +72,8 @@ fn line_words(line: &[u8]) -> Option<LineWords<'_>>
     if let Some(word) = field_of(line, b"half") {
         return Some(LineWords::Half(word));
     }
-    let (count, signs) = fields_of(line, b"two-slope")?;
+    let (count, signs) = two_fields_of(line, b"two-slope")?;
     Some(LineWords::TwoSlope(count, signs))
-}
-
-/// The two words behind the name, where the line has these three words.
-fn fields_of<'a>(line: &'a [u8], name: &[u8]) -> Option<(&'a [u8], &'a [u8])>
-    ensures found { IfSome result (λ r. word_texts line.now ≡ name.now ∷ r.0.now ∷ r.1.now ∷ []) }
-    ensures none { IfNone result ((v w : List ℕ) → word_texts line.now ≡ name.now ∷ v ∷ w ∷ [] → ⊥) }
-{
-    let (first, rest) = split_word(behind_name(line, name)?)?;
-    Some((first, only_word(rest)?))
 }
 
 /// The function that the words name, or why they name none.

@@ -7,6 +7,7 @@
 #![tactic(auto)]
 
 mod body;
+mod breaks;
 mod family;
 mod faults;
 mod laws;

@@ -2,21 +2,23 @@
 ghost use Rattle.std.specs.Prelude.{◌≡◌, ◌≤◌, List, ℕ, drop, length, IfOk, IfErr, MatchResult};
 ghost use Rattle.gj_lex.specs.Parts.{IsFaultOf};
 ghost use Rattle.gj_shape.specs.FunctionData.{FunctionData};
-ghost use Rattle.gj_ftext.specs.FunctionText.{function_text, whole_function_text, IsFunctionText, IsWholeFunctionText};
+ghost use Rattle.gj_ftext.specs.FunctionText.{points_text, breaks_text, function_text, whole_function_text, IsFunctionText, IsWholeFunctionText};
 ghost use Rattle.gj_ftext.specs.FirstFault.{IsMemoryFault, NamesFirstFault, NamesFirstFaultOfWhole};
 
 use crate::body::body_at;
+use crate::breaks::breaks_at;
 use crate::faults::TextFault;
-use gj_lex::{PartFault, Spelling, end_at, line_number, words_at};
+use gj_lex::{PartFault, Spelling, begins_with_line, end_at, line_number, words_at};
 use gj_shape::Shape;
 use std::alloc::Global;
 
 /// The function whose function text is at the front of the bytes, and the number of bytes up to and with the line `end`.
 ///
 /// Between the lines `gj-function 1` and `end` the function is told by the lines of its order, of its f and of its points, or by
-/// one line `family gmic F`, `family half F` or `family two-slope K SIGNS`.
+/// one line `family gmic F`, `family half F` or `family two-slope K SIGNS`. Between `gj-function 2` and `end` it is told by its f
+/// and its breakpoints, a line `point X V` or `point X L V R` for each.
 ///
-/// `Refused` has the line and the reason of the first fault, and comes exactly where no first lines of the bytes are a function text.
+/// `Refused` has the line and the reason of the first fault, and comes exactly if no first lines of the bytes are a function text.
 ///
 /// ```text
 /// let bytes = b"# a comment\ngj-function 1\norder 2\nf 0.5\npoint 0\npoint +1\nend\n";
@@ -74,8 +76,29 @@ fn function_text_at(alloc: Global, text: &[u8]) -> Result<(Shape, &[u8]), PartFa
     ensures found { IfOk result (λ r. IsFunctionText text.now r.0 r.1.now) }
     ensures fault { IfErr result (IsFaultOf function_text text.now) }
 {
+    if begins_with_line(Spelling::Lenient, text, b"gj-function 2") {
+        breaks_text_at(alloc, text)
+    } else {
+        points_text_at(alloc, text)
+    }
+}
+
+/// The function whose text by points, or as one of a family, is at the front, and what follows the line `end`.
+fn points_text_at(alloc: Global, text: &[u8]) -> Result<(Shape, &[u8]), PartFault>
+    ensures found { IfOk result (λ r. points_text.Reads text.now r.0 r.1.now) }
+    ensures fault { IfErr result (IsFaultOf points_text text.now) }
+{
     let rest = words_at(Spelling::Lenient, text, b"gj-function 1")?;
     let (shape, rest) = body_at(alloc, rest)?;
     let rest = words_at(Spelling::Lenient, rest, b"end")?;
     Ok((shape, rest))
+}
+
+/// The function whose text by breakpoints is at the front, and what follows the line `end`.
+fn breaks_text_at(alloc: Global, text: &[u8]) -> Result<(Shape, &[u8]), PartFault>
+    ensures found { IfOk result (λ r. breaks_text.Reads text.now r.0 r.1.now) }
+    ensures fault { IfErr result (IsFaultOf breaks_text text.now) }
+{
+    let rest = words_at(Spelling::Lenient, text, b"gj-function 2")?;
+    breaks_at(alloc, rest)
 }

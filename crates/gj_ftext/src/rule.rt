@@ -3,15 +3,14 @@ ghost use Rattle.std.specs.Prelude.{◌≡◌, ◌≤◌, ◌↔◌, List, ℕ, 
 ghost use Rattle.gj_lex.specs.Parts.{IsFaultOf, IsRefusal};
 ghost use Rattle.gj_ftext.specs.RuleText.{rule_text, IsRuleText, IsFirstFaultOfRule, BeginsAsRule};
 
-use crate::body::begins_with;
-use gj_lex::{PartFault, Reason, Spelling, line_number, words_at};
+use gj_lex::{PartFault, Reason, Spelling, begins_with_word, line_number, words_at};
 
 /// Whether the text begins as a rule text: whether the first word of its first line that is not skipped is `gj-rule`.
 /// It takes no memory.
 pub fn begins_as_rule(bytes: &[u8]) -> bool
     ensures { IsTrue result ↔ BeginsAsRule bytes.now }
 {
-    begins_with(bytes, b"gj-rule")
+    begins_with_word(Spelling::Lenient, bytes, b"gj-rule")
 }
 
 /// The number of bytes up to and with the line `end` of the rule text at the front of the bytes: the lines `gj-rule 1`,

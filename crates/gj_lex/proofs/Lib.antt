@@ -18,3 +18,4 @@ pub mod CursorLines
 pub mod LoopLaws
 pub mod CanonicalLines
 pub mod WhereLaws
+pub mod LoopRead

@@ -3,3 +3,4 @@ pub mod FunctionLines
 pub mod FaceLines
 pub mod FunctionGrammar
 pub mod Reading
+pub mod BreakLines

@@ -2,9 +2,10 @@
 //!
 //! `function_at` reads them in either spelling, and tests them in their order; `push_function_lines` prints them in
 //! their one spelling. The form stands in `specs/FunctionGrammar` (what is read, and the first fault) and in
-//! `specs/FunctionLines` (what is printed). `push_cover_lines` prints the lines of covered intervals.
+//! `specs/FunctionLines` (what is printed). `break_in` reads the line of a breakpoint, `specs/BreakLines`. `push_cover_lines` prints the lines of covered intervals.
 #![tactic(auto)]
 
+mod breaks;
 mod faces;
 mod function;
 mod head;
@@ -15,6 +16,7 @@ mod print;
 #[cfg(test)]
 mod tests;
 
+pub use breaks::break_in;
 pub use faces::{face_word, push_cover_lines};
 pub use function::function_at;
 pub use laws::{

@@ -106,7 +106,15 @@ fn one_or_three(line: &[u8]) -> Option<PointWords<'_>>
     ensures none { IfNone result ((words : List (List ℕ)) →
         word_texts line.now ≡ point_words words → IsOneOrThree words → ⊥) }
 {
-    let (first, rest) = split_word(behind_name(line, b"point")?)?;
+    fractions_in(behind_name(line, b"point")?)
+}
+
+/// The words, if they are one or three.
+pub(crate) fn fractions_in(words: &[u8]) -> Option<PointWords<'_>>
+    ensures found { IfSome result (λ p. word_texts words.now ≡ words_of_point p) }
+    ensures none { IfNone result (IsOneOrThree (word_texts words.now) → ⊥) }
+{
+    let (first, rest) = split_word(words)?;
     let Some((second, rest)) = split_word(rest) else {
         return Some(PointWords::One(first));
     };
@@ -130,7 +138,7 @@ fn are_point_words(spelling: Spelling, words: PointWords<'_>) -> bool
 }
 
 /// The point that the words spell.
-fn point_of(spelling: Spelling, words: PointWords<'_>) -> Option<Point>
+pub(crate) fn point_of(spelling: Spelling, words: PointWords<'_>) -> Option<Point>
     ensures found { IfSome result (SpellPoint spelling (words_of_point words.entry)) }
     ensures none { IfNone result ((p : Point) → SpellPoint spelling (words_of_point words.entry) p → ⊥) }
 {

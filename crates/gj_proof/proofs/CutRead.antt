@@ -18,7 +18,7 @@ use Rattle.gj_proof.specs.declared.cut.CutTerm.{CutTerm}
 use Rattle.gj_proof.specs.declared.cut_rows.RowHead.{RowHead}
 use Rattle.gj_proof.specs.declared.cut_rows.RowKind.{RowKind}
 use Rattle.gj_proof.specs.declared.cut_rows.RowKind.TheVariants.{WithCut}
-use Rattle.gj_proof.proofs.LoopRead.{LeadsOn, leads_on, leads_to_end, leads_to_fault}
+use Rattle.gj_lex.proofs.LoopRead.{LeadsOn, leads_on, leads_to_end, leads_to_fault}
 use Rattle.gj_lex.proofs.WhereLaws.{fault_where, fault_else}
 use Rattle.gj_proof.proofs.CutParts.{gmic_words, gmic_part, table_part, term_part, more_terms, head_part, behind, with_terms, end_words, more_rows}
 

@@ -12,7 +12,7 @@ use Rattle.gj_lex.specs.Parts.{BeginsWithLine, BeginsWithWord}
 use Rattle.gj_proof.specs.ProofGrammar.{covered_part, next_step, group_part, next_group, groups_part, pairs_part, halves_part, claim_part}
 use Rattle.gj_proof.specs.declared.claim.ClaimWord.TheVariants.{Extreme, NotExtreme}
 use Rattle.gj_proof.specs.declared.pivot.PivotRow.{PivotRow}
-use Rattle.gj_proof.proofs.LoopRead.{LeadsOn, leads_on, leads_to_end, leads_to_fault}
+use Rattle.gj_lex.proofs.LoopRead.{LeadsOn, leads_on, leads_to_end, leads_to_fault}
 use Rattle.gj_lex.proofs.WhereLaws.{fault_where, fault_else}
 use Rattle.gj_proof.proofs.CutParts.{end_words}
 use Rattle.gj_proof.proofs.ExtremeParts.{cover_part, name_part, step_part, pivot_part, more_steps, steps_part, makes_row, behind_steps, behind_name, more_groups, pair_part}

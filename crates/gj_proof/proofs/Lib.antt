@@ -6,7 +6,6 @@ pub mod OneText
 pub mod LineNumbers
 pub mod ViolationLines
 pub mod ShortTexts
-pub mod LoopRead
 pub mod CutWords
 pub mod CutParts
 pub mod CutTexts

@@ -1,6 +1,6 @@
 use Rattle.std.proofs.Common.{[], length}
 use Rattle.gj_proof.specs.ProofGrammar.{next_group}
-use Rattle.gj_proof.proofs.LoopRead.{LeadsOn}
+use Rattle.gj_lex.proofs.LoopRead.{LeadsOn}
 use Rattle.gj_proof.proofs.pivot_rows.groups_at.Given as goal
 
 abbrev pub invariant-loop-alloc : goal.invariant-loop-alloc

@@ -1,6 +1,6 @@
 use Rattle.std.proofs.Common.{[], length}
 use Rattle.gj_proof.specs.ProofGrammar.{next_step}
-use Rattle.gj_proof.proofs.LoopRead.{LeadsOn}
+use Rattle.gj_lex.proofs.LoopRead.{LeadsOn}
 use Rattle.gj_proof.proofs.pivot_rows.steps_at.Given as goal
 
 abbrev pub invariant-loop-rest : goal.invariant-loop-rest
