@@ -32,7 +32,7 @@ pub use extremality::{CoverLine, Halves, RowName};
 pub use faces::{Face, FaceKind};
 pub use faults::ShapeFault;
 pub use index::wrapped;
-pub use laws::one_function_is_given;
+pub use laws::{one_function_has_breaks, one_function_is_given};
 pub use list::List;
 pub use points::{Point, PointFault, Points};
 pub use shape::Shape;
