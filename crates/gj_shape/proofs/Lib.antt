@@ -1,5 +1,6 @@
 pub mod AtLemmas
 pub mod Averages
+pub mod BreakValues
 pub mod OverScale
 pub mod GivenLists
 pub mod GivenPoints
