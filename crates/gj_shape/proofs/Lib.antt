@@ -14,5 +14,6 @@ pub mod OneFunction
 pub mod PointLists
 pub mod Refinements
 pub mod SameFunctions
+pub mod Segments
 pub mod TableLemmas
 pub mod ValueLemmas
