@@ -1,6 +1,7 @@
 pub mod AtLemmas
 pub mod Averages
 pub mod BreakLaws
+pub mod BreakValues
 pub mod OverScale
 pub mod GivenLists
 pub mod GivenPoints
@@ -14,5 +15,6 @@ pub mod OneFunction
 pub mod PointLists
 pub mod Refinements
 pub mod SameFunctions
+pub mod Segments
 pub mod TableLemmas
 pub mod ValueLemmas
