@@ -1,10 +1,12 @@
 -- What determines a fraction.
-use Rattle.std.proofs.Common.{◌≡◌, ◌≢◌, ℤ, pos, ◌*ℤ◌, ◌<ℤ◌, unsigned_abs, sym}
+use Rattle.std.proofs.Common.{◌≡◌, ◌≢◌, ℕ, ℤ, pos, ◌*ℤ◌, ◌<ℤ◌, unsigned_abs, sym, ◌∙◌, arith}
+use Rattle.std.proofs.lemmas.Int.{ints}
 use Rattle.std.specs.Int.{IsGcd}
 use Rattle.gj_frac.specs.declared.Frac.{Frac}
 use Rattle.gj_frac.specs.Fraction.{IsRatio}
 pub use Rattle.gj_frac.specs.SameParts.{ratio, same_parts_same, same_value_same_parts, same_value_same}
 use Rattle.gj_tools.proofs.Divisors.{same_ratio}
+use Rattle.gj_tools.proofs.Integers.{mul_cancel_right_z, abs_positive_z}
 use Rattle.gj_tools.proofs.Ratios.{ratio_along}
 
 -- n/d has no other value than m/e, so what is n/d is m/e
@@ -19,3 +21,10 @@ same_from_is x y n d some h k = same_value_same x y (is_along x n d y.num y.den 
 pub parts_from_is : (x : Frac) (n d : ℤ) → pos 0 <ℤ d → IsGcd (unsigned_abs n) (unsigned_abs d) 1 → IsRatio x n d →
     (x.num ≡ n) × (x.den ≡ d)
 parts_from_is x n d some h k = same_ratio x.num x.den n d x.lowest.coprime h x.lowest.positive some k
+
+-- a fraction is k/q for one k at most
+pub one_place : (x : Frac) (q k m : ℕ) → IsRatio x (pos k) (pos q) → IsRatio x (pos m) (pos q) → k ≡ m
+one_place x q k m a b =
+    let some = abs_positive_z x.den x.lowest.positive in
+    let same : pos k ≡ pos m = mul_cancel_right_z (pos k) (pos m) x.den (sym a ∙ b) (omega arith) in
+    omega (arith, ints, same)

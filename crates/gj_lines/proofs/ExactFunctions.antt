@@ -17,7 +17,7 @@ use Rattle.gj_shape.proofs.GivenPoints.{same_points, no_fault_follows, not_large
 use Rattle.gj_shape.proofs.OneFunction.{same_from_given}
 use Rattle.gj_lines.specs.FunctionGrammar.{order_words, place_words, point_words, SpellPoint, BreaksOrder, order_rule, BreaksPlace, place_rule, BreaksPoint, point_rule, points_part, function_part}
 use Rattle.gj_lines.proofs.FunctionRead.{Gives, behind_place, behind_order}
-use Rattle.gj_lines.proofs.OneTextOfLines.{one_place}
+use Rattle.gj_frac.proofs.SameValues.{one_place}
 
 -- ---- words of one line
 

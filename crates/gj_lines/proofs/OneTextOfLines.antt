@@ -13,13 +13,6 @@ use Rattle.gj_lines.specs.FunctionLines.{lines_of, AreFunctionLines}
 pub place_of_function : (x y : Frac) (q k : ℕ) → 0 < q → IsRatio x (pos k) (pos q) → IsRatio y (pos k) (pos q) → x ≡ y
 place_of_function x y q k some a b = same_from_is x y (pos k) (pos q) (λ z. omega arith) a b
 
--- and a fraction has one place of an order
-pub one_place : (x : Frac) (q k m : ℕ) → IsRatio x (pos k) (pos q) → IsRatio x (pos m) (pos q) → k ≡ m
-one_place x q k m a b =
-    let some = abs_positive_z x.den x.lowest.positive in
-    let same : pos k ≡ pos m = mul_cancel_right_z (pos k) (pos m) x.den (sym a ∙ b) (omega arith) in
-    omega (arith, ints, same)
-
 -- a function has one text of its lines
 pub one_text_of_lines : (f : FunctionData) (a b : List ℕ) → IsWithinBounds f → AreFunctionLines f a → AreFunctionLines f b →
     a ≡ b

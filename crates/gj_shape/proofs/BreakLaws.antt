@@ -5,7 +5,7 @@ use Rattle.std.proofs.lemmas.List.{map-append, same_lists}
 use Rattle.std.proofs.lemmas.Nat.Gcd.{dvd_antisymm}
 use Rattle.gj_frac.specs.declared.Frac.{Frac}
 use Rattle.gj_frac.specs.Fraction.{denominator, IsRatio}
-use Rattle.gj_frac.proofs.SameValues.{same_from_is}
+use Rattle.gj_frac.proofs.SameValues.{same_from_is, one_place}
 use Rattle.gj_tools.proofs.Divisors.{lcm_positive}
 use Rattle.gj_tools.proofs.FirstThatFails.{first_failing_denies}
 use Rattle.gj_tools.proofs.Integers.{abs_positive_z, mul_cancel_right_z, mul_positive_z, positive_some_z}
@@ -101,13 +101,6 @@ pub order_is_some : (s : BreakList) (b : Break) (t : BreakList) → Follows s b 
 order_is_some s b t h some = lcm_positive s.order (unsigned_abs (denominator b.x)) t.order h.order_is some (denominator_some b.x)
 
 -- ---- the points of the grid
-
--- a fraction is p/q for one p at most
-pub one_place : (x : Frac) (q p r : ℕ) → IsRatio x (pos p) (pos q) → IsRatio x (pos r) (pos q) → p ≡ r
-one_place x q p r h k =
-    let some = abs_positive_z x.den x.lowest.positive in
-    let same : pos p ≡ pos r = mul_cancel_right_z (pos p) (pos r) x.den (sym h ∙ k) (omega arith) in
-    omega (arith, ints, same)
 
 -- the bottom of a value on a line is not 0
 line_bottom : (u w : Frac) (n r : ℕ) → 0 < n → unsigned_abs (on_line u w n r).bottom ≢ 0

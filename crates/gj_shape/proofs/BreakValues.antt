@@ -6,6 +6,7 @@ use Rattle.std.proofs.lemmas.List.{length-map, get_or-map, get_or_append_left}
 use Rattle.gj_frac.specs.declared.Frac.{Frac}
 use Rattle.gj_frac.specs.Fraction.{SameValue, fraction_of, IsRatio}
 use Rattle.gj_tools.proofs.Integers.{mul_cancel_right_z, abs_positive_z}
+use Rattle.gj_frac.proofs.SameValues.{one_place}
 use Rattle.gj_shape.specs.FunctionData.{FunctionData, IsWithinBounds, at}
 use Rattle.gj_shape.specs.Given.{IsGivenBy, numerator_over}
 use Rattle.gj_shape.specs.Points.{lefts, values, rights, ArePointsOf, IsPointAt}
@@ -63,13 +64,6 @@ stand_in_order q k points f given = record { long = count; stand = stands }
         }
 
 -- ---- the points that are laid
-
--- a fraction has one place of an order
-one_place : (x : Frac) (q k m : ℕ) → IsRatio x (pos k) (pos q) → IsRatio x (pos m) (pos q) → k ≡ m
-one_place x q k m a b =
-    let some = abs_positive_z x.den x.lowest.positive in
-    let same : pos k ≡ pos m = mul_cancel_right_z (pos k) (pos m) x.den (sym a ∙ b) (omega arith) in
-    omega (arith, ints, same)
 
 piece_length : (b : Break) (w : Frac) (n : ℕ) (points : List Point) → IsPiece b w n points → length points ≡ n
 piece_length b w n points piece =
