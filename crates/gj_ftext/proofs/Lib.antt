@@ -6,3 +6,4 @@ pub mod Canonical
 pub mod OneCanonical
 pub mod LinesOfFunction
 pub mod RuleTexts
+pub mod ExactBreaks

@@ -2,24 +2,30 @@
 use Rattle.std.proofs.Common.{◌≡◌, ℕ, List, codes}
 use Rattle.gj_lex.specs.declared.reason.Reason.{Reason}
 use Rattle.gj_lex.specs.declared.spelling.Spelling.TheVariants.{Lenient}
-use Rattle.gj_lex.specs.Parts.{IsExactPart, end_part}
+use Rattle.gj_lex.specs.Parts.{IsExactPart, end_part, BeginsWithLine, BeginsWithWord}
 use Rattle.gj_lex.proofs.PartLaws.{framed_part_is_exact, then_part_is_exact, end_part_is_exact}
+use Rattle.gj_lex.proofs.WhereLaws.{where_part_is_exact}
 use Rattle.gj_lex.proofs.LineNumbers as numbers
 use Rattle.gj_shape.specs.FunctionData.{FunctionData}
 use Rattle.gj_lines.specs.FunctionGrammar.{function_part}
-use Rattle.gj_ftext.specs.FunctionText.{title_words, end_words, family_part, body_part, function_text, whole_function_text, IsFunctionText, IsWholeFunctionText}
+use Rattle.gj_ftext.specs.BreaksText.{end_words}
+use Rattle.gj_ftext.specs.FunctionText.{title_words, breaks_title_words, family_part, body_part, points_text, breaks_text, function_text, whole_function_text, IsFunctionText, IsWholeFunctionText}
 use Rattle.gj_ftext.specs.FirstFault.{IsFirstFault, IsFirstFaultOfWhole}
 use Rattle.gj_lines.proofs.ExactFunctions.{function_part_is_exact}
 use Rattle.gj_ftext.proofs.FamilyLines.{family_part_is_exact}
-use Rattle.gj_ftext.proofs.FirstWords.{by_first_word_is_exact}
+use Rattle.gj_ftext.proofs.ExactBreaks.{breaks_text_is_exact}
 
 body_part_is_exact : IsExactPart body_part.Reads body_part.Faults
 body_part_is_exact =
-    by_first_word_is_exact Lenient (codes "family") family_part (function_part Lenient) family_part_is_exact
+    where_part_is_exact (BeginsWithWord Lenient (codes "family")) family_part (function_part Lenient) family_part_is_exact
     (function_part_is_exact Lenient)
 
+points_text_is_exact : IsExactPart points_text.Reads points_text.Faults
+points_text_is_exact = framed_part_is_exact Lenient title_words body_part end_words body_part_is_exact
+
 pub function_text_is_exact : IsExactPart function_text.Reads function_text.Faults
-function_text_is_exact = framed_part_is_exact Lenient title_words body_part end_words body_part_is_exact
+function_text_is_exact =
+    where_part_is_exact (BeginsWithLine Lenient breaks_title_words) breaks_text points_text breaks_text_is_exact points_text_is_exact
 
 pub whole_function_text_is_exact : IsExactPart whole_function_text.Reads whole_function_text.Faults
 whole_function_text_is_exact =

@@ -1,5 +1,5 @@
 -- Function texts by the words of their lines (own).
-use Rattle.std.specs.Prelude.{ℕ, pos, ◌≡◌, List, [], ◌∷◌, ◌++◌, map}
+use Rattle.std.specs.Prelude.{ℕ, pos, ◌≡◌, ◌≢◌, List, [], ◌∷◌, ◌++◌, map}
 use Rattle.std.specs.List.{AllZip}
 use Rattle.gj_frac.specs.declared.Frac.{Frac}
 use Rattle.gj_frac.specs.Fraction.{IsRatio}
@@ -8,11 +8,13 @@ use Rattle.gj_lex.specs.TextLines.{HasLines}
 use Rattle.gj_lex.specs.declared.spelling.Spelling.TheVariants.{Lenient}
 use Rattle.gj_shape.specs.FunctionData.{FunctionData, IsWithinBounds}
 use Rattle.gj_shape.specs.Points.{ArePointsOf}
+use Rattle.gj_shape.specs.Breaks.{BreakList, AreBreaks, IsOfBreaks}
 use Rattle.gj_shape.specs.declared.points.Point.{Point}
 use Rattle.gj_lines.specs.FunctionGrammar.{SpellPoint, order_words, place_words, point_words}
+use Rattle.gj_lines.specs.BreakLines.{SpellBreak}
 use Rattle.gj_ftext.specs.FamilyLine.{FamilyWords, words_of_line, Names}
 use Rattle.gj_ftext.specs.BreaksText.{end_words}
-use Rattle.gj_ftext.specs.FunctionText.{title_words}
+use Rattle.gj_ftext.specs.FunctionText.{title_words, breaks_title_words}
 
 -- ---- functions by their points
 
@@ -44,3 +46,24 @@ pub record HasLinesOfFamily (text : List ℕ) (f : FunctionData) (rest : List �
   pub words : FamilyWords
   pub names : Names words f
   pub has_lines : HasLines Lenient text (title_words ∷ words_of_line words ∷ end_words ∷ []) rest
+
+-- ---- functions by their breakpoints
+
+-- the lines are `gj-function 2`, `f F` with F between 0 and 1, a line `point X V` or `point X L V R` for each of one or more
+-- breakpoints, and `end`; f is the function of the breakpoints, of order the least common multiple of all denominators
+pub record AreLinesOfBreaks (f : FunctionData) (lines : List (List (List ℕ))) : Type 0 where
+  pub place_word : List ℕ
+  pub points : List (List (List ℕ))
+  pub list : BreakList
+  pub are_breaks : AreBreaks list
+  pub some : list.breaks ≢ []
+  pub place_spelled : IsFractionWord Lenient place_word list.place
+  pub points_spelled : AllZip SpellBreak points list.breaks
+  pub function_is : IsOfBreaks list f
+  pub lines_are : lines ≡ breaks_title_words ∷ place_words place_word ∷ points ++ end_words ∷ []
+
+-- the text has the lines of f by its breakpoints, and the rest follows
+pub record HasLinesOfBreaks (text : List ℕ) (f : FunctionData) (rest : List ℕ) : Type 0 where
+  pub lines : List (List (List ℕ))
+  pub has_lines : HasLines Lenient text lines rest
+  pub are_lines : AreLinesOfBreaks f lines

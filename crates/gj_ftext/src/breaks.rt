@@ -127,7 +127,11 @@ fn refusal_of(fault: BreakFault, text: &[u8]) -> PartFault
 }
 
 /// The function of the breakpoints, whose line `end` comes next, and what follows that line.
-fn last_at(alloc: Global, text: &[u8], breaks: &Breaks) -> Result<(Shape, &[u8]), PartFault>
+fn last_at<'a>(
+    alloc: Global,
+    text: &'a [u8],
+    breaks: &Breaks,
+) -> Result<(Shape, &'a [u8]), PartFault>
     requires some { breaks.now.breaks ≢ [] }
     ensures found { IfOk result (λ r. (line_part Spelling.Lenient (end_rule breaks.now)).Reads text.now r.0 r.1.now) }
     ensures fault { IfErr result (IsFaultOf (line_part Spelling.Lenient (end_rule breaks.now)) text.now) }

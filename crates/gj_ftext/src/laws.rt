@@ -5,7 +5,7 @@ ghost use Rattle.gj_shape.specs.FunctionData.{FunctionData, IsWithinBounds};
 ghost use Rattle.gj_ftext.specs.FunctionText.{IsFunctionText, IsWholeFunctionText, IsCanonicalText};
 ghost use Rattle.gj_ftext.specs.FirstFault.{IsFirstFault, IsFirstFaultOfWhole};
 ghost use Rattle.gj_ftext.specs.RuleText.{IsRuleText, IsFirstFaultOfRule};
-ghost use Rattle.gj_ftext.specs.LinesOfFunction.{HasLinesOfFunction, HasLinesOfFamily};
+ghost use Rattle.gj_ftext.specs.LinesOfFunction.{HasLinesOfFunction, HasLinesOfFamily, HasLinesOfBreaks};
 
 /// A text begins with the function text of one function at most, and that ends at one place.
 pub fn one_function_text()
@@ -38,12 +38,13 @@ pub fn one_first_fault()
         IsFirstFaultOfWhole text n e → IsFirstFaultOfWhole text m d → (n ≡ m) × (e ≡ d) }
 {}
 
-/// A text is a function text exactly where it has the lines `gj-function 1`, `order Q`, `f F`, a line for each point of
-/// a function within the bounds, and `end`, or `gj-function 1`, a line that names a function of a family, and `end`;
-/// with lines that are skipped only before each.
+/// A text is a function text exactly if it has the lines `gj-function 1`, `order Q`, `f F`, a line for each point of
+/// a function within the bounds, and `end`; or `gj-function 1`, a line that names a function of a family, and `end`; or
+/// `gj-function 2`, `f F`, a line for each of one or more breakpoints that ascend from 0 to below 1, and `end`; with lines
+/// that are skipped only before each.
 pub fn function_text_is_lines()
     ensures { (text : List ℕ) (f : FunctionData) (rest : List ℕ) →
-        IsFunctionText text f rest ↔ (HasLinesOfFunction text f rest ⊎ HasLinesOfFamily text f rest) }
+        IsFunctionText text f rest ↔ (HasLinesOfFunction text f rest ⊎ HasLinesOfFamily text f rest ⊎ HasLinesOfBreaks text f rest) }
 {}
 
 /// The canonical text of a function has at most 1,000,000 bytes.
