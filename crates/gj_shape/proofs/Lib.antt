@@ -1,11 +1,13 @@
 pub mod AtLemmas
 pub mod Averages
+pub mod BreakLists
 pub mod OverScale
 pub mod GivenLists
 pub mod GivenPoints
 pub mod GivenFractions
 pub mod GivenLemmas
 pub mod InOrder
+pub mod LastElements
 pub mod LeastDenominator
 pub mod NumeratorBounds
 pub mod NumeratorReadings
