@@ -2,12 +2,14 @@ pub mod AtLemmas
 pub mod Averages
 pub mod BreakLaws
 pub mod BreakValues
+pub mod BreakLists
 pub mod OverScale
 pub mod GivenLists
 pub mod GivenPoints
 pub mod GivenFractions
 pub mod GivenLemmas
 pub mod InOrder
+pub mod LastElements
 pub mod LeastDenominator
 pub mod NumeratorBounds
 pub mod NumeratorReadings

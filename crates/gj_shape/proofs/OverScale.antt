@@ -22,7 +22,7 @@ pub denominator_is : (x : Frac) → pos (unsigned_abs (denominator x)) ≡ denom
 denominator_is x = pos_abs_z (denominator x) (omega (arith, ints, x.lowest.positive))
 
 -- the numerator over the scale is the fraction
-over_scale : (scale : ℕ) (x : Frac) → Divides scale x → IsOver scale x (numerator_over scale x)
+pub over_scale : (scale : ℕ) (x : Frac) → Divides scale x → IsOver scale x (numerator_over scale x)
 over_scale scale x h =
     let d = unsigned_abs (denominator x) in
     let whole : scale ≡ scale / d * d = sym (mul-div_cancel' d h) ∙ mul_comm d (scale / d) in

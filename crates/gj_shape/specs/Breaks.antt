@@ -1,5 +1,5 @@
 -- Functions by their breakpoints, at any fractions (Light on the Infinite Group Relaxation I; the limits are own).
-use Rattle.std.specs.Prelude.{ℕ, ℤ, pos, ◌≡◌, ◌≢◌, ◌⊎◌, ◌+◌, ◌-◌, ◌*◌, ◌<◌, ◌≤◌, ◌+ℤ◌, ◌*ℤ◌, List, [], ◌∷◌, ◌++◌, length, map, slice_index_or, unsigned_abs}
+use Rattle.std.specs.Prelude.{ℕ, pos, ◌≡◌, ◌+◌, ◌-◌, ◌*◌, ◌<◌, ◌≤◌, ◌+ℤ◌, ◌*ℤ◌, List, [], ◌∷◌, ◌++◌, length, map, slice_index_or, unsigned_abs}
 use Rattle.gj_tools.specs.Divisors.{IsLcm}
 use Rattle.gj_frac.specs.declared.Frac.{Frac}
 use Rattle.gj_frac.specs.Fraction.{Fraction, SameValue, LessValue, fraction_of, numerator, denominator, IsRatio, IsInside}
@@ -8,6 +8,8 @@ use Rattle.gj_shape.specs.Table.{table}
 use Rattle.gj_shape.specs.Given.{AreWithinBounds, IsGivenBy, IsTooFine}
 use Rattle.gj_shape.specs.Points.{lefts, values, rights, all_fractions, IsPointAt, IsPointFault}
 use Rattle.gj_shape.specs.RowCut.{IsLeastCommonDenominator}
+use Rattle.gj_shape.specs.declared.faults.FractionFault.{FractionFault}
+use Rattle.gj_shape.specs.declared.faults.FractionFault.TheVariants as refusal
 use Rattle.gj_shape.specs.declared.points.Point.{Point}
 use Rattle.gj_shape.specs.declared.points.PointFault.TheVariants.{Large, Fine}
 use Rattle.gj_shape.specs.declared.breaks.Break.{Break}
@@ -140,6 +142,11 @@ IsBreakFault s b fault.Pieces = IsNextBreak s.breaks b.x × (HasOrderWith s b.x 
 IsBreakFault s b fault.Large = IsNextBreak s.breaks b.x × HasOrderWith s b.x × IsPointFault (points_at s.breaks) (point_at b) Large
 IsBreakFault s b fault.Fine = IsNextBreak s.breaks b.x × HasOrderWith s b.x × IsPointFault (points_at s.breaks) (point_at b) Fine
 IsBreakFault s b (fault.Memory e) = Unit {0}
+
+-- the fault of a breakpoint with a fraction at fault
+abbrev pub break_fault : FractionFault → BreakFault
+break_fault refusal.Large = fault.Large
+break_fault refusal.Fine = fault.Fine
 
 -- what holds of breakpoints that came so
 pub record AreBreaks (s : BreakList) : Type 0 where

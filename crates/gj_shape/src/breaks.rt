@@ -1,17 +1,21 @@
 //! Functions by their breakpoints, at any fractions.
-ghost use Rattle.std.specs.Prelude.{◌≡◌, ◌≢◌, ◌≤◌, ◌++◌, ◌∷◌, [], List, length, IfOk, IfErr, OnOk, OnErr, unsigned_abs, alloc_error};
-ghost use Rattle.gj_frac.specs.Fraction.{denominator, IsInside};
+ghost use Rattle.std.specs.Prelude.{◌≡◌, ◌≢◌, ◌<◌, ◌≤◌, ◌↔◌, ◌++◌, ◌∷◌, [], ℕ, pos, List, length, IfSome, IfNone, IfOk, IfErr, OnOk, OnErr, IsTrue, unsigned_abs, alloc_error};
+ghost use Rattle.gj_tools.specs.Divisors.{IsLcm};
+ghost use Rattle.gj_frac.specs.Fraction.{LessValue, fraction_of, denominator, IsInside};
+ghost use Rattle.gj_shape.specs.declared.faults.FractionFault.{FractionFault};
 ghost use Rattle.gj_shape.specs.Given.{IsOrder, IsPlace, AreWithinBounds, IsTooFineOf};
 ghost use Rattle.gj_shape.specs.Points.{all_fractions};
-ghost use Rattle.gj_shape.specs.Breaks.{points_at, AreAscending, AreOnGrid, HasBreaks, IsGivenByBreaks, AreListsOfBreaks, no_breaks, Follows, IsBreakFault, IsOfBreaks};
+ghost use Rattle.gj_shape.specs.Breaks.{points_at, AreAscending, AreOnGrid, HasBreaks, IsGivenByBreaks, AreListsOfBreaks, no_breaks, IsNextBreak, Follows, IsBreakFault, break_fault, IsOfBreaks};
 ghost use Rattle.gj_shape.specs.declared.breaks.Break.{Break};
 ghost use Rattle.gj_shape.specs.declared.breaks.BreakFault.TheVariants.{Memory};
 
-use crate::faults::ShapeFault;
+use crate::denominators::{small_denominator, with_point};
+use crate::faults::{FractionFault, ShapeFault};
+use crate::numerators::numerator_over;
 use crate::points::{Point, Points};
 use crate::shape::Shape;
-use gj_frac::Frac;
-use std::alloc::{AllocError, AllocFailed, Global};
+use gj_frac::{Frac, lcm};
+use std::alloc::{AllocError, Global};
 use std::marker::Model;
 use thiserror::Error;
 
@@ -46,6 +50,58 @@ pub enum BreakFault {
     /// There was no memory.
     #[error("out of memory")]
     Memory(AllocError),
+}
+
+impl From<FractionFault> for BreakFault {
+    ghost from_gives = { λ e f. f ≡ break_fault e };
+
+    fn from(fault: FractionFault) -> BreakFault {
+        match fault {
+            FractionFault::Large => BreakFault::Large,
+            FractionFault::Fine => BreakFault::Fine,
+        }
+    }
+}
+
+impl From<AllocError> for BreakFault {
+    ghost from_gives = { λ e f. f ≡ Memory e };
+
+    fn from(error: AllocError) -> BreakFault {
+        BreakFault::Memory(error)
+    }
+}
+
+/// Whether a breakpoint at x can stand behind the others: the first is at 0, and each further one behind the one before
+/// and below 1.
+fn is_next(breaks: &[Break], x: Frac) -> bool
+    ensures { IsTrue result ↔ IsNextBreak breaks.now x }
+{
+    match breaks.last() {
+        None => x.num() == 0,
+        Some(before) => is_behind(before.x, x),
+    }
+}
+
+/// Whether x is greater than the place of the breakpoint before it, and below 1.
+fn is_behind(before: Frac, x: Frac) -> bool
+    ensures { IsTrue result ↔ (LessValue (fraction_of before) (fraction_of x)
+        × LessValue (fraction_of x) (record { top = pos 1; bottom = pos 1 })) }
+{
+    before < x && x.num() < x.den()
+}
+
+/// The least common multiple of the order so far and the denominator of x, where it is at most 1,000.
+fn order_with(order: u32, x: Frac) -> Option<u32>
+    requires { 0 < order }
+    ensures few { IfSome result (λ m. m ≤ 1000) }
+    ensures least { IfSome result (λ m. IsLcm order (unsigned_abs (denominator x)) m) }
+    ensures none { IfNone result ((m : ℕ) → m ≤ 1000 → IsLcm order (unsigned_abs (denominator x)) m → ⊥) }
+{
+    let multiple = lcm(order, small_denominator(x)?);
+    if multiple > 1000 {
+        return None;
+    }
+    Some(multiple as u32)
 }
 
 /// f and breakpoints that pass all tests. Contracts see them as a `BreakList`: f, the breakpoints, and the least common
@@ -98,7 +154,23 @@ impl Breaks {
         ensures err { OnErr result (self.new ≡ self.old) }
         ensures fault { IfErr result (IsBreakFault self.old point) }
     {
-        unreachable!()
+        if !is_next(self.breaks.as_slice(), point.x) {
+            return Err(BreakFault::Break);
+        }
+        let Some(order) = order_with(self.order, point.x) else {
+            return Err(BreakFault::Pieces);
+        };
+        let limits = Point {
+            left: point.left,
+            value: point.value,
+            right: point.right,
+        };
+        let scale = with_point(self.scale, limits)?;
+        self.breaks.reserve(1)?;
+        self.breaks.push_reserved(point);
+        self.order = order;
+        self.scale = scale;
+        Ok(())
     }
 
     /// Whether there is no breakpoint yet.
@@ -118,7 +190,8 @@ impl Breaks {
         ensures value { IfOk result (λ f. HasBreaks f self.now.breaks) }
         ensures fault { IfErr result (IsTooFineOf (AreListsOfBreaks self.now.order self.now.breaks)) }
     {
-        unreachable!()
+        let k = numerator_over(self.place, self.order) as u32;
+        Shape::from_breaks(alloc, self.order, k, self.breaks.as_slice())
     }
 }
 
@@ -131,12 +204,7 @@ impl Shape {
     /// most 2^20 in absolute value, with a common denominator of at most 2^31 - 1.
     ///
     /// The error is `TooFine` as for [`Shape::new`] over the limits and values at all multiples of 1/q, or `Memory`.
-    pub fn from_breaks(
-        alloc: Global,
-        q: u32,
-        k: u32,
-        points: &[Break],
-    ) -> Result<Shape, ShapeFault>
+    pub fn from_breaks(alloc: Global, q: u32, k: u32, points: &[Break]) -> Result<Shape, ShapeFault>
         requires order { IsOrder q }
         requires place { IsPlace q k }
         requires some { points.now ≢ [] }
