@@ -8,7 +8,7 @@ use gj_frac::Frac;
 use std::alloc::{AllocError, Global};
 
 /// The numerator of a fraction over a multiple of its denominator.
-fn numerator_over(x: Frac, scale: u32) -> i64
+pub(crate) fn numerator_over(x: Frac, scale: u32) -> i64
     requires small { IsSmall x }
     requires low { 1 ≤ scale }
     requires high { scale < 2 ^ 31 }
