@@ -1,5 +1,6 @@
 pub mod AtLemmas
 pub mod Averages
+pub mod BreakValues
 pub mod OverScale
 pub mod GivenLists
 pub mod GivenPoints
@@ -15,5 +16,6 @@ pub mod BreakPieces
 pub mod PointLists
 pub mod Refinements
 pub mod SameFunctions
+pub mod Segments
 pub mod TableLemmas
 pub mod ValueLemmas
