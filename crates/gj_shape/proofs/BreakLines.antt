@@ -141,7 +141,3 @@ less_places q x y m n some less a b =
     less_pos m n
     ((ratio_less (numerator x) (denominator x) (numerator y) (denominator y) (pos m) (pos n) (pos q) x.lowest.positive
     y.lowest.positive positive a b).0 less)
-
--- each place is below q
-pub place_below : (q : ℕ) (x : Frac) (m : ℕ) → IsPlaceOn q x → IsRatio x (pos m) (pos q) → m < q
-place_below q x m (p, below, is) at = let e : m ≡ p = same_place q x m p at is in omega arith

@@ -1,5 +1,5 @@
 -- The points of the grid, laid breakpoint by breakpoint.
-use Rattle.std.proofs.Common.{◌≡◌, ◌≢◌, ℕ, zero, suc, ◌+◌, ◌*◌, ◌<◌, ◌≤◌, ℤ, pos, ◌*ℤ◌, ◌<ℤ◌, List, [], ◌∷◌, ◌++◌, length, map, flat_map, take, drop, get_or, All, unsigned_abs, refl, sym, ap, ap₂, subst, ◌∙◌, append_assoc, below_more, arith}
+use Rattle.std.proofs.Common.{◌≡◌, ◌≢◌, ℕ, zero, suc, ◌+◌, ◌-◌, ◌*◌, ◌<◌, ◌≤◌, ℤ, pos, ◌*ℤ◌, ◌<ℤ◌, List, [], ◌∷◌, ◌++◌, length, map, flat_map, take, drop, get_or, All, unsigned_abs, refl, sym, ap, ap₂, subst, ◌∙◌, append_assoc, below_more, arith}
 use Rattle.std.proofs.Math.Seq.{get_or-append_seam}
 use Rattle.std.proofs.lemmas.Int.{ints}
 use Rattle.std.proofs.lemmas.List.{length_push, length-append, length-map, map-append, get_or_append_left, take_more, drop_more, take-append-drop, drop_all, get_or_default, get_or-map}
@@ -62,7 +62,7 @@ piece_done front b w n i items e h =
     (point_at b ∷ map even h.between, record { between = h.between; count = h.count ∙ e; on = h.on; points_are = refl }, h.items_are)
 
 -- a piece has as many points as steps
-piece_length : (b : Break) (w : Frac) (n : ℕ) (points : List Point) → IsPiece b w n points → length points ≡ n
+pub piece_length : (b : Break) (w : Frac) (n : ℕ) (points : List Point) → IsPiece b w n points → length points ≡ n
 piece_length b w n points h =
     let mapped = length-map h.between even in
     let count = h.count in
@@ -172,7 +172,7 @@ ends_within breaks i j b c within at next =
     }
 
 -- the next is greater
-pub next_greater : (breaks : List Break) (i : ℕ) (b c : Break) → AreAscending breaks → IsBreakAt breaks i b →
+next_greater : (breaks : List Break) (i : ℕ) (b c : Break) → AreAscending breaks → IsBreakAt breaks i b →
     IsBreakAt breaks (i + 1) c →
     LessValue (fraction_of b.x) (fraction_of c.x) × LessValue (fraction_of c.x) (record { top = pos 1; bottom = pos 1 })
 next_greater breaks i b c ascending at next =
@@ -183,10 +183,10 @@ zero_times : (z : ℤ) → pos 0 *ℤ z ≡ pos 0
 zero_times z = omega (arith, ints)
 
 -- the first is at 0
-pub first_zero : (breaks : List Break) (b : Break) → AreAscending breaks → IsBreakAt breaks 0 b → numerator b.x ≡ pos 0
+first_zero : (breaks : List Break) (b : Break) → AreAscending breaks → IsBreakAt breaks 0 b → numerator b.x ≡ pos 0
 first_zero breaks b ascending at = (ascending [] b (drop 1 breaks) (parts_at breaks 0 b at)).first refl
 
-pub first_place : (q : ℕ) (breaks : List Break) (b : Break) → AreAscending breaks → IsBreakAt breaks 0 b →
+first_place : (q : ℕ) (breaks : List Break) (b : Break) → AreAscending breaks → IsBreakAt breaks 0 b →
     IsRatio b.x (pos 0) (pos q)
 first_place q breaks b ascending at =
     ap (λ z. z *ℤ pos q) (first_zero breaks b ascending at) ∙ zero_times (pos q) ∙ sym (zero_times (denominator b.x))
@@ -200,17 +200,30 @@ below_one q x p some less is =
     less_pos p q ((ratio_less (numerator x) (denominator x) (pos 1) (pos 1) (pos p) (pos q) (pos q) x.lowest.positive one positive is turned).0 less)
 
 -- each is at a multiple of 1/q below 1
-pub place_on : (q : ℕ) (breaks : List Break) (i : ℕ) (b d : Break) → 0 < q → AreAscending breaks → AreOnGrid q breaks →
+pub place_on : (q : ℕ) (breaks : List Break) (i : ℕ) (b : Break) → 0 < q → AreAscending breaks → AreOnGrid q breaks →
     IsBreakAt breaks i b → IsPlaceOn q b.x
-place_on q breaks zero b d some ascending on at = (0, some, first_place q breaks b ascending at)
-place_on q breaks (suc j) b d some ascending on at =
+place_on q breaks zero b some ascending on at = (0, some, first_place q breaks b ascending at)
+place_on q breaks (suc j) b some ascending on at =
     let (p, is) = on (take (suc j) breaks) b (drop (suc j + 1) breaks) (parts_at breaks (suc j) b at) in
-    let before = get_or breaks j d in
+    let before = get_or breaks j b in
     let within = at.within in
-    let h : IsBreakAt breaks j before = record { within = omega arith; is = get_or_default breaks j d before (omega arith) } in
+    let h : IsBreakAt breaks j before = record { within = omega arith; is = get_or_default breaks j b before (omega arith) } in
     let e : suc j ≡ j + 1 = omega arith in
     let less = (next_greater breaks j before b ascending h (subst (λ i. IsBreakAt breaks i b) e at)).1 in
     (p, below_one q b.x p some less is, is)
+
+pub place_below : (q : ℕ) (breaks : List Break) (i : ℕ) (b : Break) (m : ℕ) → 0 < q → AreAscending breaks → AreOnGrid q breaks →
+    IsBreakAt breaks i b → IsRatio b.x (pos m) (pos q) → m < q
+place_below q breaks i b m some ascending on at r =
+    let (p, below, is) = place_on q breaks i b some ascending on at in
+    let e : m ≡ p = same_place q b.x m p r is in
+    omega arith
+
+-- and the places ascend
+pub places_ascend : (q : ℕ) (breaks : List Break) (i : ℕ) (b c : Break) (m n : ℕ) → 0 < q → AreAscending breaks →
+    IsBreakAt breaks i b → IsBreakAt breaks (i + 1) c → IsRatio b.x (pos m) (pos q) → IsRatio c.x (pos n) (pos q) → m < n
+places_ascend q breaks i b c m n some ascending at next r s =
+    less_places q b.x c.x m n some (next_greater breaks i b c ascending at next).0 r s
 
 -- ---- the pieces
 
@@ -231,7 +244,7 @@ laid_more q w breaks i p n b c points more at next r s piece h rest laid =
     (h (more ++ rest) (subst (λ bs. AreLaid q w bs (more ++ rest)) (sym whole) here))
 
 -- the last piece
-pub laid_last : (q : ℕ) (w : Frac) (breaks : List Break) (i p n : ℕ) (b : Break) (points more : List Point) →
+laid_last : (q : ℕ) (w : Frac) (breaks : List Break) (i p n : ℕ) (b : Break) (points more : List Point) →
     IsBreakAt breaks i b → i + 1 ≡ length breaks → IsRatio b.x (pos p) (pos q) → p + n ≡ q → IsPiece b w n more →
     AreLaidFrom q w breaks i points → AreLaid q w breaks (points ++ more)
 laid_last q w breaks i p n b points more at end r e piece h =
@@ -241,9 +254,19 @@ laid_last q w breaks i p n b points more at end r e piece h =
 
 -- ---- the whole grid
 
-pub grid_laid : (q : ℕ) (breaks : List Break) (b : Break) (points : List Point) → IsBreakAt breaks 0 b →
-    AreLaid q b.left breaks points → AreGridPoints q breaks points
-grid_laid q breaks b points at laid = record { first = b; more = drop 1 breaks; breaks_are = drop_at breaks 0 b at; laid = laid }
+-- the last piece completes it
+pub grid_done : (q : ℕ) (breaks : List Break) (i j m : ℕ) (first b : Break) (points more grid : List Point) →
+    IsBreakAt breaks 0 first → IsBreakAt breaks i b → i + 1 ≡ length breaks → j ≡ i → m ≤ q → IsRatio b.x (pos m) (pos q) →
+    IsPiece b first.left (q - m) more → AreLaidFrom q first.left breaks j points → grid ≡ points ++ more → AreGridPoints q breaks grid
+grid_done q breaks i j m first b points more grid front at end same below r piece laid e =
+    let here = subst (λ k. AreLaidFrom q first.left breaks k points) same laid in
+    let whole = laid_last q first.left breaks i m (q - m) b points more at end r (omega arith) piece here in
+    record {
+      first = first;
+      more = drop 1 breaks;
+      breaks_are = drop_at breaks 0 first front;
+      laid = subst (AreLaid q first.left breaks) (sym e) whole;
+    }
 
 grid_starts : (q : ℕ) (breaks : List Break) (b : Break) (more : List Break) → breaks ≡ b ∷ more → AreAscending breaks → StartsAt q 0 breaks
 grid_starts q breaks b more e ascending =
