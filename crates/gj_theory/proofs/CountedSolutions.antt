@@ -10,7 +10,7 @@ use Rattle.gj_tools.proofs.Integers.{mul_add_z}
 use Rattle.gj_tools.proofs.Quotients.{same_at_remainder}
 use Rattle.gj_shape.specs.SlopeRows.{total}
 use Rattle.gj_shape.specs.Valid.{IsSolution, weight, IsCountedSolution, counted_weight, IsValidTable}
-use Rattle.gj_theory.proofs.Weights.{sum_cons, same_sums}
+use Rattle.gj_theory.proofs.Weights.{HasList, sum_cons, same_sums, with_copies}
 
 -- ---- sums over a range
 
@@ -114,19 +114,6 @@ counts_of_list t n k places some period solution =
     (y, place ∙ solution, is)
 
 -- ---- the list of counts
-
--- a list with the sum s and the weight w
-abbrev HasList : (ℕ → ℤ) → ℕ → ℤ → Type 0
-HasList t s w = (places : List ℕ) × (sum places ≡ s) × (weight t places ≡ w)
-
-with_copies : (t : ℕ → ℤ) (a m s : ℕ) (w : ℤ) → HasList t s w → HasList t (a * m + s) (t a *ℤ pos m +ℤ w)
-with_copies t a zero s w (places, place, is) = (places, omega arith, omega (arith, ints))
-with_copies t a (suc m) s w h =
-    let (places, place, is) = with_copies t a m s w h in
-    let first = sum_cons a places in
-    let split = mul_add_z (t a) (pos m) (pos 1) in
-    let e : t a *ℤ pos (suc m) ≡ t a *ℤ (pos m +ℤ pos 1) = ap (λ z. t a *ℤ pos z) (omega arith) in
-    (a ∷ places, omega arith, omega (arith, ints))
 
 has_list : (t : ℕ → ℤ) (y : ℕ → ℕ) (a n : ℕ) →
     HasList t (sum (map (λ i. i * y i) (range_with_len a n))) (total_over (λ i. t i *ℤ pos (y i)) a n)

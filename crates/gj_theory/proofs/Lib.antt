@@ -51,3 +51,4 @@ pub mod RiseCounts
 pub mod Weights
 pub mod ValidTables
 pub mod CountedSolutions
+pub mod SameVerdicts

@@ -317,17 +317,22 @@ asymmetry_dominated t n k s i j some valid opposite differs =
 
 -- ---- minimal tables
 
-pub minimal_is_valid : (t : ℕ → ℤ) (n k s : ℕ) → IsMinimalTable t n k s → IsValidTable t n k s
-minimal_is_valid t n k s h = record {
-  has_period = h.has_period;
-  nonnegative = h.nonnegative;
+-- a subadditive table with 0 at 0 and at least s at the place k is valid
+pub subadditive_is_valid : (t : ℕ → ℤ) (n k s : ℕ) → ((i : ℕ) → t (i + n) ≡ t i) → ((i : ℕ) → pos 0 ≤ℤ t i) → t 0 ≡ pos 0 →
+    ((i j : ℕ) → t (i + j) ≤ℤ (t i +ℤ t j)) → pos s ≤ℤ t k → IsValidTable t n k s
+subadditive_is_valid t n k s period low none below top = record {
+  has_period = period;
+  nonnegative = low;
   at_solutions = λ xs solution.
-      let whole = below_weight t xs h.zero_at_zero h.subadditive in
-      let peak = same_at_remainder t n h.has_period (sum xs) k solution in
-      let top = h.symmetric k 0 (ap (λ i. i % n) (omega arith)) in
-      let none = h.zero_at_zero in
+      let whole = below_weight t xs none below in
+      let peak = same_at_remainder t n period (sum xs) k solution in
       omega (arith, ints);
 }
+
+pub minimal_is_valid : (t : ℕ → ℤ) (n k s : ℕ) → IsMinimalTable t n k s → IsValidTable t n k s
+minimal_is_valid t n k s h =
+    subadditive_is_valid t n k s h.has_period h.nonnegative h.zero_at_zero h.subadditive
+    (let top = h.symmetric k 0 (ap (λ i. i % n) (omega arith)) in let none = h.zero_at_zero in omega (arith, ints))
 
 pub minimal_among : (t : ℕ → ℤ) (n k s : ℕ) → 0 < n → IsMinimalTable t n k s → IsMinimalAmongValid t n k s
 minimal_among t n k s some h = record {

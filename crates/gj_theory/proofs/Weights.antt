@@ -1,5 +1,5 @@
 -- Sums of entries of a table at the places of a list.
-use Rattle.std.proofs.Common.{◌≡◌, ℕ, ◌+◌, ◌/◌, ◌%◌, List, [], ◌∷◌, ◌++◌, ℤ, pos, ◌+ℤ◌, ◌*ℤ◌, ◌≤ℤ◌, refl, sym, ap, ap₂, ◌∙◌, arith}
+use Rattle.std.proofs.Common.{◌≡◌, ℕ, zero, suc, ◌+◌, ◌*◌, ◌/◌, ◌%◌, List, [], ◌∷◌, ◌++◌, ℤ, pos, ◌+ℤ◌, ◌*ℤ◌, ◌≤ℤ◌, refl, sym, ap, ap₂, ◌∙◌, arith}
 use Rattle.std.specs.Prelude.{sum}
 use Rattle.std.proofs.lemmas.Int.{ints}
 use Rattle.std.proofs.lemmas.List.Sums.{sum_by-cons, sum_by-append}
@@ -92,3 +92,19 @@ stand_for_all t u n (x ∷ xs) each =
           ∙ ap (λ i. i % n) (sym (sum_cons x xs)),
       weight_append t first rest ∙ ap₂ (λ v w. v +ℤ w) first_weight rest_weight,
     )
+
+-- ---- copies of one place
+
+-- a list with the sum s and the weight w
+abbrev pub HasList : (ℕ → ℤ) → ℕ → ℤ → Type 0
+HasList t s w = (places : List ℕ) × (sum places ≡ s) × (weight t places ≡ w)
+
+-- with m more uses of a
+pub with_copies : (t : ℕ → ℤ) (a m s : ℕ) (w : ℤ) → HasList t s w → HasList t (a * m + s) (t a *ℤ pos m +ℤ w)
+with_copies t a zero s w (places, place, is) = (places, omega arith, omega (arith, ints))
+with_copies t a (suc m) s w h =
+    let (places, place, is) = with_copies t a m s w h in
+    let first = sum_cons a places in
+    let split = mul_add_z (t a) (pos m) (pos 1) in
+    let e : t a *ℤ pos (suc m) ≡ t a *ℤ (pos m +ℤ pos 1) = ap (λ z. t a *ℤ pos z) (omega arith) in
+    (a ∷ places, omega arith, omega (arith, ints))

@@ -1,11 +1,15 @@
 //! What minimal and extreme mean: valid tables, those whose entries at the places of each solution add up to at least 1.
 ghost use Rattle.std.specs.Prelude.{ℕ, ℤ, pos, ◌≡◌, ◌≢◌, ◌⊎◌, ◌+◌, ◌*◌, ◌%◌, ◌<◌, ◌+ℤ◌, ◌≤ℤ◌, ◌<ℤ◌, List};
+ghost use Rattle.std.specs.List.{AllZip};
+ghost use Rattle.gj_frac.specs.declared.Frac.{Frac};
 ghost use Rattle.gj_shape.specs.Extreme.{IsExtremeTable, IsExtreme};
 ghost use Rattle.gj_shape.specs.FunctionData.{FunctionData, IsWithinBounds};
+ghost use Rattle.gj_shape.specs.RowCut.{CutHolds};
 ghost use Rattle.gj_shape.specs.Table.{table, IsMinimalTable, IsMinimal};
 ghost use Rattle.gj_shape.specs.Valid.{IsSolution, weight, IsCountedSolution, counted_weight, IsValidTable, IsMinimalAmongValid, IsExtremeAmongValid, IsDominated};
 ghost use Rattle.gj_shape.specs.Violation.{ShowsViolation};
 ghost use Rattle.gj_shape.specs.declared.violations.Violation.{Violation};
+ghost use Rattle.gj_theory.specs.Cuts.{HasFractionalPart, IsEntryAt};
 ghost use Rattle.gj_theory.specs.GridPoints.{HoldsPoints};
 
 /// The minimal tables are the valid tables that are minimal among the valid ones: no other lies below.
@@ -62,4 +66,14 @@ pub fn shown_violations_are_dominated()
         IsValidTable (table f m) (f.order * m) (f.place * m) (f.scale * m) →
         IsDominated (table f m) (f.order * m) (f.place * m) (f.scale * m) }
     ensures some { (f : FunctionData) (v : Violation) → ShowsViolation f v → (m : ℕ) × (0 < m) × HoldsPoints f m v }
+{}
+
+/// A row gives a cut by each valid table: where its right side has the fractional part f and the coefficients are the table's
+/// entries at the places of the row's. A subadditive table that is 0 at 0 and at least 1 at f is valid.
+pub fn valid_tables_give_cuts()
+    ensures cut { (t : ℕ → ℤ) (n k s : ℕ) (entries : List Frac) (right : Frac) (coefficients : List Frac) →
+        IsValidTable t n k s → 0 < n → 0 < s → HasFractionalPart right (pos k) (pos n) →
+        AllZip (IsEntryAt t n s) entries coefficients → CutHolds entries right coefficients }
+    ensures subadditive { (t : ℕ → ℤ) (n k s : ℕ) → ((i : ℕ) → t (i + n) ≡ t i) → ((i : ℕ) → pos 0 ≤ℤ t i) → t 0 ≡ pos 0 →
+        ((i j : ℕ) → t (i + j) ≤ℤ (t i +ℤ t j)) → pos s ≤ℤ t k → IsValidTable t n k s }
 {}
