@@ -1,11 +1,9 @@
 -- The function that the points of a grid give has the breakpoints from which they come.
 use Rattle.std.proofs.Common.{◌≡◌, ℕ, zero, suc, ◌+◌, ◌<◌, ◌⊎◌, ⊎_elim, ℤ, pos, List, [], ◌∷◌, ◌++◌, length, map, drop, get_or, refl, sym, ap, subst, subst₂, ◌∙◌, append_assoc, length-append, get_or-append-add, arith}
 use Rattle.std.specs.List.{AllZip}
-use Rattle.std.proofs.lemmas.Int.{ints}
 use Rattle.std.proofs.lemmas.List.{length-map, get_or-map, get_or_append_left}
 use Rattle.gj_frac.specs.declared.Frac.{Frac}
 use Rattle.gj_frac.specs.Fraction.{SameValue, fraction_of, IsRatio}
-use Rattle.gj_tools.proofs.Integers.{mul_cancel_right_z, abs_positive_z}
 use Rattle.gj_shape.specs.FunctionData.{FunctionData, IsWithinBounds, at}
 use Rattle.gj_shape.specs.Given.{IsGivenBy, numerator_over}
 use Rattle.gj_shape.specs.Points.{lefts, values, rights, ArePointsOf, IsPointAt}
@@ -13,6 +11,8 @@ use Rattle.gj_shape.specs.Breaks.{point_at, on_line, IsAffineBetween, HasBreaks,
 use Rattle.gj_shape.specs.declared.points.Point.{Point}
 use Rattle.gj_shape.specs.declared.breaks.Break.{Break}
 use Rattle.gj_shape.proofs.AtLemmas.{at_below}
+use Rattle.gj_shape.proofs.BreakLines.{same_place}
+use Rattle.gj_shape.proofs.BreakPieces.{piece_length}
 use Rattle.gj_shape.proofs.GivenPoints.{points_given}
 use Rattle.gj_shape.proofs.TableLemmas.{at_plus_order}
 use Rattle.gj_shape.proofs.Segments.{IsOnLine, on_line_over, line_first, line_last, IsSegment, affine_on_segment}
@@ -64,20 +64,6 @@ stand_in_order q k points f given = record { long = count; stand = stands }
 
 -- ---- the points that are laid
 
--- a fraction has one place of an order
-one_place : (x : Frac) (q k m : ℕ) → IsRatio x (pos k) (pos q) → IsRatio x (pos m) (pos q) → k ≡ m
-one_place x q k m a b =
-    let some = abs_positive_z x.den x.lowest.positive in
-    let same : pos k ≡ pos m = mul_cancel_right_z (pos k) (pos m) x.den (sym a ∙ b) (omega arith) in
-    omega (arith, ints, same)
-
-piece_length : (b : Break) (w : Frac) (n : ℕ) (points : List Point) → IsPiece b w n points → length points ≡ n
-piece_length b w n points piece =
-    let count = piece.count in
-    let all = ap length piece.points_are in
-    let as_many = length-map piece.between even in
-    omega arith
-
 -- the points from a breakpoint on
 record HasTail (q : ℕ) (w : Frac) (breaks : List Break) (points : List Point) : Type 0 where
   before : List Point
@@ -122,7 +108,7 @@ laid_head q w b back points (last c p n ps is sum piece) =
 laid_head q w b back points (onward c d more p n ps rest is next piece laid) =
     let head = laid_head q w d more rest laid in
     let long = piece_length b d.left n ps piece in
-    let same = one_place d.x q head.place (p + n) head.place_is next in
+    let same = same_place q d.x head.place (p + n) head.place_is next in
     let rest_count = head.count in
     let joined = length-append ps rest in
     record {
@@ -152,7 +138,7 @@ before_count f points before rest b p order split head is =
     let long = order.long in
     let whole = ap length split in
     let parts = length-append before rest in
-    let same = one_place b.x f.order head.place p head.place_is is in
+    let same = same_place f.order b.x head.place p head.place_is is in
     let count = head.count in
     omega arith
 
@@ -296,8 +282,8 @@ segment_between_breaks f points w b c back p n order tail b_is c_is =
 
     steps_are : two.steps ≡ n
     steps_are =
-        let a = one_place b.x f.order two.place p two.place_is b_is in
-        let e = one_place c.x f.order (two.place + two.steps) (p + n) two.next_is c_is in
+        let a = same_place f.order b.x two.place p two.place_is b_is in
+        let e = same_place f.order c.x (two.place + two.steps) (p + n) two.next_is c_is in
         omega arith
 
     piece : IsPiece b c.left n two.own
@@ -339,7 +325,7 @@ segment_behind_last f points first more b p n within order laid tail is sum =
 
     piece : IsPiece b first.left n tail.rest
     piece =
-        let a = one_place b.x f.order own.place p own.place_is is in
+        let a = same_place f.order b.x own.place p own.place_is is in
         let e = own.sum in
         subst (λ k. IsPiece b first.left k tail.rest) (let g : own.steps ≡ n = omega arith in g) own.piece
 

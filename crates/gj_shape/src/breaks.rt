@@ -132,12 +132,7 @@ impl Shape {
     /// most 2^20 in absolute value, with a common denominator of at most 2^31 - 1.
     ///
     /// The error is `TooFine` as for [`Shape::new`] over the limits and values at all multiples of 1/q, or `Memory`.
-    pub fn from_breaks(
-        alloc: Global,
-        q: u32,
-        k: u32,
-        points: &[Break],
-    ) -> Result<Shape, ShapeFault>
+    pub fn from_breaks(alloc: Global, q: u32, k: u32, points: &[Break]) -> Result<Shape, ShapeFault>
         requires order { IsOrder q }
         requires place { IsPlace q k }
         requires some { points.now ≢ [] }
