@@ -16,7 +16,7 @@ use Rattle.gj_shape.specs.Breaks.{on_line}
 use Rattle.gj_shape.specs.Given.{IsSmall, AreWithinBounds, numerator_over}
 use Rattle.gj_shape.proofs.GivenFractions.{is_small}
 use Rattle.gj_shape.proofs.LeastDenominator.{Divides, denominator_some}
-use Rattle.gj_shape.proofs.OverScale.{denominator_is, over_scale, divides_from_over, numerator_from_over}
+use Rattle.gj_shape.proofs.OverScale.{denominator_is, over_scale, divides_from_over}
 
 -- ---- a common denominator of two fractions
 
