@@ -7,3 +7,4 @@ pub mod OneCanonical
 pub mod LinesOfFunction
 pub mod RuleTexts
 pub mod ExactBreaks
+pub mod BreaksRead
