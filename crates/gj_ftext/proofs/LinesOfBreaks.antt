@@ -1,8 +1,8 @@
 -- A function text by breakpoints has the lines of its function, and a text that has them is one.
-use Rattle.std.proofs.Common.{◌≡◌, ◌≢◌, ◌⊎◌, inl, inr, codes, ℕ, List, [], ◌∷◌, ◌++◌, refl, sym, ap, subst, ◌∙◌, append-nil, append_assoc, arith}
+use Rattle.std.proofs.Common.{◌≡◌, ◌≢◌, ◌⊎◌, inl, inr, codes, ℕ, List, [], ◌∷◌, ◌++◌, refl, sym, ap, subst, ◌∙◌, append-nil, append_assoc}
 use Rattle.std.specs.List.{AllZip}
 use Rattle.gj_lex.specs.TextLines.{HasLines, HasNextLine}
-use Rattle.gj_lex.specs.Parts.{ReadsInTurn, loop_part}
+use Rattle.gj_lex.specs.Parts.{ReadsInTurn}
 use Rattle.gj_lex.specs.Parts.ReadsInTurn.{last, onward}
 use Rattle.gj_lex.specs.declared.spelling.Spelling.TheVariants.{Lenient}
 use Rattle.gj_lex.specs.SpelledNumbers.{IsFractionWord}
@@ -33,13 +33,14 @@ record HasBreakLines (f : FunctionData) (rest : List ℕ) (s : BreakList) (text 
   function_is : IsOfBreaks list f
   lines : HasLines Lenient text (points ++ end_words ∷ []) rest
 
-same_list : (s t : BreakList) → inl {B = FunctionData} s ≡ inl t → s ≡ t
+-- what was read leads to one next list, or ends with one function
+same_list : (s t : BreakList) → ◌≡◌ {A = BreakList ⊎ FunctionData} (inl s) (inl t) → s ≡ t
 same_list s t e = cc
 
-same_function : (f g : FunctionData) → inr {A = BreakList} f ≡ inr g → f ≡ g
+same_function : (f g : FunctionData) → ◌≡◌ {A = BreakList ⊎ FunctionData} (inr f) (inr g) → f ≡ g
 same_function f g e = cc
 
-not_both_ways : (s : BreakList) (f : FunctionData) → inl s ≡ inr f → ⊥
+not_both_ways : (s : BreakList) (f : FunctionData) → ◌≡◌ {A = BreakList ⊎ FunctionData} (inl s) (inr f) → ⊥
 not_both_ways s f e = cc
 
 turns_have_lines : (f : FunctionData) (rest : List ℕ) (s : BreakList) (text : List ℕ) → AreBreaks s →
@@ -119,8 +120,7 @@ lines_in_turn all f rest whole some of [] [] s text are place split spelled (sta
     let same : all ≡ s = one_break_list all s whole are (sym place) (split ∙ append-nil s.breaks) in
     let end = subst (λ r. HasNextLine start end_words r text) at line in
     last s text
-    (inl
-    (
+    (inl (
       (subst (λ (u : BreakList). u.breaks ≢ []) same some, ([], (start, rest, end))),
       (f, (start, end_words, end, (refl, subst (λ (u : BreakList). IsOfBreaks u f) same of)), refl),
     ))
@@ -129,10 +129,9 @@ lines_in_turn all f rest whole some of (words ∷ points) [] s text are place sp
 lines_in_turn all f rest whole some of (words ∷ points) (b ∷ back) s text are place split (spelled, more) (start, next, line, lines) =
     let (order, follows) = next_follows all s b back whole are place split in
     let t : BreakList = record { place = s.place; order = order; breaks = s.breaks ++ b ∷ [] } in
-    let (word, ws, is, form) = spelled in
+    let (word, ws, is, form, place_spelled, limits_spelled) = spelled in
     onward s text t next
-    (inr
-    (
+    (inr (
       λ begins. other_word Lenient text start words (codes "end") next line (λ tail e. not_the_end (word ∷ ws) tail (sym is ∙ e)) begins.1,
       (t, (start, words, line, (b, spelled, follows)), refl),
     ))
@@ -159,6 +158,6 @@ lines_are_breaks text f rest h =
           (are.place_word, list.place, refl, are.place_spelled, whole.inside, few, refl),
         ),
         lines_in_turn list f rest whole are.some are.function_is are.points list.breaks (no_breaks list.place) n
-        (breaks_of_none list.place whole.inside few) refl refl are.points_spelled lines,
+            (breaks_of_none list.place whole.inside few) refl refl are.points_spelled lines,
       ),
     )

@@ -1,5 +1,5 @@
 -- A function text has the lines of its function, and a text that has them is one.
-use Rattle.std.proofs.Common.{◌≡◌, ◌⊎◌, ⊎_elim, inl, inr, codes, ℕ, zero, suc, pos, List, [], ◌∷◌, ◌++◌, length, map, refl, sym, ap, subst, subst₂, ◌∙◌, append-nil, append_assoc}
+use Rattle.std.proofs.Common.{◌≡◌, ◌⊎◌, ⊎_elim, inl, inr, codes, ℕ, zero, suc, pos, List, [], ◌∷◌, ◌++◌, length, map, refl, sym, ap, subst, subst₂, ◌∙◌, append-nil, append_assoc, arith}
 use Rattle.std.specs.List.{AllZip}
 use Rattle.std.proofs.lemmas.Grind.{flat_map-append}
 use Rattle.gj_frac.specs.Fraction.{IsRatio}
@@ -202,10 +202,14 @@ pub text_has_lines : (text : List ℕ) (f : FunctionData) (rest : List ℕ) → 
 text_has_lines text f rest (inl (begins, h)) = inr (inr (breaks_have_lines text f rest h))
 text_has_lines text f rest (inr (not, h)) = ⊎_elim (λ lines. inl lines) (λ lines. inr (inl lines)) (points_text_has_lines text f rest h)
 
--- a text whose first line is the title of text 1 is no text 2
-one_title : title_words ≡ breaks_title_words → ⊥
-one_title e = cc
+-- the title of text 1 is not that of text 2
+second_bytes : (word : List ℕ) (a b : ℕ) → word ∷ (a ∷ []) ∷ [] ≡ word ∷ (b ∷ []) ∷ [] → a ≡ b
+second_bytes word a b e = cc
 
+one_title : title_words ≡ breaks_title_words → ⊥
+one_title e = let bytes = second_bytes _ _ _ e in omega arith
+
+-- so a text with the one as its first line does not begin with the other
 no_breaks_title : (text start rest : List ℕ) → HasNextLine start title_words rest text → BeginsWithLine Lenient breaks_title_words text → ⊥
 no_breaks_title text start rest line begins = other_line Lenient text start title_words breaks_title_words rest line one_title begins
 
@@ -234,8 +238,7 @@ function_lines_are_text text f rest h =
         (are.points, points_read, given_by_points are.points f within are.points_are),
       ),
     ) in
-    inr
-    (
+    inr (
       no_breaks_title text s m title,
       (
         tt,
@@ -260,8 +263,7 @@ family_begins text start rest (two_slope_words v w) line = (_, (start, rest, lin
 family_lines_are_text : (text : List ℕ) (f : FunctionData) (rest : List ℕ) → HasLinesOfFamily text f rest → IsFunctionText text f rest
 family_lines_are_text text f rest h =
     let (s, m, title, (s1, n, line, (s3, r, last, at))) = h.has_lines in
-    inr
-    (
+    inr (
       no_breaks_title text s m title,
       (
         tt,

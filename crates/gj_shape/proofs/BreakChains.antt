@@ -7,7 +7,7 @@ use Rattle.std.proofs.lemmas.List.{map-append}
 use Rattle.std.proofs.lemmas.List.Concat.{flat_map-append}
 use Rattle.std.proofs.lemmas.List.Elements.{All-head}
 use Rattle.gj_tools.specs.Divisors.{IsLcm}
-use Rattle.gj_tools.proofs.Divisors.{cofactor, gcd_exists, gcd_positive, lcm_from_gcd, lcm_positive}
+use Rattle.gj_tools.proofs.Divisors.{cofactor, gcd_exists, gcd_positive, lcm_from_gcd}
 use Rattle.gj_tools.proofs.Lists.{All-front, All-back}
 use Rattle.gj_frac.specs.declared.Frac.{Frac}
 use Rattle.gj_frac.specs.Fraction.{denominator}
@@ -16,7 +16,7 @@ use Rattle.gj_shape.specs.Points.{all_fractions, fractions_of}
 use Rattle.gj_shape.specs.RowCut.{IsLeastCommonDenominator}
 use Rattle.gj_shape.specs.Breaks.{BreakList, AreBreaks, Follows, points_at, point_at}
 use Rattle.gj_shape.specs.declared.breaks.Break.{Break}
-use Rattle.gj_shape.proofs.LeastDenominator.{Divides, denominator_some, within_bounds_closed}
+use Rattle.gj_shape.proofs.LeastDenominator.{Divides, within_bounds_closed}
 use Rattle.gj_shape.proofs.BreakLists.{places_of, breaks_more, order_some, place_divides}
 
 -- ---- forward
