@@ -34,7 +34,7 @@ are_over_push t s xs x n e are is i d within =
     below_more P n before here i (omega arith) d
 
 -- a fraction n/d is small where n is at most 2^20 d
-is_small : (x : Frac) (n : ℤ) (d : ℕ) → 0 < d → unsigned_abs n ≤ 2 ^ 20 * d → IsRatio x n (pos d) → IsSmall x
+pub is_small : (x : Frac) (n : ℤ) (d : ℕ) → 0 < d → unsigned_abs n ≤ 2 ^ 20 * d → IsRatio x n (pos d) → IsSmall x
 is_small x n d some small is =
     let b = unsigned_abs (denominator x) in
     let sizes : unsigned_abs (numerator x) * d ≡ unsigned_abs n * b =

@@ -15,6 +15,8 @@ pub mod LeastDenominator
 pub mod NumeratorBounds
 pub mod NumeratorReadings
 pub mod OneFunction
+pub mod BreakLines
+pub mod BreakPieces
 pub mod PointLists
 pub mod Refinements
 pub mod SameFunctions

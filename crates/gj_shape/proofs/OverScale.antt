@@ -31,13 +31,13 @@ over_scale scale x h =
     ap (λ z. numerator x *ℤ z) split ∙ sym (mul_assoc_z (numerator x) (pos (scale / d)) (denominator x))
 
 -- where a whole number over the scale is the fraction, the denominator divides the scale
-divides_from_over : (scale : ℕ) (x : Frac) (n : ℤ) → IsOver scale x n → Divides scale x
+pub divides_from_over : (scale : ℕ) (x : Frac) (n : ℤ) → IsOver scale x n → Divides scale x
 divides_from_over scale x n e =
     whole_multiple (numerator x) n (unsigned_abs (denominator x)) scale x.lowest.coprime
     (mul_comm_z (pos scale) (numerator x) ∙ e ∙ ap (λ z. n *ℤ z) (sym (denominator_is x)))
 
 -- and it is the numerator over the scale
-numerator_from_over : (scale : ℕ) (x : Frac) (n : ℤ) → IsOver scale x n → n ≡ numerator_over scale x
+pub numerator_from_over : (scale : ℕ) (x : Frac) (n : ℤ) → IsOver scale x n → n ≡ numerator_over scale x
 numerator_from_over scale x n e =
     let some = abs_positive_z (denominator x) x.lowest.positive in
     mul_cancel_right_z n (numerator_over scale x) (denominator x)

@@ -22,3 +22,4 @@ pub mod Perturbation
 pub mod RowCut
 pub mod Breaks
 pub mod KeptBreaks
+pub mod Valid

@@ -12,6 +12,7 @@ ghost use Rattle.gj_shape.specs.declared.breaks.BreakFault.TheVariants.{Memory};
 use crate::denominators::{small_denominator, with_point};
 use crate::faults::{FractionFault, ShapeFault};
 use crate::numerators::numerator_over;
+use crate::pieces::{place_of, push_piece, with_points};
 use crate::points::{Point, Points};
 use crate::shape::Shape;
 use gj_frac::{Frac, lcm};
@@ -215,6 +216,18 @@ impl Shape {
         ensures value { IfOk result (λ f. HasBreaks f points.now) }
         ensures fault { IfErr result (IsTooFineOf (AreListsOfBreaks q points.now)) }
     {
-        unreachable!()
+        let first = points[0];
+        let last = points.len() - 1;
+        let mut grid = Vec::with_capacity(alloc, q as usize)?;
+        for i in 0..last {
+            let b = points[i];
+            let next = points[i + 1];
+            let steps = place_of(next.x, q) - place_of(b.x, q);
+            push_piece(&mut grid, b, next.left, steps)?;
+        }
+        let b = points[last];
+        let steps = q - place_of(b.x, q);
+        push_piece(&mut grid, b, first.left, steps)?;
+        with_points(alloc, q, k, grid.as_slice())
     }
 }

@@ -20,6 +20,7 @@ mod index;
 mod laws;
 mod list;
 mod numerators;
+mod pieces;
 mod points;
 mod refinement;
 mod shape;

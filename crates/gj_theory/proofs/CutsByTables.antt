@@ -1,4 +1,4 @@
--- A minimal table at the places of a row's entries: the cut from subadditivity.
+-- A valid table at the places of a row's entries: the cut from it.
 use Rattle.std.proofs.Common.{◌≡◌, ℕ, zero, suc, ◌+◌, ◌*◌, ◌%◌, ◌<◌, ◌≢◌, List, [], ◌∷◌, length, map, ℤ, pos, ◌+ℤ◌, ◌-ℤ◌, ◌*ℤ◌, ◌≤ℤ◌, unsigned_abs, refl, sym, ap, ap₂, ◌∙◌, arith}
 use Rattle.std.specs.List.{AllZip}
 use Rattle.std.specs.Int.{int_div_euclid}
@@ -11,19 +11,21 @@ use Rattle.gj_frac.specs.Floor.{IsFloor}
 use Rattle.gj_frac.specs.Fraction.{IsRatio, numerator, denominator}
 use Rattle.gj_frac.proofs.Floors.{quotient_is_floor}
 use Rattle.gj_tools.proofs.Divisors.{cofactor}
-use Rattle.gj_tools.proofs.Integers.{add_mul_z, mul_add_z, sub_mul_z, mul_cancel_right_z, mul_le_cancel_right_z, mul_le_mul_right_z, positive_some_z}
-use Rattle.gj_tools.proofs.Quotients.{same_at_remainder}
+use Rattle.gj_tools.proofs.Integers.{add_mul_z, sub_mul_z, mul_cancel_right_z, mul_le_cancel_right_z, mul_le_mul_right_z, positive_some_z}
 use Rattle.gj_tools.proofs.Ratios.{ratio_along}
 use Rattle.gj_tools.proofs.Ring.{by_ring, ring}
 use Rattle.gj_shape.specs.Given.{IsCommonDenominator, numerator_over}
 use Rattle.gj_shape.specs.RowCut.{IsLeastCommonDenominator, CutHolds}
 use Rattle.gj_shape.specs.SlopeRows.{sum_of_products}
 use Rattle.gj_shape.specs.Table.{IsMinimalTable}
+use Rattle.gj_shape.specs.Valid.{IsValidTable}
 use Rattle.gj_shape.specs.Values.{IsCongruent}
 use Rattle.gj_shape.proofs.LeastDenominator.{Divides, denominator_some}
 use Rattle.gj_shape.proofs.OverScale.{all_over}
 use Rattle.gj_shape.proofs.ValueLemmas.{congruent_rests}
 use Rattle.gj_theory.specs.Cuts.{HasFractionalPart, IsEntryAt}
+use Rattle.gj_theory.proofs.ValidTables.{minimal_is_valid}
+use Rattle.gj_theory.proofs.Weights.{HasList, with_copies}
 
 -- ---- common denominators
 
@@ -67,25 +69,13 @@ numerator_at x c a n h is =
 
 -- ---- a table at the places of the entries
 
--- at u times a place a subadditive table has at most u times its entry
-at_multiple : (t : ℕ → ℤ) (i u : ℕ) → t 0 ≡ pos 0 → ((i j : ℕ) → t (i + j) ≤ℤ (t i +ℤ t j)) → t (i * u) ≤ℤ (t i *ℤ pos u)
-at_multiple t i zero none below =
-    let e : t (i * 0) ≡ pos 0 = ap t (omega arith) ∙ none in
-    omega (arith, ints)
-at_multiple t i (suc u) none below =
-    let before = at_multiple t i u none below in
-    let step = below (i * u) i in
-    let e : t (i * suc u) ≡ t (i * u + i) = ap t (omega arith) in
-    let split = mul_add_z (t i) (pos u) (pos 1) in
-    omega (arith, ints)
-
--- sums over the entries of a row, each times its variable, with denominators c and g
+-- sums over the entries of a row, each times its variable, with denominators c and g, by a list of their places
 record Sums (t : ℕ → ℤ) (n s c g : ℕ) (entries coefficients : List Frac) (others : List ℕ) : Type 0 where
   places : ℤ
   index : ℕ
   values : ℤ
+  list : HasList t index values
   index_is : IsCongruent (pos index) places n
-  below : t index ≤ℤ values
   places_are : sum_of_products (map (numerator_over c) entries) (map pos others) *ℤ pos n ≡ places *ℤ pos c
   values_are : sum_of_products (map (numerator_over g) coefficients) (map pos others) *ℤ pos s ≡ values *ℤ pos g
 
@@ -106,25 +96,20 @@ next_index : (i u j : ℕ) → pos (i * u + j) ≡ pos i *ℤ pos u +ℤ pos j
 next_index i u j = by_ring (pos i ∷ pos u ∷ pos j ∷ []) (search ring depth 30) refl
 
 with_entry : (t : ℕ → ℤ) (n s c g : ℕ) (x y : Frac) (u : ℕ) (xs ys : List Frac) (us : List ℕ) →
-    t 0 ≡ pos 0 → ((i j : ℕ) → t (i + j) ≤ℤ (t i +ℤ t j)) → Divides c x → Divides g y →
-    IsEntryAt t n s x y → Sums t n s c g xs ys us → Sums t n s c g (x ∷ xs) (y ∷ ys) (u ∷ us)
-with_entry t n s c g x y u xs ys us none below x_divides y_divides e r =
+    Divides c x → Divides g y → IsEntryAt t n s x y → Sums t n s c g xs ys us → Sums t n s c g (x ∷ xs) (y ∷ ys) (u ∷ us)
+with_entry t n s c g x y u xs ys us x_divides y_divides e r =
     let k = e.index_is.0 in
     let l = r.index_is.0 in
     record {
       places = e.place *ℤ pos u +ℤ r.places;
       index = e.index * u + r.index;
       values = t e.index *ℤ pos u +ℤ r.values;
+      list = with_copies t e.index u r.index r.values r.list;
       index_is = (
         k *ℤ pos u +ℤ l,
         next_index e.index u r.index ∙ ap₂ (λ a b. a *ℤ pos u +ℤ b) e.index_is.1 r.index_is.1
             ∙ congruent_longer e.place k (pos n) r.places l (pos u),
       );
-      below =
-          let first = below (e.index * u) r.index in
-          let second = at_multiple t e.index u none below in
-          let third = r.below in
-          omega (arith, ints);
       places_are = longer (numerator_over c x) (pos u) (sum_of_products (map (numerator_over c) xs) (map pos us)) (pos n) e.place
           r.places (pos c) (numerator_at x c e.place (pos n) x_divides e.place_is) r.places_are;
       values_are = longer (numerator_over g y) (pos u) (sum_of_products (map (numerator_over g) ys) (map pos us)) (pos s) (t e.index)
@@ -132,25 +117,24 @@ with_entry t n s c g x y u xs ys us none below x_divides y_divides e r =
     }
 
 sums : (t : ℕ → ℤ) (n s c g : ℕ) (xs ys : List Frac) (us : List ℕ) →
-    t 0 ≡ pos 0 → ((i j : ℕ) → t (i + j) ≤ℤ (t i +ℤ t j)) → length us ≡ length xs →
-    AllZip (IsEntryAt t n s) xs ys → IsCommonDenominator xs c → IsCommonDenominator ys g → Sums t n s c g xs ys us
-sums t n s c g [] [] [] none below count h xs_over ys_over = record {
+    length us ≡ length xs → AllZip (IsEntryAt t n s) xs ys → IsCommonDenominator xs c → IsCommonDenominator ys g → Sums t n s c g xs ys us
+sums t n s c g [] [] [] count h xs_over ys_over = record {
   places = pos 0;
   index = 0;
   values = pos 0;
+  list = ([], refl, refl);
   index_is = (pos 0, omega (arith, ints));
-  below = omega (arith, ints, none);
   places_are = omega (arith, ints);
   values_are = omega (arith, ints);
 }
-sums t n s c g [] [] (u ∷ us) none below count h xs_over ys_over = (cc)
-sums t n s c g [] (y ∷ ys) us none below count h xs_over ys_over = absurd h
-sums t n s c g (x ∷ xs) [] us none below count h xs_over ys_over = absurd h
-sums t n s c g (x ∷ xs) (y ∷ ys) [] none below count h xs_over ys_over = (cc)
-sums t n s c g (x ∷ xs) (y ∷ ys) (u ∷ us) none below count h xs_over ys_over =
-    with_entry t n s c g x y u xs ys us none below
+sums t n s c g [] [] (u ∷ us) count h xs_over ys_over = (cc)
+sums t n s c g [] (y ∷ ys) us count h xs_over ys_over = absurd h
+sums t n s c g (x ∷ xs) [] us count h xs_over ys_over = absurd h
+sums t n s c g (x ∷ xs) (y ∷ ys) [] count h xs_over ys_over = (cc)
+sums t n s c g (x ∷ xs) (y ∷ ys) (u ∷ us) count h xs_over ys_over =
+    with_entry t n s c g x y u xs ys us
     (All-head (Divides c) x xs xs_over) (All-head (Divides g) y ys ys_over) h.0
-    (sums t n s c g xs ys us none below (omega arith) h.1 (All-tail (Divides c) x xs xs_over) (All-tail (Divides g) y ys ys_over))
+    (sums t n s c g xs ys us (omega arith) h.1 (All-tail (Divides c) x xs xs_over) (All-tail (Divides g) y ys ys_over))
 
 -- ---- the place of the sum
 
@@ -180,15 +164,15 @@ place_of_sum c b s n p w k some whole sum =
 
 -- ---- the cut
 
-pub cut_by_table : (t : ℕ → ℤ) (n k s : ℕ) (entries : List Frac) (right : Frac) (coefficients : List Frac) →
-    IsMinimalTable t n k s → 0 < n → 0 < s → HasFractionalPart right (pos k) (pos n) →
+pub cut_by_valid : (t : ℕ → ℤ) (n k s : ℕ) (entries : List Frac) (right : Frac) (coefficients : List Frac) →
+    IsValidTable t n k s → 0 < n → 0 < s → HasFractionalPart right (pos k) (pos n) →
     AllZip (IsEntryAt t n s) entries coefficients → CutHolds entries right coefficients
-cut_by_table t n k s entries right coefficients minimal n_some s_some part h basic others g solution least =
+cut_by_valid t n k s entries right coefficients valid n_some s_some part h basic others g solution least =
     let c = solution.c in
     let c_some : 0 < c = least_some (right ∷ entries) c solution.least in
     let right_over = All-head (Divides c) right entries solution.least.common in
     let entries_over = All-tail (Divides c) right entries solution.least.common in
-    let r = sums t n s c g entries coefficients others minimal.zero_at_zero minimal.subadditive solution.count h entries_over least.common in
+    let r = sums t n s c g entries coefficients others solution.count h entries_over least.common in
     let w = int_div_euclid right.num right.den in
     let right_is = whole_and_part right (pos k) (pos n) w (quotient_is_floor right) part in
     let whole = ap (λ z. z *ℤ pos n) solution.solves ∙ numerator_at right c (w *ℤ pos n +ℤ pos k) (pos n) right_over right_is in
@@ -196,11 +180,14 @@ cut_by_table t n k s entries right coefficients minimal n_some s_some part h bas
     let joined = add_mul_z (w -ℤ basic) r.index_is.0 (pos n) in
     let rests : r.index % n ≡ k % n = congruent_rests r.index k n
     (w -ℤ basic +ℤ r.index_is.0, r.index_is.1 ∙ ap (λ z. z +ℤ r.index_is.0 *ℤ pos n) place ∙ omega (arith, ints)) in
-    let same : t r.index ≡ t k = same_at_remainder t n minimal.has_period r.index k rests in
-    let peak : t k +ℤ t 0 ≡ pos s = minimal.symmetric k 0 (ap (λ i. i % n) (omega arith)) in
-    let none = minimal.zero_at_zero in
-    let high = r.below in
+    let (uses, sum_is, weight_is) = r.list in
+    let least_weight = valid.at_solutions uses (ap (λ i. i % n) sum_is ∙ rests) in
     let reached : pos s ≤ℤ r.values = omega (arith, ints) in
     let scaled : (pos s *ℤ pos g) ≤ℤ (r.values *ℤ pos g) = mul_le_mul_right_z (pos s) r.values (pos g) (omega (arith, ints)) reached in
     let sum = r.values_are in
     mul_le_cancel_right_z (pos g) _ (pos s) (omega (arith, ints)) (omega (arith, ints))
+
+pub cut_by_table : (t : ℕ → ℤ) (n k s : ℕ) (entries : List Frac) (right : Frac) (coefficients : List Frac) →
+    IsMinimalTable t n k s → 0 < n → 0 < s → HasFractionalPart right (pos k) (pos n) →
+    AllZip (IsEntryAt t n s) entries coefficients → CutHolds entries right coefficients
+cut_by_table t n k s entries right coefficients minimal = cut_by_valid t n k s entries right coefficients (minimal_is_valid t n k s minimal)

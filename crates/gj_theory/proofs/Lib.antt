@@ -48,3 +48,7 @@ pub mod DividedRows
 pub mod CombinedRows
 pub mod ReducedRows
 pub mod RiseCounts
+pub mod Weights
+pub mod ValidTables
+pub mod CountedSolutions
+pub mod SameVerdicts

@@ -199,7 +199,7 @@ multiple_on f x n d c point =
     )
 
 -- some grid holds the points of a violation that is shown
-some_grid : (f : FunctionData) (v : Violation) → ShowsViolation f v → (m : ℕ) × (0 < m) × HoldsPoints f m v
+pub some_grid : (f : FunctionData) (v : Violation) → ShowsViolation f v → (m : ℕ) × (0 < m) × HoldsPoints f m v
 some_grid f violation.Zero s = (1, lit< tt, tt)
 some_grid f (violation.Negative x) (n, d, s) =
     (d * 1, omega (arith, s.point.positive), multiple_on f x n d 1 s.point)

@@ -2,6 +2,7 @@
 ghost use Rattle.std.specs.Prelude.{ℕ, ℤ, ◌≡◌, ◌*◌, ◌<◌, ◌↔◌};
 ghost use Rattle.gj_shape.specs.Extreme.{IsExtremeTable, IsExtreme};
 ghost use Rattle.gj_shape.specs.FunctionData.{FunctionData, IsWithinBounds, IsContinuous};
+ghost use Rattle.gj_shape.specs.Refinement.{IsRefinement};
 ghost use Rattle.gj_shape.specs.Table.{table, IsMinimalTable, IsMinimalOnGrid, IsMinimal};
 ghost use Rattle.gj_theory.specs.Filling.{filling};
 ghost use Rattle.gj_theory.specs.Halves.{AreDifferentHalves};
@@ -36,4 +37,13 @@ pub fn any_grid_suffices()
 pub fn order_4q_decides()
     ensures { (f : FunctionData) → IsWithinBounds f → IsContinuous f →
         IsExtreme f ↔ IsExtremeTable (table f 4) (f.order * 4) (f.place * 4) (f.scale * 4) }
+{}
+
+/// A function and its refinement have the same verdicts: both are minimal or neither is, and for a continuous function both are
+/// extreme or neither is.
+pub fn refinements_have_same_verdicts()
+    ensures minimal { (f g : FunctionData) (times : ℕ) → IsWithinBounds f → IsWithinBounds g → IsRefinement f times g →
+        IsMinimal f ↔ IsMinimal g }
+    ensures extreme { (f g : FunctionData) (times : ℕ) → IsWithinBounds f → IsWithinBounds g → IsContinuous f →
+        IsRefinement f times g → IsExtreme f ↔ IsExtreme g }
 {}
