@@ -23,3 +23,4 @@ pub mod RowCut
 pub mod Breaks
 pub mod KeptBreaks
 pub mod Valid
+pub mod Residues
