@@ -24,3 +24,4 @@ pub mod Breaks
 pub mod KeptBreaks
 pub mod Valid
 pub mod Residues
+pub mod TwoSlopes
