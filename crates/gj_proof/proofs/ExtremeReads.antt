@@ -206,9 +206,11 @@ no_end q F text rest small h is =
     (refl, strict_line text rest (codes "row") (codes "f" ∷ []) (row_name_is_plain q F small h) is)
     (λ e. cc)
 no_end q (Pair a b) text rest small h is =
-    other_line Strict text text (row_words (Pair a b)) end_words rest
-    (refl, strict_line text rest (codes "row") (decimal a ∷ decimal b ∷ []) (row_name_is_plain q (Pair a b) small h)
-    (is ∙ ap (λ u. u ++ rest) (sym (bytes_of_row_name (Pair a b))))) (λ e. cc)
+    other_line Strict text text (row_words (Pair a b)) end_words rest (
+      refl,
+      strict_line text rest (codes "row") (decimal a ∷ decimal b ∷ []) (row_name_is_plain q (Pair a b) small h)
+          (is ∙ ap (λ u. u ++ rest) (sym (bytes_of_row_name (Pair a b)))),
+    ) (λ e. cc)
 
 group_parts : (row : PivotRow) (rest : List ℕ) →
     group_text row ++ rest ≡ group_line row.name ++ (flat_map reduction_line row.reduce ++ (pivot_line row.pivot ++ rest))

@@ -17,8 +17,8 @@ use crate::cut::{CutLine, CutRule, CutTerm, SkipReason};
 use crate::fields::{number_of, three_fields_of};
 use gj_frac::Frac;
 use gj_lex::{
-    Name, NameFault, PartFault, Reason, Spelling, begins_with_line, begins_with_word, line_at, two_fields_of,
-    words_at,
+    Name, NameFault, PartFault, Reason, Spelling, begins_with_line, begins_with_word, line_at,
+    two_fields_of, words_at,
 };
 use gj_lines::function_at;
 use gj_shape::List;

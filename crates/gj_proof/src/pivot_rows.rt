@@ -12,7 +12,8 @@ ghost use Rattle.gj_proof.specs.ProofGrammar.{row_words, BreaksRowName, row_name
 use crate::fields::count_below;
 use crate::pivot::PivotRow;
 use gj_lex::{
-    PartFault, Reason, Spelling, begins_with_line, begins_with_word, field_of, has_words, line_at, two_fields_of,
+    PartFault, Reason, Spelling, begins_with_line, begins_with_word, field_of, has_words, line_at,
+    two_fields_of,
 };
 use gj_shape::{List, RowName};
 use std::alloc::Global;

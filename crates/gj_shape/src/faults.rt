@@ -34,6 +34,7 @@ impl ShapeFault {
     /// The want of memory that the fault is: for lists that pass all tests.
     pub fn want_of_memory(self) -> AllocError
         requires { IsMemory self }
+        ensures { self ≡ Memory result }
     {
         match self {
             ShapeFault::Memory(error) => error,
