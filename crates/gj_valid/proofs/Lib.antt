@@ -1,0 +1,2 @@
+pub mod MinimalBelow
+pub mod LowerCuts
