@@ -1,5 +1,5 @@
 -- How the lines that were read make a function text, and a fault of theirs one of the text.
-use Rattle.std.proofs.Common.{◌≡◌, inl, inr, ℕ, List, ◌∷◌, codes, refl, sym, subst, ◌∙◌}
+use Rattle.std.proofs.Common.{◌≡◌, ◌⊎◌, inl, inr, ℕ, List, ◌∷◌, codes, refl, sym, subst, ◌∙◌}
 use Rattle.gj_lex.specs.declared.fault.PartFault.{PartFault}
 use Rattle.gj_lex.specs.declared.spelling.Spelling.TheVariants.{Lenient}
 use Rattle.gj_lex.specs.Parts.{words_rule, Part, line_part, empty_part, then_part, ReadsInTurn, BeginsWithWord, IsFaultOf}
@@ -57,7 +57,7 @@ body_is_within text f rest (inl (is, (start, words, line, (w, line_is, (family, 
 body_is_within text f rest (inr (not, h)) = within_bounds Lenient text f rest h
 
 points_are_within : (text : List ℕ) (f : FunctionData) (rest : List ℕ) → points_text.Reads text f rest → IsWithinBounds f
-points_are_within text f rest (t, m, title, (g, n, lines, (t', r, last, (same, at)))) =
+points_are_within text f rest (t, m, title, (g, n, lines, (t', r, end, (same, at)))) =
     subst IsWithinBounds (sym same) (body_is_within m g n lines)
 
 -- or breakpoints
@@ -66,11 +66,11 @@ in_turn_within : (f : FunctionData) (rest : List ℕ) (s : BreakList) (text : Li
 in_turn_within f rest s text (last _ _ (inl (ends, (g, (start, words, line, (is, (k, place, (points, grid, given)))), same)))) =
     subst IsWithinBounds (sym (right_is f g same)) given.within
   where
-    right_is : (f g : FunctionData) → inr {A = BreakList} f ≡ inr g → f ≡ g
+    right_is : (f g : FunctionData) → ◌≡◌ {A = BreakList ⊎ FunctionData} (inr f) (inr g) → f ≡ g
     right_is f g e = cc
 in_turn_within f rest s text (last _ _ (inr (not, (t, reads, same)))) = absurd (apart t f same)
   where
-    apart : (t : BreakList) (f : FunctionData) → inr f ≡ inl t → ⊥
+    apart : (t : BreakList) (f : FunctionData) → ◌≡◌ {A = BreakList ⊎ FunctionData} (inr f) (inl t) → ⊥
     apart t f e = cc
 in_turn_within f rest s text (onward _ _ next middle reads more) = in_turn_within f rest next middle more
 

@@ -4,6 +4,8 @@ pub mod FunctionTexts
 pub mod OneText
 pub mod Canonical
 pub mod OneCanonical
+pub mod LinesOfBreaks
 pub mod LinesOfFunction
 pub mod RuleTexts
 pub mod ExactBreaks
+pub mod BreaksRead

@@ -1,11 +1,13 @@
 -- A function text has the lines of its function, and a text that has them is one.
-use Rattle.std.proofs.Common.{◌≡◌, ◌⊎◌, ⊎_elim, inl, inr, codes, ℕ, zero, suc, pos, List, [], ◌∷◌, ◌++◌, length, map, refl, sym, ap, subst, subst₂, ◌∙◌, append-nil, append_assoc}
+use Rattle.std.proofs.Common.{◌≡◌, ◌⊎◌, ⊎_elim, inl, inr, codes, ℕ, zero, suc, pos, List, [], ◌∷◌, ◌++◌, length, map, refl, sym, ap, subst, subst₂, ◌∙◌, append-nil, append_assoc, arith}
 use Rattle.std.specs.List.{AllZip}
 use Rattle.std.proofs.lemmas.Grind.{flat_map-append}
 use Rattle.gj_frac.specs.Fraction.{IsRatio}
 use Rattle.gj_lex.specs.SpelledNumbers.{IsCountWord}
+use Rattle.gj_lex.specs.Parts.{BeginsWithLine, BeginsWithWord}
 use Rattle.gj_lex.specs.TextLines.{HasLines, HasNextLine}
 use Rattle.gj_lex.specs.declared.spelling.Spelling.TheVariants.{Lenient}
+use Rattle.gj_lex.proofs.WhereLaws.{other_line, begins_so}
 use Rattle.gj_shape.specs.FunctionData.{FunctionData}
 use Rattle.gj_shape.specs.Given.{AreWithinBounds}
 use Rattle.gj_shape.specs.Points.{fractions_of, all_fractions, ArePointsOf}
@@ -13,10 +15,11 @@ use Rattle.gj_shape.specs.declared.points.Point.{Point}
 use Rattle.gj_shape.proofs.GivenPoints.{given_by_points, points_given, good_points, count_of_points}
 use Rattle.gj_shape.proofs.LeastDenominator.{within_bounds_closed}
 use Rattle.gj_lines.specs.FunctionGrammar.{SpellPoint, ArePointWords, order_words, place_words, point_words, points_part, function_part}
-use Rattle.gj_ftext.specs.FunctionText.{title_words, end_words, IsFunctionText}
-use Rattle.gj_ftext.specs.ByFirstWord.{BeginsWith}
+use Rattle.gj_ftext.specs.BreaksText.{end_words}
+use Rattle.gj_ftext.specs.FunctionText.{title_words, breaks_title_words, points_text, IsFunctionText}
 use Rattle.gj_ftext.specs.FamilyLine.{FamilyWords, gmic_words, half_words, two_slope_words, words_of_line}
-use Rattle.gj_ftext.specs.LinesOfFunction.{HasLinesOfFunction, HasLinesOfFamily}
+use Rattle.gj_ftext.specs.LinesOfFunction.{HasLinesOfFunction, HasLinesOfFamily, HasLinesOfBreaks}
+use Rattle.gj_ftext.proofs.LinesOfBreaks.{breaks_have_lines, lines_are_breaks}
 use Rattle.gj_ftext.proofs.FunctionTexts.{no_family_line}
 
 -- ---- lines, one after the other
@@ -96,9 +99,9 @@ points_from_lines (ws ∷ fractions) (p ∷ added) before text rest (spelled, mo
 
 -- ---- the whole text
 
-pub text_has_lines : (text : List ℕ) (f : FunctionData) (rest : List ℕ) → IsFunctionText text f rest →
+points_text_has_lines : (text : List ℕ) (f : FunctionData) (rest : List ℕ) → points_text.Reads text f rest →
     HasLinesOfFunction text f rest ⊎ HasLinesOfFamily text f rest
-text_has_lines text f rest (
+points_text_has_lines text f rest (
   t,
   m,
   (s, ws, title, title_is),
@@ -121,7 +124,7 @@ text_has_lines text f rest (
       );
     } in
     inr (subst (λ (h : FunctionData). HasLinesOfFamily text h rest) (sym same) found)
-text_has_lines text f rest (
+points_text_has_lines text f rest (
   t,
   m,
   (s, ws, title, title_is),
@@ -194,6 +197,22 @@ text_has_lines text f rest (
     } in
     inl (subst (λ (h : FunctionData). HasLinesOfFunction text h rest) (sym same) found)
 
+pub text_has_lines : (text : List ℕ) (f : FunctionData) (rest : List ℕ) → IsFunctionText text f rest →
+    HasLinesOfFunction text f rest ⊎ HasLinesOfFamily text f rest ⊎ HasLinesOfBreaks text f rest
+text_has_lines text f rest (inl (begins, h)) = inr (inr (breaks_have_lines text f rest h))
+text_has_lines text f rest (inr (not, h)) = ⊎_elim (λ lines. inl lines) (λ lines. inr (inl lines)) (points_text_has_lines text f rest h)
+
+-- the title of text 1 is not that of text 2
+second_bytes : (word : List ℕ) (a b : ℕ) → word ∷ (a ∷ []) ∷ [] ≡ word ∷ (b ∷ []) ∷ [] → a ≡ b
+second_bytes word a b e = cc
+
+one_title : title_words ≡ breaks_title_words → ⊥
+one_title e = let bytes = second_bytes _ _ _ e in omega arith
+
+-- so a text with the one as its first line does not begin with the other
+no_breaks_title : (text start rest : List ℕ) → HasNextLine start title_words rest text → BeginsWithLine Lenient breaks_title_words text → ⊥
+no_breaks_title text start rest line begins = other_line Lenient text start title_words breaks_title_words rest line one_title begins
+
 function_lines_are_text : (text : List ℕ) (f : FunctionData) (rest : List ℕ) → HasLinesOfFunction text f rest → IsFunctionText text f rest
 function_lines_are_text text f rest h =
     let are = h.are_lines in
@@ -218,39 +237,54 @@ function_lines_are_text text f rest h =
         ),
         (are.points, points_read, given_by_points are.points f within are.points_are),
       ),
-    ) in (
-      tt,
-      m,
-      (s, title_words, title, refl),
+    ) in
+    inr (
+      no_breaks_title text s m title,
       (
-        f,
-        n,
-        inr (no_family_line m f n lines, lines),
-        (tt, r, (s3, end_words, last, refl), (refl, at)),
+        tt,
+        m,
+        (s, title_words, title, refl),
+        (
+          f,
+          n,
+          inr (no_family_line m f n lines, lines),
+          (tt, r, (s3, end_words, last, refl), (refl, at)),
+        ),
       ),
     )
 
 -- the words of a family begin with `family`
 family_begins : (text start rest : List ℕ) (words : FamilyWords) → HasNextLine start (words_of_line words) rest text →
-    BeginsWith Lenient (codes "family") text
-family_begins text start rest (gmic_words v) line = (start, _, rest, line)
-family_begins text start rest (half_words v) line = (start, _, rest, line)
-family_begins text start rest (two_slope_words v w) line = (start, _, rest, line)
+    BeginsWithWord Lenient (codes "family") text
+family_begins text start rest (gmic_words v) line = (_, (start, rest, line))
+family_begins text start rest (half_words v) line = (_, (start, rest, line))
+family_begins text start rest (two_slope_words v w) line = (_, (start, rest, line))
 
 family_lines_are_text : (text : List ℕ) (f : FunctionData) (rest : List ℕ) → HasLinesOfFamily text f rest → IsFunctionText text f rest
 family_lines_are_text text f rest h =
-    let (s, m, title, (s1, n, line, (s3, r, last, at))) = h.has_lines in (
-      tt,
-      m,
-      (s, title_words, title, refl),
+    let (s, m, title, (s1, n, line, (s3, r, last, at))) = h.has_lines in
+    inr (
+      no_breaks_title text s m title,
       (
-        f,
-        n,
-        inl (family_begins m s1 n h.words line, (s1, words_of_line h.words, line, (h.words, refl, h.names))),
-        (tt, r, (s3, end_words, last, refl), (refl, at)),
+        tt,
+        m,
+        (s, title_words, title, refl),
+        (
+          f,
+          n,
+          inl (family_begins m s1 n h.words line, (s1, words_of_line h.words, line, (h.words, refl, h.names))),
+          (tt, r, (s3, end_words, last, refl), (refl, at)),
+        ),
       ),
     )
 
+breaks_lines_are_text : (text : List ℕ) (f : FunctionData) (rest : List ℕ) → HasLinesOfBreaks text f rest → IsFunctionText text f rest
+breaks_lines_are_text text f rest h =
+    let reads = lines_are_breaks text f rest h in
+    let (t, m, title, turns) = reads in
+    inl (begins_so Lenient text m breaks_title_words title, reads)
+
 pub lines_are_text : (text : List ℕ) (f : FunctionData) (rest : List ℕ) →
-    HasLinesOfFunction text f rest ⊎ HasLinesOfFamily text f rest → IsFunctionText text f rest
-lines_are_text text f rest h = ⊎_elim (function_lines_are_text text f rest) (family_lines_are_text text f rest) h
+    HasLinesOfFunction text f rest ⊎ HasLinesOfFamily text f rest ⊎ HasLinesOfBreaks text f rest → IsFunctionText text f rest
+lines_are_text text f rest h =
+    ⊎_elim (function_lines_are_text text f rest) (⊎_elim (family_lines_are_text text f rest) (breaks_lines_are_text text f rest)) h

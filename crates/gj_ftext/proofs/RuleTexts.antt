@@ -6,7 +6,7 @@ use Rattle.gj_lex.specs.declared.spelling.Spelling.TheVariants.{Lenient}
 use Rattle.gj_lex.specs.Parts.{words_rule, Part, line_part, empty_part, then_part, IsExactPart, IsFaultOf}
 use Rattle.gj_lex.proofs.PartLaws.{words_rule_is_exact, line_part_is_exact, framed_part_is_exact, fault_in_first, fault_in_next}
 use Rattle.gj_lex.proofs.LineNumbers as numbers
-use Rattle.gj_ftext.specs.FunctionText.{end_words}
+use Rattle.gj_ftext.specs.BreaksText.{end_words}
 use Rattle.gj_ftext.specs.RuleText.{rule_title_words, rule_name_words, rule_text, IsRuleText, IsFirstFaultOfRule}
 
 abbrev pub title_part : Part (Unit {0})

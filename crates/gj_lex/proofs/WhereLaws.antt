@@ -9,7 +9,7 @@ use Rattle.gj_lex.specs.declared.fault.PartFault.{PartFault}
 use Rattle.gj_lex.specs.declared.fault.PartFault.TheVariants.{Refused, Memory}
 use Rattle.gj_lex.specs.declared.spelling.Spelling.{Spelling}
 use Rattle.gj_lex.specs.declared.spelling.Spelling.TheVariants.{Lenient, Strict}
-use Rattle.gj_lex.specs.TextLines.{IsFirstLine, ended, unended, HasFirstWords, HasNextLine, here, further, HasLine}
+use Rattle.gj_lex.specs.TextLines.{IsFirstLine, ended, unended, HasNextLine, here, further, HasLine}
 use Rattle.gj_lex.specs.Parts.{LineRule, words_rule, line_part, Part, BeginsWithLine, BeginsWithWord, where_part, IsExactPart, IsFaultOf, IsRefusal, IsNoLine}
 use Rattle.gj_lex.proofs.PartLaws.{one_line, line_or_none}
 

@@ -24,10 +24,10 @@ use Rattle.gj_frac.proofs.SameValues.{one_place}
 order_word : (words : List (List ℕ)) (v w : List ℕ) → words ≡ order_words v → words ≡ order_words w → v ≡ w
 order_word words v w e d = let same : order_words v ≡ order_words w = sym e ∙ d in cc
 
-place_word : (words : List (List ℕ)) (v w : List ℕ) → words ≡ place_words v → words ≡ place_words w → v ≡ w
+pub place_word : (words : List (List ℕ)) (v w : List ℕ) → words ≡ place_words v → words ≡ place_words w → v ≡ w
 place_word words v w e d = let same : place_words v ≡ place_words w = sym e ∙ d in cc
 
-point_word : (words : List (List ℕ)) (vs ws : List (List ℕ)) → words ≡ point_words vs → words ≡ point_words ws → vs ≡ ws
+pub point_word : (words : List (List ℕ)) (vs ws : List (List ℕ)) → words ≡ point_words vs → words ≡ point_words ws → vs ≡ ws
 point_word words vs ws e d = let same : point_words vs ≡ point_words ws = sym e ∙ d in cc
 
 -- ---- the order
@@ -105,7 +105,7 @@ place_rule_is_exact s q = record {
 -- ---- a point
 
 -- words spell one point
-one_point : (s : Spelling) (words : List (List ℕ)) (p q : Point) → SpellPoint s words p → SpellPoint s words q → p ≡ q
+pub one_point : (s : Spelling) (words : List (List ℕ)) (p q : Point) → SpellPoint s words p → SpellPoint s words q → p ≡ q
 one_point s [] p q h k = absurd h
 one_point s (w ∷ []) p q h k =
     let value : p.value ≡ q.value = one_fraction s w p.value q.value h.0 k.0 in

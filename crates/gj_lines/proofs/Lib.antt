@@ -6,3 +6,4 @@ pub mod Places
 pub mod PointsRead
 pub mod StrictFunctions
 pub mod PointLines
+pub mod ExactBreaks

@@ -1,14 +1,14 @@
 -- Breakpoints one after another, and the functions that they tell: there is one at most.
-use Rattle.std.proofs.Common.{◌≡◌, ◌≢◌, ℕ, ◌+◌, ◌<◌, ℤ, pos, ◌*ℤ◌, ◌<ℤ◌, List, [], ◌∷◌, ◌++◌, length, map, get_or, unsigned_abs, refl, sym, ap, ap₂, subst, ◌∙◌, arith}
+use Rattle.std.proofs.Common.{◌≡◌, ◌≢◌, ℕ, ◌+◌, ◌<◌, pos, ◌*ℤ◌, ◌<ℤ◌, List, [], ◌∷◌, ◌++◌, length, map, get_or, unsigned_abs, refl, sym, ap, ap₂, subst, ◌∙◌, arith}
 use Rattle.std.proofs.lemmas.Int.{ints}
 use Rattle.std.proofs.lemmas.List.{map-append, same_lists}
 use Rattle.std.proofs.lemmas.Nat.Gcd.{dvd_antisymm}
 use Rattle.gj_frac.specs.declared.Frac.{Frac}
-use Rattle.gj_frac.specs.Fraction.{denominator, IsRatio}
+use Rattle.gj_frac.specs.Fraction.{denominator}
 use Rattle.gj_frac.proofs.SameValues.{same_from_is, one_place}
 use Rattle.gj_tools.proofs.Divisors.{lcm_positive}
 use Rattle.gj_tools.proofs.FirstThatFails.{first_failing_denies}
-use Rattle.gj_tools.proofs.Integers.{abs_positive_z, mul_cancel_right_z, mul_positive_z, positive_some_z}
+use Rattle.gj_tools.proofs.Integers.{mul_positive_z, positive_some_z}
 use Rattle.gj_shape.specs.FunctionData.{FunctionData}
 use Rattle.gj_shape.specs.Given.{in_order, AreWithinBounds, IsGivenBy, IsTooFine}
 use Rattle.gj_shape.specs.Points.{lefts, values, rights, all_fractions}

@@ -4,7 +4,6 @@ use Rattle.std.proofs.Math.Nat.{mul-pos, mul-le-mul_right}
 use Rattle.std.proofs.lemmas.Int.{ints, unsigned_abs-mul}
 use Rattle.std.proofs.lemmas.List.Elements.{All-head, All-tail}
 use Rattle.std.proofs.lemmas.Nat.Gcd.{le_of_dvd}
-use Rattle.std.specs.Int.{◌∣◌}
 use Rattle.gj_frac.specs.declared.Frac.{Frac}
 use Rattle.gj_frac.specs.Fraction.{SameValue, LessValue, IsRatio, fraction_of, numerator, denominator}
 use Rattle.gj_frac.proofs.SameValues.{is_along}
@@ -17,7 +16,7 @@ use Rattle.gj_shape.specs.Breaks.{on_line}
 use Rattle.gj_shape.specs.Given.{IsSmall, AreWithinBounds, numerator_over}
 use Rattle.gj_shape.proofs.GivenFractions.{is_small}
 use Rattle.gj_shape.proofs.LeastDenominator.{Divides, denominator_some}
-use Rattle.gj_shape.proofs.OverScale.{denominator_is, over_scale, divides_from_over, numerator_from_over}
+use Rattle.gj_shape.proofs.OverScale.{denominator_is, over_scale, divides_from_over}
 
 -- ---- a common denominator of two fractions
 
@@ -61,10 +60,10 @@ line_right_z c r n s ud wd un wn =
     by_ring (pos c ∷ pos r ∷ pos n ∷ pos s ∷ ud ∷ wd ∷ un ∷ wn ∷ []) (search ring depth 30) refl
 
 -- what the line from u to w has after r of n steps, over a common denominator
-pub on_line_over : (u w x : Frac) (s n r : ℕ) → IsScaleOf u w s → 0 < n →
+pub line_over_scale : (u w x : Frac) (s n r : ℕ) → IsScaleOf u w s → 0 < n →
     IsRatio x (pos (n - r) *ℤ numerator_over s u +ℤ pos r *ℤ numerator_over s w) (pos (s * n)) →
     SameValue (fraction_of x) (on_line u w n r)
-on_line_over u w x s n r scale n_some is =
+line_over_scale u w x s n r scale n_some is =
     let s_some = scale.low in
     let some : 0 < s * n = mul-pos s_some n_some in
     let a = over_scale s u scale.first in
@@ -122,14 +121,7 @@ IsPlaceOn q x = (p : ℕ) × (p < q) × IsRatio x (pos p) (pos q)
 pub place_divides : (q : ℕ) (x : Frac) → IsPlaceOn q x → Divides q x
 place_divides q x (p, below, is) = divides_from_over q x (pos p) is
 
-pub place_small : (q : ℕ) (x : Frac) → IsPlaceOn q x → IsSmall x
-place_small q x (p, below, is) = is_small x (pos p) q (omega arith) (let h : p ≤ 2 ^ 20 * q = omega arith in h) is
-
 -- p/q is p'/q only where p is p'
-pub same_place : (q : ℕ) (x : Frac) (m n : ℕ) → IsRatio x (pos m) (pos q) → IsRatio x (pos n) (pos q) → m ≡ n
-same_place q x m n a b =
-    ap unsigned_abs (numerator_from_over q x (pos m) a ∙ sym (numerator_from_over q x (pos n) b))
-
 pub less_pos : (m n : ℕ) → pos m <ℤ pos n → m < n
 less_pos m n h = omega (arith, ints)
 

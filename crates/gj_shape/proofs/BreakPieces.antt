@@ -1,5 +1,5 @@
 -- The points of the grid, laid breakpoint by breakpoint.
-use Rattle.std.proofs.Common.{◌≡◌, ◌≢◌, ℕ, zero, suc, ◌+◌, ◌-◌, ◌*◌, ◌<◌, ◌≤◌, ℤ, pos, ◌*ℤ◌, ◌<ℤ◌, List, [], ◌∷◌, ◌++◌, length, map, flat_map, take, drop, get_or, All, unsigned_abs, refl, sym, ap, ap₂, subst, ◌∙◌, append_assoc, below_more, arith}
+use Rattle.std.proofs.Common.{◌≡◌, ℕ, zero, suc, ◌+◌, ◌-◌, ◌<◌, ◌≤◌, ℤ, pos, ◌*ℤ◌, ◌<ℤ◌, List, [], ◌∷◌, ◌++◌, length, map, take, drop, get_or, All, refl, sym, ap, subst, ◌∙◌, append_assoc, below_more, arith}
 use Rattle.std.proofs.Math.Seq.{get_or-append_seam}
 use Rattle.std.proofs.lemmas.Int.{ints}
 use Rattle.std.proofs.lemmas.List.{length_push, length-append, length-map, map-append, get_or_append_left, take_more, drop_more, take-append-drop, drop_all, get_or_default, get_or-map}
@@ -9,16 +9,17 @@ use Rattle.gj_frac.specs.Fraction.{SameValue, LessValue, IsRatio, fraction_of, n
 use Rattle.gj_tools.proofs.Integers.{mul_comm_z}
 use Rattle.gj_tools.proofs.Lists.{All-two}
 use Rattle.gj_tools.proofs.Ratios.{ratio_less}
+use Rattle.gj_frac.proofs.SameValues.{one_place}
 use Rattle.gj_shape.specs.Breaks.{point_at, points_at, even, on_line, IsPiece, AreLaid, AreGridPoints, AreAscending, AreOnGrid, AreListsOfBreaks}
 use Rattle.gj_shape.specs.Breaks.AreLaid.{last, onward}
 use Rattle.gj_shape.specs.Given.{IsSmall, AreWithinBounds, IsOrder, IsPlace, HaveLength, HasFault, IsTooFineOf}
-use Rattle.gj_shape.specs.Points.{lefts, values, rights, all_fractions, fractions_of}
+use Rattle.gj_shape.specs.Points.{lefts, values, rights, all_fractions}
 use Rattle.gj_shape.specs.declared.points.Point.{Point}
 use Rattle.gj_shape.specs.declared.breaks.Break.{Break}
 use Rattle.gj_shape.specs.declared.faults.ShapeFault.{ShapeFault}
-use Rattle.gj_shape.proofs.BreakLines.{IsPlaceOn, on_line_small, same_place, less_pos, less_places}
+use Rattle.gj_shape.proofs.BreakLines.{IsPlaceOn, on_line_small, less_pos, less_places}
 use Rattle.gj_shape.proofs.GivenFractions.{too_fine_of}
-use Rattle.gj_shape.proofs.LeastDenominator.{Divides, denominator_some}
+use Rattle.gj_shape.proofs.LeastDenominator.{Divides}
 
 -- ---- one piece
 
@@ -29,11 +30,7 @@ pub record IsPieceSoFar (front : List Point) (b : Break) (w : Frac) (n i : ℕ) 
   pub on : (j : ℕ) (x : Frac) → j < length between → SameValue (fraction_of (get_or between j x)) (on_line b.right w n (j + 1))
   pub items_are : items ≡ front ++ point_at b ∷ map even between
 
--- the point of b alone
-pub piece_start : (front : List Point) (b : Break) (w : Frac) (n : ℕ) → IsPieceSoFar front b w n 1 (front ++ point_at b ∷ [])
-piece_start front b w n = record { between = []; count = refl; on = λ j x h. absurd (omega arith); items_are = refl }
-
--- and one more
+-- one more point of the line
 pub piece_more : (front : List Point) (b : Break) (w : Frac) (n i : ℕ) (items : List Point) (x : Frac) →
     IsPieceSoFar front b w n i items → SameValue (fraction_of x) (on_line b.right w n i) →
     IsPieceSoFar front b w n (i + 1) (items ++ even x ∷ [])
@@ -54,12 +51,6 @@ piece_more front b w n i items x h is =
       items_are = ap (λ ps. ps ++ even x ∷ []) h.items_are ∙ append_assoc front (point_at b ∷ map even xs) (even x ∷ [])
           ∙ ap (λ ps. front ++ point_at b ∷ ps) (sym (map-append even xs (x ∷ [])));
     }
-
--- the whole piece
-pub piece_done : (front : List Point) (b : Break) (w : Frac) (n i : ℕ) (items : List Point) → i ≡ n →
-    IsPieceSoFar front b w n i items → (more : List Point) × IsPiece b w n more × (items ≡ front ++ more)
-piece_done front b w n i items e h =
-    (point_at b ∷ map even h.between, record { between = h.between; count = h.count ∙ e; on = h.on; points_are = refl }, h.items_are)
 
 -- a piece has as many points as steps
 pub piece_length : (b : Break) (w : Frac) (n : ℕ) (points : List Point) → IsPiece b w n points → length points ≡ n
@@ -125,11 +116,11 @@ StartsAt q p (b ∷ more) = IsRatio b.x (pos p) (pos q)
 laid_length : (q : ℕ) (w : Frac) (breaks : List Break) (points : List Point) (p : ℕ) → StartsAt q p breaks →
     AreLaid q w breaks points → length points + p ≡ q
 laid_length q w _ _ p at (last b m n points r e piece) =
-    let same : p ≡ m = same_place q b.x p m at r in
+    let same : p ≡ m = one_place b.x q p m at r in
     let long = piece_length b w n points piece in
     omega arith
 laid_length q w _ _ p at (onward b c more m n points rest r s piece laid) =
-    let same : p ≡ m = same_place q b.x p m at r in
+    let same : p ≡ m = one_place b.x q p m at r in
     let long = piece_length b c.left n points piece in
     let tail = laid_length q w (c ∷ more) rest (m + n) s laid in
     let both = length-append points rest in
@@ -167,8 +158,13 @@ ends_within breaks i j b c within at next =
     record {
       small = All-two IsSmall b.right c.left (holds_at IsSmall breaks i b within.small at).right
           (holds_at IsSmall breaks j c within.small next).left;
-      common = (d, low, high, All-two (Divides d) b.right c.left (holds_at (Divides d) breaks i b all at).right
-          (holds_at (Divides d) breaks j c all next).left);
+      common = (
+        d,
+        low,
+        high,
+        All-two (Divides d) b.right c.left (holds_at (Divides d) breaks i b all at).right
+            (holds_at (Divides d) breaks j c all next).left,
+      );
     }
 
 -- the next is greater
@@ -216,7 +212,7 @@ pub place_below : (q : ℕ) (breaks : List Break) (i : ℕ) (b : Break) (m : ℕ
     IsBreakAt breaks i b → IsRatio b.x (pos m) (pos q) → m < q
 place_below q breaks i b m some ascending on at r =
     let (p, below, is) = place_on q breaks i b some ascending on at in
-    let e : m ≡ p = same_place q b.x m p r is in
+    let e : m ≡ p = one_place b.x q m p r is in
     omega arith
 
 -- and the places ascend

@@ -1,11 +1,9 @@
 -- The function that the points of a grid give has the breakpoints from which they come.
 use Rattle.std.proofs.Common.{◌≡◌, ℕ, zero, suc, ◌+◌, ◌<◌, ◌⊎◌, ⊎_elim, ℤ, pos, List, [], ◌∷◌, ◌++◌, length, map, drop, get_or, refl, sym, ap, subst, subst₂, ◌∙◌, append_assoc, length-append, get_or-append-add, arith}
 use Rattle.std.specs.List.{AllZip}
-use Rattle.std.proofs.lemmas.Int.{ints}
 use Rattle.std.proofs.lemmas.List.{length-map, get_or-map, get_or_append_left}
 use Rattle.gj_frac.specs.declared.Frac.{Frac}
 use Rattle.gj_frac.specs.Fraction.{SameValue, fraction_of, IsRatio}
-use Rattle.gj_tools.proofs.Integers.{mul_cancel_right_z, abs_positive_z}
 use Rattle.gj_frac.proofs.SameValues.{one_place}
 use Rattle.gj_shape.specs.FunctionData.{FunctionData, IsWithinBounds, at}
 use Rattle.gj_shape.specs.Given.{IsGivenBy, numerator_over}
@@ -14,6 +12,7 @@ use Rattle.gj_shape.specs.Breaks.{point_at, on_line, IsAffineBetween, HasBreaks,
 use Rattle.gj_shape.specs.declared.points.Point.{Point}
 use Rattle.gj_shape.specs.declared.breaks.Break.{Break}
 use Rattle.gj_shape.proofs.AtLemmas.{at_below}
+use Rattle.gj_shape.proofs.BreakPieces.{piece_length}
 use Rattle.gj_shape.proofs.GivenPoints.{points_given}
 use Rattle.gj_shape.proofs.TableLemmas.{at_plus_order}
 use Rattle.gj_shape.proofs.Segments.{IsOnLine, on_line_over, line_first, line_last, IsSegment, affine_on_segment}
@@ -64,13 +63,6 @@ stand_in_order q k points f given = record { long = count; stand = stands }
         }
 
 -- ---- the points that are laid
-
-piece_length : (b : Break) (w : Frac) (n : ℕ) (points : List Point) → IsPiece b w n points → length points ≡ n
-piece_length b w n points piece =
-    let count = piece.count in
-    let all = ap length piece.points_are in
-    let as_many = length-map piece.between even in
-    omega arith
 
 -- the points from a breakpoint on
 record HasTail (q : ℕ) (w : Frac) (breaks : List Break) (points : List Point) : Type 0 where

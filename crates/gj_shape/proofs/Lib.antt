@@ -3,6 +3,7 @@ pub mod Averages
 pub mod BreakLaws
 pub mod BreakValues
 pub mod BreakLists
+pub mod BreakChains
 pub mod OverScale
 pub mod GivenLists
 pub mod GivenPoints

@@ -1,9 +1,9 @@
-use Rattle.std.proofs.Common.{◌≡◌, ◌-◌, ◌+ℤ◌, ◌*ℤ◌, ◌*◌, pos, [], ◌∷◌, w64, to_z, of_z, sym, ap₂, subst, subst₂, ◌∙◌, rules, arith}
+use Rattle.std.proofs.Common.{◌≡◌, ◌-◌, ◌+ℤ◌, ◌*ℤ◌, ◌*◌, pos, [], ◌∷◌, w64, to_z, of_z, sym, subst, subst₂, ◌∙◌, rules}
 use Rattle.std.proofs.lemmas.Int.{to_z-of_z}
 use Rattle.std.proofs.lemmas.List.Elements.{All-head, All-tail}
 use Rattle.gj_frac.specs.Fraction.{IsRatio}
 use Rattle.gj_shape.specs.Given.{IsSmall, numerator_over}
-use Rattle.gj_shape.proofs.BreakLines.{IsScaleOf, on_line_over}
+use Rattle.gj_shape.proofs.BreakLines.{IsScaleOf, line_over_scale}
 use Rattle.gj_shape.proofs.BreakPieces.{piece_more, IsPieceSoFar}
 use Rattle.gj_shape.proofs.pieces.push_piece.Goals as goal
 
@@ -25,5 +25,5 @@ loop-i-preserved c =
     to_z-of_z w64 c.numerator_over-end.result (search rules) ∙ c.numerator_over-end.ensures in
     let over : IsRatio c.on_line-x.result (pos (n - i) *ℤ numerator_over s b.right +ℤ pos i *ℤ numerator_over s w) (pos (s * n)) =
     subst₂ (λ u v. IsRatio c.on_line-x.result (pos (n - i) *ℤ u +ℤ pos i *ℤ v) (pos (s * n))) start end c.on_line-x.ensures in
-    let on = on_line_over b.right w c.on_line-x.result s n i scale c.requires.some over in
+    let on = line_over_scale b.right w c.on_line-x.result s n i scale c.requires.some over in
     subst (IsPieceSoFar _ b w n _) (sym c.in_ok-push-2.ensures.items) (piece_more _ b w n i _ c.on_line-x.result c.loop-i.invariant on)

@@ -1,4 +1,4 @@
-use Rattle.std.proofs.Common.{◌≡◌, unsigned_abs, to_z, of_z, ap, ap₂, subst₂, ◌∙◌, rules, arith}
+use Rattle.std.proofs.Common.{◌≡◌, unsigned_abs, to_z, of_z, ap, subst₂, ◌∙◌, rules, arith}
 use Rattle.std.proofs.lemmas.Int.{ints, to_z-of_z}
 use Rattle.gj_frac.specs.Fraction.{denominator}
 use Rattle.gj_tools.specs.Divisors.{IsLcm}
