@@ -25,7 +25,7 @@ use Rattle.gj_proof.specs.Meaning.{ClaimHolds, ShowHalves}
 use Rattle.gj_proof.specs.declared.claim.Claim.TheVariants.{NotExtreme}
 use Rattle.gj_shape.specs.declared.extremality.Halves.{Halves}
 use Rattle.gj_top.proofs.CutForm.{cut_input_refuses_only_others}
-use Rattle.gj_top.specs.Command.{promise_with, work_with, task_for}
+use Rattle.gj_top.specs.Command.{task_with, task_for}
 use Rattle.gj_top.proofs.Extremality.{extremality_true}
 use Rattle.gj_top.proofs.TextLaws.{function_text_has_no_fault, proof_text_has_no_fault}
 
@@ -127,7 +127,7 @@ demo_sound n = record {
 }
 
 -- the task of each request is sound
-sound_with : (c : Command) (json : Bool) → IsSound (record { promise = promise_with c json; work = work_with c json })
+sound_with : (c : Command) (json : Bool) → IsSound (task_with c json)
 sound_with Minimal true = minimal_json_sound
 sound_with Minimal false = minimal_sound
 sound_with Check json = check_sound

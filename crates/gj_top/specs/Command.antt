@@ -44,9 +44,12 @@ work_with Faces json = faces.work
 work_with Cut json = cut.work
 work_with (Demo n) json = (demo n).work
 
--- the task of a request: its promise is what the request promises
+-- both together
+abbrev pub task_with : Command → Bool → Task
+task_with command json = record { promise = promise_with command json; work = work_with command json }
+
 abbrev pub task_for : Request → Task
-task_for request = record { promise = promise_for request; work = work_with request.command request.json }
+task_for request = task_with request.command request.json
 
 -- the words name the request
 abbrev pub IsNamed : List (String Global) → Request → Type 0

@@ -4,7 +4,7 @@ use Rattle.gj_top.proofs.Refusals.{refusal_of_fault}
 use Rattle.gj_top.proofs.forms.function_of.Goals as goal
 
 pub returns-in-Ok : goal.returns-in-Ok
-returns-in-Ok c = input_of_whole c.args.input.now c.in-Ok.shape c.in-Ok.ensures
+returns-in-Ok c = input_of_whole c.args.input.now c.in-Ok.shape c.in-Ok.ensures.found
 
 pub returns-in-Err-Refused : goal.returns-in-Err-Refused
 returns-in-Err-Refused c =
