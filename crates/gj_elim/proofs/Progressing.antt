@@ -6,7 +6,7 @@ use Rattle.std.proofs.lemmas.Bool.Decides.{Decides-int_eq}
 use Rattle.std.proofs.lemmas.List.{append-nil}
 use Rattle.gj_tools.proofs.Choices.{never_true}
 use Rattle.gj_tools.proofs.Lists.{range_step}
-use Rattle.gj_shape.specs.Elimination.{KeptRow, Insertion, at_column, reduced, marked_in_step, kept_entries, insertion, inserted, inserted_at, row_with_pivot, Passes}
+use Rattle.gj_shape.specs.Elimination.{KeptRow, Insertion, at_column, reduced, marked_in_step, kept_entries, insertion, insertion_by, inserted, inserted_at, inserted_at_by, row_with_pivot, Passes}
 use Rattle.gj_elim.specs.Progress.{IsLeft}
 use Rattle.gj_elim.proofs.Places.{IsRowAt}
 use Rattle.gj_theory.proofs.Passing.{none_passes, front_passes, back_passes, either_passes}
@@ -17,7 +17,7 @@ rest kept n c row = insertion kept (range_with_len c (n - c)) row
 
 rest_zero : (kept : List KeptRow) (n c : ℕ) (row : List ℤ) → c < n → at_column row c ≡ pos 0 →
     rest kept n c row ≡ rest kept n (c + 1) row
-unfolding insertion
+unfolding insertion_by
 rest_zero kept n c row below e =
     ap (λ cs. insertion kept cs row) (range_step c n below)
     ∙ ap (λ b. if b then insertion kept (range_with_len (c + 1) (n - (c + 1))) row
@@ -26,7 +26,7 @@ rest_zero kept n c row below e =
 
 rest_some : (kept : List KeptRow) (n c : ℕ) (row : List ℤ) → c < n → at_column row c ≢ pos 0 →
     rest kept n c row ≡ inserted_at (row_with_pivot kept c) c row (rest kept n (c + 1))
-unfolding insertion
+unfolding insertion_by
 rest_some kept n c row below some =
     ap (λ cs. insertion kept cs row) (range_step c n below)
     ∙ ap (λ b. if b then insertion kept (range_with_len (c + 1) (n - (c + 1))) row
@@ -40,7 +40,7 @@ rest_step : (kept : List KeptRow) (n c : ℕ) (row e : List ℤ) → c < n → a
       kept = (rest kept n (c + 1) (reduced e row c)).kept;
       marked = marked_in_step e row c ++ (rest kept n (c + 1) (reduced e row c)).marked;
     }
-unfolding inserted_at
+unfolding inserted_at_by
 rest_step kept n c row e below some (k, found, is) =
     rest_some kept n c row below some ∙ ap (λ o. inserted_at o c row (rest kept n (c + 1))) found
     ∙ ap (λ (xs : List ℤ). let i : Insertion = record {
@@ -51,13 +51,13 @@ rest_step kept n c row e below some (k, found, is) =
 
 rest_kept : (kept : List KeptRow) (n c : ℕ) (row : List ℤ) → c < n → at_column row c ≢ pos 0 → row_with_pivot kept c ≡ None →
     rest kept n c row ≡ record { reduce = []; kept = Some (c, kept_entries row c); marked = [] }
-unfolding inserted_at
+unfolding inserted_at_by
 rest_kept kept n c row below some free =
     rest_some kept n c row below some ∙ ap (λ o. inserted_at o c row (rest kept n (c + 1))) free
 
 rest_none : (kept : List KeptRow) (n c : ℕ) (row : List ℤ) → n ≤ c →
     rest kept n c row ≡ record { reduce = []; kept = None; marked = [] }
-unfolding insertion
+unfolding insertion_by
 rest_none kept n c row past =
     let none : n - c ≡ 0 = omega arith in ap (λ m. insertion kept (range_with_len c m) row) none
 

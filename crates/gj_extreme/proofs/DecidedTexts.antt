@@ -6,7 +6,7 @@ use Rattle.std.specs.Ordering.{int_eq}
 use Rattle.std.proofs.lemmas.List.{length-map}
 use Rattle.std.proofs.lemmas.List.Elements.{All-nil, All-push, All-map}
 use Rattle.std.proofs.lemmas.List.FromFn.{length-range_with_len}
-use Rattle.gj_shape.specs.Elimination.{KeptRow, Insertion, at_column, reduced, row_with_pivot, insertion, inserted, inserted_at, kept_behind, behind_insertion, elimination_from}
+use Rattle.gj_shape.specs.Elimination.{KeptRow, Insertion, at_column, reduced, row_with_pivot, insertion, insertion_by, inserted, inserted_at, inserted_at_by, kept_behind, behind_insertion, elimination_from, elimination_from_by}
 use Rattle.gj_shape.specs.FunctionData.{FunctionData, IsWithinBounds}
 use Rattle.gj_shape.specs.SlopeRows.{row_names}
 use Rattle.gj_shape.specs.declared.extremality.CoverLine.{CoverLine}
@@ -23,12 +23,12 @@ use Rattle.gj_extreme.proofs.ClaimTexts.{components_are_few}
 
 steps_at : (c m : ℕ) (row : List ℤ) (onward : List ℤ → Insertion) → ((next : List ℤ) → length (onward next).reduce ≤ m) →
     (o : Option KeptRow) → length (inserted_at o c row onward).reduce ≤ m + 1
-unfolding inserted_at
+unfolding inserted_at_by
 steps_at c m row onward later None = omega arith
 steps_at c m row onward later (Some k) = omega (arith, later (reduced k.entries row c))
 
 steps_of_row : (kept : List KeptRow) (columns : List ℕ) (row : List ℤ) → length (insertion kept columns row).reduce ≤ length columns
-unfolding insertion
+unfolding insertion_by
 steps_of_row kept [] row = omega arith
 steps_of_row kept (c ∷ columns) row = by_entry (steps_of_row kept columns) (int_eq (at_column row c) (pos 0))
   where
@@ -52,7 +52,7 @@ few_behind n number kept reduce (Some p) few h =
 
 few_in_elimination : (n number : ℕ) (kept : List KeptRow) (rows : List (List ℤ)) → All (HasFew n) kept →
     All (HasFew n) (elimination_from n kept number rows).kept
-unfolding elimination_from
+unfolding elimination_from_by
 few_in_elimination n number kept [] h = h
 few_in_elimination n number kept (row ∷ rows) h =
     let i = inserted n kept row in

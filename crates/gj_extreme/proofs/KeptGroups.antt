@@ -9,7 +9,7 @@ use Rattle.std.proofs.lemmas.List.{append-nil, length_push}
 use Rattle.std.proofs.lemmas.List.FromFn.{length-map-range_with_len}
 use Rattle.std.proofs.lemmas.List.Elements.{All-head, All-tail}
 use Rattle.gj_cover.proofs.Parts.{any_none, any_cases, any_here, any_there}
-use Rattle.gj_shape.specs.Elimination.{KeptRow, Insertion, at_column, reduced, entries_of, row_with_pivot, kept_entries, marked_in_step, insertion, inserted, inserted_at, kept_behind, Elimination, elimination_from, behind_insertion, Passes}
+use Rattle.gj_shape.specs.Elimination.{KeptRow, Insertion, at_column, reduced, entries_of, row_with_pivot, kept_entries, marked_in_step, insertion, insertion_by, inserted, inserted_at, inserted_at_by, kept_behind, Elimination, elimination_from, elimination_from_by, behind_insertion, Passes}
 use Rattle.gj_shape.specs.FunctionData.{FunctionData}
 use Rattle.gj_shape.specs.SlopeRows.{row_entry, row_names}
 use Rattle.gj_shape.specs.declared.extremality.RowName.{RowName}
@@ -81,7 +81,7 @@ meets_here : (n : ℕ) (kept : List KeptRow) (a : ℕ) (row : List ℤ) (onward 
     InsertionMeets n kept next (onward next)) →
     (o : Option KeptRow) → row_with_pivot kept a ≡ o → at_column row a ≢ pos 0 →
     (Passes (inserted_at o a row onward).marked → ⊥) → InsertionMeets n kept row (inserted_at o a row onward)
-unfolding inserted_at entries_of
+unfolding inserted_at_by entries_of
 meets_here n kept a row onward h below len none later None e some fits = record {
   steps = tt;
   pivot = (record { column = below; new = no_pivot_at kept a e; zero_before = none; not_zero = some }, refl);
@@ -111,7 +111,7 @@ meets_at n kept a row onward h below len none later false e fits =
 insertion_meets : (n : ℕ) (kept : List KeptRow) (a m : ℕ) (row : List ℤ) → AreTriangular n kept → a + m ≡ n →
     length row ≡ n → IsZeroBefore row a → (Passes (insertion kept (range_with_len a m) row).marked → ⊥) →
     InsertionMeets n kept row (insertion kept (range_with_len a m) row)
-unfolding insertion
+unfolding insertion_by
 insertion_meets n kept a zero row h whole len none fits = record { steps = tt; pivot = tt }
 insertion_meets n kept a (suc m) row h whole len none fits =
     meets_at n kept a row (insertion kept (range_with_len (a + 1) m)) h (omega arith) len none
@@ -195,7 +195,7 @@ elimination_grows : (f : FunctionData) (component : ℕ → ℕ) (n : ℕ) (kept
     row_names f ≡ front ++ rest → length front ≡ number → All (MeetsRow f) rest → AreTriangular n kept →
     (Passes (elimination_from n kept number (map (named_row f component n) rest)).marked → ⊥) →
     Grows f component n kept (elimination_from n kept number (map (named_row f component n) rest)).kept
-unfolding elimination_from
+unfolding elimination_from_by
 elimination_grows f component n kept front [] number place index tight h fits = grows_not f component n kept
 elimination_grows f component n kept front (name ∷ rest) number place index tight h fits =
     let begun = named_row f component n name in

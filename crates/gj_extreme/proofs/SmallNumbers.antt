@@ -11,7 +11,7 @@ use Rattle.gj_perturb.proofs.SplitParts.{product_at_most}
 use Rattle.gj_tools.specs.Divisors.{gcd_of}
 use Rattle.gj_tools.proofs.Divisors.{gcd_of_is, gcd_positive}
 use Rattle.gj_tools.proofs.Integers.{unsigned_abs-mul, abs_sub_z, abs_zero_z}
-use Rattle.gj_shape.specs.Elimination.{KeptRow, Insertion, Elimination, at_column, divided, scaled, differences, row_factor, kept_factor, eliminated, reduced, marked_in_step, row_with_pivot, kept_entries, insertion, inserted, inserted_at, kept_behind, elimination_from, behind_insertion}
+use Rattle.gj_shape.specs.Elimination.{KeptRow, Insertion, Elimination, at_column, divided, scaled, differences, row_factor, kept_factor, eliminated, reduced, marked_in_step, row_with_pivot, kept_entries, insertion, insertion_by, inserted, inserted_at, inserted_at_by, kept_behind, elimination_from, elimination_from_by, behind_insertion}
 use Rattle.gj_theory.proofs.Insertions.{find_has}
 use Rattle.gj_theory.proofs.RowSums.{divided_times}
 use Rattle.gj_theory.proofs.Steps.{row_factor_times, kept_factor_times}
@@ -310,7 +310,7 @@ small_here : (b t a : ℕ) (kept : List KeptRow) (row : List ℤ) (onward : List
     AreSmall b kept → IsSmall (bound_at b kept a) row →
     ((next : List ℤ) → IsSmall (bound_at b kept (a + 1)) next → InsertionIsSmall b t kept (onward next)) →
     (o : Option KeptRow) → row_with_pivot kept a ≡ o → at_column row a ≢ pos 0 → InsertionIsSmall b t kept (inserted_at o a row onward)
-unfolding inserted_at
+unfolding inserted_at_by
 small_here b t a kept row onward some few h small later None e apart = record {
   marked = All-nil (λ x. unsigned_abs x ≤ bound b t);
   kept = small_kept (bound_at b kept a) row a small;
@@ -347,7 +347,7 @@ small_by_test b t a kept row onward some few h small later false e =
 
 insertion_small : (b t a m : ℕ) (kept : List KeptRow) (row : List ℤ) → 1 ≤ b → length kept ≤ t → AreSmall b kept →
     IsSmall (bound_at b kept a) row → InsertionIsSmall b t kept (insertion kept (range_with_len a m) row)
-unfolding insertion
+unfolding insertion_by
 insertion_small b t a zero kept row some few h small =
     record { marked = All-nil (λ x. unsigned_abs x ≤ bound b t); kept = tt }
 insertion_small b t a (suc m) kept row some few h small =
@@ -380,7 +380,7 @@ pub record EliminationIsSmall (b t : ℕ) (e : Elimination) : Type 0 where
 
 pub elimination_small : (b t n : ℕ) (kept : List KeptRow) (number : ℕ) (rows : List (List ℤ)) → 1 ≤ b → n ≤ suc t → AreSmall b kept →
     All (IsSmall b) rows → EliminationIsSmall b t (elimination_from n kept number rows)
-unfolding elimination_from
+unfolding elimination_from_by
 elimination_small b t n kept number [] some few h small =
     record { marked = All-nil (λ x. unsigned_abs x ≤ bound b t); kept = h }
 elimination_small b t n kept number (row ∷ rows) some few h small =

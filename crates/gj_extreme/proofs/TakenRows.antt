@@ -4,7 +4,7 @@ use Rattle.std.specs.Prelude.{nat_le, IsTrue}
 use Rattle.std.proofs.Math.Seq.{get_or-append_seam}
 use Rattle.std.proofs.lemmas.Bool.{lt-leb, le-leb, cases_lt}
 use Rattle.std.proofs.lemmas.List.{length-append, map-append}
-use Rattle.gj_shape.specs.Elimination.{KeptRow, Elimination, elimination_from, behind_insertion, inserted, kept_behind, Passes}
+use Rattle.gj_shape.specs.Elimination.{KeptRow, Elimination, elimination_from, elimination_from_by, behind_insertion, inserted, kept_behind, Passes}
 use Rattle.gj_shape.specs.FunctionData.{FunctionData, IsWithinBounds}
 use Rattle.gj_shape.specs.SlopeRows.{row_names}
 use Rattle.gj_shape.specs.declared.extremality.RowName.{RowName}
@@ -24,7 +24,7 @@ use Rattle.gj_extreme.proofs.RowOrder.{rows_short}
 -- with as many rows as columns it stops
 pub elimination_full : (n : ℕ) (kept : List KeptRow) (number : ℕ) (rows : List (List ℤ)) → n ≤ length kept →
     elimination_from n kept number rows ≡ record { kept = kept; marked = [] }
-unfolding elimination_from
+unfolding elimination_from_by
 elimination_full n kept number [] full = refl
 elimination_full n kept number (row ∷ rows) full =
     let e : nat_le n (length kept) ≡ true = le-leb n (length kept) full in
@@ -34,14 +34,14 @@ pub elimination_next : (n : ℕ) (kept : List KeptRow) (number : ℕ) (row : Lis
     elimination_from n kept number (row ∷ rows)
     ≡ behind_insertion (inserted n kept row).marked
     (elimination_from n (kept_behind kept number (inserted n kept row).reduce (inserted n kept row).kept) (number + 1) rows)
-unfolding elimination_from
+unfolding elimination_from_by
 elimination_next n kept number row rows short =
     let e : nat_le n (length kept) ≡ false = lt-leb n (length kept) short in
     rw e refl
 
 pub elimination_none : (n : ℕ) (kept : List KeptRow) (number : ℕ) →
     elimination_from n kept number [] ≡ record { kept = kept; marked = [] }
-unfolding elimination_from
+unfolding elimination_from_by
 elimination_none n kept number = refl
 
 -- ---- names of rows that are kept

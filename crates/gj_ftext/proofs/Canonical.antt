@@ -9,7 +9,7 @@ use Rattle.gj_lines.specs.FunctionLines.{line}
 use Rattle.gj_lines.proofs.CanonicalFunctions.{canonical_lines_are_read}
 use Rattle.gj_lines.proofs.StrictFunctions.{function_lines_are_short}
 use Rattle.gj_ftext.specs.FunctionText.{IsFunctionText, IsWholeFunctionText, IsCanonicalText}
-use Rattle.gj_ftext.proofs.FunctionTexts.{no_family_line, whole_text}
+use Rattle.gj_ftext.proofs.FunctionTexts.{no_family_line, no_other_title, whole_text}
 
 regrouped : (title lines end after : List ℕ) → (title ++ lines ++ end) ++ after ≡ title ++ (lines ++ (end ++ after))
 regrouped title lines end after = simp append_assoc
@@ -23,7 +23,10 @@ canonical_text_is_function_text f text after within h =
     let title = words_line Lenient (codes "gj-function") (codes "1" ∷ []) (text ++ after) (h.lines ++ end) refl (λ e. omega arith) whole in
     let last = words_line Lenient (codes "end") [] end after refl (λ e. omega arith) refl in
     let lines = canonical_lines_are_read Lenient f h.lines end within h.are_lines in
-    (tt, h.lines ++ end, title, (f, end, inr (no_family_line (h.lines ++ end) f end lines, lines), (tt, after, last, (refl, refl))))
+    inr (
+      no_other_title (text ++ after) (h.lines ++ end) title,
+      (tt, h.lines ++ end, title, (f, end, inr (no_family_line (h.lines ++ end) f end lines, lines), (tt, after, last, (refl, refl)))),
+    )
 
 -- nothing but the lines of the function and two lines more
 pub canonical_text_is_short : (f : FunctionData) (text : List ℕ) → IsWithinBounds f → IsCanonicalText text f → length text ≤ 1000000

@@ -1,18 +1,18 @@
 -- How the lines that were read make a function text, and a fault of theirs one of the text.
-use Rattle.std.proofs.Common.{◌≡◌, ◌⊎◌, inl, inr, ℕ, List, ◌∷◌, codes, refl, sym, subst, ◌∙◌}
+use Rattle.std.proofs.Common.{◌≡◌, ◌⊎◌, inl, inr, ℕ, List, [], ◌∷◌, codes, refl, sym, subst, ◌∙◌, arith}
 use Rattle.gj_lex.specs.declared.fault.PartFault.{PartFault}
 use Rattle.gj_lex.specs.declared.spelling.Spelling.TheVariants.{Lenient}
-use Rattle.gj_lex.specs.Parts.{words_rule, Part, line_part, empty_part, then_part, ReadsInTurn, BeginsWithWord, IsFaultOf}
+use Rattle.gj_lex.specs.Parts.{words_rule, Part, line_part, empty_part, then_part, ReadsInTurn, BeginsWithLine, BeginsWithWord, IsFaultOf}
 use Rattle.gj_lex.specs.Parts.ReadsInTurn.{last, onward}
 use Rattle.gj_lex.specs.TextLines.{HasNothing}
 use Rattle.gj_lex.proofs.PartLaws.{fault_in_first, fault_in_next}
-use Rattle.gj_lex.proofs.WhereLaws.{other_word}
+use Rattle.gj_lex.proofs.WhereLaws.{other_line, other_word}
 use Rattle.gj_shape.specs.FunctionData.{FunctionData, IsWithinBounds}
 use Rattle.gj_shape.specs.Breaks.{BreakList}
 use Rattle.gj_lines.specs.FunctionGrammar.{order_words, function_part}
 use Rattle.gj_lines.proofs.FunctionRead.{within_bounds}
 use Rattle.gj_ftext.specs.BreaksText.{end_words, next_break}
-use Rattle.gj_ftext.specs.FunctionText.{title_words, body_part, points_text, breaks_text, IsFunctionText, IsWholeFunctionText}
+use Rattle.gj_ftext.specs.FunctionText.{title_words, breaks_title_words, body_part, points_text, breaks_text, IsFunctionText, IsWholeFunctionText}
 
 -- the first and the last line
 abbrev pub title_part : Part (Unit {0})
@@ -47,6 +47,18 @@ no_family_line text f rest (q, next, (start, words, line, (word, is, spelled, or
   where
     not_both : (more : List (List ℕ)) (word : List ℕ) → codes "family" ∷ more ≡ order_words word → ⊥
     not_both more word e = cc
+
+-- the title of text 1 is not that of text 2
+second_bytes : (word : List ℕ) (a b : ℕ) → word ∷ (a ∷ []) ∷ [] ≡ word ∷ (b ∷ []) ∷ [] → a ≡ b
+second_bytes word a b e = cc
+
+pub one_title : title_words ≡ breaks_title_words → ⊥
+one_title e = let bytes = second_bytes _ _ _ e in omega arith
+
+-- so a text with the one as its first line does not begin with the other
+pub no_other_title : (text rest : List ℕ) → title_part.Reads text tt rest → BeginsWithLine Lenient breaks_title_words text → ⊥
+no_other_title text rest (start, words, line, is) begins =
+    other_line Lenient text start words breaks_title_words rest line (λ e. one_title (sym is ∙ e)) begins
 
 pub whole_text : (text rest : List ℕ) (f : FunctionData) → IsFunctionText text f rest → HasNothing Lenient rest → IsWholeFunctionText text f
 whole_text text rest f h nothing = (rest, (f, rest, h, (refl, refl, nothing)))

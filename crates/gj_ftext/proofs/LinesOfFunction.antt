@@ -1,5 +1,5 @@
 -- A function text has the lines of its function, and a text that has them is one.
-use Rattle.std.proofs.Common.{◌≡◌, ◌⊎◌, ⊎_elim, inl, inr, codes, ℕ, zero, suc, pos, List, [], ◌∷◌, ◌++◌, length, map, refl, sym, ap, subst, subst₂, ◌∙◌, append-nil, append_assoc, arith}
+use Rattle.std.proofs.Common.{◌≡◌, ◌⊎◌, ⊎_elim, inl, inr, codes, ℕ, zero, suc, pos, List, [], ◌∷◌, ◌++◌, length, map, refl, sym, ap, subst, subst₂, ◌∙◌, append-nil, append_assoc}
 use Rattle.std.specs.List.{AllZip}
 use Rattle.std.proofs.lemmas.Grind.{flat_map-append}
 use Rattle.gj_frac.specs.Fraction.{IsRatio}
@@ -20,7 +20,7 @@ use Rattle.gj_ftext.specs.FunctionText.{title_words, breaks_title_words, points_
 use Rattle.gj_ftext.specs.FamilyLine.{FamilyWords, gmic_words, half_words, two_slope_words, words_of_line}
 use Rattle.gj_ftext.specs.LinesOfFunction.{HasLinesOfFunction, HasLinesOfFamily, HasLinesOfBreaks}
 use Rattle.gj_ftext.proofs.LinesOfBreaks.{breaks_have_lines, lines_are_breaks}
-use Rattle.gj_ftext.proofs.FunctionTexts.{no_family_line}
+use Rattle.gj_ftext.proofs.FunctionTexts.{no_family_line, one_title}
 
 -- ---- lines, one after the other
 
@@ -202,14 +202,6 @@ pub text_has_lines : (text : List ℕ) (f : FunctionData) (rest : List ℕ) → 
 text_has_lines text f rest (inl (begins, h)) = inr (inr (breaks_have_lines text f rest h))
 text_has_lines text f rest (inr (not, h)) = ⊎_elim (λ lines. inl lines) (λ lines. inr (inl lines)) (points_text_has_lines text f rest h)
 
--- the title of text 1 is not that of text 2
-second_bytes : (word : List ℕ) (a b : ℕ) → word ∷ (a ∷ []) ∷ [] ≡ word ∷ (b ∷ []) ∷ [] → a ≡ b
-second_bytes word a b e = cc
-
-one_title : title_words ≡ breaks_title_words → ⊥
-one_title e = let bytes = second_bytes _ _ _ e in omega arith
-
--- so a text with the one as its first line does not begin with the other
 no_breaks_title : (text start rest : List ℕ) → HasNextLine start title_words rest text → BeginsWithLine Lenient breaks_title_words text → ⊥
 no_breaks_title text start rest line begins = other_line Lenient text start title_words breaks_title_words rest line one_title begins
 

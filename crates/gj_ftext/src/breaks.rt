@@ -74,11 +74,7 @@ fn is_coarse(x: Frac) -> bool
 }
 
 /// The function whose further breakpoints the next lines tell, up to their line `end`, and what follows that line.
-fn more_breaks_at(
-    alloc: Global,
-    text: &[u8],
-    first: Breaks,
-) -> Result<(Shape, &[u8]), PartFault>
+fn more_breaks_at(alloc: Global, text: &[u8], first: Breaks) -> Result<(Shape, &[u8]), PartFault>
     ensures found { IfOk result (λ r. (loop_part next_break first).Reads text.now r.0 r.1.now) }
     ensures fault { IfErr result (IsFaultOf (loop_part next_break first) text.now) }
 {

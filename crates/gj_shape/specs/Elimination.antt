@@ -1,5 +1,5 @@
--- Plain elimination over whole numbers without bound, with the numbers that must not pass 2^127 - 1 (own). It decides the
--- bytes of a proof and when numbers are too wide, never what a claim means.
+-- Elimination over an arithmetic, and plain elimination: that over whole numbers without bound, with the numbers that must not
+-- pass 2^127 - 1 (own). It decides the bytes of a proof and when numbers are too wide, never what a claim means.
 use Rattle.std.specs.Prelude.{ℕ, zero, suc, ℤ, pos, neg_ℤ, ◌+◌, ◌==◌, ◌≤◌, nat_le, ◌^◌, ◌+ℤ◌, ◌-ℤ◌, ◌*ℤ◌, int_div, int_lt, not, if◌then◌else◌, Option, None, Some, List, [], ◌∷◌, ◌++◌, Any, map, zip, drop, length, get_or, slice_set, unsigned_abs}
 use Rattle.std.specs.List.{range_with_len, find, list_any}
 use Rattle.std.specs.Ordering.{int_eq}
@@ -79,22 +79,55 @@ pub record Insertion : Type 0 where
 abbrev pub behind_step : ℕ → List ℤ → Insertion → Insertion
 behind_step c first i = record { reduce = c ∷ i.reduce; kept = i.kept; marked = first ++ i.marked }
 
--- at a column where the row is not 0: it is reduced by the kept row with this pivot, and goes on, or it is kept
-unfoldable pub inserted_at : Option KeptRow → ℕ → List ℤ → (List ℤ → Insertion) → Insertion
-inserted_at (Some k) c row onward = behind_step c (marked_in_step k.entries row c) (onward (reduced k.entries row c))
-inserted_at None c row onward = record { reduce = []; kept = Some (c, kept_entries row c); marked = [] }
+-- what elimination asks of its numbers: how a row is read, the step by a kept row at a column, the numbers that the step marks,
+-- and the entries with which a row is kept at a column, if it can be
+pub record Arithmetic : Type 0 where
+  pub read : List ℤ → List ℤ
+  -- of the kept row, the row and the column
+  pub step : List ℤ → List ℤ → ℕ → List ℤ
+  pub marked : List ℤ → List ℤ → ℕ → List ℤ
+  pub keep : List ℤ → ℕ → Option (List ℤ)
+
+-- over whole numbers each row that is not 0 at a column can be kept there
+abbrev pub whole_numbers : Arithmetic
+whole_numbers = record {
+  read = λ row. row;
+  step = reduced;
+  marked = marked_in_step;
+  keep = λ row c. Some (kept_entries row c);
+}
+
+-- the entries, if there are any, with their pivot
+abbrev pub with_pivot : ℕ → Option (List ℤ) → Option (ℕ × List ℤ)
+with_pivot c None = None
+with_pivot c (Some entries) = Some (c, entries)
+
+-- at a column where the row is not 0: if a kept row has this pivot, the row is reduced by it and goes on; if not, it is kept
+-- if it can be
+unfoldable pub inserted_at_by : Arithmetic → Option KeptRow → ℕ → List ℤ → (List ℤ → Insertion) → Insertion
+inserted_at_by by (Some k) c row onward = behind_step c (by.marked k.entries row c) (onward (by.step k.entries row c))
+inserted_at_by by None c row onward = record { reduce = []; kept = with_pivot c (by.keep row c); marked = [] }
+
+abbrev pub inserted_at : Option KeptRow → ℕ → List ℤ → (List ℤ → Insertion) → Insertion
+inserted_at k c row onward = inserted_at_by whole_numbers k c row onward
 
 -- the row goes through the columns in turn
-unfoldable pub insertion : List KeptRow → List ℕ → List ℤ → Insertion
-insertion kept [] row = record { reduce = []; kept = None; marked = [] }
-insertion kept (c ∷ columns) row =
+unfoldable pub insertion_by : Arithmetic → List KeptRow → List ℕ → List ℤ → Insertion
+insertion_by by kept [] row = record { reduce = []; kept = None; marked = [] }
+insertion_by by kept (c ∷ columns) row =
     if int_eq (at_column row c) (pos 0)
-    then insertion kept columns row
-    else inserted_at (row_with_pivot kept c) c row (insertion kept columns)
+    then insertion_by by kept columns row
+    else inserted_at_by by (row_with_pivot kept c) c row (insertion_by by kept columns)
 
--- the row of n columns is inserted
+abbrev pub insertion : List KeptRow → List ℕ → List ℤ → Insertion
+insertion kept columns row = insertion_by whole_numbers kept columns row
+
+-- the row of n columns is read and inserted
+abbrev pub inserted_by : Arithmetic → ℕ → List KeptRow → List ℤ → Insertion
+inserted_by by n kept row = insertion_by by kept (range_with_len 0 n) (by.read row)
+
 abbrev pub inserted : ℕ → List KeptRow → List ℤ → Insertion
-inserted n kept row = insertion kept (range_with_len 0 n) row
+inserted n kept row = inserted_by whole_numbers n kept row
 
 -- ---- all rows
 
@@ -113,17 +146,24 @@ abbrev pub behind_insertion : List ℤ → Elimination → Elimination
 behind_insertion first e = record { kept = e.kept; marked = first ++ e.marked }
 
 -- the rows are inserted in turn, with numbers from this one on, until there are n pivots
-unfoldable pub elimination_from : ℕ → List KeptRow → ℕ → List (List ℤ) → Elimination
-elimination_from n kept number [] = record { kept = kept; marked = [] }
-elimination_from n kept number (row ∷ rows) =
+unfoldable pub elimination_from_by : Arithmetic → ℕ → List KeptRow → ℕ → List (List ℤ) → Elimination
+elimination_from_by by n kept number [] = record { kept = kept; marked = [] }
+elimination_from_by by n kept number (row ∷ rows) =
     if nat_le n (length kept)
     then record { kept = kept; marked = [] }
-    else behind_insertion (inserted n kept row).marked
-    (elimination_from n (kept_behind kept number (inserted n kept row).reduce (inserted n kept row).kept) (number + 1) rows)
+    else behind_insertion (inserted_by by n kept row).marked
+    (elimination_from_by by n (kept_behind kept number (inserted_by by n kept row).reduce (inserted_by by n kept row).kept)
+    (number + 1) rows)
+
+abbrev pub elimination_from : ℕ → List KeptRow → ℕ → List (List ℤ) → Elimination
+elimination_from n kept number rows = elimination_from_by whole_numbers n kept number rows
 
 -- the elimination of rows of n columns
+abbrev pub elimination_by : Arithmetic → ℕ → List (List ℤ) → Elimination
+elimination_by by n rows = elimination_from_by by n [] 0 rows
+
 abbrev pub elimination : ℕ → List (List ℤ) → Elimination
-elimination n rows = elimination_from n [] 0 rows
+elimination n rows = elimination_by whole_numbers n rows
 
 -- ---- the kernel
 

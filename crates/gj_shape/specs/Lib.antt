@@ -23,3 +23,5 @@ pub mod RowCut
 pub mod Breaks
 pub mod KeptBreaks
 pub mod Valid
+pub mod Residues
+pub mod TwoSlopes

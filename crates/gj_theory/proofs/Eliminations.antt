@@ -5,7 +5,7 @@ use Rattle.std.specs.List.{IsDistinct}
 use Rattle.std.proofs.lemmas.Bool.{leb-true}
 use Rattle.std.proofs.lemmas.List.Elements.{All-nil, All-cons, All-head, All-tail, All-from_get_or}
 use Rattle.std.proofs.Math.Nat.{le_antisymm}
-use Rattle.gj_shape.specs.Elimination.{KeptRow, reduced, eliminated, entries_of, row_with_pivot, inserted, kept_behind, elimination, elimination_from, behind_insertion}
+use Rattle.gj_shape.specs.Elimination.{KeptRow, reduced, eliminated, entries_of, row_with_pivot, inserted, kept_behind, elimination, elimination_from, elimination_from_by, behind_insertion}
 use Rattle.gj_theory.specs.TriangularRows.{Solves, SolvesKept, IsKeptRow, AreTriangular, present_row}
 use Rattle.gj_theory.proofs.RowSums.{divided_zero}
 use Rattle.gj_theory.proofs.Steps.{solves_reduced, length-reduced}
@@ -101,7 +101,7 @@ one_more n kept next after row rows step h = record {
 
 elimination_from_has : (n : ℕ) (kept : List KeptRow) (number : ℕ) (rows : List (List ℤ)) → AreTriangular n kept →
     All (λ row. length row ≡ n) rows → HasSolutions n kept (elimination_from n kept number rows).kept rows
-unfolding elimination_from
+unfolding elimination_from_by
 elimination_from_has n kept number [] h columns = record {
   triangular = h;
   same = λ w len. (λ all. (all, All-nil (Solves w)), λ both. both.0);

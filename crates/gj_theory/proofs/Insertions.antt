@@ -8,7 +8,7 @@ use Rattle.std.proofs.lemmas.List.{map_push}
 use Rattle.std.proofs.lemmas.List.Elements.{All-head, All-tail, All-push}
 use Rattle.std.proofs.lemmas.Map.Keys.{IsDistinct-head, IsDistinct-tail, IsDistinct-cons}
 use Rattle.gj_tools.proofs.Lists.{All-front, All-back}
-use Rattle.gj_shape.specs.Elimination.{KeptRow, Insertion, at_column, reduced, kept_entries, insertion, inserted, inserted_at, kept_behind, row_with_pivot}
+use Rattle.gj_shape.specs.Elimination.{KeptRow, Insertion, at_column, reduced, kept_entries, insertion, insertion_by, inserted, inserted_at, inserted_at_by, kept_behind, row_with_pivot}
 use Rattle.gj_theory.specs.TriangularRows.{Solves, SolvesKept, IsKeptRow, AreTriangular}
 use Rattle.gj_theory.proofs.RowSums.{solves_kept_entries}
 use Rattle.gj_theory.proofs.Steps.{solves_reduced, solves_before, length-reduced, length-kept_entries}
@@ -108,7 +108,7 @@ leaves_here : (n : ℕ) (kept : List KeptRow) (a : ℕ) (row : List ℤ) (onward
     ((next : List ℤ) → length next ≡ n → IsZeroBefore next (a + 1) → Leaves n kept next (onward next).kept) →
     (o : Option KeptRow) → row_with_pivot kept a ≡ o → at_column row a ≢ pos 0 →
     Leaves n kept row (inserted_at o a row onward).kept
-unfolding inserted_at
+unfolding inserted_at_by
 leaves_here n kept a row onward h below len none later None e some = kept_here n kept row a len below e none some
 leaves_here n kept a row onward h below len none later (Some k) e some =
     leaves_along n kept row (reduced k.entries row a) (onward (reduced k.entries row a)).kept (step_same n kept row a k h len e)
@@ -129,7 +129,7 @@ leaves_at n kept a row onward h below len none later false e =
 
 pub leaves : (n : ℕ) (kept : List KeptRow) (a m : ℕ) (row : List ℤ) → AreTriangular n kept → a + m ≡ n →
     length row ≡ n → IsZeroBefore row a → Leaves n kept row (insertion kept (range_with_len a m) row).kept
-unfolding insertion
+unfolding insertion_by
 leaves n kept a zero row h whole len none =
     λ w all. zeros_solved row w (λ i below. none i (omega arith))
 leaves n kept a (suc m) row h whole len none =

@@ -3,7 +3,7 @@ use Rattle.std.proofs.lemmas.Bool.{false≢true}
 use Rattle.std.proofs.lemmas.Result.{IfErr-weaker}
 use Rattle.gj_lex.specs.declared.spelling.Spelling.TheVariants.{Lenient}
 use Rattle.gj_lex.specs.Parts.{IsFaultOf, BeginsWithWord}
-use Rattle.gj_lex.proofs.WhereLaws.{fault_where, fault_else}
+use Rattle.gj_lex.proofs.WhereLaws.{fault_else}
 use Rattle.gj_lines.specs.FunctionGrammar.{function_part}
 use Rattle.gj_ftext.specs.FunctionText.{family_part, body_part}
 use Rattle.gj_ftext.proofs.body.body_at.Goals as goal

@@ -16,4 +16,4 @@ returns-in-Ok-push-clause-found c =
 pub returns-in-Err-push-clause-fault : goal.returns-in-Err-push-clause-fault
 returns-in-Err-push-clause-fault c =
     rw c.refusal_of.ensures
-    (break_refused _ _ _ _ _ c.in-Ok.point _ c.in_ok-line.ensures.found c.in-Ok.ensures.found c.in-Err-push.ensures.fault)
+    (break_refused _ _ _ _ c.args.breaks.now c.in-Ok.point _ c.in_ok-line.ensures.found c.in-Ok.ensures.found c.in-Err-push.ensures.fault)

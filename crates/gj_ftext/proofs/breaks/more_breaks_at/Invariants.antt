@@ -4,7 +4,7 @@ use Rattle.gj_ftext.specs.BreaksText.{next_break}
 use Rattle.gj_ftext.proofs.breaks.more_breaks_at.Given as goal
 
 abbrev pub invariant-loop-breaks : goal.invariant-loop-breaks
-invariant-loop-breaks l = LeadsOn next_break l.first l.text l.breaks l.rest
+invariant-loop-breaks l = LeadsOn next_break l.fn.first l.text l.breaks l.rest
 
 abbrev pub decreases-loop-breaks : goal.decreases-loop-breaks
 decreases-loop-breaks l = length l.rest

@@ -1,5 +1,3 @@
-use Rattle.std.proofs.Common.{subst}
-use Rattle.gj_ftext.specs.BreaksText.{start_rule}
 use Rattle.gj_ftext.proofs.breaks.start_at.Goals as goal
 
 pub returns-in-Ok-clause-found : goal.returns-in-Ok-clause-found
