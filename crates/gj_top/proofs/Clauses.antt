@@ -50,7 +50,7 @@ unread_answer c a b s text e (replied x) = replied (record {
 
 -- where an input is read, the answer is one to the input that the source told
 moved : (c : Request) (b : Bool) (own input : List ℕ) (left after : Option (List ℕ)) (s : Status) (text : List ℕ) →
-    reads (promise_for c).form ≡ b →    (IsTrue b → left ≡ Some input) → IsReadWhole b own left after → IsAnswerTo (task_for c) own s text →
+    reads (promise_for c).form ≡ b → (IsTrue b → left ≡ Some input) → IsReadWhole b own left after → IsAnswerTo (task_for c) own s text →
     IsAnswerTo (task_for c) input s text
 moved c true own input left after s text e given whole a =
     let read : IsReadWhole true own (Some input) after = subst (λ (l : Option (List ℕ)). IsReadWhole true own l after) (given refl) whole in
