@@ -12,8 +12,8 @@ use Rattle.gj_json.specs.JsonFunction.{IsJsonFunction}
 use Rattle.gj_json.proofs.OneFunction.{no_reason}
 use Rattle.gj_top.specs.Forms.{IsFunctionInput, IsProofOf, RefusesFunctionText, RefusesJson, RefusesProofText}
 use Rattle.gj_top.specs.Report.{IsReportOf}
-use Rattle.gj_top.specs.Minimal.{IsVerdict, IsTrueVerdict, minimal, minimal_json}
-use Rattle.gj_top.specs.Extreme.{IsDecisionText, IsTrueExtremality, extreme, extreme_json}
+use Rattle.gj_top.specs.Minimal.{IsDecision, IsVerdict, IsTrueVerdict, minimal, minimal_json}
+use Rattle.gj_top.specs.Extreme.{IsExtremality, IsTrueExtremality, extreme, extreme_json}
 use Rattle.gj_top.specs.Show.{show, show_json}
 use Rattle.gj_top.specs.Check.{check}
 use Rattle.gj_top.specs.Faces.{faces}
@@ -74,14 +74,14 @@ minimal_json_sound : IsSound minimal_json
 minimal_json_sound = record {
   form = json_function_sound;
   refusals = λ input text refused. refl;
-  work = λ f text. reported (IsVerdict f) (IsTrueVerdict f) (verdict_true f) text;
+  work = λ f text. reported (IsDecision f Done) (IsTrueVerdict f) (verdict_true f) text;
 }
 
 extreme_json_sound : IsSound extreme_json
 extreme_json_sound = record {
   form = json_function_sound;
   refusals = λ input text refused. refl;
-  work = λ f text. reported (IsDecisionText f) (IsTrueExtremality f) (extremality_true f) text;
+  work = λ f text. reported (IsExtremality f Done) (IsTrueExtremality f) (extremality_true f) text;
 }
 
 show_json_sound : IsSound show_json
