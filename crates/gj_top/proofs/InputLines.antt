@@ -51,7 +51,7 @@ no_rule text f rest (inr (inr h)) =
 
 pub rule_of_lines : (text : List ℕ) (r : CutRule) (rest : List ℕ) → HasLinesOfRule text r rest → BeginsWithRule text r rest
 rule_of_lines text Gmic rest (s, m, title, (t, n, name, (u, end, last, at))) = (
-  (codes "1" ∷ [], s, m, title),
+  (codes "1" ∷ [], (s, m, title)),
   (
     tt,
     m,
