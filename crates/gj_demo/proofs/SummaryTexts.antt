@@ -38,9 +38,9 @@ summary_of n f claim h faces cover order triangles covered uncovered text demo b
       function = f;
       halves = h;
       within = bounds;
+      verdict = subst (IsDecided f) is decided;
       summary = record {
         demo = demo;
-        verdict = subst (IsDecided f) is decided;
         triangles = listed;
         are_triangles = are_triangles;
         intervals = intervals;

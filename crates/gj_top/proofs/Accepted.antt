@@ -9,9 +9,8 @@ use Rattle.gj_top.specs.declared.reply.End.{End}
 use Rattle.gj_top.specs.declared.reply.End.TheVariants as end
 use Rattle.gj_top.specs.declared.status.Status.{Status}
 use Rattle.gj_top.specs.declared.status.Status.TheVariants.{Done}
-use Rattle.gj_ftext.specs.FunctionText.{IsWholeFunctionText}
 use Rattle.gj_top.specs.Task.{IsReply}
-use Rattle.gj_top.specs.Forms.{IsProofOf}
+use Rattle.gj_top.specs.Forms.{IsFunctionInput, IsProofOf}
 use Rattle.gj_top.specs.Minimal.{IsVerdict, minimal}
 use Rattle.gj_top.specs.Check.{IsJudgement, check}
 use Rattle.gj_top.specs.Cut.{cut}
@@ -30,7 +29,7 @@ record IsGoodProof (text : List ℕ) : Type 0 where
   proof : IsProofOf text about
   rules : MeetsRules about
 
-good_proof : (f : FunctionData) (input text : List ℕ) → IsWholeFunctionText input f → IsVerdict f text → IsGoodProof text
+good_proof : (f : FunctionData) (input text : List ℕ) → IsFunctionInput input f → IsVerdict f text → IsGoodProof text
 good_proof f input text form (inl v) = record {
   about = claim.Minimal f;
   proof = minimal_proof f text (function_is_bounded input f form) v.2;
@@ -43,7 +42,7 @@ good_proof f input text form (inr v) = record {
 }
 
 -- a verdict is short
-verdict_is_short : (f : FunctionData) (input text : List ℕ) → IsWholeFunctionText input f → IsVerdict f text → length text ≤ 1000000
+verdict_is_short : (f : FunctionData) (input text : List ℕ) → IsFunctionInput input f → IsVerdict f text → length text ≤ 1000000
 verdict_is_short f input text form (inl v) =
     proof_text_is_short text (claim.Minimal f) tt (minimal_proof f text (function_is_bounded input f form) v.2)
 verdict_is_short f input text form (inr v) =
@@ -115,10 +114,10 @@ decision_accepted_reply input text answer e m r = accepted_reply text answer e (
 
 good_cuts : (input text : List ℕ) → IsReply cut input end.Done text → IsGoodProof text
 good_cuts input text r = record {
-  about = claim.Cut r.thing.rule r.replied.1.lines;
+  about = claim.Cut r.thing.rule r.replied.1.cuts.lines;
   proof = record {
-    bounded = lines_are_bounded input r.thing r.replied.1.lines r.spelled r.replied.1.lines_are;
-    spelled = r.replied.1.spelled;
+    bounded = lines_are_bounded input r.thing r.replied.1.cuts.lines r.spelled r.replied.1.cuts.lines_are;
+    spelled = r.replied.1.cuts.spelled;
   };
   rules = r.replied.1.rules;
 }

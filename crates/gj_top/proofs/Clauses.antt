@@ -8,9 +8,10 @@ use Rattle.gj_top.specs.declared.reply.End.{End}
 use Rattle.gj_top.specs.declared.reply.End.TheVariants as end
 use Rattle.gj_top.specs.declared.status.Status.{Status}
 use Rattle.gj_top.specs.declared.status.Status.TheVariants.{Done, ReadFault, WriteFault, Memory}
-use Rattle.gj_top.specs.Command.{IsNamed, task_for}
-use Rattle.gj_top.specs.Task.{Form, Task, reads, Spells, Refuses, IsInForm, IsReply}
-use Rattle.gj_top.specs.Task.Form.{reading, reading_nothing}
+use Rattle.gj_top.specs.Command.{IsNamed, promise_for, task_for}
+use Rattle.gj_top.specs.Promise.{Form, reads, Spells}
+use Rattle.gj_top.specs.Promise.Form.{reading, reading_nothing}
+use Rattle.gj_top.specs.Task.{Task, IsInForm, IsReply}
 use Rattle.gj_top.specs.Answer.{IsAnswerTo, IsRequestAnswer, IsAnswer, IsUnanswered, IsWithinLimit, IsReadWhole, input_limit}
 use Rattle.gj_top.specs.Answer.IsAnswerTo.{too_long, refused, replied}
 use Rattle.gj_top.specs.Answer.IsUnanswered.{unread, so_far}
@@ -25,44 +26,41 @@ use Rattle.gj_top.proofs.Sound.{sound}
 -- ---- forms that read nothing
 
 unread_spells : {Thing : Type 0} (form : Form Thing) (a b : List ℕ) (thing : Thing) → reads form ≡ false → Spells form a thing → Spells form b thing
-unread_spells (reading spells refuses) a b thing e h = absurd (cc)
+unread_spells (reading spells) a b thing e h = absurd (cc)
 unread_spells (reading_nothing given) a b thing e h = h
-
-refuses_read : {Thing : Type 0} (form : Form Thing) (input text : List ℕ) → Refuses form input text → IsTrue (reads form)
-refuses_read (reading spells refuses) input text h = refl
-refuses_read (reading_nothing given) input text h = absurd h
 
 not_both : (b : Bool) → b ≡ false → IsTrue b → ⊥
 not_both b e h = cc
 
 -- where nothing is read, the input does not matter
-unread_answer : (task : Task) (a b : List ℕ) (s : Status) (text : List ℕ) → reads task.form ≡ false →
-    IsAnswerTo task a s text → IsAnswerTo task b s text
-unread_answer task a b s text e (too_long x) = absurd (not_both (reads task.form) e x.read)
-unread_answer task a b s text e (refused x) = absurd (not_both (reads task.form) e (refuses_read task.form a text x.refused))
-unread_answer task a b s text e (replied x) = replied (record {
-  within = λ r. absurd (not_both (reads task.form) e r);
+unread_answer : (c : Request) (a b : List ℕ) (s : Status) (text : List ℕ) → reads (promise_for c).form ≡ false →
+    IsAnswerTo (task_for c) a s text → IsAnswerTo (task_for c) b s text
+unread_answer c a b s text e (too_long x) = absurd (not_both (reads (promise_for c).form) e x.read)
+unread_answer c a b s text e (refused x) = absurd (not_both (reads (promise_for c).form) e ((sound c).refusals a text x.refused))
+unread_answer c a b s text e (replied x) = replied (record {
+  within = λ r. absurd (not_both (reads (promise_for c).form) e r);
   end = x.end;
   status_is = x.status_is;
   reply = record {
     thing = x.reply.thing;
-    spelled = unread_spells task.form a b x.reply.thing e x.reply.spelled;
+    spelled = unread_spells (promise_for c).form a b x.reply.thing e x.reply.spelled;
     replied = x.reply.replied;
   };
 })
 
 -- where an input is read, the answer is one to the input that the source told
-moved : (task : Task) (b : Bool) (own input : List ℕ) (left after : Option (List ℕ)) (s : Status) (text : List ℕ) → reads task.form ≡ b →
-    (IsTrue b → left ≡ Some input) → IsReadWhole b own left after → IsAnswerTo task own s text → IsAnswerTo task input s text
-moved task true own input left after s text e given whole a =
+moved : (c : Request) (b : Bool) (own input : List ℕ) (left after : Option (List ℕ)) (s : Status) (text : List ℕ) →
+    reads (promise_for c).form ≡ b → (IsTrue b → left ≡ Some input) → IsReadWhole b own left after → IsAnswerTo (task_for c) own s text →
+    IsAnswerTo (task_for c) input s text
+moved c true own input left after s text e given whole a =
     let read : IsReadWhole true own (Some input) after = subst (λ (l : Option (List ℕ)). IsReadWhole true own l after) (given refl) whole in
-    subst (λ (i : List ℕ). IsAnswerTo task i s text) (sym read.0) a
-moved task false own input left after s text e given whole a = unread_answer task own input s text e a
+    subst (λ (i : List ℕ). IsAnswerTo (task_for c) i s text) (sym read.0) a
+moved c false own input left after s text e given whole a = unread_answer c own input s text e a
 
 answer_to_input : (words : List (String Global)) (left after : Option (List ℕ)) (s : Status) (text input : List ℕ) → IsInput words left input →
     (a : IsRequestAnswer words left after s text) → IsAnswerTo (task_for a.request) input s text
 answer_to_input words left after s text input given a =
-    moved (task_for a.request) (reads (task_for a.request).form) a.input input left after s text refl (given a.request a.named) a.whole a.answer
+    moved a.request (reads (promise_for a.request).form) a.input input left after s text refl (given a.request a.named) a.whole a.answer
 
 -- ---- answers to an input
 
@@ -73,10 +71,10 @@ done_reply task input text (refused a) = absurd (let is = a.status_is in cc)
 done_reply task input text (replied a) = subst (λ (e : End). IsReply task input e text) (done_end a.end a.status_is) a.reply
 
 -- its status is one of the task
-status_of_answer : (task : Task) (input text : List ℕ) (s : Status) → IsAnswerTo task input s text → IsStatusOf task s
-status_of_answer task input text s (too_long a) = inr (inr (inl (a.read, inr a.status_is)))
-status_of_answer task input text s (refused a) = inr (inr (inl (refuses_read task.form input text a.refused, inr a.status_is)))
-status_of_answer task input text s (replied a) = inr (inr (inr (a.end, a.status_is, (a.reply.thing, text, a.reply.replied))))
+status_of_answer : (c : Request) (input text : List ℕ) (s : Status) → IsAnswerTo (task_for c) input s text → IsStatusOf (task_for c) s
+status_of_answer c input text s (too_long a) = inr (inr (inl (a.read, inr a.status_is)))
+status_of_answer c input text s (refused a) = inr (inr (inl ((sound c).refusals input text a.refused, inr a.status_is)))
+status_of_answer c input text s (replied a) = inr (inr (inr (a.end, a.status_is, (a.reply.thing, text, a.reply.replied))))
 
 -- over an input in the form of the request and within the limit it is a reply
 status_in_form : (c : Request) (input text : List ℕ) (s : Status) → IsInForm (task_for c) input → IsWithinLimit (task_for c) input →
@@ -109,24 +107,24 @@ ends_clause words Fault left left' written written' sure r (cut_off o) c n = inr
 ends_clause words Fault left left' written written' sure r (told o) c n = elim o.answer [
   | no_request a ↦ absurd (a.unnamed c n)
   | read_fault a ↦ inr (inr (inl (
-    subst (λ (d : Request). IsTrue (reads (task_for d).form)) (one_named words a.request c a.named n) a.read,
+    subst (λ (d : Request). IsTrue (reads (promise_for d).form)) (one_named words a.request c a.named n) a.read,
     inl a.status_is,
   )))
   | of_request a ↦ subst (λ (d : Request). IsStatusOf (task_for d) r) (one_named words a.request c a.named n)
-      (status_of_answer (task_for a.request) a.input o.text r a.answer)
+      (status_of_answer a.request a.input o.text r a.answer)
 ]
 
 -- a request of words that read nothing reads nothing
-reads_not : (words : List (String Global)) (c : Request) → IsNamed words c → ReadNothing words → reads (task_for c).form ≡ false
+reads_not : (words : List (String Global)) (c : Request) → IsNamed words c → ReadNothing words → reads (promise_for c).form ≡ false
 reads_not words c m (inl none) = absurd (none c m)
-reads_not words c m (inr n) = subst (λ (d : Request). reads (task_for d).form ≡ false) (one_named words n.0 c n.1 m) n.2
+reads_not words c m (inr n) = subst (λ (d : Request). reads (promise_for d).form ≡ false) (one_named words n.0 c n.1 m) n.2
 
 -- so an answer to them leaves the source as it was, and so does none
 pub unread_by_answer : (words : List (String Global)) (Fault : Type 0) (left left' : Option (List ℕ)) (s : Status) (text : List ℕ) →
     IsAnswer words Fault left left' s text → ReadNothing words → left' ≡ left
 unread_by_answer words Fault left left' s text (no_request a) nothing = a.unread
 unread_by_answer words Fault left left' s text (read_fault a) nothing =
-    absurd (not_both (reads (task_for a.request).form) (reads_not words a.request a.named nothing) a.read)
+    absurd (not_both (reads (promise_for a.request).form) (reads_not words a.request a.named nothing) a.read)
 unread_by_answer words Fault left left' s text (of_request a) nothing =
     subst (λ (b : Bool). IsReadWhole b a.input left left') (reads_not words a.request a.named nothing) a.whole
 
@@ -134,7 +132,7 @@ pub unread_unanswered : (words : List (String Global)) (left left' : Option (Lis
     left' ≡ left
 unread_unanswered words left left' (unread same) nothing = same
 unread_unanswered words left left' (so_far u) nothing =
-    absurd (not_both (reads (task_for u.request).form) (reads_not words u.request u.named nothing) u.read)
+    absurd (not_both (reads (promise_for u.request).form) (reads_not words u.request u.named nothing) u.read)
 
 -- ---- the clauses over an input
 
@@ -178,17 +176,17 @@ module _ (words : List (String Global)) (Fault : Type 0) (left left' written wri
 
   pub complete_clause : (Unread Unwritten : Type 0) → IsOutcome words Fault left left' written written' sure r → (Fault → Unread) →
       (r ≡ WriteFault → Unwritten) → (c : Request) (input : List ℕ) → IsNamed words c → IsGoodInput (task_for c) left input →
-      (IsTrue (reads (task_for c).form) → Unread → ⊥) → (Unwritten → ⊥) → (r ≡ Memory) ⊎ IsStatusOfReply (task_for c) input r
+      (IsTrue (reads (promise_for c).form) → Unread → ⊥) → (Unwritten → ⊥) → (r ≡ Memory) ⊎ IsStatusOfReply (task_for c) input r
   complete_clause Unread Unwritten (silent o) f g c input n i x y = inl o.status_is
   complete_clause Unread Unwritten (cut_off o) f g c input n i x y = absurd (y (g o.status_is))
   complete_clause Unread Unwritten (told o) f g c input n i x y = elim o.answer [
     | no_request a ↦ absurd (a.unnamed c n)
     | read_fault a ↦
-        let read = subst (λ (d : Request). IsTrue (reads (task_for d).form)) (one_named words a.request c a.named n) a.read in
+        let read = subst (λ (d : Request). IsTrue (reads (promise_for d).form)) (one_named words a.request c a.named n) a.read in
         absurd (x read (f a.failed))
     | of_request a ↦
         let told_input : IsInput words left input = λ d m read.
-        i.told (subst (λ (e : Request). IsTrue (reads (task_for e).form)) (one_named words d c m n) read) in
+        i.told (subst (λ (e : Request). IsTrue (reads (promise_for e).form)) (one_named words d c m n) read) in
         let answer = answer_to_input words left left' r o.text input told_input a in
         inr (status_in_form c input o.text r i.form i.within
         (subst (λ (d : Request). IsAnswerTo (task_for d) input r o.text) (one_named words a.request c a.named n) answer))
@@ -205,16 +203,16 @@ module _ (words : List (String Global)) (Fault : Type 0) (input : List ℕ) (lef
   read_to_end false all t within whole = absurd (not_both false refl t)
 
   end_at : (s : Status) (text : List ℕ) → IsAnswer words Fault (Some input) left' s text → (s ≡ ReadFault → Fault → ⊥) → (c : Request) →
-      IsNamed words c → IsTrue (reads (task_for c).form) → length input ≤ input_limit → left' ≡ Some []
+      IsNamed words c → IsTrue (reads (promise_for c).form) → length input ≤ input_limit → left' ≡ Some []
   end_at s text (no_request a) no_fault c n read within = absurd (a.unnamed c n)
   end_at s text (read_fault a) no_fault c n read within = absurd (no_fault a.status_is a.failed)
   end_at s text (of_request a) no_fault c n read within =
-      read_to_end (reads (task_for a.request).form) a.input
-      (subst (λ (d : Request). IsTrue (reads (task_for d).form)) (one_named words c a.request n a.named) read) within a.whole
+      read_to_end (reads (promise_for a.request).form) a.input
+      (subst (λ (d : Request). IsTrue (reads (promise_for d).form)) (one_named words c a.request n a.named) read) within a.whole
 
 pub input_clause : (words : List (String Global)) (Fault : Type 0) (left left' : Option (List ℕ)) (s r : Status) (text : List ℕ) (Unread : Type 0) →
     IsAnswer words Fault left left' s text → (s ≡ ReadFault → Fault → (r ≡ ReadFault) ⊎ ((r ≡ WriteFault) × Unread)) →
-    IfSome left (λ input. (c : Request) → IsNamed words c → IsTrue (reads (task_for c).form) → length input ≤ input_limit →
+    IfSome left (λ input. (c : Request) → IsNamed words c → IsTrue (reads (promise_for c).form) → length input ≤ input_limit →
     r ≢ Memory → r ≢ ReadFault → (r ≡ WriteFault → Unread → ⊥) → left' ≡ Some [])
 input_clause words Fault None left' s r text Unread a fault = tt
 input_clause words Fault (Some input) left' s r text Unread a fault = λ c n read within m f w.

@@ -5,8 +5,8 @@ use Rattle.gj_words.specs.declared.requests.Command.{Command}
 use Rattle.gj_words.specs.declared.requests.Command.TheVariants.{Minimal, Extreme, Cut, Check, Show, Faces, Demo}
 use Rattle.gj_words.specs.declared.requests.Request.{Request}
 use Rattle.gj_words.proofs.Spelling.{one}
-use Rattle.gj_top.specs.Task.{reads}
-use Rattle.gj_top.specs.Command.{IsNamed, task_with}
+use Rattle.gj_top.specs.Promise.{reads}
+use Rattle.gj_top.specs.Command.{IsNamed, promise_with}
 
 pub one_named : (words : List (String Global)) (a b : Request) → IsNamed words a → IsNamed words b → a ≡ b
 one_named words a b m n = one (map string_bytes words) a b m n
@@ -16,7 +16,7 @@ abbrev pub reads_one : Command → Bool
 reads_one (Demo n) = false
 reads_one c = true
 
-pub each_reads : (c : Command) (json : Bool) → reads_one c ≡ reads (task_with c json).form
+pub each_reads : (c : Command) (json : Bool) → reads_one c ≡ reads (promise_with c json).form
 each_reads Minimal true = refl
 each_reads Minimal false = refl
 each_reads Show true = refl

@@ -22,9 +22,10 @@ use Rattle.gj_proof.specs.declared.cut.CutTerm.{CutTerm}
 use Rattle.gj_check.specs.CutRows.{MeetTerms, MeetsRow}
 use Rattle.gj_check.proofs.CutDemands.{cuts_meet}
 use Rattle.gj_check.proofs.RulesGiveMeaning.{meaning_of_rules}
-use Rattle.gj_top.specs.Cut.{CutInput, SpellsCutInput, IsTermFor, IsLineFor, AreCutsOf}
+use Rattle.gj_top.specs.Cut.{CutInput, SpellsCutInput, IsTermFor, IsLineFor, AreCheckedCutsOf}
 use Rattle.gj_top.specs.CutSteps.{PassesTests}
 use Rattle.gj_top.proofs.CutForm.{rule_is_bounded}
+use Rattle.gj_top.proofs.InputLines.{rule_of_lines}
 
 -- ---- names that all differ
 
@@ -232,18 +233,21 @@ claim_is_bounded r t lines bounded is h = (
 pub lines_are_bounded : (input : List ℕ) (thing : CutInput) (lines : List CutLine) → SpellsCutInput input thing →
     AllZip (IsLineFor thing.rule thing.tableau.columns) thing.tableau.rows lines → IsBounded (claim.Cut thing.rule lines)
 lines_are_bounded input thing lines spelled h =
-    claim_is_bounded thing.rule thing.tableau lines (rule_is_bounded input thing.rule spelled.rest spelled.rule) spelled.tableau.is_tableau h
+    let begins = rule_of_lines input thing.rule spelled.rest spelled.rule in
+    claim_is_bounded thing.rule thing.tableau lines (rule_is_bounded input thing.rule spelled.rest begins) spelled.tableau.is_tableau h
 
 pub cuts_of_lines : (r : CutRule) (t : Tableau) (lines : List CutLine) (text : List ℕ) → IsBoundedRule r → PassesTests r → IsTableau t →
-    AllZip (IsLineFor r t.columns) t.rows lines → IsProofText (claim.Cut r lines) text → AreCutsOf (record { «rule» = r; tableau = t }) text
+    AllZip (IsLineFor r t.columns) t.rows lines → IsProofText (claim.Cut r lines) text → AreCheckedCutsOf (record { «rule» = r; tableau = t }) text
 cuts_of_lines r t lines text bounded passes is h spelled =
     let bs = map (λ (row : Row). row.basic) t.rows in
     let rules = cuts_meet r lines passes.tests
     (rows_meet r t.columns t.rows lines (front_differ t.columns bs is.names.differ) (basics_differ t.columns t.rows is.names.differ) is.each_row h) in
     record {
-      lines = lines;
-      lines_are = h;
+      cuts = record {
+        lines = lines;
+        lines_are = h;
+        hold = meaning_of_rules (claim.Cut r lines) (claim_is_bounded r t lines bounded is h) tt rules;
+        spelled = spelled;
+      };
       rules = rules;
-      hold = meaning_of_rules (claim.Cut r lines) (claim_is_bounded r t lines bounded is h) tt rules;
-      spelled = spelled;
     }

@@ -17,9 +17,10 @@ use Rattle.gj_top.specs.declared.reply.Unanswered.{Unanswered}
 use Rattle.gj_top.specs.declared.reply.Unanswered.TheVariants.{Refused, Memory}
 use Rattle.gj_top.specs.Task.{IsRefusal, IsReply}
 use Rattle.gj_top.specs.Forms.{IsRefusalOf}
-use Rattle.gj_top.specs.Cut.{BeginsWithRule, CutInput, SpellsCutInput, RefusesCutInput, IsCutReply, cut_input, cut}
+use Rattle.gj_top.specs.Cut.{BeginsWithRule, CutInput, SpellsCutInput, RefusesCutInput, IsCutReply, cut}
 use Rattle.gj_top.specs.Cut.RefusesCutInput.{of_rule, of_function, of_tableau}
 use Rattle.gj_top.specs.CutSteps.{IsTableauRefusal}
+use Rattle.gj_top.proofs.InputLines.{rule_of_lines, lines_of_rule}
 
 -- ---- what follows a rule
 
@@ -48,29 +49,30 @@ no_function_fault text (Table f) rest n e h begins fault = no_fault_of_text text
 
 pub cut_input_refuses_only_others : (input text : List ℕ) (thing : CutInput) → SpellsCutInput input thing → RefusesCutInput input text → ⊥
 cut_input_refuses_only_others input text thing h (of_rule begins fault) =
-    no_rule_fault input thing.rule h.rest fault.at_line fault.reason h.rule begins fault.first
+    no_rule_fault input thing.rule h.rest fault.at_line fault.reason (rule_of_lines input thing.rule h.rest h.rule) begins fault.first
 cut_input_refuses_only_others input text thing h (of_function begins fault) =
-    no_function_fault input thing.rule h.rest fault.at_line fault.reason h.rule begins fault.first
+    no_function_fault input thing.rule h.rest fault.at_line fault.reason (rule_of_lines input thing.rule h.rest h.rule) begins fault.first
 cut_input_refuses_only_others input text thing h (of_tableau fault) =
-    let same : h.rest ≡ fault.rest = one_rest input thing.rule fault.rule h.rest fault.rest h.rule fault.begins in
+    let same : h.rest ≡ fault.rest =
+    one_rest input thing.rule fault.rule h.rest fault.rest (rule_of_lines input thing.rule h.rest h.rule) fault.begins in
     no_first_fault (records_of fault.rest) thing.tableau fault.record_number fault.reason
     (subst (λ rest. IsTableauText rest thing.tableau) same h.tableau) fault.first
 
 -- the refusal for the first fault of a rule text, of a function text, of what follows either
 pub refusal_of_rule : (input : List ℕ) (n : ℕ) (e : Reason) (u : Unanswered) → BeginsAsRule input → IsFirstFaultOfRule input n e →
-    IsRefusalOf n e u → IsRefusal cut_input input u
+    IsRefusalOf n e u → IsRefusal RefusesCutInput input u
 refusal_of_rule input n e (Refused text) begins first spelled =
     of_rule begins (record { at_line = n; reason = e; first = first; spelled = spelled })
 refusal_of_rule input n e (Memory a) begins first spelled = tt
 
 pub refusal_of_function : (input : List ℕ) (n : ℕ) (e : Reason) (u : Unanswered) → (BeginsAsRule input → ⊥) → IsFirstFault input n e →
-    IsRefusalOf n e u → IsRefusal cut_input input u
+    IsRefusalOf n e u → IsRefusal RefusesCutInput input u
 refusal_of_function input n e (Refused text) begins first spelled =
     of_function begins (record { at_line = n; reason = e; first = first; spelled = spelled })
 refusal_of_function input n e (Memory a) begins first spelled = tt
 
 pub refusal_of_tableau : (input rest : List ℕ) (r : CutRule) (u : Unanswered) → BeginsWithRule input r rest → IsTableauRefusal rest u →
-    IsRefusal cut_input input u
+    IsRefusal RefusesCutInput input u
 refusal_of_tableau input rest r (Refused text) begins fault = of_tableau (record {
   «rule» = r;
   rest = rest;
@@ -89,6 +91,6 @@ pub reply_of : (input rest : List ℕ) (r : CutRule) (t : Tableau) (end : End) (
     IsCutReply (record { «rule» = r; tableau = t }) end text → IsReply cut input end text
 reply_of input rest r t end text begins spelled replied = record {
   thing = record { «rule» = r; tableau = t };
-  spelled = record { rest = rest; «rule» = begins; tableau = spelled };
+  spelled = record { rest = rest; «rule» = lines_of_rule input r rest begins; tableau = spelled };
   replied = replied;
 }

@@ -136,7 +136,7 @@ pub text_of_faces : (f : FunctionData) (n k : ℕ) (cover : Cover) (title first 
 text_of_faces f n k cover title first second third fourth whole n_is k_is covered is p rows r some s =
     let pushed : ArePushed cover.component f.order third fourth = subst (λ m. ArePushed cover.component m third fourth) k_is some in
     record {
-      faces = rows.faces;
+      listed = rows.faces;
       maximal = all_rows_picked f f.order rows.faces refl rows.picked;
       lines = cover.lines;
       cover = covered.lines;

@@ -10,13 +10,13 @@ use Rattle.gj_port.specs.declared.fault.ReadError.TheVariants.{TooLong}
 use Rattle.gj_top.specs.declared.answer.Answer.{Answer}
 use Rattle.gj_words.specs.declared.requests.Request.{Request}
 use Rattle.gj_top.specs.declared.status.Status.TheVariants.{Input}
-use Rattle.gj_top.specs.Command.{IsNamed, task_for}
-use Rattle.gj_top.specs.Task.{reads}
+use Rattle.gj_top.specs.Command.{IsNamed, promise_for, task_for}
+use Rattle.gj_top.specs.Promise.{reads}
 use Rattle.gj_top.specs.Answer.{IsAnswerTo, IsAnswer, IsReadWhole, answer_status, answer_text, input_limit, long_line}
 use Rattle.gj_top.specs.Answer.IsAnswerTo.{too_long}
 use Rattle.gj_top.specs.Answer.IsAnswer.{of_request}
 
-module _ (words : List (String Global)) (Fault : Type 0) (c : Request) (named : IsNamed words c) (read : reads (task_for c).form ≡ true) where
+module _ (words : List (String Global)) (Fault : Type 0) (c : Request) (named : IsNamed words c) (read : reads (promise_for c).form ≡ true) where
   -- what was read is all that the source told
   read_whole : (left after : Option (List ℕ)) (bytes : Vec ℕ Global) → vec_len bytes ≤ input_limit →
       IfSome left (λ l. TakesAll input_limit l after (Ok bytes)) → IsReadWhole true bytes.items left after

@@ -8,6 +8,7 @@ pub mod CutParts
 pub mod Ends
 pub mod Extremality
 pub mod FacesTexts
+pub mod InputLines
 pub mod InputRead
 pub mod OneReport
 pub mod ProofBytes

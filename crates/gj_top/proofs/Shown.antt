@@ -11,13 +11,18 @@ use Rattle.gj_top.specs.Show.{IsShowing, show}
 use Rattle.gj_top.specs.Answer.{IsAnswerTo}
 use Rattle.gj_top.specs.Answer.IsAnswerTo.{too_long, refused, replied}
 use Rattle.gj_top.proofs.Clauses.{done_reply}
+use Rattle.gj_top.proofs.InputLines.{whole_of_input}
 use Rattle.gj_top.proofs.Sound.{show_sound}
 use Rattle.gj_top.proofs.TextLaws.{function_is_bounded, one_function, canonical_text_is_read, one_canonical, shown_text_is_short}
 
 -- what is shown is a function text of the function that was read
 pub shown_is_read : (input text : List ℕ) → IsReply show input end.Done text →
     (f : FunctionData) × IsWholeFunctionText input f × IsWholeFunctionText text f
-shown_is_read input text r = (r.thing, r.spelled, canonical_text_is_read r.thing text (function_is_bounded input r.thing r.spelled) r.replied)
+shown_is_read input text r = (
+  r.thing,
+  whole_of_input input r.thing r.spelled,
+  whole_of_input text r.thing (canonical_text_is_read r.thing text (function_is_bounded input r.thing r.spelled) r.replied),
+)
 
 -- a showing ends with Done
 showing_done : (f : FunctionData) (e : End) (text : List ℕ) → IsShowing f e text → (e ≡ end.Done) × IsCanonicalText text f

@@ -1,16 +1,19 @@
--- What holds of every task: no input in its form is refused, and a reply that ends with Done keeps the headline.
-use Rattle.std.proofs.Common.{inl, inr, ℕ, Bool, true, false, List}
+-- What holds of every task: no input in its form is refused, and none where it reads none; and a reply that ends with Done keeps the
+-- promise.
+use Rattle.std.proofs.Common.{inl, inr, ℕ, Bool, true, false, List, IsTrue, refl}
 use Rattle.gj_shape.specs.FunctionData.{FunctionData}
 use Rattle.gj_words.specs.declared.requests.Command.{Command}
 use Rattle.gj_words.specs.declared.requests.Command.TheVariants.{Minimal, Extreme, Cut, Check, Show, Faces, Demo}
 use Rattle.gj_words.specs.declared.requests.Request.{Request}
 use Rattle.gj_top.specs.declared.reply.End.TheVariants.{Done}
-use Rattle.gj_top.specs.Task.{Form, Spells, Refuses, Work, Task}
+use Rattle.gj_top.specs.Promise.{reads, Spells}
+use Rattle.gj_top.specs.Task.{Task}
+use Rattle.gj_json.specs.JsonFunction.{IsJsonFunction}
 use Rattle.gj_json.proofs.OneFunction.{no_reason}
-use Rattle.gj_top.specs.Forms.{function_text, json_function, proof_text}
-use Rattle.gj_top.specs.Report.{reported}
-use Rattle.gj_top.specs.Minimal.{IsVerdict, IsTrueVerdict, minimal, minimal_json}
-use Rattle.gj_top.specs.Extreme.{extreme, extreme_json}
+use Rattle.gj_top.specs.Forms.{IsFunctionInput, IsProofOf, RefusesFunctionText, RefusesJson, RefusesProofText}
+use Rattle.gj_top.specs.Report.{IsReportOf}
+use Rattle.gj_top.specs.Minimal.{IsDecision, IsVerdict, IsTrueVerdict, minimal, minimal_json}
+use Rattle.gj_top.specs.Extreme.{IsExtremality, IsTrueExtremality, extreme, extreme_json}
 use Rattle.gj_top.specs.Show.{show, show_json}
 use Rattle.gj_top.specs.Check.{check}
 use Rattle.gj_top.specs.Faces.{faces}
@@ -27,31 +30,28 @@ use Rattle.gj_top.proofs.Extremality.{extremality_true}
 use Rattle.gj_top.proofs.TextLaws.{function_text_has_no_fault, proof_text_has_no_fault}
 
 -- no input is both in the form and refused
-abbrev pub RefusesOnlyOthers : {Thing : Type 0} → Form Thing → Type 0
-RefusesOnlyOthers {Thing} form = (input text : List ℕ) (thing : Thing) → Spells form input thing → Refuses form input text → ⊥
-
--- a reply that ends with Done keeps what is promised of it
-abbrev pub KeepsHeadline : {Thing : Type 0} → Work Thing → Type 0
-KeepsHeadline {Thing} work = (thing : Thing) (text : List ℕ) → work.replies thing Done text → work.headline thing text
+abbrev pub RefusesOnlyOthers : {Thing : Type 0} → (List ℕ → Thing → Type 0) → (List ℕ → List ℕ → Type 0) → Type 0
+RefusesOnlyOthers {Thing} spells refuses = (input text : List ℕ) (thing : Thing) → spells input thing → refuses input text → ⊥
 
 pub record IsSound (task : Task) : Type 0 where
-  pub form : RefusesOnlyOthers task.form
-  pub work : KeepsHeadline task.work
+  pub form : RefusesOnlyOthers (Spells task.promise.form) task.work.refuses
+  pub refusals : (input text : List ℕ) → task.work.refuses input text → IsTrue (reads task.promise.form)
+  pub work : (thing : task.promise.Thing) (text : List ℕ) → task.work.replies thing Done text → task.promise.headline thing text
 
-function_text_sound : RefusesOnlyOthers function_text
+function_text_sound : RefusesOnlyOthers IsFunctionInput RefusesFunctionText
 function_text_sound input text f spelled refused = function_text_has_no_fault input f refused.at_line refused.reason spelled refused.first
 
-proof_text_sound : RefusesOnlyOthers proof_text
+proof_text_sound : RefusesOnlyOthers IsProofOf RefusesProofText
 proof_text_sound input text c spelled refused = proof_text_has_no_fault input c refused.at_line refused.reason spelled refused.first
 
-json_function_sound : RefusesOnlyOthers json_function
+json_function_sound : RefusesOnlyOthers IsJsonFunction RefusesJson
 json_function_sound input text f spelled refused = no_reason input f refused.reason spelled refused.first
 
--- the proof text in a report keeps the headline of the work
-reported_keeps : {Thing : Type 0} (work : Work Thing) → KeepsHeadline work → KeepsHeadline (reported work)
-reported_keeps work keeps thing text r = record {
+-- what follows of the proof text in a report
+reported : (P Q : List ℕ → Type 0) → ((proof : List ℕ) → P proof → Q proof) → (text : List ℕ) → IsReportOf P text → IsReportOf Q text
+reported P Q keeps text r = record {
   proof = r.proof;
-  holds = keeps thing r.proof r.holds;
+  holds = keeps r.proof r.holds;
   claim = r.claim;
   spelled = r.spelled;
   report = r.report;
@@ -62,35 +62,51 @@ verdict_true f text (inl m) = inl (m.2, m.0)
 verdict_true f text (inr v) = inr (v.0, v.4, v.2)
 
 pub minimal_sound : IsSound minimal
-minimal_sound = record { form = function_text_sound; work = verdict_true }
+minimal_sound = record { form = function_text_sound; refusals = λ input text refused. refl; work = verdict_true }
 
 pub extreme_sound : IsSound extreme
-extreme_sound = record { form = function_text_sound; work = extremality_true }
+extreme_sound = record { form = function_text_sound; refusals = λ input text refused. refl; work = extremality_true }
 
 pub show_sound : IsSound show
-show_sound = record { form = function_text_sound; work = λ f text shown. shown }
+show_sound = record { form = function_text_sound; refusals = λ input text refused. refl; work = λ f text shown. shown }
 
 minimal_json_sound : IsSound minimal_json
-minimal_json_sound = record { form = json_function_sound; work = reported_keeps minimal.work verdict_true }
+minimal_json_sound = record {
+  form = json_function_sound;
+  refusals = λ input text refused. refl;
+  work = λ f text. reported (IsDecision f Done) (IsTrueVerdict f) (verdict_true f) text;
+}
 
 extreme_json_sound : IsSound extreme_json
-extreme_json_sound = record { form = json_function_sound; work = reported_keeps extreme.work extremality_true }
+extreme_json_sound = record {
+  form = json_function_sound;
+  refusals = λ input text refused. refl;
+  work = λ f text. reported (IsExtremality f Done) (IsTrueExtremality f) (extremality_true f) text;
+}
 
 show_json_sound : IsSound show_json
-show_json_sound = record { form = json_function_sound; work = λ f text shown. shown }
+show_json_sound = record { form = json_function_sound; refusals = λ input text refused. refl; work = λ f text shown. shown }
 
 pub check_sound : IsSound check
-check_sound = record { form = proof_text_sound; work = λ c text accepted. (accepted.holds, accepted.spelled) }
+check_sound = record {
+  form = proof_text_sound;
+  refusals = λ input text refused. refl;
+  work = λ c text accepted. (accepted.holds, accepted.spelled);
+}
 
 pub faces_sound : IsSound faces
-faces_sound = record { form = function_text_sound; work = λ f text listed. listed }
+faces_sound = record { form = function_text_sound; refusals = λ input text refused. refl; work = λ f text listed. listed }
 
 pub cut_sound : IsSound cut
-cut_sound = record { form = cut_input_refuses_only_others; work = λ input text made. made.1 }
+cut_sound = record {
+  form = cut_input_refuses_only_others;
+  refusals = λ input text refused. refl;
+  work = λ input text made. made.1.cuts;
+}
 
 demo_true : (n : ℕ) (text : List ℕ) → HasSummary n text → IsTrueDemonstration n text
 demo_true n text h =
-    let holds = decided_holds h.function (NotExtreme h.function h.halves) h.within h.summary.verdict in
+    let holds = decided_holds h.function (NotExtreme h.function h.halves) h.within h.verdict in
     record {
       function = h.function;
       halves = h.halves;
@@ -104,7 +120,11 @@ demo_true n text h =
     shown_of f halves (jumps_not, is_minimal, shown) = shown
 
 demo_sound : (n : ℕ) → IsSound (demo n)
-demo_sound n = record { form = λ input text thing spelled refused. refused; work = demo_true }
+demo_sound n = record {
+  form = λ input text thing spelled refused. refused;
+  refusals = λ input text refused. absurd refused;
+  work = demo_true;
+}
 
 -- the task of each request is sound
 sound_with : (c : Command) (json : Bool) → IsSound (task_with c json)

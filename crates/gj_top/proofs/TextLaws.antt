@@ -1,26 +1,39 @@
 -- What the commands use of the laws of function texts, proof texts and the checker's rules.
-use Rattle.std.proofs.Common.{◌≡◌, ℕ, ◌≤◌, List, length, sym, subst}
+use Rattle.std.proofs.Common.{◌≡◌, ℕ, ◌≤◌, List, length}
 use Rattle.gj_lex.specs.declared.reason.Reason.{Reason}
 use Rattle.gj_shape.specs.FunctionData.{FunctionData, IsWithinBounds}
 use Rattle.gj_shape.specs.declared.violations.Violation.{Violation}
-use Rattle.gj_ftext.specs.FunctionText.{IsWholeFunctionText}
-pub use Rattle.gj_ftext.proofs.Canonical.{canonical_text_is_whole as canonical_text_is_read, canonical_text_is_short as shown_text_is_short}
+use Rattle.gj_ftext.specs.FunctionText.{IsCanonicalText}
+use Rattle.gj_ftext.specs.FirstFault.{IsFirstFaultOfWhole}
+use Rattle.gj_ftext.proofs.Canonical.{canonical_text_is_whole}
+pub use Rattle.gj_ftext.proofs.Canonical.{canonical_text_is_short as shown_text_is_short}
 use Rattle.gj_ftext.proofs.FunctionTexts.{function_is_within}
+use Rattle.gj_ftext.proofs.LinesOfFunction.{lines_are_text}
 pub use Rattle.gj_ftext.proofs.OneCanonical.{one_canonical_text as one_canonical}
-pub use Rattle.gj_ftext.proofs.OneText.{one_whole_function as one_function, no_fault_of_whole as function_text_has_no_fault}
+use Rattle.gj_ftext.proofs.OneText.{one_whole_function, no_fault_of_whole}
 use Rattle.gj_proof.specs.ProofText.{IsProofText, IsShort}
 use Rattle.gj_proof.specs.FirstFault.{IsFirstFault}
 use Rattle.gj_proof.specs.declared.claim.Claim.{Claim}
 use Rattle.gj_proof.specs.declared.claim.Claim.TheVariants.{Minimal, NotMinimal}
 use Rattle.gj_proof.proofs.OneText.{one_claim, no_fault}
 use Rattle.gj_proof.proofs.ShortTexts.{text_is_short}
-use Rattle.gj_top.specs.Forms.{IsProofOf}
+use Rattle.gj_top.specs.Forms.{IsFunctionInput, IsProofOf}
+use Rattle.gj_top.proofs.InputLines.{whole_of_input, input_of_whole}
 
 -- ---- function texts
 
-pub function_is_bounded : (input : List ℕ) (f : FunctionData) → IsWholeFunctionText input f → IsWithinBounds f
-function_is_bounded input f (r, (g, rest, read, (same, at, nothing))) =
-    subst IsWithinBounds (sym same) (function_is_within input g rest read)
+pub function_is_bounded : (input : List ℕ) (f : FunctionData) → IsFunctionInput input f → IsWithinBounds f
+function_is_bounded input f (rest, lines, nothing) = function_is_within input f rest (lines_are_text input f rest lines)
+
+pub one_function : (input : List ℕ) (f g : FunctionData) → IsFunctionInput input f → IsFunctionInput input g → f ≡ g
+one_function input f g h k = one_whole_function input f g (whole_of_input input f h) (whole_of_input input g k)
+
+pub function_text_has_no_fault : (input : List ℕ) (f : FunctionData) (n : ℕ) (reason : Reason) → IsFunctionInput input f →
+    IsFirstFaultOfWhole input n reason → ⊥
+function_text_has_no_fault input f n reason h fault = no_fault_of_whole input f n reason (whole_of_input input f h) fault
+
+pub canonical_text_is_read : (f : FunctionData) (text : List ℕ) → IsWithinBounds f → IsCanonicalText text f → IsFunctionInput text f
+canonical_text_is_read f text within canonical = input_of_whole text f (canonical_text_is_whole f text within canonical)
 
 -- ---- proof texts
 

@@ -10,9 +10,10 @@ use Rattle.gj_top.specs.declared.answer.Answer.TheVariants as answer
 use Rattle.gj_top.specs.declared.reply.End.{End}
 use Rattle.gj_top.specs.declared.status.Status.{Status}
 use Rattle.gj_top.specs.declared.status.Status.TheVariants.{Words, Input, ReadFault}
-use Rattle.gj_top.specs.Command.{IsNamed, NameNone, task_for}
+use Rattle.gj_top.specs.Command.{IsNamed, NameNone, promise_for, task_for}
 use Rattle.gj_top.specs.Reply.{status_of}
-use Rattle.gj_top.specs.Task.{Task, reads, Refuses, IsReply}
+use Rattle.gj_top.specs.Promise.{reads}
+use Rattle.gj_top.specs.Task.{Task, IsReply}
 
 -- the most bytes that are read of an input
 abbrev pub input_limit : ℕ
@@ -32,20 +33,20 @@ long_line = line (codes "refused long")
 
 -- the input is longer than the limit
 pub record IsTooLong (task : Task) (input : List ℕ) (status : Status) (text : List ℕ) : Type 0 where
-  pub read : IsTrue (reads task.form)
+  pub read : IsTrue (reads task.promise.form)
   pub long : input_limit < length input
   pub status_is : status ≡ Input
   pub spelled : text ≡ long_line
 
 -- the input, where one is read, is within the limit
 abbrev pub IsWithinLimit : Task → List ℕ → Type 0
-IsWithinLimit task input = IsTrue (reads task.form) → length input ≤ input_limit
+IsWithinLimit task input = IsTrue (reads task.promise.form) → length input ≤ input_limit
 
 -- the input is outside its form
 pub record IsRefused (task : Task) (input : List ℕ) (status : Status) (text : List ℕ) : Type 0 where
   pub within : IsWithinLimit task input
   pub status_is : status ≡ Input
-  pub refused : Refuses task.form input text
+  pub refused : task.work.refuses input text
 
 -- the input is in its form, and the reply ends with this status
 pub record IsReplied (task : Task) (input : List ℕ) (status : Status) (text : List ℕ) : Type 0 where
@@ -88,7 +89,7 @@ pub record IsFaultAnswer (words : List (String Global)) (Fault : Type 0) (left a
     Type 0 where
   pub request : Request
   pub named : IsNamed words request
-  pub read : IsTrue (reads (task_for request).form)
+  pub read : IsTrue (reads (promise_for request).form)
   pub failed : Fault
   pub part : IsReadInPart left after
   pub status_is : status ≡ ReadFault
@@ -99,7 +100,7 @@ pub record IsRequestAnswer (words : List (String Global)) (left after : Option (
   pub request : Request
   pub named : IsNamed words request
   pub input : List ℕ
-  pub whole : IsReadWhole (reads (task_for request).form) input left after
+  pub whole : IsReadWhole (reads (promise_for request).form) input left after
   pub answer : IsAnswerTo (task_for request) input status text
 
 -- the status and the text are the answer to the words, where `Fault` says that the source failed
@@ -112,7 +113,7 @@ pub data IsAnswer (words : List (String Global)) (Fault : Type 0) (left after : 
 pub record IsReadSoFar (words : List (String Global)) (left after : Option (List ℕ)) : Type 0 where
   pub request : Request
   pub named : IsNamed words request
-  pub read : IsTrue (reads (task_for request).form)
+  pub read : IsTrue (reads (promise_for request).form)
   pub part : IsReadInPart left after
 
 -- there is no answer for want of memory: the source is as it was, or was read in part

@@ -10,8 +10,9 @@ use Rattle.gj_check.specs.FirstFailure.{IsFirstFailure}
 use Rattle.gj_check.specs.RuleWords.{rule_word}
 use Rattle.gj_top.specs.declared.reply.End.{End}
 use Rattle.gj_top.specs.declared.reply.End.TheVariants.{Done, Rejected}
+use Rattle.gj_top.specs.Promise.{Promise}
 use Rattle.gj_top.specs.Task.{Task}
-use Rattle.gj_top.specs.Forms.{proof_text}
+use Rattle.gj_top.specs.Forms.{proof_text, RefusesProofText}
 
 -- the line that calls a claim accepted
 abbrev pub accepted_line : Claim → List ℕ
@@ -40,9 +41,11 @@ IsJudgement c end text = ⊥
 abbrev pub IsTrueAcceptance : Claim → List ℕ → Type 0
 IsTrueAcceptance c text = ClaimHolds c × (text ≡ accepted_line c)
 
+abbrev pub check_promise : Promise
+check_promise = record { Thing = Claim; form = proof_text; headline = IsTrueAcceptance }
+
 abbrev pub check : Task
 check = record {
-  Thing = Claim;
-  form = proof_text;
-  work = record { replies = IsJudgement; headline = IsTrueAcceptance };
+  promise = check_promise;
+  work = record { refuses = RefusesProofText; replies = IsJudgement };
 }

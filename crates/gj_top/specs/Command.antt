@@ -5,27 +5,48 @@ use Rattle.gj_words.specs.Grammar.{SpellRequest}
 use Rattle.gj_words.specs.declared.requests.Command.{Command}
 use Rattle.gj_words.specs.declared.requests.Command.TheVariants.{Minimal, Extreme, Cut, Show, Check, Faces, Demo}
 use Rattle.gj_words.specs.declared.requests.Request.{Request}
-use Rattle.gj_top.specs.Task.{Task}
-use Rattle.gj_top.specs.Minimal.{minimal, minimal_json}
-use Rattle.gj_top.specs.Extreme.{extreme, extreme_json}
-use Rattle.gj_top.specs.Show.{show, show_json}
-use Rattle.gj_top.specs.Check.{check}
-use Rattle.gj_top.specs.Faces.{faces}
-use Rattle.gj_top.specs.Cut.{cut}
-use Rattle.gj_top.specs.Demo.{demo}
+use Rattle.gj_top.specs.Promise.{Promise}
+use Rattle.gj_top.specs.Task.{Work, Task}
+use Rattle.gj_top.specs.Minimal.{minimal, minimal_promise, minimal_json, minimal_json_promise}
+use Rattle.gj_top.specs.Extreme.{extreme, extreme_promise, extreme_json, extreme_json_promise}
+use Rattle.gj_top.specs.Show.{show, show_promise, show_json, show_json_promise}
+use Rattle.gj_top.specs.Check.{check, check_promise}
+use Rattle.gj_top.specs.Faces.{faces, faces_promise}
+use Rattle.gj_top.specs.Cut.{cut, cut_promise}
+use Rattle.gj_top.specs.Demo.{demo, demo_promise}
 
--- the task of a command with the flag or without it
+-- what a command with the flag or without it promises
+abbrev pub promise_with : Command → Bool → Promise
+promise_with Minimal true = minimal_json_promise
+promise_with Minimal false = minimal_promise
+promise_with Extreme true = extreme_json_promise
+promise_with Extreme false = extreme_promise
+promise_with Show true = show_json_promise
+promise_with Show false = show_promise
+promise_with Check json = check_promise
+promise_with Faces json = faces_promise
+promise_with Cut json = cut_promise
+promise_with (Demo n) json = demo_promise n
+
+abbrev pub promise_for : Request → Promise
+promise_for request = promise_with request.command request.json
+
+-- and how it answers
+abbrev pub work_with : (command : Command) (json : Bool) → Work (promise_with command json)
+work_with Minimal true = minimal_json.work
+work_with Minimal false = minimal.work
+work_with Extreme true = extreme_json.work
+work_with Extreme false = extreme.work
+work_with Show true = show_json.work
+work_with Show false = show.work
+work_with Check json = check.work
+work_with Faces json = faces.work
+work_with Cut json = cut.work
+work_with (Demo n) json = (demo n).work
+
+-- both together
 abbrev pub task_with : Command → Bool → Task
-task_with Minimal true = minimal_json
-task_with Minimal false = minimal
-task_with Extreme true = extreme_json
-task_with Extreme false = extreme
-task_with Show true = show_json
-task_with Check json = check
-task_with Faces json = faces
-task_with Cut json = cut
-task_with Show json = show
-task_with (Demo n) json = demo n
+task_with command json = record { promise = promise_with command json; work = work_with command json }
 
 abbrev pub task_for : Request → Task
 task_for request = task_with request.command request.json

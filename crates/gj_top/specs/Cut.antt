@@ -1,14 +1,17 @@
 -- The command `cut`: a function or a rule, and a tableau behind it, are answered with the cuts of its rows (Gomory and Johnson
 -- 1972; the form is own).
-use Rattle.std.specs.Prelude.{ℕ, ◌≡◌, List, [], ◌++◌, All, codes, decimal, get_or}
+use Rattle.std.specs.Prelude.{ℕ, ◌≡◌, List, [], ◌∷◌, ◌++◌, All, codes, decimal, get_or}
 use Rattle.std.specs.List.{AllZip}
 use Rattle.gj_shape.specs.FirstViolation.{IsFirstViolation}
 use Rattle.gj_shape.specs.Table.{IsMinimal}
 use Rattle.gj_shape.specs.declared.violations.Violation.{Violation}
+use Rattle.gj_lex.specs.TextLines.{HasLines}
+use Rattle.gj_lex.specs.declared.spelling.Spelling.TheVariants.{Lenient}
 use Rattle.gj_lines.specs.FunctionLines.{line}
+use Rattle.gj_ftext.specs.BreaksText.{end_words}
 use Rattle.gj_ftext.specs.FunctionText.{IsFunctionText}
 use Rattle.gj_ftext.specs.FirstFault.{IsFirstFault}
-use Rattle.gj_ftext.specs.RuleText.{BeginsAsRule, IsRuleText, IsFirstFaultOfRule}
+use Rattle.gj_ftext.specs.RuleText.{rule_title_words, rule_name_words, BeginsAsRule, IsRuleText, IsFirstFaultOfRule}
 use Rattle.gj_row.specs.FirstFault.{IsFirstFault as IsFirstFaultOfTableau, reason_word}
 use Rattle.gj_row.specs.TableauText.{IsTableauText}
 use Rattle.gj_row.specs.declared.faults.RowReason.{RowReason}
@@ -26,9 +29,10 @@ use Rattle.gj_proof.specs.declared.cut.CutRule.TheVariants.{Gmic, Table}
 use Rattle.gj_proof.specs.declared.cut.CutTerm.{CutTerm}
 use Rattle.gj_top.specs.declared.reply.End.{End}
 use Rattle.gj_top.specs.declared.reply.End.TheVariants.{Done, NoFunction}
-use Rattle.gj_top.specs.Task.{Form, Task}
-use Rattle.gj_top.specs.Task.Form.{reading}
-use Rattle.gj_top.specs.Forms.{NamesFault}
+use Rattle.gj_top.specs.Promise.{Form, Promise}
+use Rattle.gj_top.specs.Promise.Form.{reading}
+use Rattle.gj_top.specs.Task.{Task}
+use Rattle.gj_top.specs.Forms.{BeginsWithFunction, NamesFault}
 
 -- ---- the input
 
@@ -37,16 +41,26 @@ pub record CutInput : Type 0 where
   pub «rule» : CutRule
   pub tableau : Tableau
 
--- the text begins with a rule text or a function text, and the rest follows its line `end`
-abbrev pub BeginsWithRule : List ℕ → CutRule → List ℕ → Type 0
-BeginsWithRule text Gmic rest = BeginsAsRule text × IsRuleText text rest
-BeginsWithRule text (Table f) rest = (BeginsAsRule text → ⊥) × IsFunctionText text f rest
+-- the text begins with the lines `gj-rule 1`, `gmic` and `end`, or with those of a function, and the rest follows
+abbrev pub HasLinesOfRule : List ℕ → CutRule → List ℕ → Type 0
+HasLinesOfRule text Gmic rest = HasLines Lenient text (rule_title_words ∷ rule_name_words ∷ end_words ∷ []) rest
+HasLinesOfRule text (Table f) rest = BeginsWithFunction text f rest
 
 -- and the rest is a tableau
 pub record SpellsCutInput (text : List ℕ) (input : CutInput) : Type 0 where
   pub rest : List ℕ
-  pub «rule» : BeginsWithRule text input.rule rest
+  pub «rule» : HasLinesOfRule text input.rule rest
   pub tableau : IsTableauText rest input.tableau
+
+abbrev pub cut_input : Form CutInput
+cut_input = reading SpellsCutInput
+
+-- ---- refusals
+
+-- the text begins with a rule text or a function text, and the rest follows its line `end`
+abbrev pub BeginsWithRule : List ℕ → CutRule → List ℕ → Type 0
+BeginsWithRule text Gmic rest = BeginsAsRule text × IsRuleText text rest
+BeginsWithRule text (Table f) rest = (BeginsAsRule text → ⊥) × IsFunctionText text f rest
 
 -- the line that refuses an input for the n-th record of its tableau
 abbrev pub refused_record_line : ℕ → RowReason → List ℕ
@@ -68,10 +82,7 @@ pub data RefusesCutInput (input text : List ℕ) : Type 0 where
   of_function : (BeginsAsRule input → ⊥) → NamesFault (IsFirstFault input) text → RefusesCutInput input text
   of_tableau : NamesRecord input text → RefusesCutInput input text
 
-abbrev pub cut_input : Form CutInput
-cut_input = reading SpellsCutInput RefusesCutInput
-
--- ---- the answer
+-- ---- the cuts
 
 -- the term of an entry: the name of its column, the entry, and the rule's value there for this right side
 pub record IsTermFor (r : CutRule) (columns : List (List ℕ)) (row : Row) (e : Entry) (t : CutTerm) : Type 0 where
@@ -86,18 +97,24 @@ IsLineFor r columns row (Cut name right terms) = (name ≡ row.basic) × (right 
     × AllZip (IsTermFor r columns row) row.entries terms
 IsLineFor r columns row (Skip name right reason) = (name ≡ row.basic) × (right ≡ row.rhs) × MeetsFraction r (Skip name right reason)
 
+-- the text is the proof text of a line for each row, in their order; each cut holds at every solution of its row
+pub record AreCutsOf (input : CutInput) (text : List ℕ) : Type 0 where
+  pub lines : List CutLine
+  pub lines_are : AllZip (IsLineFor input.rule input.tableau.columns) input.tableau.rows lines
+  pub hold : All CutLineHolds lines
+  pub spelled : IsProofText (claim.Cut input.rule lines) text
+
+-- ---- the answer
+
 -- the rule makes cuts: a function is minimal
 abbrev pub MakesCuts : CutRule → Type 0
 MakesCuts Gmic = Unit {0}
 MakesCuts (Table f) = IsMinimal f
 
--- the text is the proof text of a line for each row, in their order; each cut holds at every solution of its row
-pub record AreCutsOf (input : CutInput) (text : List ℕ) : Type 0 where
-  pub lines : List CutLine
-  pub lines_are : AllZip (IsLineFor input.rule input.tableau.columns) input.tableau.rows lines
-  pub rules : MeetsRules (claim.Cut input.rule lines)
-  pub hold : All CutLineHolds lines
-  pub spelled : IsProofText (claim.Cut input.rule lines) text
+-- the text is the proof text of the cuts, and every rule of the checker holds of their claim
+pub record AreCheckedCutsOf (input : CutInput) (text : List ℕ) : Type 0 where
+  pub cuts : AreCutsOf input text
+  pub rules : MeetsRules (claim.Cut input.rule cuts.lines)
 
 -- the text names the first violation of a function that is not minimal
 abbrev pub NamesViolation : CutRule → List ℕ → Type 0
@@ -106,14 +123,16 @@ NamesViolation (Table f) text = (v : Violation) × IsFirstViolation f v × (text
 
 -- the cuts of the rows, where the rule makes cuts; and else the first violation
 abbrev pub IsCutReply : CutInput → End → List ℕ → Type 0
-IsCutReply input Done text = MakesCuts input.rule × AreCutsOf input text
+IsCutReply input Done text = MakesCuts input.rule × AreCheckedCutsOf input text
 IsCutReply input NoFunction text = NamesViolation input.rule text
 IsCutReply input end text = ⊥
 
 -- the headline: the rows that are written are those of the tableau, and each cut holds at every solution of its row
+abbrev pub cut_promise : Promise
+cut_promise = record { Thing = CutInput; form = cut_input; headline = AreCutsOf }
+
 abbrev pub cut : Task
 cut = record {
-  Thing = CutInput;
-  form = cut_input;
-  work = record { replies = IsCutReply; headline = AreCutsOf };
+  promise = cut_promise;
+  work = record { refuses = RefusesCutInput; replies = IsCutReply };
 }

@@ -7,15 +7,16 @@ use Rattle.gj_proof.specs.Meaning.{ShowHalves}
 use Rattle.gj_demo.specs.Summary.{IsSummary, HasSummary}
 use Rattle.gj_top.specs.declared.reply.End.{End}
 use Rattle.gj_top.specs.declared.reply.End.TheVariants.{Done}
+use Rattle.gj_top.specs.Promise.{Promise}
+use Rattle.gj_top.specs.Promise.Form.{reading_nothing}
 use Rattle.gj_top.specs.Task.{Task}
-use Rattle.gj_top.specs.Task.Form.{reading_nothing}
 
 -- the reply to a number is the summary, and ends with Done
 abbrev pub IsDemoReply : ℕ → End → List ℕ → Type 0
 IsDemoReply n Done text = HasSummary n text
 IsDemoReply n end text = ⊥
 
--- the headline: the text sums up the decision on the n-th function, which is minimal and, as the halves show, not extreme
+-- the headline: the text sums up the n-th function, which is minimal and, as the halves show, not extreme
 pub record IsTrueDemonstration (n : ℕ) (text : List ℕ) : Type 0 where
   pub function : FunctionData
   pub halves : Halves
@@ -24,9 +25,12 @@ pub record IsTrueDemonstration (n : ℕ) (text : List ℕ) : Type 0 where
   pub minimal : IsMinimal function
   pub shown : ShowHalves function halves
 
+abbrev pub demo_promise : ℕ → Promise
+demo_promise n = record { Thing = ℕ; form = reading_nothing n; headline = IsTrueDemonstration }
+
+-- no input is refused, since none is read
 abbrev pub demo : ℕ → Task
 demo n = record {
-  Thing = ℕ;
-  form = reading_nothing n;
-  work = record { replies = IsDemoReply; headline = IsTrueDemonstration };
+  promise = demo_promise n;
+  work = record { refuses = λ input text. ⊥; replies = IsDemoReply };
 }

@@ -19,9 +19,10 @@ use Rattle.gj_extreme.specs.declared.faults.DecideFault.{DecideFault}
 use Rattle.gj_extreme.specs.declared.faults.DecideFault.TheVariants as fault
 use Rattle.gj_top.specs.declared.reply.End.{End}
 use Rattle.gj_top.specs.declared.reply.End.TheVariants.{Done, Wide, NotContinuous}
+use Rattle.gj_top.specs.Promise.{Promise}
 use Rattle.gj_top.specs.Task.{Task}
-use Rattle.gj_top.specs.Forms.{function_text, json_function}
-use Rattle.gj_top.specs.Report.{reported}
+use Rattle.gj_top.specs.Forms.{function_text, json_function, RefusesFunctionText, RefusesJson}
+use Rattle.gj_top.specs.Report.{IsReportOf, IsReportedReply}
 use Rattle.gj_top.specs.Continuity.{NamesFirstJump}
 use Rattle.gj_top.specs.Minimal.{IsNotMinimalText}
 
@@ -78,13 +79,25 @@ IsTrueExtremality f text =
     ⊎ ((h : Halves) × IsNotExtremeText f h text × IsContinuous f × IsMinimal f × ShowHalves f h)
     ⊎ ((v : Violation) × IsNotMinimalText f v text × ShowsViolation f v)
 
+abbrev pub extreme_promise : Promise
+extreme_promise = record { Thing = FunctionData; form = function_text; headline = IsTrueExtremality }
+
 abbrev pub extreme : Task
 extreme = record {
-  Thing = FunctionData;
-  form = function_text;
-  work = record { replies = IsExtremality; headline = IsTrueExtremality };
+  promise = extreme_promise;
+  work = record { refuses = RefusesFunctionText; replies = IsExtremality };
 }
 
 -- with `--json` the function is read in JSON, and the proof text is reported
+abbrev pub extreme_json_promise : Promise
+extreme_json_promise = record {
+  Thing = FunctionData;
+  form = json_function;
+  headline = λ f text. IsReportOf (IsTrueExtremality f) text;
+}
+
 abbrev pub extreme_json : Task
-extreme_json = record { Thing = FunctionData; form = json_function; work = reported extreme.work }
+extreme_json = record {
+  promise = extreme_json_promise;
+  work = record { refuses = RefusesJson; replies = IsReportedReply IsExtremality };
+}

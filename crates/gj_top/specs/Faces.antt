@@ -15,8 +15,9 @@ use Rattle.gj_lines.specs.FunctionLines.{line, order_line}
 use Rattle.gj_lines.specs.FaceLines.{face_text, cover_line}
 use Rattle.gj_top.specs.declared.reply.End.{End}
 use Rattle.gj_top.specs.declared.reply.End.TheVariants.{Done, NotContinuous}
+use Rattle.gj_top.specs.Promise.{Promise}
 use Rattle.gj_top.specs.Task.{Task}
-use Rattle.gj_top.specs.Forms.{function_text}
+use Rattle.gj_top.specs.Forms.{function_text, RefusesFunctionText}
 use Rattle.gj_top.specs.Continuity.{NamesFirstJump}
 
 -- the line of an uncovered interval
@@ -37,14 +38,14 @@ pub record AreRowsPushed (f : FunctionData) (n : ℕ) (old new : List ℕ) : Typ
 
 -- the text lists the maximal additive faces in walk order, the cover lines, and the uncovered intervals, ascending
 pub record IsFacesText (f : FunctionData) (text : List ℕ) : Type 0 where
-  pub faces : List Face
-  pub maximal : AreMaximalFaces f faces
+  pub listed : List Face
+  pub maximal : AreMaximalFaces f listed
   pub lines : List CoverLine
   pub cover : AreCoverLines f.order (IsTight f) lines
   pub intervals : List ℕ
   pub uncovered : ArePicked (λ i. IsCovered f.order (IsTight f) i → ⊥) (range_with_len 0 f.order) intervals
   pub spelled : text ≡ line (codes "gj-faces 1") ++ order_line f.order
-      ++ flat_map (λ face. line (face_text face)) faces
+      ++ flat_map (λ face. line (face_text face)) listed
       ++ flat_map cover_line lines
       ++ flat_map uncovered_line intervals
       ++ line (codes "end")
@@ -56,9 +57,15 @@ IsFacesReply f NotContinuous text = NamesFirstJump f text
 IsFacesReply f end text = ⊥
 
 -- the headline: the function is continuous, and the text lists its faces and intervals
-abbrev pub faces : Task
-faces = record {
+abbrev pub faces_promise : Promise
+faces_promise = record {
   Thing = FunctionData;
   form = function_text;
-  work = record { replies = IsFacesReply; headline = λ f text. IsContinuous f × IsFacesText f text };
+  headline = λ f text. IsContinuous f × IsFacesText f text;
+}
+
+abbrev pub faces : Task
+faces = record {
+  promise = faces_promise;
+  work = record { refuses = RefusesFunctionText; replies = IsFacesReply };
 }

@@ -1,11 +1,13 @@
--- The forms of input (own).
-use Rattle.std.specs.Prelude.{ℕ, ◌≡◌, List, ◌++◌, codes, decimal}
+-- The forms of input, and how an input outside one is refused (own).
+use Rattle.std.specs.Prelude.{ℕ, ◌≡◌, ◌⊎◌, List, ◌++◌, codes, decimal}
 use Rattle.gj_lex.specs.declared.reason.Reason.{Reason}
+use Rattle.gj_lex.specs.declared.spelling.Spelling.TheVariants.{Lenient}
 use Rattle.gj_lex.specs.Reason.{reason_word}
+use Rattle.gj_lex.specs.TextLines.{HasNothing}
 use Rattle.gj_shape.specs.FunctionData.{FunctionData}
 use Rattle.gj_lines.specs.FunctionLines.{line}
-use Rattle.gj_ftext.specs.FunctionText.{IsWholeFunctionText}
 use Rattle.gj_ftext.specs.FirstFault.{IsFirstFaultOfWhole}
+use Rattle.gj_ftext.specs.LinesOfFunction.{HasLinesOfFunction, HasLinesOfFamily, HasLinesOfBreaks}
 use Rattle.gj_proof.specs.ProofText.{IsBounded, IsProofText}
 use Rattle.gj_proof.specs.FirstFault.{IsFirstFault}
 use Rattle.gj_proof.specs.declared.claim.Claim.{Claim}
@@ -14,8 +16,37 @@ use Rattle.gj_json.specs.FirstReason.{HasFirstReason, reason_word as json_reason
 use Rattle.gj_json.specs.declared.faults.JsonReason.{JsonReason}
 use Rattle.gj_top.specs.declared.reply.Unanswered.{Unanswered}
 use Rattle.gj_top.specs.declared.reply.Unanswered.TheVariants.{Refused, Memory}
-use Rattle.gj_top.specs.Task.{Form}
-use Rattle.gj_top.specs.Task.Form.{reading}
+use Rattle.gj_top.specs.Promise.{Form}
+use Rattle.gj_top.specs.Promise.Form.{reading}
+
+-- ---- the forms
+
+-- the text begins with the lines of the function f, by its points, as one of a family or by its breakpoints, and the rest follows
+abbrev pub BeginsWithFunction : List ℕ → FunctionData → List ℕ → Type 0
+BeginsWithFunction text f rest = HasLinesOfFunction text f rest ⊎ HasLinesOfFamily text f rest ⊎ HasLinesOfBreaks text f rest
+
+-- and only lines that are skipped follow
+abbrev pub IsFunctionInput : List ℕ → FunctionData → Type 0
+IsFunctionInput input f = (rest : List ℕ) × BeginsWithFunction input f rest × HasNothing Lenient rest
+
+-- function text
+abbrev pub function_text : Form FunctionData
+function_text = reading IsFunctionInput
+
+-- the input is the proof text of a claim; a function that it is about is within the limits
+pub record IsProofOf (input : List ℕ) (c : Claim) : Type 0 where
+  pub bounded : IsBounded c
+  pub spelled : IsProofText c input
+
+-- proof text
+abbrev pub proof_text : Form Claim
+proof_text = reading IsProofOf
+
+-- a function in JSON
+abbrev pub json_function : Form FunctionData
+json_function = reading IsJsonFunction
+
+-- ---- refusals
 
 -- the line that refuses an input for its n-th line
 abbrev pub refused_line : ℕ → Reason → List ℕ
@@ -33,18 +64,13 @@ pub record NamesFault (IsFirst : ℕ → Reason → Type 0) (text : List ℕ) : 
   pub first : IsFirst at_line reason
   pub spelled : text ≡ refused_line at_line reason
 
--- function text
-abbrev pub function_text : Form FunctionData
-function_text = reading IsWholeFunctionText (λ input text. NamesFault (IsFirstFaultOfWhole input) text)
+-- the input is no function text
+abbrev pub RefusesFunctionText : List ℕ → List ℕ → Type 0
+RefusesFunctionText input text = NamesFault (IsFirstFaultOfWhole input) text
 
--- the input is the proof text of a claim; a function that it is about is within the limits
-pub record IsProofOf (input : List ℕ) (c : Claim) : Type 0 where
-  pub bounded : IsBounded c
-  pub spelled : IsProofText c input
-
--- proof text
-abbrev pub proof_text : Form Claim
-proof_text = reading IsProofOf (λ input text. NamesFault (IsFirstFault input) text)
+-- the input is no proof text
+abbrev pub RefusesProofText : List ℕ → List ℕ → Type 0
+RefusesProofText input text = NamesFault (IsFirstFault input) text
 
 -- the line that refuses a JSON text
 abbrev pub json_refused_line : JsonReason → List ℕ
@@ -55,12 +81,8 @@ abbrev pub IsJsonRefusalOf : JsonReason → Unanswered → Type 0
 IsJsonRefusalOf reason (Refused text) = text.items ≡ json_refused_line reason
 IsJsonRefusalOf reason (Memory e) = Unit {0}
 
--- the text names the first reason why the input is no JSON function
-pub record NamesReason (input text : List ℕ) : Type 0 where
+-- the input is no JSON function, and the text names the first reason
+pub record RefusesJson (input text : List ℕ) : Type 0 where
   pub reason : JsonReason
   pub first : HasFirstReason input reason
   pub spelled : text ≡ json_refused_line reason
-
--- a function in JSON
-abbrev pub json_function : Form FunctionData
-json_function = reading IsJsonFunction NamesReason

@@ -1,3 +1,4 @@
+pub mod Promise
 pub mod Task
 pub mod Forms
 pub mod Report

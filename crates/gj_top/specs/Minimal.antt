@@ -11,9 +11,10 @@ use Rattle.gj_proof.specs.ProofText.{IsProofText}
 use Rattle.gj_proof.specs.Rules.{MeetsRules}
 use Rattle.gj_top.specs.declared.reply.End.{End}
 use Rattle.gj_top.specs.declared.reply.End.TheVariants.{Done}
+use Rattle.gj_top.specs.Promise.{Promise}
 use Rattle.gj_top.specs.Task.{Task}
-use Rattle.gj_top.specs.Forms.{function_text, json_function}
-use Rattle.gj_top.specs.Report.{reported}
+use Rattle.gj_top.specs.Forms.{function_text, json_function, RefusesFunctionText, RefusesJson}
+use Rattle.gj_top.specs.Report.{IsReportOf, IsReportedReply}
 
 -- the text claims that f is minimal
 abbrev pub IsMinimalText : FunctionData → List ℕ → Type 0
@@ -48,13 +49,25 @@ abbrev pub IsTrueVerdict : FunctionData → List ℕ → Type 0
 IsTrueVerdict f text =
     (IsMinimalText f text × IsMinimal f) ⊎ ((v : Violation) × IsNotMinimalText f v text × ShowsViolation f v)
 
+abbrev pub minimal_promise : Promise
+minimal_promise = record { Thing = FunctionData; form = function_text; headline = IsTrueVerdict }
+
 abbrev pub minimal : Task
 minimal = record {
-  Thing = FunctionData;
-  form = function_text;
-  work = record { replies = IsDecision; headline = IsTrueVerdict };
+  promise = minimal_promise;
+  work = record { refuses = RefusesFunctionText; replies = IsDecision };
 }
 
 -- with `--json` the function is read in JSON, and the proof text is reported
+abbrev pub minimal_json_promise : Promise
+minimal_json_promise = record {
+  Thing = FunctionData;
+  form = json_function;
+  headline = λ f text. IsReportOf (IsTrueVerdict f) text;
+}
+
 abbrev pub minimal_json : Task
-minimal_json = record { Thing = FunctionData; form = json_function; work = reported minimal.work }
+minimal_json = record {
+  promise = minimal_json_promise;
+  work = record { refuses = RefusesJson; replies = IsReportedReply IsDecision };
+}

@@ -1,8 +1,9 @@
 //! The commands of the program: which words name one, and how each answers an input.
 ghost use Rattle.std.specs.Prelude.{◌≡◌, IfOk};
 ghost use Rattle.gj_words.specs.Grammar.{IsInBounds};
-ghost use Rattle.gj_top.specs.Command.{IsFoundIn, task_for};
-ghost use Rattle.gj_top.specs.Task.{reads, IsAnswering};
+ghost use Rattle.gj_top.specs.Command.{IsFoundIn, promise_for, task_for};
+ghost use Rattle.gj_top.specs.Promise.{reads};
+ghost use Rattle.gj_top.specs.Task.{IsAnswering};
 
 use crate::reply::{Reply, Unanswered};
 use crate::{check, cut, demo, extreme, faces, minimal, show};
@@ -22,7 +23,7 @@ pub(crate) fn request_of(alloc: Global, words: &[String]) -> Result<Option<Reque
 
 /// Whether the request reads an input.
 pub(crate) fn reads_input(request: Request) -> bool
-    ensures { result ≡ reads (task_for request).form }
+    ensures { result ≡ reads (promise_for request).form }
 {
     match request.command {
         Command::Minimal => true,

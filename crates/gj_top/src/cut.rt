@@ -3,7 +3,7 @@ ghost use Rattle.std.specs.Prelude.{◌≡◌, ◌++◌, codes, IfOk, IfSome, If
 ghost use Rattle.gj_row.specs.TableauLimits.{IsTableau};
 ghost use Rattle.gj_proof.specs.ProofText.{violation_line, IsBoundedRule};
 ghost use Rattle.gj_top.specs.Task.{IsAnswering};
-ghost use Rattle.gj_top.specs.Cut.{AreCutsOf, IsCutReply, cut};
+ghost use Rattle.gj_top.specs.Cut.{AreCheckedCutsOf, IsCutReply, cut};
 ghost use Rattle.gj_top.specs.CutSteps.{IsViolationOf, PassesTests};
 
 use crate::cut_input::{rule_of, tableau_behind};
@@ -59,7 +59,7 @@ fn cuts_text(alloc: Global, rule: CutRule, tableau: &Tableau) -> Result<Vec<u8>,
     requires rule { IsBoundedRule rule }
     requires tests { PassesTests rule }
     requires tableau { IsTableau tableau.now }
-    ensures { IfOk result (λ text. AreCutsOf (record { «rule» = rule; tableau = tableau.now }) text.items) }
+    ensures { IfOk result (λ text. AreCheckedCutsOf (record { «rule» = rule; tableau = tableau.now }) text.items) }
 {
     let lines = lines_of(alloc, &rule, tableau)?;
     let proof = Proof::new(Claim::Cut(rule, List::of(lines))).unwrap();

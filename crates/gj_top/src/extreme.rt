@@ -44,7 +44,7 @@ fn verdict_on(alloc: Global, shape: &Shape) -> Result<Reply, AllocError>
 
 /// The report of the verdict on the function, or why there is none.
 fn reported_verdict_on(alloc: Global, shape: &Shape) -> Result<Reply, AllocError>
-    ensures { IfOk result (λ reply. IsReportedReply extreme.work shape.now reply.end reply.text.items) }
+    ensures { IfOk result (λ reply. IsReportedReply IsExtremality shape.now reply.end reply.text.items) }
 {
     match decide(alloc, shape) {
         Ok(proof) => Ok(Reply {

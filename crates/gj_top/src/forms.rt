@@ -1,7 +1,9 @@
 //! The forms of input: each is read whole, or refused with the line that says why.
 ghost use Rattle.gj_lines.specs.FunctionLines.{line};
 ghost use Rattle.gj_top.specs.Task.{IsReadingOf};
-ghost use Rattle.gj_top.specs.Forms.{function_text, json_function, proof_text, IsRefusalOf, IsJsonRefusalOf};
+ghost use Rattle.gj_json.specs.JsonFunction.{IsJsonFunction};
+ghost use Rattle.gj_top.specs.Forms.{IsFunctionInput, IsProofOf, IsRefusalOf, IsJsonRefusalOf};
+ghost use Rattle.gj_top.specs.Forms.{RefusesFunctionText, RefusesJson, RefusesProofText};
 
 use crate::lines::{numbered_line, worded_line};
 use crate::reply::Unanswered;
@@ -14,7 +16,7 @@ use std::alloc::Global;
 
 /// The function that the input spells.
 pub(crate) fn function_of(alloc: Global, input: &[u8]) -> Result<Shape, Unanswered>
-    ensures { IsReadingOf function_text input.now result }
+    ensures { IsReadingOf IsFunctionInput RefusesFunctionText input.now result }
 {
     match read_whole_function(alloc, input) {
         Ok(shape) => Ok(shape),
@@ -25,7 +27,7 @@ pub(crate) fn function_of(alloc: Global, input: &[u8]) -> Result<Shape, Unanswer
 
 /// The function that the input, a JSON text, spells.
 pub(crate) fn json_function_of(alloc: Global, input: &[u8]) -> Result<Shape, Unanswered>
-    ensures { IsReadingOf json_function input.now result }
+    ensures { IsReadingOf IsJsonFunction RefusesJson input.now result }
 {
     match read_json(alloc, input) {
         Ok(shape) => Ok(shape),
@@ -36,7 +38,7 @@ pub(crate) fn json_function_of(alloc: Global, input: &[u8]) -> Result<Shape, Una
 
 /// The proof that the input spells.
 pub(crate) fn proof_of(alloc: Global, input: &[u8]) -> Result<Proof, Unanswered>
-    ensures { IsReadingOf proof_text input.now result }
+    ensures { IsReadingOf IsProofOf RefusesProofText input.now result }
 {
     match read_proof(alloc, input) {
         Ok(proof) => Ok(proof),

@@ -4,8 +4,8 @@
 ghost use Rattle.std.specs.Prelude.{◌≡◌, ◌≢◌, ◌⊎◌, ◌≤◌, ℕ, List, [], length, Some, IfSome, IsTrue};
 ghost use Rattle.gj_port.specs.Faults.{HasFailed};
 ghost use Rattle.gj_words.specs.declared.requests.Request.{Request};
-ghost use Rattle.gj_top.specs.Command.{IsNamed, NameNone, task_for};
-ghost use Rattle.gj_top.specs.Task.{reads};
+ghost use Rattle.gj_top.specs.Command.{IsNamed, NameNone, promise_for, task_for};
+ghost use Rattle.gj_top.specs.Promise.{reads};
 ghost use Rattle.gj_top.specs.Answer.{IsSourceFault, input_limit, words_line, fault_line};
 ghost use Rattle.gj_top.specs.Outcome.{IsOutcome, IsUnsure, Gains};
 ghost use Rattle.gj_top.specs.Causes.{IsInput, IsGoodInput, IsTrueRun, ReadNothing, IsStatusOf, IsCause, IsStatusOfReply};
@@ -76,7 +76,7 @@ pub fn run<S: Source, K: Sink>(
     // Where the source tells its bytes, each status has its cause in them, and an input within the limit is read to its
     // end, whether or not the sink took the answer, unless there was no memory or the source failed.
     ensures cause { (input : List ℕ) → IsInput words.now (S.left source.old) input → IsCause words.now input result }
-    ensures input { IfSome (S.left source.old) (λ input. (r : Request) → IsNamed words.now r → IsTrue (reads (task_for r).form) →
+    ensures input { IfSome (S.left source.old) (λ input. (r : Request) → IsNamed words.now r → IsTrue (reads (promise_for r).form) →
         length input ≤ input_limit → result ≢ Status.Memory → result ≢ Status.ReadFault →
         (result ≡ Status.WriteFault → HasFailed (S.faults source.old) (S.faults source.new) → ⊥) →
         S.left source.new ≡ Some []) }
@@ -101,7 +101,7 @@ pub fn run<S: Source, K: Sink>(
     // A request over an input in its form, with no fault, is answered unless there is no memory.
     ensures complete { (r : Request) (input : List ℕ) →
         IsNamed words.now r → IsGoodInput (task_for r) (S.left source.old) input →
-        (IsTrue (reads (task_for r).form) → HasFailed (S.faults source.old) (S.faults source.new) → ⊥) →
+        (IsTrue (reads (promise_for r).form) → HasFailed (S.faults source.old) (S.faults source.new) → ⊥) →
         (HasFailed (K.faults sink.old) (K.faults sink.new) → ⊥) →
         (result ≡ Status.Memory) ⊎ IsStatusOfReply (task_for r) input result }
 {

@@ -1,9 +1,12 @@
-use Rattle.gj_ftext.specs.FunctionText.{IsWholeFunctionText}
 use Rattle.gj_ftext.specs.FirstFault.{IsFirstFaultOfWhole}
+use Rattle.gj_top.proofs.InputLines.{input_of_whole}
 use Rattle.gj_top.proofs.Refusals.{refusal_of_fault}
 use Rattle.gj_top.proofs.forms.function_of.Goals as goal
 
+pub returns-in-Ok : goal.returns-in-Ok
+returns-in-Ok c = input_of_whole c.args.input.now c.in-Ok.shape c.in-Ok.ensures.found
+
 pub returns-in-Err-Refused : goal.returns-in-Err-Refused
 returns-in-Err-Refused c =
-    refusal_of_fault IsWholeFunctionText IsFirstFaultOfWhole c.args.input.now c.in-Err-Refused.at_line c.in-Err-Refused.reason _
+    refusal_of_fault IsFirstFaultOfWhole c.args.input.now c.in-Err-Refused.at_line c.in-Err-Refused.reason _
     (rw c.in-Err-Refused.field-0-is at c.in-Err-Refused.ensures.refused) c.refusal.ensures

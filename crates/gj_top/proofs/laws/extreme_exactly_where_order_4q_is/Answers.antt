@@ -2,10 +2,12 @@ use Rattle.std.proofs.Common.{◌≡◌, subst}
 use Rattle.gj_shape.specs.FunctionData.{FunctionData}
 use Rattle.gj_top.specs.Extreme.{IsDecisionText}
 use Rattle.gj_top.proofs.Extremality.{extreme_at_four}
+use Rattle.gj_top.proofs.InputLines.{input_of_whole}
 use Rattle.gj_top.proofs.TextLaws.{function_is_bounded, one_function}
 use Rattle.gj_top.proofs.laws.extreme_exactly_where_order_4q_is.Goals as goal
 
 pub returns : goal.returns
 returns c = λ f input text spelled r.
-    let same : r.thing ≡ f = one_function input r.thing f r.spelled spelled in
-    extreme_at_four f text (function_is_bounded input f spelled) (subst (λ (g : FunctionData). IsDecisionText g text) same r.replied)
+    let given = input_of_whole input f spelled in
+    let same : r.thing ≡ f = one_function input r.thing f r.spelled given in
+    extreme_at_four f text (function_is_bounded input f given) (subst (λ (g : FunctionData). IsDecisionText g text) same r.replied)
