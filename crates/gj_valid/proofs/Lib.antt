@@ -1,0 +1,3 @@
+pub mod OverOneBottom
+pub mod FunctionTables
+pub mod MinimalFunctions

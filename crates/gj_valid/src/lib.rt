@@ -3,3 +3,5 @@
 //!
 //! They stand beside the commands: no crate rests on them. The theorems on tables that others rest on are those of `gj_theory`.
 #![tactic(auto)]
+
+pub mod functions;

@@ -1,0 +1,135 @@
+-- The table of a valid function on a grid is valid, over some scale; the function that data tell is valid where its tables are.
+use Rattle.std.proofs.Common.{◌≡◌, ℕ, ◌+◌, ◌*◌, ◌/◌, ◌%◌, ◌<◌, List, [], ◌∷◌, map, ℤ, pos, ◌+ℤ◌, ◌*ℤ◌, ◌≤ℤ◌, refl, sym, subst, ap, ap₂, ◌∙◌, arith}
+use Rattle.std.specs.Prelude.{sum}
+use Rattle.std.proofs.Math.Nat.{add-mod_right, eq_of_mul-eq-mul_right, mod-lt, mod-mod, mul-pos, mul_comm, zero-mul}
+use Rattle.std.proofs.lemmas.Int.{ints}
+use Rattle.gj_tools.proofs.Quotients.{same_at_remainder, same_remainder, from_same_remainder}
+use Rattle.gj_tools.proofs.Ring.{by_ring, ring}
+use Rattle.gj_frac.specs.Fraction.{Fraction}
+use Rattle.gj_shape.specs.FunctionData.{FunctionData, IsWithinBounds}
+use Rattle.gj_shape.specs.Table.{table}
+use Rattle.gj_shape.specs.Valid.{weight, IsValidTable}
+use Rattle.gj_shape.specs.Violation.{value_of}
+use Rattle.gj_shape.proofs.TableLemmas.{table_period, table_finer}
+use Rattle.gj_theory.proofs.ShownPoints.{same_on_both}
+use Rattle.gj_theory.proofs.Weights.{sum_cons}
+use Rattle.gj_valid.specs.ValidFunctions.{nothing, one, sum_of_values, IsFunction, IsValidFunction, function_of}
+use Rattle.gj_valid.proofs.OverOneBottom.{Is, is_along, most_to_numbers, most_from_numbers, nothing_is, one_is, values_positive, values_are, have_bottom}
+
+-- ---- rests
+
+pub scaled_rest : (a b n e : ℕ) → a % n ≡ b % n → (a * e) % (n * e) ≡ (b * e) % (n * e)
+scaled_rest a b n e same =
+    same_remainder (a * e) (b * e) (b / n) (a / n) (n * e) (omega (arith, ap (λ x. x * e) (from_same_remainder a b n same)))
+
+pub cancel_rest : (a b n e : ℕ) → 0 < e → (a * e) % (n * e) ≡ (b * e) % (n * e) → a % n ≡ b % n
+cancel_rest a b n e some same =
+    let x = b * e / (n * e) in
+    let y = a * e / (n * e) in
+    let whole : a * e + x * (n * e) ≡ b * e + y * (n * e) = from_same_remainder (a * e) (b * e) (n * e) same in
+    same_remainder a b x y n (eq_of_mul-eq-mul_right e some (a + x * n) (b + y * n) (omega arith))
+
+-- ---- lists
+
+pub sum_scaled : (e : ℕ) (xs : List ℕ) → sum (map (λ x. x * e) xs) ≡ sum xs * e
+sum_scaled e [] = sym (zero-mul e)
+sum_scaled e (x ∷ xs) =
+    let rest = sum_scaled e xs in
+    let first = sum_cons x xs in
+    let scaled = sum_cons (x * e) (map (λ x. x * e) xs) in
+    let product : (x + sum xs) * e ≡ x * e + sum xs * e = omega arith in
+    scaled ∙ ap (λ s. x * e + s) rest ∙ sym product ∙ ap (λ s. s * e) (sym first)
+
+pub weight_of_map : (t : ℕ → ℤ) (g : ℕ → ℕ) (xs : List ℕ) → weight t (map g xs) ≡ weight (λ x. t (g x)) xs
+weight_of_map t g [] = refl
+weight_of_map t g (x ∷ xs) = ap (λ w. t (g x) +ℤ w) (weight_of_map t g xs)
+
+-- ---- the table of a function
+
+-- the values of a valid function on the grid of order q m are the entries of a valid table over c
+pub record HasTable (v : ℕ → ℕ → Fraction) (k q m : ℕ) : Type 0 where
+  pub c : ℕ
+  pub t : ℕ → ℤ
+  pub some : 0 < c
+  pub is : (i : ℕ) → Is (v i (q * m)) (t i) c
+  pub valid : IsValidTable t (q * m) (k * m) c
+
+-- the same point as a multiple of 1/(q d)
+pub on_grid : (v : ℕ → ℕ → Fraction) (q n d c : ℕ) (z : ℤ) → 0 < q → 0 < d → IsFunction v → Is (v (n * q) (q * d)) z c → Is (v n d) z c
+on_grid v q n d c z q_some d_some h is =
+    is_along (v n d) (v (n * q) (q * d)) z c (h.positive (n * q) (q * d) (mul-pos q_some d_some))
+    (h.at_points n d (n * q) (q * d) d_some (mul-pos q_some d_some) (ap (λ i. i % (d * (q * d))) (omega arith))) is
+
+pub has_table : (v : ℕ → ℕ → Fraction) (k q m : ℕ) → 0 < q → 0 < m → IsValidFunction v k q → HasTable v k q m
+has_table v k q m q_some m_some h =
+    let n = q * m in
+    let n_some : 0 < n = mul-pos q_some m_some in
+    let positive = λ (i : ℕ). h.function.positive i n n_some in
+    let b = have_bottom (λ i. v i n) n positive in
+    let is = λ (i : ℕ).
+    is_along (v i n) (v (i % n) n) (b.t (i % n)) b.c (positive (i % n))
+    (h.function.at_points i n (i % n) n n_some n_some (scaled_rest i (i % n) n n (sym (mod-mod i n))))
+    (b.is (i % n) (mod-lt i n_some)) in
+    record {
+      c = b.c;
+      t = λ i. b.t (i % n);
+      some = b.some;
+      is = is;
+      valid = record {
+        has_period = λ i. ap b.t (add-mod_right i n);
+        nonnegative = λ i.
+            most_to_numbers nothing (v i n) (pos 0) (b.t (i % n)) b.c (omega (arith, ints)) (positive i) b.some (nothing_is b.c) (is i)
+            (h.nonnegative i n n_some);
+        at_solutions = λ places solution.
+            most_to_numbers one (sum_of_values v n places) (pos b.c) (weight (λ i. b.t (i % n)) places) b.c (omega (arith, ints))
+            (values_positive v n places positive) b.some (one_is b.c) (values_are v (λ i. b.t (i % n)) n b.c places is)
+            (h.at_solutions n places n_some
+            (scaled_rest (sum places) (k * m) n q solution ∙ ap (λ i. i % (n * q)) (omega arith)));
+      };
+    }
+
+-- ---- the function that data tell
+
+cross_scaled : (x : ℤ) (s d : ℕ) → x *ℤ pos (s * d) ≡ pos s *ℤ (pos d *ℤ x)
+cross_scaled x s d = by_ring (x ∷ pos s ∷ pos d ∷ []) (search ring depth 20) refl
+
+pub function_is : (f : FunctionData) → IsWithinBounds f → IsFunction (function_of f)
+function_is f l = record {
+  positive = λ n d some. let s : 0 < f.scale * d = mul-pos (let low = l.scale_low in omega arith) some in omega (arith, ints);
+  at_points = λ n d m e d_some e_some same.
+      let rests : (n * f.order * e) % (f.order * (e * d)) ≡ (m * f.order * d) % (f.order * (e * d)) =
+      ap₂ (λ i k. i % k) (omega arith) (omega arith) ∙ scaled_rest (n * e) (m * d) (d * e) f.order same
+      ∙ ap₂ (λ i k. i % k) (omega arith) (omega arith) in
+      let entries = same_at_remainder (table f (e * d)) (f.order * (e * d))
+      (λ i. table_period f (e * d) i (mul-pos e_some d_some) l) (n * f.order * e) (m * f.order * d) rests in
+      let same_values = same_on_both f e d (m * f.order) (n * f.order) e_some d_some entries in
+      cross_scaled (value_of f n d) f.scale e ∙ ap (λ z. pos f.scale *ℤ z) same_values ∙ sym (cross_scaled (value_of f m e) f.scale d);
+}
+
+pub function_valid : (f : FunctionData) → IsWithinBounds f →
+    ((m : ℕ) → 0 < m → IsValidTable (table f m) (f.order * m) (f.place * m) (f.scale * m)) →
+    IsValidFunction (function_of f) f.place f.order
+function_valid f l h =
+    let function = function_is f l in
+    let scale : 0 < f.scale = let low = l.scale_low in omega arith in
+    record {
+      function = function;
+      nonnegative = λ n d some.
+          most_from_numbers nothing (function_of f n d) (pos 0) (value_of f n d) (f.scale * d) (omega (arith, ints))
+          (function.positive n d some) (mul-pos scale some) (nothing_is (f.scale * d)) refl ((h d some).nonnegative (n * f.order));
+      at_solutions = λ d tops some solution.
+          let places = map (λ n. n * f.order) tops in
+          let sum_is : sum places ≡ sum tops * f.order = sum_scaled f.order tops in
+          let least = (h d some).at_solutions places
+          (ap₂ (λ i k. i % k) sum_is (omega arith) ∙ solution ∙ ap (λ k. f.place * d % k) (omega arith)) in
+          most_from_numbers one (sum_of_values (function_of f) d tops) (pos (f.scale * d)) (weight (λ n. value_of f n d) tops) (f.scale * d)
+          (omega (arith, ints)) (values_positive (function_of f) d tops (λ n. function.positive n d some)) (mul-pos scale some)
+          (one_is (f.scale * d)) (values_are (function_of f) (λ n. value_of f n d) d (f.scale * d) tops (λ n. refl))
+          (subst (λ (w : ℤ). pos (f.scale * d) ≤ℤ w) (weight_of_map (table f d) (λ n. n * f.order) tops) least);
+    }
+
+-- its value at a multiple of 1/(order d) is the table's entry
+pub function_on_grid : (f : FunctionData) (i d : ℕ) → 0 < f.order → 0 < d → Is (function_of f i (f.order * d)) (table f d i) (f.scale * d)
+function_on_grid f i d o_some d_some =
+    ap (λ z. z *ℤ pos (f.scale * d)) (ap (λ n. table f n (i * f.order)) (mul_comm f.order d) ∙ table_finer f d f.order i d_some o_some)
+    ∙ by_ring (table f d i ∷ pos f.scale ∷ pos f.order ∷ pos d ∷ []) (search ring depth 30) refl

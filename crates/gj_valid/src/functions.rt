@@ -1,0 +1,15 @@
+//! Minimal and extreme functions among the valid functions on all fractions.
+ghost use Rattle.gj_shape.specs.Extreme.{IsExtreme};
+ghost use Rattle.gj_shape.specs.FunctionData.{FunctionData, IsWithinBounds};
+ghost use Rattle.gj_shape.specs.Table.{IsMinimal};
+ghost use Rattle.gj_valid.specs.ValidFunctions.{IsMinimalAmongFunctions, IsExtremeAmongFunctions, function_of};
+
+/// A minimal function, taken on all fractions, is minimal among the valid functions: no other lies below.
+pub fn minimal_functions_are_minimal_among_valid()
+    ensures { (f : FunctionData) → IsWithinBounds f → IsMinimal f → IsMinimalAmongFunctions (function_of f) f.place f.order }
+{}
+
+/// An extreme function, taken on all fractions, is extreme among the valid functions: it is not half the sum of two others.
+pub fn extreme_functions_are_extreme_among_valid()
+    ensures { (f : FunctionData) → IsWithinBounds f → IsExtreme f → IsExtremeAmongFunctions (function_of f) f.place f.order }
+{}
