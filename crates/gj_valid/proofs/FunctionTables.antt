@@ -54,11 +54,40 @@ pub record HasTable (v : ℕ → ℕ → Fraction) (k q m : ℕ) : Type 0 where
   pub is : (i : ℕ) → Is (v i (q * m)) (t i) c
   pub valid : IsValidTable t (q * m) (k * m) c
 
+-- n/d = i/e
+pub at_place : (v : ℕ → ℕ → Fraction) (n d i e c : ℕ) (z : ℤ) → 0 < d → 0 < e → IsFunction v → n * e ≡ i * d → Is (v i e) z c → Is (v n d) z c
+at_place v n d i e c z d_some e_some h place is =
+    is_along (v n d) (v i e) z c (h.positive i e e_some) (h.at_points n d i e d_some e_some (ap (λ j. j % (d * e)) place)) is
+
 -- the same point as a multiple of 1/(q d)
 pub on_grid : (v : ℕ → ℕ → Fraction) (q n d c : ℕ) (z : ℤ) → 0 < q → 0 < d → IsFunction v → Is (v (n * q) (q * d)) z c → Is (v n d) z c
 on_grid v q n d c z q_some d_some h is =
-    is_along (v n d) (v (n * q) (q * d)) z c (h.positive (n * q) (q * d) (mul-pos q_some d_some))
-    (h.at_points n d (n * q) (q * d) d_some (mul-pos q_some d_some) (ap (λ i. i % (d * (q * d))) (omega arith))) is
+    at_place v n d (n * q) (q * d) c z d_some (mul-pos q_some d_some) h (omega arith) is
+
+-- entries over c that are the values of a valid function and have the grid's period are a valid table
+pub table_of_valid : (v : ℕ → ℕ → Fraction) (k q m c : ℕ) (t : ℕ → ℤ) → 0 < q → 0 < m → 0 < c → IsValidFunction v k q →
+    ((i : ℕ) → t (i + q * m) ≡ t i) → ((i : ℕ) → Is (v i (q * m)) (t i) c) → HasTable v k q m
+table_of_valid v k q m c t q_some m_some some h period is =
+    let n = q * m in
+    let n_some : 0 < n = mul-pos q_some m_some in
+    let positive = λ (i : ℕ). h.function.positive i n n_some in
+    record {
+      c = c;
+      t = t;
+      some = some;
+      is = is;
+      valid = record {
+        has_period = period;
+        nonnegative = λ i.
+            most_to_numbers nothing (v i n) (pos 0) (t i) c (omega (arith, ints)) (positive i) some (nothing_is c) (is i)
+            (h.nonnegative i n n_some);
+        at_solutions = λ places solution.
+            most_to_numbers one (sum_of_values v n places) (pos c) (weight t places) c (omega (arith, ints))
+            (values_positive v n places positive) some (one_is c) (values_are v t n c places is)
+            (h.at_solutions n places n_some
+            (scaled_rest (sum places) (k * m) n q solution ∙ ap (λ i. i % (n * q)) (omega arith)));
+      };
+    }
 
 pub has_table : (v : ℕ → ℕ → Fraction) (k q m : ℕ) → 0 < q → 0 < m → IsValidFunction v k q → HasTable v k q m
 has_table v k q m q_some m_some h =
@@ -66,27 +95,10 @@ has_table v k q m q_some m_some h =
     let n_some : 0 < n = mul-pos q_some m_some in
     let positive = λ (i : ℕ). h.function.positive i n n_some in
     let b = have_bottom (λ i. v i n) n positive in
-    let is = λ (i : ℕ).
-    is_along (v i n) (v (i % n) n) (b.t (i % n)) b.c (positive (i % n))
+    table_of_valid v k q m b.c (λ i. b.t (i % n)) q_some m_some b.some h (λ i. ap b.t (add-mod_right i n))
+    (λ i. is_along (v i n) (v (i % n) n) (b.t (i % n)) b.c (positive (i % n))
     (h.function.at_points i n (i % n) n n_some n_some (scaled_rest i (i % n) n n (sym (mod-mod i n))))
-    (b.is (i % n) (mod-lt i n_some)) in
-    record {
-      c = b.c;
-      t = λ i. b.t (i % n);
-      some = b.some;
-      is = is;
-      valid = record {
-        has_period = λ i. ap b.t (add-mod_right i n);
-        nonnegative = λ i.
-            most_to_numbers nothing (v i n) (pos 0) (b.t (i % n)) b.c (omega (arith, ints)) (positive i) b.some (nothing_is b.c) (is i)
-            (h.nonnegative i n n_some);
-        at_solutions = λ places solution.
-            most_to_numbers one (sum_of_values v n places) (pos b.c) (weight (λ i. b.t (i % n)) places) b.c (omega (arith, ints))
-            (values_positive v n places positive) b.some (one_is b.c) (values_are v (λ i. b.t (i % n)) n b.c places is)
-            (h.at_solutions n places n_some
-            (scaled_rest (sum places) (k * m) n q solution ∙ ap (λ i. i % (n * q)) (omega arith)));
-      };
-    }
+    (b.is (i % n) (mod-lt i n_some)))
 
 -- ---- the function that data tell
 

@@ -1,3 +1,4 @@
 pub mod OverOneBottom
 pub mod FunctionTables
 pub mod MinimalFunctions
+pub mod ChangedAtPoint
