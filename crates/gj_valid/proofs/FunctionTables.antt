@@ -65,28 +65,22 @@ on_grid v q n d c z q_some d_some h is =
     at_place v n d (n * q) (q * d) c z d_some (mul-pos q_some d_some) h (omega arith) is
 
 -- entries over c that are the values of a valid function and have the grid's period are a valid table
-pub table_of_valid : (v : ℕ → ℕ → Fraction) (k q m c : ℕ) (t : ℕ → ℤ) → 0 < q → 0 < m → 0 < c → IsValidFunction v k q →
-    ((i : ℕ) → t (i + q * m) ≡ t i) → ((i : ℕ) → Is (v i (q * m)) (t i) c) → HasTable v k q m
-table_of_valid v k q m c t q_some m_some some h period is =
+pub entries_valid : (v : ℕ → ℕ → Fraction) (k q m c : ℕ) (t : ℕ → ℤ) → 0 < q → 0 < m → 0 < c → IsValidFunction v k q →
+    ((i : ℕ) → t (i + q * m) ≡ t i) → ((i : ℕ) → Is (v i (q * m)) (t i) c) → IsValidTable t (q * m) (k * m) c
+entries_valid v k q m c t q_some m_some some h period is =
     let n = q * m in
     let n_some : 0 < n = mul-pos q_some m_some in
     let positive = λ (i : ℕ). h.function.positive i n n_some in
     record {
-      c = c;
-      t = t;
-      some = some;
-      is = is;
-      valid = record {
-        has_period = period;
-        nonnegative = λ i.
-            most_to_numbers nothing (v i n) (pos 0) (t i) c (omega (arith, ints)) (positive i) some (nothing_is c) (is i)
-            (h.nonnegative i n n_some);
-        at_solutions = λ places solution.
-            most_to_numbers one (sum_of_values v n places) (pos c) (weight t places) c (omega (arith, ints))
-            (values_positive v n places positive) some (one_is c) (values_are v t n c places is)
-            (h.at_solutions n places n_some
-            (scaled_rest (sum places) (k * m) n q solution ∙ ap (λ i. i % (n * q)) (omega arith)));
-      };
+      has_period = period;
+      nonnegative = λ i.
+          most_to_numbers nothing (v i n) (pos 0) (t i) c (omega (arith, ints)) (positive i) some (nothing_is c) (is i)
+          (h.nonnegative i n n_some);
+      at_solutions = λ places solution.
+          most_to_numbers one (sum_of_values v n places) (pos c) (weight t places) c (omega (arith, ints))
+          (values_positive v n places positive) some (one_is c) (values_are v t n c places is)
+          (h.at_solutions n places n_some
+          (scaled_rest (sum places) (k * m) n q solution ∙ ap (λ i. i % (n * q)) (omega arith)));
     }
 
 pub has_table : (v : ℕ → ℕ → Fraction) (k q m : ℕ) → 0 < q → 0 < m → IsValidFunction v k q → HasTable v k q m
@@ -95,10 +89,17 @@ has_table v k q m q_some m_some h =
     let n_some : 0 < n = mul-pos q_some m_some in
     let positive = λ (i : ℕ). h.function.positive i n n_some in
     let b = have_bottom (λ i. v i n) n positive in
-    table_of_valid v k q m b.c (λ i. b.t (i % n)) q_some m_some b.some h (λ i. ap b.t (add-mod_right i n))
-    (λ i. is_along (v i n) (v (i % n) n) (b.t (i % n)) b.c (positive (i % n))
+    let is = λ (i : ℕ).
+    is_along (v i n) (v (i % n) n) (b.t (i % n)) b.c (positive (i % n))
     (h.function.at_points i n (i % n) n n_some n_some (scaled_rest i (i % n) n n (sym (mod-mod i n))))
-    (b.is (i % n) (mod-lt i n_some)))
+    (b.is (i % n) (mod-lt i n_some)) in
+    record {
+      c = b.c;
+      t = λ i. b.t (i % n);
+      some = b.some;
+      is = is;
+      valid = entries_valid v k q m b.c (λ i. b.t (i % n)) q_some m_some b.some h (λ i. ap b.t (add-mod_right i n)) is;
+    }
 
 -- ---- the function that data tell
 

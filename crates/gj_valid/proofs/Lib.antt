@@ -2,3 +2,5 @@ pub mod OverOneBottom
 pub mod FunctionTables
 pub mod MinimalFunctions
 pub mod ChangedAtPoint
+pub mod ChangedOnGrid
+pub mod OnlyMinimal

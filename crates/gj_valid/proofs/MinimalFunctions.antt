@@ -12,7 +12,7 @@ use Rattle.gj_shape.specs.Valid.{weight, IsValidTable}
 use Rattle.gj_theory.proofs.ValidTables.{function_minimal, function_extreme}
 use Rattle.gj_theory.proofs.Weights.{weight_of_multiple}
 use Rattle.gj_valid.specs.ValidFunctions.{IsMinimalAmongFunctions, IsExtremeAmongFunctions, function_of}
-use Rattle.gj_valid.proofs.OverOneBottom.{Is, is_scaled, same_over, same_numbers, sum_is, most_to_numbers}
+use Rattle.gj_valid.proofs.OverOneBottom.{Is, is_over, same_over, same_numbers, sum_is, most_to_numbers}
 use Rattle.gj_valid.proofs.FunctionTables.{has_table, on_grid, function_is, function_valid, function_on_grid}
 
 -- e times a valid table
@@ -25,9 +25,6 @@ multiple_valid t n k s e r h scale = record {
       let least = mul_le_mul_left_z (pos s) (weight t places) (pos e) (omega (arith, ints)) (h.at_solutions places solution) in
       omega (arith, ints);
 }
-
-is_over : (x : Fraction) (n : ℤ) (c e r : ℕ) → Is x n c → r ≡ e * c → Is x (pos e *ℤ n) r
-is_over x n c e r is scale = subst (λ (b : ℕ). Is x (pos e *ℤ n) b) (sym scale) (is_scaled x n c e is)
 
 pub minimal_among_functions : (f : FunctionData) → IsWithinBounds f → IsMinimal f → IsMinimalAmongFunctions (function_of f) f.place f.order
 minimal_among_functions f l h =

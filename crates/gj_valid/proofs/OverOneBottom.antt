@@ -7,7 +7,7 @@ use Rattle.std.proofs.lemmas.Int.{ints, by_lt_z}
 use Rattle.gj_tools.proofs.Integers.{mul_cancel_right_z, mul_positive_z, positive_some_z, abs_positive_z, pos_abs_z, mul_assoc_z}
 use Rattle.gj_tools.proofs.Ratios.{ratio_along, ratio_sum, ratio_less}
 use Rattle.gj_tools.proofs.Ring.{by_ring, ring}
-use Rattle.gj_frac.specs.Fraction.{Fraction, SameValue, sum_of}
+use Rattle.gj_frac.specs.Fraction.{Fraction, SameValue, LessValue, sum_of}
 use Rattle.gj_shape.specs.Valid.{weight}
 use Rattle.gj_valid.specs.ValidFunctions.{AtMost, nothing, one, sum_of_values}
 
@@ -111,3 +111,11 @@ have_bottom x (suc n) some =
   where
     not_last : (i n : ℕ) → i < suc n → i ≢ n → i < n
     not_last i n below differs = ⊎_elim (λ l. l) (λ l. absurd (differs (omega arith))) (cases_lt i n)
+
+pub less_from_numbers : (x y : Fraction) (n m : ℤ) (c : ℕ) → pos 0 <ℤ x.bottom → pos 0 <ℤ y.bottom → 0 < c → Is x n c → Is y m c →
+    n <ℤ m → LessValue x y
+less_from_numbers x y n m c x_some y_some some is is' less =
+    (ratio_less x.top x.bottom y.top y.bottom n m (pos c) x_some y_some (omega (arith, ints)) is is').1 less
+
+pub is_over : (x : Fraction) (n : ℤ) (c e r : ℕ) → Is x n c → r ≡ e * c → Is x (pos e *ℤ n) r
+is_over x n c e r is scale = subst (λ (b : ℕ). Is x (pos e *ℤ n) b) (sym scale) (is_scaled x n c e is)

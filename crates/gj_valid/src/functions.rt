@@ -4,9 +4,10 @@ ghost use Rattle.gj_shape.specs.FunctionData.{FunctionData, IsWithinBounds};
 ghost use Rattle.gj_shape.specs.Table.{IsMinimal};
 ghost use Rattle.gj_valid.specs.ValidFunctions.{IsMinimalAmongFunctions, IsExtremeAmongFunctions, function_of};
 
-/// A minimal function, taken on all fractions, is minimal among the valid functions: no other lies below.
+/// The minimal functions are those that, taken on all fractions, are minimal among the valid functions: no other lies below.
 pub fn minimal_functions_are_minimal_among_valid()
-    ensures { (f : FunctionData) → IsWithinBounds f → IsMinimal f → IsMinimalAmongFunctions (function_of f) f.place f.order }
+    ensures among { (f : FunctionData) → IsWithinBounds f → IsMinimal f → IsMinimalAmongFunctions (function_of f) f.place f.order }
+    ensures only { (f : FunctionData) → IsWithinBounds f → IsMinimalAmongFunctions (function_of f) f.place f.order → IsMinimal f }
 {}
 
 /// An extreme function, taken on all fractions, is extreme among the valid functions: it is not half the sum of two others.
