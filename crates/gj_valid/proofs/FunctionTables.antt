@@ -11,7 +11,6 @@ use Rattle.gj_shape.specs.Table.{table}
 use Rattle.gj_shape.specs.Valid.{weight, IsValidTable}
 use Rattle.gj_shape.specs.Violation.{value_of}
 use Rattle.gj_shape.proofs.TableLemmas.{table_period, table_finer}
-use Rattle.gj_theory.proofs.ShownPoints.{same_on_both}
 use Rattle.gj_theory.proofs.Weights.{sum_cons}
 use Rattle.gj_valid.specs.ValidFunctions.{nothing, one, sum_of_values, IsFunction, IsValidFunction, function_of}
 use Rattle.gj_valid.proofs.OverOneBottom.{Is, is_along, most_to_numbers, most_from_numbers, nothing_is, one_is, values_positive, values_are, have_bottom}
@@ -101,45 +100,70 @@ has_table v k q m q_some m_some h =
       valid = entries_valid v k q m b.c (λ i. b.t (i % n)) q_some m_some b.some h (λ i. ap b.t (add-mod_right i n)) is;
     }
 
--- ---- the function that data tell
+-- ---- functions by tables that agree
+
+-- the function whose table on the grid of order q d is T d over s d
+abbrev pub by_tables : (ℕ → ℕ → ℤ) → ℕ → ℕ → ℕ → ℕ → Fraction
+by_tables T q s n d = record { top = T d (n * q); bottom = pos (s * d) }
+
+-- tables of period q d that have the same values where they share points
+pub record Agree (T : ℕ → ℕ → ℤ) (q : ℕ) : Type 0 where
+  pub finer : (d e i : ℕ) → 0 < d → 0 < e → T (d * e) (i * e) ≡ pos e *ℤ T d i
+  pub has_period : (d i : ℕ) → 0 < d → T d (i + q * d) ≡ T d i
 
 cross_scaled : (x : ℤ) (s d : ℕ) → x *ℤ pos (s * d) ≡ pos s *ℤ (pos d *ℤ x)
 cross_scaled x s d = by_ring (x ∷ pos s ∷ pos d ∷ []) (search ring depth 20) refl
 
-pub function_is : (f : FunctionData) → IsWithinBounds f → IsFunction (function_of f)
-function_is f l = record {
-  positive = λ n d some. let s : 0 < f.scale * d = mul-pos (let low = l.scale_low in omega arith) some in omega (arith, ints);
+pub tables_function : (T : ℕ → ℕ → ℤ) (q s : ℕ) → 0 < s → Agree T q → IsFunction (by_tables T q s)
+tables_function T q s s_some h = record {
+  positive = λ n d some. let bottom : 0 < s * d = mul-pos s_some some in omega (arith, ints);
   at_points = λ n d m e d_some e_some same.
-      let rests : (n * f.order * e) % (f.order * (e * d)) ≡ (m * f.order * d) % (f.order * (e * d)) =
-      ap₂ (λ i k. i % k) (omega arith) (omega arith) ∙ scaled_rest (n * e) (m * d) (d * e) f.order same
+      let rests : (n * q * e) % (q * (e * d)) ≡ (m * q * d) % (q * (e * d)) =
+      ap₂ (λ i k. i % k) (omega arith) (omega arith) ∙ scaled_rest (n * e) (m * d) (d * e) q same
       ∙ ap₂ (λ i k. i % k) (omega arith) (omega arith) in
-      let entries = same_at_remainder (table f (e * d)) (f.order * (e * d))
-      (λ i. table_period f (e * d) i (mul-pos e_some d_some) l) (n * f.order * e) (m * f.order * d) rests in
-      let same_values = same_on_both f e d (m * f.order) (n * f.order) e_some d_some entries in
-      cross_scaled (value_of f n d) f.scale e ∙ ap (λ z. pos f.scale *ℤ z) same_values ∙ sym (cross_scaled (value_of f m e) f.scale d);
+      let entries = same_at_remainder (T (e * d)) (q * (e * d))
+      (λ i. h.has_period (e * d) i (mul-pos e_some d_some)) (n * q * e) (m * q * d) rests in
+      let same_values : pos e *ℤ T d (n * q) ≡ pos d *ℤ T e (m * q) =
+      sym (h.finer d e (n * q) d_some e_some) ∙ ap (λ g. T g (n * q * e)) (mul_comm d e) ∙ entries ∙ h.finer e d (m * q) e_some d_some in
+      cross_scaled (T d (n * q)) s e ∙ ap (λ z. pos s *ℤ z) same_values ∙ sym (cross_scaled (T e (m * q)) s d);
 }
+
+pub tables_valid : (T : ℕ → ℕ → ℤ) (k q s : ℕ) → 0 < s → Agree T q → ((d : ℕ) → 0 < d → IsValidTable (T d) (q * d) (k * d) (s * d)) →
+    IsValidFunction (by_tables T q s) k q
+tables_valid T k q s s_some agree h =
+    let function = tables_function T q s s_some agree in
+    record {
+      function = function;
+      nonnegative = λ n d some.
+          most_from_numbers nothing (by_tables T q s n d) (pos 0) (T d (n * q)) (s * d) (omega (arith, ints))
+          (function.positive n d some) (mul-pos s_some some) (nothing_is (s * d)) refl ((h d some).nonnegative (n * q));
+      at_solutions = λ d tops some solution.
+          let places = map (λ n. n * q) tops in
+          let sum_is : sum places ≡ sum tops * q = sum_scaled q tops in
+          let least = (h d some).at_solutions places
+          (ap₂ (λ i j. i % j) sum_is (omega arith) ∙ solution ∙ ap (λ j. k * d % j) (omega arith)) in
+          most_from_numbers one (sum_of_values (by_tables T q s) d tops) (pos (s * d)) (weight (λ n. T d (n * q)) tops) (s * d)
+          (omega (arith, ints)) (values_positive (by_tables T q s) d tops (λ n. function.positive n d some)) (mul-pos s_some some)
+          (one_is (s * d)) (values_are (by_tables T q s) (λ n. T d (n * q)) d (s * d) tops (λ n. refl))
+          (subst (λ (w : ℤ). pos (s * d) ≤ℤ w) (weight_of_map (T d) (λ n. n * q) tops) least);
+    }
+
+-- ---- the function that data tell
+
+pub agree_on_grids : (f : FunctionData) → IsWithinBounds f → Agree (table f) f.order
+agree_on_grids f l = record {
+  finer = λ d e i d_some e_some. table_finer f d e i d_some e_some;
+  has_period = λ d i some. table_period f d i some l;
+}
+
+pub function_is : (f : FunctionData) → IsWithinBounds f → IsFunction (function_of f)
+function_is f l = tables_function (table f) f.order f.scale (let low = l.scale_low in omega arith) (agree_on_grids f l)
 
 pub function_valid : (f : FunctionData) → IsWithinBounds f →
     ((m : ℕ) → 0 < m → IsValidTable (table f m) (f.order * m) (f.place * m) (f.scale * m)) →
     IsValidFunction (function_of f) f.place f.order
 function_valid f l h =
-    let function = function_is f l in
-    let scale : 0 < f.scale = let low = l.scale_low in omega arith in
-    record {
-      function = function;
-      nonnegative = λ n d some.
-          most_from_numbers nothing (function_of f n d) (pos 0) (value_of f n d) (f.scale * d) (omega (arith, ints))
-          (function.positive n d some) (mul-pos scale some) (nothing_is (f.scale * d)) refl ((h d some).nonnegative (n * f.order));
-      at_solutions = λ d tops some solution.
-          let places = map (λ n. n * f.order) tops in
-          let sum_is : sum places ≡ sum tops * f.order = sum_scaled f.order tops in
-          let least = (h d some).at_solutions places
-          (ap₂ (λ i k. i % k) sum_is (omega arith) ∙ solution ∙ ap (λ k. f.place * d % k) (omega arith)) in
-          most_from_numbers one (sum_of_values (function_of f) d tops) (pos (f.scale * d)) (weight (λ n. value_of f n d) tops) (f.scale * d)
-          (omega (arith, ints)) (values_positive (function_of f) d tops (λ n. function.positive n d some)) (mul-pos scale some)
-          (one_is (f.scale * d)) (values_are (function_of f) (λ n. value_of f n d) d (f.scale * d) tops (λ n. refl))
-          (subst (λ (w : ℤ). pos (f.scale * d) ≤ℤ w) (weight_of_map (table f d) (λ n. n * f.order) tops) least);
-    }
+    tables_valid (table f) f.place f.order f.scale (let low = l.scale_low in omega arith) (agree_on_grids f l) h
 
 -- its value at a multiple of 1/(order d) is the table's entry
 pub function_on_grid : (f : FunctionData) (i d : ℕ) → 0 < f.order → 0 < d → Is (function_of f i (f.order * d)) (table f d i) (f.scale * d)
