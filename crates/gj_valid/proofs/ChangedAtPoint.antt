@@ -1,16 +1,16 @@
 -- A valid function with a lighter sum of values at points that add up to a point lies above another.
-use Rattle.std.proofs.Common.{◌≡◌, ◌≢◌, ℕ, ◌+◌, ◌*◌, ◌%◌, ◌<◌, ◌⊎◌, inl, inr, ⊎_elim, eqb, cond, List, [], ◌∷◌, ◌++◌, map, ℤ, pos, ◌+ℤ◌, ◌*ℤ◌, ◌≤ℤ◌, ◌<ℤ◌, refl, sym, subst, ap, ap₂, ◌∙◌, arith}
+use Rattle.std.proofs.Common.{◌≡◌, ℕ, ◌+◌, ◌*◌, ◌%◌, ◌<◌, ◌⊎◌, inl, inr, ⊎_elim, eqb, cond, List, [], ◌∷◌, ◌++◌, map, ℤ, pos, ◌+ℤ◌, ◌≤ℤ◌, ◌<ℤ◌, refl, sym, subst, ap, ap₂, ◌∙◌, arith}
 use Rattle.std.specs.Prelude.{sum}
 use Rattle.std.proofs.Math.Nat.{mul-pos, mul_comm}
 use Rattle.std.proofs.lemmas.Bool.{cond-true, cond-false}
 use Rattle.std.proofs.lemmas.Bool.Decides.{eqb_tells}
-use Rattle.std.proofs.lemmas.Int.{ints, by_lt_z}
-use Rattle.gj_frac.specs.Fraction.{Fraction, SameValue, LessValue, sum_of}
+use Rattle.std.proofs.lemmas.Int.{ints}
+use Rattle.gj_frac.specs.Fraction.{Fraction, SameValue, LessValue}
 use Rattle.gj_shape.specs.Valid.{weight}
 use Rattle.gj_theory.proofs.Weights.{sum_cons, sum_append, weight_append, same_sums, weight_nonnegative, StandFor}
 use Rattle.gj_valid.specs.ValidFunctions.{IsSamePoint, AtMost, nothing, one, sum_of_values, IsFunction, IsValidFunction, IsMinimalAmongFunctions}
-use Rattle.gj_valid.proofs.OverOneBottom.{Is, is_along, same_over, sum_is, most_from_numbers, most_to_numbers, nothing_is, one_is, values_positive, values_are}
-use Rattle.gj_valid.proofs.FunctionTables.{HasTable, has_table, at_place, on_grid, scaled_rest, cancel_rest, sum_scaled, weight_of_map}
+use Rattle.gj_valid.proofs.OverOneBottom.{Is, is_along, most_from_numbers, most_to_numbers, nothing_is, one_is, values_positive, values_are}
+use Rattle.gj_valid.proofs.FunctionTables.{HasTable, has_table, at_place, scaled_rest, cancel_rest, sum_scaled, weight_of_map}
 
 -- a valid function that is nowhere above v, and below it at n/d
 pub record HasLower (v : ℕ → ℕ → Fraction) (k q : ℕ) : Type 0 where

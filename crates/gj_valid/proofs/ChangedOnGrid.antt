@@ -1,5 +1,5 @@
 -- A valid table below that of a minimal function on a grid gives a valid function below: the function itself off the grid.
-use Rattle.std.proofs.Common.{◌≡◌, ◌≢◌, ℕ, ◌+◌, ◌*◌, ◌/◌, ◌%◌, ◌<◌, ◌⊎◌, inl, inr, ⊎_elim, eqb, cond, List, [], ◌∷◌, ℤ, pos, ◌+ℤ◌, ◌*ℤ◌, ◌≤ℤ◌, ◌<ℤ◌, refl, sym, subst, ap, ap₂, ◌∙◌, arith}
+use Rattle.std.proofs.Common.{◌≡◌, ℕ, ◌+◌, ◌*◌, ◌/◌, ◌%◌, ◌<◌, ◌⊎◌, inl, inr, ⊎_elim, eqb, cond, List, [], ◌∷◌, ℤ, pos, ◌+ℤ◌, ◌*ℤ◌, ◌≤ℤ◌, ◌<ℤ◌, refl, sym, subst, ap, ap₂, ◌∙◌, arith}
 use Rattle.std.specs.Prelude.{sum}
 use Rattle.std.proofs.Math.Nat.{mul-pos, mul_comm, div-add-mod', mul-mod_left, eq_of_mul-eq-mul_right}
 use Rattle.std.proofs.lemmas.Bool.{cond-true, cond-false}
@@ -10,11 +10,11 @@ use Rattle.gj_tools.proofs.Quotients.{same_at_remainder, same_remainder, from_sa
 use Rattle.gj_tools.proofs.Ring.{by_ring, ring}
 use Rattle.gj_frac.specs.Fraction.{Fraction, SameValue, LessValue}
 use Rattle.gj_shape.specs.Table.{IsMinimalTable}
-use Rattle.gj_shape.specs.Valid.{weight, IsValidTable, IsDominated}
+use Rattle.gj_shape.specs.Valid.{weight, IsDominated}
 use Rattle.gj_theory.proofs.ValidTables.{asymmetry_dominated}
 use Rattle.gj_theory.proofs.Weights.{sum_cons}
 use Rattle.gj_tools.proofs.Integers.{same_or_apart_z}
-use Rattle.gj_valid.specs.ValidFunctions.{IsSamePoint, AtMost, nothing, one, sum_of_values, IsFunction, IsValidFunction, IsMinimalAmongFunctions}
+use Rattle.gj_valid.specs.ValidFunctions.{IsSamePoint, AtMost, nothing, one, sum_of_values, IsFunction, IsMinimalAmongFunctions}
 use Rattle.gj_valid.proofs.OverOneBottom.{Is, is_scaled, is_over, one_number, most_from_numbers, less_from_numbers, nothing_is, one_is, values_positive, values_are}
 use Rattle.gj_valid.proofs.FunctionTables.{HasTable, has_table, at_place, scaled_rest, cancel_rest}
 use Rattle.gj_valid.proofs.ChangedAtPoint.{HasLower, not_lower, lighter_points, same_point_sym}

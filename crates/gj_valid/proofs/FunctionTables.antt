@@ -9,7 +9,6 @@ use Rattle.gj_frac.specs.Fraction.{Fraction}
 use Rattle.gj_shape.specs.FunctionData.{FunctionData, IsWithinBounds}
 use Rattle.gj_shape.specs.Table.{table}
 use Rattle.gj_shape.specs.Valid.{weight, IsValidTable}
-use Rattle.gj_shape.specs.Violation.{value_of}
 use Rattle.gj_shape.proofs.TableLemmas.{table_period, table_finer}
 use Rattle.gj_theory.proofs.Weights.{sum_cons}
 use Rattle.gj_valid.specs.ValidFunctions.{nothing, one, sum_of_values, IsFunction, IsValidFunction, function_of}

@@ -4,3 +4,4 @@ pub mod MinimalFunctions
 pub mod ChangedAtPoint
 pub mod ChangedOnGrid
 pub mod OnlyMinimal
+pub mod OnlyExtreme

@@ -1,11 +1,11 @@
 -- A function that is minimal among the valid functions on all fractions is minimal.
-use Rattle.std.proofs.Common.{ℕ, ◌*◌, ◌<◌, arith}
+use Rattle.std.proofs.Common.{◌*◌, ◌<◌, arith}
 use Rattle.std.proofs.Math.Nat.{mul-pos}
 use Rattle.gj_shape.specs.FunctionData.{FunctionData, IsWithinBounds}
 use Rattle.gj_shape.specs.Table.{table, IsMinimal}
 use Rattle.gj_shape.proofs.TableLemmas.{table_period}
-use Rattle.gj_valid.specs.ValidFunctions.{IsValidFunction, IsMinimalAmongFunctions, function_of}
-use Rattle.gj_valid.proofs.FunctionTables.{HasTable, entries_valid, function_on_grid}
+use Rattle.gj_valid.specs.ValidFunctions.{IsMinimalAmongFunctions, function_of}
+use Rattle.gj_valid.proofs.FunctionTables.{entries_valid, function_on_grid}
 use Rattle.gj_valid.proofs.ChangedOnGrid.{tables_are_minimal}
 
 pub only_minimal : (f : FunctionData) → IsWithinBounds f → IsMinimalAmongFunctions (function_of f) f.place f.order → IsMinimal f
