@@ -222,6 +222,20 @@ enough c b s l t w u z most same below least =
     let last : pos (b * s * c) ≡ pos c *ℤ pos (b * s) = by_ring (pos b ∷ pos c ∷ pos s ∷ []) (search ring depth 20) refl in
     rw last (omega (arith, ints, most, first, second, third, fourth, fifth, sixth))
 
+-- an entry of the table of a finer grid at a place of the coarser one
+finer_entry : (v : ℕ → ℕ → Fraction) (k q m e w r : ℕ) → 0 < q → 0 < m → 0 < e → IsFunction v → (h : HasTable v k q m) →
+    (f : HasTable v k q (m * e)) → r ≡ w * e → pos h.c *ℤ f.t r ≡ pos f.c *ℤ h.t w
+finer_entry v k q m e w r q_some m_some some function h f rest_is =
+    let n = q * m in
+    let n_some : 0 < n = mul-pos q_some m_some in
+    let grid : 0 < q * (m * e) = mul-pos q_some (mul-pos m_some some) in
+    let place : w * (q * (m * e)) ≡ w * e * (q * m) = omega arith in
+    let coarse = is_over (v w n) (h.t w) h.c f.c (f.c * h.c) (h.is w) refl in
+    let fine = is_over (v w n) (f.t (w * e)) f.c h.c (f.c * h.c)
+    (at_place v w n (w * e) (q * (m * e)) f.c (f.t (w * e)) n_some grid function place (f.is (w * e))) (mul_comm f.c h.c) in
+    ap (λ i. pos h.c *ℤ f.t i) rest_is
+    ∙ one_number (v w n) (pos h.c *ℤ f.t (w * e)) (pos f.c *ℤ h.t w) (f.c * h.c) (function.positive w n n_some) fine coarse
+
 -- ---- a valid table below gives a valid function below
 
 spread_at_solutions : (v : ℕ → ℕ → Fraction) (k q m : ℕ) → 0 < q → 0 < m → IsMinimalAmongFunctions v k q → (h : HasTable v k q m) →
@@ -245,13 +259,7 @@ spread_at_solutions v k q m q_some m_some minimal h l e ys some solution =
     ap₂ (λ i j. i % j) (r.whole ∙ omega arith) (omega arith) ∙ scaled_rest (sum ys * q) (k * e) (e * q) m solution
     ∙ ap₂ (λ i j. i % j) (omega arith) (omega arith) in
     let (w, rest_is, place) = rest_on_grid (sum r.places) r.rest n e (k * m) some all in
-    let coarse = is_over (v w n) (h.t w) h.c f.c (f.c * h.c) (h.is w) refl in
-    let fine = is_over (v w n) (f.t (w * e)) f.c h.c (f.c * h.c)
-    (at_place v w n (w * e) (q * (m * e)) f.c (f.t (w * e)) n_some grid minimal.valid.function (omega arith) (f.is (w * e)))
-    (mul_comm f.c h.c) in
-    let same : pos h.c *ℤ f.t r.rest ≡ pos f.c *ℤ h.t w =
-    ap (λ i. pos h.c *ℤ f.t i) rest_is
-    ∙ one_number (v w n) (pos h.c *ℤ f.t (w * e)) (pos f.c *ℤ h.t w) (f.c * h.c) (minimal.valid.function.positive w n n_some) fine coarse in
+    let same = finer_entry v k q m e w r.rest q_some m_some some minimal.valid.function h f rest_is in
     let least = l.valid.at_solutions (w ∷ r.places) (ap (λ i. i % n) (sum_cons w r.places) ∙ place) in
     let number_of = λ (y : ℕ). (each y).z in
     most_from_numbers one (sum_of_values (spread v n l.u s) e ys) (pos (s * f.c)) (weight number_of ys) (s * f.c) (omega (arith, ints))

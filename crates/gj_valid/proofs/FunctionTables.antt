@@ -81,22 +81,40 @@ entries_valid v k q m c t q_some m_some some h period is =
           (scaled_rest (sum places) (k * m) n q solution ∙ ap (λ i. i % (n * q)) (omega arith)));
     }
 
-pub has_table : (v : ℕ → ℕ → Fraction) (k q m : ℕ) → 0 < q → 0 < m → IsValidFunction v k q → HasTable v k q m
-has_table v k q m q_some m_some h =
+-- the same for any function
+pub record HasEntries (v : ℕ → ℕ → Fraction) (q m : ℕ) : Type 0 where
+  pub c : ℕ
+  pub t : ℕ → ℤ
+  pub some : 0 < c
+  pub is : (i : ℕ) → Is (v i (q * m)) (t i) c
+  pub has_period : (i : ℕ) → t (i + q * m) ≡ t i
+
+pub has_entries : (v : ℕ → ℕ → Fraction) (q m : ℕ) → 0 < q → 0 < m → IsFunction v → HasEntries v q m
+has_entries v q m q_some m_some h =
     let n = q * m in
     let n_some : 0 < n = mul-pos q_some m_some in
-    let positive = λ (i : ℕ). h.function.positive i n n_some in
+    let positive = λ (i : ℕ). h.positive i n n_some in
     let b = have_bottom (λ i. v i n) n positive in
-    let is = λ (i : ℕ).
-    is_along (v i n) (v (i % n) n) (b.t (i % n)) b.c (positive (i % n))
-    (h.function.at_points i n (i % n) n n_some n_some (scaled_rest i (i % n) n n (sym (mod-mod i n))))
-    (b.is (i % n) (mod-lt i n_some)) in
     record {
       c = b.c;
       t = λ i. b.t (i % n);
       some = b.some;
-      is = is;
-      valid = entries_valid v k q m b.c (λ i. b.t (i % n)) q_some m_some b.some h (λ i. ap b.t (add-mod_right i n)) is;
+      is = λ i.
+          is_along (v i n) (v (i % n) n) (b.t (i % n)) b.c (positive (i % n))
+          (h.at_points i n (i % n) n n_some n_some (scaled_rest i (i % n) n n (sym (mod-mod i n))))
+          (b.is (i % n) (mod-lt i n_some));
+      has_period = λ i. ap b.t (add-mod_right i n);
+    }
+
+pub has_table : (v : ℕ → ℕ → Fraction) (k q m : ℕ) → 0 < q → 0 < m → IsValidFunction v k q → HasTable v k q m
+has_table v k q m q_some m_some h =
+    let e = has_entries v q m q_some m_some h.function in
+    record {
+      c = e.c;
+      t = e.t;
+      some = e.some;
+      is = e.is;
+      valid = entries_valid v k q m e.c e.t q_some m_some e.some h e.has_period e.is;
     }
 
 -- ---- functions by tables that agree

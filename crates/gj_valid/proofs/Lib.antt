@@ -5,3 +5,4 @@ pub mod ChangedAtPoint
 pub mod ChangedOnGrid
 pub mod OnlyMinimal
 pub mod OnlyExtreme
+pub mod FunctionRules

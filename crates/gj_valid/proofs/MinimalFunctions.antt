@@ -16,7 +16,7 @@ use Rattle.gj_valid.proofs.OverOneBottom.{Is, is_over, same_over, same_numbers, 
 use Rattle.gj_valid.proofs.FunctionTables.{has_table, on_grid, function_is, function_valid, function_on_grid}
 
 -- e times a valid table
-multiple_valid : (t : ℕ → ℤ) (n k s e r : ℕ) → IsValidTable t n k s → r ≡ e * s → IsValidTable (λ i. pos e *ℤ t i) n k r
+pub multiple_valid : (t : ℕ → ℤ) (n k s e r : ℕ) → IsValidTable t n k s → r ≡ e * s → IsValidTable (λ i. pos e *ℤ t i) n k r
 multiple_valid t n k s e r h scale = record {
   has_period = λ i. ap (λ z. pos e *ℤ z) (h.has_period i);
   nonnegative = λ i. mul_nonnegative_z (pos e) (t i) (omega (arith, ints)) (h.nonnegative i);

@@ -1,5 +1,5 @@
 -- Functions from fractions to fractions, and what valid, minimal and extreme mean among them (Gomory and Johnson 1972; the common bottom is own).
-use Rattle.std.specs.Prelude.{ℕ, pos, ◌≡◌, ◌*◌, ◌%◌, ◌<◌, ◌*ℤ◌, ◌<ℤ◌, ◌≤ℤ◌, List, [], ◌∷◌, sum}
+use Rattle.std.specs.Prelude.{ℕ, pos, ◌≡◌, ◌+◌, ◌*◌, ◌%◌, ◌<◌, ◌*ℤ◌, ◌<ℤ◌, ◌≤ℤ◌, List, [], ◌∷◌, sum}
 use Rattle.gj_frac.specs.Fraction.{Fraction, SameValue, sum_of}
 use Rattle.gj_shape.specs.FunctionData.{FunctionData}
 use Rattle.gj_shape.specs.Violation.{value_of}
@@ -48,6 +48,14 @@ pub record IsExtremeAmongFunctions (v : ℕ → ℕ → Fraction) (k q : ℕ) : 
   pub no_average : (a b : ℕ → ℕ → Fraction) → IsValidFunction a k q → IsValidFunction b k q →
       ((n d : ℕ) → 0 < d → SameValue (sum_of (a n d) (b n d)) (sum_of (v n d) (v n d))) →
       (n d : ℕ) → 0 < d → SameValue (a n d) (b n d)
+
+-- the rules of minimal functions: 0 at 0, nowhere negative, subadditive, and values at points that add up to f add up to 1
+pub record IsMinimalFunction (v : ℕ → ℕ → Fraction) (k q : ℕ) : Type 0 where
+  pub function : IsFunction v
+  pub zero_at_zero : SameValue (v 0 1) nothing
+  pub nonnegative : (n d : ℕ) → 0 < d → AtMost nothing (v n d)
+  pub subadditive : (n m d : ℕ) → 0 < d → AtMost (v (n + m) d) (sum_of (v n d) (v m d))
+  pub symmetric : (n m d : ℕ) → 0 < d → IsSamePoint (n + m) d k q → SameValue (sum_of (v n d) (v m d)) one
 
 -- the function that the data tell: at n/d its value is that of the table on the grid that holds the point
 abbrev pub function_of : FunctionData → ℕ → ℕ → Fraction

@@ -1,8 +1,10 @@
 //! Minimal and extreme functions among the valid functions on all fractions.
+ghost use Rattle.std.specs.Prelude.{ℕ, ◌<◌};
 ghost use Rattle.gj_shape.specs.Extreme.{IsExtreme};
 ghost use Rattle.gj_shape.specs.FunctionData.{FunctionData, IsWithinBounds, IsContinuous};
 ghost use Rattle.gj_shape.specs.Table.{IsMinimal};
-ghost use Rattle.gj_valid.specs.ValidFunctions.{IsMinimalAmongFunctions, IsExtremeAmongFunctions, function_of};
+ghost use Rattle.gj_frac.specs.Fraction.{Fraction};
+ghost use Rattle.gj_valid.specs.ValidFunctions.{IsMinimalFunction, IsMinimalAmongFunctions, IsExtremeAmongFunctions, function_of};
 
 /// The minimal functions are those that, taken on all fractions, are minimal among the valid functions: no other lies below.
 pub fn minimal_functions_are_minimal_among_valid()
@@ -16,4 +18,11 @@ pub fn extreme_functions_are_extreme_among_valid()
     ensures among { (f : FunctionData) → IsWithinBounds f → IsExtreme f → IsExtremeAmongFunctions (function_of f) f.place f.order }
     ensures only { (f : FunctionData) → IsWithinBounds f → IsContinuous f →
         IsExtremeAmongFunctions (function_of f) f.place f.order → IsExtreme f }
+{}
+
+/// Of all functions from fractions to fractions, those that are minimal among the valid ones are those that are 0 at 0, nowhere
+/// negative, subadditive and symmetric.
+pub fn rules_of_minimal_functions()
+    ensures among { (v : ℕ → ℕ → Fraction) (k q : ℕ) → 0 < q → IsMinimalFunction v k q → IsMinimalAmongFunctions v k q }
+    ensures only { (v : ℕ → ℕ → Fraction) (k q : ℕ) → 0 < q → IsMinimalAmongFunctions v k q → IsMinimalFunction v k q }
 {}
