@@ -236,6 +236,15 @@ finer_entry v k q m e w r q_some m_some some function h f rest_is =
     ap (λ i. pos h.c *ℤ f.t i) rest_is
     ∙ one_number (v w n) (pos h.c *ℤ f.t (w * e)) (pos f.c *ℤ h.t w) (f.c * h.c) (function.positive w n n_some) fine coarse
 
+-- a solution over e on the finer grid
+scaled_solution : (l e k q m a : ℕ) → a ≡ l * (q * m) → IsSamePoint l e k q → a % (q * m * e) ≡ (k * m * e) % (q * m * e)
+scaled_solution l e k q m a whole solution =
+    ap₂ (λ i j. i % j) (whole ∙ omega arith) (omega arith) ∙ scaled_rest (l * q) (k * e) (e * q) m solution
+    ∙ ap₂ (λ i j. i % j) (omega arith) (omega arith)
+
+one_place_more : (w : ℕ) (places : List ℕ) (n k : ℕ) → (w + sum places) % n ≡ k % n → sum (w ∷ places) % n ≡ k % n
+one_place_more w places n k place = ap (λ i. i % n) (sum_cons w places) ∙ place
+
 -- ---- a valid table below gives a valid function below
 
 spread_at_solutions : (v : ℕ → ℕ → Fraction) (k q m : ℕ) → 0 < q → 0 < m → IsMinimalAmongFunctions v k q → (h : HasTable v k q m) →
@@ -255,12 +264,10 @@ spread_at_solutions v k q m q_some m_some minimal h l e ys some solution =
     (at_place v y e (y * n) (q * (m * e)) f.c (f.t (y * n)) some grid minimal.valid.function (omega arith) (f.is (y * n))) in
     let r = split v l.u f.t n s f.c e ys (table_zero v k q (m * e) q_some finer_some minimal f)
     (table_below v k q (m * e) q_some finer_some minimal f) each in
-    let all : (sum r.places * e + r.rest) % (n * e) ≡ (k * m * e) % (n * e) =
-    ap₂ (λ i j. i % j) (r.whole ∙ omega arith) (omega arith) ∙ scaled_rest (sum ys * q) (k * e) (e * q) m solution
-    ∙ ap₂ (λ i j. i % j) (omega arith) (omega arith) in
+    let all = scaled_solution (sum ys) e k q m (sum r.places * e + r.rest) r.whole solution in
     let (w, rest_is, place) = rest_on_grid (sum r.places) r.rest n e (k * m) some all in
     let same = finer_entry v k q m e w r.rest q_some m_some some minimal.valid.function h f rest_is in
-    let least = l.valid.at_solutions (w ∷ r.places) (ap (λ i. i % n) (sum_cons w r.places) ∙ place) in
+    let least = l.valid.at_solutions (w ∷ r.places) (one_place_more w r.places n (k * m) place) in
     let number_of = λ (y : ℕ). (each y).z in
     most_from_numbers one (sum_of_values (spread v n l.u s) e ys) (pos (s * f.c)) (weight number_of ys) (s * f.c) (omega (arith, ints))
     (values_positive (spread v n l.u s) e ys (λ y. function.positive y e some)) (mul-pos s_some f.some) (one_is (s * f.c))

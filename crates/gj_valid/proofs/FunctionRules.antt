@@ -1,16 +1,16 @@
 -- The functions that are minimal among the valid ones are those that meet the rules.
-use Rattle.std.proofs.Common.{◌≡◌, ℕ, ◌+◌, ◌*◌, ◌%◌, ◌<◌, List, [], ◌∷◌, map, ℤ, pos, ◌+ℤ◌, ◌*ℤ◌, ◌≤ℤ◌, ◌<ℤ◌, refl, sym, subst, ap, ap₂, ◌∙◌, arith}
+use Rattle.std.proofs.Common.{◌≡◌, ℕ, ◌+◌, ◌*◌, ◌%◌, ◌<◌, map, ℤ, pos, ◌+ℤ◌, ◌*ℤ◌, ◌≤ℤ◌, ◌<ℤ◌, refl, sym, subst, ap, ap₂, ◌∙◌, arith}
 use Rattle.std.specs.Prelude.{sum}
 use Rattle.std.proofs.Math.Nat.{mul-pos, mul_comm, zero-mul}
 use Rattle.std.proofs.lemmas.Int.{ints}
 use Rattle.gj_tools.proofs.Integers.{mul_positive_z}
-use Rattle.gj_frac.specs.Fraction.{Fraction, SameValue, sum_of}
+use Rattle.gj_frac.specs.Fraction.{Fraction, sum_of}
 use Rattle.gj_shape.specs.Table.{IsMinimalTable}
-use Rattle.gj_shape.specs.Valid.{weight, IsValidTable}
+use Rattle.gj_shape.specs.Valid.{weight}
 use Rattle.gj_theory.proofs.ValidTables.{minimal_is_valid, minimal_among}
-use Rattle.gj_valid.specs.ValidFunctions.{IsSamePoint, AtMost, nothing, one, sum_of_values, IsFunction, IsValidFunction, IsMinimalAmongFunctions, IsMinimalFunction}
+use Rattle.gj_valid.specs.ValidFunctions.{nothing, one, sum_of_values, IsFunction, IsValidFunction, IsMinimalAmongFunctions, IsMinimalFunction}
 use Rattle.gj_valid.proofs.OverOneBottom.{Is, is_over, is_along, one_number, same_over, same_numbers, sum_is, most_from_numbers, most_to_numbers, nothing_is, one_is, values_positive, values_are}
-use Rattle.gj_valid.proofs.FunctionTables.{HasTable, has_table, HasEntries, has_entries, at_place, on_grid, scaled_rest, sum_scaled, weight_of_map}
+use Rattle.gj_valid.proofs.FunctionTables.{has_table, HasEntries, has_entries, at_place, on_grid, scaled_rest, sum_scaled, weight_of_map}
 use Rattle.gj_valid.proofs.MinimalFunctions.{multiple_valid}
 use Rattle.gj_valid.proofs.ChangedOnGrid.{tables_are_minimal}
 

@@ -6,3 +6,4 @@ pub mod ChangedOnGrid
 pub mod OnlyMinimal
 pub mod OnlyExtreme
 pub mod FunctionRules
+pub mod AnyBottoms

@@ -1,9 +1,9 @@
 -- A continuous function that is extreme among the valid functions on all fractions is extreme.
-use Rattle.std.proofs.Common.{◌≡◌, ℕ, ◌+◌, ◌-◌, ◌*◌, ◌/◌, ◌%◌, ◌<◌, ⊎_elim, [], ◌∷◌, ℤ, pos, unsigned_abs, ◌+ℤ◌, ◌-ℤ◌, ◌*ℤ◌, ◌<ℤ◌, refl, sym, subst, ap, ap₂, ◌∙◌, mul_assoc, arith}
+use Rattle.std.proofs.Common.{◌≡◌, ℕ, ◌+◌, ◌-◌, ◌*◌, ◌/◌, ◌%◌, ◌<◌, ⊎_elim, [], ◌∷◌, ℤ, pos, ◌+ℤ◌, ◌-ℤ◌, ◌*ℤ◌, ◌<ℤ◌, refl, sym, subst, ap, ap₂, ◌∙◌, mul_assoc, arith}
 use Rattle.std.specs.Prelude.{sum}
 use Rattle.std.proofs.Math.Nat.{mul-pos, mul_comm, mod-lt}
 use Rattle.std.proofs.lemmas.Int.{ints}
-use Rattle.gj_tools.proofs.Integers.{mul_positive_z, abs_positive_z, pos_abs_z, same_or_apart_z, mul_cancel_left_z, mul_cancel_right_z}
+use Rattle.gj_tools.proofs.Integers.{mul_positive_z, same_or_apart_z, mul_cancel_left_z, mul_cancel_right_z}
 use Rattle.gj_tools.proofs.Ratios.{ratio_difference}
 use Rattle.gj_tools.proofs.Ring.{by_ring, ring}
 use Rattle.gj_frac.specs.Fraction.{Fraction, sum_of, difference_of}
@@ -19,7 +19,7 @@ use Rattle.gj_theory.proofs.Fillings.{filling_at, filling_at_multiple, filling_p
 use Rattle.gj_theory.proofs.ValidTables.{minimal_is_valid}
 use Rattle.gj_theory.proofs.Weights.{weight_le}
 use Rattle.gj_valid.specs.ValidFunctions.{AtMost, nothing, one, sum_of_values, IsFunction, IsValidFunction, IsMinimalAmongFunctions, IsExtremeAmongFunctions, function_of}
-use Rattle.gj_valid.proofs.OverOneBottom.{Is, is_over, is_along, same_over, same_numbers, sum_is, most_from_numbers, most_to_numbers, nothing_is, one_is, values_positive, values_are}
+use Rattle.gj_valid.proofs.OverOneBottom.{Is, over_one, is_over, is_along, same_over, same_numbers, sum_is, most_from_numbers, most_to_numbers, nothing_is, one_is, values_positive, values_are}
 use Rattle.gj_valid.proofs.FunctionTables.{has_table, on_grid, scaled_rest, by_tables, Agree, tables_valid}
 use Rattle.gj_valid.proofs.OnlyMinimal.{only_minimal}
 
@@ -27,28 +27,6 @@ use Rattle.gj_valid.proofs.OnlyMinimal.{only_minimal}
 
 difference_is : (x y : Fraction) (n m : ℤ) (c : ℕ) → Is x n c → Is y m c → Is (difference_of x y) (n -ℤ m) c
 difference_is x y n m c is is' = ratio_difference x.top x.bottom y.top y.bottom n m (pos c) is is'
-
--- two fractions over one bottom
-record OverOne (x y : Fraction) : Type 0 where
-  c : ℕ
-  n : ℤ
-  m : ℤ
-  some : 0 < c
-  x_is : Is x n c
-  y_is : Is y m c
-
-over_one : (x y : Fraction) → pos 0 <ℤ x.bottom → pos 0 <ℤ y.bottom → OverOne x y
-over_one x y x_some y_some =
-    let a = unsigned_abs x.bottom in
-    let b = unsigned_abs y.bottom in
-    record {
-      c = a * b;
-      n = pos b *ℤ x.top;
-      m = pos a *ℤ y.top;
-      some = mul-pos (abs_positive_z x.bottom x_some) (abs_positive_z y.bottom y_some);
-      x_is = is_over x x.top a b (a * b) (ap (λ z. x.top *ℤ z) (pos_abs_z x.bottom (omega (arith, ints)))) (mul_comm a b);
-      y_is = is_over y y.top b a (a * b) (ap (λ z. y.top *ℤ z) (pos_abs_z y.bottom (omega (arith, ints)))) refl;
-    }
 
 -- twice v less u
 abbrev left_over : (ℕ → ℕ → Fraction) → (ℕ → ℕ → Fraction) → ℕ → ℕ → Fraction

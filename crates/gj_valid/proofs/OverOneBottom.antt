@@ -1,6 +1,6 @@
 -- Fractions and their sums over one bottom.
 use Rattle.std.proofs.Common.{◌≡◌, ◌≢◌, ℕ, zero, suc, ◌*◌, ◌<◌, ⊎_elim, eqb, cond, List, [], ◌∷◌, ℤ, pos, unsigned_abs, ◌+ℤ◌, ◌*ℤ◌, ◌≤ℤ◌, ◌<ℤ◌, refl, sym, subst, ap, ◌∙◌, arith}
-use Rattle.std.proofs.Math.Nat.{mul-pos}
+use Rattle.std.proofs.Math.Nat.{mul-pos, mul_comm}
 use Rattle.std.proofs.lemmas.Bool.{cases_lt, cond-true, cond-false}
 use Rattle.std.proofs.lemmas.Bool.Decides.{eqb_tells}
 use Rattle.std.proofs.lemmas.Int.{ints, by_lt_z}
@@ -119,3 +119,45 @@ less_from_numbers x y n m c x_some y_some some is is' less =
 
 pub is_over : (x : Fraction) (n : ℤ) (c e r : ℕ) → Is x n c → r ≡ e * c → Is x (pos e *ℤ n) r
 is_over x n c e r is scale = subst (λ (b : ℕ). Is x (pos e *ℤ n) b) (sym scale) (is_scaled x n c e is)
+
+-- two fractions over one bottom
+pub record OverOne (x y : Fraction) : Type 0 where
+  pub c : ℕ
+  pub n : ℤ
+  pub m : ℤ
+  pub some : 0 < c
+  pub x_is : Is x n c
+  pub y_is : Is y m c
+
+pub over_one : (x y : Fraction) → pos 0 <ℤ x.bottom → pos 0 <ℤ y.bottom → OverOne x y
+over_one x y x_some y_some =
+    let a = unsigned_abs x.bottom in
+    let b = unsigned_abs y.bottom in
+    record {
+      c = a * b;
+      n = pos b *ℤ x.top;
+      m = pos a *ℤ y.top;
+      some = mul-pos (abs_positive_z x.bottom x_some) (abs_positive_z y.bottom y_some);
+      x_is = is_over x x.top a b (a * b) (ap (λ z. x.top *ℤ z) (pos_abs_z x.bottom (omega (arith, ints)))) (mul_comm a b);
+      y_is = is_over y y.top b a (a * b) (ap (λ z. y.top *ℤ z) (pos_abs_z y.bottom (omega (arith, ints)))) refl;
+    }
+
+-- sums of fractions with the same values
+pub same_sums_of : (x y x' y' : Fraction) → pos 0 <ℤ x'.bottom → pos 0 <ℤ y'.bottom → SameValue x x' → SameValue y y' →
+    SameValue (sum_of x y) (sum_of x' y')
+same_sums_of x y x' y' x_some y_some same same' =
+    let o = over_one x' y' x_some y_some in
+    same_over (sum_of x y) (sum_of x' y') (o.n +ℤ o.m) o.c o.some
+    (sum_is x y o.n o.m o.c (is_along x x' o.n o.c x_some same o.x_is) (is_along y y' o.m o.c y_some same' o.y_is))
+    (sum_is x' y' o.n o.m o.c o.x_is o.y_is)
+
+pub same_trans : (x y z : Fraction) → pos 0 <ℤ y.bottom → pos 0 <ℤ z.bottom → SameValue x y → SameValue y z → SameValue x z
+same_trans x y z y_some z_some first second =
+    let o = over_one y z y_some z_some in
+    same_over x z o.m o.c o.some (is_along x y o.m o.c y_some first (is_along y z o.m o.c z_some second o.y_is)) o.y_is
+
+pub most_along : (x y z : Fraction) → pos 0 <ℤ x.bottom → pos 0 <ℤ y.bottom → pos 0 <ℤ z.bottom → AtMost x y → SameValue z y → AtMost x z
+most_along x y z x_some y_some z_some most same =
+    let o = over_one x y x_some y_some in
+    most_from_numbers x z o.n o.m o.c x_some z_some o.some o.x_is (is_along z y o.m o.c y_some same o.y_is)
+    (most_to_numbers x y o.n o.m o.c x_some y_some o.some o.x_is o.y_is most)

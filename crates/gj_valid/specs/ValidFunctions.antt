@@ -60,3 +60,15 @@ pub record IsMinimalFunction (v : ℕ → ℕ → Fraction) (k q : ℕ) : Type 0
 -- the function that the data tell: at n/d its value is that of the table on the grid that holds the point
 abbrev pub function_of : FunctionData → ℕ → ℕ → Fraction
 function_of f n d = record { top = value_of f n d; bottom = pos (f.scale * d) }
+
+-- ---- solutions of points over any bottoms
+
+-- the sum of the points n/d of a list, as the pair of its top and its bottom
+abbrev pub sum_of_points : List (ℕ × ℕ) → ℕ × ℕ
+sum_of_points [] = (0, 1)
+sum_of_points (p ∷ points) = (p.0 * (sum_of_points points).1 + (sum_of_points points).0 * p.1, p.1 * (sum_of_points points).1)
+
+-- the sum of a function's values at the points of a list
+abbrev pub sum_at_points : (ℕ → ℕ → Fraction) → List (ℕ × ℕ) → Fraction
+sum_at_points v [] = nothing
+sum_at_points v (p ∷ points) = sum_of (v p.0 p.1) (sum_at_points v points)
