@@ -53,7 +53,8 @@ changed_tells v a g w n e =
     (λ off. inr (off.1, cond-false (eqb ((n * g) % (e * g)) ((a * e) % (e * g))) w (v n e) off.0))
     (eqb_tells ((n * g) % (e * g)) ((a * e) % (e * g)))
 
-changed_is_function : (v : ℕ → ℕ → Fraction) (a g : ℕ) (w : Fraction) → 0 < g → pos 0 <ℤ w.bottom → IsFunction v → IsFunction (changed v a g w)
+changed_is_function : (v : ℕ → ℕ → Fraction) (a g : ℕ) (w : Fraction) → 0 < g → pos 0 <ℤ w.bottom → IsFunction v →
+    IsFunction (changed v a g w)
 changed_is_function v a g w g_some w_some h = record {
   positive = λ n e some.
       ⊎_elim (λ at. subst (λ (x : Fraction). pos 0 <ℤ x.bottom) (sym at.1) w_some)
@@ -95,7 +96,8 @@ abbrev changed_numbers : (ℕ → ℤ) → ℕ → ℕ → ℕ → ℕ → ℤ �
 changed_numbers t q a g e w y = cond (eqb ((y * g) % (e * g)) ((a * e) % (e * g))) w (t (y * (q * g)))
 
 numbers_tell : (t : ℕ → ℤ) (q a g e : ℕ) (w : ℤ) (y : ℕ) →
-    (IsSamePoint y e a g × (changed_numbers t q a g e w y ≡ w)) ⊎ ((IsSamePoint y e a g → ⊥) × (changed_numbers t q a g e w y ≡ t (y * (q * g))))
+    (IsSamePoint y e a g × (changed_numbers t q a g e w y ≡ w))
+    ⊎ ((IsSamePoint y e a g → ⊥) × (changed_numbers t q a g e w y ≡ t (y * (q * g))))
 numbers_tell t q a g e w y =
     ⊎_elim (λ at. inl (at.1, cond-true (eqb ((y * g) % (e * g)) ((a * e) % (e * g))) w (t (y * (q * g))) at.0))
     (λ off. inr (off.1, cond-false (eqb ((y * g) % (e * g)) ((a * e) % (e * g))) w (t (y * (q * g))) off.0))
@@ -113,8 +115,10 @@ both v k q g e q_some g_some e_some h =
     let grid : 0 < q * (g * e) = mul-pos q_some (mul-pos g_some e_some) in
     record {
       table = r;
-      over_g = λ x. at_place v x g (x * (q * e)) (q * (g * e)) r.c (r.t (x * (q * e))) g_some grid h.function (omega arith) (r.is (x * (q * e)));
-      over_e = λ y. at_place v y e (y * (q * g)) (q * (g * e)) r.c (r.t (y * (q * g))) e_some grid h.function (omega arith) (r.is (y * (q * g)));
+      over_g = λ x.
+          at_place v x g (x * (q * e)) (q * (g * e)) r.c (r.t (x * (q * e))) g_some grid h.function (omega arith) (r.is (x * (q * e)));
+      over_e = λ y.
+          at_place v y e (y * (q * g)) (q * (g * e)) r.c (r.t (y * (q * g))) e_some grid h.function (omega arith) (r.is (y * (q * g)));
     }
 
 stands : (t : ℕ → ℤ) (q a g e : ℕ) (xs : List ℕ) (y : ℕ) → sum xs % g ≡ a % g →
@@ -146,7 +150,8 @@ changed_is v t q a g e c x w y is_w is_v =
     (numbers_tell t q a g e w y))
     (λ off. ⊎_elim
     (λ at'. absurd (off.0 at'.0))
-    (λ off'. subst (λ (z : Fraction). Is z (changed_numbers t q a g e w y) c) (sym off.1) (subst (λ (n : ℤ). Is (v y e) n c) (sym off'.1) is_v))
+    (λ off'. subst (λ (z : Fraction). Is z (changed_numbers t q a g e w y) c) (sym off.1)
+    (subst (λ (n : ℤ). Is (v y e) n c) (sym off'.1) is_v))
     (numbers_tell t q a g e w y))
     (changed_tells v a g x y e)
 
@@ -206,7 +211,8 @@ lighter_points v k q a g xs q_some g_some h place less =
           let x_is = values_are v (λ n. b.table.t (n * (q * e))) g c xs b.over_g in
           most_from_numbers x (v n e) w z c x_some (h.function.positive n e some) b.table.some x_is
           (is_along (v n e) (v a g) z c (h.function.positive a g g_some) (h.function.at_points n e a g some g_some at.0) (b.over_g a))
-          (most_to_numbers x (v a g) w z c x_some (h.function.positive a g g_some) b.table.some x_is (b.over_g a) (omega (arith, ints, less)))))
+          (most_to_numbers x (v a g) w z c x_some (h.function.positive a g g_some) b.table.some x_is (b.over_g a)
+          (omega (arith, ints, less)))))
           (λ off. subst (λ (z : Fraction). AtMost z (v n e)) (sym off.1) (omega (arith, ints)))
           (changed_tells v a g x n e);
       below = ⊎_elim (λ at. subst (λ (z : Fraction). LessValue z (v a g)) (sym at.1) less) (λ off. absurd (off.0 refl))

@@ -207,7 +207,8 @@ rest_on_grid p r n e k some same =
     let w = r / e in (
       w,
       is,
-      cancel_rest (w + p) k n e some (ap (λ i. i % (n * e)) (let product : (w + p) * e ≡ w * e + p * e = omega arith in omega arith) ∙ same),
+      cancel_rest (w + p) k n e some
+          (ap (λ i. i % (n * e)) (let product : (w + p) * e ≡ w * e + p * e = omega arith in omega arith) ∙ same),
     )
 
 enough : (c b s : ℕ) (l t w u z : ℤ) → (pos c *ℤ l +ℤ pos (b * s) *ℤ t) ≤ℤ z → pos s *ℤ t ≡ pos c *ℤ w → u ≤ℤ (pos b *ℤ w) →

@@ -53,7 +53,8 @@ pub record HasTable (v : ℕ → ℕ → Fraction) (k q m : ℕ) : Type 0 where
   pub valid : IsValidTable t (q * m) (k * m) c
 
 -- n/d = i/e
-pub at_place : (v : ℕ → ℕ → Fraction) (n d i e c : ℕ) (z : ℤ) → 0 < d → 0 < e → IsFunction v → n * e ≡ i * d → Is (v i e) z c → Is (v n d) z c
+pub at_place : (v : ℕ → ℕ → Fraction) (n d i e c : ℕ) (z : ℤ) → 0 < d → 0 < e → IsFunction v → n * e ≡ i * d → Is (v i e) z c →
+    Is (v n d) z c
 at_place v n d i e c z d_some e_some h place is =
     is_along (v n d) (v i e) z c (h.positive i e e_some) (h.at_points n d i e d_some e_some (ap (λ j. j % (d * e)) place)) is
 

@@ -88,7 +88,8 @@ extreme_among_functions f l h =
           halves (pos (r.c * s) *ℤ p.t i) (pos (p.c * s) *ℤ r.t i) (table f d i) c
           (same_numbers (sum_of x y) (sum_of z z) (pos (r.c * s) *ℤ p.t i +ℤ pos (p.c * s) *ℤ r.t i)
           (pos c *ℤ table f d i +ℤ pos c *ℤ table f d i) (c * s)
-          (mul_positive_z x.bottom y.bottom (a_valid.function.positive i (f.order * d) grid) (b_valid.function.positive i (f.order * d) grid))
+          (mul_positive_z x.bottom y.bottom (a_valid.function.positive i (f.order * d) grid)
+          (b_valid.function.positive i (f.order * d) grid))
           (mul_positive_z z.bottom z.bottom (function.positive i (f.order * d) grid) (function.positive i (f.order * d) grid))
           (average i (f.order * d) grid)
           (sum_is x y (pos (r.c * s) *ℤ p.t i) (pos (p.c * s) *ℤ r.t i) (c * s) (a_is i) (b_is i))

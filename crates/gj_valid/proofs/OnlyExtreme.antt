@@ -63,7 +63,8 @@ left_over_valid v u k q q_some v_valid u_valid below =
           let o = over_one (v n d) (u n d) (v_some n d some) (u_some n d some) in
           let low = most_to_numbers nothing (v n d) (pos 0) o.n o.c (omega (arith, ints)) (v_some n d some) o.some (nothing_is o.c) o.x_is
           (v_valid.nonnegative n d some) in
-          let less = most_to_numbers (u n d) (v n d) o.m o.n o.c (u_some n d some) (v_some n d some) o.some o.y_is o.x_is (below n d some) in
+          let less = most_to_numbers (u n d) (v n d) o.m o.n o.c (u_some n d some) (v_some n d some) o.some o.y_is o.x_is
+          (below n d some) in
           most_from_numbers nothing (left_over v u n d) (pos 0) (o.n +ℤ o.n -ℤ o.m) o.c (omega (arith, ints)) (b_some n d some) o.some
           (nothing_is o.c) (left_over_is v u n d o.c o.n o.m o.x_is o.y_is) (omega (arith, ints, low, less));
       at_solutions = λ d tops some solution.
@@ -85,8 +86,8 @@ left_over_valid v u k q q_some v_valid u_valid below =
           let least = most_to_numbers one (sum_of_values v d tops) (pos c) (weight x tops) c (omega (arith, ints))
           (values_positive v d tops (λ n. v_some n d some)) c_some (one_is c) (values_are v x d c tops x_is)
           (v_valid.at_solutions d tops some solution) in
-          most_from_numbers one (sum_of_values (left_over v u) d tops) (pos c) (weight (λ n. x n +ℤ x n -ℤ y n) tops) c (omega (arith, ints))
-          (values_positive (left_over v u) d tops (λ n. b_some n d some)) c_some (one_is c)
+          most_from_numbers one (sum_of_values (left_over v u) d tops) (pos c) (weight (λ n. x n +ℤ x n -ℤ y n) tops) c
+          (omega (arith, ints)) (values_positive (left_over v u) d tops (λ n. b_some n d some)) c_some (one_is c)
           (values_are (left_over v u) (λ n. x n +ℤ x n -ℤ y n) d c tops (λ n. left_over_is v u n d c (x n) (y n) (x_is n) (y_is n)))
           (omega (arith, ints, above, least));
     }
@@ -164,7 +165,8 @@ filled_valid t k q m s q_some m_some s_some h =
     (filling_minimal t (q * m) (k * m) s d (mul-pos q_some m_some) some h)))
 
 -- the value of the function as an entry on a grid that is finer than its own
-finer_value : (f : FunctionData) (n d m : ℕ) → 0 < d → 0 < m → Is (function_of f n d) (table f (m * d) (n * (f.order * m))) (f.scale * (m * d))
+finer_value : (f : FunctionData) (n d m : ℕ) → 0 < d → 0 < m →
+    Is (function_of f n d) (table f (m * d) (n * (f.order * m))) (f.scale * (m * d))
 finer_value f n d m d_some m_some =
     by_ring (value_of f n d ∷ pos f.scale ∷ pos m ∷ pos d ∷ []) (search ring depth 30) refl
     ∙ ap (λ z. z *ℤ pos (f.scale * d))
@@ -206,7 +208,8 @@ halves_deny_function f m c a b l continuous m_some h extreme =
     (mul_cancel_left_z (a h.index) (b h.index) (pos n)
     (sym (filling_at_multiple a n h.index n_some) ∙ entries ∙ filling_at_multiple b n h.index n_some) (omega (arith, n_some)))
 
-pub only_extreme : (f : FunctionData) → IsWithinBounds f → IsContinuous f → IsExtremeAmongFunctions (function_of f) f.place f.order → IsExtreme f
+pub only_extreme : (f : FunctionData) → IsWithinBounds f → IsContinuous f → IsExtremeAmongFunctions (function_of f) f.place f.order →
+    IsExtreme f
 only_extreme f l continuous h m some = record {
   minimal = only_minimal f l (extreme_is_minimal (function_of f) f.place f.order (let low = l.order_low in omega arith) h) m some;
   no_average = λ c a b c_some first second average i.

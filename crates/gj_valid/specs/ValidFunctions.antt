@@ -1,4 +1,4 @@
--- Functions from fractions to fractions, and what valid, minimal and extreme mean among them (Gomory and Johnson 1972; the common bottom is own).
+-- Functions from fractions to fractions: what valid, minimal and extreme mean (Gomory and Johnson 1972; the common bottom is own).
 use Rattle.std.specs.Prelude.{ℕ, pos, ◌≡◌, ◌+◌, ◌*◌, ◌%◌, ◌<◌, ◌*ℤ◌, ◌<ℤ◌, ◌≤ℤ◌, List, [], ◌∷◌, sum}
 use Rattle.gj_frac.specs.Fraction.{Fraction, SameValue, sum_of}
 use Rattle.gj_shape.specs.FunctionData.{FunctionData}
