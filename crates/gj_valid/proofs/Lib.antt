@@ -1,2 +1,11 @@
 pub mod MinimalBelow
 pub mod LowerCuts
+pub mod OverOneBottom
+pub mod FunctionTables
+pub mod MinimalFunctions
+pub mod ChangedAtPoint
+pub mod ChangedOnGrid
+pub mod OnlyMinimal
+pub mod OnlyExtreme
+pub mod FunctionRules
+pub mod AnyBottoms
