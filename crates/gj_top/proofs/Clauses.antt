@@ -168,7 +168,7 @@ module _ (words : List (String Global)) (Fault : Type 0) (left left' written wri
           true_reply = record {
             thing = reply.thing;
             spelled = reply.spelled;
-            holds = (sound a.request).work reply.thing o.text reply.replied;
+            holds = (sound a.request).work _ reply.thing o.text reply.spelled reply.replied;
           };
           gain = gain;
         }) o.gain

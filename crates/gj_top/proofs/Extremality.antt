@@ -4,6 +4,7 @@ use Rattle.gj_shape.specs.FunctionData.{FunctionData, IsWithinBounds, IsContinuo
 use Rattle.gj_shape.specs.Table.{table, IsMinimal}
 use Rattle.gj_shape.specs.Extreme.{IsExtreme, IsExtremeTable}
 use Rattle.gj_shape.specs.Violation.{ShowsViolation}
+use Rattle.gj_shape.specs.declared.extremality.Halves.{Halves}
 use Rattle.gj_theory.proofs.DecidingGrid.{four_times_decides}
 use Rattle.gj_theory.proofs.Fillings.{halves_deny}
 use Rattle.gj_theory.proofs.Violations.{violation_denies}
@@ -21,35 +22,45 @@ use Rattle.gj_top.specs.Extreme.{IsDecisionText, IsExtremeText, IsNotExtremeText
 
 -- ---- what is promised
 
-by_claim : (f : FunctionData) (c : Claim) (text : List ℕ) → IsDecided f c → ClaimHolds c → IsProofText c text → IsTrueExtremality f text
-by_claim f (Extreme g lines rows) text d (continuous, extreme) p =
+-- the halves deny that f is extreme
+denied_by : (f : FunctionData) (h : Halves) → ShowHalves f h → IsExtreme f → ⊥
+denied_by f h (m, c, some, order, scale, halves) extreme =
+    halves_deny (table f m) (f.order * m) (f.place * m) (f.scale * m) c (at h.first) (at h.second) halves (extreme m some)
+
+by_claim : (f : FunctionData) (c : Claim) (text : List ℕ) → IsWithinBounds f → IsDecided f c → ClaimHolds c → IsProofText c text →
+    IsTrueExtremality f text
+by_claim f (Extreme g lines rows) text within d (continuous, extreme) p =
     let e : g ≡ f = d.0 in
     inl (
       (lines, rows, subst (λ (k : FunctionData). IsProofText (Extreme k lines rows) text) e p),
       subst IsContinuous e continuous,
       subst IsExtreme e extreme,
     )
-by_claim f (NotExtreme g h) text d (continuous, minimal, shown) p =
+by_claim f (NotExtreme g h) text within d (continuous, minimal, shown) p =
     let e : g ≡ f = d.0 in
+    let here : ShowHalves f h = subst (λ (k : FunctionData). ShowHalves k h) e shown in
     inr (inl (
       h,
       subst (λ (k : FunctionData). IsNotExtremeText k h text) e p,
       subst IsContinuous e continuous,
       subst IsMinimal e minimal,
-      subst (λ (k : FunctionData). ShowHalves k h) e shown,
+      here,
+      denied_by f h here,
     ))
-by_claim f (NotMinimal g v) text d shown p =
+by_claim f (NotMinimal g v) text within d shown p =
     let e : g ≡ f = d.0 in
+    let here : ShowsViolation f v = subst (λ (k : FunctionData). ShowsViolation k v) e shown in
     inr (inr (
       v,
       subst (λ (k : FunctionData). IsNotMinimalText k v text) e p,
-      subst (λ (k : FunctionData). ShowsViolation k v) e shown,
+      here,
+      violation_denies f v within here,
     ))
-by_claim f (Minimal g) text d shown p = absurd d
-by_claim f (Cut r rows) text d shown p = absurd d
+by_claim f (Minimal g) text within d shown p = absurd d
+by_claim f (Cut r rows) text within d shown p = absurd d
 
-pub extremality_true : (f : FunctionData) (text : List ℕ) → IsDecisionText f text → IsTrueExtremality f text
-extremality_true f text d = by_claim f d.claim text d.decided d.holds d.spelled
+pub extremality_true : (f : FunctionData) (text : List ℕ) → IsWithinBounds f → IsDecisionText f text → IsTrueExtremality f text
+extremality_true f text within d = by_claim f d.claim text within d.decided d.holds d.spelled
 
 -- ---- order 4 q
 
@@ -61,12 +72,11 @@ IsExtremeAtFour f = IsExtremeTable (table f 4) (f.order * 4) (f.place * 4) (f.sc
 from_four : (f : FunctionData) (text : List ℕ) → IsWithinBounds f → IsTrueExtremality f text → IsContinuous f → IsExtremeAtFour f →
     IsExtremeText f text
 from_four f text within (inl e) continuous four = e.0
-from_four f text within (inr (inl (h, spelled, not_jumping, minimal, (m, c, some, order, scale, halves)))) continuous four =
+from_four f text within (inr (inl (h, spelled, not_jumping, minimal, shown, denied))) continuous four =
+    absurd (denied ((four_times_decides f within continuous).1 four))
+from_four f text within (inr (inr (v, spelled, shown, denied))) continuous four =
     let extreme : IsExtreme f = (four_times_decides f within continuous).1 four in
-    absurd (halves_deny (table f m) (f.order * m) (f.place * m) (f.scale * m) c (at h.first) (at h.second) halves (extreme m some))
-from_four f text within (inr (inr (v, spelled, shown))) continuous four =
-    let extreme : IsExtreme f = (four_times_decides f within continuous).1 four in
-    absurd (violation_denies f v within shown (λ m some. (extreme m some).minimal))
+    absurd (denied (λ m some. (extreme m some).minimal))
 
 -- where it calls f extreme, that table is
 to_four : (f : FunctionData) (text : List ℕ) → IsWithinBounds f → IsDecisionText f text → IsExtremeText f text →
@@ -81,7 +91,7 @@ pub extreme_at_four : (f : FunctionData) (text : List ℕ) → IsWithinBounds f 
     IsExtremeText f text ↔ (IsContinuous f × IsExtremeAtFour f)
 extreme_at_four f text within d = (
   to_four f text within d,
-  λ h. from_four f text within (extremality_true f text d) h.0 h.1,
+  λ h. from_four f text within (extremality_true f text within d) h.0 h.1,
 )
 
 -- ---- faults of the decision

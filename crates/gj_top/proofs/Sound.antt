@@ -1,7 +1,7 @@
 -- What holds of every task: no input in its form is refused, and none where it reads none; and a reply that ends with Done keeps the
 -- promise.
 use Rattle.std.proofs.Common.{inl, inr, ℕ, Bool, true, false, List, IsTrue, refl}
-use Rattle.gj_shape.specs.FunctionData.{FunctionData}
+use Rattle.gj_shape.specs.FunctionData.{FunctionData, IsWithinBounds}
 use Rattle.gj_words.specs.declared.requests.Command.{Command}
 use Rattle.gj_words.specs.declared.requests.Command.TheVariants.{Minimal, Extreme, Cut, Check, Show, Faces, Demo}
 use Rattle.gj_words.specs.declared.requests.Request.{Request}
@@ -27,7 +27,8 @@ use Rattle.gj_shape.specs.declared.extremality.Halves.{Halves}
 use Rattle.gj_top.proofs.CutForm.{cut_input_refuses_only_others}
 use Rattle.gj_top.specs.Command.{task_with, task_for}
 use Rattle.gj_top.proofs.Extremality.{extremality_true}
-use Rattle.gj_top.proofs.TextLaws.{function_text_has_no_fault, proof_text_has_no_fault}
+use Rattle.gj_theory.proofs.Violations.{violation_denies}
+use Rattle.gj_top.proofs.TextLaws.{function_is_bounded, json_is_bounded, function_text_has_no_fault, proof_text_has_no_fault}
 
 -- no input is both in the form and refused
 abbrev pub RefusesOnlyOthers : {Thing : Type 0} → (List ℕ → Thing → Type 0) → (List ℕ → List ℕ → Type 0) → Type 0
@@ -36,7 +37,8 @@ RefusesOnlyOthers {Thing} spells refuses = (input text : List ℕ) (thing : Thin
 pub record IsSound (task : Task) : Type 0 where
   pub form : RefusesOnlyOthers (Spells task.promise.form) task.work.refuses
   pub refusals : (input text : List ℕ) → task.work.refuses input text → IsTrue (reads task.promise.form)
-  pub work : (thing : task.promise.Thing) (text : List ℕ) → task.work.replies thing Done text → task.promise.headline thing text
+  pub work : (input : List ℕ) (thing : task.promise.Thing) (text : List ℕ) → Spells task.promise.form input thing →
+      task.work.replies thing Done text → task.promise.headline thing text
 
 function_text_sound : RefusesOnlyOthers IsFunctionInput RefusesFunctionText
 function_text_sound input text f spelled refused = function_text_has_no_fault input f refused.at_line refused.reason spelled refused.first
@@ -57,51 +59,52 @@ reported P Q keeps text r = record {
   report = r.report;
 }
 
-verdict_true : (f : FunctionData) (text : List ℕ) → IsVerdict f text → IsTrueVerdict f text
-verdict_true f text (inl m) = inl (m.2, m.0)
-verdict_true f text (inr v) = inr (v.0, v.4, v.2)
+verdict_true : (f : FunctionData) (text : List ℕ) → IsWithinBounds f → IsVerdict f text → IsTrueVerdict f text
+verdict_true f text within (inl m) = inl (m.2, m.0)
+verdict_true f text within (inr v) = inr (v.0, v.4, v.2, violation_denies f v.0 within v.2)
 
 pub minimal_sound : IsSound minimal
-minimal_sound = record { form = function_text_sound; refusals = λ input text refused. refl; work = verdict_true }
+minimal_sound = record { form = function_text_sound; refusals = λ input text refused. refl; work = λ input f text spelled. verdict_true f text (function_is_bounded input f spelled) }
 
 pub extreme_sound : IsSound extreme
-extreme_sound = record { form = function_text_sound; refusals = λ input text refused. refl; work = extremality_true }
+extreme_sound = record { form = function_text_sound; refusals = λ input text refused. refl; work = λ input f text spelled. extremality_true f text (function_is_bounded input f spelled) }
 
 pub show_sound : IsSound show
-show_sound = record { form = function_text_sound; refusals = λ input text refused. refl; work = λ f text shown. shown }
+show_sound = record { form = function_text_sound; refusals = λ input text refused. refl; work = λ input f text spelled shown. shown }
 
 minimal_json_sound : IsSound minimal_json
 minimal_json_sound = record {
   form = json_function_sound;
   refusals = λ input text refused. refl;
-  work = λ f text. reported (IsDecision f Done) (IsTrueVerdict f) (verdict_true f) text;
+  work = λ input f text spelled. reported (IsDecision f Done) (IsTrueVerdict f) (λ proof. verdict_true f proof (json_is_bounded input f spelled)) text;
 }
 
 extreme_json_sound : IsSound extreme_json
 extreme_json_sound = record {
   form = json_function_sound;
   refusals = λ input text refused. refl;
-  work = λ f text. reported (IsExtremality f Done) (IsTrueExtremality f) (extremality_true f) text;
+  work = λ input f text spelled.
+      reported (IsExtremality f Done) (IsTrueExtremality f) (λ proof. extremality_true f proof (json_is_bounded input f spelled)) text;
 }
 
 show_json_sound : IsSound show_json
-show_json_sound = record { form = json_function_sound; refusals = λ input text refused. refl; work = λ f text shown. shown }
+show_json_sound = record { form = json_function_sound; refusals = λ input text refused. refl; work = λ input f text spelled shown. shown }
 
 pub check_sound : IsSound check
 check_sound = record {
   form = proof_text_sound;
   refusals = λ input text refused. refl;
-  work = λ c text accepted. (accepted.holds, accepted.spelled);
+  work = λ input c text spelled accepted. (accepted.holds, accepted.spelled);
 }
 
 pub faces_sound : IsSound faces
-faces_sound = record { form = function_text_sound; refusals = λ input text refused. refl; work = λ f text listed. listed }
+faces_sound = record { form = function_text_sound; refusals = λ input text refused. refl; work = λ input f text spelled listed. listed }
 
 pub cut_sound : IsSound cut
 cut_sound = record {
   form = cut_input_refuses_only_others;
   refusals = λ input text refused. refl;
-  work = λ input text made. made.1.cuts;
+  work = λ input thing text spelled made. made.1.cuts;
 }
 
 demo_true : (n : ℕ) (text : List ℕ) → HasSummary n text → IsTrueDemonstration n text
@@ -123,7 +126,7 @@ demo_sound : (n : ℕ) → IsSound (demo n)
 demo_sound n = record {
   form = λ input text thing spelled refused. refused;
   refusals = λ input text refused. absurd refused;
-  work = demo_true;
+  work = λ input n text spelled. demo_true n text;
 }
 
 -- the task of each request is sound

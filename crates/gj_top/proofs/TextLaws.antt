@@ -17,6 +17,7 @@ use Rattle.gj_proof.specs.declared.claim.Claim.{Claim}
 use Rattle.gj_proof.specs.declared.claim.Claim.TheVariants.{Minimal, NotMinimal}
 use Rattle.gj_proof.proofs.OneText.{one_claim, no_fault}
 use Rattle.gj_proof.proofs.ShortTexts.{text_is_short}
+use Rattle.gj_json.specs.JsonFunction.{IsJsonFunction}
 use Rattle.gj_top.specs.Forms.{IsFunctionInput, IsProofOf}
 use Rattle.gj_top.proofs.InputLines.{whole_of_input, input_of_whole}
 
@@ -24,6 +25,9 @@ use Rattle.gj_top.proofs.InputLines.{whole_of_input, input_of_whole}
 
 pub function_is_bounded : (input : List ℕ) (f : FunctionData) → IsFunctionInput input f → IsWithinBounds f
 function_is_bounded input f (rest, lines, nothing) = function_is_within input f rest (lines_are_text input f rest lines)
+
+pub json_is_bounded : (input : List ℕ) (f : FunctionData) → IsJsonFunction input f → IsWithinBounds f
+json_is_bounded input f (d, read, says) = says.gives.given.within
 
 pub one_function : (input : List ℕ) (f g : FunctionData) → IsFunctionInput input f → IsFunctionInput input g → f ≡ g
 one_function input f g h k = one_whole_function input f g (whole_of_input input f h) (whole_of_input input g k)

@@ -72,12 +72,13 @@ abbrev pub IsNotExtremeText : FunctionData → Halves → List ℕ → Type 0
 IsNotExtremeText f h text = IsProofText (NotExtreme f h) text
 
 -- the headline: the text calls f extreme, and then each of its tables is minimal and no average of two different minimal tables; or
--- it calls f not extreme, with two different minimal tables that average to its own; or not minimal, with a violation that shows it
+-- it calls f not extreme, with two different minimal tables that average to its own, and it is not; or not minimal, with a violation
+-- that shows it, and it is not
 abbrev pub IsTrueExtremality : FunctionData → List ℕ → Type 0
 IsTrueExtremality f text =
     (IsExtremeText f text × IsContinuous f × IsExtreme f)
-    ⊎ ((h : Halves) × IsNotExtremeText f h text × IsContinuous f × IsMinimal f × ShowHalves f h)
-    ⊎ ((v : Violation) × IsNotMinimalText f v text × ShowsViolation f v)
+    ⊎ ((h : Halves) × IsNotExtremeText f h text × IsContinuous f × IsMinimal f × ShowHalves f h × (IsExtreme f → ⊥))
+    ⊎ ((v : Violation) × IsNotMinimalText f v text × ShowsViolation f v × (IsMinimal f → ⊥))
 
 abbrev pub extreme_promise : Promise
 extreme_promise = record { Thing = FunctionData; form = function_text; headline = IsTrueExtremality }

@@ -44,10 +44,10 @@ IsDecision f Done text = IsVerdict f text
 IsDecision f end text = ⊥
 
 -- the headline: the text calls f minimal, and then its table on every grid of order a multiple of its own is minimal; or it
--- calls f not minimal, with a violation that shows it
+-- calls f not minimal, with a violation that shows it, and it is not
 abbrev pub IsTrueVerdict : FunctionData → List ℕ → Type 0
 IsTrueVerdict f text =
-    (IsMinimalText f text × IsMinimal f) ⊎ ((v : Violation) × IsNotMinimalText f v text × ShowsViolation f v)
+    (IsMinimalText f text × IsMinimal f) ⊎ ((v : Violation) × IsNotMinimalText f v text × ShowsViolation f v × (IsMinimal f → ⊥))
 
 abbrev pub minimal_promise : Promise
 minimal_promise = record { Thing = FunctionData; form = function_text; headline = IsTrueVerdict }
