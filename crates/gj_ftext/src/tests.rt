@@ -11,8 +11,9 @@ const CANONICAL: &[u8] = b"gj-function 1\norder 2\nf 1/2\npoint 0\npoint 1\nend\
 
 #[test]
 fn reads_every_spelling(rt: HostRuntime) -> Result<(), Fail> {
-    let texts: [&[u8]; 5] = [
+    let texts: [&[u8]; 6] = [
         CANONICAL,
+        b"# by breakpoints\ngj-function 2\n\nf 0.5\npoint 0 0\npoint 2/4 1 1 +1\nend\n",
         b"gj-function 1\r\norder 2\r\nf 1/2\r\npoint 0\r\npoint 1\r\nend\r\n",
         b"# a comment\n\n \t\n  gj-function\t1 \norder 02\n  # order 3\nf 2/4\npoint -0\n\npoint +1.0 1 3/3\nend",
         b"gj-function 1\norder 2\nf 0.5\npoint 0/7\r\npoint\t01/1\r\n\r\nend\r\n#",
@@ -85,10 +86,21 @@ fn counts_the_bytes_up_to_the_end(rt: HostRuntime) -> Result<(), Fail> {
 
 #[test]
 fn names_the_first_fault(rt: HostRuntime) -> Result<(), Fail> {
-    let texts: [(&[u8], u64, Reason); 39] = [
+    let texts: [(&[u8], u64, Reason); 42] = [
         (b"", 1, Reason::Form),
         (b"# nothing\n\n", 3, Reason::Form),
-        (b"gj-function 2\n", 1, Reason::Form),
+        (b"gj-function 2\n", 2, Reason::Form),
+        (b"gj-function 3\n", 1, Reason::Form),
+        (
+            b"gj-function 2\nf 1/2\npoint 0 0\npoint 1 0\n",
+            4,
+            Reason::Break,
+        ),
+        (
+            b"gj-function 2\nf 1/4\npoint 0 0\npoint 1/2 1/2147483647\nend\n",
+            5,
+            Reason::Fine,
+        ),
         (b"gj-function\n", 1, Reason::Form),
         (b"gj-function 1 # first\n", 1, Reason::Form),
         (b"gj-function 1\n", 2, Reason::Form),
