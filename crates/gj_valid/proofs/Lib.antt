@@ -9,3 +9,4 @@ pub mod OnlyMinimal
 pub mod OnlyExtreme
 pub mod FunctionRules
 pub mod AnyBottoms
+pub mod SmallCoefficients

@@ -1,1 +1,2 @@
 pub mod ValidFunctions
+pub mod Coefficients
