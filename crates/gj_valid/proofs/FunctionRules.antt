@@ -75,11 +75,13 @@ rules_among v k q q_some h = record {
       let u_is = λ (i : ℕ). is_over (u i (q * d)) (r.t i) r.c e.c b (r.is i) (mul_comm r.c e.c) in
       let v_is = λ (i : ℕ). is_over (v i (q * d)) (e.t i) e.c r.c b (e.is i) refl in
       let minimal = minimal_among e.t (q * d) (k * d) e.c grid (rules_table v k q d q_some some h e) in
-      let equal = minimal.none_below r.c (λ i. pos e.c *ℤ r.t i) r.some
-      (multiple_valid r.t (q * d) (k * d) r.c e.c b r.valid (mul_comm r.c e.c))
-      (λ i. most_to_numbers (u i (q * d)) (v i (q * d)) (pos e.c *ℤ r.t i) (pos r.c *ℤ e.t i) b (valid.function.positive i (q * d) grid)
-      (h.function.positive i (q * d) grid) b_some (u_is i) (v_is i) (below i (q * d) grid))
-      (n * q) in
+      let equal = minimal.none_below r.c (λ i. pos e.c *ℤ r.t i) (record {
+        some = r.some;
+        valid = multiple_valid r.t (q * d) (k * d) r.c e.c b r.valid (mul_comm r.c e.c);
+        at_most = λ i.
+            most_to_numbers (u i (q * d)) (v i (q * d)) (pos e.c *ℤ r.t i) (pos r.c *ℤ e.t i) b (valid.function.positive i (q * d) grid)
+            (h.function.positive i (q * d) grid) b_some (u_is i) (v_is i) (below i (q * d) grid);
+      }) (n * q) in
       same_over (u n d) (v n d) (pos e.c *ℤ r.t (n * q)) b b_some
       (on_grid u q n d b (pos e.c *ℤ r.t (n * q)) q_some some valid.function (u_is (n * q)))
       (subst (λ (z : ℤ). Is (v n d) z b) (sym equal)

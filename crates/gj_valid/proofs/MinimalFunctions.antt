@@ -41,12 +41,14 @@ minimal_among_functions f l h =
           let u_is = λ (i : ℕ). is_over (u i (f.order * d)) (r.t i) r.c s (r.c * s) (r.is i) (mul_comm r.c s) in
           let f_is = λ (i : ℕ).
           is_over (function_of f i (f.order * d)) (table f d i) s r.c (r.c * s) (function_on_grid f i d order some) refl in
-          let equal = (function_minimal f l h d some).none_below r.c (λ i. pos s *ℤ r.t i) r.some
-          (multiple_valid r.t (f.order * d) (f.place * d) r.c s (r.c * s) r.valid (mul_comm r.c s))
-          (λ i. most_to_numbers (u i (f.order * d)) (function_of f i (f.order * d)) (pos s *ℤ r.t i) (pos r.c *ℤ table f d i) (r.c * s)
-          (valid.function.positive i (f.order * d) grid) (function.positive i (f.order * d) grid) (mul-pos r.some s_some)
-          (u_is i) (f_is i) (below i (f.order * d) grid))
-          (n * f.order) in
+          let equal = (function_minimal f l h d some).none_below r.c (λ i. pos s *ℤ r.t i) (record {
+            some = r.some;
+            valid = multiple_valid r.t (f.order * d) (f.place * d) r.c s (r.c * s) r.valid (mul_comm r.c s);
+            at_most = λ i.
+                most_to_numbers (u i (f.order * d)) (function_of f i (f.order * d)) (pos s *ℤ r.t i) (pos r.c *ℤ table f d i) (r.c * s)
+                (valid.function.positive i (f.order * d) grid) (function.positive i (f.order * d) grid) (mul-pos r.some s_some)
+                (u_is i) (f_is i) (below i (f.order * d) grid);
+          }) (n * f.order) in
           same_over (u n d) (function_of f n d) (pos s *ℤ r.t (n * f.order)) (r.c * s) (mul-pos r.some s_some)
           (on_grid u f.order n d (r.c * s) (pos s *ℤ r.t (n * f.order)) order some valid.function (u_is (n * f.order)))
           (subst (λ (z : ℤ). Is (function_of f n d) z (r.c * s)) (sym equal)
