@@ -36,6 +36,16 @@ dented_here w n a v = ⊎_elim (λ at. at.1) (λ off. absurd (off.0 refl)) (dent
 pub dented_period : (w : ℕ → ℤ) (n a : ℕ) (v : ℤ) → ((i : ℕ) → w (i + n) ≡ w i) → (i : ℕ) → dented w n a v (i + n) ≡ dented w n a v i
 dented_period w n a v period i = ap₂ (λ r x. cond (eqb r (a % n)) v x) (add-mod_right i n) (period i)
 
+pub dented_le : (w : ℕ → ℤ) (n a : ℕ) (v : ℤ) → ((i : ℕ) → w (i + n) ≡ w i) → v ≤ℤ w a → (i : ℕ) → dented w n a v i ≤ℤ w i
+dented_le w n a v period least i =
+    ⊎_elim
+    (λ at.
+    let same = same_at_remainder w n period i a at.0 in
+    let here = at.1 in
+    omega (arith, ints))
+    (λ off. let here = off.1 in omega (arith, ints))
+    (dented_tells w n a v i)
+
 -- ---- a place for which lighter places stand
 
 pub valid_by_places : (t u : ℕ → ℤ) (n k s : ℕ) → IsValidTable t n k s → ((i : ℕ) → u (i + n) ≡ u i) →
@@ -50,31 +60,44 @@ valid_by_places t u n k s valid period each = record {
       subst (λ (w : ℤ). pos s ≤ℤ w) is (valid.at_solutions places (place ∙ solution));
 }
 
+-- a valid table over the same scale that is nowhere above t, and below it at a place
+pub record Lighter (t : ℕ → ℤ) (n k s : ℕ) : Type 0 where
+  pub u : ℕ → ℤ
+  pub place : ℕ
+  pub valid : IsValidTable u n k s
+  pub at_most : (i : ℕ) → u i ≤ℤ t i
+  pub below : u place <ℤ t place
+
 -- places that add up to a and weigh less than a
+pub lighter : (t : ℕ → ℤ) (n k s a : ℕ) (places : List ℕ) → IsValidTable t n k s → sum places % n ≡ a % n → weight t places <ℤ t a →
+    Lighter t n k s
+lighter t n k s a places valid place less =
+    let v = weight t places in
+    record {
+      u = dented t n a v;
+      place = a;
+      valid = valid_by_places t (dented t n a v) n k s valid (dented_period t n a v valid.has_period)
+          (λ i. ⊎_elim
+          (λ at. (places, place ∙ sym at.0, sym at.1))
+          (λ off. (i ∷ [], ap (λ j. j % n) (sum_cons i []) ∙ ap (λ j. j % n) (omega arith), omega (arith, ints, off.1)))
+          (dented_tells t n a v i));
+      at_most = dented_le t n a v valid.has_period (omega (arith, ints));
+      below = let here = dented_here t n a v in omega (arith, ints);
+    }
+
 pub lighter_places : (t : ℕ → ℤ) (n k s a : ℕ) (places : List ℕ) → IsValidTable t n k s → sum places % n ≡ a % n →
     weight t places <ℤ t a → IsDominated t n k s
-lighter_places t n k s a places valid place lighter =
-    let v = weight t places in (
+lighter_places t n k s a places valid place less =
+    let l = lighter t n k s a places valid place less in (
       1,
-      dented t n a v,
-      a,
+      l.u,
+      l.place,
       record {
         some = omega arith;
-        valid = subst (λ (r : ℕ). IsValidTable (dented t n a v) n k r) (sym (one-mul s))
-            (valid_by_places t (dented t n a v) n k s valid (dented_period t n a v valid.has_period)
-            (λ i. ⊎_elim
-            (λ at. (places, place ∙ sym at.0, sym at.1))
-            (λ off. (i ∷ [], ap (λ j. j % n) (sum_cons i []) ∙ ap (λ j. j % n) (omega arith), omega (arith, ints, off.1)))
-            (dented_tells t n a v i)));
-        at_most = λ i. ⊎_elim
-            (λ at.
-            let same = same_at_remainder t n valid.has_period i a at.0 in
-            let here = at.1 in
-            omega (arith, ints))
-            (λ off. let here = off.1 in omega (arith, ints))
-            (dented_tells t n a v i);
+        valid = subst (λ (r : ℕ). IsValidTable l.u n k r) (sym (one-mul s)) l.valid;
+        at_most = λ i. let here = l.at_most i in omega (arith, ints);
       },
-      let here = dented_here t n a v in omega (arith, ints),
+      let below = l.below in omega (arith, ints),
     )
 
 pub zero_dominated : (t : ℕ → ℤ) (n k s : ℕ) → IsValidTable t n k s → t 0 ≢ pos 0 → IsDominated t n k s
@@ -235,16 +258,16 @@ opposite_dominated t n k s i j valid none below opposite differs =
 
 -- ---- each valid table is minimal or dominated
 
--- the first of two properties holds below n, or the second somewhere
-all_or_some : (P Q : ℕ → Type 0) → ((i : ℕ) → P i ⊎ Q i) → (n : ℕ) → ((i : ℕ) → i < n → P i) ⊎ ((i : ℕ) × Q i)
+-- the first of two properties holds below n, or the second somewhere below n
+pub all_or_some : (P Q : ℕ → Type 0) → ((i : ℕ) → P i ⊎ Q i) → (n : ℕ) → ((i : ℕ) → i < n → P i) ⊎ ((i : ℕ) × (i < n) × Q i)
 all_or_some P Q decide zero = inl (λ i below. absurd (omega arith))
 all_or_some P Q decide (suc n) =
     ⊎_elim
     (λ all. ⊎_elim
     (λ here. inl (λ i below. ⊎_elim (λ less. all i less) (λ same. subst P (let e : n ≡ i = omega arith in e) here) (cases_lt i n)))
-    (λ fails. inr (n, fails))
+    (λ fails. inr (n, omega arith, fails))
     (decide n))
-    (λ found. inr found)
+    (λ found. let (i, below, fails) = found in inr (i, omega arith, fails))
     (all_or_some P Q decide n)
 
 -- a place opposite to i
@@ -268,9 +291,9 @@ subadditive_or_dominated t n k s some valid =
     let both = same_at_remainder t n valid.has_period (i % n + j % n) (i + j)
     (same_sums (i % n) i (j % n) j n (mod-mod i n) (mod-mod j n)) in
     omega (arith, ints)))
-    (λ found. inr found.1)
+    (λ found. inr found.2)
     (all_or_some (λ i. (j : ℕ) → j < n → t (i + j) ≤ℤ (t i +ℤ t j)) (λ i. IsDominated t n k s)
-    (λ i. ⊎_elim (λ all. inl all) (λ found. inr (pair_dominated t n k s i found.0 valid found.1))
+    (λ i. ⊎_elim (λ all. inl all) (λ found. inr (pair_dominated t n k s i found.0 valid found.2))
     (all_or_some (λ j. t (i + j) ≤ℤ (t i +ℤ t j)) (λ j. (t i +ℤ t j) <ℤ t (i + j))
     (λ j. by_lt_z (t i +ℤ t j) (t (i + j)) (λ l. inr l) (λ l. inl l)) n)) n)
 
@@ -287,7 +310,7 @@ symmetric_or_dominated t n k s some valid none below =
     let second = same_at_remainder t n valid.has_period (opposite_of n k (i % n)) j
     (cancel_same (i % n) (opposite_of n k (i % n)) j n sum) in
     ap₂ (λ x y. x +ℤ y) (sym first) (sym second) ∙ here))
-    (λ found. inr found.1)
+    (λ found. inr found.2)
     (all_or_some (λ i. t i +ℤ t (opposite_of n k i) ≡ pos s) (λ i. IsDominated t n k s)
     (λ i. ⊎_elim (λ e. inl e)
     (λ differs. inr (opposite_dominated t n k s i (opposite_of n k i) valid none below (opposite_is n k i some) differs))

@@ -8,22 +8,10 @@ use Rattle.gj_tools.proofs.Integers.{mul_add_z, mul_assoc_z, mul_left_comm_z, mu
 use Rattle.gj_tools.proofs.Quotients.{same_remainder, same_at_remainder}
 use Rattle.gj_shape.specs.Table.{IsMinimalTable}
 use Rattle.gj_shape.specs.Valid.{weight, IsValidTable}
-use Rattle.gj_theory.proofs.ValidTables.{dented, dented_tells, dented_here, dented_period, valid_by_places, opposite_of, opposite_is, only_minimal}
+use Rattle.gj_theory.proofs.ValidTables.{dented, dented_tells, dented_here, dented_period, dented_le, Lighter, lighter, all_or_some, opposite_of, opposite_is, only_minimal}
 use Rattle.gj_theory.proofs.Weights.{sum_cons, same_sums, cancel_same, with_copies}
 
 -- ---- places below n
-
--- the first of two properties holds below n, or the second somewhere below n
-all_or_some : (P Q : ℕ → Type 0) → ((i : ℕ) → P i ⊎ Q i) → (n : ℕ) → ((i : ℕ) → i < n → P i) ⊎ ((i : ℕ) × (i < n) × Q i)
-all_or_some P Q decide zero = inl (λ i below. absurd (omega arith))
-all_or_some P Q decide (suc n) =
-    ⊎_elim
-    (λ all. ⊎_elim
-    (λ here. inl (λ i below. ⊎_elim (λ less. all i less) (λ same. subst P (let e : n ≡ i = omega arith in e) here) (cases_lt i n)))
-    (λ fails. inr (n, omega arith, fails))
-    (decide n))
-    (λ found. let (i, below, fails) = found in inr (i, omega arith, fails))
-    (all_or_some P Q decide n)
 
 -- the sum of the entries below n
 abbrev total_below : (ℕ → ℤ) → ℕ → ℤ
@@ -58,44 +46,7 @@ total_nonnegative t (suc n) h =
     let rest = total_nonnegative t n h in
     omega (arith, ints)
 
--- ---- a table that is changed at one place
-
--- the table with a lower entry at a is nowhere above it
-dented_le : (w : ℕ → ℤ) (n a : ℕ) (v : ℤ) → ((i : ℕ) → w (i + n) ≡ w i) → v ≤ℤ w a → (i : ℕ) → dented w n a v i ≤ℤ w i
-dented_le w n a v period least i =
-    ⊎_elim
-    (λ at.
-    let same = same_at_remainder w n period i a at.0 in
-    let here = at.1 in
-    omega (arith, ints))
-    (λ off. let here = off.1 in omega (arith, ints))
-    (dented_tells w n a v i)
-
 -- ---- a subadditive table below
-
--- a valid table over the same scale that is nowhere above t, and below it at a place
-record Lighter (t : ℕ → ℤ) (n k s : ℕ) : Type 0 where
-  u : ℕ → ℤ
-  place : ℕ
-  valid : IsValidTable u n k s
-  at_most : (i : ℕ) → u i ≤ℤ t i
-  below : u place <ℤ t place
-
-lighter : (t : ℕ → ℤ) (n k s a : ℕ) (places : List ℕ) → IsValidTable t n k s → sum places % n ≡ a % n → weight t places <ℤ t a →
-    Lighter t n k s
-lighter t n k s a places valid place less =
-    let v = weight t places in
-    record {
-      u = dented t n a v;
-      place = a;
-      valid = valid_by_places t (dented t n a v) n k s valid (dented_period t n a v valid.has_period)
-          (λ i. ⊎_elim
-          (λ at. (places, place ∙ sym at.0, sym at.1))
-          (λ off. (i ∷ [], ap (λ j. j % n) (sum_cons i []) ∙ ap (λ j. j % n) (omega arith), omega (arith, ints, off.1)))
-          (dented_tells t n a v i));
-      at_most = dented_le t n a v valid.has_period (omega (arith, ints));
-      below = let here = dented_here t n a v in omega (arith, ints);
-    }
 
 -- subadditive, with 0 at 0
 record IsSubadditive (t : ℕ → ℤ) : Type 0 where
