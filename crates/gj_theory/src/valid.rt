@@ -40,7 +40,8 @@ pub fn broken_rules_are_dominated()
 /// give the same valid tables.
 pub fn solutions_by_counts()
     ensures counts { (t : ℕ → ℤ) (n k : ℕ) (places : List ℕ) → 0 < n → ((i : ℕ) → t (i + n) ≡ t i) → IsSolution n k places →
-        (y : ℕ → ℕ) × (sum (map (λ i. i * y i) (range_with_len 0 n)) % n ≡ k % n) × (total (map (λ i. t i *ℤ pos (y i)) (range_with_len 0 n)) ≡ weight t places) }
+        (y : ℕ → ℕ) × (sum (map (λ i. i * y i) (range_with_len 0 n)) % n ≡ k % n) ×
+        (total (map (λ i. t i *ℤ pos (y i)) (range_with_len 0 n)) ≡ weight t places) }
     ensures lists { (t : ℕ → ℤ) (n k : ℕ) (y : ℕ → ℕ) → sum (map (λ i. i * y i) (range_with_len 0 n)) % n ≡ k % n →
         (places : List ℕ) × IsSolution n k places × (weight t places ≡ total (map (λ i. t i *ℤ pos (y i)) (range_with_len 0 n))) }
     ensures valid { (t : ℕ → ℤ) (n k s : ℕ) → 0 < n → ((i : ℕ) → t (i + n) ≡ t i) → ((i : ℕ) → pos 0 ≤ℤ t i) →
