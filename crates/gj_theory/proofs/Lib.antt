@@ -52,3 +52,9 @@ pub mod Weights
 pub mod ValidTables
 pub mod CountedSolutions
 pub mod SameVerdicts
+pub mod FewPassing
+pub mod OpeningLines
+pub mod TwoSlopes
+pub mod TwoSlopeCovers
+pub mod TwoSlopesAreExtreme
+pub mod TwoSlopeRows

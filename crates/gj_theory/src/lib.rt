@@ -8,7 +8,7 @@
 //! extreme. `perturbations` says what a perturbation is and that it gives two different minimal tables, and
 //! `decisive_order` that the table on the grid of order 4 q decides whether a function is extreme. `elimination` says that
 //! elimination keeps the solutions of rows, `cuts` that the cuts of rows by minimal functions hold, and `valid` what minimal and
-//! extreme mean: minimal and extreme among the valid tables.
+//! extreme mean: minimal and extreme among the valid tables. `two_slopes` says that minimal functions with two slopes are extreme.
 //!
 //! The decision and the separate checker both rest on these theorems and share no code. A call does nothing: it brings
 //! the theorem to the caller's proof.
@@ -23,4 +23,5 @@ pub mod first_violation;
 pub mod grid;
 pub mod perturbations;
 pub mod shown;
+pub mod two_slopes;
 pub mod valid;
