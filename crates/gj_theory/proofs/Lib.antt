@@ -36,6 +36,7 @@ pub mod ExtremeByCover
 pub mod GmicTable
 pub mod GmicValues
 pub mod RowGrids
+pub mod UsedPlaces
 pub mod CutsByTables
 pub mod LineComponents
 pub mod LineIntervals
