@@ -1,0 +1,1 @@
+-- Mixed cuts hold.
