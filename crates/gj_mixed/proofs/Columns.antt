@@ -1,5 +1,5 @@
 -- Continuous columns as whole columns with the entry 1 or -1 step on a grid that holds a solution, each used often.
-use Rattle.std.proofs.Common.{◌≡◌, ◌≢◌, ℕ, ◌+◌, ◌-◌, ◌*◌, ◌<◌, ◌⊎◌, inl, inr, ⊎_elim, List, [], ◌∷◌, length, map, ℤ, pos, negsuc, neg_ℤ, ◌+ℤ◌, ◌-ℤ◌, ◌*ℤ◌, ◌≤ℤ◌, ◌<ℤ◌, unsigned_abs, refl, sym, ap, ap₂, subst, subst₂, ◌∙◌, arith}
+use Rattle.std.proofs.Common.{◌≡◌, ◌≢◌, ℕ, ◌-◌, ◌*◌, ◌<◌, ◌⊎◌, inl, inr, ⊎_elim, List, [], ◌∷◌, length, map, ℤ, pos, negsuc, neg_ℤ, ◌+ℤ◌, ◌*ℤ◌, ◌≤ℤ◌, ◌<ℤ◌, unsigned_abs, refl, sym, ap, subst₂, ◌∙◌, arith}
 use Rattle.std.specs.List.{AllZip}
 use Rattle.std.proofs.lemmas.Int.{ints}
 use Rattle.std.proofs.lemmas.List.Elements.{All-head, All-tail}
@@ -119,6 +119,10 @@ column_used t n s c g e v a up down x w x' y' steps weight some n_is x_divides w
 grid_split : (d b e r : ℤ) → ((d *ℤ b) *ℤ e) *ℤ r ≡ (d *ℤ e) *ℤ (b *ℤ r)
 grid_split d b e r = by_ring (d ∷ b ∷ e ∷ r ∷ []) (search ring depth 30) refl
 
+regrouped : (t : ℕ → ℤ) (n c g s : ℕ) (a b x p q y : ℤ) → UsedPlaces t n s c g (a +ℤ (b +ℤ x)) (p +ℤ (q +ℤ y)) →
+    UsedPlaces t n s c g ((a +ℤ b) +ℤ x) ((p +ℤ q) +ℤ y)
+regrouped t n c g s a b x p q y = subst₂ (UsedPlaces t n s c g) (sym (add_assoc_z a b x)) (sym (add_assoc_z p q y))
+
 -- the columns on a grid that holds them over e
 pub columns_used : (t : ℕ → ℤ) (n s c g e b r : ℕ) (up down : Frac) (xs ws : List Frac) (amounts : List ℕ) (x y : ℤ) →
     AreSteps t n s up down → 0 < n → n ≡ b * e * r → length amounts ≡ length xs → AllZip (IsWeight up down) xs ws →
@@ -142,6 +146,7 @@ columns_used t n s c g e b r up down (z ∷ xs) (w ∷ ws) (a ∷ amounts) x y s
     ∙ ap (λ k. (k *ℤ pos e) *ℤ pos (b' * r)) (denominator_is z) in
     let rest = columns_used t n s c g e b r up down xs ws amounts x y steps some n_is (omega arith) h.1
     (All-tail (Divides b) z xs over_b) (All-tail (Divides c) z xs over_c) (All-tail (Divides g) w ws over_g) used in
-    subst₂ (UsedPlaces t n s (c * e) (g * e)) (sym (add_assoc_z _ _ _)) (sym (add_assoc_z _ _ _))
+    regrouped t n (c * e) (g * e) s (numerator_over c z *ℤ pos a) (sum_of_products (map (numerator_over c) xs) (map pos amounts)) x
+    (numerator_over g w *ℤ pos a) (sum_of_products (map (numerator_over g) ws) (map pos amounts)) y
     (column_used t n s c g e (b' * r) a up down z w _ _ steps h.0 some grid
     (All-head (Divides c) z xs over_c) (All-head (Divides g) w ws over_g) rest)
