@@ -37,6 +37,7 @@ pub mod GmicTable
 pub mod GmicValues
 pub mod RowGrids
 pub mod UsedPlaces
+pub mod MinimalEntries
 pub mod CutsByTables
 pub mod LineComponents
 pub mod LineIntervals
