@@ -56,7 +56,7 @@ right_fine row h =
 -- ---- terms
 
 -- one more item in each of two lists
-zip_longer : {A B : Type 0} (R : A → B → Type 0) (xs : List A) (ys : List B) (x : A) (y : B) → AllZip R xs ys → R x y →
+pub zip_longer : {A B : Type 0} (R : A → B → Type 0) (xs : List A) (ys : List B) (x : A) (y : B) → AllZip R xs ys → R x y →
     AllZip R (xs ++ x ∷ []) (ys ++ y ∷ [])
 zip_longer R [] [] x y h last = (last, tt)
 zip_longer R [] (z ∷ ys) x y h last = absurd h
@@ -72,7 +72,7 @@ zip_next R xs i x ys zs y below here next h last =
 
 -- ---- the cut
 
-term_values : {E : Type 0} (answers : E → Frac → Frac → Type 0) (rule : KeptRule E) (V : Frac → Frac → Type 0)
+pub term_values : {E : Type 0} (answers : E → Frac → Frac → Type 0) (rule : KeptRule E) (V : Frac → Frac → Type 0)
     (entries : List Entry) (terms : List Term) → ((x y : Frac) → IsKindValue rule.kind x y → V x y) →
     AllZip (IsTermOf answers rule) entries terms → AllZip V (map (λ t. t.entry) terms) (map (λ t. t.cut) terms)
 term_values answers rule V [] [] value h = tt
@@ -95,7 +95,7 @@ holds_at answers rule (Table shape) row terms e bounded minimal part h =
 
 -- ---- cuts by any rule of a kind
 
-terms_of_kind : {E : Type 0} (answers : E → Frac → Frac → Type 0) (rule : KeptRule E) (entries : List Entry) (terms : List Term) →
+pub terms_of_kind : {E : Type 0} (answers : E → Frac → Frac → Type 0) (rule : KeptRule E) (entries : List Entry) (terms : List Term) →
     AllZip (IsTermOf answers rule) entries terms → AllZip (IsTermOfKind rule.kind) entries terms
 terms_of_kind answers rule [] [] h = tt
 terms_of_kind answers rule [] (t ∷ terms) h = absurd h

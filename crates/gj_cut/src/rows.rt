@@ -52,8 +52,8 @@ pub fn gmic_cut_row(alloc: Global, row: &Row) -> Result<RowCut, AllocError>
     cut_by(alloc, RuleKind::Gmic(f), |x| gmic_value(f, x), row)
 }
 
-/// The fractional part of a right side that is not whole.
-fn part_of(right: Frac) -> Frac
+/// The fractional part of a right side that is not whole: the f of its mixed-integer cut.
+pub fn part_of(right: Frac) -> Frac
     requires not_whole { IsWhole right → ⊥ }
     requires fine { unsigned_abs (denominator right) < 2 ^ 31 }
     ensures part { HasFractionalPart right (numerator result) (denominator result) }
@@ -80,7 +80,7 @@ pub(crate) fn cut_by<E: Evaluator>(
 }
 
 /// Whether the fractional part of x is the rule's f.
-fn has_part<E: Evaluator>(rule: &Rule<E>, x: Frac) -> bool
+pub fn has_part<E: Evaluator>(rule: &Rule<E>, x: Frac) -> bool
     ensures part { IsTrue result ↔ HasPart rule.now.kind x }
     ensures limits { IsBounded rule.now.kind }
 {
@@ -103,8 +103,8 @@ fn terms<E: Evaluator>(
     Ok(terms)
 }
 
-/// The term of an entry.
-fn term<E: Evaluator>(rule: &Rule<E>, entry: Entry) -> Term
+/// The term of an entry: its coefficient is the rule's value there.
+pub fn term<E: Evaluator>(rule: &Rule<E>, entry: Entry) -> Term
     requires { IsInRange entry.value }
     ensures { IsTermOf E.answers rule.now entry result }
 {

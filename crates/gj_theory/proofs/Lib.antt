@@ -36,6 +36,8 @@ pub mod ExtremeByCover
 pub mod GmicTable
 pub mod GmicValues
 pub mod RowGrids
+pub mod UsedPlaces
+pub mod MinimalEntries
 pub mod CutsByTables
 pub mod LineComponents
 pub mod LineIntervals
