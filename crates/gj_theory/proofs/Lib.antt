@@ -52,3 +52,7 @@ pub mod Weights
 pub mod ValidTables
 pub mod CountedSolutions
 pub mod SameVerdicts
+pub mod Modulo
+pub mod ResiduePivots
+pub mod ResidueInsertions
+pub mod ResidueElimination

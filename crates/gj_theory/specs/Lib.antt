@@ -11,3 +11,4 @@ pub mod PivotRows
 pub mod TriangularRows
 pub mod Cuts
 pub mod Fitting
+pub mod TriangularResidues

@@ -22,5 +22,6 @@ pub mod extreme;
 pub mod first_violation;
 pub mod grid;
 pub mod perturbations;
+pub mod residues;
 pub mod shown;
 pub mod valid;
