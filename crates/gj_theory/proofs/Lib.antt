@@ -56,3 +56,4 @@ pub mod Modulo
 pub mod ResiduePivots
 pub mod ResidueInsertions
 pub mod ResidueElimination
+pub mod Inverses

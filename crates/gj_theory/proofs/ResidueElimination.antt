@@ -1,10 +1,12 @@
 -- The elimination of all rows over residues, and rows after several steps.
-use Rattle.std.proofs.Common.{◌≡◌, ◌≢◌, ℕ, zero, suc, ◌+◌, ◌<◌, ◌≤◌, ◌⊎◌, inl, inr, Bool, true, false, if◌then◌else◌, Option, None, Some, ℤ, pos, ◌-ℤ◌, ◌*ℤ◌, List, [], ◌∷◌, length, map, eqb, refl, sym, ap, subst, ◌∙◌, arith}
+use Rattle.std.proofs.Common.{◌≡◌, ◌≢◌, ℕ, zero, suc, ◌+◌, ◌<◌, ◌≤◌, ◌⊎◌, inl, inr, Bool, true, false, if◌then◌else◌, Option, None, Some, ℤ, pos, ◌-ℤ◌, ◌*ℤ◌, List, [], ◌∷◌, length, map, eqb, refl, sym, ap, ap₂, subst, ◌∙◌, arith}
 use Rattle.std.specs.Prelude.{All, nat_le, get_or}
 use Rattle.std.specs.List.{IsDistinct}
+use Rattle.std.proofs.lemmas.Bool.Decides.{Decides-eqb, not_from_Decides}
 use Rattle.std.proofs.lemmas.Int.{ints}
-use Rattle.std.proofs.lemmas.List.{length-map}
+use Rattle.std.proofs.lemmas.List.{length-map, get_or-map}
 use Rattle.std.proofs.lemmas.List.Elements.{All-nil, All-cons, All-head, All-tail, All-get_or}
+use Rattle.std.proofs.lemmas.Map.Keys.{apart_from_distinct}
 use Rattle.std.proofs.lemmas.Map.Steps.{length-le_from_distinct_below}
 use Rattle.gj_shape.specs.Elimination.{KeptRow, at_column, scaled, differences, entries_of, row_with_pivot, inserted_by, kept_behind, elimination_by, elimination_from_by, behind_insertion}
 use Rattle.gj_shape.specs.Residues.{residue, residues, reduced_modulo, modulo, IsZeroModulo, SolvesModulo}
@@ -102,7 +104,15 @@ triangular_pivots : (m n : ℕ) (kept : List KeptRow) → AreTriangularResidues 
 triangular_pivots m n kept h full =
     let row = λ (g : ℕ) (low : g < n). All-get_or (IsKeptResidueRow n) kept g no_row (omega arith) h.rows in record {
       within = λ g low. (row g low).below;
-      different = λ g i before low. ?;
+      different = λ g i before low.
+          let pivots = map (λ k. k.pivot) kept in
+          let len = length-map kept (λ k. k.pivot) in
+          let apart : eqb (get_or pivots g 0) (get_or pivots i 0) ≡ false =
+          apart_from_distinct eqb pivots g i 0 h.pivots before (omega arith) in
+          let first : get_or pivots g 0 ≡ (get_or kept g no_row).pivot = get_or-map (λ k. k.pivot) kept g no_row 0 (omega arith) in
+          let second : get_or pivots i 0 ≡ (get_or kept i no_row).pivot = get_or-map (λ k. k.pivot) kept i no_row 0 (omega arith) in
+          not_from_Decides _ (Decides-eqb (get_or kept g no_row).pivot (get_or kept i no_row).pivot)
+          (ap₂ eqb (sym first) (sym second) ∙ apart);
       zero_before = λ g c low before. zero_is m _ (pos 0) ((row g low).zero_before c before) (zero_none m);
       invertible = λ g low.
           (pos 1, zero_is m _ (pos 0) (ap (λ z. pos 1 *ℤ z -ℤ pos 1) (row g low).one) (zero_none m));
