@@ -1,5 +1,5 @@
 -- Inverses modulo m: which numbers have one, and that none has two.
-use Rattle.std.proofs.Common.{◌≡◌, ◌≢◌, ℕ, zero, suc, ◌+◌, ◌*◌, ◌/◌, ◌%◌, ◌<◌, ◌≤◌, ◌↔◌, Bool, true, false, cond, Option, None, Some, ℤ, pos, negsuc, ◌+ℤ◌, ◌-ℤ◌, ◌*ℤ◌, neg_ℤ, List, [], ◌∷◌, length, get_or, unsigned_abs, refl, sym, ap, ap₂, subst, ◌∙◌, arith}
+use Rattle.std.proofs.Common.{◌≡◌, ◌≢◌, ℕ, zero, suc, ◌/◌, ◌%◌, ◌<◌, ◌≤◌, ◌↔◌, Bool, true, false, cond, Option, None, Some, ℤ, pos, negsuc, ◌+ℤ◌, ◌-ℤ◌, ◌*ℤ◌, neg_ℤ, List, [], ◌∷◌, get_or, unsigned_abs, refl, sym, ap, subst, ◌∙◌, arith}
 use Rattle.std.specs.Prelude.{All, IfSome}
 use Rattle.std.specs.Int.{IsGcd, ◌∣◌}
 use Rattle.std.specs.List.{range_with_len, find}
@@ -10,15 +10,14 @@ use Rattle.std.proofs.lemmas.Int.{ints, unsigned_abs-mul}
 use Rattle.std.proofs.lemmas.List.Elements.{All-nil, All-cons, All-get_or}
 use Rattle.std.proofs.lemmas.List.FromFn.{length-range_with_len, get_or-range_with_len}
 use Rattle.std.proofs.lemmas.Nat.{div-add-mod'}
-use Rattle.std.proofs.lemmas.Nat.Gcd.{IsGcd-from_mod, IsGcd-from_zero, same_from_IsGcd}
-use Rattle.gj_tools.proofs.Divisors.{cofactor, divides_product, gcd_of_is, gcd_is_gcd_of}
+use Rattle.gj_tools.proofs.Divisors.{cofactor, divides_product, gcd_is_gcd_of}
 use Rattle.gj_tools.proofs.Integers.{neg_mul_z}
 use Rattle.gj_tools.proofs.Lists.{All-range}
 use Rattle.gj_tools.proofs.Ring.{by_ring, ring}
 use Rattle.gj_tools.specs.Divisors.{gcd_of, gcd_within}
 use Rattle.gj_shape.specs.Residues.{residue, inverse, IsZeroModulo}
 use Rattle.gj_theory.proofs.Insertions.{find_has}
-use Rattle.gj_theory.proofs.Modulo.{zero_is, zero_difference, zero_times, zero_second, zero_sum, residue_same, residue_below, residue_only, same_below}
+use Rattle.gj_theory.proofs.Modulo.{zero_is, zero_difference, zero_times, residue_same, residue_below, residue_only, same_below}
 
 -- ---- the greatest common divisor is a sum of multiples
 
@@ -76,11 +75,13 @@ inverse_exists m x large one =
     let sum : pos 1 ≡ h.s *ℤ (e *ℤ x) +ℤ h.t *ℤ pos m =
     ap pos (sym one) ∙ h.is ∙ ap (λ z. h.s *ℤ z +ℤ h.t *ℤ pos m) sized in
     let apart : IsZeroModulo m (u -ℤ pos w) = subst (λ (z : ℤ). IsZeroModulo m (u -ℤ z)) is (residue_same m u some) in
-    let multiple : IsZeroModulo m (neg_ℤ h.t *ℤ pos m) = (neg_ℤ h.t, refl) in
-    (w, low,
+    let multiple : IsZeroModulo m (neg_ℤ h.t *ℤ pos m) = (neg_ℤ h.t, refl) in (
+      w,
+      low,
       zero_is m (pos w *ℤ x -ℤ pos 1) (neg_ℤ h.t *ℤ pos m -ℤ x *ℤ (u -ℤ pos w))
-      (ap (λ z. pos w *ℤ x -ℤ z) sum ∙ regroup (pos w) x h.s e h.t (pos m))
-      (zero_difference m (neg_ℤ h.t *ℤ pos m) (x *ℤ (u -ℤ pos w)) multiple (zero_times m x (u -ℤ pos w) apart)))
+          (ap (λ z. pos w *ℤ x -ℤ z) sum ∙ regroup (pos w) x h.s e h.t (pos m))
+          (zero_difference m (neg_ℤ h.t *ℤ pos m) (x *ℤ (u -ℤ pos w)) multiple (zero_times m x (u -ℤ pos w) apart)),
+    )
   where
     regroup : (w x s e t m : ℤ) →
         w *ℤ x -ℤ (s *ℤ (e *ℤ x) +ℤ t *ℤ m) ≡ neg_ℤ t *ℤ m -ℤ x *ℤ (s *ℤ e -ℤ w)
@@ -133,9 +134,11 @@ inverse_is : (m w : ℕ) (x : ℤ) → 1 < m → inverse m x ≡ Some w → (w <
 unfolding inverse
 inverse_is m w x large e =
     let (low, is) = find_has (λ v. v < m) (λ v. int_eq (residue m (pos v *ℤ x)) (pos 1)) (range_with_len 0 m) w
-    (All-range (λ v. v < m) 0 m (λ i below. omega arith)) e in
-    (low, subst (λ (z : ℤ). IsZeroModulo m (pos w *ℤ x -ℤ z)) ((Decides-int_eq (residue m (pos w *ℤ x)) (pos 1)).0 is)
-      (residue_same m (pos w *ℤ x) (omega arith)))
+    (All-range (λ v. v < m) 0 m (λ i below. omega arith)) e in (
+      low,
+      subst (λ (z : ℤ). IsZeroModulo m (pos w *ℤ x -ℤ z)) ((Decides-int_eq (residue m (pos w *ℤ x)) (pos 1)).0 is)
+          (residue_same m (pos w *ℤ x) (omega arith)),
+    )
 
 none_inverts : (m w : ℕ) (x : ℤ) → 1 < m → inverse m x ≡ None → w < m → IsZeroModulo m (pos w *ℤ x -ℤ pos 1) → ⊥
 unfolding inverse

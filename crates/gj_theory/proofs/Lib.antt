@@ -57,3 +57,5 @@ pub mod ResiduePivots
 pub mod ResidueInsertions
 pub mod ResidueElimination
 pub mod Inverses
+pub mod Repeats
+pub mod RepeatedRows

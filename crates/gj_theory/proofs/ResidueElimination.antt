@@ -1,15 +1,14 @@
 -- The elimination of all rows over residues, and rows after several steps.
-use Rattle.std.proofs.Common.{◌≡◌, ◌≢◌, ℕ, zero, suc, ◌+◌, ◌<◌, ◌≤◌, ◌⊎◌, inl, inr, Bool, true, false, if◌then◌else◌, Option, None, Some, ℤ, pos, ◌-ℤ◌, ◌*ℤ◌, List, [], ◌∷◌, length, map, eqb, refl, sym, ap, ap₂, subst, ◌∙◌, arith}
+use Rattle.std.proofs.Common.{◌≡◌, ℕ, ◌+◌, ◌<◌, ◌≤◌, ◌⊎◌, inl, inr, Bool, true, false, if◌then◌else◌, Option, None, Some, ℤ, pos, ◌-ℤ◌, ◌*ℤ◌, List, [], ◌∷◌, length, map, eqb, refl, sym, ap, ap₂, subst, ◌∙◌, arith}
 use Rattle.std.specs.Prelude.{All, nat_le, get_or}
 use Rattle.std.specs.List.{IsDistinct}
 use Rattle.std.proofs.lemmas.Bool.Decides.{Decides-eqb, not_from_Decides}
-use Rattle.std.proofs.lemmas.Int.{ints}
 use Rattle.std.proofs.lemmas.List.{length-map, get_or-map}
 use Rattle.std.proofs.lemmas.List.Elements.{All-nil, All-cons, All-head, All-tail, All-get_or}
 use Rattle.std.proofs.lemmas.Map.Keys.{apart_from_distinct}
 use Rattle.std.proofs.lemmas.Map.Steps.{length-le_from_distinct_below}
-use Rattle.gj_shape.specs.Elimination.{KeptRow, at_column, scaled, differences, entries_of, row_with_pivot, inserted_by, kept_behind, elimination_by, elimination_from_by, behind_insertion}
-use Rattle.gj_shape.specs.Residues.{residue, residues, reduced_modulo, modulo, IsZeroModulo, SolvesModulo}
+use Rattle.gj_shape.specs.Elimination.{KeptRow, entries_of, row_with_pivot, inserted_by, kept_behind, elimination_by, elimination_from_by, behind_insertion}
+use Rattle.gj_shape.specs.Residues.{reduced_modulo, modulo, SolvesModulo}
 use Rattle.gj_theory.specs.TriangularRows.{Solves, present_row_by}
 use Rattle.gj_theory.specs.TriangularResidues.{HavePivotsModulo, SolvesKeptModulo, IsKeptResidueRow, AreTriangularResidues}
 use Rattle.gj_theory.proofs.Insertions.{find_has}

@@ -1,13 +1,12 @@
 -- An insertion over residues: what it leaves, and what solves it.
-use Rattle.std.proofs.Common.{◌≡◌, ◌≢◌, ℕ, zero, suc, ◌+◌, ◌<◌, Bool, true, false, if◌then◌else◌, Option, None, Some, ℤ, pos, ◌+ℤ◌, ◌-ℤ◌, ◌*ℤ◌, List, [], ◌∷◌, ◌++◌, length, map, eqb, refl, sym, ap, ap₂, subst, ◌∙◌, arith}
+use Rattle.std.proofs.Common.{◌≡◌, ℕ, zero, suc, ◌+◌, ◌<◌, Bool, true, false, if◌then◌else◌, Option, None, Some, ℤ, pos, ◌+ℤ◌, ◌-ℤ◌, ◌*ℤ◌, List, [], ◌∷◌, length, eqb, refl, sym, ap, ap₂, subst, ◌∙◌, arith}
 use Rattle.std.specs.Prelude.{All}
 use Rattle.std.specs.List.{range_with_len, IsDistinct}
 use Rattle.std.specs.Ordering.{int_eq}
 use Rattle.std.proofs.lemmas.Bool.Decides.{Decides-int_eq, Decides-eqb}
 use Rattle.std.proofs.lemmas.Int.{ints}
 use Rattle.std.proofs.lemmas.List.{length-map, map_push}
-use Rattle.std.proofs.lemmas.List.Elements.{All-head, All-tail, All-push}
-use Rattle.gj_tools.proofs.Integers.{mul_comm_z}
+use Rattle.std.proofs.lemmas.List.Elements.{All-push}
 use Rattle.gj_tools.proofs.Ring.{by_ring, ring}
 use Rattle.gj_shape.specs.Elimination.{KeptRow, Insertion, at_column, scaled, differences, with_pivot, insertion_by, inserted_by, inserted_at_by, kept_behind, row_with_pivot}
 use Rattle.gj_shape.specs.Residues.{residue, residues, inverse, reduced_modulo, times_inverse, modulo, IsZeroModulo, SolvesModulo}
@@ -15,7 +14,7 @@ use Rattle.gj_shape.specs.SlopeRows.{sum_of_products}
 use Rattle.gj_theory.specs.TriangularResidues.{SolvesKeptModulo, IsKeptResidueRow, AreTriangularResidues}
 use Rattle.gj_theory.proofs.Entries.{at_scaled, at_differences}
 use Rattle.gj_theory.proofs.Insertions.{find_has, pivots_push, zero_before_next}
-use Rattle.gj_theory.proofs.Modulo.{zero_is, zero_none, zero_sum, zero_difference, zero_times, zero_first, residue_of_zero, residue_same, residue_zero, at_residues}
+use Rattle.gj_theory.proofs.Modulo.{zero_is, zero_none, zero_difference, zero_times, zero_first, residue_of_zero, residue_same, at_residues}
 use Rattle.gj_theory.proofs.RowSums.{sum_scaled, sum_differences}
 use Rattle.gj_theory.proofs.Steps.{length-differences}
 

@@ -1,5 +1,5 @@
 -- As many rows with different pivots modulo m as columns leave only 0 modulo m; and what this leaves of whole numbers.
-use Rattle.std.proofs.Common.{◌≡◌, ◌≢◌, ℕ, zero, suc, ◌+◌, ◌*◌, ◌<◌, ◌≤◌, ◌⊎◌, inl, inr, ℤ, pos, ◌+ℤ◌, ◌-ℤ◌, ◌*ℤ◌, List, [], ◌∷◌, length, get_or, unsigned_abs, refl, sym, ap, ap₂, subst, ◌∙◌, arith}
+use Rattle.std.proofs.Common.{◌≡◌, ℕ, zero, suc, ◌+◌, ◌*◌, ◌<◌, ◌≤◌, inl, inr, ℤ, pos, ◌+ℤ◌, ◌-ℤ◌, ◌*ℤ◌, List, [], ◌∷◌, length, unsigned_abs, refl, sym, ap, ap₂, subst, ◌∙◌, arith}
 use Rattle.std.specs.Prelude.{All}
 use Rattle.std.proofs.lemmas.Bool.{cases_lt}
 use Rattle.std.proofs.lemmas.Int.{ints, unsigned_abs-mul}
@@ -138,11 +138,12 @@ descend m rows large n divides (suc k) w long solved within =
 bound_of : (w : List ℤ) → (k : ℕ) × All (IsWithin k) w
 bound_of [] = (0, All-nil (IsWithin 0))
 bound_of (x ∷ w) =
-    let (k, all) = bound_of w in
-    (unsigned_abs x + k,
+    let (k, all) = bound_of w in (
+      unsigned_abs x + k,
       All-cons (IsWithin (unsigned_abs x + k)) x w (omega arith)
-      (All-from_get_or (IsWithin (unsigned_abs x + k)) w (pos 0)
-      (λ i below. let small = All-get_or (IsWithin k) w i (pos 0) below all in omega arith)))
+          (All-from_get_or (IsWithin (unsigned_abs x + k)) w (pos 0)
+          (λ i below. let small = All-get_or (IsWithin k) w i (pos 0) below all in omega arith)),
+    )
 
 -- rows whose solutions are all 0 modulo m are solved by 0 only
 pub only_zero_by_descent : (m n : ℕ) (rows : List (List ℤ)) (w : List ℤ) → 1 < m →

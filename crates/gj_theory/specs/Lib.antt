@@ -12,3 +12,4 @@ pub mod TriangularRows
 pub mod Cuts
 pub mod Fitting
 pub mod TriangularResidues
+pub mod HandedOver

@@ -7,8 +7,9 @@
 //! that is additive where a function's table is has constant steps, and `extreme` that cover lines and rows show a function to be
 //! extreme. `perturbations` says what a perturbation is and that it gives two different minimal tables, and
 //! `decisive_order` that the table on the grid of order 4 q decides whether a function is extreme. `elimination` says that
-//! elimination keeps the solutions of rows, `residues` what elimination over residues says of whole numbers, `cuts` that the cuts of rows by minimal functions hold, and `valid` what minimal and
-//! extreme mean: minimal and extreme among the valid tables.
+//! elimination keeps the solutions of rows and needs each row only once, `residues` what elimination over residues says of
+//! whole numbers, `cuts` that the cuts of rows by minimal functions hold, and `valid` what minimal and extreme mean: minimal and
+//! extreme among the valid tables.
 //!
 //! The decision and the separate checker both rest on these theorems and share no code. A call does nothing: it brings
 //! the theorem to the caller's proof.
