@@ -60,3 +60,10 @@ pub mod TwoSlopes
 pub mod TwoSlopeCovers
 pub mod TwoSlopesAreExtreme
 pub mod TwoSlopeRows
+pub mod Modulo
+pub mod ResiduePivots
+pub mod ResidueInsertions
+pub mod ResidueElimination
+pub mod Inverses
+pub mod Repeats
+pub mod RepeatedRows

@@ -12,3 +12,5 @@ pub mod TriangularRows
 pub mod Cuts
 pub mod Fitting
 pub mod RisesAndFalls
+pub mod TriangularResidues
+pub mod HandedOver
