@@ -1,0 +1,4 @@
+pub mod Multiples
+pub mod TimesTables
+pub mod MirrorTables
+pub mod RestrictionTables

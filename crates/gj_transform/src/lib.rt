@@ -1,0 +1,4 @@
+//! Transformations of functions.
+#![tactic(auto)]
+
+pub mod verdicts;
