@@ -2,3 +2,4 @@ pub mod Multiples
 pub mod TimesTables
 pub mod MirrorTables
 pub mod RestrictionTables
+pub mod AtFractions

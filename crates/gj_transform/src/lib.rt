@@ -1,4 +1,5 @@
 //! Transformations of functions.
 #![tactic(auto)]
 
+pub mod values;
 pub mod verdicts;
