@@ -130,3 +130,46 @@ restriction_entries f g d a some r =
 
     right_z : (x : ℤ) → x *ℤ pos (g.scale * 1) *ℤ (pos d *ℤ pos d) ≡ pos d *ℤ x *ℤ pos (g.scale * d)
     right_z x = by_ring (x ∷ pos d ∷ pos g.scale ∷ []) (search ring depth 20) refl
+
+congruent_scaled : (i : ℕ) (u : ℤ) (d p : ℕ) → IsCongruent (pos i) u d → IsCongruent (pos (i * p)) (u *ℤ pos p) (p * d)
+congruent_scaled i u d p (k, e) =
+    (k, turned i ∙ ap (λ z. z *ℤ pos p) e ∙ scaled)
+  where
+    turned : (i : ℕ) → pos (i * p) ≡ pos i *ℤ pos p
+    turned i = by_ring (pos i ∷ pos p ∷ []) (search ring depth 20) refl
+
+    scaled : (u +ℤ k *ℤ pos d) *ℤ pos p ≡ u *ℤ pos p +ℤ k *ℤ pos (p * d)
+    scaled = by_ring (u ∷ k ∷ pos d ∷ pos p ∷ []) (search ring depth 20) refl
+
+-- the same at places of the grids of order d times their own
+restriction_places : (f g : FunctionData) (d a : ℕ) → 0 < d → (r : IsRestrictionOf f d g) →
+    table g d (a * g.order) *ℤ pos (f.scale * d) ≡ table f d (a * f.order) *ℤ pos (g.scale * d)
+restriction_places f g d a some r =
+    let place : a * r.step * d ≡ a * f.order = let e : a * f.order ≡ a * (d * r.step) = ap (λ q. a * q) r.divides in omega arith in
+    ap (λ (q : ℕ). table g d (a * q) *ℤ pos (f.scale * d)) r.order ∙ restriction_entries f g d a some r
+    ∙ ap (λ i. table f d i *ℤ pos (g.scale * d)) place
+
+grid_some : (f g : FunctionData) (d : ℕ) → IsWithinBounds g → IsRestrictionOf f d g → 0 < d
+grid_some f g d h r = let low = h.order_low in let e = r.order in omega arith
+
+pub restriction_value : (f g : FunctionData) (d : ℕ) (u : ℤ) (x : Frac) → IsWithinBounds f → IsWithinBounds g → IsRestrictionOf f d g →
+    IsValueAt g (u *ℤ pos g.order) d x → IsValueAt f (u *ℤ pos f.order) d x
+restriction_value f g d u x l h r is =
+    let low = h.scale_low in
+    let some = grid_some f g d h r in
+    let (a, near) = natural_index u d some in
+    value_from_place f (u *ℤ pos f.order) d (a * f.order) x l some
+    (congruent_back _ _ (f.order * d) (congruent_scaled a u d f.order near))
+    (over_scale x (table g d (a * g.order)) (table f d (a * f.order)) (g.scale * d) (f.scale * d) (mul-pos (omega arith) some)
+    (sym (restriction_places f g d a some r)) (is (a * g.order) (congruent_scaled a u d g.order near)))
+
+pub value_of_restriction : (f g : FunctionData) (d : ℕ) (u : ℤ) (x : Frac) → IsWithinBounds f → IsWithinBounds g → IsRestrictionOf f d g →
+    IsValueAt f (u *ℤ pos f.order) d x → IsValueAt g (u *ℤ pos g.order) d x
+value_of_restriction f g d u x l h r is =
+    let low = l.scale_low in
+    let some = grid_some f g d h r in
+    let (a, near) = natural_index u d some in
+    value_from_place g (u *ℤ pos g.order) d (a * g.order) x h some
+    (congruent_back _ _ (g.order * d) (congruent_scaled a u d g.order near))
+    (over_scale x (table f d (a * f.order)) (table g d (a * g.order)) (f.scale * d) (g.scale * d) (mul-pos (omega arith) some)
+    (restriction_places f g d a some r) (is (a * f.order) (congruent_scaled a u d f.order near)))

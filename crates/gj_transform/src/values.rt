@@ -16,3 +16,9 @@ pub fn mirror_has_values()
     ensures { (f g : FunctionData) (d : ℕ) (u : ℤ) (x : Frac) → IsWithinBounds f → IsWithinBounds g → 0 < d →
         IsMirrorOf f g → IsValueAt g (u *ℤ pos g.order) d x ↔ IsValueAt f (neg_ℤ u *ℤ pos f.order) d x }
 {}
+
+/// The restriction to the multiples of 1/d has at each of them, u/d, the value of the function.
+pub fn restriction_has_values()
+    ensures { (f g : FunctionData) (d : ℕ) (u : ℤ) (x : Frac) → IsWithinBounds f → IsWithinBounds g → IsRestrictionOf f d g →
+        IsValueAt g (u *ℤ pos g.order) d x ↔ IsValueAt f (u *ℤ pos f.order) d x }
+{}
