@@ -23,3 +23,4 @@ pub mod SameFunctions
 pub mod Segments
 pub mod TableLemmas
 pub mod ValueLemmas
+pub mod AlikeFunctions
