@@ -24,3 +24,4 @@ pub mod Segments
 pub mod TableLemmas
 pub mod ValueLemmas
 pub mod AlikeFunctions
+pub mod ListEntries

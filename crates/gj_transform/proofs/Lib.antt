@@ -3,3 +3,4 @@ pub mod TimesTables
 pub mod MirrorTables
 pub mod RestrictionTables
 pub mod AtFractions
+pub mod GreatestDivisors

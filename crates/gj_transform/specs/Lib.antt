@@ -1,1 +1,2 @@
 pub mod Transforms
+pub mod GreatestDivisor
