@@ -13,6 +13,17 @@ pub record FunctionData : Type 0 where
   pub value : List ℤ
   pub right : List ℤ
 
+-- the function with these parts
+abbrev pub function_over : ℕ → ℕ → ℕ → List ℤ → List ℤ → List ℤ → FunctionData
+function_over order place scale left value right = record {
+  order = order;
+  place = place;
+  scale = scale;
+  left = left;
+  value = value;
+  right = right;
+}
+
 -- the entry at an index that is read modulo the length
 unfoldable pub at : List ℤ → ℕ → ℤ
 at xs i = get_or xs (i % length xs) (pos 0)

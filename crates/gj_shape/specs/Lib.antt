@@ -25,3 +25,4 @@ pub mod KeptBreaks
 pub mod Valid
 pub mod Residues
 pub mod TwoSlopes
+pub mod Entries

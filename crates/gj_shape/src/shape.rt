@@ -1,7 +1,7 @@
 //! Functions of period 1 that are affine between neighbouring multiples of 1/q.
 ghost use Rattle.std.specs.Prelude.{◌≡◌, ◌<◌, ℕ, pos, IfOk, IfErr, IfSome, IfNone, IsTrue, ◌↔◌};
 ghost use Rattle.gj_frac.specs.Fraction.{IsRatio};
-ghost use Rattle.gj_shape.specs.FunctionData.{IsWithinBounds, IsContinuous, IsJump, at};
+ghost use Rattle.gj_shape.specs.FunctionData.{IsWithinBounds, IsContinuous, IsJump, at, function_over};
 ghost use Rattle.gj_shape.specs.Given.{in_order, HaveLength, IsOrder, IsPlace};
 ghost use Rattle.gj_shape.specs.Denominators.{IsLeastDenominator};
 
@@ -109,6 +109,30 @@ impl Shape {
             value: numerators(alloc, value, scale)?,
             right: numerators(alloc, right, scale)?,
         })
+    }
+
+    /// The function of order `order` with f = `place/order` and, at i/order, the limit `left[i]/scale` from the left, the value
+    /// `value[i]/scale` and the limit `right[i]/scale` from the right. All are within the bounds, and no smaller denominator than
+    /// `scale` serves.
+    pub fn from_numerators(
+        order: u32,
+        place: u32,
+        scale: u32,
+        left: Vec<i64>,
+        value: Vec<i64>,
+        right: Vec<i64>,
+    ) -> Shape
+        requires { IsWithinBounds (function_over order place scale left.items value.items right.items) }
+        ensures { result ≡ function_over order place scale left.items value.items right.items }
+    {
+        Shape {
+            order,
+            place,
+            scale,
+            left,
+            value,
+            right,
+        }
     }
 
     /// The order q, from 2 to 1,000.

@@ -4,7 +4,7 @@ use Rattle.std.proofs.lemmas.List.{get_or_default, get_or_append_left, get_or_pu
 use Rattle.std.proofs.Math.Nat.{mod-lt}
 use Rattle.gj_shape.specs.FunctionData.{IsSmallOver, at}
 use Rattle.gj_shape.proofs.AtLemmas.{at_below, at_wrapped}
-use Rattle.gj_family.specs.Numerators.{HasEntries}
+use Rattle.gj_shape.specs.Entries.{HasEntries}
 
 -- one more entry
 pub entries_push : (t : ℕ → ℤ) (n : ℕ) (xs : List ℤ) (x : ℤ) → HasEntries t n xs → x ≡ t n → HasEntries t (n + 1) (xs ++ x ∷ [])
