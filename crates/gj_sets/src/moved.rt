@@ -35,7 +35,8 @@ impl IndexSet {
         requires period { n ≤ LIMIT }
         ensures { (j : ℕ) → has result j ≡ (nat_lt j n && has self.now (if nat_le s j then j - s else j + (n - s))) }
     {
-        self.up(s).or(&self.down(n - s)).and(&IndexSet::below(n))
+        let begun_again = self.down(n - s).and(&IndexSet::below(s));
+        self.up(s).or(&begun_again).and(&IndexSet::below(n))
     }
 }
 
