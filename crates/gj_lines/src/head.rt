@@ -39,7 +39,7 @@ fn order_in(spelling: Spelling, line: &[u8]) -> Result<u32, Reason>
     }
 }
 
-/// The order that the word spells, where it is from 2 to 1,000.
+/// The order that the word spells, if it is from 2 to 1,000.
 fn order_of(spelling: Spelling, word: &[u8]) -> Option<u32>
     requires { IsCountWord spelling word.now (digits_value 10 word.now) }
     ensures found { IfSome result (IsCountWord spelling word.now) }

@@ -1,8 +1,6 @@
 -- The numbers of a row, one after the other.
 use Rattle.std.proofs.Common.{◌≡◌, ℕ, ◌+◌, ◌<◌, ◌≤◌, List, [], ◌∷◌, ◌++◌, All, length, unsigned_abs, refl, sym, ap, ◌∙◌, append_assoc, arith}
-use Rattle.std.specs.Int.{◌∣◌}
 use Rattle.std.proofs.Math.Nat.{one-dvd}
-use Rattle.std.proofs.lemmas.Nat.Gcd.{dvd_trans}
 use Rattle.std.proofs.lemmas.List.{append-nil, length_push}
 use Rattle.std.proofs.lemmas.List.Elements.{All-nil, All-head, All-push}
 use Rattle.std.proofs.lemmas.Slice.Zip.{AllZip-long}
@@ -11,14 +9,16 @@ use Rattle.gj_frac.specs.declared.Frac.{Frac}
 use Rattle.gj_frac.specs.Fraction.{denominator}
 use Rattle.gj_lex.specs.SpelledNumbers.{IsFractionWord}
 use Rattle.gj_lex.specs.declared.spelling.Spelling.TheVariants.{Lenient}
-use Rattle.gj_shape.specs.Given.{IsCommonDenominator, HasCommonDenominator}
-use Rattle.gj_shape.proofs.LeastDenominator.{denominator_some, Divides}
+use Rattle.gj_shape.specs.Given.{IsLeastCommonDenominator, HasCommonDenominator}
+use Rattle.gj_shape.proofs.LeastDenominator.{denominator_some, least_common_more, Divides}
 use Rattle.gj_tools.proofs.Divisors.{lcm_positive}
 use Rattle.gj_tools.proofs.Lists.{All-front, All-back}
-use Rattle.gj_row.specs.TableauLimits.{IsSmall, AreWithinLimits}
+use Rattle.gj_row.specs.TableauLimits.{AreWithinLimits}
+use Rattle.gj_shape.specs.Limits.{denominator_bound, IsSmallNumber}
 use Rattle.gj_row.specs.TableauText.{SpellsEntry, SpellNumbers, entry_at, entries_from}
 use Rattle.gj_row.specs.FirstFault.{BreaksNumber, HasNumberFault}
-use Rattle.gj_row.specs.Reading.{Extends, HasNoCommon, HasRead, StopsNumber, StopsEntry}
+use Rattle.gj_row.specs.Reading.{Extends, HasRead, StopsNumber, StopsEntry}
+use Rattle.gj_shape.specs.Denominators.{HasNoCommonWith}
 use Rattle.gj_row.specs.declared.tableau.Entry.{Entry}
 use Rattle.gj_row.specs.declared.faults.RowReason.{RowReason}
 use Rattle.gj_row.specs.declared.faults.RowReason.TheVariants.{Header, Fields, Columns, Rows, Name, Twice, Number, Large, Fine, Entries}
@@ -47,43 +47,39 @@ numbers_long (v ∷ ws) right xs h = let e = AllZip-long SpellsEntry ws xs h.1 i
 
 -- numbers within the limits, of which m is the least common denominator
 pub record AreOver (xs : List Frac) (m : ℕ) : Type 0 where
-  pub small : All IsSmall xs
+  pub small : All IsSmallNumber xs
   pub low : 1 ≤ m
-  pub high : m < 2147483648
-  pub common : IsCommonDenominator xs m
-  pub least : (c : ℕ) → IsCommonDenominator xs c → m ∣ c
+  pub high : m < denominator_bound
+  pub least : IsLeastCommonDenominator xs m
 
 pub over_none : AreOver [] 1
 over_none = record {
-  small = All-nil IsSmall;
+  small = All-nil IsSmallNumber;
   low = omega arith;
   high = omega arith;
-  common = All-nil (Divides 1);
-  least = λ c h. one-dvd c;
+  least = record { common = All-nil (Divides 1); least = λ c h. one-dvd c; };
 }
 
 pub over_next : (xs : List Frac) (x : Frac) (scale m : ℕ) → AreOver xs scale → Extends scale x m → AreOver (xs ++ x ∷ []) m
 over_next xs x scale m h next = record {
-  small = All-push IsSmall xs x h.small next.small;
+  small = All-push IsSmallNumber xs x h.small next.small;
   low = lcm_positive scale (unsigned_abs (denominator x)) m next.least h.low (denominator_some x);
   high = next.high;
-  common = All-push (Divides m) xs x (λ k d l. dvd_trans _ (h.common k d l) next.least.0) next.least.1;
-  least = λ c all. next.least.2 c (h.least c (All-front (Divides c) xs (x ∷ []) all))
-      (All-head (Divides c) x [] (All-back (Divides c) xs (x ∷ []) all));
+  least = least_common_more xs x scale m h.least next.least;
 }
 
 pub over_within : (xs : List Frac) (m : ℕ) → AreOver xs m → AreWithinLimits xs
-over_within xs m h = record { small = h.small; common = (m, h.low, h.high, h.common) }
+over_within xs m h = record { small = h.small; common = (m, h.low, h.high, h.least.common) }
 
-pub no_common : (xs : List Frac) (x : Frac) (scale : ℕ) → AreOver xs scale → HasNoCommon scale x → HasCommonDenominator (xs ++ x ∷ []) → ⊥
+pub no_common : (xs : List Frac) (x : Frac) (scale : ℕ) → AreOver xs scale → HasNoCommonWith scale x → HasCommonDenominator (xs ++ x ∷ []) → ⊥
 no_common xs x scale h none d =
-    none d.0 d.1 d.2 (h.least d.0 (All-front (Divides d.0) xs (x ∷ []) d.3))
+    none d.0 d.1 d.2 (h.least.least d.0 (All-front (Divides d.0) xs (x ∷ []) d.3))
     (All-head (Divides d.0) x [] (All-back (Divides d.0) xs (x ∷ []) d.3))
 
 over_read : (used : ℕ) (words : List (List ℕ)) (right : Frac) (scale : ℕ) (entries : List Entry) →
     (h : HasRead used words right scale entries) → AreOver (right ∷ h.values) scale
 over_read used words right scale entries h =
-    record { small = h.begins.within.small; low = h.low; high = h.high; common = h.common; least = h.least }
+    record { small = h.begins.within.small; low = h.low; high = h.high; least = h.least }
 
 -- ---- what has been read
 
@@ -99,7 +95,6 @@ read_over used words right values scale entries spelled over is few = record {
   };
   low = over.low;
   high = over.high;
-  common = over.common;
   least = over.least;
   entries_are = is;
 }

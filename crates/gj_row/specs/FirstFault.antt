@@ -2,8 +2,9 @@
 use Rattle.std.specs.Prelude.{ℕ, ◌≡◌, ◌≢◌, ◌+◌, ◌<◌, ◌≤◌, List, [], ◌∷◌, ◌++◌, Contains, length, codes}
 use Rattle.gj_frac.specs.declared.Frac.{Frac}
 use Rattle.gj_lex.specs.Name.{IsName}
+use Rattle.gj_shape.specs.Limits.{IsSmallNumber}
 use Rattle.gj_shape.specs.Given.{HasCommonDenominator}
-use Rattle.gj_row.specs.TableauLimits.{IsSmall, AreWithinLimits, AreNames, names_of, entry_count}
+use Rattle.gj_row.specs.TableauLimits.{AreWithinLimits, AreNames, names_of, entry_count}
 use Rattle.gj_row.specs.TableauText.{records_of, SpellsNext, SpellNumbers, entries_from, header_of, SpellsTableau}
 use Rattle.gj_row.specs.declared.tableau.Entry.{Entry}
 use Rattle.gj_row.specs.declared.tableau.Tableau.{Tableau}
@@ -53,8 +54,8 @@ entries_of (right ∷ values) = entries_from 0 values
 -- else one above 2^31 in absolute value, or else one that leaves no common denominator up to 2^31 - 1, or else one entry too many
 abbrev pub BreaksNumber : ℕ → List Frac → List ℕ → RowReason → Type 0
 BreaksNumber used xs word Number = (x : Frac) → SpellsNext xs word x → ⊥
-BreaksNumber used xs word Large = (x : Frac) × SpellsNext xs word x × (IsSmall x → ⊥)
-BreaksNumber used xs word Fine = (x : Frac) × SpellsNext xs word x × IsSmall x × (HasCommonDenominator (xs ++ x ∷ []) → ⊥)
+BreaksNumber used xs word Large = (x : Frac) × SpellsNext xs word x × (IsSmallNumber x → ⊥)
+BreaksNumber used xs word Fine = (x : Frac) × SpellsNext xs word x × IsSmallNumber x × (HasCommonDenominator (xs ++ x ∷ []) → ⊥)
 BreaksNumber used xs word Entries = (x : Frac) × SpellsNext xs word x × AreWithinLimits (xs ++ x ∷ [])
     × (100000 < used + length (entries_of (xs ++ x ∷ [])))
 BreaksNumber used xs word Header = ⊥
@@ -124,5 +125,5 @@ pub data HasFirstFault (words : List (List (List ℕ))) (number : ℕ) (reason :
       HasRowFault t record_words reason → HasFirstFault words number reason
 
 -- the text has its first fault in this record, for this reason
-abbrev pub IsFirstFault : List ℕ → ℕ → RowReason → Type 0
-IsFirstFault text n reason = HasFirstFault (records_of text) n reason
+abbrev pub IsFirstFaultOfTableau : List ℕ → ℕ → RowReason → Type 0
+IsFirstFaultOfTableau text n reason = HasFirstFault (records_of text) n reason

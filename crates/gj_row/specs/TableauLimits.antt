@@ -1,20 +1,17 @@
 -- What a tableau of simplex rows may be (own).
-use Rattle.std.specs.Prelude.{ℕ, pos, ◌≢◌, ◌<◌, ◌≤◌, ◌*◌, ◌^◌, List, ◌∷◌, ◌++◌, All, AllPairs, length, map, sum_by, unsigned_abs}
+use Rattle.std.specs.Prelude.{ℕ, pos, ◌≢◌, ◌<◌, ◌≤◌, List, ◌∷◌, ◌++◌, All, AllPairs, length, map, sum_by}
 use Rattle.std.specs.List.Sorted.{IsStrictlyIncreasing}
 use Rattle.gj_frac.specs.declared.Frac.{Frac}
-use Rattle.gj_frac.specs.Fraction.{numerator, denominator}
+use Rattle.gj_frac.specs.Fraction.{numerator}
 use Rattle.gj_lex.specs.Name.{IsName}
+use Rattle.gj_shape.specs.Limits.{IsSmallNumber}
 use Rattle.gj_shape.specs.Given.{HasCommonDenominator}
 use Rattle.gj_row.specs.declared.tableau.Row.{Row}
 use Rattle.gj_row.specs.declared.tableau.Tableau.{Tableau}
 
--- at most 2^31 in absolute value
-abbrev pub IsSmall : Frac → Type 0
-IsSmall x = unsigned_abs (numerator x) ≤ 2 ^ 31 * unsigned_abs (denominator x)
-
 -- at most 2^31 in absolute value each, with a common denominator from 1 to 2^31 - 1
 pub record AreWithinLimits (numbers : List Frac) : Type 0 where
-  pub small : All IsSmall numbers
+  pub small : All IsSmallNumber numbers
   pub common : HasCommonDenominator numbers
 
 -- the right side and the entries that are not 0
@@ -23,7 +20,7 @@ numbers_of row = row.rhs ∷ map (λ e. e.value) row.entries
 
 -- a row of a tableau with so many columns: its numbers are within the limits, and its entries are those that are not 0, in the
 -- order of their columns
-pub record IsWithinLimits (columns : ℕ) (row : Row) : Type 0 where
+pub record IsRowWithinLimits (columns : ℕ) (row : Row) : Type 0 where
   pub numbers : AreWithinLimits (numbers_of row)
   pub no_zero : All (λ e. numerator e.value ≢ pos 0) row.entries
   pub ascending : IsStrictlyIncreasing (map (λ e. e.column) row.entries)
@@ -48,4 +45,4 @@ pub record IsTableau (t : Tableau) : Type 0 where
   pub few_rows : length t.rows ≤ 10000
   pub few_entries : entry_count t ≤ 100000
   pub names : AreNames (names_of t)
-  pub each_row : All (IsWithinLimits (length t.columns)) t.rows
+  pub each_row : All (IsRowWithinLimits (length t.columns)) t.rows

@@ -65,9 +65,9 @@ fn has_word(fields: &ByteRecord, place: usize, word: &[u8]) -> bool
     place < fields.len() && word_at(fields, place) == word
 }
 
-/// The name that the word is, where no name so far has its bytes; it is one of them from then on.
+/// The name that the word is, if no name so far has its bytes; it is one of them from then on.
 ///
-/// The reason is `Name` where the word is no name, and `Twice` where it stands already.
+/// The reason is `Name` if the word is no name, and `Twice` if it stands already.
 pub(crate) fn new_name(
     alloc: Global,
     names: &mut IndexSet<Vec<u8>>,

@@ -1,7 +1,7 @@
 //! The limits of the numbers in a row.
 ghost use Rattle.std.specs.Prelude.{◌≡◌, ◌<◌, ◌↔◌, ◌^◌, Some, IfOk, IfErr, IsTrue, unsigned_abs};
 ghost use Rattle.gj_frac.specs.Fraction.{denominator};
-ghost use Rattle.gj_row.specs.TableauLimits.{IsSmall};
+ghost use Rattle.gj_shape.specs.Limits.{IsSmallNumber};
 ghost use Rattle.gj_row.specs.Reading.{Extends, StopsAt};
 
 use crate::faults::RowReason;
@@ -10,7 +10,7 @@ use gj_shape::small_denominator;
 
 /// The number that was read, behind numbers with the least common denominator `scale`, and the least common denominator with it.
 ///
-/// The reason is `Number` where none was read, `Large` where it is above 2^31 in absolute value, and `Fine` where the common
+/// The reason is `Number` if none was read, `Large` if it is above 2^31 in absolute value, and `Fine` if the common
 /// denominator passes 2^31 - 1.
 pub(crate) fn within(scale: u32, number: Option<Frac>) -> Result<(Frac, u32), RowReason>
     requires { 0 < scale }
@@ -36,7 +36,7 @@ pub(crate) fn within(scale: u32, number: Option<Frac>) -> Result<(Frac, u32), Ro
 
 /// Whether the number is at most 2^31 in absolute value.
 fn is_small(x: Frac) -> bool
-    ensures { IsTrue result ↔ IsSmall x }
+    ensures { IsTrue result ↔ IsSmallNumber x }
 {
     x.num().unsigned_abs() <= x.den().unsigned_abs().saturating_mul(1 << 31)
 }

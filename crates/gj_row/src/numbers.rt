@@ -32,7 +32,7 @@ pub(crate) struct Numbers {
     pub(crate) entries: Vec<Entry>,
 }
 
-/// The numbers that stand in the record behind the name, where the rows before it have `used` entries that are not 0.
+/// The numbers that stand in the record behind the name, if the rows before it have `used` entries that are not 0.
 pub(crate) fn numbers_in(
     alloc: Global,
     fields: &ByteRecord,
@@ -116,7 +116,7 @@ fn entry(scale: u32, word: &[u8]) -> Result<(Frac, u32), RowReason>
     within(scale, entry_number(word))
 }
 
-/// The number that the word spells as an entry: 0 where it is empty.
+/// The number that the word spells as an entry: 0 if it is empty.
 fn entry_number(word: &[u8]) -> Option<Frac>
     ensures found { IfSome result (SpellsEntry word.now) }
     ensures none { IfNone result ((x : Frac) → SpellsEntry word.now x → ⊥) }

@@ -90,16 +90,6 @@ follows_or_fault s b t fault.Fine n h k =
     no_fault_follows (points_at s.breaks) (point_at b) [] Fine (within_with s b t h) k.2
 follows_or_fault s b t (fault.Memory m) n h k = n
 
--- ---- the order is positive
-
--- f alone has a positive order
-pub order_of_none : (x : Frac) → 0 < (no_breaks x).order
-order_of_none x = denominator_some x
-
--- and a further breakpoint leaves it positive
-pub order_is_some : (s : BreakList) (b : Break) (t : BreakList) → Follows s b t → 0 < s.order → 0 < t.order
-order_is_some s b t h some = lcm_positive s.order (unsigned_abs (denominator b.x)) t.order h.order_is some (denominator_some b.x)
-
 -- ---- the points of the grid
 
 -- the bottom of a value on a line is not 0

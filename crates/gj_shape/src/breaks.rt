@@ -91,7 +91,7 @@ fn is_behind(before: Frac, x: Frac) -> bool
     before < x && x.num() < x.den()
 }
 
-/// The least common multiple of the order so far and the denominator of x, where it is at most 1,000.
+/// The least common multiple of the order so far and the denominator of x, if it is at most 1,000.
 fn order_with(order: u32, x: Frac) -> Option<u32>
     requires { 0 < order }
     ensures few { IfSome result (λ m. m ≤ 1000) }

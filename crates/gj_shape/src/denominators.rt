@@ -3,7 +3,7 @@ ghost use Rattle.std.specs.Prelude.{◌≡◌, ◌<◌, ◌≤◌, ◌^◌, ◌�
 ghost use Rattle.gj_frac.specs.declared.Frac.{Frac};
 ghost use Rattle.gj_frac.specs.Fraction.{denominator};
 ghost use Rattle.gj_shape.specs.Given.{in_order, IsSmall};
-ghost use Rattle.gj_shape.specs.Denominators.{Extends, ExtendsBy, IsLeastDenominator, IsRefused, IsRefusedBehind, IsFaultIn, fault_at};
+ghost use Rattle.gj_shape.specs.Denominators.{Extends, ExtendsBy, AreWithinBoundsOver, IsRefused, IsRefusedBehind, IsFaultIn, fault_at};
 ghost use Rattle.gj_shape.specs.Points.{fractions_of};
 
 use crate::faults::{FractionFault, ShapeFault};
@@ -17,7 +17,7 @@ fn is_small(x: Frac) -> bool
     x.num().unsigned_abs() <= x.den().unsigned_abs().saturating_mul(1 << 20)
 }
 
-/// The denominator of the fraction, where it is at most 2^31 - 1.
+/// The denominator of the fraction, if it is at most 2^31 - 1.
 pub fn small_denominator(x: Frac) -> Option<u32>
     ensures { SomeIff result (unsigned_abs (denominator x) < 2 ^ 31) (unsigned_abs (denominator x)) }
 {
@@ -70,7 +70,7 @@ pub(crate) fn common_denominator(
     requires few { length left.now ≤ 1000 }
     requires value_length { length value.now ≡ length left.now }
     requires right_length { length right.now ≡ length left.now }
-    ensures least { IfOk result (IsLeastDenominator (in_order left.now value.now right.now)) }
+    ensures least { IfOk result (AreWithinBoundsOver (in_order left.now value.now right.now)) }
     ensures fault { IfErr result (IsFaultIn left.now value.now right.now) }
 {
     let mut scale = 1;

@@ -10,9 +10,9 @@ use gj_frac::Frac;
 use std::alloc::{AllocError, Global};
 
 impl Shape {
-    /// The same function at order q `times`, where q is the order.
+    /// The same function at order q `times`, for the order q.
     ///
-    /// The error is `Order` exactly where `times` is 0 or the new order is above 1,000. It is `TooFine` at the first
+    /// The error is `Order` exactly if `times` is 0 or the new order is above 1,000. It is `TooFine` at the first
     /// index at which the new limits and values have no common denominator up to 2^31 - 1.
     pub fn refine(&self, alloc: Global, times: u32) -> Result<Shape, ShapeFault>
         ensures refined { IfOk result (IsRefinement self.now times) }

@@ -3,7 +3,7 @@ ghost use Rattle.std.specs.Prelude.{◌≡◌, ◌<◌, ℕ, pos, IfOk, IfErr, I
 ghost use Rattle.gj_frac.specs.Fraction.{IsRatio};
 ghost use Rattle.gj_shape.specs.FunctionData.{IsWithinBounds, IsContinuous, IsJump, at};
 ghost use Rattle.gj_shape.specs.Given.{in_order, HaveLength, IsOrder, IsPlace};
-ghost use Rattle.gj_shape.specs.Denominators.{IsLeastDenominator};
+ghost use Rattle.gj_shape.specs.Denominators.{AreWithinBoundsOver};
 
 use crate::denominators::common_denominator;
 use crate::faults::ShapeFault;
@@ -98,7 +98,7 @@ impl Shape {
         requires order { IsOrder q }
         requires place { IsPlace q k }
         requires lengths { HaveLength left.now value.now right.now q }
-        requires least { IsLeastDenominator (in_order left.now value.now right.now) scale }
+        requires least { AreWithinBoundsOver (in_order left.now value.now right.now) scale }
         ensures { IfOk result (IsGivenBy q k left.now value.now right.now) }
     {
         Ok(Shape {
@@ -207,7 +207,7 @@ impl Shape {
         self.right.as_slice()
     }
 
-    /// The least i for which the limits and the value at i/q are not all equal, where there is one.
+    /// The least i for which the limits and the value at i/q are not all equal, if there is one.
     pub fn first_jump(&self) -> Option<u32>
         ensures within { IfSome result (λ i. i < self.now.order) }
         ensures jump { IfSome result (IsJump self.now) }

@@ -7,23 +7,23 @@ use Rattle.std.proofs.lemmas.List.Elements.{All-nil, All-cons, All-head, All-tai
 use Rattle.std.proofs.lemmas.Nat.Gcd.{dvd_trans}
 use Rattle.std.proofs.Math.Nat.{dvd-mul_left, dvd-mul_right, mul-pos, zero-mul}
 use Rattle.gj_frac.specs.declared.Frac.{Frac}
-use Rattle.gj_frac.specs.Floor.{IsFloor}
+use Rattle.gj_frac.specs.Floor.{IsFloor, HasFractionalPart}
 use Rattle.gj_frac.specs.Fraction.{IsRatio, numerator, denominator}
 use Rattle.gj_frac.proofs.Floors.{quotient_is_floor}
 use Rattle.gj_tools.proofs.Divisors.{cofactor}
 use Rattle.gj_tools.proofs.Integers.{add_mul_z, sub_mul_z, mul_cancel_right_z, mul_le_cancel_right_z, mul_le_mul_right_z, positive_some_z}
 use Rattle.gj_tools.proofs.Ratios.{ratio_along}
 use Rattle.gj_tools.proofs.Ring.{by_ring, ring}
-use Rattle.gj_shape.specs.Given.{IsCommonDenominator, numerator_over}
-use Rattle.gj_shape.specs.RowCut.{IsLeastCommonDenominator, CutHolds}
+use Rattle.gj_shape.specs.Given.{IsCommonDenominator, numerator_over, IsLeastCommonDenominator}
+use Rattle.gj_shape.specs.RowCut.{CutHolds}
 use Rattle.gj_shape.specs.SlopeRows.{sum_of_products}
 use Rattle.gj_shape.specs.Table.{IsMinimalTable}
 use Rattle.gj_shape.specs.Valid.{IsValidTable}
 use Rattle.gj_shape.specs.Values.{IsCongruent}
-use Rattle.gj_shape.proofs.LeastDenominator.{Divides, denominator_some}
+use Rattle.gj_shape.proofs.LeastDenominator.{Divides, denominator_some, least_common_some}
 use Rattle.gj_shape.proofs.OverScale.{all_over}
 use Rattle.gj_shape.proofs.ValueLemmas.{congruent_rests}
-use Rattle.gj_theory.specs.Cuts.{HasFractionalPart, IsEntryAt}
+use Rattle.gj_theory.specs.Cuts.{IsEntryAt}
 use Rattle.gj_theory.proofs.ValidTables.{minimal_is_valid}
 use Rattle.gj_theory.proofs.Weights.{HasList, with_copies}
 
@@ -48,15 +48,6 @@ product_common (x ∷ xs) =
     let d = unsigned_abs (denominator x) in
     All-cons (Divides (d * product_of xs)) x xs (dvd-mul_right d (product_of xs))
     (λ k y l. dvd_trans _ (product_common xs k y l) (dvd-mul_left (product_of xs) d))
-
--- the least common denominator is not 0
-least_some : (xs : List Frac) (c : ℕ) → IsLeastCommonDenominator xs c → 0 < c
-least_some xs zero h =
-    let some = product_some xs in
-    let multiple = cofactor 0 (product_of xs) (h.least (product_of xs) (product_common xs)) in
-    let none : product_of xs ≡ 0 = multiple.1 ∙ zero-mul multiple.0 in
-    absurd (omega arith)
-least_some xs (suc c) h = omega arith
 
 -- ---- one entry over two denominators
 
@@ -169,7 +160,7 @@ pub cut_by_valid : (t : ℕ → ℤ) (n k s : ℕ) (entries : List Frac) (right 
     AllZip (IsEntryAt t n s) entries coefficients → CutHolds entries right coefficients
 cut_by_valid t n k s entries right coefficients valid n_some s_some part h basic others g solution least =
     let c = solution.c in
-    let c_some : 0 < c = least_some (right ∷ entries) c solution.least in
+    let c_some : 0 < c = least_common_some (right ∷ entries) c solution.least in
     let right_over = All-head (Divides c) right entries solution.least.common in
     let entries_over = All-tail (Divides c) right entries solution.least.common in
     let r = sums t n s c g entries coefficients others solution.count h entries_over least.common in

@@ -20,25 +20,25 @@ use Rattle.gj_theory.proofs.Weights.{sum_cons, same_sums, cancel_same, weight_no
 -- ---- a table that is changed at one place
 
 -- the table w with v at the places that are a modulo n
-abbrev dented : (ℕ → ℤ) → ℕ → ℕ → ℤ → ℕ → ℤ
+abbrev pub dented : (ℕ → ℤ) → ℕ → ℕ → ℤ → ℕ → ℤ
 dented w n a v i = cond (eqb (i % n) (a % n)) v (w i)
 
-dented_tells : (w : ℕ → ℤ) (n a : ℕ) (v : ℤ) (i : ℕ) →
+pub dented_tells : (w : ℕ → ℤ) (n a : ℕ) (v : ℤ) (i : ℕ) →
     ((i % n ≡ a % n) × (dented w n a v i ≡ v)) ⊎ ((i % n ≢ a % n) × (dented w n a v i ≡ w i))
 dented_tells w n a v i =
     ⊎_elim (λ at. inl (at.1, cond-true (eqb (i % n) (a % n)) v (w i) at.0))
     (λ off. inr (off.1, cond-false (eqb (i % n) (a % n)) v (w i) off.0))
     (eqb_tells (i % n) (a % n))
 
-dented_here : (w : ℕ → ℤ) (n a : ℕ) (v : ℤ) → dented w n a v a ≡ v
+pub dented_here : (w : ℕ → ℤ) (n a : ℕ) (v : ℤ) → dented w n a v a ≡ v
 dented_here w n a v = ⊎_elim (λ at. at.1) (λ off. absurd (off.0 refl)) (dented_tells w n a v a)
 
-dented_period : (w : ℕ → ℤ) (n a : ℕ) (v : ℤ) → ((i : ℕ) → w (i + n) ≡ w i) → (i : ℕ) → dented w n a v (i + n) ≡ dented w n a v i
+pub dented_period : (w : ℕ → ℤ) (n a : ℕ) (v : ℤ) → ((i : ℕ) → w (i + n) ≡ w i) → (i : ℕ) → dented w n a v (i + n) ≡ dented w n a v i
 dented_period w n a v period i = ap₂ (λ r x. cond (eqb r (a % n)) v x) (add-mod_right i n) (period i)
 
 -- ---- a place for which lighter places stand
 
-valid_by_places : (t u : ℕ → ℤ) (n k s : ℕ) → IsValidTable t n k s → ((i : ℕ) → u (i + n) ≡ u i) →
+pub valid_by_places : (t u : ℕ → ℤ) (n k s : ℕ) → IsValidTable t n k s → ((i : ℕ) → u (i + n) ≡ u i) →
     ((i : ℕ) → StandFor t n i (u i)) → IsValidTable u n k s
 valid_by_places t u n k s valid period each = record {
   has_period = period;
@@ -246,10 +246,10 @@ all_or_some P Q decide (suc n) =
     (all_or_some P Q decide n)
 
 -- a place opposite to i
-abbrev opposite_of : ℕ → ℕ → ℕ → ℕ
+abbrev pub opposite_of : ℕ → ℕ → ℕ → ℕ
 opposite_of n k i = k + (i * n - i)
 
-opposite_is : (n k i : ℕ) → 0 < n → (i + opposite_of n k i) % n ≡ k % n
+pub opposite_is : (n k i : ℕ) → 0 < n → (i + opposite_of n k i) % n ≡ k % n
 opposite_is n k i some =
     let many : i ≤ i * n = le-mul_of_pos_right i some in
     let whole : i + opposite_of n k i ≡ k + i * n = omega arith in

@@ -45,7 +45,7 @@ pub fn elimination_keeps_solutions()
         (SolvesKept w (elimination n rows).kept ↔ All (Solves w) rows) }
 {}
 
-/// The kernel of triangular rows of n columns: where they are fewer than n, numbers that solve all of them, one of them
+/// The kernel of triangular rows of n columns: if they are fewer than n, numbers that solve all of them, one of them
 /// positive.
 pub fn kernel_solves()
     ensures none { (n : ℕ) (kept : List KeptRow) → AreTriangular n kept →
