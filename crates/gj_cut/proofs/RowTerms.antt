@@ -36,7 +36,7 @@ in_range_all d (e ∷ entries) some fine small common =
     (in_range_all d entries some fine (All-tail IsSmallNumber e.value (map (λ e. e.value) entries) small)
     (All-tail (λ x. unsigned_abs (denominator x) ∣ d) e.value (map (λ e. e.value) entries) common))
 
--- those of a row within the limits are in the range of rules
+-- those of a row within the limits can stand in a row
 pub entries_in_range : (row : Row) → AreWithinLimits (numbers_of row) → All (λ e. IsRowNumber e.value) row.entries
 entries_in_range row h =
     let values = map (λ e. e.value) row.entries in

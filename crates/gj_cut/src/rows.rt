@@ -1,11 +1,11 @@
 //! The cut of a row by a rule.
-ghost use Rattle.std.specs.Prelude.{◌≡◌, ◌<◌, ◌^◌, ◌↔◌, IsTrue, IfOk, All, unsigned_abs};
+ghost use Rattle.std.specs.Prelude.{◌≡◌, ◌↔◌, IsTrue, IfOk, All};
 ghost use Rattle.std.specs.List.{AllZip};
-ghost use Rattle.gj_frac.specs.Fraction.{numerator, denominator, IsWhole};
+ghost use Rattle.gj_frac.specs.Fraction.{numerator, denominator, IsWhole, HasDenominatorBelow};
 ghost use Rattle.gj_frac.specs.Floor.{HasFractionalPart};
 ghost use Rattle.gj_row.specs.TableauLimits.{AreWithinLimits, numbers_of};
 ghost use Rattle.gj_rule.specs.Kind.{IsKind, IsBounded, IsMinimalKind};
-ghost use Rattle.gj_shape.specs.Limits.{IsRowNumber};
+ghost use Rattle.gj_shape.specs.Limits.{denominator_bound, IsRowNumber};
 ghost use Rattle.gj_rule.specs.Kept.{Evaluates};
 ghost use Rattle.gj_rule.specs.declared.kind.RuleKind.TheVariants.{Gmic};
 ghost use Rattle.gj_cut.specs.RowCuts.{HasPart, IsTermOf, IsCutOf, IsCutOfKind, IsGmicCutOf, HoldsFor};
@@ -56,7 +56,7 @@ pub fn gmic_cut_row(alloc: Global, row: &Row) -> Result<RowCut, AllocError>
 /// The fractional part of a right side that is not whole.
 fn part_of(right: Frac) -> Frac
     requires not_whole { IsWhole right → ⊥ }
-    requires fine { unsigned_abs (denominator right) < 2 ^ 31 }
+    requires fine { HasDenominatorBelow denominator_bound right }
     ensures part { HasFractionalPart right (numerator result) (denominator result) }
     ensures kind { IsKind (Gmic result) }
 {

@@ -14,11 +14,11 @@ use Rattle.gj_shape.proofs.LeastDenominator.{denominator_some, least_common_more
 use Rattle.gj_tools.proofs.Divisors.{lcm_positive}
 use Rattle.gj_tools.proofs.Lists.{All-front, All-back}
 use Rattle.gj_row.specs.TableauLimits.{AreWithinLimits}
-use Rattle.gj_shape.specs.Limits.{denominator_bound, IsSmallNumber}
+use Rattle.gj_shape.specs.Limits.{greatest_number, denominator_bound, IsSmallNumber}
 use Rattle.gj_row.specs.TableauText.{SpellsEntry, SpellNumbers, entry_at, entries_from}
 use Rattle.gj_row.specs.FirstFault.{BreaksNumber, HasNumberFault}
-use Rattle.gj_row.specs.Reading.{Extends, HasRead, StopsNumber, StopsEntry}
-use Rattle.gj_shape.specs.Denominators.{HasNoCommonWith}
+use Rattle.gj_row.specs.Reading.{HasRead, StopsNumber, StopsEntry}
+use Rattle.gj_shape.specs.Denominators.{Extends, HasNoCommonWith}
 use Rattle.gj_row.specs.declared.tableau.Entry.{Entry}
 use Rattle.gj_row.specs.declared.faults.RowReason.{RowReason}
 use Rattle.gj_row.specs.declared.faults.RowReason.TheVariants.{Header, Fields, Columns, Rows, Name, Twice, Number, Large, Fine, Entries}
@@ -60,7 +60,7 @@ over_none = record {
   least = record { common = All-nil (Divides 1); least = λ c h. one-dvd c; };
 }
 
-pub over_next : (xs : List Frac) (x : Frac) (scale m : ℕ) → AreOver xs scale → Extends scale x m → AreOver (xs ++ x ∷ []) m
+pub over_next : (xs : List Frac) (x : Frac) (scale m : ℕ) → AreOver xs scale → Extends greatest_number scale x m → AreOver (xs ++ x ∷ []) m
 over_next xs x scale m h next = record {
   small = All-push IsSmallNumber xs x h.small next.small;
   low = lcm_positive scale (unsigned_abs (denominator x)) m next.least h.low (denominator_some x);
@@ -100,14 +100,14 @@ read_over used words right values scale entries spelled over is few = record {
 }
 
 -- the right side
-pub right_read : (used : ℕ) (w : List ℕ) (x : Frac) (m : ℕ) → used ≤ 100000 → IsFractionWord Lenient w x → Extends 1 x m →
+pub right_read : (used : ℕ) (w : List ℕ) (x : Frac) (m : ℕ) → used ≤ 100000 → IsFractionWord Lenient w x → Extends greatest_number 1 x m →
     HasRead used (w ∷ []) x m []
 right_read used w x m few spelled next = read_over used (w ∷ []) x [] m [] (spelled, tt) (over_next [] x 1 m over_none next) refl (omega arith)
 
 -- one more entry
 pub entry_read : (used : ℕ) (words : List (List ℕ)) (right : Frac) (scale : ℕ) (entries : List Entry) (column : ℕ) (w : List ℕ)
     (x : Frac) (m : ℕ) (new : List Entry) → HasRead used words right scale entries → column + 1 ≡ length words → SpellsEntry w x →
-    Extends scale x m → new ≡ entries ++ entry_at column x → used + length new ≤ 100000 →
+    Extends greatest_number scale x m → new ≡ entries ++ entry_at column x → used + length new ≤ 100000 →
     HasRead used (words ++ w ∷ []) right m new
 entry_read used words right scale entries column w x m new h place spelled next is few =
     let values = h.values in

@@ -1,5 +1,5 @@
 -- What the steps of the reader answer (own).
-use Rattle.std.specs.Prelude.{ℕ, ◌≡◌, ◌+◌, ◌<◌, ◌≤◌, false, List, [], ◌∷◌, ◌++◌, Option, Some, None, length, map, unsigned_abs, Vec}
+use Rattle.std.specs.Prelude.{ℕ, ◌≡◌, ◌+◌, ◌<◌, ◌≤◌, false, List, [], ◌∷◌, ◌++◌, Option, Some, None, length, map, Vec}
 use Rattle.std.specs.Borrow.{Bor}
 use Rattle.csv.specs.Reading.{records, Reached, Ready, default_config, source_of, strip_bom, owned_rows_reader, owned_rows_left, reader_trim, reader_config, reader_state}
 use Rattle.csv.specs.Records.{Row as FieldRow, fields_of}
@@ -7,12 +7,10 @@ use Rattle.csv.specs.declared.iter.ByteRecordsIntoIter.{ByteRecordsIntoIter}
 use Rattle.csv.specs.declared.parser.State.TheVariants as state
 use Rattle.csv.specs.declared.reader.Trim.TheVariants as trim
 use Rattle.gj_frac.specs.declared.Frac.{Frac}
-use Rattle.gj_frac.specs.Fraction.{denominator}
-use Rattle.gj_shape.specs.Limits.{denominator_bound, IsSmallNumber}
+use Rattle.gj_shape.specs.Limits.{greatest_number, denominator_bound, IsSmallNumber}
 use Rattle.gj_shape.specs.Given.{IsLeastCommonDenominator}
-use Rattle.gj_shape.specs.Denominators.{HasNoCommonWith}
-use Rattle.gj_tools.specs.Divisors.{IsLcm}
-use Rattle.gj_row.specs.TableauLimits.{IsRowWithinLimits}
+use Rattle.gj_shape.specs.Denominators.{Extends, HasNoCommonWith}
+use Rattle.gj_row.specs.TableauLimits.{most_entries, IsRowWithinLimits}
 use Rattle.gj_row.specs.TableauText.{word_of, is_zero, SpellsRow, entries_from}
 use Rattle.gj_row.specs.FirstFault.{BeginRow}
 use Rattle.gj_row.specs.declared.tableau.Entry.{Entry}
@@ -54,12 +52,6 @@ words_in fields = map word_of (fields_of fields)
 
 -- ---- numbers
 
--- m is the least common denominator of numbers with the least common denominator `scale` and of x, which is within the limits
-pub record Extends (scale : ℕ) (x : Frac) (m : ℕ) : Type 0 where
-  pub small : IsSmallNumber x
-  pub least : IsLcm scale (unsigned_abs (denominator x)) m
-  pub high : m < denominator_bound
-
 -- why what was read cannot follow numbers with the least common denominator `scale`
 abbrev pub StopsAt : ℕ → Option Frac → RowReason → Type 0
 StopsAt scale number Number = number ≡ None
@@ -88,7 +80,7 @@ StopsNumber P scale Entries = ⊥
 
 -- x is the first entry too many
 abbrev pub IsOneTooMany : (Frac → Type 0) → ℕ → ℕ → Type 0
-IsOneTooMany P scale count = (x : Frac) × (m : ℕ) × P x × Extends scale x m × (is_zero x ≡ false) × (100000 ≤ count)
+IsOneTooMany P scale count = (x : Frac) × (m : ℕ) × P x × Extends greatest_number scale x m × (is_zero x ≡ false) × (most_entries ≤ count)
 
 -- why a word cannot follow as an entry, behind so many entries that are not 0
 abbrev pub StopsEntry : (Frac → Type 0) → ℕ → ℕ → RowReason → Type 0
@@ -124,7 +116,7 @@ bytes_of names = map (λ name. name.items) names
 pub record ReadsRow (columns used : ℕ) (words : List (List ℕ)) (row : Row) : Type 0 where
   pub spelled : SpellsRow columns words row
   pub within : IsRowWithinLimits columns row
-  pub few : used + length row.entries ≤ 100000
+  pub few : used + length row.entries ≤ most_entries
 
 -- ---- the records of a text
 

@@ -4,15 +4,24 @@ use Rattle.std.specs.List.Sorted.{IsStrictlyIncreasing}
 use Rattle.gj_frac.specs.declared.Frac.{Frac}
 use Rattle.gj_frac.specs.Fraction.{numerator}
 use Rattle.gj_lex.specs.Name.{IsName}
-use Rattle.gj_shape.specs.Limits.{IsSmallNumber}
-use Rattle.gj_shape.specs.Given.{HasCommonDenominator}
+use Rattle.gj_shape.specs.Limits.{greatest_number}
+use Rattle.gj_shape.specs.Given.{AreWithin}
 use Rattle.gj_row.specs.declared.tableau.Row.{Row}
 use Rattle.gj_row.specs.declared.tableau.Tableau.{Tableau}
 
+-- how many columns, how many rows and how many entries that are not 0 a tableau has at most
+abbrev pub most_columns : ℕ
+most_columns = 10000
+
+abbrev pub most_rows : ℕ
+most_rows = 10000
+
+abbrev pub most_entries : ℕ
+most_entries = 100000
+
 -- at most 2^31 in absolute value each, with a common denominator from 1 to 2^31 - 1
-pub record AreWithinLimits (numbers : List Frac) : Type 0 where
-  pub small : All IsSmallNumber numbers
-  pub common : HasCommonDenominator numbers
+abbrev pub AreWithinLimits : List Frac → Type 0
+AreWithinLimits numbers = AreWithin greatest_number numbers
 
 -- the right side and the entries that are not 0
 abbrev pub numbers_of : Row → List Frac
@@ -41,8 +50,8 @@ pub record AreNames (names : List (List ℕ)) : Type 0 where
 
 -- at most 10,000 columns, 10,000 rows and 100,000 entries that are not 0; all names differ; each row is within its limits
 pub record IsTableau (t : Tableau) : Type 0 where
-  pub few_columns : length t.columns ≤ 10000
-  pub few_rows : length t.rows ≤ 10000
-  pub few_entries : entry_count t ≤ 100000
+  pub few_columns : length t.columns ≤ most_columns
+  pub few_rows : length t.rows ≤ most_rows
+  pub few_entries : entry_count t ≤ most_entries
   pub names : AreNames (names_of t)
   pub each_row : All (IsRowWithinLimits (length t.columns)) t.rows

@@ -6,7 +6,7 @@ ghost use Rattle.gj_theory.specs.Cuts.{IsGmicValue, IsValueOf};
 ghost use Rattle.gj_shape.specs.Limits.{IsRowNumber};
 
 use gj_frac::Frac;
-use gj_shape::Shape;
+use gj_shape::{GREATEST_DENOMINATOR, GREATEST_NUMBER, Shape};
 
 /// The mixed-integer cut for f at x: with r the fractional part of x it is r/f if r is at most f, and else
 /// (1 - r)/(1 - f).
@@ -31,14 +31,15 @@ pub fn gmic_value(f: Frac, x: Frac) -> Frac
     }
 }
 
-/// Whether x is in the range of rules: of denominator at most 2^31 - 1, and at most 2^31 in absolute value.
+/// Whether x can stand in a row: its denominator is at most 2^31 - 1, and it is at most 2^31 in absolute value.
 pub fn is_in_range(x: Frac) -> bool
     ensures { IsTrue result ↔ IsRowNumber x }
 {
-    x.den() < 1 << 31 && x.num().unsigned_abs() <= (x.den() as u128) << 31
+    x.den() <= i128::from(GREATEST_DENOMINATOR)
+        && x.num().unsigned_abs() <= x.den().unsigned_abs().saturating_mul(GREATEST_NUMBER)
 }
 
-/// The value of the function at x, a fraction of the range of rules.
+/// The value of the function at x, a fraction that can stand in a row.
 pub fn table_value(shape: &Shape, x: Frac) -> Frac
     requires { IsRowNumber x }
     ensures { IsValueOf shape.now x result }

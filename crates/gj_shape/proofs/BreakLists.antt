@@ -1,16 +1,16 @@
 -- Breakpoints that come one after another: the tests of the next one, and what holds of all.
-use Rattle.std.proofs.Common.{◌≡◌, ℕ, zero, suc, ◌-◌, ◌*◌, ◌/◌, ◌<◌, ◌≤◌, ◌↔◌, List, [], ◌∷◌, ◌++◌, length, get_or, map, take, ℤ, pos, ◌*ℤ◌, ◌<ℤ◌, ◌≤ℤ◌, unsigned_abs, refl, sym, ap, subst, ◌∙◌, append_assoc, arith}
+use Rattle.std.proofs.Common.{◌≡◌, ℕ, ◌-◌, ◌*◌, ◌/◌, ◌<◌, ◌≤◌, ◌↔◌, List, [], ◌∷◌, ◌++◌, length, get_or, map, take, ℤ, pos, ◌*ℤ◌, ◌<ℤ◌, ◌≤ℤ◌, unsigned_abs, refl, sym, ap, subst, ◌∙◌, append_assoc, arith}
 use Rattle.std.specs.Int.{◌∣◌}
-use Rattle.std.proofs.Math.Nat.{mul-pos, mul-div_cancel', dvd_refl, dvd-mul_left, dvd-mul_right, zero-mul}
+use Rattle.std.proofs.Math.Nat.{mul-div_cancel', dvd_refl}
 use Rattle.std.proofs.lemmas.Int.{ints}
-use Rattle.std.proofs.lemmas.Nat.Gcd.{dvd_trans, le_of_dvd}
+use Rattle.std.proofs.lemmas.Nat.Gcd.{le_of_dvd}
 use Rattle.std.proofs.lemmas.List.{map-append}
 use Rattle.std.proofs.lemmas.List.Concat.{flat_map-append}
-use Rattle.std.proofs.lemmas.List.Elements.{All-nil, All-cons, All-head, All-tail, All-push}
+use Rattle.std.proofs.lemmas.List.Elements.{All-head, All-tail}
 use Rattle.gj_tools.specs.Divisors.{IsLcm}
-use Rattle.gj_tools.proofs.Divisors.{cofactor, lcm_positive}
+use Rattle.gj_tools.proofs.Divisors.{lcm_positive}
 use Rattle.gj_tools.proofs.Integers.{mul_lt_cancel_right_z, mul_lt_mul_right_z, mul_nonnegative_z, mul_positive_z, pos_abs_z}
-use Rattle.gj_tools.proofs.Lists.{All-front, All-back, All-one}
+use Rattle.gj_tools.proofs.Lists.{All-back, All-one}
 use Rattle.gj_frac.specs.declared.Frac.{Frac}
 use Rattle.gj_frac.specs.Fraction.{LessValue, fraction_of, numerator, denominator, IsInside, IsRatio}
 use Rattle.gj_shape.specs.Given.{IsCommonDenominator, IsOrder, numerator_over, IsLeastCommonDenominator}
@@ -21,7 +21,7 @@ use Rattle.gj_shape.specs.declared.breaks.Break.{Break}
 use Rattle.gj_shape.specs.declared.faults.FractionFault.{FractionFault}
 use Rattle.gj_shape.specs.declared.faults.FractionFault.TheVariants.{Large, Fine}
 use Rattle.gj_shape.proofs.LastElements.{behind_others, at_last_index, each_behind_none, each_behind_more, along_behind}
-use Rattle.gj_shape.proofs.LeastDenominator.{Divides, denominator_some, least_of_none, least_common_some, least_common_more, within_of_least}
+use Rattle.gj_shape.proofs.LeastDenominator.{Divides, least_of_none, least_common_some, least_common_more, within_of_least}
 use Rattle.gj_shape.proofs.OverScale.{over_scale}
 
 -- ---- the place of the next one

@@ -12,6 +12,7 @@ use Rattle.gj_tools.proofs.Integers.{abs_positive_z}
 use Rattle.gj_tools.proofs.Divisors.{cofactor, lcm_positive}
 use Rattle.gj_tools.proofs.FirstThatFails.{IsPrefixClosed}
 use Rattle.gj_tools.proofs.Lists.{All-front, All-back}
+use Rattle.gj_shape.specs.Limits.{greatest_value}
 use Rattle.gj_shape.specs.Given.{in_order, IsSmall, IsCommonDenominator, IsLeastCommonDenominator, AreWithinBounds, IsFirstFractionAtFault}
 use Rattle.gj_shape.specs.Denominators.{Extends, ExtendsBy, AreWithinBoundsOver, IsRefused, IsFirstRefused, IsRefusal, IsRefusedBehind, IsFaultIn, fault_at}
 use Rattle.gj_shape.proofs.InOrder.{before, length-before, place_of_index, StandAt}
@@ -68,7 +69,7 @@ least_common_more xs x c m h lcm = record {
 
 -- ---- one more fraction within bounds
 
-pub least_with_next : (xs : List Frac) (x : Frac) (scale m : ℕ) → AreWithinBoundsOver xs scale → Extends scale x m →
+pub least_with_next : (xs : List Frac) (x : Frac) (scale m : ℕ) → AreWithinBoundsOver xs scale → Extends greatest_value scale x m →
     AreWithinBoundsOver (xs ++ x ∷ []) m
 least_with_next xs x scale m h next = record {
   small = All-push IsSmall xs x h.small next.small;
@@ -78,7 +79,7 @@ least_with_next xs x scale m h next = record {
 }
 
 -- three more fractions
-pub least_with_three : (scale a b c : ℕ) (l v r : Frac) → Extends scale l a → Extends a v b → Extends b r c →
+pub least_with_three : (scale a b c : ℕ) (l v r : Frac) → Extends greatest_value scale l a → Extends greatest_value a v b → Extends greatest_value b r c →
     ExtendsBy scale (l ∷ v ∷ r ∷ []) c
 least_with_three scale a b c l v r h k m xs least =
     let first = least_with_next xs l scale a least h in
@@ -87,7 +88,7 @@ least_with_three scale a b c l v r h k m xs least =
     (append_assoc (xs ++ l ∷ []) (v ∷ []) (r ∷ []) ∙ append_assoc xs (l ∷ []) (v ∷ r ∷ []))
     (least_with_next (xs ++ l ∷ [] ++ v ∷ []) r b c second m)
 
-pub extended_some : (scale : ℕ) (x : Frac) (m : ℕ) → Extends scale x m → 0 < scale → 0 < m
+pub extended_some : (scale : ℕ) (x : Frac) (m : ℕ) → Extends greatest_value scale x m → 0 < scale → 0 < m
 extended_some scale x m h some = lcm_positive scale (unsigned_abs (denominator x)) m h.least some (denominator_some x)
 
 -- ---- fractions within bounds
@@ -139,12 +140,12 @@ refused_left scale l v r e refused xs least =
     refused_at xs _ [] (v ∷ r ∷ []) l scale e refl
     (subst (λ ys. AreWithinBoundsOver ys scale) (sym (append-nil xs)) least) refused
 
-pub refused_value : (scale a : ℕ) (l v r : Frac) (e : FractionFault) → Extends scale l a → IsRefused a v e →
+pub refused_value : (scale a : ℕ) (l v r : Frac) (e : FractionFault) → Extends greatest_value scale l a → IsRefused a v e →
     IsRefusedBehind scale (l ∷ v ∷ r ∷ []) e
 refused_value scale a l v r e h refused xs least =
     refused_at xs _ (l ∷ []) (r ∷ []) v a e refl (least_with_next xs l scale a least h) refused
 
-pub refused_right : (scale a b : ℕ) (l v r : Frac) (e : FractionFault) → Extends scale l a → Extends a v b →
+pub refused_right : (scale a b : ℕ) (l v r : Frac) (e : FractionFault) → Extends greatest_value scale l a → Extends greatest_value a v b →
     IsRefused b r e → IsRefusedBehind scale (l ∷ v ∷ r ∷ []) e
 refused_right scale a b l v r e h k refused xs least =
     refused_at xs _ (l ∷ v ∷ []) [] r b e refl

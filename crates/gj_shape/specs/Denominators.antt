@@ -2,7 +2,7 @@
 use Rattle.std.specs.Prelude.{ℕ, ◌<◌, ◌≤◌, List, ◌++◌, All, unsigned_abs}
 use Rattle.std.specs.Int.{◌∣◌}
 use Rattle.gj_frac.specs.declared.Frac.{Frac}
-use Rattle.gj_frac.specs.Fraction.{denominator}
+use Rattle.gj_frac.specs.Fraction.{denominator, IsAtMost}
 use Rattle.gj_tools.specs.Divisors.{IsLcm}
 use Rattle.gj_tools.specs.FirstThatFails.{IsFirstFailing}
 use Rattle.gj_shape.specs.Limits.{denominator_bound}
@@ -23,9 +23,10 @@ pub record AreWithinBoundsOver (xs : List Frac) (m : ℕ) : Type 0 where
 abbrev pub HasNoCommonWith : ℕ → Frac → Type 0
 HasNoCommonWith scale x = (m : ℕ) → 1 ≤ m → m < denominator_bound → scale ∣ m → unsigned_abs (denominator x) ∣ m → ⊥
 
--- m is the least common denominator of fractions with the least common denominator `scale` and of x
-pub record Extends (scale : ℕ) (x : Frac) (m : ℕ) : Type 0 where
-  pub small : IsSmall x
+-- x is at most this number in absolute value, and m is the least common denominator of fractions with the least common
+-- denominator `scale` and of x
+pub record Extends (limit scale : ℕ) (x : Frac) (m : ℕ) : Type 0 where
+  pub small : IsAtMost limit x
   pub least : IsLcm scale (unsigned_abs (denominator x)) m
   pub high : m < denominator_bound
 

@@ -31,10 +31,14 @@ pub record IsLeastCommonDenominator (xs : List Frac) (c : ℕ) : Type 0 where
 abbrev pub HasCommonDenominator : List Frac → Type 0
 HasCommonDenominator xs = (d : ℕ) × (1 ≤ d) × (d < denominator_bound) × IsCommonDenominator xs d
 
--- all are small and have a common denominator from 1 to 2^31 - 1
-pub record AreWithinBounds (xs : List Frac) : Type 0 where
-  pub small : All IsSmall xs
+-- all are at most this number in absolute value and have a common denominator from 1 to 2^31 - 1
+pub record AreWithin (limit : ℕ) (xs : List Frac) : Type 0 where
+  pub small : All (IsAtMost limit) xs
   pub common : HasCommonDenominator xs
+
+-- all are small and have such a common denominator
+abbrev pub AreWithinBounds : List Frac → Type 0
+AreWithinBounds xs = AreWithin greatest_value xs
 
 -- x stands at the index and is the first fraction with which those up to it are not within bounds
 pub record IsFirstFractionAtFault (left value right : List Frac) (index : ℕ) (before : List Frac) (x : Frac) : Type 0 where

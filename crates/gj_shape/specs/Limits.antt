@@ -1,5 +1,5 @@
 -- The limits of functions and of the numbers in rows (own).
-use Rattle.std.specs.Prelude.{ℕ, ◌^◌}
+use Rattle.std.specs.Prelude.{ℕ, ◌*◌, ◌^◌}
 use Rattle.gj_frac.specs.declared.Frac.{Frac}
 use Rattle.gj_frac.specs.Fraction.{IsAtMost, HasDenominatorBelow}
 
@@ -19,7 +19,14 @@ greatest_number = 2 ^ 31
 abbrev pub denominator_bound : ℕ
 denominator_bound = 2 ^ 31
 
--- a number in a row is
+-- the greatest order of halves, and their greatest scale
+abbrev pub greatest_halves_order : ℕ
+greatest_halves_order = 4 * greatest_order
+
+abbrev pub greatest_halves_scale : ℕ
+greatest_halves_scale = 2 ^ 124
+
+-- at most the greatest number in a row, in absolute value
 abbrev pub IsSmallNumber : Frac → Type 0
 IsSmallNumber x = IsAtMost greatest_number x
 

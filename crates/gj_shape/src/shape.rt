@@ -7,6 +7,7 @@ ghost use Rattle.gj_shape.specs.Denominators.{AreWithinBoundsOver};
 
 use crate::denominators::common_denominator;
 use crate::faults::ShapeFault;
+use crate::limits::GREATEST_ORDER;
 use crate::numerators::numerators;
 use gj_frac::Frac;
 use std::alloc::{AllocError, Global};
@@ -261,7 +262,7 @@ impl Shape {
 fn is_order(q: u32) -> bool
     ensures { IsTrue result ↔ IsOrder q }
 {
-    (2..=1000).contains(&q)
+    (2..=GREATEST_ORDER).contains(&q)
 }
 
 /// Whether the place is from 1 to the order less 1.

@@ -1,6 +1,7 @@
 //! The value of a function at a fraction.
 ghost use Rattle.std.specs.Prelude.{◌≡◌, ◌<◌, ◌≤◌, ◌*◌, ◌^◌, ℕ, ◌≢◌, pos, ◌*ℤ◌, ◌+ℤ◌, length, unsigned_abs};
 ghost use Rattle.gj_frac.specs.Fraction.{IsRatio, numerator, denominator};
+ghost use Rattle.gj_shape.specs.Limits.{IsSmallNumber};
 ghost use Rattle.gj_shape.specs.Refinement.{entry_or_value};
 ghost use Rattle.gj_shape.specs.Table.{table};
 ghost use Rattle.gj_shape.specs.Values.{IsCongruent, IsValueAt};
@@ -28,7 +29,7 @@ impl Shape {
     /// denominator of at most 2^62.
     pub fn value_at(&self, x: Frac) -> Frac
         requires fine { unsigned_abs (denominator x) ≤ 2 ^ 62 }
-        requires size { unsigned_abs (numerator x) ≤ 2 ^ 31 * unsigned_abs (denominator x) }
+        requires size { IsSmallNumber x }
         ensures value { IsValueAt self.now (numerator x *ℤ pos self.now.order) (unsigned_abs (denominator x)) result }
         ensures not_negative { (n d : ℕ) → IsPoint x n d →
             IsRatio result (value_of self.now n d) (pos (self.now.scale * d)) }

@@ -1,20 +1,19 @@
 -- A valid table at the places of a row's entries: the cut from it.
-use Rattle.std.proofs.Common.{◌≡◌, ℕ, zero, suc, ◌+◌, ◌*◌, ◌%◌, ◌<◌, ◌≢◌, List, [], ◌∷◌, length, map, ℤ, pos, ◌+ℤ◌, ◌-ℤ◌, ◌*ℤ◌, ◌≤ℤ◌, unsigned_abs, refl, sym, ap, ap₂, ◌∙◌, arith}
+use Rattle.std.proofs.Common.{◌≡◌, ℕ, ◌+◌, ◌*◌, ◌%◌, ◌<◌, ◌≢◌, List, [], ◌∷◌, length, map, ℤ, pos, ◌+ℤ◌, ◌-ℤ◌, ◌*ℤ◌, ◌≤ℤ◌, unsigned_abs, refl, sym, ap, ap₂, ◌∙◌, arith}
 use Rattle.std.specs.List.{AllZip}
 use Rattle.std.specs.Int.{int_div_euclid}
 use Rattle.std.proofs.lemmas.Int.{ints}
 use Rattle.std.proofs.lemmas.List.Elements.{All-nil, All-cons, All-head, All-tail}
 use Rattle.std.proofs.lemmas.Nat.Gcd.{dvd_trans}
-use Rattle.std.proofs.Math.Nat.{dvd-mul_left, dvd-mul_right, mul-pos, zero-mul}
+use Rattle.std.proofs.Math.Nat.{dvd-mul_left, dvd-mul_right, mul-pos}
 use Rattle.gj_frac.specs.declared.Frac.{Frac}
 use Rattle.gj_frac.specs.Floor.{IsFloor, HasFractionalPart}
 use Rattle.gj_frac.specs.Fraction.{IsRatio, numerator, denominator}
 use Rattle.gj_frac.proofs.Floors.{quotient_is_floor}
-use Rattle.gj_tools.proofs.Divisors.{cofactor}
 use Rattle.gj_tools.proofs.Integers.{add_mul_z, sub_mul_z, mul_cancel_right_z, mul_le_cancel_right_z, mul_le_mul_right_z, positive_some_z}
 use Rattle.gj_tools.proofs.Ratios.{ratio_along}
 use Rattle.gj_tools.proofs.Ring.{by_ring, ring}
-use Rattle.gj_shape.specs.Given.{IsCommonDenominator, numerator_over, IsLeastCommonDenominator}
+use Rattle.gj_shape.specs.Given.{IsCommonDenominator, numerator_over}
 use Rattle.gj_shape.specs.RowCut.{CutHolds}
 use Rattle.gj_shape.specs.SlopeRows.{sum_of_products}
 use Rattle.gj_shape.specs.Table.{IsMinimalTable}

@@ -9,7 +9,7 @@ use Rattle.gj_tools.proofs.Integers.{mul_add_z, mul_assoc_z, mul_left_comm_z, mu
 use Rattle.gj_tools.proofs.Quotients.{same_remainder, same_at_remainder}
 use Rattle.gj_shape.specs.Table.{IsMinimalTable}
 use Rattle.gj_shape.specs.Valid.{weight, IsValidTable}
-use Rattle.gj_theory.proofs.ValidTables.{only_minimal}
+use Rattle.gj_theory.proofs.ValidTables.{dented, dented_tells, dented_here, dented_period, valid_by_places, opposite_of, opposite_is, only_minimal}
 use Rattle.gj_theory.proofs.Weights.{StandFor, sum_cons, same_sums, cancel_same, stand_for_all, weight_nonnegative, with_copies}
 
 -- ---- places below n
@@ -61,23 +61,6 @@ total_nonnegative t (suc n) h =
 
 -- ---- a table that is changed at one place
 
--- the table w with v at the places that are a modulo n
-abbrev dented : (ℕ → ℤ) → ℕ → ℕ → ℤ → ℕ → ℤ
-dented w n a v i = cond (eqb (i % n) (a % n)) v (w i)
-
-dented_tells : (w : ℕ → ℤ) (n a : ℕ) (v : ℤ) (i : ℕ) →
-    ((i % n ≡ a % n) × (dented w n a v i ≡ v)) ⊎ ((i % n ≢ a % n) × (dented w n a v i ≡ w i))
-dented_tells w n a v i =
-    ⊎_elim (λ at. inl (at.1, cond-true (eqb (i % n) (a % n)) v (w i) at.0))
-    (λ off. inr (off.1, cond-false (eqb (i % n) (a % n)) v (w i) off.0))
-    (eqb_tells (i % n) (a % n))
-
-dented_here : (w : ℕ → ℤ) (n a : ℕ) (v : ℤ) → dented w n a v a ≡ v
-dented_here w n a v = ⊎_elim (λ at. at.1) (λ off. absurd (off.0 refl)) (dented_tells w n a v a)
-
-dented_period : (w : ℕ → ℤ) (n a : ℕ) (v : ℤ) → ((i : ℕ) → w (i + n) ≡ w i) → (i : ℕ) → dented w n a v (i + n) ≡ dented w n a v i
-dented_period w n a v period i = ap₂ (λ r x. cond (eqb r (a % n)) v x) (add-mod_right i n) (period i)
-
 dented_le : (w : ℕ → ℤ) (n a : ℕ) (v : ℤ) → ((i : ℕ) → w (i + n) ≡ w i) → v ≤ℤ w a → (i : ℕ) → dented w n a v i ≤ℤ w i
 dented_le w n a v period least i =
     ⊎_elim
@@ -97,18 +80,6 @@ record Lighter (t : ℕ → ℤ) (n k s : ℕ) : Type 0 where
   valid : IsValidTable u n k s
   at_most : (i : ℕ) → u i ≤ℤ t i
   below : u place <ℤ t place
-
-valid_by_places : (t u : ℕ → ℤ) (n k s : ℕ) → IsValidTable t n k s → ((i : ℕ) → u (i + n) ≡ u i) →
-    ((i : ℕ) → StandFor t n i (u i)) → IsValidTable u n k s
-valid_by_places t u n k s valid period each = record {
-  has_period = period;
-  nonnegative = λ i.
-      let (places, place, is) = each i in
-      subst (λ (w : ℤ). pos 0 ≤ℤ w) is (weight_nonnegative t places valid.nonnegative);
-  at_solutions = λ xs solution.
-      let (places, place, is) = stand_for_all t u n xs each in
-      subst (λ (w : ℤ). pos s ≤ℤ w) is (valid.at_solutions places (place ∙ solution));
-}
 
 lighter : (t : ℕ → ℤ) (n k s a : ℕ) (places : List ℕ) → IsValidTable t n k s → sum places % n ≡ a % n → weight t places <ℤ t a →
     Lighter t n k s
@@ -196,17 +167,7 @@ subadditive_below (suc fuel) t n k s some valid fits =
     })
     (subadditive_or_lighter t n k s some valid)
 
--- ---- places opposite to others
-
--- a place opposite to i
-abbrev opposite_of : ℕ → ℕ → ℕ → ℕ
-opposite_of n k i = k + (i * n - i)
-
-opposite_is : (n k i : ℕ) → 0 < n → (i + opposite_of n k i) % n ≡ k % n
-opposite_is n k i some =
-    let many : i ≤ i * n = le-mul_of_pos_right i some in
-    let whole : i + opposite_of n k i ≡ k + i * n = omega arith in
-    ap (λ l. l % n) whole ∙ add-mul-mod_self_right k i n
+-- ---- uses of two places
 
 -- m uses of a and one of y
 copies_weigh : (t : ℕ → ℤ) (n k s a m y : ℕ) → IsValidTable t n k s → (a * m + y) % n ≡ k % n → pos s ≤ℤ (pos m *ℤ t a +ℤ t y)
