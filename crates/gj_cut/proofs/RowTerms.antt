@@ -32,7 +32,7 @@ in_range_all d (e ∷ entries) some fine small common =
     let divides = All-head (λ x. unsigned_abs (denominator x) ∣ d) e.value (map (λ e. e.value) entries) common in
     let bound : unsigned_abs (denominator e.value) ≤ d = le_of_dvd some divides in
     All-cons (λ e. IsRowNumber e.value) e entries
-    (record { small = All-head IsSmallNumber e.value (map (λ e. e.value) entries) small; fine = omega arith; })
+    (record { small = All-head IsSmallNumber e.value (map (λ e. e.value) entries) small; fine = omega arith })
     (in_range_all d entries some fine (All-tail IsSmallNumber e.value (map (λ e. e.value) entries) small)
     (All-tail (λ x. unsigned_abs (denominator x) ∣ d) e.value (map (λ e. e.value) entries) common))
 

@@ -6,15 +6,15 @@ use Rattle.std.proofs.lemmas.List.Elements.{All-nil, All-cons, All-head, All-pus
 use Rattle.std.proofs.lemmas.List.{append-nil, length-append}
 use Rattle.std.specs.Int.{◌∣◌}
 use Rattle.gj_frac.specs.declared.Frac.{Frac}
-use Rattle.gj_frac.specs.Fraction.{denominator}
+use Rattle.gj_frac.specs.Fraction.{denominator, IsAtMost}
 use Rattle.gj_tools.specs.Divisors.{IsLcm}
 use Rattle.gj_tools.proofs.Integers.{abs_positive_z}
 use Rattle.gj_tools.proofs.Divisors.{cofactor, lcm_positive}
 use Rattle.gj_tools.proofs.FirstThatFails.{IsPrefixClosed}
 use Rattle.gj_tools.proofs.Lists.{All-front, All-back}
 use Rattle.gj_shape.specs.Limits.{greatest_value}
-use Rattle.gj_shape.specs.Given.{in_order, IsSmall, IsCommonDenominator, IsLeastCommonDenominator, AreWithinBounds, IsFirstFractionAtFault}
-use Rattle.gj_shape.specs.Denominators.{Extends, ExtendsBy, AreWithinBoundsOver, IsRefused, IsFirstRefused, IsRefusal, IsRefusedBehind, IsFaultIn, fault_at}
+use Rattle.gj_shape.specs.Given.{in_order, IsSmall, IsCommonDenominator, IsLeastCommonDenominator, HasCommonDenominator, AreWithin, AreWithinBounds, IsFirstFractionAtFault}
+use Rattle.gj_shape.specs.Denominators.{Extends, ExtendsBy, AreWithinOver, AreWithinBoundsOver, HasNoCommonWith, IsRefused, IsFirstRefused, IsRefusal, IsRefusedBehind, IsFaultIn, fault_at}
 use Rattle.gj_shape.proofs.InOrder.{before, length-before, place_of_index, StandAt}
 use Rattle.gj_shape.specs.declared.faults.FractionFault.{FractionFault}
 use Rattle.gj_shape.specs.declared.faults.FractionFault.TheVariants.{Large, Fine}
@@ -24,12 +24,12 @@ pub denominator_some : (x : Frac) → 0 < unsigned_abs (denominator x)
 denominator_some x = abs_positive_z (denominator x) x.lowest.positive
 
 -- no fraction
-pub least_of_none : AreWithinBoundsOver [] 1
-least_of_none = record {
-  small = All-nil IsSmall;
+pub least_of_none : {limit : ℕ} → AreWithinOver limit [] 1
+least_of_none {limit = limit} = record {
+  small = All-nil (IsAtMost limit);
   low = omega arith;
   high = omega arith;
-  least = record { common = All-nil (λ x. unsigned_abs (denominator x) ∣ 1); least = λ c h. one-dvd c; };
+  least = record { common = All-nil (λ x. unsigned_abs (denominator x) ∣ 1); least = λ c h. one-dvd c };
 }
 
 -- the denominator divides
@@ -69,10 +69,10 @@ least_common_more xs x c m h lcm = record {
 
 -- ---- one more fraction within bounds
 
-pub least_with_next : (xs : List Frac) (x : Frac) (scale m : ℕ) → AreWithinBoundsOver xs scale → Extends greatest_value scale x m →
-    AreWithinBoundsOver (xs ++ x ∷ []) m
-least_with_next xs x scale m h next = record {
-  small = All-push IsSmall xs x h.small next.small;
+pub least_with_next : {limit : ℕ} (xs : List Frac) (x : Frac) (scale m : ℕ) → AreWithinOver limit xs scale →
+    Extends limit scale x m → AreWithinOver limit (xs ++ x ∷ []) m
+least_with_next {limit = limit} xs x scale m h next = record {
+  small = All-push (IsAtMost limit) xs x h.small next.small;
   low = lcm_positive scale (unsigned_abs (denominator x)) m next.least h.low (denominator_some x);
   high = next.high;
   least = least_common_more xs x scale m h.least next.least;
@@ -93,7 +93,7 @@ extended_some scale x m h some = lcm_positive scale (unsigned_abs (denominator x
 
 -- ---- fractions within bounds
 
-pub within_of_least : (xs : List Frac) (scale : ℕ) → AreWithinBoundsOver xs scale → AreWithinBounds xs
+pub within_of_least : {limit : ℕ} (xs : List Frac) (scale : ℕ) → AreWithinOver limit xs scale → AreWithin limit xs
 within_of_least xs scale least = record { small = least.small; common = (scale, least.low, least.high, least.least.common) }
 
 pub within_bounds_closed : IsPrefixClosed AreWithinBounds
@@ -106,14 +106,18 @@ within_bounds_closed xs ys h =
 
 -- ---- a fraction that is refused
 
+-- with it the fractions have no common denominator
+pub no_common_with : {limit : ℕ} (xs : List Frac) (x : Frac) (scale : ℕ) → AreWithinOver limit xs scale → HasNoCommonWith scale x →
+    HasCommonDenominator (xs ++ x ∷ []) → ⊥
+no_common_with xs x scale h none d =
+    none d.0 d.1 d.2 (h.least.least d.0 (All-front (Divides d.0) xs (x ∷ []) d.3))
+    (All-head (Divides d.0) x [] (All-back (Divides d.0) xs (x ∷ []) d.3))
+
 -- with it the fractions are not within bounds
 leaves_bounds : (xs : List Frac) (x : Frac) (scale : ℕ) (e : FractionFault) → AreWithinBoundsOver xs scale →
     IsRefused scale x e → AreWithinBounds (xs ++ x ∷ []) → ⊥
 leaves_bounds xs x scale Large least refused within = refused (All-head IsSmall x [] (All-back IsSmall xs (x ∷ []) within.small))
-leaves_bounds xs x scale Fine least refused within =
-    let d = within.common in
-    refused.1 d.0 d.1 d.2 (least.least.least d.0 (All-front (Divides d.0) xs (x ∷ []) d.3))
-    (All-head (Divides d.0) x [] (All-back (Divides d.0) xs (x ∷ []) d.3))
+leaves_bounds xs x scale Fine least refused within = no_common_with xs x scale least refused.1 within.common
 
 -- it is the first of some fractions, behind those that have passed
 refused_first : (xs ys passed after : List Frac) (x : Frac) (scale : ℕ) (e : FractionFault) → ys ≡ passed ++ x ∷ after →

@@ -5,19 +5,23 @@ use Rattle.gj_frac.specs.declared.Frac.{Frac}
 use Rattle.gj_frac.specs.Fraction.{denominator, IsAtMost}
 use Rattle.gj_tools.specs.Divisors.{IsLcm}
 use Rattle.gj_tools.specs.FirstThatFails.{IsFirstFailing}
-use Rattle.gj_shape.specs.Limits.{denominator_bound}
+use Rattle.gj_shape.specs.Limits.{greatest_value, denominator_bound}
 use Rattle.gj_shape.specs.Given.{IsSmall, IsLeastCommonDenominator, AreWithinBounds, IsTooLarge, IsTooFine}
 use Rattle.gj_shape.specs.declared.faults.ShapeFault.{ShapeFault}
 use Rattle.gj_shape.specs.declared.faults.ShapeFault.TheVariants as fault
 use Rattle.gj_shape.specs.declared.faults.FractionFault.{FractionFault}
 use Rattle.gj_shape.specs.declared.faults.FractionFault.TheVariants as refusal
 
--- all fractions are small, and m is their least common denominator, from 1 to 2^31 - 1
-pub record AreWithinBoundsOver (xs : List Frac) (m : ℕ) : Type 0 where
-  pub small : All IsSmall xs
+-- all fractions are at most this number in absolute value, and m is their least common denominator, from 1 to 2^31 - 1
+pub record AreWithinOver (limit : ℕ) (xs : List Frac) (m : ℕ) : Type 0 where
+  pub small : All (IsAtMost limit) xs
   pub low : 1 ≤ m
   pub high : m < denominator_bound
   pub least : IsLeastCommonDenominator xs m
+
+-- the same of the values and limits of a function
+abbrev pub AreWithinBoundsOver : List Frac → ℕ → Type 0
+AreWithinBoundsOver xs m = AreWithinOver greatest_value xs m
 
 -- fractions with the least common denominator `scale` have no common denominator from 1 to 2^31 - 1 with x
 abbrev pub HasNoCommonWith : ℕ → Frac → Type 0
