@@ -21,11 +21,12 @@ use Rattle.gj_shape.specs.RowCut.{IsLeastCommonDenominator}
 use Rattle.gj_shape.specs.SlopeRows.{sum_of_products}
 use Rattle.gj_shape.specs.Table.{table, IsMinimal}
 use Rattle.gj_shape.specs.Valid.{IsValidTable}
-use Rattle.gj_shape.proofs.LeastDenominator.{Divides}
+use Rattle.gj_shape.proofs.LeastDenominator.{Divides, least_common_some}
 use Rattle.gj_shape.proofs.OverScale.{denominator_is}
 use Rattle.gj_shape.proofs.TableLemmas.{table_of_order, table_parts, at_plus_order, left_is_value, right_is_value}
-use Rattle.gj_theory.specs.Cuts.{HasFractionalPart, IsEntryAt, IsValueOf, IsGmicValue}
-use Rattle.gj_theory.proofs.CutsByTables.{product_of, product_some, product_common, least_some, numerator_at, whole_and_part, sums}
+use Rattle.gj_frac.specs.Floor.{HasFractionalPart}
+use Rattle.gj_theory.specs.Cuts.{IsEntryAt, IsValueOf, IsGmicValue}
+use Rattle.gj_theory.proofs.CutsByTables.{product_of, product_some, product_common, numerator_at, whole_and_part, sums}
 use Rattle.gj_theory.proofs.GmicTable.{gmic_minimal, entry_rising, entry_falling}
 use Rattle.gj_theory.proofs.RowGrids.{part_on_grid, values_on_grid, table_of, place_over, gmics_on_grid}
 use Rattle.gj_theory.proofs.UsedPlaces.{over_more, weigh_one}
@@ -79,7 +80,7 @@ held_by_table t n k s e b r up down entries columns right coefficients weights b
     let whole = whole_over_more (pos c) (pos e) basic x y (numerator_over c right) (w *ℤ pos n +ℤ pos k) (pos n) solution.solves
     (numerator_at right c (w *ℤ pos n +ℤ pos k) (pos n) right_over right_is) in
     let reached = weigh_one t n k s (c * e) (g * e) (y +ℤ pos e *ℤ x) (u +ℤ pos e *ℤ v) basic w valid s_some
-    (mul-pos (least_some (right ∷ all) c solution.least) solution.over) whole used in
+    (mul-pos (least_common_some (right ∷ all) c solution.least) solution.over) whole used in
     subst₂ (λ a z. a ≤ℤ z) (ap pos (mul_comm g e)) (add_comm_z u (pos e *ℤ v)) reached
 
 -- ---- the grid

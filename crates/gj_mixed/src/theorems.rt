@@ -6,7 +6,8 @@ ghost use Rattle.gj_frac.specs.Fraction.{Fraction, numerator, denominator, IsIns
 ghost use Rattle.gj_shape.specs.FunctionData.{FunctionData, IsWithinBounds, IsContinuous};
 ghost use Rattle.gj_shape.specs.RowCut.{CutHolds};
 ghost use Rattle.gj_shape.specs.Table.{IsMinimal};
-ghost use Rattle.gj_theory.specs.Cuts.{HasFractionalPart, IsValueOf, IsGmicValue};
+ghost use Rattle.gj_theory.specs.Cuts.{IsValueOf, IsGmicValue};
+ghost use Rattle.gj_frac.specs.Floor.{HasFractionalPart};
 ghost use Rattle.gj_mixed.specs.MixedRows.{MixedCutHolds, IsNonnegative, AreAmountsOver};
 ghost use Rattle.gj_mixed.specs.Slopes.{IsWeight, AreSlopesAtZero, AreGmicSlopes};
 

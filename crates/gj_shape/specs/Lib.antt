@@ -1,3 +1,4 @@
+pub mod Limits
 pub mod FunctionData
 pub mod Given
 pub mod Denominators

@@ -1,26 +1,25 @@
 -- A valid table at the places of a row's entries: the cut from it.
-use Rattle.std.proofs.Common.{◌≡◌, ℕ, zero, suc, ◌*◌, ◌<◌, List, [], ◌∷◌, length, map, ℤ, pos, ◌+ℤ◌, ◌-ℤ◌, ◌*ℤ◌, unsigned_abs, refl, sym, ap, ◌∙◌, arith}
+use Rattle.std.proofs.Common.{◌≡◌, ℕ, ◌*◌, ◌<◌, List, [], ◌∷◌, length, map, ℤ, pos, ◌+ℤ◌, ◌-ℤ◌, ◌*ℤ◌, unsigned_abs, refl, sym, ap, ◌∙◌, arith}
 use Rattle.std.specs.List.{AllZip}
 use Rattle.std.specs.Int.{int_div_euclid}
 use Rattle.std.proofs.lemmas.List.Elements.{All-nil, All-cons, All-head, All-tail}
 use Rattle.std.proofs.lemmas.Nat.Gcd.{dvd_trans}
-use Rattle.std.proofs.Math.Nat.{dvd-mul_left, dvd-mul_right, mul-pos, zero-mul}
+use Rattle.std.proofs.Math.Nat.{dvd-mul_left, dvd-mul_right, mul-pos}
 use Rattle.gj_frac.specs.declared.Frac.{Frac}
-use Rattle.gj_frac.specs.Floor.{IsFloor}
+use Rattle.gj_frac.specs.Floor.{IsFloor, HasFractionalPart}
 use Rattle.gj_frac.specs.Fraction.{IsRatio, numerator, denominator}
 use Rattle.gj_frac.proofs.Floors.{quotient_is_floor}
-use Rattle.gj_tools.proofs.Divisors.{cofactor}
 use Rattle.gj_tools.proofs.Integers.{positive_some_z, swap_last_z}
 use Rattle.gj_tools.proofs.Ratios.{ratio_along}
 use Rattle.gj_tools.proofs.Ring.{by_ring, ring}
 use Rattle.gj_shape.specs.Given.{IsCommonDenominator, numerator_over}
-use Rattle.gj_shape.specs.RowCut.{IsLeastCommonDenominator, CutHolds}
+use Rattle.gj_shape.specs.RowCut.{CutHolds}
 use Rattle.gj_shape.specs.SlopeRows.{sum_of_products}
 use Rattle.gj_shape.specs.Table.{IsMinimalTable}
 use Rattle.gj_shape.specs.Valid.{IsValidTable}
-use Rattle.gj_shape.proofs.LeastDenominator.{Divides, denominator_some}
+use Rattle.gj_shape.proofs.LeastDenominator.{Divides, denominator_some, least_common_some}
 use Rattle.gj_shape.proofs.OverScale.{all_over}
-use Rattle.gj_theory.specs.Cuts.{HasFractionalPart, IsEntryAt}
+use Rattle.gj_theory.specs.Cuts.{IsEntryAt}
 use Rattle.gj_theory.proofs.ValidTables.{minimal_is_valid}
 use Rattle.gj_theory.proofs.UsedPlaces.{UsedPlaces, none_used, with_uses, weigh_one}
 
@@ -45,15 +44,6 @@ product_common (x ∷ xs) =
     let d = unsigned_abs (denominator x) in
     All-cons (Divides (d * product_of xs)) x xs (dvd-mul_right d (product_of xs))
     (λ k y l. dvd_trans _ (product_common xs k y l) (dvd-mul_left (product_of xs) d))
-
--- the least common denominator is not 0
-pub least_some : (xs : List Frac) (c : ℕ) → IsLeastCommonDenominator xs c → 0 < c
-least_some xs zero h =
-    let some = product_some xs in
-    let multiple = cofactor 0 (product_of xs) (h.least (product_of xs) (product_common xs)) in
-    let none : product_of xs ≡ 0 = multiple.1 ∙ zero-mul multiple.0 in
-    absurd (omega arith)
-least_some xs (suc c) h = omega arith
 
 -- ---- one entry over two denominators
 
@@ -112,7 +102,7 @@ cut_by_valid t n k s entries right coefficients valid n_some s_some part h basic
     let w = int_div_euclid right.num right.den in
     let right_is = whole_and_part right (pos k) (pos n) w (quotient_is_floor right) part in
     let whole = ap (λ z. z *ℤ pos n) solution.solves ∙ numerator_at right c (w *ℤ pos n +ℤ pos k) (pos n) right_over right_is in
-    weigh_one t n k s c g _ _ basic w valid s_some (least_some (right ∷ entries) c solution.least) whole
+    weigh_one t n k s c g _ _ basic w valid s_some (least_common_some (right ∷ entries) c solution.least) whole
     (sums t n s c g entries coefficients others solution.count h entries_over least.common)
 
 pub cut_by_table : (t : ℕ → ℤ) (n k s : ℕ) (entries : List Frac) (right : Frac) (coefficients : List Frac) →

@@ -19,7 +19,8 @@ use Rattle.gj_shape.proofs.LeastDenominator.{Divides, denominator_some}
 use Rattle.gj_shape.proofs.TableLemmas.{table_finer}
 use Rattle.gj_shape.proofs.OverScale.{denominator_is}
 use Rattle.gj_shape.proofs.ValueLemmas.{natural_index, moved_index_z}
-use Rattle.gj_theory.specs.Cuts.{HasFractionalPart, IsEntryAt, IsValueOf, IsGmicValue}
+use Rattle.gj_frac.specs.Floor.{HasFractionalPart}
+use Rattle.gj_theory.specs.Cuts.{IsEntryAt, IsValueOf, IsGmicValue}
 use Rattle.gj_theory.proofs.CutsByTables.{product_of, product_some, product_common, cut_by_table}
 use Rattle.gj_theory.proofs.GmicTable.{gmic_minimal}
 use Rattle.gj_theory.proofs.GmicValues.{closed_form}

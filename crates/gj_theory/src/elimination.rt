@@ -69,7 +69,7 @@ pub fn each_row_once_suffices()
         IsHandedOver before number rows (zip (range_with_len number (length rows)) rows) }
 {}
 
-/// The kernel of triangular rows of n columns: where they are fewer than n, numbers that solve all of them, one of them
+/// The kernel of triangular rows of n columns: if they are fewer than n, numbers that solve all of them, one of them
 /// positive.
 pub fn kernel_solves()
     ensures none { (n : ℕ) (kept : List KeptRow) → AreTriangular n kept →

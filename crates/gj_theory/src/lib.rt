@@ -1,7 +1,7 @@
 //! Theorems about functions and their tables, each the contract of a function with no code.
 //!
-//! `grid` says when the tables on all grids are minimal: where all tests of minimality pass, or, for a continuous
-//! function, where the table on its own grid is; and what is affine near ends and corners. `first_violation` says which
+//! `grid` says when the tables on all grids are minimal: if all tests of minimality pass, or, for a continuous
+//! function, if the table on its own grid is; and what is affine near ends and corners. `first_violation` says which
 //! test gives the first violation, and `shown` that a first violation is shown at its points and that a shown violation
 //! denies that the function, or the table on a grid that holds the points, is minimal. `constant_steps` says that a table
 //! that is additive where a function's table is has constant steps, and `extreme` that cover lines and rows show a function to be

@@ -10,7 +10,8 @@ ghost use Rattle.gj_shape.specs.Table.{table, IsMinimalTable, IsMinimal};
 ghost use Rattle.gj_shape.specs.Valid.{IsSolution, weight, IsValidTable, IsMinimalAmongValid, IsExtremeAmongValid, IsDominated};
 ghost use Rattle.gj_shape.specs.Violation.{ShowsViolation};
 ghost use Rattle.gj_shape.specs.declared.violations.Violation.{Violation};
-ghost use Rattle.gj_theory.specs.Cuts.{HasFractionalPart, IsEntryAt};
+ghost use Rattle.gj_frac.specs.Floor.{HasFractionalPart};
+ghost use Rattle.gj_theory.specs.Cuts.{IsEntryAt};
 ghost use Rattle.gj_theory.specs.GridPoints.{HoldsPoints};
 
 /// The minimal tables are the valid tables that are minimal among the valid ones: no other lies below.
@@ -25,8 +26,8 @@ pub fn extreme_tables_are_extreme_among_valid()
     ensures only { (t : ℕ → ℤ) (n k s : ℕ) → IsExtremeAmongValid t n k s → IsExtremeTable t n k s }
 {}
 
-/// A valid table that breaks a rule of minimal tables has another valid table below it: where it is not 0 at 0, where it is not
-/// subadditive, and where entries at places that add up to k do not add up to s. So each valid table is minimal or dominated.
+/// A valid table that breaks a rule of minimal tables has another valid table below it: if it is not 0 at 0, if it is not
+/// subadditive, and if entries at places that add up to k do not add up to s. So each valid table is minimal or dominated.
 pub fn broken_rules_are_dominated()
     ensures zero { (t : ℕ → ℤ) (n k s : ℕ) → IsValidTable t n k s → t 0 ≢ pos 0 → IsDominated t n k s }
     ensures subadditivity { (t : ℕ → ℤ) (n k s i j : ℕ) → IsValidTable t n k s → (t i +ℤ t j) <ℤ t (i + j) → IsDominated t n k s }
@@ -51,7 +52,7 @@ pub fn solutions_by_counts()
         pos s ≤ℤ total (map (λ i. t i *ℤ pos (y i)) (range_with_len 0 n)) }
 {}
 
-/// A function is minimal, or extreme, exactly where its table on each grid is so among the valid tables.
+/// A function is minimal, or extreme, exactly if its table on each grid is so among the valid tables.
 pub fn functions_among_valid()
     ensures minimal { (f : FunctionData) → IsWithinBounds f → IsMinimal f →
         (m : ℕ) → 0 < m → IsMinimalAmongValid (table f m) (f.order * m) (f.place * m) (f.scale * m) }
@@ -72,7 +73,7 @@ pub fn shown_violations_are_dominated()
     ensures some { (f : FunctionData) (v : Violation) → ShowsViolation f v → (m : ℕ) × (0 < m) × HoldsPoints f m v }
 {}
 
-/// A row gives a cut by each valid table: where its right side has the fractional part f and the coefficients are the table's
+/// A row gives a cut by each valid table: if its right side has the fractional part f and the coefficients are the table's
 /// entries at the places of the row's. A subadditive table that is 0 at 0 and at least 1 at f is valid.
 pub fn valid_tables_give_cuts()
     ensures cut { (t : ℕ → ℤ) (n k s : ℕ) (entries : List Frac) (right : Frac) (coefficients : List Frac) →
