@@ -1,16 +1,15 @@
 -- Each valid table has a minimal one below it: its entries are lowered, one place after the other.
-use Rattle.std.proofs.Common.{◌≡◌, ◌≢◌, ℕ, zero, suc, ◌+◌, ◌-◌, ◌*◌, ◌/◌, ◌%◌, ◌<◌, ◌≤◌, ◌⊎◌, inl, inr, ⊎_elim, eqb, cond, List, [], ◌∷◌, ℤ, pos, ◌+ℤ◌, ◌*ℤ◌, ◌≤ℤ◌, ◌<ℤ◌, unsigned_abs, refl, sym, subst, ap, ap₂, ◌∙◌, arith}
+use Rattle.std.proofs.Common.{◌≡◌, ℕ, zero, suc, ◌+◌, ◌*◌, ◌/◌, ◌%◌, ◌<◌, ◌≤◌, ◌⊎◌, inl, inr, ⊎_elim, List, [], ◌∷◌, ℤ, pos, ◌+ℤ◌, ◌*ℤ◌, ◌≤ℤ◌, ◌<ℤ◌, unsigned_abs, refl, sym, subst, ap, ◌∙◌, arith}
 use Rattle.std.specs.Prelude.{sum}
-use Rattle.std.proofs.Math.Nat.{add-mod_right, add-mul-mod_self_right, div-add-mod', le-mul_of_pos_right, mod-lt, mod-mod, mul-le-mul_right, mul-pos, one-mul}
-use Rattle.std.proofs.lemmas.Bool.{cases_lt, cond-true, cond-false}
-use Rattle.std.proofs.lemmas.Bool.Decides.{eqb_tells}
+use Rattle.std.proofs.Math.Nat.{div-add-mod', mod-lt, mod-mod, mul-le-mul_right, mul-pos, one-mul}
+use Rattle.std.proofs.lemmas.Bool.{cases_lt}
 use Rattle.std.proofs.lemmas.Int.{ints, by_lt_z}
 use Rattle.gj_tools.proofs.Integers.{mul_add_z, mul_assoc_z, mul_left_comm_z, mul_le_mul_left_z, mul_le_cancel_right_z, mul_lt_cancel_left_z, mul_nonnegative_z, pos_abs_z, same_or_apart_z}
 use Rattle.gj_tools.proofs.Quotients.{same_remainder, same_at_remainder}
 use Rattle.gj_shape.specs.Table.{IsMinimalTable}
 use Rattle.gj_shape.specs.Valid.{weight, IsValidTable}
 use Rattle.gj_theory.proofs.ValidTables.{dented, dented_tells, dented_here, dented_period, valid_by_places, opposite_of, opposite_is, only_minimal}
-use Rattle.gj_theory.proofs.Weights.{StandFor, sum_cons, same_sums, cancel_same, stand_for_all, weight_nonnegative, with_copies}
+use Rattle.gj_theory.proofs.Weights.{sum_cons, same_sums, cancel_same, with_copies}
 
 -- ---- places below n
 
