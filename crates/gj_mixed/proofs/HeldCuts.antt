@@ -17,7 +17,7 @@ use Rattle.gj_tools.proofs.Ring.{by_ring, ring}
 use Rattle.gj_shape.specs.FunctionData.{FunctionData, IsWithinBounds, IsContinuous, at}
 use Rattle.gj_shape.specs.Given.{IsCommonDenominator, numerator_over}
 use Rattle.gj_shape.specs.Gmic.{gmic_table, gmic_scale}
-use Rattle.gj_shape.specs.RowCut.{IsLeastCommonDenominator}
+use Rattle.gj_shape.specs.Given.{IsLeastCommonDenominator}
 use Rattle.gj_shape.specs.SlopeRows.{sum_of_products}
 use Rattle.gj_shape.specs.Table.{table, IsMinimal}
 use Rattle.gj_shape.specs.Valid.{IsValidTable}
