@@ -7,3 +7,4 @@ pub mod GreatestDivisors
 pub mod MadeFunctions
 pub mod MadeTimes
 pub mod MadeMirror
+pub mod MadeRestriction

@@ -88,9 +88,10 @@ taken_within f n k c l v r h order place are onto =
     }
 
 -- the function under other names for its parts
-pub function_as : {q q' k k' s s' : ℕ} (l v r : List ℤ) → q ≡ q' → k ≡ k' → s ≡ s' →
-    function_over q k s l v r ≡ function_over q' k' s' l v r
-function_as l v r order place scale = λ i. function_over (order i) (place i) (scale i) l v r
+pub function_as : {q q' k k' s s' : ℕ} {l l' v v' r r' : List ℤ} → q ≡ q' → k ≡ k' → s ≡ s' → l ≡ l' → v ≡ v' → r ≡ r' →
+    function_over q k s l v r ≡ function_over q' k' s' l' v' r'
+function_as order place scale left value right =
+    λ i. function_over (order i) (place i) (scale i) (left i) (value i) (right i)
 
 -- the entries under other names for the list and the count
 pub taken_as : (xs xs' : List ℤ) (n n' c : ℕ) (ys : List ℤ) → xs ≡ xs' → n ≡ n' → HasEntries (λ i. at xs (i * c)) n ys →

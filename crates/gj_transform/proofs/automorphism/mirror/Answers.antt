@@ -1,4 +1,4 @@
-use Rattle.std.proofs.Common.{◌≡◌, ◌+◌, ◌-◌, ◌*◌, ◌<◌, ◌≤◌, unsigned_abs, to_z, of_z, sym, ap, ap₂, subst, ◌∙◌, rules, arith}
+use Rattle.std.proofs.Common.{◌≡◌, ◌+◌, ◌-◌, ◌*◌, ◌<◌, ◌≤◌, unsigned_abs, to_z, of_z, refl, sym, ap, ap₂, subst, ◌∙◌, rules, arith}
 use Rattle.std.proofs.lemmas.Int.{to_z-of_z}
 use Rattle.gj_shape.specs.FunctionData.{IsWithinBounds}
 use Rattle.gj_transform.specs.Transforms.{IsMirrorOf}
@@ -24,7 +24,7 @@ from_numerators-requires c =
       value_is = taken_as _ _ _ _ backwards _ c.value_numerators.ensures.value order c.in_ok-value.ensures;
       right_is = taken_as _ _ _ _ backwards _ c.left_numerators.ensures.value order c.in_ok-right.ensures;
     } in
-    subst IsWithinBounds (sym (function_as _ _ _ order place scale)) (mirror_within f backwards _ _ _ limits one are)
+    subst IsWithinBounds (sym (function_as order place scale refl refl refl)) (mirror_within f backwards _ _ _ limits one are)
 
 pub returns-clause-mirror : goal.returns-clause-mirror
 returns-clause-mirror c =
@@ -42,7 +42,7 @@ returns-clause-mirror c =
       value_is = taken_as _ _ _ _ backwards _ c.value_numerators.ensures.value order c.in_ok-value.ensures;
       right_is = taken_as _ _ _ _ backwards _ c.left_numerators.ensures.value order c.in_ok-right.ensures;
     } in
-    subst (IsMirrorOf f) (sym (c.from_numerators.ensures ∙ function_as _ _ _ order place scale)) (mirror_made f backwards _ _ _ limits one are)
+    subst (IsMirrorOf f) (sym (c.from_numerators.ensures ∙ function_as order place scale refl refl refl)) (mirror_made f backwards _ _ _ limits one are)
 
 pub returns-clause-minimal : goal.returns-clause-minimal
 returns-clause-minimal c =

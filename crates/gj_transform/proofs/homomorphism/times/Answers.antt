@@ -1,4 +1,4 @@
-use Rattle.std.proofs.Common.{◌≡◌, ◌+◌, ◌*◌, ◌/◌, ◌<◌, ◌≤◌, unsigned_abs, to_z, of_z, sym, ap, ap₂, subst, ◌∙◌, rules, arith}
+use Rattle.std.proofs.Common.{◌≡◌, ◌+◌, ◌*◌, ◌/◌, ◌<◌, ◌≤◌, unsigned_abs, to_z, of_z, refl, sym, ap, ap₂, subst, ◌∙◌, rules, arith}
 use Rattle.std.proofs.lemmas.Int.{to_z-of_z}
 use Rattle.gj_shape.specs.FunctionData.{IsWithinBounds}
 use Rattle.gj_shape.proofs.Refinements.{order_fits}
@@ -25,7 +25,7 @@ from_numerators-requires c =
     } in
     let below : n ≤ 1000 / f.order = subst (λ q. n ≤ 1000 / q) c.order.ensures.value c.if-n-order.false in
     let fits = order_fits f.order f.place n (limits.order_low, limits.order_high) (limits.place_low, limits.place_high) c.requires.some below in
-    subst IsWithinBounds (sym (function_as _ _ _ count place scale))
+    subst IsWithinBounds (sym (function_as count place scale refl refl refl))
     (times_within f n c.args.j _ _ _ limits c.requires.below fits.0.1 are)
 
 pub returns-clause-times : goal.returns-clause-times
@@ -41,7 +41,7 @@ returns-clause-times c =
       value_is = taken_as _ _ _ _ 1 _ c.value_numerators.ensures.value count c.in_ok-value.ensures;
       right_is = taken_as _ _ _ _ 1 _ c.right_numerators.ensures.value count c.in_ok-right.ensures;
     } in
-    subst (IsTimesOf f n c.args.j) (sym (c.from_numerators.ensures ∙ function_as _ _ _ count place scale))
+    subst (IsTimesOf f n c.args.j) (sym (c.from_numerators.ensures ∙ function_as count place scale refl refl refl))
     (times_made f n c.args.j _ _ _ c.order.ensures.limits c.requires.some are)
 
 pub returns-clause-minimal : goal.returns-clause-minimal
