@@ -8,3 +8,4 @@ pub mod MadeFunctions
 pub mod MadeTimes
 pub mod MadeMirror
 pub mod MadeRestriction
+pub mod OneTransform
