@@ -2,7 +2,7 @@
 use Rattle.std.proofs.Common.{◌≡◌, ◌≢◌, ℕ, zero, suc, ◌+◌, ◌-◌, ◌*◌, ◌<◌, ◌≤◌, ℤ, pos, ◌+ℤ◌, ◌-ℤ◌, ◌*ℤ◌, unsigned_abs, [], ◌∷◌, refl, sym, ap, ap₂, subst, ◌∙◌, mul-pos, arith}
 use Rattle.std.proofs.Math.Nat.{eq_of_mul-eq-mul_right, mul_comm}
 use Rattle.std.proofs.lemmas.Int.{ints}
-use Rattle.gj_tools.proofs.Integers.{mul_cancel_right_z}
+use Rattle.gj_tools.proofs.Integers.{mul_assoc_z, mul_cancel_right_z, sub_mul_z}
 use Rattle.gj_tools.proofs.Ratios.{ratio_along}
 use Rattle.gj_tools.proofs.Ring.{by_ring, ring}
 use Rattle.gj_shape.specs.FunctionData.{FunctionData, IsWithinBounds, at}
@@ -38,7 +38,7 @@ same_limit x y a b c d s t x_is y_is first second =
     thrice x t = by_ring (x ∷ pos t ∷ []) (search ring depth 20) refl
 
     split : (a b : ℤ) (n : ℕ) → (pos 2 *ℤ a -ℤ b) *ℤ pos n ≡ pos 2 *ℤ (a *ℤ pos n) -ℤ b *ℤ pos n
-    split a b n = omega (arith, ints)
+    split a b n = sub_mul_z (pos 2 *ℤ a) b (pos n) ∙ ap (λ z. z -ℤ b *ℤ pos n) (mul_assoc_z (pos 2) a (pos n))
 
 third_after : (f : FunctionData) (a : ℕ) → table f 3 (a * 3 + 1) ≡ pos 2 *ℤ at f.right a +ℤ pos 1 *ℤ at f.left (a + 1)
 third_after f a = table_between f 3 a 1 (omega arith) (omega arith)
