@@ -47,12 +47,7 @@ fn step_of(shape: &Shape, order: u32) -> Option<u32>
 }
 
 /// The restriction to each `step`-th multiple of 1/q, where q is the function's order.
-fn restricted(
-    alloc: Global,
-    shape: &Shape,
-    order: u32,
-    step: u32,
-) -> Result<Shape, AllocError>
+fn restricted(alloc: Global, shape: &Shape, order: u32, step: u32) -> Result<Shape, AllocError>
     requires { IsStep shape.now order step }
     ensures restriction { IfOk result (IsRestrictionOf shape.now order) }
     ensures within { IfOk result IsWithinBounds }
@@ -65,12 +60,5 @@ fn restricted(
     let left = quotients(alloc, taken.as_slice(), divisor)?;
     let value = Vec::from_slice(alloc, left.as_slice())?;
     let right = Vec::from_slice(alloc, left.as_slice())?;
-    Ok(Shape::from_numerators(
-        order,
-        place,
-        scale / divisor,
-        left,
-        value,
-        right,
-    ))
+    Ok(Shape::from_numerators(order, place, scale / divisor, left, value, right))
 }
