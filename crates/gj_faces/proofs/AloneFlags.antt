@@ -1,8 +1,6 @@
 -- Which faces of a square are maximal, from the tight pairs around it.
-use Rattle.std.proofs.Common.{◌≡◌, ◌≢◌, ◌↔◌, ◌⊎◌, inl, inr, ℕ, ◌+◌, ◌-◌, ◌%◌, ◌<◌, List, Bool, true, false, ◌&&◌, ◌||◌, not, IsTrue, length, get_or, set, refl, sym, ap, ◌∙◌, below_more, lit<, get_or-set_other, get_or-set_same, arith}
-use Rattle.std.proofs.Math.ListN.{length-set}
-use Rattle.std.proofs.Math.Nat.{add-mod_right, mod-mod}
-use Rattle.std.proofs.lemmas.Bool.{cases_eq, and_parts, and_from, not-true, not_from_false, or_parts, or_from, or_left, or_right, and_left, false_from_ne_true, true≢false}
+use Rattle.std.proofs.Common.{◌≡◌, ◌↔◌, ◌⊎◌, inl, inr, ℕ, ◌+◌, ◌-◌, ◌<◌, ◌≤◌, Bool, true, false, ◌&&◌, ◌||◌, not, sym, ◌∙◌, lit<, arith}
+use Rattle.std.proofs.lemmas.Bool.{and_parts, and_from, not-true, not_from_false, or_parts, or_from, or_left, or_right, and_left, false_from_ne_true, true≢false}
 use Rattle.gj_sets.specs.IndexSets.{has}
 use Rattle.gj_shape.specs.Additive.{IsTight, IsMaximalFace}
 use Rattle.gj_shape.specs.FunctionData.{FunctionData, IsWithinBounds}
@@ -10,8 +8,7 @@ use Rattle.gj_shape.specs.declared.faces.FaceKind.{FaceKind}
 use Rattle.gj_shape.specs.declared.faces.FaceKind.TheVariants.{Vertex, Horizontal, Vertical, Diagonal, Lower, Upper}
 use Rattle.gj_faces.specs.declared.alone.Alone.{Alone}
 use Rattle.gj_faces.specs.Alone.{AreAlone, set_of}
-use Rattle.gj_faces.specs.Listed.{IsMaximalIn}
-use Rattle.gj_faces.proofs.Maximality.{IsExtended, one_back, vertex, horizontal, vertical, diagonal, lower, upper, corner, maximal_unless_extended, maximal_is_not_extended}
+use Rattle.gj_faces.proofs.Maximality.{IsExtended, vertex, horizontal, vertical, diagonal, lower, upper, corner, maximal_unless_extended, maximal_is_not_extended}
 use Rattle.gj_faces.proofs.Periods.{tight_is_periodic}
 use Rattle.gj_faces.proofs.RunSteps.{IsPeriodic}
 

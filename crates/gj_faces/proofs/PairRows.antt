@@ -1,7 +1,7 @@
 -- Rows of tight pairs.
-use Rattle.std.proofs.Common.{◌≡◌, ◌↔◌, ◌⊎◌, inl, inr, ℕ, ◌+◌, ◌-◌, ◌%◌, ◌<◌, ◌≤◌, List, [], ◌∷◌, ◌++◌, Bool, true, false, IsTrue, length, get_or, refl, sym, ap, subst, ◌∙◌, arith}
-use Rattle.std.proofs.Math.Nat.{mod-eq_of_lt, mod-mod, mod-lt, mod-self}
-use Rattle.std.proofs.lemmas.Bool.{cases_eq, cases_lt, false_from_ne_true, true≢false, eq-eqb, ne_eqb}
+use Rattle.std.proofs.Common.{◌≡◌, ◌↔◌, inl, inr, ℕ, ◌+◌, ◌-◌, ◌%◌, ◌<◌, List, [], ◌∷◌, ◌++◌, Bool, true, IsTrue, length, get_or, refl, sym, ap, subst, ◌∙◌, arith}
+use Rattle.std.proofs.Math.Nat.{mod-eq_of_lt, mod-mod, mod-lt, add-mod_right}
+use Rattle.std.proofs.lemmas.Bool.{cases_eq, cases_lt, false_from_ne_true, eq-eqb, ne_eqb}
 use Rattle.std.proofs.lemmas.List.{get_or_append_left, get_or_push, length_push, get_or_past}
 use Rattle.std.specs.Prelude.{◌==◌, if◌then◌else◌}
 use Rattle.gj_sets.specs.IndexSets.{has, no_set}
@@ -106,8 +106,9 @@ next_in_row f i b row x limits below tells e =
       | inl last ↦
           let test = ap (λ t. has row (if t then 0 else b + 1)) (eq-eqb (b + 1) f.order last) in
           let some = limits.order_low in
+          let last' : 0 + f.order ≡ b + 1 = omega arith in
           let both = tells 0 (omega arith) in
-          let same : 0 % f.order ≡ (b + 1) % f.order = ? in (
+          let same : 0 % f.order ≡ (b + 1) % f.order = sym (add-mod_right 0 f.order) ∙ ap (λ k. k % f.order) last' in (
             λ yes. tight_is_periodic f limits i 0 i (b + 1) refl same (both.0 (sym (e ∙ test) ∙ yes)),
             λ tight. e ∙ test ∙ both.1 (tight_is_periodic f limits i (b + 1) i 0 refl (sym same) tight),
           )
@@ -132,7 +133,8 @@ previous_in_row f i b row x limits below tells e =
       | inr later ↦
           let test = ap (λ t. has row (if t then f.order - 1 else b - 1)) (ne_eqb b 0 later) in
           let both = tells (b - 1) (omega arith) in
-          let same : (b - 1) % f.order ≡ (b + (f.order - 1)) % f.order = ? in (
+          let around : b - 1 + f.order ≡ b + (f.order - 1) = omega arith in
+          let same : (b - 1) % f.order ≡ (b + (f.order - 1)) % f.order = sym (add-mod_right (b - 1) f.order) ∙ ap (λ k. k % f.order) around in (
             λ yes. tight_is_periodic f limits i (b - 1) i (b + (f.order - 1)) refl same (both.0 (sym (e ∙ test) ∙ yes)),
             λ tight. e ∙ test ∙ both.1 (tight_is_periodic f limits i (b + (f.order - 1)) i (b - 1) refl (sym same) tight),
           )

@@ -212,17 +212,16 @@ next_run q Tight a c from to row starts ends runs h below few tells are_starts a
     let off = not-true (row (to + 1)) last.1 in
     let e : to + 1 - 1 ≡ to = omega arith in
     let all : (j : ℕ) → from ≤ j → j < to + 1 → Tight a j = λ j low high.
-        let same : from + (j - from) ≡ j = omega arith in
-        ((tells j).0 (ap row (sym same) ∙ goes_on row ends from (j - from) are_ends start.0 (λ k from_low k_high. not_yet k from_low (omega arith)))).1 in
+    let same : from + (j - from) ≡ j = omega arith in
+    ((tells j).0 (ap row (sym same) ∙ goes_on row ends from (j - from) are_ends start.0 (λ k from_low k_high. not_yet k from_low (omega arith)))).1 in
     let before = skipped q Tight a c from runs h order (λ j low high tight.
-        clash (row j) ((tells j).1 (omega arith, tight)) (stays_out row starts c j are_starts edge low (omega arith)
-        (λ k k_low k_high. none k k_low (omega arith)))) in
-    (
+    clash (row j) ((tells j).1 (omega arith, tight)) (stays_out row starts c j are_starts edge low (omega arith)
+    (λ k k_low k_high. none k k_low (omega arith)))) in (
       subst (λ k. AreRunsBefore q Tight a (to + 1) (runs ++ record { a = a; from = from; to = k } ∷ [])) e
           (pushed q Tight a from (to + 1) runs before below (omega arith) (omega arith) all
           (λ positive tight.
-              let le : nat_le 1 from ≡ true = le-leb 1 from positive in
-              clash (row (from - 1)) ((tells (from - 1)).1 (omega arith, tight)) (sym (ap (λ b. b && row (from - 1)) le) ∙ free))
+          let le : nat_le 1 from ≡ true = le-leb 1 from positive in
+          clash (row (from - 1)) ((tells (from - 1)).1 (omega arith, tight)) (sym (ap (λ b. b && row (from - 1)) le) ∙ free))
           (λ beyond tight. clash (row (to + 1)) ((tells (to + 1)).1 (beyond, tight)) off)),
       off,
       inside,
@@ -246,7 +245,7 @@ pub row_done : (q : ℕ) (Tight : ℕ → ℕ → Type 0) (a c : ℕ) (row start
     ((j : ℕ) → c ≤ j → starts j ≡ false) → AreRunsBefore q Tight (a + 1) 0 runs
 row_done q Tight a c row starts runs h few tells are edge within none =
     all_of_row q Tight a runs (skipped q Tight a c q runs h within (λ j low high tight.
-        clash (row j) ((tells j).1 (high, tight)) (stays_out row starts c j are edge low (omega arith) (λ k k_low k_high. none k k_low))))
+    clash (row j) ((tells j).1 (high, tight)) (stays_out row starts c j are edge low (omega arith) (λ k k_low k_high. none k k_low))))
   where
     clash : (t : Bool) → t ≡ true → t ≡ false → ⊥
     clash t h k = cc
