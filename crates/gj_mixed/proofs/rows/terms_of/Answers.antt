@@ -17,7 +17,7 @@ loop-entry-preserved g c =
     let below = c.loop-entry-test.true in
     let kept = c.loop-entry.invariant in
     elim c.if-continuous-entry.branch [
-      then-continuous-entry+in_ok-push w ↦ record {
+      | then-continuous-entry+in_ok-push w ↦ record {
         terms = zip_dropped terms (λ e. not (here e)) entries i x c.loop-entry.terms.items c.if-continuous-entry.terms.items below
             c.entry-item.is (ap not w.if-continuous-entry.true) (ap (λ v. v.items) w.terms-is) kept.terms;
         weights = zip_kept weights here entries i x c.loop-entry.weights.items w.push.new.self.items c.if-continuous-entry.weights.items
