@@ -7,8 +7,8 @@ use Rattle.gj_shape.proofs.TableLemmas.{table_of_order}
 use Rattle.gj_shape.proofs.ValueLemmas.{natural_index, congruent_rests}
 
 -- an entry of a minimal table is at most its scale: the entry at the opposite place is not negative
-pub entry_at_most : (t : ℕ → ℤ) (n k s i : ℕ) → 0 < n → IsMinimalTable t n k s → t i ≤ℤ pos s
-entry_at_most t n k s i some h =
+pub at_most_scale : (t : ℕ → ℤ) (n k s i : ℕ) → 0 < n → IsMinimalTable t n k s → t i ≤ℤ pos s
+at_most_scale t n k s i some h =
     let (j, (m, e)) = natural_index (pos k -ℤ pos i) n some in
     let sum = h.symmetric i j (congruent_rests (i + j) k n (m, omega (arith, ints))) in
     let low = h.nonnegative j in
@@ -21,7 +21,7 @@ value_within f i bounds minimal =
     let value_is : table f 1 i ≡ at f.value i = table_of_order f i in
     let low = table_is.nonnegative i in
     let some : 0 < f.order * 1 = omega (arith, bounds.order_low) in
-    let high = entry_at_most (table f 1) (f.order * 1) (f.place * 1) (f.scale * 1) i some table_is in
+    let high = at_most_scale (table f 1) (f.order * 1) (f.place * 1) (f.scale * 1) i some table_is in
     (subst (λ (z : ℤ). pos 0 ≤ℤ z) value_is low, omega (arith, ints))
 
 pub value_at_zero : (f : FunctionData) → IsMinimal f → at f.value 0 ≡ pos 0

@@ -1,6 +1,6 @@
 -- The least positive slack of a minimal table, and the greatest size of what has a period.
-use Rattle.std.proofs.Common.{◌≡◌, ℕ, zero, suc, ◌⊎◌, inl, inr, ◌+◌, ◌-◌, ◌*◌, ◌/◌, ◌%◌, ◌<◌, ◌≤◌, ℤ, pos, ◌+ℤ◌, ◌-ℤ◌, ◌<ℤ◌, ◌≤ℤ◌, unsigned_abs, refl, sym, ap, subst, ◌∙◌, mul-pos, mul-le-mul_right, arith}
-use Rattle.std.proofs.Math.Nat.{mod-lt, mod-mod, add-mul-mod_self_right, mod-add-mod, add-mod-mod}
+use Rattle.std.proofs.Common.{◌≡◌, ℕ, zero, suc, ◌⊎◌, inl, inr, ◌+◌, ◌*◌, ◌/◌, ◌%◌, ◌<◌, ◌≤◌, ℤ, pos, ◌+ℤ◌, ◌-ℤ◌, ◌<ℤ◌, ◌≤ℤ◌, unsigned_abs, refl, sym, ap, subst, ◌∙◌, mul-pos, mul-le-mul_right, arith}
+use Rattle.std.proofs.Math.Nat.{mod-lt, mod-mod, mod-add-mod, add-mod-mod}
 use Rattle.std.proofs.lemmas.Bool.{cases_lt}
 use Rattle.std.proofs.lemmas.Int.{ints, by_lt_z}
 use Rattle.gj_tools.proofs.Integers.{pos_abs_z}
@@ -8,6 +8,7 @@ use Rattle.gj_tools.proofs.Quotients.{same_at_remainder, parts_of_place}
 use Rattle.gj_shape.specs.FunctionData.{FunctionData, IsWithinBounds}
 use Rattle.gj_shape.specs.Perturbation.{IsLeastSlack, IsGreatestSize}
 use Rattle.gj_shape.specs.Table.{table, IsMinimalTable, IsMinimal}
+use Rattle.gj_theory.proofs.MinimalEntries.{at_most_scale}
 
 -- what holds below n and at n holds below n + 1
 and_last : (P : ℤ → Type 0) (g : ℕ → ℤ) (n : ℕ) → ((j : ℕ) → j < n → P (g j)) → P (g n) → (j : ℕ) → j < suc n → P (g j)
@@ -130,21 +131,12 @@ slack_of_remainders t n period i j =
     same_at_remainder t n period (i % n + j % n) (i + j) (mod-add-mod i n (j % n) ∙ add-mod-mod i j n) in
     rw (first, second, both) refl
 
--- entries are at most that at f
-at_most_scale : (t : ℕ → ℤ) (n k s : ℕ) → 0 < n → IsMinimalTable t n k s → t (k + k) ≤ℤ pos s
-at_most_scale t n k s some h =
-    let j = (n - 1) * k in
-    let whole : k + k + j ≡ k + k * n = omega (arith, ap (λ x. x * k) (let e : n - 1 + 1 ≡ n = omega arith in e)) in
-    let sum = h.symmetric (k + k) j (ap (λ x. x % n) whole ∙ add-mul-mod_self_right k k n) in
-    let sign = h.nonnegative j in
-    omega (arith, ints)
-
 -- the slack at (f, f) is positive
 positive_at_place : (t : ℕ → ℤ) (n k s : ℕ) → 0 < n → 0 < s → IsMinimalTable t n k s → pos 0 <ℤ slack_of t k k
 positive_at_place t n k s some s_some h =
     let zero_at_zero = h.zero_at_zero in
     let place : t 0 +ℤ t k ≡ pos s = h.symmetric 0 k (ap (λ x. x % n) (omega arith)) in
-    let high = at_most_scale t n k s some h in
+    let high = at_most_scale t n k s (k + k) some h in
     omega (arith, ints)
 
 -- a pair of remainders as one number

@@ -18,7 +18,7 @@ use Rattle.gj_shape.proofs.Averages.{scales_below}
 use Rattle.gj_shape.proofs.LeastDenominator.{denominator_some}
 use Rattle.gj_shape.proofs.ValueLemmas.{natural_index}
 use Rattle.gj_theory.specs.Cuts.{IsValueOf, IsGmicValue}
-use Rattle.gj_theory.proofs.MinimalEntries.{entry_at_most}
+use Rattle.gj_theory.proofs.MinimalEntries.{at_most_scale}
 use Rattle.gj_valid.specs.Coefficients.{IsSmallCoefficient}
 
 -- ---- fractions over a small bottom
@@ -65,7 +65,7 @@ value_small f x y l h fine value =
     let (i, place) = natural_index (numerator x *ℤ pos f.order) (f.order * d) grid in
     let minimal = h d some in
     small_over y (table f d i) (pos (f.scale * d)) (minimal.nonnegative i)
-    (entry_at_most (table f d) (f.order * d) (f.place * d) (f.scale * d) i grid minimal) (omega (arith, ints))
+    (at_most_scale (table f d) (f.order * d) (f.place * d) (f.scale * d) i grid minimal) (omega (arith, ints))
     (scales_below f.scale d l.scale_high fine) (value i place)
 
 -- ---- values of mixed-integer cuts
