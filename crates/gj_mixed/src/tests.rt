@@ -4,7 +4,7 @@ ghost use Rattle.gj_frac.specs.Fraction.{IsRatio};
 ghost use Rattle.gj_shape.specs.FunctionData.{IsContinuous, at};
 ghost use Rattle.gj_theory.specs.Cuts.{IsValueOf};
 ghost use Rattle.gj_row.specs.TableauLimits.{IsTableau, IsWithinLimits};
-ghost use Rattle.gj_rule.specs.Kind.{IsInRange};
+ghost use Rattle.gj_shape.specs.Limits.{IsRowNumber};
 ghost use Rattle.gj_mixed.specs.Slopes.{AreSlopesAtZero, IsSlope};
 
 use crate::rows::cut_mixed_by;
@@ -114,7 +114,7 @@ fn cut_of_first(alloc: Global, text: &[u8], continuous: &[bool]) -> Result<Mixed
     let slopes = slopes_of(&copy)?;
     let function = &copy;
     let eval = |x: Frac|
-        requires { IsInRange x }
+        requires { IsRowNumber x }
         ensures { IsValueOf function.entry.now x result }
     { table_value(function, x) };
     let weigh = |c| slopes.weight(c);
