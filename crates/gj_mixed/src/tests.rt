@@ -3,7 +3,7 @@ ghost use Rattle.std.specs.Prelude.{pos, ◌↔◌, ◌<◌, ◌-ℤ◌, ◌*ℤ
 ghost use Rattle.gj_frac.specs.Fraction.{IsRatio};
 ghost use Rattle.gj_shape.specs.FunctionData.{IsContinuous, at};
 ghost use Rattle.gj_theory.specs.Cuts.{IsValueOf};
-ghost use Rattle.gj_row.specs.TableauLimits.{IsTableau, IsWithinLimits};
+ghost use Rattle.gj_row.specs.TableauLimits.{IsTableau, IsRowWithinLimits};
 ghost use Rattle.gj_shape.specs.Limits.{IsRowNumber};
 ghost use Rattle.gj_mixed.specs.Slopes.{AreSlopesAtZero, IsSlope};
 
@@ -25,7 +25,7 @@ fn fraction(n: i128, d: i128) -> Result<Frac, &'static str> {
 /// The first row of a tableau of which `continuous` says for each column whether it is continuous.
 fn first_row<'a>(tableau: &'a Tableau, continuous: &[bool]) -> Result<&'a Row, &'static str>
     requires { IsTableau tableau.now }
-    ensures { IfOk result (λ row. IsWithinLimits (length continuous.now) row.now) }
+    ensures { IfOk result (λ row. IsRowWithinLimits (length continuous.now) row.now) }
 {
     if tableau.columns.as_slice().len() != continuous.len() {
         return Err("another number of columns");
