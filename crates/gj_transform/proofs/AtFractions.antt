@@ -1,20 +1,18 @@
 -- The values of the functions of n x and of -x, and of restrictions, at fractions.
-use Rattle.std.proofs.Common.{◌≡◌, ℕ, ◌+◌, ◌-◌, ◌*◌, ◌/◌, ◌%◌, ◌<◌, ℤ, pos, ◌+ℤ◌, ◌*ℤ◌, unsigned_abs, [], ◌∷◌, refl, sym, ap, ap₂, subst, ◌∙◌, mul-pos, arith}
+use Rattle.std.proofs.Common.{◌≡◌, ℕ, ◌+◌, ◌*◌, ◌%◌, ◌<◌, ℤ, pos, ◌+ℤ◌, ◌*ℤ◌, [], ◌∷◌, refl, sym, ap, subst, ◌∙◌, mul-pos, arith}
 use Rattle.std.proofs.lemmas.Int.{ints}
 use Rattle.std.specs.Prelude.{neg_ℤ}
 use Rattle.gj_frac.specs.declared.Frac.{Frac}
 use Rattle.gj_frac.specs.Fraction.{IsRatio, numerator, denominator}
 use Rattle.gj_tools.proofs.Integers.{mul_cancel_right_z, swap_last_z, add_mul_z}
-use Rattle.gj_tools.proofs.Quotients.{same_at_remainder}
 use Rattle.gj_tools.proofs.Ring.{by_ring, ring}
 use Rattle.gj_shape.specs.FunctionData.{FunctionData, IsWithinBounds, at}
 use Rattle.gj_shape.specs.Table.{table}
 use Rattle.gj_shape.specs.Values.{IsCongruent, IsValueAt}
-use Rattle.gj_shape.proofs.TableLemmas.{table_period, table_at, table_of_order}
+use Rattle.gj_shape.proofs.TableLemmas.{table_at, table_of_order}
 use Rattle.gj_shape.proofs.ValueLemmas.{natural_index, congruent_rests, value_from_place}
 use Rattle.gj_transform.specs.Transforms.{IsTimesOf, IsMirrorOf, IsRestrictionOf}
 use Rattle.gj_transform.proofs.TimesTables.{times_entries}
-use Rattle.gj_transform.proofs.MirrorTables.{mirror_back}
 
 -- a fraction over one scale is one over another
 over_scale : (x : Frac) (t u : ℤ) (s r : ℕ) → 0 < s → u *ℤ pos s ≡ t *ℤ pos r → IsRatio x t (pos s) → IsRatio x u (pos r)
@@ -33,10 +31,6 @@ congruent_back i j n (k, e) =
     turned_z : (i j k n : ℤ) → i ≡ j +ℤ k *ℤ n → j ≡ i +ℤ neg_ℤ k *ℤ n
     turned_z i j k n e =
         by_ring (j ∷ k ∷ n ∷ []) (search ring depth 20) refl ∙ ap (λ z. z +ℤ neg_ℤ k *ℤ n) (sym e)
-
-congruent_next : (i j k : ℤ) (n : ℕ) → IsCongruent i j n → IsCongruent j k n → IsCongruent i k n
-congruent_next i j k n (a, e) (b, g) =
-    (b +ℤ a, e ∙ ap (λ z. z +ℤ a *ℤ pos n) g ∙ by_ring (k ∷ a ∷ b ∷ pos n ∷ []) (search ring depth 20) refl)
 
 -- modulo a multiple of n, and so modulo n
 congruent_coarser : (i j : ℤ) (n m : ℕ) → IsCongruent i j (n * m) → IsCongruent i j n

@@ -1,10 +1,10 @@
 -- The tables of a function and of that of -x: both functions are minimal or neither is, and both are extreme or neither is.
-use Rattle.std.proofs.Common.{◌≡◌, ℕ, ◌+◌, ◌-◌, ◌*◌, ◌%◌, ◌<◌, ◌≤◌, ℤ, pos, ◌*ℤ◌, sym, ap, subst, ◌∙◌, mul-pos, arith}
+use Rattle.std.proofs.Common.{◌≡◌, ℕ, ◌+◌, ◌-◌, ◌*◌, ◌%◌, ◌<◌, ◌≤◌, pos, ◌*ℤ◌, sym, ap, subst, ◌∙◌, mul-pos, arith}
 use Rattle.std.proofs.Math.Nat.{mul-mod_left, mul-le-mul_right, add_comm}
 use Rattle.gj_tools.proofs.Quotients.{same_remainder}
-use Rattle.gj_shape.specs.Extreme.{IsExtremeTable, IsExtreme}
+use Rattle.gj_shape.specs.Extreme.{IsExtreme}
 use Rattle.gj_shape.specs.FunctionData.{FunctionData, IsWithinBounds}
-use Rattle.gj_shape.specs.Table.{table, IsMinimalTable, IsMinimal}
+use Rattle.gj_shape.specs.Table.{table, IsMinimal}
 use Rattle.gj_theory.proofs.SameVerdicts.{minimal_over, extreme_over}
 use Rattle.gj_transform.specs.Transforms.{IsMirrorOf}
 use Rattle.gj_transform.proofs.Multiples.{minimal_at_multiples, extreme_at_multiples}

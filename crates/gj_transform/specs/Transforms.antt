@@ -1,5 +1,5 @@
 -- The functions of n x and of -x, and restrictions to the multiples of 1/d (Gomory and Johnson 1972; the definitions by tables are own).
-use Rattle.std.specs.Prelude.{ℕ, ℤ, pos, ◌≡◌, ◌⊎◌, ◌+◌, ◌*◌, ◌%◌, ◌<◌, ◌≤◌, ◌*ℤ◌}
+use Rattle.std.specs.Prelude.{ℕ, pos, ◌≡◌, ◌⊎◌, ◌+◌, ◌*◌, ◌%◌, ◌<◌, ◌≤◌, ◌*ℤ◌}
 use Rattle.std.specs.Int.{◌∣◌}
 use Rattle.gj_shape.specs.FunctionData.{FunctionData, IsContinuous}
 use Rattle.gj_shape.specs.Table.{table}

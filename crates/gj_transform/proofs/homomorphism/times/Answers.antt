@@ -1,4 +1,4 @@
-use Rattle.std.proofs.Common.{◌≡◌, ◌+◌, ◌*◌, ◌/◌, ◌<◌, ◌≤◌, unsigned_abs, to_z, of_z, refl, sym, ap, ap₂, subst, ◌∙◌, rules, arith}
+use Rattle.std.proofs.Common.{◌≡◌, ◌+◌, ◌*◌, ◌/◌, ◌≤◌, unsigned_abs, to_z, of_z, refl, sym, ap, ap₂, subst, ◌∙◌, rules}
 use Rattle.std.proofs.lemmas.Int.{to_z-of_z}
 use Rattle.gj_shape.specs.FunctionData.{IsWithinBounds}
 use Rattle.gj_shape.proofs.Refinements.{order_fits}
