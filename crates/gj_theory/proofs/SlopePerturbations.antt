@@ -25,7 +25,7 @@ use Rattle.gj_theory.proofs.SlopeSums.{sum_before, slopes_of, period_row, place_
 -- ---- one row of all
 
 -- what holds of the elements of all lists made from a range holds of those of each
-joined_each : {X : Type 0} (P : X → Type 0) (g : ℕ → List X) (a n i : ℕ) → a ≤ i → i < a + n →
+pub joined_each : {X : Type 0} (P : X → Type 0) (g : ℕ → List X) (a n i : ℕ) → a ≤ i → i < a + n →
     All P (flat_map g (range_with_len a n)) → All P (g i)
 joined_each P g a zero i low high all = absurd (omega arith)
 joined_each P g a (suc n) i low high all = elim (cases_eq i a) [
@@ -35,7 +35,7 @@ joined_each P g a (suc n) i low high all = elim (cases_eq i a) [
 ]
 
 -- what holds of all elements made from the numbers of a range that pass a test holds of each
-filtered_each : {X : Type 0} (P : X → Type 0) (h : ℕ → X) (test : ℕ → Bool) (a n i : ℕ) → a ≤ i → i < a + n →
+pub filtered_each : {X : Type 0} (P : X → Type 0) (h : ℕ → X) (test : ℕ → Bool) (a n i : ℕ) → a ≤ i → i < a + n →
     test i ≡ true → All P (map h (filter test (range_with_len a n))) → P (h i)
 filtered_each P h test a zero i low high passes all = absurd (omega arith)
 filtered_each P h test a (suc n) i low high passes all = elim (cases_eq i a) [
