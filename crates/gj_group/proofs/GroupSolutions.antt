@@ -1,15 +1,14 @@
 -- The rows of a table are solved by its perturbations.
-use Rattle.std.proofs.Common.{◌≡◌, ◌↔◌, ℕ, zero, suc, inl, inr, ◌+◌, ◌-◌, ◌*◌, ◌%◌, ◌<◌, ◌≤◌, Bool, true, ℤ, pos, ◌+ℤ◌, ◌-ℤ◌, ◌*ℤ◌, List, [], ◌∷◌, length, map, filter, flat_map, get_or, All, refl, sym, ap, ap₂, subst, subst₂, ◌∙◌, arith}
+use Rattle.std.proofs.Common.{◌≡◌, ℕ, zero, suc, inl, inr, ◌+◌, ◌*◌, ◌%◌, ◌<◌, ◌≤◌, ℤ, pos, ◌+ℤ◌, ◌-ℤ◌, ◌*ℤ◌, List, ◌∷◌, length, map, refl, sym, ap, ap₂, subst₂, ◌∙◌, arith}
 use Rattle.std.specs.List.{range_with_len}
-use Rattle.std.proofs.Math.Nat.{mod-lt, mod-mod, mod-eq_of_lt, add-mod, mul-one}
+use Rattle.std.proofs.Math.Nat.{mod-lt, mod-mod, add-mod, mul-one}
 use Rattle.std.proofs.lemmas.Bool.{cases_lt}
 use Rattle.std.proofs.lemmas.Bool.Decides.{Decides-int_eq}
 use Rattle.std.proofs.lemmas.Int.{ints}
 use Rattle.std.proofs.lemmas.List.{get_or_default}
 use Rattle.std.proofs.lemmas.List.FromFn.{length-map-range_with_len}
-use Rattle.std.proofs.lemmas.List.Elements.{All-cons, All-nil, All-head, All-tail, All-map, All-filter, filter_passes}
-use Rattle.gj_tools.proofs.Integers.{add_comm_z, same_or_apart_z}
-use Rattle.gj_tools.proofs.Lists.{All-range, All-joined}
+use Rattle.std.proofs.lemmas.List.Elements.{All-cons, All-head, All-tail}
+use Rattle.gj_tools.proofs.Integers.{add_comm_z}
 use Rattle.gj_tools.proofs.Quotients.{same_at_remainder}
 use Rattle.gj_shape.specs.Extreme.{IsExtremeTable}
 use Rattle.gj_shape.specs.FunctionData.{FunctionData, IsWithinBounds, at}
@@ -19,12 +18,12 @@ use Rattle.gj_shape.proofs.AtLemmas.{at_below, at_wrapped}
 use Rattle.gj_shape.proofs.TableLemmas.{table_of_order, at_plus_order}
 use Rattle.gj_theory.specs.Halves.{IsPerturbation}
 use Rattle.gj_theory.specs.TriangularRows.{Solves}
-use Rattle.gj_theory.proofs.DecidingGrid.{HasNoPerturbation, none_from_extreme, extreme_from_none}
+use Rattle.gj_theory.proofs.DecidingGrid.{none_from_extreme, extreme_from_none}
 use Rattle.gj_theory.proofs.HalvesAsLists.{at_made}
 use Rattle.gj_theory.proofs.PerturbedTables.{perturbation_at_zero}
 use Rattle.gj_theory.proofs.SameVerdicts.{HasSameEntries, minimal_over, extreme_over}
-use Rattle.gj_theory.proofs.SlopePerturbations.{joined_each, filtered_each}
-use Rattle.gj_group.specs.GroupRows.{entry_row, sum_row, is_tight_pair, sum_rows_with, group_rows, SolveGroupRows, OnlyZeroSolves}
+use Rattle.gj_theory.proofs.OrderedPairs.{made_of_pairs, pair_of_all, all_pairs}
+use Rattle.gj_group.specs.GroupRows.{entry_row, sum_row, is_tight_pair, SolveGroupRows, OnlyZeroSolves}
 use Rattle.gj_group.proofs.RowSums.{entry_row_sum, sum_row_sum}
 
 -- ---- one row
@@ -59,39 +58,22 @@ IsAdditiveBelow t n w = (a b : ℕ) → 1 ≤ a → a ≤ b → b < n → t a +�
 
 pairs_from_rows : (t : ℕ → ℤ) (n k : ℕ) (w : List ℤ) → length w ≡ n → SolveGroupRows t n k w → IsAdditiveBelow t n w
 pairs_from_rows t n k w len solved a b low up high tight =
-    let pairs = flat_map (sum_rows_with t n) (range_with_len 1 (n - 1)) in
+    let pairs = made_of_pairs (sum_row n) (is_tight_pair t) n in
     let behind = All-tail (Solves w) (entry_row n k) pairs (All-tail (Solves w) (entry_row n 0) (entry_row n k ∷ pairs) solved) in
     let row : Solves w (sum_row n a b) =
-    filtered_each (Solves w) (sum_row n a) (is_tight_pair t a) a (n - a) b up (omega arith)
-    ((Decides-int_eq (t a +ℤ t b) (t (a + b))).1 tight)
-    (joined_each (Solves w) (sum_rows_with t n) 1 (n - 1) a low (omega arith) behind) in
+    pair_of_all (Solves w) (sum_row n) (is_tight_pair t) n behind a b low up high ((Decides-int_eq (t a +ℤ t b) (t (a + b))).1 tight) in
     difference_zero (at w a) (at w b) (at w (a + b)) (sym (sum_is n a b w len (omega arith) high) ∙ row)
-
--- the rows of the pairs with a
-rows_with : (t : ℕ → ℤ) (n a : ℕ) (w : List ℤ) → length w ≡ n →
-    ((b : ℕ) → b < n → t a +ℤ t b ≡ t (a + b) → at w a +ℤ at w b ≡ at w (a + b)) → a < n →
-    All (Solves w) (sum_rows_with t n a)
-rows_with t n a w len additive low =
-    let numbers = range_with_len a (n - a) in
-    let test = is_tight_pair t a in
-    let range : All (λ b. b < n) numbers = All-range (λ b. b < n) a (n - a) (λ b below. omega arith) in
-    let within = All-filter test (λ b. b < n) numbers range in
-    let passes = filter_passes test numbers in
-    All-map (Solves w) (sum_row n a) (filter test numbers)
-    (λ i d inside.
-    let b = get_or (filter test numbers) i d in
-    let below : b < n = within i d inside in
-    let tight : t a +ℤ t b ≡ t (a + b) = (Decides-int_eq (t a +ℤ t b) (t (a + b))).0 (passes i d inside) in
-    sum_is n a b w len low below ∙ zero_difference (at w a) (at w b) (at w (a + b)) (additive b below tight))
 
 pub rows_from_perturbation : (t : ℕ → ℤ) (n k : ℕ) (w : List ℤ) → 0 < n → k < n → length w ≡ n → at w 0 ≡ pos 0 →
     IsPerturbation t n k (at w) → SolveGroupRows t n k w
 rows_from_perturbation t n k w some k_low len start h =
-    let pairs = flat_map (sum_rows_with t n) (range_with_len 1 (n - 1)) in
+    let pairs = made_of_pairs (sum_row n) (is_tight_pair t) n in
     All-cons (Solves w) (entry_row n 0) (entry_row n k ∷ pairs) (row_of_entry n 0 w len some start)
     (All-cons (Solves w) (entry_row n k) pairs (row_of_entry n k w len k_low h.zero_at_place)
-    (All-joined (Solves w) (sum_rows_with t n) 1 (n - 1)
-    (λ a below. rows_with t n a w len (λ b b_low tight. h.at_tight.additive a b tight) (omega arith))))
+    (all_pairs (Solves w) (sum_row n) (is_tight_pair t) n
+    (λ a b a_low b_low passes.
+    let tight : t a +ℤ t b ≡ t (a + b) = (Decides-int_eq (t a +ℤ t b) (t (a + b))).0 passes in
+    sum_is n a b w len a_low b_low ∙ zero_difference (at w a) (at w b) (at w (a + b)) (h.at_tight.additive a b tight))))
 
 -- ---- from the pairs below n to all pairs
 
@@ -117,7 +99,7 @@ additive_below t n w h start a b a_low b_low tight = elim (cases_lt b a) [
 pub perturbation_from_rows : (t : ℕ → ℤ) (n k : ℕ) (w : List ℤ) → 0 < n → k < n → ((i : ℕ) → t (i + n) ≡ t i) → length w ≡ n →
     SolveGroupRows t n k w → (at w 0 ≡ pos 0) × IsPerturbation t n k (at w)
 perturbation_from_rows t n k w some k_low period len solved =
-    let pairs = flat_map (sum_rows_with t n) (range_with_len 1 (n - 1)) in
+    let pairs = made_of_pairs (sum_row n) (is_tight_pair t) n in
     let start = entry_of_row n 0 w len some (All-head (Solves w) (entry_row n 0) (entry_row n k ∷ pairs) solved) in
     let place = entry_of_row n k w len k_low
     (All-head (Solves w) (entry_row n k) pairs (All-tail (Solves w) (entry_row n 0) (entry_row n k ∷ pairs) solved)) in

@@ -52,3 +52,4 @@ pub mod Weights
 pub mod ValidTables
 pub mod CountedSolutions
 pub mod SameVerdicts
+pub mod OrderedPairs
