@@ -2,7 +2,7 @@
 ghost use Rattle.std.specs.Prelude.{◌≡◌, ◌≢◌, ◌↔◌, IfOk, IfSome, IfNone};
 ghost use Rattle.gj_shape.specs.FunctionData.{IsWithinBounds, IsContinuous};
 ghost use Rattle.gj_shape.specs.Table.{IsMinimal};
-ghost use Rattle.gj_transform.specs.Transforms.{IsRestrictionOf, IsStep, HasNoRestriction};
+ghost use Rattle.gj_transform.specs.Transforms.{IsRestrictionOf, IsStep, HasNoRestriction, AgreeAtMultiples};
 
 use crate::entries::{entries_at_multiples, greatest_divisor, quotients};
 use crate::faults::TransformFault;
@@ -20,6 +20,7 @@ pub fn restrict(alloc: Global, shape: &Shape, order: u32) -> Result<Shape, Trans
     requires { IsContinuous shape.now }
     ensures restriction { IfOk result (IsRestrictionOf shape.now order) }
     ensures within { IfOk result IsWithinBounds }
+    ensures values { IfOk result (AgreeAtMultiples shape.now order) }
     ensures minimal { IfOk result (λ g. IsMinimal shape.now → IsMinimal g) }
     ensures order { (result ≡ Err TransformFault.BadOrder) ↔ HasNoRestriction shape.now order }
     ensures limit { result ≢ Err TransformFault.OrderLimit }
@@ -51,6 +52,7 @@ fn restricted(alloc: Global, shape: &Shape, order: u32, step: u32) -> Result<Sha
     requires { IsStep shape.now order step }
     ensures restriction { IfOk result (IsRestrictionOf shape.now order) }
     ensures within { IfOk result IsWithinBounds }
+    ensures values { IfOk result (AgreeAtMultiples shape.now order) }
     ensures minimal { IfOk result (λ g. IsMinimal shape.now → IsMinimal g) }
 {
     let place = shape.place() / step;
