@@ -18,7 +18,7 @@ mirror_back f g r = record {
       sym (r.same_values m j i some (ap (λ x. x % (f.order * m)) (add_comm j i) ∙ subst (λ (q : ℕ). (i + j) % (q * m) ≡ 0) r.order opposite));
 }
 
--- i times c, where c is one less than the order of the grid, is opposite to i
+-- i times one less than the order of the grid is opposite to i
 pub opposite_place : (n c i : ℕ) → c + 1 ≡ n → (i + i * c) % n ≡ 0
 opposite_place n c i e =
     let whole : i + i * c ≡ i * n = let scaled : i * (c + 1) ≡ i * n = ap (λ x. i * x) e in omega arith in
