@@ -13,3 +13,4 @@ pub mod Cuts
 pub mod Fitting
 pub mod TriangularResidues
 pub mod HandedOver
+pub mod Modulus

@@ -1,0 +1,3 @@
+pub mod EachEntry
+pub mod Euclid
+pub mod Inserting
