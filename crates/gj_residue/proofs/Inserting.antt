@@ -1,13 +1,15 @@
 -- What a basis of residues keeps behind an insertion.
-use Rattle.std.proofs.Common.{◌≡◌, ◌≢◌, ℕ, ◌+◌, ◌<◌, Option, None, Some, ℤ, pos, List, [], ◌∷◌, ◌++◌, length, map, get_or, refl, sym, ap, ap₂, subst, ◌∙◌, arith}
+use Rattle.std.proofs.Common.{◌≡◌, ◌≢◌, ℕ, ◌+◌, ◌<◌, Bool, true, false, if◌then◌else◌, Option, None, Some, ℤ, pos, List, [], ◌∷◌, ◌++◌, length, map, get_or, refl, sym, ap, ap₂, subst, ◌∙◌, arith}
 use Rattle.std.specs.Prelude.{IfSome}
 use Rattle.std.specs.List.{range_with_len, position}
+use Rattle.std.specs.Ordering.{int_eq}
 use Rattle.std.proofs.lemmas.Int.{ints}
 use Rattle.std.proofs.lemmas.List.{length-map, length_push, get_or-map, get_or_default}
-use Rattle.gj_shape.specs.Elimination.{KeptRow, Insertion, at_column, scaled, insertion_by, inserted_by, with_pivot, row_with_pivot}
+use Rattle.gj_shape.specs.Elimination.{KeptRow, Insertion, at_column, scaled, insertion_by, inserted_by, inserted_at_by, with_pivot, row_with_pivot, Passes}
 use Rattle.gj_shape.specs.Residues.{residue, residues, inverse, times_inverse, modulo, SolvesModulo}
 use Rattle.gj_theory.specs.Modulus.{modulus}
 use Rattle.gj_theory.specs.TriangularResidues.{AreTriangularResidues, SolvesKeptModulo}
+use Rattle.gj_theory.proofs.Passing.{none_passes}
 use Rattle.gj_theory.proofs.ResidueInsertions.{kept_residues_at, inserted_leaves_modulo, triangular_behind_modulo, solved_behind_modulo}
 use Rattle.gj_elim.specs.Data.{BasisData, behind_by}
 use Rattle.gj_elim.specs.KeptRows.{kept_rows, log_row}
@@ -124,3 +126,29 @@ pub lines_after : (log log' : List LogRow) (rows rows' : List (List ℕ)) (l : L
 lines_after log log' rows rows' l r e log_is rows_is =
     same_length log log' (map numbers_of rows) (map numbers_of rows') l r (lines_too log rows e) log_is rows_is
     ∙ length-map rows' numbers_of
+
+-- ---- no number is marked
+
+marks_at : (kept : List KeptRow) (columns : List ℕ) (c : ℕ) (row : List ℤ) →
+    ((next : List ℤ) → (insertion_by (modulo modulus) kept columns next).marked ≡ []) → (o : Option KeptRow) →
+    (inserted_at_by (modulo modulus) o c row (insertion_by (modulo modulus) kept columns)).marked ≡ []
+unfolding inserted_at_by
+marks_at kept columns c row later None = refl
+marks_at kept columns c row later (Some k) = later ((modulo modulus).step k.entries row c)
+
+pub no_marks : (kept : List KeptRow) (columns : List ℕ) (row : List ℤ) → (insertion_by (modulo modulus) kept columns row).marked ≡ []
+unfolding insertion_by
+no_marks kept [] row = refl
+no_marks kept (c ∷ columns) row =
+    by_test (int_eq (at_column row c) (pos 0)) (no_marks kept columns row)
+    (marks_at kept columns c row (no_marks kept columns) (row_with_pivot kept c))
+  where
+    by_test : (b : Bool) → (insertion_by (modulo modulus) kept columns row).marked ≡ [] →
+        (inserted_at_by (modulo modulus) (row_with_pivot kept c) c row (insertion_by (modulo modulus) kept columns)).marked ≡ [] →
+        (if b then insertion_by (modulo modulus) kept columns row
+        else inserted_at_by (modulo modulus) (row_with_pivot kept c) c row (insertion_by (modulo modulus) kept columns)).marked ≡ []
+    by_test true first second = first
+    by_test false first second = second
+
+pub nothing_passes : (n : ℕ) (kept : List KeptRow) (row : List ℤ) → Passes (inserted_by (modulo modulus) n kept row).marked → ⊥
+nothing_passes n kept row p = none_passes (subst Passes (no_marks kept (range_with_len 0 n) (residues modulus row)) p)
