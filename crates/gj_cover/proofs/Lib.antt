@@ -21,3 +21,4 @@ pub mod Classes
 pub mod Marks
 pub mod RunOrder
 pub mod LinkSets
+pub mod CoveringSets

@@ -17,6 +17,7 @@ mod reached;
 mod squares;
 mod table;
 mod transposed;
+mod triangles;
 #[cfg(test)]
 mod tests;
 
