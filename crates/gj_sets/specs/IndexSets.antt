@@ -1,5 +1,5 @@
 -- Sets of indices (own).
-use Rattle.std.specs.Prelude.{ℕ, zero, suc, ◌≡◌, ◌+◌, ◌/◌, ◌%◌, ◌<◌, ◌≤◌, List, Bool, true, false, ◌==◌, slice_index, if◌then◌else◌}
+use Rattle.std.specs.Prelude.{ℕ, zero, suc, ◌≡◌, ◌+◌, ◌/◌, ◌%◌, ◌<◌, ◌≤◌, List, [], Bool, true, false, ◌==◌, slice_index, if◌then◌else◌}
 use Rattle.std.specs.Int.{bit_at}
 use Rattle.gj_sets.specs.declared.index_set.IndexSet.{IndexSet}
 
@@ -10,6 +10,10 @@ bit_of words i = bit_at (slice_index words (i / 64)) (i % 64) == 1
 -- whether the index is in the set
 unfoldable pub has : IndexSet → ℕ → Bool
 has set i = bit_of set.words i
+
+-- a set without words, where none is meant
+abbrev pub no_set : IndexSet
+no_set = record { words = [] }
 
 -- k is the least index in the set that is not below the start
 pub record IsFirst (set : IndexSet) (start k : ℕ) : Type 0 where

@@ -16,7 +16,7 @@ pub struct IndexSet {
 }
 
 impl IndexSet {
-    ghost use Rattle.std.specs.Prelude.{ℕ, ◌≡◌, ◌<◌, ◌≤◌, false, not, ◌&&◌, ◌||◌, ◌==◌, nat_lt, nat_le};
+    ghost use Rattle.std.specs.Prelude.{ℕ, ◌≡◌, ◌<◌, ◌≤◌, false, not, ◌&&◌, ◌||◌, ◌==◌, nat_lt, nat_le, if◌then◌else◌};
     ghost use Rattle.gj_sets.specs.IndexSets.{has};
 
     /// The set without an index.
@@ -71,6 +71,18 @@ impl IndexSet {
     {
         let place = i / 64;
         self.words[place] = self.words[place] & !(1 << (i % 64));
+    }
+
+    /// Puts the index into the set or takes it out, as is wanted.
+    pub fn put(&mut self, i: usize, wanted: bool)
+        requires { i < LIMIT }
+        ensures { (j : ℕ) → has self.new j ≡ (if j == i then wanted else has self.old j) }
+    {
+        if wanted {
+            self.insert(i);
+        } else {
+            self.remove(i);
+        }
     }
 }
 

@@ -6,7 +6,7 @@ use crate::index_set::{IndexSet, LIMIT};
 use std::simd::prelude::*;
 
 impl IndexSet {
-    ghost use Rattle.std.specs.Prelude.{ℕ, ◌≡◌, ◌+◌, ◌-◌, ◌<◌, ◌≤◌, ◌&&◌, nat_lt, nat_le, if◌then◌else◌};
+    ghost use Rattle.std.specs.Prelude.{ℕ, ◌≡◌, ◌+◌, ◌-◌, ◌<◌, ◌≤◌, ◌&&◌, ◌==◌, nat_lt, nat_le, if◌then◌else◌};
     ghost use Rattle.gj_sets.specs.IndexSets.{has};
 
     /// Each index less s. Those below s are left out.
@@ -37,6 +37,28 @@ impl IndexSet {
     {
         let begun_again = self.down(n - s).and(&IndexSet::below(s));
         self.up(s).or(&begun_again).and(&IndexSet::below(n))
+    }
+
+    /// Each index less 1, where 0 becomes n - 1. Indices from n on go down by 1 too, but n itself is left out.
+    pub fn turned_down(&self, n: usize) -> IndexSet
+        requires some { 1 ≤ n }
+        requires period { n ≤ LIMIT }
+        ensures { (j : ℕ) → has result j ≡ has self.now (if j + 1 == n then 0 else j + 1) }
+    {
+        let mut set = self.down(1);
+        set.put(n - 1, self.contains(0));
+        set
+    }
+
+    /// Each index and 1, where n - 1 becomes 0 too.
+    pub fn turned_up(&self, n: usize) -> IndexSet
+        requires some { 1 ≤ n }
+        requires period { n ≤ LIMIT }
+        ensures { (j : ℕ) → j < LIMIT → has result j ≡ has self.now (if j == 0 then n - 1 else j - 1) }
+    {
+        let mut set = self.up(1);
+        set.put(0, self.contains(n - 1));
+        set
     }
 }
 
