@@ -22,3 +22,4 @@ pub mod Marks
 pub mod RunOrder
 pub mod LinkSets
 pub mod CoveringSets
+pub mod MirroredPairs
