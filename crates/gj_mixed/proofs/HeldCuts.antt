@@ -138,7 +138,7 @@ less_zero q x y none = ap (λ z. q *ℤ z) (omega (arith, ints))
 step_in : (q t b m : ℤ) → ((q *ℤ t) *ℤ b) *ℤ m ≡ ((q *ℤ m) *ℤ t) *ℤ b
 step_in q t b m = by_ring (q ∷ t ∷ b ∷ m ∷ []) (search ring depth 30) refl
 
--- a slope q (x - 0)/d on a grid m times as fine, where a step is x
+-- a slope q (x - 0)/d on a grid m times as fine, with the step x
 step_on_grid : (up : Frac) (q d m : ℕ) (x y t : ℤ) → IsRatio up (pos q *ℤ (x -ℤ y)) (pos d) → y ≡ pos 0 → t ≡ x →
     IsRatio up (pos (q * m) *ℤ t) (pos (d * m))
 step_on_grid up q d m x y t is none t_is =
@@ -206,7 +206,7 @@ down_right p q k n = by_ring (p ∷ q ∷ k ∷ n ∷ []) (search ring depth 40)
 down_over : (p q k n : ℤ) → p *ℤ n ≡ k *ℤ q → (pos 1 *ℤ (pos 1 *ℤ q)) *ℤ (n -ℤ k) ≡ n *ℤ (pos 1 *ℤ (pos 1 *ℤ q -ℤ p *ℤ pos 1))
 down_over p q k n e = down_left p q k n ∙ ap (λ z. q *ℤ n -ℤ z) (sym e) ∙ down_right p q k n
 
--- a slope n/k over the scale k l, where a step is l
+-- a slope n/k over the scale k l, with the step l
 slope_over : (up : Frac) (n k l t : ℕ) (z : ℤ) → up.num *ℤ z ≡ pos n *ℤ up.den → pos (k * l) ≡ z *ℤ pos t → IsRatio up (pos n *ℤ pos t) (pos (k * l))
 slope_over up n k l t z is scale =
     ap (λ s. up.num *ℤ s) scale ∙ sym (mul_assoc_z up.num z (pos t)) ∙ ap (λ s. s *ℤ pos t) is ∙ swap_last_z (pos n) up.den (pos t)
