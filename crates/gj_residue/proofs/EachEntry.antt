@@ -27,13 +27,6 @@ pub record AreDone (f : ℕ → ℤ) (old row : List ℕ) (i : ℕ) : Type 0 whe
   pub low : (k : ℕ) → k < i → get_or row k 0 < modulus
   pub later : (k : ℕ) → i ≤ k → get_or row k 0 ≡ get_or old k 0
 
-pub done_start : (f : ℕ → ℤ) (old : List ℕ) → AreDone f old old 0
-done_start f old = record {
-  done = λ k below. absurd (omega arith);
-  low = λ k below. absurd (omega arith);
-  later = λ k from. refl;
-}
-
 pub done_more : (f : ℕ → ℤ) (old row : List ℕ) (i z : ℕ) → AreDone f old row i → i < length row → pos z ≡ f i → z < modulus →
     AreDone f old (set row i z) (i + 1)
 done_more f old row i z h inside is low = record {
