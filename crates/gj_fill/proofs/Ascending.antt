@@ -1,17 +1,17 @@
 -- The breakpoints of a fill-in ascend from 0 and lie below 1.
-use Rattle.std.proofs.Common.{◌≡◌, ℕ, zero, suc, ◌+◌, ◌*◌, ◌<◌, ◌≤◌, Bool, true, false, ◌&&◌, cond, ℤ, pos, ◌+ℤ◌, ◌*ℤ◌, ◌<ℤ◌, neg_ℤ, int_lt, List, [], ◌∷◌, ◌++◌, flat_map, refl, ap, sym, subst, ◌∙◌, append_assoc, arith}
+use Rattle.std.proofs.Common.{◌≡◌, ℕ, zero, suc, ◌+◌, ◌<◌, Bool, true, false, ◌&&◌, cond, ℤ, pos, ◌+ℤ◌, ◌*ℤ◌, ◌<ℤ◌, neg_ℤ, int_lt, List, [], ◌∷◌, ◌++◌, flat_map, refl, ap, subst, ◌∙◌, append_assoc, arith}
 use Rattle.std.specs.List.{range_with_len, AllZip}
 use Rattle.std.proofs.lemmas.Int.{ints}
-use Rattle.gj_tools.proofs.Integers.{mul_positive_z, mul_lt_mul_right_z, mul_le_mul_right_z, add_mul_z, zero_factor_z, mul_comm_z}
+use Rattle.gj_tools.proofs.Integers.{mul_positive_z, mul_le_mul_right_z, zero_factor_z, mul_comm_z}
 use Rattle.gj_tools.proofs.Ratios.{ratio_less}
 use Rattle.gj_tools.proofs.Ring.{by_ring, ring}
 use Rattle.gj_frac.specs.declared.Frac.{Frac}
-use Rattle.gj_frac.specs.Fraction.{LessValue, IsRatio, IsInside, fraction_of, numerator, denominator}
-use Rattle.gj_shape.specs.Breaks.{AreAscending, IsNextBreak}
+use Rattle.gj_frac.specs.Fraction.{LessValue, IsRatio, IsInside, fraction_of}
+use Rattle.gj_shape.specs.Breaks.{AreAscending}
 use Rattle.gj_shape.specs.FunctionData.{FunctionData, at}
 use Rattle.gj_shape.specs.TwoSlopes.{rise}
 use Rattle.gj_shape.specs.declared.breaks.Break.{Break}
-use Rattle.gj_fill.specs.FillPoints.{GraphPoint, IsBreakAt, AreFillBreaks, value_point, crossing_point, points_from, fill_points}
+use Rattle.gj_fill.specs.FillPoints.{GraphPoint, IsBreakAt, value_point, crossing_point, points_from}
 use Rattle.gj_fill.proofs.FillPoints.{EachNext, next_at}
 
 -- c is behind b, and below 1
