@@ -1,8 +1,6 @@
 -- No list of joined intervals leads from the interval of one opening line to that of another.
-use Rattle.std.proofs.Common.{◌≡◌, ℕ, ◌%◌, ◌<◌, inl, inr, List, ◌∷◌, ◌++◌, length, refl, sym, subst, ◌∙◌, append_assoc, arith}
+use Rattle.std.proofs.Common.{◌≡◌, ℕ, ◌%◌, ◌<◌, inl, inr, List, ◌∷◌, ◌++◌, sym, subst, ◌∙◌, append_assoc, arith}
 use Rattle.std.proofs.Math.Nat.{mod-lt, mod-mod, mod-eq_of_lt}
-use Rattle.std.proofs.Math.Seq.{get_or-append_seam}
-use Rattle.std.proofs.lemmas.List.{length-append}
 use Rattle.gj_cover.proofs.LineLists.{line_here}
 use Rattle.gj_shape.specs.Cover.{AreCoverLines, HasLine, IsNextLine, JoinsLines, LeadsTo}
 use Rattle.gj_shape.specs.Cover.LeadsTo.{here, onward}
