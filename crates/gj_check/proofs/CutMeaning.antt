@@ -18,7 +18,8 @@ use Rattle.gj_shape.specs.RowCut.{CutHolds}
 use Rattle.gj_shape.specs.Given.{IsCommonDenominator}
 use Rattle.gj_shape.specs.Table.{IsMinimal}
 use Rattle.gj_shape.proofs.LeastDenominator.{Divides}
-use Rattle.gj_theory.specs.Cuts.{HasFractionalPart, IsEntryAt, IsValueOf}
+use Rattle.gj_frac.specs.Floor.{HasFractionalPart}
+use Rattle.gj_theory.specs.Cuts.{IsEntryAt, IsValueOf}
 use Rattle.gj_theory.proofs.CutsByTables.{product_of, product_some, product_common, cut_by_table}
 use Rattle.gj_theory.proofs.GmicTable.{entry_rising, entry_falling, gmic_minimal}
 use Rattle.gj_theory.proofs.MinimalFromTests.{minimal_from_tests}

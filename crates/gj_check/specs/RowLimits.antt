@@ -2,7 +2,7 @@
 use Rattle.std.specs.Prelude.{ℕ, ◌<◌, ◌≤◌, ◌*◌, ◌^◌, List, [], ◌∷◌, ◌++◌, unsigned_abs}
 use Rattle.gj_frac.specs.declared.Frac.{Frac}
 use Rattle.gj_frac.specs.Fraction.{numerator, denominator}
-use Rattle.gj_shape.specs.RowCut.{IsLeastCommonDenominator}
+use Rattle.gj_shape.specs.Given.{IsLeastCommonDenominator}
 use Rattle.gj_proof.specs.Rules.{MeetsLimit}
 
 -- the number is at most 2^31 in absolute value, and its denominator is below 2^31

@@ -5,7 +5,7 @@ use Rattle.std.proofs.lemmas.Int.{ints}
 use Rattle.std.proofs.lemmas.Nat.Gcd.{le_of_dvd}
 use Rattle.std.proofs.lemmas.List.Elements.{All-head}
 use Rattle.gj_frac.specs.declared.Frac.{Frac}
-use Rattle.gj_frac.specs.Floor.{IsFloor}
+use Rattle.gj_frac.specs.Floor.{IsFloor, HasFractionalPart}
 use Rattle.gj_frac.specs.Fraction.{IsRatio, numerator, denominator, IsWhole}
 use Rattle.gj_frac.proofs.Floors.{quotient_is_floor}
 use Rattle.gj_frac.proofs.SameValues.{is_along, same_from_is}
@@ -13,7 +13,6 @@ use Rattle.gj_tools.proofs.Divisors.{whole_multiple}
 use Rattle.gj_tools.proofs.Integers.{positive_some_z, mul_cancel_right_z, pos_abs_z, one_mul_z}
 use Rattle.gj_tools.proofs.Ratios.{ratio_along}
 use Rattle.gj_shape.proofs.OverScale.{all_divide}
-use Rattle.gj_theory.specs.Cuts.{HasFractionalPart}
 use Rattle.gj_rule.specs.Kind.{IsKind, IsBounded, HasPlace}
 use Rattle.gj_rule.specs.declared.kind.RuleKind.{RuleKind}
 use Rattle.gj_rule.specs.declared.kind.RuleKind.TheVariants.{Gmic, Table}

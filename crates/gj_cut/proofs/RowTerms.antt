@@ -11,10 +11,11 @@ use Rattle.gj_shape.specs.Given.{IsCommonDenominator}
 use Rattle.gj_theory.specs.Cuts.{IsGmicValue, IsValueOf}
 use Rattle.gj_theory.proofs.RowGrids.{cut_by_function, cut_by_gmic}
 use Rattle.gj_rule.specs.Kept.{KeptRule}
-use Rattle.gj_rule.specs.Kind.{IsInRange, IsBounded, IsKindValue, IsMinimalKind}
+use Rattle.gj_rule.specs.Kind.{IsBounded, IsKindValue, IsMinimalKind}
 use Rattle.gj_rule.specs.declared.kind.RuleKind.{RuleKind}
 use Rattle.gj_rule.specs.declared.kind.RuleKind.TheVariants.{Gmic, Table}
-use Rattle.gj_row.specs.TableauLimits.{AreWithinLimits, IsSmall, numbers_of}
+use Rattle.gj_row.specs.TableauLimits.{AreWithinLimits, numbers_of}
+use Rattle.gj_shape.specs.Limits.{IsSmallNumber, IsRowNumber}
 use Rattle.gj_row.specs.declared.tableau.Entry.{Entry}
 use Rattle.gj_row.specs.declared.tableau.Row.{Row}
 use Rattle.gj_cut.specs.RowCuts.{HasPart, IsTermOfKind, IsTermOf, IsCutOf, IsCutOfKind, IsGmicCutOf, HoldsFor}
@@ -24,23 +25,23 @@ use Rattle.gj_cut.specs.declared.cut.RowCut.TheVariants.{Cut, Integral, OtherFra
 
 -- ---- the entries of a row
 
-in_range_all : (d : ℕ) (entries : List Entry) → 0 < d → d < 2 ^ 31 → All IsSmall (map (λ e. e.value) entries) →
-    IsCommonDenominator (map (λ e. e.value) entries) d → All (λ e. IsInRange e.value) entries
-in_range_all d [] some fine small common = All-nil (λ e. IsInRange e.value)
+in_range_all : (d : ℕ) (entries : List Entry) → 0 < d → d < 2 ^ 31 → All IsSmallNumber (map (λ e. e.value) entries) →
+    IsCommonDenominator (map (λ e. e.value) entries) d → All (λ e. IsRowNumber e.value) entries
+in_range_all d [] some fine small common = All-nil (λ e. IsRowNumber e.value)
 in_range_all d (e ∷ entries) some fine small common =
     let divides = All-head (λ x. unsigned_abs (denominator x) ∣ d) e.value (map (λ e. e.value) entries) common in
     let bound : unsigned_abs (denominator e.value) ≤ d = le_of_dvd some divides in
-    All-cons (λ e. IsInRange e.value) e entries
-    (omega arith, All-head IsSmall e.value (map (λ e. e.value) entries) small)
-    (in_range_all d entries some fine (All-tail IsSmall e.value (map (λ e. e.value) entries) small)
+    All-cons (λ e. IsRowNumber e.value) e entries
+    (record { small = All-head IsSmallNumber e.value (map (λ e. e.value) entries) small; fine = omega arith })
+    (in_range_all d entries some fine (All-tail IsSmallNumber e.value (map (λ e. e.value) entries) small)
     (All-tail (λ x. unsigned_abs (denominator x) ∣ d) e.value (map (λ e. e.value) entries) common))
 
--- those of a row within the limits are in the range of rules
-pub entries_in_range : (row : Row) → AreWithinLimits (numbers_of row) → All (λ e. IsInRange e.value) row.entries
+-- those of a row within the limits can stand in a row
+pub entries_in_range : (row : Row) → AreWithinLimits (numbers_of row) → All (λ e. IsRowNumber e.value) row.entries
 entries_in_range row h =
     let values = map (λ e. e.value) row.entries in
     let d = h.common.0 in
-    in_range_all d row.entries h.common.1 h.common.2 (All-tail IsSmall row.rhs values h.small)
+    in_range_all d row.entries h.common.1 h.common.2 (All-tail IsSmallNumber row.rhs values h.small)
     (All-tail (λ x. unsigned_abs (denominator x) ∣ d) row.rhs values h.common.3)
 
 -- so is its right side
@@ -56,7 +57,7 @@ right_fine row h =
 -- ---- terms
 
 -- one more item in each of two lists
-zip_longer : {A B : Type 0} (R : A → B → Type 0) (xs : List A) (ys : List B) (x : A) (y : B) → AllZip R xs ys → R x y →
+pub zip_longer : {A B : Type 0} (R : A → B → Type 0) (xs : List A) (ys : List B) (x : A) (y : B) → AllZip R xs ys → R x y →
     AllZip R (xs ++ x ∷ []) (ys ++ y ∷ [])
 zip_longer R [] [] x y h last = (last, tt)
 zip_longer R [] (z ∷ ys) x y h last = absurd h
@@ -72,7 +73,7 @@ zip_next R xs i x ys zs y below here next h last =
 
 -- ---- the cut
 
-term_values : {E : Type 0} (answers : E → Frac → Frac → Type 0) (rule : KeptRule E) (V : Frac → Frac → Type 0)
+pub term_values : {E : Type 0} (answers : E → Frac → Frac → Type 0) (rule : KeptRule E) (V : Frac → Frac → Type 0)
     (entries : List Entry) (terms : List Term) → ((x y : Frac) → IsKindValue rule.kind x y → V x y) →
     AllZip (IsTermOf answers rule) entries terms → AllZip V (map (λ t. t.entry) terms) (map (λ t. t.cut) terms)
 term_values answers rule V [] [] value h = tt
@@ -95,7 +96,7 @@ holds_at answers rule (Table shape) row terms e bounded minimal part h =
 
 -- ---- cuts by any rule of a kind
 
-terms_of_kind : {E : Type 0} (answers : E → Frac → Frac → Type 0) (rule : KeptRule E) (entries : List Entry) (terms : List Term) →
+pub terms_of_kind : {E : Type 0} (answers : E → Frac → Frac → Type 0) (rule : KeptRule E) (entries : List Entry) (terms : List Term) →
     AllZip (IsTermOf answers rule) entries terms → AllZip (IsTermOfKind rule.kind) entries terms
 terms_of_kind answers rule [] [] h = tt
 terms_of_kind answers rule [] (t ∷ terms) h = absurd h

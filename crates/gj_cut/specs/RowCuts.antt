@@ -4,7 +4,7 @@ use Rattle.std.specs.List.{AllZip}
 use Rattle.gj_frac.specs.declared.Frac.{Frac}
 use Rattle.gj_frac.specs.Fraction.{numerator, denominator, IsWhole}
 use Rattle.gj_shape.specs.RowCut.{CutHolds}
-use Rattle.gj_theory.specs.Cuts.{HasFractionalPart}
+use Rattle.gj_frac.specs.Floor.{HasFractionalPart}
 use Rattle.gj_rule.specs.Kept.{KeptRule}
 use Rattle.gj_rule.specs.Kind.{IsKindValue}
 use Rattle.gj_rule.specs.declared.kind.RuleKind.{RuleKind}
@@ -51,7 +51,7 @@ IsGmicCutOf row (Cut terms) = (f : Frac) × IsCutOfKind (Gmic f) row (Cut terms)
 IsGmicCutOf row Integral = IsWhole row.rhs
 IsGmicCutOf row OtherFraction = ⊥
 
--- the cut, where there is one, holds at each solution of the row
+-- the cut, if there is one, holds at each solution of the row
 abbrev pub HoldsFor : Row → RowCut → Type 0
 HoldsFor row (Cut terms) = CutHolds (map (λ t. t.entry) terms) row.rhs (map (λ t. t.cut) terms)
 HoldsFor row Integral = Unit {0}

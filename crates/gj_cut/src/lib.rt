@@ -1,8 +1,9 @@
 //! Cuts of rows of simplex tableaux.
 //!
 //! [`cut_row`] makes the cut of a row by a rule: its coefficients are the rule's values at the row's entries. It holds
-//! where the rule is minimal: at each solution of the row in whole numbers, the nonbasic ones not negative, the sum of
+//! if the rule is minimal: at each solution of the row in whole numbers, the nonbasic ones not negative, the sum of
 //! the coefficients times the nonbasic variables is at least 1. [`gmic_cut_row`] makes the mixed-integer cut of a row.
+//! [`part_of`], [`has_part`] and [`term`] are the steps of both.
 #![tactic(auto)]
 
 mod cut;
@@ -11,4 +12,4 @@ mod rows;
 mod tests;
 
 pub use cut::{RowCut, Term};
-pub use rows::{cut_row, gmic_cut_row};
+pub use rows::{cut_row, gmic_cut_row, has_part, part_of, term};

@@ -1,10 +1,11 @@
 //! The cut of a row by a rule.
-ghost use Rattle.std.specs.Prelude.{◌≡◌, ◌<◌, ◌^◌, ◌↔◌, IsTrue, IfOk, All, unsigned_abs};
+ghost use Rattle.std.specs.Prelude.{◌≡◌, ◌↔◌, IsTrue, IfOk, All};
 ghost use Rattle.std.specs.List.{AllZip};
-ghost use Rattle.gj_frac.specs.Fraction.{numerator, denominator, IsWhole};
-ghost use Rattle.gj_theory.specs.Cuts.{HasFractionalPart};
+ghost use Rattle.gj_frac.specs.Fraction.{numerator, denominator, IsWhole, HasDenominatorBelow};
+ghost use Rattle.gj_frac.specs.Floor.{HasFractionalPart};
 ghost use Rattle.gj_row.specs.TableauLimits.{AreWithinLimits, numbers_of};
-ghost use Rattle.gj_rule.specs.Kind.{IsInRange, IsKind, IsBounded, IsMinimalKind};
+ghost use Rattle.gj_rule.specs.Kind.{IsKind, IsBounded, IsMinimalKind};
+ghost use Rattle.gj_shape.specs.Limits.{denominator_bound, IsRowNumber};
 ghost use Rattle.gj_rule.specs.Kept.{Evaluates};
 ghost use Rattle.gj_rule.specs.declared.kind.RuleKind.TheVariants.{Gmic};
 ghost use Rattle.gj_cut.specs.RowCuts.{HasPart, IsTermOf, IsCutOf, IsCutOfKind, IsGmicCutOf, HoldsFor};
@@ -18,7 +19,7 @@ use std::alloc::{AllocError, Global};
 
 /// The cut of the row by the rule: for each entry the column, the entry and the rule's value at it.
 ///
-/// It is `Integral` exactly where the right side is whole, and `OtherFraction` exactly where it is not and its
+/// It is `Integral` exactly if the right side is whole, and `OtherFraction` exactly if it is not and its
 /// fractional part is not the rule's f. The right side and the entries are at most 2^31 in absolute value and have a
 /// common denominator of at most 2^31 - 1. The only error is want of memory.
 pub fn cut_row<E: Evaluator>(alloc: Global, rule: &Rule<E>, row: &Row) -> Result<RowCut, AllocError>
@@ -38,7 +39,7 @@ pub fn cut_row<E: Evaluator>(alloc: Global, rule: &Rule<E>, row: &Row) -> Result
 
 /// The mixed-integer cut of the row, for f the fractional part of its right side.
 ///
-/// It is `Integral` exactly where the right side is whole, and never `OtherFraction`. The limits are those of
+/// It is `Integral` exactly if the right side is whole, and never `OtherFraction`. The limits are those of
 /// [`cut_row`], and the only error is want of memory.
 pub fn gmic_cut_row(alloc: Global, row: &Row) -> Result<RowCut, AllocError>
     requires { AreWithinLimits (numbers_of row.now) }
@@ -52,10 +53,10 @@ pub fn gmic_cut_row(alloc: Global, row: &Row) -> Result<RowCut, AllocError>
     cut_by(alloc, RuleKind::Gmic(f), |x| gmic_value(f, x), row)
 }
 
-/// The fractional part of a right side that is not whole.
-fn part_of(right: Frac) -> Frac
+/// The fractional part of a right side that is not whole: the f of its mixed-integer cut.
+pub fn part_of(right: Frac) -> Frac
     requires not_whole { IsWhole right → ⊥ }
-    requires fine { unsigned_abs (denominator right) < 2 ^ 31 }
+    requires fine { HasDenominatorBelow denominator_bound right }
     ensures part { HasFractionalPart right (numerator result) (denominator result) }
     ensures kind { IsKind (Gmic result) }
 {
@@ -80,7 +81,7 @@ pub(crate) fn cut_by<E: Evaluator>(
 }
 
 /// Whether the fractional part of x is the rule's f.
-fn has_part<E: Evaluator>(rule: &Rule<E>, x: Frac) -> bool
+pub fn has_part<E: Evaluator>(rule: &Rule<E>, x: Frac) -> bool
     ensures part { IsTrue result ↔ HasPart rule.now.kind x }
     ensures limits { IsBounded rule.now.kind }
 {
@@ -93,7 +94,7 @@ fn terms<E: Evaluator>(
     rule: &Rule<E>,
     entries: &[Entry],
 ) -> Result<Vec<Term>, AllocError>
-    requires { All (λ entry. IsInRange entry.value) entries.now }
+    requires { All (λ entry. IsRowNumber entry.value) entries.now }
     ensures { IfOk result (λ terms. AllZip (IsTermOf E.answers rule.now) entries.now terms.items) }
 {
     let mut terms = Vec::with_capacity(alloc, entries.len())?;
@@ -103,9 +104,9 @@ fn terms<E: Evaluator>(
     Ok(terms)
 }
 
-/// The term of an entry.
-fn term<E: Evaluator>(rule: &Rule<E>, entry: Entry) -> Term
-    requires { IsInRange entry.value }
+/// The term of an entry: its coefficient is the rule's value there.
+pub fn term<E: Evaluator>(rule: &Rule<E>, entry: Entry) -> Term
+    requires { IsRowNumber entry.value }
     ensures { IsTermOf E.answers rule.now entry result }
 {
     Term {

@@ -1,7 +1,7 @@
 //! Cuts by hand.
 ghost use Rattle.std.specs.Prelude.{IfOk};
 ghost use Rattle.gj_row.specs.TableauLimits.{IsTableau, AreWithinLimits, numbers_of};
-ghost use Rattle.gj_rule.specs.Kind.{IsInRange};
+ghost use Rattle.gj_shape.specs.Limits.{IsRowNumber};
 ghost use Rattle.gj_theory.specs.Cuts.{IsValueOf};
 
 use crate::rows::cut_by;
@@ -46,7 +46,7 @@ fn cut_of_first(alloc: Global, text: &[u8]) -> Result<RowCut, Fail> {
     let row = first_row(&tableau)?;
     let function = &copy;
     let eval = |x: Frac|
-        requires { IsInRange x }
+        requires { IsRowNumber x }
         ensures { IsValueOf function.entry.now x result }
     { table_value(function, x) };
     Ok(cut_by(alloc, RuleKind::Table(shape), eval, row)?)

@@ -7,9 +7,9 @@ use Rattle.gj_shape.specs.FunctionData.{FunctionData, IsWithinBounds}
 use Rattle.gj_shape.specs.declared.extremality.CoverLine.{CoverLine}
 use Rattle.gj_theory.proofs.CoverPaths.{leads_through, leads_turned}
 use Rattle.gj_demo.specs.Demo.{IsDemo}
-use Rattle.gj_demo.proofs.FewPassing.{AreApart, few_passing}
+use Rattle.gj_theory.proofs.FewPassing.{AreApart, few_passing}
 use Rattle.gj_demo.proofs.FourIntervals.{AddUpAtTight, chosen, class_of, class_below, leads_to_chosen}
-use Rattle.gj_demo.proofs.OpeningLines.{openings_apart, line_within}
+use Rattle.gj_theory.proofs.OpeningLines.{openings_apart, line_within}
 use Rattle.gj_demo.proofs.Values.{tight_by_numbers}
 
 -- a list of joined intervals leads from the one to the other of two intervals of a class

@@ -3,8 +3,6 @@ pub mod Numbers
 pub mod Halves
 pub mod Values
 pub mod GivenValues
-pub mod FewPassing
-pub mod OpeningLines
 pub mod FourIntervals
 pub mod FewComponents
 pub mod Averages

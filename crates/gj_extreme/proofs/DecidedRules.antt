@@ -6,7 +6,6 @@ use Rattle.std.proofs.Math.Nat.{mul-div_cancel_left}
 use Rattle.std.proofs.lemmas.List.{length-map}
 use Rattle.std.proofs.lemmas.List.Elements.{All-nil, All-cons, All-append}
 use Rattle.gj_shape.specs.Cover.{components_in}
-use Rattle.gj_perturb.proofs.TableParts.{at_most_scale}
 use Rattle.gj_tools.proofs.Lists.{All-made, All-one, All-three}
 use Rattle.gj_shape.specs.Additive.{IsTight}
 use Rattle.gj_shape.specs.Elimination.{Passes}
@@ -15,6 +14,7 @@ use Rattle.gj_shape.specs.Table.{table, IsMinimalTable, IsMinimal}
 use Rattle.gj_shape.specs.declared.extremality.CoverLine.{CoverLine}
 use Rattle.gj_shape.specs.declared.extremality.Halves.{Halves}
 use Rattle.gj_shape.specs.declared.violations.Violation.{Violation}
+use Rattle.gj_theory.proofs.SlacksAndSizes.{at_most_scale}
 use Rattle.gj_theory.specs.CoverRules.{MeetsCoverRule}
 use Rattle.gj_theory.specs.GridPoints.{IsAtGridPoints}
 use Rattle.gj_theory.specs.Halves.{AreDifferentHalves}

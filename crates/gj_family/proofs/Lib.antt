@@ -1,4 +1,3 @@
-pub mod Entries
 pub mod Given
 pub mod Grids
 pub mod Heights

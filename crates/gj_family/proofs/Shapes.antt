@@ -9,9 +9,10 @@ use Rattle.gj_shape.specs.FunctionData.{FunctionData, IsContinuous, at}
 use Rattle.gj_shape.specs.Gmic.{gmic_table, gmic_scale}
 use Rattle.gj_shape.proofs.AtLemmas.{at_wrapped}
 use Rattle.gj_family.specs.Families.{IsGmic, IsHalf, IsTwoSlope}
-use Rattle.gj_family.specs.Numerators.{HasEntries, IsOver, doubled_value}
+use Rattle.gj_shape.specs.Entries.{HasEntries}
+use Rattle.gj_family.specs.Numerators.{IsOver, doubled_value}
 use Rattle.gj_family.specs.Signs.{rises, falls, sum_of_steps, height}
-use Rattle.gj_family.proofs.Entries.{same_entries, entries_everywhere}
+use Rattle.gj_shape.proofs.ListEntries.{same_entries, entries_everywhere}
 use Rattle.gj_family.proofs.Heights.{height_start, height_end}
 use Rattle.gj_family.proofs.Tables.{table_remainder, table_rising, table_falling, table_high}
 

@@ -1,11 +1,6 @@
 -- Functions whose values and limits are whole numbers over one denominator.
-use Rattle.std.specs.Prelude.{ℕ, ℤ, pos, ◌≡◌, ◌<◌, ◌*ℤ◌, List, length, nat_eq, if◌then◌else◌}
+use Rattle.std.specs.Prelude.{ℕ, ℤ, pos, ◌≡◌, ◌*ℤ◌, List, length, nat_eq, if◌then◌else◌}
 use Rattle.gj_shape.specs.FunctionData.{FunctionData, IsWithinBounds, at}
-
--- the list has the entries t 0, t 1, .., t (n - 1)
-pub record HasEntries (t : ℕ → ℤ) (n : ℕ) (xs : List ℤ) : Type 0 where
-  pub length_is : length xs ≡ n
-  pub entry_is : (i : ℕ) → i < n → at xs i ≡ t i
 
 -- a function with f at the place k whose limits and values are the entries of the lists over d
 pub record IsOver (k d : ℕ) (limits values : List ℤ) (f : FunctionData) : Type 0 where

@@ -3,7 +3,8 @@ ghost use Rattle.std.specs.Prelude.{pos, IfOk, IfErr, OnOk, length};
 ghost use Rattle.gj_shape.specs.FunctionData.{IsWithinBounds};
 ghost use Rattle.gj_family.specs.Families.{IsHalf};
 ghost use Rattle.gj_family.specs.Faults.{order_of, place_of, HasFamilyFault, HasNoFamilyFault};
-ghost use Rattle.gj_family.specs.Numerators.{HasEntries, doubled_value};
+ghost use Rattle.gj_shape.specs.Entries.{HasEntries};
+ghost use Rattle.gj_family.specs.Numerators.{doubled_value};
 
 use crate::faults::{FamilyFault, order_and_place};
 use crate::numerators::shape_over;

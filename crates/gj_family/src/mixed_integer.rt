@@ -5,7 +5,7 @@ ghost use Rattle.gj_shape.specs.Given.{IsOrder, IsPlace};
 ghost use Rattle.gj_shape.specs.Gmic.{gmic_table};
 ghost use Rattle.gj_family.specs.Families.{IsGmic};
 ghost use Rattle.gj_family.specs.Faults.{order_of, place_of, HasFamilyFault, HasNoFamilyFault};
-ghost use Rattle.gj_family.specs.Numerators.{HasEntries};
+ghost use Rattle.gj_shape.specs.Entries.{HasEntries};
 
 use crate::faults::{FamilyFault, order_and_place};
 use crate::numerators::shape_over;

@@ -3,7 +3,7 @@ ghost use Rattle.std.specs.Prelude.{◌≡◌, ◌≤◌, ◌*◌, ◌-ℤ◌, p
 ghost use Rattle.gj_shape.specs.FunctionData.{IsWithinBounds};
 ghost use Rattle.gj_family.specs.Families.{IsTwoSlope};
 ghost use Rattle.gj_family.specs.Faults.{HasTwoSlopeFault, HasNoTwoSlopeFault};
-ghost use Rattle.gj_family.specs.Numerators.{HasEntries};
+ghost use Rattle.gj_shape.specs.Entries.{HasEntries};
 ghost use Rattle.gj_family.specs.Signs.{rises, falls, sum_of_steps};
 
 use crate::faults::FamilyFault;

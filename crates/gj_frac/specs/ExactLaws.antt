@@ -22,7 +22,7 @@ IsSum x y s = SameValue (fraction_of s) (sum_of (fraction_of x) (fraction_of y))
 abbrev IsProduct : Frac → Frac → Frac → Type 0
 IsProduct x y p = SameValue (fraction_of p) (product_of (fraction_of x) (fraction_of y))
 
--- where x + y can be computed, y + x can
+-- if x + y can be computed, y + x can
 pub can_add_swapped : (x y : Frac) → FitsSum x y → FitsSum y x
 can_add_swapped x y fits g h =
     let turned : IsDenominatorGcd x y g = IsGcd-swap _ _ _ h in
@@ -44,7 +44,7 @@ add_regrouped x y z s t u v s_is t_is u_is v_is =
     same_value_same t v
     (sums_regrouped (ratio x) (ratio y) (ratio z) (ratio s) (ratio t) (ratio u) (ratio v) s_is t_is u_is v_is)
 
--- where x y can be computed, y x can
+-- if x y can be computed, y x can
 pub can_mul_swapped : (x y : Frac) → FitsProduct x y → FitsProduct y x
 can_mul_swapped x y fits =
     (fits.0, subst₂ (IsRatio fits.0) (mul_comm_z x.num y.num) (mul_comm_z x.den y.den) fits.1)
@@ -68,7 +68,7 @@ mul_over_add x y z s t u v w s_is t_is u_is v_is w_is =
     (products_over_sums (ratio x) (ratio y) (ratio z) (ratio s) (ratio t) (ratio u) (ratio v) (ratio w)
     s_is t_is u_is v_is w_is)
 
--- where x < y, also x + z < y + z
+-- if x < y, also x + z < y + z
 pub sums_keep_order : (x y z s t : Frac) → compare_values x y ≡ Less → IsSum x z s → IsSum y z t →
     compare_values s t ≡ Less
 sums_keep_order x y z s t less s_is t_is =

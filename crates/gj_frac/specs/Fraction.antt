@@ -1,5 +1,5 @@
 -- The value of a fraction, and what a `Frac` is (own; the usual cross products over whole numbers without bound).
-use Rattle.std.specs.Prelude.{ℤ, pos, ◌≡◌, ◌*ℤ◌, ◌+ℤ◌, ◌-ℤ◌, neg_ℤ, ◌<ℤ◌, ◌^◌, ◌<◌, unsigned_abs}
+use Rattle.std.specs.Prelude.{ℕ, ℤ, pos, ◌≡◌, ◌*ℤ◌, ◌+ℤ◌, ◌-ℤ◌, neg_ℤ, ◌<ℤ◌, ◌^◌, ◌<◌, ◌≤◌, ◌*◌, unsigned_abs}
 use Rattle.gj_frac.specs.declared.Frac.{Frac}
 
 -- a fraction of whole numbers without bound; its bottom is not 0
@@ -7,11 +7,11 @@ pub record Fraction : Type 0 where
   pub top : ℤ
   pub bottom : ℤ
 
--- two fractions have one value where their cross products are equal
+-- two fractions have one value if their cross products are equal
 abbrev pub SameValue : Fraction → Fraction → Type 0
 SameValue x y = x.top *ℤ y.bottom ≡ y.top *ℤ x.bottom
 
--- x is less than y, where both bottoms are above 0
+-- x is less than y, if both bottoms are above 0
 abbrev pub LessValue : Fraction → Fraction → Type 0
 LessValue x y = (x.top *ℤ y.bottom) <ℤ (y.top *ℤ x.bottom)
 
@@ -57,3 +57,11 @@ IsWhole x = denominator x ≡ pos 1
 -- x is between 0 and 1, both excluded
 abbrev pub IsInside : Frac → Type 0
 IsInside x = (pos 0 <ℤ numerator x) × (numerator x <ℤ denominator x)
+
+-- x is at most n in absolute value
+abbrev pub IsAtMost : ℕ → Frac → Type 0
+IsAtMost n x = unsigned_abs (numerator x) ≤ n * unsigned_abs (denominator x)
+
+-- the denominator of x is below d
+abbrev pub HasDenominatorBelow : ℕ → Frac → Type 0
+HasDenominatorBelow d x = unsigned_abs (denominator x) < d

@@ -51,7 +51,7 @@ ties_Decides x y = (
   λ e. subst (λ (z : Frac). eq_by_cmp compare_values x z ≡ true) e (ap is_eq (tied_itself compare_values_total x)),
 )
 
--- `==` holds exactly where neither is less
+-- `==` holds exactly if neither is less
 pub compare_values_ties : (x y : Frac) → (int_eq x.num y.num && int_eq x.den y.den) ≡ eq_by_cmp compare_values x y
 compare_values_ties x y = one_answer _ _ (parts_Decides x y) (ties_Decides x y)
 

@@ -37,7 +37,7 @@ impl From<Wide> for DivFault {
     }
 }
 
-/// A whole number, where there is one and it fits a part of a fraction.
+/// A whole number, if there is one and it fits a part of a fraction.
 fn part(number: Option<i128>) -> Result<i128, Wide>
     ensures { MatchOption number (IsErr result) (λ n. OkIff result (Fits n) n) }
 {
@@ -47,28 +47,28 @@ fn part(number: Option<i128>) -> Result<i128, Wide>
     }
 }
 
-/// The product of two whole numbers, where it fits a part of a fraction.
+/// The product of two whole numbers, if it fits a part of a fraction.
 fn checked_product(n: i128, m: i128) -> Result<i128, Wide>
     ensures { OkIff result (Fits (n *ℤ m)) (n *ℤ m) }
 {
     part(n.checked_mul(m))
 }
 
-/// The sum of two whole numbers, where it fits a part of a fraction.
+/// The sum of two whole numbers, if it fits a part of a fraction.
 fn checked_total(n: i128, m: i128) -> Result<i128, Wide>
     ensures { OkIff result (Fits (n +ℤ m)) (n +ℤ m) }
 {
     part(n.checked_add(m))
 }
 
-/// The difference of two whole numbers, where it fits a part of a fraction.
+/// The difference of two whole numbers, if it fits a part of a fraction.
 fn checked_difference(n: i128, m: i128) -> Result<i128, Wide>
     ensures { OkIff result (Fits (n -ℤ m)) (n -ℤ m) }
 {
     part(n.checked_sub(m))
 }
 
-/// Two fractions over their common denominator, where that fits.
+/// Two fractions over their common denominator, if that fits.
 fn checked_over_common_denominator(x: Frac, y: Frac) -> Result<Together, Wide>
     ensures fits { OnOk result (FitsTogether x y) }
     ensures first { IfOk result (λ t.
@@ -90,8 +90,8 @@ fn checked_over_common_denominator(x: Frac, y: Frac) -> Result<Together, Wide>
     })
 }
 
-/// The product of two fractions, where no number but 1 divides a numerator and the other's
-/// denominator, and where it fits.
+/// The product of two fractions, if no number but 1 divides a numerator and the other's
+/// denominator, and if it fits.
 fn checked_crosswise_product(x: Frac, y: Frac) -> Result<Frac, Wide>
     requires first { IsGcd (unsigned_abs (numerator x)) (unsigned_abs (denominator y)) 1 }
     requires second { IsGcd (unsigned_abs (numerator y)) (unsigned_abs (denominator x)) 1 }
@@ -105,7 +105,7 @@ fn checked_crosswise_product(x: Frac, y: Frac) -> Result<Frac, Wide>
 }
 
 impl Frac {
-    /// The sum. Wide exactly where the condition of `+` fails.
+    /// The sum. Wide exactly if the condition of `+` fails.
     pub fn checked_add(self, other: Frac) -> Result<Frac, Wide>
         ensures fits { OnOk result (FitsSum self other) }
         ensures value { IfOk result (λ z.
@@ -121,7 +121,7 @@ impl Frac {
         Ok(Frac::reduced(total, bottom))
     }
 
-    /// The difference. Wide exactly where the condition of `-` fails.
+    /// The difference. Wide exactly if the condition of `-` fails.
     pub fn checked_sub(self, other: Frac) -> Result<Frac, Wide>
         ensures fits { OnOk result (FitsDifference self other) }
         ensures value { IfOk result (λ z.
@@ -137,7 +137,7 @@ impl Frac {
         Ok(Frac::reduced(difference, bottom))
     }
 
-    /// The product. Wide exactly where it does not fit in lowest terms.
+    /// The product. Wide exactly if it does not fit in lowest terms.
     pub fn checked_mul(self, other: Frac) -> Result<Frac, Wide>
         ensures fits { OnOk result (FitsProduct self other) }
         ensures value { IfOk result (λ z.
@@ -150,7 +150,7 @@ impl Frac {
         )
     }
 
-    /// The quotient. Zero exactly where `other` is 0, and Wide exactly where it is not and the
+    /// The quotient. Zero exactly if `other` is 0, and Wide exactly if it is not and the
     /// quotient does not fit in lowest terms.
     pub fn checked_div(self, other: Frac) -> Result<Frac, DivFault>
         ensures fits { OnOk result (FitsQuotient self other) }

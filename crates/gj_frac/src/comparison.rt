@@ -8,7 +8,7 @@ ghost use Rattle.std.specs.Ordering.{nat_cmp, as_partial_cmp};
 use crate::Frac;
 use std::cmp::Ordering;
 
-/// Fractions are ordered by value: `x < y` holds exactly where the value of x is less than that of y.
+/// Fractions are ordered by value: `x < y` holds exactly if the value of x is less than that of y.
 impl Ord for Frac {
     ghost cmp = { compare_values };
 
@@ -52,7 +52,7 @@ fn compare_sizes(x: Frac, y: Frac) -> Ordering
     )
 }
 
-/// Compares `a/b` with `c/d`, by their whole parts, and where these are equal by the reciprocals of
+/// Compares `a/b` with `c/d`, by their whole parts, and if these are equal by the reciprocals of
 /// the rests the other way round. No product is formed, so nothing can overflow.
 fn compare_ratios(a: u128, b: u128, c: u128, d: u128) -> Ordering
     requires b_some { b ≢ 0 }

@@ -1,4 +1,4 @@
-//! The greatest common divisor.
+//! The greatest common divisor and the least common multiple.
 ghost use Rattle.std.specs.Prelude.{◌<◌};
 ghost use Rattle.std.specs.Int.{IsGcd};
 ghost use Rattle.gj_tools.specs.Divisors.{IsLcm};

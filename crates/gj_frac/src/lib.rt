@@ -6,7 +6,7 @@
 //! order is that of the values, without a condition.
 //!
 //! `ExactNumber` has the laws that generic code may rely on: the order and the grouping of sums and products do not
-//! matter where they can be formed. `gcd` and `lcm` are the greatest common divisor and the least common
+//! matter if they can be formed. `gcd` and `lcm` are the greatest common divisor and the least common
 //! multiple that all crates use.
 #![tactic(auto)]
 
@@ -53,7 +53,7 @@ impl Frac {
 
     /// The fraction `num/den` in lowest terms.
     ///
-    /// None where `den` is 0, or where one of the two is -2^127, whose absolute value does not fit.
+    /// None if `den` is 0, or if one of the two is -2^127, whose absolute value does not fit.
     pub fn new(num: i128, den: i128) -> Option<Frac>
         ensures none { IsNone result ↔ ((den ≡ pos 0) ⊎ (unsigned_abs num ≡ 2 ^ 127) ⊎ (unsigned_abs den ≡ 2 ^ 127)) }
         ensures value { IfSome result (λ x. IsRatio x num den) }
@@ -97,7 +97,7 @@ impl Frac {
         Frac::coprime(quotient(num, divisor), quotient(den, divisor))
     }
 
-    /// The fraction `num/den`, where no number but 1 divides both.
+    /// The fraction `num/den`, if no number but 1 divides both.
     fn coprime(num: i128, den: i128) -> Frac
         requires zero { unsigned_abs den ≢ 0 }
         requires num_fits { unsigned_abs num < 2 ^ 127 }

@@ -31,7 +31,7 @@ fn over_common_denominator(x: Frac, y: Frac) -> Together
 }
 
 /// The exact sum. With g the greatest common divisor of the denominators b and d, the sum of a/b and
-/// c/d can be formed where a (d/g), c (b/g), their sum and (b/g) d are each at most 2^127 - 1 in
+/// c/d can be formed if a (d/g), c (b/g), their sum and (b/g) d are each at most 2^127 - 1 in
 /// absolute value.
 impl Add for Frac {
     type Output = Frac;
@@ -50,7 +50,7 @@ impl Add for Frac {
     }
 }
 
-/// The exact difference. It can be formed where the same holds with the difference of the two scaled
+/// The exact difference. It can be formed if the same holds with the difference of the two scaled
 /// numerators in place of their sum.
 impl Sub for Frac {
     type Output = Frac;

@@ -8,7 +8,7 @@ use crate::Frac;
 use crate::parts::product;
 use std::ops::{Div, Mul};
 
-/// The product of two fractions, where no number but 1 divides a numerator and the other's
+/// The product of two fractions, if no number but 1 divides a numerator and the other's
 /// denominator. So it is in lowest terms at once.
 fn crosswise_coprime_product(x: Frac, y: Frac) -> Frac
     requires first { IsGcd (unsigned_abs (numerator x)) (unsigned_abs (denominator y)) 1 }
@@ -19,7 +19,7 @@ fn crosswise_coprime_product(x: Frac, y: Frac) -> Frac
     Frac::coprime(product(x.num, y.num), product(x.den, y.den))
 }
 
-/// The exact product. It can be formed exactly where it fits in lowest terms.
+/// The exact product. It can be formed exactly if it fits in lowest terms.
 impl Mul for Frac {
     type Output = Frac;
 
@@ -35,7 +35,7 @@ impl Mul for Frac {
     }
 }
 
-/// The exact quotient. It can be formed exactly where the divisor is not 0 and the quotient fits in
+/// The exact quotient. It can be formed exactly if the divisor is not 0 and the quotient fits in
 /// lowest terms.
 impl Div for Frac {
     type Output = Frac;

@@ -10,13 +10,17 @@ use Rattle.gj_frac.specs.Fraction.{numerator, denominator}
 unfoldable pub denominator_text : ℕ → List ℕ
 denominator_text d = if nat_le 2 d then codes "/" ++ decimal d else []
 
--- the text of n/d: a `-` where n is below 0, the digits of n without a leading zero, and the denominator
+-- the text of n/d: a `-` if n is below 0, the digits of n without a leading zero, and the denominator
 abbrev pub ratio_text : ℤ → ℤ → List ℕ
 ratio_text n d = signed_decimal n ++ denominator_text (unsigned_abs d)
 
 -- the canonical text of a fraction; a `Frac` is in lowest terms, with a denominator above 0
 abbrev pub fraction_text : Frac → List ℕ
 fraction_text x = ratio_text (numerator x) (denominator x)
+
+-- the line of a word and a count, with its line feed
+abbrev pub count_line : List ℕ → ℕ → List ℕ
+count_line word n = (word ++ decimal n) ++ 10 ∷ []
 
 -- a digit, a `-` or a `/`
 abbrev pub IsNumberByte : ℕ → Type 0
@@ -30,7 +34,7 @@ pub record IsWordByte (b : ℕ) : Type 0 where
   pub no_space : b ≢ 32
 
 -- the word writes top/bottom without a sign: digits; or digits, a `/` and digits; or digits, a `.`
--- and digits, where all digits are the numerator
+-- and digits, and all digits are the numerator
 pub data IsWritten (word : List ℕ) (top bottom : ℕ) : Type 0 where
   whole : IsNumeral 10 word → top ≡ digits_value 10 word → bottom ≡ 1 → IsWritten word top bottom
   ratio : (front back : List ℕ) → word ≡ front ++ 47 ∷ back → IsNumeral 10 front → IsNumeral 10 back →

@@ -26,7 +26,7 @@ pub record Part (A : Type 0) : Type 1 where
 
 -- ---- how parts are made
 
--- one line: at fault where its words break the rule, and as `form` where there is none
+-- one line: at fault if its words break the rule, and as `form` if there is none
 abbrev pub line_part : {A : Type 0} → Spelling → LineRule A → Part A
 line_part s rule = record {
   Reads = λ text a rest. (start : List ℕ) × (words : List (List ℕ)) × HasLine s text start words rest × rule.Spells words a;

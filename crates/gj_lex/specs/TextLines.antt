@@ -12,7 +12,7 @@ pub data IsFirstLine (text line rest : List ℕ) : Type 0 where
   ended : All (λ b. b ≢ 10) line → text ≡ line ++ 10 ∷ rest → IsFirstLine text line rest
   unended : All (λ b. b ≢ 10) line → text ≡ line → line ≢ [] → rest ≡ [] → IsFirstLine text line rest
 
--- the bytes that count: without the CR that stands before the LF, where one does
+-- the bytes that count: without the CR that stands before the LF, if one does
 pub data AreBytesOf (text line bytes : List ℕ) : Type 0 where
   dropped : (rest : List ℕ) → text ≡ bytes ++ 13 ∷ 10 ∷ rest → line ≡ bytes ++ 13 ∷ [] → AreBytesOf text line bytes
   kept : ((front rest : List ℕ) → line ≡ front ++ 13 ∷ [] → text ≡ line ++ 10 ∷ rest → ⊥) → bytes ≡ line → AreBytesOf text line bytes
@@ -71,7 +71,7 @@ abbrev pub HasLine : Spelling → List ℕ → List ℕ → List (List ℕ) → 
 HasLine Lenient text start words rest = HasNextLine start words rest text
 HasLine Strict text start words rest = (start ≡ text) × HasStrictLine text words rest
 
--- the text has no next line, which shows at `start`: at its end, or in strict spelling where its first line is none
+-- the text has no next line, which shows at `start`: at its end, or in strict spelling if its first line is none
 abbrev pub HasNoLine : Spelling → List ℕ → List ℕ → Type 0
 HasNoLine Lenient text start = (start ≡ []) × IsSkippedText text
 HasNoLine Strict text start = (start ≡ text) × ((words : List (List ℕ)) (rest : List ℕ) → HasStrictLine text words rest → ⊥)
@@ -97,6 +97,6 @@ HasLines s text (words ∷ lines) rest =
 abbrev pub line_feeds : List ℕ → ℕ
 line_feeds text = count_by (λ b. b == 10) text
 
--- the line that begins at `start`, a part of the text to its end, is the n-th; where that part is empty, n is the number of LF and one
+-- the line that begins at `start`, a part of the text to its end, is the n-th; if that part is empty, n is the number of LF and one
 abbrev pub IsLineNumber : List ℕ → List ℕ → ℕ → Type 0
 IsLineNumber text start n = n + line_feeds start ≡ line_feeds text + 1

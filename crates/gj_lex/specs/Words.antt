@@ -21,7 +21,7 @@ pub record IsNextWord (line : List ℕ) (from start end : ℕ) : Type 0 where
   pub ended : end < length line → is_blank (slice_index line end) ≡ true
 
 -- the words of the line from a place on, each by its start and its end: a next word, and then the
--- words from its end on; or no word, where only blanks are left
+-- words from its end on; or no word, if only blanks are left
 abbrev pub AreWords : List ℕ → ℕ → List (ℕ × ℕ) → Type 0
 AreWords line from [] = AllBlank line from (length line)
 AreWords line from (word ∷ words) = IsNextWord line from word.0 word.1 × AreWords line word.1 words

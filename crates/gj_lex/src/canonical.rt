@@ -12,7 +12,7 @@ use gj_frac::Frac;
 
 /// The count below 2^32 that the word spells in canonical form: digits without a leading zero.
 ///
-/// None where the word is no such number, or one from 2^32 on.
+/// None if the word is no such number, or one from 2^32 on.
 pub fn read_count(word: &[u8]) -> Option<u32>
     ensures found { IfSome result (λ n. word.now ≡ decimal n) }
     ensures only { (n : ℕ) → n < 2 ^ 32 → word.now ≡ decimal n → result ≡ Some n }
@@ -22,7 +22,7 @@ pub fn read_count(word: &[u8]) -> Option<u32>
 
 /// The fraction that the word spells in canonical form, as `-1/2` or `3`.
 ///
-/// None where the word is no canonical text: a part has a leading zero or is above 2^127 - 1, the
+/// None if the word is no canonical text: a part has a leading zero or is above 2^127 - 1, the
 /// fraction is not in lowest terms, the denominator 1 is written, or a sign stands before 0.
 pub fn read_canonical(word: &[u8]) -> Option<Frac>
     ensures found { IfSome result (λ x. word.now ≡ fraction_text x) }
@@ -32,7 +32,7 @@ pub fn read_canonical(word: &[u8]) -> Option<Frac>
     in_lowest_terms(num, den)
 }
 
-/// The fraction `num/den`, where that is in lowest terms.
+/// The fraction `num/den`, if that is in lowest terms.
 fn in_lowest_terms(num: i128, den: i128) -> Option<Frac>
     ensures found { IfSome result (λ x. (numerator x ≡ num) × (denominator x ≡ den)) }
     ensures only { IsLowest num den → IsSome result }
@@ -54,7 +54,7 @@ fn read_parts(word: &[u8]) -> Option<(i128, i128)>
     Some((read_numerator(num)?, read_denominator(den)?))
 }
 
-/// How many bytes stand before the first `/`, or in the whole word where it has none.
+/// How many bytes stand before the first `/`, or in the whole word if it has none.
 fn numerator_len(word: &[u8]) -> usize
     ensures { result ≡ position_or_len (λ b. b == 47) word.now }
 {
@@ -68,7 +68,7 @@ fn first_slash(word: &[u8]) -> Option<usize>
     word.iter().position(|byte| *byte == b'/')
 }
 
-/// The whole number that the word spells: digits without a leading zero, after a `-` where it is
+/// The whole number that the word spells: digits without a leading zero, after a `-` if it is
 /// below 0.
 fn read_numerator(word: &[u8]) -> Option<i128>
     ensures found { IfSome result (λ n. word.now ≡ signed_decimal n) }

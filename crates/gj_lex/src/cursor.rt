@@ -55,7 +55,7 @@ impl<'a> Cursor<'a> {
     }
 
     /// The next line of the source. It ends before its LF or at the end of the source, and keeps a
-    /// CR. None exactly where no byte is left. It takes no memory.
+    /// CR. None exactly if no byte is left. It takes no memory.
     pub fn next_line(&mut self) -> Option<LineSpan>
         ensures none { IsNone result ↔ (self.old.position ≡ length self.old.source) }
         ensures ended { IfNone result (self.new ≡ self.old) }

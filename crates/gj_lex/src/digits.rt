@@ -10,7 +10,7 @@ const LIMIT: u128 = 0x7fff_ffff_ffff_ffff_ffff_ffff_ffff_ffff;
 
 /// The number that the word spells in digits, without a leading zero.
 ///
-/// None where the word is no such number, or one above 2^127 - 1.
+/// None if the word is no such number, or one above 2^127 - 1.
 pub(crate) fn read_digits(word: &[u8]) -> Option<u128>
     ensures found { IfSome result (λ n. (n < 2 ^ 127) × (word.now ≡ decimal n)) }
     ensures only { (n : ℕ) → n < 2 ^ 127 → word.now ≡ decimal n → result ≡ Some n }
@@ -28,7 +28,7 @@ pub(crate) fn has_leading_zero(word: &[u8]) -> bool
     word.len() > 1 && word[0] == b'0'
 }
 
-/// The number that the word spells in digits, where there is a digit and the number is at most
+/// The number that the word spells in digits, if there is a digit and the number is at most
 /// `LIMIT`. Leading zeros are allowed.
 pub(crate) fn read_run(word: &[u8]) -> Option<u128>
     ensures { let value = digits_value 10 word.now in
@@ -40,7 +40,7 @@ pub(crate) fn read_run(word: &[u8]) -> Option<u128>
     value_of(word)
 }
 
-/// The number that the bytes spell, where each is a digit and the number is at most `LIMIT`.
+/// The number that the bytes spell, if each is a digit and the number is at most `LIMIT`.
 fn value_of(word: &[u8]) -> Option<u128>
     ensures { let value = digits_value 10 word.now in
         SomeIff result (AllDigits 10 word.now × (value < 2 ^ 127)) value }
@@ -48,7 +48,7 @@ fn value_of(word: &[u8]) -> Option<u128>
     value_after(0, word)
 }
 
-/// The number that the bytes spell behind the digits of `front`, where each is a digit and the
+/// The number that the bytes spell behind the digits of `front`, if each is a digit and the
 /// number is at most `LIMIT`.
 pub(crate) fn value_after(front: u128, word: &[u8]) -> Option<u128>
     requires { front < 2 ^ 127 }
@@ -62,7 +62,7 @@ pub(crate) fn value_after(front: u128, word: &[u8]) -> Option<u128>
     Some(value)
 }
 
-/// The number with one more digit at its end, where the byte is a digit and the number is at most
+/// The number with one more digit at its end, if the byte is a digit and the number is at most
 /// `LIMIT`.
 fn with_digit(front: u128, byte: u8) -> Option<u128>
     requires { front < 2 ^ 127 }

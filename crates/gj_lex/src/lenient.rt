@@ -16,8 +16,8 @@ const MOST_DECIMALS: usize = 38;
 /// The fraction that the word spells in lenient form, as `-1/2`, `+03` or `2.50`.
 ///
 /// A sign may stand first, and then digits, or digits, `/` and digits, or digits, `.` and digits;
-/// leading zeros are allowed. None where the word has another form, where a number as it is written
-/// is above 2^127 - 1, or where the denominator is 0. It takes no memory.
+/// leading zeros are allowed. None if the word has another form, if a number as it is written
+/// is above 2^127 - 1, or if the denominator is 0. It takes no memory.
 pub fn read_number(word: &[u8]) -> Option<Frac>
     ensures found { IfSome result (λ x.
         (n : ℤ) × (d : ℕ) × IsNumberText word.now n d × IsRatio x n (pos d)) }
@@ -28,7 +28,7 @@ pub fn read_number(word: &[u8]) -> Option<Frac>
     Frac::new(signed(begins_with(word, b'-'), top), bottom as i128)
 }
 
-/// The number, below 0 where it is negative.
+/// The number, below 0 if it is negative.
 fn signed(is_negative: bool, size: u128) -> i128
     requires { size < 2 ^ 127 }
     ensures { result ≡ (if is_negative then neg_ℤ (pos size) else pos size) }
@@ -73,7 +73,7 @@ fn read_written(word: &[u8]) -> Option<(u128, u128)>
     }
 }
 
-/// How many bytes stand before the first `/` or `.`, or in the whole word where it has none.
+/// How many bytes stand before the first `/` or `.`, or in the whole word if it has none.
 fn mark_place(word: &[u8]) -> usize
     ensures { result ≡ position_or_len (λ b. (b == 47) || (b == 46)) word.now }
 {
@@ -120,7 +120,7 @@ fn read_point(front: &[u8], back: &[u8]) -> Option<(u128, u128)>
     Some((top, power_of_ten(back.len())?))
 }
 
-/// 10 to the exponent, where that is below 2^127.
+/// 10 to the exponent, if that is below 2^127.
 fn power_of_ten(exponent: usize) -> Option<u128>
     ensures { SomeIff result (10 ^ exponent < 2 ^ 127) (10 ^ exponent) }
 {

@@ -50,7 +50,7 @@ impl From<AllocError> for NameFault {
 impl Name {
     /// The name of these bytes.
     ///
-    /// `Form` comes exactly where the bytes are no name, and before any memory is taken.
+    /// `Form` comes exactly if the bytes are no name, and before any memory is taken.
     pub fn new(alloc: Global, bytes: &[u8]) -> Result<Name, NameFault>
         ensures name { IfOk result (λ name. name ≡ bytes.now) }
         ensures valid { OnOk result (IsName bytes.now) }

@@ -2,7 +2,7 @@
 
 ghost use Rattle.std.specs.Prelude.{◌≡◌, ◌≤◌, ◌++◌, length, drop, decimal, OnOk, OnErr};
 ghost use Rattle.std.specs.Fmt.{signed_decimal};
-ghost use Rattle.gj_lex.specs.NumberText.{fraction_text, denominator_text};
+ghost use Rattle.gj_lex.specs.NumberText.{count_line, fraction_text, denominator_text};
 
 use crate::digits::write_digits;
 use gj_frac::Frac;
@@ -21,6 +21,18 @@ pub fn print_count(out: &mut Vec<u8>, n: u32) -> Result<(), AllocError>
     let mut text = [0; SPACE];
     let start = write_digits(&mut text, SPACE, u128::from(n));
     out.extend_from_slice(&text[start..])
+}
+
+/// Appends a line of a word and a count: the word, the digits of the count without a leading zero, and a line feed.
+///
+/// An error says that memory ran out; `out` may then have a part of the line.
+pub fn push_count_line(out: &mut Vec<u8>, word: &[u8], n: u32) -> Result<(), AllocError>
+    ensures { OnOk result (out.new.items ≡ out.old.items ++ count_line word.now n) }
+{
+    out.extend_from_slice(word)?;
+    print_count(out, n)?;
+    out.push(b'\n')?;
+    Ok(())
 }
 
 /// Appends a fraction in canonical form, as `-1/2` or `3`.

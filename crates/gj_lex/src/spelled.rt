@@ -36,7 +36,7 @@ pub fn is_count(spelling: Spelling, word: &[u8]) -> bool
 
 /// The count below 2^32 that the word spells.
 ///
-/// None where the word spells no count, which `is_count` tells, or one from 2^32 on.
+/// None if the word spells no count, which `is_count` tells, or one from 2^32 on.
 pub fn count_of(spelling: Spelling, word: &[u8]) -> Option<u32>
     ensures found { IfSome result (IsCountWord spelling word.now) }
     ensures none { IfNone result ((n : ℕ) → n < 2 ^ 32 → IsCountWord spelling word.now n → ⊥) }

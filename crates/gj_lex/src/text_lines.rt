@@ -37,7 +37,7 @@ pub fn line_at(spelling: Spelling, text: &[u8]) -> Result<TextLine<'_>, PartFaul
     }
 }
 
-/// What follows the next line of the text, where that has the words of `words` and no others. It takes no memory.
+/// What follows the next line of the text, if that has the words of `words` and no others. It takes no memory.
 pub fn words_at<'a>(spelling: Spelling, text: &'a [u8], words: &[u8]) -> Result<&'a [u8], PartFault>
     ensures found { IfOk result (λ rest. (line_part spelling (words_rule (word_texts words.now))).Reads text.now tt rest.now) }
     ensures fault { IfErr result (IsFaultOf (line_part spelling (words_rule (word_texts words.now))) text.now) }
@@ -130,7 +130,7 @@ fn first_line<'a>(cursor: &mut Cursor<'a>) -> Option<TextLine<'a>>
     })
 }
 
-/// The line without the CR at its end, where one stands there.
+/// The line without the CR at its end, if one stands there.
 fn without_return(line: &[u8]) -> &[u8]
     ensures { (rest : List ℕ) → AreBytesOf (line.now ++ 10 ∷ rest) line.now result.now }
 {

@@ -75,7 +75,7 @@ pub fn has_no_word(line: &[u8]) -> bool
     split_word(line).is_none()
 }
 
-/// What stands behind the first word of the line, where that word is the name.
+/// What stands behind the first word of the line, if that word is the name.
 pub fn behind_name<'a>(line: &'a [u8], name: &[u8]) -> Option<&'a [u8]>
     ensures found { IfSome result (λ r. word_texts line.now ≡ name.now ∷ word_texts r.now) }
     ensures none { IfNone result ((words : List (List ℕ)) → word_texts line.now ≡ name.now ∷ words → ⊥) }
@@ -94,7 +94,7 @@ pub fn has_first_word(line: &[u8], word: &[u8]) -> bool
     behind_name(line, word).is_some()
 }
 
-/// The word of the line, where it has one word.
+/// The word of the line, if it has one word.
 pub fn only_word(line: &[u8]) -> Option<&[u8]>
     ensures found { IfSome result (λ w. word_texts line.now ≡ w.now ∷ []) }
     ensures none { IfNone result ((word : List ℕ) → word_texts line.now ≡ word ∷ [] → ⊥) }
@@ -106,7 +106,7 @@ pub fn only_word(line: &[u8]) -> Option<&[u8]>
     Some(word)
 }
 
-/// The word behind the name, where the line has these two words.
+/// The word behind the name, if the line has these two words.
 pub fn field_of<'a>(line: &'a [u8], name: &[u8]) -> Option<&'a [u8]>
     ensures found { IfSome result (λ w. word_texts line.now ≡ name.now ∷ w.now ∷ []) }
     ensures none { IfNone result ((word : List ℕ) → word_texts line.now ≡ name.now ∷ word ∷ [] → ⊥) }
@@ -114,7 +114,7 @@ pub fn field_of<'a>(line: &'a [u8], name: &[u8]) -> Option<&'a [u8]>
     only_word(behind_name(line, name)?)
 }
 
-/// The two words behind the name, where the line has these three words.
+/// The two words behind the name, if the line has these three words.
 pub fn two_fields_of<'a>(line: &'a [u8], name: &[u8]) -> Option<(&'a [u8], &'a [u8])>
     ensures found { IfSome result (λ r. word_texts line.now ≡ name.now ∷ r.0.now ∷ r.1.now ∷ []) }
     ensures none { IfNone result ((first second : List ℕ) →

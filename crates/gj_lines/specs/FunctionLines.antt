@@ -30,7 +30,7 @@ is_same x y = int_eq (numerator x) (numerator y) && int_eq (denominator x) (deno
 abbrev pub has_no_jump : Point → Bool
 has_no_jump p = is_same p.left p.value && is_same p.value p.right
 
--- the fractions of a point: one where the three are equal, else the limit from the left, the value and the limit from
+-- the fractions of a point: one if the three are equal, else the limit from the left, the value and the limit from
 -- the right
 unfoldable pub point_text : Point → List ℕ
 point_text p =

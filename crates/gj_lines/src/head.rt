@@ -9,6 +9,7 @@ ghost use Rattle.gj_lines.specs.FunctionGrammar.{order_rule, place_rule};
 
 use crate::place::place_of;
 use gj_lex::{PartFault, Reason, Spelling, count_of, field_of, fraction_of, is_count, line_at};
+use gj_shape::GREATEST_ORDER;
 
 /// The order in the next line, from 2 to 1,000, and what follows the line.
 pub(crate) fn order_at(spelling: Spelling, text: &[u8]) -> Result<(u32, &[u8]), PartFault>
@@ -39,7 +40,7 @@ fn order_in(spelling: Spelling, line: &[u8]) -> Result<u32, Reason>
     }
 }
 
-/// The order that the word spells, where it is from 2 to 1,000.
+/// The order that the word spells, if it is from 2 to 1,000.
 fn order_of(spelling: Spelling, word: &[u8]) -> Option<u32>
     requires { IsCountWord spelling word.now (digits_value 10 word.now) }
     ensures found { IfSome result (IsCountWord spelling word.now) }
@@ -57,7 +58,7 @@ fn order_of(spelling: Spelling, word: &[u8]) -> Option<u32>
 fn is_order(order: u32) -> bool
     ensures { IsTrue result ↔ IsOrder order }
 {
-    (2..=1000).contains(&order)
+    (2..=GREATEST_ORDER).contains(&order)
 }
 
 /// The place of the order in the next line, and what follows the line.

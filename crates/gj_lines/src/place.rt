@@ -6,7 +6,7 @@ ghost use Rattle.gj_lines.specs.PlaceFraction.{IsPlaceFraction};
 
 use gj_frac::Frac;
 
-/// The number k from 1 to the order less 1 for which the fraction is k/order, where there is one.
+/// The number k from 1 to the order less 1 for which the fraction is k/order, if there is one.
 pub fn place_of(fraction: Frac, order: u32) -> Option<u32>
     requires { IsOrder order }
     ensures found { IfSome result (λ k. IsPlace order k × IsRatio fraction (pos k) (pos order)) }
@@ -24,7 +24,7 @@ pub fn place_of(fraction: Frac, order: u32) -> Option<u32>
     Some(place)
 }
 
-/// The whole number as a count, where it is one below 2^32.
+/// The whole number as a count, if it is one below 2^32.
 fn count_of(n: i128) -> Option<u32>
     ensures found { IfSome result (λ k. n ≡ pos k) }
     ensures only { (k : ℕ) → k < 2 ^ 32 → n ≡ pos k → result ≡ Some k }

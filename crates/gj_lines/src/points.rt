@@ -61,7 +61,7 @@ fn point_at<'a>(
     }
 }
 
-/// The fault of the line with which the text begins, where its point cannot follow.
+/// The fault of the line with which the text begins, if its point cannot follow.
 fn refusal_of(fault: PointFault, text: &[u8]) -> PartFault
     ensures { result ≡ refusal_of fault (length text.now) }
 {
@@ -86,7 +86,7 @@ fn point_in(spelling: Spelling, line: &[u8]) -> Result<Point, Reason>
     }
 }
 
-/// The words behind `point` in the line, where they are one or three, in strict spelling not three that are the same.
+/// The words behind `point` in the line, if they are one or three, in strict spelling not three that are the same.
 fn point_words(spelling: Spelling, line: &[u8]) -> Option<PointWords<'_>>
     ensures found { IfSome result (λ p. word_texts line.now ≡ point_words (words_of_point p)) }
     ensures words { IfSome result (λ p. ArePointWords spelling (words_of_point p)) }
@@ -100,7 +100,7 @@ fn point_words(spelling: Spelling, line: &[u8]) -> Option<PointWords<'_>>
     Some(words)
 }
 
-/// The words behind `point` in the line, where they are one or three.
+/// The words behind `point` in the line, if they are one or three.
 fn one_or_three(line: &[u8]) -> Option<PointWords<'_>>
     ensures found { IfSome result (λ p. word_texts line.now ≡ point_words (words_of_point p)) }
     ensures none { IfNone result ((words : List (List ℕ)) →

@@ -6,7 +6,7 @@ ghost use Rattle.gj_lines.specs.FunctionLines.{fraction_line, order_line, place_
 ghost use Rattle.gj_shape.specs.declared.points.Point.{Point};
 
 use gj_frac::Frac;
-use gj_lex::{print_count, print_frac};
+use gj_lex::{print_frac, push_count_line};
 use gj_shape::{Point, Shape};
 use std::alloc::{AllocError, Global};
 
@@ -57,10 +57,7 @@ fn push_head(alloc: Global, out: &mut Vec<u8>, order: u32, place: Frac) -> Resul
 pub fn push_order_line(out: &mut Vec<u8>, order: u32) -> Result<(), AllocError>
     ensures { OnOk result (out.new.items ≡ out.old.items ++ order_line order) }
 {
-    out.extend_from_slice(b"order ")?;
-    print_count(out, order)?;
-    out.push(b'\n')?;
-    Ok(())
+    push_count_line(out, b"order ", order)
 }
 
 /// Appends a point line for each multiple of 1/q.
@@ -96,7 +93,7 @@ fn push_point_line(alloc: Global, out: &mut Vec<u8>, point: Point) -> Result<(),
     Ok(())
 }
 
-/// Appends the one fraction of a point, or the three where they are not equal.
+/// Appends the one fraction of a point, or the three if they are not equal.
 fn push_point(alloc: Global, out: &mut Vec<u8>, point: Point) -> Result<(), AllocError>
     ensures { OnOk result (out.new.items ≡ out.old.items ++ point_text point) }
 {

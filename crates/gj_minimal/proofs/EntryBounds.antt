@@ -8,7 +8,7 @@ use Rattle.gj_shape.specs.Faces.{corners_of, limits_of, slack_from}
 use Rattle.gj_shape.specs.declared.faces.FaceKind.{FaceKind}
 use Rattle.gj_shape.specs.declared.faces.FaceKind.TheVariants.{Vertex, Horizontal, Vertical, Diagonal, Lower, Upper}
 use Rattle.gj_theory.specs.EarlierTests.{PassesSymmetry, PassesBefore}
-use Rattle.gj_theory.specs.NearCorners.{total}
+use Rattle.gj_shape.specs.SlopeRows.{total}
 use Rattle.gj_theory.proofs.Lanes.{AreBounded, are_bounded}
 use Rattle.gj_shape.specs.FirstViolation.Test.{subadditive_at}
 use Rattle.gj_minimal.proofs.Theory.{limit_count, some_corners}

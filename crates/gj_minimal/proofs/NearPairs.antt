@@ -15,7 +15,8 @@ use Rattle.gj_shape.specs.declared.faces.FaceKind.TheVariants.{Vertex, Horizonta
 use Rattle.gj_shape.specs.declared.violations.Violation.TheVariants as violation
 use Rattle.gj_complex.specs.declared.square.Square.{Square}
 use Rattle.gj_complex.specs.Squares.{limits_in}
-use Rattle.gj_theory.specs.NearCorners.{total, near_value}
+use Rattle.gj_shape.specs.SlopeRows.{total}
+use Rattle.gj_theory.specs.NearCorners.{near_value}
 use Rattle.gj_minimal.proofs.Theory.{limit_count, near_corner}
 use Rattle.gj_minimal.proofs.NearPoints.{least_along}
 

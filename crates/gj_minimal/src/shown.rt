@@ -6,7 +6,7 @@ ghost use Rattle.gj_shape.specs.FirstViolation.{Shows, ShowsNearCorner, first_co
 ghost use Rattle.gj_shape.specs.FirstViolation.Test.{nonnegative_after, nonnegative_before, symmetric_between};
 ghost use Rattle.gj_complex.specs.Squares.{limits_in};
 ghost use Rattle.gj_theory.specs.EarlierTests.{PassesSymmetry};
-ghost use Rattle.gj_theory.specs.NearCorners.{total};
+ghost use Rattle.gj_shape.specs.SlopeRows.{total};
 ghost use Rattle.gj_minimal.specs.Failures.{FailsFirst, test_of, HasGridPoints};
 
 use crate::entries::{left_at, right_at};

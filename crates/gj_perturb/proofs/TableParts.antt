@@ -11,20 +11,12 @@ use Rattle.gj_tools.proofs.Quotients.{same_at_remainder}
 use Rattle.gj_shape.specs.FunctionData.{FunctionData, IsWithinBounds}
 use Rattle.gj_shape.specs.Perturbation.{slack_on_grid, IsLeastSlack}
 use Rattle.gj_shape.specs.Table.{table, IsMinimalTable, IsMinimal}
-use Rattle.gj_theory.proofs.SlacksAndSizes.{least_slack}
+use Rattle.gj_theory.proofs.SlacksAndSizes.{at_most_scale, least_slack}
 use Rattle.gj_perturb.specs.ListSlacks.{IsShort, slack_in, IsReached, IsLeastOfRows}
 
 -- ---- bounds
 
 -- entries of a minimal table are at most 1
-pub at_most_scale : (t : ℕ → ℤ) (n k s i : ℕ) → 0 < n → IsMinimalTable t n k s → t i ≤ℤ pos s
-at_most_scale t n k s i some h =
-    let j = (n - 1) * i + k in
-    let whole : i + j ≡ k + i * n = omega (arith, ap (λ x. x * i) (let e : n - 1 + 1 ≡ n = omega arith in e)) in
-    let sum = h.symmetric i j (ap (λ x. x % n) whole ∙ add-mul-mod_self_right k i n) in
-    let sign = h.nonnegative j in
-    omega (arith, ints)
-
 pub entry_at_most : (t : ℕ → ℤ) (n k s i : ℕ) → 0 < n → IsMinimalTable t n k s → unsigned_abs (t i) ≤ s
 entry_at_most t n k s i some h =
     let high = at_most_scale t n k s i some h in

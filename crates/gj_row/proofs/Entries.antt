@@ -7,7 +7,8 @@ use Rattle.gj_frac.specs.declared.Frac.{Frac}
 use Rattle.gj_frac.specs.Fraction.{numerator}
 use Rattle.gj_shape.proofs.LeastDenominator.{Divides}
 use Rattle.gj_tools.proofs.Lists.{All-back}
-use Rattle.gj_row.specs.TableauLimits.{IsSmall, AreWithinLimits, IsWithinLimits}
+use Rattle.gj_row.specs.TableauLimits.{AreWithinLimits, IsRowWithinLimits}
+use Rattle.gj_shape.specs.Limits.{IsSmallNumber}
 use Rattle.gj_row.specs.TableauText.{is_zero, entry_at, entries_from}
 use Rattle.gj_row.specs.declared.tableau.Entry.{Entry}
 use Rattle.gj_row.specs.declared.tableau.Row.{Row}
@@ -62,12 +63,12 @@ columns_ascend c (x ∷ xs) =
 
 -- a row whose numbers are within the limits is
 pub row_within : (row : Row) (values : List Frac) → row.entries ≡ entries_from 0 values → AreWithinLimits (row.rhs ∷ values) →
-    IsWithinLimits (length values) row
+    IsRowWithinLimits (length values) row
 row_within row values is within =
     let d = within.common in
     record {
       numbers = rw is record {
-        small = values_hold IsSmall row.rhs values within.small;
+        small = values_hold IsSmallNumber row.rhs values within.small;
         common = (d.0, d.1, d.2, values_hold (Divides d.0) row.rhs values d.3);
       };
       no_zero = rw is (all_hold (λ e. numerator e.value ≢ pos 0) 0 values (λ i x below some. not_zero (get_or values i x) some));

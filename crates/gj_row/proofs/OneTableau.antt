@@ -21,9 +21,10 @@ use Rattle.gj_lex.proofs.SpelledWords.{one_fraction}
 use Rattle.gj_shape.specs.Given.{HasCommonDenominator}
 use Rattle.gj_shape.proofs.LeastDenominator.{Divides}
 use Rattle.gj_tools.proofs.Lists.{All-front, All-back}
-use Rattle.gj_row.specs.TableauLimits.{IsSmall, AreWithinLimits, IsWithinLimits, AreNames, IsTableau, entry_count}
+use Rattle.gj_row.specs.TableauLimits.{AreWithinLimits, IsRowWithinLimits, AreNames, IsTableau, entry_count}
+use Rattle.gj_shape.specs.Limits.{IsSmallNumber}
 use Rattle.gj_row.specs.TableauText.{SpellsEntry, SpellsNext, SpellNumbers, is_zero, entry_at, entries_from, records_of, SpellsRow, SpellsTableau, IsTableauText}
-use Rattle.gj_row.specs.FirstFault.{BreaksName, BreaksNumber, HasNumberFault, entries_of, HasHeaderFault, HasRowFault, HasFirstFault, IsFirstFault, header, columns, name, fields, rows, number, in_header, in_row}
+use Rattle.gj_row.specs.FirstFault.{BreaksName, BreaksNumber, HasNumberFault, entries_of, HasHeaderFault, HasRowFault, HasFirstFault, IsFirstFaultOfTableau, header, columns, name, fields, rows, number, in_header, in_row}
 use Rattle.gj_row.specs.Reading.{IsMemoryFault, NamesRecord}
 use Rattle.gj_row.specs.declared.faults.RowFault.{RowFault}
 use Rattle.gj_row.specs.declared.faults.RowFault.TheVariants.{Refused, Memory}
@@ -202,14 +203,14 @@ number_denied used ws zs e spelled within few fault =
     let count = subst (λ l. used + length (entries_of l) ≤ 100000) split few in
     denied e fault.xs fault.word p.x p.ys limits next count fault.breaks
   where
-    small_there : (xs : List Frac) (x : Frac) (ys : List Frac) → AreWithinLimits ((xs ++ x ∷ []) ++ ys) → IsSmall x
-    small_there xs x ys limits = All-head IsSmall x [] (All-back IsSmall xs (x ∷ []) (All-front IsSmall (xs ++ x ∷ []) ys limits.small))
+    small_there : (xs : List Frac) (x : Frac) (ys : List Frac) → AreWithinLimits ((xs ++ x ∷ []) ++ ys) → IsSmallNumber x
+    small_there xs x ys limits = All-head IsSmallNumber x [] (All-back IsSmallNumber xs (x ∷ []) (All-front IsSmallNumber (xs ++ x ∷ []) ys limits.small))
 
     denied : (e : RowReason) (xs : List Frac) (w : List ℕ) (x : Frac) (ys : List Frac) → AreWithinLimits ((xs ++ x ∷ []) ++ ys) → SpellsNext xs w x →
         used + length (entries_of ((xs ++ x ∷ []) ++ ys)) ≤ 100000 → BreaksNumber used xs w e → ⊥
     denied Number xs w x ys limits next count b = b x next
     denied Large xs w x ys limits next count b =
-        b.2 (subst IsSmall (one_next xs w x b.0 next b.1) (small_there xs x ys limits))
+        b.2 (subst IsSmallNumber (one_next xs w x b.0 next b.1) (small_there xs x ys limits))
     denied Fine xs w x ys limits next count b =
         b.3 (subst (λ y. HasCommonDenominator (xs ++ y ∷ [])) (one_next xs w x b.0 next b.1) (front_common (xs ++ x ∷ []) ys limits.common))
     denied Entries xs w x ys limits next count b =
@@ -245,7 +246,7 @@ all_values P zero c (x ∷ xs) h =
 zero_top : (x : Frac) → is_zero x ≡ true → unsigned_abs (numerator x) ≡ 0
 zero_top x e = grind (arith, nat_tests)
 
-zero_small : (x : Frac) → is_zero x ≡ true → IsSmall x
+zero_small : (x : Frac) → is_zero x ≡ true → IsSmallNumber x
 zero_small x e = let top = zero_top x e in omega arith
 
 zero_divides : (d : ℕ) (x : Frac) → is_zero x ≡ true → Divides d x
@@ -254,11 +255,11 @@ zero_divides d x e =
     let one : den ∣ 1 = x.lowest.coprime.2 den (subst (λ n. den ∣ n) (sym (zero_top x e)) (dvd-zero den)) (dvd_refl den) in
     dvd_trans den one (one-dvd d)
 
-values_within : (row : Row) (values : List Frac) (n : ℕ) → row.entries ≡ entries_from 0 values → IsWithinLimits n row →
+values_within : (row : Row) (values : List Frac) (n : ℕ) → row.entries ≡ entries_from 0 values → IsRowWithinLimits n row →
     AreWithinLimits (row.rhs ∷ values)
 values_within row values n is h =
     let d = h.numbers.common in record {
-      small = whole_row IsSmall zero_small h.numbers.small;
+      small = whole_row IsSmallNumber zero_small h.numbers.small;
       common = (d.0, d.1, d.2, whole_row (Divides d.0) (zero_divides d.0) d.3);
     }
   where
@@ -292,7 +293,7 @@ row_denied cols before later row ws e t h (name follows word more is breaks) =
 row_denied cols before later row ws e t h (number follows word more is new fault) =
     let words = sym is ∙ h.words_are in
     let same : more ≡ h.number_words = cc words in
-    let each = All-head (IsWithinLimits (length cols)) row later (All-back (IsWithinLimits (length cols)) before (row ∷ later) t.each_row) in
+    let each = All-head (IsRowWithinLimits (length cols)) row later (All-back (IsRowWithinLimits (length cols)) before (row ∷ later) t.each_row) in
     let count = sum_by-append (λ r. length r.entries) before (row ∷ later) in
     let entries = ap length h.entries_are in
     let this : sum_by (λ r. length r.entries) (row ∷ later) ≡ 0 + length row.entries + sum_by (λ r. length r.entries) later =
@@ -334,6 +335,6 @@ no_first_fault ws t n e h (in_row before words after s place spelled is fault) =
     row_denied s.columns s.rows p.ys p.x words e whole_table p.here fault
 
 -- a fault of a text that spells a tableau is want of memory
-pub only_memory : (text : List ℕ) (t : Tableau) (fault : RowFault) → IsTableauText text t → NamesRecord (IsFirstFault text) fault → IsMemoryFault fault
+pub only_memory : (text : List ℕ) (t : Tableau) (fault : RowFault) → IsTableauText text t → NamesRecord (IsFirstFaultOfTableau text) fault → IsMemoryFault fault
 only_memory text t (Refused n e) h fault = no_first_fault (records_of text) t n e h fault
 only_memory text t (Memory a) h fault = tt

@@ -1,8 +1,6 @@
 -- The numbers of a row, one after the other.
 use Rattle.std.proofs.Common.{◌≡◌, ℕ, ◌+◌, ◌<◌, ◌≤◌, List, [], ◌∷◌, ◌++◌, All, length, unsigned_abs, refl, sym, ap, ◌∙◌, append_assoc, arith}
-use Rattle.std.specs.Int.{◌∣◌}
 use Rattle.std.proofs.Math.Nat.{one-dvd}
-use Rattle.std.proofs.lemmas.Nat.Gcd.{dvd_trans}
 use Rattle.std.proofs.lemmas.List.{append-nil, length_push}
 use Rattle.std.proofs.lemmas.List.Elements.{All-nil, All-head, All-push}
 use Rattle.std.proofs.lemmas.Slice.Zip.{AllZip-long}
@@ -11,14 +9,16 @@ use Rattle.gj_frac.specs.declared.Frac.{Frac}
 use Rattle.gj_frac.specs.Fraction.{denominator}
 use Rattle.gj_lex.specs.SpelledNumbers.{IsFractionWord}
 use Rattle.gj_lex.specs.declared.spelling.Spelling.TheVariants.{Lenient}
-use Rattle.gj_shape.specs.Given.{IsCommonDenominator, HasCommonDenominator}
-use Rattle.gj_shape.proofs.LeastDenominator.{denominator_some, Divides}
+use Rattle.gj_shape.specs.Given.{IsLeastCommonDenominator, HasCommonDenominator}
+use Rattle.gj_shape.proofs.LeastDenominator.{within_of_least, least_with_next, least_of_none, no_common_with}
 use Rattle.gj_tools.proofs.Divisors.{lcm_positive}
 use Rattle.gj_tools.proofs.Lists.{All-front, All-back}
-use Rattle.gj_row.specs.TableauLimits.{IsSmall, AreWithinLimits}
+use Rattle.gj_row.specs.TableauLimits.{AreWithinLimits}
+use Rattle.gj_shape.specs.Limits.{greatest_number, denominator_bound, IsSmallNumber}
 use Rattle.gj_row.specs.TableauText.{SpellsEntry, SpellNumbers, entry_at, entries_from}
 use Rattle.gj_row.specs.FirstFault.{BreaksNumber, HasNumberFault}
-use Rattle.gj_row.specs.Reading.{Extends, HasNoCommon, HasRead, StopsNumber, StopsEntry}
+use Rattle.gj_row.specs.Reading.{HasRead, StopsNumber, StopsEntry}
+use Rattle.gj_shape.specs.Denominators.{Extends, AreWithinOver}
 use Rattle.gj_row.specs.declared.tableau.Entry.{Entry}
 use Rattle.gj_row.specs.declared.faults.RowReason.{RowReason}
 use Rattle.gj_row.specs.declared.faults.RowReason.TheVariants.{Header, Fields, Columns, Rows, Name, Twice, Number, Large, Fine, Entries}
@@ -46,44 +46,13 @@ numbers_long (v ∷ ws) right xs h = let e = AllZip-long SpellsEntry ws xs h.1 i
 -- ---- the least common denominator
 
 -- numbers within the limits, of which m is the least common denominator
-pub record AreOver (xs : List Frac) (m : ℕ) : Type 0 where
-  pub small : All IsSmall xs
-  pub low : 1 ≤ m
-  pub high : m < 2147483648
-  pub common : IsCommonDenominator xs m
-  pub least : (c : ℕ) → IsCommonDenominator xs c → m ∣ c
-
-pub over_none : AreOver [] 1
-over_none = record {
-  small = All-nil IsSmall;
-  low = omega arith;
-  high = omega arith;
-  common = All-nil (Divides 1);
-  least = λ c h. one-dvd c;
-}
-
-pub over_next : (xs : List Frac) (x : Frac) (scale m : ℕ) → AreOver xs scale → Extends scale x m → AreOver (xs ++ x ∷ []) m
-over_next xs x scale m h next = record {
-  small = All-push IsSmall xs x h.small next.small;
-  low = lcm_positive scale (unsigned_abs (denominator x)) m next.least h.low (denominator_some x);
-  high = next.high;
-  common = All-push (Divides m) xs x (λ k d l. dvd_trans _ (h.common k d l) next.least.0) next.least.1;
-  least = λ c all. next.least.2 c (h.least c (All-front (Divides c) xs (x ∷ []) all))
-      (All-head (Divides c) x [] (All-back (Divides c) xs (x ∷ []) all));
-}
-
-pub over_within : (xs : List Frac) (m : ℕ) → AreOver xs m → AreWithinLimits xs
-over_within xs m h = record { small = h.small; common = (m, h.low, h.high, h.common) }
-
-pub no_common : (xs : List Frac) (x : Frac) (scale : ℕ) → AreOver xs scale → HasNoCommon scale x → HasCommonDenominator (xs ++ x ∷ []) → ⊥
-no_common xs x scale h none d =
-    none d.0 d.1 d.2 (h.least d.0 (All-front (Divides d.0) xs (x ∷ []) d.3))
-    (All-head (Divides d.0) x [] (All-back (Divides d.0) xs (x ∷ []) d.3))
+abbrev pub AreOver : List Frac → ℕ → Type 0
+AreOver xs m = AreWithinOver greatest_number xs m
 
 over_read : (used : ℕ) (words : List (List ℕ)) (right : Frac) (scale : ℕ) (entries : List Entry) →
     (h : HasRead used words right scale entries) → AreOver (right ∷ h.values) scale
 over_read used words right scale entries h =
-    record { small = h.begins.within.small; low = h.low; high = h.high; common = h.common; least = h.least }
+    record { small = h.begins.within.small; low = h.low; high = h.high; least = h.least }
 
 -- ---- what has been read
 
@@ -94,32 +63,31 @@ read_over used words right values scale entries spelled over is few = record {
   values = values;
   begins = record {
     spelled = spelled;
-    within = over_within (right ∷ values) scale over;
+    within = within_of_least (right ∷ values) scale over;
     few = let e : length entries ≡ length (entries_from 0 values) = ap length is in omega arith;
   };
   low = over.low;
   high = over.high;
-  common = over.common;
   least = over.least;
   entries_are = is;
 }
 
 -- the right side
-pub right_read : (used : ℕ) (w : List ℕ) (x : Frac) (m : ℕ) → used ≤ 100000 → IsFractionWord Lenient w x → Extends 1 x m →
+pub right_read : (used : ℕ) (w : List ℕ) (x : Frac) (m : ℕ) → used ≤ 100000 → IsFractionWord Lenient w x → Extends greatest_number 1 x m →
     HasRead used (w ∷ []) x m []
-right_read used w x m few spelled next = read_over used (w ∷ []) x [] m [] (spelled, tt) (over_next [] x 1 m over_none next) refl (omega arith)
+right_read used w x m few spelled next = read_over used (w ∷ []) x [] m [] (spelled, tt) (least_with_next [] x 1 m least_of_none next) refl (omega arith)
 
 -- one more entry
 pub entry_read : (used : ℕ) (words : List (List ℕ)) (right : Frac) (scale : ℕ) (entries : List Entry) (column : ℕ) (w : List ℕ)
     (x : Frac) (m : ℕ) (new : List Entry) → HasRead used words right scale entries → column + 1 ≡ length words → SpellsEntry w x →
-    Extends scale x m → new ≡ entries ++ entry_at column x → used + length new ≤ 100000 →
+    Extends greatest_number scale x m → new ≡ entries ++ entry_at column x → used + length new ≤ 100000 →
     HasRead used (words ++ w ∷ []) right m new
 entry_read used words right scale entries column w x m new h place spelled next is few =
     let values = h.values in
     let long = numbers_long words right values h.begins.spelled in
     let at : column ≡ 0 + length values = omega arith in
     read_over used (words ++ w ∷ []) right (values ++ x ∷ []) m new (numbers_with words right values w x h.begins.spelled spelled)
-    (over_next (right ∷ values) x scale m (over_read used words right scale entries h) next)
+    (least_with_next (right ∷ values) x scale m (over_read used words right scale entries h) next)
     (is ∙ ap (λ l. l ++ entry_at column x) h.entries_are ∙ ap (λ n. entries_from 0 values ++ entry_at n x) at
     ∙ sym (entries_with 0 values x)) few
 
@@ -133,14 +101,14 @@ right_stopped used w back words e few place stops = record {
   back = back;
   place = place;
   xs = [];
-  good = record { spelled = tt; within = over_within [] 1 over_none; few = omega arith };
+  good = record { spelled = tt; within = within_of_least [] 1 least_of_none; few = omega arith };
   breaks = breaks e stops;
 }
   where
     breaks : (e : RowReason) → StopsNumber (IsFractionWord Lenient w) 1 e → BreaksNumber used [] w e
     breaks Number s = s
     breaks Large s = s
-    breaks Fine s = (s.0, s.1, s.2, no_common [] s.0 1 over_none s.3)
+    breaks Fine s = (s.0, s.1, s.2, no_common_with {limit = greatest_number} [] s.0 1 least_of_none s.3)
     breaks Header s = s
     breaks Fields s = s
     breaks Columns s = s
@@ -168,13 +136,13 @@ entry_stopped used front right scale entries w back words e h place stops = reco
     breaks : (e : RowReason) → StopsEntry (SpellsEntry w) scale (used + length entries) e → BreaksNumber used (right ∷ h.values) w e
     breaks Number s = s
     breaks Large s = s
-    breaks Fine s = (s.0, s.1, s.2, no_common (right ∷ h.values) s.0 scale over s.3)
+    breaks Fine s = (s.0, s.1, s.2, no_common_with (right ∷ h.values) s.0 scale over s.3)
     breaks Entries s =
         let x = s.0 in
         let count : length (entries_from 0 (h.values ++ x ∷ [])) ≡ length entries + 1 =
         ap length (entries_with 0 h.values x ∙ ap (λ l. entries_from 0 h.values ++ l) (entry_one (0 + length h.values) x s.4)
         ∙ ap (λ l. l ++ record { column = 0 + length h.values; value = x } ∷ []) (sym h.entries_are)) ∙ length_push entries _ in
-        (x, s.2, over_within (right ∷ (h.values ++ x ∷ [])) s.1 (over_next (right ∷ h.values) x scale s.1 over s.3), omega (arith, s.5))
+        (x, s.2, within_of_least (right ∷ (h.values ++ x ∷ [])) s.1 (least_with_next (right ∷ h.values) x scale s.1 over s.3), omega (arith, s.5))
     breaks Header s = s
     breaks Fields s = s
     breaks Columns s = s

@@ -1,7 +1,7 @@
 -- The words of a record that is a row.
 use Rattle.std.proofs.Common.{◌≡◌, ℕ, ◌+◌, ◌-◌, ◌<◌, List, ◌∷◌, Some, slice_get, length, drop, sym, ap, subst, ◌∙◌, arith}
 use Rattle.std.proofs.lemmas.List.{length-drop}
-use Rattle.gj_row.specs.TableauLimits.{IsWithinLimits, names_of, entry_count}
+use Rattle.gj_row.specs.TableauLimits.{IsRowWithinLimits, names_of, entry_count}
 use Rattle.gj_row.specs.FirstFault.{BreaksName, IsNewName, HasNumberFault, MayFollow, HasRowFault, name, number}
 use Rattle.gj_row.specs.Reading.{HasRead, ReadsRow}
 use Rattle.gj_row.specs.declared.tableau.Entry.{Entry}
@@ -30,7 +30,7 @@ row_read columns used words w row scale items wide first is read entries =
         spelled = read.begins.spelled;
         entries_are = entries_are;
       };
-      within = subst (λ n. IsWithinLimits n row) count (row_within row read.values entries_are read.begins.within);
+      within = subst (λ n. IsRowWithinLimits n row) count (row_within row read.values entries_are read.begins.within);
       few = let e = ap length entries_are in omega (arith, read.begins.few);
     }
 

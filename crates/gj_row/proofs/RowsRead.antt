@@ -8,9 +8,9 @@ use Rattle.indexmap.proofs.SetLemmas.{AllZip-push}
 use Rattle.csv.specs.Reading.{strip_bom}
 use Rattle.csv.specs.declared.iter.ByteRecordsIntoIter.{ByteRecordsIntoIter}
 use Rattle.std.specs.Borrow.{Bor}
-use Rattle.gj_row.specs.TableauLimits.{IsWithinLimits, AreNames, names_of, entry_count}
+use Rattle.gj_row.specs.TableauLimits.{IsRowWithinLimits, AreNames, names_of, entry_count}
 use Rattle.gj_row.specs.TableauText.{word_of, records_of, header_of, SpellsRow, SpellsTableau, IsTableauText}
-use Rattle.gj_row.specs.FirstFault.{IsNewName, HasHeaderFault, HasRowFault, IsFirstFault, header, in_header, in_row}
+use Rattle.gj_row.specs.FirstFault.{IsNewName, HasHeaderFault, HasRowFault, IsFirstFaultOfTableau, header, in_header, in_row}
 use Rattle.gj_row.specs.Reading.{ReadsRow, StandsBehind, IsAtEnd}
 use Rattle.gj_row.specs.declared.tableau.Row.{Row}
 use Rattle.gj_row.specs.declared.tableau.Tableau.{Tableau}
@@ -50,7 +50,7 @@ header_spells words columns begins few names = record {
     few_rows = omega arith;
     few_entries = omega arith;
     names = subst AreNames (sym (append-nil columns)) names;
-    each_row = All-nil (IsWithinLimits (length columns));
+    each_row = All-nil (IsRowWithinLimits (length columns));
   };
 }
 
@@ -88,7 +88,7 @@ row_spells before words columns rows used row h counted room read new = record {
     few_rows = let n = length_push rows row in omega arith;
     few_entries = let n = count_next rows row in omega (arith, read.few);
     names = subst AreNames (sym (names_next columns rows row)) (names_with (names_of (tableau_of columns rows)) row.basic h.is_tableau.names new);
-    each_row = All-push (IsWithinLimits (length columns)) rows row h.is_tableau.each_row read.within;
+    each_row = All-push (IsRowWithinLimits (length columns)) rows row h.is_tableau.each_row read.within;
   };
 }
 
@@ -123,19 +123,19 @@ begin text before it stands =
     let more = records_begin (strip_bom text) before _ stands.rest stands.reached in
     (more.0, ap words_of more.1 ∙ map-append (map word_of) before more.0)
 
-pub no_record : (text : List ℕ) (it : ByteRecordsIntoIter (Bor (List ℕ))) → StandsBehind text [] it → IsAtEnd it → IsFirstFault text 1 Header
+pub no_record : (text : List ℕ) (it : ByteRecordsIntoIter (Bor (List ℕ))) → StandsBehind text [] it → IsAtEnd it → IsFirstFaultOfTableau text 1 Header
 no_record text it stands end =
     in_header refl (header (λ columns rows e. let none = ap words_of (end text [] stands) in cc (none, e)) refl)
 
 pub header_fault : (text : List ℕ) (it : ByteRecordsIntoIter (Bor (List ℕ))) (fields : List (List ℕ)) (e : RowReason) →
-    StandsBehind text (fields ∷ []) it → ((rows : Words) → HasHeaderFault (map word_of fields ∷ rows) e) → IsFirstFault text 1 e
+    StandsBehind text (fields ∷ []) it → ((rows : Words) → HasHeaderFault (map word_of fields ∷ rows) e) → IsFirstFaultOfTableau text 1 e
 header_fault text it fields e stands fault =
     let more = begin text (fields ∷ []) it stands in
     in_header refl (subst (λ ws. HasHeaderFault ws e) (sym more.1) (fault (words_of more.0)))
 
 pub row_fault : (text : List ℕ) (old new : ByteRecordsIntoIter (Bor (List ℕ))) (fields names columns : List (List ℕ)) (rows : List Row)
     (used n : ℕ) (e : RowReason) → (h : RowsRead text old names columns rows used) → StandsBehind text (h.before ++ fields ∷ []) new →
-    n ≡ length rows + 2 → HasRowFault (tableau_of columns rows) (map word_of fields) e → IsFirstFault text n e
+    n ≡ length rows + 2 → HasRowFault (tableau_of columns rows) (map word_of fields) e → IsFirstFaultOfTableau text n e
 row_fault text old new fields names columns rows used n e h stands number fault =
     let more = begin text (h.before ++ fields ∷ []) new stands in
     let long = AllZip-long (SpellsRow (length columns)) h.spelled.row_words rows h.spelled.rows_are in

@@ -2,8 +2,9 @@
 use Rattle.std.specs.Prelude.{ℕ, ◌≡◌, ◌≢◌, ◌+◌, ◌<◌, ◌≤◌, List, [], ◌∷◌, ◌++◌, Contains, length, codes}
 use Rattle.gj_frac.specs.declared.Frac.{Frac}
 use Rattle.gj_lex.specs.Name.{IsName}
+use Rattle.gj_shape.specs.Limits.{IsSmallNumber}
 use Rattle.gj_shape.specs.Given.{HasCommonDenominator}
-use Rattle.gj_row.specs.TableauLimits.{IsSmall, AreWithinLimits, AreNames, names_of, entry_count}
+use Rattle.gj_row.specs.TableauLimits.{most_columns, most_rows, most_entries, AreWithinLimits, AreNames, names_of, entry_count}
 use Rattle.gj_row.specs.TableauText.{records_of, SpellsNext, SpellNumbers, entries_from, header_of, SpellsTableau}
 use Rattle.gj_row.specs.declared.tableau.Entry.{Entry}
 use Rattle.gj_row.specs.declared.tableau.Tableau.{Tableau}
@@ -53,10 +54,10 @@ entries_of (right ∷ values) = entries_from 0 values
 -- else one above 2^31 in absolute value, or else one that leaves no common denominator up to 2^31 - 1, or else one entry too many
 abbrev pub BreaksNumber : ℕ → List Frac → List ℕ → RowReason → Type 0
 BreaksNumber used xs word Number = (x : Frac) → SpellsNext xs word x → ⊥
-BreaksNumber used xs word Large = (x : Frac) × SpellsNext xs word x × (IsSmall x → ⊥)
-BreaksNumber used xs word Fine = (x : Frac) × SpellsNext xs word x × IsSmall x × (HasCommonDenominator (xs ++ x ∷ []) → ⊥)
+BreaksNumber used xs word Large = (x : Frac) × SpellsNext xs word x × (IsSmallNumber x → ⊥)
+BreaksNumber used xs word Fine = (x : Frac) × SpellsNext xs word x × IsSmallNumber x × (HasCommonDenominator (xs ++ x ∷ []) → ⊥)
 BreaksNumber used xs word Entries = (x : Frac) × SpellsNext xs word x × AreWithinLimits (xs ++ x ∷ [])
-    × (100000 < used + length (entries_of (xs ++ x ∷ [])))
+    × (most_entries < used + length (entries_of (xs ++ x ∷ [])))
 BreaksNumber used xs word Header = ⊥
 BreaksNumber used xs word Fields = ⊥
 BreaksNumber used xs word Columns = ⊥
@@ -68,7 +69,7 @@ BreaksNumber used xs word Twice = ⊥
 pub record BeginRow (used : ℕ) (words : List (List ℕ)) (xs : List Frac) : Type 0 where
   pub spelled : SpellNumbers words xs
   pub within : AreWithinLimits xs
-  pub few : used + length (entries_of xs) ≤ 100000
+  pub few : used + length (entries_of xs) ≤ most_entries
 
 -- ---- the first word of a record that breaks a rule
 
@@ -97,20 +98,20 @@ pub record HasNumberFault (used : ℕ) (words : List (List ℕ)) (reason : RowRe
 pub data HasHeaderFault (words : List (List (List ℕ))) (reason : RowReason) : Type 0 where
   header : ((columns : List (List ℕ)) (rows : List (List (List ℕ))) → words ≡ header_of columns ∷ rows → ⊥) → reason ≡ Header →
       HasHeaderFault words reason
-  columns : (columns : List (List ℕ)) (rows : List (List (List ℕ))) → words ≡ header_of columns ∷ rows → 10000 < length columns →
+  columns : (columns : List (List ℕ)) (rows : List (List (List ℕ))) → words ≡ header_of columns ∷ rows → most_columns < length columns →
       reason ≡ Columns → HasHeaderFault words reason
-  name : (columns : List (List ℕ)) (rows : List (List (List ℕ))) → words ≡ header_of columns ∷ rows → length columns ≤ 10000 →
+  name : (columns : List (List ℕ)) (rows : List (List (List ℕ))) → words ≡ header_of columns ∷ rows → length columns ≤ most_columns →
       HasNameFault columns reason → HasHeaderFault words reason
 
 -- the words of a record may be a row behind this tableau: as many as in record 1, and there are fewer than 10,000 rows
 pub record MayFollow (t : Tableau) (words : List (List ℕ)) : Type 0 where
   pub count : length words ≡ length t.columns + 2
-  pub room : length t.rows < 10000
+  pub room : length t.rows < most_rows
 
 -- why a record cannot follow this tableau as a row
 pub data HasRowFault (t : Tableau) (words : List (List ℕ)) (reason : RowReason) : Type 0 where
   fields : length words ≢ length t.columns + 2 → reason ≡ Fields → HasRowFault t words reason
-  rows : length words ≡ length t.columns + 2 → 10000 ≤ length t.rows → reason ≡ Rows → HasRowFault t words reason
+  rows : length words ≡ length t.columns + 2 → most_rows ≤ length t.rows → reason ≡ Rows → HasRowFault t words reason
   name : MayFollow t words → (word : List ℕ) (more : List (List ℕ)) → words ≡ word ∷ more →
       BreaksName (names_of t) word reason → HasRowFault t words reason
   number : MayFollow t words → (word : List ℕ) (more : List (List ℕ)) → words ≡ word ∷ more →
@@ -124,5 +125,5 @@ pub data HasFirstFault (words : List (List (List ℕ))) (number : ℕ) (reason :
       HasRowFault t record_words reason → HasFirstFault words number reason
 
 -- the text has its first fault in this record, for this reason
-abbrev pub IsFirstFault : List ℕ → ℕ → RowReason → Type 0
-IsFirstFault text n reason = HasFirstFault (records_of text) n reason
+abbrev pub IsFirstFaultOfTableau : List ℕ → ℕ → RowReason → Type 0
+IsFirstFaultOfTableau text n reason = HasFirstFault (records_of text) n reason

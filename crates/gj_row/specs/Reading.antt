@@ -1,6 +1,5 @@
 -- What the steps of the reader answer (own).
-use Rattle.std.specs.Prelude.{ℕ, ◌≡◌, ◌+◌, ◌<◌, ◌≤◌, ◌^◌, false, List, [], ◌∷◌, ◌++◌, Option, Some, None, length, map, unsigned_abs, Vec}
-use Rattle.std.specs.Int.{◌∣◌}
+use Rattle.std.specs.Prelude.{ℕ, ◌≡◌, ◌+◌, ◌<◌, ◌≤◌, false, List, [], ◌∷◌, ◌++◌, Option, Some, None, length, map, Vec}
 use Rattle.std.specs.Borrow.{Bor}
 use Rattle.csv.specs.Reading.{records, Reached, Ready, default_config, source_of, strip_bom, owned_rows_reader, owned_rows_left, reader_trim, reader_config, reader_state}
 use Rattle.csv.specs.Records.{Row as FieldRow, fields_of}
@@ -8,10 +7,10 @@ use Rattle.csv.specs.declared.iter.ByteRecordsIntoIter.{ByteRecordsIntoIter}
 use Rattle.csv.specs.declared.parser.State.TheVariants as state
 use Rattle.csv.specs.declared.reader.Trim.TheVariants as trim
 use Rattle.gj_frac.specs.declared.Frac.{Frac}
-use Rattle.gj_frac.specs.Fraction.{denominator}
-use Rattle.gj_shape.specs.Given.{IsCommonDenominator}
-use Rattle.gj_tools.specs.Divisors.{IsLcm}
-use Rattle.gj_row.specs.TableauLimits.{IsSmall, IsWithinLimits}
+use Rattle.gj_shape.specs.Limits.{greatest_number, denominator_bound, IsSmallNumber}
+use Rattle.gj_shape.specs.Given.{IsLeastCommonDenominator}
+use Rattle.gj_shape.specs.Denominators.{Extends, HasNoCommonWith}
+use Rattle.gj_row.specs.TableauLimits.{most_entries, IsRowWithinLimits}
 use Rattle.gj_row.specs.TableauText.{word_of, is_zero, SpellsRow, entries_from}
 use Rattle.gj_row.specs.FirstFault.{BeginRow}
 use Rattle.gj_row.specs.declared.tableau.Entry.{Entry}
@@ -53,21 +52,11 @@ words_in fields = map word_of (fields_of fields)
 
 -- ---- numbers
 
--- m is the least common denominator of numbers with the least common denominator `scale` and of x, which is within the limits
-pub record Extends (scale : ℕ) (x : Frac) (m : ℕ) : Type 0 where
-  pub small : IsSmall x
-  pub least : IsLcm scale (unsigned_abs (denominator x)) m
-  pub high : m < 2 ^ 31
-
--- no number below 2^31 is a common denominator of such numbers and of x
-abbrev pub HasNoCommon : ℕ → Frac → Type 0
-HasNoCommon scale x = (m : ℕ) → 1 ≤ m → m < 2 ^ 31 → scale ∣ m → unsigned_abs (denominator x) ∣ m → ⊥
-
 -- why what was read cannot follow numbers with the least common denominator `scale`
 abbrev pub StopsAt : ℕ → Option Frac → RowReason → Type 0
 StopsAt scale number Number = number ≡ None
-StopsAt scale number Large = (x : Frac) × (number ≡ Some x) × (IsSmall x → ⊥)
-StopsAt scale number Fine = (x : Frac) × (number ≡ Some x) × IsSmall x × HasNoCommon scale x
+StopsAt scale number Large = (x : Frac) × (number ≡ Some x) × (IsSmallNumber x → ⊥)
+StopsAt scale number Fine = (x : Frac) × (number ≡ Some x) × IsSmallNumber x × HasNoCommonWith scale x
 StopsAt scale number Header = ⊥
 StopsAt scale number Fields = ⊥
 StopsAt scale number Columns = ⊥
@@ -79,8 +68,8 @@ StopsAt scale number Entries = ⊥
 -- the same of a word that spells the numbers of which P holds
 abbrev pub StopsNumber : (Frac → Type 0) → ℕ → RowReason → Type 0
 StopsNumber P scale Number = (x : Frac) → P x → ⊥
-StopsNumber P scale Large = (x : Frac) × P x × (IsSmall x → ⊥)
-StopsNumber P scale Fine = (x : Frac) × P x × IsSmall x × HasNoCommon scale x
+StopsNumber P scale Large = (x : Frac) × P x × (IsSmallNumber x → ⊥)
+StopsNumber P scale Fine = (x : Frac) × P x × IsSmallNumber x × HasNoCommonWith scale x
 StopsNumber P scale Header = ⊥
 StopsNumber P scale Fields = ⊥
 StopsNumber P scale Columns = ⊥
@@ -91,7 +80,7 @@ StopsNumber P scale Entries = ⊥
 
 -- x is the first entry too many
 abbrev pub IsOneTooMany : (Frac → Type 0) → ℕ → ℕ → Type 0
-IsOneTooMany P scale count = (x : Frac) × (m : ℕ) × P x × Extends scale x m × (is_zero x ≡ false) × (100000 ≤ count)
+IsOneTooMany P scale count = (x : Frac) × (m : ℕ) × P x × Extends greatest_number scale x m × (is_zero x ≡ false) × (most_entries ≤ count)
 
 -- why a word cannot follow as an entry, behind so many entries that are not 0
 abbrev pub StopsEntry : (Frac → Type 0) → ℕ → ℕ → RowReason → Type 0
@@ -111,9 +100,8 @@ pub record HasRead (used : ℕ) (words : List (List ℕ)) (right : Frac) (scale 
   pub values : List Frac
   pub begins : BeginRow used words (right ∷ values)
   pub low : 1 ≤ scale
-  pub high : scale < 2 ^ 31
-  pub common : IsCommonDenominator (right ∷ values) scale
-  pub least : (c : ℕ) → IsCommonDenominator (right ∷ values) c → scale ∣ c
+  pub high : scale < denominator_bound
+  pub least : IsLeastCommonDenominator (right ∷ values) scale
   pub entries_are : entries ≡ entries_from 0 values
 
 -- ---- names
@@ -127,8 +115,8 @@ bytes_of names = map (λ name. name.items) names
 -- the words spell a row within its limits, behind rows with `used` entries and so many columns
 pub record ReadsRow (columns used : ℕ) (words : List (List ℕ)) (row : Row) : Type 0 where
   pub spelled : SpellsRow columns words row
-  pub within : IsWithinLimits columns row
-  pub few : used + length row.entries ≤ 100000
+  pub within : IsRowWithinLimits columns row
+  pub few : used + length row.entries ≤ most_entries
 
 -- ---- the records of a text
 

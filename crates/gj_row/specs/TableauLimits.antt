@@ -1,21 +1,27 @@
 -- What a tableau of simplex rows may be (own).
-use Rattle.std.specs.Prelude.{ℕ, pos, ◌≢◌, ◌<◌, ◌≤◌, ◌*◌, ◌^◌, List, ◌∷◌, ◌++◌, All, AllPairs, length, map, sum_by, unsigned_abs}
+use Rattle.std.specs.Prelude.{ℕ, pos, ◌≢◌, ◌<◌, ◌≤◌, List, ◌∷◌, ◌++◌, All, AllPairs, length, map, sum_by}
 use Rattle.std.specs.List.Sorted.{IsStrictlyIncreasing}
 use Rattle.gj_frac.specs.declared.Frac.{Frac}
-use Rattle.gj_frac.specs.Fraction.{numerator, denominator}
+use Rattle.gj_frac.specs.Fraction.{numerator}
 use Rattle.gj_lex.specs.Name.{IsName}
-use Rattle.gj_shape.specs.Given.{HasCommonDenominator}
+use Rattle.gj_shape.specs.Limits.{greatest_number}
+use Rattle.gj_shape.specs.Given.{AreWithin}
 use Rattle.gj_row.specs.declared.tableau.Row.{Row}
 use Rattle.gj_row.specs.declared.tableau.Tableau.{Tableau}
 
--- at most 2^31 in absolute value
-abbrev pub IsSmall : Frac → Type 0
-IsSmall x = unsigned_abs (numerator x) ≤ 2 ^ 31 * unsigned_abs (denominator x)
+-- how many columns, how many rows and how many entries that are not 0 a tableau has at most
+abbrev pub most_columns : ℕ
+most_columns = 10000
+
+abbrev pub most_rows : ℕ
+most_rows = 10000
+
+abbrev pub most_entries : ℕ
+most_entries = 100000
 
 -- at most 2^31 in absolute value each, with a common denominator from 1 to 2^31 - 1
-pub record AreWithinLimits (numbers : List Frac) : Type 0 where
-  pub small : All IsSmall numbers
-  pub common : HasCommonDenominator numbers
+abbrev pub AreWithinLimits : List Frac → Type 0
+AreWithinLimits numbers = AreWithin greatest_number numbers
 
 -- the right side and the entries that are not 0
 abbrev pub numbers_of : Row → List Frac
@@ -23,7 +29,7 @@ numbers_of row = row.rhs ∷ map (λ e. e.value) row.entries
 
 -- a row of a tableau with so many columns: its numbers are within the limits, and its entries are those that are not 0, in the
 -- order of their columns
-pub record IsWithinLimits (columns : ℕ) (row : Row) : Type 0 where
+pub record IsRowWithinLimits (columns : ℕ) (row : Row) : Type 0 where
   pub numbers : AreWithinLimits (numbers_of row)
   pub no_zero : All (λ e. numerator e.value ≢ pos 0) row.entries
   pub ascending : IsStrictlyIncreasing (map (λ e. e.column) row.entries)
@@ -44,8 +50,8 @@ pub record AreNames (names : List (List ℕ)) : Type 0 where
 
 -- at most 10,000 columns, 10,000 rows and 100,000 entries that are not 0; all names differ; each row is within its limits
 pub record IsTableau (t : Tableau) : Type 0 where
-  pub few_columns : length t.columns ≤ 10000
-  pub few_rows : length t.rows ≤ 10000
-  pub few_entries : entry_count t ≤ 100000
+  pub few_columns : length t.columns ≤ most_columns
+  pub few_rows : length t.rows ≤ most_rows
+  pub few_entries : entry_count t ≤ most_entries
   pub names : AreNames (names_of t)
-  pub each_row : All (IsWithinLimits (length t.columns)) t.rows
+  pub each_row : All (IsRowWithinLimits (length t.columns)) t.rows

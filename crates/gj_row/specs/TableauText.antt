@@ -33,7 +33,7 @@ records_of text = map (map word_of) (records default_config (strip_bom text))
 abbrev pub SpellsEntry : List ℕ → Frac → Type 0
 SpellsEntry word x = ((word ≡ []) × IsRatio x (pos 0) (pos 1)) ⊎ IsFractionWord Lenient word x
 
--- the word spells the number that stands behind these numbers of the row: the right side where there are none, and else an entry
+-- the word spells the number that stands behind these numbers of the row: the right side if there are none, and else an entry
 abbrev pub SpellsNext : List Frac → List ℕ → Frac → Type 0
 SpellsNext [] word x = IsFractionWord Lenient word x
 SpellsNext (right ∷ values) word x = SpellsEntry word x
@@ -48,7 +48,7 @@ SpellNumbers (word ∷ words) (right ∷ values) = IsFractionWord Lenient word r
 abbrev pub is_zero : Frac → Bool
 is_zero x = unsigned_abs (numerator x) == 0
 
--- the value in the column as an entry, where it is not 0
+-- the value in the column as an entry, if it is not 0
 abbrev pub entry_at : ℕ → Frac → List Entry
 entry_at column x = if is_zero x then [] else record { column = column; value = x } ∷ []
 

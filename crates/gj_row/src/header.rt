@@ -1,7 +1,7 @@
 //! Record 1 of a tableau, and its names.
 ghost use Rattle.std.specs.Prelude.{◌≡◌, ◌<◌, ◌≤◌, ◌↔◌, ◌++◌, ◌∷◌, [], ℕ, List, Some, IfOk, IfErr, OnOk, IsTrue, length, slice_get};
 ghost use Rattle.csv.specs.Records.{fields_of};
-ghost use Rattle.gj_row.specs.TableauLimits.{AreNames};
+ghost use Rattle.gj_row.specs.TableauLimits.{most_columns, AreNames};
 ghost use Rattle.gj_row.specs.TableauText.{header_of};
 ghost use Rattle.gj_row.specs.FirstFault.{BreaksName, IsNewName, HasHeaderFault};
 ghost use Rattle.gj_row.specs.Reading.{NamesReason, bytes_of, words_in};
@@ -28,7 +28,7 @@ pub(crate) struct Header {
 /// The names of the columns in record 1.
 pub(crate) fn header_in(alloc: Global, fields: &ByteRecord) -> Result<Header, RecordFault>
     ensures begins { IfOk result (λ h. words_in fields.now ≡ header_of h.columns.items) }
-    ensures few { IfOk result (λ h. length h.columns.items ≤ 10000) }
+    ensures few { IfOk result (λ h. length h.columns.items ≤ most_columns) }
     ensures names { IfOk result (λ h. AreNames h.columns.items) }
     ensures kept { IfOk result (λ h. bytes_of h.names.keys ≡ h.columns.items) }
     ensures refused { IfErr result (NamesReason (λ e.
@@ -65,9 +65,9 @@ fn has_word(fields: &ByteRecord, place: usize, word: &[u8]) -> bool
     place < fields.len() && word_at(fields, place) == word
 }
 
-/// The name that the word is, where no name so far has its bytes; it is one of them from then on.
+/// The name that the word is, if no name so far has its bytes; it is one of them from then on.
 ///
-/// The reason is `Name` where the word is no name, and `Twice` where it stands already.
+/// The reason is `Name` if the word is no name, and `Twice` if it stands already.
 pub(crate) fn new_name(
     alloc: Global,
     names: &mut IndexSet<Vec<u8>>,

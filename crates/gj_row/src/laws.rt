@@ -1,7 +1,7 @@
 //! Laws of tableau texts.
 ghost use Rattle.std.specs.Prelude.{◌≡◌, ℕ, List};
 ghost use Rattle.gj_row.specs.TableauText.{IsTableauText};
-ghost use Rattle.gj_row.specs.FirstFault.{IsFirstFault};
+ghost use Rattle.gj_row.specs.FirstFault.{IsFirstFaultOfTableau};
 ghost use Rattle.gj_row.specs.declared.tableau.Tableau.{Tableau};
 ghost use Rattle.gj_row.specs.declared.faults.RowReason.{RowReason};
 
@@ -13,5 +13,5 @@ pub fn one_tableau_for_a_text()
 /// A text that is refused spells no tableau.
 pub fn no_fault_in_a_tableau_text()
     ensures { (text : List ℕ) (t : Tableau) (number : ℕ) (reason : RowReason) → IsTableauText text t →
-        IsFirstFault text number reason → ⊥ }
+        IsFirstFaultOfTableau text number reason → ⊥ }
 {}

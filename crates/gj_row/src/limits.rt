@@ -1,21 +1,21 @@
 //! The limits of the numbers in a row.
-ghost use Rattle.std.specs.Prelude.{◌≡◌, ◌<◌, ◌↔◌, ◌^◌, Some, IfOk, IfErr, IsTrue, unsigned_abs};
-ghost use Rattle.gj_frac.specs.Fraction.{denominator};
-ghost use Rattle.gj_row.specs.TableauLimits.{IsSmall};
-ghost use Rattle.gj_row.specs.Reading.{Extends, StopsAt};
+ghost use Rattle.std.specs.Prelude.{◌≡◌, ◌<◌, ◌↔◌, Some, IfOk, IfErr, IsTrue};
+ghost use Rattle.gj_shape.specs.Limits.{greatest_number, IsSmallNumber};
+ghost use Rattle.gj_shape.specs.Denominators.{Extends};
+ghost use Rattle.gj_row.specs.Reading.{StopsAt};
 
 use crate::faults::RowReason;
 use gj_frac::{Frac, lcm};
-use gj_shape::small_denominator;
+use gj_shape::{GREATEST_DENOMINATOR, GREATEST_NUMBER, small_denominator};
 
 /// The number that was read, behind numbers with the least common denominator `scale`, and the least common denominator with it.
 ///
-/// The reason is `Number` where none was read, `Large` where it is above 2^31 in absolute value, and `Fine` where the common
+/// The reason is `Number` if none was read, `Large` if it is above 2^31 in absolute value, and `Fine` if the common
 /// denominator passes 2^31 - 1.
 pub(crate) fn within(scale: u32, number: Option<Frac>) -> Result<(Frac, u32), RowReason>
     requires { 0 < scale }
     ensures read { IfOk result (λ r. number ≡ Some r.0) }
-    ensures least { IfOk result (λ r. Extends scale r.0 r.1) }
+    ensures least { IfOk result (λ r. Extends greatest_number scale r.0 r.1) }
     ensures refused { IfErr result (StopsAt scale number) }
 {
     let Some(x) = number else {
@@ -28,7 +28,7 @@ pub(crate) fn within(scale: u32, number: Option<Frac>) -> Result<(Frac, u32), Ro
         return Err(RowReason::Fine);
     };
     let multiple = lcm(scale, den);
-    if multiple >= 1 << 31 {
+    if multiple > u64::from(GREATEST_DENOMINATOR) {
         return Err(RowReason::Fine);
     }
     Ok((x, multiple as u32))
@@ -36,7 +36,7 @@ pub(crate) fn within(scale: u32, number: Option<Frac>) -> Result<(Frac, u32), Ro
 
 /// Whether the number is at most 2^31 in absolute value.
 fn is_small(x: Frac) -> bool
-    ensures { IsTrue result ↔ IsSmall x }
+    ensures { IsTrue result ↔ IsSmallNumber x }
 {
-    x.num().unsigned_abs() <= x.den().unsigned_abs().saturating_mul(1 << 31)
+    x.num().unsigned_abs() <= x.den().unsigned_abs().saturating_mul(GREATEST_NUMBER)
 }

@@ -5,9 +5,12 @@ ghost use Rattle.gj_frac.specs.declared.Frac.{Frac};
 ghost use Rattle.gj_frac.specs.Fraction.{IsRatio};
 ghost use Rattle.gj_lex.specs.SpelledNumbers.{IsFractionWord};
 ghost use Rattle.gj_lex.specs.declared.spelling.Spelling.{Spelling};
+ghost use Rattle.gj_shape.specs.Limits.{greatest_number};
+ghost use Rattle.gj_shape.specs.Denominators.{Extends};
+ghost use Rattle.gj_row.specs.TableauLimits.{most_entries};
 ghost use Rattle.gj_row.specs.TableauText.{SpellsEntry, entry_at, is_zero};
 ghost use Rattle.gj_row.specs.FirstFault.{HasNumberFault};
-ghost use Rattle.gj_row.specs.Reading.{Extends, StopsNumber, StopsEntry, HasRead, NamesReason, words_in};
+ghost use Rattle.gj_row.specs.Reading.{StopsNumber, StopsEntry, HasRead, NamesReason, words_in};
 
 use crate::faults::{RecordFault, RowReason};
 use crate::fields::word_at;
@@ -32,7 +35,7 @@ pub(crate) struct Numbers {
     pub(crate) entries: Vec<Entry>,
 }
 
-/// The numbers that stand in the record behind the name, where the rows before it have `used` entries that are not 0.
+/// The numbers that stand in the record behind the name, if the rows before it have `used` entries that are not 0.
 pub(crate) fn numbers_in(
     alloc: Global,
     fields: &ByteRecord,
@@ -40,7 +43,7 @@ pub(crate) fn numbers_in(
 ) -> Result<Numbers, RecordFault>
     requires wide { 2 ≤ length (fields_of fields.now) }
     requires narrow { length (fields_of fields.now) ≤ 10002 }
-    requires few { used ≤ 100000 }
+    requires few { used ≤ most_entries }
     ensures found { IfOk result (λ n. HasRead used (drop 1 (words_in fields.now)) n.rhs n.scale n.entries.items) }
     ensures refused { IfErr result (NamesReason (HasNumberFault used (drop 1 (words_in fields.now)))) }
 {
@@ -73,9 +76,9 @@ fn with_entry(
     word: &[u8],
 ) -> Result<u32, RecordFault>
     requires low { 0 < scale }
-    requires few { used + length entries.old.items ≤ 100000 }
-    ensures found { IfOk result (λ m. (x : Frac) × SpellsEntry word.now x × Extends scale x m
-        × (entries.new.items ≡ entries.old.items ++ entry_at column x) × (used + length entries.new.items ≤ 100000)) }
+    requires few { used + length entries.old.items ≤ most_entries }
+    ensures found { IfOk result (λ m. (x : Frac) × SpellsEntry word.now x × Extends greatest_number scale x m
+        × (entries.new.items ≡ entries.old.items ++ entry_at column x) × (used + length entries.new.items ≤ most_entries)) }
     ensures refused { IfErr result (NamesReason (StopsEntry (SpellsEntry word.now) scale (used + length entries.old.items))) }
 {
     let (x, multiple) = match entry(scale, word) {
@@ -101,7 +104,7 @@ fn is_zero(x: Frac) -> bool
 
 /// The right side that the word spells, and its denominator.
 fn right_side(word: &[u8]) -> Result<(Frac, u32), RowReason>
-    ensures found { IfOk result (λ r. IsFractionWord Spelling.Lenient word.now r.0 × Extends 1 r.0 r.1) }
+    ensures found { IfOk result (λ r. IsFractionWord Spelling.Lenient word.now r.0 × Extends greatest_number 1 r.0 r.1) }
     ensures refused { IfErr result (StopsNumber (IsFractionWord Spelling.Lenient word.now) 1) }
 {
     within(1, fraction_of(Spelling::Lenient, word))
@@ -110,13 +113,13 @@ fn right_side(word: &[u8]) -> Result<(Frac, u32), RowReason>
 /// The entry that the word spells behind numbers with the least common denominator `scale`, and the least common denominator with it.
 fn entry(scale: u32, word: &[u8]) -> Result<(Frac, u32), RowReason>
     requires { 0 < scale }
-    ensures found { IfOk result (λ r. SpellsEntry word.now r.0 × Extends scale r.0 r.1) }
+    ensures found { IfOk result (λ r. SpellsEntry word.now r.0 × Extends greatest_number scale r.0 r.1) }
     ensures refused { IfErr result (StopsNumber (SpellsEntry word.now) scale) }
 {
     within(scale, entry_number(word))
 }
 
-/// The number that the word spells as an entry: 0 where it is empty.
+/// The number that the word spells as an entry: 0 if it is empty.
 fn entry_number(word: &[u8]) -> Option<Frac>
     ensures found { IfSome result (SpellsEntry word.now) }
     ensures none { IfNone result ((x : Frac) → SpellsEntry word.now x → ⊥) }

@@ -1,9 +1,9 @@
 //! Tableaux, read.
 ghost use Rattle.std.specs.Prelude.{◌≡◌, ◌<◌, ◌≤◌, ◌++◌, ◌∷◌, [], IfOk, IfErr, IfNone, IfSome, OnOk, MatchResult, length};
 ghost use Rattle.csv.specs.Reading.{owned_rows_left};
-ghost use Rattle.gj_row.specs.TableauLimits.{IsTableau, names_of, entry_count};
+ghost use Rattle.gj_row.specs.TableauLimits.{most_columns, most_entries, most_rows, IsTableau, names_of, entry_count};
 ghost use Rattle.gj_row.specs.TableauText.{IsTableauText};
-ghost use Rattle.gj_row.specs.FirstFault.{HasRowFault, IsFirstFault, IsNewName};
+ghost use Rattle.gj_row.specs.FirstFault.{HasRowFault, IsFirstFaultOfTableau, IsNewName};
 ghost use Rattle.gj_row.specs.Reading.{IsMemoryFault, NamesRecord, NamesReason, ReadsRow, StandsBehind, StepsOver, IsAtEnd, bytes_of, words_in};
 ghost use Rattle.gj_row.specs.declared.tableau.Tableau.{Tableau};
 
@@ -47,7 +47,7 @@ impl Tableau {
         // What is spelled so is read, unless there is no memory.
         ensures only { (t : Tableau) → IsTableauText bytes.now t → MatchResult result (λ read. read ≡ t) IsMemoryFault }
         // A refusal names the first fault.
-        ensures refused { IfErr result (NamesRecord (IsFirstFault bytes.now)) }
+        ensures refused { IfErr result (NamesRecord (IsFirstFaultOfTableau bytes.now)) }
     {
         match tableau_in(alloc, bytes) {
             Ok(tableau) => Ok(tableau),
@@ -59,7 +59,7 @@ impl Tableau {
 /// The tableau that the text spells, or its first fault.
 fn tableau_in(alloc: Global, bytes: &[u8]) -> Result<Tableau, RowFault>
     ensures found { IfOk result (IsTableauText bytes.now) }
-    ensures refused { IfErr result (NamesRecord (IsFirstFault bytes.now)) }
+    ensures refused { IfErr result (NamesRecord (IsFirstFaultOfTableau bytes.now)) }
 {
     let mut records = records_of(alloc, bytes);
     let Some(first) = next_record(&mut records)? else {
@@ -124,9 +124,9 @@ fn next_row(
     rows: usize,
     used: usize,
 ) -> Result<Row, RecordFault>
-    requires narrow { columns ≤ 10000 }
-    requires few { used ≤ 100000 }
-    ensures room { OnOk result (rows < 10000) }
+    requires narrow { columns ≤ most_columns }
+    requires few { used ≤ most_entries }
+    ensures room { OnOk result (rows < most_rows) }
     ensures row { IfOk result (ReadsRow columns used (words_in fields.now)) }
     ensures new { IfOk result (λ row. IsNewName (bytes_of names.old.keys) row.basic) }
     ensures kept { IfOk result (λ row. bytes_of names.new.keys ≡ bytes_of names.old.keys ++ row.basic ∷ []) }

@@ -1,7 +1,8 @@
 -- What a rule keeps (own).
 use Rattle.gj_frac.specs.declared.Frac.{Frac}
 use Rattle.gj_rule.specs.declared.kind.RuleKind.{RuleKind}
-use Rattle.gj_rule.specs.Kind.{IsInRange, IsKindValue}
+use Rattle.gj_rule.specs.Kind.{IsKindValue}
+use Rattle.gj_shape.specs.Limits.{IsRowNumber}
 
 -- a kind and an evaluator
 pub record KeptRule (E : Type 0) : Type 0 where
@@ -10,5 +11,5 @@ pub record KeptRule (E : Type 0) : Type 0 where
 
 -- the evaluator may be called at each fraction of the range, and answers the kind's value there
 pub record Evaluates {E : Type 0} (pre : E → Frac → Type 0) (post : E → Frac → Frac → Type 0) (kind : RuleKind) (eval : E) : Type 0 where
-  pub callable : (x : Frac) → IsInRange x → pre eval x
-  pub gives : (x y : Frac) → IsInRange x → post eval x y → IsKindValue kind x y
+  pub callable : (x : Frac) → IsRowNumber x → pre eval x
+  pub gives : (x y : Frac) → IsRowNumber x → post eval x y → IsKindValue kind x y

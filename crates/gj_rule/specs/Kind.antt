@@ -1,20 +1,17 @@
--- The kinds of rules, their values and their places (Gomory and Johnson 1972; the range is own).
-use Rattle.std.specs.Prelude.{pos, ◌<◌, ◌≤◌, ◌*◌, ◌^◌, unsigned_abs}
+-- The kinds of rules, their values and their places (Gomory and Johnson 1972).
+use Rattle.std.specs.Prelude.{pos}
 use Rattle.gj_frac.specs.declared.Frac.{Frac}
-use Rattle.gj_frac.specs.Fraction.{IsRatio, numerator, denominator, IsInside}
+use Rattle.gj_frac.specs.Fraction.{IsRatio, numerator, denominator, IsInside, HasDenominatorBelow}
+use Rattle.gj_shape.specs.Limits.{denominator_bound}
 use Rattle.gj_shape.specs.FunctionData.{IsWithinBounds}
 use Rattle.gj_shape.specs.Table.{IsMinimal}
 use Rattle.gj_theory.specs.Cuts.{IsGmicValue, IsValueOf}
 use Rattle.gj_rule.specs.declared.kind.RuleKind.{RuleKind}
 use Rattle.gj_rule.specs.declared.kind.RuleKind.TheVariants.{Gmic, Table}
 
--- a fraction of denominator at most 2^31 - 1, and at most 2^31 in absolute value
-abbrev pub IsInRange : Frac → Type 0
-IsInRange x = (unsigned_abs (denominator x) < 2 ^ 31) × (unsigned_abs (numerator x) ≤ 2 ^ 31 * unsigned_abs (denominator x))
-
 -- the f of a mixed-integer cut is between 0 and 1 and has a denominator of at most 2^31 - 1
 abbrev pub IsKind : RuleKind → Type 0
-IsKind (Gmic f) = IsInside f × (unsigned_abs (denominator f) < 2 ^ 31)
+IsKind (Gmic f) = IsInside f × HasDenominatorBelow denominator_bound f
 IsKind (Table shape) = Unit {0}
 
 -- what holds of the kind of each rule: that, or the bounds of functions

@@ -3,12 +3,12 @@ ghost use Rattle.std.specs.Prelude.{ℤ, ◌≡◌, ◌≢◌, ◌↔◌, IsTrue
 ghost use Rattle.gj_frac.specs.Floor.{IsFloor};
 ghost use Rattle.gj_frac.specs.Fraction.{IsRatio, numerator, denominator, IsInside};
 ghost use Rattle.gj_theory.specs.Cuts.{IsGmicValue, IsValueOf};
-ghost use Rattle.gj_rule.specs.Kind.{IsInRange};
+ghost use Rattle.gj_shape.specs.Limits.{IsRowNumber};
 
 use gj_frac::Frac;
-use gj_shape::Shape;
+use gj_shape::{GREATEST_DENOMINATOR, GREATEST_NUMBER, Shape};
 
-/// The mixed-integer cut for f at x: with r the fractional part of x it is r/f where r is at most f, and else
+/// The mixed-integer cut for f at x: with r the fractional part of x it is r/f if r is at most f, and else
 /// (1 - r)/(1 - f).
 ///
 /// f is between 0 and 1, both excluded. Both denominators are at most 2^62; x may be of any size.
@@ -31,16 +31,17 @@ pub fn gmic_value(f: Frac, x: Frac) -> Frac
     }
 }
 
-/// Whether x is in the range of rules: of denominator at most 2^31 - 1, and at most 2^31 in absolute value.
+/// Whether x can stand in a row: its denominator is at most 2^31 - 1, and it is at most 2^31 in absolute value.
 pub fn is_in_range(x: Frac) -> bool
-    ensures { IsTrue result ↔ IsInRange x }
+    ensures { IsTrue result ↔ IsRowNumber x }
 {
-    x.den() < 1 << 31 && x.num().unsigned_abs() <= (x.den() as u128) << 31
+    x.den() <= i128::from(GREATEST_DENOMINATOR)
+        && x.num().unsigned_abs() <= x.den().unsigned_abs().saturating_mul(GREATEST_NUMBER)
 }
 
-/// The value of the function at x, a fraction of the range of rules.
+/// The value of the function at x, a fraction that can stand in a row.
 pub fn table_value(shape: &Shape, x: Frac) -> Frac
-    requires { IsInRange x }
+    requires { IsRowNumber x }
     ensures { IsValueOf shape.now x result }
 {
     shape.value_at(x)

@@ -2,7 +2,7 @@
 ghost use Rattle.std.specs.Prelude.{◌↔◌, IsTrue};
 
 use gj_frac::Frac;
-use gj_shape::Shape;
+use gj_shape::{GREATEST_DENOMINATOR, Shape};
 
 /// What a rule evaluates.
 #[derive(Drop)]
@@ -22,7 +22,9 @@ impl RuleKind {
         ensures { IsTrue result ↔ IsKind self.now }
     {
         match self {
-            RuleKind::Gmic(f) => 0 < f.num() && f.num() < f.den() && f.den() < 1 << 31,
+            RuleKind::Gmic(f) => {
+                0 < f.num() && f.num() < f.den() && f.den() <= i128::from(GREATEST_DENOMINATOR)
+            }
             RuleKind::Table(_) => true,
         }
     }

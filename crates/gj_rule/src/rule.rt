@@ -2,7 +2,8 @@
 ghost use Rattle.std.specs.Prelude.{◌≡◌, pos};
 ghost use Rattle.gj_frac.specs.Fraction.{IsRatio};
 ghost use Rattle.gj_shape.specs.FunctionData.{IsWithinBounds};
-ghost use Rattle.gj_rule.specs.Kind.{IsInRange, IsKind, IsBounded, IsKindValue, HasPlace};
+ghost use Rattle.gj_rule.specs.Kind.{IsKind, IsBounded, IsKindValue, HasPlace};
+ghost use Rattle.gj_shape.specs.Limits.{IsRowNumber};
 ghost use Rattle.gj_rule.specs.Kept.{KeptRule, Evaluates};
 
 use crate::evaluator::Evaluator;
@@ -73,7 +74,7 @@ impl<E: Evaluator> Rule<E> {
 
     /// The kind's value at x, as the evaluator answers it.
     pub fn at(&self, x: Frac) -> Frac
-        requires { IsInRange x }
+        requires { IsRowNumber x }
         ensures value { IsKindValue self.now.kind x result }
         ensures answered { E.answers self.now.eval x result }
     {

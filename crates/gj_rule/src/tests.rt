@@ -1,7 +1,8 @@
 //! Examples with values by hand.
 ghost use Rattle.std.specs.Prelude.{IfOk};
 ghost use Rattle.gj_theory.specs.Cuts.{IsValueOf};
-ghost use Rattle.gj_rule.specs.Kind.{IsInRange, IsKind};
+ghost use Rattle.gj_rule.specs.Kind.{IsKind};
+ghost use Rattle.gj_shape.specs.Limits.{IsRowNumber};
 ghost use Rattle.gj_rule.specs.Kept.{Evaluates};
 ghost use Rattle.gj_rule.specs.declared.kind.RuleKind.TheVariants.{Gmic};
 
@@ -12,7 +13,7 @@ use std::test::Fail;
 
 /// The fraction n/d of the range.
 fn fraction(n: i128, d: i128) -> Result<Frac, &'static str>
-    ensures { IfOk result IsInRange }
+    ensures { IfOk result IsRowNumber }
 {
     let x = Frac::new(n, d).ok_or("no fraction")?;
     if is_in_range(x) {
@@ -50,7 +51,7 @@ fn fine_place(rt: HostRuntime) -> Result<(), Fail> {
 fn asked<E: Evaluator>(kind: RuleKind, eval: E, x: Frac) -> (Frac, Frac)
     requires kind { IsKind kind }
     requires evaluates { Evaluates E.can_answer E.answers kind eval }
-    requires range { IsInRange x }
+    requires range { IsRowNumber x }
 {
     let rule = Rule::new(kind, eval);
     (rule.place(), rule.at(x))
@@ -75,7 +76,7 @@ fn kept_function(rt: HostRuntime) -> Result<(), Fail> {
     let x = fraction(-1, 4)?;
     let function = &copy;
     let eval = |y: Frac|
-        requires { IsInRange y }
+        requires { IsRowNumber y }
         ensures { IsValueOf function.entry.now y result }
     { table_value(function, y) };
     let answer = asked(RuleKind::Table(shape), eval, x);

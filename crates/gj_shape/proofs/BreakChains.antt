@@ -11,9 +11,8 @@ use Rattle.gj_tools.proofs.Divisors.{cofactor, gcd_exists, gcd_positive, lcm_fro
 use Rattle.gj_tools.proofs.Lists.{All-front, All-back}
 use Rattle.gj_frac.specs.declared.Frac.{Frac}
 use Rattle.gj_frac.specs.Fraction.{denominator}
-use Rattle.gj_shape.specs.Given.{IsCommonDenominator, AreWithinBounds}
+use Rattle.gj_shape.specs.Given.{IsCommonDenominator, AreWithinBounds, IsLeastCommonDenominator}
 use Rattle.gj_shape.specs.Points.{all_fractions, fractions_of}
-use Rattle.gj_shape.specs.RowCut.{IsLeastCommonDenominator}
 use Rattle.gj_shape.specs.Breaks.{BreakList, AreBreaks, Follows, points_at, point_at}
 use Rattle.gj_shape.specs.declared.breaks.Break.{Break}
 use Rattle.gj_shape.proofs.LeastDenominator.{Divides, within_bounds_closed}

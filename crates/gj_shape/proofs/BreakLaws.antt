@@ -4,15 +4,13 @@ use Rattle.std.proofs.lemmas.Int.{ints}
 use Rattle.std.proofs.lemmas.List.{map-append, same_lists}
 use Rattle.std.proofs.lemmas.Nat.Gcd.{dvd_antisymm}
 use Rattle.gj_frac.specs.declared.Frac.{Frac}
-use Rattle.gj_frac.specs.Fraction.{denominator}
 use Rattle.gj_frac.proofs.SameValues.{same_from_is, one_place}
-use Rattle.gj_tools.proofs.Divisors.{lcm_positive}
 use Rattle.gj_tools.proofs.FirstThatFails.{first_failing_denies}
 use Rattle.gj_tools.proofs.Integers.{mul_positive_z, positive_some_z}
 use Rattle.gj_shape.specs.FunctionData.{FunctionData}
 use Rattle.gj_shape.specs.Given.{in_order, AreWithinBounds, IsGivenBy, IsTooFine}
 use Rattle.gj_shape.specs.Points.{lefts, values, rights, all_fractions}
-use Rattle.gj_shape.specs.Breaks.{point_at, points_at, on_line, even, IsPiece, AreLaid, last, onward, AreGridPoints, IsGivenByBreaks, AreTooFine, BreakList, no_breaks, HasOrderWith, Follows, IsBreakFault, IsOfBreaks}
+use Rattle.gj_shape.specs.Breaks.{point_at, points_at, on_line, even, IsPiece, AreLaid, last, onward, AreGridPoints, IsGivenByBreaks, AreTooFine, BreakList, HasOrderWith, Follows, IsBreakFault, IsOfBreaks}
 use Rattle.gj_shape.specs.declared.points.Point.{Point}
 use Rattle.gj_shape.specs.declared.points.PointFault.TheVariants.{Large, Fine}
 use Rattle.gj_shape.specs.declared.breaks.Break.{Break}
@@ -20,7 +18,7 @@ use Rattle.gj_shape.specs.declared.breaks.BreakFault.{BreakFault}
 use Rattle.gj_shape.specs.declared.breaks.BreakFault.TheVariants as fault
 use Rattle.gj_shape.proofs.GivenLists.{within_given}
 use Rattle.gj_shape.proofs.GivenPoints.{no_fault_follows, not_large_and_fine}
-use Rattle.gj_shape.proofs.LeastDenominator.{denominator_some, within_bounds_closed}
+use Rattle.gj_shape.proofs.LeastDenominator.{within_bounds_closed}
 use Rattle.gj_shape.proofs.OneFunction.{same_from_given}
 
 -- ---- one more breakpoint
@@ -89,16 +87,6 @@ follows_or_fault s b t fault.Large n h k =
 follows_or_fault s b t fault.Fine n h k =
     no_fault_follows (points_at s.breaks) (point_at b) [] Fine (within_with s b t h) k.2
 follows_or_fault s b t (fault.Memory m) n h k = n
-
--- ---- the order is positive
-
--- f alone has a positive order
-pub order_of_none : (x : Frac) → 0 < (no_breaks x).order
-order_of_none x = denominator_some x
-
--- and a further breakpoint leaves it positive
-pub order_is_some : (s : BreakList) (b : Break) (t : BreakList) → Follows s b t → 0 < s.order → 0 < t.order
-order_is_some s b t h some = lcm_positive s.order (unsigned_abs (denominator b.x)) t.order h.order_is some (denominator_some b.x)
 
 -- ---- the points of the grid
 

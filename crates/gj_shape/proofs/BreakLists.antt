@@ -1,28 +1,27 @@
 -- Breakpoints that come one after another: the tests of the next one, and what holds of all.
-use Rattle.std.proofs.Common.{◌≡◌, ℕ, zero, suc, ◌-◌, ◌*◌, ◌/◌, ◌<◌, ◌≤◌, ◌↔◌, List, [], ◌∷◌, ◌++◌, length, get_or, map, take, ℤ, pos, ◌*ℤ◌, ◌<ℤ◌, ◌≤ℤ◌, unsigned_abs, refl, sym, ap, subst, ◌∙◌, append_assoc, arith}
+use Rattle.std.proofs.Common.{◌≡◌, ℕ, ◌-◌, ◌*◌, ◌/◌, ◌<◌, ◌≤◌, ◌↔◌, List, [], ◌∷◌, ◌++◌, length, get_or, map, take, ℤ, pos, ◌*ℤ◌, ◌<ℤ◌, ◌≤ℤ◌, unsigned_abs, refl, sym, ap, subst, ◌∙◌, append_assoc, arith}
 use Rattle.std.specs.Int.{◌∣◌}
-use Rattle.std.proofs.Math.Nat.{mul-pos, mul-div_cancel', dvd_refl, dvd-mul_left, dvd-mul_right, zero-mul}
+use Rattle.std.proofs.Math.Nat.{mul-div_cancel', dvd_refl}
 use Rattle.std.proofs.lemmas.Int.{ints}
-use Rattle.std.proofs.lemmas.Nat.Gcd.{dvd_trans, le_of_dvd}
+use Rattle.std.proofs.lemmas.Nat.Gcd.{le_of_dvd}
 use Rattle.std.proofs.lemmas.List.{map-append}
 use Rattle.std.proofs.lemmas.List.Concat.{flat_map-append}
-use Rattle.std.proofs.lemmas.List.Elements.{All-nil, All-cons, All-head, All-tail, All-push}
+use Rattle.std.proofs.lemmas.List.Elements.{All-head, All-tail}
 use Rattle.gj_tools.specs.Divisors.{IsLcm}
-use Rattle.gj_tools.proofs.Divisors.{cofactor, lcm_positive}
+use Rattle.gj_tools.proofs.Divisors.{lcm_positive}
 use Rattle.gj_tools.proofs.Integers.{mul_lt_cancel_right_z, mul_lt_mul_right_z, mul_nonnegative_z, mul_positive_z, pos_abs_z}
-use Rattle.gj_tools.proofs.Lists.{All-front, All-back, All-one}
+use Rattle.gj_tools.proofs.Lists.{All-back, All-one}
 use Rattle.gj_frac.specs.declared.Frac.{Frac}
 use Rattle.gj_frac.specs.Fraction.{LessValue, fraction_of, numerator, denominator, IsInside, IsRatio}
-use Rattle.gj_shape.specs.Given.{IsCommonDenominator, IsOrder, numerator_over}
-use Rattle.gj_shape.specs.Denominators.{IsLeastDenominator, ExtendsBy, IsRefusedBehind}
+use Rattle.gj_shape.specs.Given.{IsCommonDenominator, IsOrder, numerator_over, IsLeastCommonDenominator}
+use Rattle.gj_shape.specs.Denominators.{AreWithinBoundsOver, ExtendsBy, IsRefusedBehind}
 use Rattle.gj_shape.specs.Points.{all_fractions, fractions_of}
-use Rattle.gj_shape.specs.RowCut.{IsLeastCommonDenominator}
 use Rattle.gj_shape.specs.Breaks.{BreakList, no_breaks, AreBreaks, AreAscending, AreOnGrid, IsNextBreak, HasOrderWith, Follows, IsBreakFault, break_fault, points_at, point_at}
 use Rattle.gj_shape.specs.declared.breaks.Break.{Break}
 use Rattle.gj_shape.specs.declared.faults.FractionFault.{FractionFault}
 use Rattle.gj_shape.specs.declared.faults.FractionFault.TheVariants.{Large, Fine}
 use Rattle.gj_shape.proofs.LastElements.{behind_others, at_last_index, each_behind_none, each_behind_more, along_behind}
-use Rattle.gj_shape.proofs.LeastDenominator.{Divides, denominator_some, least_of_none, within_of_least}
+use Rattle.gj_shape.proofs.LeastDenominator.{Divides, least_of_none, least_common_some, least_common_more, within_of_least}
 use Rattle.gj_shape.proofs.OverScale.{over_scale}
 
 -- ---- the place of the next one
@@ -48,35 +47,6 @@ next_behind_last breaks last x some at = (
 -- the places of f and of the breakpoints
 abbrev pub places_of : BreakList → List Frac
 places_of s = s.place ∷ map (λ b. b.x) s.breaks
-
--- some number above 0 is a common denominator
-common_some : (xs : List Frac) → (d : ℕ) × (0 < d) × IsCommonDenominator xs d
-common_some [] = (1, omega arith, All-nil (Divides 1))
-common_some (x ∷ xs) =
-    let (d, some, common) = common_some xs in
-    let e = unsigned_abs (denominator x) in (
-      e * d,
-      mul-pos (denominator_some x) some,
-      All-cons (Divides (e * d)) x xs (dvd-mul_right e d) (λ k y l. dvd_trans _ (common k y l) (dvd-mul_left d e)),
-    )
-
--- so the least is above 0
-pub least_common_some : (xs : List Frac) (c : ℕ) → IsLeastCommonDenominator xs c → 0 < c
-least_common_some xs zero h =
-    let (d, some, common) = common_some xs in
-    let multiple = cofactor 0 d (h.least d common) in
-    let none : d ≡ 0 = multiple.1 ∙ zero-mul multiple.0 in
-    absurd (omega arith)
-least_common_some xs (suc c) h = omega arith
-
--- one more fraction
-least_common_more : (xs : List Frac) (x : Frac) (c m : ℕ) → IsLeastCommonDenominator xs c →
-    IsLcm c (unsigned_abs (denominator x)) m → IsLeastCommonDenominator (xs ++ x ∷ []) m
-least_common_more xs x c m h lcm = record {
-  common = All-push (Divides m) xs x (λ k d l. dvd_trans _ (h.common k d l) lcm.0) lcm.1;
-  least = λ d all. lcm.2 d (h.least d (All-front (Divides d) xs (x ∷ []) all))
-      (All-head (Divides d) x [] (All-back (Divides d) xs (x ∷ []) all));
-}
 
 -- the order and a denominator above 1,000 have no least common multiple up to 1,000
 pub no_order_above : (order d m : ℕ) → 0 < order → 1000 < d → m ≤ 1000 → IsLcm order d m → ⊥
@@ -113,14 +83,14 @@ breaks_of_none place inside few =
       within = within_of_least [] 1 least_of_none;
     }
 
-pub least_more : (breaks : List Break) (b : Break) (scale m : ℕ) → IsLeastDenominator (all_fractions (points_at breaks)) scale →
-    ExtendsBy scale (fractions_of (point_at b)) m → IsLeastDenominator (all_fractions (points_at (breaks ++ b ∷ []))) m
+pub least_more : (breaks : List Break) (b : Break) (scale m : ℕ) → AreWithinBoundsOver (all_fractions (points_at breaks)) scale →
+    ExtendsBy scale (fractions_of (point_at b)) m → AreWithinBoundsOver (all_fractions (points_at (breaks ++ b ∷ []))) m
 least_more breaks b scale m least more =
-    subst (λ xs. IsLeastDenominator xs m) (sym (fractions_more breaks b)) (more (all_fractions (points_at breaks)) least)
+    subst (λ xs. AreWithinBoundsOver xs m) (sym (fractions_more breaks b)) (more (all_fractions (points_at breaks)) least)
 
 -- a breakpoint that passes all tests follows
 pub follows : (s : BreakList) (b : Break) (order scale m : ℕ) → IsNextBreak s.breaks b.x → order ≤ 1000 →
-    IsLcm s.order (unsigned_abs (denominator b.x)) order → IsLeastDenominator (all_fractions (points_at s.breaks)) scale →
+    IsLcm s.order (unsigned_abs (denominator b.x)) order → AreWithinBoundsOver (all_fractions (points_at s.breaks)) scale →
     ExtendsBy scale (fractions_of (point_at b)) m →
     Follows s b (record { place = s.place; order = order; breaks = s.breaks ++ b ∷ [] })
 follows s b order scale m next few lcm least more = record {
@@ -147,7 +117,7 @@ breaks_more s b order are h = record {
 
 -- a breakpoint with a fraction that is refused cannot follow
 pub break_refused : (s : BreakList) (b : Break) (scale : ℕ) (e : FractionFault) → IsNextBreak s.breaks b.x →
-    HasOrderWith s b.x → IsLeastDenominator (all_fractions (points_at s.breaks)) scale →
+    HasOrderWith s b.x → AreWithinBoundsOver (all_fractions (points_at s.breaks)) scale →
     IsRefusedBehind scale (fractions_of (point_at b)) e → IsBreakFault s b (break_fault e)
 break_refused s b scale Large next order least refused = (next, order, refused (all_fractions (points_at s.breaks)) least)
 break_refused s b scale Fine next order least refused = (next, order, refused (all_fractions (points_at s.breaks)) least)

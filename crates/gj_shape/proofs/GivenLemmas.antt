@@ -11,7 +11,7 @@ use Rattle.gj_frac.specs.Fraction.{numerator, denominator}
 use Rattle.gj_tools.proofs.Divisors.{cofactor, gauss}
 use Rattle.gj_shape.specs.FunctionData.{FunctionData, IsSmallOver}
 use Rattle.gj_shape.specs.Given.{in_order, IsSmall, IsCommonDenominator, IsOrder, IsPlace, HaveLength, IsGivenBy, numerator_over}
-use Rattle.gj_shape.specs.Denominators.{IsLeastDenominator}
+use Rattle.gj_shape.specs.Denominators.{AreWithinBoundsOver}
 use Rattle.gj_shape.proofs.InOrder.{all_in_order, all_from_in_order}
 use Rattle.gj_shape.proofs.NumeratorBounds.{numerator_small}
 
@@ -52,7 +52,7 @@ quotient_is_common xs d c scale common some e h k x l =
 
 -- no number but 1 divides the least common denominator and all numerators over it
 pub none_smaller : (l v r : List Frac) (scale d : ℕ) → length v ≡ length l → length r ≡ length l →
-    IsLeastDenominator (in_order l v r) scale → d ∣ scale →
+    AreWithinBoundsOver (in_order l v r) scale → d ∣ scale →
     All (λ n. d ∣ unsigned_abs n) (map (numerator_over scale) l ++ map (numerator_over scale) v ++ map (numerator_over scale) r) → d ≡ 1
 none_smaller l v r scale d e f least h all =
     let P : ℤ → Type 0 = λ n. d ∣ unsigned_abs n in
@@ -60,12 +60,12 @@ none_smaller l v r scale d e f least h all =
     let vs = map (numerator_over scale) v in
     let rs = map (numerator_over scale) r in
     let (c, scale_is) = cofactor d scale h in
-    let common = all_from_in_order (λ x. unsigned_abs (denominator x) ∣ scale) l v r e f least.common in
+    let common = all_from_in_order (λ x. unsigned_abs (denominator x) ∣ scale) l v r e f least.least.common in
     let first = all_first P (ls ++ vs) rs all in
     let in_left = quotient_is_common l d c scale common.0 least.low scale_is (all_first P ls vs first) in
     let in_value = quotient_is_common v d c scale common.1 least.low scale_is (all_second P ls vs first) in
     let in_right = quotient_is_common r d c scale common.2 least.low scale_is (all_second P (ls ++ vs) rs all) in
-    let whole : scale ∣ c = least.least c (all_in_order (λ x. unsigned_abs (denominator x) ∣ c) l v r e f in_left in_value in_right) in
+    let whole : scale ∣ c = least.least.least c (all_in_order (λ x. unsigned_abs (denominator x) ∣ c) l v r e f in_left in_value in_right) in
     let c_some : 0 < c = pos_of_dvd_of_pos (subst (λ m. c ∣ m) (sym scale_is) (dvd-mul_left c d)) least.low in
     let one : d * c ∣ 1 * c = subst (λ m. d * c ∣ m) (sym (one-mul c)) (subst (λ m. m ∣ c) scale_is whole) in
     dvd_antisymm (dvd_of_mul-dvd-mul_right d c_some one) (one-dvd d)
@@ -89,16 +89,16 @@ over_scale q k scale l v r = record {
 
 -- it is the function of this order and place with these limits and values
 pub given_over_scale : (q k scale : ℕ) (l v r : List Frac) → IsOrder q → IsPlace q k → HaveLength l v r q →
-    IsLeastDenominator (in_order l v r) scale → IsGivenBy q k l v r (over_scale q k scale l v r)
+    AreWithinBoundsOver (in_order l v r) scale → IsGivenBy q k l v r (over_scale q k scale l v r)
 given_over_scale q k scale l v r order place lengths least =
     let e : length v ≡ length l = lengths.1 ∙ sym lengths.0 in
     let f : length r ≡ length l = lengths.2 ∙ sym lengths.0 in
     let small = all_from_in_order IsSmall l v r e f least.small in
-    let common = all_from_in_order (λ x. unsigned_abs (denominator x) ∣ scale) l v r e f least.common in
+    let common = all_from_in_order (λ x. unsigned_abs (denominator x) ∣ scale) l v r e f least.least.common in
     record {
       order = refl;
       place = refl;
-      common = least.common;
+      common = least.least.common;
       left_is = refl;
       value_is = refl;
       right_is = refl;
@@ -121,7 +121,7 @@ given_over_scale q k scale l v r order place lengths least =
 
 -- the same for lists that are these numerators
 pub given_by_numerators : (q k scale : ℕ) (l v r : List Frac) (ls vs rs : List ℤ) → IsOrder q → IsPlace q k →
-    HaveLength l v r q → IsLeastDenominator (in_order l v r) scale → ls ≡ map (numerator_over scale) l →
+    HaveLength l v r q → AreWithinBoundsOver (in_order l v r) scale → ls ≡ map (numerator_over scale) l →
     vs ≡ map (numerator_over scale) v → rs ≡ map (numerator_over scale) r →
     IsGivenBy q k l v r (record { order = q; place = k; scale = scale; left = ls; value = vs; right = rs })
 given_by_numerators q k scale l v r ls vs rs order place lengths least left_is value_is right_is =

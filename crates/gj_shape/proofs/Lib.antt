@@ -23,3 +23,5 @@ pub mod SameFunctions
 pub mod Segments
 pub mod TableLemmas
 pub mod ValueLemmas
+pub mod AlikeFunctions
+pub mod ListEntries

@@ -3,7 +3,7 @@ use Rattle.std.proofs.Common.{◌≡◌, ℕ, List, [], ◌∷◌, ◌++◌, len
 use Rattle.std.proofs.lemmas.List.{length_push}
 use Rattle.gj_frac.specs.declared.Frac.{Frac}
 use Rattle.gj_shape.specs.Given.{in_order, HaveLength}
-use Rattle.gj_shape.specs.Denominators.{IsLeastDenominator, ExtendsBy, IsRefusedBehind}
+use Rattle.gj_shape.specs.Denominators.{AreWithinBoundsOver, ExtendsBy, IsRefusedBehind}
 use Rattle.gj_shape.specs.Points.{lefts, values, rights, fractions_of, all_fractions, IsPointFault, point_fault}
 use Rattle.gj_shape.specs.KeptPoints.{points_of, AreKept}
 use Rattle.gj_shape.specs.declared.points.Point.{Point}
@@ -39,14 +39,14 @@ kept_lists ls vs rs scale kept = have_lists ls vs rs kept.value_length kept.righ
 
 -- all their fractions
 pub kept_fractions : (ls vs rs : List Frac) (scale : ℕ) → AreKept ls vs rs scale →
-    IsLeastDenominator (all_fractions (points_of ls vs rs)) scale
+    AreWithinBoundsOver (all_fractions (points_of ls vs rs)) scale
 kept_fractions ls vs rs scale kept =
     let points = points_of ls vs rs in
     let have = kept_lists ls vs rs scale kept in
     let same : in_order ls vs rs ≡ all_fractions points =
     ap (λ xs. in_order xs vs rs) (sym have.left_are) ∙ ap (λ xs. in_order (lefts points) xs rs) (sym have.value_are)
     ∙ ap (λ xs. in_order (lefts points) (values points) xs) (sym have.right_are) ∙ fractions_in_order points in
-    subst (λ xs. IsLeastDenominator xs scale) same kept.least
+    subst (λ xs. AreWithinBoundsOver xs scale) same kept.least
 
 -- so many points are lists of that length
 pub kept_length : (ls vs rs : List Frac) (scale q : ℕ) → AreKept ls vs rs scale → length (points_of ls vs rs) ≡ q →
@@ -77,7 +77,7 @@ kept_more ls vs rs p scale m kept more =
     record {
       value_length = omega arith;
       right_length = omega arith;
-      least = subst (λ xs. IsLeastDenominator xs m)
+      least = subst (λ xs. AreWithinBoundsOver xs m)
           (sym (in_order-append ls vs rs e f (p.left ∷ []) (p.value ∷ []) (p.right ∷ [])))
           (more (in_order ls vs rs) kept.least);
     }

@@ -14,7 +14,7 @@ IsTight f a b = at f.value a +ℤ at f.value b ≡ at f.value (a + b)
 abbrev pub IsTightOnGrid : FunctionData → ℕ → ℕ → ℕ → Type 0
 IsTightOnGrid f m i j = table f m i +ℤ table f m j ≡ table f m (i + j)
 
--- each corner of the face is one of these pairs; the face of the function f is additive where each is a tight pair of f
+-- each corner of the face is one of these pairs; the face of the function f is additive if each is a tight pair of f
 abbrev pub IsAdditive : (ℕ → ℕ → Type 0) → FaceKind → ℕ → ℕ → Type 0
 IsAdditive Tight kind a b = All (λ corner. Tight corner.0 corner.1) (corners_of kind a b)
 

@@ -3,11 +3,11 @@ use Rattle.std.specs.Prelude.{ℕ, pos, ◌≡◌, ◌+◌, ◌-◌, ◌*◌, �
 use Rattle.gj_tools.specs.Divisors.{IsLcm}
 use Rattle.gj_frac.specs.declared.Frac.{Frac}
 use Rattle.gj_frac.specs.Fraction.{Fraction, SameValue, LessValue, fraction_of, numerator, denominator, IsRatio, IsInside}
+use Rattle.gj_shape.specs.Limits.{greatest_order}
 use Rattle.gj_shape.specs.FunctionData.{FunctionData}
 use Rattle.gj_shape.specs.Table.{table}
-use Rattle.gj_shape.specs.Given.{AreWithinBounds, IsGivenBy, IsTooFine}
+use Rattle.gj_shape.specs.Given.{AreWithinBounds, IsGivenBy, IsTooFine, IsLeastCommonDenominator}
 use Rattle.gj_shape.specs.Points.{lefts, values, rights, all_fractions, IsPointAt, IsPointFault}
-use Rattle.gj_shape.specs.RowCut.{IsLeastCommonDenominator}
 use Rattle.gj_shape.specs.declared.faults.FractionFault.{FractionFault}
 use Rattle.gj_shape.specs.declared.faults.FractionFault.TheVariants as refusal
 use Rattle.gj_shape.specs.declared.points.Point.{Point}
@@ -124,14 +124,14 @@ no_breaks place = record { place = place; order = unsigned_abs (denominator plac
 
 -- the order is still at most 1,000 with a further denominator
 abbrev pub HasOrderWith : BreakList → Frac → Type 0
-HasOrderWith s x = (m : ℕ) × (m ≤ 1000) × IsLcm s.order (unsigned_abs (denominator x)) m
+HasOrderWith s x = (m : ℕ) × (m ≤ greatest_order) × IsLcm s.order (unsigned_abs (denominator x)) m
 
 -- t is s with the breakpoint b behind the others
 pub record Follows (s : BreakList) (b : Break) (t : BreakList) : Type 0 where
   pub next : IsNextBreak s.breaks b.x
   pub place_is : t.place ≡ s.place
   pub order_is : IsLcm s.order (unsigned_abs (denominator b.x)) t.order
-  pub few : t.order ≤ 1000
+  pub few : t.order ≤ greatest_order
   pub breaks_are : t.breaks ≡ s.breaks ++ b ∷ []
   pub within : AreWithinBounds (all_fractions (points_at t.breaks))
 
@@ -152,7 +152,7 @@ break_fault refusal.Fine = fault.Fine
 pub record AreBreaks (s : BreakList) : Type 0 where
   pub inside : IsInside s.place
   pub order_is : IsLeastCommonDenominator (s.place ∷ map (λ b. b.x) s.breaks) s.order
-  pub few : s.order ≤ 1000
+  pub few : s.order ≤ greatest_order
   pub ascending : AreAscending s.breaks
   pub within : AreWithinBounds (all_fractions (points_at s.breaks))
 

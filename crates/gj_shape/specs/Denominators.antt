@@ -1,39 +1,47 @@
 -- The least common denominator of a list of fractions, and what further fractions do to it (own).
-use Rattle.std.specs.Prelude.{ℕ, ◌<◌, ◌≤◌, ◌^◌, List, ◌++◌, All, unsigned_abs}
+use Rattle.std.specs.Prelude.{ℕ, ◌<◌, ◌≤◌, List, ◌++◌, All, unsigned_abs}
 use Rattle.std.specs.Int.{◌∣◌}
 use Rattle.gj_frac.specs.declared.Frac.{Frac}
-use Rattle.gj_frac.specs.Fraction.{denominator}
+use Rattle.gj_frac.specs.Fraction.{denominator, IsAtMost}
 use Rattle.gj_tools.specs.Divisors.{IsLcm}
 use Rattle.gj_tools.specs.FirstThatFails.{IsFirstFailing}
-use Rattle.gj_shape.specs.Given.{IsSmall, IsCommonDenominator, AreWithinBounds, IsTooLarge, IsTooFine}
+use Rattle.gj_shape.specs.Limits.{greatest_value, denominator_bound}
+use Rattle.gj_shape.specs.Given.{IsSmall, IsLeastCommonDenominator, AreWithinBounds, IsTooLarge, IsTooFine}
 use Rattle.gj_shape.specs.declared.faults.ShapeFault.{ShapeFault}
 use Rattle.gj_shape.specs.declared.faults.ShapeFault.TheVariants as fault
 use Rattle.gj_shape.specs.declared.faults.FractionFault.{FractionFault}
 use Rattle.gj_shape.specs.declared.faults.FractionFault.TheVariants as refusal
 
--- all fractions are small, and m is their least common denominator, from 1 to 2^31 - 1
-pub record IsLeastDenominator (xs : List Frac) (m : ℕ) : Type 0 where
-  pub small : All IsSmall xs
+-- all fractions are at most this number in absolute value, and m is their least common denominator, from 1 to 2^31 - 1
+pub record AreWithinOver (limit : ℕ) (xs : List Frac) (m : ℕ) : Type 0 where
+  pub small : All (IsAtMost limit) xs
   pub low : 1 ≤ m
-  pub high : m < 2 ^ 31
-  pub common : IsCommonDenominator xs m
-  pub least : (c : ℕ) → IsCommonDenominator xs c → m ∣ c
+  pub high : m < denominator_bound
+  pub least : IsLeastCommonDenominator xs m
 
--- m is the least common denominator of fractions with the least common denominator `scale` and of x
-pub record Extends (scale : ℕ) (x : Frac) (m : ℕ) : Type 0 where
-  pub small : IsSmall x
+-- the same of the values and limits of a function
+abbrev pub AreWithinBoundsOver : List Frac → ℕ → Type 0
+AreWithinBoundsOver xs m = AreWithinOver greatest_value xs m
+
+-- fractions with the least common denominator `scale` have no common denominator from 1 to 2^31 - 1 with x
+abbrev pub HasNoCommonWith : ℕ → Frac → Type 0
+HasNoCommonWith scale x = (m : ℕ) → 1 ≤ m → m < denominator_bound → scale ∣ m → unsigned_abs (denominator x) ∣ m → ⊥
+
+-- x is at most this number in absolute value, and m is the least common denominator of fractions with the least common
+-- denominator `scale` and of x
+pub record Extends (limit scale : ℕ) (x : Frac) (m : ℕ) : Type 0 where
+  pub small : IsAtMost limit x
   pub least : IsLcm scale (unsigned_abs (denominator x)) m
-  pub high : m < 2 ^ 31
+  pub high : m < denominator_bound
 
 -- the same for more fractions
 abbrev pub ExtendsBy : ℕ → List Frac → ℕ → Type 0
-ExtendsBy scale ys m = (xs : List Frac) → IsLeastDenominator xs scale → IsLeastDenominator (xs ++ ys) m
+ExtendsBy scale ys m = (xs : List Frac) → AreWithinBoundsOver xs scale → AreWithinBoundsOver (xs ++ ys) m
 
 -- why the fraction x does not go with the least common denominator of those before it
 abbrev pub IsRefused : ℕ → Frac → FractionFault → Type 0
 IsRefused scale x refusal.Large = IsSmall x → ⊥
-IsRefused scale x refusal.Fine =
-    IsSmall x × ((m : ℕ) → 1 ≤ m → m < 2 ^ 31 → scale ∣ m → unsigned_abs (denominator x) ∣ m → ⊥)
+IsRefused scale x refusal.Fine = IsSmall x × HasNoCommonWith scale x
 
 -- x is the first of the fractions ys that fails a test behind the fractions xs, and `passed` stands before it
 abbrev pub IsFirstRefused : List Frac → List Frac → List Frac → Frac → Type 0
@@ -47,7 +55,7 @@ IsRefusal xs ys refusal.Fine = (passed : List Frac) × (x : Frac) × IsFirstRefu
 
 -- the same behind any fractions with the least common denominator `scale`
 abbrev pub IsRefusedBehind : ℕ → List Frac → FractionFault → Type 0
-IsRefusedBehind scale ys e = (xs : List Frac) → IsLeastDenominator xs scale → IsRefusal xs ys e
+IsRefusedBehind scale ys e = (xs : List Frac) → AreWithinBoundsOver xs scale → IsRefusal xs ys e
 
 -- the fault of lists with a fraction at fault at the index
 abbrev pub fault_at : FractionFault → ℕ → ShapeFault

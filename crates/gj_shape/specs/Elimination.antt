@@ -10,7 +10,7 @@ use Rattle.gj_shape.specs.SlopeRows.{total}
 abbrev pub at_column : List ℤ → ℕ → ℤ
 at_column row c = get_or row c (pos 0)
 
--- the greatest common divisor of all entries; 0 where all are 0
+-- the greatest common divisor of all entries; 0 if all are 0
 abbrev pub gcd_of_row : List ℤ → ℕ
 gcd_of_row [] = 0
 gcd_of_row (x ∷ xs) = gcd_of (unsigned_abs x) (gcd_of_row xs)
@@ -68,7 +68,7 @@ row_with_pivot kept c = find (λ k. k.pivot == c) kept
 unfoldable pub kept_entries : List ℤ → ℕ → List ℤ
 kept_entries row c = if int_lt (at_column row c) (pos 0) then map neg_ℤ (divided row) else divided row
 
--- what becomes of a row: the columns at which it is reduced, the pivot and the entries with which it is kept, where
+-- what becomes of a row: the columns at which it is reduced, the pivot and the entries with which it is kept, if
 -- anything is left of it, and the marked numbers
 pub record Insertion : Type 0 where
   pub reduce : List ℕ
@@ -223,7 +223,7 @@ unit_row n c = map (λ j. if j == c then pos 1 else pos 0) (range_with_len 0 n)
 abbrev pub free_column : ℕ → List KeptRow → Option ℕ
 free_column n kept = find (λ c. not (list_any (λ k. k.pivot == c) kept)) (range_with_len 0 n)
 
--- the numbers that solve the kept rows, from 1 at that column on; none where there is no such column
+-- the numbers that solve the kept rows, from 1 at that column on; none if there is no such column
 unfoldable pub solution_from : ℕ → List KeptRow → Option ℕ → Option Solution
 solution_from n kept None = None
 solution_from n kept (Some c) = Some (solution_below kept c (unit_row n c))

@@ -106,7 +106,7 @@ pub record ShowsNearCorner (f : FunctionData) (kind : FaceKind) (a b c : ℕ) (v
   pub second : IsOnGrid f h (near h c (second_coordinates kind a b)) y
   pub shown : v ≡ violation.Superadditive x y
 
--- what the test shows where it fails
+-- what the test shows if it fails
 abbrev pub Shows : FunctionData → Test → Violation → Type 0
 Shows f zero_at_zero v = v ≡ violation.Zero
 Shows f (nonnegative_at i) v = (x : Frac) × IsOnGrid f 1 i x × (v ≡ violation.Negative x)

@@ -1,6 +1,7 @@
 -- Piecewise linear functions of period 1 as data (Light on the Infinite Group Relaxation I; the limits are own).
-use Rattle.std.specs.Prelude.{ℕ, ℤ, pos, ◌≡◌, ◌≢◌, ◌⊎◌, ◌<◌, ◌≤◌, ◌*◌, ◌^◌, ◌%◌, List, ◌++◌, length, get_or, All, unsigned_abs}
+use Rattle.std.specs.Prelude.{ℕ, ℤ, pos, ◌≡◌, ◌≢◌, ◌⊎◌, ◌<◌, ◌≤◌, ◌*◌, ◌%◌, List, ◌++◌, length, get_or, All, unsigned_abs}
 use Rattle.std.specs.Int.{◌∣◌}
+use Rattle.gj_shape.specs.Limits.{greatest_order, greatest_value, denominator_bound}
 
 -- a function of period 1 with breakpoints in multiples of 1/order, and f = place/order
 pub record FunctionData : Type 0 where
@@ -13,23 +14,34 @@ pub record FunctionData : Type 0 where
   pub value : List ℤ
   pub right : List ℤ
 
+-- the function with these parts
+abbrev pub function_over : ℕ → ℕ → ℕ → List ℤ → List ℤ → List ℤ → FunctionData
+function_over order place scale left value right = record {
+  order = order;
+  place = place;
+  scale = scale;
+  left = left;
+  value = value;
+  right = right;
+}
+
 -- the entry at an index that is read modulo the length
 unfoldable pub at : List ℤ → ℕ → ℤ
 at xs i = get_or xs (i % length xs) (pos 0)
 
 -- a value or limit is at most 2^20 in absolute value
 abbrev pub IsSmallOver : ℕ → ℤ → Type 0
-IsSmallOver scale n = unsigned_abs n ≤ 2 ^ 20 * scale
+IsSmallOver scale n = unsigned_abs n ≤ greatest_value * scale
 
 -- what holds of each function: 2 to 1,000 pieces, f strictly between 0 and 1, values and limits of
 -- at most 2^20 over a common denominator of at most 2^31 - 1, and no smaller denominator serves
 pub record IsWithinBounds (f : FunctionData) : Type 0 where
   pub order_low : 2 ≤ f.order
-  pub order_high : f.order ≤ 1000
+  pub order_high : f.order ≤ greatest_order
   pub place_low : 1 ≤ f.place
   pub place_high : f.place < f.order
   pub scale_low : 1 ≤ f.scale
-  pub scale_high : f.scale < 2 ^ 31
+  pub scale_high : f.scale < denominator_bound
   pub left_length : length f.left ≡ f.order
   pub value_length : length f.value ≡ f.order
   pub right_length : length f.right ≡ f.order

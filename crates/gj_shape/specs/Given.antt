@@ -1,9 +1,10 @@
 -- Which function three lists of fractions give, and why they give none (own).
-use Rattle.std.specs.Prelude.{ℕ, ℤ, pos, ◌≡◌, ◌<◌, ◌≤◌, ◌*◌, ◌/◌, ◌^◌, ◌*ℤ◌, List, [], ◌∷◌, length, map, slice_index_or, All, unsigned_abs}
+use Rattle.std.specs.Prelude.{ℕ, ℤ, pos, ◌≡◌, ◌<◌, ◌≤◌, ◌/◌, ◌*ℤ◌, List, [], ◌∷◌, length, map, slice_index_or, All, unsigned_abs}
 use Rattle.std.specs.Int.{◌∣◌}
 use Rattle.gj_frac.specs.declared.Frac.{Frac}
-use Rattle.gj_frac.specs.Fraction.{numerator, denominator, IsRatio}
+use Rattle.gj_frac.specs.Fraction.{numerator, denominator, IsRatio, IsAtMost}
 use Rattle.gj_tools.specs.FirstThatFails.{IsFirstFailing}
+use Rattle.gj_shape.specs.Limits.{greatest_order, greatest_value, denominator_bound}
 use Rattle.gj_shape.specs.FunctionData.{FunctionData, IsWithinBounds}
 use Rattle.gj_shape.specs.declared.faults.ShapeFault.{ShapeFault}
 use Rattle.gj_shape.specs.declared.faults.ShapeFault.TheVariants as fault
@@ -15,38 +16,47 @@ in_order ls vs rs = []
 
 -- at most 2^20 in absolute value
 abbrev pub IsSmall : Frac → Type 0
-IsSmall x = unsigned_abs (numerator x) ≤ 2 ^ 20 * unsigned_abs (denominator x)
+IsSmall x = IsAtMost greatest_value x
 
 -- d is a common denominator
 abbrev pub IsCommonDenominator : List Frac → ℕ → Type 0
 IsCommonDenominator xs d = All (λ x. unsigned_abs (denominator x) ∣ d) xs
 
+-- c is the least common denominator of the fractions
+pub record IsLeastCommonDenominator (xs : List Frac) (c : ℕ) : Type 0 where
+  pub common : IsCommonDenominator xs c
+  pub least : (d : ℕ) → IsCommonDenominator xs d → c ∣ d
+
 -- there is a common denominator from 1 to 2^31 - 1
 abbrev pub HasCommonDenominator : List Frac → Type 0
-HasCommonDenominator xs = (d : ℕ) × (1 ≤ d) × (d < 2 ^ 31) × IsCommonDenominator xs d
+HasCommonDenominator xs = (d : ℕ) × (1 ≤ d) × (d < denominator_bound) × IsCommonDenominator xs d
 
--- all are small and have a common denominator from 1 to 2^31 - 1
-pub record AreWithinBounds (xs : List Frac) : Type 0 where
-  pub small : All IsSmall xs
+-- all are at most this number in absolute value and have a common denominator from 1 to 2^31 - 1
+pub record AreWithin (limit : ℕ) (xs : List Frac) : Type 0 where
+  pub small : All (IsAtMost limit) xs
   pub common : HasCommonDenominator xs
 
+-- all are small and have such a common denominator
+abbrev pub AreWithinBounds : List Frac → Type 0
+AreWithinBounds xs = AreWithin greatest_value xs
+
 -- x stands at the index and is the first fraction with which those up to it are not within bounds
-pub record IsFirstFault (left value right : List Frac) (index : ℕ) (before : List Frac) (x : Frac) : Type 0 where
+pub record IsFirstFractionAtFault (left value right : List Frac) (index : ℕ) (before : List Frac) (x : Frac) : Type 0 where
   pub first : IsFirstFailing AreWithinBounds (in_order left value right) before x
   pub index_is : index ≡ length before / 3
 
 -- the first fraction that fails a test is greater than 2^20 in absolute value
 abbrev pub IsTooLarge : List Frac → List Frac → List Frac → ℕ → Type 0
 IsTooLarge left value right i =
-    (before : List Frac) × (x : Frac) × IsFirstFault left value right i before x × (IsSmall x → ⊥)
+    (before : List Frac) × (x : Frac) × IsFirstFractionAtFault left value right i before x × (IsSmall x → ⊥)
 
 -- the first fraction that fails a test is not, and so leaves no common denominator from 1 to 2^31 - 1
 abbrev pub IsTooFine : List Frac → List Frac → List Frac → ℕ → Type 0
 IsTooFine left value right i =
-    (before : List Frac) × (x : Frac) × IsFirstFault left value right i before x × IsSmall x
+    (before : List Frac) × (x : Frac) × IsFirstFractionAtFault left value right i before x × IsSmall x
 
 abbrev pub IsOrder : ℕ → Type 0
-IsOrder q = (2 ≤ q) × (q ≤ 1000)
+IsOrder q = (2 ≤ q) × (q ≤ greatest_order)
 
 abbrev pub IsPlace : ℕ → ℕ → Type 0
 IsPlace q k = (1 ≤ k) × (k < q)

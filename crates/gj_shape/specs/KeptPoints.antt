@@ -2,7 +2,7 @@
 use Rattle.std.specs.Prelude.{ℕ, ◌≡◌, List, [], ◌∷◌, length}
 use Rattle.gj_frac.specs.declared.Frac.{Frac}
 use Rattle.gj_shape.specs.Given.{in_order}
-use Rattle.gj_shape.specs.Denominators.{IsLeastDenominator}
+use Rattle.gj_shape.specs.Denominators.{AreWithinBoundsOver}
 use Rattle.gj_shape.specs.declared.points.Point.{Point}
 
 -- the points with these limits from the left, values and limits from the right
@@ -14,4 +14,4 @@ points_of ls vs rs = []
 pub record AreKept (left value right : List Frac) (scale : ℕ) : Type 0 where
   pub value_length : length value ≡ length left
   pub right_length : length right ≡ length left
-  pub least : IsLeastDenominator (in_order left value right) scale
+  pub least : AreWithinBoundsOver (in_order left value right) scale

@@ -1,3 +1,4 @@
+pub mod Limits
 pub mod FunctionData
 pub mod Given
 pub mod Denominators
@@ -25,3 +26,4 @@ pub mod KeptBreaks
 pub mod Valid
 pub mod Residues
 pub mod TwoSlopes
+pub mod Entries

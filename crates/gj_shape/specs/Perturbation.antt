@@ -1,7 +1,8 @@
 -- Perturbations of a minimal function, and the two functions that they give (Equivariant Perturbation I; the halves' numbers are own).
-use Rattle.std.specs.Prelude.{ℕ, ℤ, pos, ◌≡◌, ◌+◌, ◌*◌, ◌/◌, ◌%◌, ◌==◌, ◌≤◌, ◌^◌, ◌+ℤ◌, ◌-ℤ◌, ◌*ℤ◌, ◌<ℤ◌, ◌≤ℤ◌, if◌then◌else◌, List, length, map, All, unsigned_abs}
+use Rattle.std.specs.Prelude.{ℕ, ℤ, pos, ◌≡◌, ◌+◌, ◌*◌, ◌/◌, ◌%◌, ◌==◌, ◌≤◌, ◌+ℤ◌, ◌-ℤ◌, ◌*ℤ◌, ◌<ℤ◌, ◌≤ℤ◌, if◌then◌else◌, List, length, map, All, unsigned_abs}
 use Rattle.std.specs.List.{range_with_len, list_any}
 use Rattle.gj_frac.specs.Fraction.{Fits}
+use Rattle.gj_shape.specs.Limits.{greatest_halves_order, greatest_halves_scale}
 use Rattle.gj_shape.specs.FunctionData.{FunctionData}
 use Rattle.gj_shape.specs.Table.{table}
 use Rattle.gj_shape.specs.SlopeRows.{total}
@@ -52,9 +53,9 @@ pub record AreHalvesOf (f : FunctionData) (m : ℕ) (perturbation : ℕ → ℤ)
 -- says
 pub record AreHalvesInBounds (h : Halves) : Type 0 where
   pub order_low : 2 ≤ h.order
-  pub order_high : h.order ≤ 4000
+  pub order_high : h.order ≤ greatest_halves_order
   pub scale_low : pos 1 ≤ℤ h.scale
-  pub scale_high : h.scale ≤ℤ pos (2 ^ 124)
+  pub scale_high : h.scale ≤ℤ pos greatest_halves_scale
   pub first_length : length h.first ≡ h.order
   pub second_length : length h.second ≡ h.order
   pub first_fit : All Fits h.first

@@ -5,7 +5,7 @@ use Rattle.gj_shape.specs.FunctionData.{FunctionData, at}
 use Rattle.gj_shape.specs.Table.{table, entry}
 use Rattle.gj_shape.specs.Given.{HaveLength, AreOver}
 
--- m times what a list has at a/order + r/(order m): where r is 0 its entry, and else the value
+-- m times what a list has at a/order + r/(order m): if r is 0 its entry, and else the value
 abbrev pub entry_or_value : FunctionData → List ℤ → ℕ → ℕ → ℕ → ℤ
 entry_or_value f xs m a zero = pos m *ℤ at xs a
 entry_or_value f xs m a (suc r) = entry f m a (suc r)

@@ -1,14 +1,8 @@
 -- Rows of a mixed-integer program, their solutions and cuts (Gomory and Johnson 1972).
 use Rattle.std.specs.Prelude.{ℕ, ℤ, pos, ◌≡◌, ◌+ℤ◌, ◌*ℤ◌, ◌≤ℤ◌, List, ◌∷◌, map, length}
-use Rattle.std.specs.Int.{◌∣◌}
 use Rattle.gj_frac.specs.declared.Frac.{Frac}
-use Rattle.gj_shape.specs.Given.{IsCommonDenominator, numerator_over}
+use Rattle.gj_shape.specs.Given.{IsLeastCommonDenominator, numerator_over}
 use Rattle.gj_shape.specs.SlopeRows.{sum_of_products}
-
--- c is the least common denominator of the fractions
-pub record IsLeastCommonDenominator (xs : List Frac) (c : ℕ) : Type 0 where
-  pub common : IsCommonDenominator xs c
-  pub least : (d : ℕ) → IsCommonDenominator xs d → c ∣ d
 
 -- the basic variable, a whole number, and the others, whole numbers not below 0, solve `basic + sum entries others = right`
 pub record IsRowSolution (entries : List Frac) (right : Frac) (basic : ℤ) (others : List ℕ) : Type 0 where

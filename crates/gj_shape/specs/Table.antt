@@ -2,7 +2,7 @@
 use Rattle.std.specs.Prelude.{ℕ, ℤ, zero, suc, pos, ◌≡◌, ◌+◌, ◌-◌, ◌*◌, ◌/◌, ◌%◌, ◌<◌, ◌+ℤ◌, ◌*ℤ◌, ◌≤ℤ◌}
 use Rattle.gj_shape.specs.FunctionData.{FunctionData, at}
 
--- m times the numerator at a/order + r/(order m): the value where r is 0, else between the limit from the
+-- m times the numerator at a/order + r/(order m): the value if r is 0, else between the limit from the
 -- right at a/order and the limit from the left at (a + 1)/order
 abbrev pub entry : FunctionData → ℕ → ℕ → ℕ → ℤ
 entry f m a zero = pos m *ℤ at f.value a

@@ -1,5 +1,6 @@
 //! Half the sum of two functions.
-ghost use Rattle.std.specs.Prelude.{◌≡◌, ◌<◌, ◌*◌, ◌^◌, ◌*ℤ◌, ◌+ℤ◌, pos, length, IfOk, IfErr};
+ghost use Rattle.std.specs.Prelude.{◌≡◌, ◌<◌, ◌*◌, ◌*ℤ◌, ◌+ℤ◌, pos, length, IfOk, IfErr};
+ghost use Rattle.gj_shape.specs.Limits.{denominator_bound};
 ghost use Rattle.gj_shape.specs.FunctionData.{at};
 ghost use Rattle.gj_shape.specs.Given.{AreOver, IsTooFineOf};
 ghost use Rattle.gj_shape.specs.Average.{AreHalfSums, IsAverageOf};
@@ -64,9 +65,9 @@ fn half_sums(
 ) -> Result<Vec<Frac>, AllocError>
     requires length { length other_entries.now ≡ length entries.now }
     requires low { 0 < scale }
-    requires high { scale < 2 ^ 31 }
+    requires high { scale < denominator_bound }
     requires other_low { 0 < other_scale }
-    requires other_high { other_scale < 2 ^ 31 }
+    requires other_high { other_scale < denominator_bound }
     ensures length { IfOk result (λ v. length v.items ≡ length entries.now) }
     ensures fractions { IfOk result (λ v. AreOver
         (λ i. pos other_scale *ℤ at entries.now i +ℤ pos scale *ℤ at other_entries.now i)

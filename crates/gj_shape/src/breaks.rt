@@ -3,6 +3,7 @@ ghost use Rattle.std.specs.Prelude.{◌≡◌, ◌≢◌, ◌<◌, ◌≤◌, �
 ghost use Rattle.gj_tools.specs.Divisors.{IsLcm};
 ghost use Rattle.gj_frac.specs.Fraction.{LessValue, fraction_of, denominator, IsInside};
 ghost use Rattle.gj_shape.specs.declared.faults.FractionFault.{FractionFault};
+ghost use Rattle.gj_shape.specs.Limits.{greatest_order};
 ghost use Rattle.gj_shape.specs.Given.{IsOrder, IsPlace, AreWithinBounds, IsTooFineOf};
 ghost use Rattle.gj_shape.specs.Points.{all_fractions};
 ghost use Rattle.gj_shape.specs.Breaks.{points_at, AreAscending, AreOnGrid, HasBreaks, IsGivenByBreaks, AreListsOfBreaks, no_breaks, IsNextBreak, Follows, IsBreakFault, break_fault, IsOfBreaks};
@@ -11,6 +12,7 @@ ghost use Rattle.gj_shape.specs.declared.breaks.BreakFault.TheVariants.{Memory};
 
 use crate::denominators::{small_denominator, with_point};
 use crate::faults::{FractionFault, ShapeFault};
+use crate::limits::GREATEST_ORDER;
 use crate::numerators::numerator_over;
 use crate::pieces::{place_of, push_piece, with_points};
 use crate::points::{Point, Points};
@@ -91,15 +93,15 @@ fn is_behind(before: Frac, x: Frac) -> bool
     before < x && x.num() < x.den()
 }
 
-/// The least common multiple of the order so far and the denominator of x, where it is at most 1,000.
+/// The least common multiple of the order so far and the denominator of x, if it is at most 1,000.
 fn order_with(order: u32, x: Frac) -> Option<u32>
     requires { 0 < order }
-    ensures few { IfSome result (λ m. m ≤ 1000) }
+    ensures few { IfSome result (λ m. m ≤ greatest_order) }
     ensures least { IfSome result (λ m. IsLcm order (unsigned_abs (denominator x)) m) }
-    ensures none { IfNone result ((m : ℕ) → m ≤ 1000 → IsLcm order (unsigned_abs (denominator x)) m → ⊥) }
+    ensures none { IfNone result ((m : ℕ) → m ≤ greatest_order → IsLcm order (unsigned_abs (denominator x)) m → ⊥) }
 {
     let multiple = lcm(order, small_denominator(x)?);
-    if multiple > 1000 {
+    if multiple > u64::from(GREATEST_ORDER) {
         return None;
     }
     Some(multiple as u32)
@@ -132,7 +134,7 @@ impl Breaks {
     /// No breakpoints, and f, which lies between 0 and 1, both excluded, and has a denominator of at most 1,000.
     pub fn new(alloc: Global, place: Frac) -> Breaks
         requires inside { IsInside place }
-        requires few { unsigned_abs (denominator place) ≤ 1000 }
+        requires few { unsigned_abs (denominator place) ≤ greatest_order }
         ensures { result ≡ no_breaks place }
     {
         Breaks {

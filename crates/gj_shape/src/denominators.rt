@@ -1,12 +1,14 @@
 //! The least common denominator of the values and limits of a function.
-ghost use Rattle.std.specs.Prelude.{◌≡◌, ◌<◌, ◌≤◌, ◌^◌, ◌↔◌, ◌++◌, List, length, SomeIff, IfOk, IfErr, IsTrue, unsigned_abs};
+ghost use Rattle.std.specs.Prelude.{◌≡◌, ◌<◌, ◌≤◌, ◌↔◌, ◌++◌, List, length, SomeIff, IfOk, IfErr, IsTrue, unsigned_abs};
 ghost use Rattle.gj_frac.specs.declared.Frac.{Frac};
-ghost use Rattle.gj_frac.specs.Fraction.{denominator};
+ghost use Rattle.gj_frac.specs.Fraction.{denominator, HasDenominatorBelow};
+ghost use Rattle.gj_shape.specs.Limits.{greatest_order, greatest_value, denominator_bound};
 ghost use Rattle.gj_shape.specs.Given.{in_order, IsSmall};
-ghost use Rattle.gj_shape.specs.Denominators.{Extends, ExtendsBy, IsLeastDenominator, IsRefused, IsRefusedBehind, IsFaultIn, fault_at};
+ghost use Rattle.gj_shape.specs.Denominators.{Extends, ExtendsBy, AreWithinBoundsOver, IsRefused, IsRefusedBehind, IsFaultIn, fault_at};
 ghost use Rattle.gj_shape.specs.Points.{fractions_of};
 
 use crate::faults::{FractionFault, ShapeFault};
+use crate::limits::{GREATEST_DENOMINATOR, GREATEST_VALUE};
 use crate::points::Point;
 use gj_frac::{Frac, lcm};
 
@@ -14,22 +16,22 @@ use gj_frac::{Frac, lcm};
 fn is_small(x: Frac) -> bool
     ensures { IsTrue result ↔ IsSmall x }
 {
-    x.num().unsigned_abs() <= x.den().unsigned_abs().saturating_mul(1 << 20)
+    x.num().unsigned_abs() <= x.den().unsigned_abs().saturating_mul(GREATEST_VALUE)
 }
 
-/// The denominator of the fraction, where it is at most 2^31 - 1.
+/// The denominator of the fraction, if it is at most 2^31 - 1.
 pub fn small_denominator(x: Frac) -> Option<u32>
-    ensures { SomeIff result (unsigned_abs (denominator x) < 2 ^ 31) (unsigned_abs (denominator x)) }
+    ensures { SomeIff result (HasDenominatorBelow denominator_bound x) (unsigned_abs (denominator x)) }
 {
     u32::try_from(x.den())
         .ok()
-        .filter(|d| *d <= i32::MAX as u32)
+        .filter(|d| *d <= GREATEST_DENOMINATOR)
 }
 
 /// The least common denominator of the fractions so far, `scale`, with one more fraction.
 fn extended(scale: u32, x: Frac) -> Result<u32, FractionFault>
     requires low { 0 < scale }
-    ensures least { IfOk result (Extends scale x) }
+    ensures least { IfOk result (Extends greatest_value scale x) }
     ensures fault { IfErr result (IsRefused scale x) }
 {
     if !is_small(x) {
@@ -39,7 +41,7 @@ fn extended(scale: u32, x: Frac) -> Result<u32, FractionFault>
         return Err(FractionFault::Fine);
     };
     let multiple = lcm(scale, den);
-    if multiple >= 1 << 31 {
+    if multiple > u64::from(GREATEST_DENOMINATOR) {
         return Err(FractionFault::Fine);
     }
     Ok(multiple as u32)
@@ -67,10 +69,10 @@ pub(crate) fn common_denominator(
     value: &[Frac],
     right: &[Frac],
 ) -> Result<u32, ShapeFault>
-    requires few { length left.now ≤ 1000 }
+    requires few { length left.now ≤ greatest_order }
     requires value_length { length value.now ≡ length left.now }
     requires right_length { length right.now ≡ length left.now }
-    ensures least { IfOk result (IsLeastDenominator (in_order left.now value.now right.now)) }
+    ensures least { IfOk result (AreWithinBoundsOver (in_order left.now value.now right.now)) }
     ensures fault { IfErr result (IsFaultIn left.now value.now right.now) }
 {
     let mut scale = 1;

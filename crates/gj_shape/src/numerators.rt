@@ -1,7 +1,8 @@
 //! Fractions as whole numbers over a common denominator.
-ghost use Rattle.std.specs.Prelude.{◌≡◌, ◌<◌, ◌≤◌, ◌^◌, map, All, IfOk, unsigned_abs};
+ghost use Rattle.std.specs.Prelude.{◌≡◌, ◌<◌, ◌≤◌, map, All, IfOk, unsigned_abs};
 ghost use Rattle.std.specs.Int.{◌∣◌};
 ghost use Rattle.gj_frac.specs.Fraction.{denominator};
+ghost use Rattle.gj_shape.specs.Limits.{denominator_bound};
 ghost use Rattle.gj_shape.specs.Given.{IsSmall, IsCommonDenominator, numerator_over as over_scale};
 
 use gj_frac::Frac;
@@ -11,7 +12,7 @@ use std::alloc::{AllocError, Global};
 pub(crate) fn numerator_over(x: Frac, scale: u32) -> i64
     requires small { IsSmall x }
     requires low { 1 ≤ scale }
-    requires high { scale < 2 ^ 31 }
+    requires high { scale < denominator_bound }
     requires multiple { unsigned_abs (denominator x) ∣ scale }
     ensures { result ≡ over_scale scale x }
 {
@@ -23,7 +24,7 @@ pub(crate) fn numerator_over(x: Frac, scale: u32) -> i64
 pub(crate) fn numerators(alloc: Global, xs: &[Frac], scale: u32) -> Result<Vec<i64>, AllocError>
     requires small { All IsSmall xs.now }
     requires low { 1 ≤ scale }
-    requires high { scale < 2 ^ 31 }
+    requires high { scale < denominator_bound }
     requires common { IsCommonDenominator xs.now scale }
     ensures { IfOk result (λ v. v.items ≡ map (over_scale scale) xs.now) }
 {

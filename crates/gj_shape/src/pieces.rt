@@ -1,8 +1,9 @@
 //! The points of a function on the grid, from one breakpoint to the next.
-ghost use Rattle.std.specs.Prelude.{◌≡◌, ◌<◌, ◌≤◌, ◌+◌, ◌-◌, ◌*◌, ◌^◌, ◌+ℤ◌, ◌*ℤ◌, ◌++◌, ◌∷◌, [], ℕ, pos, List, IfOk, IfErr, OnOk, unsigned_abs};
+ghost use Rattle.std.specs.Prelude.{◌≡◌, ◌<◌, ◌≤◌, ◌+◌, ◌-◌, ◌*◌, ◌+ℤ◌, ◌*ℤ◌, ◌++◌, ◌∷◌, [], ℕ, pos, List, IfOk, IfErr, OnOk, unsigned_abs};
 ghost use Rattle.std.specs.Int.{◌∣◌};
 ghost use Rattle.gj_frac.specs.Fraction.{IsRatio, denominator};
 ghost use Rattle.gj_shape.specs.Breaks.{IsPiece};
+ghost use Rattle.gj_shape.specs.Limits.{greatest_order, denominator_bound};
 ghost use Rattle.gj_shape.specs.Given.{AreWithinBounds, IsGivenBy, HasFault};
 ghost use Rattle.gj_shape.specs.Points.{lefts, values, rights};
 ghost use Rattle.gj_shape.specs.declared.points.Point.{Point};
@@ -19,7 +20,7 @@ use std::alloc::{AllocError, Global};
 /// The p of x = p/q.
 pub(crate) fn place_of(x: Frac, q: u32) -> u32
     requires low { 0 < q }
-    requires high { q ≤ 1000 }
+    requires high { q ≤ greatest_order }
     requires place { (p : ℕ) × (p < q) × IsRatio x (pos p) (pos q) }
     ensures { IsRatio x (pos result) (pos q) }
 {
@@ -35,7 +36,7 @@ pub(crate) fn push_piece(
     steps: u32,
 ) -> Result<(), AllocError>
     requires some { 0 < steps }
-    requires few { steps ≤ 1000 }
+    requires few { steps ≤ greatest_order }
     requires within { AreWithinBounds (b.right ∷ w ∷ []) }
     ensures { OnOk result ((more : List Point) × IsPiece b w steps more × (points.new.items ≡ points.old.items ++ more)) }
 {
@@ -62,7 +63,7 @@ pub(crate) fn push_piece(
 fn scale_of(x: Frac, y: Frac) -> u32
     requires { AreWithinBounds (x ∷ y ∷ []) }
     ensures low { 1 ≤ result }
-    ensures high { result < 2 ^ 31 }
+    ensures high { result < denominator_bound }
     ensures first { unsigned_abs (denominator x) ∣ result }
     ensures second { unsigned_abs (denominator y) ∣ result }
 {

@@ -1,12 +1,13 @@
 //! Functions of period 1 that are affine between neighbouring multiples of 1/q.
 ghost use Rattle.std.specs.Prelude.{◌≡◌, ◌<◌, ℕ, pos, IfOk, IfErr, IfSome, IfNone, IsTrue, ◌↔◌};
 ghost use Rattle.gj_frac.specs.Fraction.{IsRatio};
-ghost use Rattle.gj_shape.specs.FunctionData.{IsWithinBounds, IsContinuous, IsJump, at};
+ghost use Rattle.gj_shape.specs.FunctionData.{IsWithinBounds, IsContinuous, IsJump, at, function_over};
 ghost use Rattle.gj_shape.specs.Given.{in_order, HaveLength, IsOrder, IsPlace};
-ghost use Rattle.gj_shape.specs.Denominators.{IsLeastDenominator};
+ghost use Rattle.gj_shape.specs.Denominators.{AreWithinBoundsOver};
 
 use crate::denominators::common_denominator;
 use crate::faults::ShapeFault;
+use crate::limits::GREATEST_ORDER;
 use crate::numerators::numerators;
 use gj_frac::Frac;
 use std::alloc::{AllocError, Global};
@@ -98,7 +99,7 @@ impl Shape {
         requires order { IsOrder q }
         requires place { IsPlace q k }
         requires lengths { HaveLength left.now value.now right.now q }
-        requires least { IsLeastDenominator (in_order left.now value.now right.now) scale }
+        requires least { AreWithinBoundsOver (in_order left.now value.now right.now) scale }
         ensures { IfOk result (IsGivenBy q k left.now value.now right.now) }
     {
         Ok(Shape {
@@ -109,6 +110,30 @@ impl Shape {
             value: numerators(alloc, value, scale)?,
             right: numerators(alloc, right, scale)?,
         })
+    }
+
+    /// The function of order `order` with f = `place/order` and, at i/order, the limit `left[i]/scale` from the left, the value
+    /// `value[i]/scale` and the limit `right[i]/scale` from the right. All are within the bounds, and no smaller denominator than
+    /// `scale` serves.
+    pub fn from_numerators(
+        order: u32,
+        place: u32,
+        scale: u32,
+        left: Vec<i64>,
+        value: Vec<i64>,
+        right: Vec<i64>,
+    ) -> Shape
+        requires { IsWithinBounds (function_over order place scale left.items value.items right.items) }
+        ensures { result ≡ function_over order place scale left.items value.items right.items }
+    {
+        Shape {
+            order,
+            place,
+            scale,
+            left,
+            value,
+            right,
+        }
     }
 
     /// The order q, from 2 to 1,000.
@@ -207,7 +232,7 @@ impl Shape {
         self.right.as_slice()
     }
 
-    /// The least i for which the limits and the value at i/q are not all equal, where there is one.
+    /// The least i for which the limits and the value at i/q are not all equal, if there is one.
     pub fn first_jump(&self) -> Option<u32>
         ensures within { IfSome result (λ i. i < self.now.order) }
         ensures jump { IfSome result (IsJump self.now) }
@@ -261,7 +286,7 @@ impl Shape {
 fn is_order(q: u32) -> bool
     ensures { IsTrue result ↔ IsOrder q }
 {
-    (2..=1000).contains(&q)
+    (2..=GREATEST_ORDER).contains(&q)
 }
 
 /// Whether the place is from 1 to the order less 1.

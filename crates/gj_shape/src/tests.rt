@@ -17,7 +17,7 @@ fn of_order_two(rt: &HostRuntime, at_zero: Frac, at_half: Frac) -> Result<Shape,
     Shape::new(rt.alloc(), 2, 1, &values, &values, &values)
 }
 
-/// The value at n/d, where n and d are small and d is above 0.
+/// The value at n/d, for small n and d, d above 0.
 fn value_at(shape: &Shape, n: i128, d: i128) -> Option<Frac> {
     let x = Frac::new(n, d)?;
     if x.den() > 100 || x.num().unsigned_abs() > 100 {

@@ -1,6 +1,7 @@
 //! The value of a function at a fraction.
 ghost use Rattle.std.specs.Prelude.{◌≡◌, ◌<◌, ◌≤◌, ◌*◌, ◌^◌, ℕ, ◌≢◌, pos, ◌*ℤ◌, ◌+ℤ◌, length, unsigned_abs};
 ghost use Rattle.gj_frac.specs.Fraction.{IsRatio, numerator, denominator};
+ghost use Rattle.gj_shape.specs.Limits.{IsSmallNumber};
 ghost use Rattle.gj_shape.specs.Refinement.{entry_or_value};
 ghost use Rattle.gj_shape.specs.Table.{table};
 ghost use Rattle.gj_shape.specs.Values.{IsCongruent, IsValueAt};
@@ -10,7 +11,7 @@ use crate::shape::Shape;
 use gj_frac::Frac;
 
 impl Shape {
-    /// The value of the function at z/q, where q is the order.
+    /// The value of the function at z/q, for the order q.
     ///
     /// z has a denominator of at most 2^62. It may be negative and of any size, since the function has period 1.
     /// Each point x of a shown violation has a denominator of at most 2^62, and so have q x and k - q x.
@@ -23,11 +24,12 @@ impl Shape {
 
     /// The value of the function at x.
     ///
-    /// x has a denominator of at most 2^62 and is at most 2^31 in absolute value. Each point of a shown violation is
-    /// so: it is from 0 up to, not including, 1 and has a denominator of at most 2^62.
+    /// x has a denominator of at most 2^62 and is at most 2^31 in absolute value. Each point of a violation that
+    /// `find_violation` answers or that passes the rule `point` is so: it is from 0 up to, not including, 1 and has a
+    /// denominator of at most 2^62.
     pub fn value_at(&self, x: Frac) -> Frac
         requires fine { unsigned_abs (denominator x) ≤ 2 ^ 62 }
-        requires size { unsigned_abs (numerator x) ≤ 2 ^ 31 * unsigned_abs (denominator x) }
+        requires size { IsSmallNumber x }
         ensures value { IsValueAt self.now (numerator x *ℤ pos self.now.order) (unsigned_abs (denominator x)) result }
         ensures not_negative { (n d : ℕ) → IsPoint x n d →
             IsRatio result (value_of self.now n d) (pos (self.now.scale * d)) }
@@ -35,7 +37,7 @@ impl Shape {
         self.value_on_grid(x.num() * i128::from(self.order()), x.den() as u64)
     }
 
-    /// The value at n/(q steps), where q is the order.
+    /// The value at n/(q steps), for the order q.
     fn value_on_grid(&self, n: i128, steps: u64) -> Frac
         requires some { 0 < steps }
         requires few { steps ≤ 2 ^ 62 }
@@ -49,7 +51,7 @@ impl Shape {
         fraction(numerator, self.common_denominator() * i128::from(steps))
     }
 
-    /// `steps` times what stands at index/q + remainder/(q steps), where q is the order: the entry of the list where the
+    /// `steps` times what stands at index/q + remainder/(q steps), for the order q: the entry of the list if the
     /// remainder is 0, and else the value between the limits.
     pub(crate) fn entry_or_value(
         &self,

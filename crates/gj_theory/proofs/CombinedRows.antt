@@ -65,7 +65,7 @@ combination_of_rows u w old kept = differences (scaled u old) (scaled w kept)
 
 -- the numbers that are marked
 abbrev pub marked_numbers : ℤ → ℤ → List ℤ → List ℤ → List ℤ
-marked_numbers u w old kept = scaled u old ++ scaled w kept ++ differences (scaled u old) (scaled w kept)
+marked_numbers u w old kept = scaled u old ++ scaled w kept ++ combination_of_rows u w old kept
 
 lengths : (u w : ℤ) (old kept : List ℤ) → length kept ≡ length old →
     (length (scaled u old) ≡ length old) × (length (scaled w kept) ≡ length old)

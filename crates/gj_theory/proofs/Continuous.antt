@@ -25,10 +25,10 @@ same_minimal_table t u n k s e h = record {
 }
 
 -- the values of a function are its table on its own grid
-abbrev HasMinimalValues : FunctionData → Type 0
+abbrev pub HasMinimalValues : FunctionData → Type 0
 HasMinimalValues f = IsMinimalTable (at f.value) f.order f.place f.scale
 
-own_values : (f : FunctionData) → IsMinimalOnGrid f 1 → HasMinimalValues f
+pub own_values : (f : FunctionData) → IsMinimalOnGrid f 1 → HasMinimalValues f
 own_values f h =
     let t = rw (mul-one f.order, mul-one f.place, mul-one f.scale) at h in
     same_minimal_table (table f 1) (at f.value) f.order f.place f.scale (λ i. sym (table_of_order f i)) t

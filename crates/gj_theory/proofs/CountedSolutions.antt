@@ -9,8 +9,18 @@ use Rattle.std.proofs.lemmas.Int.{ints}
 use Rattle.gj_tools.proofs.Integers.{mul_add_z}
 use Rattle.gj_tools.proofs.Quotients.{same_at_remainder}
 use Rattle.gj_shape.specs.SlopeRows.{total}
-use Rattle.gj_shape.specs.Valid.{IsSolution, weight, IsCountedSolution, counted_weight, IsValidTable}
+use Rattle.gj_shape.specs.Valid.{IsSolution, weight, IsValidTable}
 use Rattle.gj_theory.proofs.Weights.{HasList, sum_cons, same_sums, with_copies}
+
+-- ---- solutions by counts
+
+-- y i is how often the place i below n is used
+abbrev IsCountedSolution : ℕ → ℕ → (ℕ → ℕ) → Type 0
+IsCountedSolution n k y = sum (map (λ i. i * y i) (range_with_len 0 n)) % n ≡ k % n
+
+-- the sum of a table's entries at the places below n, each times its count
+abbrev counted_weight : (ℕ → ℤ) → ℕ → (ℕ → ℕ) → ℤ
+counted_weight t n y = total (map (λ i. t i *ℤ pos (y i)) (range_with_len 0 n))
 
 -- ---- sums over a range
 

@@ -19,11 +19,11 @@ use Rattle.gj_theory.proofs.CarriedSteps.{carried_by_edge, given_by_triangle}
 
 -- ---- the first step on an interval
 
-first_step : (ℕ → ℤ) → ℕ → ℕ → ℤ
+pub first_step : (ℕ → ℤ) → ℕ → ℕ → ℤ
 first_step p m i = p (i * m + 0 + 1) -ℤ p (i * m + 0)
 
 -- is the step that it has
-step_is_first : (p : ℕ → ℤ) (m i : ℕ) (t : ℤ) → 0 < m → HasStepOn p m i t → t ≡ first_step p m i
+pub step_is_first : (p : ℕ → ℤ) (m i : ℕ) (t : ℤ) → 0 < m → HasStepOn p m i t → t ≡ first_step p m i
 unfolding first_step
 step_is_first p m i t some step = let first = step 0 some in omega (arith, ints)
 

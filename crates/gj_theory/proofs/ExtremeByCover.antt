@@ -46,7 +46,7 @@ along_run p a m t step (suc k) low =
     omega (arith, ints)
 
 -- at the multiples of 1/order
-value_from_slopes : (p : ℕ → ℤ) (q m : ℕ) (slope : ℕ → ℤ) → p 0 ≡ pos 0 → ((i : ℕ) → i < q → HasStepOn p m i (slope i)) →
+pub value_from_slopes : (p : ℕ → ℤ) (q m : ℕ) (slope : ℕ → ℤ) → p 0 ≡ pos 0 → ((i : ℕ) → i < q → HasStepOn p m i (slope i)) →
     (i : ℕ) → i ≤ q → p (i * m) ≡ pos m *ℤ sum_before slope i
 unfolding sum_before
 value_from_slopes p q m slope start steps zero low =
@@ -135,7 +135,7 @@ zero_upto p q m some start steps (suc x) low =
     let next : p (x / m * m + x % m + 1) ≡ p (suc x) = ap p (omega arith) in
     omega (arith, ints)
 
-zero_everywhere : (p : ℕ → ℤ) (q m : ℕ) → 0 < q → 0 < m → ((i : ℕ) → p (i + q * m) ≡ p i) → p 0 ≡ pos 0 →
+pub zero_everywhere : (p : ℕ → ℤ) (q m : ℕ) → 0 < q → 0 < m → ((i : ℕ) → p (i + q * m) ≡ p i) → p 0 ≡ pos 0 →
     ((i : ℕ) → i < q → HasStepOn p m i (pos 0)) → (x : ℕ) → p x ≡ pos 0
 zero_everywhere p q m q_some m_some period start steps x =
     let below = mod-lt x (mul-pos q_some m_some) in

@@ -36,6 +36,8 @@ pub mod ExtremeByCover
 pub mod GmicTable
 pub mod GmicValues
 pub mod RowGrids
+pub mod UsedPlaces
+pub mod MinimalEntries
 pub mod CutsByTables
 pub mod LineComponents
 pub mod LineIntervals
@@ -52,3 +54,16 @@ pub mod Weights
 pub mod ValidTables
 pub mod CountedSolutions
 pub mod SameVerdicts
+pub mod FewPassing
+pub mod OpeningLines
+pub mod TwoSlopes
+pub mod TwoSlopeCovers
+pub mod TwoSlopesAreExtreme
+pub mod TwoSlopeRows
+pub mod Modulo
+pub mod ResiduePivots
+pub mod ResidueInsertions
+pub mod ResidueElimination
+pub mod Inverses
+pub mod Repeats
+pub mod RepeatedRows

@@ -92,7 +92,7 @@ one_component q Tight lines i a b rules first second = same_component q Tight li
 
 -- ---- only intervals with a line
 
-line_at : (lines before : List CoverLine) (l : CoverLine) (after : List CoverLine) → lines ≡ before ++ l ∷ after → HasLine lines l.interval
+pub line_at : (lines before : List CoverLine) (l : CoverLine) (after : List CoverLine) → lines ≡ before ++ l ∷ after → HasLine lines l.interval
 line_at lines before l after place = (
   length before,
   l,

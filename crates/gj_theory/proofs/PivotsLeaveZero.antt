@@ -57,18 +57,19 @@ find_pivot pivot c (suc g) =
       ]
     ]
 
-pivot_at : (n : ℕ) (row : ℕ → List ℤ) (pivot : ℕ → ℕ) (c : ℕ) → HavePivots n row pivot → c < n →
-    (g : ℕ) × (g < n) × (pivot g ≡ c)
-pivot_at n row pivot c rows within =
+-- n different pivots below n are all columns
+pub find_pivot_below : (n : ℕ) (pivot : ℕ → ℕ) (c : ℕ) → ((g : ℕ) → g < n → pivot g < n) →
+    ((g h : ℕ) → g < h → h < n → pivot g ≢ pivot h) → c < n → (g : ℕ) × (g < n) × (pivot g ≡ c)
+find_pivot_below n pivot c inside different within =
     elim (find_pivot pivot c n) [
       | inl found ↦ found
       | inr none ↦
           let columns = c ∷ pivots pivot n in
           let distinct = IsDistinct-cons eqb c (pivots pivot n)
           (each_pivot (λ y. eqb c y ≡ false) pivot n (λ h low. ne_eqb c (pivot h) (λ e. none h low (sym e))))
-          (pivots_distinct pivot n rows.different n (omega arith)) in
+          (pivots_distinct pivot n different n (omega arith)) in
           let below : All (λ x. x < n) columns =
-          All-from_recursion (λ x. x < n) columns (within, each_pivot (λ x. x < n) pivot n rows.within) in
+          All-from_recursion (λ x. x < n) columns (within, each_pivot (λ x. x < n) pivot n inside) in
           let member = λ (q : ℕ) (e : list_any (eqb q) columns ≡ true).
           let found = all_of_any (λ x. x < n) (λ x. eqb q x ≡ true) columns below (Any-from_list_any (eqb q) columns e) in
           subst (λ (x : ℕ). x < n) (sym (eqb-true q found.0 found.2)) found.1 in
@@ -113,7 +114,7 @@ zero_from n row pivot numbers rows long solved (suc k) c high =
     elim (cases_lt c n) [
       | inr past ↦ get_or_past numbers c (pos 0) (omega arith)
       | inl within ↦
-          let found = pivot_at n row pivot c rows within in
+          let found = find_pivot_below n pivot c rows.within rows.different within in
           let own = row found.0 in
           let before = λ (d : ℕ) (low : d < c). rows.zero_before found.0 d found.1 (subst (λ (x : ℕ). d < x) (sym found.2) low) in
           let some : at_column own c ≢ pos 0 = subst (λ (x : ℕ). at_column own x ≢ pos 0) found.2 (rows.not_zero found.0 found.1) in

@@ -19,7 +19,8 @@ use Rattle.gj_shape.proofs.LeastDenominator.{Divides, denominator_some}
 use Rattle.gj_shape.proofs.TableLemmas.{table_finer}
 use Rattle.gj_shape.proofs.OverScale.{denominator_is}
 use Rattle.gj_shape.proofs.ValueLemmas.{natural_index, moved_index_z}
-use Rattle.gj_theory.specs.Cuts.{HasFractionalPart, IsEntryAt, IsValueOf, IsGmicValue}
+use Rattle.gj_frac.specs.Floor.{HasFractionalPart}
+use Rattle.gj_theory.specs.Cuts.{IsEntryAt, IsValueOf, IsGmicValue}
 use Rattle.gj_theory.proofs.CutsByTables.{product_of, product_some, product_common, cut_by_table}
 use Rattle.gj_theory.proofs.GmicTable.{gmic_minimal}
 use Rattle.gj_theory.proofs.GmicValues.{closed_form}
@@ -27,7 +28,7 @@ use Rattle.gj_theory.proofs.GmicValues.{closed_form}
 -- ---- places on a grid
 
 -- a fractional part on a finer grid
-part_on_grid : (x : Frac) (k n m : ℕ) → HasFractionalPart x (pos k) (pos n) → HasFractionalPart x (pos (k * m)) (pos (n * m))
+pub part_on_grid : (x : Frac) (k n m : ℕ) → HasFractionalPart x (pos k) (pos n) → HasFractionalPart x (pos (k * m)) (pos (n * m))
 part_on_grid x k n m h w floor =
     sym (mul_assoc_z _ (pos n) (pos m)) ∙ ap (λ z. z *ℤ pos m) (h w floor) ∙ swap_last_z (pos k) x.den (pos m)
 
@@ -72,7 +73,7 @@ value_on_grid f x y m order_some some divides value =
     factor_positive d zero m whole some = absurd (omega arith)
     factor_positive d (suc e) m whole some = omega arith
 
-values_on_grid : (f : FunctionData) (xs ys : List Frac) (m : ℕ) → 0 < f.order → 0 < m → IsCommonDenominator xs m →
+pub values_on_grid : (f : FunctionData) (xs ys : List Frac) (m : ℕ) → 0 < f.order → 0 < m → IsCommonDenominator xs m →
     AllZip (IsValueOf f) xs ys → AllZip (IsEntryAt (table f m) (f.order * m) (f.scale * m)) xs ys
 values_on_grid f [] [] m order_some some divide h = tt
 values_on_grid f [] (y ∷ ys) m order_some some divide h = absurd h
@@ -97,10 +98,10 @@ cut_by_function f entries right coefficients bounds minimal part h =
 -- ---- the mixed-integer cut
 
 -- the table of period q m with f at the place p m
-abbrev table_of : ℕ → ℕ → ℕ → ℕ → ℤ
+abbrev pub table_of : ℕ → ℕ → ℕ → ℕ → ℤ
 table_of q p m i = pos (gmic_table (q * m) (p * m) i)
 
-place_over : (f : Frac) (q p m : ℕ) → pos q ≡ denominator f → pos p ≡ numerator f → IsRatio f (pos (p * m)) (pos (q * m))
+pub place_over : (f : Frac) (q p m : ℕ) → pos q ≡ denominator f → pos p ≡ numerator f → IsRatio f (pos (p * m)) (pos (q * m))
 place_over f q p m q_is p_is =
     ap (λ z. z *ℤ pos (q * m)) (sym p_is) ∙ crossed p q m ∙ ap (λ z. pos (p * m) *ℤ z) q_is
   where
@@ -125,7 +126,7 @@ gmic_on_grid f x y q p m q_is p_is p_some below some divides value =
           (place_over f q p m q_is p_is) place_is i.1 value;
     }
 
-gmics_on_grid : (f : Frac) (xs ys : List Frac) (q p m : ℕ) → pos q ≡ denominator f → pos p ≡ numerator f → 0 < p → p < q → 0 < m →
+pub gmics_on_grid : (f : Frac) (xs ys : List Frac) (q p m : ℕ) → pos q ≡ denominator f → pos p ≡ numerator f → 0 < p → p < q → 0 < m →
     IsCommonDenominator xs m → AllZip (IsGmicValue f) xs ys →
     AllZip (IsEntryAt (table_of q p m) (q * m) (gmic_scale (q * m) (p * m))) xs ys
 gmics_on_grid f [] [] q p m q_is p_is p_some below some divide h = tt

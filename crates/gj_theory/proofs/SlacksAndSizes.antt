@@ -130,12 +130,12 @@ slack_of_remainders t n period i j =
     same_at_remainder t n period (i % n + j % n) (i + j) (mod-add-mod i n (j % n) ∙ add-mod-mod i j n) in
     rw (first, second, both) refl
 
--- entries are at most that at f
-at_most_scale : (t : ℕ → ℤ) (n k s : ℕ) → 0 < n → IsMinimalTable t n k s → t (k + k) ≤ℤ pos s
-at_most_scale t n k s some h =
-    let j = (n - 1) * k in
-    let whole : k + k + j ≡ k + k * n = omega (arith, ap (λ x. x * k) (let e : n - 1 + 1 ≡ n = omega arith in e)) in
-    let sum = h.symmetric (k + k) j (ap (λ x. x % n) whole ∙ add-mul-mod_self_right k k n) in
+-- entries of a minimal table are at most its scale
+pub at_most_scale : (t : ℕ → ℤ) (n k s i : ℕ) → 0 < n → IsMinimalTable t n k s → t i ≤ℤ pos s
+at_most_scale t n k s i some h =
+    let j = (n - 1) * i + k in
+    let whole : i + j ≡ k + i * n = omega (arith, ap (λ x. x * i) (let e : n - 1 + 1 ≡ n = omega arith in e)) in
+    let sum = h.symmetric i j (ap (λ x. x % n) whole ∙ add-mul-mod_self_right k i n) in
     let sign = h.nonnegative j in
     omega (arith, ints)
 
@@ -144,7 +144,7 @@ positive_at_place : (t : ℕ → ℤ) (n k s : ℕ) → 0 < n → 0 < s → IsMi
 positive_at_place t n k s some s_some h =
     let zero_at_zero = h.zero_at_zero in
     let place : t 0 +ℤ t k ≡ pos s = h.symmetric 0 k (ap (λ x. x % n) (omega arith)) in
-    let high = at_most_scale t n k s some h in
+    let high = at_most_scale t n k s (k + k) some h in
     omega (arith, ints)
 
 -- a pair of remainders as one number

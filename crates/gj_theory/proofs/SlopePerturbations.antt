@@ -100,7 +100,7 @@ sum_more slope i = refl
 -- ---- the rows say that the perturbation is 0 at f and additive
 
 -- the numbers of a list as slopes
-listed : (slopes : List ℤ) (n : ℕ) → length slopes ≡ n → slopes ≡ slopes_of (at_column slopes) n
+pub listed : (slopes : List ℤ) (n : ℕ) → length slopes ≡ n → slopes ≡ slopes_of (at_column slopes) n
 listed slopes n len = fill_by_all (at_column slopes) slopes n (pos 0) len (λ k below. refl)
 
 -- what the rows say of the sums of slopes before the intervals

@@ -11,7 +11,8 @@ use Rattle.gj_shape.specs.FirstViolation.Test.{zero_at_zero, nonnegative_at, non
 use Rattle.gj_shape.specs.declared.faces.FaceKind.{FaceKind}
 use Rattle.gj_shape.proofs.TableLemmas.{table_of_order}
 use Rattle.gj_theory.specs.EarlierTests.{IsTestOf}
-use Rattle.gj_theory.specs.NearCorners.{near_value, total}
+use Rattle.gj_shape.specs.SlopeRows.{total}
+use Rattle.gj_theory.specs.NearCorners.{near_value}
 use Rattle.gj_theory.proofs.Affine.{limit_count, table_inside, near_after, near_before, near_corner}
 use Rattle.gj_theory.proofs.EachTest.{each_test}
 

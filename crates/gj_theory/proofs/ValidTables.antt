@@ -20,25 +20,35 @@ use Rattle.gj_theory.proofs.Weights.{sum_cons, same_sums, cancel_same, weight_no
 -- ---- a table that is changed at one place
 
 -- the table w with v at the places that are a modulo n
-abbrev dented : (ℕ → ℤ) → ℕ → ℕ → ℤ → ℕ → ℤ
+abbrev pub dented : (ℕ → ℤ) → ℕ → ℕ → ℤ → ℕ → ℤ
 dented w n a v i = cond (eqb (i % n) (a % n)) v (w i)
 
-dented_tells : (w : ℕ → ℤ) (n a : ℕ) (v : ℤ) (i : ℕ) →
+pub dented_tells : (w : ℕ → ℤ) (n a : ℕ) (v : ℤ) (i : ℕ) →
     ((i % n ≡ a % n) × (dented w n a v i ≡ v)) ⊎ ((i % n ≢ a % n) × (dented w n a v i ≡ w i))
 dented_tells w n a v i =
     ⊎_elim (λ at. inl (at.1, cond-true (eqb (i % n) (a % n)) v (w i) at.0))
     (λ off. inr (off.1, cond-false (eqb (i % n) (a % n)) v (w i) off.0))
     (eqb_tells (i % n) (a % n))
 
-dented_here : (w : ℕ → ℤ) (n a : ℕ) (v : ℤ) → dented w n a v a ≡ v
+pub dented_here : (w : ℕ → ℤ) (n a : ℕ) (v : ℤ) → dented w n a v a ≡ v
 dented_here w n a v = ⊎_elim (λ at. at.1) (λ off. absurd (off.0 refl)) (dented_tells w n a v a)
 
-dented_period : (w : ℕ → ℤ) (n a : ℕ) (v : ℤ) → ((i : ℕ) → w (i + n) ≡ w i) → (i : ℕ) → dented w n a v (i + n) ≡ dented w n a v i
+pub dented_period : (w : ℕ → ℤ) (n a : ℕ) (v : ℤ) → ((i : ℕ) → w (i + n) ≡ w i) → (i : ℕ) → dented w n a v (i + n) ≡ dented w n a v i
 dented_period w n a v period i = ap₂ (λ r x. cond (eqb r (a % n)) v x) (add-mod_right i n) (period i)
+
+pub dented_le : (w : ℕ → ℤ) (n a : ℕ) (v : ℤ) → ((i : ℕ) → w (i + n) ≡ w i) → v ≤ℤ w a → (i : ℕ) → dented w n a v i ≤ℤ w i
+dented_le w n a v period least i =
+    ⊎_elim
+    (λ at.
+    let same = same_at_remainder w n period i a at.0 in
+    let here = at.1 in
+    omega (arith, ints))
+    (λ off. let here = off.1 in omega (arith, ints))
+    (dented_tells w n a v i)
 
 -- ---- a place for which lighter places stand
 
-valid_by_places : (t u : ℕ → ℤ) (n k s : ℕ) → IsValidTable t n k s → ((i : ℕ) → u (i + n) ≡ u i) →
+pub valid_by_places : (t u : ℕ → ℤ) (n k s : ℕ) → IsValidTable t n k s → ((i : ℕ) → u (i + n) ≡ u i) →
     ((i : ℕ) → StandFor t n i (u i)) → IsValidTable u n k s
 valid_by_places t u n k s valid period each = record {
   has_period = period;
@@ -50,31 +60,45 @@ valid_by_places t u n k s valid period each = record {
       subst (λ (w : ℤ). pos s ≤ℤ w) is (valid.at_solutions places (place ∙ solution));
 }
 
+-- a valid table over the same scale that is nowhere above t, and below it at a place
+pub record Lighter (t : ℕ → ℤ) (n k s : ℕ) : Type 0 where
+  pub u : ℕ → ℤ
+  pub place : ℕ
+  pub valid : IsValidTable u n k s
+  pub at_most : (i : ℕ) → u i ≤ℤ t i
+  pub below : u place <ℤ t place
+
 -- places that add up to a and weigh less than a
-pub lighter_places : (t : ℕ → ℤ) (n k s a : ℕ) (places : List ℕ) → IsValidTable t n k s → sum places % n ≡ a % n →
-    weight t places <ℤ t a → IsDominated t n k s
-lighter_places t n k s a places valid place lighter =
+pub lighter : (t : ℕ → ℤ) (n k s a : ℕ) (places : List ℕ) → IsValidTable t n k s → sum places % n ≡ a % n → weight t places <ℤ t a →
+    Lighter t n k s
+lighter t n k s a places valid place less =
     let v = weight t places in
     record {
-      c = 1;
       u = dented t n a v;
       place = a;
-      some = omega arith;
-      valid = subst (λ (r : ℕ). IsValidTable (dented t n a v) n k r) (sym (one-mul s))
-          (valid_by_places t (dented t n a v) n k s valid (dented_period t n a v valid.has_period)
+      valid = valid_by_places t (dented t n a v) n k s valid (dented_period t n a v valid.has_period)
           (λ i. ⊎_elim
           (λ at. (places, place ∙ sym at.0, sym at.1))
           (λ off. (i ∷ [], ap (λ j. j % n) (sum_cons i []) ∙ ap (λ j. j % n) (omega arith), omega (arith, ints, off.1)))
-          (dented_tells t n a v i)));
-      at_most = λ i. ⊎_elim
-          (λ at.
-          let same = same_at_remainder t n valid.has_period i a at.0 in
-          let here = at.1 in
-          omega (arith, ints))
-          (λ off. let here = off.1 in omega (arith, ints))
-          (dented_tells t n a v i);
+          (dented_tells t n a v i));
+      at_most = dented_le t n a v valid.has_period (omega (arith, ints));
       below = let here = dented_here t n a v in omega (arith, ints);
     }
+
+pub lighter_places : (t : ℕ → ℤ) (n k s a : ℕ) (places : List ℕ) → IsValidTable t n k s → sum places % n ≡ a % n →
+    weight t places <ℤ t a → IsDominated t n k s
+lighter_places t n k s a places valid place less =
+    let l = lighter t n k s a places valid place less in (
+      1,
+      l.u,
+      l.place,
+      record {
+        some = omega arith;
+        valid = subst (λ (r : ℕ). IsValidTable l.u n k r) (sym (one-mul s)) l.valid;
+        at_most = λ i. let here = l.at_most i in omega (arith, ints);
+      },
+      let below = l.below in omega (arith, ints),
+    )
 
 pub zero_dominated : (t : ℕ → ℤ) (n k s : ℕ) → IsValidTable t n k s → t 0 ≢ pos 0 → IsDominated t n k s
 zero_dominated t n k s valid differs =
@@ -204,22 +228,23 @@ lowered_valid t n k s a b valid none below opposite more some =
 lowered_dominates : (t : ℕ → ℤ) (n k s a b : ℕ) → IsValidTable t n k s → t 0 ≡ pos 0 → ((i j : ℕ) → t (i + j) ≤ℤ (t i +ℤ t j)) →
     (a + b) % n ≡ k % n → pos s <ℤ (t a +ℤ t b) → pos 0 <ℤ t a → IsDominated t n k s
 lowered_dominates t n k s a b valid none below opposite more some =
-    let c = suc s in
-    record {
-      c = c;
-      u = lowered t n c a;
-      place = a;
-      some = omega arith;
-      valid = lowered_valid t n k s a b valid none below opposite more some;
-      at_most = λ i. ⊎_elim
-          (λ at.
-          let here = at.1 in
-          let same : pos c *ℤ t i ≡ pos c *ℤ t a = ap (λ z. pos c *ℤ z) (same_at_remainder t n valid.has_period i a at.0) in
-          omega (arith, ints))
-          (λ off. let here = off.1 in omega (arith, ints))
-          (dented_tells (λ i. pos c *ℤ t i) n a (pos c *ℤ t a -ℤ pos 1) i);
-      below = let here = dented_here (λ i. pos c *ℤ t i) n a (pos c *ℤ t a -ℤ pos 1) in omega (arith, ints);
-    }
+    let c = suc s in (
+      c,
+      lowered t n c a,
+      a,
+      record {
+        some = omega arith;
+        valid = lowered_valid t n k s a b valid none below opposite more some;
+        at_most = λ i. ⊎_elim
+            (λ at.
+            let here = at.1 in
+            let same : pos c *ℤ t i ≡ pos c *ℤ t a = ap (λ z. pos c *ℤ z) (same_at_remainder t n valid.has_period i a at.0) in
+            omega (arith, ints))
+            (λ off. let here = off.1 in omega (arith, ints))
+            (dented_tells (λ i. pos c *ℤ t i) n a (pos c *ℤ t a -ℤ pos 1) i);
+      },
+      let here = dented_here (λ i. pos c *ℤ t i) n a (pos c *ℤ t a -ℤ pos 1) in omega (arith, ints),
+    )
 
 pub opposite_dominated : (t : ℕ → ℤ) (n k s i j : ℕ) → IsValidTable t n k s → t 0 ≡ pos 0 →
     ((i j : ℕ) → t (i + j) ≤ℤ (t i +ℤ t j)) → (i + j) % n ≡ k % n → t i +ℤ t j ≢ pos s → IsDominated t n k s
@@ -233,23 +258,23 @@ opposite_dominated t n k s i j valid none below opposite differs =
 
 -- ---- each valid table is minimal or dominated
 
--- the first of two properties holds below n, or the second somewhere
-all_or_some : (P Q : ℕ → Type 0) → ((i : ℕ) → P i ⊎ Q i) → (n : ℕ) → ((i : ℕ) → i < n → P i) ⊎ ((i : ℕ) × Q i)
+-- the first of two properties holds below n, or the second somewhere below n
+pub all_or_some : (P Q : ℕ → Type 0) → ((i : ℕ) → P i ⊎ Q i) → (n : ℕ) → ((i : ℕ) → i < n → P i) ⊎ ((i : ℕ) × (i < n) × Q i)
 all_or_some P Q decide zero = inl (λ i below. absurd (omega arith))
 all_or_some P Q decide (suc n) =
     ⊎_elim
     (λ all. ⊎_elim
     (λ here. inl (λ i below. ⊎_elim (λ less. all i less) (λ same. subst P (let e : n ≡ i = omega arith in e) here) (cases_lt i n)))
-    (λ fails. inr (n, fails))
+    (λ fails. inr (n, omega arith, fails))
     (decide n))
-    (λ found. inr found)
+    (λ found. let (i, below, fails) = found in inr (i, omega arith, fails))
     (all_or_some P Q decide n)
 
 -- a place opposite to i
-abbrev opposite_of : ℕ → ℕ → ℕ → ℕ
+abbrev pub opposite_of : ℕ → ℕ → ℕ → ℕ
 opposite_of n k i = k + (i * n - i)
 
-opposite_is : (n k i : ℕ) → 0 < n → (i + opposite_of n k i) % n ≡ k % n
+pub opposite_is : (n k i : ℕ) → 0 < n → (i + opposite_of n k i) % n ≡ k % n
 opposite_is n k i some =
     let many : i ≤ i * n = le-mul_of_pos_right i some in
     let whole : i + opposite_of n k i ≡ k + i * n = omega arith in
@@ -266,9 +291,9 @@ subadditive_or_dominated t n k s some valid =
     let both = same_at_remainder t n valid.has_period (i % n + j % n) (i + j)
     (same_sums (i % n) i (j % n) j n (mod-mod i n) (mod-mod j n)) in
     omega (arith, ints)))
-    (λ found. inr found.1)
+    (λ found. inr found.2)
     (all_or_some (λ i. (j : ℕ) → j < n → t (i + j) ≤ℤ (t i +ℤ t j)) (λ i. IsDominated t n k s)
-    (λ i. ⊎_elim (λ all. inl all) (λ found. inr (pair_dominated t n k s i found.0 valid found.1))
+    (λ i. ⊎_elim (λ all. inl all) (λ found. inr (pair_dominated t n k s i found.0 valid found.2))
     (all_or_some (λ j. t (i + j) ≤ℤ (t i +ℤ t j)) (λ j. (t i +ℤ t j) <ℤ t (i + j))
     (λ j. by_lt_z (t i +ℤ t j) (t (i + j)) (λ l. inr l) (λ l. inl l)) n)) n)
 
@@ -285,7 +310,7 @@ symmetric_or_dominated t n k s some valid none below =
     let second = same_at_remainder t n valid.has_period (opposite_of n k (i % n)) j
     (cancel_same (i % n) (opposite_of n k (i % n)) j n sum) in
     ap₂ (λ x y. x +ℤ y) (sym first) (sym second) ∙ here))
-    (λ found. inr found.1)
+    (λ found. inr found.2)
     (all_or_some (λ i. t i +ℤ t (opposite_of n k i) ≡ pos s) (λ i. IsDominated t n k s)
     (λ i. ⊎_elim (λ e. inl e)
     (λ differs. inr (opposite_dominated t n k s i (opposite_of n k i) valid none below (opposite_is n k i some) differs))
@@ -337,22 +362,22 @@ minimal_is_valid t n k s h =
 pub minimal_among : (t : ℕ → ℤ) (n k s : ℕ) → 0 < n → IsMinimalTable t n k s → IsMinimalAmongValid t n k s
 minimal_among t n k s some h = record {
   valid = minimal_is_valid t n k s h;
-  none_below = λ c u c_some valid below i.
+  none_below = λ c u under i.
       let j = opposite_of n k i in
       let place = opposite_is n k i some in
-      let least = valid.at_solutions (i ∷ j ∷ [])
+      let least = under.valid.at_solutions (i ∷ j ∷ [])
       (ap (λ l. l % n) (sum_cons i (j ∷ []) ∙ ap (λ l. i + l) (sum_cons j []) ∙ omega arith) ∙ place) in
       let whole : pos c *ℤ (t i +ℤ t j) ≡ pos c *ℤ pos s = ap (λ z. pos c *ℤ z) (h.symmetric i j place) in
       let split = mul_add_z (pos c) (t i) (t j) in
-      let first = below i in
-      let second = below j in
+      let first = under.at_most i in
+      let second = under.at_most j in
       omega (arith, ints);
 }
 
 pub not_dominated : (t : ℕ → ℤ) (n k s : ℕ) → IsMinimalAmongValid t n k s → IsDominated t n k s → ⊥
 not_dominated t n k s h d =
-    let same = h.none_below d.c d.u d.some d.valid d.at_most d.place in
-    let below = d.below in
+    let (c, u, place, under, below) = d in
+    let same = h.none_below c u under place in
     omega (arith, ints)
 
 pub only_minimal : (t : ℕ → ℤ) (n k s : ℕ) → IsMinimalAmongValid t n k s → IsMinimalTable t n k s
@@ -400,14 +425,17 @@ half_minimal : (t a b : ℕ → ℤ) (n k s c : ℕ) → IsMinimalAmongValid t n
     IsValidTable b n k (c * s) → AverageTo c a b t → IsMinimalAmongValid a n k (c * s)
 half_minimal t a b n k s c h some first second average = record {
   valid = first;
-  none_below = λ e u e_some valid below i.
+  none_below = λ e u under i.
       let both = λ (j : ℕ). u j +ℤ pos e *ℤ b j in
-      let both_valid = sum_valid u b both n k (e * (c * s)) (c * s) 1 e ((2 * e * c) * s) valid second
+      let both_valid = sum_valid u b both n k (e * (c * s)) (c * s) 1 e ((2 * e * c) * s) under.valid second
       (λ j. omega (arith, ints)) (omega arith) in
       let whole = λ (j : ℕ).
       weighted e c (a j) (b j) (t j) (average j) in
-      let same = h.none_below (2 * e * c) both (omega (arith, mul-pos e_some some)) both_valid
-      (λ j. let here = below j in let all = whole j in omega (arith, ints)) i in
+      let same = h.none_below (2 * e * c) both (record {
+        some = omega (arith, mul-pos under.some some);
+        valid = both_valid;
+        at_most = λ j. let here = under.at_most j in let all = whole j in omega (arith, ints);
+      }) i in
       let all = whole i in
       omega (arith, ints);
 }
@@ -457,8 +485,9 @@ rest_valid t u n k s c valid lower below =
 extreme_minimal : (t : ℕ → ℤ) (n k s : ℕ) → IsExtremeAmongValid t n k s → IsMinimalAmongValid t n k s
 extreme_minimal t n k s h = record {
   valid = h.valid;
-  none_below = λ c u c_some valid below i.
-      let same = h.no_average c u (λ j. pos (2 * c) *ℤ t j -ℤ u j) c_some valid (rest_valid t u n k s c h.valid valid below)
+  none_below = λ c u under i.
+      let same = h.no_average c u (λ j. pos (2 * c) *ℤ t j -ℤ u j) under.some under.valid
+      (rest_valid t u n k s c h.valid under.valid under.at_most)
       (λ j. omega (arith, ints)) i in
       let double : pos (2 * c) *ℤ t i ≡ pos c *ℤ t i +ℤ pos c *ℤ t i = omega (arith, ints) in
       omega (arith, ints);

@@ -11,3 +11,6 @@ pub mod PivotRows
 pub mod TriangularRows
 pub mod Cuts
 pub mod Fitting
+pub mod RisesAndFalls
+pub mod TriangularResidues
+pub mod HandedOver

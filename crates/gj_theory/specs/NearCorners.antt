@@ -1,10 +1,6 @@
 -- Numbers near a corner of a face, where the function is affine (Light on the Infinite Group Relaxation I).
-use Rattle.std.specs.Prelude.{ℕ, ℤ, pos, ◌-◌, ◌+ℤ◌, ◌*ℤ◌, List, [], ◌∷◌, length, get_or}
-
--- the sum of whole numbers
-abbrev pub total : List ℤ → ℤ
-total [] = pos 0
-total (n ∷ ns) = n +ℤ total ns
+use Rattle.std.specs.Prelude.{ℕ, ℤ, pos, ◌-◌, ◌+ℤ◌, ◌*ℤ◌, List, length, get_or}
+use Rattle.gj_shape.specs.SlopeRows.{total}
 
 -- from numbers at the corners of a face: h times the number at the point with the weight 1/h at each other corner
 -- and the rest of the weight at the corner c

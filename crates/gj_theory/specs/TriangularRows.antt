@@ -1,7 +1,7 @@
 -- Rows of whole numbers, their solutions, and the triangular rows that plain elimination keeps (own).
 use Rattle.std.specs.Prelude.{ℕ, ℤ, pos, ◌≡◌, ◌<◌, ◌==◌, ◌<ℤ◌, List, [], ◌∷◌, length, map, All}
 use Rattle.std.specs.List.{IsDistinct}
-use Rattle.gj_shape.specs.Elimination.{KeptRow, at_column, entries_of, row_with_pivot, reduced}
+use Rattle.gj_shape.specs.Elimination.{KeptRow, Arithmetic, at_column, entries_of, row_with_pivot, whole_numbers}
 use Rattle.gj_shape.specs.SlopeRows.{sum_of_products}
 
 -- the numbers solve the row: the products with its entries add up to 0
@@ -25,6 +25,10 @@ pub record AreTriangular (n : ℕ) (kept : List KeptRow) : Type 0 where
   pub pivots : IsDistinct (λ a b. a == b) (map (λ k. k.pivot) kept)
 
 -- the row after the steps at these columns, each by the kept row with its pivot there
+abbrev pub present_row_by : Arithmetic → List KeptRow → List ℤ → List ℕ → List ℤ
+present_row_by by kept row [] = row
+present_row_by by kept row (c ∷ columns) =
+    present_row_by by kept (by.step (entries_of (row_with_pivot kept c)) row c) columns
+
 abbrev pub present_row : List KeptRow → List ℤ → List ℕ → List ℤ
-present_row kept row [] = row
-present_row kept row (c ∷ columns) = present_row kept (reduced (entries_of (row_with_pivot kept c)) row c) columns
+present_row kept row columns = present_row_by whole_numbers kept row columns

@@ -8,9 +8,10 @@ ghost use Rattle.gj_shape.specs.Gmic.{gmic_table, gmic_scale};
 ghost use Rattle.gj_shape.specs.RowCut.{CutHolds};
 ghost use Rattle.gj_shape.specs.Table.{IsMinimalTable, IsMinimal};
 ghost use Rattle.gj_shape.specs.Values.{IsCongruent};
-ghost use Rattle.gj_theory.specs.Cuts.{HasFractionalPart, IsEntryAt, IsValueOf, IsGmicValue};
+ghost use Rattle.gj_frac.specs.Floor.{HasFractionalPart};
+ghost use Rattle.gj_theory.specs.Cuts.{IsEntryAt, IsValueOf, IsGmicValue};
 
-/// A row gives a cut where its right side has the fractional part f: by a minimal table whose entries are the
+/// A row gives a cut if its right side has the fractional part f: by a minimal table whose entries are the
 /// coefficients, and by a minimal function whose values at the row's entries they are.
 pub fn cut_from_subadditivity()
     ensures by_table { (t : ℕ → ℤ) (n k s : ℕ) (entries : List Frac) (right : Frac) (coefficients : List Frac) →

@@ -27,13 +27,13 @@ pub fn halves_give_finer_halves()
         IsExtremeTable (table f (d * m)) (f.order * (d * m)) (f.place * (d * m)) (f.scale * (d * m)) → ⊥ }
 {}
 
-/// A continuous function is minimal where its table on any grid is.
+/// A continuous function is minimal if its table on any grid is.
 pub fn any_grid_suffices()
     ensures { (f : FunctionData) (m : ℕ) → IsWithinBounds f → IsContinuous f → 0 < m → IsMinimalOnGrid f m →
         IsMinimal f }
 {}
 
-/// A continuous function is extreme exactly where its table on the grid of order 4 q is.
+/// A continuous function is extreme exactly if its table on the grid of order 4 q is.
 pub fn order_4q_decides()
     ensures { (f : FunctionData) → IsWithinBounds f → IsContinuous f →
         IsExtreme f ↔ IsExtremeTable (table f 4) (f.order * 4) (f.place * 4) (f.scale * 4) }

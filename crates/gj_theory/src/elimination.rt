@@ -1,6 +1,9 @@
 //! Plain elimination: its rows and their solutions.
-ghost use Rattle.std.specs.Prelude.{ℕ, ℤ, pos, ◌≡◌, ◌<◌, ◌≤◌, ◌↔◌, ◌<ℤ◌, List, length, All, Any, IfSome};
-ghost use Rattle.gj_shape.specs.Elimination.{KeptRow, at_column, divided, reduced, kept_entries, inserted, kept_behind, elimination, kernel};
+ghost use Rattle.std.specs.Prelude.{ℕ, ℤ, pos, ◌≡◌, ◌<◌, ◌≤◌, ◌↔◌, ◌<ℤ◌, None, List, [], length, map, zip, All, Any, IfSome};
+ghost use Rattle.std.specs.List.{range_with_len};
+ghost use Rattle.gj_frac.specs.Fraction.{Fits};
+ghost use Rattle.gj_shape.specs.Elimination.{KeptRow, at_column, divided, reduced, kept_entries, inserted, kept_behind, elimination, kernel, Passes};
+ghost use Rattle.gj_theory.specs.HandedOver.{kept_after, IsHandedOver, handed_numbers, handed_rows, renumbered};
 ghost use Rattle.gj_theory.specs.TriangularRows.{Solves, SolvesKept, AreTriangular, present_row};
 
 /// A step keeps the solutions: together with the kept row, the row and the row after the step have the same.
@@ -45,7 +48,28 @@ pub fn elimination_keeps_solutions()
         (SolvesKept w (elimination n rows).kept ↔ All (Solves w) rows) }
 {}
 
-/// The kernel of triangular rows of n columns: where they are fewer than n, numbers that solve all of them, one of them
+/// A row that was inserted before changes nothing: it is not kept, and if its entries are within the bound, it marks a number that
+/// passes only if it did so before.
+pub fn repeated_row_changes_nothing()
+    ensures nothing { (n number : ℕ) (kept more : List KeptRow) (row : List ℤ) →
+        (inserted n (kept_after n kept number row more) row).kept ≡ None }
+    ensures passes { (n number : ℕ) (kept more : List KeptRow) (row : List ℤ) → All Fits row →
+        Passes (inserted n (kept_after n kept number row more) row).marked → Passes (inserted n kept row).marked }
+{}
+
+/// So an elimination needs each row only once, and no row of zeros: over those that are handed over it keeps the same rows, each
+/// with its place among them for its number, and if all entries are within the bound, it marks a number that passes exactly if
+/// the elimination of all rows does. All rows can be handed over.
+pub fn each_row_once_suffices()
+    ensures kept { (n : ℕ) (rows : List (List ℤ)) (handed : List (ℕ × List ℤ)) → IsHandedOver [] 0 rows handed →
+        (elimination n rows).kept ≡ map (renumbered (handed_numbers handed)) (elimination n (handed_rows handed)).kept }
+    ensures passes { (n : ℕ) (rows : List (List ℤ)) (handed : List (ℕ × List ℤ)) → IsHandedOver [] 0 rows handed →
+        All (All Fits) rows → (Passes (elimination n rows).marked ↔ Passes (elimination n (handed_rows handed)).marked) }
+    ensures all { (before : List (List ℤ)) (number : ℕ) (rows : List (List ℤ)) →
+        IsHandedOver before number rows (zip (range_with_len number (length rows)) rows) }
+{}
+
+/// The kernel of triangular rows of n columns: if they are fewer than n, numbers that solve all of them, one of them
 /// positive.
 pub fn kernel_solves()
     ensures none { (n : ℕ) (kept : List KeptRow) → AreTriangular n kept →

@@ -44,8 +44,8 @@ pub fn rows_with_pivots_leave_only_zero()
         All (λ x. x ≡ pos 0) numbers }
 {}
 
-/// A continuous minimal function is extreme where lines that meet the rules cover all intervals, and the linear system for
-/// the slopes of the components has only the solution 0: as it has where as many rows with different pivots as there are
+/// A continuous minimal function is extreme if lines that meet the rules cover all intervals, and the linear system for
+/// the slopes of the components has only the solution 0: as it has if as many rows with different pivots as there are
 /// components are 0 at all its solutions.
 pub fn cover_and_rows_give_extreme()
     ensures zero { (f : FunctionData) (lines : List CoverLine) (component : ℕ → ℕ) (n : ℕ) →

@@ -47,7 +47,7 @@ pub fn components_have_intervals()
 {}
 
 /// Slopes of components that solve all rows of the linear system give a perturbation on the function's own grid, and one
-/// that is not 0 where the slope of some interval is not.
+/// that is not 0 if the slope of some interval is not.
 pub fn slopes_give_perturbation()
     ensures perturbation { (f : FunctionData) (component : ℕ → ℕ) (n : ℕ) (slopes : List ℤ) → IsWithinBounds f →
         length slopes ≡ n → ((i : ℕ) → i < f.order → component i < n) → SolveRows component n f slopes →
@@ -85,7 +85,7 @@ pub fn halves_are_determined()
     ensures some_size { (p : ℕ → ℤ) (n : ℕ) → 0 < n → ((i : ℕ) → p (i + n) ≡ p i) → (size : ℕ) × IsGreatestSize p size }
 {}
 
-/// A minimal table is extreme exactly where its only perturbation is 0.
+/// A minimal table is extreme exactly if its only perturbation is 0.
 pub fn perturbations_decide_tables()
     ensures { (t : ℕ → ℤ) (n k s : ℕ) → 0 < n → IsMinimalTable t n k s →
         IsExtremeTable t n k s ↔ ((p : ℕ → ℤ) → IsPerturbation t n k p → (i : ℕ) → p i ≡ pos 0) }

@@ -8,7 +8,8 @@ use Rattle.gj_frac.specs.declared.Frac.{Frac}
 use Rattle.gj_tools.proofs.Lists.{All-front, All-back}
 use Rattle.gj_shape.proofs.LeastDenominator.{Divides}
 use Rattle.gj_lex.specs.Name.{IsName}
-use Rattle.gj_row.specs.TableauLimits.{IsSmall, AreWithinLimits, IsWithinLimits, IsTableau}
+use Rattle.gj_row.specs.TableauLimits.{AreWithinLimits, IsRowWithinLimits, IsTableau}
+use Rattle.gj_shape.specs.Limits.{IsSmallNumber}
 use Rattle.gj_row.specs.declared.tableau.Entry.{Entry}
 use Rattle.gj_row.specs.declared.tableau.Row.{Row}
 use Rattle.gj_row.specs.declared.tableau.Tableau.{Tableau}
@@ -123,7 +124,7 @@ limit_at : (xs : List Frac) (x : Frac) (ys : List Frac) → AreWithinLimits (xs 
 limit_at xs x ys h =
     let d = h.common.0 in
     record {
-      small = All-head IsSmall x ys (All-back IsSmall xs (x ∷ ys) h.small);
+      small = All-head IsSmallNumber x ys (All-back IsSmallNumber xs (x ∷ ys) h.small);
       common = (
         d,
         h.common.1,
@@ -148,7 +149,7 @@ names_before (u ∷ before) t after h =
     (names_before before t after (rest_differ u.name rest h))
 
 terms_meet : (r : CutRule) (columns : List (List ℕ)) (row : Row) (terms : List CutTerm) → Differ columns →
-    All (λ x. x ≢ row.basic) columns → IsWithinLimits (length columns) row → AllZip (IsTermFor r columns row) row.entries terms →
+    All (λ x. x ≢ row.basic) columns → IsRowWithinLimits (length columns) row → AllZip (IsTermFor r columns row) row.entries terms →
     MeetTerms r row.basic row.rhs terms
 terms_meet r columns row terms differ basic limits h j before t after place index =
     let numbers : AreWithinLimits (row.rhs ∷ map (λ u. u.entry) terms) =
@@ -175,7 +176,7 @@ terms_meet r columns row terms differ basic limits h j before t after place inde
     }
 
 row_meets : (r : CutRule) (columns : List (List ℕ)) (row : Row) (line : CutLine) → Differ columns →
-    All (λ x. x ≢ row.basic) columns → IsWithinLimits (length columns) row → IsLineFor r columns row line → MeetsRow r line
+    All (λ x. x ≢ row.basic) columns → IsRowWithinLimits (length columns) row → IsLineFor r columns row line → MeetsRow r line
 row_meets r columns row (Cut name right terms) differ basic limits h = record {
   fraction = h.2;
   cut = (
@@ -188,7 +189,7 @@ row_meets r columns row (Skip name right reason) differ basic limits h = record 
 -- ---- all rows
 
 rows_meet : (r : CutRule) (columns : List (List ℕ)) (rows : List Row) (lines : List CutLine) → Differ columns →
-    All (λ row. All (λ x. x ≢ row.basic) columns) rows → All (IsWithinLimits (length columns)) rows →
+    All (λ row. All (λ x. x ≢ row.basic) columns) rows → All (IsRowWithinLimits (length columns)) rows →
     AllZip (IsLineFor r columns) rows lines → All (MeetsRow r) lines
 rows_meet r columns [] [] differ basics limits h = All-nil (MeetsRow r)
 rows_meet r columns [] (l ∷ lines) differ basics limits h = absurd h
@@ -196,19 +197,19 @@ rows_meet r columns (row ∷ rows) [] differ basics limits h = absurd h
 rows_meet r columns (row ∷ rows) (l ∷ lines) differ basics limits h =
     let B : Row → Type 0 = λ row. All (λ x. x ≢ row.basic) columns in
     All-cons (MeetsRow r) l lines
-    (row_meets r columns row l differ (All-head B row rows basics) (All-head (IsWithinLimits (length columns)) row rows limits) h.0)
-    (rows_meet r columns rows lines differ (All-tail B row rows basics) (All-tail (IsWithinLimits (length columns)) row rows limits) h.1)
+    (row_meets r columns row l differ (All-head B row rows basics) (All-head (IsRowWithinLimits (length columns)) row rows limits) h.0)
+    (rows_meet r columns rows lines differ (All-tail B row rows basics) (All-tail (IsRowWithinLimits (length columns)) row rows limits) h.1)
 
 -- ---- names
 
 row_has_names : (r : CutRule) (columns : List (List ℕ)) (row : Row) (line : CutLine) → All IsName columns → IsName row.basic →
-    IsWithinLimits (length columns) row → IsLineFor r columns row line → HasNames line
+    IsRowWithinLimits (length columns) row → IsLineFor r columns row line → HasNames line
 row_has_names r columns row (Cut name right terms) names basic limits h =
     (subst IsName (sym h.0) basic, each_name r columns row IsName row.entries terms h.3 limits.below names)
 row_has_names r columns row (Skip name right reason) names basic limits h = subst IsName (sym h.0) basic
 
 rows_have_names : (r : CutRule) (columns : List (List ℕ)) (rows : List Row) (lines : List CutLine) → All IsName columns →
-    All IsName (map (λ row. row.basic) rows) → All (IsWithinLimits (length columns)) rows →
+    All IsName (map (λ row. row.basic) rows) → All (IsRowWithinLimits (length columns)) rows →
     AllZip (IsLineFor r columns) rows lines → All HasNames lines
 rows_have_names r columns [] [] names basics limits h = All-nil HasNames
 rows_have_names r columns [] (l ∷ lines) names basics limits h = absurd h
@@ -216,8 +217,8 @@ rows_have_names r columns (row ∷ rows) [] names basics limits h = absurd h
 rows_have_names r columns (row ∷ rows) (l ∷ lines) names basics limits h =
     let bs = map (λ (row : Row). row.basic) rows in
     All-cons HasNames l lines
-    (row_has_names r columns row l names (All-head IsName row.basic bs basics) (All-head (IsWithinLimits (length columns)) row rows limits) h.0)
-    (rows_have_names r columns rows lines names (All-tail IsName row.basic bs basics) (All-tail (IsWithinLimits (length columns)) row rows limits) h.1)
+    (row_has_names r columns row l names (All-head IsName row.basic bs basics) (All-head (IsRowWithinLimits (length columns)) row rows limits) h.0)
+    (rows_have_names r columns rows lines names (All-tail IsName row.basic bs basics) (All-tail (IsRowWithinLimits (length columns)) row rows limits) h.1)
 
 -- ---- the claim
 

@@ -10,7 +10,7 @@ use Rattle.gj_rule.specs.Kept.{KeptRule}
 use Rattle.gj_rule.specs.Kind.{IsKindValue}
 use Rattle.gj_rule.specs.declared.kind.RuleKind.{RuleKind}
 use Rattle.gj_rule.specs.declared.kind.RuleKind.TheVariants as kind
-use Rattle.gj_row.specs.TableauLimits.{IsWithinLimits}
+use Rattle.gj_row.specs.TableauLimits.{IsRowWithinLimits}
 use Rattle.gj_row.specs.declared.tableau.Entry.{Entry}
 use Rattle.gj_row.specs.declared.tableau.Row.{Row}
 use Rattle.gj_cut.specs.RowCuts.{HasPart, IsTermOfKind, IsCutOf, IsCutOfKind, IsGmicCutOf}
@@ -41,18 +41,18 @@ terms_in_columns k n (e ∷ entries) (t ∷ terms) below h =
     (subst (λ c. c < n) (sym h.0.column_is) (All-head (λ (e : Entry). e.column < n) e entries below))
     (terms_in_columns k n entries terms (All-tail (λ (e : Entry). e.column < n) e entries below) h.1)
 
-cut_in_columns : (k : RuleKind) (n : ℕ) (row : Row) (cut : RowCut) → IsWithinLimits n row → IsCutOfKind k row cut → AreInColumns n cut
+cut_in_columns : (k : RuleKind) (n : ℕ) (row : Row) (cut : RowCut) → IsRowWithinLimits n row → IsCutOfKind k row cut → AreInColumns n cut
 cut_in_columns k n row (row_cut.Cut terms) limits h = terms_in_columns k n row.entries terms limits.below h.2
 cut_in_columns k n row row_cut.Integral limits h = tt
 cut_in_columns k n row row_cut.OtherFraction limits h = tt
 
-pub gmic_in_columns : (n : ℕ) (row : Row) (cut : RowCut) → IsWithinLimits n row → IsGmicCutOf row cut → AreInColumns n cut
+pub gmic_in_columns : (n : ℕ) (row : Row) (cut : RowCut) → IsRowWithinLimits n row → IsGmicCutOf row cut → AreInColumns n cut
 gmic_in_columns n row (row_cut.Cut terms) limits (f, h) = cut_in_columns (kind.Gmic f) n row (row_cut.Cut terms) limits h
 gmic_in_columns n row row_cut.Integral limits h = tt
 gmic_in_columns n row row_cut.OtherFraction limits h = tt
 
 pub rule_in_columns : {E : Type 0} (answers : E → Frac → Frac → Type 0) (rule : KeptRule E) (n : ℕ) (row : Row) (cut : RowCut) →
-    IsWithinLimits n row → IsCutOf answers rule row cut → AreInColumns n cut
+    IsRowWithinLimits n row → IsCutOf answers rule row cut → AreInColumns n cut
 rule_in_columns answers rule n row cut limits h = cut_in_columns rule.kind n row cut limits (cut_of_kind answers rule row cut h)
 
 -- ---- the terms

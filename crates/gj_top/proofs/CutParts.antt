@@ -11,7 +11,8 @@ use Rattle.gj_tools.proofs.Integers.{add_mul_z, sub_mul_z, neg_mul_z, swap_last_
 use Rattle.gj_tools.proofs.Ratios.{ratio_along}
 use Rattle.gj_tools.proofs.Ring.{by_ring, ring}
 use Rattle.gj_shape.specs.Gmic.{gmic_table, gmic_scale}
-use Rattle.gj_theory.specs.Cuts.{HasFractionalPart, IsGmicValue}
+use Rattle.gj_frac.specs.Floor.{HasFractionalPart}
+use Rattle.gj_theory.specs.Cuts.{IsGmicValue}
 use Rattle.gj_theory.proofs.GmicTable.{entry_rising, entry_falling}
 use Rattle.gj_theory.proofs.GmicValues.{closed_form}
 use Rattle.gj_proof.specs.Rules.{HasPart, IsGmicOver, IsGmicAt}

@@ -12,7 +12,7 @@ use Rattle.gj_ftext.specs.BreaksText.{end_words}
 use Rattle.gj_ftext.specs.FunctionText.{IsFunctionText}
 use Rattle.gj_ftext.specs.FirstFault.{IsFirstFault}
 use Rattle.gj_ftext.specs.RuleText.{rule_title_words, rule_name_words, BeginsAsRule, IsRuleText, IsFirstFaultOfRule}
-use Rattle.gj_row.specs.FirstFault.{IsFirstFault as IsFirstFaultOfTableau, reason_word}
+use Rattle.gj_row.specs.FirstFault.{IsFirstFaultOfTableau, reason_word}
 use Rattle.gj_row.specs.TableauText.{IsTableauText}
 use Rattle.gj_row.specs.declared.faults.RowReason.{RowReason}
 use Rattle.gj_row.specs.declared.tableau.Entry.{Entry}

@@ -3,7 +3,7 @@ use Rattle.std.specs.Prelude.{ℕ, ◌≡◌, ◌<◌, List, [], All, get_or}
 use Rattle.std.specs.List.{AllZip}
 use Rattle.gj_shape.specs.FirstViolation.{IsFirstViolation, PassesAll}
 use Rattle.gj_shape.specs.declared.violations.Violation.{Violation}
-use Rattle.gj_row.specs.FirstFault.{IsFirstFault as IsFirstFaultOfTableau}
+use Rattle.gj_row.specs.FirstFault.{IsFirstFaultOfTableau}
 use Rattle.gj_row.specs.declared.faults.RowReason.{RowReason}
 use Rattle.gj_row.specs.declared.tableau.Row.{Row}
 use Rattle.gj_cut.specs.declared.cut.RowCut.{RowCut}

@@ -4,9 +4,9 @@ ghost use Rattle.std.specs.List.{AllZip};
 ghost use Rattle.gj_proof.specs.ProofText.{IsBoundedRule};
 ghost use Rattle.gj_shape.specs.FunctionData.{FunctionData, IsWithinBounds};
 ghost use Rattle.gj_theory.specs.Cuts.{IsValueOf};
-ghost use Rattle.gj_row.specs.TableauLimits.{IsTableau, IsWithinLimits};
+ghost use Rattle.gj_row.specs.TableauLimits.{IsTableau, IsRowWithinLimits};
 ghost use Rattle.gj_rule.specs.Kept.{Evaluates};
-ghost use Rattle.gj_rule.specs.Kind.{IsInRange};
+ghost use Rattle.gj_shape.specs.Limits.{IsRowNumber};
 ghost use Rattle.gj_rule.specs.declared.kind.RuleKind.TheVariants as kind;
 ghost use Rattle.gj_proof.specs.declared.cut.CutRule.TheVariants.{Gmic, Table};
 ghost use Rattle.gj_top.specs.Cut.{IsLineFor};
@@ -41,7 +41,7 @@ pub(crate) fn lines_of(
 
 /// The line of each row by the mixed-integer cut.
 fn gmic_lines(alloc: Global, columns: &[Name], rows: &[Row]) -> Result<Vec<CutLine>, AllocError>
-    requires { All (IsWithinLimits (length columns.now)) rows.now }
+    requires { All (IsRowWithinLimits (length columns.now)) rows.now }
     ensures { IfOk result (λ lines. AllZip (IsLineFor Gmic columns.now) rows.now lines.items) }
 {
     let mut lines = Vec::with_capacity(alloc, rows.len())?;
@@ -53,7 +53,7 @@ fn gmic_lines(alloc: Global, columns: &[Name], rows: &[Row]) -> Result<Vec<CutLi
 
 /// The line of a row by the mixed-integer cut.
 fn gmic_line(alloc: Global, columns: &[Name], row: &Row) -> Result<CutLine, AllocError>
-    requires { IsWithinLimits (length columns.now) row.now }
+    requires { IsRowWithinLimits (length columns.now) row.now }
     ensures { IfOk result (IsLineFor Gmic columns.now row.now) }
 {
     let cut = gmic_cut_row(alloc, row)?;
@@ -69,12 +69,12 @@ fn function_lines(
     rows: &[Row],
 ) -> Result<Vec<CutLine>, AllocError>
     requires shape { IsWithinBounds shape.now }
-    requires rows { All (IsWithinLimits (length columns.now)) rows.now }
+    requires rows { All (IsRowWithinLimits (length columns.now)) rows.now }
     ensures { IfOk result (λ lines. AllZip (IsLineFor (Table shape.now) columns.now) rows.now lines.items) }
 {
     let kept = shape.copy(alloc)?;
     let eval = |x: Frac|
-        requires { IsInRange x }
+        requires { IsRowNumber x }
         ensures { IsValueOf shape.entry.now x result }
     { table_value(shape, x) };
     let lines = lines_by(alloc, kept, eval, columns, rows)?;
@@ -91,7 +91,7 @@ fn lines_by<E: Evaluator>(
 ) -> Result<Vec<CutLine>, AllocError>
     requires shape { IsWithinBounds shape }
     requires evaluates { Evaluates E.can_answer E.answers (kind.Table shape) eval }
-    requires rows { All (IsWithinLimits (length columns.now)) rows.now }
+    requires rows { All (IsRowWithinLimits (length columns.now)) rows.now }
     ensures { IfOk result (λ lines. AllZip (IsLineFor (Table shape) columns.now) rows.now lines.items) }
 {
     let rule = Rule::new(RuleKind::Table(shape), eval);
@@ -109,7 +109,7 @@ fn line_by<E: Evaluator>(
     columns: &[Name],
     row: &Row,
 ) -> Result<CutLine, AllocError>
-    requires { IsWithinLimits (length columns.now) row.now }
+    requires { IsRowWithinLimits (length columns.now) row.now }
     ensures { IfOk result (λ line. (f : FunctionData) → IsWithinBounds f →
         rule.now.kind ≡ kind.Table f → IsLineFor (Table f) columns.now row.now line) }
 {

@@ -8,7 +8,8 @@ use Rattle.std.proofs.lemmas.Int.{ints}
 use Rattle.gj_frac.specs.Fraction.{Fraction, SameValue, LessValue}
 use Rattle.gj_shape.specs.Valid.{weight}
 use Rattle.gj_theory.proofs.Weights.{sum_cons, sum_append, weight_append, same_sums, weight_nonnegative, StandFor}
-use Rattle.gj_valid.specs.ValidFunctions.{IsSamePoint, AtMost, nothing, one, sum_of_values, IsFunction, IsValidFunction, IsMinimalAmongFunctions}
+use Rattle.gj_valid.specs.ValidFunctions.{AtMost}
+use Rattle.gj_valid.proofs.PartFunctions.{SamePlace, nothing, one, sum_of_values, IsPartFunction, IsValidPart, IsMinimalPart}
 use Rattle.gj_valid.proofs.OverOneBottom.{Is, is_along, most_from_numbers, most_to_numbers, nothing_is, one_is, values_positive, values_are}
 use Rattle.gj_valid.proofs.FunctionTables.{HasTable, has_table, at_place, scaled_rest, cancel_rest, sum_scaled, weight_of_map}
 
@@ -18,11 +19,11 @@ pub record HasLower (v : ℕ → ℕ → Fraction) (k q : ℕ) : Type 0 where
   pub n : ℕ
   pub d : ℕ
   pub some : 0 < d
-  pub valid : IsValidFunction u k q
+  pub valid : IsValidPart u k q
   pub at_most : (i e : ℕ) → 0 < e → AtMost (u i e) (v i e)
   pub below : LessValue (u n d) (v n d)
 
-pub not_lower : (v : ℕ → ℕ → Fraction) (k q : ℕ) → IsMinimalAmongFunctions v k q → HasLower v k q → ⊥
+pub not_lower : (v : ℕ → ℕ → Fraction) (k q : ℕ) → IsMinimalPart v k q → HasLower v k q → ⊥
 not_lower v k q h l =
     let same = h.none_below l.u l.valid l.at_most l.n l.d l.some in
     let below = l.below in
@@ -30,10 +31,10 @@ not_lower v k q h l =
 
 -- ---- points
 
-pub same_point_sym : (n d m e : ℕ) → IsSamePoint n d m e → IsSamePoint m e n d
+pub same_point_sym : (n d m e : ℕ) → SamePlace n d m e → SamePlace m e n d
 same_point_sym n d m e same = ap (λ i. m * d % i) (mul_comm e d) ∙ sym same ∙ ap (λ i. n * e % i) (mul_comm d e)
 
-pub same_point_trans : (n d m e l h : ℕ) → 0 < e → IsSamePoint n d m e → IsSamePoint m e l h → IsSamePoint n d l h
+pub same_point_trans : (n d m e l h : ℕ) → 0 < e → SamePlace n d m e → SamePlace m e l h → SamePlace n d l h
 same_point_trans n d m e l h some first second =
     cancel_rest (n * h) (l * d) (d * h) e some
     (ap₂ (λ i j. i % j) (omega arith) (omega arith) ∙ scaled_rest (n * e) (m * d) (d * e) h first
@@ -47,14 +48,14 @@ abbrev pub changed : (ℕ → ℕ → Fraction) → ℕ → ℕ → Fraction →
 changed v a g w n e = cond (eqb ((n * g) % (e * g)) ((a * e) % (e * g))) w (v n e)
 
 changed_tells : (v : ℕ → ℕ → Fraction) (a g : ℕ) (w : Fraction) (n e : ℕ) →
-    (IsSamePoint n e a g × (changed v a g w n e ≡ w)) ⊎ ((IsSamePoint n e a g → ⊥) × (changed v a g w n e ≡ v n e))
+    (SamePlace n e a g × (changed v a g w n e ≡ w)) ⊎ ((SamePlace n e a g → ⊥) × (changed v a g w n e ≡ v n e))
 changed_tells v a g w n e =
     ⊎_elim (λ at. inl (at.1, cond-true (eqb ((n * g) % (e * g)) ((a * e) % (e * g))) w (v n e) at.0))
     (λ off. inr (off.1, cond-false (eqb ((n * g) % (e * g)) ((a * e) % (e * g))) w (v n e) off.0))
     (eqb_tells ((n * g) % (e * g)) ((a * e) % (e * g)))
 
-changed_is_function : (v : ℕ → ℕ → Fraction) (a g : ℕ) (w : Fraction) → 0 < g → pos 0 <ℤ w.bottom → IsFunction v →
-    IsFunction (changed v a g w)
+changed_is_function : (v : ℕ → ℕ → Fraction) (a g : ℕ) (w : Fraction) → 0 < g → pos 0 <ℤ w.bottom → IsPartFunction v →
+    IsPartFunction (changed v a g w)
 changed_is_function v a g w g_some w_some h = record {
   positive = λ n e some.
       ⊎_elim (λ at. subst (λ (x : Fraction). pos 0 <ℤ x.bottom) (sym at.1) w_some)
@@ -96,8 +97,8 @@ abbrev changed_numbers : (ℕ → ℤ) → ℕ → ℕ → ℕ → ℕ → ℤ �
 changed_numbers t q a g e w y = cond (eqb ((y * g) % (e * g)) ((a * e) % (e * g))) w (t (y * (q * g)))
 
 numbers_tell : (t : ℕ → ℤ) (q a g e : ℕ) (w : ℤ) (y : ℕ) →
-    (IsSamePoint y e a g × (changed_numbers t q a g e w y ≡ w))
-    ⊎ ((IsSamePoint y e a g → ⊥) × (changed_numbers t q a g e w y ≡ t (y * (q * g))))
+    (SamePlace y e a g × (changed_numbers t q a g e w y ≡ w))
+    ⊎ ((SamePlace y e a g → ⊥) × (changed_numbers t q a g e w y ≡ t (y * (q * g))))
 numbers_tell t q a g e w y =
     ⊎_elim (λ at. inl (at.1, cond-true (eqb ((y * g) % (e * g)) ((a * e) % (e * g))) w (t (y * (q * g))) at.0))
     (λ off. inr (off.1, cond-false (eqb ((y * g) % (e * g)) ((a * e) % (e * g))) w (t (y * (q * g))) off.0))
@@ -109,7 +110,7 @@ record Both (v : ℕ → ℕ → Fraction) (k q g e : ℕ) : Type 0 where
   over_g : (x : ℕ) → Is (v x g) (table.t (x * (q * e))) table.c
   over_e : (y : ℕ) → Is (v y e) (table.t (y * (q * g))) table.c
 
-both : (v : ℕ → ℕ → Fraction) (k q g e : ℕ) → 0 < q → 0 < g → 0 < e → IsValidFunction v k q → Both v k q g e
+both : (v : ℕ → ℕ → Fraction) (k q g e : ℕ) → 0 < q → 0 < g → 0 < e → IsValidPart v k q → Both v k q g e
 both v k q g e q_some g_some e_some h =
     let r = has_table v k q (g * e) q_some (mul-pos g_some e_some) h in
     let grid : 0 < q * (g * e) = mul-pos q_some (mul-pos g_some e_some) in
@@ -155,8 +156,8 @@ changed_is v t q a g e c x w y is_w is_v =
     (numbers_tell t q a g e w y))
     (changed_tells v a g x y e)
 
-changed_valid : (v : ℕ → ℕ → Fraction) (k q a g : ℕ) (xs : List ℕ) → 0 < q → 0 < g → IsValidFunction v k q → sum xs % g ≡ a % g →
-    IsValidFunction (changed v a g (sum_of_values v g xs)) k q
+changed_valid : (v : ℕ → ℕ → Fraction) (k q a g : ℕ) (xs : List ℕ) → 0 < q → 0 < g → IsValidPart v k q → sum xs % g ≡ a % g →
+    IsValidPart (changed v a g (sum_of_values v g xs)) k q
 changed_valid v k q a g xs q_some g_some h place =
     let x = sum_of_values v g xs in
     let x_some = values_positive v g xs (λ n. h.function.positive n g g_some) in
@@ -190,7 +191,7 @@ changed_valid v k q a g xs q_some g_some h place =
     }
 
 -- points over g that add up to a/g and weigh less than it
-pub lighter_points : (v : ℕ → ℕ → Fraction) (k q a g : ℕ) (xs : List ℕ) → 0 < q → 0 < g → IsValidFunction v k q → sum xs % g ≡ a % g →
+pub lighter_points : (v : ℕ → ℕ → Fraction) (k q a g : ℕ) (xs : List ℕ) → 0 < q → 0 < g → IsValidPart v k q → sum xs % g ≡ a % g →
     LessValue (sum_of_values v g xs) (v a g) → HasLower v k q
 lighter_points v k q a g xs q_some g_some h place less =
     let x = sum_of_values v g xs in

@@ -14,14 +14,15 @@ use Rattle.gj_shape.specs.Valid.{weight, IsDominated}
 use Rattle.gj_theory.proofs.ValidTables.{asymmetry_dominated}
 use Rattle.gj_theory.proofs.Weights.{sum_cons}
 use Rattle.gj_tools.proofs.Integers.{same_or_apart_z}
-use Rattle.gj_valid.specs.ValidFunctions.{IsSamePoint, AtMost, nothing, one, sum_of_values, IsFunction, IsMinimalAmongFunctions}
+use Rattle.gj_valid.specs.ValidFunctions.{AtMost}
+use Rattle.gj_valid.proofs.PartFunctions.{SamePlace, nothing, one, sum_of_values, IsPartFunction, IsMinimalPart}
 use Rattle.gj_valid.proofs.OverOneBottom.{Is, is_scaled, is_over, one_number, most_from_numbers, less_from_numbers, nothing_is, one_is, values_positive, values_are}
 use Rattle.gj_valid.proofs.FunctionTables.{HasTable, has_table, at_place, scaled_rest, cancel_rest}
 use Rattle.gj_valid.proofs.ChangedAtPoint.{HasLower, not_lower, lighter_points, same_point_sym}
 
 -- ---- the tables of a minimal function are 0 at 0 and subadditive
 
-table_zero : (v : ℕ → ℕ → Fraction) (k q m : ℕ) → 0 < q → 0 < m → IsMinimalAmongFunctions v k q → (h : HasTable v k q m) → h.t 0 ≡ pos 0
+table_zero : (v : ℕ → ℕ → Fraction) (k q m : ℕ) → 0 < q → 0 < m → IsMinimalPart v k q → (h : HasTable v k q m) → h.t 0 ≡ pos 0
 table_zero v k q m q_some m_some minimal h =
     let n = q * m in
     let n_some : 0 < n = mul-pos q_some m_some in
@@ -33,7 +34,7 @@ table_zero v k q m q_some m_some minimal h =
     (nothing_is h.c) (h.is 0) l))))
     (λ l. omega (arith, ints))
 
-table_below : (v : ℕ → ℕ → Fraction) (k q m : ℕ) → 0 < q → 0 < m → IsMinimalAmongFunctions v k q → (h : HasTable v k q m) →
+table_below : (v : ℕ → ℕ → Fraction) (k q m : ℕ) → 0 < q → 0 < m → IsMinimalPart v k q → (h : HasTable v k q m) →
     (i j : ℕ) → h.t (i + j) ≤ℤ (h.t i +ℤ h.t j)
 table_below v k q m q_some m_some minimal h i j =
     let n = q * m in
@@ -71,7 +72,7 @@ spread_tells v n u s x e =
     (eqb_tells (x * n % e) 0)
 
 -- a point on the grid and one that differs by a whole number
-grid_step : (x d y e n i : ℕ) → 0 < d → IsSamePoint x d y e → x * n ≡ i * d →
+grid_step : (x d y e n i : ℕ) → 0 < d → SamePlace x d y e → x * n ≡ i * d →
     (a : ℕ) × (b : ℕ) × (i * e + a * n * e ≡ y * n + b * n * e)
 grid_step x d y e n i some same place =
     let a = y * d / (d * e) in
@@ -81,19 +82,19 @@ grid_step x d y e n i some same place =
     let scaled : (x * e + a * (d * e)) * n ≡ (y * d + b * (d * e)) * n = ap (λ z. z * n) whole in
     (a, b, eq_of_mul-eq-mul_right d some (i * e + a * n * e) (y * n + b * n * e) (omega arith))
 
-grid_along : (x d y e n i : ℕ) → 0 < d → IsSamePoint x d y e → x * n ≡ i * d → (j : ℕ) × (y * n ≡ j * e)
+grid_along : (x d y e n i : ℕ) → 0 < d → SamePlace x d y e → x * n ≡ i * d → (j : ℕ) × (y * n ≡ j * e)
 grid_along x d y e n i some same place =
     let (a, b, whole) = grid_step x d y e n i some same place in
     let rest : y * n % e ≡ 0 = same_remainder (y * n) (i * e) (b * n) (a * n) e (sym whole) ∙ mul-mod_left i e in
     (y * n / e, let split = div-add-mod' (y * n) e in omega arith)
 
-grid_same : (x d y e n i j : ℕ) → 0 < d → 0 < e → IsSamePoint x d y e → x * n ≡ i * d → y * n ≡ j * e → i % n ≡ j % n
+grid_same : (x d y e n i j : ℕ) → 0 < d → 0 < e → SamePlace x d y e → x * n ≡ i * d → y * n ≡ j * e → i % n ≡ j % n
 grid_same x d y e n i j some e_some same place other =
     let (a, b, whole) = grid_step x d y e n i some same place in
     same_remainder i j a b n (eq_of_mul-eq-mul_right e e_some (i + a * n) (j + b * n) (omega arith))
 
-spread_is_function : (v : ℕ → ℕ → Fraction) (n : ℕ) (u : ℕ → ℤ) (s : ℕ) → 0 < s → ((i : ℕ) → u (i + n) ≡ u i) → IsFunction v →
-    IsFunction (spread v n u s)
+spread_is_function : (v : ℕ → ℕ → Fraction) (n : ℕ) (u : ℕ → ℤ) (s : ℕ) → 0 < s → ((i : ℕ) → u (i + n) ≡ u i) → IsPartFunction v →
+    IsPartFunction (spread v n u s)
 spread_is_function v n u s some period h = record {
   positive = λ x e e_some.
       ⊎_elim (λ at. let (i, place, is) = at in subst (λ (z : Fraction). pos 0 <ℤ z.bottom) (sym is) (omega (arith, ints)))
@@ -224,7 +225,7 @@ enough c b s l t w u z most same below least =
     rw last (omega (arith, ints, most, first, second, third, fourth, fifth, sixth))
 
 -- an entry of the table of a finer grid at a place of the coarser one
-finer_entry : (v : ℕ → ℕ → Fraction) (k q m e w r : ℕ) → 0 < q → 0 < m → 0 < e → IsFunction v → (h : HasTable v k q m) →
+finer_entry : (v : ℕ → ℕ → Fraction) (k q m e w r : ℕ) → 0 < q → 0 < m → 0 < e → IsPartFunction v → (h : HasTable v k q m) →
     (f : HasTable v k q (m * e)) → r ≡ w * e → pos h.c *ℤ f.t r ≡ pos f.c *ℤ h.t w
 finer_entry v k q m e w r q_some m_some some function h f rest_is =
     let n = q * m in
@@ -238,7 +239,7 @@ finer_entry v k q m e w r q_some m_some some function h f rest_is =
     ∙ one_number (v w n) (pos h.c *ℤ f.t (w * e)) (pos f.c *ℤ h.t w) (f.c * h.c) (function.positive w n n_some) fine coarse
 
 -- a solution over e on the finer grid
-scaled_solution : (l e k q m a : ℕ) → a ≡ l * (q * m) → IsSamePoint l e k q → a % (q * m * e) ≡ (k * m * e) % (q * m * e)
+scaled_solution : (l e k q m a : ℕ) → a ≡ l * (q * m) → SamePlace l e k q → a % (q * m * e) ≡ (k * m * e) % (q * m * e)
 scaled_solution l e k q m a whole solution =
     ap₂ (λ i j. i % j) (whole ∙ omega arith) (omega arith) ∙ scaled_rest (l * q) (k * e) (e * q) m solution
     ∙ ap₂ (λ i j. i % j) (omega arith) (omega arith)
@@ -248,80 +249,80 @@ one_place_more w places n k place = ap (λ i. i % n) (sum_cons w places) ∙ pla
 
 -- ---- a valid table below gives a valid function below
 
-spread_at_solutions : (v : ℕ → ℕ → Fraction) (k q m : ℕ) → 0 < q → 0 < m → IsMinimalAmongFunctions v k q → (h : HasTable v k q m) →
-    (l : IsDominated h.t (q * m) (k * m) h.c) → (e : ℕ) (ys : List ℕ) → 0 < e → IsSamePoint (sum ys) e k q →
-    AtMost one (sum_of_values (spread v (q * m) l.u (l.c * h.c)) e ys)
+spread_at_solutions : (v : ℕ → ℕ → Fraction) (k q m : ℕ) → 0 < q → 0 < m → IsMinimalPart v k q → (h : HasTable v k q m) →
+    (l : IsDominated h.t (q * m) (k * m) h.c) → (e : ℕ) (ys : List ℕ) → 0 < e → SamePlace (sum ys) e k q →
+    AtMost one (sum_of_values (spread v (q * m) l.1 (l.0 * h.c)) e ys)
 spread_at_solutions v k q m q_some m_some minimal h l e ys some solution =
     let n = q * m in
     let n_some : 0 < n = mul-pos q_some m_some in
-    let s = l.c * h.c in
-    let s_some : 0 < s = mul-pos l.some h.some in
+    let s = l.0 * h.c in
+    let s_some : 0 < s = mul-pos l.3.some h.some in
     let finer_some : 0 < m * e = mul-pos m_some some in
     let grid : 0 < q * (m * e) = mul-pos q_some finer_some in
     let f = has_table v k q (m * e) q_some finer_some minimal.valid in
-    let function = spread_is_function v n l.u s s_some l.valid.has_period minimal.valid.function in
+    let function = spread_is_function v n l.1 s s_some l.3.valid.has_period minimal.valid.function in
     let each = λ (y : ℕ).
-    number v l.u f.t n s f.c e y
+    number v l.1 f.t n s f.c e y
     (at_place v y e (y * n) (q * (m * e)) f.c (f.t (y * n)) some grid minimal.valid.function (omega arith) (f.is (y * n))) in
-    let r = split v l.u f.t n s f.c e ys (table_zero v k q (m * e) q_some finer_some minimal f)
+    let r = split v l.1 f.t n s f.c e ys (table_zero v k q (m * e) q_some finer_some minimal f)
     (table_below v k q (m * e) q_some finer_some minimal f) each in
     let all = scaled_solution (sum ys) e k q m (sum r.places * e + r.rest) r.whole solution in
     let (w, rest_is, place) = rest_on_grid (sum r.places) r.rest n e (k * m) some all in
     let same = finer_entry v k q m e w r.rest q_some m_some some minimal.valid.function h f rest_is in
-    let least = l.valid.at_solutions (w ∷ r.places) (one_place_more w r.places n (k * m) place) in
+    let least = l.3.valid.at_solutions (w ∷ r.places) (one_place_more w r.places n (k * m) place) in
     let number_of = λ (y : ℕ). (each y).z in
-    most_from_numbers one (sum_of_values (spread v n l.u s) e ys) (pos (s * f.c)) (weight number_of ys) (s * f.c) (omega (arith, ints))
-    (values_positive (spread v n l.u s) e ys (λ y. function.positive y e some)) (mul-pos s_some f.some) (one_is (s * f.c))
-    (values_are (spread v n l.u s) number_of e (s * f.c) ys (λ y. (each y).is))
-    (enough f.c l.c h.c (weight l.u r.places) (f.t r.rest) (h.t w) (l.u w) (weight number_of ys) r.most same (l.at_most w) least)
+    most_from_numbers one (sum_of_values (spread v n l.1 s) e ys) (pos (s * f.c)) (weight number_of ys) (s * f.c) (omega (arith, ints))
+    (values_positive (spread v n l.1 s) e ys (λ y. function.positive y e some)) (mul-pos s_some f.some) (one_is (s * f.c))
+    (values_are (spread v n l.1 s) number_of e (s * f.c) ys (λ y. (each y).is))
+    (enough f.c l.0 h.c (weight l.1 r.places) (f.t r.rest) (h.t w) (l.1 w) (weight number_of ys) r.most same (l.3.at_most w) least)
 
-dominated_is_lower : (v : ℕ → ℕ → Fraction) (k q m : ℕ) → 0 < q → 0 < m → IsMinimalAmongFunctions v k q → (h : HasTable v k q m) →
+dominated_is_lower : (v : ℕ → ℕ → Fraction) (k q m : ℕ) → 0 < q → 0 < m → IsMinimalPart v k q → (h : HasTable v k q m) →
     IsDominated h.t (q * m) (k * m) h.c → HasLower v k q
 dominated_is_lower v k q m q_some m_some minimal h l =
     let n = q * m in
     let n_some : 0 < n = mul-pos q_some m_some in
-    let s = l.c * h.c in
-    let s_some : 0 < s = mul-pos l.some h.some in
+    let s = l.0 * h.c in
+    let s_some : 0 < s = mul-pos l.3.some h.some in
     let valid = minimal.valid in
     record {
-      u = spread v n l.u s;
-      n = l.place;
+      u = spread v n l.1 s;
+      n = l.2;
       d = n;
       some = n_some;
       valid = record {
-        function = spread_is_function v n l.u s s_some l.valid.has_period valid.function;
+        function = spread_is_function v n l.1 s s_some l.3.valid.has_period valid.function;
         nonnegative = λ x e some.
             ⊎_elim
             (λ at. let (i, place, is) = at in
-            subst (λ (z : Fraction). AtMost nothing z) (sym is) (let low = l.valid.nonnegative i in omega (arith, ints)))
+            subst (λ (z : Fraction). AtMost nothing z) (sym is) (let low = l.3.valid.nonnegative i in omega (arith, ints)))
             (λ off. subst (λ (z : Fraction). AtMost nothing z) (sym off.1) (valid.nonnegative x e some))
-            (spread_tells v n l.u s x e);
+            (spread_tells v n l.1 s x e);
         at_solutions = spread_at_solutions v k q m q_some m_some minimal h l;
       };
       at_most = λ x e some.
           ⊎_elim
           (λ at. let (i, place, is) = at in
           subst (λ (z : Fraction). AtMost z (v x e)) (sym is)
-          (most_from_numbers (record { top = l.u i; bottom = pos s }) (v x e) (l.u i) (pos l.c *ℤ h.t i) s (omega (arith, ints))
+          (most_from_numbers (record { top = l.1 i; bottom = pos s }) (v x e) (l.1 i) (pos l.0 *ℤ h.t i) s (omega (arith, ints))
           (valid.function.positive x e some) s_some refl
-          (is_scaled (v x e) (h.t i) h.c l.c (at_place v x e i n h.c (h.t i) some n_some valid.function place (h.is i)))
-          (l.at_most i)))
+          (is_scaled (v x e) (h.t i) h.c l.0 (at_place v x e i n h.c (h.t i) some n_some valid.function place (h.is i)))
+          (l.3.at_most i)))
           (λ off. subst (λ (z : Fraction). AtMost z (v x e)) (sym off.1) (omega (arith, ints)))
-          (spread_tells v n l.u s x e);
+          (spread_tells v n l.1 s x e);
       below = ⊎_elim
           (λ at. let (i, place, is) = at in
-          subst (λ (z : Fraction). LessValue z (v l.place n)) (sym is)
-          (let same : l.place ≡ i = eq_of_mul-eq-mul_right n n_some l.place i place in
-          subst (λ (j : ℕ). LessValue (record { top = l.u j; bottom = pos s }) (v l.place n)) same
-          (less_from_numbers (record { top = l.u l.place; bottom = pos s }) (v l.place n) (l.u l.place) (pos l.c *ℤ h.t l.place) s
-          (omega (arith, ints)) (valid.function.positive l.place n n_some) s_some refl
-          (is_scaled (v l.place n) (h.t l.place) h.c l.c (h.is l.place)) l.below)))
-          (λ off. absurd (off.0 l.place refl))
-          (spread_tells v n l.u s l.place n);
+          subst (λ (z : Fraction). LessValue z (v l.2 n)) (sym is)
+          (let same : l.2 ≡ i = eq_of_mul-eq-mul_right n n_some l.2 i place in
+          subst (λ (j : ℕ). LessValue (record { top = l.1 j; bottom = pos s }) (v l.2 n)) same
+          (less_from_numbers (record { top = l.1 l.2; bottom = pos s }) (v l.2 n) (l.1 l.2) (pos l.0 *ℤ h.t l.2) s
+          (omega (arith, ints)) (valid.function.positive l.2 n n_some) s_some refl
+          (is_scaled (v l.2 n) (h.t l.2) h.c l.0 (h.is l.2)) l.4)))
+          (λ off. absurd (off.0 l.2 refl))
+          (spread_tells v n l.1 s l.2 n);
     }
 
 -- the tables of a function that is minimal among the valid functions are minimal
-pub tables_are_minimal : (v : ℕ → ℕ → Fraction) (k q m : ℕ) → 0 < q → 0 < m → IsMinimalAmongFunctions v k q → (h : HasTable v k q m) →
+pub tables_are_minimal : (v : ℕ → ℕ → Fraction) (k q m : ℕ) → 0 < q → 0 < m → IsMinimalPart v k q → (h : HasTable v k q m) →
     IsMinimalTable h.t (q * m) (k * m) h.c
 tables_are_minimal v k q m q_some m_some minimal h = record {
   has_period = h.valid.has_period;

@@ -8,19 +8,19 @@ use Rattle.gj_frac.specs.Fraction.{Fraction, sum_of}
 use Rattle.gj_shape.specs.Table.{IsMinimalTable}
 use Rattle.gj_shape.specs.Valid.{weight}
 use Rattle.gj_theory.proofs.ValidTables.{minimal_is_valid, minimal_among}
-use Rattle.gj_valid.specs.ValidFunctions.{nothing, one, sum_of_values, IsFunction, IsValidFunction, IsMinimalAmongFunctions, IsMinimalFunction}
+use Rattle.gj_valid.proofs.PartFunctions.{nothing, one, sum_of_values, IsPartFunction, IsValidPart, IsMinimalPart, HasRules}
 use Rattle.gj_valid.proofs.OverOneBottom.{Is, is_over, is_along, one_number, same_over, same_numbers, sum_is, most_from_numbers, most_to_numbers, nothing_is, one_is, values_positive, values_are}
 use Rattle.gj_valid.proofs.FunctionTables.{has_table, HasEntries, has_entries, at_place, on_grid, scaled_rest, sum_scaled, weight_of_map}
 use Rattle.gj_valid.proofs.MinimalFunctions.{multiple_valid}
 use Rattle.gj_valid.proofs.ChangedOnGrid.{tables_are_minimal}
 
-both_positive : (v : ℕ → ℕ → Fraction) (n m d : ℕ) → 0 < d → IsFunction v → pos 0 <ℤ (sum_of (v n d) (v m d)).bottom
+both_positive : (v : ℕ → ℕ → Fraction) (n m d : ℕ) → 0 < d → IsPartFunction v → pos 0 <ℤ (sum_of (v n d) (v m d)).bottom
 both_positive v n m d some h = mul_positive_z (v n d).bottom (v m d).bottom (h.positive n d some) (h.positive m d some)
 
 -- ---- from the rules
 
 -- by the rules the tables are minimal
-rules_table : (v : ℕ → ℕ → Fraction) (k q m : ℕ) → 0 < q → 0 < m → IsMinimalFunction v k q → (e : HasEntries v q m) →
+rules_table : (v : ℕ → ℕ → Fraction) (k q m : ℕ) → 0 < q → 0 < m → HasRules v k q → (e : HasEntries v q m) →
     IsMinimalTable e.t (q * m) (k * m) e.c
 rules_table v k q m q_some m_some h e =
     let n = q * m in
@@ -46,7 +46,7 @@ rules_table v k q m q_some m_some h e =
           (sum_is (v i n) (v j n) (e.t i) (e.t j) e.c (e.is i) (e.is j)) (one_is e.c);
     }
 
-rules_valid : (v : ℕ → ℕ → Fraction) (k q : ℕ) → 0 < q → IsMinimalFunction v k q → IsValidFunction v k q
+rules_valid : (v : ℕ → ℕ → Fraction) (k q : ℕ) → 0 < q → HasRules v k q → IsValidPart v k q
 rules_valid v k q q_some h = record {
   function = h.function;
   nonnegative = h.nonnegative;
@@ -63,7 +63,7 @@ rules_valid v k q q_some h = record {
       (subst (λ (w : ℤ). pos e.c ≤ℤ w) (weight_of_map e.t (λ n. n * q) tops) least);
 }
 
-pub rules_among : (v : ℕ → ℕ → Fraction) (k q : ℕ) → 0 < q → IsMinimalFunction v k q → IsMinimalAmongFunctions v k q
+pub rules_among : (v : ℕ → ℕ → Fraction) (k q : ℕ) → 0 < q → HasRules v k q → IsMinimalPart v k q
 rules_among v k q q_some h = record {
   valid = rules_valid v k q q_some h;
   none_below = λ u valid below n d some.
@@ -75,11 +75,13 @@ rules_among v k q q_some h = record {
       let u_is = λ (i : ℕ). is_over (u i (q * d)) (r.t i) r.c e.c b (r.is i) (mul_comm r.c e.c) in
       let v_is = λ (i : ℕ). is_over (v i (q * d)) (e.t i) e.c r.c b (e.is i) refl in
       let minimal = minimal_among e.t (q * d) (k * d) e.c grid (rules_table v k q d q_some some h e) in
-      let equal = minimal.none_below r.c (λ i. pos e.c *ℤ r.t i) r.some
-      (multiple_valid r.t (q * d) (k * d) r.c e.c b r.valid (mul_comm r.c e.c))
-      (λ i. most_to_numbers (u i (q * d)) (v i (q * d)) (pos e.c *ℤ r.t i) (pos r.c *ℤ e.t i) b (valid.function.positive i (q * d) grid)
-      (h.function.positive i (q * d) grid) b_some (u_is i) (v_is i) (below i (q * d) grid))
-      (n * q) in
+      let equal = minimal.none_below r.c (λ i. pos e.c *ℤ r.t i) (record {
+        some = r.some;
+        valid = multiple_valid r.t (q * d) (k * d) r.c e.c b r.valid (mul_comm r.c e.c);
+        at_most = λ i.
+            most_to_numbers (u i (q * d)) (v i (q * d)) (pos e.c *ℤ r.t i) (pos r.c *ℤ e.t i) b (valid.function.positive i (q * d) grid)
+            (h.function.positive i (q * d) grid) b_some (u_is i) (v_is i) (below i (q * d) grid);
+      }) (n * q) in
       same_over (u n d) (v n d) (pos e.c *ℤ r.t (n * q)) b b_some
       (on_grid u q n d b (pos e.c *ℤ r.t (n * q)) q_some some valid.function (u_is (n * q)))
       (subst (λ (z : ℤ). Is (v n d) z b) (sym equal)
@@ -88,7 +90,7 @@ rules_among v k q q_some h = record {
 
 -- ---- to the rules
 
-pub rules_only : (v : ℕ → ℕ → Fraction) (k q : ℕ) → 0 < q → IsMinimalAmongFunctions v k q → IsMinimalFunction v k q
+pub rules_only : (v : ℕ → ℕ → Fraction) (k q : ℕ) → 0 < q → IsMinimalPart v k q → HasRules v k q
 rules_only v k q q_some h =
     let function = h.valid.function in
     record {

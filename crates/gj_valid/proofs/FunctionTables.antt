@@ -11,7 +11,7 @@ use Rattle.gj_shape.specs.Table.{table}
 use Rattle.gj_shape.specs.Valid.{weight, IsValidTable}
 use Rattle.gj_shape.proofs.TableLemmas.{table_period, table_finer}
 use Rattle.gj_theory.proofs.Weights.{sum_cons}
-use Rattle.gj_valid.specs.ValidFunctions.{nothing, one, sum_of_values, IsFunction, IsValidFunction, function_of}
+use Rattle.gj_valid.proofs.PartFunctions.{nothing, one, sum_of_values, IsPartFunction, IsValidPart, part_of}
 use Rattle.gj_valid.proofs.OverOneBottom.{Is, is_along, most_to_numbers, most_from_numbers, nothing_is, one_is, values_positive, values_are, have_bottom}
 
 -- ---- rests
@@ -53,18 +53,18 @@ pub record HasTable (v : ℕ → ℕ → Fraction) (k q m : ℕ) : Type 0 where
   pub valid : IsValidTable t (q * m) (k * m) c
 
 -- n/d = i/e
-pub at_place : (v : ℕ → ℕ → Fraction) (n d i e c : ℕ) (z : ℤ) → 0 < d → 0 < e → IsFunction v → n * e ≡ i * d → Is (v i e) z c →
+pub at_place : (v : ℕ → ℕ → Fraction) (n d i e c : ℕ) (z : ℤ) → 0 < d → 0 < e → IsPartFunction v → n * e ≡ i * d → Is (v i e) z c →
     Is (v n d) z c
 at_place v n d i e c z d_some e_some h place is =
     is_along (v n d) (v i e) z c (h.positive i e e_some) (h.at_points n d i e d_some e_some (ap (λ j. j % (d * e)) place)) is
 
 -- the same point as a multiple of 1/(q d)
-pub on_grid : (v : ℕ → ℕ → Fraction) (q n d c : ℕ) (z : ℤ) → 0 < q → 0 < d → IsFunction v → Is (v (n * q) (q * d)) z c → Is (v n d) z c
+pub on_grid : (v : ℕ → ℕ → Fraction) (q n d c : ℕ) (z : ℤ) → 0 < q → 0 < d → IsPartFunction v → Is (v (n * q) (q * d)) z c → Is (v n d) z c
 on_grid v q n d c z q_some d_some h is =
     at_place v n d (n * q) (q * d) c z d_some (mul-pos q_some d_some) h (omega arith) is
 
 -- entries over c that are the values of a valid function and have the grid's period are a valid table
-pub entries_valid : (v : ℕ → ℕ → Fraction) (k q m c : ℕ) (t : ℕ → ℤ) → 0 < q → 0 < m → 0 < c → IsValidFunction v k q →
+pub entries_valid : (v : ℕ → ℕ → Fraction) (k q m c : ℕ) (t : ℕ → ℤ) → 0 < q → 0 < m → 0 < c → IsValidPart v k q →
     ((i : ℕ) → t (i + q * m) ≡ t i) → ((i : ℕ) → Is (v i (q * m)) (t i) c) → IsValidTable t (q * m) (k * m) c
 entries_valid v k q m c t q_some m_some some h period is =
     let n = q * m in
@@ -90,7 +90,7 @@ pub record HasEntries (v : ℕ → ℕ → Fraction) (q m : ℕ) : Type 0 where
   pub is : (i : ℕ) → Is (v i (q * m)) (t i) c
   pub has_period : (i : ℕ) → t (i + q * m) ≡ t i
 
-pub has_entries : (v : ℕ → ℕ → Fraction) (q m : ℕ) → 0 < q → 0 < m → IsFunction v → HasEntries v q m
+pub has_entries : (v : ℕ → ℕ → Fraction) (q m : ℕ) → 0 < q → 0 < m → IsPartFunction v → HasEntries v q m
 has_entries v q m q_some m_some h =
     let n = q * m in
     let n_some : 0 < n = mul-pos q_some m_some in
@@ -107,7 +107,7 @@ has_entries v q m q_some m_some h =
       has_period = λ i. ap b.t (add-mod_right i n);
     }
 
-pub has_table : (v : ℕ → ℕ → Fraction) (k q m : ℕ) → 0 < q → 0 < m → IsValidFunction v k q → HasTable v k q m
+pub has_table : (v : ℕ → ℕ → Fraction) (k q m : ℕ) → 0 < q → 0 < m → IsValidPart v k q → HasTable v k q m
 has_table v k q m q_some m_some h =
     let e = has_entries v q m q_some m_some h.function in
     record {
@@ -132,7 +132,7 @@ pub record Agree (T : ℕ → ℕ → ℤ) (q : ℕ) : Type 0 where
 cross_scaled : (x : ℤ) (s d : ℕ) → x *ℤ pos (s * d) ≡ pos s *ℤ (pos d *ℤ x)
 cross_scaled x s d = by_ring (x ∷ pos s ∷ pos d ∷ []) (search ring depth 20) refl
 
-pub tables_function : (T : ℕ → ℕ → ℤ) (q s : ℕ) → 0 < s → Agree T q → IsFunction (by_tables T q s)
+pub tables_function : (T : ℕ → ℕ → ℤ) (q s : ℕ) → 0 < s → Agree T q → IsPartFunction (by_tables T q s)
 tables_function T q s s_some h = record {
   positive = λ n d some. let bottom : 0 < s * d = mul-pos s_some some in omega (arith, ints);
   at_points = λ n d m e d_some e_some same.
@@ -147,7 +147,7 @@ tables_function T q s s_some h = record {
 }
 
 pub tables_valid : (T : ℕ → ℕ → ℤ) (k q s : ℕ) → 0 < s → Agree T q → ((d : ℕ) → 0 < d → IsValidTable (T d) (q * d) (k * d) (s * d)) →
-    IsValidFunction (by_tables T q s) k q
+    IsValidPart (by_tables T q s) k q
 tables_valid T k q s s_some agree h =
     let function = tables_function T q s s_some agree in
     record {
@@ -174,17 +174,17 @@ agree_on_grids f l = record {
   has_period = λ d i some. table_period f d i some l;
 }
 
-pub function_is : (f : FunctionData) → IsWithinBounds f → IsFunction (function_of f)
+pub function_is : (f : FunctionData) → IsWithinBounds f → IsPartFunction (part_of f)
 function_is f l = tables_function (table f) f.order f.scale (let low = l.scale_low in omega arith) (agree_on_grids f l)
 
 pub function_valid : (f : FunctionData) → IsWithinBounds f →
     ((m : ℕ) → 0 < m → IsValidTable (table f m) (f.order * m) (f.place * m) (f.scale * m)) →
-    IsValidFunction (function_of f) f.place f.order
+    IsValidPart (part_of f) f.place f.order
 function_valid f l h =
     tables_valid (table f) f.place f.order f.scale (let low = l.scale_low in omega arith) (agree_on_grids f l) h
 
 -- its value at a multiple of 1/(order d) is the table's entry
-pub function_on_grid : (f : FunctionData) (i d : ℕ) → 0 < f.order → 0 < d → Is (function_of f i (f.order * d)) (table f d i) (f.scale * d)
+pub function_on_grid : (f : FunctionData) (i d : ℕ) → 0 < f.order → 0 < d → Is (part_of f i (f.order * d)) (table f d i) (f.scale * d)
 function_on_grid f i d o_some d_some =
     ap (λ z. z *ℤ pos (f.scale * d)) (ap (λ n. table f n (i * f.order)) (mul_comm f.order d) ∙ table_finer f d f.order i d_some o_some)
     ∙ by_ring (table f d i ∷ pos f.scale ∷ pos f.order ∷ pos d ∷ []) (search ring depth 30) refl

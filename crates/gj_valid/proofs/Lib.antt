@@ -1,5 +1,6 @@
 pub mod MinimalBelow
 pub mod LowerCuts
+pub mod PartFunctions
 pub mod OverOneBottom
 pub mod FunctionTables
 pub mod MinimalFunctions
@@ -8,5 +9,9 @@ pub mod ChangedOnGrid
 pub mod OnlyMinimal
 pub mod OnlyExtreme
 pub mod FunctionRules
+pub mod SamePoints
 pub mod AnyBottoms
+pub mod OnFractions
+pub mod ModelFunctions
+pub mod ModelRules
 pub mod SmallCoefficients

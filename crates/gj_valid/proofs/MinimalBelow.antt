@@ -1,30 +1,17 @@
 -- Each valid table has a minimal one below it: its entries are lowered, one place after the other.
-use Rattle.std.proofs.Common.{◌≡◌, ◌≢◌, ℕ, zero, suc, ◌+◌, ◌-◌, ◌*◌, ◌/◌, ◌%◌, ◌<◌, ◌≤◌, ◌⊎◌, inl, inr, ⊎_elim, eqb, cond, List, [], ◌∷◌, ℤ, pos, ◌+ℤ◌, ◌*ℤ◌, ◌≤ℤ◌, ◌<ℤ◌, unsigned_abs, refl, sym, subst, ap, ap₂, ◌∙◌, arith}
+use Rattle.std.proofs.Common.{◌≡◌, ℕ, zero, suc, ◌+◌, ◌*◌, ◌/◌, ◌%◌, ◌<◌, ◌≤◌, ◌⊎◌, inl, inr, ⊎_elim, List, [], ◌∷◌, ℤ, pos, ◌+ℤ◌, ◌*ℤ◌, ◌≤ℤ◌, ◌<ℤ◌, unsigned_abs, refl, sym, subst, ap, ◌∙◌, arith}
 use Rattle.std.specs.Prelude.{sum}
-use Rattle.std.proofs.Math.Nat.{add-mod_right, add-mul-mod_self_right, div-add-mod', le-mul_of_pos_right, mod-lt, mod-mod, mul-le-mul_right, mul-pos, one-mul}
-use Rattle.std.proofs.lemmas.Bool.{cases_lt, cond-true, cond-false}
-use Rattle.std.proofs.lemmas.Bool.Decides.{eqb_tells}
+use Rattle.std.proofs.Math.Nat.{div-add-mod', mod-lt, mod-mod, mul-le-mul_right, mul-pos, one-mul}
+use Rattle.std.proofs.lemmas.Bool.{cases_lt}
 use Rattle.std.proofs.lemmas.Int.{ints, by_lt_z}
 use Rattle.gj_tools.proofs.Integers.{mul_add_z, mul_assoc_z, mul_left_comm_z, mul_le_mul_left_z, mul_le_cancel_right_z, mul_lt_cancel_left_z, mul_nonnegative_z, pos_abs_z, same_or_apart_z}
 use Rattle.gj_tools.proofs.Quotients.{same_remainder, same_at_remainder}
 use Rattle.gj_shape.specs.Table.{IsMinimalTable}
 use Rattle.gj_shape.specs.Valid.{weight, IsValidTable}
-use Rattle.gj_theory.proofs.ValidTables.{only_minimal}
-use Rattle.gj_theory.proofs.Weights.{StandFor, sum_cons, same_sums, cancel_same, stand_for_all, weight_nonnegative, with_copies}
+use Rattle.gj_theory.proofs.ValidTables.{dented, dented_tells, dented_here, dented_period, dented_le, Lighter, lighter, all_or_some, opposite_of, opposite_is, only_minimal}
+use Rattle.gj_theory.proofs.Weights.{sum_cons, same_sums, cancel_same, with_copies}
 
 -- ---- places below n
-
--- the first of two properties holds below n, or the second somewhere below n
-all_or_some : (P Q : ℕ → Type 0) → ((i : ℕ) → P i ⊎ Q i) → (n : ℕ) → ((i : ℕ) → i < n → P i) ⊎ ((i : ℕ) × (i < n) × Q i)
-all_or_some P Q decide zero = inl (λ i below. absurd (omega arith))
-all_or_some P Q decide (suc n) =
-    ⊎_elim
-    (λ all. ⊎_elim
-    (λ here. inl (λ i below. ⊎_elim (λ less. all i less) (λ same. subst P (let e : n ≡ i = omega arith in e) here) (cases_lt i n)))
-    (λ fails. inr (n, omega arith, fails))
-    (decide n))
-    (λ found. let (i, below, fails) = found in inr (i, omega arith, fails))
-    (all_or_some P Q decide n)
 
 -- the sum of the entries below n
 abbrev total_below : (ℕ → ℤ) → ℕ → ℤ
@@ -59,72 +46,7 @@ total_nonnegative t (suc n) h =
     let rest = total_nonnegative t n h in
     omega (arith, ints)
 
--- ---- a table that is changed at one place
-
--- the table w with v at the places that are a modulo n
-abbrev dented : (ℕ → ℤ) → ℕ → ℕ → ℤ → ℕ → ℤ
-dented w n a v i = cond (eqb (i % n) (a % n)) v (w i)
-
-dented_tells : (w : ℕ → ℤ) (n a : ℕ) (v : ℤ) (i : ℕ) →
-    ((i % n ≡ a % n) × (dented w n a v i ≡ v)) ⊎ ((i % n ≢ a % n) × (dented w n a v i ≡ w i))
-dented_tells w n a v i =
-    ⊎_elim (λ at. inl (at.1, cond-true (eqb (i % n) (a % n)) v (w i) at.0))
-    (λ off. inr (off.1, cond-false (eqb (i % n) (a % n)) v (w i) off.0))
-    (eqb_tells (i % n) (a % n))
-
-dented_here : (w : ℕ → ℤ) (n a : ℕ) (v : ℤ) → dented w n a v a ≡ v
-dented_here w n a v = ⊎_elim (λ at. at.1) (λ off. absurd (off.0 refl)) (dented_tells w n a v a)
-
-dented_period : (w : ℕ → ℤ) (n a : ℕ) (v : ℤ) → ((i : ℕ) → w (i + n) ≡ w i) → (i : ℕ) → dented w n a v (i + n) ≡ dented w n a v i
-dented_period w n a v period i = ap₂ (λ r x. cond (eqb r (a % n)) v x) (add-mod_right i n) (period i)
-
-dented_le : (w : ℕ → ℤ) (n a : ℕ) (v : ℤ) → ((i : ℕ) → w (i + n) ≡ w i) → v ≤ℤ w a → (i : ℕ) → dented w n a v i ≤ℤ w i
-dented_le w n a v period least i =
-    ⊎_elim
-    (λ at.
-    let same = same_at_remainder w n period i a at.0 in
-    let here = at.1 in
-    omega (arith, ints))
-    (λ off. let here = off.1 in omega (arith, ints))
-    (dented_tells w n a v i)
-
 -- ---- a subadditive table below
-
--- a valid table over the same scale that is nowhere above t, and below it at a place
-record Lighter (t : ℕ → ℤ) (n k s : ℕ) : Type 0 where
-  u : ℕ → ℤ
-  place : ℕ
-  valid : IsValidTable u n k s
-  at_most : (i : ℕ) → u i ≤ℤ t i
-  below : u place <ℤ t place
-
-valid_by_places : (t u : ℕ → ℤ) (n k s : ℕ) → IsValidTable t n k s → ((i : ℕ) → u (i + n) ≡ u i) →
-    ((i : ℕ) → StandFor t n i (u i)) → IsValidTable u n k s
-valid_by_places t u n k s valid period each = record {
-  has_period = period;
-  nonnegative = λ i.
-      let (places, place, is) = each i in
-      subst (λ (w : ℤ). pos 0 ≤ℤ w) is (weight_nonnegative t places valid.nonnegative);
-  at_solutions = λ xs solution.
-      let (places, place, is) = stand_for_all t u n xs each in
-      subst (λ (w : ℤ). pos s ≤ℤ w) is (valid.at_solutions places (place ∙ solution));
-}
-
-lighter : (t : ℕ → ℤ) (n k s a : ℕ) (places : List ℕ) → IsValidTable t n k s → sum places % n ≡ a % n → weight t places <ℤ t a →
-    Lighter t n k s
-lighter t n k s a places valid place less =
-    let v = weight t places in
-    record {
-      u = dented t n a v;
-      place = a;
-      valid = valid_by_places t (dented t n a v) n k s valid (dented_period t n a v valid.has_period)
-          (λ i. ⊎_elim
-          (λ at. (places, place ∙ sym at.0, sym at.1))
-          (λ off. (i ∷ [], ap (λ j. j % n) (sum_cons i []) ∙ ap (λ j. j % n) (omega arith), omega (arith, ints, off.1)))
-          (dented_tells t n a v i));
-      at_most = dented_le t n a v valid.has_period (omega (arith, ints));
-      below = let here = dented_here t n a v in omega (arith, ints);
-    }
 
 -- subadditive, with 0 at 0
 record IsSubadditive (t : ℕ → ℤ) : Type 0 where
@@ -197,16 +119,6 @@ subadditive_below (suc fuel) t n k s some valid fits =
     (subadditive_or_lighter t n k s some valid)
 
 -- ---- places opposite to others
-
--- a place opposite to i
-abbrev opposite_of : ℕ → ℕ → ℕ → ℕ
-opposite_of n k i = k + (i * n - i)
-
-opposite_is : (n k i : ℕ) → 0 < n → (i + opposite_of n k i) % n ≡ k % n
-opposite_is n k i some =
-    let many : i ≤ i * n = le-mul_of_pos_right i some in
-    let whole : i + opposite_of n k i ≡ k + i * n = omega arith in
-    ap (λ l. l % n) whole ∙ add-mul-mod_self_right k i n
 
 -- m uses of a and one of y
 copies_weigh : (t : ℕ → ℤ) (n k s a m y : ℕ) → IsValidTable t n k s → (a * m + y) % n ≡ k % n → pos s ≤ℤ (pos m *ℤ t a +ℤ t y)
@@ -557,9 +469,9 @@ settled_is_minimal : (t : ℕ → ℤ) (n k s : ℕ) → 0 < n → IsValidTable 
     IsMinimalTable t n k s
 settled_is_minimal t n k s some valid settled = only_minimal t n k s (record {
   valid = valid;
-  none_below = λ c u c_some u_valid below i.
-      let here = settled_is_least t u n k s c (i % n) u_valid below (settled (i % n) (mod-lt i some)) in
-      let first = same_at_remainder u n u_valid.has_period (i % n) i (mod-mod i n) in
+  none_below = λ c u under i.
+      let here = settled_is_least t u n k s c (i % n) under.valid under.at_most (settled (i % n) (mod-lt i some)) in
+      let first = same_at_remainder u n under.valid.has_period (i % n) i (mod-mod i n) in
       let second = same_at_remainder t n valid.has_period (i % n) i (mod-mod i n) in
       sym first ∙ here ∙ ap (λ z. pos c *ℤ z) second;
 })

@@ -11,7 +11,7 @@ use Rattle.gj_shape.specs.Table.{table, IsMinimal}
 use Rattle.gj_shape.specs.Valid.{weight, IsValidTable}
 use Rattle.gj_theory.proofs.ValidTables.{function_minimal, function_extreme}
 use Rattle.gj_theory.proofs.Weights.{weight_of_multiple}
-use Rattle.gj_valid.specs.ValidFunctions.{IsMinimalAmongFunctions, IsExtremeAmongFunctions, function_of}
+use Rattle.gj_valid.proofs.PartFunctions.{IsMinimalPart, IsExtremePart, part_of}
 use Rattle.gj_valid.proofs.OverOneBottom.{Is, is_over, same_over, same_numbers, sum_is, most_to_numbers}
 use Rattle.gj_valid.proofs.FunctionTables.{has_table, on_grid, function_is, function_valid, function_on_grid}
 
@@ -26,7 +26,7 @@ multiple_valid t n k s e r h scale = record {
       omega (arith, ints);
 }
 
-pub minimal_among_functions : (f : FunctionData) → IsWithinBounds f → IsMinimal f → IsMinimalAmongFunctions (function_of f) f.place f.order
+pub minimal_among_functions : (f : FunctionData) → IsWithinBounds f → IsMinimal f → IsMinimalPart (part_of f) f.place f.order
 minimal_among_functions f l h =
     let order : 0 < f.order = let low = l.order_low in omega arith in
     let scale : 0 < f.scale = let low = l.scale_low in omega arith in
@@ -40,24 +40,26 @@ minimal_among_functions f l h =
           let s_some : 0 < s = mul-pos scale some in
           let u_is = λ (i : ℕ). is_over (u i (f.order * d)) (r.t i) r.c s (r.c * s) (r.is i) (mul_comm r.c s) in
           let f_is = λ (i : ℕ).
-          is_over (function_of f i (f.order * d)) (table f d i) s r.c (r.c * s) (function_on_grid f i d order some) refl in
-          let equal = (function_minimal f l h d some).none_below r.c (λ i. pos s *ℤ r.t i) r.some
-          (multiple_valid r.t (f.order * d) (f.place * d) r.c s (r.c * s) r.valid (mul_comm r.c s))
-          (λ i. most_to_numbers (u i (f.order * d)) (function_of f i (f.order * d)) (pos s *ℤ r.t i) (pos r.c *ℤ table f d i) (r.c * s)
-          (valid.function.positive i (f.order * d) grid) (function.positive i (f.order * d) grid) (mul-pos r.some s_some)
-          (u_is i) (f_is i) (below i (f.order * d) grid))
-          (n * f.order) in
-          same_over (u n d) (function_of f n d) (pos s *ℤ r.t (n * f.order)) (r.c * s) (mul-pos r.some s_some)
+          is_over (part_of f i (f.order * d)) (table f d i) s r.c (r.c * s) (function_on_grid f i d order some) refl in
+          let equal = (function_minimal f l h d some).none_below r.c (λ i. pos s *ℤ r.t i) (record {
+            some = r.some;
+            valid = multiple_valid r.t (f.order * d) (f.place * d) r.c s (r.c * s) r.valid (mul_comm r.c s);
+            at_most = λ i.
+                most_to_numbers (u i (f.order * d)) (part_of f i (f.order * d)) (pos s *ℤ r.t i) (pos r.c *ℤ table f d i) (r.c * s)
+                (valid.function.positive i (f.order * d) grid) (function.positive i (f.order * d) grid) (mul-pos r.some s_some)
+                (u_is i) (f_is i) (below i (f.order * d) grid);
+          }) (n * f.order) in
+          same_over (u n d) (part_of f n d) (pos s *ℤ r.t (n * f.order)) (r.c * s) (mul-pos r.some s_some)
           (on_grid u f.order n d (r.c * s) (pos s *ℤ r.t (n * f.order)) order some valid.function (u_is (n * f.order)))
-          (subst (λ (z : ℤ). Is (function_of f n d) z (r.c * s)) (sym equal)
-          (on_grid (function_of f) f.order n d (r.c * s) (pos r.c *ℤ table f d (n * f.order)) order some function (f_is (n * f.order))));
+          (subst (λ (z : ℤ). Is (part_of f n d) z (r.c * s)) (sym equal)
+          (on_grid (part_of f) f.order n d (r.c * s) (pos r.c *ℤ table f d (n * f.order)) order some function (f_is (n * f.order))));
     }
 
 -- the numbers of two functions and of one that is half their sum
 halves : (x y : ℤ) (z : ℤ) (c : ℕ) → x +ℤ y ≡ pos c *ℤ z +ℤ pos c *ℤ z → x +ℤ y ≡ pos (2 * c) *ℤ z
 halves x y z c e = e ∙ by_ring (z ∷ pos c ∷ []) (search ring depth 20) refl
 
-pub extreme_among_functions : (f : FunctionData) → IsWithinBounds f → IsExtreme f → IsExtremeAmongFunctions (function_of f) f.place f.order
+pub extreme_among_functions : (f : FunctionData) → IsWithinBounds f → IsExtreme f → IsExtremePart (part_of f) f.place f.order
 extreme_among_functions f l h =
     let order : 0 < f.order = let low = l.order_low in omega arith in
     let scale : 0 < f.scale = let low = l.scale_low in omega arith in
@@ -77,14 +79,14 @@ extreme_among_functions f l h =
           let a_is = λ (i : ℕ). is_over (a i (f.order * d)) (p.t i) p.c (r.c * s) (c * s) (p.is i) first in
           let b_is = λ (i : ℕ). is_over (b i (f.order * d)) (r.t i) r.c (p.c * s) (c * s) (r.is i) second in
           let f_is = λ (i : ℕ).
-          is_over (function_of f i (f.order * d)) (table f d i) s c (c * s) (function_on_grid f i d order some) refl in
+          is_over (part_of f i (f.order * d)) (table f d i) s c (c * s) (function_on_grid f i d order some) refl in
           let equal = (function_extreme f l h d some).no_average c (λ i. pos (r.c * s) *ℤ p.t i) (λ i. pos (p.c * s) *ℤ r.t i) c_some
           (multiple_valid p.t (f.order * d) (f.place * d) p.c (r.c * s) (c * s) p.valid first)
           (multiple_valid r.t (f.order * d) (f.place * d) r.c (p.c * s) (c * s) r.valid second)
           (λ i.
           let x = a i (f.order * d) in
           let y = b i (f.order * d) in
-          let z = function_of f i (f.order * d) in
+          let z = part_of f i (f.order * d) in
           halves (pos (r.c * s) *ℤ p.t i) (pos (p.c * s) *ℤ r.t i) (table f d i) c
           (same_numbers (sum_of x y) (sum_of z z) (pos (r.c * s) *ℤ p.t i +ℤ pos (p.c * s) *ℤ r.t i)
           (pos c *ℤ table f d i +ℤ pos c *ℤ table f d i) (c * s)

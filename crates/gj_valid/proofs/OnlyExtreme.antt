@@ -18,7 +18,8 @@ use Rattle.gj_theory.specs.Halves.{AreDifferentHalves}
 use Rattle.gj_theory.proofs.Fillings.{filling_at, filling_at_multiple, filling_period, parts_at, filling_minimal, function_finer_halves}
 use Rattle.gj_theory.proofs.ValidTables.{minimal_is_valid}
 use Rattle.gj_theory.proofs.Weights.{weight_le}
-use Rattle.gj_valid.specs.ValidFunctions.{AtMost, nothing, one, sum_of_values, IsFunction, IsValidFunction, IsMinimalAmongFunctions, IsExtremeAmongFunctions, function_of}
+use Rattle.gj_valid.specs.ValidFunctions.{AtMost}
+use Rattle.gj_valid.proofs.PartFunctions.{nothing, one, sum_of_values, IsPartFunction, IsValidPart, IsMinimalPart, IsExtremePart, part_of}
 use Rattle.gj_valid.proofs.OverOneBottom.{Is, over_one, is_over, is_along, same_over, same_numbers, sum_is, most_from_numbers, most_to_numbers, nothing_is, one_is, values_positive, values_are}
 use Rattle.gj_valid.proofs.FunctionTables.{has_table, on_grid, scaled_rest, by_tables, Agree, tables_valid}
 use Rattle.gj_valid.proofs.OnlyMinimal.{only_minimal}
@@ -36,14 +37,14 @@ left_over_is : (v u : ℕ → ℕ → Fraction) (n d c : ℕ) (x y : ℤ) → Is
 left_over_is v u n d c x y v_is u_is =
     difference_is (sum_of (v n d) (v n d)) (u n d) (x +ℤ x) y c (sum_is (v n d) (v n d) x x c v_is v_is) u_is
 
-left_over_positive : (v u : ℕ → ℕ → Fraction) (n d : ℕ) → 0 < d → IsFunction v → IsFunction u → pos 0 <ℤ (left_over v u n d).bottom
+left_over_positive : (v u : ℕ → ℕ → Fraction) (n d : ℕ) → 0 < d → IsPartFunction v → IsPartFunction u → pos 0 <ℤ (left_over v u n d).bottom
 left_over_positive v u n d some v_function u_function =
     mul_positive_z ((v n d).bottom *ℤ (v n d).bottom) (u n d).bottom
     (mul_positive_z (v n d).bottom (v n d).bottom (v_function.positive n d some) (v_function.positive n d some))
     (u_function.positive n d some)
 
-left_over_valid : (v u : ℕ → ℕ → Fraction) (k q : ℕ) → 0 < q → IsValidFunction v k q → IsValidFunction u k q →
-    ((n d : ℕ) → 0 < d → AtMost (u n d) (v n d)) → IsValidFunction (left_over v u) k q
+left_over_valid : (v u : ℕ → ℕ → Fraction) (k q : ℕ) → 0 < q → IsValidPart v k q → IsValidPart u k q →
+    ((n d : ℕ) → 0 < d → AtMost (u n d) (v n d)) → IsValidPart (left_over v u) k q
 left_over_valid v u k q q_some v_valid u_valid below =
     let v_some = λ (n d : ℕ). v_valid.function.positive n d in
     let u_some = λ (n d : ℕ). u_valid.function.positive n d in
@@ -92,7 +93,7 @@ left_over_valid v u k q q_some v_valid u_valid below =
           (omega (arith, ints, above, least));
     }
 
-pub extreme_is_minimal : (v : ℕ → ℕ → Fraction) (k q : ℕ) → 0 < q → IsExtremeAmongFunctions v k q → IsMinimalAmongFunctions v k q
+pub extreme_is_minimal : (v : ℕ → ℕ → Fraction) (k q : ℕ) → 0 < q → IsExtremePart v k q → IsMinimalPart v k q
 extreme_is_minimal v k q q_some h = record {
   valid = h.valid;
   none_below = λ u valid below n d some.
@@ -146,7 +147,7 @@ fillings_agree t n period = record {
 }
 
 -- f is one point over each bottom
-coarser_place : (v : ℕ → ℕ → Fraction) (k q m : ℕ) → IsValidFunction v (k * m) (q * m) → IsValidFunction v k q
+coarser_place : (v : ℕ → ℕ → Fraction) (k q m : ℕ) → IsValidPart v (k * m) (q * m) → IsValidPart v k q
 coarser_place v k q m h = record {
   function = h.function;
   nonnegative = h.nonnegative;
@@ -157,7 +158,7 @@ coarser_place v k q m h = record {
 }
 
 filled_valid : (t : ℕ → ℤ) (k q m s : ℕ) → 0 < q → 0 < m → 0 < s → IsMinimalTable t (q * m) (k * m) s →
-    IsValidFunction (by_tables (filling t) (q * m) s) k q
+    IsValidPart (by_tables (filling t) (q * m) s) k q
 filled_valid t k q m s q_some m_some s_some h =
     coarser_place (by_tables (filling t) (q * m) s) k q m
     (tables_valid (filling t) (k * m) (q * m) s s_some (fillings_agree t (q * m) h.has_period)
@@ -166,7 +167,7 @@ filled_valid t k q m s q_some m_some s_some h =
 
 -- the value of the function as an entry on a grid that is finer than its own
 finer_value : (f : FunctionData) (n d m : ℕ) → 0 < d → 0 < m →
-    Is (function_of f n d) (table f (m * d) (n * (f.order * m))) (f.scale * (m * d))
+    Is (part_of f n d) (table f (m * d) (n * (f.order * m))) (f.scale * (m * d))
 finer_value f n d m d_some m_some =
     by_ring (value_of f n d ∷ pos f.scale ∷ pos m ∷ pos d ∷ []) (search ring depth 30) refl
     ∙ ap (λ z. z *ℤ pos (f.scale * d))
@@ -178,7 +179,7 @@ twice z c = by_ring (z ∷ pos c ∷ []) (search ring depth 20) refl
 -- different halves on one grid give different halves on all fractions
 halves_deny_function : (f : FunctionData) (m c : ℕ) (a b : ℕ → ℤ) → IsWithinBounds f → IsContinuous f → 0 < m →
     AreDifferentHalves (table f m) (f.order * m) (f.place * m) (f.scale * m) c a b →
-    IsExtremeAmongFunctions (function_of f) f.place f.order → ⊥
+    IsExtremePart (part_of f) f.place f.order → ⊥
 halves_deny_function f m c a b l continuous m_some h extreme =
     let order : 0 < f.order = let low = l.order_low in omega arith in
     let scale : 0 < f.scale = let low = l.scale_low in omega arith in
@@ -194,12 +195,12 @@ halves_deny_function f m c a b l continuous m_some h extreme =
     (λ i d some.
     let finer = function_finer_halves f m d c a b l continuous m_some some h in
     let z = table f (m * d) (i * n) in
-    let f_is = is_over (function_of f i d) z (f.scale * (m * d)) c (s * d) (finer_value f i d m some m_some) (omega arith) in
-    same_over (sum_of (first i d) (second i d)) (sum_of (function_of f i d) (function_of f i d))
+    let f_is = is_over (part_of f i d) z (f.scale * (m * d)) c (s * d) (finer_value f i d m some m_some) (omega arith) in
+    same_over (sum_of (first i d) (second i d)) (sum_of (part_of f i d) (part_of f i d))
     (pos c *ℤ z +ℤ pos c *ℤ z) (s * d) (mul-pos s_some some)
     (subst (λ (w : ℤ). Is (sum_of (first i d) (second i d)) w (s * d)) (finer.average (i * n) ∙ sym (twice z c))
     (sum_is (first i d) (second i d) (filling a d (i * n)) (filling b d (i * n)) (s * d) refl refl))
-    (sum_is (function_of f i d) (function_of f i d) (pos c *ℤ z) (pos c *ℤ z) (s * d) f_is f_is))
+    (sum_is (part_of f i d) (part_of f i d) (pos c *ℤ z) (pos c *ℤ z) (s * d) f_is f_is))
     h.index n n_some in
     let bottom : 0 < s * n = mul-pos s_some n_some in
     let entries : filling a n (h.index * n) ≡ filling b n (h.index * n) =
@@ -208,10 +209,10 @@ halves_deny_function f m c a b l continuous m_some h extreme =
     (mul_cancel_left_z (a h.index) (b h.index) (pos n)
     (sym (filling_at_multiple a n h.index n_some) ∙ entries ∙ filling_at_multiple b n h.index n_some) (omega (arith, n_some)))
 
-pub only_extreme : (f : FunctionData) → IsWithinBounds f → IsContinuous f → IsExtremeAmongFunctions (function_of f) f.place f.order →
+pub only_extreme : (f : FunctionData) → IsWithinBounds f → IsContinuous f → IsExtremePart (part_of f) f.place f.order →
     IsExtreme f
 only_extreme f l continuous h m some = record {
-  minimal = only_minimal f l (extreme_is_minimal (function_of f) f.place f.order (let low = l.order_low in omega arith) h) m some;
+  minimal = only_minimal f l (extreme_is_minimal (part_of f) f.place f.order (let low = l.order_low in omega arith) h) m some;
   no_average = λ c a b c_some first second average i.
       ⊎_elim (λ e. e)
       (λ differs. absurd (halves_deny_function f m c a b l continuous some (record {

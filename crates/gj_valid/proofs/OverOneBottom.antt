@@ -9,7 +9,8 @@ use Rattle.gj_tools.proofs.Ratios.{ratio_along, ratio_sum, ratio_less}
 use Rattle.gj_tools.proofs.Ring.{by_ring, ring}
 use Rattle.gj_frac.specs.Fraction.{Fraction, SameValue, LessValue, sum_of}
 use Rattle.gj_shape.specs.Valid.{weight}
-use Rattle.gj_valid.specs.ValidFunctions.{AtMost, nothing, one, sum_of_values}
+use Rattle.gj_valid.specs.ValidFunctions.{AtMost}
+use Rattle.gj_valid.proofs.PartFunctions.{nothing, one, sum_of_values}
 
 -- x is n/c
 abbrev pub Is : Fraction → ℤ → ℕ → Type 0

@@ -1,5 +1,5 @@
 -- The coefficients of cuts are from 0 to 1 and have small parts.
-use Rattle.std.proofs.Common.{◌≡◌, ℕ, ◌+◌, ◌*◌, ◌<◌, ◌≤◌, ◌^◌, ◌⊎◌, inl, inr, ⊎_elim, [], ◌∷◌, ℤ, pos, ◌+ℤ◌, ◌-ℤ◌, ◌*ℤ◌, ◌<ℤ◌, ◌≤ℤ◌, unsigned_abs, refl, sym, ap, subst, subst₂, ◌∙◌, arith}
+use Rattle.std.proofs.Common.{◌≡◌, ℕ, ◌*◌, ◌<◌, ◌≤◌, ◌^◌, ◌⊎◌, inl, inr, ⊎_elim, [], ◌∷◌, ℤ, pos, ◌+ℤ◌, ◌-ℤ◌, ◌*ℤ◌, ◌<ℤ◌, ◌≤ℤ◌, unsigned_abs, refl, sym, ap, subst, subst₂, ◌∙◌, arith}
 use Rattle.std.specs.Int.{int_div_euclid}
 use Rattle.std.proofs.Math.Nat.{mul-pos}
 use Rattle.std.proofs.lemmas.Bool.{cases_lt}
@@ -13,11 +13,12 @@ use Rattle.gj_frac.specs.Floor.{IsFloor}
 use Rattle.gj_frac.specs.Fraction.{IsRatio, IsInside, numerator, denominator}
 use Rattle.gj_frac.proofs.Floors.{quotient_is_floor}
 use Rattle.gj_shape.specs.FunctionData.{FunctionData, IsWithinBounds}
-use Rattle.gj_shape.specs.Table.{table, IsMinimal, IsMinimalTable}
+use Rattle.gj_shape.specs.Table.{table, IsMinimal}
 use Rattle.gj_shape.proofs.Averages.{scales_below}
 use Rattle.gj_shape.proofs.LeastDenominator.{denominator_some}
-use Rattle.gj_shape.proofs.ValueLemmas.{natural_index, congruent_rests}
+use Rattle.gj_shape.proofs.ValueLemmas.{natural_index}
 use Rattle.gj_theory.specs.Cuts.{IsValueOf, IsGmicValue}
+use Rattle.gj_theory.proofs.SlacksAndSizes.{at_most_scale}
 use Rattle.gj_valid.specs.Coefficients.{IsSmallCoefficient}
 
 -- ---- fractions over a small bottom
@@ -52,14 +53,6 @@ small_over x a b low high some small is =
 
 -- ---- values of minimal functions
 
--- an entry of a minimal table is at most its scale: the entry at the opposite place is not negative
-entry_at_most : (t : ℕ → ℤ) (n k s i : ℕ) → 0 < n → IsMinimalTable t n k s → t i ≤ℤ pos s
-entry_at_most t n k s i some h =
-    let (j, (m, e)) = natural_index (pos k -ℤ pos i) n some in
-    let sum = h.symmetric i j (congruent_rests (i + j) k n (m, omega (arith, ints))) in
-    let low = h.nonnegative j in
-    omega (arith, ints)
-
 pub value_small : (f : FunctionData) (x y : Frac) → IsWithinBounds f → IsMinimal f → unsigned_abs (denominator x) < 2 ^ 31 →
     IsValueOf f x y → IsSmallCoefficient y
 value_small f x y l h fine value =
@@ -72,7 +65,7 @@ value_small f x y l h fine value =
     let (i, place) = natural_index (numerator x *ℤ pos f.order) (f.order * d) grid in
     let minimal = h d some in
     small_over y (table f d i) (pos (f.scale * d)) (minimal.nonnegative i)
-    (entry_at_most (table f d) (f.order * d) (f.place * d) (f.scale * d) i grid minimal) (omega (arith, ints))
+    (at_most_scale (table f d) (f.order * d) (f.place * d) (f.scale * d) i grid minimal) (omega (arith, ints))
     (scales_below f.scale d l.scale_high fine) (value i place)
 
 -- ---- values of mixed-integer cuts

@@ -1,6 +1,6 @@
 use Rattle.std.proofs.Common.{All, List, refl, sym, subst}
 use Rattle.std.specs.List.{AllZip}
-use Rattle.gj_rule.specs.Kind.{IsInRange}
+use Rattle.gj_shape.specs.Limits.{IsRowNumber}
 use Rattle.gj_row.specs.declared.tableau.Entry.{Entry}
 use Rattle.gj_cut.specs.RowCuts.{IsTermOf, HoldsFor}
 use Rattle.gj_cut.specs.declared.cut.Term.{Term}
@@ -10,7 +10,7 @@ use Rattle.gj_cut.proofs.rows.cut_row.Goals as goal
 
 pub terms-requires : goal.terms-requires
 terms-requires g c =
-    subst (λ (entries : List Entry). All (λ e. IsInRange e.value) entries) (sym c.as_slice.ensures)
+    subst (λ (entries : List Entry). All (λ e. IsRowNumber e.value) entries) (sym c.as_slice.ensures)
     (entries_in_range c.args.row.now c.requires)
 
 pub returns-clause-holds : goal.returns-clause-holds

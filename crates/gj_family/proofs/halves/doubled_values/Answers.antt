@@ -1,6 +1,6 @@
 use Rattle.std.proofs.Common.{◌≡◌, ◌∙◌, sym, w64, to_z}
 use Rattle.gj_family.specs.Numerators.{doubled_value}
-use Rattle.gj_family.proofs.Entries.{entries_pushed}
+use Rattle.gj_shape.proofs.ListEntries.{entries_pushed}
 use Rattle.gj_family.proofs.Shapes.{doubled_at_zero, doubled_at_place, doubled_elsewhere}
 use Rattle.gj_family.proofs.halves.doubled_values.Goals as goal
 use Rattle.gj_family.proofs.halves.doubled_values.Goals.{then-i-eq0, else-i-eq0+then-i-place, else-i-eq0+else-i-place}

@@ -1,4 +1,5 @@
-use Rattle.gj_family.specs.Numerators.{HasEntries, doubled_value}
+use Rattle.gj_shape.specs.Entries.{HasEntries}
+use Rattle.gj_family.specs.Numerators.{doubled_value}
 use Rattle.gj_family.proofs.halves.doubled_values.Given as goal
 
 abbrev pub invariant-loop-i : goal.invariant-loop-i

@@ -1,7 +1,8 @@
 use Rattle.std.proofs.Common.{pos, sym, subst, subst₂, arith}
 use Rattle.gj_family.specs.Families.{IsHalf}
-use Rattle.gj_family.specs.Numerators.{HasEntries, doubled_value}
-use Rattle.gj_family.proofs.Entries.{entries_small}
+use Rattle.gj_shape.specs.Entries.{HasEntries}
+use Rattle.gj_family.specs.Numerators.{doubled_value}
+use Rattle.gj_shape.proofs.ListEntries.{entries_small}
 use Rattle.gj_family.proofs.Shapes.{doubled_small, half_over}
 use Rattle.gj_family.proofs.halves.half.Goals as goal
 

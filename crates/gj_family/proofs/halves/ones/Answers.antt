@@ -1,5 +1,5 @@
 use Rattle.std.proofs.Common.{refl}
-use Rattle.gj_family.proofs.Entries.{entries_pushed}
+use Rattle.gj_shape.proofs.ListEntries.{entries_pushed}
 use Rattle.gj_family.proofs.halves.ones.Goals as goal
 
 pub loop-preserved : goal.loop-preserved

@@ -1,5 +1,5 @@
 use Rattle.std.proofs.Common.{pos}
-use Rattle.gj_family.specs.Numerators.{HasEntries}
+use Rattle.gj_shape.specs.Entries.{HasEntries}
 use Rattle.gj_family.proofs.halves.ones.Given as goal
 
 abbrev pub invariant-loop : goal.invariant-loop

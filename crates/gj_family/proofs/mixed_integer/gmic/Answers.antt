@@ -1,8 +1,8 @@
 use Rattle.std.proofs.Common.{pos, sym, subst, subst₂, arith}
 use Rattle.gj_shape.specs.Gmic.{gmic_table, gmic_scale}
 use Rattle.gj_family.specs.Families.{IsGmic}
-use Rattle.gj_family.specs.Numerators.{HasEntries}
-use Rattle.gj_family.proofs.Entries.{entries_small}
+use Rattle.gj_shape.specs.Entries.{HasEntries}
+use Rattle.gj_shape.proofs.ListEntries.{entries_small}
 use Rattle.gj_family.proofs.Shapes.{gmic_small, gmic_over}
 use Rattle.gj_family.proofs.mixed_integer.gmic.Goals as goal
 

@@ -1,7 +1,7 @@
 use Rattle.std.proofs.Common.{◌≡◌, ◌≤◌, ◌∙◌, sym, ap, rules, arith, pos, w64}
 use Rattle.std.proofs.lemmas.Int.{to_z-of_z}
 use Rattle.gj_shape.specs.Gmic.{gmic_table}
-use Rattle.gj_family.proofs.Entries.{entries_pushed}
+use Rattle.gj_shape.proofs.ListEntries.{entries_pushed}
 use Rattle.gj_family.proofs.Tables.{table_rising, table_falling}
 use Rattle.gj_family.proofs.mixed_integer.gmic_entries.Goals as goal
 use Rattle.gj_family.proofs.mixed_integer.gmic_entries.Goals.{then-i-place, else-i-place}

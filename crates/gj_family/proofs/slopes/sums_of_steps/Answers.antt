@@ -1,7 +1,7 @@
 use Rattle.std.proofs.Common.{◌≡◌, ℕ, ◌+◌, ◌≤◌, ℤ, ◌+ℤ◌, ◌-ℤ◌, neg_ℤ, rules, pos, w64, to_z, of_z, sym, ap, ap₂, subst, ◌∙◌, arith, FitsSigned}
 use Rattle.std.proofs.lemmas.Int.{ints, to_z-of_z, fits_signed_from_abs}
 use Rattle.gj_family.specs.Signs.{sum_of_steps}
-use Rattle.gj_family.proofs.Entries.{entries_pushed}
+use Rattle.gj_shape.proofs.ListEntries.{entries_pushed}
 use Rattle.gj_family.proofs.Heights.{sum_rise, sum_fall, sum_small}
 use Rattle.gj_family.proofs.slopes.sums_of_steps.Goals as goal
 use Rattle.gj_family.proofs.slopes.sums_of_steps.Goals.{then-sign, else-sign}

@@ -1,5 +1,5 @@
 use Rattle.std.proofs.Common.{◌≡◌}
-use Rattle.gj_family.specs.Numerators.{HasEntries}
+use Rattle.gj_shape.specs.Entries.{HasEntries}
 use Rattle.gj_family.specs.Signs.{sum_of_steps}
 use Rattle.gj_family.proofs.slopes.sums_of_steps.Given as goal
 

@@ -1,7 +1,7 @@
 use Rattle.std.proofs.Common.{◌≡◌, ◌<◌, ◌≤◌, pos, unsigned_abs, length, w64, to_z, of_z, ap₂, ◌∙◌, arith}
 use Rattle.std.proofs.lemmas.Int.{ints}
 use Rattle.gj_family.specs.Signs.{rises, falls, sum_of_steps, height as height_of}
-use Rattle.gj_family.proofs.Entries.{entries_small}
+use Rattle.gj_shape.proofs.ListEntries.{entries_small}
 use Rattle.gj_family.proofs.Heights.{sum_small, counts_small}
 use Rattle.gj_family.proofs.Shapes.{heights_are, two_slope_over}
 use Rattle.gj_family.proofs.slopes.two_slope.Goals as goal

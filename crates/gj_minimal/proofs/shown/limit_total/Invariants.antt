@@ -1,6 +1,6 @@
 use Rattle.std.proofs.Common.{◌≡◌, ◌*◌, ◌≤◌, ◌^◌, take, unsigned_abs}
 use Rattle.gj_complex.specs.Squares.{limits_in}
-use Rattle.gj_theory.specs.NearCorners.{total}
+use Rattle.gj_shape.specs.SlopeRows.{total}
 use Rattle.gj_minimal.proofs.shown.limit_total.Given as goal
 
 abbrev pub invariant-loop-corner : goal.invariant-loop-corner

@@ -1,6 +1,6 @@
 use Rattle.std.proofs.Common.{◌≡◌, ℕ, pos, ◌<ℤ◌, get_or, ap, sym, subst, ◌∙◌, w64, to_z, of_z, arith}
 use Rattle.std.proofs.lemmas.Int.{ints}
-use Rattle.gj_theory.specs.NearCorners.{total}
+use Rattle.gj_shape.specs.SlopeRows.{total}
 use Rattle.gj_minimal.proofs.FailedFaces.{same_corners}
 use Rattle.gj_minimal.proofs.NearPoints.{two_points}
 use Rattle.gj_minimal.proofs.Theory.{some_corners}

@@ -15,8 +15,8 @@ returns-in_default-small_denominator-clause-refused c = (
   λ m low high a b. let less = le_of_dvd low b in c.in_default-small_denominator.ensures (omega arith),
 )
 
-pub returns-then-multiple-clause-refused : goal.returns-then-multiple-clause-refused
-returns-then-multiple-clause-refused c = (
+pub returns-then-multiple-from-clause-refused : goal.returns-then-multiple-from-clause-refused
+returns-then-multiple-from-clause-refused c = (
   c.in-Some.x,
   c.in-Some.is,
   c.if-not-is_small.ensures.0 refl,
@@ -24,7 +24,7 @@ returns-then-multiple-clause-refused c = (
       let lcm = c.lcm-multiple.ensures in
       let den : c.in-Some-small_denominator.den ∣ m = subst (λ n. n ∣ m) (sym c.in-Some-small_denominator.ensures.1) b in
       let less = le_of_dvd low (lcm.2 m a den) in
-      omega (arith, c.if-multiple.true),
+      omega (arith, c.if-multiple-from.true),
 )
 
 pub returns-clause-least : goal.returns-clause-least
@@ -32,5 +32,5 @@ returns-clause-least c = record {
   small = c.if-not-is_small.ensures.0 refl;
   least = subst (λ n. IsLcm c.args.scale n c.lcm-multiple.result) c.in-Some-small_denominator.ensures.1
       c.lcm-multiple.ensures;
-  high = omega (arith, c.if-multiple.false);
+  high = omega (arith, c.if-multiple-from.false);
 }

@@ -1,7 +1,7 @@
 use Rattle.std.proofs.Common.{◌≡◌, ◌+◌, ◌<◌, ◌∷◌, [], ℕ, List, length, sym, ap, subst, arith}
 use Rattle.csv.specs.Records.{fields_of}
 use Rattle.gj_row.specs.TableauLimits.{names_of, entry_count}
-use Rattle.gj_row.specs.FirstFault.{HasHeaderFault, HasRowFault, IsFirstFault}
+use Rattle.gj_row.specs.FirstFault.{HasHeaderFault, HasRowFault, IsFirstFaultOfTableau}
 use Rattle.gj_row.specs.Reading.{ReadsRow, bytes_of, words_in}
 use Rattle.gj_row.specs.declared.tableau.Tableau.{Tableau}
 use Rattle.gj_row.proofs.Reasons.{names_record}
@@ -18,7 +18,7 @@ returns-in-Err-clause-refused c =
     let step = rw c.in-Some.is at c.in_ok-first.ensures.some in
     let stands = step text [] c.records_of-records.ensures in
     rw c.in_record.ensures
-    (names_record (λ e. (rows : List (List (List ℕ))) → HasHeaderFault (words_in c.in-Some.first ∷ rows) e) (IsFirstFault text) c.in-Err.fault 1
+    (names_record (λ e. (rows : List (List (List ℕ))) → HasHeaderFault (words_in c.in-Some.first ∷ rows) e) (IsFirstFaultOfTableau text) c.in-Err.fault 1
     (λ e fault. header_fault text c.next_record.new.left (fields_of c.in-Some.first) e stands fault) c.in-Err.ensures.refused)
 
 pub loop-rows-init : goal.loop-rows-init
@@ -55,7 +55,7 @@ returns-in-Err-next_row-clause-refused c =
     (names_record
     (λ e. (t : Tableau) → length t.columns ≡ c.len.result → length t.rows ≡ c.len-in-Some-2.result → names_of t ≡ names →
     entry_count t ≡ c.loop-rows.used → HasRowFault t (words_in c.in-Some-2.fields) e)
-    (IsFirstFault text) c.in-Err-next_row.fault (c.len-in-Err-next_row.result + 2)
+    (IsFirstFaultOfTableau text) c.in-Err-next_row.fault (c.len-in-Err-next_row.result + 2)
     (λ e fault. row_fault text c.loop-rows.records c.next_record-in-loop-rows.new.left (fields_of c.in-Some-2.fields) names columns rows
     c.loop-rows.used (c.len-in-Err-next_row.result + 2) e so_far stands number
     (fault (tableau_of columns rows) wide many (sym so_far.named) (sym so_far.counted)))

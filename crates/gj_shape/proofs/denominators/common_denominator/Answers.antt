@@ -1,5 +1,5 @@
 use Rattle.std.proofs.Common.{sym, subst}
-use Rattle.gj_shape.specs.Denominators.{IsLeastDenominator}
+use Rattle.gj_shape.specs.Denominators.{AreWithinBoundsOver}
 use Rattle.gj_shape.proofs.InOrder.{before_all, before_next, StandAt}
 use Rattle.gj_shape.proofs.LeastDenominator.{least_of_none, fault_in}
 use Rattle.gj_shape.proofs.denominators.common_denominator.Goals as goal
@@ -11,7 +11,7 @@ pub returns-clause-least : goal.returns-clause-least
 returns-clause-least c =
     let all = before_all c.args.left.now c.args.value.now c.args.right.now c.loop-i.i c.requires.value_length
     c.requires.right_length c.loop-i-test.false in
-    subst (λ xs. IsLeastDenominator xs c.loop-i.scale) all c.loop-i.invariant
+    subst (λ xs. AreWithinBoundsOver xs c.loop-i.scale) all c.loop-i.invariant
 
 pub returns-in-Err-clause-fault : goal.returns-in-Err-clause-fault
 returns-in-Err-clause-fault c =
@@ -39,5 +39,5 @@ loop-i-preserved c =
       value_is = c.index-value-i.is;
       right_is = c.index-right-i.is;
     } in
-    subst (λ xs. IsLeastDenominator xs c.in-Ok.multiple) (sym (before_next _ _ _ c.loop-i.i _ _ _ at))
+    subst (λ xs. AreWithinBoundsOver xs c.in-Ok.multiple) (sym (before_next _ _ _ c.loop-i.i _ _ _ at))
     (c.in-Ok.ensures.least _ c.loop-i.invariant)

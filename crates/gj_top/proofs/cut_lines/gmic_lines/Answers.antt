@@ -1,5 +1,5 @@
 use Rattle.std.proofs.Common.{length, sym, subst}
-use Rattle.gj_row.specs.TableauLimits.{IsWithinLimits}
+use Rattle.gj_row.specs.TableauLimits.{IsRowWithinLimits}
 use Rattle.gj_cut.proofs.RowTerms.{zip_next}
 use Rattle.gj_proof.specs.declared.cut.CutRule.TheVariants.{Gmic}
 use Rattle.gj_top.specs.Cut.{IsLineFor}
@@ -13,5 +13,5 @@ loop-row-preserved c =
 
 pub gmic_line-requires : goal.gmic_line-requires
 gmic_line-requires c =
-    subst (IsWithinLimits (length c.args.columns.now)) (sym c.row-item.is)
+    subst (IsRowWithinLimits (length c.args.columns.now)) (sym c.row-item.is)
     (c.requires c.loop-row.row-index c.row-item.result c.loop-row-test.true)

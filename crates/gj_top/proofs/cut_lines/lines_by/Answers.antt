@@ -1,5 +1,5 @@
 use Rattle.std.proofs.Common.{length, sym, subst}
-use Rattle.gj_row.specs.TableauLimits.{IsWithinLimits}
+use Rattle.gj_row.specs.TableauLimits.{IsRowWithinLimits}
 use Rattle.gj_cut.proofs.RowTerms.{zip_next}
 use Rattle.gj_proof.specs.declared.cut.CutRule.TheVariants.{Table}
 use Rattle.gj_top.specs.Cut.{IsLineFor}
@@ -13,5 +13,5 @@ loop-row-preserved g c =
 
 pub line_by-requires : goal.line_by-requires
 line_by-requires g c =
-    subst (IsWithinLimits (length c.args.columns.now)) (sym c.row-item.is)
+    subst (IsRowWithinLimits (length c.args.columns.now)) (sym c.row-item.is)
     (c.requires.rows c.loop-row.row-index c.row-item.result c.loop-row-test.true)

@@ -11,7 +11,7 @@ numerators-requires-clause-small c =
 
 pub numerators-requires-clause-common : goal.numerators-requires-clause-common
 numerators-requires-clause-common c =
-    (all_from_in_order (Divides c.args.scale) c.args.left.now c.args.value.now c.args.right.now (omega arith) (omega arith) c.requires.least.common).0
+    (all_from_in_order (Divides c.args.scale) c.args.left.now c.args.value.now c.args.right.now (omega arith) (omega arith) c.requires.least.least.common).0
 
 pub numerators-requires-2-clause-small : goal.numerators-requires-2-clause-small
 numerators-requires-2-clause-small c =
@@ -19,7 +19,7 @@ numerators-requires-2-clause-small c =
 
 pub numerators-requires-2-clause-common : goal.numerators-requires-2-clause-common
 numerators-requires-2-clause-common c =
-    (all_from_in_order (Divides c.args.scale) c.args.left.now c.args.value.now c.args.right.now (omega arith) (omega arith) c.requires.least.common).1
+    (all_from_in_order (Divides c.args.scale) c.args.left.now c.args.value.now c.args.right.now (omega arith) (omega arith) c.requires.least.least.common).1
 
 pub numerators-requires-3-clause-small : goal.numerators-requires-3-clause-small
 numerators-requires-3-clause-small c =
@@ -27,7 +27,7 @@ numerators-requires-3-clause-small c =
 
 pub numerators-requires-3-clause-common : goal.numerators-requires-3-clause-common
 numerators-requires-3-clause-common c =
-    (all_from_in_order (Divides c.args.scale) c.args.left.now c.args.value.now c.args.right.now (omega arith) (omega arith) c.requires.least.common).2
+    (all_from_in_order (Divides c.args.scale) c.args.left.now c.args.value.now c.args.right.now (omega arith) (omega arith) c.requires.least.least.common).2
 
 pub invariant_of-result : goal.invariant_of-result
 invariant_of-result c =

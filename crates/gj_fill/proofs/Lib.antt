@@ -1,0 +1,3 @@
+pub mod FillIns
+pub mod FillLines
+pub mod FillPoints

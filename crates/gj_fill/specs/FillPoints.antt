@@ -1,0 +1,78 @@
+-- The points between which the fill-in of a continuous function is affine (Gomory and Johnson 1972).
+use Rattle.std.specs.Prelude.{ℕ, ℤ, pos, ◌≡◌, ◌⊎◌, ◌+◌, ◌*◌, ◌<◌, ◌≤◌, ◌≤ℤ◌, ◌+ℤ◌, ◌-ℤ◌, ◌*ℤ◌, neg_ℤ, int_lt, ◌&&◌, if◌then◌else◌, List, [], ◌∷◌, ◌++◌, flat_map}
+use Rattle.std.specs.List.{range_with_len, AllZip}
+use Rattle.gj_frac.specs.Fraction.{Fraction, SameValue, difference_of, product_of, fraction_of}
+use Rattle.gj_shape.specs.FunctionData.{FunctionData, at}
+use Rattle.gj_shape.specs.TwoSlopes.{rise}
+use Rattle.gj_shape.specs.declared.breaks.Break.{Break}
+use Rattle.gj_fill.specs.FillIn.{filled, AreGreatestSteps}
+
+-- a point of the graph
+pub record GraphPoint : Type 0 where
+  pub x : Fraction
+  pub y : Fraction
+
+-- the point of the function at a/order
+abbrev pub value_point : FunctionData → ℕ → GraphPoint
+value_point f a = record {
+  x = record { top = pos a; bottom = pos f.order };
+  y = record { top = at f.value a; bottom = pos f.scale };
+}
+
+-- the point behind a/order where the line that rises by s from the value there meets the line that falls by t to the next value
+abbrev pub crossing_point : FunctionData → ℤ → ℤ → ℕ → GraphPoint
+crossing_point f s t a = record {
+  x = record { top = pos a *ℤ (s +ℤ t) +ℤ (rise f a +ℤ t); bottom = pos f.order *ℤ (s +ℤ t) };
+  y = record { top = at f.value a *ℤ (s +ℤ t) +ℤ s *ℤ (rise f a +ℤ t); bottom = pos f.scale *ℤ (s +ℤ t) };
+}
+
+-- the points from a/order up to the next: where the function goes by neither slope, the lines cross between them
+abbrev pub points_from : FunctionData → ℤ → ℤ → ℕ → List GraphPoint
+points_from f s t a =
+    if int_lt (neg_ℤ t) (rise f a) && int_lt (rise f a) s
+    then value_point f a ∷ crossing_point f s t a ∷ []
+    else value_point f a ∷ []
+
+-- all points, from 0 up to, not including, 1
+abbrev pub fill_points : FunctionData → ℤ → ℤ → List GraphPoint
+fill_points f s t = flat_map (points_from f s t) (range_with_len 0 f.order)
+
+-- ---- where a fill-in is affine
+
+-- the point (x, y) lies on the line of this slope through p
+abbrev pub IsOnLine : Fraction → GraphPoint → Fraction → Fraction → Type 0
+IsOnLine slope p x y = SameValue (difference_of y p.y) (product_of slope (difference_of x p.x))
+
+-- x is at most y, where both bottoms are above 0
+abbrev pub IsAtMost : Fraction → Fraction → Type 0
+IsAtMost x y = (x.top *ℤ y.bottom) ≤ℤ (y.top *ℤ x.bottom)
+
+-- from p to q the fill-in goes along the line of this slope: on it lie q and, at each i/(order m) between the two, the filled value
+pub record GoesAlong (f : FunctionData) (s t : ℤ) (slope : Fraction) (p q : GraphPoint) : Type 0 where
+  pub end : IsOnLine slope p q.x q.y
+  pub between : (m i : ℕ) → 0 < m → IsAtMost p.x (record { top = pos i; bottom = pos (f.order * m) }) →
+      IsAtMost (record { top = pos i; bottom = pos (f.order * m) }) q.x →
+      IsOnLine slope p (record { top = pos i; bottom = pos (f.order * m) })
+      (record { top = filled (at f.value) s t m i; bottom = pos (f.scale * m) })
+
+-- it goes along a line of the slope order s or of the slope -(order t), each over scale
+abbrev pub HasFillSlope : FunctionData → ℤ → ℤ → GraphPoint → GraphPoint → Type 0
+HasFillSlope f s t p q =
+    GoesAlong f s t (record { top = pos f.order *ℤ s; bottom = pos f.scale }) p q
+    ⊎ GoesAlong f s t (record { top = neg_ℤ (pos f.order *ℤ t); bottom = pos f.scale }) p q
+
+-- ---- the points as breakpoints
+
+-- the breakpoint is this point, and the function is continuous there
+pub record IsBreakAt (p : GraphPoint) (b : Break) : Type 0 where
+  pub x : SameValue (fraction_of b.x) p.x
+  pub value : SameValue (fraction_of b.value) p.y
+  pub left : b.left ≡ b.value
+  pub right : b.right ≡ b.value
+
+-- the breakpoints are the points of the fill-in of the function
+pub record AreFillBreaks (f : FunctionData) (breaks : List Break) : Type 0 where
+  pub rise : ℤ
+  pub fall : ℤ
+  pub greatest : AreGreatestSteps (at f.value) rise fall
+  pub points : AllZip IsBreakAt (fill_points f rise fall) breaks

@@ -1,0 +1,3 @@
+pub mod FillIn
+pub mod FillPoints
+pub mod FirstPair

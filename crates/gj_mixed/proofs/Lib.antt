@@ -1,0 +1,4 @@
+pub mod Columns
+pub mod HeldCuts
+pub mod WholeColumns
+pub mod Amounts

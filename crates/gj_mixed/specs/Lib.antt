@@ -1,0 +1,2 @@
+pub mod MixedRows
+pub mod Slopes

@@ -1,0 +1,4 @@
+//! Cuts of rows with continuous columns.
+#![tactic(auto)]
+
+pub mod theorems;

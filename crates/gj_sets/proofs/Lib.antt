@@ -1,0 +1,5 @@
+pub mod Bits
+pub mod Shifts
+pub mod Counts
+pub mod Firsts
+pub mod Lanes

@@ -1,0 +1,214 @@
+-- Bits of words that are shifted.
+use Rattle.std.proofs.Common.{◌≡◌, inl, inr, ℕ, zero, suc, ◌+◌, ◌-◌, ◌*◌, ◌/◌, ◌%◌, ◌^◌, ◌<◌, ◌≤◌, List, ◌++◌, Bool, true, false, ◌&&◌, ◌||◌, nat_le, nat_lt, length, get_or, replicate, bit_or, Fits, w64, refl, sym, ap, ap₂, ◌∙◌, arith}
+use Rattle.std.specs.Prelude.{◌==◌, if◌then◌else◌}
+use Rattle.std.proofs.lemmas.Bool.{cases_lt, and_left, and_right, lt-ltb, le-ltb, lt-leb, le-leb}
+use Rattle.std.proofs.lemmas.Nat.{shr-shr, shr_split, pow_pos}
+use Rattle.std.proofs.lemmas.Nat.Bits.{bit_at-zero, bit_at_cat_low, bit_at_cat_high, bit_at_above}
+use Rattle.std.specs.Simd.Lanes.{zip2, chunk, put_chunk}
+use Rattle.std.proofs.lemmas.Simd.{length-zip2, length-replicate, length-chunk, get_or-zip2, get_or-replicate, get_or-chunk, put_chunk_whole}
+use Rattle.std.proofs.lemmas.List.{get_or_past, get_or_append_left, get_or-append_right}
+use Rattle.gj_sets.specs.IndexSets.{bit_of}
+use Rattle.gj_sets.proofs.Bits.{bit, bit-or, and_all, get_or-zip2_zero}
+
+-- a word moved down
+pub bit-shr : (x s j : ℕ) → bit (x / 2 ^ s) j ≡ bit x (j + s)
+bit-shr x s j =
+    let e : s + j ≡ j + s = omega arith in
+    ap (λ n. n % 2 == 1) (shr-shr x s j) ∙ ap (λ k. bit x k) e
+
+-- the rest has the lowest bits
+pub bit-mod : (n w j : ℕ) → j < w → bit (n % 2 ^ w) j ≡ bit n j
+bit-mod n w j below =
+    sym (ap (λ k. k == 1) (bit_at_cat_low (n / 2 ^ w) w (n % 2 ^ w) j below)) ∙ ap (λ k. bit k j) (shr_split n w)
+
+-- a word moved up
+pub bit-shl : (x s w j : ℕ) → j < w → s ≤ j → bit (x * 2 ^ s % 2 ^ w) j ≡ bit x (j - s)
+bit-shl x s w j below behind =
+    let e : x * 2 ^ s ≡ x * 2 ^ s + 0 = omega arith in
+    bit-mod (x * 2 ^ s) w j below ∙ ap (λ n. bit n j) e ∙ ap (λ k. k == 1) (bit_at_cat_high x s 0 j (pow_pos s) behind)
+
+pub bit-shl_low : (x s w j : ℕ) → j < w → j < s → bit (x * 2 ^ s % 2 ^ w) j ≡ false
+bit-shl_low x s w j below before =
+    let e : x * 2 ^ s ≡ x * 2 ^ s + 0 = omega arith in
+    bit-mod (x * 2 ^ s) w j below ∙ ap (λ n. bit n j) e
+    ∙ ap (λ k. k == 1) (bit_at_cat_low x s 0 j before ∙ bit_at-zero j)
+
+-- ---- 64 bits of two words, from bit s of the first on
+
+-- the second word moved up by 64 - s, in two steps
+moved_in : (y s j : ℕ) → s < 64 → j < 64 → 64 ≤ j + s → bit (y * 2 ^ (63 - s) % 2 ^ 64 * 2 ^ 1 % 2 ^ 64) j ≡ bit y (j + s - 64)
+moved_in y s j offset below behind =
+    let e : j - 1 - (63 - s) ≡ j + s - 64 = omega arith in
+    bit-shl (y * 2 ^ (63 - s) % 2 ^ 64) 1 64 j below (omega arith)
+    ∙ bit-shl y (63 - s) 64 (j - 1) (omega arith) (omega arith) ∙ ap (λ k. bit y k) e
+
+not_moved_in : (y s j : ℕ) → s < 64 → j < 64 → j + s < 64 → bit (y * 2 ^ (63 - s) % 2 ^ 64 * 2 ^ 1 % 2 ^ 64) j ≡ false
+not_moved_in y s j offset below before =
+    elim (cases_lt j 1) [
+      | inl first ↦ bit-shl_low (y * 2 ^ (63 - s) % 2 ^ 64) 1 64 j below first
+      | inr later ↦ bit-shl (y * 2 ^ (63 - s) % 2 ^ 64) 1 64 j below later
+          ∙ bit-shl_low y (63 - s) 64 (j - 1) (omega arith) (omega arith)
+    ]
+
+or_false : (x y : Bool) → y ≡ false → (x || y) ≡ x
+or_false true y e = refl
+or_false false y e = e
+
+false_or : (x y : Bool) → x ≡ false → (x || y) ≡ y
+false_or true y e = absurd (cc)
+false_or false y e = refl
+
+pub window_low : (x y s j : ℕ) → s < 64 → j < 64 → j + s < 64 →
+    bit (bit_or (x / 2 ^ s) (y * 2 ^ (63 - s) % 2 ^ 64 * 2 ^ 1 % 2 ^ 64)) j ≡ bit x (j + s)
+window_low x y s j offset below before =
+    bit-or (x / 2 ^ s) (y * 2 ^ (63 - s) % 2 ^ 64 * 2 ^ 1 % 2 ^ 64) j
+    ∙ or_false (bit (x / 2 ^ s) j) (bit (y * 2 ^ (63 - s) % 2 ^ 64 * 2 ^ 1 % 2 ^ 64) j) (not_moved_in y s j offset below before)
+    ∙ bit-shr x s j
+
+pub window_high : (x y s j : ℕ) → x < 2 ^ 64 → s < 64 → j < 64 → 64 ≤ j + s →
+    bit (bit_or (x / 2 ^ s) (y * 2 ^ (63 - s) % 2 ^ 64 * 2 ^ 1 % 2 ^ 64)) j ≡ bit y (j + s - 64)
+window_high x y s j fits offset below behind =
+    bit-or (x / 2 ^ s) (y * 2 ^ (63 - s) % 2 ^ 64 * 2 ^ 1 % 2 ^ 64) j
+    ∙ false_or (bit (x / 2 ^ s) j) (bit (y * 2 ^ (63 - s) % 2 ^ 64 * 2 ^ 1 % 2 ^ 64) j)
+    (bit-shr x s j ∙ ap (λ k. k == 1) (bit_at_above x 64 (j + s) fits behind))
+    ∙ moved_in y s j offset below behind
+
+-- ---- 1,024 bits of a list of words, from bit s on
+
+abbrev pub shr : ℕ → ℕ → ℕ
+shr x s = x / 2 ^ s
+
+abbrev pub shl : ℕ → ℕ → ℕ
+shl x s = x * 2 ^ s % 2 ^ 64
+
+moved_word : (f : ℕ → ℕ → ℕ) (xs : List ℕ) (k s : ℕ) → length xs ≡ 16 → k < 16 →
+    get_or (zip2 f xs (replicate 16 s)) k 0 ≡ f (get_or xs k 0) s
+moved_word f xs k s e below =
+    let long = length-replicate 16 s in
+    get_or-zip2 f xs (replicate 16 s) k 0 0 0 (omega arith) (omega arith)
+    ∙ ap (λ n. f (get_or xs k 0) n) (get_or-replicate 16 k s 0 below)
+
+moved_length : (f : ℕ → ℕ → ℕ) (xs : List ℕ) (s : ℕ) → length xs ≡ 16 → length (zip2 f xs (replicate 16 s)) ≡ 16
+moved_length f xs s e = length-zip2 f xs (replicate 16 s) (e ∙ sym (length-replicate 16 s)) ∙ e
+
+window_word : (wide : List ℕ) (place s k : ℕ) → length wide ≡ 33 → place ≤ 16 → k < 16 →
+    get_or (zip2 bit_or (zip2 shr (chunk place 16 wide) (replicate 16 s))
+    (zip2 shl (zip2 shl (chunk (place + 1) 16 wide) (replicate 16 (63 - s))) (replicate 16 1))) k 0
+    ≡ bit_or (get_or wide (place + k) 0 / 2 ^ s) (get_or wide (place + 1 + k) 0 * 2 ^ (63 - s) % 2 ^ 64 * 2 ^ 1 % 2 ^ 64)
+window_word wide place s k long within below =
+    let low = chunk place 16 wide in
+    let high = chunk (place + 1) 16 wide in
+    let low_length : length (chunk place 16 wide) ≡ 16 = length-chunk place 16 wide (omega arith) in
+    let high_length : length (chunk (place + 1) 16 wide) ≡ 16 = length-chunk (place + 1) 16 wide (omega arith) in
+    let one = zip2 shl high (replicate 16 (63 - s)) in
+    let one_length = moved_length shl high (63 - s) high_length in
+    let lengths = moved_length shr low s low_length ∙ sym (moved_length shl one 1 one_length) in
+    get_or-zip2_zero bit_or refl (zip2 shr low (replicate 16 s)) (zip2 shl one (replicate 16 1)) lengths k
+    ∙ ap₂ bit_or (moved_word shr low k s low_length below ∙ ap (λ n. shr n s) (get_or-chunk place 16 wide k 0 below))
+    (moved_word shl one k 1 one_length below
+    ∙ ap (λ n. shl n 1) (moved_word shl high k (63 - s) high_length below
+    ∙ ap (λ n. shl n (63 - s)) (get_or-chunk (place + 1) 16 wide k 0 below)))
+
+pub bit_of-window : (wide : List ℕ) (s i : ℕ) → length wide ≡ 33 → ((k : ℕ) → Fits w64 (get_or wide k 0)) → s ≤ 1024 → i < 1024 →
+    bit_of (zip2 bit_or (zip2 shr (chunk (s / 64) 16 wide) (replicate 16 (s % 64)))
+    (zip2 shl (zip2 shl (chunk (s / 64 + 1) 16 wide) (replicate 16 (63 - s % 64))) (replicate 16 1))) i ≡ bit_of wide (i + s)
+bit_of-window wide s i long fits within below =
+    let place = s / 64 in
+    let k = i / 64 in
+    let j = i % 64 in
+    let x = get_or wide (s / 64 + i / 64) 0 in
+    let y = get_or wide (s / 64 + 1 + i / 64) 0 in
+    ap (λ w. bit w j) (window_word wide (s / 64) (s % 64) (i / 64) long (omega arith) (omega arith))
+    ∙ elim (cases_lt (i % 64 + s % 64) 64) [
+      | inl before ↦
+          let quotient : s / 64 + i / 64 ≡ (i + s) / 64 = omega arith in
+          let rest : i % 64 + s % 64 ≡ (i + s) % 64 = omega arith in
+          window_low x y (s % 64) j (omega arith) (omega arith) before
+          ∙ ap₂ (λ m n. bit (get_or wide m 0) n) quotient rest
+      | inr behind ↦
+          let quotient : s / 64 + 1 + i / 64 ≡ (i + s) / 64 = omega arith in
+          let rest : i % 64 + s % 64 - 64 ≡ (i + s) % 64 = omega arith in
+          window_high x y (s % 64) j (fits (s / 64 + i / 64)).fits (omega arith) (omega arith) behind
+          ∙ ap₂ (λ m n. bit (get_or wide m 0) n) quotient rest
+    ]
+
+-- ---- words with words of zeros behind them, and before them
+
+zero_word : (n i : ℕ) → get_or {A = ℕ} (replicate n 0) i 0 ≡ 0
+zero_word zero i = refl
+zero_word (suc n) zero = refl
+zero_word (suc n) (suc i) = zero_word n i
+
+bit_of-filled : (words zeros : List ℕ) (n i : ℕ) → length zeros ≡ length words →
+    bit_of (put_chunk 0 zeros words ++ replicate n 0) i ≡ bit_of words i
+bit_of-filled words zeros n i e =
+    let whole = put_chunk_whole zeros words e in
+    ap (λ ws. bit_of (ws ++ replicate n 0) i) whole
+    ∙ elim (cases_lt (i / 64) (length words)) [
+      | inl below ↦ ap (λ w. bit w (i % 64)) (get_or_append_left words (replicate n 0) 0 (i / 64) below)
+      | inr past ↦ ap (λ w. bit w (i % 64)) (get_or-append_right words (replicate n 0) (length words) (i / 64) 0 refl past
+          ∙ zero_word n (i / 64 - length words) ∙ sym (get_or_past words (i / 64) 0 past))
+    ]
+
+pub bit_of-low : (words : List ℕ) (i : ℕ) → length words ≡ 16 →
+    bit_of (put_chunk 0 (replicate 16 0) words ++ replicate 17 0) i ≡ bit_of words i
+bit_of-low words i e = bit_of-filled words (replicate 16 0) 17 i (length-replicate {A = ℕ} 16 0 ∙ sym e)
+
+bit_of-behind : (zeros words : List ℕ) (i : ℕ) → length zeros ≡ 16 → 1024 ≤ i → bit_of (zeros ++ words) i ≡ bit_of words (i - 1024)
+bit_of-behind zeros words i e behind =
+    let quotient : i / 64 - 16 ≡ (i - 1024) / 64 = omega arith in
+    let rest : i % 64 ≡ (i - 1024) % 64 = omega arith in
+    ap (λ w. bit w (i % 64)) (get_or-append_right zeros words 16 (i / 64) 0 e (omega arith))
+    ∙ ap₂ (λ m n. bit (get_or words m 0) n) quotient rest
+
+bit_of-before : (words : List ℕ) (i : ℕ) → i < 1024 → bit_of (replicate 16 0 ++ words) i ≡ false
+bit_of-before words i before =
+    let long : length {A = ℕ} (replicate 16 0) ≡ 16 = length-replicate {A = ℕ} 16 0 in
+    ap (λ w. bit w (i % 64)) (get_or_append_left (replicate 16 0) words 0 (i / 64) (omega arith) ∙ zero_word 16 (i / 64))
+    ∙ ap (λ k. k == 1) (bit_at-zero (i % 64))
+
+pub bit_of-high : (words : List ℕ) (i s : ℕ) → length words ≡ 16 → s ≤ 1024 →
+    bit_of (replicate 16 0 ++ (put_chunk 0 (replicate 16 0) words ++ replicate 1 0)) (i + (1024 - s))
+    ≡ (nat_le s i && bit_of words (i - s))
+bit_of-high words i s e within =
+    let filled = put_chunk 0 (replicate 16 0) words ++ replicate 1 0 in
+    elim (cases_lt i s) [
+      | inl before ↦ bit_of-before filled (i + (1024 - s)) (omega arith)
+          ∙ sym (and_left (nat_le s i) (bit_of words (i - s)) (lt-leb s i before))
+      | inr behind ↦
+          let place : i + (1024 - s) - 1024 ≡ i - s = omega arith in
+          bit_of-behind (replicate 16 0) filled (i + (1024 - s)) (length-replicate {A = ℕ} 16 0) (omega arith)
+          ∙ bit_of-filled words (replicate 16 0) 1 (i + (1024 - s) - 1024) (length-replicate {A = ℕ} 16 0 ∙ sym e)
+          ∙ ap (bit_of words) place ∙ sym (ap (λ b. b && bit_of words (i - s)) (le-leb s i behind))
+    ]
+
+-- ---- turned within a period
+
+-- u: moved up, d: moved down and below s, o: both, r: below n
+pub turned_bits : (p : ℕ → Bool) (i s n : ℕ) (u d o r : Bool) → n ≤ 1024 → (i < 1024 → u ≡ (nat_le s i && p (i - s))) →
+    d ≡ (p (i + (n - s)) && nat_lt i s) → o ≡ (u || d) → r ≡ (o && nat_lt i n) →
+    r ≡ (nat_lt i n && p (if nat_le s i then i - s else i + (n - s)))
+turned_bits p i s n u d o r within up down both masked =
+    elim (cases_lt i n) [
+      | inr past ↦
+          let no : nat_lt i n ≡ false = le-ltb i n past in
+          masked ∙ and_right o (nat_lt i n) no ∙ sym (and_left (nat_lt i n) (p (if nat_le s i then i - s else i + (n - s))) no)
+      | inl inside ↦
+          let yes : nat_lt i n ≡ true = lt-ltb i n inside in
+          let kept : r ≡ o = masked ∙ sym (and_all o (nat_lt i n) yes) in
+          let here = up (omega arith) in
+          elim (cases_lt i s) [
+            | inl before ↦
+                let le : nat_le s i ≡ false = lt-leb s i before in
+                let lt : nat_lt i s ≡ true = lt-ltb i s before in
+                kept ∙ both ∙ ap (λ b. b || d) (here ∙ and_left (nat_le s i) (p (i - s)) le)
+                ∙ down ∙ sym (and_all (p (i + (n - s))) (nat_lt i s) lt)
+                ∙ ap₂ (λ b c. b && p (if c then i - s else i + (n - s))) (sym yes) (sym le)
+            | inr behind ↦
+                let le : nat_le s i ≡ true = le-leb s i behind in
+                let lt : nat_lt i s ≡ false = le-ltb i s behind in
+                kept ∙ both ∙ ap (λ b. u || b) (down ∙ and_right (p (i + (n - s))) (nat_lt i s) lt)
+                ∙ or_false u false refl ∙ here ∙ ap (λ b. b && p (i - s)) le
+                ∙ ap₂ (λ b c. b && p (if c then i - s else i + (n - s))) (sym yes) (sym le)
+          ]
+    ]

@@ -1,0 +1,2 @@
+pub mod IndexSets
+pub mod Sums

@@ -1,0 +1,80 @@
+//! Sets with each index moved.
+ghost use Rattle.std.specs.Prelude.{ℕ, ◌≡◌, ◌+◌, ◌<◌, ◌≤◌, length};
+ghost use Rattle.gj_sets.specs.IndexSets.{has, bit_of};
+
+use crate::index_set::{IndexSet, LIMIT};
+use std::simd::prelude::*;
+
+impl IndexSet {
+    ghost use Rattle.std.specs.Prelude.{ℕ, ◌≡◌, ◌+◌, ◌-◌, ◌<◌, ◌≤◌, ◌&&◌, ◌==◌, nat_lt, nat_le, if◌then◌else◌};
+    ghost use Rattle.gj_sets.specs.IndexSets.{has};
+
+    /// Each index less s. Those below s are left out.
+    pub fn down(&self, s: usize) -> IndexSet
+        requires { s ≤ LIMIT }
+        ensures { (i : ℕ) → has result i ≡ has self.now (i + s) }
+    {
+        let mut wide = [0u64; 33];
+        u64x16::from_array(self.words).copy_to_slice(&mut wide[..16]);
+        window(&wide, s)
+    }
+
+    /// Each index and s. Those that are not below the limit are left out.
+    pub fn up(&self, s: usize) -> IndexSet
+        requires { s ≤ LIMIT }
+        ensures { (i : ℕ) → i < LIMIT → has result i ≡ (nat_le s i && has self.now (i - s)) }
+    {
+        let mut wide = [0u64; 33];
+        u64x16::from_array(self.words).copy_to_slice(&mut wide[16..32]);
+        window(&wide, LIMIT - s)
+    }
+
+    /// Each index below n and s, modulo n: those that reach n begin at 0 again. No other indices are in it.
+    pub fn turned(&self, s: usize, n: usize) -> IndexSet
+        requires step { s ≤ n }
+        requires period { n ≤ LIMIT }
+        ensures { (j : ℕ) → has result j ≡ (nat_lt j n && has self.now (if nat_le s j then j - s else j + (n - s))) }
+    {
+        let begun_again = self.down(n - s).and(&IndexSet::below(s));
+        self.up(s).or(&begun_again).and(&IndexSet::below(n))
+    }
+
+    /// Each index less 1, where 0 becomes n - 1. Indices from n on go down by 1 too, but n itself is left out.
+    pub fn turned_down(&self, n: usize) -> IndexSet
+        requires some { 1 ≤ n }
+        requires period { n ≤ LIMIT }
+        ensures { (j : ℕ) → has result j ≡ has self.now (if j + 1 == n then 0 else j + 1) }
+    {
+        let mut set = self.down(1);
+        set.put(n - 1, self.contains(0));
+        set
+    }
+
+    /// Each index and 1, where n - 1 becomes 0 too.
+    pub fn turned_up(&self, n: usize) -> IndexSet
+        requires some { 1 ≤ n }
+        requires period { n ≤ LIMIT }
+        ensures { (j : ℕ) → j < LIMIT → has result j ≡ has self.now (if j == 0 then n - 1 else j - 1) }
+    {
+        let mut set = self.up(1);
+        set.put(0, self.contains(n - 1));
+        set
+    }
+}
+
+/// The 1,024 bits from bit s of the words on.
+fn window(wide: &[u64], s: usize) -> IndexSet
+    requires length { length wide.now ≡ 33 }
+    requires within { s ≤ LIMIT }
+    ensures { (i : ℕ) → i < LIMIT → has result i ≡ bit_of wide.now (i + s) }
+{
+    let place = s / 64;
+    let offset = (s % 64) as u64;
+    let low = u64x16::from_slice(&wide[place..]);
+    let high = u64x16::from_slice(&wide[place + 1..]);
+    let words = low >> u64x16::splat(offset)
+        | high << u64x16::splat(63 - offset) << u64x16::splat(1);
+    IndexSet {
+        words: words.to_array(),
+    }
+}

@@ -1,0 +1,14 @@
+use Rattle.gj_theory.proofs.ResidueElimination.{elimination_modulo_triangular, residue_rank_at_most, elimination_modulo_solved, elimination_modulo_zero}
+use Rattle.gj_theory.proofs.residues.elimination_modulo_leaves_only_zero.Goals as goal
+
+pub returns-clause-triangular : goal.returns-clause-triangular
+returns-clause-triangular c = elimination_modulo_triangular
+
+pub returns-clause-rank : goal.returns-clause-rank
+returns-clause-rank c = residue_rank_at_most
+
+pub returns-clause-solved : goal.returns-clause-solved
+returns-clause-solved c = elimination_modulo_solved
+
+pub returns-clause-zero : goal.returns-clause-zero
+returns-clause-zero c = elimination_modulo_zero

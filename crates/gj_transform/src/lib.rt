@@ -1,0 +1,6 @@
+//! Transformations of functions.
+#![tactic(auto)]
+
+mod entries;
+pub mod values;
+pub mod verdicts;
