@@ -1,18 +1,18 @@
 -- The search for lines goes on by one line.
-use Rattle.std.proofs.Common.{◌≡◌, ◌≢◌, ℕ, ◌+◌, ◌<◌, ◌≤◌, List, [], ◌∷◌, ◌++◌, length, get_or, Option, Some, None, cond, eq-eqb, sym, ap, ◌∙◌, subst, inl, inr, arith}
+use Rattle.std.proofs.Common.{◌≡◌, ◌≢◌, ℕ, ◌+◌, ◌<◌, ◌≤◌, List, [], ◌∷◌, ◌++◌, length, get_or, ◌↔◌, ◌&&◌, ◌||◌, not, eqb, IsTrue, Option, Some, None, cond, eq-eqb, sym, ap, ◌∙◌, subst, inl, inr, arith}
 use Rattle.std.specs.Option.{unwrap_or}
 use Rattle.std.proofs.Math.ListN.{set, length-set}
 use Rattle.std.specs.Bool.{◌==◌}
-use Rattle.std.proofs.lemmas.List.{get_or-set_other, get_or-set_same}
 use Rattle.std.proofs.lemmas.List.Sums.{sum_by-append}
 use Rattle.std.proofs.lemmas.Bool.{ne_eqb}
-use Rattle.std.proofs.lemmas.Bool.Decides.{eqb_tells}
 use Rattle.gj_shape.specs.Cover.{AreJoined, IsNextLine, components_in}
 use Rattle.gj_shape.specs.declared.extremality.CoverLine.{CoverLine}
 use Rattle.gj_cover.specs.CoverOf.{number_at}
-use Rattle.gj_cover.specs.Progress.{IsProgress, IsJoinedUpTo, IsNoted, unnumbered, AreClasses, AreSearched}
+use Rattle.gj_sets.specs.IndexSets.{has}
+use Rattle.gj_sets.specs.declared.index_set.IndexSet.{IndexSet}
+use Rattle.gj_cover.specs.Progress.{IsProgress, unnumbered, AreClasses, AreSearched}
 use Rattle.gj_cover.specs.declared.progress.Progress.{Progress}
-use Rattle.gj_cover.proofs.NextLines.{next_to, in_turn, numbers, joined_classes, opened_classes, least_joined, searched_on, searched_to, one_less, from_below}
+use Rattle.gj_cover.proofs.NextLines.{next_to, in_turn, numbers, joined_classes, opened_classes, near_more, free_more, searched_on, searched_to, one_less, from_below}
 use Rattle.gj_cover.proofs.Pending.{read}
 
 -- the state is the old one with one more line, but for the count and the searched intervals
@@ -20,8 +20,10 @@ pub record HasLineMore (q : ℕ) (T : ℕ → ℕ → Type 0) (old new : Progres
   pub number : m ≡ unwrap_or (number_at old.component.items l.from) old.count
   pub lines : new.lines.items ≡ old.lines.items ++ l ∷ []
   pub component : new.component.items ≡ set old.component.items l.interval (Some m)
-  pub length : length new.joined_to.items ≡ q
-  pub joined : IsJoinedUpTo q q T l.interval new.component.items old.joined_to.items new.joined_to.items
+  pub free : (k : ℕ) → has new.free k ≡ (has old.free k && not (eqb k l.interval))
+  pub joined : IndexSet
+  pub told : (k : ℕ) → k < q → l.interval ≢ k → IsTrue (has joined k) ↔ AreJoined q T l.interval k
+  pub near : (k : ℕ) → has new.near k ≡ (has old.near k || has joined k)
 
 opened_joining : (lines : List CoverLine) (l : CoverLine) → l.from ≢ l.interval →
     components_in (lines ++ l ∷ []) ≡ components_in lines
@@ -54,16 +56,16 @@ assembled q T old new l m h next more added =
     let number = numbers q T old.lines.items old.component.items old.count l m h.component_length h.numbers h.count to in
     record {
       component_length = rw more.component (length-set old.component.items l.interval (Some m) ∙ h.component_length);
-      joined_length = more.length;
       lines = rw more.lines (in_turn q T old.lines.items l h.lines next);
       numbers = rw (more.lines, more.component) number;
       count = rw more.lines added.is_count;
       few = rw more.component added.few;
       classes = rw more.component added.classes;
-      least = rw (more.lines, more.component)
-          (least_joined q T old.lines.items old.component.items old.joined_to.items new.joined_to.items l m h.component_length
-          h.numbers number to.within to.free h.least
-          (subst (λ c. IsJoinedUpTo q q T l.interval c old.joined_to.items new.joined_to.items) more.component more.joined));
+      free = rw more.component (free_more q old.component.items old.free new.free l.interval m
+          (let within : l.interval < length old.component.items = omega (arith, to.within, h.component_length) in within) h.free more.free);
+      near = rw (more.lines, more.component)
+          (near_more q T old.lines.items old.component.items old.near more.joined new.near l m h.component_length
+          h.numbers number to.within to.free h.near more.told more.near);
       searched = rw more.component added.searched;
     }
 
@@ -115,41 +117,20 @@ opened_on q T old new l m h next more same count searched =
 pub line_more : (q : ℕ) (T : ℕ → ℕ → Type 0) (old new : Progress) (l : CoverLine) (m : ℕ) (o : Option ℕ) →
     IsProgress q T old → IsNextLine q T old.lines.items l → o ≡ get_or old.component.items l.from o →
     m ≡ unwrap_or o old.count → new.lines.items ≡ old.lines.items ++ l ∷ [] →
-    new.component.items ≡ set old.component.items l.interval (Some m) → length new.joined_to.items ≡ q →
-    IsJoinedUpTo q q T l.interval (set old.component.items l.interval (Some m)) old.joined_to.items new.joined_to.items →
+    new.component.items ≡ set old.component.items l.interval (Some m) →
+    ((k : ℕ) → has new.free k ≡ (has old.free k && not (eqb k l.interval))) → (joined : IndexSet) →
+    ((k : ℕ) → k < q → l.interval ≢ k → IsTrue (has joined k) ↔ AreJoined q T l.interval k) →
+    ((k : ℕ) → has new.near k ≡ (has old.near k || has joined k)) →
     HasLineMore q T old new l m
-line_more q T old new l m o h next was number lines component len joined =
+line_more q T old new l m o h next was number lines component free joined told near =
     let from = from_below q T old.lines.items old.component.items old.count l h.numbers next in
     let within : l.from < length old.component.items = omega (arith, from, h.component_length) in
     record {
       number = number ∙ ap (λ x. unwrap_or x old.count) (sym (read old.component.items l.from o within was));
       lines = lines;
       component = component;
-      length = len;
-      joined = subst (λ c. IsJoinedUpTo q q T l.interval c old.joined_to.items new.joined_to.items) (sym component) joined;
-    }
-
--- ---- one more interval is noted
-
-pub noted_more : (q n : ℕ) (T : ℕ → ℕ → Type 0) (x : ℕ) (c old now : List (Option ℕ)) (o so_far : Option ℕ) → n < length now →
-    so_far ≡ number_at now n →
-    IsNoted (AreJoined q T n x) x so_far o → IsJoinedUpTo q n T x c old now → IsJoinedUpTo q (n + 1) T x c old (set now n o)
-noted_more q n T x c old now o so_far within was answer h =
-    let at : number_at (set now n o) n ≡ o = get_or-set_same now n o None within in
-    let before : so_far ≡ number_at old n = was ∙ h.rest n (omega arith) in
-    let Answer : ℕ → Type 0 = λ k. IsNoted (AreJoined q T k x) x (number_at old k) (number_at (set now n o) k) in
-    let here : Answer n =
-    subst (IsNoted (AreJoined q T n x) x (number_at old n)) (sym at)
-    (subst (λ p. IsNoted (AreJoined q T n x) x p o) before answer) in
-    record {
-      each = λ k below none. elim (eqb_tells k n) [
-        | inl (_, same) ↦ subst Answer (sym same) here
-        | inr (_, other) ↦
-            let stays = get_or-set_other now n k o None other in
-            let low : k < n = omega arith in
-            subst (IsNoted (AreJoined q T k x) x (number_at old k)) (sym stays) (h.each k low none)
-      ];
-      rest = λ k past.
-          let other : k ≢ n = omega arith in
-          get_or-set_other now n k o None other ∙ h.rest k (omega arith);
+      free = free;
+      joined = joined;
+      told = told;
+      near = near;
     }

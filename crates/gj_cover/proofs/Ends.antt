@@ -59,10 +59,17 @@ covered_number q T p i below h end (j, direct, list) =
     (at.0, ap (number_at p.component.items) (sym (mod-eq_of_lt below)) ∙ led_same q T p i j at.0 some h end list at.1)
 
 pub uncovered : (q : ℕ) (T : ℕ → ℕ → Type 0) (p : Progress) → IsProgress q T p → IsComplete q T p.lines.items →
-    AreUncovered q T p.component.items
+    AreUncovered q T p.free
 uncovered q T p h end = record {
-  none = λ i below free covered. let at = covered_number q T p i below h end covered in let number = at.1 in cc (free, number);
-  some = h.classes.covered;
+  within = λ i e. ((h.free.each i).0 e).0;
+  none = λ i e covered.
+      let free = (h.free.each i).0 e in
+      let at = covered_number q T p i free.0 h end covered in
+      let number = at.1 in let none = free.1 in cc (none, number);
+  some = λ i below e. elim (number_cases (number_at p.component.items i)) [
+    | inl none ↦ let free = (h.free.each i).1 (below, none) in absurd (cc (free, e))
+    | inr (n, number) ↦ h.classes.covered i n number
+  ];
 }
 
 pub components : (q : ℕ) (T : ℕ → ℕ → Type 0) (p : Progress) → IsProgress q T p → IsComplete q T p.lines.items →
@@ -71,7 +78,7 @@ components q T p h end = record {
   length = h.component_length;
   numbers = λ i n below. (h.numbers.shown i n, component_number p.lines.items p.component.items n i h.numbers);
   uncovered = λ i below. (
-    (uncovered q T p h end).none i below,
+    λ none. (uncovered q T p h end).none i ((h.free.each i).1 (below, none)),
     λ not. elim (number_cases (number_at p.component.items i)) [
       | inl free ↦ free
       | inr (n, e) ↦ absurd (not (h.classes.covered i n e))

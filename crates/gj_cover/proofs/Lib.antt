@@ -3,7 +3,9 @@ pub mod Joining
 pub mod Edges
 pub mod WalkPlaces
 pub mod Onto
-pub mod Places
+pub mod SetRows
+pub mod Turns
+pub mod Turned
 pub mod TablePairs
 pub mod Merging
 pub mod FirstFaces
@@ -14,6 +16,8 @@ pub mod Advance
 pub mod Ends
 pub mod Transfers
 pub mod TruePlaces
+pub mod Counts
 pub mod Classes
 pub mod Marks
 pub mod RunOrder
+pub mod LinkSets

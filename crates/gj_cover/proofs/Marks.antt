@@ -1,92 +1,80 @@
--- The pairs of runs in a table, row by row.
-use Rattle.std.proofs.Common.{◌≡◌, ◌≢◌, ℕ, ◌⊎◌, ◌+◌, ◌*◌, ◌%◌, ◌<◌, ◌≤◌, ◌↔◌, List, length, get_or, Bool, true, false, IsTrue, sym, ap, ◌∙◌, subst, inl, inr, arith}
+-- The pairs of runs in rows of sets.
+use Rattle.std.proofs.Common.{◌≡◌, ℕ, ◌⊎◌, ◌+◌, ◌%◌, ◌<◌, ◌≤◌, ◌↔◌, ◌||◌, ◌&&◌, leb, ltb, List, length, get_or, false, IsTrue, sym, ap, ◌∙◌, subst, inl, inr, arith}
 use Rattle.std.proofs.Math.ListN.{set}
 use Rattle.std.proofs.Math.Nat.{mod-mod, mod-lt, mod-eq_of_lt}
+use Rattle.std.proofs.lemmas.Bool.{or_cases, or_left, or_right, and_parts, and_from, leb-true, ltb-true, le-leb, lt-ltb}
 use Rattle.std.proofs.lemmas.Bool.Decides.{eqb_tells}
-use Rattle.std.proofs.lemmas.List.{get_or-set_other, get_or-set_same, get_or_default}
+use Rattle.std.proofs.lemmas.List.{get_or_default}
+use Rattle.gj_sets.specs.IndexSets.{has}
+use Rattle.gj_sets.specs.declared.index_set.IndexSet.{IndexSet}
 use Rattle.gj_faces.specs.Runs.{Holds, InRuns}
 use Rattle.gj_faces.specs.declared.run.Run.{Run}
-use Rattle.gj_cover.specs.Table.{IsTightIn, TellsTight}
+use Rattle.gj_cover.specs.SetRows.{in_row}
+use Rattle.gj_cover.specs.Table.{is_tight_in, IsTightIn, TellsTight}
 use Rattle.gj_cover.specs.declared.table.Table.{Table}
-use Rattle.gj_cover.proofs.Places.{place_below, one_place}
+use Rattle.gj_cover.proofs.SetRows.{row_has, row_written, row_stays}
 
 -- the pair is marked
-abbrev pub IsMarked : ℕ → List Bool → ℕ → ℕ → Type 0
-IsMarked q tight i j = IsTrue (get_or tight (i * q + j) false)
+abbrev pub IsMarked : List IndexSet → ℕ → ℕ → Type 0
+IsMarked rows i j = IsTrue (in_row rows i j)
 
--- the pairs (a, j) for j from `from` to below n were marked
-abbrev pub IsMarkedUpTo : ℕ → ℕ → ℕ → ℕ → List Bool → List Bool → Type 0
-IsMarkedUpTo q a from n old new =
-    (i j : ℕ) → i < q → j < q → IsMarked q new i j ↔ (IsMarked q old i j ⊎ ((i ≡ a) × (from ≤ j) × (j < n)))
-
-pub marked_none : (q a from : ℕ) (old : List Bool) → IsMarkedUpTo q a from from old old
-marked_none q a from old i j i_below j_below = (
-  λ h. inl h,
-  λ h. elim h [ inl x ↦ x | inr (x, low, high) ↦ absurd (omega arith) ],
-)
-
-pub marked_more : (q a from n : ℕ) (old now : List Bool) → a < q → n < q → from ≤ n → length now ≡ q * q →
-    IsMarkedUpTo q a from n old now → IsMarkedUpTo q a from (n + 1) old (set now (a * q + n) true)
-marked_more q a from n old now a_below n_below low len h i j i_below j_below =
-    let at = place_below q a n (length now) len a_below n_below in
-    elim (eqb_tells (i * q + j) (a * q + n)) [
+-- the pairs of a run are marked in its row
+pub marked_run : (q : ℕ) (run : Run) (old : List IndexSet) (row places new : IndexSet) → length old ≡ q → run.a < q →
+    row ≡ get_or old run.a row → ((j : ℕ) → has places j ≡ (leb run.from j && ltb j (run.to + 1))) →
+    ((j : ℕ) → has new j ≡ (has row j || has places j)) → (i j : ℕ) → i < q → j < q →
+    IsMarked (set old run.a new) i j ↔ (IsMarked old i j ⊎ Holds q i j run)
+marked_run q run old row places new len a_below row_is places_are new_is i j i_below j_below =
+    let within : run.a < length old = omega arith in
+    let j_is = mod-eq_of_lt j_below in
+    let i_is = mod-eq_of_lt i_below in
+    elim (eqb_tells i run.a) [
       | inl (_, same) ↦
-          let one = one_place q i j a n j_below n_below same in
-          let marked : IsMarked q (set now (a * q + n) true) i j =
-          ap (λ p. get_or (set now (a * q + n) true) p false) same ∙ get_or-set_same now (a * q + n) true false at in
-          (λ _. inr (one.0, (let from' : from ≤ j = omega (arith, one.1) in from'), (let to : j < n + 1 = omega (arith, one.1) in to)), λ _. marked)
-      | inr (_, other) ↦
-          let stays = get_or-set_other now (a * q + n) (i * q + j) true false other in (
-            λ m. elim ((h i j i_below j_below).0 (sym stays ∙ m)) [
-              | inl x ↦ inl x
-              | inr (x, y, z) ↦ inr (x, y, omega arith)
+          let read : in_row old i j ≡ has row j = ap (λ k. in_row old k j) same ∙ row_has old run.a j row within row_is in
+          let written : in_row (set old run.a new) i j ≡ (has row j || has places j) =
+          ap (λ k. in_row (set old run.a new) k j) same ∙ row_written old run.a j new within ∙ new_is j in (
+            λ m. elim (or_cases (has row j) (has places j) (sym written ∙ m)) [
+              | inl x ↦ inl (read ∙ x)
+              | inr x ↦
+                  let both = and_parts (leb run.from j) (ltb j (run.to + 1)) (sym (places_are j) ∙ x) in
+                  let low = leb-true run.from j both.0 in
+                  let high = ltb-true j (run.to + 1) both.1 in
+                  inr (record {
+                    row = sym same ∙ sym i_is;
+                    start = (let from : run.from ≤ j % q = omega (arith, j_is) in from);
+                    stop = (let to : j % q ≤ run.to = omega (arith, j_is) in to);
+                  })
             ],
-            λ m. stays ∙ (h i j i_below j_below).1 (elim m [
-              | inl x ↦ inl x
-              | inr (x, y, z) ↦
-                  let last : j ≢ n = λ e. other (ap (λ k. k * q + j) x ∙ ap (λ k. a * q + k) e) in
-                  inr (x, y, omega arith)
+            λ m. written ∙ (elim m [
+              | inl x ↦ or_left (has row j) (has places j) (sym read ∙ x)
+              | inr r ↦ or_right (has row j) (has places j) (places_are j ∙ and_from (leb run.from j) (ltb j (run.to + 1))
+                  (le-leb run.from j (omega (arith, j_is, r.start))) (lt-ltb j (run.to + 1) (omega (arith, j_is, r.stop))))
             ]),
           )
+      | inr (_, other) ↦
+          let stays = row_stays old run.a i j new (let in' : i < length old = omega arith in in') other in (
+            λ m. inl (sym stays ∙ m),
+            λ m. elim m [
+              | inl x ↦ stays ∙ x
+              | inr r ↦ absurd (other (sym i_is ∙ sym r.row))
+            ],
+          )
     ]
-
--- the pairs of a run
-pub marked_run : (q : ℕ) (run : Run) (old new : List Bool) → IsMarkedUpTo q run.a run.from (run.to + 1) old new →
-    (i j : ℕ) → i < q → j < q → IsMarked q new i j ↔ (IsMarked q old i j ⊎ Holds q i j run)
-marked_run q run old new h i j i_below j_below = (
-  λ m. elim ((h i j i_below j_below).0 m) [
-    | inl x ↦ inl x
-    | inr (x, y, z) ↦
-        let j_is = mod-eq_of_lt j_below in
-        inr (record {
-          row = sym x ∙ sym (mod-eq_of_lt i_below);
-          start = (let low : run.from ≤ j % q = omega (arith, j_is) in low);
-          stop = (let high : j % q ≤ run.to = omega (arith, j_is) in high);
-        })
-  ],
-  λ m. (h i j i_below j_below).1 (elim m [
-    | inl x ↦ inl x
-    | inr r ↦
-        let j_is = mod-eq_of_lt j_below in
-        inr (sym (mod-eq_of_lt i_below) ∙ sym r.row, omega (arith, j_is, r.start), omega (arith, j_is, r.stop))
-  ]),
-)
 
 -- the marked pairs are those in the first n runs
 abbrev pub InFirst : ℕ → List Run → ℕ → ℕ → ℕ → Type 0
 InFirst q runs n i j = (k : ℕ) × (x : Run) × (k < n) × (get_or runs k x ≡ x) × Holds q i j x
 
-abbrev pub HoldRuns : ℕ → List Run → ℕ → List Bool → Type 0
-HoldRuns q runs n tight = (i j : ℕ) → i < q → j < q → IsMarked q tight i j ↔ InFirst q runs n i j
+abbrev pub HoldRuns : ℕ → List Run → ℕ → List IndexSet → Type 0
+HoldRuns q runs n rows = (i j : ℕ) → i < q → j < q → IsMarked rows i j ↔ InFirst q runs n i j
 
-pub no_runs : (q : ℕ) (runs : List Run) (tight : List Bool) → ((p : ℕ) → get_or tight p false ≡ false) → HoldRuns q runs 0 tight
-no_runs q runs tight none i j i_below j_below = (
-  λ m. let free = none (i * q + j) in absurd (cc (m, free)),
+pub no_runs : (q : ℕ) (runs : List Run) (rows : List IndexSet) → ((i j : ℕ) → in_row rows i j ≡ false) → HoldRuns q runs 0 rows
+no_runs q runs rows none i j i_below j_below = (
+  λ m. let free = none i j in absurd (cc (m, free)),
   λ (k, x, below, is, h). absurd (omega arith),
 )
 
-pub one_run_more : (q n : ℕ) (runs : List Run) (run : Run) (old new : List Bool) → n < length runs → get_or runs n run ≡ run →
-    HoldRuns q runs n old → ((i j : ℕ) → i < q → j < q → IsMarked q new i j ↔ (IsMarked q old i j ⊎ Holds q i j run)) →
+pub one_run_more : (q n : ℕ) (runs : List Run) (run : Run) (old new : List IndexSet) → n < length runs → get_or runs n run ≡ run →
+    HoldRuns q runs n old → ((i j : ℕ) → i < q → j < q → IsMarked new i j ↔ (IsMarked old i j ⊎ Holds q i j run)) →
     HoldRuns q runs (n + 1) new
 one_run_more q n runs run old new within is h next i j i_below j_below = (
   λ m. elim ((next i j i_below j_below).0 m) [
@@ -118,12 +106,12 @@ rests_hold q i j r h = record {
 
 -- the table of all runs
 pub tells_runs : (q : ℕ) (runs : List Run) (n : ℕ) (t : Table) → 0 < q → t.order ≡ q → n ≡ length runs →
-    HoldRuns q runs n t.tight.items → TellsTight t (InRuns q runs)
-unfolding IsTightIn
+    HoldRuns q runs n t.rows.items → TellsTight t (InRuns q runs)
+unfolding IsTightIn is_tight_in
 tells_runs q runs n t some order all h i j =
     let at = h (i % q) (j % q) (mod-lt i some) (mod-lt j some) in
-    let read : get_or t.tight.items (i % t.order * t.order + j % t.order) false ≡ get_or t.tight.items (i % q * q + j % q) false =
-    ap (λ n. get_or t.tight.items (i % n * n + j % n) false) order in (
+    let read : in_row t.rows.items (i % t.order) (j % t.order) ≡ in_row t.rows.items (i % q) (j % q) =
+    ap (λ n. in_row t.rows.items (i % n) (j % n)) order in (
       λ m.
           let found = at.0 (sym read ∙ m) in
           (found.0, found.1, subst (λ n. found.0 < n) all found.2, found.3, holds_rests q i j found.1 found.4),

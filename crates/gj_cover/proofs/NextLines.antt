@@ -1,15 +1,17 @@
 -- What one more cover line changes.
-use Rattle.std.proofs.Common.{◌≡◌, ◌≢◌, ℕ, ◌⊎◌, ◌+◌, ◌%◌, ◌<◌, List, [], ◌∷◌, ◌++◌, length, get_or, Option, Some, None, MatchOption, min, cond, refl, sym, ap, ◌∙◌, subst, inl, inr, arith}
+use Rattle.std.proofs.Common.{◌≡◌, ◌≢◌, ℕ, ◌⊎◌, ◌+◌, ◌%◌, ◌<◌, List, [], ◌∷◌, ◌++◌, length, get_or, ◌↔◌, ◌&&◌, ◌||◌, not, eqb, IsTrue, Option, Some, None, cond, refl, sym, ap, ◌∙◌, subst, inl, inr, arith}
 use Rattle.std.specs.Option.{unwrap_or, is_none}
 use Rattle.std.proofs.Math.ListN.{set}
-use Rattle.std.proofs.lemmas.Bool.{cases_lt}
+use Rattle.std.proofs.lemmas.Bool.{or_cases, or_left, or_right, and_parts, and_from, not-true, not_from_false, eqb-false, ne_eqb}
 use Rattle.std.proofs.lemmas.List.Sums.{sum_by-set}
 use Rattle.gj_shape.specs.Cover.{HasComponent, opened, joined, AreJoined, IsDirectlyCovered, LeadsTo, here, onward, IsCovered, JoinsLines, IsNextLine, components_in}
 use Rattle.gj_shape.specs.FirstViolation.{IsLeastFrom}
 use Rattle.gj_shape.specs.declared.extremality.CoverLine.{CoverLine}
 use Rattle.gj_cover.specs.CoverOf.{number_at}
-use Rattle.gj_cover.specs.Progress.{AreInTurn, AreNumbered, AreClasses, AreLeastJoined, AreSearched, IsJoinedUpTo, IsNotAbove, lesser_of, unnumbered}
-use Rattle.gj_cover.proofs.LineLists.{split_end, component_stays, line_number, number_line, no_number, no_line, number_same, number_from, none_from, number_stays, number_within}
+use Rattle.gj_sets.specs.IndexSets.{has}
+use Rattle.gj_sets.specs.declared.index_set.IndexSet.{IndexSet}
+use Rattle.gj_cover.specs.Progress.{AreInTurn, AreNumbered, AreClasses, AreFree, AreNear, AreSearched, unnumbered}
+use Rattle.gj_cover.proofs.LineLists.{split_end, component_stays, line_number, number_line, no_number, no_line, number_same, number_other, number_from, none_from, number_stays, number_within}
 use Rattle.gj_theory.proofs.CoverPaths.{joined_turned, leads_turned}
 use Rattle.gj_cover.proofs.Joining.{covered_on, covered_directly}
 
@@ -261,7 +263,7 @@ opened_classes q T c count l m len h in' free o =
       ];
     }
 
--- ---- the least interval with a line to which one is joined
+-- ---- the intervals that are joined to one with a line
 
 -- what a new line adds to what joins
 joins_before : (q : ℕ) (T : ℕ → ℕ → Type 0) (c : List (Option ℕ)) (x m i j : ℕ) → x < length c →
@@ -287,108 +289,53 @@ joins_after q T c x m i j free none h = record {
   joined = h.joined;
 }
 
--- the least so far, by numbers
-abbrev pub LeastOf : ℕ → (ℕ → ℕ → Type 0) → List (Option ℕ) → ℕ → Option ℕ → Type 0
-LeastOf q T c i o = MatchOption o ((j : ℕ) → JoinsNumbers q T c i j → ⊥) (IsLeastFrom 0 (JoinsNumbers q T c i))
-
-least_with : (q : ℕ) (T : ℕ → ℕ → Type 0) (c : List (Option ℕ)) (x m i : ℕ) (o : Option ℕ) → x < length c →
-    number_at c x ≡ None → number_at (set c x (Some m)) i ≡ None → JoinsNumbers q T (set c x (Some m)) i x →
-    LeastOf q T c i o → IsLeastFrom 0 (JoinsNumbers q T (set c x (Some m)) i) (lesser_of o x)
-least_with q T c x m i None within free none new h = record {
-  from = omega arith;
-  holds = new;
-  least = λ k _ below at. elim (joins_before q T c x m i k within at) [ inl same ↦ omega arith | inr old ↦ h k old ];
-}
-least_with q T c x m i (Some j) within free none new h = elim (cases_lt j x) [
-  | inl below ↦
-      let is : min j x ≡ j = omega arith in
-      subst (IsLeastFrom 0 (JoinsNumbers q T (set c x (Some m)) i)) (sym is) (record {
-        from = omega arith;
-        holds = joins_after q T c x m i j free none h.holds;
-        least = λ k from k_below at. elim (joins_before q T c x m i k within at) [
-          | inl same ↦ omega arith
-          | inr old ↦ h.least k from k_below old
-        ];
-      })
-  | inr above ↦
-      let is : min j x ≡ x = omega arith in
-      subst (IsLeastFrom 0 (JoinsNumbers q T (set c x (Some m)) i)) (sym is) (record {
-        from = omega arith;
-        holds = new;
-        least = λ k from k_below at. elim (joins_before q T c x m i k within at) [
-          | inl same ↦ omega arith
-          | inr old ↦ h.least k from (let low : k < j = omega arith in low) old
-        ];
-      })
-]
-
-least_without : (q : ℕ) (T : ℕ → ℕ → Type 0) (c : List (Option ℕ)) (x m i : ℕ) (o : Option ℕ) → x < length c →
-    number_at c x ≡ None → number_at (set c x (Some m)) i ≡ None → (AreJoined q T i x → ⊥) ⊎ IsNotAbove o x →
-    LeastOf q T c i o → LeastOf q T (set c x (Some m)) i o
-least_without q T c x m i None within free none (inl not) h = λ k at. elim (joins_before q T c x m i k within at) [
-  | inl same ↦ not (subst (AreJoined q T i) same at.joined)
-  | inr old ↦ h k old
-]
-least_without q T c x m i None within free none (inr not_above) h = absurd not_above
-least_without q T c x m i (Some j) within free none other h = record {
-  from = omega arith;
-  holds = joins_after q T c x m i j free none h.holds;
-  least = λ k from k_below at. elim (joins_before q T c x m i k within at) [
-    | inl same ↦ elim other [
-      | inl not ↦ not (subst (AreJoined q T i) same at.joined)
-      | inr not_above ↦ omega (arith, not_above, same, k_below)
-    ]
-    | inr old ↦ h.least k from k_below old
-  ];
-}
-
--- between lines and numbers
-by_numbers : (q : ℕ) (T : ℕ → ℕ → Type 0) (lines : List CoverLine) (c : List (Option ℕ)) (i : ℕ) (o : Option ℕ) →
-    AreNumbered lines c → MatchOption o ((j : ℕ) → JoinsLines q T lines i j → ⊥) (IsLeastFrom 0 (JoinsLines q T lines i)) →
-    LeastOf q T c i o
-by_numbers q T lines c i None h k = λ j at. k j (joins_lines q T lines c i j h at)
-by_numbers q T lines c i (Some j) h k = record {
-  from = k.from;
-  holds = joins_numbers q T lines c i j h k.holds;
-  least = λ n from below at. k.least n from below (joins_lines q T lines c i n h at);
-}
-
-by_lines : (q : ℕ) (T : ℕ → ℕ → Type 0) (lines : List CoverLine) (c : List (Option ℕ)) (i : ℕ) (o : Option ℕ) →
-    AreNumbered lines c → LeastOf q T c i o →
-    MatchOption o ((j : ℕ) → JoinsLines q T lines i j → ⊥) (IsLeastFrom 0 (JoinsLines q T lines i))
-by_lines q T lines c i None h k = λ j at. k j (joins_numbers q T lines c i j h at)
-by_lines q T lines c i (Some j) h k = record {
-  from = k.from;
-  holds = joins_lines q T lines c i j h k.holds;
-  least = λ n from below at. k.least n from below (joins_numbers q T lines c i n h at);
-}
-
-pub least_joined : (q : ℕ) (T : ℕ → ℕ → Type 0) (lines : List CoverLine) (c old new : List (Option ℕ)) (l : CoverLine) (m : ℕ) →
+pub near_more : (q : ℕ) (T : ℕ → ℕ → Type 0) (lines : List CoverLine) (c : List (Option ℕ)) (near linked new : IndexSet) (l : CoverLine) (m : ℕ) →
     length c ≡ q → AreNumbered lines c → AreNumbered (lines ++ l ∷ []) (set c l.interval (Some m)) →
-    l.interval < q → number_at c l.interval ≡ None → AreLeastJoined q T lines c old →
-    IsJoinedUpTo q q T l.interval (set c l.interval (Some m)) old new →
-    AreLeastJoined q T (lines ++ l ∷ []) (set c l.interval (Some m)) new
-least_joined q T lines c old new l m len h h' in' free before after = record {
+    l.interval < q → number_at c l.interval ≡ None → AreNear q T lines c near →
+    ((k : ℕ) → k < q → l.interval ≢ k → IsTrue (has linked k) ↔ AreJoined q T l.interval k) →
+    ((k : ℕ) → has new k ≡ (has near k || has linked k)) → AreNear q T (lines ++ l ∷ []) (set c l.interval (Some m)) new
+near_more q T lines c near linked new l m len h h' in' free before told is = record {
   each = λ i i_below none.
       let x = l.interval in
       let within : l.interval < length c = omega (arith, in') in
-      let was = by_numbers q T lines c i (number_at old i) h (before.each i i_below (none_from c x m i within none).1) in
-      by_lines q T (lines ++ l ∷ []) (set c x (Some m)) i (number_at new i) h'
-      (elim (after.each i i_below none) [
-        | inl (linked, e) ↦
-            subst (LeastOf q T (set c x (Some m)) i) (sym e)
-            (least_with q T c x m i (number_at old i) within free none
-            (record {
-              first_within = i_below;
-              second_within = in';
-              free = none;
-              number = (m, number_same c x m within);
-              joined = linked;
-            }) was)
-        | inr (not, e) ↦
-            subst (LeastOf q T (set c x (Some m)) i) (sym e)
-            (least_without q T c x m i (number_at old i) within free none not was)
-      ]);
+      let old = none_from c x m i within none in
+      let was = before.each i i_below old.1 in
+      let other : l.interval ≢ i = λ same. old.0 (sym same) in (
+        λ e. elim (or_cases (has near i) (has linked i) (sym (is i) ∙ e)) [
+          | inl yes' ↦
+              let at = was.0 yes' in
+              (at.0, joins_lines q T (lines ++ l ∷ []) (set c x (Some m)) i at.0 h'
+              (joins_after q T c x m i at.0 free none (joins_numbers q T lines c i at.0 h at.1)))
+          | inr yes' ↦ (x, joins_lines q T (lines ++ l ∷ []) (set c x (Some m)) i x h' (record {
+            first_within = i_below;
+            second_within = in';
+            free = none;
+            number = (m, number_same c x m within);
+            joined = joined_turned q T x i ((told i i_below other).0 yes');
+          }))
+        ],
+        λ (j, at). is i ∙ (elim (joins_before q T c x m i j within (joins_numbers q T (lines ++ l ∷ []) (set c x (Some m)) i j h' at)) [
+          | inl same ↦
+              or_right (has near i) (has linked i)
+              ((told i i_below other).1 (joined_turned q T i x (subst (AreJoined q T i) same at.joined)))
+          | inr k ↦ or_left (has near i) (has linked i) (was.1 (j, joins_lines q T lines c i j h k))
+        ]),
+      );
+}
+
+pub free_more : (q : ℕ) (c : List (Option ℕ)) (old new : IndexSet) (x m : ℕ) → x < length c → AreFree q c old →
+    ((k : ℕ) → has new k ≡ (has old k && not (eqb k x))) → AreFree q (set c x (Some m)) new
+free_more q c old new x m within h is = record {
+  each = λ i. (
+    λ e.
+        let both = and_parts (has old i) (not (eqb i x)) (sym (is i) ∙ e) in
+        let at = (h.each i).0 both.0 in
+        let other = eqb-false i x (not-true (eqb i x) both.1) in
+        (at.0, number_other c x m i other ∙ at.1),
+    λ (below, none).
+        let at = none_from c x m i within none in
+        is i ∙ and_from (has old i) (not (eqb i x)) ((h.each i).1 (below, at.1)) (not_from_false (eqb i x) (ne_eqb i x at.0)),
+  );
 }
 
 -- ---- the search for directly covered intervals

@@ -1,18 +1,20 @@
 -- What is read from the lists of numbers, and where the search for lines begins and goes on.
-use Rattle.std.proofs.Common.{◌≡◌, ℕ, ◌<◌, ◌≤◌, List, [], length, get_or, Bool, true, not, Option, Some, None, MatchOption, replicate, refl, sym, ap, ◌∙◌, subst, inl, inr, arith}
+use Rattle.std.proofs.Common.{◌≡◌, ◌≢◌, ℕ, ◌<◌, ◌≤◌, ◌↔◌, ◌&&◌, ltb, List, [], length, get_or, Bool, true, false, not, IsTrue, Option, Some, None, replicate, refl, sym, ap, ◌∙◌, subst, inl, inr, arith}
 use Rattle.std.specs.Option.{is_some, is_none}
 use Rattle.std.proofs.lemmas.List.Sums.{count_by-le-length}
 use Rattle.gj_cover.specs.declared.progress.Progress.{Progress}
 use Rattle.std.proofs.Math.ListN.{length-replicate}
-use Rattle.std.proofs.lemmas.Bool.{cases_lt}
+use Rattle.std.proofs.lemmas.Bool.{cases_lt, ltb-true, lt-ltb, and_parts, and_from, not-true, not_from_false, false_from_ne_true}
 use Rattle.std.proofs.lemmas.List.{get_or_default, get_or_past, get_or-replicate}
-use Rattle.gj_shape.specs.Cover.{JoinsLines, IsOpen, IsOpeningLine, Covers, IsFirstFace}
+use Rattle.gj_sets.specs.IndexSets.{has, IsFirst}
+use Rattle.gj_sets.specs.declared.index_set.IndexSet.{IndexSet}
+use Rattle.gj_shape.specs.Cover.{AreJoined, JoinsLines, IsOpen, IsOpeningLine, Covers, IsFirstFace}
 use Rattle.gj_shape.specs.FirstViolation.{IsLeastFrom}
 use Rattle.gj_shape.specs.declared.extremality.CoverLine.{CoverLine}
 use Rattle.gj_shape.specs.declared.faces.Face.{Face}
 use Rattle.gj_cover.specs.CoverOf.{number_at}
-use Rattle.gj_cover.specs.Progress.{IsProgress, AreInTurn, AreNumbered, AreClasses, AreLeastJoined, AreSearched}
-use Rattle.gj_cover.proofs.LineLists.{no_end, no_number, no_line}
+use Rattle.gj_cover.specs.Progress.{IsProgress, AreInTurn, AreNumbered, AreClasses, AreFree, AreNear, AreSearched}
+use Rattle.gj_cover.proofs.LineLists.{no_end, no_number, no_line, number_cases, number_line, line_number}
 
 -- ---- reads
 
@@ -56,12 +58,16 @@ classes_none q T c none = record {
 no_lines : (i : ℕ) → ((k : ℕ) × (x : CoverLine) × (k < length {A = CoverLine} []) × (get_or [] k x ≡ x) × (x.interval ≡ i)) → ⊥
 no_lines i (k, x, below, is, e) = omega arith
 
-pub least_none : (q : ℕ) (T : ℕ → ℕ → Type 0) (c to : List (Option ℕ)) → ((i : ℕ) → number_at to i ≡ None) →
-    AreLeastJoined q T [] c to
-least_none q T c to none = record {
-  each = λ i below free.
-      subst (λ o. MatchOption o ((j : ℕ) → JoinsLines q T [] i j → ⊥) (IsLeastFrom 0 (JoinsLines q T [] i))) (sym (none i))
-      (λ j at. no_lines j at.line);
+pub free_none : (q : ℕ) (c : List (Option ℕ)) (free : IndexSet) → ((i : ℕ) → number_at c i ≡ None) →
+    ((i : ℕ) → has free i ≡ ltb i q) → AreFree q c free
+free_none q c free none is = record {
+  each = λ i. (λ e. (ltb-true i q (sym (is i) ∙ e), none i), λ (below, _). is i ∙ lt-ltb i q below);
+}
+
+pub near_none : (q : ℕ) (T : ℕ → ℕ → Type 0) (c : List (Option ℕ)) (near : IndexSet) → ((i : ℕ) → has near i ≡ false) →
+    AreNear q T [] c near
+near_none q T c near none = record {
+  each = λ i below free. (λ e. let not = none i in absurd (cc (e, not)), λ (j, at). absurd (no_lines j at.line));
 }
 
 pub searched_none : (q : ℕ) (T : ℕ → ℕ → Type 0) (c : List (Option ℕ)) → AreSearched q T c 0
@@ -69,35 +75,103 @@ searched_none q T c = record { each = λ i below. absurd (omega arith) }
 
 -- ---- the next interval that is joined
 
-abbrev pub NonePending : List (Option ℕ) → List (Option ℕ) → ℕ → Type 0
-NonePending c to n = (i : ℕ) → i < n → number_at c i ≡ None → number_at to i ≡ None
+-- an interval of the set that is free is joined to one with a line
+joined_near : (q : ℕ) (T : ℕ → ℕ → Type 0) (lines : List CoverLine) (c : List (Option ℕ)) (free near : IndexSet) (i : ℕ) →
+    AreFree q c free → AreNear q T lines c near → (has near i && has free i) ≡ true → (j : ℕ) × JoinsLines q T lines i j
+joined_near q T lines c free near i f n e =
+    let both = and_parts (has near i) (has free i) e in
+    let at = (f.each i).0 both.1 in
+    (n.each i at.0 at.1).0 both.0
 
-none_joins_it : (q : ℕ) (T : ℕ → ℕ → Type 0) (lines : List CoverLine) (c to : List (Option ℕ)) (i j : ℕ) →
-    AreNumbered lines c → AreLeastJoined q T lines c to → number_at to i ≡ None → JoinsLines q T lines i j → ⊥
-none_joins_it q T lines c to i j h k none at =
-    let all = subst (λ o. MatchOption o ((j : ℕ) → JoinsLines q T lines i j → ⊥) (IsLeastFrom 0 (JoinsLines q T lines i)))
-    none (k.each i at.first_within (no_number lines c i h at.no_line)) in
-    all j at
+near_joined : (q : ℕ) (T : ℕ → ℕ → Type 0) (lines : List CoverLine) (c : List (Option ℕ)) (free near : IndexSet) (i j : ℕ) →
+    AreNumbered lines c → AreFree q c free → AreNear q T lines c near → JoinsLines q T lines i j → (has near i && has free i) ≡ true
+near_joined q T lines c free near i j h f n at =
+    let none = no_number lines c i h at.no_line in
+    and_from (has near i) (has free i) ((n.each i at.first_within none).1 (j, at)) ((f.each i).1 (at.first_within, none))
 
-pub next_interval : (q : ℕ) (T : ℕ → ℕ → Type 0) (lines : List CoverLine) (c to : List (Option ℕ)) (x j : ℕ) →
-    AreNumbered lines c → AreLeastJoined q T lines c to → x < q → number_at c x ≡ None → number_at to x ≡ Some j →
-    NonePending c to x → IsLeastFrom 0 (λ i. (n : ℕ) × JoinsLines q T lines i n) x
-next_interval q T lines c to x j h k below free found before =
-    let least = subst (λ o. MatchOption o ((j : ℕ) → JoinsLines q T lines x j → ⊥) (IsLeastFrom 0 (JoinsLines q T lines x)))
-    found (k.each x below free) in
-    record {
-      from = omega arith;
-      holds = (j, least.holds);
-      least = λ i _ i_below (n, at).
-          none_joins_it q T lines c to i n h k (before i i_below (no_number lines c i h at.no_line)) at;
-    }
+pub is_open : (q : ℕ) (c : List (Option ℕ)) (free near set : IndexSet) (x : ℕ) → AreFree q c free →
+    ((i : ℕ) → has set i ≡ (has near i && has free i)) → IsFirst set 0 x → (x < q) × (number_at c x ≡ None)
+is_open q c free near set x f is first = (f.each x).0 (and_parts (has near x) (has free x) (sym (is x) ∙ first.found)).1
 
-pub none_pending : (q n : ℕ) (T : ℕ → ℕ → Type 0) (lines : List CoverLine) (c to : List (Option ℕ)) →
-    AreNumbered lines c → AreLeastJoined q T lines c to → q ≤ n → NonePending c to n →
+-- the least of them
+pub next_interval : (q : ℕ) (T : ℕ → ℕ → Type 0) (lines : List CoverLine) (c : List (Option ℕ)) (free near : IndexSet)
+    (set : IndexSet) (x : ℕ) → AreNumbered lines c → AreFree q c free → AreNear q T lines c near →
+    ((i : ℕ) → has set i ≡ (has near i && has free i)) → IsFirst set 0 x →
+    IsLeastFrom 0 (λ i. (n : ℕ) × JoinsLines q T lines i n) x
+next_interval q T lines c free near set x h f n is first = record {
+  from = omega arith;
+  holds = joined_near q T lines c free near x f n (sym (is x) ∙ first.found);
+  least = λ i low below (j, at).
+      let not = first.before i (omega arith) below in
+      let yes' = is i ∙ near_joined q T lines c free near i j h f n at in
+      cc (not, yes');
+}
+
+pub none_pending : (q : ℕ) (T : ℕ → ℕ → Type 0) (lines : List CoverLine) (c : List (Option ℕ)) (free near set : IndexSet) →
+    AreNumbered lines c → AreFree q c free → AreNear q T lines c near →
+    ((i : ℕ) → has set i ≡ (has near i && has free i)) → ((i : ℕ) → has set i ≡ false) →
     (i j : ℕ) → JoinsLines q T lines i j → ⊥
-none_pending q n T lines c to h k all before i j at =
-    let below : i < n = omega (arith, at.first_within) in
-    none_joins_it q T lines c to i j h k (before i below (no_number lines c i h at.no_line)) at
+none_pending q T lines c free near set h f n is none i j at =
+    let not = none i in
+    let yes' = is i ∙ near_joined q T lines c free near i j h f n at in
+    cc (not, yes')
+
+-- the intervals with a line to which a free one is joined
+lines_joined : (q : ℕ) (T : ℕ → ℕ → Type 0) (lines : List CoverLine) (c : List (Option ℕ)) (free joined : IndexSet) (x j : ℕ) →
+    AreNumbered lines c → AreFree q c free → x < q → number_at c x ≡ None →
+    ((k : ℕ) → IsTrue (has joined k) → k < q) → ((k : ℕ) → k < q → x ≢ k → IsTrue (has joined k) ↔ AreJoined q T x k) →
+    (has joined j && not (has free j)) ≡ true → JoinsLines q T lines x j
+lines_joined q T lines c free joined x j h f below none within told e =
+    let both = and_parts (has joined j) (not (has free j)) e in
+    let j_below = within j both.0 in
+    let taken = not-true (has free j) both.1 in
+    let other : x ≢ j = λ same.
+    let free' = (f.each j).1 (j_below, ap (number_at c) (sym same) ∙ none) in cc (free', taken) in
+    elim (number_cases (number_at c j)) [
+      | inl free' ↦ let at = (f.each j).1 (j_below, free') in absurd (cc (at, taken))
+      | inr (n, number) ↦ record {
+        first_within = below;
+        second_within = j_below;
+        no_line = no_line lines c x h none;
+        line = number_line lines c j n h number;
+        joined = (told j j_below other).0 both.0;
+      }
+    ]
+
+joined_lines : (q : ℕ) (T : ℕ → ℕ → Type 0) (lines : List CoverLine) (c : List (Option ℕ)) (free joined : IndexSet) (x j : ℕ) →
+    AreNumbered lines c → AreFree q c free → number_at c x ≡ None →
+    ((k : ℕ) → k < q → x ≢ k → IsTrue (has joined k) ↔ AreJoined q T x k) → JoinsLines q T lines x j →
+    (has joined j && not (has free j)) ≡ true
+joined_lines q T lines c free joined x j h f none told at =
+    let number = line_number lines c j h at.line in
+    let is = number.1 in
+    let other : x ≢ j = λ same. let clash = ap (number_at c) same in cc (clash, none, is) in
+    let taken : has free j ≡ false = false_from_ne_true (has free j) (λ e. let free' = ((f.each j).0 e).1 in cc (free', is)) in
+    and_from (has joined j) (not (has free j)) ((told j at.second_within other).1 at.joined) (not_from_false (has free j) taken)
+
+pub next_from : (q : ℕ) (T : ℕ → ℕ → Type 0) (lines : List CoverLine) (c : List (Option ℕ)) (free joined set : IndexSet) (x j : ℕ) →
+    AreNumbered lines c → AreFree q c free → x < q → number_at c x ≡ None →
+    ((k : ℕ) → IsTrue (has joined k) → k < q) → ((k : ℕ) → k < q → x ≢ k → IsTrue (has joined k) ↔ AreJoined q T x k) →
+    ((k : ℕ) → has set k ≡ (has joined k && not (has free k))) → IsFirst set 0 j →
+    IsLeastFrom 0 (JoinsLines q T lines x) j
+next_from q T lines c free joined set x j h f below none within told is first = record {
+  from = omega arith;
+  holds = lines_joined q T lines c free joined x j h f below none within told (sym (is j) ∙ first.found);
+  least = λ k low k_below at.
+      let not = first.before k (omega arith) k_below in
+      let yes' = is k ∙ joined_lines q T lines c free joined x k h f none told at in
+      cc (not, yes');
+}
+
+pub none_from_it : (q : ℕ) (T : ℕ → ℕ → Type 0) (lines : List CoverLine) (c : List (Option ℕ)) (free joined set : IndexSet) (x : ℕ) →
+    AreNumbered lines c → AreFree q c free → number_at c x ≡ None →
+    ((k : ℕ) → k < q → x ≢ k → IsTrue (has joined k) ↔ AreJoined q T x k) →
+    ((k : ℕ) → has set k ≡ (has joined k && not (has free k))) → ((k : ℕ) → has set k ≡ false) →
+    ((j : ℕ) × JoinsLines q T lines x j) → ⊥
+none_from_it q T lines c free joined set x h f none told is empty (j, at) =
+    let not = empty j in
+    let yes' = is j ∙ joined_lines q T lines c free joined x j h f none told at in
+    cc (not, yes')
 
 -- ---- the next interval that opens a component
 
@@ -129,21 +203,20 @@ none_open q n T lines c h all searched i at =
 -- ---- no line yet
 
 pub begun : (q n : ℕ) (T : ℕ → ℕ → Type 0) (p : Progress) → n ≡ q → p.component.items ≡ replicate n None →
-    p.joined_to.items ≡ replicate n None → p.lines.items ≡ [] → p.count ≡ 0 → p.searched ≡ 0 → IsProgress q T p
-begun q n T p is component joined_to lines count searched =
+    ((i : ℕ) → has p.free i ≡ ltb i n) → ((i : ℕ) → has p.near i ≡ false) → p.lines.items ≡ [] → p.count ≡ 0 → p.searched ≡ 0 → IsProgress q T p
+begun q n T p is component free near lines count searched =
     let long : length (replicate {A = Option ℕ} n None) ≡ n = length-replicate n None in
     let c : (i : ℕ) → number_at p.component.items i ≡ None = λ i. ap (λ l. number_at l i) component ∙ all_none n i in
-    let t : (i : ℕ) → number_at p.joined_to.items i ≡ None = λ i. ap (λ l. number_at l i) joined_to ∙ all_none n i in
     let few = count_by-le-length is_none p.component.items in
     let len : length p.component.items ≡ q = ap (λ l. length l) component ∙ long ∙ is in
     record {
       component_length = len;
-      joined_length = ap (λ l. length l) joined_to ∙ long ∙ is;
       lines = rw lines (turn_none q T);
       numbers = rw lines (numbered_none p.component.items c);
       count = rw (lines, count) refl;
       few = omega (arith, few, len, count);
       classes = rw count (classes_none q T p.component.items c);
-      least = rw lines (least_none q T p.component.items p.joined_to.items t);
+      free = free_none q p.component.items p.free c (λ i. free i ∙ ap (λ k. ltb i k) is);
+      near = rw lines (near_none q T p.component.items p.near near);
       searched = rw searched (searched_none q T p.component.items);
     }

@@ -1,12 +1,26 @@
 -- The tight pairs of a table as a relation.
-use Rattle.std.proofs.Common.{◌+◌, ◌*◌, ◌%◌, false, get_or, sym, ap, ◌∙◌}
-use Rattle.gj_cover.specs.Table.{IsTightIn}
+use Rattle.std.proofs.Common.{◌≡◌, ℕ, ◌%◌, true, sym, ap, ◌∙◌}
+use Rattle.gj_cover.specs.SetRows.{in_row}
+use Rattle.gj_cover.specs.Table.{is_tight_in, IsTightIn}
 use Rattle.gj_cover.specs.declared.table.Table.{Table}
 use Rattle.gj_cover.proofs.Parts.{HasPeriod}
 
 -- a table does not see more of two indices than their rests
+pub same_tight : (t : Table) (i j k l : ℕ) → i % t.order ≡ k % t.order → j % t.order ≡ l % t.order →
+    is_tight_in t i j ≡ is_tight_in t k l
+unfolding is_tight_in
+same_tight t i j k l e g =
+    ap (λ n. in_row t.rows.items n (j % t.order)) e ∙ ap (λ n. in_row t.rows.items (k % t.order) n) g
+
 pub table_period : (t : Table) → HasPeriod t.order (IsTightIn t)
 unfolding IsTightIn
-table_period t i j k l e g h =
-    sym (ap (λ n. get_or t.tight.items (n * t.order + j % t.order) false) e
-    ∙ ap (λ n. get_or t.tight.items (k % t.order * t.order + n) false) g) ∙ h
+table_period t i j k l e g h = sym (same_tight t i j k l e g) ∙ h
+
+-- between the test and the fact
+pub tight : (t : Table) (i j : ℕ) → is_tight_in t i j ≡ true → IsTightIn t i j
+unfolding IsTightIn
+tight t i j h = h
+
+pub told : (t : Table) (i j : ℕ) → IsTightIn t i j → is_tight_in t i j ≡ true
+unfolding IsTightIn
+told t i j h = h

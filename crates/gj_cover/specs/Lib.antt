@@ -1,4 +1,5 @@
 pub mod CoverOf
+pub mod SetRows
 pub mod Table
 pub mod FirstFound
 pub mod Links

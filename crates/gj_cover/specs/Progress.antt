@@ -1,8 +1,10 @@
 -- Where the search for cover lines stands (own): what is kept while lines are added.
-use Rattle.std.specs.Prelude.{ℕ, ◌≡◌, ◌≢◌, ◌⊎◌, ◌+◌, ◌<◌, ◌≤◌, min, List, ◌∷◌, ◌++◌, Option, Some, None, MatchOption, is_none, length, count_by}
+use Rattle.std.specs.Prelude.{ℕ, ◌≡◌, ◌≢◌, ◌↔◌, ◌+◌, ◌<◌, ◌≤◌, List, ◌∷◌, ◌++◌, Option, Some, None, is_none, length, count_by, IsTrue}
 use Rattle.gj_shape.specs.Cover.{AreJoined, IsDirectlyCovered, LeadsTo, IsCovered, JoinsLines, IsOpen, IsNextLine, HasComponent, components_in}
 use Rattle.gj_shape.specs.FirstViolation.{IsLeastFrom}
 use Rattle.gj_shape.specs.declared.extremality.CoverLine.{CoverLine}
+use Rattle.gj_sets.specs.IndexSets.{has}
+use Rattle.gj_sets.specs.declared.index_set.IndexSet.{IndexSet}
 use Rattle.gj_cover.specs.CoverOf.{number_at}
 use Rattle.gj_cover.specs.declared.progress.Progress.{Progress}
 
@@ -26,10 +28,14 @@ pub record AreClasses (q : ℕ) (Tight : ℕ → ℕ → Type 0) (component : Li
   pub below : (i n : ℕ) → number_at component i ≡ Some n → n < count
   pub covered : (i n : ℕ) → number_at component i ≡ Some n → IsCovered q Tight i
 
--- for each interval without a number, the least interval with a line to which it is joined
-pub record AreLeastJoined (q : ℕ) (Tight : ℕ → ℕ → Type 0) (lines : List CoverLine) (component joined_to : List (Option ℕ)) : Type 0 where
+-- the set has the intervals without a number
+pub record AreFree (q : ℕ) (component : List (Option ℕ)) (free : IndexSet) : Type 0 where
+  pub each : (i : ℕ) → IsTrue (has free i) ↔ ((i < q) × (number_at component i ≡ None))
+
+-- of the intervals without a number the set has those that are joined to one with a line
+pub record AreNear (q : ℕ) (Tight : ℕ → ℕ → Type 0) (lines : List CoverLine) (component : List (Option ℕ)) (near : IndexSet) : Type 0 where
   pub each : (i : ℕ) → i < q → number_at component i ≡ None →
-      MatchOption (number_at joined_to i) ((j : ℕ) → JoinsLines q Tight lines i j → ⊥) (IsLeastFrom 0 (JoinsLines q Tight lines i))
+      IsTrue (has near i) ↔ ((j : ℕ) × JoinsLines q Tight lines i j)
 
 -- no interval below n without a number is directly covered
 pub record AreSearched (q : ℕ) (Tight : ℕ → ℕ → Type 0) (component : List (Option ℕ)) (n : ℕ) : Type 0 where
@@ -42,35 +48,14 @@ unnumbered component = count_by is_none component
 -- what is kept while lines are added
 pub record IsProgress (q : ℕ) (Tight : ℕ → ℕ → Type 0) (p : Progress) : Type 0 where
   pub component_length : length p.component.items ≡ q
-  pub joined_length : length p.joined_to.items ≡ q
   pub lines : AreInTurn q Tight p.lines.items
   pub numbers : AreNumbered p.lines.items p.component.items
   pub count : p.count ≡ components_in p.lines.items
   pub few : p.count + unnumbered p.component.items ≤ q
   pub classes : AreClasses q Tight p.component.items p.count
-  pub least : AreLeastJoined q Tight p.lines.items p.component.items p.joined_to.items
+  pub free : AreFree q p.component.items p.free
+  pub near : AreNear q Tight p.lines.items p.component.items p.near
   pub searched : AreSearched q Tight p.component.items p.searched
-
--- the least of the interval so far and one more
-abbrev pub lesser_of : Option ℕ → ℕ → ℕ
-lesser_of None i = i
-lesser_of (Some j) i = min j i
-
--- the least of the interval so far is not above the interval
-abbrev pub IsNotAbove : Option ℕ → ℕ → Type 0
-IsNotAbove None i = ⊥
-IsNotAbove (Some j) i = j ≤ i
-
--- the least interval so far and then, where one more interval is one of those of which it is the least, or not
-abbrev pub IsNoted : Type 0 → ℕ → Option ℕ → Option ℕ → Type 0
-IsNoted IsOne i old new =
-    (IsOne × (new ≡ Some (lesser_of old i))) ⊎ (((IsOne → ⊥) ⊎ IsNotAbove old i) × (new ≡ old))
-
--- at each interval without a number that is joined to the interval stands the least so far or this one
-pub record IsJoinedUpTo (q n : ℕ) (Tight : ℕ → ℕ → Type 0) (interval : ℕ) (component old new : List (Option ℕ)) : Type 0 where
-  pub each : (k : ℕ) → k < n → number_at component k ≡ None →
-      IsNoted (AreJoined q Tight k interval) interval (number_at old k) (number_at new k)
-  pub rest : (k : ℕ) → n ≤ k → number_at new k ≡ number_at old k
 
 -- no line comes next: no interval without one is joined to one with a line, or directly covered
 pub record IsComplete (q : ℕ) (Tight : ℕ → ℕ → Type 0) (lines : List CoverLine) : Type 0 where

@@ -1,12 +1,17 @@
--- Tight pairs as a table (own).
-use Rattle.std.specs.Prelude.{ℕ, ◌↔◌, ◌+◌, ◌*◌, ◌%◌, false, IsTrue, slice_index_or}
+-- Tight pairs as sets of indices (own).
+use Rattle.std.specs.Prelude.{ℕ, ◌↔◌, ◌%◌, Bool, IsTrue}
 use Rattle.gj_shape.specs.Cover.{Joins, Covers, AreJoined}
 use Rattle.gj_shape.specs.declared.faces.FaceKind.{FaceKind}
+use Rattle.gj_cover.specs.SetRows.{in_row}
 use Rattle.gj_cover.specs.declared.table.Table.{Table}
 
--- the pair is tight by the table, indices modulo the order
+-- whether the pair is tight by the table, indices modulo the order
+unfoldable pub is_tight_in : Table → ℕ → ℕ → Bool
+is_tight_in t i j = in_row t.rows.items (i % t.order) (j % t.order)
+
+-- the same as a fact
 unfoldable pub IsTightIn : Table → ℕ → ℕ → Type 0
-IsTightIn t i j = IsTrue (slice_index_or t.tight.items (i % t.order * t.order + j % t.order) false)
+IsTightIn t i j = IsTrue (is_tight_in t i j)
 
 -- the pairs of the relation are those that are tight by the table
 abbrev pub TellsTight : Table → (ℕ → ℕ → Type 0) → Type 0

@@ -1,11 +1,14 @@
 //! The table of the pairs in runs.
-ghost use Rattle.std.specs.Prelude.{ℕ, ◌≡◌, ◌⊎◌, ◌↔◌, ◌+◌, ◌*◌, ◌<◌, false, length, IfOk, IsTrue, slice_index_or};
+ghost use Rattle.std.specs.Prelude.{ℕ, ◌≡◌, ◌⊎◌, ◌↔◌, ◌+◌, ◌<◌, length, IfOk, IsTrue};
 ghost use Rattle.gj_shape.specs.Given.{IsOrder};
 ghost use Rattle.gj_faces.specs.Runs.{AreInOrder, InRuns, Holds, IsRunOf};
+ghost use Rattle.gj_cover.specs.SetRows.{in_row};
 ghost use Rattle.gj_cover.specs.Table.{TellsTight};
 
 use crate::table::Table;
+use crate::transposed::no_pairs;
 use gj_faces::Run;
+use gj_sets::IndexSet;
 use std::alloc::{AllocError, Global};
 
 /// The table of the pairs in the runs.
@@ -15,24 +18,24 @@ pub(crate) fn table_of_runs(alloc: Global, runs: &[Run], q: u32) -> Result<Table
     ensures order { IfOk result (λ t. t.order ≡ q) }
     ensures tells { IfOk result (λ t. TellsTight t (InRuns q runs.now)) }
 {
-    let mut tight = vec![in alloc; false; (q * q) as usize]?;
+    let mut rows = no_pairs(alloc, q as usize)?;
     for run in runs {
-        mark(&mut tight, *run, q);
+        mark(&mut rows, *run, q);
     }
-    Ok(Table::of(tight, q))
+    let table = Table::of(alloc, rows, q)?;
+    Ok(table)
 }
 
-/// Marks the pairs of a run.
-fn mark(tight: &mut Vec<bool>, run: Run, q: u32)
+/// Adds the pairs of a run.
+fn mark(rows: &mut Vec<IndexSet>, run: Run, q: u32)
     requires order { IsOrder q }
     requires run { IsRunOf q run }
-    requires length { length tight.old.items ≡ q * q }
-    ensures length { length tight.new.items ≡ q * q }
+    requires length { length rows.old.items ≡ q }
+    ensures length { length rows.new.items ≡ q }
     ensures marked { (i j : ℕ) → i < q → j < q →
-        IsTrue (slice_index_or tight.new.items (i * q + j) false)
-        ↔ (IsTrue (slice_index_or tight.old.items (i * q + j) false) ⊎ Holds q i j run) }
+        IsTrue (in_row rows.new.items i j) ↔ (IsTrue (in_row rows.old.items i j) ⊎ Holds q i j run) }
 {
-    for second in run.from..run.to + 1 {
-        tight[(run.a * q + second) as usize] = true;
-    }
+    let places = IndexSet::between(run.from as usize, run.to as usize + 1);
+    let row = run.a as usize;
+    rows[row] = rows[row].or(&places);
 }

@@ -1,37 +1,56 @@
-//! Whether two intervals are joined.
-ghost use Rattle.std.specs.Prelude.{◌≢◌, ◌↔◌, ◌<◌, IsTrue};
+//! The intervals that are joined to one.
+ghost use Rattle.std.specs.Prelude.{ℕ, ◌≡◌, ◌≢◌, ◌↔◌, ◌+◌, ◌%◌, ◌<◌, ◌≤◌, ◌&&◌, nat_lt, IsTrue};
+ghost use Rattle.gj_sets.specs.IndexSets.{has};
 ghost use Rattle.gj_cover.specs.Table.{IsTightIn, AreJoinedBy};
 ghost use Rattle.gj_cover.specs.Links.{Links};
 
-use crate::first_faces::difference;
 use crate::table::Table;
-use gj_shape::FaceKind;
+use gj_sets::IndexSet;
 
-/// Whether two different intervals are joined. A triangle has an edge for each two of its projections.
-pub(crate) fn are_joined(table: &Table, i: u32, j: u32) -> bool
-    requires first { i < table.now.order }
-    requires second { j < table.now.order }
-    requires different { i ≢ j }
-    ensures { IsTrue result ↔ AreJoinedBy table.now i j }
+/// The intervals that are joined to the interval, besides itself. A triangle has an edge for each two of its projections.
+pub(crate) fn joined(table: &Table, i: u32) -> IndexSet
+    requires { i < table.now.order }
+    ensures within { (j : ℕ) → IsTrue (has result j) → j < table.now.order }
+    ensures joined { (j : ℕ) → j < table.now.order → i ≢ j → IsTrue (has result j) ↔ AreJoinedBy table.now i j }
 {
-    if are_linked(table, i, j) {
-        return true;
-    }
-    are_linked(table, j, i)
+    linked_from(table, i).or(&linked_to(table, i))
 }
 
-/// Whether an additive edge links the first interval to the second as one that stands behind it.
-fn are_linked(table: &Table, i: u32, j: u32) -> bool
-    requires first { i < table.now.order }
-    requires second { j < table.now.order }
-    ensures { IsTrue result ↔ Links table.now.order (IsTightIn table.now) i j }
+/// The intervals j to which an additive edge links the interval i as one that stands behind it: that of the square (i, j), that
+/// from the square (i, j - i) or that from the square (j - i, i).
+fn linked_from(table: &Table, i: u32) -> IndexSet
+    requires { i < table.now.order }
+    ensures within { (j : ℕ) → IsTrue (has result j) → j < table.now.order }
+    ensures links { (j : ℕ) → j < table.now.order → IsTrue (has result j) ↔ Links table.now.order (IsTightIn table.now) i j }
 {
-    if table.is_additive(FaceKind::Diagonal, i, j) {
-        return true;
-    }
-    let step = difference(j, i, table.order());
-    if table.is_additive(FaceKind::Horizontal, i, step) {
-        return true;
-    }
-    table.is_additive(FaceKind::Vertical, step, i)
+    let order = table.order() as usize;
+    let (row, next_row) = (table.row(i), table.row(i + 1));
+    let (column, next_column) = (table.column(i), table.column(i + 1));
+    let diagonal = next_row.and(&turned_back(row, order));
+    let horizontal = row.and(next_row).turned(i as usize, order);
+    let vertical = column.and(next_column).turned(i as usize, order);
+    diagonal.or(&horizontal).or(&vertical)
+}
+
+/// The intervals j that an additive edge links to the interval i as one that stands behind them.
+fn linked_to(table: &Table, i: u32) -> IndexSet
+    requires { i < table.now.order }
+    ensures within { (j : ℕ) → IsTrue (has result j) → j < table.now.order }
+    ensures links { (j : ℕ) → j < table.now.order → IsTrue (has result j) ↔ Links table.now.order (IsTightIn table.now) j i }
+{
+    let order = table.order() as usize;
+    let (column, next_column) = (table.column(i), table.column(i + 1));
+    let diagonal = next_column.and(&turned_back(column, order));
+    let horizontal = table.firsts(i).and(&turned_back(table.firsts(i + 1), order));
+    let vertical = table.seconds(i).and(&turned_back(table.seconds(i + 1), order));
+    diagonal.or(&horizontal).or(&vertical)
+}
+
+/// Each index less 1, where 0 becomes the last index below the order.
+pub(crate) fn turned_back(set: &IndexSet, order: usize) -> IndexSet
+    requires some { 2 ≤ order }
+    requires few { order ≤ 1000 }
+    ensures { (j : ℕ) → has result j ≡ (nat_lt j order && has set.now ((j + 1) % order)) }
+{
+    set.turned(order - 1, order)
 }

@@ -16,6 +16,7 @@ mod progress;
 mod reached;
 mod squares;
 mod table;
+mod transposed;
 #[cfg(test)]
 mod tests;
 

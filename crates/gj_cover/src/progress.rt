@@ -1,15 +1,15 @@
 //! The search for cover lines.
-ghost use Rattle.std.specs.Prelude.{ℕ, ◌≡◌, ◌≢◌, ◌↔◌, ◌<◌, length, replicate, OnOk, IfOk, IfSome, IfNone, IsTrue};
+ghost use Rattle.std.specs.Prelude.{ℕ, ◌≡◌, ◌<◌, length, replicate, OnOk, IfOk, IfSome, IfNone};
 ghost use Rattle.gj_shape.specs.Cover.{JoinsLines, IsOpen, IsOpeningLine, IsNextLine};
 ghost use Rattle.gj_shape.specs.FirstViolation.{IsLeastFrom};
-ghost use Rattle.gj_cover.specs.CoverOf.{number_at};
-ghost use Rattle.gj_cover.specs.Table.{IsTightIn, AreJoinedBy};
-ghost use Rattle.gj_cover.specs.Progress.{IsComplete, IsJoinedUpTo, IsNotAbove, IsNoted};
+ghost use Rattle.gj_cover.specs.Table.{IsTightIn};
+ghost use Rattle.gj_cover.specs.Progress.{IsComplete};
 
 use crate::covered::Cover;
 use crate::first_faces::{first_covering, first_joining};
-use crate::joined::are_joined;
+use crate::joined::joined;
 use crate::table::Table;
+use gj_sets::IndexSet;
 use gj_shape::{CoverLine, List};
 use std::alloc::{AllocError, Global};
 
@@ -18,8 +18,10 @@ use std::alloc::{AllocError, Global};
 pub(crate) struct Progress {
     /// The number of the component of each interval that has a line.
     component: Vec<Option<u32>>,
-    /// For each interval without a line the least one with a line to which it is joined.
-    joined_to: Vec<Option<u32>>,
+    /// The intervals that have no line.
+    free: IndexSet,
+    /// Those of them that are joined to an interval with a line, and perhaps some with a line.
+    near: IndexSet,
     /// The lines.
     lines: Vec<CoverLine>,
     /// How many components were opened.
@@ -38,7 +40,8 @@ impl Progress {
         let order = table.order() as usize;
         Ok(Progress {
             component: no_numbers(alloc, order)?,
-            joined_to: no_numbers(alloc, order)?,
+            free: IndexSet::below(order),
+            near: IndexSet::empty(),
             lines: Vec::new(alloc),
             count: 0,
             searched: 0,
@@ -57,11 +60,11 @@ impl Progress {
         Ok(progress)
     }
 
-    /// The number of the component of each interval that has a line.
-    pub(crate) fn component(&self) -> &[Option<u32>]
-        ensures { result.now ≡ self.now.component.items }
+    /// The intervals that have no line.
+    pub(crate) fn free(&self) -> &IndexSet
+        ensures { result.now ≡ self.now.free }
     {
-        self.component.as_slice()
+        &self.free
     }
 
     /// The cover with this class. It takes no memory.
@@ -108,14 +111,13 @@ impl Progress {
         ensures none { IfNone result ((i j : ℕ) →
             JoinsLines table.now.order (IsTightIn table.now) self.now.lines.items i j → ⊥) }
     {
-        for interval in 0..table.order() {
-            if self.component[interval as usize].is_none() {
-                if let Some(from) = self.joined_to[interval as usize] {
-                    return Some((interval, from));
-                }
-            }
-        }
-        None
+        let Some(interval) = self.near.and(&self.free).first() else {
+            return None;
+        };
+        let Some(from) = joined(table, interval as u32).and_not(&self.free).first() else {
+            return None;
+        };
+        Some((interval as u32, from as u32))
     }
 
     /// The line that opens the next component, where no line joins.
@@ -151,33 +153,14 @@ impl Progress {
         self.lines.push(line)?;
         let number = self.component[line.from as usize].unwrap_or(self.count);
         self.component[line.interval as usize] = Some(number);
-        self.note_joined(table, line.interval);
+        self.free.remove(line.interval as usize);
+        self.near = self.near.or(&joined(table, line.interval));
         if line.from != line.interval {
             return Ok(());
         }
         self.count += 1;
         self.searched = line.interval;
         Ok(())
-    }
-
-    /// Notes at each interval without a number that is joined to the interval that it may be the least such.
-    fn note_joined(&mut self, table: &Table, interval: u32)
-        requires component { length self.old.component.items ≡ table.now.order }
-        requires joined_to { length self.old.joined_to.items ≡ table.now.order }
-        requires within { interval < table.now.order }
-        requires numbered { number_at self.old.component.items interval ≡ None → ⊥ }
-        ensures others { self.new ≡ record self.old { joined_to = self.new.joined_to } }
-        ensures length { length self.new.joined_to.items ≡ table.now.order }
-        ensures joined { IsJoinedUpTo table.now.order table.now.order (IsTightIn table.now) interval
-            self.old.component.items self.old.joined_to.items self.new.joined_to.items }
-    {
-        for other in 0..table.order() {
-            let place = other as usize;
-            if self.component[place].is_some() {
-                continue;
-            }
-            self.joined_to[place] = noted(table, self.joined_to[place], other, interval);
-        }
     }
 }
 
@@ -186,28 +169,4 @@ fn no_numbers(alloc: Global, count: usize) -> Result<Vec<Option<u32>>, AllocErro
     ensures { IfOk result (λ v. v.items ≡ replicate count None) }
 {
     vec![in alloc; None; count]
-}
-
-/// The least interval to which the other is joined, of the least so far and one more. Where the least so far is not above
-/// the one more, the table is not read.
-fn noted(table: &Table, so_far: Option<u32>, other: u32, interval: u32) -> Option<u32>
-    requires first { other < table.now.order }
-    requires second { interval < table.now.order }
-    requires different { other ≢ interval }
-    ensures { IsNoted (AreJoinedBy table.now other interval) interval so_far result }
-{
-    if is_not_above(so_far, interval) || !are_joined(table, other, interval) {
-        return so_far;
-    }
-    Some(interval)
-}
-
-/// Whether the least interval so far is not above one more.
-fn is_not_above(so_far: Option<u32>, interval: u32) -> bool
-    ensures { IsTrue result ↔ IsNotAbove so_far interval }
-{
-    match so_far {
-        Some(least) => least <= interval,
-        None => false,
-    }
 }

@@ -1,30 +1,59 @@
-//! The tight pairs as a table.
-ghost use Rattle.std.specs.Prelude.{◌≡◌, ◌↔◌, ◌+◌, ◌*◌, ◌<◌, ◌≤◌, length, IsTrue};
+//! The tight pairs as sets.
+ghost use Rattle.std.specs.Prelude.{◌≡◌, ◌↔◌, ◌+◌, ◌*◌, ◌<◌, ◌≤◌, length, IfOk, IsTrue};
 ghost use Rattle.gj_shape.specs.Additive.{IsAdditive};
 ghost use Rattle.gj_shape.specs.Given.{IsOrder};
+ghost use Rattle.gj_cover.specs.SetRows.{AreColumns, AreFirsts, AreSeconds};
 
+use crate::transposed::{first_indices, transposed};
+use gj_sets::IndexSet;
 use gj_shape::{FaceKind, wrapped};
+use std::alloc::{AllocError, Global};
 
-/// Which pairs of indices below the order are tight, row by row.
+/// Which pairs of indices below the order are tight. Each pair stands in four sets, so that each question about all pairs with
+/// one index, or with one sum, is asked of a whole set.
 #[derive(Drop)]
 pub(crate) struct Table {
     order: u32,
-    tight: Vec<bool>,
+    /// For each a the indices b of the tight pairs (a, b).
+    rows: Vec<IndexSet>,
+    /// For each b the indices a of the tight pairs (a, b).
+    columns: Vec<IndexSet>,
+    /// For each s the indices a of the tight pairs (a, b) with the sum s, modulo the order.
+    firsts: Vec<IndexSet>,
+    /// For each s the indices b of the tight pairs (a, b) with the sum s, modulo the order.
+    seconds: Vec<IndexSet>,
     ghost few: { IsOrder order },
-    ghost whole: { length tight.items ≡ order * order },
+    ghost rows_length: { length rows.items ≡ order },
+    ghost columns_length: { length columns.items ≡ order },
+    ghost firsts_length: { length firsts.items ≡ order },
+    ghost seconds_length: { length seconds.items ≡ order },
+    ghost columns_are: { AreColumns order rows.items columns.items },
+    ghost firsts_are: { AreFirsts order rows.items firsts.items },
+    ghost seconds_are: { AreSeconds order rows.items seconds.items },
 }
 
 impl Table {
-    ghost use Rattle.gj_cover.specs.Table.{IsTightIn};
+    ghost use Rattle.std.specs.Prelude.{ℕ, ◌%◌};
+    ghost use Rattle.gj_sets.specs.IndexSets.{has};
+    ghost use Rattle.gj_cover.specs.Table.{IsTightIn, is_tight_in};
 
-    /// The table of these pairs, row by row. It takes no memory.
-    pub(crate) fn of(tight: Vec<bool>, order: u32) -> Table
+    /// The table of the pairs in these rows.
+    pub(crate) fn of(alloc: Global, rows: Vec<IndexSet>, order: u32) -> Result<Table, AllocError>
         requires few { IsOrder order }
-        requires whole { length tight.items ≡ order * order }
-        ensures order { result.order ≡ order }
-        ensures tight { result.tight.items ≡ tight.items }
+        requires length { length rows.items ≡ order }
+        ensures order { IfOk result (λ t. t.order ≡ order) }
+        ensures rows { IfOk result (λ t. t.rows.items ≡ rows.items) }
     {
-        Table { order, tight }
+        let columns = transposed(alloc, rows.as_slice())?;
+        let firsts = first_indices(alloc, rows.as_slice())?;
+        let seconds = first_indices(alloc, columns.as_slice())?;
+        Ok(Table {
+            order,
+            rows,
+            columns,
+            firsts,
+            seconds,
+        })
     }
 
     /// The order.
@@ -35,15 +64,47 @@ impl Table {
         self.order
     }
 
+    /// The indices b with a tight pair (a, b).
+    pub(crate) fn row(&self, a: u32) -> &IndexSet
+        requires { a ≤ self.now.order }
+        ensures { (b : ℕ) → b < self.now.order → has result.now b ≡ is_tight_in self.now a b }
+    {
+        &self.rows[wrapped(a, self.order) as usize]
+    }
+
+    /// The indices a with a tight pair (a, b).
+    pub(crate) fn column(&self, b: u32) -> &IndexSet
+        requires { b ≤ self.now.order }
+        ensures { (a : ℕ) → a < self.now.order → has result.now a ≡ is_tight_in self.now a b }
+    {
+        &self.columns[wrapped(b, self.order) as usize]
+    }
+
+    /// The first indices of the tight pairs with this sum, modulo the order.
+    pub(crate) fn firsts(&self, sum: u32) -> &IndexSet
+        requires { sum ≤ self.now.order }
+        ensures { (a b : ℕ) → a < self.now.order → b < self.now.order → (a + b) % self.now.order ≡ sum % self.now.order →
+            has result.now a ≡ is_tight_in self.now a b }
+    {
+        &self.firsts[wrapped(sum, self.order) as usize]
+    }
+
+    /// The second indices of the tight pairs with this sum, modulo the order.
+    pub(crate) fn seconds(&self, sum: u32) -> &IndexSet
+        requires { sum ≤ self.now.order }
+        ensures { (a b : ℕ) → a < self.now.order → b < self.now.order → (a + b) % self.now.order ≡ sum % self.now.order →
+            has result.now b ≡ is_tight_in self.now a b }
+    {
+        &self.seconds[wrapped(sum, self.order) as usize]
+    }
+
     /// Whether the pair is tight, where no index is above the order.
     pub(crate) fn is_tight(&self, i: u32, j: u32) -> bool
         requires first { i ≤ self.now.order }
         requires second { j ≤ self.now.order }
         ensures { IsTrue result ↔ IsTightIn self.now i j }
     {
-        let row = wrapped(i, self.order);
-        let column = wrapped(j, self.order);
-        self.tight[(row * self.order + column) as usize]
+        self.row(i).contains(wrapped(j, self.order) as usize)
     }
 
     /// Whether the face of this kind of the square (a, b) is additive.

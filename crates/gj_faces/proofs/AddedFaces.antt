@@ -1,5 +1,6 @@
 -- Maximal faces that are added to a list.
-use Rattle.std.proofs.Common.{◌≡◌, ℕ, ◌+◌, ◌<◌, List, [], ◌∷◌, ◌++◌, false, get_or, append_assoc, sym, ap, subst, ◌∙◌}
+use Rattle.std.proofs.Common.{◌≡◌, ℕ, zero, suc, ◌+◌, ◌<◌, ◌≤◌, List, [], ◌∷◌, ◌++◌, false, append_assoc, sym, ap, subst, ◌∙◌, arith}
+use Rattle.gj_sets.specs.IndexSets.{has}
 use Rattle.std.specs.List.{range_with_len, flat_map}
 use Rattle.std.proofs.lemmas.Bool.{true≢false}
 use Rattle.std.proofs.lemmas.List.{append-nil}
@@ -44,10 +45,10 @@ adds_square f a b old middle new h k =
     subst (λ xs. AddsMaximal f xs old new) (sym (joined_more (faces_of_square a) b))
     (adds_joined f (flat_map (faces_of_square a) (range_with_len 0 b)) (faces_of_square a b) old middle new h k)
 
--- a square of which no face is maximal
-pub adds_no_square : (f : FunctionData) (a b n : ℕ) (alone : Alone) (old : List Face) → AreAlone f a alone n → b < n →
-    get_or alone.any b false ≡ false → AddsMaximal f (faces_of_square a b) old old
-adds_no_square f a b n alone old h below silent = record {
+-- squares of which no face is maximal
+adds_no_square : (f : FunctionData) (a b : ℕ) (alone : Alone) (old : List Face) → AreAlone f a alone → b < f.order →
+    has alone.any b ≡ false → AddsMaximal f (faces_of_square a b) old old
+adds_no_square f a b alone old h below silent = record {
   added = [];
   picked = dropped (not_one Vertex) (dropped (not_one Horizontal) (dropped (not_one Vertical) (dropped (not_one Diagonal)
       (dropped (not_one Lower) (dropped (not_one Upper) none)))));
@@ -56,8 +57,22 @@ adds_no_square f a b n alone old h below silent = record {
   where
     not_one : (kind : FaceKind) → IsMaximalIn f (record { kind = kind; a = a; b = b }) → ⊥
     not_one kind maximal =
-        let some = h.any kind b below ((h.flags kind b below).1 maximal) in
+        let some = h.any kind b below ((h.each kind b below).1 maximal) in
         true≢false (sym some ∙ silent)
+
+pub adds_no_squares : (f : FunctionData) (a b n : ℕ) (alone : Alone) (old new : List Face) → AreAlone f a alone →
+    b + n ≤ f.order → ((k : ℕ) → b ≤ k → k < b + n → has alone.any k ≡ false) →
+    AddsMaximal f (flat_map (faces_of_square a) (range_with_len 0 b)) old new →
+    AddsMaximal f (flat_map (faces_of_square a) (range_with_len 0 (b + n))) old new
+adds_no_squares f a b zero alone old new h within silent before =
+    let e : b ≡ b + zero = omega arith in
+    subst (λ k. AddsMaximal f (flat_map (faces_of_square a) (range_with_len 0 k)) old new) e before
+adds_no_squares f a b (suc n) alone old new h within silent before =
+    let e : b + n + 1 ≡ b + suc n = omega arith in
+    subst (λ k. AddsMaximal f (flat_map (faces_of_square a) (range_with_len 0 k)) old new) e
+    (adds_square f a (b + n) old new new
+    (adds_no_squares f a b n alone old new h (omega arith) (λ k from below. silent k from (omega arith)) before)
+    (adds_no_square f a (b + n) alone new h (omega arith) (silent (b + n) (omega arith) (omega arith))))
 
 -- one row more
 pub picked_row : (f : FunctionData) (q a : ℕ) (old new : List Face) →

@@ -9,7 +9,7 @@ pub mod Maximality
 pub mod Closures
 pub mod PickedFaces
 pub mod Held
-pub mod PaintedRows
+pub mod PairRows
 pub mod AloneFlags
 pub mod AddedFaces
 pub mod TightGrids

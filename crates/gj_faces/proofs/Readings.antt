@@ -1,54 +1,116 @@
--- What the code reads of values in lanes of 64 bits, and of rows.
-use Rattle.std.proofs.Common.{◌≡◌, ◌≢◌, ℕ, ◌+◌, ◌-◌, ◌*◌, ◌<◌, ◌^◌, ℤ, pos, ◌+ℤ◌, unsigned_abs, Bool, false, List, length, get_or, set, IsTrue, ◌↔◌, eqb, eqb-true, eq-eqb, ap, subst, sym, ◌∙◌, below_more, to_z, of_z, w64, get_or-set_other, get_or-set_same, inl, inr, arith}
-use Rattle.std.proofs.lemmas.Bool.{cases_lt}
-use Rattle.std.proofs.lemmas.Int.{ints, to_z-of_z}
+-- What the lanes of a function say of its tight pairs.
+use Rattle.std.proofs.Common.{◌≡◌, ◌≢◌, ◌↔◌, inl, inr, ℕ, ◌+◌, ◌-◌, ◌*◌, ◌<◌, ◌≤◌, ◌^◌, ℤ, pos, ◌+ℤ◌, unsigned_abs, List, length, get_or, set, drop, take, replicate, to_z, of_z, w32, w64, ap, subst, sym, ◌∙◌, get_or-set_other, get_or-set_same, below_more, arith}
+use Rattle.std.proofs.lemmas.Bool.{cases_lt, cases_eq}
+use Rattle.std.proofs.Math.ListN.{length-set}
+use Rattle.std.proofs.lemmas.Int.{ints, to_z-of_z, fits_signed_from_abs}
+use Rattle.std.proofs.lemmas.Simd.{length-replicate, get_or-replicate}
+use Rattle.std.proofs.lemmas.List.{get_or_past, get_or-drop, get_or-take}
+use Rattle.gj_sets.specs.Sums.{AreSmall}
 use Rattle.gj_shape.specs.Additive.{IsTight}
 use Rattle.gj_shape.specs.FunctionData.{FunctionData, IsWithinBounds, at}
 use Rattle.gj_shape.proofs.AtLemmas.{at_below, at_plus_length}
-use Rattle.gj_shape.proofs.NumeratorReadings.{small_read, value_below}
-use Rattle.gj_faces.specs.Rows.{AreValues, TellsRow}
+use Rattle.gj_shape.proofs.NumeratorReadings.{value_below}
+use Rattle.gj_faces.specs.Lanes.{AreRepeated}
 
--- whether the sum of two numbers of 51 bits is a third, as the code tests it
-pub sum_bits : (x y s : ℤ) → unsigned_abs x < 2 ^ 51 → unsigned_abs y < 2 ^ 51 → unsigned_abs s < 2 ^ 51 →
-    IsTrue (eqb (of_z w64 (to_z w64 (of_z w64 x) +ℤ to_z w64 (of_z w64 y))) (of_z w64 s)) ↔ (x +ℤ y ≡ s)
-sum_bits x y s h k l =
-    let first = small_read x h in
-    let second = small_read y k in
-    rw (first, second) (
-      λ e. sym (to_z-of_z w64 (x +ℤ y) (omega (arith, ints)))
-          ∙ ap (to_z w64) (eqb-true (of_z w64 (x +ℤ y)) (of_z w64 s) e) ∙ small_read s l,
-      λ e. eq-eqb (of_z w64 (x +ℤ y)) (of_z w64 s) (ap (of_z w64) e),
-    )
+-- numbers that are small up to their end are small
+pub small_all : (bound : ℕ) (xs : List ℤ) → 0 < bound → ((i : ℕ) → i < length xs → unsigned_abs (get_or xs i (pos 0)) < bound) →
+    AreSmall bound xs
+small_all bound xs some h i =
+    elim (cases_lt i (length xs)) [
+      | inl below ↦ h i below
+      | inr past ↦ subst (λ x. unsigned_abs x < bound) (sym (get_or_past xs i (pos 0) past)) some
+    ]
 
--- so for values in lanes
-pub tight_bits : (f : FunctionData) (lanes : List ℤ) (n a b : ℕ) → AreValues f lanes n → a + b < n →
-    IsTrue (eqb (of_z w64 (to_z w64 (of_z w64 (get_or lanes a (pos 0))) +ℤ to_z w64 (of_z w64 (get_or lanes b (pos 0)))))
-    (of_z w64 (get_or lanes (a + b) (pos 0)))) ↔ IsTight f a b
-tight_bits f lanes n a b h below =
-    let test = sum_bits (get_or lanes a (pos 0)) (get_or lanes b (pos 0)) (get_or lanes (a + b) (pos 0))
-    (h.small a (omega arith)) (h.small b (omega arith)) (h.small (a + b) below) in
-    let first = h.same a (omega arith) in
-    let second = h.same b (omega arith) in
-    let sum = h.same (a + b) below in (
-      λ e. let same = test.0 e in cc,
-      λ tight. test.1 (let same = tight in cc),
-    )
+-- those behind a place too
+pub small_behind : (bound : ℕ) (xs : List ℤ) (n : ℕ) → AreSmall bound xs → AreSmall bound (drop n xs)
+small_behind bound xs n h i = subst (λ x. unsigned_abs x < bound) (sym (get_or-drop n xs i (pos 0))) (h (n + i))
 
--- one place more of a row
-pub row_more : (f : FunctionData) (a n : ℕ) (row : List Bool) (x : Bool) → n < length row → TellsRow f a row n →
-    IsTrue x ↔ IsTight f a n → TellsRow f a (set row n x) (n + 1)
-row_more f a n row x within h here =
-    below_more (λ b. IsTrue (get_or (set row n x) b false) ↔ IsTight f a b) n
-    (λ b below. let other : b ≢ n = omega arith in rw get_or-set_other (h b below)) (rw get_or-set_same here)
+-- the values of a function
+pub values_small : (f : FunctionData) → IsWithinBounds f → AreSmall (2 ^ 62) f.value
+values_small f limits =
+    small_all (2 ^ 62) f.value (omega arith) (λ i below.
+    let e = at_below f.value i below in
+    let small = value_below f i limits in
+    subst (λ x. unsigned_abs x < 2 ^ 62) e (omega arith))
 
--- the values in lanes, twice
-pub values_twice : (f : FunctionData) (lanes values : List ℤ) (n : ℕ) → IsWithinBounds f → values ≡ f.value → n ≡ f.order →
-    ((k : ℕ) → k < n → get_or lanes k (pos 0) ≡ get_or values k (pos 0)) →
-    ((k : ℕ) → k < n → get_or lanes (n + k) (pos 0) ≡ get_or values k (pos 0)) → AreValues f lanes (2 * f.order)
-values_twice f lanes values n limits e order once again = record {
-  same = same;
-  small = λ i below. subst (λ z. unsigned_abs z < 2 ^ 51) (sym (same i below)) (value_below f i limits);
+-- one number more in its place
+pub small_more : (bound : ℕ) (xs : List ℤ) (i : ℕ) (x : ℤ) → i < length xs → AreSmall bound xs → unsigned_abs x < bound →
+    AreSmall bound (set xs i x)
+small_more bound xs i x within h small k =
+    elim (cases_eq k i) [
+      | inl e ↦ subst (λ y. unsigned_abs y < bound) (sym (ap (λ n. get_or (set xs i x) n (pos 0)) e ∙ get_or-set_same xs i x (pos 0) within)) small
+      | inr differ ↦ subst (λ y. unsigned_abs y < bound) (sym (get_or-set_other xs i k x (pos 0) differ)) (h k)
+    ]
+
+-- zeros are
+pub zeros_small : (bound n : ℕ) → 0 < bound → AreSmall bound (replicate n (pos 0))
+zeros_small bound n some =
+    small_all bound (replicate n (pos 0)) some (λ i below.
+    let inside = below in
+    subst (λ x. unsigned_abs x < bound) (sym (get_or-replicate n i (pos 0) (pos 0) (omega (arith, length-replicate {A = ℤ} n (pos 0))))) some)
+
+-- what the code reads of a number
+pub read_wide : (x : ℤ) → unsigned_abs x < 2 ^ 62 → to_z w64 (of_z w64 x) ≡ x
+read_wide x small = to_z-of_z w64 x (fits_signed_from_abs w64 x (omega arith))
+
+pub read_alone_narrow : (x : ℤ) → unsigned_abs x < 2 ^ 30 → to_z w32 (of_z w32 x) ≡ x
+read_alone_narrow x small = to_z-of_z w32 x (fits_signed_from_abs w32 x (omega arith))
+
+pub read_narrow : (x : ℤ) → unsigned_abs x < 2 ^ 30 → to_z w32 (of_z w32 (to_z w64 (of_z w64 x))) ≡ x
+read_narrow x small =
+    ap (λ z. to_z w32 (of_z w32 z)) (read_wide x (omega arith)) ∙ read_alone_narrow x small
+
+-- ---- the values in lanes, twice
+
+-- so far up to the n-th
+pub record AreFilled (bound : ℕ) (lanes values : List ℤ) (n : ℕ) : Type 0 where
+  pub count : length lanes ≡ 2064
+  pub small : AreSmall bound lanes
+  pub once : (k : ℕ) → k < n → get_or lanes k (pos 0) ≡ get_or values k (pos 0)
+  pub again : (k : ℕ) → k < n → get_or lanes (length values + k) (pos 0) ≡ get_or values k (pos 0)
+
+pub none_filled : (bound : ℕ) (values : List ℤ) → 0 < bound → AreFilled bound (replicate 2064 (pos 0)) values 0
+none_filled bound values some = record {
+  count = length-replicate 2064 (pos 0);
+  small = zeros_small bound 2064 some;
+  once = λ k below. absurd (omega arith);
+  again = λ k below. absurd (omega arith);
 }
+
+pub one_filled : (bound : ℕ) (lanes values : List ℤ) (n : ℕ) (x : ℤ) → AreFilled bound lanes values n → n < length values →
+    length values ≤ 1000 → AreSmall bound values → x ≡ get_or values n (pos 0) →
+    AreFilled bound (set (set lanes n x) (length values + n) x) values (n + 1)
+one_filled bound lanes values n x h below few small e =
+    let count = h.count in
+    let one = set lanes n x in
+    let one_count = length-set lanes n x ∙ h.count in
+    let fits : unsigned_abs x < bound = subst (λ y. unsigned_abs y < bound) (sym e) (small n) in
+    record {
+      count = length-set one (length values + n) x ∙ one_count;
+      small = small_more bound one (length values + n) x (omega arith) (small_more bound lanes n x (omega arith) h.small fits) fits;
+      once = below_more (λ k. get_or (set (set lanes n x) (length values + n) x) k (pos 0) ≡ get_or values k (pos 0)) n
+          (λ k early.
+          let apart : k ≢ length values + n = omega arith in
+          let before : k ≢ n = omega arith in
+          get_or-set_other one (length values + n) k x (pos 0) apart ∙ get_or-set_other lanes n k x (pos 0) before ∙ h.once k early)
+          (let apart : n ≢ length values + n = omega arith in
+          get_or-set_other one (length values + n) n x (pos 0) apart ∙ get_or-set_same lanes n x (pos 0) (omega arith) ∙ e);
+      again = below_more
+          (λ k. get_or (set (set lanes n x) (length values + n) x) (length values + k) (pos 0) ≡ get_or values k (pos 0)) n
+          (λ k early.
+          let apart : length values + k ≢ length values + n = omega arith in
+          let before : length values + k ≢ n = omega arith in
+          get_or-set_other one (length values + n) (length values + k) x (pos 0) apart
+          ∙ get_or-set_other lanes n (length values + k) x (pos 0) before ∙ h.again k early)
+          (get_or-set_same one (length values + n) x (pos 0) (omega arith) ∙ e);
+    }
+
+-- all of them
+pub values_twice : (f : FunctionData) (bound : ℕ) (lanes values : List ℤ) (n : ℕ) → IsWithinBounds f → values ≡ f.value → n ≡ f.order →
+    length lanes ≡ 2064 → AreSmall bound lanes →
+    ((k : ℕ) → k < n → get_or lanes k (pos 0) ≡ get_or values k (pos 0)) →
+    ((k : ℕ) → k < n → get_or lanes (n + k) (pos 0) ≡ get_or values k (pos 0)) → AreRepeated f bound lanes
+values_twice f bound lanes values n limits e order count small once again = record { count = count; small = small; same = same }
   where
     entry : (k : ℕ) → k < n → get_or values k (pos 0) ≡ at f.value k
     entry k below =
@@ -66,3 +128,26 @@ values_twice f lanes values n limits e order once again = record {
               ap (λ k. get_or lanes k (pos 0)) (sym place) ∙ again (i - n) (omega arith) ∙ entry (i - n) (omega arith)
               ∙ sym (at_plus_length f.value (i - n)) ∙ ap (at f.value) shifted
         ]
+
+-- the pairs of a row, as they are read off lanes
+pub row_of_lanes : (f : FunctionData) (bound a b : ℕ) (lanes : List ℤ) (P : Type 0) → AreRepeated f bound lanes → IsWithinBounds f →
+    a < f.order →
+    P ↔ ((b < f.order) × (get_or lanes b (pos 0) +ℤ get_or lanes a (pos 0) ≡ get_or (take (2064 - a) (drop a lanes)) b (pos 0))) →
+    P ↔ ((b < f.order) × IsTight f a b)
+row_of_lanes f bound a b lanes P h limits below both = (
+  λ p. let there = both.0 p in
+      let inside = there.0 in
+      (inside, (tight inside).0 there.1),
+  λ pair. let inside = pair.0 in both.1 (inside, (tight inside).1 pair.1),
+)
+  where
+    tight : b < f.order →
+        (get_or lanes b (pos 0) +ℤ get_or lanes a (pos 0) ≡ get_or (take (2064 - a) (drop a lanes)) b (pos 0)) ↔ IsTight f a b
+    tight inside =
+        let first = h.same a (omega arith) in
+        let second = h.same b (omega arith) in
+        let few = limits.order_high in
+        let sum = get_or-take (2064 - a) (drop a lanes) b (pos 0) (omega arith) ∙ get_or-drop a lanes b (pos 0) ∙ h.same (a + b) (omega arith) in (
+          λ e. omega (arith, ints),
+          λ e. omega (arith, ints),
+        )

@@ -1,79 +1,72 @@
 //! Which faces of a row of squares are maximal.
-ghost use Rattle.std.specs.Prelude.{◌+◌, ◌-◌, ◌<◌};
-ghost use Rattle.gj_shape.specs.Given.{IsOrder};
-ghost use Rattle.gj_faces.specs.Rows.{TellsWideRow};
+use crate::tight_pairs::TightPairs;
+use gj_sets::IndexSet;
+use gj_shape::{Shape, wrapped};
 
-use crate::rows::{PLACES, WIDTH};
-use gj_shape::Shape;
-
-/// For each b below the order, which faces of the square (a, b) are maximal additive faces, and whether any is.
+/// For each kind the indices b below the order for which the face of the square (a, b) is a maximal additive face, and those
+/// for which any is.
 ///
 /// An additive face lies in the closure of one of higher dimension where one more pair around it is tight.
 #[derive(Drop)]
 pub(crate) struct Alone {
-    pub(crate) any: [bool; PLACES],
-    pub(crate) vertex: [bool; PLACES],
-    pub(crate) horizontal: [bool; PLACES],
-    pub(crate) vertical: [bool; PLACES],
-    pub(crate) diagonal: [bool; PLACES],
-    pub(crate) lower: [bool; PLACES],
-    pub(crate) upper: [bool; PLACES],
+    pub(crate) any: IndexSet,
+    pub(crate) vertex: IndexSet,
+    pub(crate) horizontal: IndexSet,
+    pub(crate) vertical: IndexSet,
+    pub(crate) diagonal: IndexSet,
+    pub(crate) lower: IndexSet,
+    pub(crate) upper: IndexSet,
 }
 
 impl Alone {
+    ghost use Rattle.std.specs.Prelude.{◌<◌};
     ghost use Rattle.gj_faces.specs.Alone.{AreAlone};
+    ghost use Rattle.gj_faces.specs.TightPairs.{AreTightPairsOf};
 
-    /// No face of any square.
-    pub(crate) fn new() -> Alone {
-        Alone {
-            any: [false; PLACES],
-            vertex: [false; PLACES],
-            horizontal: [false; PLACES],
-            vertical: [false; PLACES],
-            diagonal: [false; PLACES],
-            lower: [false; PLACES],
-            upper: [false; PLACES],
-        }
-    }
-
-    /// Makes it that of row a, from the wide rows of a - 1, a and a + 1.
-    pub(crate) fn read(
-        &mut self,
-        shape: &Shape,
-        a: u32,
-        before: &[bool; WIDTH],
-        here: &[bool; WIDTH],
-        next: &[bool; WIDTH],
-    )
-        requires order { IsOrder shape.now.order }
-        requires before { TellsWideRow shape.now (a + (shape.now.order - 1)) before.now }
-        requires here { TellsWideRow shape.now a here.now }
-        requires next { TellsWideRow shape.now (a + 1) next.now }
-        ensures { AreAlone shape.now a self.new shape.now.order }
+    /// Those of row a.
+    pub(crate) fn of(pairs: &TightPairs, shape: &Shape, a: u32) -> Alone
+        requires pairs { AreTightPairsOf shape.now pairs.now }
+        requires within { a < shape.now.order }
+        ensures { AreAlone shape.now a result }
     {
-        for b in 0..shape.order() as usize {
-            let (south, middle, north) = (here[b], here[b + 1], here[b + 2]);
-            let (west, north_west) = (before[b + 1], before[b + 2]);
-            let (south_east, east, north_east) = (next[b], next[b + 1], next[b + 2]);
-            let beside = east | west | north | south | north_west | south_east;
-            let is_vertex = middle & !beside;
-            let is_horizontal = middle & east & !(north | south_east);
-            let is_vertical = middle & north & !(east | north_west);
-            let is_diagonal = east & north & !(middle | north_east);
-            let is_lower = middle & east & north;
-            let is_upper = east & north & north_east;
-            self.any[b] = is_vertex
-                | is_horizontal
-                | is_vertical
-                | is_diagonal
-                | is_lower
-                | is_upper;
-            self.vertex[b] = is_vertex;
-            self.horizontal[b] = is_horizontal;
-            self.vertical[b] = is_vertical;
-            self.diagonal[b] = is_diagonal;
-            self.lower[b] = is_lower;
-            self.upper[b] = is_upper;
+        let period = shape.order();
+        let order = period as usize;
+        // in a plane with a to the east and b to the north
+        let west = pairs.row(wrapped(a + (period - 1), period));
+        let middle = pairs.row(a);
+        let east = pairs.row(wrapped(a + 1, period));
+        let north = middle.turned_down(order);
+        let south = middle.turned_up(order);
+        let north_west = west.turned_down(order);
+        let south_east = east.turned_up(order);
+        let north_east = east.turned_down(order);
+        let low = middle.and(east);
+        let high = east.and(&north);
+        let beside = east
+            .or(west)
+            .or(&north)
+            .or(&south)
+            .or(&north_west)
+            .or(&south_east);
+        let vertex = middle.and_not(&beside);
+        let horizontal = low.and_not(&north.or(&south_east));
+        let vertical = middle.and(&north).and_not(&east.or(&north_west));
+        let diagonal = high.and_not(&middle.or(&north_east));
+        let lower = low.and(&north);
+        let upper = high.and(&north_east);
+        Alone {
+            any: vertex
+                .or(&horizontal)
+                .or(&vertical)
+                .or(&diagonal)
+                .or(&lower)
+                .or(&upper),
+            vertex,
+            horizontal,
+            vertical,
+            diagonal,
+            lower,
+            upper,
         }
     }
 }

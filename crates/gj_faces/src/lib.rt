@@ -8,14 +8,14 @@
 
 mod additive;
 mod alone;
+mod lanes;
 mod laws;
 mod maximal_faces;
-mod painted;
-mod rows;
 mod run;
 mod search;
 #[cfg(test)]
 mod tests;
+mod tight_pairs;
 mod tight_runs;
 
 pub use additive::is_additive;
@@ -23,4 +23,5 @@ pub use laws::additive_by_runs;
 pub use maximal_faces::{maximal, push_maximal_row};
 pub use run::Run;
 pub use search::in_runs;
+pub use tight_pairs::TightPairs;
 pub use tight_runs::runs;

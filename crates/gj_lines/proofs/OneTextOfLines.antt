@@ -1,10 +1,8 @@
 -- A function has one text of its lines.
 use Rattle.std.proofs.Common.{◌≡◌, ℕ, ◌<◌, List, pos, sym, ap, ◌∙◌, arith}
-use Rattle.std.proofs.lemmas.Int.{ints}
 use Rattle.gj_frac.specs.declared.Frac.{Frac}
 use Rattle.gj_frac.specs.Fraction.{IsRatio}
 use Rattle.gj_frac.proofs.SameValues.{same_from_is}
-use Rattle.gj_tools.proofs.Integers.{mul_cancel_right_z, abs_positive_z}
 use Rattle.gj_shape.specs.FunctionData.{FunctionData, IsWithinBounds}
 use Rattle.gj_shape.proofs.GivenPoints.{one_list_of_points}
 use Rattle.gj_lines.specs.FunctionLines.{lines_of, AreFunctionLines}

@@ -17,7 +17,7 @@ use Rattle.gj_tools.proofs.Ring.{by_ring, ring}
 use Rattle.gj_shape.specs.FunctionData.{FunctionData, IsWithinBounds, IsContinuous, at}
 use Rattle.gj_shape.specs.Given.{IsCommonDenominator, numerator_over}
 use Rattle.gj_shape.specs.Gmic.{gmic_table, gmic_scale}
-use Rattle.gj_shape.specs.RowCut.{IsLeastCommonDenominator}
+use Rattle.gj_shape.specs.Given.{IsLeastCommonDenominator}
 use Rattle.gj_shape.specs.SlopeRows.{sum_of_products}
 use Rattle.gj_shape.specs.Table.{table, IsMinimal}
 use Rattle.gj_shape.specs.Valid.{IsValidTable}
@@ -28,6 +28,7 @@ use Rattle.gj_frac.specs.Floor.{HasFractionalPart}
 use Rattle.gj_theory.specs.Cuts.{IsEntryAt, IsValueOf, IsGmicValue}
 use Rattle.gj_theory.proofs.CutsByTables.{product_of, product_some, product_common, numerator_at, whole_and_part, sums}
 use Rattle.gj_theory.proofs.GmicTable.{gmic_minimal, entry_rising, entry_falling}
+use Rattle.gj_theory.proofs.MinimalEntries.{value_at_zero}
 use Rattle.gj_theory.proofs.RowGrids.{part_on_grid, values_on_grid, table_of, place_over, gmics_on_grid}
 use Rattle.gj_theory.proofs.UsedPlaces.{over_more, weigh_one}
 use Rattle.gj_theory.proofs.ValidTables.{minimal_is_valid}
@@ -156,7 +157,7 @@ step_on_grid up q d m x y t is none t_is =
 function_steps : (f : FunctionData) (m : ℕ) (up down : Frac) → IsWithinBounds f → IsContinuous f → IsMinimal f → 0 < m →
     AreSlopesAtZero f up down → AreSteps (table f m) (f.order * m) (f.scale * m) up down
 function_steps f m up down bounds continuous minimal some slopes =
-    let none : at f.value 0 ≡ pos 0 = sym (table_of_order f 0) ∙ (minimal 1 (omega arith)).zero_at_zero in
+    let none = value_at_zero f minimal in
     record {
       rises = step_on_grid up f.order f.scale m (at f.value 1) (at f.value 0) (table f m 1) slopes.up_is none
           (table_first f m continuous none some);

@@ -2,3 +2,5 @@ pub mod Columns
 pub mod HeldCuts
 pub mod WholeColumns
 pub mod Amounts
+pub mod SlopeParts
+pub mod MixedTerms

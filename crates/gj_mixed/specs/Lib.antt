@@ -1,2 +1,3 @@
 pub mod MixedRows
 pub mod Slopes
+pub mod MixedCuts

@@ -4,7 +4,7 @@ use Rattle.gj_frac.specs.declared.Frac.{Frac}
 use Rattle.gj_frac.specs.Fraction.{SameValue, IsRatio, fraction_of, product_of, quotient_of, negation_of, numerator, denominator}
 use Rattle.gj_shape.specs.FunctionData.{FunctionData, IsContinuous, at}
 use Rattle.gj_theory.specs.Cuts.{one_minus}
-use Rattle.gj_rule.specs.Kind.{IsInRange}
+use Rattle.gj_shape.specs.Limits.{IsRowNumber}
 use Rattle.gj_rule.specs.declared.kind.RuleKind.{RuleKind}
 use Rattle.gj_rule.specs.declared.kind.RuleKind.TheVariants.{Gmic, Table}
 
@@ -42,5 +42,5 @@ pub record KeptSlopes (G : Type 0) : Type 0 where
 
 -- the evaluator may be called at each fraction of the range, and answers the weight there
 pub record Weighs {G : Type 0} (pre : G → Frac → Type 0) (post : G → Frac → Frac → Type 0) (up down : Frac) (weigh : G) : Type 0 where
-  pub callable : (c : Frac) → IsInRange c → pre weigh c
-  pub gives : (c w : Frac) → IsInRange c → post weigh c w → IsWeight up down c w
+  pub callable : (c : Frac) → IsRowNumber c → pre weigh c
+  pub gives : (c w : Frac) → IsRowNumber c → post weigh c w → IsWeight up down c w

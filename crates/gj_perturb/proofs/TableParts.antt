@@ -1,7 +1,7 @@
 -- Bounds of the table of a minimal function, and its least positive slack from a list over two periods.
-use Rattle.std.proofs.Common.{◌≡◌, ℕ, inl, inr, ◌+◌, ◌-◌, ◌*◌, ◌%◌, ◌<◌, ◌≤◌, ◌^◌, ℤ, pos, ◌+ℤ◌, ◌-ℤ◌, ◌<ℤ◌, ◌≤ℤ◌, List, get_or, map, All, unsigned_abs, refl, sym, ap, subst, ◌∙◌, mul-pos, mul-le-mul_right, arith}
+use Rattle.std.proofs.Common.{◌≡◌, ℕ, inl, inr, ◌+◌, ◌*◌, ◌%◌, ◌<◌, ◌≤◌, ◌^◌, ℤ, pos, ◌+ℤ◌, ◌-ℤ◌, ◌<ℤ◌, ◌≤ℤ◌, List, get_or, map, All, unsigned_abs, refl, sym, ap, subst, ◌∙◌, mul-pos, mul-le-mul_right, arith}
 use Rattle.std.specs.List.{range_with_len}
-use Rattle.std.proofs.Math.Nat.{mod-lt, mod-mod, mod-add-mod, add-mod-mod, add-mul-mod_self_right}
+use Rattle.std.proofs.Math.Nat.{mod-lt, mod-mod, mod-add-mod, add-mod-mod}
 use Rattle.std.proofs.lemmas.Bool.{cases_lt}
 use Rattle.std.proofs.lemmas.Int.{ints}
 use Rattle.std.proofs.lemmas.List.FromFn.{get_or-map-range_with_len}

@@ -1,20 +1,13 @@
 -- The numbers of a row, one after the other.
-use Rattle.std.proofs.Common.{◌≡◌, ℕ, ◌+◌, ◌<◌, ◌≤◌, List, [], ◌∷◌, ◌++◌, All, length, unsigned_abs, refl, sym, ap, ◌∙◌, append_assoc, arith}
-use Rattle.std.proofs.Math.Nat.{one-dvd}
+use Rattle.std.proofs.Common.{◌≡◌, ℕ, ◌+◌, ◌≤◌, List, [], ◌∷◌, ◌++◌, length, refl, sym, ap, ◌∙◌, append_assoc, arith}
 use Rattle.std.proofs.lemmas.List.{append-nil, length_push}
-use Rattle.std.proofs.lemmas.List.Elements.{All-nil, All-head, All-push}
 use Rattle.std.proofs.lemmas.Slice.Zip.{AllZip-long}
 use Rattle.indexmap.proofs.SetLemmas.{AllZip-push}
 use Rattle.gj_frac.specs.declared.Frac.{Frac}
-use Rattle.gj_frac.specs.Fraction.{denominator}
 use Rattle.gj_lex.specs.SpelledNumbers.{IsFractionWord}
 use Rattle.gj_lex.specs.declared.spelling.Spelling.TheVariants.{Lenient}
-use Rattle.gj_shape.specs.Given.{IsLeastCommonDenominator, HasCommonDenominator}
 use Rattle.gj_shape.proofs.LeastDenominator.{within_of_least, least_with_next, least_of_none, no_common_with}
-use Rattle.gj_tools.proofs.Divisors.{lcm_positive}
-use Rattle.gj_tools.proofs.Lists.{All-front, All-back}
-use Rattle.gj_row.specs.TableauLimits.{AreWithinLimits}
-use Rattle.gj_shape.specs.Limits.{greatest_number, denominator_bound, IsSmallNumber}
+use Rattle.gj_shape.specs.Limits.{greatest_number}
 use Rattle.gj_row.specs.TableauText.{SpellsEntry, SpellNumbers, entry_at, entries_from}
 use Rattle.gj_row.specs.FirstFault.{BreaksNumber, HasNumberFault}
 use Rattle.gj_row.specs.Reading.{HasRead, StopsNumber, StopsEntry}

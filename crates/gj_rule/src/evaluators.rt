@@ -68,8 +68,8 @@ fn is_above(f: Frac, x: Frac, rest: i128) -> bool
     product(f.num(), x.den()) < product(rest, f.den())
 }
 
-/// The quotient of n/d by m/e, whose parts are at most 2^62 in absolute value.
-fn quotient(n: i128, d: i128, m: i128, e: i128) -> Frac
+/// The quotient of n/d by m/e, whose parts are at most 2^62 in absolute value; d and m are not 0.
+pub fn quotient(n: i128, d: i128, m: i128, e: i128) -> Frac
     requires d_some { unsigned_abs d ≢ 0 }
     requires m_some { unsigned_abs m ≢ 0 }
     requires n_small { unsigned_abs n ≤ 2 ^ 62 }

@@ -6,10 +6,11 @@ use Rattle.std.specs.Simd.Lanes.{zip2}
 use Rattle.std.proofs.lemmas.Simd.{length-zip2}
 use Rattle.std.specs.Int.{bit_at}
 use Rattle.std.proofs.lemmas.List.{get_or_past, get_or-set_same, get_or-set_other}
-use Rattle.std.proofs.lemmas.Bool.{cases_eq, cases_lt, eq-eqb, ne_eqb, or_right, and_right, lt-ltb, le-ltb, lt-leb, le-leb, ltb-true, and_parts, and_from}
+use Rattle.std.proofs.lemmas.Bool.{cases_eq, cases_lt, eq-eqb, ne_eqb, or_right, and_right, lt-ltb, le-ltb, lt-leb, le-leb, ltb-true, true≢false, and_parts, and_from}
 use Rattle.std.proofs.lemmas.Nat.Bits.{bit_at_and, bit_at_or, bit_at_xor, bit_at-lt, bit_at-zero, bit_at_set_same, bit_at_set_other, bit_at_clear_same, bit_at_clear_other, bit_at_ones, bit_at_ones_above}
 use Rattle.std.proofs.lemmas.Nat.{one_shl}
-use Rattle.gj_sets.specs.IndexSets.{bit_of}
+use Rattle.gj_sets.specs.IndexSets.{bit_of, has, no_set}
+use Rattle.gj_sets.specs.declared.index_set.IndexSet.{IndexSet}
 
 -- ---- a digit is 0 or 1
 
@@ -244,3 +245,18 @@ words_masked P words end n b r within each masked =
           masked ∙ and_from (bit_of words b) (nat_lt b n) ((each (b / 64) (b % 64) (omega arith) (omega arith)).1 (subst P (sym e) both.1))
           (lt-ltb b n below),
     )
+
+-- ---- a set without words
+
+pub none_in_no_set : (i : ℕ) → has no_set i ≡ false
+unfolding has
+none_in_no_set i = bit_of_past [] i (omega arith)
+
+-- an index that is in a set is below the limit
+pub has_below_limit : (set : IndexSet) (i : ℕ) → length set.words ≡ 16 → has set i ≡ true → i < 1024
+unfolding has
+has_below_limit set i long found =
+    elim (cases_lt i 1024) [
+      | inl below ↦ below
+      | inr past ↦ absurd (true≢false (sym found ∙ bit_of_past set.words i (omega arith)))
+    ]

@@ -4,3 +4,8 @@ pub mod MirrorTables
 pub mod RestrictionTables
 pub mod AtFractions
 pub mod GreatestDivisors
+pub mod MadeFunctions
+pub mod MadeTimes
+pub mod MadeMirror
+pub mod MadeRestriction
+pub mod OneTransform

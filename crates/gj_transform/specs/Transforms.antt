@@ -1,5 +1,5 @@
 -- The functions of n x and of -x, and restrictions to the multiples of 1/d (Gomory and Johnson 1972; the definitions by tables are own).
-use Rattle.std.specs.Prelude.{ℕ, ℤ, pos, ◌≡◌, ◌⊎◌, ◌+◌, ◌*◌, ◌%◌, ◌<◌, ◌*ℤ◌}
+use Rattle.std.specs.Prelude.{ℕ, ℤ, pos, ◌≡◌, ◌⊎◌, ◌+◌, ◌*◌, ◌%◌, ◌<◌, ◌≤◌, ◌*ℤ◌}
 use Rattle.std.specs.Int.{◌∣◌}
 use Rattle.gj_shape.specs.FunctionData.{FunctionData, IsContinuous}
 use Rattle.gj_shape.specs.Table.{table}
@@ -29,6 +29,12 @@ pub record IsRestrictionOf (f : FunctionData) (d : ℕ) (g : FunctionData) : Typ
   pub place : f.place ≡ g.place * step
   pub continuous : IsContinuous g
   pub same_values : (i : ℕ) → HaveSameValue g 1 i f 1 (i * step)
+
+-- 1/d is the step-th multiple of 1/order, and the place a multiple of 1/d
+pub record IsStep (f : FunctionData) (d step : ℕ) : Type 0 where
+  pub at_least : 2 ≤ d
+  pub divides : f.order ≡ d * step
+  pub place : step ∣ f.place
 
 -- there is no function of order d with the values of f at the multiples of 1/d and the place of f: d is below 2, or 1/d is no
 -- multiple of 1/order, or the place is no multiple of 1/d

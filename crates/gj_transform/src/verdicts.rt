@@ -1,5 +1,5 @@
-//! What transformations do to minimal and extreme functions.
-ghost use Rattle.std.specs.Prelude.{ℕ, ◌<◌, ◌↔◌};
+//! What transformations do to minimal and extreme functions, and that each gives one function.
+ghost use Rattle.std.specs.Prelude.{ℕ, ◌≡◌, ◌<◌, ◌↔◌};
 ghost use Rattle.gj_shape.specs.Extreme.{IsExtreme};
 ghost use Rattle.gj_shape.specs.FunctionData.{FunctionData, IsWithinBounds};
 ghost use Rattle.gj_shape.specs.Table.{IsMinimal};
@@ -23,4 +23,14 @@ pub fn mirror_is_minimal()
 pub fn restriction_is_minimal()
     ensures { (f g : FunctionData) (d : ℕ) → IsWithinBounds f → IsWithinBounds g → IsRestrictionOf f d g →
         IsMinimal f → IsMinimal g }
+{}
+
+/// A function has one function of n x with a given place, one mirror, and one restriction to the multiples of 1/d.
+pub fn each_transform_is_one_function()
+    ensures times { (f g h : FunctionData) (n j : ℕ) → IsWithinBounds f → IsWithinBounds g → IsWithinBounds h → 0 < n →
+        IsTimesOf f n j g → IsTimesOf f n j h → g ≡ h }
+    ensures mirror { (f g h : FunctionData) → IsWithinBounds f → IsWithinBounds g → IsWithinBounds h →
+        IsMirrorOf f g → IsMirrorOf f h → g ≡ h }
+    ensures restriction { (f g h : FunctionData) (d : ℕ) → IsWithinBounds f → IsWithinBounds g → IsWithinBounds h →
+        IsRestrictionOf f d g → IsRestrictionOf f d h → g ≡ h }
 {}

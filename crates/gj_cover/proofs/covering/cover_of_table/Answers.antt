@@ -5,10 +5,10 @@ use Rattle.gj_cover.specs.Reached.{AreUncovered}
 use Rattle.gj_cover.specs.Table.{IsTightIn}
 use Rattle.gj_cover.proofs.covering.cover_of_table.Goals as goal
 
-pub least_class-requires-clause-uncovered : goal.least_class-requires-clause-uncovered
-least_class-requires-clause-uncovered c =
+pub least_class-requires : goal.least_class-requires
+least_class-requires c =
     let t = c.args.table.now in
-    subst (AreUncovered t.order (IsTightIn t)) (sym c.component.ensures)
+    subst (AreUncovered t.order (IsTightIn t)) (sym c.free.ensures)
     (uncovered t.order (IsTightIn t) c.in_ok-found.found c.in_ok-found.ensures.progress c.in_ok-found.ensures.complete)
 
 pub returns : goal.returns

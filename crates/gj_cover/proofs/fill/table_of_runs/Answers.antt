@@ -1,18 +1,14 @@
-use Rattle.std.proofs.Common.{◌≡◌, ◌*◌, ◌∙◌, length, get_or, Bool, false, ap, sym, subst, arith}
-use Rattle.std.proofs.Math.ListN.{length-replicate}
+use Rattle.std.proofs.Common.{◌≡◌, length, get_or, sym, subst, ap, ◌∙◌, arith}
 use Rattle.std.proofs.lemmas.List.{get_or_default}
 use Rattle.gj_faces.specs.declared.run.Run.{Run}
-use Rattle.gj_faces.proofs.PaintedRows.{blank}
 use Rattle.gj_cover.proofs.Marks.{HoldRuns, no_runs, one_run_more, tells_runs}
 use Rattle.gj_cover.proofs.fill.table_of_runs.Goals as goal
 
 pub loop-run-init : goal.loop-run-init
-loop-run-init c =
-    let items = c.in_ok-tight.ensures.items_if_clones_equal (λ y e. e) in (
-      ap (λ l. length l) items ∙ length-replicate {A = Bool} (c.args.q * c.args.q) false,
-      no_runs c.args.q c.args.runs.now c.in_ok-tight.tight.items
-          (λ p. ap (λ l. get_or l p false) items ∙ blank (c.args.q * c.args.q) p),
-    )
+loop-run-init c = (
+  c.in_ok-rows.ensures.length,
+  no_runs c.args.q c.args.runs.now c.in_ok-rows.rows.items c.in_ok-rows.ensures.none,
+)
 
 pub loop-run-preserved : goal.loop-run-preserved
 loop-run-preserved c =
@@ -20,13 +16,14 @@ loop-run-preserved c =
     let n = c.loop-run.run-index in
     let run = get_or c.args.runs.now n zero in (
       c.mark.ensures.length,
-      one_run_more c.args.q n c.args.runs.now run c.loop-run.tight.items c.mark.new.tight.items c.loop-run-test.true
+      one_run_more c.args.q n c.args.runs.now run c.loop-run.rows.items c.mark.new.rows.items c.loop-run-test.true
           (get_or_default c.args.runs.now n run zero c.loop-run-test.true) c.loop-run.invariant.1 c.mark.ensures.marked,
     )
 
 pub returns-clause-tells : goal.returns-clause-tells
 returns-clause-tells c =
     let some = c.requires.order.0 in
+    let t = c.in_ok-table.table in
     let all : c.loop-run.run-index ≡ length c.args.runs.now = omega arith in
-    tells_runs c.args.q c.args.runs.now c.loop-run.run-index c.of.result (omega arith) c.of.ensures.order all
-    (subst (HoldRuns c.args.q c.args.runs.now c.loop-run.run-index) (sym c.of.ensures.tight) c.loop-run.invariant.1)
+    tells_runs c.args.q c.args.runs.now c.loop-run.run-index t (omega arith) c.in_ok-table.ensures.order all
+    (subst (HoldRuns c.args.q c.args.runs.now c.loop-run.run-index) (sym c.in_ok-table.ensures.rows) c.loop-run.invariant.1)

@@ -1,26 +1,38 @@
-use Rattle.std.proofs.Common.{[], ◌∷◌}
+use Rattle.std.proofs.Common.{[], ◌∷◌, sym, ◌∙◌}
 use Rattle.gj_shape.specs.declared.faces.FaceKind.TheVariants.{Vertex, Horizontal, Vertical, Diagonal, Lower, Upper}
 use Rattle.gj_shape.specs.WalkOrder.{faces_in}
 use Rattle.gj_faces.proofs.AddedFaces.{adds_joined}
 use Rattle.gj_faces.proofs.maximal_faces.push_square.Goals as goal
 
 pub push_if-requires : goal.push_if-requires
-push_if-requires c = c.requires.alone.flags Vertex c.args.b c.requires.second
+push_if-requires c =
+    let both = c.requires.alone.each Vertex c.args.b c.requires.second in
+    let same = c.contains.ensures in (λ yes. both.0 (sym same ∙ yes), λ maximal. same ∙ both.1 maximal)
 
 pub push_if-requires-2 : goal.push_if-requires-2
-push_if-requires-2 c = c.requires.alone.flags Horizontal c.args.b c.requires.second
+push_if-requires-2 c =
+    let both = c.requires.alone.each Horizontal c.args.b c.requires.second in
+    let same = c.contains-2.ensures in (λ yes. both.0 (sym same ∙ yes), λ maximal. same ∙ both.1 maximal)
 
 pub push_if-requires-3 : goal.push_if-requires-3
-push_if-requires-3 c = c.requires.alone.flags Vertical c.args.b c.requires.second
+push_if-requires-3 c =
+    let both = c.requires.alone.each Vertical c.args.b c.requires.second in
+    let same = c.contains-3.ensures in (λ yes. both.0 (sym same ∙ yes), λ maximal. same ∙ both.1 maximal)
 
 pub push_if-requires-4 : goal.push_if-requires-4
-push_if-requires-4 c = c.requires.alone.flags Diagonal c.args.b c.requires.second
+push_if-requires-4 c =
+    let both = c.requires.alone.each Diagonal c.args.b c.requires.second in
+    let same = c.contains-4.ensures in (λ yes. both.0 (sym same ∙ yes), λ maximal. same ∙ both.1 maximal)
 
 pub push_if-requires-5 : goal.push_if-requires-5
-push_if-requires-5 c = c.requires.alone.flags Lower c.args.b c.requires.second
+push_if-requires-5 c =
+    let both = c.requires.alone.each Lower c.args.b c.requires.second in
+    let same = c.contains-5.ensures in (λ yes. both.0 (sym same ∙ yes), λ maximal. same ∙ both.1 maximal)
 
 pub push_if-requires-6 : goal.push_if-requires-6
-push_if-requires-6 c = c.requires.alone.flags Upper c.args.b c.requires.second
+push_if-requires-6 c =
+    let both = c.requires.alone.each Upper c.args.b c.requires.second in
+    let same = c.contains-6.ensures in (λ yes. both.0 (sym same ∙ yes), λ maximal. same ∙ both.1 maximal)
 
 pub returns : goal.returns
 returns c =

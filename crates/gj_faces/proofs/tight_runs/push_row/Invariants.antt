@@ -1,13 +1,13 @@
-use Rattle.std.proofs.Common.{◌-◌, ◌≡◌, ◌<◌, ◌≤◌, true, false, get_or, length}
+use Rattle.std.proofs.Common.{◌≡◌, ◌⊎◌, ◌-◌, ◌≤◌, false}
+use Rattle.gj_sets.specs.IndexSets.{has}
 use Rattle.gj_shape.specs.Additive.{IsTight}
 use Rattle.gj_faces.specs.RunsBefore.{AreRunsBefore}
 use Rattle.gj_faces.proofs.tight_runs.push_row.Given as goal
 
 abbrev pub invariant-loop-from : goal.invariant-loop-from
 invariant-loop-from l =
-    (l.from ≤ length l.row) × (l.from < length l.row → get_or l.row l.from false ≡ true)
-    × (0 < l.from → l.from < length l.row → get_or l.row (l.from - 1) false ≡ false)
-    × AreRunsBefore l.shape.order (IsTight l.shape) l.a l.from l.runs.items
+    AreRunsBefore l.shape.order (IsTight l.shape) l.a l.place l.runs.items × (l.place ≤ l.shape.order)
+    × ((l.place ≡ 0) ⊎ (has l.row l.place ≡ false))
 
 abbrev pub decreases-loop-from : goal.decreases-loop-from
-decreases-loop-from l = length l.row - l.from
+decreases-loop-from l = 1024 - l.place

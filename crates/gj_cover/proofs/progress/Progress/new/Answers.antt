@@ -8,10 +8,11 @@ pub returns : goal.returns
 returns c =
     let p : Progress = record {
       component = c.in_ok-no_numbers.field-0;
-      joined_to = c.in_ok-no_numbers-2.field-0;
+      free = c.below.result;
+      near = c.empty.result;
       lines = c.new.result;
       count = 0;
       searched = 0;
     } in
     begun c.args.table.now.order c.order-order.result (IsTightIn c.args.table.now) p c.order-order.ensures.value
-    c.in_ok-no_numbers.ensures c.in_ok-no_numbers-2.ensures c.new.ensures.items refl refl
+    c.in_ok-no_numbers.ensures c.below.ensures c.empty.ensures c.new.ensures.items refl refl

@@ -1,27 +1,40 @@
-use Rattle.std.proofs.Common.{◌<◌, ◌≤◌, length, arith, ◌∙◌}
 use Rattle.gj_cover.specs.Table.{IsTightIn}
-use Rattle.gj_cover.proofs.Pending.{read, is_free, next_interval, none_pending}
+use Rattle.gj_cover.proofs.Pending.{none_pending, next_interval, next_from, none_from_it, is_open}
 use Rattle.gj_cover.proofs.progress.Progress.next_joined.Goals as goal
 
-pub returns-in-Some-clause-interval : goal.returns-in-Some-clause-interval
-returns-in-Some-clause-interval c =
+pub returns-in_default-clause-none : goal.returns-in_default-clause-none
+returns-in_default-clause-none c =
     let p = c.args.self.now in
     let t = c.args.table.now in
-    let x = c.loop-interval.interval in
-    let below : x < t.order = omega arith in
-    let within : x < length p.component.items = omega arith in
-    let to_within : x < length p.joined_to.items = omega arith in
-    next_interval t.order (IsTightIn t) p.lines.items p.component.items p.joined_to.items x c.in-Some.from
-    c.requires.numbers c.requires.least below
-    (read p.component.items x c.index.result.now within c.index.ensures
-    ∙ is_free c.index.result.now c.is_none.result c.is_none.ensures c.if-is_none.true)
-    (read p.joined_to.items x c.index-then-is_none.result.now to_within c.index-then-is_none.ensures ∙ c.in-Some.is)
-    c.loop-interval.invariant
+    none_pending t.order (IsTightIn t) p.lines.items p.component.items p.free p.near c.and.result
+    c.requires.numbers c.requires.free c.requires.near c.and.ensures c.in_default.ensures
 
-pub returns-clause-none : goal.returns-clause-none
-returns-clause-none c =
+pub joined-requires : goal.joined-requires
+joined-requires c =
+    let p = c.args.self.now in
+    (is_open c.args.table.now.order p.component.items p.free p.near c.and.result c.in-Some.interval c.requires.free c.and.ensures c.in-Some.ensures).0
+
+pub returns-in_default-first-clause-none : goal.returns-in_default-first-clause-none
+returns-in_default-first-clause-none c =
     let p = c.args.self.now in
     let t = c.args.table.now in
-    let all : t.order ≤ c.loop-interval.interval = omega arith in
-    none_pending t.order c.loop-interval.interval (IsTightIn t) p.lines.items p.component.items p.joined_to.items
-    c.requires.numbers c.requires.least all c.loop-interval.invariant
+    let open' = is_open t.order p.component.items p.free p.near c.and.result c.in-Some.interval c.requires.free c.and.ensures c.in-Some.ensures in
+    let joins = next_interval t.order (IsTightIn t) p.lines.items p.component.items p.free p.near c.and.result c.in-Some.interval
+    c.requires.numbers c.requires.free c.requires.near c.and.ensures c.in-Some.ensures in
+    absurd (none_from_it t.order (IsTightIn t) p.lines.items p.component.items p.free c.joined.result c.and_not.result c.in-Some.interval
+    c.requires.numbers c.requires.free open'.1 c.joined.ensures.joined c.and_not.ensures c.in_default-first.ensures joins.holds)
+
+pub returns-clause-interval : goal.returns-clause-interval
+returns-clause-interval c =
+    let p = c.args.self.now in
+    let t = c.args.table.now in
+    next_interval t.order (IsTightIn t) p.lines.items p.component.items p.free p.near c.and.result c.in-Some.interval
+    c.requires.numbers c.requires.free c.requires.near c.and.ensures c.in-Some.ensures
+
+pub returns-clause-from : goal.returns-clause-from
+returns-clause-from c =
+    let p = c.args.self.now in
+    let t = c.args.table.now in
+    let open' = is_open t.order p.component.items p.free p.near c.and.result c.in-Some.interval c.requires.free c.and.ensures c.in-Some.ensures in
+    next_from t.order (IsTightIn t) p.lines.items p.component.items p.free c.joined.result c.and_not.result c.in-Some.interval c.in-Some-first.from
+    c.requires.numbers c.requires.free open'.0 open'.1 c.joined.ensures.within c.joined.ensures.joined c.and_not.ensures c.in-Some-first.ensures

@@ -1,5 +1,4 @@
-use Rattle.std.proofs.Common.{◌+◌, length}
-use Rattle.gj_cover.specs.Reached.{AreReached, unreached}
+use Rattle.gj_cover.specs.Reached.{AreReached, unfinished}
 use Rattle.gj_cover.specs.Table.{IsTightIn}
 use Rattle.gj_cover.proofs.reached.Reached.from.Given as goal
 
@@ -7,4 +6,4 @@ abbrev pub invariant-loop-interval : goal.invariant-loop-interval
 invariant-loop-interval l = AreReached l.table.order (IsTightIn l.table) l.start l.found
 
 abbrev pub decreases-loop-interval : goal.decreases-loop-interval
-decreases-loop-interval l = unreached l.found.reached.items + length l.found.waiting.items
+decreases-loop-interval l = unfinished l.found 1024

@@ -1,0 +1,107 @@
+-- The intervals that edges link, as sets.
+use Rattle.std.proofs.Common.{◌≡◌, ℕ, ◌+◌, ◌%◌, ◌<◌, ◌↔◌, ◌||◌, ◌&&◌, Bool, true, refl, sym, ap, ◌∙◌, subst, inl, inr, arith}
+use Rattle.std.proofs.Math.Nat.{mod-mod, mod-lt, mod-eq_of_lt}
+use Rattle.std.proofs.lemmas.Bool.{and_parts, and_from, or_cases, or_left, or_right}
+use Rattle.gj_shape.specs.declared.faces.FaceKind.TheVariants.{Horizontal, Vertical, Diagonal}
+use Rattle.gj_cover.specs.Links.{Links, diagonal, horizontal, vertical}
+use Rattle.gj_cover.specs.Table.{is_tight_in, IsTightIn}
+use Rattle.gj_cover.specs.declared.table.Table.{Table}
+use Rattle.gj_cover.proofs.Edges.{one_step}
+use Rattle.gj_cover.proofs.Parts.{corners, additive, add_same}
+use Rattle.gj_cover.proofs.TablePairs.{same_tight, tight, told}
+
+-- the intervals j that stand behind i: k leads from i to j
+pub linked_from : (t : Table) (i j k : ℕ) (r d h v : Bool) → i < t.order → j < t.order → k < t.order → (i + k) % t.order ≡ j →
+    r ≡ ((d || h) || v) →
+    d ≡ (is_tight_in t (i + 1) j && is_tight_in t i ((j + 1) % t.order)) →
+    h ≡ (is_tight_in t i k && is_tight_in t (i + 1) k) →
+    v ≡ (is_tight_in t k i && is_tight_in t k (i + 1)) →
+    (r ≡ true) ↔ Links t.order (IsTightIn t) i j
+linked_from t i j k r d h v i_below j_below k_below leads r_is d_is h_is v_is =
+    let q = t.order in
+    let T = IsTightIn t in
+    let back : k + i ≡ i + k = omega arith in
+    let next : is_tight_in t i ((j + 1) % q) ≡ is_tight_in t i (j + 1) = same_tight t i ((j + 1) % q) i (j + 1) refl (mod-mod (j + 1) q) in (
+      λ e. elim (or_cases (d || h) v (sym r_is ∙ e)) [
+        | inl x ↦ elim (or_cases d h x) [
+          | inl y ↦
+              let both = and_parts (is_tight_in t (i + 1) j) (is_tight_in t i ((j + 1) % q)) (sym d_is ∙ y) in
+              diagonal (additive T Diagonal i j (tight t (i + 1) j both.0, tight t i (j + 1) (sym next ∙ both.1)))
+          | inr y ↦
+              let both = and_parts (is_tight_in t i k) (is_tight_in t (i + 1) k) (sym h_is ∙ y) in
+              horizontal k k_below leads (additive T Horizontal i k (tight t i k both.0, tight t (i + 1) k both.1))
+        ]
+        | inr y ↦
+            let both = and_parts (is_tight_in t k i) (is_tight_in t k (i + 1)) (sym v_is ∙ y) in
+            vertical k k_below (ap (λ n. n % q) back ∙ leads)
+            (additive T Vertical k i (tight t k i both.0, tight t k (i + 1) both.1))
+      ],
+      λ l. r_is ∙ (elim l [
+        | diagonal a ↦
+            let both = corners T Diagonal i j a in
+            or_left (d || h) v (or_left d h (d_is ∙ and_from (is_tight_in t (i + 1) j) (is_tight_in t i ((j + 1) % q))
+            (told t (i + 1) j both.0) (next ∙ told t i (j + 1) both.1)))
+        | horizontal b b_below e a ↦
+            let same = one_step q i b k j b_below k_below e leads in
+            let both = corners T Horizontal i b a in
+            or_left (d || h) v (or_right d h (h_is ∙ and_from (is_tight_in t i k) (is_tight_in t (i + 1) k)
+            (ap (is_tight_in t i) (sym same) ∙ told t i b both.0) (ap (is_tight_in t (i + 1)) (sym same) ∙ told t (i + 1) b both.1)))
+        | vertical b b_below e a ↦
+            let turned : i + b ≡ b + i = omega arith in
+            let same = one_step q i b k j b_below k_below (ap (λ n. n % q) turned ∙ e) leads in
+            let both = corners T Vertical b i a in
+            or_right (d || h) v (v_is ∙ and_from (is_tight_in t k i) (is_tight_in t k (i + 1))
+            (ap (λ n. is_tight_in t n i) (sym same) ∙ told t b i both.0)
+            (ap (λ n. is_tight_in t n (i + 1)) (sym same) ∙ told t b (i + 1) both.1))
+      ]),
+    )
+
+-- the same for the intervals behind which i stands: j is before i, and k leads from j to i
+pub linked_to : (t : Table) (i j k : ℕ) (r d h v : Bool) → i < t.order → j < t.order → k < t.order → (j + k) % t.order ≡ i →
+    r ≡ ((d || h) || v) →
+    d ≡ (is_tight_in t j (i + 1) && is_tight_in t ((j + 1) % t.order) i) →
+    h ≡ (is_tight_in t j k && is_tight_in t ((j + 1) % t.order) k) →
+    v ≡ (is_tight_in t k j && is_tight_in t k ((j + 1) % t.order)) →
+    (r ≡ true) ↔ Links t.order (IsTightIn t) j i
+linked_to t i j k r d h v i_below j_below k_below leads r_is d_is h_is v_is =
+    let q = t.order in
+    let T = IsTightIn t in
+    let back : k + j ≡ j + k = omega arith in
+    let next : (b : ℕ) → is_tight_in t ((j + 1) % q) b ≡ is_tight_in t (j + 1) b = λ b.
+    same_tight t ((j + 1) % q) b (j + 1) b (mod-mod (j + 1) q) refl in
+    let after : (a : ℕ) → is_tight_in t a ((j + 1) % q) ≡ is_tight_in t a (j + 1) = λ a.
+    same_tight t a ((j + 1) % q) a (j + 1) refl (mod-mod (j + 1) q) in (
+      λ e. elim (or_cases (d || h) v (sym r_is ∙ e)) [
+        | inl x ↦ elim (or_cases d h x) [
+          | inl y ↦
+              let both = and_parts (is_tight_in t j (i + 1)) (is_tight_in t ((j + 1) % q) i) (sym d_is ∙ y) in
+              diagonal (additive T Diagonal j i (tight t (j + 1) i (sym (next i) ∙ both.1), tight t j (i + 1) both.0))
+          | inr y ↦
+              let both = and_parts (is_tight_in t j k) (is_tight_in t ((j + 1) % q) k) (sym h_is ∙ y) in
+              horizontal k k_below leads (additive T Horizontal j k (tight t j k both.0, tight t (j + 1) k (sym (next k) ∙ both.1)))
+        ]
+        | inr y ↦
+            let both = and_parts (is_tight_in t k j) (is_tight_in t k ((j + 1) % q)) (sym v_is ∙ y) in
+            vertical k k_below (ap (λ n. n % q) back ∙ leads)
+            (additive T Vertical k j (tight t k j both.0, tight t k (j + 1) (sym (after k) ∙ both.1)))
+      ],
+      λ l. r_is ∙ (elim l [
+        | diagonal a ↦
+            let both = corners T Diagonal j i a in
+            or_left (d || h) v (or_left d h (d_is ∙ and_from (is_tight_in t j (i + 1)) (is_tight_in t ((j + 1) % q) i)
+            (told t j (i + 1) both.1) (next i ∙ told t (j + 1) i both.0)))
+        | horizontal b b_below e a ↦
+            let same = one_step q j b k i b_below k_below e leads in
+            let both = corners T Horizontal j b a in
+            or_left (d || h) v (or_right d h (h_is ∙ and_from (is_tight_in t j k) (is_tight_in t ((j + 1) % q) k)
+            (ap (is_tight_in t j) (sym same) ∙ told t j b both.0)
+            (next k ∙ ap (is_tight_in t (j + 1)) (sym same) ∙ told t (j + 1) b both.1)))
+        | vertical b b_below e a ↦
+            let turned : j + b ≡ b + j = omega arith in
+            let same = one_step q j b k i b_below k_below (ap (λ n. n % q) turned ∙ e) leads in
+            let both = corners T Vertical b j a in
+            or_right (d || h) v (v_is ∙ and_from (is_tight_in t k j) (is_tight_in t k ((j + 1) % q))
+            (ap (λ n. is_tight_in t n j) (sym same) ∙ told t b j both.0)
+            (after k ∙ ap (λ n. is_tight_in t n (j + 1)) (sym same) ∙ told t b (j + 1) both.1))
+      ]),
+    )

@@ -1,0 +1,55 @@
+-- Places in sets whose indices were turned.
+use Rattle.std.proofs.Common.{◌≡◌, ℕ, ◌+◌, ◌-◌, ◌%◌, ◌<◌, ◌≤◌, ◌&&◌, Bool, true, cond, leb, ltb, ap, sym, ◌∙◌, arith}
+use Rattle.std.proofs.Math.Nat.{mod-eq_of_lt, mod-eq-sub-mod, mod_self}
+use Rattle.std.proofs.lemmas.Bool.{cond_both, leb-true, leb-false, ltb-true, lt-ltb, and_parts}
+
+-- where an index is that was turned to j by s
+abbrev pub place_of : ℕ → ℕ → ℕ → ℕ
+place_of q s j = cond (leb s j) (j - s) (j + (q - s))
+
+once_more : (q j : ℕ) → j < q → (j + q) % q ≡ j
+once_more q j below =
+    let less : j + q - q ≡ j = omega arith in
+    mod-eq-sub-mod {n = j + q} {m = q} (omega arith) ∙ ap (λ n. n % q) less ∙ mod-eq_of_lt below
+
+pub turned_place : (q s j : ℕ) → s < q → j < q → (place_of q s j < q) × ((s + place_of q s j) % q ≡ j)
+turned_place q s j s_below j_below =
+    cond_both (leb s j) (j - s) (j + (q - s)) (λ k. (k < q) × ((s + k) % q ≡ j))
+    (λ e.
+    let le = leb-true s j e in
+    let sum : s + (j - s) ≡ j = omega arith in
+    (omega arith, ap (λ n. n % q) sum ∙ mod-eq_of_lt j_below))
+    (λ e.
+    let lt = leb-false s j e in
+    let sum : s + (j + (q - s)) ≡ j + q = omega arith in
+    (omega arith, ap (λ n. n % q) sum ∙ once_more q j j_below))
+
+-- one back
+pub place_back : (q j : ℕ) → 0 < q → j < q → place_of q (q - 1) j ≡ (j + 1) % q
+place_back q j some below =
+    cond_both (leb (q - 1) j) (j - (q - 1)) (j + (q - (q - 1))) (λ k. k ≡ (j + 1) % q)
+    (λ e.
+    let le = leb-true (q - 1) j e in
+    let last : j + 1 ≡ q = omega arith in
+    let none : j - (q - 1) ≡ 0 = omega arith in
+    none ∙ sym (ap (λ n. n % q) last ∙ mod_self q))
+    (λ e.
+    let lt = leb-false (q - 1) j e in
+    let next : j + (q - (q - 1)) ≡ j + 1 = omega arith in
+    let in' : j + 1 < q = omega arith in
+    next ∙ sym (mod-eq_of_lt in'))
+
+-- ---- sets
+
+pub in_below : (q n j : ℕ) (x r : Bool) → n ≡ q → r ≡ (ltb j n && x) → r ≡ true → j < q
+in_below q n j x r same is e = let below = ltb-true j n ((and_parts (ltb j n) x (sym is ∙ e)).0) in omega arith
+
+pub turned_in : (q n s j : ℕ) (f : ℕ → Bool) (r : Bool) → n ≡ q → j < q → r ≡ (ltb j n && f (place_of n s j)) →
+    r ≡ f (place_of q s j)
+turned_in q n s j f r same below is =
+    is ∙ ap (λ k. ltb j k && f (place_of k s j)) same ∙ ap (λ b. b && f (place_of q s j)) (lt-ltb j q below)
+
+pub back_in : (q n j : ℕ) (f : ℕ → Bool) (r : Bool) → n ≡ q → j < q → r ≡ (ltb j n && f ((j + 1) % n)) →
+    r ≡ f ((j + 1) % q)
+back_in q n j f r same below is =
+    is ∙ ap (λ k. ltb j k && f ((j + 1) % k)) same ∙ ap (λ b. b && f ((j + 1) % q)) (lt-ltb j q below)

@@ -1,0 +1,34 @@
+use Rattle.std.proofs.Common.{ap, not}
+use Rattle.gj_cut.specs.RowCuts.{IsTermOf}
+use Rattle.gj_mixed.specs.MixedCuts.{IsWeightTermOf, is_continuous}
+use Rattle.gj_mixed.proofs.MixedTerms.{zip_kept, zip_dropped}
+use Rattle.gj_mixed.proofs.rows.terms_of.Goals as goal
+use Rattle.gj_mixed.proofs.rows.terms_of.Goals.{then-continuous-entry+in_ok-push, else-continuous-entry+in_ok-push-2}
+
+pub loop-entry-preserved : goal.loop-entry-preserved
+loop-entry-preserved g c =
+    let entries = c.args.entries.now in
+    let continuous = c.args.continuous.now in
+    let i = c.loop-entry.entry-index in
+    let x = c.entry-item.result in
+    let terms = IsTermOf g.E.Evaluator.answers c.args.rule.now in
+    let weights = IsWeightTermOf g.G.Evaluator.answers c.args.slopes.now in
+    let here = is_continuous continuous in
+    let below = c.loop-entry-test.true in
+    let kept = c.loop-entry.invariant in
+    elim c.if-continuous-entry.branch [
+      | then-continuous-entry+in_ok-push w ↦ record {
+        terms = zip_dropped terms (λ e. not (here e)) entries i x c.loop-entry.terms.items c.if-continuous-entry.terms.items below
+            c.entry-item.is (ap not w.if-continuous-entry.true) (ap (λ v. v.items) w.terms-is) kept.terms;
+        weights = zip_kept weights here entries i x c.loop-entry.weights.items w.push.new.self.items c.if-continuous-entry.weights.items
+            w.weight_term.result below c.entry-item.is w.if-continuous-entry.true (ap (λ v. v.items) w.weights-is) w.in_ok-push.ensures.items
+            kept.weights w.weight_term.ensures;
+      }
+      | else-continuous-entry+in_ok-push-2 w ↦ record {
+        terms = zip_kept terms (λ e. not (here e)) entries i x c.loop-entry.terms.items w.push-else-continuous-entry.new.self.items
+            c.if-continuous-entry.terms.items w.term.result below c.entry-item.is (ap not w.if-continuous-entry.false)
+            (ap (λ v. v.items) w.terms-is) w.in_ok-push-2.ensures.items kept.terms w.term.ensures;
+        weights = zip_dropped weights here entries i x c.loop-entry.weights.items c.if-continuous-entry.weights.items below
+            c.entry-item.is w.if-continuous-entry.false (ap (λ v. v.items) w.weights-is) kept.weights;
+      }
+    ]
