@@ -5,7 +5,7 @@ use Rattle.gj_tools.proofs.Quotients.{same_remainder, from_same_remainder}
 use Rattle.gj_shape.specs.Cover.{Joins, AreJoined, Covers}
 use Rattle.gj_shape.specs.declared.faces.FaceKind.{FaceKind}
 use Rattle.gj_shape.specs.declared.faces.FaceKind.TheVariants.{Vertex, Horizontal, Vertical, Diagonal, Lower, Upper}
-use Rattle.gj_cover.specs.Links.{Links, diagonal, horizontal, vertical, LeadsFrom, HasInterval}
+use Rattle.gj_cover.specs.Links.{Links, diagonal, horizontal, vertical, LeadsFrom}
 use Rattle.gj_faces.proofs.Periods.{same_sum}
 use Rattle.gj_cover.proofs.Parts.{Corners, corners, additive, corners_same, Intervals, intervals, one_of, covered_one, HasPeriod}
 
@@ -264,27 +264,3 @@ joins_where q T kind a b i j i_below j_below other a_below b_below h =
     (record { some = omega arith; first = i_below; second = j_below; different = other })
     (record { first = a_below; second = b_below })
     (intervals q kind a b i h.first) (intervals q kind a b j h.second)
-
-has_interval : (q : ℕ) (kind : FaceKind) (a b i : ℕ) → i < q → IsSquare q a b → Intervals q kind a b i →
-    HasInterval q q i a b
-has_interval q Vertex a b i i_below s x = absurd x
-has_interval q Horizontal a b i i_below s (inl x) = inl (is_it q a i s.first i_below x, s.second)
-has_interval q Horizontal a b i i_below s (inr x) = inr (inr (inl (s.first, below_same q (a + b) i i_below x)))
-has_interval q Vertical a b i i_below s (inl x) = inr (inl (is_it q b i s.second i_below x, s.first))
-has_interval q Vertical a b i i_below s (inr x) = inr (inr (inl (s.first, below_same q (a + b) i i_below x)))
-has_interval q Diagonal a b i i_below s (inl x) = inl (is_it q a i s.first i_below x, s.second)
-has_interval q Diagonal a b i i_below s (inr x) = inr (inl (is_it q b i s.second i_below x, s.first))
-has_interval q Lower a b i i_below s (inl x) = inl (is_it q a i s.first i_below x, s.second)
-has_interval q Lower a b i i_below s (inr (inl x)) = inr (inl (is_it q b i s.second i_below x, s.first))
-has_interval q Lower a b i i_below s (inr (inr x)) = inr (inr (inl (s.first, below_same q (a + b) i i_below x)))
-has_interval q Upper a b i i_below s (inl x) = inl (is_it q a i s.first i_below x, s.second)
-has_interval q Upper a b i i_below s (inr (inl x)) = inr (inl (is_it q b i s.second i_below x, s.first))
-has_interval q Upper a b i i_below s (inr (inr x)) =
-    inr (inr (inr (s.first, below_same q (a + b + 1) i i_below x)))
-
--- the interval is one of those of a square with a triangle that covers it
-pub covers_where : (q : ℕ) (T : ℕ → ℕ → Type 0) (kind : FaceKind) (a b i : ℕ) → i < q → a < q → b < q →
-    Covers q T kind a b i → HasInterval q q i a b
-covers_where q T kind a b i i_below a_below b_below h =
-    has_interval q kind a b i i_below (record { first = a_below; second = b_below })
-    (covered_one q kind a b i h.projection).1

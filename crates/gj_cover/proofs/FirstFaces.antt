@@ -1,17 +1,20 @@
 -- The squares that are looked at for a first face, and that it is first of all.
-use Rattle.std.proofs.Common.{◌≡◌, ◌≢◌, ℕ, ◌⊎◌, ◌+◌, ◌%◌, ◌<◌, Option, Some, None, IfSome, IfNone, refl, sym, ap, ◌∙◌, subst, inl, inr, arith}
+use Rattle.std.proofs.Common.{◌≡◌, ◌≢◌, ℕ, ◌⊎◌, ◌+◌, ◌%◌, ◌<◌, ◌↔◌, false, IsTrue, Option, Some, None, IfSome, IfNone, refl, sym, ap, ◌∙◌, subst, inl, inr, arith}
 use Rattle.std.proofs.Math.Nat.{mod-mod, mod-lt, mod-eq_of_lt}
-use Rattle.std.proofs.lemmas.Bool.{cases_lt}
+use Rattle.std.proofs.lemmas.Bool.{cases_order, cases_eq}
+use Rattle.gj_sets.specs.IndexSets.{has, IsFirst}
+use Rattle.gj_sets.specs.declared.index_set.IndexSet.{IndexSet}
 use Rattle.gj_shape.specs.Cover.{Joins, AreJoined, Covers, IsDirectlyCovered, IsFirstFace}
 use Rattle.gj_shape.specs.declared.faces.Face.{Face}
 use Rattle.gj_shape.specs.declared.faces.FaceKind.{FaceKind}
+use Rattle.gj_shape.specs.declared.faces.FaceKind.TheVariants.{Vertex, Horizontal, Vertical, Diagonal, Lower, Upper}
 use Rattle.gj_cover.specs.FirstFound.{FindsFirst}
-use Rattle.gj_cover.specs.Links.{LeadsFrom, IsSquareFrom, IsSquareOf}
-use Rattle.gj_cover.proofs.Edges.{one_step, joins_where, covers_where}
+use Rattle.gj_cover.specs.Links.{LeadsFrom, IsSquareFrom, IsInRow, IsAcross}
+use Rattle.gj_cover.proofs.Edges.{one_step, joins_where}
 use Rattle.gj_cover.proofs.Joining.{joins_within, covers_within}
 use Rattle.gj_cover.proofs.Merging.{Either}
 use Rattle.gj_faces.proofs.Periods.{same_sum}
-use Rattle.gj_cover.proofs.Parts.{HasPeriod}
+use Rattle.gj_cover.proofs.Parts.{HasPeriod, Intervals, IsTriangle, covered_one}
 use Rattle.gj_cover.proofs.WalkPlaces.{first_face}
 
 -- ---- squares one by one
@@ -99,64 +102,6 @@ five_back q i step short j s a b (a_below, b_below, inr (inr (inr (inl (x, y))))
 five_back q i step short j s a b (a_below, b_below, inr (inr (inr (inr (x, y))))) =
     inr (is_short q i step short j a s a_below (ap (λ n. (n + a + 1) % q) (sym x) ∙ turned_next q a b j y), x)
 
--- ---- four more squares of which i is an interval
-
-abbrev pub Four : ℕ → ℕ → ℕ → ℕ → ℕ → ℕ → ℕ → Type 0
-Four q k i step short =
-    Either (Either (Either (Either (IsSquareOf q k i) (Square i k)) (Square k i)) (Square k step)) (Square k short)
-
-pub four_on : (q k i step short : ℕ) → AreSteps q k step short i → (a b : ℕ) → Four q k i step short a b →
-    IsSquareOf q (k + 1) i a b
-four_on q k i step short s a b (inl (inl (inl (inl (u, v, inl (x, y)))))) = (u, v, inl (x, omega arith))
-four_on q k i step short s a b (inl (inl (inl (inl (u, v, inr (inl (x, y))))))) = (u, v, inr (inl (x, omega arith)))
-four_on q k i step short s a b (inl (inl (inl (inl (u, v, inr (inr (inl (x, y)))))))) =
-    (u, v, inr (inr (inl (omega arith, y))))
-four_on q k i step short s a b (inl (inl (inl (inl (u, v, inr (inr (inr (x, y)))))))) =
-    (u, v, inr (inr (inr (omega arith, y))))
-four_on q k i step short s a b (inl (inl (inl (inr (x, y))))) =
-    (subst (λ n. n < q) (sym x) s.end, subst (λ n. n < q) (sym y) s.start, inl (x, omega arith))
-four_on q k i step short s a b (inl (inl (inr (x, y)))) =
-    (subst (λ n. n < q) (sym x) s.start, subst (λ n. n < q) (sym y) s.end, inr (inl (y, omega arith)))
-four_on q k i step short s a b (inl (inr (x, y))) = (
-  subst (λ n. n < q) (sym x) s.start,
-  subst (λ n. n < q) (sym y) s.step_below,
-  inr (inr (inl (omega arith, ap (λ n. (n + b) % q) x ∙ ap (λ n. (k + n) % q) y ∙ s.step_leads))),
-)
-four_on q k i step short s a b (inr (x, y)) = (
-  subst (λ n. n < q) (sym x) s.start,
-  subst (λ n. n < q) (sym y) s.short_below,
-  inr (inr (inr (omega arith, ap (λ n. (n + b + 1) % q) x ∙ ap (λ n. (k + n + 1) % q) y ∙ next_leads q k step short i s))),
-)
-
-below_or_at : (n k : ℕ) → n < k + 1 → (n < k) ⊎ (n ≡ k)
-below_or_at n k h = elim (cases_lt n k) [ inl x ↦ inl x | inr x ↦ inr (omega arith) ]
-
-pub four_back : (q k i step short : ℕ) → AreSteps q k step short i → (a b : ℕ) → IsSquareOf q (k + 1) i a b →
-    Four q k i step short a b
-four_back q k i step short s a b (u, v, inl (x, y)) = elim (below_or_at b k y) [
-  | inl z ↦ inl (inl (inl (inl (u, v, inl (x, z)))))
-  | inr z ↦ inl (inl (inl (inr (x, z))))
-]
-four_back q k i step short s a b (u, v, inr (inl (x, y))) = elim (below_or_at a k y) [
-  | inl z ↦ inl (inl (inl (inl (u, v, inr (inl (x, z))))))
-  | inr z ↦ inl (inl (inr (z, x)))
-]
-four_back q k i step short s a b (u, v, inr (inr (inl (x, y)))) = elim (below_or_at a k x) [
-  | inl z ↦ inl (inl (inl (inl (u, v, inr (inr (inl (z, y)))))))
-  | inr z ↦ inl (inr (z, is_step q k step short i b s v (ap (λ n. (n + b) % q) (sym z) ∙ y)))
-]
-four_back q k i step short s a b (u, v, inr (inr (inr (x, y)))) = elim (below_or_at a k x) [
-  | inl z ↦ inl (inl (inl (inl (u, v, inr (inr (inr (z, y)))))))
-  | inr z ↦ inr (z, is_short q k step short i b s v (ap (λ n. (n + b + 1) % q) (sym z) ∙ y))
-]
-
--- no square is looked at first
-pub none_of : (q i a b : ℕ) → IsSquareOf q 0 i a b → ⊥
-none_of q i a b (u, v, inl (x, y)) = omega arith
-none_of q i a b (u, v, inr (inl (x, y))) = omega arith
-none_of q i a b (u, v, inr (inr (inl (x, y)))) = omega arith
-none_of q i a b (u, v, inr (inr (inr (x, y)))) = omega arith
-
 -- ---- first of all faces
 
 abbrev Both : ℕ → ℕ → ℕ → ℕ → ℕ → Type 0
@@ -194,21 +139,127 @@ joining_none q T p i j i_below j_below other None h = λ (kind, a, b, k).
     h kind (a % q) (b % q)
     (both_where q T i j i_below j_below other kind (a % q) (b % q) (mod-lt a some) (mod-lt b some) in') in'
 
-pub covering_found : (q : ℕ) (T : ℕ → ℕ → Type 0) (i : ℕ) → i < q → (result : Option Face) →
-    FindsFirst (IsSquareOf q q i) (λ kind a b. Covers q T kind a b i) result →
+-- all squares of the complex
+abbrev pub IsSquare : ℕ → ℕ → ℕ → Type 0
+IsSquare q a b = (a < q) × (b < q)
+
+pub covering_found : (q : ℕ) (T : ℕ → ℕ → Type 0) (i : ℕ) (result : Option Face) →
+    FindsFirst (IsSquare q) (λ kind a b. Covers q T kind a b i) result →
     IfSome result (IsFirstFace q (λ kind a b. Covers q T kind a b i))
-covering_found q T i i_below None h = tt
-covering_found q T i i_below (Some f) h =
+covering_found q T i None h = tt
+covering_found q T i (Some f) h =
     first_face q (λ kind a b. Covers q T kind a b i) f h.square.0 h.square.1 h.holds
-    (λ kind a b a_below b_below p.
-    h.first kind a b (a_below, b_below, covers_where q T kind a b i i_below a_below b_below p) p)
+    (λ kind a b a_below b_below p. h.first kind a b (a_below, b_below) p)
 
 pub covering_none : (q : ℕ) (T : ℕ → ℕ → Type 0) → HasPeriod q T → (i : ℕ) → i < q → (result : Option Face) →
-    FindsFirst (IsSquareOf q q i) (λ kind a b. Covers q T kind a b i) result →
+    FindsFirst (IsSquare q) (λ kind a b. Covers q T kind a b i) result →
     IfNone result (IsDirectlyCovered q T i → ⊥)
 covering_none q T p i i_below (Some f) h = tt
 covering_none q T p i i_below None h = λ (kind, a, b, k).
     let some : 0 < q = omega arith in
     let in' = covers_within q T p kind a b (a % q) (b % q) i (sym (mod-mod a q)) (sym (mod-mod b q)) k in
-    h kind (a % q) (b % q)
-    (mod-lt a some, mod-lt b some, covers_where q T kind (a % q) (b % q) i i_below (mod-lt a some) (mod-lt b some) in') in'
+    h kind (a % q) (b % q) (mod-lt a some, mod-lt b some) in'
+
+-- ---- the squares of row i, and of the other rows
+
+pub in_row_none : (q : ℕ) (T : ℕ → ℕ → Type 0) (i : ℕ) (set : IndexSet) → ((b : ℕ) → has set b ≡ false) →
+    ((b : ℕ) → b < q → IsTrue (has set b) ↔ ((kind : FaceKind) × Covers q T kind i b i)) →
+    FindsFirst (IsInRow q i) (λ kind a b. Covers q T kind a b i) None
+in_row_none q T i set none told kind a b (same, below) p =
+    let yes' = (told b below).1 (kind, subst (λ n. Covers q T kind n b i) same p) in
+    let not = none b in cc (yes', not)
+
+pub in_row_found : (q : ℕ) (T : ℕ → ℕ → Type 0) (i k : ℕ) (set : IndexSet) (found : Option Face) → IsFirst set 0 k →
+    ((b : ℕ) → IsTrue (has set b) → b < q) →
+    ((b : ℕ) → b < q → IsTrue (has set b) ↔ ((kind : FaceKind) × Covers q T kind i b i)) →
+    FindsFirst (Square i k) (λ kind a b. Covers q T kind a b i) found →
+    FindsFirst (IsInRow q i) (λ kind a b. Covers q T kind a b i) found
+in_row_found q T i k set None first within told h =
+    let at = (told k (within k first.found)).0 first.found in absurd (h at.0 i k (refl, refl) at.1)
+in_row_found q T i k set (Some f) first within told h = record {
+  square = (h.square.0, subst (λ n. n < q) (sym h.square.1) (within k first.found));
+  holds = h.holds;
+  first = λ kind a b (same, below) p. elim (cases_order b k) [
+    | inl at ↦ h.first kind a b (same, at) p
+    | inr d ↦ elim d [
+      | inl before ↦
+          let yes' = (told b below).1 (kind, subst (λ n. Covers q T kind n b i) same p) in
+          let not = first.before b (omega arith) before in absurd (cc (yes', not))
+      | inr behind ↦ inr (h.square.0 ∙ sym same, inl (let lt : f.b < b = omega (arith, h.square.1) in lt))
+    ]
+  ];
+}
+
+pub across_none : (q : ℕ) (T : ℕ → ℕ → Type 0) (i : ℕ) (set : IndexSet) → ((a : ℕ) → has set a ≡ false) →
+    ((a : ℕ) → a < q → a ≢ i → IsTrue (has set a) ↔ ((kind : FaceKind) × (b : ℕ) × (b < q) × Covers q T kind a b i)) →
+    FindsFirst (IsAcross q i) (λ kind a b. Covers q T kind a b i) None
+across_none q T i set none told kind a b (a_below, other, b_below) p =
+    let yes' = (told a a_below other).1 (kind, b, b_below, p) in
+    let not = none a in cc (yes', not)
+
+-- three squares of row k
+abbrev pub Three : ℕ → ℕ → ℕ → ℕ → ℕ → ℕ → Type 0
+Three k i step short = Either (Either (Square k i) (Square k step)) (Square k short)
+
+three_below : (q k i step short a b : ℕ) → AreSteps q k step short i → Three k i step short a b → (a ≡ k) × (b < q)
+three_below q k i step short a b s (inl (inl (x, y))) = (x, subst (λ n. n < q) (sym y) s.end)
+three_below q k i step short a b s (inl (inr (x, y))) = (x, subst (λ n. n < q) (sym y) s.step_below)
+three_below q k i step short a b s (inr (x, y)) = (x, subst (λ n. n < q) (sym y) s.short_below)
+
+three_by : (q k i step short b : ℕ) (kind : FaceKind) → AreSteps q k step short i → k ≢ i → b < q → IsTriangle kind →
+    Intervals q kind k b i → Three k i step short k b
+three_by q k i step short b Vertex s other below t h = absurd t
+three_by q k i step short b Horizontal s other below t h = absurd t
+three_by q k i step short b Vertical s other below t h = absurd t
+three_by q k i step short b Diagonal s other below t h = absurd t
+three_by q k i step short b Lower s other below t (inl x) =
+    absurd (other (sym (mod-eq_of_lt s.start) ∙ x ∙ mod-eq_of_lt s.end))
+three_by q k i step short b Lower s other below t (inr (inl x)) =
+    inl (inl (refl, sym (mod-eq_of_lt below) ∙ x ∙ mod-eq_of_lt s.end))
+three_by q k i step short b Lower s other below t (inr (inr x)) =
+    inl (inr (refl, is_step q k step short i b s below (x ∙ mod-eq_of_lt s.end)))
+three_by q k i step short b Upper s other below t (inl x) =
+    absurd (other (sym (mod-eq_of_lt s.start) ∙ x ∙ mod-eq_of_lt s.end))
+three_by q k i step short b Upper s other below t (inr (inl x)) =
+    inl (inl (refl, sym (mod-eq_of_lt below) ∙ x ∙ mod-eq_of_lt s.end))
+three_by q k i step short b Upper s other below t (inr (inr x)) =
+    inr (refl, is_short q k step short i b s below (x ∙ mod-eq_of_lt s.end))
+
+three_of : (q : ℕ) (T : ℕ → ℕ → Type 0) (k i step short b : ℕ) (kind : FaceKind) → AreSteps q k step short i → k ≢ i → b < q →
+    Covers q T kind k b i → Three k i step short k b
+three_of q T k i step short b kind s other below h =
+    let at = covered_one q kind k b i h.projection in three_by q k i step short b kind s other below at.0 at.1
+
+pub across_found : (q : ℕ) (T : ℕ → ℕ → Type 0) (i k step short : ℕ) (set : IndexSet) (found : Option Face) →
+    AreSteps q k step short i → k ≢ i → IsFirst set 0 k →
+    ((a : ℕ) → a < q → a ≢ i → IsTrue (has set a) ↔ ((kind : FaceKind) × (b : ℕ) × (b < q) × Covers q T kind a b i)) →
+    FindsFirst (Three k i step short) (λ kind a b. Covers q T kind a b i) found →
+    FindsFirst (IsAcross q i) (λ kind a b. Covers q T kind a b i) found
+across_found q T i k step short set None s other first told h =
+    let at = (told k s.start other).0 first.found in
+    absurd (h at.0 k at.1 (three_of q T k i step short at.1 at.0 s other at.2 at.3) at.3)
+across_found q T i k step short set (Some f) s other first told h =
+    let at = three_below q k i step short f.a f.b s h.square in
+    record {
+      square = (subst (λ n. n < q) (sym at.0) s.start, (λ e. other (sym at.0 ∙ e)), at.1);
+      holds = h.holds;
+      first = λ kind a b (a_below, not_it, b_below) p. elim (cases_order a k) [
+        | inl same ↦
+            let p' = subst (λ n. Covers q T kind n b i) same p in
+            h.first kind a b (subst (λ n. Three k i step short n b) (sym same) (three_of q T k i step short b kind s other b_below p')) p
+        | inr d ↦ elim d [
+          | inl before ↦
+              let yes' = (told a a_below not_it).1 (kind, b, b_below, p) in
+              let not = first.before a (omega arith) before in absurd (cc (yes', not))
+          | inr behind ↦ inl (let lt : f.a < a = omega (arith, at.0) in lt)
+        ]
+      ];
+    }
+
+-- both
+pub all_on : (q i a b : ℕ) → i < q → Either (IsInRow q i) (IsAcross q i) a b → IsSquare q a b
+all_on q i a b below (inl (x, y)) = (subst (λ n. n < q) (sym x) below, y)
+all_on q i a b below (inr (x, y, z)) = (x, z)
+
+pub all_back : (q i a b : ℕ) → IsSquare q a b → Either (IsInRow q i) (IsAcross q i) a b
+all_back q i a b (x, y) = elim (cases_eq a i) [ inl same ↦ inl (same, y) | inr other ↦ inr (x, other, y) ]

@@ -21,3 +21,5 @@ pub mod Classes
 pub mod Marks
 pub mod RunOrder
 pub mod LinkSets
+pub mod CoveringSets
+pub mod MirroredPairs

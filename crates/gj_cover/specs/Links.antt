@@ -1,5 +1,5 @@
 -- Squares in which an interval stands behind another, and edges that link two intervals (own).
-use Rattle.std.specs.Prelude.{ℕ, ◌≡◌, ◌⊎◌, ◌+◌, ◌%◌, ◌<◌}
+use Rattle.std.specs.Prelude.{ℕ, ◌≡◌, ◌≢◌, ◌⊎◌, ◌+◌, ◌%◌, ◌<◌}
 use Rattle.gj_shape.specs.Additive.{IsAdditive}
 use Rattle.gj_shape.specs.declared.faces.FaceKind.TheVariants.{Horizontal, Vertical, Diagonal}
 
@@ -19,11 +19,10 @@ pub data Links (q : ℕ) (Tight : ℕ → ℕ → Type 0) (i j : ℕ) : Type 0 w
   horizontal : (b : ℕ) → b < q → (i + b) % q ≡ j → IsAdditive Tight Horizontal i b → Links q Tight i j
   vertical : (a : ℕ) → a < q → (a + i) % q ≡ j → IsAdditive Tight Vertical a i → Links q Tight i j
 
--- the interval i is one of those of the square (a, b), and another number of the square is below n
-abbrev pub HasInterval : ℕ → ℕ → ℕ → ℕ → ℕ → Type 0
-HasInterval q n i a b =
-    ((a ≡ i) × (b < n)) ⊎ ((b ≡ i) × (a < n)) ⊎ ((a < n) × ((a + b) % q ≡ i)) ⊎ ((a < n) × ((a + b + 1) % q ≡ i))
+-- the square is one (i, b) of the complex of order q
+abbrev pub IsInRow : ℕ → ℕ → ℕ → ℕ → Type 0
+IsInRow q i a b = (a ≡ i) × (b < q)
 
--- the same for a square of the complex of order q
-abbrev pub IsSquareOf : ℕ → ℕ → ℕ → ℕ → ℕ → Type 0
-IsSquareOf q n i a b = (a < q) × (b < q) × HasInterval q n i a b
+-- the square is another one of it
+abbrev pub IsAcross : ℕ → ℕ → ℕ → ℕ → Type 0
+IsAcross q i a b = (a < q) × (a ≢ i) × (b < q)

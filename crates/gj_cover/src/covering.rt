@@ -4,16 +4,18 @@ ghost use Rattle.gj_shape.specs.Additive.{IsTight};
 ghost use Rattle.gj_shape.specs.FunctionData.{IsContinuous};
 ghost use Rattle.gj_shape.specs.Given.{IsOrder};
 ghost use Rattle.gj_faces.specs.Runs.{InRuns, AreInOrder};
+ghost use Rattle.gj_faces.specs.TightPairs.{AreTightPairsOf};
 ghost use Rattle.gj_cover.specs.CoverOf.{IsCoverOf};
 ghost use Rattle.gj_cover.specs.Table.{IsTightIn};
 
 use crate::class::least_class;
 use crate::covered::Cover;
 use crate::fill::table_of_runs;
+use crate::pairs::table_of_pairs;
 use crate::progress::Progress;
 use crate::table::Table;
-use gj_faces::{Run, runs};
-use gj_shape::{List, Shape};
+use gj_faces::{Run, TightPairs};
+use gj_shape::Shape;
 use std::alloc::{AllocError, Global};
 
 /// The covered intervals of a continuous function, their components, the lines that show why they are covered, and the
@@ -29,8 +31,22 @@ pub fn cover(alloc: Global, shape: &Shape) -> Result<Cover, AllocError>
     requires { IsContinuous shape.now }
     ensures { IfOk result (IsCoverOf shape.now.order (IsTight shape.now)) }
 {
-    let tight = runs(alloc, shape)?;
-    let found = cover_of_runs(alloc, tight.as_slice(), shape.order())?;
+    let pairs = TightPairs::new(alloc, shape)?;
+    let found = cover_of_pairs(alloc, shape, &pairs)?;
+    Ok(found)
+}
+
+/// The same from the tight pairs of the function.
+pub fn cover_of_pairs(
+    alloc: Global,
+    shape: &Shape,
+    pairs: &TightPairs,
+) -> Result<Cover, AllocError>
+    requires { AreTightPairsOf shape.now pairs.now }
+    ensures { IfOk result (IsCoverOf shape.now.order (IsTight shape.now)) }
+{
+    let table = table_of_pairs(alloc, shape, pairs)?;
+    let found = cover_of_table(alloc, &table)?;
     Ok(found)
 }
 

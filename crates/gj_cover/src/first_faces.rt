@@ -3,10 +3,11 @@ ghost use Rattle.std.specs.Prelude.{◌≡◌, ◌≢◌, ◌⊎◌, ◌+◌, �
 ghost use Rattle.gj_shape.specs.Cover.{IsFirstFace, IsDirectlyCovered};
 ghost use Rattle.gj_cover.specs.Table.{IsTightIn, JoinsBy, AreJoinedBy, CoversBy};
 ghost use Rattle.gj_cover.specs.FirstFound.{FindsFirst, IsEarlier};
-ghost use Rattle.gj_cover.specs.Links.{IsSquareFrom};
+ghost use Rattle.gj_cover.specs.Links.{IsSquareFrom, IsInRow, IsAcross};
 
 use crate::squares::{covering_in_square, joining_in_square};
 use crate::table::Table;
+use crate::triangles::{covering_across, covering_row};
 use gj_shape::Face;
 
 /// The first face in walk order that joins two different intervals.
@@ -47,17 +48,36 @@ pub(crate) fn first_covering(table: &Table, i: u32) -> Option<Face>
     ensures found { IfSome result (IsFirstFace table.now.order (CoversBy table.now i)) }
     ensures none { IfNone result (IsDirectlyCovered table.now.order (IsTightIn table.now) i → ⊥) }
 {
+    earlier(first_in_row(table, i), first_across(table, i))
+}
+
+/// The first triangle that covers the interval i in the squares (i, b).
+fn first_in_row(table: &Table, i: u32) -> Option<Face>
+    requires { i < table.now.order }
+    ensures { FindsFirst (IsInRow table.now.order i) (CoversBy table.now i) result }
+{
+    let Some(b) = covering_row(table, i).first() else {
+        return None;
+    };
+    covering_in_square(table, i, b as u32, i)
+}
+
+/// The first triangle that covers the interval i in the squares (a, b) of other rows. Of one row only the squares (a, i), (a, i - a)
+/// and (a, i - 1 - a) have one.
+fn first_across(table: &Table, i: u32) -> Option<Face>
+    requires { i < table.now.order }
+    ensures { FindsFirst (IsAcross table.now.order i) (CoversBy table.now i) result }
+{
+    let Some(a) = covering_across(table, i).first() else {
+        return None;
+    };
+    let a = a as u32;
     let q = table.order();
-    let mut found = None;
-    for k in 0..q {
-        let step = difference(i, k, q);
-        let short = difference(step, 1, q);
-        found = earlier(found, covering_in_square(table, i, k, i));
-        found = earlier(found, covering_in_square(table, k, i, i));
-        found = earlier(found, covering_in_square(table, k, step, i));
-        found = earlier(found, covering_in_square(table, k, short, i));
-    }
-    found
+    let step = difference(i, a, q);
+    let short = difference(step, 1, q);
+    let found = covering_in_square(table, a, i, i);
+    let found = earlier(found, covering_in_square(table, a, step, i));
+    earlier(found, covering_in_square(table, a, short, i))
 }
 
 /// The first of two faces in walk order, where two of one square are one face; a face is before None.

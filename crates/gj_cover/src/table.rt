@@ -56,6 +56,34 @@ impl Table {
         })
     }
 
+    /// The table with these sets. It takes no memory.
+    pub(crate) fn with(
+        order: u32,
+        rows: Vec<IndexSet>,
+        columns: Vec<IndexSet>,
+        firsts: Vec<IndexSet>,
+        seconds: Vec<IndexSet>,
+    ) -> Table
+        requires few { IsOrder order }
+        requires rows_length { length rows.items ≡ order }
+        requires columns_length { length columns.items ≡ order }
+        requires firsts_length { length firsts.items ≡ order }
+        requires seconds_length { length seconds.items ≡ order }
+        requires columns_are { AreColumns order rows.items columns.items }
+        requires firsts_are { AreFirsts order rows.items firsts.items }
+        requires seconds_are { AreSeconds order rows.items seconds.items }
+        ensures order { result.order ≡ order }
+        ensures rows { result.rows.items ≡ rows.items }
+    {
+        Table {
+            order,
+            rows,
+            columns,
+            firsts,
+            seconds,
+        }
+    }
+
     /// The order.
     pub(crate) fn order(&self) -> u32
         ensures value { result ≡ self.now.order }

@@ -6,7 +6,7 @@ use Rattle.gj_shape.specs.FunctionData.{FunctionData, IsWithinBounds}
 use Rattle.gj_shape.specs.declared.extremality.Halves.{Halves}
 use Rattle.gj_shape.specs.declared.faces.Face.{Face}
 use Rattle.gj_lines.specs.FunctionLines.{line, order_line}
-use Rattle.gj_faces.specs.Listed.{AreMaximalFaces}
+use Rattle.gj_faces.specs.Triangles.{AreAdditiveTriangles}
 use Rattle.gj_cover.specs.CoverOf.{IsCoverOf}
 use Rattle.gj_cover.specs.declared.covered.Cover.{Cover}
 use Rattle.gj_proof.specs.ProofText.{halves_line}
@@ -14,8 +14,8 @@ use Rattle.gj_proof.specs.declared.claim.Claim.{Claim}
 use Rattle.gj_proof.specs.declared.claim.Claim.TheVariants.{NotExtreme}
 use Rattle.gj_extreme.specs.Decision.{IsDecided}
 use Rattle.gj_demo.specs.Demo.{IsDemo}
-use Rattle.gj_demo.specs.Summary.{HasSummary, is_triangle, lines_with}
-use Rattle.gj_demo.proofs.Counts.{counted_triangles, counted_intervals}
+use Rattle.gj_demo.specs.Summary.{HasSummary, lines_with}
+use Rattle.gj_demo.proofs.Counts.{counted_intervals}
 
 -- what is pushed line by line stands there in turn
 pub nine_in_turn : (a b c d e f g h i : List ℕ) (first second third fourth fifth sixth seventh eighth whole : List ℕ) →
@@ -25,14 +25,13 @@ nine_in_turn a b c d e f g h i first second third fourth fifth sixth seventh eig
     x ∙ ap (λ z. z ++ i) (w ∙ ap (λ z. z ++ h) (v ∙ ap (λ z. z ++ g) (u ∙ ap (λ z. z ++ f) (t ∙ ap (λ z. z ++ e)
     (s ∙ ap (λ z. z ++ d) (r ∙ ap (λ z. z ++ c) (q ∙ ap (λ z. z ++ b) p)))))))
 
-pub summary_of : (n : ℕ) (f : FunctionData) (claim : Claim) (h : Halves) (faces : List Face) (cover : Cover)
+pub summary_of : (n : ℕ) (f : FunctionData) (claim : Claim) (h : Halves) (listed : List Face) (cover : Cover)
     (order triangles covered uncovered : ℕ) (text : List ℕ) → IsDemo n f → IsWithinBounds f → IsDecided f claim → claim ≡ NotExtreme f h →
-    AreMaximalFaces f faces → IsCoverOf f.order (IsTight f) cover → order ≡ f.order →
-    triangles ≡ count_by (λ face. is_triangle face.kind) faces → covered ≡ count_by is_some cover.component → uncovered ≡ order - covered →
+    AreAdditiveTriangles f listed → IsCoverOf f.order (IsTight f) cover → order ≡ f.order →
+    triangles ≡ length listed → covered ≡ count_by is_some cover.component → uncovered ≡ order - covered →
     text ≡ lines_with n order triangles covered uncovered cover.count h → HasSummary n text
-summary_of n f claim h faces cover order triangles covered uncovered text demo bounds decided is maximal cover_is order_is
+summary_of n f claim h listed cover order triangles covered uncovered text demo bounds decided is are_triangles cover_is order_is
     triangles_are covered_are uncovered_are spelled =
-    let (listed, are_triangles, many) = counted_triangles f faces maximal in
     let (intervals, are_intervals, some) = counted_intervals f cover.lines cover.component cover_is.component in
     record {
       function = f;
@@ -51,7 +50,7 @@ summary_of n f claim h faces cover order triangles covered uncovered text demo b
         are_lines = cover_is.lines;
         spelled = spelled
             ∙ ap (λ m. lines_with n m triangles covered uncovered cover.count h) order_is
-            ∙ ap (λ m. lines_with n f.order m covered uncovered cover.count h) (triangles_are ∙ sym many)
+            ∙ ap (λ m. lines_with n f.order m covered uncovered cover.count h) triangles_are
             ∙ ap (λ m. lines_with n f.order (length listed) m uncovered cover.count h) (covered_are ∙ sym some)
             ∙ ap (λ m. lines_with n f.order (length listed) (length intervals) uncovered m h) cover_is.count;
       };

@@ -1,32 +1,19 @@
 -- The summary of the demonstration (own).
-use Rattle.std.specs.Prelude.{ℕ, ◌≡◌, ◌+◌, Bool, true, false, IsTrue, List, ◌++◌, codes, decimal, length}
+use Rattle.std.specs.Prelude.{ℕ, ◌≡◌, ◌+◌, List, ◌++◌, codes, decimal, length}
 use Rattle.std.specs.List.{range_with_len}
-use Rattle.gj_shape.specs.Additive.{IsTight, IsAdditive}
+use Rattle.gj_shape.specs.Additive.{IsTight}
 use Rattle.gj_shape.specs.Cover.{AreCoverLines, IsCovered, components_in}
 use Rattle.gj_shape.specs.FunctionData.{FunctionData, IsWithinBounds}
-use Rattle.gj_shape.specs.WalkOrder.{faces_of}
 use Rattle.gj_shape.specs.declared.extremality.CoverLine.{CoverLine}
 use Rattle.gj_shape.specs.declared.extremality.Halves.{Halves}
 use Rattle.gj_shape.specs.declared.faces.Face.{Face}
-use Rattle.gj_shape.specs.declared.faces.FaceKind.{FaceKind}
-use Rattle.gj_shape.specs.declared.faces.FaceKind.TheVariants.{Lower, Upper}
 use Rattle.gj_faces.specs.Picked.{ArePicked}
+use Rattle.gj_faces.specs.Triangles.{AreAdditiveTriangles}
 use Rattle.gj_lines.specs.FunctionLines.{line, order_line}
 use Rattle.gj_proof.specs.ProofText.{halves_line}
 use Rattle.gj_proof.specs.declared.claim.Claim.TheVariants.{NotExtreme}
 use Rattle.gj_extreme.specs.Decision.{IsDecided}
 use Rattle.gj_demo.specs.Demo.{IsDemo}
-
--- whether a face of this kind is a triangle
-abbrev pub is_triangle : FaceKind → Bool
-is_triangle Lower = true
-is_triangle Upper = true
-is_triangle kind = false
-
--- the additive triangles of the function, in walk order
-abbrev pub AreAdditiveTriangles : FunctionData → List Face → Type 0
-AreAdditiveTriangles f faces =
-    ArePicked (λ face. IsTrue (is_triangle face.kind) × IsAdditive (IsTight f) face.kind face.a face.b) (faces_of f.order) faces
 
 -- the covered intervals of the function, ascending
 abbrev pub AreCoveredIntervals : FunctionData → List ℕ → Type 0

@@ -7,16 +7,16 @@ ghost use Rattle.gj_lines.specs.FunctionLines.{line};
 ghost use Rattle.gj_proof.specs.declared.claim.Claim.TheVariants.{NotExtreme};
 ghost use Rattle.gj_extreme.specs.Decision.{IsDecided};
 ghost use Rattle.gj_demo.specs.Demo.{IsDemo};
-ghost use Rattle.gj_demo.specs.Summary.{HasSummary, is_triangle, lines_with};
+ghost use Rattle.gj_demo.specs.Summary.{HasSummary, lines_with};
 
 use crate::function::demo_function;
-use gj_cover::cover;
+use gj_cover::cover_of_pairs;
 use gj_extreme::{DecideFault, decide};
-use gj_faces::maximal;
+use gj_faces::{TightPairs, count_additive_triangles};
 use gj_lex::print_count;
 use gj_lines::push_order_line;
 use gj_proof::{Claim, Proof, push_halves_line};
-use gj_shape::{Face, FaceKind, Halves, Shape};
+use gj_shape::{Halves, Shape};
 use std::alloc::{AllocError, Global};
 
 /// The summary of the decision on the function of the demonstration with this number: its order, how many of its triangles are
@@ -28,10 +28,10 @@ pub fn summary(alloc: Global, n: u32) -> Result<Vec<u8>, AllocError>
     ensures { IfOk result (λ text. HasSummary n text.items) }
 {
     let shape = demo_function(alloc, n)?;
-    let faces = maximal(alloc, &shape)?;
-    let cover = cover(alloc, &shape)?;
+    let pairs = TightPairs::new(alloc, &shape)?;
+    let triangles = count_additive_triangles(&shape, &pairs);
+    let cover = cover_of_pairs(alloc, &shape, &pairs)?;
     let proof = verdict(alloc, &shape, n)?;
-    let triangles = count_triangles(faces.as_slice());
     let covered = count_covered(cover.component.as_slice());
     text_of(
         alloc,
@@ -97,27 +97,6 @@ fn halves_of(proof: &Proof) -> &Halves
         Claim::NotExtreme(_, halves) => halves,
         _ => unreachable!(),
     }
-}
-
-/// How many of the faces are triangles.
-fn count_triangles(faces: &[Face]) -> u32
-    requires { length faces.now < 2 ^ 32 }
-    ensures { result ≡ count_by (λ face. is_triangle face.kind) faces.now }
-{
-    let mut count = 0;
-    for face in faces {
-        if is_triangle(face.kind) {
-            count += 1;
-        }
-    }
-    count
-}
-
-/// Whether a face of this kind is a triangle.
-fn is_triangle(kind: FaceKind) -> bool
-    ensures { result ≡ is_triangle kind }
-{
-    matches!(kind, FaceKind::Lower | FaceKind::Upper)
 }
 
 /// How many of the intervals have a component.

@@ -1,14 +1,14 @@
 -- What a basis keeps behind an insertion.
-use Rattle.std.proofs.Common.{◌≡◌, ℕ, ◌+◌, ◌<◌, ◌↔◌, Option, None, Some, ℤ, List, [], ◌∷◌, ◌++◌, length, map, refl, sym, ap, ap₂, subst, ◌∙◌, arith}
-use Rattle.std.specs.Prelude.{All, IfSome, Result, Ok, Err, IsErr, IsErrAnd, IsErrOf}
+use Rattle.std.proofs.Common.{◌≡◌, ℕ, ◌+◌, ◌↔◌, Option, None, Some, ℤ, List, [], ◌∷◌, ◌++◌, length, map, refl, sym, ap, ap₂, subst, ◌∙◌, arith}
+use Rattle.std.specs.Prelude.{All, Result, Ok, Err, IsErr, IsErrAnd, IsErrOf}
 use Rattle.std.proofs.lemmas.List.{length-map, length_push}
 use Rattle.std.proofs.lemmas.List.Elements.{All-push}
-use Rattle.gj_shape.specs.Elimination.{KeptRow, Insertion, inserted, kept_behind, kept_entries}
+use Rattle.gj_shape.specs.Elimination.{KeptRow, Insertion, Arithmetic, whole_numbers, with_pivot, inserted, inserted_by, kept_behind}
 use Rattle.gj_theory.specs.TriangularRows.{Solves, SolvesKept, AreTriangular}
 use Rattle.gj_theory.proofs.Insertions.{inserted_leaves, triangular_behind, solutions_behind}
 use Rattle.gj_elim.specs.declared.log.LogRow.{LogRow}
 use Rattle.gj_frac.specs.Fraction.{Fits}
-use Rattle.gj_elim.specs.Data.{BasisData, behind}
+use Rattle.gj_elim.specs.Data.{BasisData, behind_by}
 use Rattle.gj_elim.specs.KeptRows.{kept_rows, log_row}
 use Rattle.gj_elim.specs.Progress.{IsLeft, kept_at}
 
@@ -46,27 +46,27 @@ insertion_read b d log rows r row same kept_is row_is columns =
 -- ---- the rows behind it
 
 -- the kept rows are those behind the insertion
-pub record AreBehind (b : BasisData) (row : List ℤ) (kept : List KeptRow) : Type 0 where
-  pub kept_is : kept ≡ (behind b row).kept
+pub record AreBehind (by : Arithmetic) (b : BasisData) (row : List ℤ) (kept : List KeptRow) : Type 0 where
+  pub kept_is : kept ≡ (behind_by by b row).kept
 
-pub nothing_kept : (b : BasisData) (row left : List ℤ) (reduce : List ℕ) (o : Option ℕ) →
-    IsLeft (inserted b.columns b.kept row) o left reduce → o ≡ None → AreBehind b row b.kept
+pub nothing_kept : (by : Arithmetic) (b : BasisData) (row left : List ℤ) (reduce : List ℕ) (o : Option ℕ) →
+    IsLeft by (inserted_by by b.columns b.kept row) o left reduce → kept_at by o left ≡ None → AreBehind by b row b.kept
 unfolding kept_behind
-nothing_kept b row left reduce o h none =
-    let e : (inserted b.columns b.kept row).kept ≡ None = h.kept_is ∙ ap (λ x. kept_at x left) none in record {
-      kept_is = sym (ap (kept_behind b.kept b.inserted (inserted b.columns b.kept row).reduce) e);
+nothing_kept by b row left reduce o h none =
+    let e : (inserted_by by b.columns b.kept row).kept ≡ None = h.kept_is ∙ none in record {
+      kept_is = sym (ap (kept_behind b.kept b.inserted (inserted_by by b.columns b.kept row).reduce) e);
     }
 
-pub row_kept : (b : BasisData) (row left : List ℤ) (reduce : List ℕ) (o : Option ℕ) (log log' : List LogRow)
+pub row_kept : (by : Arithmetic) (b : BasisData) (row left : List ℤ) (reduce : List ℕ) (o : Option ℕ) (log log' : List LogRow)
     (rows rows' : List (List ℤ)) (l : LogRow) (r : List ℤ) →
-    IsLeft (inserted b.columns b.kept row) o left reduce → o ≡ Some l.pivot → b.kept ≡ kept_rows log rows →
+    IsLeft by (inserted_by by b.columns b.kept row) o left reduce → o ≡ Some l.pivot → b.kept ≡ kept_rows log rows →
     length log ≡ length rows → log' ≡ log ++ l ∷ [] → rows' ≡ rows ++ r ∷ [] → l.number ≡ b.inserted → l.reduce ≡ reduce →
-    r ≡ kept_entries left l.pivot → AreBehind b row (kept_rows log' rows')
+    by.keep left l.pivot ≡ Some r → AreBehind by b row (kept_rows log' rows')
 unfolding kept_behind
-row_kept b row left reduce o log log' rows rows' l r h some kept_is lines log_is rows_is number_is reduce_is r_is =
-    let i : Insertion = inserted b.columns b.kept row in
+row_kept by b row left reduce o log log' rows rows' l r h some kept_is lines log_is rows_is number_is reduce_is r_is =
+    let i : Insertion = inserted_by by b.columns b.kept row in
     let e : i.kept ≡ Some (l.pivot, r) =
-    h.kept_is ∙ ap (λ x. kept_at x left) some ∙ ap (λ xs. Some (l.pivot, xs)) (sym r_is) in
+    h.kept_is ∙ ap (λ x. kept_at by x left) some ∙ ap (λ xs. with_pivot l.pivot xs) r_is in
     let now : kept_rows log' rows'
     ≡ kept_rows log rows ++ record { number = l.number; reduce = l.reduce; pivot = l.pivot; entries = r } ∷ [] =
     ap₂ kept_rows log_is rows_is ∙ kept_rows_push log rows l r lines in
@@ -80,21 +80,21 @@ row_kept b row left reduce o log log' rows rows' l r h some kept_is lines log_is
 
 -- ---- what follows
 
-pub behind_from : (b d : BasisData) (row : List ℤ) (kept : List KeptRow) → b ≡ d → AreBehind b row kept →
-    record { columns = b.columns; inserted = b.inserted + 1; kept = kept } ≡ behind d row
-behind_from b d row kept same h =
+pub behind_from : (by : Arithmetic) (b d : BasisData) (row : List ℤ) (kept : List KeptRow) → b ≡ d → AreBehind by b row kept →
+    record { columns = b.columns; inserted = b.inserted + 1; kept = kept } ≡ behind_by by d row
+behind_from by b d row kept same h =
     ap (λ ks. let x : BasisData = record { columns = b.columns; inserted = b.inserted + 1; kept = ks } in x) h.kept_is
-    ∙ ap (λ x. behind x row) same
+    ∙ ap (λ x. behind_by by x row) same
 
 pub triangular_from : (b : BasisData) (row : List ℤ) (kept : List KeptRow) → AreTriangular b.columns b.kept →
-    length row ≡ b.columns → AreBehind b row kept → AreTriangular b.columns kept
+    length row ≡ b.columns → AreBehind whole_numbers b row kept → AreTriangular b.columns kept
 triangular_from b row kept h columns is =
     let i : Insertion = inserted b.columns b.kept row in
     subst (AreTriangular b.columns) (sym is.kept_is)
     (triangular_behind b.columns b.inserted b.kept row i.reduce i.kept h (inserted_leaves b.columns b.kept row h columns))
 
 pub solutions_from : (b d : BasisData) (row w : List ℤ) (kept : List KeptRow) → b ≡ d → AreTriangular b.columns b.kept →
-    length row ≡ d.columns → AreBehind b row kept → (SolvesKept w kept ↔ (SolvesKept w d.kept × Solves w row))
+    length row ≡ d.columns → AreBehind whole_numbers b row kept → (SolvesKept w kept ↔ (SolvesKept w d.kept × Solves w row))
 solutions_from b d row w kept same h columns is =
     let i : Insertion = inserted b.columns b.kept row in
     let both = solutions_behind b.columns b.inserted b.kept row w i.reduce i.kept

@@ -74,7 +74,7 @@ pub entries_at : (kept : List KeptRow) (c : ℕ) (e e' : List ℤ) → e' ≡ e 
 entries_at kept c e e' same (k, found, is) = (k, found, is ∙ sym same)
 
 -- what the code's `rows[i]` gives
-pub row_read : (rows : List (List ℤ)) (i : ℕ) (x y : List ℤ) → i < length rows → x ≡ get_or rows i x → y ≡ x →
+pub row_read : {X : Type 0} (rows : List (List X)) (i : ℕ) (x y : List X) → i < length rows → x ≡ get_or rows i x → y ≡ x →
     y ≡ get_or rows i []
 row_read rows i x y inside x_is y_is = y_is ∙ x_is ∙ get_or_default rows i x [] inside
 

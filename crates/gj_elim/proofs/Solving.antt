@@ -1,5 +1,5 @@
 -- A kept row is solved.
-use Rattle.std.proofs.Common.{◌≡◌, ℕ, ◌+◌, ◌<◌, ◌≤◌, ◌^◌, ◌⊎◌, inl, inr, ◌↔◌, ℤ, pos, ◌+ℤ◌, ◌*ℤ◌, neg_ℤ, ◌<ℤ◌, ◌-ℤ◌, int_div, FitsSigned, to_z, of_z, List, [], ◌∷◌, ◌++◌, length, map, drop, set, get_or, unsigned_abs, sym, ap, ap₂, subst, ◌∙◌, arith}
+use Rattle.std.proofs.Common.{◌≡◌, ℕ, ◌+◌, ◌<◌, ◌≤◌, ◌^◌, ◌⊎◌, inl, inr, ◌↔◌, ℤ, pos, ◌+ℤ◌, ◌*ℤ◌, neg_ℤ, ◌<ℤ◌, ◌-ℤ◌, int_div, FitsSigned, to_z, of_z, List, ◌∷◌, ◌++◌, length, map, drop, set, get_or, unsigned_abs, sym, ap, ap₂, subst, ◌∙◌, arith}
 use Rattle.std.specs.List.{zip}
 use Rattle.std.proofs.lemmas.Bool.{cases_lt}
 use Rattle.std.proofs.lemmas.Int.{ints, to_z-of_z}
@@ -15,7 +15,7 @@ use Rattle.gj_tools.proofs.Divisors.{gcd_of_is}
 use Rattle.gj_frac.proofs.Reduced.{quotient_of_divisor}
 use Rattle.gj_theory.proofs.WideNumbers.{fits_width, read_fitting}
 use Rattle.gj_theory.proofs.DividedRows.{smaller, negated_fits, read_negated, read_signed_quotient}
-use Rattle.gj_theory.proofs.Passing.{none_passes, first_passes, later_passes, passes_cases, front_passes, back_passes, either_passes, passes_at, none_pass}
+use Rattle.gj_theory.proofs.Passing.{first_passes, later_passes, passes_cases, front_passes, back_passes, either_passes, passes_at, none_pass}
 
 -- ---- the sum of products
 

@@ -128,6 +128,13 @@ impl Basis {
         self.log.as_slice()
     }
 
+    /// How each kept row came to be kept, in the order of insertion.
+    pub fn into_log(self) -> Vec<LogRow>
+        ensures { result.items ≡ map log_row self.kept }
+    {
+        self.log
+    }
+
     /// Numbers that solve all kept rows and are not all 0; None exactly where there are as many kept rows as columns. `Wide`
     /// exactly where one of the numbers that the definition marks passes 2^127 - 1 in absolute value.
     pub fn kernel(&self) -> Result<Option<Vec<i128>>, ElimFault>

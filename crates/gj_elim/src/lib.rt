@@ -16,6 +16,7 @@ mod step;
 pub use basis::Basis;
 pub use faults::ElimFault;
 pub use log::{Inserted, LogRow};
+pub use reduce::place_of;
 
 #[cfg(test)]
 mod tests;

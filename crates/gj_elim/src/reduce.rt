@@ -1,7 +1,7 @@
 //! A row goes through all columns, and is reduced by the kept rows.
 ghost use Rattle.std.specs.Prelude.{ℤ, ◌≡◌, ◌<◌, ◌^◌, ◌==◌, List, [], length, All, IfOk, IfSome, OnOk, IsErrOf};
 ghost use Rattle.std.specs.List.{position};
-ghost use Rattle.gj_shape.specs.Elimination.{free_column, inserted, Passes};
+ghost use Rattle.gj_shape.specs.Elimination.{free_column, whole_numbers, inserted, Passes};
 ghost use Rattle.gj_theory.specs.TriangularRows.{AreTriangular};
 ghost use Rattle.gj_frac.specs.Fraction.{Fits};
 ghost use Rattle.gj_elim.specs.KeptRows.{kept_rows};
@@ -12,8 +12,8 @@ use crate::log::LogRow;
 use crate::step::reduce_by;
 use gj_shape::List;
 
-/// The place of the kept row with its pivot at the column.
-pub(crate) fn place_of(log: &[LogRow], column: u32) -> Option<usize>
+/// The place of the line with this pivot in a log.
+pub fn place_of(log: &[LogRow], column: u32) -> Option<usize>
     ensures { result ≡ position (λ line. line.pivot == column) log.now }
 {
     log.iter().position(|line| line.pivot == column)
@@ -46,7 +46,7 @@ pub(crate) fn reduce_row(
     requires count { length row.old < 2 ^ 32 }
     requires fits { All Fits row.old }
     requires empty { reduce.old.items ≡ [] }
-    ensures left { IfOk result (λ left. IsLeft (inserted (length row.old) (kept_rows log.now rows.now) row.old) left row.new
+    ensures left { IfOk result (λ left. IsLeft whole_numbers (inserted (length row.old) (kept_rows log.now rows.now) row.old) left row.new
         reduce.new.items) }
     ensures within { IfOk result (λ left. IfSome left (λ c. c < length row.old)) }
     ensures fits { OnOk result (All Fits row.new) }

@@ -11,6 +11,7 @@ pub mod OneViolation
 pub mod OneDecision
 pub mod NotTooWide
 pub mod RowOrder
+pub mod FoundPairs
 pub mod TakenRows
 pub mod GroupLists
 pub mod KernelFits

@@ -1,5 +1,5 @@
 -- The names of the rows in their order, one after another.
-use Rattle.std.proofs.Common.{◌≡◌, ℕ, ◌+◌, ◌-◌, ◌*◌, ◌<◌, ◌≤◌, ◌^◌, cond, ◌+ℤ◌, true, false, List, [], ◌∷◌, ◌++◌, length, map, ap, ◌∙◌, arith}
+use Rattle.std.proofs.Common.{◌≡◌, ℕ, zero, suc, ◌+◌, ◌-◌, ◌*◌, ◌<◌, ◌≤◌, ◌^◌, cond, ◌+ℤ◌, true, false, List, [], ◌∷◌, ◌++◌, length, map, ap, ◌∙◌, arith}
 use Rattle.std.specs.List.{range_with_len, filter, flat_map}
 use Rattle.std.proofs.Math.Nat.{mul-le-mul}
 use Rattle.std.proofs.lemmas.List.{length-append, length-map}
@@ -83,9 +83,24 @@ pub next_pair : (f : FunctionData) (a b : ℕ) (behind : List RowName) → b < f
 next_pair f a b behind below tight =
     ap (λ l. l ++ behind) (tight_pair f a b below ((Decides-int_eq (at f.value a +ℤ at f.value b) (at f.value (a + b))).1 tight))
 
--- a pair that is not tight has no row
-pub skipped_pair : (f : FunctionData) (a b : ℕ) (behind : List RowName) → b < f.order → (IsTight f a b → ⊥) →
-    pairs_from f a b ++ behind ≡ pairs_from f a (b + 1) ++ behind
-skipped_pair f a b behind below loose =
-    ap (λ l. l ++ behind) (loose_pair f a b below
-    (never_true (is_tight f a b) (λ e. loose ((Decides-int_eq (at f.value a +ℤ at f.value b) (at f.value (a + b))).0 e))))
+-- pairs that are not tight have no row
+skipped_pair : (f : FunctionData) (a b : ℕ) → b < f.order → (IsTight f a b → ⊥) → pairs_from f a b ≡ pairs_from f a (b + 1)
+skipped_pair f a b below loose =
+    loose_pair f a b below
+    (never_true (is_tight f a b) (λ e. loose ((Decides-int_eq (at f.value a +ℤ at f.value b) (at f.value (a + b))).0 e)))
+
+skipped_some : (f : FunctionData) (a from n : ℕ) → from + n ≤ f.order →
+    ((k : ℕ) → from ≤ k → k < from + n → IsTight f a k → ⊥) → pairs_from f a from ≡ pairs_from f a (from + n)
+skipped_some f a from zero below loose = let same : from ≡ from + 0 = omega arith in ap (pairs_from f a) same
+skipped_some f a from (suc n) below loose =
+    let next : from + n + 1 ≡ from + suc n = omega arith in
+    skipped_some f a from n (omega arith) (λ k low high. loose k low (omega arith))
+    ∙ skipped_pair f a (from + n) (omega arith) (loose (from + n) (omega arith) (omega arith))
+    ∙ ap (pairs_from f a) next
+
+pub skipped_pairs : (f : FunctionData) (a from b : ℕ) (behind : List RowName) → from ≤ b → b ≤ f.order →
+    ((k : ℕ) → from ≤ k → k < b → IsTight f a k → ⊥) → pairs_from f a from ++ behind ≡ pairs_from f a b ++ behind
+skipped_pairs f a from b behind low high loose =
+    let is : from + (b - from) ≡ b = omega arith in
+    ap (λ l. l ++ behind) (skipped_some f a from (b - from) (omega arith) (λ k from_k below. loose k from_k (omega arith))
+    ∙ ap (pairs_from f a) is)

@@ -4,6 +4,7 @@ ghost use Rattle.gj_shape.specs.Additive.{IsTight};
 ghost use Rattle.gj_shape.specs.FunctionData.{IsContinuous};
 ghost use Rattle.gj_shape.specs.Table.{IsMinimal};
 ghost use Rattle.gj_cover.specs.CoverOf.{IsCoverOf};
+ghost use Rattle.gj_faces.specs.TightPairs.{AreTightPairsOf};
 ghost use Rattle.gj_proof.specs.ProofText.{HasText};
 ghost use Rattle.gj_extreme.specs.Decision.{IsDecided, IsTooWide};
 
@@ -12,6 +13,7 @@ use crate::groups::groups;
 use crate::rows::rows_of;
 use crate::slopes::slope_halves;
 use gj_cover::Cover;
+use gj_faces::TightPairs;
 use gj_proof::Claim;
 use gj_shape::{List, Shape};
 use std::alloc::{AllocError, Global};
@@ -20,8 +22,10 @@ use std::alloc::{AllocError, Global};
 pub(crate) fn extreme_or_slopes(
     alloc: Global,
     shape: &Shape,
+    pairs: &TightPairs,
     cover: Cover,
 ) -> Result<Claim, DecideFault>
+    requires pairs { AreTightPairsOf shape.now pairs.now }
     requires minimal { IsMinimal shape.now }
     requires continuous { IsContinuous shape.now }
     requires cover { IsCoverOf shape.now.order (IsTight shape.now) cover }
@@ -32,7 +36,7 @@ pub(crate) fn extreme_or_slopes(
     ensures no_jump { (i : ℕ) → ¬ IsErrOf result (DecideFault.NotContinuous i) }
 {
     let component = numbers_of(alloc, cover.component.as_slice())?;
-    let rows = rows_of(alloc, shape, component.as_slice(), cover.count)?;
+    let rows = rows_of(alloc, shape, pairs, component.as_slice(), cover.count)?;
     if rows.is_full() {
         let groups = groups(alloc, &rows)?;
         return Ok(Claim::Extreme(shape.copy(alloc)?, cover.lines, List::of(groups)));

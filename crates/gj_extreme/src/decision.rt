@@ -12,7 +12,8 @@ ghost use Rattle.gj_extreme.specs.Decision.{AreAllCovered, IsDecided, IsByTable,
 use crate::covered::extreme_or_slopes;
 use crate::faults::DecideFault;
 use crate::uncovered::zigzag_halves;
-use gj_cover::cover;
+use gj_cover::cover_of_pairs;
+use gj_faces::TightPairs;
 use gj_minimal::find_violation;
 use gj_proof::{Claim, Proof};
 use gj_shape::Shape;
@@ -91,9 +92,10 @@ fn claim_of_continuous(alloc: Global, shape: &Shape) -> Result<Claim, DecideFaul
     ensures no_jump { (i : ℕ) → ¬ IsErrOf result (DecideFault.NotContinuous i) }
     ensures wide { IsErrOf result DecideFault.Wide → IsTooWide shape.now }
 {
-    let cover = cover(alloc, shape)?;
+    let pairs = TightPairs::new(alloc, shape)?;
+    let cover = cover_of_pairs(alloc, shape, &pairs)?;
     if cover.class.as_slice().is_empty() {
-        return extreme_or_slopes(alloc, shape, cover);
+        return extreme_or_slopes(alloc, shape, &pairs, cover);
     }
     let halves = zigzag_halves(alloc, shape, cover.class.as_slice())?;
     Ok(Claim::NotExtreme(shape.copy(alloc)?, halves))

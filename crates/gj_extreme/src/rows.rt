@@ -1,8 +1,8 @@
 //! The rows of the linear system for the slopes, inserted in their order until there is one for each component.
-ghost use Rattle.std.specs.Prelude.{ℕ, ◌≡◌, ◌<◌, ◌≤◌, ◌+◌, ◌^◌, ◌↔◌, ◌+ℤ◌, ◌∷◌, [], List, length, All, IfOk, OnOk, IsErrOf, IsTrue, unsigned_abs};
-ghost use Rattle.gj_shape.specs.Additive.{IsTight};
+ghost use Rattle.std.specs.Prelude.{ℕ, ◌≡◌, ◌<◌, ◌≤◌, ◌+◌, ◌↔◌, ◌∷◌, [], List, length, All, IfOk, OnOk, IsErrOf, IsTrue};
+ghost use Rattle.gj_faces.specs.TightPairs.{AreTightPairsOf};
 ghost use Rattle.gj_shape.specs.Elimination.{Passes};
-ghost use Rattle.gj_shape.specs.FunctionData.{FunctionData, IsWithinBounds, at};
+ghost use Rattle.gj_shape.specs.FunctionData.{FunctionData, IsWithinBounds};
 ghost use Rattle.gj_shape.specs.SlopeRows.{row_names, component_in};
 ghost use Rattle.gj_shape.specs.declared.extremality.RowName.{RowName};
 ghost use Rattle.gj_system.specs.Components.{IsNameBelow};
@@ -10,7 +10,8 @@ ghost use Rattle.gj_extreme.specs.Decision.{slope_elimination};
 ghost use Rattle.gj_extreme.specs.RowsToCome.{AreToCome, AreInserted, IsReady, rows_from};
 
 use gj_elim::{Basis, ElimFault, Inserted};
-use gj_shape::{RowName, Shape, wrapped};
+use gj_faces::TightPairs;
+use gj_shape::{RowName, Shape};
 use gj_system::SlopeRows;
 use std::alloc::{AllocError, Global};
 
@@ -28,9 +29,11 @@ pub(crate) struct Rows {
 pub(crate) fn rows_of(
     alloc: Global,
     shape: &Shape,
+    pairs: &TightPairs,
     component: &[u32],
     count: u32,
 ) -> Result<Rows, ElimFault>
+    requires pairs { AreTightPairsOf shape.now pairs.now }
     requires order { length component.now ≡ shape.now.order }
     requires components { All (λ c. c < count) component.now }
     ensures limits { IsWithinBounds shape.now }
@@ -40,16 +43,18 @@ pub(crate) fn rows_of(
 {
     let order = shape.order();
     let system = SlopeRows::new(alloc, component, count)?;
-    insert_rows(alloc, shape, order, &system)
+    insert_rows(alloc, shape, pairs, order, &system)
 }
 
 /// Inserts the rows of the system for a function of this order, until there is one for each component.
 fn insert_rows(
     alloc: Global,
     shape: &Shape,
+    pairs: &TightPairs,
     order: u32,
     system: &SlopeRows,
 ) -> Result<Rows, ElimFault>
+    requires pairs { AreTightPairsOf shape.now pairs.now }
     requires limits { IsWithinBounds shape.now }
     requires order { order ≡ shape.now.order }
     requires components { length system.now.component ≡ shape.now.order }
@@ -64,13 +69,21 @@ fn insert_rows(
         if rows.is_full() {
             return Ok(rows);
         }
-        insert_pairs(shape, system, a, &mut rows)?;
+        insert_pairs(shape, pairs, system, a, &mut rows)?;
     }
     Ok(rows)
 }
 
 /// Inserts the rows of the tight pairs (a, b) with b from a on.
-fn insert_pairs(shape: &Shape, system: &SlopeRows, a: u32, rows: &mut Rows) -> Result<(), ElimFault>
+fn insert_pairs(
+    shape: &Shape,
+    pairs: &TightPairs,
+    system: &SlopeRows,
+    a: u32,
+    rows: &mut Rows,
+) -> Result<(), ElimFault>
+    requires limits { IsWithinBounds shape.now }
+    requires pairs { AreTightPairsOf shape.now pairs.now }
     requires order { length system.now.component ≡ shape.now.order }
     requires below { a < shape.now.order }
     requires to_come { AreToCome shape.now (component_in system.now.component) system.now.columns rows.old (rows_from shape.now a) }
@@ -79,10 +92,11 @@ fn insert_pairs(shape: &Shape, system: &SlopeRows, a: u32, rows: &mut Rows) -> R
     ensures wide { IsErrOf result ElimFault.Wide →
         Passes (slope_elimination shape.now (component_in system.now.component) system.now.columns).marked }
 {
-    for b in a..shape.order() {
-        if is_tight(shape, a, b) {
-            rows.insert(shape, system, RowName::Pair(a, b))?;
-        }
+    let row = pairs.row(a);
+    let mut from = a as usize;
+    'pairs: while let Some(b) = row.first_from(from) {
+        rows.insert(shape, system, RowName::Pair(a, b as u32))?;
+        from = b + 1;
     }
     Ok(())
 }
@@ -130,33 +144,4 @@ impl Rows {
         }
         Ok(())
     }
-}
-
-/// Whether the pair of indices below the order is tight.
-fn is_tight(shape: &Shape, a: u32, b: u32) -> bool
-    requires first { a < shape.now.order }
-    requires second { b < shape.now.order }
-    ensures { IsTrue result ↔ IsTight shape.now a b }
-{
-    let order = shape.order();
-    let sum = wrapped(a + b, order);
-    add_up(value_at(shape, a), value_at(shape, b), value_at(shape, sum))
-}
-
-/// The value at i/q, times the common denominator.
-fn value_at(shape: &Shape, i: u32) -> i64
-    requires { i < shape.now.order }
-    ensures value { result ≡ at shape.now.value i }
-    ensures small { unsigned_abs result < 2 ^ 51 }
-{
-    shape.value_numerators()[i as usize]
-}
-
-/// Whether two numerators add up to a third.
-fn add_up(first: i64, second: i64, sum: i64) -> bool
-    requires first { unsigned_abs first < 2 ^ 51 }
-    requires second { unsigned_abs second < 2 ^ 51 }
-    ensures { IsTrue result ↔ (first +ℤ second ≡ sum) }
-{
-    first + second == sum
 }

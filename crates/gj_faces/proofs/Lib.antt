@@ -13,3 +13,4 @@ pub mod PairRows
 pub mod AloneFlags
 pub mod AddedFaces
 pub mod TightGrids
+pub mod CountedTriangles

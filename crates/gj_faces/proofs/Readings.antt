@@ -21,10 +21,6 @@ small_all bound xs some h i =
       | inr past ↦ subst (λ x. unsigned_abs x < bound) (sym (get_or_past xs i (pos 0) past)) some
     ]
 
--- those behind a place too
-pub small_behind : (bound : ℕ) (xs : List ℤ) (n : ℕ) → AreSmall bound xs → AreSmall bound (drop n xs)
-small_behind bound xs n h i = subst (λ x. unsigned_abs x < bound) (sym (get_or-drop n xs i (pos 0))) (h (n + i))
-
 -- the values of a function
 pub values_small : (f : FunctionData) → IsWithinBounds f → AreSmall (2 ^ 62) f.value
 values_small f limits =

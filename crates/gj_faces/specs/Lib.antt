@@ -7,3 +7,4 @@ pub mod Picked
 pub mod Listed
 pub mod Added
 pub mod Alone
+pub mod Triangles

@@ -1,5 +1,5 @@
 -- Tight pairs, row by row (own).
-use Rattle.std.specs.Prelude.{ℕ, ◌≡◌, ◌↔◌, ◌%◌, IsTrue, get_or}
+use Rattle.std.specs.Prelude.{ℕ, ◌≡◌, ◌↔◌, ◌%◌, ◌<◌, ◌≤◌, IsTrue, get_or}
 use Rattle.gj_sets.specs.IndexSets.{has, no_set}
 use Rattle.gj_shape.specs.FunctionData.{FunctionData}
 use Rattle.gj_shape.specs.Additive.{IsTight}
@@ -13,3 +13,10 @@ IsTightIn pairs i j = IsTrue (has (get_or pairs.rows.items (i % pairs.order) no_
 pub record AreTightPairsOf (f : FunctionData) (pairs : TightPairs) : Type 0 where
   pub order : pairs.order ≡ f.order
   pub tell : (i j : ℕ) → IsTightIn pairs i j ↔ IsTight f i j
+
+-- b is the least index from the start on for which (a, b) is among them
+pub record IsNextTight (pairs : TightPairs) (a start b : ℕ) : Type 0 where
+  pub behind : start ≤ b
+  pub within : b < pairs.order
+  pub tight : IsTightIn pairs a b
+  pub first : (k : ℕ) → start ≤ k → k < b → IsTightIn pairs a k → ⊥

@@ -17,6 +17,7 @@ mod search;
 mod tests;
 mod tight_pairs;
 mod tight_runs;
+mod triangles;
 
 pub use additive::is_additive;
 pub use laws::additive_by_runs;
@@ -25,3 +26,4 @@ pub use run::Run;
 pub use search::in_runs;
 pub use tight_pairs::TightPairs;
 pub use tight_runs::runs;
+pub use triangles::count_additive_triangles;

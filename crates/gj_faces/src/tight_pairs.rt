@@ -19,10 +19,10 @@ pub struct TightPairs {
 }
 
 impl TightPairs {
-    ghost use Rattle.std.specs.Prelude.{ℕ, ◌↔◌, ◌<◌, ◌≤◌, false, IfOk, IsTrue};
+    ghost use Rattle.std.specs.Prelude.{ℕ, ◌↔◌, ◌<◌, ◌≤◌, false, IfOk, IsTrue, MatchOption};
     ghost use Rattle.gj_sets.specs.IndexSets.{has};
     ghost use Rattle.gj_shape.specs.FunctionData.{IsContinuous};
-    ghost use Rattle.gj_faces.specs.TightPairs.{IsTightIn, AreTightPairsOf};
+    ghost use Rattle.gj_faces.specs.TightPairs.{IsTightIn, IsNextTight, AreTightPairsOf};
 
     /// The tight pairs of the continuous function.
     pub fn new(alloc: Global, shape: &Shape) -> Result<TightPairs, AllocError>
@@ -62,5 +62,19 @@ impl TightPairs {
         ensures { IsTrue result ↔ IsTightIn self.now a b }
     {
         self.row(a).contains(b as usize)
+    }
+
+    /// The least b below the order, and not below `from`, for which the pair (a, b) is tight.
+    ///
+    /// So the pairs of a row are gone over: the next is asked for from b + 1.
+    pub fn next_in_row(&self, a: u32, from: u32) -> Option<u32>
+        requires { a < self.now.order }
+        ensures { MatchOption result ((b : ℕ) → from ≤ b → b < self.now.order → IsTightIn self.now a b → ⊥)
+            (IsNextTight self.now a from) }
+    {
+        match self.row(a).first_from(from as usize) {
+            Some(b) => Some(b as u32),
+            None => None,
+        }
     }
 }

@@ -1,5 +1,5 @@
 -- Lines through the points of a fill-in, by cross products.
-use Rattle.std.proofs.Common.{◌≡◌, ℕ, ◌+◌, ◌*◌, ℤ, pos, ◌+ℤ◌, ◌-ℤ◌, ◌*ℤ◌, neg_ℤ, List, [], ◌∷◌, refl, ap, sym, subst, ◌∙◌, arith}
+use Rattle.std.proofs.Common.{◌≡◌, ℕ, ◌+◌, ◌*◌, ℤ, pos, ◌+ℤ◌, ◌-ℤ◌, ◌*ℤ◌, neg_ℤ, [], ◌∷◌, refl, ap, sym, ◌∙◌}
 use Rattle.gj_tools.proofs.Ring.{by_ring, ring}
 use Rattle.gj_fill.specs.FillPoints.{IsOnLine}
 

@@ -1,5 +1,5 @@
 -- Between neighbouring points a fill-in goes along a line of one of its two slopes.
-use Rattle.std.proofs.Common.{◌≡◌, ℕ, zero, suc, ◌⊎◌, inl, inr, ◌+◌, ◌-◌, ◌*◌, ◌<◌, ◌≤◌, Bool, true, false, ◌&&◌, cond, ℤ, pos, ◌+ℤ◌, ◌-ℤ◌, ◌*ℤ◌, ◌≤ℤ◌, ◌<ℤ◌, neg_ℤ, int_lt, List, [], ◌∷◌, ◌++◌, flat_map, refl, ap, sym, subst, ◌∙◌, append_assoc, arith}
+use Rattle.std.proofs.Common.{◌≡◌, ℕ, zero, suc, inl, inr, ◌+◌, ◌-◌, ◌*◌, ◌<◌, ◌≤◌, Bool, true, false, ◌&&◌, cond, ℤ, pos, ◌+ℤ◌, ◌-ℤ◌, ◌*ℤ◌, ◌≤ℤ◌, ◌<ℤ◌, neg_ℤ, int_lt, List, [], ◌∷◌, ◌++◌, flat_map, refl, ap, sym, subst, ◌∙◌, append_assoc, arith}
 use Rattle.std.specs.List.{range_with_len}
 use Rattle.std.proofs.Math.Nat.{zero-add}
 use Rattle.std.proofs.lemmas.Int.{ints}
@@ -8,7 +8,7 @@ use Rattle.gj_tools.proofs.Ring.{by_ring, ring}
 use Rattle.gj_shape.specs.FunctionData.{FunctionData, at}
 use Rattle.gj_shape.specs.TwoSlopes.{rise}
 use Rattle.gj_fill.specs.FillIn.{AreGreatestSteps, filled}
-use Rattle.gj_fill.specs.FillPoints.{GraphPoint, value_point, crossing_point, points_from, fill_points, IsOnLine, IsAtMost, GoesAlong, HasFillSlope}
+use Rattle.gj_fill.specs.FillPoints.{GraphPoint, value_point, crossing_point, points_from, fill_points, IsAtMost, HasFillSlope}
 use Rattle.gj_fill.proofs.FillIns.{rises_to, falls_from, less_part}
 use Rattle.gj_fill.proofs.FillLines.{value_line, next_line, crossing_line, behind_line, last_line}
 

@@ -1,3 +1,6 @@
 pub mod FillIns
 pub mod FillLines
 pub mod FillPoints
+pub mod Extremes
+pub mod FirstPairs
+pub mod FillBreaks

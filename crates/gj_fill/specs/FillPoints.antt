@@ -1,5 +1,5 @@
 -- The points between which the fill-in of a continuous function is affine (Gomory and Johnson 1972).
-use Rattle.std.specs.Prelude.{ℕ, ℤ, pos, ◌≡◌, ◌⊎◌, ◌+◌, ◌*◌, ◌<◌, ◌≤◌, ◌≤ℤ◌, ◌+ℤ◌, ◌-ℤ◌, ◌*ℤ◌, neg_ℤ, int_lt, ◌&&◌, if◌then◌else◌, List, [], ◌∷◌, ◌++◌, flat_map}
+use Rattle.std.specs.Prelude.{ℕ, ℤ, pos, ◌≡◌, ◌⊎◌, ◌*◌, ◌<◌, ◌≤ℤ◌, ◌+ℤ◌, ◌*ℤ◌, neg_ℤ, int_lt, ◌&&◌, if◌then◌else◌, List, [], ◌∷◌, flat_map}
 use Rattle.std.specs.List.{range_with_len, AllZip}
 use Rattle.gj_frac.specs.Fraction.{Fraction, SameValue, difference_of, product_of, fraction_of}
 use Rattle.gj_shape.specs.FunctionData.{FunctionData, at}

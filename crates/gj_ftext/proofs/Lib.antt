@@ -9,3 +9,4 @@ pub mod LinesOfFunction
 pub mod RuleTexts
 pub mod ExactBreaks
 pub mod BreaksRead
+pub mod CanonicalBreaks

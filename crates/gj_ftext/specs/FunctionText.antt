@@ -1,11 +1,14 @@
 -- Function text: a function by its points, as one of a family or by its breakpoints, in lenient spelling, and its one
 -- canonical text (own).
-use Rattle.std.specs.Prelude.{ℕ, ◌≡◌, List, [], ◌∷◌, ◌++◌, codes}
+use Rattle.std.specs.Prelude.{ℕ, ◌≡◌, List, [], ◌∷◌, ◌++◌, codes, flat_map}
+use Rattle.gj_frac.specs.declared.Frac.{Frac}
 use Rattle.gj_lex.specs.Parts.{Part, words_rule, line_part, framed_part, then_part, where_part, end_part, BeginsWithLine, BeginsWithWord}
 use Rattle.gj_lex.specs.declared.spelling.Spelling.TheVariants.{Lenient}
 use Rattle.gj_shape.specs.FunctionData.{FunctionData}
+use Rattle.gj_shape.specs.declared.breaks.Break.{Break}
+use Rattle.gj_lines.specs.BreakLines.{break_line}
 use Rattle.gj_lines.specs.FunctionGrammar.{function_part}
-use Rattle.gj_lines.specs.FunctionLines.{line, AreFunctionLines}
+use Rattle.gj_lines.specs.FunctionLines.{line, place_line, AreFunctionLines}
 use Rattle.gj_ftext.specs.FamilyLine.{family_rule}
 use Rattle.gj_ftext.specs.BreaksText.{end_words, breaks_part}
 
@@ -54,3 +57,9 @@ pub record IsCanonicalText (text : List ℕ) (f : FunctionData) : Type 0 where
   pub lines : List ℕ
   pub are_lines : AreFunctionLines f lines
   pub spelled : text ≡ line (codes "gj-function 1") ++ lines ++ line (codes "end")
+
+-- the canonical text by breakpoints: that of f and of the breakpoints, each line ended by LF, with one space between words,
+-- canonical numbers, and one fraction where the three are equal
+abbrev pub canonical_breaks_text : Frac → List Break → List ℕ
+canonical_breaks_text place breaks =
+    line (codes "gj-function 2") ++ place_line place ++ flat_map break_line breaks ++ line (codes "end")

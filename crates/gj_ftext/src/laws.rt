@@ -1,8 +1,9 @@
 //! Laws of function texts.
-ghost use Rattle.std.specs.Prelude.{◌≡◌, ◌↔◌, ◌⊎◌, ◌≤◌, ◌++◌, ℕ, List, length};
+ghost use Rattle.std.specs.Prelude.{◌≡◌, ◌≢◌, ◌↔◌, ◌⊎◌, ◌≤◌, ◌++◌, ℕ, List, [], length};
 ghost use Rattle.gj_lex.specs.declared.reason.Reason.{Reason};
+ghost use Rattle.gj_shape.specs.Breaks.{BreakList, AreBreaks, IsOfBreaks};
 ghost use Rattle.gj_shape.specs.FunctionData.{FunctionData, IsWithinBounds};
-ghost use Rattle.gj_ftext.specs.FunctionText.{IsFunctionText, IsWholeFunctionText, IsCanonicalText};
+ghost use Rattle.gj_ftext.specs.FunctionText.{IsFunctionText, IsWholeFunctionText, IsCanonicalText, canonical_breaks_text};
 ghost use Rattle.gj_ftext.specs.FirstFault.{IsFirstFault, IsFirstFaultOfWhole};
 ghost use Rattle.gj_ftext.specs.RuleText.{IsRuleText, IsFirstFaultOfRule};
 ghost use Rattle.gj_ftext.specs.LinesOfFunction.{HasLinesOfFunction, HasLinesOfFamily, HasLinesOfBreaks};
@@ -17,6 +18,13 @@ pub fn one_function_text()
 pub fn canonical_text_is_function_text()
     ensures { (f : FunctionData) (text after : List ℕ) → IsWithinBounds f → IsCanonicalText text f →
         IsFunctionText (text ++ after) f after }
+{}
+
+/// Whatever follows the canonical text of breakpoints that a text may have, it is read as a function text of their function, all of
+/// it.
+pub fn breaks_are_read_again()
+    ensures { (list : BreakList) (f : FunctionData) (after : List ℕ) → AreBreaks list → list.breaks ≢ [] → IsOfBreaks list f →
+        IsFunctionText (canonical_breaks_text list.place list.breaks ++ after) f after }
 {}
 
 /// A function has one canonical text.

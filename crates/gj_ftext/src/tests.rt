@@ -1,9 +1,12 @@
 //! Function texts by hand: spellings that are read, and the first faults of others.
 
 use crate::{
-    TextFault, begins_as_rule, read_function, read_rule, read_whole_function, write_function,
+    TextFault, begins_as_rule, read_function, read_rule, read_whole_function, write_breaks,
+    write_function,
 };
+use gj_frac::Frac;
 use gj_lex::Reason;
+use gj_shape::Break;
 use std::test::Fail;
 
 /// The function of order 2 with f = 1/2 that is 0 at 0 and 1 at 1/2.
@@ -57,6 +60,47 @@ fn keeps_jumps(rt: HostRuntime) -> Result<(), Fail> {
     assert_eq!(rt;
         write_function(rt.alloc(), &shape)?.as_slice(),
         written.as_slice()
+    );
+    Ok(())
+}
+
+/// The fraction n/d.
+fn fraction(n: i128, d: i128) -> Result<Frac, &'static str> {
+    Frac::new(n, d).ok_or("no fraction")
+}
+
+/// The breakpoint n/d with the value u/w.
+fn even(n: i128, d: i128, u: i128, w: i128) -> Result<Break, &'static str> {
+    let x = fraction(n, d)?;
+    let value = fraction(u, w)?;
+    Ok(Break {
+        x,
+        left: value,
+        value,
+        right: value,
+    })
+}
+
+/// The points of a fill-in of order 6, at breakpoints with a least common denominator of 24.
+#[test]
+fn writes_breaks(rt: HostRuntime) -> Result<(), Fail> {
+    let points = [
+        even(0, 1, 0, 1)?,
+        even(1, 6, 2, 3)?,
+        even(5, 24, 5, 6)?,
+        even(1, 3, 1, 3)?,
+        even(1, 2, 1, 1)?,
+        even(2, 3, 1, 3)?,
+        even(19, 24, 5, 6)?,
+        even(5, 6, 2, 3)?,
+    ];
+    let text = write_breaks(rt.alloc(), fraction(1, 2)?, &points)?;
+    let written =
+        b"gj-function 2\nf 1/2\npoint 0 0\npoint 1/6 2/3\npoint 5/24 5/6\npoint 1/3 1/3\npoint 1/2 1\npoint 2/3 1/3\npoint 19/24 5/6\npoint 5/6 2/3\nend\n";
+    assert_eq!(rt; text.as_slice(), written.as_slice());
+    assert_eq!(rt;
+        read_whole_function(rt.alloc(), text.as_slice())?.order(),
+        24
     );
     Ok(())
 }

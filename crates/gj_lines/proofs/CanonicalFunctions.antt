@@ -32,19 +32,19 @@ abbrev pub texts_by : Bool → Point → List (List ℕ)
 texts_by true p = fraction_text p.value ∷ []
 texts_by false p = fraction_text p.left ∷ fraction_text p.value ∷ fraction_text p.right ∷ []
 
-texts_are_plain : (b : Bool) (p : Point) → All IsPlain (texts_by b p)
+pub texts_are_plain : (b : Bool) (p : Point) → All IsPlain (texts_by b p)
 texts_are_plain true p = All-cons IsPlain (fraction_text p.value) [] (fraction_is_plain p.value) (All-nil IsPlain)
 texts_are_plain false p =
     All-cons IsPlain (fraction_text p.left) (fraction_text p.value ∷ fraction_text p.right ∷ []) (fraction_is_plain p.left)
     (All-cons IsPlain (fraction_text p.value) (fraction_text p.right ∷ []) (fraction_is_plain p.value)
     (All-cons IsPlain (fraction_text p.right) [] (fraction_is_plain p.right) (All-nil IsPlain)))
 
-texts_spell : (s : Spelling) (b : Bool) (p : Point) → has_no_jump p ≡ b → SpellPoint s (texts_by b p) p
+pub texts_spell : (s : Spelling) (b : Bool) (p : Point) → has_no_jump p ≡ b → SpellPoint s (texts_by b p) p
 texts_spell s true p e =
     let same = same_where_no_jump p e in (canonical_fraction s p.value, same.0, sym same.1)
 texts_spell s false p e = (canonical_fraction s p.left, canonical_fraction s p.value, canonical_fraction s p.right)
 
-texts_are_words : (s : Spelling) (b : Bool) (p : Point) → has_no_jump p ≡ b → ArePointWords s (texts_by b p)
+pub texts_are_words : (s : Spelling) (b : Bool) (p : Point) → has_no_jump p ≡ b → ArePointWords s (texts_by b p)
 texts_are_words Lenient true p e = tt
 texts_are_words Strict true p e = tt
 texts_are_words Lenient false p e = tt

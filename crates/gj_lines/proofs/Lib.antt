@@ -7,3 +7,4 @@ pub mod PointsRead
 pub mod StrictFunctions
 pub mod PointLines
 pub mod ExactBreaks
+pub mod CanonicalBreaks

@@ -2,12 +2,14 @@
 ghost use Rattle.std.specs.Prelude.{◌≡◌, ◌<◌, ◌++◌, ℕ, List, codes, flat_map, OnOk};
 ghost use Rattle.gj_lex.specs.NumberText.{fraction_text};
 ghost use Rattle.gj_shape.specs.Points.{ArePointsOf, IsPointAt};
+ghost use Rattle.gj_shape.specs.Breaks.{point_at};
+ghost use Rattle.gj_lines.specs.BreakLines.{break_line};
 ghost use Rattle.gj_lines.specs.FunctionLines.{fraction_line, order_line, place_line, has_no_jump, point_text, point_line, AreFunctionLines};
 ghost use Rattle.gj_shape.specs.declared.points.Point.{Point};
 
 use gj_frac::Frac;
 use gj_lex::{print_frac, push_count_line};
-use gj_shape::{Point, Shape};
+use gj_shape::{Break, Point, Shape};
 use std::alloc::{AllocError, Global};
 
 /// Appends the line of a word and a fraction. An error says that memory ran out; `out` may then have a part of it.
@@ -91,6 +93,31 @@ fn push_point_line(alloc: Global, out: &mut Vec<u8>, point: Point) -> Result<(),
     push_point(alloc, out, point)?;
     out.push(b'\n')?;
     Ok(())
+}
+
+/// Appends the line of a breakpoint, `point X V`, or `point X L V R` if the limits are not the value.
+///
+/// An error says that memory ran out; `out` may then have a part of it.
+pub fn push_break_line(alloc: Global, out: &mut Vec<u8>, point: Break) -> Result<(), AllocError>
+    ensures { OnOk result (out.new.items ≡ out.old.items ++ break_line point) }
+{
+    out.extend_from_slice(b"point ")?;
+    print_frac(alloc, out, point.x)?;
+    out.extend_from_slice(b" ")?;
+    push_point(alloc, out, limits_of(point))?;
+    out.push(b'\n')?;
+    Ok(())
+}
+
+/// The limits and the value at a breakpoint.
+fn limits_of(point: Break) -> Point
+    ensures { result ≡ point_at point }
+{
+    Point {
+        left: point.left,
+        value: point.value,
+        right: point.right,
+    }
 }
 
 /// Appends the one fraction of a point, or the three if they are not equal.

@@ -4,18 +4,12 @@ use Rattle.std.proofs.Math.Nat.{mul-pos}
 use Rattle.std.proofs.lemmas.Int.{ints}
 use Rattle.std.proofs.lemmas.List.Elements.{All-head, All-tail}
 use Rattle.gj_frac.specs.Fraction.{Fraction}
-use Rattle.gj_tools.proofs.Integers.{abs_positive_z, pos_abs_z}
+use Rattle.gj_tools.proofs.Integers.{abs_positive_z, mul_assoc_z, mul_left_comm_z, pos_abs_z}
 use Rattle.gj_tools.proofs.Ring.{by_ring, ring}
 use Rattle.gj_mixed.specs.MixedRows.{IsNonnegative, AreAmountsOver}
 
 first_amount : (n d e : ℤ) → n *ℤ (d *ℤ e) ≡ (n *ℤ e) *ℤ d
 first_amount n d e = by_ring (n ∷ d ∷ e ∷ []) (search ring depth 30) refl
-
-amount_out : (n d e : ℤ) → n *ℤ (d *ℤ e) ≡ d *ℤ (n *ℤ e)
-amount_out n d e = by_ring (n ∷ d ∷ e ∷ []) (search ring depth 30) refl
-
-amount_in : (d a b : ℤ) → d *ℤ (a *ℤ b) ≡ (d *ℤ a) *ℤ b
-amount_in d a b = by_ring (d ∷ a ∷ b ∷ []) (search ring depth 30) refl
 
 -- over d times the denominator the amounts are d times as large
 over_more : (d e : ℕ) (zs : List Fraction) (amounts : List ℕ) → AreAmountsOver e zs amounts →
@@ -24,7 +18,7 @@ over_more d e [] [] h = tt
 over_more d e [] (a ∷ amounts) h = absurd h
 over_more d e (z ∷ zs) [] h = absurd h
 over_more d e (z ∷ zs) (a ∷ amounts) h = (
-  amount_out z.top (pos d) (pos e) ∙ ap (λ n. pos d *ℤ n) h.0 ∙ amount_in (pos d) (pos a) z.bottom,
+  mul_left_comm_z z.top (pos d) (pos e) ∙ ap (λ n. pos d *ℤ n) h.0 ∙ sym (mul_assoc_z (pos d) (pos a) z.bottom),
   over_more d e zs amounts h.1,
 )
 

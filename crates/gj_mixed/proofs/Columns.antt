@@ -63,7 +63,7 @@ weight_of_column y w wd g u ud k d t s a e v wd_some ud_some d_some over weight 
 denominator_some_z : (x : Frac) → unsigned_abs (denominator x) ≢ 0
 denominator_some_z x = positive_some_z (denominator x) x.lowest.positive
 
--- the place of a column on a grid of order d e v, where its entry is p k/d
+-- the place of a column with the entry p k/d on a grid of order d e v
 column_place : (x : Frac) (c e v a k : ℕ) (p : ℤ) (n : ℕ) → Divides c x → pos n ≡ (denominator x *ℤ pos e) *ℤ pos v →
     numerator x ≡ p *ℤ pos k → (numerator_over c x *ℤ pos a) *ℤ pos n ≡ (p *ℤ pos (k * a * v)) *ℤ pos (c * e)
 column_place x c e v a k p n divides n_is p_is =
@@ -71,7 +71,7 @@ column_place x c e v a k p n divides n_is p_is =
     ∙ place_of_column (numerator_over c x) p (pos k) (pos c) (pos a) (denominator x) (pos e) (pos v)
     (sym (over_scale c x divides) ∙ ap (λ z. z *ℤ pos c) p_is)
 
--- the weight of a column is that of its steps, where up is n times a step
+-- the weight of a column is that of its steps if up is n times a step
 column_weight : (w up x : Frac) (g e v a k n s : ℕ) (t : ℤ) → Divides g w → pos n ≡ (denominator x *ℤ pos e) *ℤ pos v →
     numerator w *ℤ (denominator up *ℤ denominator x) ≡ (numerator up *ℤ pos k) *ℤ denominator w → IsRatio up (pos n *ℤ t) (pos s) →
     (numerator_over g w *ℤ pos a) *ℤ pos s ≡ (t *ℤ pos (k * a * v)) *ℤ pos (g * e)

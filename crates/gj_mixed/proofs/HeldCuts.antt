@@ -10,7 +10,7 @@ use Rattle.std.proofs.lemmas.Nat.Gcd.{dvd_trans}
 use Rattle.gj_frac.specs.declared.Frac.{Frac}
 use Rattle.gj_frac.specs.Fraction.{IsRatio, numerator, denominator, IsInside}
 use Rattle.gj_frac.proofs.Floors.{quotient_is_floor}
-use Rattle.gj_tools.proofs.Integers.{add_comm_z, mul_comm_z, one_mul_z, pos_abs_z, positive_some_z, swap_last_z}
+use Rattle.gj_tools.proofs.Integers.{add_comm_z, mul_assoc_z, mul_comm_z, one_mul_z, pos_abs_z, positive_some_z, swap_last_z}
 use Rattle.gj_tools.proofs.Lists.{All-front, All-back}
 use Rattle.gj_tools.proofs.Ratios.{ratio_along}
 use Rattle.gj_tools.proofs.Ring.{by_ring, ring}
@@ -41,17 +41,11 @@ use Rattle.gj_mixed.proofs.Columns.{AreSteps, columns_used}
 solution_regrouped : (c e b x y n : ℤ) → ((c *ℤ e) *ℤ b +ℤ (y +ℤ e *ℤ x)) *ℤ n ≡ (e *ℤ (c *ℤ b +ℤ x) +ℤ y) *ℤ n
 solution_regrouped c e b x y n = by_ring (c ∷ e ∷ b ∷ x ∷ y ∷ n ∷ []) (search ring depth 40) refl
 
-right_out : (e r n : ℤ) → (e *ℤ r) *ℤ n ≡ (r *ℤ n) *ℤ e
-right_out e r n = by_ring (e ∷ r ∷ n ∷ []) (search ring depth 30) refl
-
-right_in : (p c e : ℤ) → (p *ℤ c) *ℤ e ≡ p *ℤ (c *ℤ e)
-right_in p c e = by_ring (p ∷ c ∷ e ∷ []) (search ring depth 30) refl
-
 -- a solution of the row over e times the denominator
 whole_over_more : (c e b x y r p n : ℤ) → e *ℤ (c *ℤ b +ℤ x) +ℤ y ≡ e *ℤ r → r *ℤ n ≡ p *ℤ c →
     ((c *ℤ e) *ℤ b +ℤ (y +ℤ e *ℤ x)) *ℤ n ≡ p *ℤ (c *ℤ e)
 whole_over_more c e b x y r p n solves right_is =
-    solution_regrouped c e b x y n ∙ ap (λ z. z *ℤ n) solves ∙ right_out e r n ∙ ap (λ z. z *ℤ e) right_is ∙ right_in p c e
+    solution_regrouped c e b x y n ∙ ap (λ z. z *ℤ n) solves ∙ mul_assoc_z e r n ∙ mul_comm_z e (r *ℤ n) ∙ ap (λ z. z *ℤ e) right_is ∙ mul_assoc_z p c e
 
 -- on a grid that holds the row and the solution
 held_by_table : (t : ℕ → ℤ) (n k s e b r : ℕ) (up down : Frac) (entries columns : List Frac) (right : Frac)
@@ -141,17 +135,14 @@ table_last f (suc (suc j)) bounds continuous none some =
 less_zero : (q x y : ℤ) → y ≡ pos 0 → q *ℤ (x -ℤ y) ≡ q *ℤ x
 less_zero q x y none = ap (λ z. q *ℤ z) (omega (arith, ints))
 
-step_out : (u d m : ℤ) → u *ℤ (d *ℤ m) ≡ (u *ℤ d) *ℤ m
-step_out u d m = by_ring (u ∷ d ∷ m ∷ []) (search ring depth 30) refl
-
 step_in : (q t b m : ℤ) → ((q *ℤ t) *ℤ b) *ℤ m ≡ ((q *ℤ m) *ℤ t) *ℤ b
 step_in q t b m = by_ring (q ∷ t ∷ b ∷ m ∷ []) (search ring depth 30) refl
 
--- a slope q (x - 0)/d on a grid m times as fine, where a step is x
+-- a slope q (x - 0)/d on a grid m times as fine, with the step x
 step_on_grid : (up : Frac) (q d m : ℕ) (x y t : ℤ) → IsRatio up (pos q *ℤ (x -ℤ y)) (pos d) → y ≡ pos 0 → t ≡ x →
     IsRatio up (pos (q * m) *ℤ t) (pos (d * m))
 step_on_grid up q d m x y t is none t_is =
-    step_out up.num (pos d) (pos m) ∙ ap (λ z. z *ℤ pos m) (is ∙ ap (λ z. z *ℤ up.den) (less_zero (pos q) x y none))
+    sym (mul_assoc_z up.num (pos d) (pos m)) ∙ ap (λ z. z *ℤ pos m) (is ∙ ap (λ z. z *ℤ up.den) (less_zero (pos q) x y none))
     ∙ step_in (pos q) x up.den (pos m) ∙ ap (λ z. (pos (q * m) *ℤ z) *ℤ up.den) (sym t_is)
 
 function_steps : (f : FunctionData) (m : ℕ) (up down : Frac) → IsWithinBounds f → IsContinuous f → IsMinimal f → 0 < m →
@@ -215,13 +206,10 @@ down_right p q k n = by_ring (p ∷ q ∷ k ∷ n ∷ []) (search ring depth 40)
 down_over : (p q k n : ℤ) → p *ℤ n ≡ k *ℤ q → (pos 1 *ℤ (pos 1 *ℤ q)) *ℤ (n -ℤ k) ≡ n *ℤ (pos 1 *ℤ (pos 1 *ℤ q -ℤ p *ℤ pos 1))
 down_over p q k n e = down_left p q k n ∙ ap (λ z. q *ℤ n -ℤ z) (sym e) ∙ down_right p q k n
 
-scale_first : (u k l : ℤ) → u *ℤ (k *ℤ l) ≡ (u *ℤ k) *ℤ l
-scale_first u k l = by_ring (u ∷ k ∷ l ∷ []) (search ring depth 30) refl
-
--- a slope n/k over the scale k l, where a step is l
+-- a slope n/k over the scale k l, with the step l
 slope_over : (up : Frac) (n k l t : ℕ) (z : ℤ) → up.num *ℤ z ≡ pos n *ℤ up.den → pos (k * l) ≡ z *ℤ pos t → IsRatio up (pos n *ℤ pos t) (pos (k * l))
 slope_over up n k l t z is scale =
-    ap (λ s. up.num *ℤ s) scale ∙ scale_first up.num z (pos t) ∙ ap (λ s. s *ℤ pos t) is ∙ swap_last_z (pos n) up.den (pos t)
+    ap (λ s. up.num *ℤ s) scale ∙ sym (mul_assoc_z up.num z (pos t)) ∙ ap (λ s. s *ℤ pos t) is ∙ swap_last_z (pos n) up.den (pos t)
 
 gmic_steps : (f : Frac) (q p m : ℕ) (up down : Frac) → IsInside f → 0 < p * m → p * m < q * m → IsRatio f (pos (p * m)) (pos (q * m)) →
     AreGmicSlopes f up down → AreSteps (table_of q p m) (q * m) (gmic_scale (q * m) (p * m)) up down

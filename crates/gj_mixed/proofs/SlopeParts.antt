@@ -23,7 +23,7 @@ slope_over x a b low some a_small b_small is =
       denominator_small = omega (arith, ints);
     }
 
--- q times r over s, where r is from 0 to s and q is at most 1,000
+-- q times r over s, for r from 0 to s and q at most 1,000
 pub slope_times : (x : Frac) (q s : ℕ) (r : ℤ) → q ≤ 1000 → 0 < s → s < 2 ^ 31 → pos 0 ≤ℤ r → r ≤ℤ pos s → IsRatio x (pos q *ℤ r) (pos s) →
     IsSlope x
 slope_times x q s r few some small low high is =

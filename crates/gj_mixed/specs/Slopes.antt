@@ -8,7 +8,7 @@ use Rattle.gj_shape.specs.Limits.{IsRowNumber}
 use Rattle.gj_rule.specs.declared.kind.RuleKind.{RuleKind}
 use Rattle.gj_rule.specs.declared.kind.RuleKind.TheVariants.{Gmic, Table}
 
--- w is the weight of a continuous column with the entry c: up c where c is at least 0, and down (-c) where it is below
+-- w is the weight of a continuous column with the entry c: up c if c is at least 0, and down (-c) if it is below
 pub record IsWeight (up down c w : Frac) : Type 0 where
   pub rises : pos 0 ≤ℤ numerator c → SameValue (fraction_of w) (product_of (fraction_of up) (fraction_of c))
   pub falls : numerator c <ℤ pos 0 → SameValue (fraction_of w) (product_of (fraction_of down) (negation_of (fraction_of c)))

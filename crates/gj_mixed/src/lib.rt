@@ -2,7 +2,7 @@
 //!
 //! [`cut_mixed`] makes the cut of a row of which some columns are continuous: the coefficients of its whole columns are a
 //! rule's values at their entries, and the weights of its continuous columns are the slopes at 0 times their entries. It
-//! holds where the rule is minimal: at each solution of the row in whole numbers and, for the continuous columns, in
+//! holds if the rule is minimal: at each solution of the row in whole numbers and, for the continuous columns, in
 //! fractions, the nonbasic ones not negative, the sum of all terms is at least 1. [`gmic_cut_mixed`] makes the mixed-integer
 //! cut of a row.
 //!

@@ -22,7 +22,7 @@ use std::alloc::{AllocError, Global};
 /// The cut of the row by the rule and the slopes: for each entry the column, the entry, and the rule's value at it or, in a
 /// continuous column, its weight by the slopes.
 ///
-/// It is `Integral` exactly where the right side is whole, and `OtherFraction` exactly where it is not and its fractional
+/// It is `Integral` exactly if the right side is whole, and `OtherFraction` exactly if it is not and its fractional
 /// part is not the rule's f. The right side and the entries are at most 2^31 in absolute value and have a common denominator of
 /// at most 2^31 - 1; `continuous` says of each column whether it is continuous. The slopes are those of the rule at 0, and a
 /// function is continuous. The only error is want of memory.
@@ -60,7 +60,7 @@ pub fn cut_mixed<E: Evaluator, G: Evaluator>(
 
 /// The mixed-integer cut of the row, for f the fractional part of its right side.
 ///
-/// It is `Integral` exactly where the right side is whole, and never `OtherFraction`. The limits are those of
+/// It is `Integral` exactly if the right side is whole, and never `OtherFraction`. The limits are those of
 /// [`cut_mixed`], and the only error is want of memory.
 pub fn gmic_cut_mixed(alloc: Global, row: &Row, continuous: &[bool]) -> Result<MixedCut, AllocError>
     requires limits { AreWithinLimits (numbers_of row.now) }

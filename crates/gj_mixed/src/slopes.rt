@@ -53,8 +53,8 @@ impl SlopesAtZero {
         }
     }
 
-    /// The weight of a continuous column with the entry c: `up` times c where c is at least 0, and `down` times -c where it
-    /// is below.
+    /// The weight of a continuous column with the entry c: `up` times c if c is at least 0, and `down` times -c if it is
+    /// below.
     ///
     /// The slopes are at least 0 with parts of at most 2^41; c is of denominator at most 2^31 - 1 and at most 2^31 in
     /// absolute value.

@@ -10,8 +10,8 @@ use std::marker::Model;
 /// Two slopes, and an evaluator that answers the weight of a continuous column at each entry of the range: of denominator
 /// at most 2^31 - 1 and at most 2^31 in absolute value.
 ///
-/// The weight of c is `up` times c where c is at least 0, and `down` times -c where it is below. The slopes are at least 0
-/// with parts of at most 2^41.
+/// The weight of c is `up` times c if c is at least 0, and `down` times -c if it is below. The slopes are at least 0 with
+/// parts of at most 2^41.
 ///
 /// # Example
 ///

@@ -6,11 +6,10 @@ use Rattle.std.specs.Simd.Lanes.{zip2}
 use Rattle.std.proofs.lemmas.Simd.{length-zip2}
 use Rattle.std.specs.Int.{bit_at}
 use Rattle.std.proofs.lemmas.List.{get_or_past, get_or-set_same, get_or-set_other}
-use Rattle.std.proofs.lemmas.Bool.{cases_eq, cases_lt, eq-eqb, ne_eqb, or_right, and_right, lt-ltb, le-ltb, lt-leb, le-leb, ltb-true, true≢false, and_parts, and_from}
+use Rattle.std.proofs.lemmas.Bool.{cases_eq, cases_lt, eq-eqb, ne_eqb, or_right, and_right, lt-ltb, le-ltb, lt-leb, le-leb, ltb-true, and_parts, and_from}
 use Rattle.std.proofs.lemmas.Nat.Bits.{bit_at_and, bit_at_or, bit_at_xor, bit_at-lt, bit_at-zero, bit_at_set_same, bit_at_set_other, bit_at_clear_same, bit_at_clear_other, bit_at_ones, bit_at_ones_above}
 use Rattle.std.proofs.lemmas.Nat.{one_shl}
 use Rattle.gj_sets.specs.IndexSets.{bit_of, has, no_set}
-use Rattle.gj_sets.specs.declared.index_set.IndexSet.{IndexSet}
 
 -- ---- a digit is 0 or 1
 
@@ -100,7 +99,7 @@ bit_of-without xs ys i e =
 pub bit_of_past : (words : List ℕ) (i : ℕ) → length words ≤ i / 64 → bit_of words i ≡ false
 bit_of_past words i past = ap (λ n. bit n (i % 64)) (get_or_past words (i / 64) 0 past) ∙ ap (λ n. n == 1) (bit_at-zero (i % 64))
 
-get_or-zeros : (n i : ℕ) → get_or {A = ℕ} (replicate n 0) i 0 ≡ 0
+pub get_or-zeros : (n i : ℕ) → get_or {A = ℕ} (replicate n 0) i 0 ≡ 0
 get_or-zeros zero i = refl
 get_or-zeros (suc n) zero = refl
 get_or-zeros (suc n) (suc i) = get_or-zeros n i
@@ -110,14 +109,15 @@ bit_of_zeros n i = ap (λ n. bit n (i % 64)) (get_or-zeros n (i / 64)) ∙ ap (�
 
 -- ---- tests
 
-same_test : (x y : Bool) → (x ≡ true → y ≡ true) → (y ≡ true → x ≡ true) → x ≡ y
-same_test true y h k = sym (h refl)
-same_test false true h k = k refl
-same_test false false h k = refl
-
 pub same_order : (a b c d : ℕ) → (a < b → c < d) → (c < d → a < b) → nat_lt a b ≡ nat_lt c d
 same_order a b c d h k =
-    same_test (nat_lt a b) (nat_lt c d) (λ e. lt-ltb c d (h (ltb-true a b e))) (λ e. lt-ltb a b (k (ltb-true c d e)))
+    elim (cases_lt a b) [
+      | inl below ↦ lt-ltb a b below ∙ sym (lt-ltb c d (h below))
+      | inr above ↦ elim (cases_lt c d) [
+        | inl other ↦ let below = k other in absurd (omega arith)
+        | inr both ↦ le-ltb a b above ∙ sym (le-ltb c d both)
+      ]
+    ]
 
 -- ---- a word in the place of another
 
@@ -251,12 +251,3 @@ words_masked P words end n b r within each masked =
 pub none_in_no_set : (i : ℕ) → has no_set i ≡ false
 unfolding has
 none_in_no_set i = bit_of_past [] i (omega arith)
-
--- an index that is in a set is below the limit
-pub has_below_limit : (set : IndexSet) (i : ℕ) → length set.words ≡ 16 → has set i ≡ true → i < 1024
-unfolding has
-has_below_limit set i long found =
-    elim (cases_lt i 1024) [
-      | inl below ↦ below
-      | inr past ↦ absurd (true≢false (sym found ∙ bit_of_past set.words i (omega arith)))
-    ]

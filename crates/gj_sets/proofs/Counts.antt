@@ -66,3 +66,17 @@ counted_at_most p (suc n) =
 pub counted_none : (p : ℕ → Bool) → count_below p 0 ≡ 0
 unfolding count_below
 counted_none p = refl
+
+pub counted_more : (p : ℕ → Bool) (n : ℕ) → count_below p (n + 1) ≡ cond (p n) 1 0 + count_below p n
+unfolding count_below
+counted_more p n = let e : n + 1 ≡ suc n = omega arith in ap (count_below p) e
+
+-- where the test fails from a number on, no more are counted
+pub counted_past : (p : ℕ → Bool) (n m : ℕ) → ((i : ℕ) → n ≤ i → p i ≡ false) → count_below p (n + m) ≡ count_below p n
+unfolding count_below
+counted_past p n zero none = let e : n + zero ≡ n = omega arith in ap (count_below p) e
+counted_past p n (suc m) none =
+    let e : n + suc m ≡ suc (n + m) = omega arith in
+    let silent = ap (λ b. cond {A = ℕ} b 1 0) (none (n + m) (omega arith)) in
+    let before = counted_past p n m none in
+    ap (count_below p) e ∙ omega (arith, silent, before)

@@ -1,5 +1,5 @@
 -- Bits of words that are shifted.
-use Rattle.std.proofs.Common.{◌≡◌, inl, inr, ℕ, zero, suc, ◌+◌, ◌-◌, ◌*◌, ◌/◌, ◌%◌, ◌^◌, ◌<◌, ◌≤◌, List, ◌++◌, Bool, true, false, ◌&&◌, ◌||◌, nat_le, nat_lt, length, get_or, replicate, bit_or, Fits, w64, refl, sym, ap, ap₂, ◌∙◌, arith}
+use Rattle.std.proofs.Common.{◌≡◌, inl, inr, ℕ, ◌+◌, ◌-◌, ◌*◌, ◌/◌, ◌%◌, ◌^◌, ◌<◌, ◌≤◌, List, ◌++◌, Bool, true, false, ◌&&◌, ◌||◌, nat_le, nat_lt, length, get_or, replicate, bit_or, Fits, w64, refl, sym, ap, ap₂, ◌∙◌, arith}
 use Rattle.std.specs.Prelude.{◌==◌, if◌then◌else◌}
 use Rattle.std.proofs.lemmas.Bool.{cases_lt, and_left, and_right, lt-ltb, le-ltb, lt-leb, le-leb}
 use Rattle.std.proofs.lemmas.Nat.{shr-shr, shr_split, pow_pos}
@@ -8,7 +8,7 @@ use Rattle.std.specs.Simd.Lanes.{zip2, chunk, put_chunk}
 use Rattle.std.proofs.lemmas.Simd.{length-zip2, length-replicate, length-chunk, get_or-zip2, get_or-replicate, get_or-chunk, put_chunk_whole}
 use Rattle.std.proofs.lemmas.List.{get_or_past, get_or_append_left, get_or-append_right}
 use Rattle.gj_sets.specs.IndexSets.{bit_of}
-use Rattle.gj_sets.proofs.Bits.{bit, bit-or, and_all, get_or-zip2_zero}
+use Rattle.gj_sets.proofs.Bits.{bit, get_or-zeros, bit-or, and_all, get_or-zip2_zero}
 
 -- a word moved down
 pub bit-shr : (x s j : ℕ) → bit (x / 2 ^ s) j ≡ bit x (j + s)
@@ -134,11 +134,6 @@ bit_of-window wide s i long fits within below =
 
 -- ---- words with words of zeros behind them, and before them
 
-zero_word : (n i : ℕ) → get_or {A = ℕ} (replicate n 0) i 0 ≡ 0
-zero_word zero i = refl
-zero_word (suc n) zero = refl
-zero_word (suc n) (suc i) = zero_word n i
-
 bit_of-filled : (words zeros : List ℕ) (n i : ℕ) → length zeros ≡ length words →
     bit_of (put_chunk 0 zeros words ++ replicate n 0) i ≡ bit_of words i
 bit_of-filled words zeros n i e =
@@ -147,7 +142,7 @@ bit_of-filled words zeros n i e =
     ∙ elim (cases_lt (i / 64) (length words)) [
       | inl below ↦ ap (λ w. bit w (i % 64)) (get_or_append_left words (replicate n 0) 0 (i / 64) below)
       | inr past ↦ ap (λ w. bit w (i % 64)) (get_or-append_right words (replicate n 0) (length words) (i / 64) 0 refl past
-          ∙ zero_word n (i / 64 - length words) ∙ sym (get_or_past words (i / 64) 0 past))
+          ∙ get_or-zeros n (i / 64 - length words) ∙ sym (get_or_past words (i / 64) 0 past))
     ]
 
 pub bit_of-low : (words : List ℕ) (i : ℕ) → length words ≡ 16 →
@@ -164,7 +159,7 @@ bit_of-behind zeros words i e behind =
 bit_of-before : (words : List ℕ) (i : ℕ) → i < 1024 → bit_of (replicate 16 0 ++ words) i ≡ false
 bit_of-before words i before =
     let long : length {A = ℕ} (replicate 16 0) ≡ 16 = length-replicate {A = ℕ} 16 0 in
-    ap (λ w. bit w (i % 64)) (get_or_append_left (replicate 16 0) words 0 (i / 64) (omega arith) ∙ zero_word 16 (i / 64))
+    ap (λ w. bit w (i % 64)) (get_or_append_left (replicate 16 0) words 0 (i / 64) (omega arith) ∙ get_or-zeros 16 (i / 64))
     ∙ ap (λ k. k == 1) (bit_at-zero (i % 64))
 
 pub bit_of-high : (words : List ℕ) (i s : ℕ) → length words ≡ 16 → s ≤ 1024 →

@@ -5,7 +5,7 @@ use Rattle.std.specs.List.{IsDistinct}
 use Rattle.std.proofs.lemmas.Bool.{leb-true}
 use Rattle.std.proofs.lemmas.List.Elements.{All-nil, All-cons, All-head, All-tail, All-from_get_or}
 use Rattle.std.proofs.Math.Nat.{le_antisymm}
-use Rattle.gj_shape.specs.Elimination.{KeptRow, reduced, eliminated, entries_of, row_with_pivot, inserted, kept_behind, elimination, elimination_from, elimination_from_by, behind_insertion}
+use Rattle.gj_shape.specs.Elimination.{KeptRow, Arithmetic, inserted_by, reduced, eliminated, entries_of, row_with_pivot, inserted, kept_behind, elimination, elimination_from, elimination_from_by, behind_insertion}
 use Rattle.gj_theory.specs.TriangularRows.{Solves, SolvesKept, IsKeptRow, AreTriangular, present_row}
 use Rattle.gj_theory.proofs.RowSums.{divided_zero}
 use Rattle.gj_theory.proofs.Steps.{solves_reduced, length-reduced}
@@ -137,3 +137,41 @@ no_rows_triangular n = record { rows = All-nil (IsKeptRow n); pivots = tt }
 pub elimination_has : (n : ℕ) (rows : List (List ℤ)) → All (λ row. length row ≡ n) rows →
     HasSolutions n [] (elimination n rows).kept rows
 elimination_has n rows columns = elimination_from_has n [] 0 rows (no_rows_triangular n) columns
+
+-- ---- the elimination over any arithmetic, one row further
+
+-- with as many kept rows as columns it stops
+pub elimination_full : (by : Arithmetic) (n : ℕ) (kept : List KeptRow) (number : ℕ) (rows : List (List ℤ)) →
+    nat_le n (length kept) ≡ true → elimination_from_by by n kept number rows ≡ record { kept = kept; marked = [] }
+unfolding elimination_from_by
+elimination_full by n kept number [] e = refl
+elimination_full by n kept number (row ∷ rows) e =
+    ap
+    (λ b.
+    if b then record { kept = kept; marked = [] }
+    else behind_insertion (inserted_by by n kept row).marked
+    (elimination_from_by by n (kept_behind kept number (inserted_by by n kept row).reduce (inserted_by by n kept row).kept)
+    (number + 1) rows))
+    e
+
+-- with fewer it inserts the next row
+pub elimination_more : (by : Arithmetic) (n : ℕ) (kept : List KeptRow) (number : ℕ) (row : List ℤ) (rows : List (List ℤ)) →
+    nat_le n (length kept) ≡ false →
+    elimination_from_by by n kept number (row ∷ rows)
+    ≡ behind_insertion (inserted_by by n kept row).marked
+    (elimination_from_by by n (kept_behind kept number (inserted_by by n kept row).reduce (inserted_by by n kept row).kept)
+    (number + 1) rows)
+unfolding elimination_from_by
+elimination_more by n kept number row rows e =
+    ap
+    (λ b.
+    if b then record { kept = kept; marked = [] }
+    else behind_insertion (inserted_by by n kept row).marked
+    (elimination_from_by by n (kept_behind kept number (inserted_by by n kept row).reduce (inserted_by by n kept row).kept)
+    (number + 1) rows))
+    e
+
+pub elimination_none : (by : Arithmetic) (n : ℕ) (kept : List KeptRow) (number : ℕ) →
+    elimination_from_by by n kept number [] ≡ record { kept = kept; marked = [] }
+unfolding elimination_from_by
+elimination_none by n kept number = refl

@@ -1,14 +1,13 @@
 -- A continuous minimal function is extreme where cover lines and rows leave no perturbation but 0.
-use Rattle.std.proofs.Common.{◌≡◌, ℕ, zero, suc, ◌+◌, ◌-◌, ◌*◌, ◌/◌, ◌%◌, ◌<◌, ◌≤◌, ◌==◌, true, ℤ, pos, ◌+ℤ◌, ◌-ℤ◌, ◌*ℤ◌, List, [], ◌∷◌, All, length, get_or, map, filter, count_by, refl, ap, sym, subst, ◌∙◌, arith}
-use Rattle.std.specs.List.{range_with_len, flat_map}
+use Rattle.std.proofs.Common.{◌≡◌, ℕ, zero, suc, ◌+◌, ◌*◌, ◌/◌, ◌%◌, ◌<◌, ◌≤◌, ◌==◌, true, ℤ, pos, ◌+ℤ◌, ◌-ℤ◌, ◌*ℤ◌, List, [], ◌∷◌, All, length, count_by, refl, ap, sym, subst, ◌∙◌, arith}
 use Rattle.std.proofs.Math.Nat.{mod-mod, mod-lt, mul-pos, div-add-mod'}
 use Rattle.std.proofs.lemmas.Bool.Decides.{Decides-int_eq}
 use Rattle.std.proofs.lemmas.Int.{ints}
 use Rattle.std.proofs.lemmas.List.FromFn.{length-map-range_with_len}
-use Rattle.std.proofs.lemmas.List.Elements.{All-cons, All-nil, All-map, All-filter, filter_passes}
+use Rattle.std.proofs.lemmas.List.Elements.{All-cons, All-nil}
 use Rattle.std.proofs.lemmas.Nat.{div_below}
 use Rattle.gj_tools.proofs.Integers.{mul_add_z, mul_sub_z, zero_factor_z}
-use Rattle.gj_tools.proofs.Lists.{All-joined, All-range, made_has}
+use Rattle.gj_tools.proofs.Lists.{made_has}
 use Rattle.gj_tools.proofs.Quotients.{same_at_remainder}
 use Rattle.gj_tools.proofs.Ring.{by_ring, ring}
 use Rattle.gj_shape.specs.Additive.{IsTight, IsAdditive}
@@ -29,6 +28,7 @@ use Rattle.gj_theory.proofs.CarriedSteps.{same_place}
 use Rattle.gj_theory.proofs.CoverSteps.{number_below, one_step_a_component}
 use Rattle.gj_theory.proofs.SlopeSums.{sum_before, slopes_of, period_row, place_row, pair_row}
 use Rattle.gj_theory.proofs.TightFaces.{tight_in_face}
+use Rattle.gj_theory.proofs.OrderedPairs.{made_of_pairs, all_pairs}
 use Rattle.gj_theory.proofs.PivotsLeaveZero.{only_zero}
 
 -- ---- values from slopes
@@ -70,19 +70,10 @@ pair_is_tight f a b e = (Decides-int_eq (at f.value a +ℤ at f.value b) (at f.v
 pub each_row : (P : RowName → Type 0) (f : FunctionData) → P Period → P F →
     ((a b : ℕ) → a < f.order → b < f.order → IsTight f a b → P (Pair a b)) → All P (row_names f)
 each_row P f period place pairs =
-    let partners = λ (a : ℕ). filter (is_tight f a) (range_with_len a (f.order - a)) in
-    let with_first = λ (a : ℕ) (a_low : a < 1 + (f.order - 1)).
-    let range : All (λ b. b < f.order) (range_with_len a (f.order - a)) =
-    All-range (λ b. b < f.order) a (f.order - a) (λ b b_low. omega arith) in
-    let within = All-filter (is_tight f a) (λ b. b < f.order) (range_with_len a (f.order - a)) range in
-    let passes = filter_passes (is_tight f a) (range_with_len a (f.order - a)) in
-    All-map P (Pair a) (partners a)
-    (λ k d low.
-    let b_low : get_or (partners a) k d < f.order = within k d low in
-    pairs a (get_or (partners a) k d) (omega arith) b_low (pair_is_tight f a (get_or (partners a) k d) (passes k d low))) in
-    let rest = flat_map (λ a. map (Pair a) (partners a)) (range_with_len 1 (f.order - 1)) in
+    let rest = made_of_pairs Pair (is_tight f) f.order in
     All-cons P Period (F ∷ rest) period
-    (All-cons P F rest place (All-joined P (λ a. map (Pair a) (partners a)) 1 (f.order - 1) with_first))
+    (All-cons P F rest place
+    (all_pairs P Pair (is_tight f) f.order (λ a b a_low b_low passes. pairs a b a_low b_low (pair_is_tight f a b passes))))
 
 -- the sum of the values at two places, where the table is additive
 pair_of_values : (f : FunctionData) (m a b : ℕ) (p : ℕ → ℤ) → IsContinuous f → 0 < m → IsAdditiveOnGrid f m p →

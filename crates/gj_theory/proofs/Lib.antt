@@ -67,3 +67,4 @@ pub mod ResidueElimination
 pub mod Inverses
 pub mod Repeats
 pub mod RepeatedRows
+pub mod OrderedPairs

@@ -52,7 +52,7 @@ nonnegative_from_subadditive a n some period zero_at_zero h i =
 -- ---- the perturbed tables
 
 -- a perturbation is 0 at 0
-perturbation_at_zero : (t : ℕ → ℤ) (n k s : ℕ) (p : ℕ → ℤ) → IsMinimalTable t n k s → IsPerturbation t n k p → p 0 ≡ pos 0
+pub perturbation_at_zero : (t : ℕ → ℤ) (n k s : ℕ) (p : ℕ → ℤ) → IsMinimalTable t n k s → IsPerturbation t n k p → p 0 ≡ pos 0
 perturbation_at_zero t n k s p h d =
     let zero_at_zero = h.zero_at_zero in
     let twice : t 0 +ℤ t 0 ≡ t (0 + 0) = omega (arith, ints) in

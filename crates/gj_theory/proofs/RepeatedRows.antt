@@ -11,6 +11,7 @@ use Rattle.std.proofs.lemmas.List.Elements.{All-nil, All-cons, All-head, All-tai
 use Rattle.gj_frac.specs.Fraction.{Fits}
 use Rattle.gj_shape.specs.Elimination.{KeptRow, Insertion, Elimination, whole_numbers, at_column, reduced, marked_in_step, insertion, insertion_by, inserted, inserted_at, inserted_at_by, kept_behind, row_with_pivot, elimination, elimination_from, elimination_from_by, behind_insertion, Passes}
 use Rattle.gj_theory.specs.HandedOver.{kept_after, IsHandedOver, none, first, again, zeros, handed_numbers, handed_rows, renumbered}
+use Rattle.gj_theory.proofs.Eliminations.{elimination_full, elimination_more}
 use Rattle.gj_theory.proofs.Passing.{none_passes, front_passes, back_passes, either_passes}
 use Rattle.gj_theory.proofs.Repeats.{nothing_left, zeros_inserted, repeated_keeps_nothing, repeated_passes}
 
@@ -144,33 +145,10 @@ record SameOutcome (D F : Type 0) (numbers : List ℕ) (all handed : Elimination
 abbrev full : List KeptRow → Elimination
 full kept = record { kept = kept; marked = [] }
 
-elimination_full : (n : ℕ) (kept : List KeptRow) (number : ℕ) (rows : List (List ℤ)) → nat_le n (length kept) ≡ true →
-    elimination_from n kept number rows ≡ full kept
-unfolding elimination_from_by
-elimination_full n kept number [] e = refl
-elimination_full n kept number (row ∷ rows) e =
-    ap
-    (λ b.
-    if b then record { kept = kept; marked = [] }
-    else behind_insertion (inserted n kept row).marked
-    (elimination_from n (kept_behind kept number (inserted n kept row).reduce (inserted n kept row).kept) (number + 1) rows))
-    e
-
 abbrev one_row : (n : ℕ) (kept : List KeptRow) (number : ℕ) (row : List ℤ) (rows : List (List ℤ)) → Elimination
 one_row n kept number row rows =
     behind_insertion (inserted n kept row).marked
     (elimination_from n (kept_behind kept number (inserted n kept row).reduce (inserted n kept row).kept) (number + 1) rows)
-
-elimination_more : (n : ℕ) (kept : List KeptRow) (number : ℕ) (row : List ℤ) (rows : List (List ℤ)) →
-    nat_le n (length kept) ≡ false → elimination_from n kept number (row ∷ rows) ≡ one_row n kept number row rows
-unfolding elimination_from_by
-elimination_more n kept number row rows e =
-    ap
-    (λ b.
-    if b then record { kept = kept; marked = [] }
-    else behind_insertion (inserted n kept row).marked
-    (elimination_from n (kept_behind kept number (inserted n kept row).reduce (inserted n kept row).kept) (number + 1) rows))
-    e
 
 both_full : (D F : Type 0) (numbers : List ℕ) (kept kept' : List KeptRow) (all handed : Elimination) →
     kept ≡ map (renumbered numbers) kept' → all ≡ full kept → handed ≡ full kept' → SameOutcome D F numbers all handed
@@ -279,15 +257,15 @@ first_step : (n : ℕ) (D : Type 0) (numbers : List ℕ) (kept kept' : List Kept
     (elimination_from n kept' place (row ∷ more))
 first_step n D numbers kept kept' place before number row rows more same later true e =
     both_full D (AllFit before (row ∷ rows)) numbers kept kept' (elimination_from n kept number (row ∷ rows))
-    (elimination_from n kept' place (row ∷ more)) same (elimination_full n kept number (row ∷ rows) e)
-    (elimination_full n kept' place (row ∷ more) (same_length numbers kept kept' n true same e))
+    (elimination_from n kept' place (row ∷ more)) same (elimination_full whole_numbers n kept number (row ∷ rows) e)
+    (elimination_full whole_numbers n kept' place (row ∷ more) (same_length numbers kept kept' n true same e))
 first_step n D numbers kept kept' place before number row rows more same later false e =
     taken D (AllFit (row ∷ before) rows) (AllFit before (row ∷ rows)) numbers (inserted n kept row).marked
     (inserted n kept' row).marked (elimination_from n kept number (row ∷ rows)) (elimination_from n kept' place (row ∷ more))
     (elimination_from n (kept_behind kept number (inserted n kept row).reduce (inserted n kept row).kept) (number + 1) rows)
     (elimination_from n (kept_behind kept' place (inserted n kept' row).reduce (inserted n kept' row).kept) (place + 1) more)
-    (elimination_more n kept number row rows e)
-    (elimination_more n kept' place row more (same_length numbers kept kept' n false same e))
+    (elimination_more whole_numbers n kept number row rows e)
+    (elimination_more whole_numbers n kept' place row more (same_length numbers kept kept' n false same e))
     (ap (λ i. i.marked) (same_insertion n numbers kept kept' row same)) (one_fits before row rows) later
 
 skipped_step : (n : ℕ) (D : Type 0) (numbers : List ℕ) (kept kept' : List KeptRow) (place : ℕ) (before : List (List ℤ)) (number : ℕ)
@@ -299,11 +277,11 @@ skipped_step : (n : ℕ) (D : Type 0) (numbers : List ℕ) (kept kept' : List Ke
     (elimination_from n kept' place more)
 skipped_step n D numbers kept kept' place before number row rows more same nothing passed later true e =
     both_full D (AllFit before (row ∷ rows)) numbers kept kept' (elimination_from n kept number (row ∷ rows))
-    (elimination_from n kept' place more) same (elimination_full n kept number (row ∷ rows) e)
-    (elimination_full n kept' place more (same_length numbers kept kept' n true same e))
+    (elimination_from n kept' place more) same (elimination_full whole_numbers n kept number (row ∷ rows) e)
+    (elimination_full whole_numbers n kept' place more (same_length numbers kept kept' n true same e))
 skipped_step n D numbers kept kept' place before number row rows more same nothing passed later false e =
     skipped n D (AllFit before rows) (AllFit before (row ∷ rows)) numbers kept number row rows
-    (elimination_from n kept number (row ∷ rows)) (elimination_from n kept' place more) (elimination_more n kept number row rows e)
+    (elimination_from n kept number (row ∷ rows)) (elimination_from n kept' place more) (elimination_more whole_numbers n kept number row rows e)
     nothing passed (λ h. (h.0, All-tail (All Fits) row rows h.1)) later
 
 all_zeros : (row : List ℤ) → All (λ x. x ≡ pos 0) row → (i : ℕ) → at_column row i ≡ pos 0

@@ -1,14 +1,13 @@
 -- Slopes that solve the linear system give a perturbation.
-use Rattle.std.proofs.Common.{◌≡◌, ◌≢◌, ℕ, zero, suc, inl, inr, ◌+◌, ◌-◌, ◌*◌, ◌%◌, ◌<◌, ◌≤◌, Bool, true, false, cond, ℤ, pos, ◌+ℤ◌, ◌-ℤ◌, List, [], ◌∷◌, ◌++◌, length, map, filter, flat_map, All, refl, sym, ap, ap₂, subst, ◌∙◌, arith}
+use Rattle.std.proofs.Common.{◌≡◌, ◌≢◌, ℕ, zero, suc, inl, inr, ◌+◌, ◌*◌, ◌%◌, ◌<◌, ◌≤◌, true, ℤ, pos, ◌+ℤ◌, ◌-ℤ◌, List, [], ◌∷◌, ◌++◌, length, map, All, refl, sym, ap, ap₂, ◌∙◌, arith}
 use Rattle.std.specs.List.{range_with_len}
 use Rattle.std.proofs.Math.Nat.{mod-lt, mod-mod, mod-eq_of_lt, add-mod, add-mod_right, zero-add, mul-one}
-use Rattle.std.proofs.lemmas.Bool.{cases_lt, cases_eq}
+use Rattle.std.proofs.lemmas.Bool.{cases_lt}
 use Rattle.std.proofs.lemmas.Bool.Decides.{Decides-int_eq}
 use Rattle.std.proofs.lemmas.Int.{ints}
 use Rattle.std.proofs.lemmas.List.Elements.{All-head, All-tail}
 use Rattle.std.proofs.lemmas.List.FromFn.{map-range_with_len_more, fill_by_all}
 use Rattle.gj_tools.proofs.Integers.{add_comm_z, same_or_apart_z}
-use Rattle.gj_tools.proofs.Lists.{All-front, All-back}
 use Rattle.gj_shape.specs.Additive.{IsTight}
 use Rattle.gj_shape.specs.Elimination.{at_column}
 use Rattle.gj_shape.specs.FunctionData.{FunctionData, IsWithinBounds, at}
@@ -20,50 +19,17 @@ use Rattle.gj_shape.specs.declared.extremality.RowName.TheVariants.{Period, F, P
 use Rattle.gj_shape.proofs.TableLemmas.{table_of_order}
 use Rattle.gj_theory.specs.Halves.{IsPerturbation}
 use Rattle.gj_theory.proofs.Everywhere.{at_same}
+use Rattle.gj_theory.proofs.OrderedPairs.{made_of_pairs, pair_of_all}
 use Rattle.gj_theory.proofs.SlopeSums.{sum_before, slopes_of, period_row, place_row, pair_row}
 
 -- ---- one row of all
-
--- what holds of the elements of all lists made from a range holds of those of each
-joined_each : {X : Type 0} (P : X → Type 0) (g : ℕ → List X) (a n i : ℕ) → a ≤ i → i < a + n →
-    All P (flat_map g (range_with_len a n)) → All P (g i)
-joined_each P g a zero i low high all = absurd (omega arith)
-joined_each P g a (suc n) i low high all = elim (cases_eq i a) [
-  | inl e ↦ subst (λ (k : ℕ). All P (g k)) (sym e) (All-front P (g a) (flat_map g (range_with_len (a + 1) n)) all)
-  | inr other ↦
-      joined_each P g (a + 1) n i (omega arith) (omega arith) (All-back P (g a) (flat_map g (range_with_len (a + 1) n)) all)
-]
-
--- what holds of all elements made from the numbers of a range that pass a test holds of each
-filtered_each : {X : Type 0} (P : X → Type 0) (h : ℕ → X) (test : ℕ → Bool) (a n i : ℕ) → a ≤ i → i < a + n →
-    test i ≡ true → All P (map h (filter test (range_with_len a n))) → P (h i)
-filtered_each P h test a zero i low high passes all = absurd (omega arith)
-filtered_each P h test a (suc n) i low high passes all = elim (cases_eq i a) [
-  | inl e ↦ subst (λ (k : ℕ). P (h k)) (sym e) (first (test a) (ap test (sym e) ∙ passes) all)
-  | inr other ↦
-      filtered_each P h test (a + 1) n i (omega arith) (omega arith) passes (later (test a) all)
-]
-  where
-    rest : List ℕ
-    rest = filter test (range_with_len (a + 1) n)
-
-    first : (b : Bool) → b ≡ true → All P (map h (cond b (a ∷ rest) rest)) → P (h a)
-    first true e here = All-head P (h a) (map h rest) here
-    first false e here = absurd (cc)
-
-    later : (b : Bool) → All P (map h (cond b (a ∷ rest) rest)) → All P (map h rest)
-    later true here = All-tail P (h a) (map h rest) here
-    later false here = here
 
 tight_test : (f : FunctionData) (a b : ℕ) → IsTight f a b → is_tight f a b ≡ true
 tight_test f a b e = (Decides-int_eq (at f.value a +ℤ at f.value b) (at f.value (a + b))).1 e
 
 -- the rows of pairs
-abbrev rows_with_first : FunctionData → ℕ → List RowName
-rows_with_first f a = map (Pair a) (filter (is_tight f a) (range_with_len a (f.order - a)))
-
 abbrev rows_of_pairs : FunctionData → List RowName
-rows_of_pairs f = flat_map (rows_with_first f) (range_with_len 1 (f.order - 1))
+rows_of_pairs f = made_of_pairs Pair (is_tight f) f.order
 
 -- the first two rows, and the row of a tight pair
 pub first_rows_hold : (P : RowName → Type 0) (f : FunctionData) → All P (row_names f) → P Period × P F
@@ -75,9 +41,8 @@ pub pair_row_holds : (P : RowName → Type 0) (f : FunctionData) → All P (row_
     IsTight f a b → P (Pair a b)
 pair_row_holds P f all a b low up high tight =
     let pairs = rows_of_pairs f in
-    filtered_each P (Pair a) (is_tight f a) a (f.order - a) b up (omega arith) (tight_test f a b tight)
-    (joined_each P (rows_with_first f) 1 (f.order - 1) a low (omega arith)
-    (All-tail P F pairs (All-tail P Period (F ∷ pairs) all)))
+    pair_of_all P Pair (is_tight f) f.order (All-tail P F pairs (All-tail P Period (F ∷ pairs) all)) a b low up high
+    (tight_test f a b tight)
 
 -- ---- the values of the perturbation
 

@@ -1,7 +1,7 @@
--- Places of a table that are used: what they add up to and what they weigh, where they add up to the place of a right side.
+-- Places of a table that are used: what they add up to, and what they weigh if they add up to the place of a right side.
 use Rattle.std.proofs.Common.{◌≡◌, ℕ, ◌+◌, ◌*◌, ◌%◌, ◌<◌, ◌≢◌, [], ◌∷◌, ℤ, pos, ◌+ℤ◌, ◌-ℤ◌, ◌*ℤ◌, ◌≤ℤ◌, unsigned_abs, refl, sym, ap, ap₂, ◌∙◌, arith}
 use Rattle.std.proofs.lemmas.Int.{ints}
-use Rattle.gj_tools.proofs.Integers.{add_mul_z, sub_mul_z, mul_cancel_right_z, mul_le_cancel_right_z, mul_le_mul_right_z}
+use Rattle.gj_tools.proofs.Integers.{add_mul_z, mul_assoc_z, mul_comm_z, sub_mul_z, mul_cancel_right_z, mul_le_cancel_right_z, mul_le_mul_right_z}
 use Rattle.gj_tools.proofs.Ring.{by_ring, ring}
 use Rattle.gj_shape.specs.Valid.{IsValidTable}
 use Rattle.gj_shape.specs.Values.{IsCongruent}
@@ -55,12 +55,6 @@ with_uses t n s c g i u p x y x' y' (k, i_is) x_is y_is r =
       values_are = add_mul_z y y' (pos s) ∙ ap₂ (λ a b. a +ℤ b) y_is r.values_are ∙ sym (add_mul_z (t i *ℤ pos u) r.values (pos g));
     }
 
-more_left : (e x n : ℤ) → (e *ℤ x) *ℤ n ≡ (x *ℤ n) *ℤ e
-more_left e x n = by_ring (e ∷ x ∷ n ∷ []) (search ring depth 30) refl
-
-more_right : (p : ℤ) (c e : ℕ) → (p *ℤ pos c) *ℤ pos e ≡ p *ℤ pos (c * e)
-more_right p c e = by_ring (p ∷ pos c ∷ pos e ∷ []) (search ring depth 30) refl
-
 -- the same over e times the denominators
 pub over_more : (t : ℕ → ℤ) (n s c g e : ℕ) (x y : ℤ) → UsedPlaces t n s c g x y →
     UsedPlaces t n s (c * e) (g * e) (pos e *ℤ x) (pos e *ℤ y)
@@ -70,8 +64,8 @@ over_more t n s c g e x y r = record {
   values = r.values;
   list = r.list;
   index_is = r.index_is;
-  places_are = more_left (pos e) x (pos n) ∙ ap (λ z. z *ℤ pos e) r.places_are ∙ more_right r.places c e;
-  values_are = more_left (pos e) y (pos s) ∙ ap (λ z. z *ℤ pos e) r.values_are ∙ more_right r.values g e;
+  places_are = mul_assoc_z (pos e) x (pos n) ∙ mul_comm_z (pos e) (x *ℤ pos n) ∙ ap (λ z. z *ℤ pos e) r.places_are ∙ mul_assoc_z r.places (pos c) (pos e);
+  values_are = mul_assoc_z (pos e) y (pos s) ∙ mul_comm_z (pos e) (y *ℤ pos s) ∙ ap (λ z. z *ℤ pos e) r.values_are ∙ mul_assoc_z r.values (pos g) (pos e);
 }
 
 solution_split : (c b x n : ℤ) → (c *ℤ b +ℤ x) *ℤ n ≡ (b *ℤ n) *ℤ c +ℤ x *ℤ n

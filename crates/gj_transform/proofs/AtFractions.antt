@@ -1,18 +1,17 @@
 -- The values of the functions of n x and of -x, and of restrictions, at fractions.
-use Rattle.std.proofs.Common.{◌≡◌, ℕ, ◌+◌, ◌-◌, ◌*◌, ◌/◌, ◌%◌, ◌<◌, ℤ, pos, ◌+ℤ◌, ◌*ℤ◌, unsigned_abs, [], ◌∷◌, refl, sym, ap, ap₂, subst, ◌∙◌, mul-pos, arith}
+use Rattle.std.proofs.Common.{◌≡◌, ℕ, ◌+◌, ◌*◌, ◌%◌, ◌<◌, ℤ, pos, negsuc, ◌+ℤ◌, ◌*ℤ◌, [], ◌∷◌, refl, sym, ap, subst, ◌∙◌, mul-pos, arith}
 use Rattle.std.proofs.lemmas.Int.{ints}
 use Rattle.std.specs.Prelude.{neg_ℤ}
 use Rattle.gj_frac.specs.declared.Frac.{Frac}
 use Rattle.gj_frac.specs.Fraction.{IsRatio, numerator, denominator}
 use Rattle.gj_tools.proofs.Integers.{mul_cancel_right_z, swap_last_z, add_mul_z}
-use Rattle.gj_tools.proofs.Quotients.{same_at_remainder}
 use Rattle.gj_tools.proofs.Ring.{by_ring, ring}
 use Rattle.gj_shape.specs.FunctionData.{FunctionData, IsWithinBounds, at}
 use Rattle.gj_shape.specs.Table.{table}
 use Rattle.gj_shape.specs.Values.{IsCongruent, IsValueAt}
-use Rattle.gj_shape.proofs.TableLemmas.{table_period, table_at, table_of_order}
+use Rattle.gj_shape.proofs.TableLemmas.{table_at, table_of_order}
 use Rattle.gj_shape.proofs.ValueLemmas.{natural_index, congruent_rests, value_from_place}
-use Rattle.gj_transform.specs.Transforms.{IsTimesOf, IsMirrorOf, IsRestrictionOf}
+use Rattle.gj_transform.specs.Transforms.{IsTimesOf, IsMirrorOf, IsRestrictionOf, HasValuesAtMultiples, AgreeAtMultiples}
 use Rattle.gj_transform.proofs.TimesTables.{times_entries}
 use Rattle.gj_transform.proofs.MirrorTables.{mirror_back}
 
@@ -33,10 +32,6 @@ congruent_back i j n (k, e) =
     turned_z : (i j k n : ℤ) → i ≡ j +ℤ k *ℤ n → j ≡ i +ℤ neg_ℤ k *ℤ n
     turned_z i j k n e =
         by_ring (j ∷ k ∷ n ∷ []) (search ring depth 20) refl ∙ ap (λ z. z +ℤ neg_ℤ k *ℤ n) (sym e)
-
-congruent_next : (i j k : ℤ) (n : ℕ) → IsCongruent i j n → IsCongruent j k n → IsCongruent i k n
-congruent_next i j k n (a, e) (b, g) =
-    (b +ℤ a, e ∙ ap (λ z. z +ℤ a *ℤ pos n) g ∙ by_ring (k ∷ a ∷ b ∷ pos n ∷ []) (search ring depth 20) refl)
 
 -- modulo a multiple of n, and so modulo n
 congruent_coarser : (i j : ℤ) (n m : ℕ) → IsCongruent i j (n * m) → IsCongruent i j n
@@ -59,7 +54,7 @@ congruent_opposite i j a b n sum (k, e) (l, g) =
 
 -- ---- the function of n x
 
-pub times_value : (f g : FunctionData) (n j d : ℕ) (u : ℤ) (x : Frac) → IsWithinBounds f → IsWithinBounds g → 0 < n → 0 < d →
+times_value : (f g : FunctionData) (n j d : ℕ) (u : ℤ) (x : Frac) → IsWithinBounds f → IsWithinBounds g → 0 < n → 0 < d →
     IsTimesOf f n j g → IsValueAt g (u *ℤ pos g.order) d x → IsValueAt f (pos n *ℤ u *ℤ pos f.order) d x
 times_value f g n j d u x l h n_some d_some r is =
     let low = h.scale_low in
@@ -81,7 +76,7 @@ times_value f g n j d u x l h n_some d_some r is =
     grid_is : g.order ≡ f.order * n → g.order * d ≡ f.order * d * n
     grid_is e = ap (λ q. q * d) e ∙ omega arith
 
-pub value_of_times : (f g : FunctionData) (n j d : ℕ) (u : ℤ) (x : Frac) → IsWithinBounds f → 0 < n → 0 < d →
+value_of_times : (f g : FunctionData) (n j d : ℕ) (u : ℤ) (x : Frac) → IsWithinBounds f → 0 < n → 0 < d →
     IsTimesOf f n j g → IsValueAt f (pos n *ℤ u *ℤ pos f.order) d x → IsValueAt g (u *ℤ pos g.order) d x
 value_of_times f g n j d u x l n_some d_some r is i near =
     let low = l.scale_low in
@@ -99,7 +94,7 @@ value_of_times f g n j d u x l n_some d_some r is i near =
 
 -- ---- the function of -x
 
-pub mirror_value : (f g : FunctionData) (d : ℕ) (u v : ℤ) (x : Frac) → IsWithinBounds f → IsWithinBounds g → 0 < d → u +ℤ v ≡ pos 0 →
+mirror_value : (f g : FunctionData) (d : ℕ) (u v : ℤ) (x : Frac) → IsWithinBounds f → IsWithinBounds g → 0 < d → u +ℤ v ≡ pos 0 →
     IsMirrorOf f g → IsValueAt g (u *ℤ pos g.order) d x → IsValueAt f (v *ℤ pos f.order) d x
 mirror_value f g d u v x l h d_some opposite r is i near =
     let low = h.scale_low in
@@ -152,7 +147,7 @@ restriction_places f g d a some r =
 grid_some : (f g : FunctionData) (d : ℕ) → IsWithinBounds g → IsRestrictionOf f d g → 0 < d
 grid_some f g d h r = let low = h.order_low in let e = r.order in omega arith
 
-pub restriction_value : (f g : FunctionData) (d : ℕ) (u : ℤ) (x : Frac) → IsWithinBounds f → IsWithinBounds g → IsRestrictionOf f d g →
+restriction_value : (f g : FunctionData) (d : ℕ) (u : ℤ) (x : Frac) → IsWithinBounds f → IsWithinBounds g → IsRestrictionOf f d g →
     IsValueAt g (u *ℤ pos g.order) d x → IsValueAt f (u *ℤ pos f.order) d x
 restriction_value f g d u x l h r is =
     let low = h.scale_low in
@@ -163,7 +158,7 @@ restriction_value f g d u x l h r is =
     (over_scale x (table g d (a * g.order)) (table f d (a * f.order)) (g.scale * d) (f.scale * d) (mul-pos (omega arith) some)
     (sym (restriction_places f g d a some r)) (is (a * g.order) (congruent_scaled a u d g.order near)))
 
-pub value_of_restriction : (f g : FunctionData) (d : ℕ) (u : ℤ) (x : Frac) → IsWithinBounds f → IsWithinBounds g → IsRestrictionOf f d g →
+value_of_restriction : (f g : FunctionData) (d : ℕ) (u : ℤ) (x : Frac) → IsWithinBounds f → IsWithinBounds g → IsRestrictionOf f d g →
     IsValueAt f (u *ℤ pos f.order) d x → IsValueAt g (u *ℤ pos g.order) d x
 value_of_restriction f g d u x l h r is =
     let low = l.scale_low in
@@ -173,3 +168,20 @@ value_of_restriction f g d u x l h r is =
     (congruent_back _ _ (g.order * d) (congruent_scaled a u d g.order near))
     (over_scale x (table f d (a * f.order)) (table g d (a * g.order)) (f.scale * d) (g.scale * d) (mul-pos (omega arith) some)
     (restriction_places f g d a some r) (is (a * f.order) (congruent_scaled a u d f.order near)))
+
+-- ---- at each fraction
+
+pub times_values : (f g : FunctionData) (n j : ℕ) → IsWithinBounds f → IsWithinBounds g → 0 < n → IsTimesOf f n j g →
+    HasValuesAtMultiples f (pos n) g
+times_values f g n j l h n_some r d u x d_some =
+    (times_value f g n j d u x l h n_some d_some r, value_of_times f g n j d u x l n_some d_some r)
+
+pub mirror_values : (f g : FunctionData) → IsWithinBounds f → IsWithinBounds g → IsMirrorOf f g → HasValuesAtMultiples f (negsuc 0) g
+mirror_values f g l h r d u x some = (
+  mirror_value f g d u (negsuc 0 *ℤ u) x l h some (omega (arith, ints)) r,
+  mirror_value g f d (negsuc 0 *ℤ u) u x h l some (omega (arith, ints)) (mirror_back f g r),
+)
+
+pub restriction_values : (f g : FunctionData) (d : ℕ) → IsWithinBounds f → IsWithinBounds g → IsRestrictionOf f d g →
+    AgreeAtMultiples f d g
+restriction_values f g d l h r u x = (restriction_value f g d u x l h r, value_of_restriction f g d u x l h r)

@@ -1,6 +1,6 @@
 -- The function of -x from lists of entries.
-use Rattle.std.proofs.Common.{◌≡◌, ℕ, zero, suc, ◌+◌, ◌-◌, ◌*◌, ◌/◌, ◌%◌, ◌<◌, ◌≤◌, ◌⊎◌, inl, inr, ⊎_elim, ℤ, pos, ◌+ℤ◌, ◌*ℤ◌, List, ◌++◌, [], ◌∷◌, All, refl, sym, ap, ap₂, subst, ◌∙◌, arith}
-use Rattle.std.proofs.Math.Nat.{mul-pos, mul-mod_left, mod-lt, mod-mod, div-add-mod'}
+use Rattle.std.proofs.Common.{◌≡◌, ℕ, ◌+◌, ◌-◌, ◌*◌, ◌/◌, ◌%◌, ◌<◌, ◌≤◌, ⊎_elim, ℤ, pos, ◌+ℤ◌, ◌*ℤ◌, List, ◌++◌, refl, sym, ap, ap₂, subst, ◌∙◌, arith}
+use Rattle.std.proofs.Math.Nat.{mul-mod_left, mod-lt, div-add-mod'}
 use Rattle.std.proofs.lemmas.Bool.{cases_eq}
 use Rattle.std.proofs.lemmas.List.Elements.{All-append}
 use Rattle.std.specs.Int.{◌∣◌}
@@ -13,7 +13,6 @@ use Rattle.gj_shape.specs.Table.{table}
 use Rattle.gj_shape.proofs.TableLemmas.{table_at, table_between, table_period, at_plus_order}
 use Rattle.gj_transform.specs.Transforms.{IsMirrorOf}
 use Rattle.gj_transform.proofs.MadeFunctions.{AreTaken, taken_everywhere, taken_within}
-use Rattle.gj_transform.proofs.MirrorTables.{opposite_place}
 
 -- ---- the function with left and right limits exchanged
 

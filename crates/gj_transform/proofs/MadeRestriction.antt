@@ -1,19 +1,17 @@
 -- The restriction to the multiples of 1/d from its list of values, and if there is one.
-use Rattle.std.proofs.Common.{◌≡◌, ◌≢◌, ℕ, zero, suc, inl, inr, ◌+◌, ◌*◌, ◌/◌, ◌%◌, ◌<◌, ◌≤◌, ◌^◌, ℤ, pos, ◌*ℤ◌, List, [], ◌∷◌, ◌++◌, length, get_or, All, unsigned_abs, int_div, refl, sym, ap, ap₂, subst, subst₂, ◌∙◌, arith}
+use Rattle.std.proofs.Common.{◌≡◌, ◌≢◌, ℕ, inl, inr, ◌*◌, ◌/◌, ◌%◌, ◌<◌, ◌≤◌, ◌^◌, ℤ, pos, ◌*ℤ◌, List, [], ◌∷◌, ◌++◌, length, All, unsigned_abs, int_div, refl, sym, ap, ap₂, subst, subst₂, ◌∙◌, arith}
 use Rattle.std.specs.Int.{◌∣◌}
-use Rattle.std.proofs.Math.Nat.{div-mul_cancel, mul-div_cancel, mul-div_cancel_left, mul-pos, mul-le-mul_left, mul-le-mul_right, dvd-mul_left, dvd-mul_right, mul-dvd-mul_right, dvd_of_mul-dvd-mul_right, le_of_mul-le-mul_right, eq_of_mul-eq-mul_right, div-add-mod', one-mul, mod-lt, lt_of_mul-lt-mul_right, eq-one_of_dvd-one}
-use Rattle.std.proofs.lemmas.Int.{ints, unsigned_abs-mul}
+use Rattle.std.proofs.Math.Nat.{div-mul_cancel, mul-le-mul_left, dvd-mul_left, dvd-mul_right, mul-dvd-mul_right, dvd_of_mul-dvd-mul_right, le_of_mul-le-mul_right, eq_of_mul-eq-mul_right, div-add-mod', one-mul, mod-lt, lt_of_mul-lt-mul_right, eq-one_of_dvd-one}
+use Rattle.std.proofs.lemmas.Int.{unsigned_abs-mul}
 use Rattle.std.proofs.lemmas.List.{get_or_default}
-use Rattle.std.proofs.lemmas.Nat.Gcd.{dvd_of_mod-eq-zero, mod-eq-zero_of_dvd, le_of_dvd, dvd_trans, dvd_antisymm}
+use Rattle.std.proofs.lemmas.Nat.Gcd.{mod-eq-zero_of_dvd}
 use Rattle.gj_tools.proofs.Divisors.{cofactor}
-use Rattle.gj_tools.proofs.Integers.{mul_assoc_z, swap_last_z}
-use Rattle.gj_tools.proofs.Lists.{All-front, All-back}
+use Rattle.gj_tools.proofs.Lists.{All-back}
 use Rattle.gj_tools.proofs.Ring.{by_ring, ring}
 use Rattle.gj_shape.specs.Entries.{HasEntries}
 use Rattle.gj_shape.specs.FunctionData.{FunctionData, IsWithinBounds, IsSmallOver, at, function_over}
 use Rattle.gj_frac.proofs.Reduced.{quotient_of_divisor}
 use Rattle.gj_shape.proofs.AtLemmas.{at_below, at_wrapped, at_value_small}
-use Rattle.gj_shape.proofs.ListEntries.{entries_everywhere}
 use Rattle.gj_shape.proofs.TableLemmas.{table_of_order}
 use Rattle.gj_transform.specs.GreatestDivisor.{IsGreatestDivisor}
 use Rattle.gj_transform.specs.Transforms.{IsRestrictionOf, IsStep, HasNoRestriction}

@@ -1,10 +1,10 @@
 -- The tables of a function and of that of -x: both functions are minimal or neither is, and both are extreme or neither is.
-use Rattle.std.proofs.Common.{◌≡◌, ℕ, ◌+◌, ◌-◌, ◌*◌, ◌%◌, ◌<◌, ◌≤◌, ℤ, pos, ◌*ℤ◌, sym, ap, subst, ◌∙◌, mul-pos, arith}
+use Rattle.std.proofs.Common.{◌≡◌, ℕ, ◌+◌, ◌-◌, ◌*◌, ◌%◌, ◌<◌, ◌≤◌, pos, ◌*ℤ◌, sym, ap, subst, ◌∙◌, mul-pos, arith}
 use Rattle.std.proofs.Math.Nat.{mul-mod_left, mul-le-mul_right, add_comm}
 use Rattle.gj_tools.proofs.Quotients.{same_remainder}
-use Rattle.gj_shape.specs.Extreme.{IsExtremeTable, IsExtreme}
+use Rattle.gj_shape.specs.Extreme.{IsExtreme}
 use Rattle.gj_shape.specs.FunctionData.{FunctionData, IsWithinBounds}
-use Rattle.gj_shape.specs.Table.{table, IsMinimalTable, IsMinimal}
+use Rattle.gj_shape.specs.Table.{table, IsMinimal}
 use Rattle.gj_theory.proofs.SameVerdicts.{minimal_over, extreme_over}
 use Rattle.gj_transform.specs.Transforms.{IsMirrorOf}
 use Rattle.gj_transform.proofs.Multiples.{minimal_at_multiples, extreme_at_multiples}
@@ -18,7 +18,7 @@ mirror_back f g r = record {
       sym (r.same_values m j i some (ap (λ x. x % (f.order * m)) (add_comm j i) ∙ subst (λ (q : ℕ). (i + j) % (q * m) ≡ 0) r.order opposite));
 }
 
--- i times c, where c is one less than the order of the grid, is opposite to i
+-- i times one less than the order of the grid is opposite to i
 pub opposite_place : (n c i : ℕ) → c + 1 ≡ n → (i + i * c) % n ≡ 0
 opposite_place n c i e =
     let whole : i + i * c ≡ i * n = let scaled : i * (c + 1) ≡ i * n = ap (λ x. i * x) e in omega arith in

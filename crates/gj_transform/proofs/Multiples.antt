@@ -1,10 +1,10 @@
--- A table that is read at the multiples of a number: minimal where the table is, and extreme.
-use Rattle.std.proofs.Common.{◌≡◌, ℕ, ◌+◌, ◌*◌, ◌/◌, ◌%◌, ◌<◌, ℤ, pos, ◌+ℤ◌, ◌*ℤ◌, ◌≤ℤ◌, sym, ap, ap₂, subst, ◌∙◌, arith}
+-- A table that is read at the multiples of a number: it is minimal if the table is, and extreme.
+use Rattle.std.proofs.Common.{◌≡◌, ℕ, ◌+◌, ◌*◌, ◌/◌, ◌%◌, ℤ, pos, ◌+ℤ◌, ◌*ℤ◌, ◌≤ℤ◌, sym, ap, subst, ◌∙◌, arith}
 use Rattle.gj_tools.proofs.Quotients.{same_remainder, from_same_remainder, periods}
 use Rattle.gj_shape.specs.Extreme.{IsExtremeTable}
 use Rattle.gj_shape.specs.Table.{IsMinimalTable}
 
--- the entries of a minimal table at the multiples of c, where N multiples make whole periods and the K-th leads to the place k
+-- the entries of a minimal table at the multiples of c, if N multiples make whole periods and the K-th leads to the place k
 pub minimal_at_multiples : (t : ℕ → ℤ) (n k s c w N K : ℕ) → N * c ≡ w * n → (K * c) % n ≡ k % n → IsMinimalTable t n k s →
     IsMinimalTable (λ i. t (i * c)) N K s
 minimal_at_multiples t n k s c w N K period place h = record {
@@ -29,7 +29,7 @@ minimal_at_multiples t n k s c w N K period place h = record {
       (same_remainder (i * c + j * c) (K * c) (a * w) (b * w) n (omega arith) ∙ place);
 }
 
--- the same of extreme tables, where c is its own inverse
+-- the same of extreme tables, if c is its own inverse
 pub extreme_at_multiples : (t : ℕ → ℤ) (n k K s c w : ℕ) → c * c ≡ w * n + 1 → (K * c) % n ≡ k % n → (k * c) % n ≡ K % n →
     IsExtremeTable t n k s → IsExtremeTable (λ i. t (i * c)) n K s
 extreme_at_multiples t n k K s c w inverse there back h = record {

@@ -1,5 +1,5 @@
 -- A function has one transform of each kind: functions with the same values on every grid are equal.
-use Rattle.std.proofs.Common.{◌≡◌, ◌≢◌, ℕ, zero, suc, ◌+◌, ◌-◌, ◌*◌, ◌<◌, ◌≤◌, ℤ, pos, ◌+ℤ◌, ◌-ℤ◌, ◌*ℤ◌, unsigned_abs, [], ◌∷◌, refl, sym, ap, ap₂, subst, ◌∙◌, mul-pos, arith}
+use Rattle.std.proofs.Common.{◌≡◌, ℕ, zero, suc, ◌+◌, ◌-◌, ◌*◌, ◌<◌, ◌≤◌, ℤ, pos, ◌+ℤ◌, ◌-ℤ◌, ◌*ℤ◌, [], ◌∷◌, refl, sym, ap, ap₂, ◌∙◌, mul-pos, arith}
 use Rattle.std.proofs.Math.Nat.{eq_of_mul-eq-mul_right, mul_comm}
 use Rattle.std.proofs.lemmas.Int.{ints}
 use Rattle.gj_tools.proofs.Integers.{mul_assoc_z, mul_cancel_right_z, sub_mul_z}
@@ -7,7 +7,7 @@ use Rattle.gj_tools.proofs.Ratios.{ratio_along}
 use Rattle.gj_tools.proofs.Ring.{by_ring, ring}
 use Rattle.gj_shape.specs.FunctionData.{FunctionData, IsWithinBounds, at}
 use Rattle.gj_shape.specs.Table.{table}
-use Rattle.gj_shape.proofs.AlikeFunctions.{AreAlike, alike_are_same, continuous_alike}
+use Rattle.gj_shape.proofs.AlikeFunctions.{alike_are_same, continuous_alike}
 use Rattle.gj_shape.proofs.TableLemmas.{table_of_order, table_between, at_plus_order}
 use Rattle.gj_transform.specs.Transforms.{HaveSameValue, IsTimesOf, IsMirrorOf, IsRestrictionOf}
 use Rattle.gj_transform.proofs.TimesTables.{times_entries}
@@ -25,7 +25,7 @@ first_limit_z r l = omega (arith, ints)
 last_limit_z : (r l : ℤ) → pos 2 *ℤ (pos 1 *ℤ r +ℤ pos 2 *ℤ l) -ℤ (pos 2 *ℤ r +ℤ pos 1 *ℤ l) ≡ pos 3 *ℤ l
 last_limit_z r l = omega (arith, ints)
 
--- where 3 x is 2 a - b, and 3 y is 2 c - d, and a and b are over s what c and d are over t
+-- x and y are equal over s and t, if 3 x is 2 a - b and 3 y is 2 c - d, and a and b are over s what c and d are over t
 same_limit : (x y a b c d : ℤ) (s t : ℕ) → pos 2 *ℤ a -ℤ b ≡ pos 3 *ℤ x → pos 2 *ℤ c -ℤ d ≡ pos 3 *ℤ y →
     a *ℤ pos (t * 3) ≡ c *ℤ pos (s * 3) → b *ℤ pos (t * 3) ≡ d *ℤ pos (s * 3) → x *ℤ pos t ≡ y *ℤ pos s
 same_limit x y a b c d s t x_is y_is first second =

@@ -1,7 +1,7 @@
 -- The restriction of a minimal function is minimal.
-use Rattle.std.proofs.Common.{◌≡◌, ℕ, ◌+◌, ◌*◌, ◌%◌, ◌<◌, ℤ, pos, ◌*ℤ◌, sym, ap, subst, ◌∙◌, mul-pos, arith}
+use Rattle.std.proofs.Common.{◌≡◌, ℕ, ◌*◌, ◌%◌, sym, ap, ◌∙◌, arith}
 use Rattle.gj_shape.specs.FunctionData.{FunctionData, IsWithinBounds}
-use Rattle.gj_shape.specs.Table.{table, IsMinimalTable, IsMinimalOnGrid, IsMinimal}
+use Rattle.gj_shape.specs.Table.{table, IsMinimal}
 use Rattle.gj_theory.proofs.Continuous.{minimal_from_own_grid}
 use Rattle.gj_theory.proofs.SameVerdicts.{minimal_over}
 use Rattle.gj_transform.specs.Transforms.{IsRestrictionOf}

@@ -1,8 +1,10 @@
 -- The functions of n x and of -x, and restrictions to the multiples of 1/d (Gomory and Johnson 1972; the definitions by tables are own).
-use Rattle.std.specs.Prelude.{ℕ, ℤ, pos, ◌≡◌, ◌⊎◌, ◌+◌, ◌*◌, ◌%◌, ◌<◌, ◌≤◌, ◌*ℤ◌}
+use Rattle.std.specs.Prelude.{ℕ, ℤ, pos, ◌≡◌, ◌⊎◌, ◌+◌, ◌*◌, ◌%◌, ◌<◌, ◌≤◌, ◌*ℤ◌, ◌↔◌}
 use Rattle.std.specs.Int.{◌∣◌}
+use Rattle.gj_frac.specs.declared.Frac.{Frac}
 use Rattle.gj_shape.specs.FunctionData.{FunctionData, IsContinuous}
 use Rattle.gj_shape.specs.Table.{table}
+use Rattle.gj_shape.specs.Values.{IsValueAt}
 
 -- the value of f at i/(order l) is the value of g at j/(order m), each with its own order and scale
 abbrev pub HaveSameValue : FunctionData → ℕ → ℕ → FunctionData → ℕ → ℕ → Type 0
@@ -29,6 +31,15 @@ pub record IsRestrictionOf (f : FunctionData) (d : ℕ) (g : FunctionData) : Typ
   pub place : f.place ≡ g.place * step
   pub continuous : IsContinuous g
   pub same_values : (i : ℕ) → HaveSameValue g 1 i f 1 (i * step)
+
+-- at each fraction u/d, g has the value of f at n u/d
+abbrev pub HasValuesAtMultiples : FunctionData → ℤ → FunctionData → Type 0
+HasValuesAtMultiples f n g = (d : ℕ) (u : ℤ) (x : Frac) → 0 < d →
+    IsValueAt g (u *ℤ pos g.order) d x ↔ IsValueAt f (n *ℤ u *ℤ pos f.order) d x
+
+-- at each multiple of 1/d, g has the value of f
+abbrev pub AgreeAtMultiples : FunctionData → ℕ → FunctionData → Type 0
+AgreeAtMultiples f d g = (u : ℤ) (x : Frac) → IsValueAt g (u *ℤ pos g.order) d x ↔ IsValueAt f (u *ℤ pos f.order) d x
 
 -- 1/d is the step-th multiple of 1/order, and the place a multiple of 1/d
 pub record IsStep (f : FunctionData) (d step : ℕ) : Type 0 where

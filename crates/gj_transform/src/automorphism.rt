@@ -1,9 +1,9 @@
 //! The function of -x.
-ghost use Rattle.std.specs.Prelude.{◌↔◌, IfOk};
+ghost use Rattle.std.specs.Prelude.{negsuc, ◌↔◌, IfOk};
 ghost use Rattle.gj_shape.specs.Extreme.{IsExtreme};
 ghost use Rattle.gj_shape.specs.FunctionData.{IsWithinBounds};
 ghost use Rattle.gj_shape.specs.Table.{IsMinimal};
-ghost use Rattle.gj_transform.specs.Transforms.{IsMirrorOf};
+ghost use Rattle.gj_transform.specs.Transforms.{IsMirrorOf, HasValuesAtMultiples};
 
 use crate::entries::entries_at_multiples;
 use gj_shape::Shape;
@@ -17,6 +17,7 @@ use std::alloc::{AllocError, Global};
 pub fn mirror(alloc: Global, shape: &Shape) -> Result<Shape, AllocError>
     ensures mirror { IfOk result (IsMirrorOf shape.now) }
     ensures within { IfOk result IsWithinBounds }
+    ensures values { IfOk result (HasValuesAtMultiples shape.now (negsuc 0)) }
     ensures minimal { IfOk result (λ g. IsMinimal shape.now ↔ IsMinimal g) }
     ensures extreme { IfOk result (λ g. IsExtreme shape.now ↔ IsExtreme g) }
 {

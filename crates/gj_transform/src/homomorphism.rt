@@ -1,8 +1,8 @@
 //! The function of n x.
-ghost use Rattle.std.specs.Prelude.{◌≡◌, ◌≢◌, ◌<◌, ◌≤◌, ◌*◌, ◌↔◌, IfOk};
+ghost use Rattle.std.specs.Prelude.{pos, ◌≡◌, ◌≢◌, ◌<◌, ◌≤◌, ◌*◌, ◌↔◌, IfOk};
 ghost use Rattle.gj_shape.specs.FunctionData.{IsWithinBounds};
 ghost use Rattle.gj_shape.specs.Table.{IsMinimal};
-ghost use Rattle.gj_transform.specs.Transforms.{IsTimesOf};
+ghost use Rattle.gj_transform.specs.Transforms.{IsTimesOf, HasValuesAtMultiples};
 
 use crate::entries::entries_at_multiples;
 use crate::faults::TransformFault;
@@ -19,6 +19,7 @@ pub fn times(alloc: Global, shape: &Shape, n: u32, j: u32) -> Result<Shape, Tran
     requires below { j < n }
     ensures times { IfOk result (IsTimesOf shape.now n j) }
     ensures within { IfOk result IsWithinBounds }
+    ensures values { IfOk result (HasValuesAtMultiples shape.now (pos n)) }
     ensures minimal { IfOk result (λ g. IsMinimal shape.now ↔ IsMinimal g) }
     ensures limit { (result ≡ Err TransformFault.OrderLimit) ↔ (1000 < shape.now.order * n) }
     ensures order { result ≢ Err TransformFault.BadOrder }

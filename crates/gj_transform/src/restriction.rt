@@ -2,7 +2,7 @@
 ghost use Rattle.std.specs.Prelude.{◌≡◌, ◌≢◌, ◌↔◌, IfOk, IfSome, IfNone};
 ghost use Rattle.gj_shape.specs.FunctionData.{IsWithinBounds, IsContinuous};
 ghost use Rattle.gj_shape.specs.Table.{IsMinimal};
-ghost use Rattle.gj_transform.specs.Transforms.{IsRestrictionOf, IsStep, HasNoRestriction};
+ghost use Rattle.gj_transform.specs.Transforms.{IsRestrictionOf, IsStep, HasNoRestriction, AgreeAtMultiples};
 
 use crate::entries::{entries_at_multiples, greatest_divisor, quotients};
 use crate::faults::TransformFault;
@@ -20,6 +20,7 @@ pub fn restrict(alloc: Global, shape: &Shape, order: u32) -> Result<Shape, Trans
     requires { IsContinuous shape.now }
     ensures restriction { IfOk result (IsRestrictionOf shape.now order) }
     ensures within { IfOk result IsWithinBounds }
+    ensures values { IfOk result (AgreeAtMultiples shape.now order) }
     ensures minimal { IfOk result (λ g. IsMinimal shape.now → IsMinimal g) }
     ensures order { (result ≡ Err TransformFault.BadOrder) ↔ HasNoRestriction shape.now order }
     ensures limit { result ≢ Err TransformFault.OrderLimit }
@@ -27,11 +28,11 @@ pub fn restrict(alloc: Global, shape: &Shape, order: u32) -> Result<Shape, Trans
     let Some(step) = step_of(shape, order) else {
         return Err(TransformFault::BadOrder);
     };
-    let restricted = restricted(alloc, shape, order, step)?;
-    Ok(restricted)
+    Ok(restricted(alloc, shape, order, step)?)
 }
 
-/// How many multiples of 1/q lead from one multiple of 1/`order` to the next, where q is the function's order.
+/// How many multiples of 1/q, q the order of the function, lead from one multiple of 1/`order` to the next; none if there is no
+/// restriction of this order.
 fn step_of(shape: &Shape, order: u32) -> Option<u32>
     ensures step { IfSome result (IsStep shape.now order) }
     ensures none { IfNone result (HasNoRestriction shape.now order) }
@@ -46,11 +47,12 @@ fn step_of(shape: &Shape, order: u32) -> Option<u32>
     Some(step)
 }
 
-/// The restriction to each `step`-th multiple of 1/q, where q is the function's order.
+/// The restriction to each `step`-th multiple of 1/q, q the order of the function.
 fn restricted(alloc: Global, shape: &Shape, order: u32, step: u32) -> Result<Shape, AllocError>
     requires { IsStep shape.now order step }
     ensures restriction { IfOk result (IsRestrictionOf shape.now order) }
     ensures within { IfOk result IsWithinBounds }
+    ensures values { IfOk result (AgreeAtMultiples shape.now order) }
     ensures minimal { IfOk result (λ g. IsMinimal shape.now → IsMinimal g) }
 {
     let place = shape.place() / step;

@@ -1,6 +1,6 @@
 use Rattle.std.proofs.Common.{length}
 use Rattle.std.specs.Prelude.{All}
-use Rattle.gj_shape.specs.Elimination.{inserted}
+use Rattle.gj_shape.specs.Elimination.{whole_numbers, inserted}
 use Rattle.gj_frac.specs.Fraction.{Fits}
 use Rattle.gj_elim.specs.KeptRows.{kept_rows}
 use Rattle.gj_elim.proofs.Progressing.{IsBehind, rest}
@@ -9,6 +9,6 @@ use Rattle.gj_elim.proofs.reduce.reduce_row.Given as goal
 abbrev pub invariant-loop-column : goal.invariant-loop-column
 invariant-loop-column l = record {
   behind : IsBehind (inserted (length l.initial.row) (kept_rows l.log l.rows) l.initial.row) l.reduce.items
-      (rest (kept_rows l.log l.rows) (length l.initial.row) l.column l.row);
+      (rest whole_numbers (kept_rows l.log l.rows) (length l.initial.row) l.column l.row);
   fits : All Fits l.row;
 }

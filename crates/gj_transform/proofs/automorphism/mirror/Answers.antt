@@ -1,7 +1,8 @@
-use Rattle.std.proofs.Common.{◌≡◌, ◌+◌, ◌-◌, ◌*◌, ◌<◌, ◌≤◌, unsigned_abs, to_z, of_z, refl, sym, ap, ap₂, subst, ◌∙◌, rules, arith}
+use Rattle.std.proofs.Common.{◌≡◌, ◌+◌, ◌-◌, unsigned_abs, to_z, of_z, refl, sym, ap, ap₂, subst, ◌∙◌, rules, arith}
 use Rattle.std.proofs.lemmas.Int.{to_z-of_z}
 use Rattle.gj_shape.specs.FunctionData.{IsWithinBounds}
 use Rattle.gj_transform.specs.Transforms.{IsMirrorOf}
+use Rattle.gj_transform.proofs.AtFractions.{mirror_values}
 use Rattle.gj_transform.proofs.MadeFunctions.{AreTaken, function_as, taken_as}
 use Rattle.gj_transform.proofs.MadeMirror.{exchanged, mirror_made, mirror_within}
 use Rattle.gj_transform.proofs.MirrorTables.{mirror_back, mirror_minimal, mirror_extreme}
@@ -43,6 +44,11 @@ returns-clause-mirror c =
       right_is = taken_as _ _ _ _ backwards _ c.left_numerators.ensures.value order c.in_ok-right.ensures;
     } in
     subst (IsMirrorOf f) (sym (c.from_numerators.ensures ∙ function_as order place scale refl refl refl)) (mirror_made f backwards _ _ _ limits one are)
+
+pub returns-clause-values : goal.returns-clause-values
+returns-clause-values c =
+    let within : IsWithinBounds c.from_numerators.result = search rules in
+    mirror_values c.args.shape.now c.from_numerators.result c.order-order.ensures.limits within (returns-clause-mirror c)
 
 pub returns-clause-minimal : goal.returns-clause-minimal
 returns-clause-minimal c =

@@ -1,4 +1,4 @@
-use Rattle.std.proofs.Common.{◌≡◌, ◌*◌, pos, get_or, w64, to_z, of_z, rules}
+use Rattle.std.proofs.Common.{◌*◌, rules}
 use Rattle.gj_shape.specs.FunctionData.{at}
 use Rattle.gj_shape.proofs.ListEntries.{entries_pushed}
 use Rattle.gj_shape.proofs.NumeratorReadings.{rest_read}

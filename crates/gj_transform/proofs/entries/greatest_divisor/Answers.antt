@@ -1,5 +1,5 @@
-use Rattle.std.proofs.Common.{◌≡◌, ◌*◌, ◌<◌, ◌≤◌, ◌+◌, inl, take, get_or, pos, unsigned_abs, to_z, of_z, All, sym, ap, subst, subst₂, ◌∙◌, rules, arith}
-use Rattle.std.specs.Int.{IsGcd, ◌∣◌}
+use Rattle.std.proofs.Common.{◌≡◌, ◌≤◌, inl, get_or, pos, unsigned_abs, to_z, of_z, ap, subst₂, ◌∙◌, rules, arith}
+use Rattle.std.specs.Int.{IsGcd}
 use Rattle.std.proofs.lemmas.Int.{to_z-of_z}
 use Rattle.std.proofs.lemmas.Nat.Gcd.{le_of_dvd}
 use Rattle.gj_tools.proofs.Divisors.{gcd_positive}

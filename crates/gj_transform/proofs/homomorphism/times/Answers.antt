@@ -1,8 +1,9 @@
-use Rattle.std.proofs.Common.{◌≡◌, ◌+◌, ◌*◌, ◌/◌, ◌<◌, ◌≤◌, unsigned_abs, to_z, of_z, refl, sym, ap, ap₂, subst, ◌∙◌, rules, arith}
+use Rattle.std.proofs.Common.{◌≡◌, ◌+◌, ◌*◌, ◌/◌, ◌≤◌, unsigned_abs, to_z, of_z, refl, sym, ap, ap₂, subst, ◌∙◌, rules}
 use Rattle.std.proofs.lemmas.Int.{to_z-of_z}
 use Rattle.gj_shape.specs.FunctionData.{IsWithinBounds}
 use Rattle.gj_shape.proofs.Refinements.{order_fits}
 use Rattle.gj_transform.specs.Transforms.{IsTimesOf}
+use Rattle.gj_transform.proofs.AtFractions.{times_values}
 use Rattle.gj_transform.proofs.MadeFunctions.{AreTaken, function_as, taken_as}
 use Rattle.gj_transform.proofs.MadeTimes.{times_made, times_within}
 use Rattle.gj_transform.proofs.TimesTables.{times_minimal, minimal_of_times}
@@ -43,6 +44,11 @@ returns-clause-times c =
     } in
     subst (IsTimesOf f n c.args.j) (sym (c.from_numerators.ensures ∙ function_as count place scale refl refl refl))
     (times_made f n c.args.j _ _ _ c.order.ensures.limits c.requires.some are)
+
+pub returns-clause-values : goal.returns-clause-values
+returns-clause-values c =
+    let within : IsWithinBounds c.from_numerators.result = search rules in
+    times_values c.args.shape.now c.from_numerators.result c.args.n c.args.j c.order.ensures.limits within c.requires.some (returns-clause-times c)
 
 pub returns-clause-minimal : goal.returns-clause-minimal
 returns-clause-minimal c =

@@ -2,6 +2,7 @@ use Rattle.std.proofs.Common.{◌≡◌, ◌/◌, unsigned_abs, to_z, of_z, refl
 use Rattle.std.proofs.lemmas.Int.{to_z-of_z}
 use Rattle.gj_shape.specs.FunctionData.{IsWithinBounds}
 use Rattle.gj_transform.specs.Transforms.{IsRestrictionOf}
+use Rattle.gj_transform.proofs.AtFractions.{restriction_values}
 use Rattle.gj_transform.proofs.MadeFunctions.{function_as}
 use Rattle.gj_transform.proofs.MadeRestriction.{AreReduced, reduced_as, restriction_made, restriction_within}
 use Rattle.gj_transform.proofs.RestrictionTables.{restriction_minimal}
@@ -37,6 +38,11 @@ returns-clause-restriction c =
     let right = c.in_ok-right.ensures.items ∙ c.as_slice-4.ensures.value in
     let is = function_as refl place (ap (λ s. s / c.greatest_divisor-divisor.result) scale) refl value right in
     subst (IsRestrictionOf f c.args.order) (sym (c.from_numerators.ensures ∙ is)) (restriction_made f _ _ _ _ _ limits reduced)
+
+pub returns-clause-values : goal.returns-clause-values
+returns-clause-values c =
+    let within : IsWithinBounds c.from_numerators.result = search rules in
+    restriction_values c.args.shape.now c.from_numerators.result c.args.order c.place.ensures.limits within (returns-clause-restriction c)
 
 pub returns-clause-minimal : goal.returns-clause-minimal
 returns-clause-minimal c =

@@ -1,9 +1,9 @@
-use Rattle.std.proofs.Common.{refl, ap, ap₂, sym, subst, length, ◌∙◌}
+use Rattle.std.proofs.Common.{Some, refl, ap, ap₂, sym, subst, length, ◌∙◌}
 use Rattle.std.proofs.lemmas.List.{with_items_is}
-use Rattle.gj_shape.specs.Elimination.{Insertion, Passes, kept_entries}
+use Rattle.gj_shape.specs.Elimination.{Insertion, Passes, whole_numbers, kept_entries}
 use Rattle.gj_elim.specs.Basis.{data_of}
 use Rattle.gj_elim.specs.KeptRows.{kept_rows}
-use Rattle.gj_elim.specs.Progress.{IsLeft}
+use Rattle.gj_elim.specs.Progress.{IsLeft, kept_at}
 use Rattle.gj_elim.proofs.Keeping.{insertion_read, nothing_kept, row_kept, behind_from, triangular_from, solutions_from, same_length, all_small, same_error}
 use Rattle.gj_elim.proofs.basis.Basis.insert.Goals as goal
 
@@ -20,10 +20,10 @@ returns-in-None-clause-kept c =
     let whole = insertion_read (data_of c.self.inside) (data_of c.self.inside) c.as_slice.result.now c.as_slice-2.result.now c.as_mut_slice.result.now
     c.args.row.now refl (ap₂ kept_rows c.as_slice.ensures.value c.as_slice-2.ensures.value)
     (c.as_mut_slice.ensures.value ∙ c.copy_from_slice.ensures.items) (c.requires.columns ∙ sym (ap (λ d. d.columns) c.self.view_is)) in
-    behind_from (data_of c.self.inside) c.args.self.now c.args.row.now _ c.self.view_is
-    (nothing_kept (data_of c.self.inside) c.args.row.now c.reduce_row.new.row c.reduce_row.new.reduce.items c.in_ok-left.left
-    (subst (λ (i : Insertion). IsLeft i c.in_ok-left.left c.reduce_row.new.row c.reduce_row.new.reduce.items) whole c.in_ok-left.ensures.left)
-    c.in-None.is)
+    behind_from whole_numbers (data_of c.self.inside) c.args.self.now c.args.row.now _ c.self.view_is
+    (nothing_kept whole_numbers (data_of c.self.inside) c.args.row.now c.reduce_row.new.row c.reduce_row.new.reduce.items c.in_ok-left.left
+    (subst (λ (i : Insertion). IsLeft whole_numbers i c.in_ok-left.left c.reduce_row.new.row c.reduce_row.new.reduce.items) whole c.in_ok-left.ensures.left)
+    (ap (λ o. kept_at whole_numbers o c.reduce_row.new.row) c.in-None.is))
 
 pub returns-in-None-clause-solutions : goal.returns-in-None-clause-solutions
 returns-in-None-clause-solutions c w =
@@ -31,9 +31,9 @@ returns-in-None-clause-solutions c w =
     c.args.row.now refl (ap₂ kept_rows c.as_slice.ensures.value c.as_slice-2.ensures.value)
     (c.as_mut_slice.ensures.value ∙ c.copy_from_slice.ensures.items) (c.requires.columns ∙ sym (ap (λ d. d.columns) c.self.view_is)) in
     solutions_from (data_of c.self.inside) c.args.self.now c.args.row.now w _ c.self.view_is c.self.invariant.triangular c.requires.columns
-    (nothing_kept (data_of c.self.inside) c.args.row.now c.reduce_row.new.row c.reduce_row.new.reduce.items c.in_ok-left.left
-    (subst (λ (i : Insertion). IsLeft i c.in_ok-left.left c.reduce_row.new.row c.reduce_row.new.reduce.items) whole c.in_ok-left.ensures.left)
-    c.in-None.is)
+    (nothing_kept whole_numbers (data_of c.self.inside) c.args.row.now c.reduce_row.new.row c.reduce_row.new.reduce.items c.in_ok-left.left
+    (subst (λ (i : Insertion). IsLeft whole_numbers i c.in_ok-left.left c.reduce_row.new.row c.reduce_row.new.reduce.items) whole c.in_ok-left.ensures.left)
+    (ap (λ o. kept_at whole_numbers o c.reduce_row.new.row) c.in-None.is))
 
 pub invariant_of-self-in-Some : goal.invariant_of-self-in-Some
 invariant_of-self-in-Some c =
@@ -42,13 +42,13 @@ invariant_of-self-in-Some c =
     (c.as_mut_slice.ensures.value ∙ c.copy_from_slice.ensures.items) (c.requires.columns ∙ sym (ap (λ d. d.columns) c.self.view_is)) in
     let held = with_items_is c.copy_from_slice.new.self c.reduce_row.new.row
     (c.reduce_row.auto.row ∙ ap length c.as_mut_slice.ensures.value ∙ sym c.copy_from_slice.new.self.ok.0) in
-    let are = row_kept (data_of c.self.inside) c.args.row.now c.reduce_row.new.row c.reduce_row.new.reduce.items c.in_ok-left.left
+    let are = row_kept whole_numbers (data_of c.self.inside) c.args.row.now c.reduce_row.new.row c.reduce_row.new.reduce.items c.in_ok-left.left
     c.self.inside.log.items c.keep.new.log.items c.self.inside.rows.items c.keep.new.rows.items
     record { number = c.self.inside.inserted; reduce = c.as_slice-in-Some.result.now; pivot = c.in-Some.column }
     (kept_entries c.as_slice-in-Some-2.result.now c.in-Some.column)
-    (subst (λ (i : Insertion). IsLeft i c.in_ok-left.left c.reduce_row.new.row c.reduce_row.new.reduce.items) whole c.in_ok-left.ensures.left)
+    (subst (λ (i : Insertion). IsLeft whole_numbers i c.in_ok-left.left c.reduce_row.new.row c.reduce_row.new.reduce.items) whole c.in_ok-left.ensures.left)
     c.in-Some.is refl c.self.invariant.lines c.in_ok-keep-in-Some.ensures.line c.in_ok-keep-in-Some.ensures.entries refl
-    c.as_slice-in-Some.ensures.value (ap (λ xs. kept_entries xs c.in-Some.column) (c.as_slice-in-Some-2.ensures.value ∙ held)) in
+    c.as_slice-in-Some.ensures.value (ap (λ xs. Some (kept_entries xs c.in-Some.column)) (sym (c.as_slice-in-Some-2.ensures.value ∙ held))) in
     record {
       lines = same_length c.self.inside.log.items c.keep.new.log.items c.self.inside.rows.items c.keep.new.rows.items _ _ c.self.invariant.lines
           c.in_ok-keep-in-Some.ensures.line c.in_ok-keep-in-Some.ensures.entries;
@@ -68,14 +68,14 @@ returns-in_ok-keep-in-Some-clause-kept c =
     (c.as_mut_slice.ensures.value ∙ c.copy_from_slice.ensures.items) (c.requires.columns ∙ sym (ap (λ d. d.columns) c.self.view_is)) in
     let held = with_items_is c.copy_from_slice.new.self c.reduce_row.new.row
     (c.reduce_row.auto.row ∙ ap length c.as_mut_slice.ensures.value ∙ sym c.copy_from_slice.new.self.ok.0) in
-    let are = row_kept (data_of c.self.inside) c.args.row.now c.reduce_row.new.row c.reduce_row.new.reduce.items c.in_ok-left.left
+    let are = row_kept whole_numbers (data_of c.self.inside) c.args.row.now c.reduce_row.new.row c.reduce_row.new.reduce.items c.in_ok-left.left
     c.self.inside.log.items c.keep.new.log.items c.self.inside.rows.items c.keep.new.rows.items
     record { number = c.self.inside.inserted; reduce = c.as_slice-in-Some.result.now; pivot = c.in-Some.column }
     (kept_entries c.as_slice-in-Some-2.result.now c.in-Some.column)
-    (subst (λ (i : Insertion). IsLeft i c.in_ok-left.left c.reduce_row.new.row c.reduce_row.new.reduce.items) whole c.in_ok-left.ensures.left)
+    (subst (λ (i : Insertion). IsLeft whole_numbers i c.in_ok-left.left c.reduce_row.new.row c.reduce_row.new.reduce.items) whole c.in_ok-left.ensures.left)
     c.in-Some.is refl c.self.invariant.lines c.in_ok-keep-in-Some.ensures.line c.in_ok-keep-in-Some.ensures.entries refl
-    c.as_slice-in-Some.ensures.value (ap (λ xs. kept_entries xs c.in-Some.column) (c.as_slice-in-Some-2.ensures.value ∙ held)) in
-    behind_from (data_of c.self.inside) c.args.self.now c.args.row.now _ c.self.view_is are
+    c.as_slice-in-Some.ensures.value (ap (λ xs. Some (kept_entries xs c.in-Some.column)) (sym (c.as_slice-in-Some-2.ensures.value ∙ held))) in
+    behind_from whole_numbers (data_of c.self.inside) c.args.self.now c.args.row.now _ c.self.view_is are
 
 pub returns-in_ok-keep-in-Some-clause-solutions : goal.returns-in_ok-keep-in-Some-clause-solutions
 returns-in_ok-keep-in-Some-clause-solutions c w =
@@ -84,13 +84,13 @@ returns-in_ok-keep-in-Some-clause-solutions c w =
     (c.as_mut_slice.ensures.value ∙ c.copy_from_slice.ensures.items) (c.requires.columns ∙ sym (ap (λ d. d.columns) c.self.view_is)) in
     let held = with_items_is c.copy_from_slice.new.self c.reduce_row.new.row
     (c.reduce_row.auto.row ∙ ap length c.as_mut_slice.ensures.value ∙ sym c.copy_from_slice.new.self.ok.0) in
-    let are = row_kept (data_of c.self.inside) c.args.row.now c.reduce_row.new.row c.reduce_row.new.reduce.items c.in_ok-left.left
+    let are = row_kept whole_numbers (data_of c.self.inside) c.args.row.now c.reduce_row.new.row c.reduce_row.new.reduce.items c.in_ok-left.left
     c.self.inside.log.items c.keep.new.log.items c.self.inside.rows.items c.keep.new.rows.items
     record { number = c.self.inside.inserted; reduce = c.as_slice-in-Some.result.now; pivot = c.in-Some.column }
     (kept_entries c.as_slice-in-Some-2.result.now c.in-Some.column)
-    (subst (λ (i : Insertion). IsLeft i c.in_ok-left.left c.reduce_row.new.row c.reduce_row.new.reduce.items) whole c.in_ok-left.ensures.left)
+    (subst (λ (i : Insertion). IsLeft whole_numbers i c.in_ok-left.left c.reduce_row.new.row c.reduce_row.new.reduce.items) whole c.in_ok-left.ensures.left)
     c.in-Some.is refl c.self.invariant.lines c.in_ok-keep-in-Some.ensures.line c.in_ok-keep-in-Some.ensures.entries refl
-    c.as_slice-in-Some.ensures.value (ap (λ xs. kept_entries xs c.in-Some.column) (c.as_slice-in-Some-2.ensures.value ∙ held)) in
+    c.as_slice-in-Some.ensures.value (ap (λ xs. Some (kept_entries xs c.in-Some.column)) (sym (c.as_slice-in-Some-2.ensures.value ∙ held))) in
     solutions_from (data_of c.self.inside) c.args.self.now c.args.row.now w _ c.self.view_is c.self.invariant.triangular c.requires.columns are
 
 pub returns-in_ok-keep-in-Some-clause-triangular : goal.returns-in_ok-keep-in-Some-clause-triangular
@@ -100,12 +100,12 @@ returns-in_ok-keep-in-Some-clause-triangular c =
     (c.as_mut_slice.ensures.value ∙ c.copy_from_slice.ensures.items) (c.requires.columns ∙ sym (ap (λ d. d.columns) c.self.view_is)) in
     let held = with_items_is c.copy_from_slice.new.self c.reduce_row.new.row
     (c.reduce_row.auto.row ∙ ap length c.as_mut_slice.ensures.value ∙ sym c.copy_from_slice.new.self.ok.0) in
-    let are = row_kept (data_of c.self.inside) c.args.row.now c.reduce_row.new.row c.reduce_row.new.reduce.items c.in_ok-left.left
+    let are = row_kept whole_numbers (data_of c.self.inside) c.args.row.now c.reduce_row.new.row c.reduce_row.new.reduce.items c.in_ok-left.left
     c.self.inside.log.items c.keep.new.log.items c.self.inside.rows.items c.keep.new.rows.items
     record { number = c.self.inside.inserted; reduce = c.as_slice-in-Some.result.now; pivot = c.in-Some.column }
     (kept_entries c.as_slice-in-Some-2.result.now c.in-Some.column)
-    (subst (λ (i : Insertion). IsLeft i c.in_ok-left.left c.reduce_row.new.row c.reduce_row.new.reduce.items) whole c.in_ok-left.ensures.left)
+    (subst (λ (i : Insertion). IsLeft whole_numbers i c.in_ok-left.left c.reduce_row.new.row c.reduce_row.new.reduce.items) whole c.in_ok-left.ensures.left)
     c.in-Some.is refl c.self.invariant.lines c.in_ok-keep-in-Some.ensures.line c.in_ok-keep-in-Some.ensures.entries refl
-    c.as_slice-in-Some.ensures.value (ap (λ xs. kept_entries xs c.in-Some.column) (c.as_slice-in-Some-2.ensures.value ∙ held)) in
+    c.as_slice-in-Some.ensures.value (ap (λ xs. Some (kept_entries xs c.in-Some.column)) (sym (c.as_slice-in-Some-2.ensures.value ∙ held))) in
     triangular_from (data_of c.self.inside) c.args.row.now _ c.self.invariant.triangular
     (c.requires.columns ∙ sym (ap (λ d. d.columns) c.self.view_is)) are

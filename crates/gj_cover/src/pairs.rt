@@ -1,0 +1,115 @@
+//! The table of the tight pairs of a function.
+ghost use Rattle.std.specs.Prelude.{ℕ, ℤ, pos, ◌≡◌, ◌↔◌, ◌+◌, ◌-◌, ◌<◌, ◌^◌, ◌+ℤ◌, length, IfOk, IsTrue, unsigned_abs};
+ghost use Rattle.gj_shape.specs.Additive.{IsTight};
+ghost use Rattle.gj_shape.specs.FunctionData.{at, IsWithinBounds};
+ghost use Rattle.gj_faces.specs.TightPairs.{AreTightPairsOf};
+ghost use Rattle.gj_cover.specs.Mirrored.{AreMirrored};
+ghost use Rattle.gj_cover.specs.SetRows.{in_row};
+ghost use Rattle.gj_cover.specs.Table.{TellsTight};
+
+use crate::table::Table;
+use gj_faces::TightPairs;
+use gj_sets::IndexSet;
+use gj_shape::{Shape, wrapped};
+use std::alloc::{AllocError, Global};
+
+/// The table of the tight pairs of a function.
+///
+/// If the values at each two points with the sum f add up to 1, the pairs with a sum are those of one row, so that no set is
+/// made but by a copy.
+pub(crate) fn table_of_pairs(
+    alloc: Global,
+    shape: &Shape,
+    pairs: &TightPairs,
+) -> Result<Table, AllocError>
+    requires { AreTightPairsOf shape.now pairs.now }
+    ensures order { IfOk result (λ t. t.order ≡ shape.now.order) }
+    ensures tells { IfOk result (λ t. TellsTight t (IsTight shape.now)) }
+{
+    let rows = copied_rows(alloc, shape, pairs)?;
+    if !is_mirrored(shape) {
+        let table = Table::of(alloc, rows, shape.order())?;
+        return Ok(table);
+    }
+    let columns = copied_rows(alloc, shape, pairs)?;
+    let firsts = rows_of_sums(alloc, shape, pairs)?;
+    let seconds = rows_of_sums(alloc, shape, pairs)?;
+    Ok(Table::with(shape.order(), rows, columns, firsts, seconds))
+}
+
+/// The rows of the pairs.
+fn copied_rows(
+    alloc: Global,
+    shape: &Shape,
+    pairs: &TightPairs,
+) -> Result<Vec<IndexSet>, AllocError>
+    requires { AreTightPairsOf shape.now pairs.now }
+    ensures length { IfOk result (λ v. length v.items ≡ shape.now.order) }
+    ensures rows { IfOk result (λ v. (a b : ℕ) → a < shape.now.order → b < shape.now.order →
+        IsTrue (in_row v.items a b) ↔ IsTight shape.now a b) }
+{
+    let order = shape.order();
+    let mut rows = Vec::with_capacity(alloc, order as usize)?;
+    for a in 0..order {
+        rows.push(*pairs.row(a))?;
+    }
+    Ok(rows)
+}
+
+/// For each index s the row of f less s/q.
+fn rows_of_sums(
+    alloc: Global,
+    shape: &Shape,
+    pairs: &TightPairs,
+) -> Result<Vec<IndexSet>, AllocError>
+    requires { AreTightPairsOf shape.now pairs.now }
+    ensures length { IfOk result (λ v. length v.items ≡ shape.now.order) }
+    ensures rows { IfOk result (λ v. (s b : ℕ) → s < shape.now.order → b < shape.now.order →
+        IsTrue (in_row v.items s b) ↔ IsTight shape.now (shape.now.place + (shape.now.order - s)) b) }
+{
+    let order = shape.order();
+    let place = shape.place();
+    let mut rows = Vec::with_capacity(alloc, order as usize)?;
+    for s in 0..order {
+        rows.push(*pairs.row(wrapped(place + (order - s), order)))?;
+    }
+    Ok(rows)
+}
+
+/// Whether the values at each i/q and at f less i/q add up to 1.
+fn is_mirrored(shape: &Shape) -> bool
+    ensures { IsTrue result → AreMirrored shape.now }
+{
+    let order = shape.order();
+    let place = shape.place();
+    for i in 0..order {
+        let opposite = wrapped(place + (order - i), order);
+        let (value, other) = (value_at(shape, i), value_at(shape, opposite));
+        if !add_up(value, other, shape.common_denominator()) {
+            return false;
+        }
+    }
+    true
+}
+
+/// The value at i/q, times the common denominator.
+fn value_at(shape: &Shape, i: u32) -> i128
+    requires { i < shape.now.order }
+    ensures value { result ≡ at shape.now.value i }
+    ensures small { unsigned_abs result < 2 ^ 51 }
+    ensures limits { IsWithinBounds shape.now }
+{
+    // the call tells the proofs the bounds of the function
+    let order = shape.order();
+    prove!(i < order);
+    shape.value_num(i)
+}
+
+/// Whether two numerators add up to a third.
+fn add_up(first: i128, second: i128, sum: i128) -> bool
+    requires first { unsigned_abs first < 2 ^ 51 }
+    requires second { unsigned_abs second < 2 ^ 51 }
+    ensures { IsTrue result ↔ (first +ℤ second ≡ sum) }
+{
+    first + second == sum
+}

@@ -1,0 +1,203 @@
+//! The points of the fill-in.
+ghost use Rattle.std.specs.Prelude.{◌≡◌, ◌<◌, ◌≤◌, ◌^◌, ◌++◌, ◌<ℤ◌, ◌+ℤ◌, ◌*ℤ◌, ◌↔◌, neg_ℤ, pos, List, IfOk, IfErr, OnOk, IsTrue, unsigned_abs};
+ghost use Rattle.std.specs.List.{AllZip};
+ghost use Rattle.gj_frac.specs.Fraction.{IsRatio};
+ghost use Rattle.gj_shape.specs.FunctionData.{IsWithinBounds, IsContinuous, at};
+ghost use Rattle.gj_shape.specs.TwoSlopes.{rise};
+ghost use Rattle.gj_shape.specs.declared.breaks.Break.{Break};
+ghost use Rattle.gj_fill.specs.Faults.{IsFillFault};
+ghost use Rattle.gj_fill.specs.FillIn.{IsSubadditiveTable};
+ghost use Rattle.gj_fill.specs.FillPoints.{IsBreakAt, AreFillBreaks, value_point, crossing_point, points_from};
+
+use crate::faults::FillFault;
+use crate::pairs::first_pair;
+use crate::steps::{Steps, greatest_steps};
+use crate::values::{rise_at, value_at};
+use gj_frac::Frac;
+use gj_shape::{Break, Shape};
+use std::alloc::{AllocError, Global};
+
+/// A continuous function that is affine between neighbouring points, and behind the last one goes back to the first, at 1.
+#[derive(Debug, Drop)]
+pub struct Filled {
+    /// f, between 0 and 1.
+    pub f: Frac,
+    /// The points, from 0 up to, not including, 1; at each the limits are the value.
+    pub points: Vec<Break>,
+}
+
+/// The two-slope fill-in of a continuous function of order q: with s the greatest rise from one multiple of 1/q to the next and t the
+/// greatest fall, between two neighbours the lesser of the line that rises by s from the left one and the line that falls by t to the
+/// right one. Its points are those of the function at the multiples of 1/q and, if the function goes by neither slope from one to
+/// the next, the crossing of the two lines.
+///
+/// `NotSubadditive` comes exactly if the function is not subadditive at its multiples of 1/q, with the first two, a ascending,
+/// inside it b. The only other error is want of memory.
+/// Source: Gomory and Johnson, "Some continuous functions related to corner polyhedra" (1972).
+pub fn fill(alloc: Global, shape: &Shape) -> Result<Filled, FillFault>
+    requires { IsContinuous shape.now }
+    ensures f { IfOk result (λ g. IsRatio g.f (pos shape.now.place) (pos shape.now.order)) }
+    ensures points { IfOk result (λ g. AreFillBreaks shape.now g.points.items) }
+    ensures subadditive { IfOk result (λ g. IsSubadditiveTable (at shape.now.value)) }
+    ensures fault { IfErr result (IsFillFault shape.now) }
+{
+    if let Some((a, b)) = first_pair(shape) {
+        return Err(FillFault::NotSubadditive(a, b));
+    }
+    let points = points_of(alloc, shape)?;
+    Ok(Filled {
+        f: Frac::ratio(i64::from(shape.place()), shape.order()),
+        points,
+    })
+}
+
+/// All points of the fill-in, from 0 on.
+fn points_of(alloc: Global, shape: &Shape) -> Result<Vec<Break>, AllocError>
+    ensures { IfOk result (λ points. AreFillBreaks shape.now points.items) }
+{
+    let steps = greatest_steps(shape.value_numerators());
+    let mut points = Vec::with_capacity(alloc, 2 * shape.order() as usize)?;
+    for a in 0..shape.order() {
+        push_points(&mut points, shape, steps, a)?;
+    }
+    Ok(points)
+}
+
+/// Adds the points from a/q up to the next multiple of 1/q.
+fn push_points(
+    points: &mut Vec<Break>,
+    shape: &Shape,
+    steps: Steps,
+    a: u32,
+) -> Result<(), AllocError>
+    requires within { a < shape.now.order }
+    requires rise_small { unsigned_abs steps.rise < 2 ^ 52 }
+    requires fall_small { unsigned_abs steps.fall < 2 ^ 52 }
+    ensures { OnOk result ((more : List Break) × AllZip IsBreakAt (points_from shape.now steps.rise steps.fall a) more
+        × (points.new.items ≡ points.old.items ++ more)) }
+{
+    points.push(value_break(shape, a))?;
+    if crosses(shape, steps, a) {
+        points.push(crossing_break(shape, steps, a))?;
+    }
+    Ok(())
+}
+
+/// Whether the function goes by neither slope from a/q to the next multiple of 1/q.
+fn crosses(shape: &Shape, steps: Steps, a: u32) -> bool
+    requires within { a < shape.now.order }
+    requires fall_small { unsigned_abs steps.fall < 2 ^ 52 }
+    ensures { IsTrue result ↔ ((neg_ℤ steps.fall <ℤ rise shape.now a) × (rise shape.now a <ℤ steps.rise)) }
+{
+    let rise = rise_of(shape, a);
+    -steps.fall < rise && rise < steps.rise
+}
+
+/// What the function rises by from a/q to the next multiple of 1/q, times the common denominator.
+fn rise_of(shape: &Shape, a: u32) -> i64
+    requires { a < shape.now.order }
+    ensures value { result ≡ rise shape.now a }
+    ensures small { unsigned_abs result < 2 ^ 52 }
+{
+    rise_at(shape.value_numerators(), a)
+}
+
+/// The breakpoint at a/q.
+fn value_break(shape: &Shape, a: u32) -> Break
+    requires { a < shape.now.order }
+    ensures { IsBreakAt (value_point shape.now a) result }
+{
+    let x = Frac::ratio(i64::from(a), shape.order());
+    even_break(x, shape.value(a))
+}
+
+/// The breakpoint behind a/q at which the two lines cross.
+fn crossing_break(shape: &Shape, steps: Steps, a: u32) -> Break
+    requires within { a < shape.now.order }
+    requires rise_small { unsigned_abs steps.rise < 2 ^ 52 }
+    requires fall_small { unsigned_abs steps.fall < 2 ^ 52 }
+    requires above { neg_ℤ steps.fall <ℤ rise shape.now a }
+    requires below { rise shape.now a <ℤ steps.rise }
+    ensures { IsBreakAt (crossing_point shape.now steps.rise steps.fall a) result }
+{
+    let width = steps.rise + steps.fall;
+    let part = rise_of(shape, a) + steps.fall;
+    let x = place_over(shape.order(), a, part, width);
+    let value = value_at(shape.value_numerators(), a);
+    let scale = shape.common_denominator() as u32;
+    even_break(x, height_over(scale, value, steps.rise, part, width))
+}
+
+/// Where the lines cross: behind a/q by part/width of the way to the next multiple of 1/q.
+fn place_over(order: u32, a: u32, part: i64, width: i64) -> Frac
+    requires order { 0 < order }
+    requires part { unsigned_abs part ≤ 2 ^ 53 }
+    requires wide { pos 0 <ℤ width }
+    requires narrow { unsigned_abs width ≤ 2 ^ 53 }
+    ensures { IsRatio result (pos a *ℤ width +ℤ part) (pos order *ℤ width) }
+{
+    over_width(
+        product(i64::from(a), width) + i128::from(part),
+        order,
+        width,
+    )
+}
+
+/// What a line that begins at this value and rises by so much to the next place has after part/width of the way.
+fn height_over(scale: u32, value: i64, rise: i64, part: i64, width: i64) -> Frac
+    requires scale { 0 < scale }
+    requires value { unsigned_abs value ≤ 2 ^ 53 }
+    requires rise { unsigned_abs rise ≤ 2 ^ 53 }
+    requires part { unsigned_abs part ≤ 2 ^ 53 }
+    requires wide { pos 0 <ℤ width }
+    requires narrow { unsigned_abs width ≤ 2 ^ 53 }
+    ensures { IsRatio result (value *ℤ width +ℤ rise *ℤ part) (pos scale *ℤ width) }
+{
+    let height = sum_of_products(value, width, rise, part);
+    over_width(height, scale, width)
+}
+
+/// The breakpoint at x where the limits are the value.
+fn even_break(x: Frac, value: Frac) -> Break
+    ensures { result ≡ record { x = x; left = value; value = value; right = value } }
+{
+    Break {
+        x,
+        left: value,
+        value,
+        right: value,
+    }
+}
+
+/// The product of two numbers.
+fn product(x: i64, y: i64) -> i128
+    requires first { unsigned_abs x ≤ 2 ^ 53 }
+    requires second { unsigned_abs y ≤ 2 ^ 53 }
+    ensures value { result ≡ x *ℤ y }
+    ensures small { unsigned_abs result ≤ 2 ^ 106 }
+{
+    i128::from(x) * i128::from(y)
+}
+
+/// x y + u w.
+fn sum_of_products(x: i64, y: i64, u: i64, w: i64) -> i128
+    requires x { unsigned_abs x ≤ 2 ^ 53 }
+    requires y { unsigned_abs y ≤ 2 ^ 53 }
+    requires u { unsigned_abs u ≤ 2 ^ 53 }
+    requires w { unsigned_abs w ≤ 2 ^ 53 }
+    ensures value { result ≡ x *ℤ y +ℤ u *ℤ w }
+    ensures small { unsigned_abs result ≤ 2 ^ 107 }
+{
+    product(x, y) + product(u, w)
+}
+
+/// The fraction with this numerator over n times the width.
+fn over_width(numerator: i128, n: u32, width: i64) -> Frac
+    requires fits { unsigned_abs numerator < 2 ^ 127 }
+    requires some { 0 < n }
+    requires wide { pos 0 <ℤ width }
+    requires narrow { unsigned_abs width ≤ 2 ^ 53 }
+    ensures { IsRatio result numerator (pos n *ℤ width) }
+{
+    Frac::new(numerator, product(i64::from(n), width)).unwrap()
+}

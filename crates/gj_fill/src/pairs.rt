@@ -1,0 +1,44 @@
+//! The first two places at which a function is not subadditive.
+ghost use Rattle.std.specs.Prelude.{ℕ, ◌<◌, ◌≤◌, ◌+◌, ◌+ℤ◌, ◌<ℤ◌, length, IfSome, IfNone};
+ghost use Rattle.gj_shape.specs.FirstViolation.{IsLeastFrom};
+ghost use Rattle.gj_shape.specs.FunctionData.{at};
+ghost use Rattle.gj_fill.specs.FillIn.{IsSubadditiveTable};
+ghost use Rattle.gj_fill.specs.FirstPair.{IsFirstPair};
+ghost use Rattle.gj_fill.specs.Numerators.{AreNumerators};
+
+use crate::values::value_at;
+use gj_shape::Shape;
+
+/// The first a and b, a ascending, inside it b, for which the values at a/q and b/q add up to less than that at (a + b)/q.
+pub(crate) fn first_pair(shape: &Shape) -> Option<(u32, u32)>
+    ensures found { IfSome result (λ p. IsFirstPair shape.now p.0 p.1) }
+    ensures none { IfNone result (IsSubadditiveTable (at shape.now.value)) }
+{
+    let values = shape.value_numerators();
+    for a in 0..shape.order() {
+        if let Some(b) = first_behind(values, a) {
+            return Some((a, b));
+        }
+    }
+    None
+}
+
+/// The least b from a on for which the values at a/q and b/q add up to less than that at (a + b)/q. Pairs with a lesser b are
+/// those of an earlier row.
+fn first_behind(values: &[i64], a: u32) -> Option<u32>
+    requires numerators { AreNumerators values.now }
+    requires within { a < length values.now }
+    ensures found { IfSome result (IsLeastFrom a (λ b. (at values.now a +ℤ at values.now b) <ℤ at values.now (a + b))) }
+    ensures below { IfSome result (λ b. b < length values.now) }
+    ensures none { IfNone result ((b : ℕ) → a ≤ b → b < length values.now →
+        (at values.now a +ℤ at values.now b) <ℤ at values.now (a + b) → ⊥) }
+{
+    let order = values.len() as u32;
+    let first = value_at(values, a);
+    for b in a..order {
+        if first + value_at(values, b) < value_at(values, a + b) {
+            return Some(b);
+        }
+    }
+    None
+}

@@ -1,0 +1,26 @@
+//! Values at indices that are read modulo the order, times the common denominator.
+ghost use Rattle.std.specs.Prelude.{◌≡◌, ◌<◌, ◌+◌, ◌*◌, ◌^◌, ◌-ℤ◌, length, unsigned_abs};
+ghost use Rattle.gj_shape.specs.FunctionData.{at};
+ghost use Rattle.gj_fill.specs.Numerators.{AreNumerators};
+
+use gj_shape::wrapped;
+
+/// The value at i/q, where q is the number of values.
+pub(crate) fn value_at(values: &[i64], i: u32) -> i64
+    requires numerators { AreNumerators values.now }
+    requires within { i < 2 * length values.now }
+    ensures value { result ≡ at values.now i }
+    ensures small { unsigned_abs result < 2 ^ 51 }
+{
+    values[wrapped(i, values.len() as u32) as usize]
+}
+
+/// What the function rises by from a/q to the next place.
+pub(crate) fn rise_at(values: &[i64], a: u32) -> i64
+    requires numerators { AreNumerators values.now }
+    requires within { a < length values.now }
+    ensures value { result ≡ at values.now (a + 1) -ℤ at values.now a }
+    ensures small { unsigned_abs result < 2 ^ 52 }
+{
+    value_at(values, a + 1) - value_at(values, a)
+}

@@ -1,0 +1,3 @@
+pub mod RowSums
+pub mod GroupSolutions
+pub mod Worked

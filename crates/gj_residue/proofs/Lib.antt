@@ -1,0 +1,5 @@
+pub mod EachEntry
+pub mod Euclid
+pub mod Inserting
+pub mod Coming
+pub mod SettledRows

@@ -1,0 +1,9 @@
+use Rattle.std.proofs.Common.{ap, ◌∙◌, map}
+use Rattle.gj_elim.specs.KeptRows.{log_row}
+use Rattle.gj_residue.proofs.Inserting.{log_of_residues}
+use Rattle.gj_residue.proofs.basis.ResidueBasis.log.Goals as goal
+
+pub returns : goal.returns
+returns c =
+    c.as_slice.ensures.value ∙ log_of_residues c.self.inside.log.items c.self.inside.rows.items c.self.invariant.lines
+    ∙ ap (λ b. map log_row b.kept) c.self.view_is

@@ -1,0 +1,54 @@
+use Rattle.std.proofs.Common.{ℤ, List, subst, ◌∙◌}
+use Rattle.gj_frac.proofs.Refusals.{on_ok_along}
+use Rattle.gj_shape.specs.Elimination.{elimination, elimination_by, Passes}
+use Rattle.gj_shape.specs.Residues.{modulo}
+use Rattle.gj_theory.specs.Modulus.{modulus}
+use Rattle.gj_residue.specs.Settled.{IsSettled, IsSettledByResidues, AnswersRows}
+use Rattle.gj_residue.proofs.SettledRows.{settled_answers, settled_plain, settled_by_residues_of_all, wide_plain, wide_residues, wide_fault, wide_here}
+use Rattle.gj_residue.proofs.settling.settle.Goals as goal
+
+pub returns-in_err-settled_by-in-Ok-clause-wide : goal.returns-in_err-settled_by-in-Ok-clause-wide
+returns-in_err-settled_by-in-Ok-clause-wide g c = λ e.
+    wide_plain c.args.columns c.in-Ok.basis.columns (g.R.RowSource.all c.args.rows.now) (g.R.RowSource.left c.restart.new.self) c.in-Ok.basis.kept
+    c.in-Ok.ensures.columns c.restart.ensures.left c.in-Ok.ensures.kept c.in-Ok.ensures.narrow
+    (c.in_err-settled_by-in-Ok.ensures.wide
+    (wide_fault c.from_residual.result c.in_err-settled_by-in-Ok.field-0.0 c.from_residual.ensures.0 c.from_residual.ensures.1 e))
+
+pub returns-in_ok-settled_by-in-Ok-clause-settled : goal.returns-in_ok-settled_by-in-Ok-clause-settled
+returns-in_ok-settled_by-in-Ok-clause-settled g c =
+    settled_plain c.args.columns c.in-Ok.basis.columns (g.R.RowSource.all c.args.rows.now) (g.R.RowSource.left c.restart.new.self) c.in-Ok.basis.kept
+    c.in_ok-settled_by-in-Ok.field-0 c.in-Ok.ensures.columns c.restart.ensures.left c.requires.lengths c.in-Ok.ensures.kept c.in-Ok.ensures.narrow
+    c.in_ok-settled_by-in-Ok.ensures.settled
+
+pub returns-in_ok-settled_by-in-Ok-clause-answers : goal.returns-in_ok-settled_by-in-Ok-clause-answers
+returns-in_ok-settled_by-in-Ok-clause-answers g c =
+    settled_answers c.args.columns (g.R.RowSource.all c.args.rows.now) c.in_ok-settled_by-in-Ok.field-0 c.requires.lengths
+    (settled_plain c.args.columns c.in-Ok.basis.columns (g.R.RowSource.all c.args.rows.now) (g.R.RowSource.left c.restart.new.self) c.in-Ok.basis.kept
+    c.in_ok-settled_by-in-Ok.field-0 c.in-Ok.ensures.columns c.restart.ensures.left c.requires.lengths c.in-Ok.ensures.kept c.in-Ok.ensures.narrow
+    c.in_ok-settled_by-in-Ok.ensures.settled)
+
+pub returns-in-Err-Wide-clause-settled : goal.returns-in-Err-Wide-clause-settled
+returns-in-Err-Wide-clause-settled g c =
+    on_ok_along c.settled_by_residues.result
+    (IsSettledByResidues c.args.columns (elimination_by (modulo modulus) c.args.columns (g.R.RowSource.left c.restart-in-Err-Wide.new.self)).kept)
+    (IsSettled c.args.columns (g.R.RowSource.all c.args.rows.now))
+    (λ s. settled_by_residues_of_all c.args.columns (g.R.RowSource.all c.args.rows.now) (g.R.RowSource.left c.restart-in-Err-Wide.new.self) s
+    (c.restart-in-Err-Wide.ensures.left ∙ c.in-Err-Wide.ensures.rows ∙ c.restart.ensures.same)
+    (subst (λ (rs : List (List ℤ)). Passes (elimination c.args.columns rs).marked) c.restart.ensures.left
+    (c.in-Err-Wide.ensures.wide (wide_here c.in-Err-Wide.field-0 c.in-Err-Wide.field-0-is))))
+    c.settled_by_residues.ensures.settled
+
+pub returns-in-Err-Wide-clause-wide : goal.returns-in-Err-Wide-clause-wide
+returns-in-Err-Wide-clause-wide g c = λ e.
+    wide_residues c.args.columns (g.R.RowSource.all c.args.rows.now) (g.R.RowSource.left c.restart-in-Err-Wide.new.self)
+    (c.restart-in-Err-Wide.ensures.left ∙ c.in-Err-Wide.ensures.rows ∙ c.restart.ensures.same)
+    (subst (λ (rs : List (List ℤ)). Passes (elimination c.args.columns rs).marked) c.restart.ensures.left
+    (c.in-Err-Wide.ensures.wide (wide_here c.in-Err-Wide.field-0 c.in-Err-Wide.field-0-is)))
+    (c.settled_by_residues.ensures.wide e)
+
+pub returns-in-Err-Wide-clause-answers : goal.returns-in-Err-Wide-clause-answers
+returns-in-Err-Wide-clause-answers g c =
+    on_ok_along c.settled_by_residues.result (IsSettled c.args.columns (g.R.RowSource.all c.args.rows.now))
+    (AnswersRows c.args.columns (g.R.RowSource.all c.args.rows.now))
+    (λ s. settled_answers c.args.columns (g.R.RowSource.all c.args.rows.now) s c.requires.lengths)
+    (returns-in-Err-Wide-clause-settled g c)

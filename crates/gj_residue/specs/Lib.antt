@@ -1,0 +1,4 @@
+pub mod Rows
+pub mod Basis
+pub mod Source
+pub mod Settled
