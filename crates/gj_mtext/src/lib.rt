@@ -9,8 +9,6 @@ mod columns;
 mod lines;
 mod named;
 mod text;
-#[cfg(test)]
-mod tests;
 
 pub use lines::{MixedLine, mixed_lines};
 pub use named::{line_of, named_terms};

@@ -1,5 +1,5 @@
 //! The cuts of the rows of a tableau, with the names of their columns.
-ghost use Rattle.std.specs.Prelude.{◌≡◌, ◌×◌, All, IfOk, length};
+ghost use Rattle.std.specs.Prelude.{◌≡◌, All, IfOk, length};
 ghost use Rattle.std.specs.List.{AllZip};
 ghost use Rattle.gj_shape.specs.FunctionData.{FunctionData, IsContinuous, IsWithinBounds};
 ghost use Rattle.gj_shape.specs.Limits.{IsRowNumber};
