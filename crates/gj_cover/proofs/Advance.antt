@@ -1,5 +1,5 @@
 -- The search for lines goes on by one line.
-use Rattle.std.proofs.Common.{◌≡◌, ◌≢◌, ℕ, ◌+◌, ◌<◌, ◌≤◌, List, [], ◌∷◌, ◌++◌, length, get_or, ◌↔◌, ◌&&◌, ◌||◌, not, eqb, IsTrue, Option, Some, None, cond, eq-eqb, sym, ap, ◌∙◌, subst, inl, inr, arith}
+use Rattle.std.proofs.Common.{◌≡◌, ◌≢◌, ℕ, ◌+◌, ◌<◌, ◌≤◌, List, [], ◌∷◌, ◌++◌, length, get_or, ◌↔◌, ◌&&◌, ◌||◌, not, eqb, IsTrue, Option, Some, cond, eq-eqb, sym, ap, ◌∙◌, inl, inr, arith}
 use Rattle.std.specs.Option.{unwrap_or}
 use Rattle.std.proofs.Math.ListN.{set, length-set}
 use Rattle.std.specs.Bool.{◌==◌}

@@ -3,7 +3,6 @@ use Rattle.std.proofs.Common.{◌≡◌, ◌≢◌, ℕ, ◌⊎◌, ◌+◌, ◌
 use Rattle.std.proofs.Math.Nat.{mod-mod, mod-lt, mod-eq_of_lt}
 use Rattle.std.proofs.lemmas.Bool.{and_parts, and_from, or_cases, or_left, or_right}
 use Rattle.gj_faces.proofs.Periods.{same_sum}
-use Rattle.gj_shape.specs.Cover.{Covers}
 use Rattle.gj_shape.specs.declared.faces.FaceKind.{FaceKind}
 use Rattle.gj_shape.specs.declared.faces.FaceKind.TheVariants.{Vertex, Horizontal, Vertical, Diagonal, Lower, Upper}
 use Rattle.gj_cover.specs.Table.{is_tight_in, IsTightIn, CoversBy}
@@ -108,9 +107,11 @@ from_sum t a b short i a_below b_below short_below e g i_below h =
             Upper,
             short,
             short_below,
-            upper t a short i
-                (tight t (a + 1) short x, tight t a (short + 1) (next_same t a b short b_below next a ∙ edge.0),
-                tight t (a + 1) (short + 1) (next_same t a b short b_below next (a + 1) ∙ edge.1))
+            upper t a short i (
+              tight t (a + 1) short x,
+              tight t a (short + 1) (next_same t a b short b_below next a ∙ edge.0),
+              tight t (a + 1) (short + 1) (next_same t a b short b_below next (a + 1) ∙ edge.1),
+            )
                 (inr (inr (ap (λ n. n % q) order ∙ g ∙ sym (mod-eq_of_lt i_below)))),
           )
     ]

@@ -2,12 +2,12 @@
 use Rattle.std.proofs.Common.{◌≡◌, ◌≢◌, ℕ, ◌⊎◌, ◌+◌, ◌/◌, ◌%◌, ◌<◌, refl, sym, ap, ◌∙◌, inl, inr, arith}
 use Rattle.std.proofs.Math.Nat.{mod-mod, mod-lt, mod-eq_of_lt}
 use Rattle.gj_tools.proofs.Quotients.{same_remainder, from_same_remainder}
-use Rattle.gj_shape.specs.Cover.{Joins, AreJoined, Covers}
+use Rattle.gj_shape.specs.Cover.{Joins, AreJoined}
 use Rattle.gj_shape.specs.declared.faces.FaceKind.{FaceKind}
 use Rattle.gj_shape.specs.declared.faces.FaceKind.TheVariants.{Vertex, Horizontal, Vertical, Diagonal, Lower, Upper}
 use Rattle.gj_cover.specs.Links.{Links, diagonal, horizontal, vertical, LeadsFrom}
 use Rattle.gj_faces.proofs.Periods.{same_sum}
-use Rattle.gj_cover.proofs.Parts.{Corners, corners, additive, corners_same, Intervals, intervals, one_of, covered_one, HasPeriod}
+use Rattle.gj_cover.proofs.Parts.{Corners, corners, additive, corners_same, Intervals, intervals, one_of, HasPeriod}
 
 -- ---- rests
 

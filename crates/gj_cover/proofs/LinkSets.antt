@@ -1,13 +1,13 @@
 -- The intervals that edges link, as sets.
-use Rattle.std.proofs.Common.{◌≡◌, ℕ, ◌+◌, ◌%◌, ◌<◌, ◌↔◌, ◌||◌, ◌&&◌, Bool, true, refl, sym, ap, ◌∙◌, subst, inl, inr, arith}
-use Rattle.std.proofs.Math.Nat.{mod-mod, mod-lt, mod-eq_of_lt}
+use Rattle.std.proofs.Common.{◌≡◌, ℕ, ◌+◌, ◌%◌, ◌<◌, ◌↔◌, ◌||◌, ◌&&◌, Bool, true, refl, sym, ap, ◌∙◌, inl, inr, arith}
+use Rattle.std.proofs.Math.Nat.{mod-mod}
 use Rattle.std.proofs.lemmas.Bool.{and_parts, and_from, or_cases, or_left, or_right}
 use Rattle.gj_shape.specs.declared.faces.FaceKind.TheVariants.{Horizontal, Vertical, Diagonal}
 use Rattle.gj_cover.specs.Links.{Links, diagonal, horizontal, vertical}
 use Rattle.gj_cover.specs.Table.{is_tight_in, IsTightIn}
 use Rattle.gj_cover.specs.declared.table.Table.{Table}
 use Rattle.gj_cover.proofs.Edges.{one_step}
-use Rattle.gj_cover.proofs.Parts.{corners, additive, add_same}
+use Rattle.gj_cover.proofs.Parts.{corners, additive}
 use Rattle.gj_cover.proofs.TablePairs.{same_tight, tight, told}
 
 -- the intervals j that stand behind i: k leads from i to j

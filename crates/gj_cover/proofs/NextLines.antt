@@ -5,7 +5,6 @@ use Rattle.std.proofs.Math.ListN.{set}
 use Rattle.std.proofs.lemmas.Bool.{or_cases, or_left, or_right, and_parts, and_from, not-true, not_from_false, eqb-false, ne_eqb}
 use Rattle.std.proofs.lemmas.List.Sums.{sum_by-set}
 use Rattle.gj_shape.specs.Cover.{HasComponent, opened, joined, AreJoined, IsDirectlyCovered, LeadsTo, here, onward, IsCovered, JoinsLines, IsNextLine, components_in}
-use Rattle.gj_shape.specs.FirstViolation.{IsLeastFrom}
 use Rattle.gj_shape.specs.declared.extremality.CoverLine.{CoverLine}
 use Rattle.gj_cover.specs.CoverOf.{number_at}
 use Rattle.gj_sets.specs.IndexSets.{has}
@@ -303,16 +302,21 @@ near_more q T lines c near linked new l m len h h' in' free before told is = rec
       let other : l.interval ≢ i = λ same. old.0 (sym same) in (
         λ e. elim (or_cases (has near i) (has linked i) (sym (is i) ∙ e)) [
           | inl yes' ↦
-              let at = was.0 yes' in
-              (at.0, joins_lines q T (lines ++ l ∷ []) (set c x (Some m)) i at.0 h'
-              (joins_after q T c x m i at.0 free none (joins_numbers q T lines c i at.0 h at.1)))
-          | inr yes' ↦ (x, joins_lines q T (lines ++ l ∷ []) (set c x (Some m)) i x h' (record {
-            first_within = i_below;
-            second_within = in';
-            free = none;
-            number = (m, number_same c x m within);
-            joined = joined_turned q T x i ((told i i_below other).0 yes');
-          }))
+              let at = was.0 yes' in (
+                at.0,
+                joins_lines q T (lines ++ l ∷ []) (set c x (Some m)) i at.0 h'
+                    (joins_after q T c x m i at.0 free none (joins_numbers q T lines c i at.0 h at.1)),
+              )
+          | inr yes' ↦ (
+            x,
+            joins_lines q T (lines ++ l ∷ []) (set c x (Some m)) i x h' (record {
+              first_within = i_below;
+              second_within = in';
+              free = none;
+              number = (m, number_same c x m within);
+              joined = joined_turned q T x i ((told i i_below other).0 yes');
+            }),
+          )
         ],
         λ (j, at). is i ∙ (elim (joins_before q T c x m i j within (joins_numbers q T (lines ++ l ∷ []) (set c x (Some m)) i j h' at)) [
           | inl same ↦

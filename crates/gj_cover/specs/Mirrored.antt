@@ -1,5 +1,5 @@
 -- Functions whose values at each two points with the sum f add up to 1 (Gomory and Johnson 1972).
-use Rattle.std.specs.Prelude.{ℕ, ℤ, pos, ◌≡◌, ◌+◌, ◌-◌, ◌<◌, ◌+ℤ◌}
+use Rattle.std.specs.Prelude.{ℕ, pos, ◌≡◌, ◌+◌, ◌-◌, ◌<◌, ◌+ℤ◌}
 use Rattle.gj_shape.specs.FunctionData.{FunctionData, at}
 
 -- they do so at the multiples of 1/order

@@ -1,7 +1,6 @@
 -- Where the search for cover lines stands (own): what is kept while lines are added.
 use Rattle.std.specs.Prelude.{ℕ, ◌≡◌, ◌≢◌, ◌↔◌, ◌+◌, ◌<◌, ◌≤◌, List, ◌∷◌, ◌++◌, Option, Some, None, is_none, length, count_by, IsTrue}
 use Rattle.gj_shape.specs.Cover.{AreJoined, IsDirectlyCovered, LeadsTo, IsCovered, JoinsLines, IsOpen, IsNextLine, HasComponent, components_in}
-use Rattle.gj_shape.specs.FirstViolation.{IsLeastFrom}
 use Rattle.gj_shape.specs.declared.extremality.CoverLine.{CoverLine}
 use Rattle.gj_sets.specs.IndexSets.{has}
 use Rattle.gj_sets.specs.declared.index_set.IndexSet.{IndexSet}

@@ -37,11 +37,7 @@ pub fn cover(alloc: Global, shape: &Shape) -> Result<Cover, AllocError>
 }
 
 /// The same from the tight pairs of the function.
-pub fn cover_of_pairs(
-    alloc: Global,
-    shape: &Shape,
-    pairs: &TightPairs,
-) -> Result<Cover, AllocError>
+pub fn cover_of_pairs(alloc: Global, shape: &Shape, pairs: &TightPairs) -> Result<Cover, AllocError>
     requires { AreTightPairsOf shape.now pairs.now }
     ensures { IfOk result (IsCoverOf shape.now.order (IsTight shape.now)) }
 {

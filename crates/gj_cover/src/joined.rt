@@ -41,8 +41,12 @@ fn linked_to(table: &Table, i: u32) -> IndexSet
     let order = table.order() as usize;
     let (column, next_column) = (table.column(i), table.column(i + 1));
     let diagonal = next_column.and(&turned_back(column, order));
-    let horizontal = table.firsts(i).and(&turned_back(table.firsts(i + 1), order));
-    let vertical = table.seconds(i).and(&turned_back(table.seconds(i + 1), order));
+    let horizontal = table
+        .firsts(i)
+        .and(&turned_back(table.firsts(i + 1), order));
+    let vertical = table
+        .seconds(i)
+        .and(&turned_back(table.seconds(i + 1), order));
     diagonal.or(&horizontal).or(&vertical)
 }
 

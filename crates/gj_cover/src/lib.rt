@@ -17,10 +17,10 @@ mod progress;
 mod reached;
 mod squares;
 mod table;
-mod transposed;
-mod triangles;
 #[cfg(test)]
 mod tests;
+mod transposed;
+mod triangles;
 
 pub use covered::Cover;
 pub use covering::{cover, cover_of_pairs, cover_of_runs};

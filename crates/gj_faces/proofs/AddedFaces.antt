@@ -1,11 +1,11 @@
 -- Maximal faces that are added to a list.
-use Rattle.std.proofs.Common.{◌≡◌, ℕ, zero, suc, ◌+◌, ◌<◌, ◌≤◌, List, [], ◌∷◌, ◌++◌, false, append_assoc, sym, ap, subst, ◌∙◌, arith}
+use Rattle.std.proofs.Common.{◌≡◌, ℕ, zero, suc, ◌+◌, ◌<◌, ◌≤◌, List, [], ◌∷◌, ◌++◌, false, append_assoc, refl, sym, ap, subst, ◌∙◌, arith}
 use Rattle.gj_sets.specs.IndexSets.{has}
 use Rattle.std.specs.List.{range_with_len, flat_map}
 use Rattle.std.proofs.lemmas.Bool.{true≢false}
 use Rattle.std.proofs.lemmas.List.{append-nil}
 use Rattle.gj_shape.specs.FunctionData.{FunctionData}
-use Rattle.gj_shape.specs.WalkOrder.{faces_of_square}
+use Rattle.gj_shape.specs.WalkOrder.{faces_of_square, faces_in}
 use Rattle.gj_shape.specs.declared.faces.Face.{Face}
 use Rattle.gj_shape.specs.declared.faces.FaceKind.{FaceKind}
 use Rattle.gj_shape.specs.declared.faces.FaceKind.TheVariants.{Vertex, Horizontal, Vertical, Diagonal, Lower, Upper}
@@ -13,6 +13,7 @@ use Rattle.gj_faces.specs.declared.alone.Alone.{Alone}
 use Rattle.gj_faces.specs.Added.{AddsMaximal, faces_of_row}
 use Rattle.gj_faces.specs.Alone.{AreAlone}
 use Rattle.gj_faces.specs.Listed.{AreMaximalFaces, IsMaximalIn}
+use Rattle.gj_faces.specs.Triangles.{is_triangle}
 use Rattle.gj_faces.specs.Picked.{ArePicked, none, kept, dropped}
 use Rattle.gj_faces.proofs.PickedFaces.{picked_joined, joined_more}
 
@@ -44,6 +45,20 @@ pub adds_square : (f : FunctionData) (a b : ℕ) (old middle new : List Face) �
 adds_square f a b old middle new h k =
     subst (λ xs. AddsMaximal f xs old new) (sym (joined_more (faces_of_square a) b))
     (adds_joined f (flat_map (faces_of_square a) (range_with_len 0 b)) (faces_of_square a b) old middle new h k)
+
+-- a square of which no face but triangles is maximal
+pub adds_no_edge : (f : FunctionData) (a b : ℕ) (alone : Alone) (old : List Face) → AreAlone f a alone → b < f.order →
+    has alone.edges b ≡ false → AddsMaximal f (faces_in (Vertex ∷ Horizontal ∷ Vertical ∷ Diagonal ∷ []) a b) old old
+adds_no_edge f a b alone old h below silent = record {
+  added = [];
+  picked = dropped (not_one Vertex refl) (dropped (not_one Horizontal refl) (dropped (not_one Vertical refl) (dropped (not_one Diagonal refl) none)));
+  items = sym (append-nil old);
+}
+  where
+    not_one : (kind : FaceKind) → is_triangle kind ≡ false → IsMaximalIn f (record { kind = kind; a = a; b = b }) → ⊥
+    not_one kind plain maximal =
+        let some = h.edges kind b below plain ((h.each kind b below).1 maximal) in
+        true≢false (sym some ∙ silent)
 
 -- squares of which no face is maximal
 adds_no_square : (f : FunctionData) (a b : ℕ) (alone : Alone) (old : List Face) → AreAlone f a alone → b < f.order →

@@ -8,6 +8,7 @@ use Rattle.gj_shape.specs.declared.faces.FaceKind.{FaceKind}
 use Rattle.gj_shape.specs.declared.faces.FaceKind.TheVariants.{Vertex, Horizontal, Vertical, Diagonal, Lower, Upper}
 use Rattle.gj_faces.specs.declared.alone.Alone.{Alone}
 use Rattle.gj_faces.specs.Alone.{AreAlone, set_of}
+use Rattle.gj_faces.specs.Triangles.{is_triangle}
 use Rattle.gj_faces.proofs.Maximality.{IsExtended, vertex, horizontal, vertical, diagonal, lower, upper, corner, maximal_unless_extended, maximal_is_not_extended}
 use Rattle.gj_faces.proofs.Periods.{tight_is_periodic}
 use Rattle.gj_faces.proofs.RunSteps.{IsPeriodic}
@@ -42,6 +43,9 @@ flag Vertical t = (t.middle && t.north) && not (t.east || t.north_west)
 flag Diagonal t = (t.east && t.north) && not (t.middle || t.north_east)
 flag Lower t = (t.middle && t.east) && t.north
 flag Upper t = (t.east && t.north) && t.north_east
+
+abbrev pub edge_flag : Around → Bool
+edge_flag t = ((flag Vertex t || flag Horizontal t) || flag Vertical t) || flag Diagonal t
 
 abbrev pub any_flag : Around → Bool
 any_flag t =
@@ -168,12 +172,24 @@ any_of Diagonal t e = or_left _ (flag Upper t) (or_left _ (flag Lower t) (or_rig
 any_of Lower t e = or_left _ (flag Upper t) (or_right _ (flag Lower t) e)
 any_of Upper t e = or_right _ (flag Upper t) e
 
+-- that of a kind that is no triangle is among the others
+edge_of : (kind : FaceKind) (t : Around) → is_triangle kind ≡ false → flag kind t ≡ true → edge_flag t ≡ true
+edge_of Vertex t plain e =
+    or_left _ (flag Diagonal t) (or_left _ (flag Vertical t) (or_left (flag Vertex t) (flag Horizontal t) e))
+edge_of Horizontal t plain e =
+    or_left _ (flag Diagonal t) (or_left _ (flag Vertical t) (or_right (flag Vertex t) (flag Horizontal t) e))
+edge_of Vertical t plain e = or_left _ (flag Diagonal t) (or_right _ (flag Vertical t) e)
+edge_of Diagonal t plain e = or_right _ (flag Diagonal t) e
+edge_of Lower t plain e = absurd (true≢false plain)
+edge_of Upper t plain e = absurd (true≢false plain)
+
 -- ---- as sets
 
 -- what they have at an index
 pub record AreFlags (alone : Alone) (b : ℕ) (t : Around) : Type 0 where
   pub each : (kind : FaceKind) → has (set_of alone kind) b ≡ flag kind t
   pub any : has alone.any b ≡ any_flag t
+  pub edges : has alone.edges b ≡ edge_flag t
 
 -- at each index they have the flags
 pub all_flags : (f : FunctionData) (a : ℕ) (alone : Alone) (around : ℕ → Around) → IsWithinBounds f →
@@ -188,6 +204,7 @@ all_flags f a alone around limits flags tells none = record {
         λ maximal. same ∙ maximal_has_flag f.order (IsTight f) some periodic a b (around b) (tells b below) kind maximal,
       );
   any = λ kind b below yes. (flags b).any ∙ any_of kind (around b) (sym ((flags b).each kind) ∙ yes);
+  edges = λ kind b below plain yes. (flags b).edges ∙ edge_of kind (around b) plain (sym ((flags b).each kind) ∙ yes);
   within = λ b past. (flags b).any ∙ none b past;
 }
 

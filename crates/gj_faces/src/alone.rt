@@ -10,6 +10,8 @@ use gj_shape::{Shape, wrapped};
 #[derive(Drop)]
 pub(crate) struct Alone {
     pub(crate) any: IndexSet,
+    /// Those for which one is that is no triangle.
+    pub(crate) edges: IndexSet,
     pub(crate) vertex: IndexSet,
     pub(crate) horizontal: IndexSet,
     pub(crate) vertical: IndexSet,
@@ -54,13 +56,10 @@ impl Alone {
         let diagonal = high.and_not(&middle.or(&north_east));
         let lower = low.and(&north);
         let upper = high.and(&north_east);
+        let edges = vertex.or(&horizontal).or(&vertical).or(&diagonal);
         Alone {
-            any: vertex
-                .or(&horizontal)
-                .or(&vertical)
-                .or(&diagonal)
-                .or(&lower)
-                .or(&upper),
+            any: edges.or(&lower).or(&upper),
+            edges,
             vertex,
             horizontal,
             vertical,

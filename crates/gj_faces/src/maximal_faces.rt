@@ -3,7 +3,7 @@ ghost use Rattle.std.specs.Prelude.{◌<◌, ◌↔◌, [], ◌∷◌, IfOk, OnO
 ghost use Rattle.gj_shape.specs.FunctionData.{IsContinuous};
 ghost use Rattle.gj_shape.specs.Given.{IsOrder};
 ghost use Rattle.gj_shape.specs.Table.{IsMinimal};
-ghost use Rattle.gj_shape.specs.WalkOrder.{faces_of_square};
+ghost use Rattle.gj_shape.specs.WalkOrder.{faces_in, faces_of_square};
 ghost use Rattle.gj_faces.specs.Listed.{AreMaximalFaces, HoldAdditive, TellTightPairs, IsMaximalIn};
 ghost use Rattle.gj_faces.specs.Added.{AddsMaximal, faces_of_row};
 ghost use Rattle.gj_faces.specs.Alone.{AreAlone};
@@ -78,6 +78,45 @@ fn push_square(
     ensures { OnOk result (AddsMaximal shape.now (faces_of_square a b) faces.old.items faces.new.items) }
 {
     let place = b as usize;
+    push_edges(faces, alone, shape, a, b)?;
+    push_if(
+        faces,
+        alone.lower.contains(place),
+        shape,
+        FaceKind::Lower,
+        a,
+        b,
+    )?;
+    push_if(
+        faces,
+        alone.upper.contains(place),
+        shape,
+        FaceKind::Upper,
+        a,
+        b,
+    )?;
+    Ok(())
+}
+
+/// Adds the maximal faces of the square (a, b) that are no triangles.
+fn push_edges(
+    faces: &mut Vec<Face>,
+    alone: &Alone,
+    shape: &Shape,
+    a: u32,
+    b: u32,
+) -> Result<(), AllocError>
+    requires order { IsOrder shape.now.order }
+    requires alone { AreAlone shape.now a alone.now }
+    requires second { b < shape.now.order }
+    ensures { OnOk result (AddsMaximal shape.now
+        (faces_in (FaceKind.Vertex ∷ FaceKind.Horizontal ∷ FaceKind.Vertical ∷ FaceKind.Diagonal ∷ []) a b)
+        faces.old.items faces.new.items) }
+{
+    let place = b as usize;
+    if !alone.edges.contains(place) {
+        return Ok(());
+    }
     push_if(
         faces,
         alone.vertex.contains(place),
@@ -107,22 +146,6 @@ fn push_square(
         alone.diagonal.contains(place),
         shape,
         FaceKind::Diagonal,
-        a,
-        b,
-    )?;
-    push_if(
-        faces,
-        alone.lower.contains(place),
-        shape,
-        FaceKind::Lower,
-        a,
-        b,
-    )?;
-    push_if(
-        faces,
-        alone.upper.contains(place),
-        shape,
-        FaceKind::Upper,
         a,
         b,
     )?;

@@ -148,7 +148,7 @@ from_crossing f s t a some h above below = inr (record {
 -- ---- neighbours in the list
 
 -- P holds of each two neighbours
-abbrev EachNext : {X : Type 0} → (X → X → Type 0) → List X → Type 0
+abbrev pub EachNext : {X : Type 0} → (X → X → Type 0) → List X → Type 0
 EachNext P [] = Unit {0}
 EachNext P (x ∷ []) = Unit {0}
 EachNext P (x ∷ y ∷ ys) = P x y × EachNext P (y ∷ ys)
@@ -157,7 +157,7 @@ next_rest : {X : Type 0} (P : X → X → Type 0) (x : X) (ys : List X) → Each
 next_rest P x [] h = tt
 next_rest P x (y ∷ ys) h = h.1
 
-next_at : {X : Type 0} (P : X → X → Type 0) (front : List X) (x y : X) (back : List X) → EachNext P (front ++ x ∷ y ∷ back) → P x y
+pub next_at : {X : Type 0} (P : X → X → Type 0) (front : List X) (x y : X) (back : List X) → EachNext P (front ++ x ∷ y ∷ back) → P x y
 next_at P [] x y back h = h.0
 next_at P (z ∷ front) x y back h = next_at P front x y back (next_rest P z (front ++ x ∷ y ∷ back) h)
 

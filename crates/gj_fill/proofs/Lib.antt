@@ -4,3 +4,4 @@ pub mod FillPoints
 pub mod Extremes
 pub mod FirstPairs
 pub mod FillBreaks
+pub mod Ascending

@@ -26,7 +26,7 @@ crossing_point f s t a = record {
   y = record { top = at f.value a *ℤ (s +ℤ t) +ℤ s *ℤ (rise f a +ℤ t); bottom = pos f.scale *ℤ (s +ℤ t) };
 }
 
--- the points from a/order up to the next: where the function goes by neither slope, the lines cross between them
+-- the points from a/order up to the next: if the function goes by neither slope there, the crossing of the lines is one
 abbrev pub points_from : FunctionData → ℤ → ℤ → ℕ → List GraphPoint
 points_from f s t a =
     if int_lt (neg_ℤ t) (rise f a) && int_lt (rise f a) s

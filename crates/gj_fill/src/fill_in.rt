@@ -1,7 +1,8 @@
 //! The points of the fill-in.
 ghost use Rattle.std.specs.Prelude.{◌≡◌, ◌<◌, ◌≤◌, ◌^◌, ◌++◌, ◌<ℤ◌, ◌+ℤ◌, ◌*ℤ◌, ◌↔◌, neg_ℤ, pos, List, IfOk, IfErr, OnOk, IsTrue, unsigned_abs};
 ghost use Rattle.std.specs.List.{AllZip};
-ghost use Rattle.gj_frac.specs.Fraction.{IsRatio};
+ghost use Rattle.gj_frac.specs.Fraction.{IsRatio, IsInside};
+ghost use Rattle.gj_shape.specs.Breaks.{AreAscending};
 ghost use Rattle.gj_shape.specs.FunctionData.{IsWithinBounds, IsContinuous, at};
 ghost use Rattle.gj_shape.specs.TwoSlopes.{rise};
 ghost use Rattle.gj_shape.specs.declared.breaks.Break.{Break};
@@ -37,7 +38,9 @@ pub struct Filled {
 pub fn fill(alloc: Global, shape: &Shape) -> Result<Filled, FillFault>
     requires { IsContinuous shape.now }
     ensures f { IfOk result (λ g. IsRatio g.f (pos shape.now.place) (pos shape.now.order)) }
+    ensures inside { IfOk result (λ g. IsInside g.f) }
     ensures points { IfOk result (λ g. AreFillBreaks shape.now g.points.items) }
+    ensures ascending { IfOk result (λ g. AreAscending g.points.items) }
     ensures subadditive { IfOk result (λ g. IsSubadditiveTable (at shape.now.value)) }
     ensures fault { IfErr result (IsFillFault shape.now) }
 {
@@ -45,15 +48,22 @@ pub fn fill(alloc: Global, shape: &Shape) -> Result<Filled, FillFault>
         return Err(FillFault::NotSubadditive(a, b));
     }
     let points = points_of(alloc, shape)?;
-    Ok(Filled {
-        f: Frac::ratio(i64::from(shape.place()), shape.order()),
-        points,
-    })
+    let f = place_of(shape);
+    Ok(Filled { f, points })
+}
+
+/// f of the function.
+fn place_of(shape: &Shape) -> Frac
+    ensures value { IsRatio result (pos shape.now.place) (pos shape.now.order) }
+    ensures inside { IsInside result }
+{
+    Frac::ratio(i64::from(shape.place()), shape.order())
 }
 
 /// All points of the fill-in, from 0 on.
 fn points_of(alloc: Global, shape: &Shape) -> Result<Vec<Break>, AllocError>
-    ensures { IfOk result (λ points. AreFillBreaks shape.now points.items) }
+    ensures points { IfOk result (λ points. AreFillBreaks shape.now points.items) }
+    ensures ascending { IfOk result (λ points. AreAscending points.items) }
 {
     let steps = greatest_steps(shape.value_numerators());
     let mut points = Vec::with_capacity(alloc, 2 * shape.order() as usize)?;

@@ -1,11 +1,11 @@
 -- Rows that are inserted one after another from those to come.
-use Rattle.std.proofs.Common.{◌≡◌, ◌≢◌, ℕ, ◌+◌, ◌<◌, ◌≤◌, ◌^◌, ◌↔◌, ◌⊎◌, inl, inr, Option, None, Some, ℤ, List, [], ◌∷◌, ◌++◌, length, refl, sym, ap, ap₂, subst, ◌∙◌, arith}
+use Rattle.std.proofs.Common.{◌≡◌, ℕ, ◌+◌, ◌<◌, ◌≤◌, ◌^◌, ◌↔◌, inl, inr, Option, None, Some, ℤ, List, [], ◌∷◌, ◌++◌, length, sym, ap, ap₂, subst, ◌∙◌, arith}
 use Rattle.std.specs.Prelude.{All, Vec, Ok}
 use Rattle.std.proofs.lemmas.Bool.{lt-leb, le-leb}
 use Rattle.std.proofs.lemmas.List.Elements.{All-head, All-tail}
 use Rattle.std.specs.declared.alloc.AllocError.{AllocError}
 use Rattle.std.specs.declared.alloc.Global.{Global}
-use Rattle.gj_shape.specs.Elimination.{KeptRow, Elimination, Arithmetic, inserted_by, elimination_by, elimination_from_by, kept_behind, behind_insertion, Passes}
+use Rattle.gj_shape.specs.Elimination.{Elimination, Arithmetic, inserted_by, elimination_by, elimination_from_by, behind_insertion, Passes}
 use Rattle.gj_theory.proofs.Eliminations.{elimination_full, elimination_more, elimination_none}
 use Rattle.gj_theory.proofs.Passing.{none_passes, front_passes, back_passes, either_passes}
 use Rattle.gj_elim.specs.Data.{BasisData, behind_by}

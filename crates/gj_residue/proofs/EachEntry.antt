@@ -1,6 +1,5 @@
 -- Rows of residues whose entries are computed one after another.
-use Rattle.std.proofs.Common.{◌≡◌, ℕ, zero, suc, ◌+◌, ◌<◌, ◌≤◌, ℤ, pos, ◌-ℤ◌, ◌*ℤ◌, List, [], ◌∷◌, length, map, get_or, set, below_more, get_or-set_same, get_or-set_other, refl, sym, ap, ap₂, subst, ◌∙◌, arith}
-use Rattle.std.specs.Prelude.{All}
+use Rattle.std.proofs.Common.{◌≡◌, ℕ, zero, suc, ◌+◌, ◌<◌, ◌≤◌, ℤ, pos, ◌-ℤ◌, ◌*ℤ◌, List, [], ◌∷◌, length, get_or, set, below_more, get_or-set_same, get_or-set_other, refl, sym, ap, ap₂, subst, ◌∙◌, arith}
 use Rattle.std.proofs.lemmas.List.{same_lists, get_or_default, length-map}
 use Rattle.std.proofs.lemmas.List.Elements.{All-from_get_or}
 use Rattle.gj_shape.specs.Elimination.{at_column, scaled}
@@ -27,13 +26,6 @@ pub record AreDone (f : ℕ → ℤ) (old row : List ℕ) (i : ℕ) : Type 0 whe
   pub done : (k : ℕ) → k < i → pos (get_or row k 0) ≡ f k
   pub low : (k : ℕ) → k < i → get_or row k 0 < modulus
   pub later : (k : ℕ) → i ≤ k → get_or row k 0 ≡ get_or old k 0
-
-pub done_start : (f : ℕ → ℤ) (old : List ℕ) → AreDone f old old 0
-done_start f old = record {
-  done = λ k below. absurd (omega arith);
-  low = λ k below. absurd (omega arith);
-  later = λ k from. refl;
-}
 
 pub done_more : (f : ℕ → ℤ) (old row : List ℕ) (i z : ℕ) → AreDone f old row i → i < length row → pos z ≡ f i → z < modulus →
     AreDone f old (set row i z) (i + 1)

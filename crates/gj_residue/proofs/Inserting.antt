@@ -1,18 +1,18 @@
 -- What a basis of residues keeps behind an insertion.
-use Rattle.std.proofs.Common.{◌≡◌, ◌≢◌, ℕ, ◌+◌, ◌<◌, Bool, true, false, if◌then◌else◌, Option, None, Some, ℤ, pos, List, [], ◌∷◌, ◌++◌, length, map, get_or, refl, sym, ap, ap₂, subst, ◌∙◌, arith}
+use Rattle.std.proofs.Common.{◌≡◌, ◌≢◌, ℕ, ◌<◌, Bool, true, false, if◌then◌else◌, Option, None, Some, ℤ, pos, List, [], ◌∷◌, ◌++◌, length, map, get_or, refl, sym, ap, ap₂, subst, ◌∙◌, arith}
 use Rattle.std.specs.Prelude.{IfSome}
 use Rattle.std.specs.List.{range_with_len, position}
 use Rattle.std.specs.Ordering.{int_eq}
 use Rattle.std.proofs.lemmas.Int.{ints}
-use Rattle.std.proofs.lemmas.List.{length-map, length_push, get_or-map, get_or_default}
+use Rattle.std.proofs.lemmas.List.{length-map, get_or-map, get_or_default}
 use Rattle.gj_shape.specs.Elimination.{KeptRow, Insertion, at_column, scaled, insertion_by, inserted_by, inserted_at_by, with_pivot, row_with_pivot, Passes}
-use Rattle.gj_shape.specs.Residues.{residue, residues, inverse, times_inverse, modulo, SolvesModulo}
+use Rattle.gj_shape.specs.Residues.{residues, inverse, times_inverse, modulo, SolvesModulo}
 use Rattle.gj_theory.specs.Modulus.{modulus}
 use Rattle.gj_theory.specs.TriangularResidues.{AreTriangularResidues, SolvesKeptModulo}
 use Rattle.gj_theory.proofs.Passing.{none_passes}
 use Rattle.gj_theory.proofs.ResidueInsertions.{kept_residues_at, inserted_leaves_modulo, triangular_behind_modulo, solved_behind_modulo}
-use Rattle.gj_elim.specs.Data.{BasisData, behind_by}
-use Rattle.gj_elim.specs.KeptRows.{kept_rows, log_row}
+use Rattle.gj_elim.specs.Data.{BasisData}
+use Rattle.gj_elim.specs.KeptRows.{log_row}
 use Rattle.gj_elim.specs.Progress.{IsLeft, kept_at}
 use Rattle.gj_elim.specs.declared.log.LogRow.{LogRow}
 use Rattle.gj_elim.proofs.Keeping.{AreBehind, same_length, log_of_kept, length-kept_rows}

@@ -1,6 +1,6 @@
 -- What the answers say of the rows.
-use Rattle.std.proofs.Common.{◌≡◌, ◌≢◌, ℕ, ◌<◌, ◌≤◌, ◌<ℤ◌, Option, None, Some, ℤ, pos, List, [], length, map, refl, sym, ap, subst, ◌∙◌, lit<, arith}
-use Rattle.std.specs.Prelude.{All, Any, IfSome, IsNone, Vec, Result, Ok, Err, IfOk, IsErr, IsErrAnd, IsErrOf}
+use Rattle.std.proofs.Common.{◌≡◌, ◌≢◌, ℕ, ◌<◌, ◌<ℤ◌, Option, None, Some, ℤ, pos, List, length, map, refl, sym, ap, subst, ◌∙◌, lit<, arith}
+use Rattle.std.specs.Prelude.{All, Any, IfSome, IsNone, Vec, Result, Ok, Err, IsErr, IsErrAnd, IsErrOf}
 use Rattle.std.specs.declared.alloc.Global.{Global}
 use Rattle.std.proofs.lemmas.List.Elements.{All-nil}
 use Rattle.gj_shape.specs.Elimination.{KeptRow, Solution, elimination, elimination_by, kernel, Passes}
@@ -12,7 +12,7 @@ use Rattle.gj_theory.proofs.Kernels.{kernel_none, kernel_columns, kernel_solves,
 use Rattle.gj_theory.proofs.Passing.{none_passes}
 use Rattle.gj_theory.proofs.ResidueElimination.{elimination_modulo_zero}
 use Rattle.gj_theory.proofs.Triangular.{rank_at_most}
-use Rattle.gj_residue.specs.Settled.{OnlyZeroSolves, AnswersRows, IsPlain, IsByResidues, IsKernel, IsSettled, IsTooWide, insertion_passes, kernel_passes, IsKernelOf, IsSettledBy, IsSettledByResidues, fault_of}
+use Rattle.gj_residue.specs.Settled.{AnswersRows, IsSettled, IsTooWide, insertion_passes, kernel_passes, IsKernelOf, IsSettledBy, IsSettledByResidues, fault_of}
 use Rattle.gj_elim.specs.declared.faults.ElimFault.{ElimFault}
 use Rattle.gj_elim.specs.declared.faults.ElimFault.TheVariants.{Wide as ElimWide, Memory as ElimMemory}
 use Rattle.gj_residue.specs.declared.settling.SettleFault.{SettleFault}

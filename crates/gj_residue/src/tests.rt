@@ -1,4 +1,7 @@
-//! Examples with values by hand.
+//! Examples with values by hand: modulo 2^61 - 1 the rows (2^70, 1) and (2^70 - 1, 2^70) are (512, 1) and (511, 512).
+ghost use Rattle.std.specs.Prelude.{◌≡◌, length, All, IfOk};
+ghost use Rattle.gj_frac.specs.Fraction.{Fits};
+
 use crate::basis::ResidueBasis;
 use crate::listed::ListedRows;
 use crate::settling::{SettleFault, Settled, settle};
@@ -7,24 +10,35 @@ use gj_shape::List;
 use std::alloc::{AllocError, Global};
 use std::test::Fail;
 
-/// 2^70 is 512 modulo 2^61 - 1, so these two rows are (512, 1) and (511, 512).
-const WIDE: [[i128; 2]; 2] = [[1 << 70, 1], [(1 << 70) - 1, 1 << 70]];
-
-/// A source of the rows of an array.
-fn listed<const N: usize>(alloc: Global, rows: &[[i128; N]]) -> Result<ListedRows, AllocError> {
-    let mut list = Vec::new(alloc);
-    for row in rows {
-        list.push(List::of(Vec::from_slice(alloc, row)?))?;
-    }
-    Ok(ListedRows::new(list))
+/// A source of two rows.
+fn listed(
+    alloc: Global,
+    columns: usize,
+    first: &[i128],
+    second: &[i128],
+) -> Result<ListedRows, AllocError>
+    requires first_length { length first.now ≡ columns }
+    requires second_length { length second.now ≡ columns }
+    requires first_fits { All Fits first.now }
+    requires second_fits { All Fits second.now }
+    ensures lengths { IfOk result (λ rows. All (λ row. length row ≡ columns) rows.all) }
+    ensures entries { IfOk result (λ rows. All (All Fits) rows.all) }
+{
+    let mut rows = Vec::new(alloc);
+    rows.push(List::of(Vec::from_slice(alloc, first)?))?;
+    rows.push(List::of(Vec::from_slice(alloc, second)?))?;
+    Ok(ListedRows::new(rows))
 }
 
 /// Rows whose residues have pivots, and one of which nothing is left.
 #[test]
 fn residues(rt: HostRuntime) -> Result<(), Fail> {
     let mut basis = ResidueBasis::new(rt.alloc(), 2)?;
-    assert_eq!(rt; basis.insert(&WIDE[0])?, Inserted::Pivot(0));
-    assert_eq!(rt; basis.insert(&WIDE[1])?, Inserted::Pivot(1));
+    assert_eq!(rt; basis.insert(&[1 << 70, 1])?, Inserted::Pivot(0));
+    assert_eq!(rt;
+        basis.insert(&[(1 << 70) - 1, 1 << 70])?,
+        Inserted::Pivot(1)
+    );
     assert_eq!(rt; basis.insert(&[3, 5])?, Inserted::Nothing);
     assert_eq!(rt; basis.inserted(), 3);
     assert_eq!(rt; basis.rank(), 2);
@@ -35,7 +49,7 @@ fn residues(rt: HostRuntime) -> Result<(), Fail> {
 /// Two rows that pass 127 bits, and leave only 0.
 #[test]
 fn by_residues(rt: HostRuntime) -> Result<(), Fail> {
-    let mut rows = listed(rt.alloc(), &WIDE)?;
+    let mut rows = listed(rt.alloc(), 2, &[1 << 70, 1], &[(1 << 70) - 1, 1 << 70])?;
     let Settled::Residues(log) = settle(rt.alloc(), 2, &mut rows)? else {
         return Err(Fail::from("not by residues"));
     };
@@ -52,7 +66,12 @@ fn by_residues(rt: HostRuntime) -> Result<(), Fail> {
 /// The same rows with a third column of 0.
 #[test]
 fn too_wide(rt: HostRuntime) -> Result<(), Fail> {
-    let mut rows = listed(rt.alloc(), &[[1 << 70, 1, 0], [(1 << 70) - 1, 1 << 70, 0]])?;
+    let mut rows = listed(
+        rt.alloc(),
+        3,
+        &[1 << 70, 1, 0],
+        &[(1 << 70) - 1, 1 << 70, 0],
+    )?;
     assert!(rt; matches!(settle(rt.alloc(), 3, &mut rows), Err(SettleFault::Wide)));
     Ok(())
 }
@@ -60,7 +79,7 @@ fn too_wide(rt: HostRuntime) -> Result<(), Fail> {
 /// Rows that stay small.
 #[test]
 fn plain(rt: HostRuntime) -> Result<(), Fail> {
-    let mut rows = listed(rt.alloc(), &[[3, 2], [3, 0]])?;
+    let mut rows = listed(rt.alloc(), 2, &[3, 2], &[3, 0])?;
     assert!(rt; matches!(settle(rt.alloc(), 2, &mut rows)?, Settled::Plain(_)));
     Ok(())
 }
@@ -68,7 +87,7 @@ fn plain(rt: HostRuntime) -> Result<(), Fail> {
 /// Rows that a solution remains of.
 #[test]
 fn kernel(rt: HostRuntime) -> Result<(), Fail> {
-    let mut rows = listed(rt.alloc(), &[[1 << 70, 1], [1 << 71, 2]])?;
+    let mut rows = listed(rt.alloc(), 2, &[1 << 70, 1], &[1 << 71, 2])?;
     let Settled::Kernel(numbers) = settle(rt.alloc(), 2, &mut rows)? else {
         return Err(Fail::from("no kernel"));
     };

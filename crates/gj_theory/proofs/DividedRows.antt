@@ -85,7 +85,7 @@ divided_fits row h =
     let whole : Fits (at_column row k) = All-get_or Fits row k (pos 0) (omega (arith, length-divided row)) h in
     omega arith)
 
-scaled_one : (xs : List ℤ) → scaled (pos 1) xs ≡ xs
+pub scaled_one : (xs : List ℤ) → scaled (pos 1) xs ≡ xs
 scaled_one [] = refl
 scaled_one (x ∷ xs) = ap₂ (λ y ys. y ∷ ys) (omega (arith, ints)) (scaled_one xs)
 

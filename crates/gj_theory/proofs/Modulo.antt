@@ -72,10 +72,6 @@ residue_only m x r low same =
     (zero_difference m (x -ℤ pos r) (x -ℤ pos s) same apart)) in
     is ∙ ap pos e
 
--- the rest is 0 exactly if the number is
-pub residue_zero : (m : ℕ) (x : ℤ) → 0 < m → IsZeroModulo m x → residue m x ≡ pos 0
-residue_zero m x some h = residue_only m x 0 some (zero_is m (x -ℤ pos 0) x (omega (arith, ints)) h)
-
 -- numbers that are the same modulo m have one rest
 pub residue_of_same : (m : ℕ) (x y : ℤ) → 0 < m → IsZeroModulo m (x -ℤ y) → residue m x ≡ residue m y
 residue_of_same m x y some h =

@@ -19,7 +19,7 @@ use Rattle.gj_tools.specs.Divisors.{gcd_of}
 use Rattle.gj_frac.specs.Fraction.{Fits}
 use Rattle.gj_shape.specs.Elimination.{KeptRow, Insertion, Arithmetic, whole_numbers, at_column, scaled, differences, divided, row_factor, kept_factor, eliminated, reduced, marked_in_step, kept_entries, insertion, insertion_by, inserted, inserted_at, inserted_at_by, kept_behind, row_with_pivot, Passes}
 use Rattle.gj_theory.specs.HandedOver.{kept_after}
-use Rattle.gj_theory.proofs.DividedRows.{divided_fits}
+use Rattle.gj_theory.proofs.DividedRows.{divided_fits, scaled_one}
 use Rattle.gj_theory.proofs.Entries.{at_scaled, divided_at_zero, kept_at_pivot}
 use Rattle.gj_theory.proofs.Passing.{none_passes, first_passes, later_passes, front_passes, back_passes, either_passes, none_pass}
 use Rattle.gj_theory.proofs.RowSums.{divided_times}
@@ -99,10 +99,6 @@ factors_of_itself row c d some is =
       mul_cancel_right_z (row_factor (kept_entries row c) row c) (pos 1) e (first ∙ sym (one_mul_z e)) (positive_some_z e positive),
       mul_cancel_right_z (kept_factor (kept_entries row c) row c) d e (second ∙ sym product) (positive_some_z e positive),
     )
-
-scaled_one : (xs : List ℤ) → scaled (pos 1) xs ≡ xs
-scaled_one [] = refl
-scaled_one (x ∷ xs) = ap₂ (λ y ys. y ∷ ys) (one_mul_z x) (scaled_one xs)
 
 no_difference : (xs : List ℤ) → IsZeros (differences xs xs)
 no_difference [] i = refl

@@ -1,4 +1,3 @@
-use Rattle.std.proofs.Common.{arith}
 use Rattle.gj_cover.proofs.Classes.{none_uncovered, some_uncovered}
 use Rattle.gj_cover.specs.Table.{IsTightIn}
 use Rattle.gj_cover.proofs.class.least_class.Goals as goal

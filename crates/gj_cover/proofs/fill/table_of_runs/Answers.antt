@@ -1,4 +1,4 @@
-use Rattle.std.proofs.Common.{◌≡◌, length, get_or, sym, subst, ap, ◌∙◌, arith}
+use Rattle.std.proofs.Common.{◌≡◌, length, get_or, sym, subst, arith}
 use Rattle.std.proofs.lemmas.List.{get_or_default}
 use Rattle.gj_faces.specs.declared.run.Run.{Run}
 use Rattle.gj_cover.proofs.Marks.{HoldRuns, no_runs, one_run_more, tells_runs}

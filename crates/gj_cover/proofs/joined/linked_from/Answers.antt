@@ -1,12 +1,10 @@
-use Rattle.std.proofs.Common.{◌≡◌, ◌+◌, ◌%◌, ◌<◌, ◌&&◌, ◌||◌, Bool, true, ap, ap₂, sym, ◌∙◌, inl, inr, arith}
+use Rattle.std.proofs.Common.{◌+◌, ◌%◌, ◌&&◌, ◌||◌, Bool, ap, ap₂, sym, ◌∙◌, inl, inr, arith}
 use Rattle.std.proofs.Math.Nat.{mod-lt}
 use Rattle.std.proofs.lemmas.Bool.{or_cases, and_parts}
 use Rattle.gj_sets.specs.IndexSets.{has}
-use Rattle.gj_cover.specs.Table.{is_tight_in}
 use Rattle.gj_cover.proofs.LinkSets.{linked_from}
 use Rattle.gj_cover.proofs.Turns.{place_of, turned_place, in_below, turned_in, back_in}
 use Rattle.gj_cover.proofs.joined.linked_from.Goals as goal
-
 
 pub returns-clause-within : goal.returns-clause-within
 returns-clause-within c j e =

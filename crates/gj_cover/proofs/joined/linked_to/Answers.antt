@@ -1,12 +1,11 @@
-use Rattle.std.proofs.Common.{◌≡◌, ◌+◌, ◌%◌, ◌<◌, ◌&&◌, ◌||◌, Bool, true, refl, ap, ap₂, sym, ◌∙◌, inl, inr, arith}
+use Rattle.std.proofs.Common.{◌≡◌, ◌+◌, ◌%◌, ◌&&◌, ◌||◌, Bool, refl, ap, ap₂, sym, ◌∙◌, inl, inr, arith}
 use Rattle.std.proofs.Math.Nat.{mod-lt, mod-mod, mod-eq_of_lt}
 use Rattle.std.proofs.lemmas.Bool.{or_cases, and_parts}
 use Rattle.gj_faces.proofs.Periods.{same_sum}
 use Rattle.gj_sets.specs.IndexSets.{has}
-use Rattle.gj_cover.specs.Table.{is_tight_in}
 use Rattle.gj_cover.proofs.LinkSets.{linked_to}
 use Rattle.gj_cover.proofs.Parts.{add_same}
-use Rattle.gj_cover.proofs.Turns.{place_of, turned_place, in_below, turned_in, back_in}
+use Rattle.gj_cover.proofs.Turns.{place_of, turned_place, in_below, back_in}
 use Rattle.gj_cover.proofs.joined.linked_to.Goals as goal
 
 pub returns-clause-within : goal.returns-clause-within

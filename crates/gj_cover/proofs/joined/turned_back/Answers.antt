@@ -1,4 +1,4 @@
-use Rattle.std.proofs.Common.{◌≡◌, ◌+◌, ◌-◌, ◌%◌, ◌<◌, ◌&&◌, ltb, ap, sym, ◌∙◌, inl, inr, arith}
+use Rattle.std.proofs.Common.{◌+◌, ◌-◌, ◌%◌, ◌&&◌, ltb, ap, sym, ◌∙◌, inl, inr, arith}
 use Rattle.std.proofs.lemmas.Bool.{cases_lt, and_left, le-ltb}
 use Rattle.gj_sets.specs.IndexSets.{has}
 use Rattle.gj_cover.proofs.Turns.{place_of, place_back}

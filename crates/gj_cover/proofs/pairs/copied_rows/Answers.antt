@@ -1,4 +1,4 @@
-use Rattle.std.proofs.Common.{◌≡◌, ◌<◌, ◌+◌, ◌↔◌, ◌++◌, ◌∷◌, [], List, length, IsTrue, ap, sym, ◌∙◌, subst, arith}
+use Rattle.std.proofs.Common.{◌<◌, ◌+◌, ◌↔◌, ◌∷◌, [], List, length, IsTrue, ap, sym, ◌∙◌, subst}
 use Rattle.std.proofs.lemmas.List.{length-append}
 use Rattle.gj_sets.specs.declared.index_set.IndexSet.{IndexSet}
 use Rattle.gj_shape.specs.Additive.{IsTight}

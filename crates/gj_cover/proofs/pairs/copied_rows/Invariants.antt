@@ -1,4 +1,4 @@
-use Rattle.std.proofs.Common.{◌≡◌, ℕ, ◌+◌, ◌-◌, ◌<◌, ◌↔◌, IsTrue, length}
+use Rattle.std.proofs.Common.{◌≡◌, ℕ, ◌<◌, ◌↔◌, IsTrue, length}
 use Rattle.gj_shape.specs.Additive.{IsTight}
 use Rattle.gj_cover.specs.SetRows.{in_row}
 use Rattle.gj_cover.proofs.pairs.copied_rows.Given as goal

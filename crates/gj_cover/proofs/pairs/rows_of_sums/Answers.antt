@@ -1,4 +1,4 @@
-use Rattle.std.proofs.Common.{◌≡◌, ◌<◌, ◌+◌, ◌-◌, ◌%◌, ◌↔◌, ◌++◌, ◌∷◌, [], List, length, IsTrue, refl, ap, sym, ◌∙◌, subst, arith}
+use Rattle.std.proofs.Common.{◌≡◌, ◌<◌, ◌+◌, ◌-◌, ◌%◌, ◌↔◌, ◌∷◌, [], List, length, IsTrue, refl, ap, sym, ◌∙◌, subst}
 use Rattle.std.proofs.Math.Nat.{mod-mod}
 use Rattle.std.proofs.lemmas.List.{length-append}
 use Rattle.gj_sets.specs.declared.index_set.IndexSet.{IndexSet}
@@ -28,8 +28,9 @@ loop-s-preserved c =
           (row_more (λ m k. IsTight f (f.place + (q - m)) k) q n rows row c.loop-s.invariant.0
           (λ k k_below.
           let told = c.row.ensures.tells k (subst (λ m. k < m) (sym c.requires.order) k_below) in
-          let tight = c.requires.tell place k in
-          (λ h. tight_is_periodic f limits place k far k same refl (tight.0 (told.0 h)),
-          λ h. told.1 (tight.1 (tight_is_periodic f limits far k place k (sym same) refl h))))
+          let tight = c.requires.tell place k in (
+            λ h. tight_is_periodic f limits place k far k same refl (tight.0 (told.0 h)),
+            λ h. told.1 (tight.1 (tight_is_periodic f limits far k place k (sym same) refl h)),
+          ))
           c.loop-s.invariant.1 s b below b_below),
     )

@@ -1,4 +1,4 @@
-use Rattle.std.proofs.Common.{◌≡◌, ◌≤◌, ◌<◌, length, refl, ◌∙◌, arith}
+use Rattle.std.proofs.Common.{◌<◌, length, refl, ◌∙◌, arith}
 use Rattle.std.proofs.Math.ListN.{length-set}
 use Rattle.gj_cover.proofs.Turned.{added_one, others_stay, all_added}
 use Rattle.gj_cover.proofs.transposed.add_to_columns.Goals as goal

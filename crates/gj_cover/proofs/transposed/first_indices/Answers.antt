@@ -1,4 +1,4 @@
-use Rattle.std.proofs.Common.{◌≡◌, ◌<◌, length, refl, subst, arith}
+use Rattle.std.proofs.Common.{length, refl, subst, arith}
 use Rattle.gj_cover.specs.SetRows.{AreColumns}
 use Rattle.gj_cover.proofs.Turned.{firsts_are}
 use Rattle.gj_cover.proofs.transposed.first_indices.Goals as goal

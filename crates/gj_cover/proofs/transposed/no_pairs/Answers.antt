@@ -1,8 +1,7 @@
-use Rattle.std.proofs.Common.{◌≡◌, ◌+◌, ◌++◌, ◌∷◌, [], length, ap, sym, ◌∙◌, inl, inr, arith}
-use Rattle.std.proofs.lemmas.Bool.{cases_lt, cases_order}
+use Rattle.std.proofs.Common.{◌+◌, ◌∷◌, [], length, ap, ◌∙◌, arith}
 use Rattle.std.proofs.lemmas.List.{length-append}
 use Rattle.gj_cover.specs.SetRows.{in_row}
-use Rattle.gj_cover.proofs.SetRows.{row_before, row_pushed, row_past, no_more}
+use Rattle.gj_cover.proofs.SetRows.{row_past, no_more}
 use Rattle.gj_cover.proofs.transposed.no_pairs.Goals as goal
 
 pub loop-a-init : goal.loop-a-init

@@ -1,8 +1,8 @@
-use Rattle.std.proofs.Common.{◌≡◌, ◌<◌, ltb, ap, sym, ◌∙◌, arith}
+use Rattle.std.proofs.Common.{◌<◌, ap, sym, ◌∙◌, arith}
 use Rattle.std.proofs.lemmas.List.{get_or_default}
 use Rattle.std.proofs.lemmas.Bool.{lt-ltb, le-ltb}
 use Rattle.gj_cover.specs.SetRows.{in_row}
-use Rattle.std.proofs.Common.{◌&&◌, false}
+use Rattle.std.proofs.Common.{◌&&◌}
 use Rattle.gj_cover.proofs.Turned.{row_added}
 use Rattle.gj_cover.proofs.transposed.transposed.Goals as goal
 

@@ -6,33 +6,13 @@ use Rattle.gj_faces.proofs.maximal_faces.push_square.Goals as goal
 
 pub push_if-requires : goal.push_if-requires
 push_if-requires c =
-    let both = c.requires.alone.each Vertex c.args.b c.requires.second in
+    let both = c.requires.alone.each Lower c.args.b c.requires.second in
     let same = c.contains.ensures in (λ yes. both.0 (sym same ∙ yes), λ maximal. same ∙ both.1 maximal)
 
 pub push_if-requires-2 : goal.push_if-requires-2
 push_if-requires-2 c =
-    let both = c.requires.alone.each Horizontal c.args.b c.requires.second in
-    let same = c.contains-2.ensures in (λ yes. both.0 (sym same ∙ yes), λ maximal. same ∙ both.1 maximal)
-
-pub push_if-requires-3 : goal.push_if-requires-3
-push_if-requires-3 c =
-    let both = c.requires.alone.each Vertical c.args.b c.requires.second in
-    let same = c.contains-3.ensures in (λ yes. both.0 (sym same ∙ yes), λ maximal. same ∙ both.1 maximal)
-
-pub push_if-requires-4 : goal.push_if-requires-4
-push_if-requires-4 c =
-    let both = c.requires.alone.each Diagonal c.args.b c.requires.second in
-    let same = c.contains-4.ensures in (λ yes. both.0 (sym same ∙ yes), λ maximal. same ∙ both.1 maximal)
-
-pub push_if-requires-5 : goal.push_if-requires-5
-push_if-requires-5 c =
-    let both = c.requires.alone.each Lower c.args.b c.requires.second in
-    let same = c.contains-5.ensures in (λ yes. both.0 (sym same ∙ yes), λ maximal. same ∙ both.1 maximal)
-
-pub push_if-requires-6 : goal.push_if-requires-6
-push_if-requires-6 c =
     let both = c.requires.alone.each Upper c.args.b c.requires.second in
-    let same = c.contains-6.ensures in (λ yes. both.0 (sym same ∙ yes), λ maximal. same ∙ both.1 maximal)
+    let same = c.contains-2.ensures in (λ yes. both.0 (sym same ∙ yes), λ maximal. same ∙ both.1 maximal)
 
 pub returns : goal.returns
 returns c =
@@ -40,16 +20,9 @@ returns c =
     let a = c.args.a in
     let b = c.args.b in
     let old = c.args.faces.now.items in
-    let one = c.push_if.new.faces.items in
-    let two = c.push_if-2.new.faces.items in
-    let three = c.push_if-3.new.faces.items in
-    let four = c.push_if-4.new.faces.items in
-    let five = c.push_if-5.new.faces.items in
-    let all = c.push_if-6.new.faces.items in
+    let four = c.push_edges.new.faces.items in
+    let five = c.push_if.new.faces.items in
+    let all = c.push_if-2.new.faces.items in
     adds_joined f (faces_in (Vertex ∷ Horizontal ∷ Vertical ∷ Diagonal ∷ Lower ∷ []) a b) (faces_in (Upper ∷ []) a b) old five all
     (adds_joined f (faces_in (Vertex ∷ Horizontal ∷ Vertical ∷ Diagonal ∷ []) a b) (faces_in (Lower ∷ []) a b) old four five
-    (adds_joined f (faces_in (Vertex ∷ Horizontal ∷ Vertical ∷ []) a b) (faces_in (Diagonal ∷ []) a b) old three four
-    (adds_joined f (faces_in (Vertex ∷ Horizontal ∷ []) a b) (faces_in (Vertical ∷ []) a b) old two three
-    (adds_joined f (faces_in (Vertex ∷ []) a b) (faces_in (Horizontal ∷ []) a b) old one two c.in_ok-push_if.ensures
-    c.in_ok-push_if-2.ensures) c.in_ok-push_if-3.ensures) c.in_ok-push_if-4.ensures) c.in_ok-push_if-5.ensures)
-    c.in_ok-push_if-6.ensures
+    c.in_ok-push_edges.ensures c.in_ok-push_if.ensures) c.in_ok-push_if-2.ensures

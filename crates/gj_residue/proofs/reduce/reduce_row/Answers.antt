@@ -1,5 +1,4 @@
-use Rattle.std.proofs.Common.{rules, length, get_or, [], ◌∷◌, ◌++◌, sym, ap, subst, ◌∙◌, arith}
-use Rattle.gj_shape.specs.Elimination.{insertion_by}
+use Rattle.std.proofs.Common.{length, [], ◌∷◌, ◌++◌, sym, ap, subst, ◌∙◌, arith}
 use Rattle.gj_shape.specs.Residues.{modulo}
 use Rattle.gj_theory.specs.Modulus.{modulus}
 use Rattle.gj_elim.proofs.Places.{row_read}

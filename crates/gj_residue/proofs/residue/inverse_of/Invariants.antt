@@ -1,4 +1,3 @@
-use Rattle.std.proofs.Common.{◌<◌}
 use Rattle.gj_theory.specs.Modulus.{modulus}
 use Rattle.gj_residue.proofs.Euclid.{IsEuclid}
 use Rattle.gj_residue.proofs.residue.inverse_of.Given as goal

@@ -1,4 +1,4 @@
-use Rattle.std.proofs.Common.{ℕ, ℤ, refl, List, length, get_or, [], ◌∷◌, ◌≡◌, ap, sym, subst, ◌∙◌, arith}
+use Rattle.std.proofs.Common.{ℤ, refl, List, length, ap, sym, subst, ◌∙◌, arith}
 use Rattle.std.specs.Prelude.{All}
 use Rattle.std.proofs.lemmas.List.Elements.{All-head, All-tail}
 use Rattle.gj_frac.specs.Fraction.{Fits}

@@ -1,4 +1,4 @@
-use Rattle.std.proofs.Common.{ℕ, ℤ, refl, List, length, get_or, [], ◌∷◌, ◌≡◌, ap, sym, subst, ◌∙◌, arith}
+use Rattle.std.proofs.Common.{refl, length, ap, sym, ◌∙◌, arith}
 use Rattle.gj_shape.specs.Residues.{modulo}
 use Rattle.gj_theory.specs.Modulus.{modulus}
 use Rattle.gj_elim.specs.Data.{behind_by}

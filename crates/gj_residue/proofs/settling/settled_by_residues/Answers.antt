@@ -1,5 +1,4 @@
-use Rattle.std.proofs.Common.{length, map, ap, sym, ◌∙◌, arith}
-use Rattle.std.proofs.Math.Nat.{le_antisymm}
+use Rattle.std.proofs.Common.{length, map, ap, ◌∙◌, arith}
 use Rattle.gj_elim.specs.KeptRows.{log_row}
 use Rattle.gj_theory.proofs.ResidueElimination.{residue_rank_at_most}
 use Rattle.gj_residue.proofs.settling.settled_by_residues.Goals as goal

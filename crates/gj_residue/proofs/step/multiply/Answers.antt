@@ -1,7 +1,7 @@
-use Rattle.std.proofs.Common.{pos, ap, sym, length, ◌*ℤ◌, ◌∙◌, arith}
+use Rattle.std.proofs.Common.{pos, ap, sym, ◌*ℤ◌, ◌∙◌, arith}
 use Rattle.gj_shape.specs.Residues.{residue}
 use Rattle.gj_theory.specs.Modulus.{modulus}
-use Rattle.gj_residue.proofs.EachEntry.{done_start, done_more, done_all, multiplied_entry, multiplied_at, length-multiplied}
+use Rattle.gj_residue.proofs.EachEntry.{done_more, done_all, multiplied_entry, multiplied_at, length-multiplied}
 use Rattle.gj_residue.proofs.step.multiply.Goals as goal
 
 pub loop-i-preserved : goal.loop-i-preserved

@@ -1,4 +1,4 @@
-use Rattle.std.proofs.Common.{rules, pos, ap, sym, length, get_or, ◌∙◌, arith}
+use Rattle.std.proofs.Common.{rules, pos, sym, get_or, ◌∙◌, arith}
 use Rattle.std.proofs.lemmas.Int.{to_z-of_z}
 use Rattle.std.proofs.lemmas.List.{length-map}
 use mir.Syntax.{w128}

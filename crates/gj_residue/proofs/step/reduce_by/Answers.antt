@@ -1,4 +1,4 @@
-use Rattle.std.proofs.Common.{pos, ap, sym, length, get_or, ◌-ℤ◌, ◌*ℤ◌, ◌∙◌, arith}
+use Rattle.std.proofs.Common.{pos, ap, sym, get_or, ◌-ℤ◌, ◌*ℤ◌, ◌∙◌, arith}
 use Rattle.gj_shape.specs.Residues.{residue}
 use Rattle.gj_theory.specs.Modulus.{modulus}
 use Rattle.gj_residue.proofs.EachEntry.{done_more, done_all, all_low, reduced_entry, reduced_at, length-reduced}

@@ -1,4 +1,3 @@
-use Rattle.std.proofs.Common.{arith}
 use Rattle.gj_cover.specs.Table.{IsTightIn}
 use Rattle.gj_cover.proofs.Classes.{reached_on, reached_all}
 use Rattle.gj_cover.proofs.reached.Reached.from.Goals as goal

@@ -1,4 +1,4 @@
-use Rattle.std.proofs.Common.{◌≡◌, ◌<◌, ◌&&◌, ◌||◌, not, eqb, ap, ◌∙◌, arith}
+use Rattle.std.proofs.Common.{◌<◌, ◌&&◌, not, eqb, ap, ◌∙◌, arith}
 use Rattle.gj_sets.specs.IndexSets.{has}
 use Rattle.gj_cover.specs.Table.{IsTightIn}
 use Rattle.gj_cover.specs.declared.reached.Reached.{Reached}

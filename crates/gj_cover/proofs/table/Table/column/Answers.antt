@@ -1,5 +1,5 @@
-use Rattle.std.proofs.Common.{◌≡◌, ◌+◌, ◌%◌, ◌<◌, length, ap, sym, ◌∙◌, arith}
-use Rattle.std.proofs.Math.Nat.{mod-mod, mod-lt, mod-eq_of_lt}
+use Rattle.std.proofs.Common.{◌%◌, ◌<◌, length, ap, sym, ◌∙◌, arith}
+use Rattle.std.proofs.Math.Nat.{mod-eq_of_lt}
 use Rattle.gj_cover.specs.SetRows.{in_row}
 use Rattle.gj_cover.specs.Table.{is_tight_in}
 use Rattle.gj_cover.proofs.SetRows.{row_has}

@@ -1,6 +1,6 @@
-use Rattle.std.proofs.Common.{◌≡◌, ◌%◌, refl, ap, sym, ◌∙◌, arith}
+use Rattle.std.proofs.Common.{◌%◌, refl, ap, sym, ◌∙◌}
 use Rattle.std.proofs.Math.Nat.{mod-mod}
-use Rattle.gj_cover.specs.Table.{is_tight_in, IsTightIn}
+use Rattle.gj_cover.specs.Table.{IsTightIn}
 use Rattle.gj_cover.proofs.TablePairs.{same_tight}
 use Rattle.gj_cover.proofs.table.Table.is_tight.Goals as goal
 

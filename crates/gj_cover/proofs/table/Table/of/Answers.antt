@@ -1,4 +1,4 @@
-use Rattle.std.proofs.Common.{◌≡◌, List, length, ap, ◌∙◌, subst}
+use Rattle.std.proofs.Common.{List, length, ap, ◌∙◌, subst}
 use Rattle.gj_sets.specs.declared.index_set.IndexSet.{IndexSet}
 use Rattle.gj_cover.specs.SetRows.{AreColumns, AreFirsts}
 use Rattle.gj_cover.proofs.Turned.{seconds_are}

@@ -7,12 +7,12 @@ use Rattle.gj_shape.specs.Additive.{IsTight}
 use Rattle.gj_shape.specs.declared.faces.FaceKind.TheVariants.{Vertex, Horizontal, Vertical, Diagonal, Lower, Upper}
 use Rattle.gj_faces.specs.Alone.{set_of}
 use Rattle.gj_faces.specs.declared.alone.Alone.{Alone}
-use Rattle.gj_faces.proofs.AloneFlags.{Around, AreAround, AreFlags, all_flags, any_flag, flag, no_flag}
+use Rattle.gj_faces.proofs.AloneFlags.{Around, AreAround, AreFlags, all_flags, any_flag, edge_flag, flag, no_flag}
 use Rattle.gj_faces.proofs.PairRows.{row_of_index, next_in_row, previous_in_row}
 use Rattle.gj_faces.proofs.alone.Alone.of.Goals as goal
 
 -- what the rows and their neighbours have at an index
-around_of : (c : goal.After-or-12) → ℕ → Around
+around_of : (c : goal.After-or-11) → ℕ → Around
 around_of c b = record {
   middle = has c.row-middle.result.now b;
   east = has c.row-east.result.now b;
@@ -25,9 +25,10 @@ around_of c b = record {
 }
 
 -- the sets
-alone_of : goal.After-or-12 → Alone
+alone_of : goal.After-or-11 → Alone
 alone_of c = record {
-  any = c.or-12.result;
+  any = c.or-11.result;
+  edges = c.or-edges.result;
   vertex = c.and_not-vertex.result;
   horizontal = c.and_not-horizontal.result;
   vertical = c.and_not-vertical.result;
@@ -36,7 +37,7 @@ alone_of c = record {
   upper = c.and-upper.result;
 }
 
-vertex_at : (c : goal.After-or-12) (b : ℕ) → has c.and_not-vertex.result b ≡ flag Vertex (around_of c b)
+vertex_at : (c : goal.After-or-11) (b : ℕ) → has c.and_not-vertex.result b ≡ flag Vertex (around_of c b)
 unfolding around_of
 vertex_at c b =
     let or' = c.or.ensures b in
@@ -47,7 +48,7 @@ vertex_at c b =
     let without_vertex' = c.and_not-vertex.ensures b in
     cc
 
-horizontal_at : (c : goal.After-or-12) (b : ℕ) → has c.and_not-horizontal.result b ≡ flag Horizontal (around_of c b)
+horizontal_at : (c : goal.After-or-11) (b : ℕ) → has c.and_not-horizontal.result b ≡ flag Horizontal (around_of c b)
 unfolding around_of
 horizontal_at c b =
     let and_low' = c.and-low.ensures b in
@@ -55,7 +56,7 @@ horizontal_at c b =
     let without_horizontal' = c.and_not-horizontal.ensures b in
     cc
 
-vertical_at : (c : goal.After-or-12) (b : ℕ) → has c.and_not-vertical.result b ≡ flag Vertical (around_of c b)
+vertical_at : (c : goal.After-or-11) (b : ℕ) → has c.and_not-vertical.result b ≡ flag Vertical (around_of c b)
 unfolding around_of
 vertical_at c b =
     let and' = c.and.ensures b in
@@ -63,7 +64,7 @@ vertical_at c b =
     let without_vertical' = c.and_not-vertical.ensures b in
     cc
 
-diagonal_at : (c : goal.After-or-12) (b : ℕ) → has c.and_not-diagonal.result b ≡ flag Diagonal (around_of c b)
+diagonal_at : (c : goal.After-or-11) (b : ℕ) → has c.and_not-diagonal.result b ≡ flag Diagonal (around_of c b)
 unfolding around_of
 diagonal_at c b =
     let and_high' = c.and-high.ensures b in
@@ -71,21 +72,32 @@ diagonal_at c b =
     let without_diagonal' = c.and_not-diagonal.ensures b in
     cc
 
-lower_at : (c : goal.After-or-12) (b : ℕ) → has c.and-lower.result b ≡ flag Lower (around_of c b)
+lower_at : (c : goal.After-or-11) (b : ℕ) → has c.and-lower.result b ≡ flag Lower (around_of c b)
 unfolding around_of
 lower_at c b =
     let and_low' = c.and-low.ensures b in
     let and_lower' = c.and-lower.ensures b in
     cc
 
-upper_at : (c : goal.After-or-12) (b : ℕ) → has c.and-upper.result b ≡ flag Upper (around_of c b)
+upper_at : (c : goal.After-or-11) (b : ℕ) → has c.and-upper.result b ≡ flag Upper (around_of c b)
 unfolding around_of
 upper_at c b =
     let and_high' = c.and-high.ensures b in
     let and_upper' = c.and-upper.ensures b in
     cc
 
-any_at : (c : goal.After-or-12) (b : ℕ) → has c.or-12.result b ≡ any_flag (around_of c b)
+edges_at : (c : goal.After-or-11) (b : ℕ) → has c.or-edges.result b ≡ edge_flag (around_of c b)
+edges_at c b =
+    let vertex = vertex_at c b in
+    let horizontal = horizontal_at c b in
+    let vertical = vertical_at c b in
+    let diagonal = diagonal_at c b in
+    let or_8' = c.or-8.ensures b in
+    let or_9' = c.or-9.ensures b in
+    let or_edges' = c.or-edges.ensures b in
+    cc
+
+any_at : (c : goal.After-or-11) (b : ℕ) → has c.or-11.result b ≡ any_flag (around_of c b)
 any_at c b =
     let vertex = vertex_at c b in
     let horizontal = horizontal_at c b in
@@ -93,15 +105,13 @@ any_at c b =
     let diagonal = diagonal_at c b in
     let lower = lower_at c b in
     let upper = upper_at c b in
-    let or_8' = c.or-8.ensures b in
-    let or_9' = c.or-9.ensures b in
+    let edges = edges_at c b in
     let or_10' = c.or-10.ensures b in
     let or_11' = c.or-11.ensures b in
-    let or_12' = c.or-12.ensures b in
     cc
 
 -- each set has the flag of its kind
-flags_at : (c : goal.After-or-12) (b : ℕ) → AreFlags (alone_of c) b (around_of c b)
+flags_at : (c : goal.After-or-11) (b : ℕ) → AreFlags (alone_of c) b (around_of c b)
 unfolding alone_of
 flags_at c b = record {
   each = λ kind. elim kind as (λ k. has (set_of (alone_of c) k) b ≡ flag k (around_of c b)) [
@@ -113,9 +123,10 @@ flags_at c b = record {
     | Upper ↦ upper_at c b
   ];
   any = any_at c b;
+  edges = edges_at c b;
 }
 
-tells_at : (c : goal.After-or-12) (b : ℕ) → b < c.args.shape.now.order →
+tells_at : (c : goal.After-or-11) (b : ℕ) → b < c.args.shape.now.order →
     AreAround c.args.shape.now.order (IsTight c.args.shape.now) c.args.a b (around_of c b)
 unfolding around_of
 tells_at c b below =
@@ -151,7 +162,7 @@ tells_at c b below =
           (c.turned_down-north_east.ensures b ∙ after c.row-east.result.now);
     }
 
-none_from : (c : goal.After-or-12) (b : ℕ) → c.args.shape.now.order ≤ b → any_flag (around_of c b) ≡ false
+none_from : (c : goal.After-or-11) (b : ℕ) → c.args.shape.now.order ≤ b → any_flag (around_of c b) ≡ false
 unfolding around_of
 none_from c b past =
     let order = c.requires.pairs.order in

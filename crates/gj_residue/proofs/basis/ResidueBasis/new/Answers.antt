@@ -1,4 +1,4 @@
-use Rattle.std.proofs.Common.{length, map, ap, ap₂, sym, subst, ◌∙◌}
+use Rattle.std.proofs.Common.{length, ap, ap₂, sym, subst, ◌∙◌}
 use Rattle.gj_theory.specs.TriangularResidues.{AreTriangularResidues}
 use Rattle.gj_theory.proofs.ResidueElimination.{no_residues_triangular}
 use Rattle.gj_residue.specs.Rows.{kept_residues}
