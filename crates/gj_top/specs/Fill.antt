@@ -7,7 +7,7 @@ use Rattle.gj_lex.specs.NumberText.{fraction_text}
 use Rattle.gj_shape.specs.FunctionData.{FunctionData, IsContinuous, at}
 use Rattle.gj_shape.specs.declared.breaks.Break.{Break}
 use Rattle.gj_lines.specs.FunctionLines.{line}
-use Rattle.gj_ftext.specs.WrittenBreaks.{breaks_text}
+use Rattle.gj_ftext.specs.FunctionText.{canonical_breaks_text}
 use Rattle.gj_fill.specs.FillIn.{IsSubadditiveTable, filled}
 use Rattle.gj_fill.specs.FillPoints.{AreFillBreaks}
 use Rattle.gj_fill.specs.FirstPair.{IsFirstPair}
@@ -26,7 +26,7 @@ pub record IsFillText (f : FunctionData) (text : List ℕ) : Type 0 where
   pub place_is : IsRatio place (pos f.place) (pos f.order)
   pub breaks_are : AreFillBreaks f breaks
   pub subadditive : (m : ℕ) → 0 < m → IsSubadditiveTable (filled (at f.value) breaks_are.rise breaks_are.fall m)
-  pub spelled : text ≡ breaks_text place breaks
+  pub spelled : text ≡ canonical_breaks_text place breaks
 
 -- the text names the first two multiples of 1/order at which the function is not subadditive
 pub record NamesFirstPair (f : FunctionData) (text : List ℕ) : Type 0 where
