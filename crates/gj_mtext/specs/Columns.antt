@@ -1,11 +1,9 @@
 -- Which columns are continuous (own).
-use Rattle.std.specs.Prelude.{ℕ, Bool, true, false, nat_eq, ◌&&◌, List, [], ◌∷◌, map}
+use Rattle.std.specs.Prelude.{ℕ, Bool, nat_eq, ◌&&◌, List, map, slice_index}
 
--- the name begins with `c:`
-unfoldable pub begins_with_c : List ℕ → Bool
-begins_with_c [] = false
-begins_with_c (a ∷ []) = false
-begins_with_c (a ∷ b ∷ rest) = nat_eq a 99 && nat_eq b 58
+-- the name begins with `c:`; past its end it has 0
+abbrev pub begins_with_c : List ℕ → Bool
+begins_with_c name = nat_eq (slice_index name 0) 99 && nat_eq (slice_index name 1) 58
 
 -- of each column, by its name, whether it is continuous
 abbrev pub continuous_columns : List (List ℕ) → List Bool

@@ -20,5 +20,8 @@ pub(crate) fn continuous_columns(alloc: Global, columns: &[Name]) -> Result<Vec<
 fn begins_with_c(name: &[u8]) -> bool
     ensures { result ≡ begins_with_c name.now }
 {
-    matches!(name, [b'c', b':', ..])
+    if name.len() < 2 {
+        return false;
+    }
+    name[0] == b'c' && name[1] == b':'
 }

@@ -103,7 +103,15 @@ fn function_lines(
         requires { IsRowNumber x }
         ensures { IsValueOf shape.entry.now x result }
     { table_value(shape, x) };
-    let lines = lines_by(alloc, kept, eval, at_zero, |c| at_zero.weight(c), columns, rows)?;
+    let lines = lines_by(
+        alloc,
+        kept,
+        eval,
+        at_zero,
+        |c| at_zero.weight(c),
+        columns,
+        rows,
+    )?;
     Ok(lines)
 }
 
