@@ -34,9 +34,9 @@ mod reply;
 mod report;
 mod show;
 mod status;
-mod transform;
 #[cfg(test)]
 mod tests;
+mod transform;
 
 use answer::answer_to;
 pub use laws::{
