@@ -1,5 +1,5 @@
 -- Tight pairs of a function as rows of sets, and those of a function whose values at opposite points add up to 1 by their sums.
-use Rattle.std.proofs.Common.{◌≡◌, ℕ, ◌+◌, ◌-◌, ◌%◌, ◌<◌, ◌↔◌, ℤ, pos, ◌+ℤ◌, Bool, true, false, IsTrue, List, [], ◌∷◌, ◌++◌, length, refl, sym, ap, ◌∙◌, subst, inl, inr, arith}
+use Rattle.std.proofs.Common.{◌≡◌, ℕ, ◌+◌, ◌-◌, ◌%◌, ◌<◌, ◌↔◌, ℤ, pos, ◌+ℤ◌, IsTrue, List, [], ◌∷◌, ◌++◌, length, refl, sym, ap, ◌∙◌, subst, inl, inr, arith}
 use Rattle.std.proofs.Math.Nat.{mod-mod, mod-lt, mod-eq_of_lt, mod-eq-sub-mod}
 use Rattle.std.proofs.lemmas.Bool.{cases_lt}
 use Rattle.std.proofs.lemmas.Int.{ints}
@@ -8,24 +8,15 @@ use Rattle.gj_sets.specs.declared.index_set.IndexSet.{IndexSet}
 use Rattle.gj_shape.specs.Additive.{IsTight}
 use Rattle.gj_shape.specs.FunctionData.{FunctionData, IsWithinBounds, at}
 use Rattle.gj_faces.proofs.Periods.{tight_is_periodic}
-use Rattle.gj_shape.proofs.AtLemmas.{at_same_remainder}
+use Rattle.gj_shape.proofs.AtLemmas.{at_same_remainder, at_wrapped}
+use Rattle.gj_theory.proofs.Zigzags.{same_tests}
 use Rattle.gj_cover.specs.Mirrored.{AreMirrored}
 use Rattle.gj_cover.specs.SetRows.{in_row, AreColumns, AreFirsts, AreSeconds}
 use Rattle.gj_cover.specs.Table.{is_tight_in, IsTightIn, TellsTight}
 use Rattle.gj_cover.specs.declared.table.Table.{Table}
 use Rattle.gj_cover.proofs.SetRows.{row_before, row_pushed}
 
--- tests that pass together are one
-same : (x y : Bool) → (x ≡ true → y ≡ true) → (y ≡ true → x ≡ true) → x ≡ y
-same true y on back = sym (on refl)
-same false true on back = back refl
-same false false on back = refl
-
 -- ---- opposite points
-
-pub same_value : (f : FunctionData) (i j : ℕ) → IsWithinBounds f → i % f.order ≡ j % f.order → at f.value i ≡ at f.value j
-same_value f i j h e =
-    at_same_remainder f.value i j (ap (λ n. i % n) h.value_length ∙ e ∙ sym (ap (λ n. j % n) h.value_length))
 
 tight_turned : (f : FunctionData) (a b : ℕ) → IsTight f a b → IsTight f b a
 tight_turned f a b h =
@@ -64,9 +55,10 @@ by_sum f w m a b a_below b_below =
     let s = (a + b) % q in
     let some : 0 < q = omega arith in
     let s_below = mod-lt (a + b) some in
-    let value : at f.value s ≡ at f.value (a + b) = same_value f s (a + b) w (mod-mod (a + b) q) in
+    let value = at_wrapped f.value (a + b) s q w.value_length refl in
     let far : at f.value (k + (q - s) + a) ≡ at f.value (k + (q - b)) =
-    same_value f (k + (q - s) + a) (k + (q - b)) w (opposite q k a b a_below b_below) in
+    at_same_remainder f.value (k + (q - s) + a) (k + (q - b))
+    (subst (λ n. (k + (q - s) + a) % n ≡ (k + (q - b)) % n) (sym w.value_length) (opposite q k a b a_below b_below)) in
     let told = values (at f.value a) (at f.value b) (at f.value s) (at f.value (k + (q - s))) (at f.value (k + (q - b))) (pos f.scale)
     (m.each s s_below) (m.each b b_below) in
     (λ h. told.0 (h ∙ far) ∙ value, λ h. told.1 (h ∙ sym value) ∙ sym far)
@@ -102,7 +94,7 @@ HaveOpposite f rows = (s b : ℕ) → s < f.order → b < f.order →
 pub columns_of : (f : FunctionData) (rows columns : List IndexSet) → HavePairs f rows → HavePairs f columns →
     AreColumns f.order rows columns
 columns_of f rows columns r c a b a_below b_below =
-    same (in_row columns b a) (in_row rows a b)
+    same_tests (in_row columns b a) (in_row rows a b)
     (λ h. (r a b a_below b_below).1 (tight_turned f b a ((c b a b_below a_below).0 h)))
     (λ h. (c b a b_below a_below).1 (tight_turned f a b ((r a b a_below b_below).0 h)))
 
@@ -113,7 +105,7 @@ firsts_of f rows firsts w m r o a b a_below b_below =
     let told = by_sum f w m a b a_below b_below in
     let there = o ((a + b) % f.order) a s_below a_below in
     let here = r a b a_below b_below in
-    same (in_row firsts ((a + b) % f.order) a) (in_row rows a b)
+    same_tests (in_row firsts ((a + b) % f.order) a) (in_row rows a b)
     (λ h. here.1 (told.0 (there.0 h))) (λ h. there.1 (told.1 (here.0 h)))
 
 pub seconds_of : (f : FunctionData) (rows seconds : List IndexSet) → IsWithinBounds f → AreMirrored f → HavePairs f rows →
@@ -122,7 +114,7 @@ seconds_of f rows seconds w m r o a b a_below b_below =
     let order : a + b ≡ b + a = omega arith in
     let turned : AreFirsts f.order rows seconds = firsts_of f rows seconds w m r o in
     ap (λ n. in_row seconds (n % f.order) b) order ∙ turned b a b_below a_below
-    ∙ same (in_row rows b a) (in_row rows a b)
+    ∙ same_tests (in_row rows b a) (in_row rows a b)
     (λ h. (r a b a_below b_below).1 (tight_turned f b a ((r b a b_below a_below).0 h)))
     (λ h. (r b a b_below a_below).1 (tight_turned f a b ((r a b a_below b_below).0 h)))
 

@@ -4,6 +4,7 @@ use Rattle.std.proofs.Math.ListN.{set}
 use Rattle.std.proofs.Math.Nat.{mod-lt}
 use Rattle.std.proofs.lemmas.Bool.{cases_lt, lt-ltb, le-ltb}
 use Rattle.std.proofs.lemmas.Bool.Decides.{eqb_tells}
+use Rattle.gj_sets.proofs.Bits.{and_all}
 use Rattle.gj_sets.specs.IndexSets.{has, IsFirst}
 use Rattle.gj_sets.specs.declared.index_set.IndexSet.{IndexSet}
 use Rattle.gj_cover.specs.SetRows.{in_row, AreColumns, AreFirsts, AreSeconds}
@@ -27,10 +28,6 @@ one_more_turned rows turned row new n len within read is before a s below s_belo
 
 -- ---- one index is added to the columns of a row
 
-with_true : (x y : Bool) → y ≡ true → x ≡ (x && y)
-with_true true y e = sym e
-with_true false y e = refl
-
 unchanged : (x b y : Bool) → y ≡ false → x ≡ (x || (b && y))
 unchanged true b y e = refl
 unchanged false true y e = sym e
@@ -52,7 +49,7 @@ added_one old now row column new a from n len first within read is done rest b i
       ap (λ k. in_row (set now n new) k i) same ∙ row_written now n i new within ∙ is i
       ∙ ap (λ x. x || eqb i a) (sym (row_has now n i column within read) ∙ ap (λ k. in_row now k i) (sym same)
       ∙ rest b i below (let at : from ≤ b = omega (arith, first.behind) in at))
-      ∙ ap (λ x. in_row old b i || x) (with_true (eqb i a) (has row b) (ap (has row) same ∙ first.found))
+      ∙ ap (λ x. in_row old b i || x) (and_all (eqb i a) (has row b) (ap (has row) same ∙ first.found))
   | inr (_, other) ↦
       row_stays now n b i new (let in' : b < length now = omega arith in in') other
       ∙ (elim (cases_lt b from) [

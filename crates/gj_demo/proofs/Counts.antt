@@ -1,21 +1,13 @@
 -- Elements that a test picks, and the covered intervals.
-use Rattle.std.proofs.Common.{rules, ◌≡◌, ℕ, zero, suc, ◌+◌, ◌*◌, ◌<◌, ◌≤◌, ◌^◌, ◌↔◌, Bool, true, false, cond, List, [], ◌∷◌, length, get_or, Option, None, Some, is_some, count_by, refl, sym, ap, ap₂, subst, ◌∙◌, zero-add, arith}
-use Rattle.std.proofs.Math.Nat.{mul-le-mul}
-use Rattle.std.specs.List.{All, filter, flat_map, range_with_len}
-use Rattle.std.proofs.lemmas.List.{length-append}
-use Rattle.std.proofs.lemmas.List.Elements.{All-nil, All-cons, All-head, All-tail}
-use Rattle.std.proofs.lemmas.List.FromFn.{length-range_with_len}
+use Rattle.std.proofs.Common.{◌≡◌, ℕ, suc, ◌+◌, ◌<◌, ◌↔◌, Bool, true, false, cond, List, [], ◌∷◌, length, Option, None, Some, is_some, count_by, refl, sym, ap, ap₂, ◌∙◌, zero-add, arith}
+use Rattle.std.specs.List.{All, filter, range_with_len}
+use Rattle.std.proofs.lemmas.List.Elements.{All-head, All-tail}
 use Rattle.std.proofs.lemmas.List.Sums.{length-filter, sum_by-cons}
 use Rattle.gj_tools.proofs.Lists.{All-range}
-use Rattle.gj_shape.specs.Additive.{IsTight, IsAdditive, IsSameFace, IsMaximalFace, border_of}
+use Rattle.gj_shape.specs.Additive.{IsTight}
 use Rattle.gj_shape.specs.Cover.{IsCovered}
 use Rattle.gj_shape.specs.FunctionData.{FunctionData}
-use Rattle.gj_shape.specs.WalkOrder.{faces_of, faces_of_square}
 use Rattle.gj_shape.specs.declared.extremality.CoverLine.{CoverLine}
-use Rattle.gj_shape.specs.declared.faces.Face.{Face}
-use Rattle.gj_shape.specs.declared.faces.FaceKind.{FaceKind}
-use Rattle.gj_shape.specs.declared.faces.FaceKind.TheVariants.{Vertex, Horizontal, Vertical, Diagonal, Lower, Upper}
-use Rattle.gj_faces.specs.Listed.{IsMaximalIn, AreMaximalFaces}
 use Rattle.gj_faces.specs.Picked.{ArePicked, none, kept, dropped}
 use Rattle.gj_cover.specs.CoverOf.{AreComponents, number_at}
 use Rattle.gj_demo.specs.Summary.{AreCoveredIntervals}

@@ -1,8 +1,7 @@
 -- Each interval of the demonstration is joined to one of the intervals 0, 1, q - 2 and q - 1, or is it.
-use Rattle.std.proofs.Common.{◌≡◌, ℕ, ◌+◌, ◌-◌, ◌*◌, ◌%◌, ◌<◌, ◌≤◌, ◌⊎◌, ⊎_elim, inl, inr, leb, eqb, if◌then◌else◌, [], ◌∷◌, All, refl, sym, ap, subst, ◌∙◌, arith}
+use Rattle.std.proofs.Common.{◌≡◌, ℕ, ◌+◌, ◌-◌, ◌*◌, ◌%◌, ◌<◌, ◌≤◌, ◌⊎◌, ⊎_elim, inl, inr, leb, eqb, if◌then◌else◌, refl, sym, ap, subst, ◌∙◌, arith}
 use Rattle.std.proofs.Math.Nat.{add-mod_right}
 use Rattle.std.proofs.lemmas.Bool.{le-leb, lt-leb, cases_lt}
-use Rattle.std.proofs.lemmas.List.Elements.{All-nil, All-cons}
 use Rattle.gj_tools.proofs.Lists.{All-two, All-three}
 use Rattle.gj_shape.specs.Additive.{IsAdditive}
 use Rattle.gj_shape.specs.Cover.{AreJoined, LeadsTo}

@@ -1,15 +1,13 @@
 -- The text of the summary, printed line by line.
-use Rattle.std.proofs.Common.{◌≡◌, ℕ, ◌+◌, ◌-◌, ◌≤◌, List, ◌++◌, codes, count_by, is_some, length, sym, ap, subst, ◌∙◌, arith}
+use Rattle.std.proofs.Common.{◌≡◌, ℕ, ◌-◌, List, ◌++◌, count_by, is_some, length, sym, ap, subst, ◌∙◌, arith}
 use Rattle.std.proofs.lemmas.List.Sums.{count_by-le-length}
 use Rattle.gj_shape.specs.Additive.{IsTight}
 use Rattle.gj_shape.specs.FunctionData.{FunctionData, IsWithinBounds}
 use Rattle.gj_shape.specs.declared.extremality.Halves.{Halves}
 use Rattle.gj_shape.specs.declared.faces.Face.{Face}
-use Rattle.gj_lines.specs.FunctionLines.{line, order_line}
 use Rattle.gj_faces.specs.Triangles.{AreAdditiveTriangles}
 use Rattle.gj_cover.specs.CoverOf.{IsCoverOf}
 use Rattle.gj_cover.specs.declared.covered.Cover.{Cover}
-use Rattle.gj_proof.specs.ProofText.{halves_line}
 use Rattle.gj_proof.specs.declared.claim.Claim.{Claim}
 use Rattle.gj_proof.specs.declared.claim.Claim.TheVariants.{NotExtreme}
 use Rattle.gj_extreme.specs.Decision.{IsDecided}

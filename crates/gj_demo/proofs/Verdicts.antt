@@ -1,6 +1,6 @@
 -- The decision on the function of the demonstration is always that it is not extreme.
 use Rattle.std.proofs.Common.{◌≡◌, ℕ, ◌≤◌, inl, inr, sym, ap, subst}
-use Rattle.gj_shape.specs.FunctionData.{FunctionData, IsWithinBounds, IsContinuous, IsJump, at}
+use Rattle.gj_shape.specs.FunctionData.{FunctionData, IsWithinBounds, IsJump, at}
 use Rattle.gj_shape.specs.declared.extremality.Halves.{Halves}
 use Rattle.gj_theory.proofs.Violations.{first_shown, violation_denies}
 use Rattle.gj_proof.specs.declared.claim.Claim.{Claim}
@@ -10,7 +10,7 @@ use Rattle.gj_extreme.proofs.DecidedHolds.{extreme_holds}
 use Rattle.gj_extreme.proofs.FewComponents.{few_components as few_are_narrow}
 use Rattle.gj_demo.specs.Demo.{IsDemo}
 use Rattle.gj_demo.proofs.FewComponents.{few_components}
-use Rattle.gj_demo.proofs.Values.{demo_continuous, demo_minimal, demo_not_extreme}
+use Rattle.gj_demo.proofs.Values.{demo_minimal, demo_not_extreme}
 
 pub demo_decided : (n : ℕ) (f : FunctionData) (c : Claim) → 1 ≤ n → IsDemo n f → IsWithinBounds f → IsDecided f c →
     (h : Halves) × (c ≡ NotExtreme f h)

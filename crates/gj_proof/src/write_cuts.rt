@@ -10,8 +10,9 @@ use gj_lex::{Name, print_frac};
 use gj_lines::{push_fraction_line, push_function_lines};
 use std::alloc::{AllocError, Global};
 
-/// Appends the lines of a rule: `rule gmic`, or those of its function.
-pub(crate) fn push_rule_lines(
+/// Appends the lines of a rule: `rule gmic`, or those of its function. An error says that memory ran out; `out` may then have a
+/// part of them.
+pub fn push_rule_lines(
     alloc: Global,
     out: &mut Vec<u8>,
     rule: &CutRule,
@@ -39,8 +40,8 @@ pub(crate) fn push_rows(
     Ok(())
 }
 
-/// Appends the lines of a row.
-fn push_row(alloc: Global, out: &mut Vec<u8>, row: &CutLine) -> Result<(), AllocError>
+/// Appends the lines of a row. An error says that memory ran out; `out` may then have a part of them.
+pub fn push_row(alloc: Global, out: &mut Vec<u8>, row: &CutLine) -> Result<(), AllocError>
     ensures { OnOk result (out.new.items ≡ out.old.items ++ row_text row.now) }
 {
     match row {
@@ -87,8 +88,8 @@ fn push_term(alloc: Global, out: &mut Vec<u8>, term: &CutTerm) -> Result<(), All
     push_fraction_line(alloc, out, b" ", term.cut)
 }
 
-/// Appends a word, a name, a space and a fraction.
-fn push_named(
+/// Appends a word, a name, a space and a fraction. An error says that memory ran out; `out` may then have a part of it.
+pub fn push_named(
     alloc: Global,
     out: &mut Vec<u8>,
     word: &[u8],

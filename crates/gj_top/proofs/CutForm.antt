@@ -17,6 +17,7 @@ use Rattle.gj_top.specs.declared.reply.Unanswered.{Unanswered}
 use Rattle.gj_top.specs.declared.reply.Unanswered.TheVariants.{Refused, Memory}
 use Rattle.gj_top.specs.Task.{IsRefusal, IsReply}
 use Rattle.gj_top.specs.Forms.{IsRefusalOf}
+use Rattle.gj_top.specs.Mixed.{IsMixedReply, mixed}
 use Rattle.gj_top.specs.Cut.{BeginsWithRule, CutInput, SpellsCutInput, RefusesCutInput, IsCutReply, cut}
 use Rattle.gj_top.specs.Cut.RefusesCutInput.{of_rule, of_function, of_tableau}
 use Rattle.gj_top.specs.CutSteps.{IsTableauRefusal}
@@ -90,6 +91,14 @@ refusal_of_tableau input rest r (Memory a) begins fault = tt
 pub reply_of : (input rest : List ℕ) (r : CutRule) (t : Tableau) (end : End) (text : List ℕ) → BeginsWithRule input r rest → IsTableauText rest t →
     IsCutReply (record { «rule» = r; tableau = t }) end text → IsReply cut input end text
 reply_of input rest r t end text begins spelled replied = record {
+  thing = record { «rule» = r; tableau = t };
+  spelled = record { rest = rest; «rule» = lines_of_rule input r rest begins; tableau = spelled };
+  replied = replied;
+}
+
+pub mixed_reply_of : (input rest : List ℕ) (r : CutRule) (t : Tableau) (end : End) (text : List ℕ) → BeginsWithRule input r rest → IsTableauText rest t →
+    IsMixedReply (record { «rule» = r; tableau = t }) end text → IsReply mixed input end text
+mixed_reply_of input rest r t end text begins spelled replied = record {
   thing = record { «rule» = r; tableau = t };
   spelled = record { rest = rest; «rule» = lines_of_rule input r rest begins; tableau = spelled };
   replied = replied;

@@ -4,7 +4,7 @@ use Rattle.gj_top.specs.declared.reply.End.{End}
 use Rattle.gj_top.specs.declared.reply.End.TheVariants as end
 use Rattle.gj_top.specs.declared.status.Status.{Status}
 use Rattle.gj_top.specs.declared.status.Status.TheVariants.{Done, Rejected, Words, ReadFault, WriteFault, Memory, Wide}
-use Rattle.gj_top.specs.declared.status.Status.TheVariants.{NotContinuous, NoFunction}
+use Rattle.gj_top.specs.declared.status.Status.TheVariants.{NotContinuous, NoFunction, NotSubadditive, OrderLimit, BadOrder}
 use Rattle.gj_top.specs.Reply.{status_of}
 use Rattle.gj_top.specs.Task.{Task}
 use Rattle.gj_top.specs.Answer.{IsAnswerTo}
@@ -17,6 +17,9 @@ end_of Rejected = Some end.Rejected
 end_of Wide = Some end.Wide
 end_of NotContinuous = Some end.NotContinuous
 end_of NoFunction = Some end.NoFunction
+end_of NotSubadditive = Some end.NotSubadditive
+end_of OrderLimit = Some end.OrderLimit
+end_of BadOrder = Some end.BadOrder
 end_of other = None
 
 end_of_status : (e : End) → end_of (status_of e) ≡ Some e
@@ -25,6 +28,9 @@ end_of_status end.Rejected = refl
 end_of_status end.Wide = refl
 end_of_status end.NotContinuous = refl
 end_of_status end.NoFunction = refl
+end_of_status end.NotSubadditive = refl
+end_of_status end.OrderLimit = refl
+end_of_status end.BadOrder = refl
 
 -- a status that is that of an end has this end
 pub end_is : (s : Status) (e : End) → s ≡ status_of e → end_of s ≡ Some e
@@ -48,6 +54,9 @@ end_answers end.Rejected = refl
 end_answers end.Wide = refl
 end_answers end.NotContinuous = refl
 end_answers end.NoFunction = refl
+end_answers end.NotSubadditive = refl
+end_answers end.OrderLimit = refl
+end_answers end.BadOrder = refl
 
 pub answered : (task : Task) (input : List ℕ) (s : Status) (text : List ℕ) → IsAnswerTo task input s text → is_answered s ≡ true
 answered task input s text (too_long a) = ap is_answered a.status_is

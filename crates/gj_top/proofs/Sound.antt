@@ -3,7 +3,7 @@
 use Rattle.std.proofs.Common.{inl, inr, ℕ, Bool, true, false, List, IsTrue, refl}
 use Rattle.gj_shape.specs.FunctionData.{FunctionData, IsWithinBounds}
 use Rattle.gj_words.specs.declared.requests.Command.{Command}
-use Rattle.gj_words.specs.declared.requests.Command.TheVariants.{Minimal, Extreme, Cut, Check, Show, Faces, Demo}
+use Rattle.gj_words.specs.declared.requests.Command.TheVariants.{Minimal, Extreme, Cut, Check, Show, Faces, Demo, Mixed, Fill, Times, Mirror, Restrict}
 use Rattle.gj_words.specs.declared.requests.Request.{Request}
 use Rattle.gj_top.specs.declared.reply.End.TheVariants.{Done}
 use Rattle.gj_top.specs.Promise.{reads, Spells}
@@ -18,6 +18,9 @@ use Rattle.gj_top.specs.Show.{show, show_json}
 use Rattle.gj_top.specs.Check.{check}
 use Rattle.gj_top.specs.Faces.{faces}
 use Rattle.gj_top.specs.Cut.{cut}
+use Rattle.gj_top.specs.Mixed.{mixed}
+use Rattle.gj_top.specs.Fill.{fill}
+use Rattle.gj_top.specs.Transform.{times, mirror, restriction}
 use Rattle.gj_top.specs.Demo.{IsTrueDemonstration, demo}
 use Rattle.gj_demo.specs.Summary.{HasSummary}
 use Rattle.gj_extreme.proofs.DecidedHolds.{decided_holds}
@@ -107,6 +110,25 @@ cut_sound = record {
   work = λ input thing text spelled made. made.1.cuts;
 }
 
+mixed_sound : IsSound mixed
+mixed_sound = record {
+  form = cut_input_refuses_only_others;
+  refusals = λ input text refused. refl;
+  work = λ input thing text spelled made. made.1;
+}
+
+fill_sound : IsSound fill
+fill_sound = record { form = function_text_sound; refusals = λ input text refused. refl; work = λ input f text spelled filled. filled }
+
+times_sound : (n j : ℕ) → IsSound (times n j)
+times_sound n j = record { form = function_text_sound; refusals = λ input text refused. refl; work = λ input f text spelled shown. shown }
+
+mirror_sound : IsSound mirror
+mirror_sound = record { form = function_text_sound; refusals = λ input text refused. refl; work = λ input f text spelled shown. shown }
+
+restriction_sound : (d : ℕ) → IsSound (restriction d)
+restriction_sound d = record { form = function_text_sound; refusals = λ input text refused. refl; work = λ input f text spelled shown. shown }
+
 demo_true : (n : ℕ) (text : List ℕ) → HasSummary n text → IsTrueDemonstration n text
 demo_true n text h =
     let holds = decided_holds h.function (NotExtreme h.function h.halves) h.within h.verdict in
@@ -141,6 +163,11 @@ sound_with Show true = show_json_sound
 sound_with Show false = show_sound
 sound_with Faces json = faces_sound
 sound_with (Demo n) json = demo_sound n
+sound_with Mixed json = mixed_sound
+sound_with Fill json = fill_sound
+sound_with (Times n j) json = times_sound n j
+sound_with Mirror json = mirror_sound
+sound_with (Restrict d) json = restriction_sound d
 
 pub sound : (r : Request) → IsSound (task_for r)
 sound r = sound_with r.command r.json

@@ -2,7 +2,7 @@
 use Rattle.std.specs.Prelude.{ℕ}
 use Rattle.gj_top.specs.declared.status.Status.{Status}
 use Rattle.gj_top.specs.declared.status.Status.TheVariants.{Done, Rejected, Words, Input, ReadFault, WriteFault, Memory, Wide}
-use Rattle.gj_top.specs.declared.status.Status.TheVariants.{NotContinuous, NoFunction}
+use Rattle.gj_top.specs.declared.status.Status.TheVariants.{NotContinuous, NoFunction, NotSubadditive, OrderLimit, BadOrder}
 
 abbrev pub code_of : Status → ℕ
 code_of Done = 0
@@ -15,3 +15,6 @@ code_of Memory = 6
 code_of Wide = 7
 code_of NotContinuous = 8
 code_of NoFunction = 9
+code_of NotSubadditive = 10
+code_of OrderLimit = 11
+code_of BadOrder = 12

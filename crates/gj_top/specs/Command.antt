@@ -3,7 +3,7 @@ use Rattle.std.specs.Prelude.{Bool, true, false, List, map, String, string_bytes
 use Rattle.std.specs.declared.alloc.Global.{Global}
 use Rattle.gj_words.specs.Grammar.{SpellRequest}
 use Rattle.gj_words.specs.declared.requests.Command.{Command}
-use Rattle.gj_words.specs.declared.requests.Command.TheVariants.{Minimal, Extreme, Cut, Show, Check, Faces, Demo}
+use Rattle.gj_words.specs.declared.requests.Command.TheVariants.{Minimal, Extreme, Cut, Show, Check, Faces, Demo, Mixed, Fill, Times, Mirror, Restrict}
 use Rattle.gj_words.specs.declared.requests.Request.{Request}
 use Rattle.gj_top.specs.Promise.{Promise}
 use Rattle.gj_top.specs.Task.{Work, Task}
@@ -14,6 +14,9 @@ use Rattle.gj_top.specs.Check.{check, check_promise}
 use Rattle.gj_top.specs.Faces.{faces, faces_promise}
 use Rattle.gj_top.specs.Cut.{cut, cut_promise}
 use Rattle.gj_top.specs.Demo.{demo, demo_promise}
+use Rattle.gj_top.specs.Mixed.{mixed, mixed_promise}
+use Rattle.gj_top.specs.Fill.{fill, fill_promise}
+use Rattle.gj_top.specs.Transform.{times, times_promise, mirror, mirror_promise, restriction, restriction_promise}
 
 -- what a command with the flag or without it promises
 abbrev pub promise_with : Command → Bool → Promise
@@ -27,6 +30,11 @@ promise_with Check json = check_promise
 promise_with Faces json = faces_promise
 promise_with Cut json = cut_promise
 promise_with (Demo n) json = demo_promise n
+promise_with Mixed json = mixed_promise
+promise_with Fill json = fill_promise
+promise_with (Times n j) json = times_promise n j
+promise_with Mirror json = mirror_promise
+promise_with (Restrict d) json = restriction_promise d
 
 abbrev pub promise_for : Request → Promise
 promise_for request = promise_with request.command request.json
@@ -43,6 +51,11 @@ work_with Check json = check.work
 work_with Faces json = faces.work
 work_with Cut json = cut.work
 work_with (Demo n) json = (demo n).work
+work_with Mixed json = mixed.work
+work_with Fill json = fill.work
+work_with (Times n j) json = (times n j).work
+work_with Mirror json = mirror.work
+work_with (Restrict d) json = (restriction d).work
 
 -- both together
 abbrev pub task_with : Command → Bool → Task

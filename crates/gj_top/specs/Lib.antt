@@ -12,6 +12,9 @@ pub mod Extreme
 pub mod Demo
 pub mod Cut
 pub mod CutSteps
+pub mod Mixed
+pub mod Fill
+pub mod Transform
 pub mod Command
 pub mod Reply
 pub mod Answer

@@ -44,7 +44,7 @@ fn cuts_or_violation(alloc: Global, rule: CutRule, tableau: &Tableau) -> Result<
 }
 
 /// The first violation of the function of the rule, if it has one.
-fn violation_of(rule: &CutRule) -> Option<Violation>
+pub(crate) fn violation_of(rule: &CutRule) -> Option<Violation>
     ensures some { IfSome result (IsViolationOf rule.now) }
     ensures none { IfNone result (PassesTests rule.now) }
 {
@@ -68,7 +68,7 @@ fn cuts_text(alloc: Global, rule: CutRule, tableau: &Tableau) -> Result<Vec<u8>,
 }
 
 /// The line that names the first violation of a function.
-fn violation_text(alloc: Global, violation: Violation) -> Result<Vec<u8>, AllocError>
+pub(crate) fn violation_text(alloc: Global, violation: Violation) -> Result<Vec<u8>, AllocError>
     ensures { IfOk result (λ text. text.items ≡ codes "no function " ++ violation_line violation) }
 {
     let mut text = Vec::from_slice(alloc, b"no function ")?;

@@ -1,8 +1,7 @@
 //! The command `faces`: the maximal additive faces and the covered intervals of a function.
 ghost use Rattle.std.specs.Prelude.{◌≡◌, ◌++◌, length, IfOk, OnOk};
-ghost use Rattle.gj_shape.specs.Additive.{IsTight};
 ghost use Rattle.gj_shape.specs.FunctionData.{IsContinuous};
-ghost use Rattle.gj_faces.specs.Runs.{AreRunsOf};
+ghost use Rattle.gj_faces.specs.TightPairs.{AreTightPairsOf};
 ghost use Rattle.gj_top.specs.Task.{IsAnswering};
 ghost use Rattle.gj_top.specs.Faces.{ArePushed, AreRowsPushed, IsFacesReply, IsFacesText, faces, uncovered_line};
 
@@ -10,8 +9,8 @@ use crate::continuity::jump_line;
 use crate::face_lines::{ends_below, push_face_lines, starts_of};
 use crate::forms::function_of;
 use crate::reply::{End, Reply, Unanswered};
-use gj_cover::cover_of_runs;
-use gj_faces::{Run, push_maximal_row, runs};
+use gj_cover::cover_of_pairs;
+use gj_faces::{TightPairs, push_maximal_row};
 use gj_lex::print_count;
 use gj_lines::{push_cover_lines, push_order_line};
 use gj_shape::Shape;
@@ -46,11 +45,11 @@ fn faces_text(alloc: Global, shape: &Shape) -> Result<Vec<u8>, AllocError>
     requires { IsContinuous shape.now }
     ensures { IfOk result (λ text. IsFacesText shape.now text.items) }
 {
-    let tight = runs(alloc, shape)?;
-    let cover = cover_of_runs(alloc, tight.as_slice(), shape.order())?;
+    let pairs = TightPairs::new(alloc, shape)?;
+    let cover = cover_of_pairs(alloc, shape, &pairs)?;
     let mut text = Vec::from_slice(alloc, b"gj-faces 1\n")?;
     push_order_line(&mut text, shape.order())?;
-    push_maximal_faces(alloc, &mut text, shape, tight.as_slice())?;
+    push_maximal_faces(alloc, &mut text, shape, &pairs)?;
     push_cover_lines(&mut text, cover.lines.as_slice())?;
     push_uncovered_lines(&mut text, cover.component.as_slice(), shape.order())?;
     text.extend_from_slice(b"end\n")?;
@@ -62,16 +61,16 @@ fn push_maximal_faces(
     alloc: Global,
     out: &mut Vec<u8>,
     shape: &Shape,
-    tight: &[Run],
+    pairs: &TightPairs,
 ) -> Result<(), AllocError>
-    requires { AreRunsOf shape.now.order (IsTight shape.now) tight.now }
+    requires { AreTightPairsOf shape.now pairs.now }
     ensures { OnOk result (AreRowsPushed shape.now shape.now.order out.old.items out.new.items) }
 {
     let ends = ends_below(alloc, shape.order())?;
     let mut row = Vec::new(alloc);
     for a in 0..shape.order() {
         row.clear();
-        push_maximal_row(&mut row, shape, tight, a)?;
+        push_maximal_row(&mut row, shape, pairs, a)?;
         push_face_lines(out, &starts_of(a), ends.as_slice(), row.as_slice())?;
     }
     Ok(())

@@ -24,14 +24,17 @@ mod demo;
 mod extreme;
 mod face_lines;
 mod faces;
+mod fill;
 mod forms;
 mod laws;
 mod lines;
 mod minimal;
+mod mixed;
 mod reply;
 mod report;
 mod show;
 mod status;
+mod transform;
 #[cfg(test)]
 mod tests;
 
@@ -51,7 +54,9 @@ pub use status::Status;
 /// writes the proof text of the cuts of its rows. `faces` reads the function text of a continuous function and writes its
 /// maximal additive faces and its covered intervals. With `--json`, `minimal`, `extreme` and `show` read a function in
 /// JSON, and `minimal` and `extreme` write a report of the proof text, `show` the function in JSON. `demo` reads nothing, and writes the summary of
-/// the decision on a function of its own. The whole input is read first, and the whole
+/// the decision on a function of its own. `mixed` reads what `cut` reads and writes the cuts of the rows, of which columns with a name that begins
+/// with `c:` are continuous. `fill` reads the function text of a continuous function and writes its two-slope fill-in by breakpoints. `times`,
+/// `mirror` and `restrict` read a function text and write the canonical text of the function of n x, of that of -x, or of a restriction. The whole input is read first, and the whole
 /// answer is made before its first byte is written.
 pub fn run<S: Source, K: Sink>(
     alloc: Global,

@@ -18,6 +18,12 @@ pub enum End {
     NotContinuous,
     /// The function is not minimal.
     NoFunction,
+    /// The table of the function is not subadditive.
+    NotSubadditive,
+    /// The order would pass its bound.
+    OrderLimit,
+    /// The function has no restriction of that order.
+    BadOrder,
 }
 
 impl End {
@@ -31,6 +37,9 @@ impl End {
             End::Wide => Status::Wide,
             End::NotContinuous => Status::NotContinuous,
             End::NoFunction => Status::NoFunction,
+            End::NotSubadditive => Status::NotSubadditive,
+            End::OrderLimit => Status::OrderLimit,
+            End::BadOrder => Status::BadOrder,
         }
     }
 }

@@ -3,7 +3,8 @@ ghost use Rattle.std.specs.Prelude.{◌≡◌};
 ghost use Rattle.gj_top.specs.Code.{code_of};
 
 /// How a run of the program ended. `Rejected` comes with the command `check` alone, `Wide` with `extreme`, `NotContinuous` with
-/// `extreme` and `faces`, and `NoFunction` with `cut`.
+/// `extreme`, `faces`, `mixed`, `fill` and `restrict`, `NoFunction` with `cut` and `mixed`, `NotSubadditive` with `fill`, `OrderLimit` with
+/// `times`, and `BadOrder` with `restrict`.
 #[derive(Clone, Copy, Debug, PartialEq, Eq)]
 pub enum Status {
     /// The answer was written.
@@ -26,10 +27,16 @@ pub enum Status {
     NotContinuous,
     /// The function is not minimal.
     NoFunction,
+    /// The table of the function is not subadditive.
+    NotSubadditive,
+    /// The order would pass its bound.
+    OrderLimit,
+    /// The function has no restriction of that order.
+    BadOrder,
 }
 
 impl Status {
-    /// The status with which the program ends: 0 to 9, in the order of the variants.
+    /// The status with which the program ends: 0 to 12, in the order of the variants.
     pub fn code(self) -> u8
         ensures { result ≡ code_of self }
     {

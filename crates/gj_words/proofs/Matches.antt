@@ -1,5 +1,5 @@
 -- What the matches of `clap` say of the words.
-use Rattle.std.proofs.Common.{◌≡◌, ◌≢◌, ◌≤◌, ◌∙◌, inl, inr, Bool, true, false, List, [], ◌∷◌, Option, Some, codes, length, sym, ap, subst}
+use Rattle.std.proofs.Common.{◌≡◌, ◌≢◌, ◌≤◌, ◌∙◌, inl, inr, Bool, true, false, List, [], ◌∷◌, ◌++◌, Option, option_map, None, Some, refl, arith, codes, length, sym, ap, subst}
 use Rattle.std.specs.Option.{option_to_list}
 use Rattle.std.specs.List.{list_all}
 use Rattle.clap.specs.Words.{App, HasKind, first_of, first_value, found_of, is_simple, is_simple_and_free}
@@ -11,7 +11,7 @@ use Rattle.clap.specs.declared.parser.matches.ArgMatches.{ArgMatches}
 use Rattle.clap.proofs.WalkLemmas.{first_value-rows, one_text-rows}
 use Rattle.gj_words.specs.Bare.{bare_words, flag_count, has_flag, is_plain}
 use Rattle.gj_words.specs.Parser.{our_app}
-use Rattle.gj_words.proofs.Tokens.{Found, Parsed, Text, flag_text, left, parsed_words, taken}
+use Rattle.gj_words.proofs.Tokens.{Found, Parsed, Text, first_in, flag_text, left, parsed_words, second_in, taken}
 
 -- the contracts of `clap` speak of our command line in both outcomes
 pub simple : (app : App) → app ≡ our_app → is_simple app ≡ true
@@ -20,15 +20,17 @@ simple app same = ap is_simple same
 pub simple_and_free : (app : App) → app ≡ our_app → is_simple_and_free app ≡ true
 simple_and_free app same = ap is_simple_and_free same
 
--- the matches hold the words: the command word, the number and the flag
+-- the matches hold the words: the command word, at most two behind it and the flag
 pub record Holds (words : List Text) (m : ArgMatches) : Type 0 where
   pub name : Text
-  pub number : Option Text
+  pub behind : List Text
   pub json : Bool
+  pub few : length behind ≤ 2
   pub name_is : first_value (found_of m) (codes "command") ≡ Some name
-  pub number_is : first_value (found_of m) (codes "number") ≡ number
+  pub first_is : first_value (found_of m) (codes "first") ≡ first_in behind
+  pub second_is : first_value (found_of m) (codes "second") ≡ second_in behind
   pub json_is : one_text (found_of m) (codes "json") ≡ Some (flag_text json)
-  pub bare : bare_words words ≡ name ∷ option_to_list number
+  pub bare : bare_words words ≡ name ∷ behind
   pub flag : has_flag words ≡ json
 
 pub holds : (app : App) (words : List Text) (m : ArgMatches) → app ≡ our_app → list_all is_plain words ≡ true → flag_count words ≤ 1
@@ -39,26 +41,28 @@ holds app words m same plain once none rows = go (parsed_words words plain once)
     rows_are = rows ∙ ap (λ a. matches_of a words) same
 
     go : Parsed words → Holds words m
-    go (taken name number json e) = record {
+    go (taken name behind json few e) = record {
       name = name;
-      number = number;
+      behind = behind;
       json = json;
+      few = few;
       name_is = first_value-rows (found_of m) (codes "command") ∙ ap (first_of (codes "command")) rows_are ∙ ap (λ (f : Found). f.1) e;
-      number_is = first_value-rows (found_of m) (codes "number") ∙ ap (first_of (codes "number")) rows_are ∙ ap (λ (f : Found). f.2) e;
-      json_is = one_text-rows (found_of m) (codes "json") ∙ ap (one_of (codes "json")) rows_are ∙ ap (λ (f : Found). f.3) e;
-      bare = ap (λ (f : Found). f.4) e;
-      flag = ap (λ (f : Found). f.5) e;
+      first_is = first_value-rows (found_of m) (codes "first") ∙ ap (first_of (codes "first")) rows_are ∙ ap (λ (f : Found). f.2) e;
+      second_is = first_value-rows (found_of m) (codes "second") ∙ ap (first_of (codes "second")) rows_are ∙ ap (λ (f : Found). f.3) e;
+      json_is = one_text-rows (found_of m) (codes "json") ∙ ap (one_of (codes "json")) rows_are ∙ ap (λ (f : Found). f.4) e;
+      bare = ap (λ (f : Found). f.5) e;
+      flag = ap (λ (f : Found). f.6) e;
     }
     go (left fails unnamed) = absurd (fails (sym (ap (λ a. fault_of a words) same) ∙ none))
 
--- where it refuses the words, they are not one or two and the flag
+-- where it refuses the words, they are not one, two or three and the flag
 pub refuses : (app : App) (words : List Text) (error : Error) → app ≡ our_app → list_all is_plain words ≡ true → flag_count words ≤ 1
     → HasKind (fault_of app words) error → kind_of error ≢ OutOfMemory
-    → (name : Text) (rest : List Text) → length rest ≤ 1 → bare_words words ≢ name ∷ rest
+    → (name : Text) (rest : List Text) → length rest ≤ 2 → bare_words words ≢ name ∷ rest
 refuses app words error same plain once kind some_memory = go (parsed_words words plain once)
   where
-    go : Parsed words → (name : Text) (rest : List Text) → length rest ≤ 1 → bare_words words ≢ name ∷ rest
-    go (taken found number json e) name rest few is =
+    go : Parsed words → (name : Text) (rest : List Text) → length rest ≤ 2 → bare_words words ≢ name ∷ rest
+    go (taken found behind json some e) name rest few is =
         let none : fault_of app words ≡ [] = ap (λ a. fault_of a words) same ∙ ap (λ (f : Found). f.0) e in
         let memory : HasKind [] error = subst (λ kinds. HasKind kinds error) none kind in
         elim memory [ inl h ↦ some_memory h | inr h ↦ h ]
@@ -69,3 +73,18 @@ pub flag_read : (json read : Bool) (found : Option Text) → found ≡ Some (fla
     → (found ≡ Some (codes "false") → read ≡ false) → json ≡ read
 flag_read true read found is given not_given = sym (given is)
 flag_read false read found is given not_given = sym (not_given is)
+
+-- what the two look-ups give, put one behind the other
+pub both : (behind : List Text) → length behind ≤ 2 → option_to_list (first_in behind) ++ option_to_list (second_in behind) ≡ behind
+both [] few = refl
+both (a ∷ []) few = refl
+both (a ∷ b ∷ []) few = refl
+both (a ∷ b ∷ c ∷ more) few = absurd (omega arith)
+
+pub no_second : (behind : List Text) → first_in behind ≡ None → second_in behind ≡ None
+no_second [] none = refl
+no_second (a ∷ more) none = cc
+
+pub none_before : {A B : Type 0} (f : A → B) (x : Option A) → option_map f x ≡ None → x ≡ None
+none_before f None e = refl
+none_before f (Some x) e = cc

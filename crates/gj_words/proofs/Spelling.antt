@@ -1,24 +1,32 @@
 -- The words that spell a request.
-use Rattle.std.proofs.Common.{MatchResult, Result, Ok, Err, nat_eq, ◌≡◌, ◌≢◌, ◌≤◌, ◌∙◌, ℕ, true, false, cond, List, []}
-use Rattle.std.proofs.Common.{◌∷◌, codes, decimal, get_or, length, refl, sym, ap, subst, arith}
+use Rattle.std.proofs.Common.{MatchResult, Result, Ok, Err, ◌≡◌, ◌≢◌, ◌<◌, ◌≤◌, ◌^◌, ◌∙◌, ℕ, true, false, cond, List, []}
+use Rattle.std.proofs.Common.{◌∷◌, codes, decimal, get_or, length, refl, sym, ap, ap₂, subst, arith}
 use Rattle.std.proofs.lemmas.Bool.Decides.{nat_tests}
 use Rattle.std.proofs.lemmas.Fmt.{decimal_is_IsNumeral}
 use Rattle.std.proofs.lemmas.List.Sums.{length-filter}
 use Rattle.std.specs.Result.{IsErrAnd}
 use Rattle.std.specs.Str.{bytes_eq}
 use Rattle.std.specs.Str.Parse.{digits_value}
-use Rattle.gj_words.specs.Bare.{bare_words, flag_count, has_flag, is_flag}
+use Rattle.gj_words.specs.Bare.{bare_words, begins_with_hyphen, flag_count, has_flag, is_flag}
 use Rattle.gj_words.specs.Grammar.{HasFlag, IsInBounds, SpellRequest, command_words}
 use Rattle.gj_words.specs.Line.{IsLineOf, IsRequestOf}
 use Rattle.gj_words.specs.declared.line.Line.{Line}
 use Rattle.gj_words.specs.declared.requests.Command.{Command}
-use Rattle.gj_words.specs.declared.requests.Command.TheVariants.{Minimal, Extreme, Cut, Check, Show, Faces, Demo}
+use Rattle.gj_words.specs.declared.requests.Command.TheVariants.{Minimal, Extreme, Cut, Check, Show, Faces, Demo, Mixed, Fill, Times, Mirror, Restrict}
 use Rattle.gj_words.specs.declared.requests.Request.{Request}
 use Rattle.gj_words.specs.declared.requests.WordFault.{WordFault}
 use Rattle.gj_words.specs.declared.requests.WordFault.TheVariants.{Refused}
 use Rattle.gj_words.proofs.Flags.{Facts, are_hyphenless, facts_of, once, placed}
-use Rattle.gj_words.proofs.Numbers.{first_of_number}
+use Rattle.gj_words.proofs.Numbers.{first_of_digits}
 use Rattle.gj_words.proofs.Tokens.{Text}
+
+-- a number does not begin with a hyphen
+number_hyphenless : (n : ℕ) → n < 2 ^ 32 → begins_with_hyphen (decimal n) ≡ false
+number_hyphenless n small = go (decimal n) (first_of_digits n small)
+  where
+    go : (word : Text) → 48 ≤ get_or word 0 0 → begins_with_hyphen word ≡ false
+    go [] large = refl
+    go (byte ∷ rest) large = grind (arith, nat_tests)
 
 -- the words of a command do not begin with a hyphen
 hyphenless : (c : Command) → IsInBounds c → are_hyphenless (command_words c) ≡ true
@@ -28,23 +36,27 @@ hyphenless Cut h = refl
 hyphenless Check h = refl
 hyphenless Show h = refl
 hyphenless Faces h = refl
-hyphenless (Demo n) h = go (decimal n) (first_of_number n h.0 h.1).0
-  where
-    go : (word : Text) → 49 ≤ get_or word 0 0 → are_hyphenless (codes "demo" ∷ word ∷ []) ≡ true
-    go [] large = absurd (omega arith)
-    go (byte ∷ rest) large =
-        let no : nat_eq byte 45 ≡ false = grind (arith, nat_tests) in
-        rw no refl
+hyphenless (Demo n) h = rw (number_hyphenless n (omega arith)) refl
+hyphenless Mixed h = refl
+hyphenless Fill h = refl
+hyphenless (Times n j) h = rw (number_hyphenless n (omega arith), number_hyphenless j (omega arith)) refl
+hyphenless Mirror h = refl
+hyphenless (Restrict d) h = rw (number_hyphenless d (omega arith)) refl
 
--- they are one word, and at most one more
-pub one_or_two : (c : Command) → (name : Text) × (rest : List Text) × (length rest ≤ 1) × (command_words c ≡ name ∷ rest)
-one_or_two Minimal = (_, _, omega arith, refl)
-one_or_two Extreme = (_, _, omega arith, refl)
-one_or_two Cut = (_, _, omega arith, refl)
-one_or_two Check = (_, _, omega arith, refl)
-one_or_two Show = (_, _, omega arith, refl)
-one_or_two Faces = (_, _, omega arith, refl)
-one_or_two (Demo n) = (_, _, omega arith, refl)
+-- they are one word, and at most two more
+pub one_to_three : (c : Command) → (name : Text) × (rest : List Text) × (length rest ≤ 2) × (command_words c ≡ name ∷ rest)
+one_to_three Minimal = (_, _, omega arith, refl)
+one_to_three Extreme = (_, _, omega arith, refl)
+one_to_three Cut = (_, _, omega arith, refl)
+one_to_three Check = (_, _, omega arith, refl)
+one_to_three Show = (_, _, omega arith, refl)
+one_to_three Faces = (_, _, omega arith, refl)
+one_to_three (Demo n) = (_, _, omega arith, refl)
+one_to_three Mixed = (_, _, omega arith, refl)
+one_to_three Fill = (_, _, omega arith, refl)
+one_to_three (Times n j) = (_, _, omega arith, refl)
+one_to_three Mirror = (_, _, omega arith, refl)
+one_to_three (Restrict d) = (_, _, omega arith, refl)
 
 -- what spells a request is known of its words
 pub facts : (words : List Text) (r : Request) → SpellRequest words r → Facts words (command_words r.command) r.json
@@ -55,16 +67,22 @@ spelled_once words r s = once r.json (command_words r.command) words (facts word
 
 -- ---- one request
 
--- the number that the words begin with
-abbrev number_at : List Text → ℕ
-number_at [] = 0
-number_at (word ∷ more) = digits_value 10 word
+-- the first number of the words, and the second
+abbrev first_number : List Text → ℕ
+first_number [] = 0
+first_number (word ∷ more) = digits_value 10 word
+
+abbrev second_number : List Text → ℕ
+second_number [] = 0
+second_number (word ∷ more) = first_number more
 
 -- the command, read back from its words
 abbrev command_at : Text → List Text → Command
 command_at name rest = cond (bytes_eq name (codes "minimal")) Minimal (cond (bytes_eq name (codes "extreme")) Extreme
     (cond (bytes_eq name (codes "cut")) Cut (cond (bytes_eq name (codes "check")) Check (cond (bytes_eq name (codes "show")) Show
-    (cond (bytes_eq name (codes "faces")) Faces (Demo (number_at rest)))))))
+    (cond (bytes_eq name (codes "faces")) Faces (cond (bytes_eq name (codes "mixed")) Mixed (cond (bytes_eq name (codes "fill")) Fill
+    (cond (bytes_eq name (codes "mirror")) Mirror (cond (bytes_eq name (codes "restrict")) (Restrict (first_number rest))
+    (cond (bytes_eq name (codes "times")) (Times (first_number rest) (second_number rest)) (Demo (first_number rest))))))))))))
 
 abbrev command_in : List Text → Command
 command_in [] = Cut
@@ -78,6 +96,11 @@ read_back Check h = refl
 read_back Show h = refl
 read_back Faces h = refl
 read_back (Demo n) h = ap Demo (decimal_is_IsNumeral n (omega (arith, h.1))).1
+read_back Mixed h = refl
+read_back Fill h = refl
+read_back (Times n j) h = ap₂ Times (decimal_is_IsNumeral n (omega (arith, h.1))).1 (decimal_is_IsNumeral j (omega (arith, h.1, h.2))).1
+read_back Mirror h = refl
+read_back (Restrict d) h = ap Restrict (decimal_is_IsNumeral d (omega (arith, h.1))).1
 
 pub one : (words : List Text) (a b : Request) → SpellRequest words a → SpellRequest words b → a ≡ b
 one words a b s t =
@@ -112,11 +135,11 @@ request_spelled words line r is s =
       allowed = λ given. s.allowed (json ∙ given);
     }
 
--- words that are none or more than two without the flag spell no request
-pub unnamed : (words : List Text) → ((name : Text) (rest : List Text) → length rest ≤ 1 → bare_words words ≢ name ∷ rest)
+-- words that are none or more than three without the flag spell no request
+pub unnamed : (words : List Text) → ((name : Text) (rest : List Text) → length rest ≤ 2 → bare_words words ≢ name ∷ rest)
     → (r : Request) → ¬ SpellRequest words r
 unnamed words none r s =
-    let shape = one_or_two r.command in
+    let shape = one_to_three r.command in
     none shape.0 shape.1 shape.2 ((facts words r s).bare_is ∙ shape.3)
 
 -- an error that is handed on and is not `Refused`

@@ -4,7 +4,6 @@ use Rattle.std.proofs.Common.{None, Some, codes, filter, length, map, refl, sym,
 use Rattle.std.proofs.lemmas.Bool.{and_parts}
 use Rattle.std.proofs.lemmas.List.Sums.{length-filter}
 use Rattle.std.proofs.lemmas.Slice.Eq.{bytes_eq-Decides}
-use Rattle.std.specs.Option.{option_to_list}
 use Rattle.std.specs.List.{list_all}
 use Rattle.std.specs.Str.{bytes_eq}
 use Rattle.clap.specs.Lexer.{long_of, short_of}
@@ -59,15 +58,17 @@ tokens_of (word ∷ rest) plain =
 
 -- ---- what `clap` makes of them
 
--- the kinds of its error; the command word, the number and the flag that it finds; and the words without the flag, and whether it stands there
+-- the kinds of its error; the command word, the first and the second word behind it and the flag that it finds; and the words without the
+-- flag, and whether it stands there
 abbrev pub Found : Type 0
-Found = Kinds × Option Text × Option Text × Option Text × List Text × Bool
+Found = Kinds × Option Text × Option Text × Option Text × Option Text × List Text × Bool
 
 abbrev pub found_in : List Text → Found
 found_in words = (
   fault_of our_app words,
   first_of (codes "command") (matches_of our_app words),
-  first_of (codes "number") (matches_of our_app words),
+  first_of (codes "first") (matches_of our_app words),
+  first_of (codes "second") (matches_of our_app words),
   one_of (codes "json") (matches_of our_app words),
   bare_words words,
   has_flag words,
@@ -77,16 +78,25 @@ abbrev pub flag_text : Bool → Text
 flag_text true = codes "true"
 flag_text false = codes "false"
 
--- it takes the words, or does not and has to
-pub data Parsed (words : List Text) : Type 0 where
-  taken : (name : Text) (number : Option Text) (json : Bool)
-      → found_in words ≡ ([], Some name, number, Some (flag_text json), name ∷ option_to_list number, json) → Parsed words
-  left : (fault_of our_app words ≡ [] → ⊥) → ((name : Text) (rest : List Text) → length rest ≤ 1 → bare_words words ≢ name ∷ rest) → Parsed words
+-- the first of some words, and the second
+abbrev pub first_in : List Text → Option Text
+first_in [] = None
+first_in (a ∷ more) = Some a
 
--- it has to leave words that are three or more without the flag
-stray : (words : List Text) (a b c : Text) (more : List Text) → bare_words words ≡ a ∷ b ∷ c ∷ more
+abbrev pub second_in : List Text → Option Text
+second_in [] = None
+second_in (a ∷ more) = first_in more
+
+-- it takes the words, of which these stand behind the command word, or does not and has to
+pub data Parsed (words : List Text) : Type 0 where
+  taken : (name : Text) (behind : List Text) (json : Bool) → length behind ≤ 2
+      → found_in words ≡ ([], Some name, first_in behind, second_in behind, Some (flag_text json), name ∷ behind, json) → Parsed words
+  left : (fault_of our_app words ≡ [] → ⊥) → ((name : Text) (rest : List Text) → length rest ≤ 2 → bare_words words ≢ name ∷ rest) → Parsed words
+
+-- it has to leave words that are four or more without the flag
+stray : (words : List Text) (a b c d : Text) (more : List Text) → bare_words words ≡ a ∷ b ∷ c ∷ d ∷ more
     → fault_of our_app words ≡ UnknownArgument ∷ [] → Parsed words
-stray words a b c more is fault = left (λ none. cc) (λ name rest few e. omega (arith, ap length (sym is ∙ e)))
+stray words a b c d more is fault = left (λ none. cc) (λ name rest few e. omega (arith, ap length (sym is ∙ e)))
 
 -- and those that are none
 unnamed : (words : List Text) → bare_words words ≡ [] → fault_of our_app words ≡ MissingRequiredArgument ∷ [] → Parsed words
@@ -94,37 +104,54 @@ unnamed words is fault = left (λ none. cc) (λ name rest few e. cc)
 
 parsed : (ts : List Token) → length (filter is_flag (map spelled ts)) ≤ 1 → Parsed (map spelled ts)
 unfolding clap_on_literals
-parsed [] once = unnamed [] refl refl
 parsed (flag ∷ []) once = unnamed (json_word ∷ []) refl refl
 parsed (flag ∷ flag ∷ ts) once = let few : suc (suc (length (filter is_flag (map spelled ts)))) ≤ 1 = once in absurd (omega arith)
-parsed (flag ∷ bare a h ∷ []) once = taken a None true (rw (h.no_flag, h.no_dashes, h.no_long, h.no_short) refl)
+parsed (flag ∷ bare a h ∷ []) once = taken a [] true (omega arith) (rw (h.no_flag, h.no_dashes, h.no_long, h.no_short) refl)
 parsed (flag ∷ bare a h ∷ flag ∷ ts) once = absurd (let few = rw h.no_flag at once in omega arith)
 parsed (flag ∷ bare a h ∷ bare b k ∷ []) once =
-    taken a (Some b) true (rw (h.no_flag, h.no_dashes, h.no_long, h.no_short) (rw (k.no_flag, k.no_dashes, k.no_long, k.no_short) refl))
+    taken a (b ∷ []) true (omega arith) (rw (h.no_flag, h.no_dashes, h.no_long, h.no_short) (rw (k.no_flag, k.no_dashes, k.no_long, k.no_short) refl))
 parsed (flag ∷ bare a h ∷ bare b k ∷ flag ∷ ts) once = absurd (let few = rw (h.no_flag, k.no_flag) at once in omega arith)
-parsed (flag ∷ bare a h ∷ bare b k ∷ bare c l ∷ ts) once =
-    stray _ a b c (bare_words (map spelled ts)) (rw (h.no_flag, k.no_flag, l.no_flag) refl)
-    (rw (h.no_dashes, h.no_long, h.no_short) (rw (k.no_dashes, k.no_long, k.no_short) (rw (l.no_dashes, l.no_long, l.no_short) refl)))
-parsed (bare a h ∷ []) once = taken a None false (rw (h.no_flag, h.no_dashes, h.no_long, h.no_short) refl)
-parsed (bare a h ∷ flag ∷ []) once = taken a None true (rw (h.no_flag, h.no_dashes, h.no_long, h.no_short) refl)
+parsed (flag ∷ bare a h ∷ bare b k ∷ bare c l ∷ []) once =
+    taken a (b ∷ c ∷ []) true (omega arith) (rw (h.no_flag, h.no_dashes, h.no_long, h.no_short) (rw (k.no_flag, k.no_dashes, k.no_long, k.no_short) (rw (l.no_flag, l.no_dashes, l.no_long, l.no_short) refl)))
+parsed (flag ∷ bare a h ∷ bare b k ∷ bare c l ∷ flag ∷ ts) once = absurd (let few = rw (h.no_flag, k.no_flag, l.no_flag) at once in omega arith)
+parsed (flag ∷ bare a h ∷ bare b k ∷ bare c l ∷ bare d m ∷ ts) once =
+    stray _ a b c d (bare_words (map spelled ts)) (rw (h.no_flag, k.no_flag, l.no_flag, m.no_flag) refl)
+    (rw (h.no_dashes, h.no_long, h.no_short) (rw (k.no_dashes, k.no_long, k.no_short) (rw (l.no_dashes, l.no_long, l.no_short) (rw (m.no_dashes, m.no_long, m.no_short) refl))))
+parsed (bare a h ∷ flag ∷ []) once = taken a [] true (omega arith) (rw (h.no_flag, h.no_dashes, h.no_long, h.no_short) refl)
 parsed (bare a h ∷ flag ∷ flag ∷ ts) once = absurd (let few = rw h.no_flag at once in omega arith)
 parsed (bare a h ∷ flag ∷ bare b k ∷ []) once =
-    taken a (Some b) true (rw (h.no_flag, h.no_dashes, h.no_long, h.no_short) (rw (k.no_flag, k.no_dashes, k.no_long, k.no_short) refl))
+    taken a (b ∷ []) true (omega arith) (rw (h.no_flag, h.no_dashes, h.no_long, h.no_short) (rw (k.no_flag, k.no_dashes, k.no_long, k.no_short) refl))
 parsed (bare a h ∷ flag ∷ bare b k ∷ flag ∷ ts) once = absurd (let few = rw (h.no_flag, k.no_flag) at once in omega arith)
-parsed (bare a h ∷ flag ∷ bare b k ∷ bare c l ∷ ts) once =
-    stray _ a b c (bare_words (map spelled ts)) (rw (h.no_flag, k.no_flag, l.no_flag) refl)
-    (rw (h.no_dashes, h.no_long, h.no_short) (rw (k.no_dashes, k.no_long, k.no_short) (rw (l.no_dashes, l.no_long, l.no_short) refl)))
-parsed (bare a h ∷ bare b k ∷ []) once =
-    taken a (Some b) false (rw (h.no_flag, h.no_dashes, h.no_long, h.no_short) (rw (k.no_flag, k.no_dashes, k.no_long, k.no_short) refl))
+parsed (bare a h ∷ flag ∷ bare b k ∷ bare c l ∷ []) once =
+    taken a (b ∷ c ∷ []) true (omega arith) (rw (h.no_flag, h.no_dashes, h.no_long, h.no_short) (rw (k.no_flag, k.no_dashes, k.no_long, k.no_short) (rw (l.no_flag, l.no_dashes, l.no_long, l.no_short) refl)))
+parsed (bare a h ∷ flag ∷ bare b k ∷ bare c l ∷ flag ∷ ts) once = absurd (let few = rw (h.no_flag, k.no_flag, l.no_flag) at once in omega arith)
+parsed (bare a h ∷ flag ∷ bare b k ∷ bare c l ∷ bare d m ∷ ts) once =
+    stray _ a b c d (bare_words (map spelled ts)) (rw (h.no_flag, k.no_flag, l.no_flag, m.no_flag) refl)
+    (rw (h.no_dashes, h.no_long, h.no_short) (rw (k.no_dashes, k.no_long, k.no_short) (rw (l.no_dashes, l.no_long, l.no_short) (rw (m.no_dashes, m.no_long, m.no_short) refl))))
 parsed (bare a h ∷ bare b k ∷ flag ∷ []) once =
-    taken a (Some b) true (rw (h.no_flag, h.no_dashes, h.no_long, h.no_short) (rw (k.no_flag, k.no_dashes, k.no_long, k.no_short) refl))
+    taken a (b ∷ []) true (omega arith) (rw (h.no_flag, h.no_dashes, h.no_long, h.no_short) (rw (k.no_flag, k.no_dashes, k.no_long, k.no_short) refl))
 parsed (bare a h ∷ bare b k ∷ flag ∷ flag ∷ ts) once = absurd (let few = rw (h.no_flag, k.no_flag) at once in omega arith)
-parsed (bare a h ∷ bare b k ∷ flag ∷ bare c l ∷ ts) once =
-    stray _ a b c (bare_words (map spelled ts)) (rw (h.no_flag, k.no_flag, l.no_flag) refl)
-    (rw (h.no_dashes, h.no_long, h.no_short) (rw (k.no_dashes, k.no_long, k.no_short) (rw (l.no_dashes, l.no_long, l.no_short) refl)))
-parsed (bare a h ∷ bare b k ∷ bare c l ∷ ts) once =
-    stray _ a b c (bare_words (map spelled ts)) (rw (h.no_flag, k.no_flag, l.no_flag) refl)
-    (rw (h.no_dashes, h.no_long, h.no_short) (rw (k.no_dashes, k.no_long, k.no_short) (rw (l.no_dashes, l.no_long, l.no_short) refl)))
+parsed (bare a h ∷ bare b k ∷ flag ∷ bare c l ∷ []) once =
+    taken a (b ∷ c ∷ []) true (omega arith) (rw (h.no_flag, h.no_dashes, h.no_long, h.no_short) (rw (k.no_flag, k.no_dashes, k.no_long, k.no_short) (rw (l.no_flag, l.no_dashes, l.no_long, l.no_short) refl)))
+parsed (bare a h ∷ bare b k ∷ flag ∷ bare c l ∷ flag ∷ ts) once = absurd (let few = rw (h.no_flag, k.no_flag, l.no_flag) at once in omega arith)
+parsed (bare a h ∷ bare b k ∷ flag ∷ bare c l ∷ bare d m ∷ ts) once =
+    stray _ a b c d (bare_words (map spelled ts)) (rw (h.no_flag, k.no_flag, l.no_flag, m.no_flag) refl)
+    (rw (h.no_dashes, h.no_long, h.no_short) (rw (k.no_dashes, k.no_long, k.no_short) (rw (l.no_dashes, l.no_long, l.no_short) (rw (m.no_dashes, m.no_long, m.no_short) refl))))
+parsed (bare a h ∷ bare b k ∷ bare c l ∷ flag ∷ []) once =
+    taken a (b ∷ c ∷ []) true (omega arith) (rw (h.no_flag, h.no_dashes, h.no_long, h.no_short) (rw (k.no_flag, k.no_dashes, k.no_long, k.no_short) (rw (l.no_flag, l.no_dashes, l.no_long, l.no_short) refl)))
+parsed (bare a h ∷ bare b k ∷ bare c l ∷ flag ∷ flag ∷ ts) once = absurd (let few = rw (h.no_flag, k.no_flag, l.no_flag) at once in omega arith)
+parsed (bare a h ∷ bare b k ∷ bare c l ∷ flag ∷ bare d m ∷ ts) once =
+    stray _ a b c d (bare_words (map spelled ts)) (rw (h.no_flag, k.no_flag, l.no_flag, m.no_flag) refl)
+    (rw (h.no_dashes, h.no_long, h.no_short) (rw (k.no_dashes, k.no_long, k.no_short) (rw (l.no_dashes, l.no_long, l.no_short) (rw (m.no_dashes, m.no_long, m.no_short) refl))))
+parsed [] once = unnamed [] refl refl
+parsed (bare a h ∷ []) once = taken a [] false (omega arith) (rw (h.no_flag, h.no_dashes, h.no_long, h.no_short) refl)
+parsed (bare a h ∷ bare b k ∷ []) once =
+    taken a (b ∷ []) false (omega arith) (rw (h.no_flag, h.no_dashes, h.no_long, h.no_short) (rw (k.no_flag, k.no_dashes, k.no_long, k.no_short) refl))
+parsed (bare a h ∷ bare b k ∷ bare c l ∷ []) once =
+    taken a (b ∷ c ∷ []) false (omega arith) (rw (h.no_flag, h.no_dashes, h.no_long, h.no_short) (rw (k.no_flag, k.no_dashes, k.no_long, k.no_short) (rw (l.no_flag, l.no_dashes, l.no_long, l.no_short) refl)))
+parsed (bare a h ∷ bare b k ∷ bare c l ∷ bare d m ∷ ts) once =
+    stray _ a b c d (bare_words (map spelled ts)) (rw (h.no_flag, k.no_flag, l.no_flag, m.no_flag) refl)
+    (rw (h.no_dashes, h.no_long, h.no_short) (rw (k.no_dashes, k.no_long, k.no_short) (rw (l.no_dashes, l.no_long, l.no_short) (rw (m.no_dashes, m.no_long, m.no_short) refl))))
 
 -- plain words with the flag once at most are taken, or are left where they have to be
 pub parsed_words : (words : List Text) → list_all is_plain words ≡ true → flag_count words ≤ 1 → Parsed words

@@ -1,7 +1,7 @@
 -- The words of a command line, and the request that they spell. Source: own.
-use Rattle.std.specs.Prelude.{◌≡◌, ◌≤◌, ℕ, Bool, true, false, List, [], ◌∷◌, ◌++◌, codes, decimal}
+use Rattle.std.specs.Prelude.{◌≡◌, ◌≤◌, ◌<◌, ℕ, Bool, true, false, List, [], ◌∷◌, ◌++◌, codes, decimal}
 use Rattle.gj_words.specs.declared.requests.Command.{Command}
-use Rattle.gj_words.specs.declared.requests.Command.TheVariants.{Minimal, Extreme, Cut, Check, Show, Faces, Demo}
+use Rattle.gj_words.specs.declared.requests.Command.TheVariants.{Minimal, Extreme, Cut, Check, Show, Faces, Demo, Mixed, Fill, Times, Mirror, Restrict}
 use Rattle.gj_words.specs.declared.requests.Request.{Request}
 
 -- the words of a command
@@ -13,10 +13,18 @@ command_words Check = codes "check" ∷ []
 command_words Show = codes "show" ∷ []
 command_words Faces = codes "faces" ∷ []
 command_words (Demo n) = codes "demo" ∷ decimal n ∷ []
+command_words Mixed = codes "mixed" ∷ []
+command_words Fill = codes "fill" ∷ []
+command_words (Times n j) = codes "times" ∷ decimal n ∷ decimal j ∷ []
+command_words Mirror = codes "mirror" ∷ []
+command_words (Restrict d) = codes "restrict" ∷ decimal d ∷ []
 
--- the number of `demo` lies from 1 to 249
+-- the number of `demo` lies from 1 to 249, the first of `times` from 1 to 500, the second from 0 on below the first, and that of
+-- `restrict` from 2 to 1,000
 abbrev pub IsInBounds : Command → Type 0
 IsInBounds (Demo n) = (1 ≤ n) × (n ≤ 249)
+IsInBounds (Times n j) = (1 ≤ n) × (n ≤ 500) × (j < n)
+IsInBounds (Restrict d) = (2 ≤ d) × (d ≤ 1000)
 IsInBounds _ = Unit {0}
 
 -- the commands with which the flag may stand

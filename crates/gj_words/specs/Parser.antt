@@ -7,9 +7,12 @@ use Rattle.clap.specs.declared.builder.action.ArgAction.TheVariants.{SetTrue}
 abbrev pub name_rule : Rule
 name_rule = record (new_rule (codes "command")) { required = true }
 
--- the number behind it
-abbrev pub number_rule : Rule
-number_rule = new_rule (codes "number")
+-- the first word behind it, and the second
+abbrev pub first_rule : Rule
+first_rule = new_rule (codes "first")
+
+abbrev pub second_rule : Rule
+second_rule = new_rule (codes "second")
 
 -- the flag
 abbrev pub json_rule : Rule
@@ -21,6 +24,6 @@ bare_app = let new = new_app (codes "gjcut") in record new {
   top = record new.top { no_binary_name = true; disable_help_flag = true; disable_version_flag = true };
 }
 
--- the command line: two positionals and one flag
+-- the command line: three positionals and one flag
 abbrev pub our_app : App
-our_app = with_rule (with_rule (with_rule bare_app name_rule) number_rule) json_rule
+our_app = with_rule (with_rule (with_rule (with_rule bare_app name_rule) first_rule) second_rule) json_rule

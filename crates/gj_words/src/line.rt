@@ -1,10 +1,11 @@
 //! A command line, its words told apart by `clap`.
 
-ghost use Rattle.std.specs.Prelude.{◌≡◌, ◌≢◌, ◌≤◌, ◌↔◌, ◌∷◌, ℕ, List, true, codes, length, map, Err, IfOk};
+ghost use Rattle.std.specs.Prelude.{◌≡◌, ◌≢◌, ◌≤◌, ◌↔◌, ◌∷◌, ◌++◌, ℕ, List, true, codes, length, map, None, option_map, Err, IfOk};
 ghost use Rattle.std.specs.List.{list_all};
 ghost use Rattle.std.specs.String.{string_bytes};
 ghost use Rattle.gj_words.specs.Bare.{bare_words, flag_count, is_plain};
-ghost use Rattle.gj_words.specs.Line.{IsLineOf};
+ghost use Rattle.std.specs.Option.{option_to_list};
+ghost use Rattle.gj_words.specs.Line.{IsLineOf, words_behind};
 ghost use Rattle.gj_words.specs.Parser.{our_app};
 ghost use Rattle.clap.specs.Words.{app_of, kind_of};
 
@@ -18,20 +19,31 @@ use std::alloc::{AllocError, Global};
 pub(crate) struct Line<'a> {
     /// The first word that is not the flag.
     pub(crate) name: &'a str,
-    /// The second, where there is one.
-    pub(crate) number: Option<&'a str>,
+    /// The others.
+    pub(crate) operands: Operands<'a>,
     /// Whether the flag is given.
     pub(crate) json: bool,
 }
 
+/// The words behind the command word, without the flag.
+#[derive(Clone, Copy)]
+pub(crate) enum Operands<'a> {
+    /// There is none.
+    Nothing,
+    /// There is one.
+    One(&'a str),
+    /// There are two.
+    Two(&'a str, &'a str),
+}
+
 /// The command line of these words, each of which is the flag or does not begin with `-`.
 ///
-/// `Refused` where none or more than two of them are left without the flag.
+/// `Refused` exactly if none or more than three of them are left without the flag.
 pub(crate) fn parse<'a>(alloc: Global, words: &'a [String]) -> Result<Line<'a>, WordFault>
     requires plain { list_all is_plain (map string_bytes words.now) ≡ true }
     requires once { flag_count (map string_bytes words.now) ≤ 1 }
     ensures ok { IfOk result (IsLineOf (map string_bytes words.entry.now)) }
-    ensures refused { result ≡ Err WordFault.Refused → (name : List ℕ) (rest : List (List ℕ)) → length rest ≤ 1 →
+    ensures refused { result ≡ Err WordFault.Refused → (name : List ℕ) (rest : List (List ℕ)) → length rest ≤ 2 →
         bare_words (map string_bytes words.entry.now) ≢ name ∷ rest }
 {
     let command = our_command(alloc)?;
@@ -42,20 +54,35 @@ pub(crate) fn parse<'a>(alloc: Global, words: &'a [String]) -> Result<Line<'a>, 
     let Some(name) = matches.get_str("command") else {
         unreachable!()
     };
+    let operands = operands_of(matches.get_str("first"), matches.get_str("second"));
     Ok(Line {
         name,
-        number: matches.get_str("number"),
+        operands,
         json: matches.get_flag("json"),
     })
 }
 
-/// The command line as `clap` is told of it: two positionals, of which the first has to be there, and
+/// The words behind the command word; there is no second without a first.
+fn operands_of<'a>(first: Option<&'a str>, second: Option<&'a str>) -> Operands<'a>
+    requires { first ≡ None → second ≡ None }
+    ensures { words_behind result ≡
+        option_to_list (option_map (λ word. word.now) first.entry) ++ option_to_list (option_map (λ word. word.now) second.entry) }
+{
+    match (first, second) {
+        (None, _) => Operands::Nothing,
+        (Some(a), None) => Operands::One(a),
+        (Some(a), Some(b)) => Operands::Two(a, b),
+    }
+}
+
+/// The command line as `clap` is told of it: three positionals, of which the first has to be there, and
 /// one flag.
 fn our_command<'a>(alloc: Global) -> Result<clap::Command<'a>, AllocError>
     ensures { IfOk result (λ command. app_of command ≡ our_app) }
 {
     let name = Arg::new(alloc, "command").required(true);
-    let number = Arg::new(alloc, "number");
+    let first = Arg::new(alloc, "first");
+    let second = Arg::new(alloc, "second");
     let json = Arg::new(alloc, "json")
         .long("json")
         .action(ArgAction::SetTrue);
@@ -64,7 +91,8 @@ fn our_command<'a>(alloc: Global) -> Result<clap::Command<'a>, AllocError>
         .disable_help_flag(true)
         .disable_version_flag(true)
         .arg(name)?
-        .arg(number)?
+        .arg(first)?
+        .arg(second)?
         .arg(json)
 }
 

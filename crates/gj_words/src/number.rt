@@ -1,26 +1,21 @@
-//! The number of `demo`.
+//! Numbers of commands.
 
-ghost use Rattle.std.specs.Prelude.{◌≡◌, ◌≤◌, ◌↔◌, ℕ, decimal, slice_index, IfSome, IsTrue};
-ghost use Rattle.gj_words.specs.Grammar.{IsInBounds};
+ghost use Rattle.std.specs.Prelude.{◌≡◌, ◌≤◌, ◌<◌, ◌^◌, ◌↔◌, ℕ, decimal, slice_index, IfSome, IsTrue};
 
-use crate::requests::Command;
-
-/// The greatest number that `demo` takes.
-const GREATEST: u32 = 249;
-
-/// The number of `demo` that the word spells in digits, without a leading zero.
-pub(crate) fn demo_number(word: &str) -> Option<u32>
-    ensures found { IfSome result (λ n. IsInBounds (Command.Demo n) × (word.now ≡ decimal n)) }
-    ensures only { (n : ℕ) → IsInBounds (Command.Demo n) → word.now ≡ decimal n → result ≡ Some n }
+/// The number that the word spells in digits, without a leading zero unless the word is `0`.
+///
+/// None if it spells none below 2^32.
+pub(crate) fn number_of(word: &str) -> Option<u32>
+    ensures found { IfSome result (λ n. word.now ≡ decimal n) }
+    ensures only { (n : ℕ) → n < 2 ^ 32 → word.now ≡ decimal n → result ≡ Some n }
 {
+    if word == "0" {
+        return Some(0);
+    }
     if !begins_above_zero(word.as_bytes()) {
         return None;
     }
-    let number = word.parse::<u32>().ok()?;
-    if number > GREATEST {
-        return None;
-    }
-    Some(number)
+    word.parse::<u32>().ok()
 }
 
 /// Whether the first byte is a digit above `0`.

@@ -1,25 +1,34 @@
 //! The words read as a request.
 
-ghost use Rattle.std.specs.Prelude.{◌≡◌, ◌≢◌, map, option_map, IfOk, IfSome, MatchResult};
+ghost use Rattle.std.specs.Prelude.{◌≡◌, ◌≢◌, ◌∷◌, [], codes, map, IfOk, IfSome, MatchResult};
 ghost use Rattle.std.specs.String.{string_bytes};
 ghost use Rattle.std.specs.List.{list_all};
 ghost use Rattle.gj_words.specs.Grammar.{SpellRequest, takes_json};
-ghost use Rattle.gj_words.specs.Line.{IsCommandOf, IsRequestOf};
+ghost use Rattle.gj_words.specs.Line.{IsCommandOf, IsRequestOf, words_behind};
 ghost use Rattle.gj_words.specs.Bare.{is_flag, is_plain, flag_count};
 ghost use Rattle.gj_words.specs.declared.requests.Command.{Command};
 ghost use Rattle.gj_words.specs.declared.requests.Request.{Request};
 
-use crate::line::{Line, parse};
-use crate::number::demo_number;
+use crate::line::{Line, Operands, parse};
+use crate::number::number_of;
 use crate::requests::{Command, Request, WordFault};
 use std::alloc::Global;
 
 /// The word of the flag.
 const FLAG: &str = "--json";
 
+/// The greatest number of `demo`.
+const GREATEST_DEMO: u32 = 249;
+
+/// The greatest number of `restrict`: the greatest order of a function.
+const GREATEST_ORDER: u32 = 1000;
+
+/// The greatest first number of `times`: a function of order 2 has then the greatest order.
+const GREATEST_FACTOR: u32 = 500;
+
 /// The request that the words spell.
 ///
-/// `Refused` where they spell none.
+/// `Refused` exactly if they spell none.
 ///
 /// ```text
 /// let words = [String::from_str(alloc, "--json")?, String::from_str(alloc, "show")?];
@@ -81,7 +90,7 @@ fn request_of(line: &Line) -> Option<Request>
     ensures found { IfSome result (λ request. IsRequestOf line.now request) }
     ensures only { (request : Request) → IsRequestOf line.now request → result ≡ Some request }
 {
-    let command = command_of(line.name, line.number)?;
+    let command = command_of(line.name, line.operands)?;
     if line.json && !may_take_json(command) {
         return None;
     }
@@ -98,23 +107,23 @@ fn may_take_json(command: Command) -> bool
     matches!(command, Command::Minimal | Command::Extreme | Command::Show)
 }
 
-/// The command with this word, and this number behind it.
-fn command_of(name: &str, number: Option<&str>) -> Option<Command>
-    ensures found { IfSome result (λ command. IsCommandOf name.now (option_map (λ digits. digits.now) number.entry) command) }
-    ensures only { (command : Command) → IsCommandOf name.now (option_map (λ digits. digits.now) number.entry) command →
-        result ≡ Some command }
+/// The command with this word, and these behind it.
+fn command_of(name: &str, operands: Operands) -> Option<Command>
+    ensures found { IfSome result (λ command. IsCommandOf name.now (words_behind operands.entry) command) }
+    ensures only { (command : Command) → IsCommandOf name.now (words_behind operands.entry) command → result ≡ Some command }
 {
-    match number {
-        None => plain_command(name),
-        Some(digits) if name == "demo" => Some(Command::Demo(demo_number(digits)?)),
-        Some(_) => None,
+    match operands {
+        Operands::Nothing => plain_command(name),
+        Operands::One(number) => command_with(name, number),
+        Operands::Two(one, other) if name == "times" => times_by(one, other),
+        Operands::Two(_, _) => None,
     }
 }
 
 /// The command that this word alone spells.
 fn plain_command(name: &str) -> Option<Command>
-    ensures found { IfSome result (λ command. IsCommandOf name.now None command) }
-    ensures only { (command : Command) → IsCommandOf name.now None command → result ≡ Some command }
+    ensures found { IfSome result (λ command. IsCommandOf name.now [] command) }
+    ensures only { (command : Command) → IsCommandOf name.now [] command → result ≡ Some command }
 {
     match name {
         "minimal" => Some(Command::Minimal),
@@ -123,6 +132,35 @@ fn plain_command(name: &str) -> Option<Command>
         "check" => Some(Command::Check),
         "show" => Some(Command::Show),
         "faces" => Some(Command::Faces),
+        "mixed" => Some(Command::Mixed),
+        "fill" => Some(Command::Fill),
+        "mirror" => Some(Command::Mirror),
         _ => None,
     }
+}
+
+/// The command that this word spells with the number behind it.
+fn command_with(name: &str, number: &str) -> Option<Command>
+    ensures found { IfSome result (λ command. IsCommandOf name.now (number.now ∷ []) command) }
+    ensures only { (command : Command) → IsCommandOf name.now (number.now ∷ []) command → result ≡ Some command }
+{
+    let n = number_of(number)?;
+    match name {
+        "demo" if 1 <= n && n <= GREATEST_DEMO => Some(Command::Demo(n)),
+        "restrict" if 2 <= n && n <= GREATEST_ORDER => Some(Command::Restrict(n)),
+        _ => None,
+    }
+}
+
+/// The command `times` with these two numbers.
+fn times_by(factor: &str, step: &str) -> Option<Command>
+    ensures found { IfSome result (λ command. IsCommandOf (codes "times") (factor.now ∷ step.now ∷ []) command) }
+    ensures only { (command : Command) → IsCommandOf (codes "times") (factor.now ∷ step.now ∷ []) command → result ≡ Some command }
+{
+    let n = number_of(factor)?;
+    let j = number_of(step)?;
+    if n < 1 || n > GREATEST_FACTOR || j >= n {
+        return None;
+    }
+    Some(Command::Times(n, j))
 }

@@ -23,6 +23,17 @@ pub enum Command {
     Faces,
     /// Decides a function that no text has to give, of order 2(2n + 1) for this number n.
     Demo(u32),
+    /// Makes a cut of each row of a tableau that has continuous columns.
+    Mixed,
+    /// Prints the two-slope fill-in of a function by its breakpoints.
+    Fill,
+    /// Prints the function with the value of a function at n x, for the first number n, and with the place (f + j)/n, for
+    /// the second number j.
+    Times(u32, u32),
+    /// Prints the function with the value of a function at -x, and with the place 1 - f.
+    Mirror,
+    /// Prints the function of this order that has the values of a continuous function at its grid points.
+    Restrict(u32),
 }
 
 /// What the words ask for.

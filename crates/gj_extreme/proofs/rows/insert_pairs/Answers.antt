@@ -1,4 +1,4 @@
-use Rattle.std.proofs.Common.{◌≡◌, ◌<◌, ◌+◌, ◌++◌, ◌∷◌, sym, ap, subst, ◌∙◌, arith}
+use Rattle.std.proofs.Common.{◌+◌, ◌++◌, subst, arith}
 use Rattle.gj_shape.specs.SlopeRows.{component_in}
 use Rattle.gj_elim.proofs.Keeping.{same_error}
 use Rattle.gj_extreme.specs.RowsToCome.{AreToCome, pairs_from, rows_from}

@@ -1,4 +1,4 @@
-use Rattle.gj_words.specs.declared.requests.Command.TheVariants.{Minimal, Extreme, Show, Check, Faces, Cut, Demo}
+use Rattle.gj_words.specs.declared.requests.Command.TheVariants.{Minimal, Extreme, Show, Check, Faces, Cut, Demo, Mixed, Fill, Times, Mirror, Restrict}
 use Rattle.gj_top.proofs.Commands.{each_reads}
 use Rattle.gj_top.proofs.command.reads_input.Goals as goal
 
@@ -22,3 +22,18 @@ returns-in-Cut c = rw c.in-Cut.is (each_reads Cut c.args.request.json)
 
 pub returns-in-Demo : goal.returns-in-Demo
 returns-in-Demo c = rw c.in-Demo.is (each_reads (Demo c.in-Demo.field-0) c.args.request.json)
+
+pub returns-in-Mixed : goal.returns-in-Mixed
+returns-in-Mixed c = rw c.in-Mixed.is (each_reads Mixed c.args.request.json)
+
+pub returns-in-Fill : goal.returns-in-Fill
+returns-in-Fill c = rw c.in-Fill.is (each_reads Fill c.args.request.json)
+
+pub returns-in-Mirror : goal.returns-in-Mirror
+returns-in-Mirror c = rw c.in-Mirror.is (each_reads Mirror c.args.request.json)
+
+pub returns-in-Times : goal.returns-in-Times
+returns-in-Times c = rw c.in-Times.is (each_reads (Times c.in-Times.field-0 c.in-Times.field-1) c.args.request.json)
+
+pub returns-in-Restrict : goal.returns-in-Restrict
+returns-in-Restrict c = rw c.in-Restrict.is (each_reads (Restrict c.in-Restrict.field-0) c.args.request.json)

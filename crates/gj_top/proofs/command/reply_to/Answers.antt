@@ -29,3 +29,18 @@ returns-in-Cut c = rw c.in-Cut.is c.reply-in-Cut.ensures
 
 pub returns-in-Demo : goal.returns-in-Demo
 returns-in-Demo c = rw c.in-Demo.is (c.reply-in-Demo.ensures c.args.input.now)
+
+pub returns-in-Mixed : goal.returns-in-Mixed
+returns-in-Mixed c = rw c.in-Mixed.is c.reply-in-Mixed.ensures
+
+pub returns-in-Fill : goal.returns-in-Fill
+returns-in-Fill c = rw c.in-Fill.is c.reply-in-Fill.ensures
+
+pub returns-in-Times : goal.returns-in-Times
+returns-in-Times c = rw c.in-Times.is c.times_reply.ensures
+
+pub returns-in-Mirror : goal.returns-in-Mirror
+returns-in-Mirror c = rw c.in-Mirror.is c.mirror_reply.ensures
+
+pub returns-in-Restrict : goal.returns-in-Restrict
+returns-in-Restrict c = rw c.in-Restrict.is c.restrict_reply.ensures

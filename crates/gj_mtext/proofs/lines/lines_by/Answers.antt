@@ -1,0 +1,17 @@
+use Rattle.std.proofs.Common.{length, sym, subst}
+use Rattle.gj_row.specs.TableauLimits.{IsRowWithinLimits}
+use Rattle.gj_cut.proofs.RowTerms.{zip_next}
+use Rattle.gj_proof.specs.declared.cut.CutRule.TheVariants.{Table}
+use Rattle.gj_mtext.specs.MixedLines.{IsMadeLine}
+use Rattle.gj_mtext.proofs.lines.lines_by.Goals as goal
+
+pub loop-row-preserved : goal.loop-row-preserved
+loop-row-preserved g c =
+    zip_next (IsMadeLine (Table c.args.shape) c.args.columns.now) c.args.rows.now c.loop-row.row-index c.row-item.result
+    c.loop-row.lines.items c.push.new.self.items c.in_ok-line_by.field-0 c.loop-row-test.true c.row-item.is c.in_ok-push.ensures.items
+    c.loop-row.invariant (c.in_ok-line_by.ensures c.args.shape c.new-rule.ensures.kind)
+
+pub line_by-requires-clause-row : goal.line_by-requires-clause-row
+line_by-requires-clause-row g c =
+    subst (IsRowWithinLimits (length c.args.columns.now)) (sym c.row-item.is)
+    (c.requires.rows c.loop-row.row-index c.row-item.result c.loop-row-test.true)

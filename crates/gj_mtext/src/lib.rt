@@ -1,0 +1,15 @@
+//! The cuts of the rows of a tableau with continuous columns, as a text.
+//!
+//! A column whose name begins with `c:` is continuous. [`mixed_text`] makes the text of the cuts of all rows by a rule: a group of
+//! lines a row, those of its whole columns as in a proof text, and a line `weight` for each continuous column. Names are given to
+//! the terms of a cut by [`named_terms`].
+#![tactic(auto)]
+
+mod columns;
+mod lines;
+mod named;
+mod text;
+
+pub use lines::{MixedLine, mixed_lines};
+pub use named::{line_of, named_terms};
+pub use text::mixed_text;

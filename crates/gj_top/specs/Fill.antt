@@ -1,0 +1,56 @@
+-- The command `fill`: a function text is answered with the two-slope fill-in of its function, by breakpoints (Gomory and Johnson 1972; the
+-- form is own).
+use Rattle.std.specs.Prelude.{ℕ, pos, ◌≡◌, ◌<◌, List, ◌++◌, codes}
+use Rattle.gj_frac.specs.declared.Frac.{Frac}
+use Rattle.gj_frac.specs.Fraction.{IsRatio}
+use Rattle.gj_lex.specs.NumberText.{fraction_text}
+use Rattle.gj_shape.specs.FunctionData.{FunctionData, IsContinuous, at}
+use Rattle.gj_shape.specs.declared.breaks.Break.{Break}
+use Rattle.gj_lines.specs.FunctionLines.{line}
+use Rattle.gj_ftext.specs.FunctionText.{canonical_breaks_text}
+use Rattle.gj_fill.specs.FillIn.{IsSubadditiveTable, filled}
+use Rattle.gj_fill.specs.FillPoints.{AreFillBreaks}
+use Rattle.gj_fill.specs.FirstPair.{IsFirstPair}
+use Rattle.gj_top.specs.declared.reply.End.{End}
+use Rattle.gj_top.specs.declared.reply.End.TheVariants.{Done, NotContinuous, NotSubadditive}
+use Rattle.gj_top.specs.Promise.{Promise}
+use Rattle.gj_top.specs.Task.{Task}
+use Rattle.gj_top.specs.Forms.{function_text, RefusesFunctionText}
+use Rattle.gj_top.specs.Continuity.{NamesFirstJump}
+
+-- the function is continuous, and the text is that of the points of its fill-in, which is subadditive on every grid
+pub record IsFillText (f : FunctionData) (text : List ℕ) : Type 0 where
+  pub continuous : IsContinuous f
+  pub place : Frac
+  pub breaks : List Break
+  pub place_is : IsRatio place (pos f.place) (pos f.order)
+  pub breaks_are : AreFillBreaks f breaks
+  pub subadditive : (m : ℕ) → 0 < m → IsSubadditiveTable (filled (at f.value) breaks_are.rise breaks_are.fall m)
+  pub spelled : text ≡ canonical_breaks_text place breaks
+
+-- the text names the first two multiples of 1/order at which the function is not subadditive
+pub record NamesFirstPair (f : FunctionData) (text : List ℕ) : Type 0 where
+  pub a : ℕ
+  pub b : ℕ
+  pub first : IsFirstPair f a b
+  pub x : Frac
+  pub y : Frac
+  pub x_is : IsRatio x (pos a) (pos f.order)
+  pub y_is : IsRatio y (pos b) (pos f.order)
+  pub spelled : text ≡ line (codes "not subadditive " ++ fraction_text x ++ codes " " ++ fraction_text y)
+
+-- of a function that jumps the first jump is named, of one that is not subadditive at the multiples of 1/order the first two of these
+abbrev pub IsFillReply : FunctionData → End → List ℕ → Type 0
+IsFillReply f Done text = IsFillText f text
+IsFillReply f NotContinuous text = NamesFirstJump f text
+IsFillReply f NotSubadditive text = IsContinuous f × NamesFirstPair f text
+IsFillReply f end text = ⊥
+
+abbrev pub fill_promise : Promise
+fill_promise = record { Thing = FunctionData; form = function_text; headline = IsFillText }
+
+abbrev pub fill : Task
+fill = record {
+  promise = fill_promise;
+  work = record { refuses = RefusesFunctionText; replies = IsFillReply };
+}

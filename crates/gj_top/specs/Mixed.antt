@@ -1,0 +1,41 @@
+-- The command `mixed`: a function or a rule, and a tableau behind it of which columns may be continuous, are answered with the mixed cuts
+-- of its rows (Gomory and Johnson 1972; the form is own).
+use Rattle.std.specs.Prelude.{ℕ, List}
+use Rattle.gj_shape.specs.FunctionData.{FunctionData}
+use Rattle.gj_shape.specs.Table.{IsMinimal}
+use Rattle.gj_proof.specs.declared.cut.CutRule.{CutRule}
+use Rattle.gj_proof.specs.declared.cut.CutRule.TheVariants.{Gmic, Table}
+use Rattle.gj_mtext.specs.MixedLines.{AreMixedCutsOf, MakesMixedCuts}
+use Rattle.gj_top.specs.declared.reply.End.{End}
+use Rattle.gj_top.specs.declared.reply.End.TheVariants.{Done, NotContinuous, NoFunction}
+use Rattle.gj_top.specs.Promise.{Promise}
+use Rattle.gj_top.specs.Task.{Task}
+use Rattle.gj_top.specs.Continuity.{NamesFirstJump}
+use Rattle.gj_top.specs.Cut.{CutInput, cut_input, RefusesCutInput, NamesViolation}
+
+-- the text names the first jump of a minimal function
+abbrev pub NamesJump : CutRule → List ℕ → Type 0
+NamesJump Gmic text = ⊥
+NamesJump (Table f) text = IsMinimal f × NamesFirstJump f text
+
+-- the mixed cuts of the rows, if the rule makes such cuts; of a function that is not minimal the first violation is named, and of a
+-- minimal one that jumps the first jump
+abbrev pub IsMixedReply : CutInput → End → List ℕ → Type 0
+IsMixedReply input Done text = MakesMixedCuts input.rule × AreMixedCutsOf input.rule input.tableau text
+IsMixedReply input NoFunction text = NamesViolation input.rule text
+IsMixedReply input NotContinuous text = NamesJump input.rule text
+IsMixedReply input end text = ⊥
+
+-- the headline: the rows that are written are those of the tableau, and each cut holds at every solution of its row
+abbrev pub mixed_promise : Promise
+mixed_promise = record {
+  Thing = CutInput;
+  form = cut_input;
+  headline = λ input text. AreMixedCutsOf input.rule input.tableau text;
+}
+
+abbrev pub mixed : Task
+mixed = record {
+  promise = mixed_promise;
+  work = record { refuses = RefusesCutInput; replies = IsMixedReply };
+}

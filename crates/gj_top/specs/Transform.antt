@@ -1,0 +1,90 @@
+-- The commands `times`, `mirror` and `restrict`: a function text is answered with the canonical text of a function that is made of its
+-- function (Gomory and Johnson 1972; the form is own).
+use Rattle.std.specs.Prelude.{ℕ, ◌≡◌, ◌*◌, ◌<◌, ◌↔◌, List, codes}
+use Rattle.gj_shape.specs.Limits.{greatest_order}
+use Rattle.gj_shape.specs.Extreme.{IsExtreme}
+use Rattle.gj_shape.specs.FunctionData.{FunctionData, IsContinuous}
+use Rattle.gj_shape.specs.Table.{IsMinimal}
+use Rattle.gj_lines.specs.FunctionLines.{line}
+use Rattle.gj_ftext.specs.FunctionText.{IsCanonicalText}
+use Rattle.gj_transform.specs.Transforms.{IsTimesOf, IsMirrorOf, IsRestrictionOf, HasNoRestriction}
+use Rattle.gj_top.specs.declared.reply.End.{End}
+use Rattle.gj_top.specs.declared.reply.End.TheVariants.{Done, NotContinuous, OrderLimit, BadOrder}
+use Rattle.gj_top.specs.Promise.{Promise}
+use Rattle.gj_top.specs.Task.{Task}
+use Rattle.gj_top.specs.Forms.{function_text, RefusesFunctionText}
+use Rattle.gj_top.specs.Continuity.{NamesFirstJump}
+
+-- ---- times
+
+-- the text is that of the function of n x with the place (f + j)/n, which is minimal exactly if the function is
+pub record IsTimesText (n j : ℕ) (f : FunctionData) (text : List ℕ) : Type 0 where
+  pub function : FunctionData
+  pub times : IsTimesOf f n j function
+  pub minimal : IsMinimal f ↔ IsMinimal function
+  pub spelled : IsCanonicalText text function
+
+-- its order is at most 1,000; and else that is said
+abbrev pub IsTimesReply : ℕ → ℕ → FunctionData → End → List ℕ → Type 0
+IsTimesReply n j f Done text = IsTimesText n j f text
+IsTimesReply n j f OrderLimit text = (greatest_order < f.order * n) × (text ≡ line (codes "order limit"))
+IsTimesReply n j f end text = ⊥
+
+abbrev pub times_promise : ℕ → ℕ → Promise
+times_promise n j = record { Thing = FunctionData; form = function_text; headline = IsTimesText n j }
+
+abbrev pub times : ℕ → ℕ → Task
+times n j = record {
+  promise = times_promise n j;
+  work = record { refuses = RefusesFunctionText; replies = IsTimesReply n j };
+}
+
+-- ---- mirror
+
+-- the text is that of the function of -x with the place 1 - f, which is minimal, and extreme, exactly if the function is
+pub record IsMirrorText (f : FunctionData) (text : List ℕ) : Type 0 where
+  pub function : FunctionData
+  pub mirror : IsMirrorOf f function
+  pub minimal : IsMinimal f ↔ IsMinimal function
+  pub extreme : IsExtreme f ↔ IsExtreme function
+  pub spelled : IsCanonicalText text function
+
+abbrev pub IsMirrorReply : FunctionData → End → List ℕ → Type 0
+IsMirrorReply f Done text = IsMirrorText f text
+IsMirrorReply f end text = ⊥
+
+abbrev pub mirror_promise : Promise
+mirror_promise = record { Thing = FunctionData; form = function_text; headline = IsMirrorText }
+
+abbrev pub mirror : Task
+mirror = record {
+  promise = mirror_promise;
+  work = record { refuses = RefusesFunctionText; replies = IsMirrorReply };
+}
+
+-- ---- restrict
+
+-- the function is continuous, and the text is that of the continuous function of order d with its values at the multiples of 1/d, which
+-- is minimal if the function is
+pub record IsRestrictionText (d : ℕ) (f : FunctionData) (text : List ℕ) : Type 0 where
+  pub continuous : IsContinuous f
+  pub function : FunctionData
+  pub restriction : IsRestrictionOf f d function
+  pub minimal : IsMinimal f → IsMinimal function
+  pub spelled : IsCanonicalText text function
+
+-- of a function that jumps the first jump is named; and if a continuous one has no restriction of order d, that is said
+abbrev pub IsRestrictionReply : ℕ → FunctionData → End → List ℕ → Type 0
+IsRestrictionReply d f Done text = IsRestrictionText d f text
+IsRestrictionReply d f NotContinuous text = NamesFirstJump f text
+IsRestrictionReply d f BadOrder text = IsContinuous f × HasNoRestriction f d × (text ≡ line (codes "bad order"))
+IsRestrictionReply d f end text = ⊥
+
+abbrev pub restriction_promise : ℕ → Promise
+restriction_promise d = record { Thing = FunctionData; form = function_text; headline = IsRestrictionText d }
+
+abbrev pub restriction : ℕ → Task
+restriction d = record {
+  promise = restriction_promise d;
+  work = record { refuses = RefusesFunctionText; replies = IsRestrictionReply d };
+}
