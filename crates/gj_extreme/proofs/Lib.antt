@@ -10,6 +10,7 @@ pub mod FewComponents
 pub mod OneViolation
 pub mod OneDecision
 pub mod NotTooWide
+pub mod TwoSlopeDecisions
 pub mod RowOrder
 pub mod FoundPairs
 pub mod TakenRows

@@ -77,6 +77,10 @@ IsDecided f (Cut rule rows) = ⊥
 IsDecided f (Extreme g lines rows) = (g ≡ f) × IsMinimal f × IsContinuous f × AreExtremeRows f lines rows
 IsDecided f (NotExtreme g h) = (g ≡ f) × IsMinimal f × IsContinuous f × (AreZigzagHalves f h ⊎ AreSlopeHalves f h)
 
+-- it is that the function is extreme, by cover lines and rows
+abbrev pub IsExtremeClaim : FunctionData → Claim → Type 0
+IsExtremeClaim f c = (lines : List CoverLine) × (rows : List PivotRow) × (c ≡ Extreme f lines rows)
+
 -- ---- what the table of order 4 q tells
 
 -- the table of order 4 q is extreme

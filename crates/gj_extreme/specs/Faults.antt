@@ -4,7 +4,7 @@ use Rattle.gj_elim.specs.declared.faults.ElimFault.TheVariants as elimination
 use Rattle.gj_perturb.specs.declared.faults.SplitFault.{SplitFault}
 use Rattle.gj_perturb.specs.declared.faults.SplitFault.TheVariants as split
 use Rattle.gj_extreme.specs.declared.faults.DecideFault.{DecideFault}
-use Rattle.gj_extreme.specs.declared.faults.DecideFault.TheVariants.{Wide, Memory}
+use Rattle.gj_extreme.specs.declared.faults.DecideFault.TheVariants.{NotContinuous, Wide, Memory}
 
 -- the fault by that of the elimination
 abbrev pub of_elimination : ElimFault → DecideFault
@@ -15,3 +15,9 @@ of_elimination (elimination.Memory e) = Memory e
 abbrev pub of_split : SplitFault → DecideFault
 of_split split.Wide = Wide
 of_split (split.Memory e) = Memory e
+
+-- memory was wanting
+abbrev pub IsMemoryFault : DecideFault → Type 0
+IsMemoryFault (NotContinuous i) = ⊥
+IsMemoryFault Wide = ⊥
+IsMemoryFault (Memory e) = Unit {0}

@@ -1,13 +1,15 @@
 //! The decision.
-ghost use Rattle.std.specs.Prelude.{ℕ, ◌≡◌, ◌≤◌, ◌↔◌, List, IfOk, IsErrOf, Err};
+ghost use Rattle.std.specs.Prelude.{ℕ, ◌≡◌, ◌≤◌, ◌↔◌, List, IfOk, IsErrOf, Err, MatchResult};
 ghost use Rattle.gj_shape.specs.Extreme.{IsExtreme};
 ghost use Rattle.gj_shape.specs.FunctionData.{IsWithinBounds, IsContinuous, IsFirstJump};
 ghost use Rattle.gj_shape.specs.Table.{IsMinimal};
+ghost use Rattle.gj_shape.specs.TwoSlopes.{HasTwoSlopes};
 ghost use Rattle.gj_shape.specs.declared.extremality.CoverLine.{CoverLine};
 ghost use Rattle.gj_proof.specs.Meaning.{ClaimHolds};
 ghost use Rattle.gj_proof.specs.ProofText.{HasText, IsBounded};
 ghost use Rattle.gj_proof.specs.Rules.{MeetsRules};
-ghost use Rattle.gj_extreme.specs.Decision.{AreAllCovered, IsDecided, IsByTable, IsExtremeOnGrid4, IsTooWide};
+ghost use Rattle.gj_extreme.specs.Decision.{AreAllCovered, IsDecided, IsExtremeClaim, IsByTable, IsExtremeOnGrid4, IsTooWide};
+ghost use Rattle.gj_extreme.specs.Faults.{IsMemoryFault};
 
 use crate::covered::extreme_or_slopes;
 use crate::faults::DecideFault;
@@ -25,6 +27,7 @@ use std::alloc::Global;
 /// `NotContinuous` comes exactly if the function is minimal and jumps, with the first index of a jump. `Wide` comes exactly if it
 /// is minimal and continuous, all its intervals are covered, and a number of the elimination, of its kernel or of the perturbation
 /// is above 2^127 - 1 in absolute value, or the scale of the halves above 2^124; never with at most four components. The only other error is want of memory.
+/// A minimal continuous function with two slopes is always proved extreme, if there is memory (Gomory and Johnson 1972).
 /// Source: Basu, Hildebrand and Köppe, "Equivariant Perturbation in Gomory and Johnson's infinite group problem I".
 pub fn decide(alloc: Global, shape: &Shape) -> Result<Proof, DecideFault>
     ensures decided { IfOk result (IsDecided shape.now) }
@@ -37,6 +40,7 @@ pub fn decide(alloc: Global, shape: &Shape) -> Result<Proof, DecideFault>
     ensures few_components { (lines : List CoverLine) (component : ℕ → ℕ) (n : ℕ) →
         AreAllCovered shape.now lines component n → n ≤ 4 → IsTooWide shape.now → ⊥ }
     ensures by_table { IfOk result (IsByTable shape.now) }
+    ensures two_slopes { IsMinimal shape.now → HasTwoSlopes shape.now → MatchResult result (IsExtremeClaim shape.now) IsMemoryFault }
     ensures order_4q { IsContinuous shape.now → IsExtreme shape.now ↔ IsExtremeOnGrid4 shape.now }
 {
     // the call tells the proofs the bounds of the function

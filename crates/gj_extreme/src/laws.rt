@@ -2,11 +2,12 @@
 ghost use Rattle.std.specs.Prelude.{ℕ, ◌≡◌, ◌*◌, ◌≤◌, ◌^◌, List, length};
 ghost use Rattle.gj_shape.specs.FunctionData.{FunctionData, IsWithinBounds};
 ghost use Rattle.gj_shape.specs.Table.{IsMinimal};
+ghost use Rattle.gj_shape.specs.TwoSlopes.{HasTwoSlopes};
 ghost use Rattle.gj_shape.specs.declared.extremality.CoverLine.{CoverLine};
 ghost use Rattle.gj_proof.specs.Meaning.{ClaimHolds};
 ghost use Rattle.gj_proof.specs.ProofText.{HasText, IsProofText};
 ghost use Rattle.gj_proof.specs.declared.claim.Claim.{Claim};
-ghost use Rattle.gj_extreme.specs.Decision.{AreAllCovered, IsDecided, IsTooWide};
+ghost use Rattle.gj_extreme.specs.Decision.{AreAllCovered, IsDecided, IsExtremeClaim, IsTooWide};
 
 /// What the decision gives of a function within the limits holds, and is decided by the function alone. A proof of a minimal
 /// function excludes numbers that are too wide.
@@ -27,4 +28,11 @@ pub fn decided_texts_are_short()
 pub fn few_components_are_not_wide()
     ensures { (f : FunctionData) (lines : List CoverLine) (component : ℕ → ℕ) (n : ℕ) → IsWithinBounds f →
         AreAllCovered f lines component n → n ≤ 4 → IsTooWide f → ⊥ }
+{}
+
+/// What the decision gives of a minimal continuous function with two slopes is that it is extreme, and no number is too wide.
+pub fn two_slopes_are_decided_extreme()
+    ensures extreme { (f : FunctionData) (c : Claim) → IsWithinBounds f → IsMinimal f → HasTwoSlopes f → IsDecided f c →
+        IsExtremeClaim f c }
+    ensures not_wide { (f : FunctionData) → IsWithinBounds f → IsMinimal f → HasTwoSlopes f → IsTooWide f → ⊥ }
 {}

@@ -14,7 +14,10 @@ mod uncovered;
 
 pub use decision::decide;
 pub use faults::DecideFault;
-pub use laws::{decided_claims, decided_texts_are_short, few_components_are_not_wide};
+pub use laws::{
+    decided_claims, decided_texts_are_short, few_components_are_not_wide,
+    two_slopes_are_decided_extreme,
+};
 
 #[cfg(test)]
 mod tests;

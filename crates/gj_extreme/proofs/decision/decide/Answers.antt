@@ -3,11 +3,12 @@ use Rattle.gj_theory.proofs.DecidingGrid.{four_times_decides}
 use Rattle.gj_elim.proofs.Keeping.{same_error}
 use Rattle.gj_proof.specs.Meaning.{ClaimHolds}
 use Rattle.gj_proof.specs.Rules.{MeetsRules}
-use Rattle.gj_extreme.specs.Decision.{IsByTable}
+use Rattle.gj_extreme.specs.Decision.{IsByTable, IsExtremeClaim}
 use Rattle.gj_extreme.proofs.ClaimRules.{decided_by_table}
 use Rattle.gj_extreme.proofs.DecidedHolds.{decided_holds}
 use Rattle.gj_extreme.proofs.NotTooWide.{decided_not_wide}
 use Rattle.gj_extreme.proofs.FewComponents.{few_components}
+use Rattle.gj_extreme.proofs.TwoSlopeDecisions.{two_slopes_decided, two_slopes_not_wide, continuous_no_jump, only_memory}
 use Rattle.gj_extreme.proofs.decision.decide.Goals as goal
 
 pub returns-in_err-claim-clause-not_continuous : goal.returns-in_err-claim-clause-not_continuous
@@ -51,3 +52,18 @@ returns-in_err-claim-clause-order_4q c = λ continuous. four_times_decides c.arg
 
 pub returns-clause-order_4q : goal.returns-clause-order_4q
 returns-clause-order_4q c = λ continuous. four_times_decides c.args.shape.now c.order-order.ensures.limits continuous
+
+pub returns-in_err-claim-clause-two_slopes : goal.returns-in_err-claim-clause-two_slopes
+returns-in_err-claim-clause-two_slopes c = λ minimal two.
+    let is = c.from_residual.ensures.0 in
+    let same = c.from_residual.ensures.1 in
+    only_memory c.from_residual.result (IsExtremeClaim c.args.shape.now) is
+    (λ i e. continuous_no_jump c.args.shape.now i two.continuous
+    (c.in_err-claim.ensures.not_continuous i (same_error c.from_residual.result c.in_err-claim.field-0.0 _ is same e)).1.jump)
+    (λ e. two_slopes_not_wide c.args.shape.now c.order-order.ensures.limits minimal two
+    (c.in_err-claim.ensures.wide (same_error c.from_residual.result c.in_err-claim.field-0.0 _ is same e)).2)
+
+pub returns-clause-two_slopes : goal.returns-clause-two_slopes
+returns-clause-two_slopes c = λ minimal two.
+    subst (IsExtremeClaim c.args.shape.now) (sym c.proof_of.ensures)
+    (two_slopes_decided c.args.shape.now c.in_ok-claim.claim c.order-order.ensures.limits minimal two c.in_ok-claim.ensures.decided)
