@@ -14,3 +14,4 @@ pub mod Fitting
 pub mod RisesAndFalls
 pub mod TriangularResidues
 pub mod HandedOver
+pub mod Modulus
