@@ -72,24 +72,26 @@ covered_split i (l ∷ front) rest =
     (covered_split (i + 1) front rest ∙ ap (λ (k : ℕ). covered_lines (i + 1) front ++ covered_lines k rest) next)
 
 -- the line of the i-th covered interval
-pub number_of_cover : (f : FunctionData) (lines : List CoverLine) (rows : List PivotRow) (i : ℕ) → i < length lines →
-    HasNumber (Extreme f lines rows) (covered i) (f.order + 5 + i)
-number_of_cover f lines rows i below =
+pub number_of_cover : (n : Numbers) (f : FunctionData) (lines : List CoverLine) (rows : List PivotRow) (i : ℕ) → i < length lines →
+    HasNumber (extreme_claim n f lines rows) (covered i) (f.order + 5 + i)
+number_of_cover n f lines rows i below =
+    let c = extreme_claim n f lines rows in
+    let more = modulus_lines n ++ group_lines 0 rows in
     let split = split_there lines i below in
     let front = covered_lines 0 split.before in
     let back = covered_lines (0 + length split.before) (split.item ∷ split.after) in
-    let own : own_lines (Extreme f lines rows) ≡ front ++ (back ++ group_lines 0 rows) =
-    ap (λ ls. covered_lines 0 ls ++ group_lines 0 rows) split.place
-    ∙ ap (λ ls. ls ++ group_lines 0 rows) (covered_split 0 split.before (split.item ∷ split.after))
-    ∙ append_assoc front back (group_lines 0 rows) in
+    let own : extreme_lines n lines rows ≡ front ++ (back ++ more) =
+    ap (λ ls. covered_lines 0 ls ++ more) split.place
+    ∙ ap (λ ls. ls ++ more) (covered_split 0 split.before (split.item ∷ split.after))
+    ∙ append_assoc front back more in
     let subject = function_lines f in
     let long = length-covered 0 split.before in
     let index = split.index in
     let number : length (subject_lines (function f)) + length front + 3 ≡ f.order + 5 + i = omega arith in
     let same : 0 + length split.before ≡ i = omega arith in
-    subst (HasNumber (Extreme f lines rows) (covered i)) number
-    (subst (λ (k : ℕ). HasNumber (Extreme f lines rows) (covered k) (length (subject_lines (function f)) + length front + 3)) same
-    (number_of_own (Extreme f lines rows) front _ _ own))
+    subst (HasNumber c (covered i)) number
+    (subst (λ (k : ℕ). HasNumber c (covered k) (length (subject_lines (function f)) + length front + 3)) same
+    (number_in_extreme n f lines rows front _ _ own))
 
 -- one group more
 pub one_group_more : (g : ℕ) (rows : List PivotRow) (row : PivotRow) →
