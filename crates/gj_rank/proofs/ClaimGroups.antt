@@ -93,7 +93,7 @@ pub record IsNumbering (f : FunctionData) (lines : List CoverLine) (component : 
   pub count : n ≡ components_in lines
 
 -- what the claim has by any numbers
-abbrev InClaim : Numbers → FunctionData → List CoverLine → List PivotRow → ℕ → (ℕ → List KeptRow → List ℤ → PivotRow → Type 0) → Type 0
+abbrev pub InClaim : Numbers → FunctionData → List CoverLine → List PivotRow → ℕ → (ℕ → List KeptRow → List ℤ → PivotRow → Type 0) → Type 0
 InClaim numbers f lines rows g P =
     AtIndex rows g (λ before one. (component : ℕ → ℕ) → AreNumbersOf f lines component →
     P (components_in lines) (rows_before_by (arithmetic_of numbers) f component (components_in lines) before)
@@ -122,7 +122,7 @@ from_claim numbers f lines component n rows g are P h before one after place ind
 -- ---- demand by demand
 
 -- the demand is one on groups
-abbrev IsOnGroups : Demand → Type 0
+abbrev pub IsOnGroups : Demand → Type 0
 IsOnGroups (row g) = Unit {0}
 IsOnGroups (reduce g r) = Unit {0}
 IsOnGroups (size g r) = Unit {0}
@@ -148,22 +148,22 @@ on_groups numbers g (one ∷ rows) =
     (All-cons IsOnGroups (pivot g) (group_demands_by numbers (g + 1) rows) tt (on_groups numbers (g + 1) rows)))
 
 -- a rule on the r-th step
-abbrev OnStep : Numbers → ℕ → (List KeptRow → List ℤ → ℕ → Type 0) → ℕ → List KeptRow → List ℤ → PivotRow → Type 0
+abbrev pub OnStep : Numbers → ℕ → (List KeptRow → List ℤ → ℕ → Type 0) → ℕ → List KeptRow → List ℤ → PivotRow → Type 0
 OnStep numbers r P n kept begun one = AtIndex one.reduce r (λ steps c. P kept (stepped numbers kept begun steps) c)
 
 -- the rule on the pivot
-abbrev OnPivot : Numbers → ℕ → List KeptRow → List ℤ → PivotRow → Type 0
+abbrev pub OnPivot : Numbers → ℕ → List KeptRow → List ℤ → PivotRow → Type 0
 OnPivot numbers n kept begun one = MeetsPivotBy numbers n kept (stepped numbers kept begun one.reduce) one.pivot
 
 -- what a demand on groups says of the claim
-abbrev SaysInClaim : Numbers → FunctionData → List CoverLine → List PivotRow → Demand → Type 0
+abbrev pub SaysInClaim : Numbers → FunctionData → List CoverLine → List PivotRow → Demand → Type 0
 SaysInClaim numbers f lines rows (row g) = AtIndex rows g (λ before one. MeetsRow f one.name)
 SaysInClaim numbers f lines rows (reduce g r) = InClaim numbers f lines rows g (OnStep numbers r MeetsReduce)
 SaysInClaim numbers f lines rows (size g r) = InClaim numbers f lines rows g (OnStep numbers r MeetsSize)
 SaysInClaim numbers f lines rows (pivot g) = InClaim numbers f lines rows g (OnPivot numbers)
 SaysInClaim numbers f lines rows _ = Unit {0}
 
-says : (numbers : Numbers) (f : FunctionData) (lines : List CoverLine) (rows : List PivotRow) (d : Demand) → IsOnGroups d →
+pub says : (numbers : Numbers) (f : FunctionData) (lines : List CoverLine) (rows : List PivotRow) (d : Demand) → IsOnGroups d →
     SaysInClaim numbers f lines rows d ↔ Holds (extreme_claim numbers f lines rows) d
 says Whole f lines rows (row g) on = (λ h. h, λ h. h)
 says Whole f lines rows (reduce g r) on = (λ h. h, λ h. h)

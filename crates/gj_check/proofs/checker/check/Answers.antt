@@ -1,6 +1,6 @@
 use Rattle.std.proofs.Common.{◌≡◌, ◌+◌, true, false, OnOk, IfErr, sym, subst, subst₂, ◌∙◌, arith}
 use Rattle.gj_proof.specs.declared.claim.Claim.{Claim}
-use Rattle.gj_proof.specs.declared.claim.Claim.TheVariants.{Cut, Extreme, NotExtreme}
+use Rattle.gj_proof.specs.declared.claim.Claim.TheVariants.{Cut, Extreme, ExtremeByResidues, NotExtreme}
 use Rattle.gj_proof.specs.Rules.{MeetsRules}
 use Rattle.gj_check.specs.declared.rules.CheckRule.TheVariants.{Minimal, Point}
 use Rattle.gj_check.specs.FirstFailure.{IsFirstFailure, IsFaultOf}
@@ -43,6 +43,21 @@ returns-in-Extreme-clause-only c =
     (subst (λ (d : Claim). IfErr c.check_extreme.result (IsFaultOf d)) is
     (subst₂ (λ lines rows. IfErr c.check_extreme.result (IsFaultOf (Extreme c.in-Extreme.shape lines rows)))
     c.as_slice-in-Extreme.ensures c.as_slice-in-Extreme-2.ensures c.check_extreme.ensures.fault))
+
+pub returns-in-ExtremeByResidues-clause-ok : goal.returns-in-ExtremeByResidues-clause-ok
+returns-in-ExtremeByResidues-clause-ok c =
+    let is : ExtremeByResidues c.in-ExtremeByResidues.shape c.in-ExtremeByResidues.lines c.in-ExtremeByResidues.rows ≡ c.args.proof.now = sym c.in-ExtremeByResidues.is ∙ c.claim.ensures.claim in
+    subst (λ (d : Claim). OnOk c.check_extreme-in-ExtremeByResidues.result (MeetsRules d)) is
+    (subst₂ (λ lines rows. OnOk c.check_extreme-in-ExtremeByResidues.result (MeetsRules (ExtremeByResidues c.in-ExtremeByResidues.shape lines rows)))
+    c.as_slice-in-ExtremeByResidues.ensures c.as_slice-in-ExtremeByResidues-2.ensures c.check_extreme-in-ExtremeByResidues.ensures.ok)
+
+pub returns-in-ExtremeByResidues-clause-only : goal.returns-in-ExtremeByResidues-clause-only
+returns-in-ExtremeByResidues-clause-only c =
+    let is : ExtremeByResidues c.in-ExtremeByResidues.shape c.in-ExtremeByResidues.lines c.in-ExtremeByResidues.rows ≡ c.args.proof.now = sym c.in-ExtremeByResidues.is ∙ c.claim.ensures.claim in
+    accepted_unless c.args.proof.now c.check_extreme-in-ExtremeByResidues.result
+    (subst (λ (d : Claim). IfErr c.check_extreme-in-ExtremeByResidues.result (IsFaultOf d)) is
+    (subst₂ (λ lines rows. IfErr c.check_extreme-in-ExtremeByResidues.result (IsFaultOf (ExtremeByResidues c.in-ExtremeByResidues.shape lines rows)))
+    c.as_slice-in-ExtremeByResidues.ensures c.as_slice-in-ExtremeByResidues-2.ensures c.check_extreme-in-ExtremeByResidues.ensures.fault))
 
 pub returns-in-NotExtreme-clause-only : goal.returns-in-NotExtreme-clause-only
 returns-in-NotExtreme-clause-only c =
