@@ -1,5 +1,7 @@
 //! The check of a proof.
 ghost use Rattle.std.specs.Prelude.{◌≡◌, OnOk, IfErr, MatchResult};
+ghost use Rattle.gj_proof.specs.Meaning.{ClaimHolds};
+ghost use Rattle.gj_proof.specs.ProofText.{IsBounded};
 ghost use Rattle.gj_proof.specs.Rules.{MeetsRules};
 ghost use Rattle.gj_check.specs.FirstFailure.{IsFaultOf, IsWantOfMemory};
 
@@ -21,6 +23,8 @@ use std::alloc::Global;
 pub fn check(alloc: Global, proof: &Proof) -> Result<(), CheckFault>
     // If it answers Ok, every rule holds.
     ensures ok { OnOk result (MeetsRules proof.now) }
+    // So what the claim says is true. A claim that was read is bounded.
+    ensures holds { IsBounded proof.now → OnOk result (ClaimHolds proof.now) }
     // If every rule holds, it answers Ok, unless there is no memory.
     ensures only { MeetsRules proof.now → MatchResult result (λ _. Unit {0}) (IsWantOfMemory proof.now) }
     // If it rejects, this is the first rule that fails.

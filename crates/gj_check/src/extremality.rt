@@ -45,7 +45,14 @@ pub(crate) fn check_extreme(
     };
     let groups = first_group_line(order, numbers);
     let number = components.number.as_slice();
-    if let Some(failure) = failure_in_groups(alloc, numbers, shape, number, components.count, rows)? {
+    if let Some(failure) = failure_in_groups(
+        alloc,
+        numbers,
+        shape,
+        number,
+        components.count,
+        rows,
+    )? {
         let line = line_below(groups, failure.below)?;
         return Err(CheckFault::Rejected(line, rule_on_groups(failure.rule)));
     }

@@ -102,9 +102,10 @@ fn refused(rt: HostRuntime) {
         (b"gj-proof 3\nclaim minimal\norder 5\n", 1, Reason::Form),
         (b"gj-proof 2\nclaim minimal\norder 5\n", 2, Reason::Form),
         (
-            b"gj-proof 1\nclaim extreme\norder 2\nf 1/2\npoint 0\npoint 1\n\
-cover 0 0 lower 0 0\ncover 1 1 upper 1 1\nmodulus 2305843009213693951\n",
-            9,
+            b"gj-proof 1\nclaim extreme\norder 5\nf 3/5\npoint 0\npoint 1/3\npoint 2/3\npoint 1\npoint 1/2\n\
+cover 0 0 lower 0 0\ncover 1 0 upper 0 0\ncover 2 0 upper 0 1\ncover 3 3 upper 3 4\n\
+cover 4 3 diagonal 3 4\nmodulus 2305843009213693951\nrow period\npivot 0\nrow f\nreduce 0\npivot 1\nend\n",
+            15,
             Reason::Form,
         ),
         (
@@ -114,9 +115,10 @@ cover 0 0 lower 0 0\ncover 1 1 upper 1 1\nrow period\n",
             Reason::Form,
         ),
         (
-            b"gj-proof 2\nclaim extreme\norder 2\nf 1/2\npoint 0\npoint 1\n\
-cover 0 0 lower 0 0\ncover 1 1 upper 1 1\nmodulus 7\n",
-            9,
+            b"gj-proof 2\nclaim extreme\norder 5\nf 3/5\npoint 0\npoint 1/3\npoint 2/3\npoint 1\npoint 1/2\n\
+cover 0 0 lower 0 0\ncover 1 0 upper 0 0\ncover 2 0 upper 0 1\ncover 3 3 upper 3 4\n\
+cover 4 3 diagonal 3 4\nmodulus 7\nrow period\npivot 0\nrow f\nreduce 0\npivot 1\nend\n",
+            15,
             Reason::Number,
         ),
         (
