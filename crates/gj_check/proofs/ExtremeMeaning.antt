@@ -1,38 +1,47 @@
--- Where the rules of a claim that a function is extreme hold, the function is extreme.
-use Rattle.std.proofs.Common.{◌≡◌, ◌≢◌, ℕ, ◌⊎◌, inl, inr, ◌+◌, ◌<◌, ◌≤◌, Bool, true, false, cond, Option, None, Some, ℤ, pos, List, [], ◌∷◌, ◌++◌, length, map, eqb, refl, sym, ap, subst, ◌∙◌, append_assoc, arith}
+-- If the rules of a claim that a function is extreme hold, the function is extreme.
+use Rattle.std.proofs.Common.{◌≡◌, ◌≢◌, ℕ, ◌⊎◌, inl, inr, ◌+◌, ◌<◌, ◌≤◌, Bool, true, false, cond, Option, None, Some, ℤ, pos, List, [], ◌∷◌, ◌++◌, length, map, eqb, refl, sym, ap, subst, ◌∙◌, append_assoc, arith, lit<}
 use Rattle.std.specs.Prelude.{All}
 use Rattle.std.specs.List.{range_with_len}
 use Rattle.std.proofs.lemmas.Bool.{cases_lt}
 use Rattle.std.proofs.lemmas.Bool.Decides.{Decides-eqb}
-use Rattle.std.proofs.lemmas.List.{length-append, length_push}
+use Rattle.std.proofs.lemmas.List.{length-append, length_push, length-map}
 use Rattle.std.proofs.lemmas.List.FromFn.{length-map-range_with_len}
-use Rattle.std.proofs.lemmas.List.Elements.{All-nil, All-head, All-tail}
+use Rattle.std.proofs.lemmas.List.Elements.{All-nil, All-cons, All-head, All-tail}
+use Rattle.gj_rank.proofs.ClaimGroups.{says as groups_say}
 use Rattle.gj_rank.proofs.GroupsInTurn.{rows_behind_push}
 use Rattle.gj_tools.proofs.Lists.{All-front, All-back, made_has}
 use Rattle.gj_shape.specs.Additive.{IsTight}
 use Rattle.gj_shape.specs.Cover.{HasComponent, components_in}
-use Rattle.gj_shape.specs.Elimination.{KeptRow, at_column, reduced, entries_of, row_with_pivot, kept_entries, kept_behind}
-use Rattle.gj_shape.specs.FunctionData.{FunctionData, IsWithinBounds}
+use Rattle.gj_shape.specs.Elimination.{KeptRow, at_column, scaled, reduced, entries_of, row_with_pivot, kept_entries, kept_behind}
+use Rattle.gj_shape.specs.Extreme.{IsExtreme}
+use Rattle.gj_shape.specs.FunctionData.{FunctionData, IsWithinBounds, IsContinuous}
+use Rattle.gj_shape.specs.Residues.{residue, residues, inverse, times_inverse, modulo, SolvesModulo}
 use Rattle.gj_shape.specs.SlopeRows.{row_entry, SolveRows}
 use Rattle.gj_shape.specs.declared.extremality.CoverLine.{CoverLine}
 use Rattle.gj_shape.specs.declared.extremality.RowName.{RowName}
 use Rattle.gj_shape.specs.declared.extremality.RowName.TheVariants.{Period, F, Pair}
 use Rattle.gj_theory.specs.CoverRules.{MeetsCoverRules}
-use Rattle.gj_theory.specs.TriangularRows.{Solves, SolvesKept, AreTriangular, present_row}
+use Rattle.gj_theory.specs.Modulus.{modulus}
+use Rattle.gj_theory.specs.TriangularResidues.{SolvesKeptModulo, AreTriangularResidues}
+use Rattle.gj_theory.specs.TriangularRows.{Solves, SolvesKept, AreTriangular, present_row_by, present_row}
 use Rattle.gj_theory.proofs.Eliminations.{reduced_by_none, reduced_of_none, present_row_solved, zeros_of, no_rows_triangular}
 use Rattle.gj_theory.proofs.ExtremeByCover.{extreme_by_cover}
 use Rattle.gj_theory.proofs.Insertions.{find_has, IsKept, kept_here, triangular_behind, solutions_behind}
+use Rattle.gj_theory.proofs.Inverses.{inverse_none}
+use Rattle.gj_theory.proofs.ResidueElimination.{no_residues_triangular, to_modulo, columns_after_steps, present_row_solved_modulo, kept_residues_leave_zero}
+use Rattle.gj_theory.proofs.ResidueInsertions.{solves_residues, LeavesModulo, kept_here_modulo, triangular_behind_modulo, solved_behind_modulo}
 use Rattle.gj_theory.proofs.LineComponents.{component_of_line}
 use Rattle.gj_theory.proofs.LineIntervals.{line_for_each}
 use Rattle.gj_theory.proofs.MinimalFromTests.{minimal_from_tests}
 use Rattle.gj_theory.proofs.SlopePerturbations.{first_rows_hold, pair_row_holds}
 use Rattle.gj_theory.proofs.Steps.{length-reduced}
-use Rattle.gj_proof.specs.declared.claim.Claim.TheVariants.{Extreme}
+use Rattle.gj_proof.specs.declared.numbers.Numbers.{Numbers}
+use Rattle.gj_proof.specs.declared.numbers.Numbers.TheVariants.{Whole, Residues}
 use Rattle.gj_proof.specs.declared.pivot.PivotRow.{PivotRow}
-use Rattle.gj_proof.specs.PresentRows.{AreNumbersOf, named_row, row_kept, rows_behind, rows_before}
-use Rattle.gj_proof.specs.ProofText.{HasText, IsRowNameBelow, IsPivotRowBelow}
-use Rattle.gj_proof.specs.Rules.{Demand, MeetsRow, MeetsPivot, step_demands, group_demands, Holds, MeetsRules}
-use Rattle.gj_proof.specs.Meaning.{ClaimHolds}
+use Rattle.gj_proof.specs.PresentRows.{arithmetic_of, AreNumbersOf, named_row, begun_row, entries_or_none, row_kept_by, row_kept, rows_behind_by, rows_behind, rows_before_by, rows_before}
+use Rattle.gj_proof.specs.ProofText.{extreme_claim, AreExtremeLines, IsRowNameBelow, IsPivotRowBelow}
+use Rattle.gj_proof.specs.Rules.{Demand, MeetsRow, MeetsPivotBy, step_demands_by, group_demands_by, Holds, MeetsRules}
+use Rattle.gj_check.proofs.ExtremeDemands.{says}
 
 -- ---- the numbers of components
 
@@ -87,15 +96,17 @@ pivot_free (k ∷ kept) c h =
 -- ---- what the groups keep
 
 -- behind kept rows a group begins with a row of the system, and has a new pivot
-record MeetsGroup (f : FunctionData) (component : ℕ → ℕ) (n : ℕ) (kept : List KeptRow) (group : PivotRow) : Type 0 where
+record MeetsGroup (numbers : Numbers) (f : FunctionData) (component : ℕ → ℕ) (n : ℕ) (kept : List KeptRow) (group : PivotRow) : Type 0 where
   below : IsRowNameBelow f.order group.name
   row : MeetsRow f group.name
-  pivot : MeetsPivot n kept (present_row kept (named_row f component n group.name) group.reduce) group.pivot
+  pivot : MeetsPivotBy numbers n kept
+      (present_row_by (arithmetic_of numbers) kept (begun_row (arithmetic_of numbers) f component n group.name) group.reduce) group.pivot
 
-abbrev MeetGroups : FunctionData → (ℕ → ℕ) → ℕ → List KeptRow → List PivotRow → Type 0
-MeetGroups f component n kept [] = Unit {0}
-MeetGroups f component n kept (group ∷ more) =
-    MeetsGroup f component n kept group × MeetGroups f component n (kept ++ row_kept f component n kept group ∷ []) more
+abbrev MeetGroups : Numbers → FunctionData → (ℕ → ℕ) → ℕ → List KeptRow → List PivotRow → Type 0
+MeetGroups numbers f component n kept [] = Unit {0}
+MeetGroups numbers f component n kept (group ∷ more) =
+    MeetsGroup numbers f component n kept group
+    × MeetGroups numbers f component n (kept ++ row_kept_by (arithmetic_of numbers) f component n kept group ∷ []) more
 
 named_solved : (f : FunctionData) (component : ℕ → ℕ) (n : ℕ) (w : List ℤ) (name : RowName) → SolveRows component n f w →
     IsRowNameBelow f.order name → MeetsRow f name → Solves w (named_row f component n name)
@@ -108,7 +119,7 @@ named_solved f component n w (Pair a b) all below tight =
 
 -- the row that a group keeps makes triangular rows with the others, and is solved by all slopes
 group_keeps : (f : FunctionData) (component : ℕ → ℕ) (n : ℕ) (w : List ℤ) (kept : List KeptRow) (group : PivotRow) →
-    SolveRows component n f w → AreTriangular n kept → SolvesKept w kept → MeetsGroup f component n kept group →
+    SolveRows component n f w → AreTriangular n kept → SolvesKept w kept → MeetsGroup Whole f component n kept group →
     AreTriangular n (kept ++ row_kept f component n kept group ∷ []) × SolvesKept w (kept ++ row_kept f component n kept group ∷ [])
 unfolding kept_behind
 group_keeps f component n w kept group all h solved meets =
@@ -135,7 +146,7 @@ record AreKept (n : ℕ) (w : List ℤ) (count : ℕ) (kept : List KeptRow) : Ty
   many : length kept ≡ count
 
 groups_keep : (f : FunctionData) (component : ℕ → ℕ) (n : ℕ) (w : List ℤ) (kept : List KeptRow) (groups : List PivotRow) →
-    SolveRows component n f w → AreTriangular n kept → SolvesKept w kept → MeetGroups f component n kept groups →
+    SolveRows component n f w → AreTriangular n kept → SolvesKept w kept → MeetGroups Whole f component n kept groups →
     AreKept n w (length kept + length groups) (rows_behind f component n kept groups)
 groups_keep f component n w kept [] all h solved meets =
     record { triangular = h; solved = solved; many = omega arith }
@@ -146,60 +157,177 @@ groups_keep f component n w kept (group ∷ more) all h solved meets =
     groups_keep f component n w (kept ++ row_kept f component n kept group ∷ []) more all next.0 next.1 meets.1 in
     record { triangular = behind.triangular; solved = behind.solved; many = let many = behind.many in omega arith }
 
+-- ---- by residues
+
+-- the rows with which groups begin
+abbrev rows_of : FunctionData → (ℕ → ℕ) → ℕ → List PivotRow → List (List ℤ)
+rows_of f component n rows = map (λ group. named_row f component n group.name) rows
+
+-- a row of residues that a group keeps
+abbrev modulo_row : FunctionData → (ℕ → ℕ) → ℕ → List KeptRow → PivotRow → KeptRow
+modulo_row f component n kept group = row_kept_by (modulo modulus) f component n kept group
+
+-- the kept rows behind a group: triangular, and solved modulo the modulus by what solves the kept rows before and its row
+record KeepsModulo (f : FunctionData) (component : ℕ → ℕ) (n : ℕ) (kept : List KeptRow) (group : PivotRow) (after : List KeptRow) : Type 0 where
+  triangular : AreTriangularResidues n after
+  solved : (w : List ℤ) → SolvesKeptModulo modulus w kept → SolvesModulo modulus w (named_row f component n group.name) →
+      SolvesKeptModulo modulus w after
+
+keeps_by_inverse : (f : FunctionData) (component : ℕ → ℕ) (n : ℕ) (kept : List KeptRow) (group : PivotRow) (present : List ℤ) →
+    AreTriangularResidues n kept → MeetsPivotBy Residues n kept present group.pivot → length present ≡ n →
+    ((w : List ℤ) → SolvesKeptModulo modulus w kept → SolvesModulo modulus w (named_row f component n group.name) →
+    SolvesModulo modulus w present) → (o : Option ℕ) → inverse modulus (at_column present group.pivot) ≡ o →
+    KeepsModulo f component n kept group (kept ++ record {
+      number = length kept;
+      reduce = group.reduce;
+      pivot = group.pivot;
+      entries = entries_or_none (times_inverse modulus present o);
+    } ∷ [])
+unfolding kept_behind
+keeps_by_inverse f component n kept group present h meets long solves None e =
+    absurd ((inverse_none modulus (at_column present group.pivot) (lit< tt)).0 e meets.1)
+keeps_by_inverse f component n kept group present h meets long solves (Some u) e =
+    let c = group.pivot in
+    let entries = residues modulus (scaled (pos u) present) in
+    let pivot = meets.0 in
+    let left : LeavesModulo modulus n kept present (Some (c, entries)) =
+    kept_here_modulo modulus n kept present c (lit< tt) long pivot.column (pivot_free kept c pivot.new) pivot.zero_before (Some u) e in
+    record {
+      triangular = triangular_behind_modulo modulus n (length kept) kept present group.reduce (Some (c, entries)) h left;
+      solved = λ w all row.
+          solved_behind_modulo modulus n (length kept) kept present w group.reduce (Some (c, entries)) left all (solves w all row);
+    }
+
+group_keeps_modulo : (f : FunctionData) (component : ℕ → ℕ) (n : ℕ) (kept : List KeptRow) (group : PivotRow) → AreTriangularResidues n kept →
+    MeetsGroup Residues f component n kept group → KeepsModulo f component n kept group (kept ++ modulo_row f component n kept group ∷ [])
+group_keeps_modulo f component n kept group h meets =
+    let named = named_row f component n group.name in
+    let begun = residues modulus named in
+    let present = present_row_by (modulo modulus) kept begun group.reduce in
+    let c = group.pivot in
+    let columns : All (λ k. length k.entries ≡ n) kept = λ i d low. (h.rows i d low).columns in
+    let len : length begun ≡ n =
+    length-map named (residue modulus) ∙ length-map-range_with_len (row_entry component f.order f.place group.name) 0 n in
+    let long : length present ≡ n =
+    some_columns n present c (columns_after_steps modulus n kept begun group.reduce columns (inr len)) meets.pivot.0.not_zero in
+    keeps_by_inverse f component n kept group present h meets.pivot long
+    (λ w all row.
+    present_row_solved_modulo modulus n kept begun w group.reduce (lit< tt) columns len all (solves_residues modulus named w (lit< tt) row))
+    (inverse modulus (at_column present c)) refl
+
+-- the rows behind groups, which what solves all their rows modulo the modulus solves, and as many more as groups
+record AreKeptModulo (f : FunctionData) (component : ℕ → ℕ) (n : ℕ) (kept : List KeptRow) (groups : List PivotRow) (after : List KeptRow) :
+    Type 0 where
+  triangular : AreTriangularResidues n after
+  solved : (w : List ℤ) → SolvesKeptModulo modulus w kept → All (SolvesModulo modulus w) (rows_of f component n groups) →
+      SolvesKeptModulo modulus w after
+  many : length after ≡ length kept + length groups
+
+groups_keep_modulo : (f : FunctionData) (component : ℕ → ℕ) (n : ℕ) (kept : List KeptRow) (groups : List PivotRow) →
+    AreTriangularResidues n kept → MeetGroups Residues f component n kept groups →
+    AreKeptModulo f component n kept groups (rows_behind_by (modulo modulus) f component n kept groups)
+groups_keep_modulo f component n kept [] h meets = record { triangular = h; solved = λ w all rows. all; many = omega arith }
+groups_keep_modulo f component n kept (group ∷ more) h meets =
+    let next = group_keeps_modulo f component n kept group h meets.0 in
+    let long = length_push kept (modulo_row f component n kept group) in
+    let behind = groups_keep_modulo f component n (kept ++ modulo_row f component n kept group ∷ []) more next.triangular meets.1 in
+    let first = named_row f component n group.name in
+    record {
+      triangular = behind.triangular;
+      solved = λ w all rows.
+          behind.solved w (next.solved w all (All-head (SolvesModulo modulus w) first (rows_of f component n more) rows))
+          (All-tail (SolvesModulo modulus w) first (rows_of f component n more) rows);
+      many = let many = behind.many in omega arith;
+    }
+
+-- slopes that solve the linear system solve the rows of groups
+each_row_solved : (numbers : Numbers) (f : FunctionData) (component : ℕ → ℕ) (n : ℕ) (rows : List PivotRow) (slopes : List ℤ) (kept : List KeptRow) →
+    MeetGroups numbers f component n kept rows → SolveRows component n f slopes → All (Solves slopes) (rows_of f component n rows)
+each_row_solved numbers f component n [] slopes kept meets solve = All-nil (Solves slopes)
+each_row_solved numbers f component n (group ∷ more) slopes kept meets solve =
+    All-cons (Solves slopes) (named_row f component n group.name) (rows_of f component n more)
+    (named_solved f component n slopes group.name solve meets.0.below meets.0.row)
+    (each_row_solved numbers f component n more slopes (kept ++ row_kept_by (arithmetic_of numbers) f component n kept group ∷ []) meets.1 solve)
+
+groups_leave_residues_zero : (f : FunctionData) (component : ℕ → ℕ) (n : ℕ) (rows : List PivotRow) (slopes : List ℤ) →
+    MeetGroups Residues f component n [] rows → length rows ≡ n → length slopes ≡ n → All (Solves slopes) (rows_of f component n rows) →
+    All (λ x. x ≡ pos 0) slopes
+groups_leave_residues_zero f component n rows slopes meets full long solved =
+    let kept = groups_keep_modulo f component n [] rows (no_residues_triangular n) meets in
+    kept_residues_leave_zero modulus n (rows_behind_by (modulo modulus) f component n [] rows) (rows_of f component n rows) slopes (lit< tt)
+    kept.triangular (let many = kept.many in omega arith)
+    (λ v len all. kept.solved v (All-nil (λ k. SolvesModulo modulus v k.entries)) (to_modulo modulus v (rows_of f component n rows) all))
+    long solved
+
 -- ---- from the demands
 
-groups_meet : (f : FunctionData) (lines : List CoverLine) (rows : List PivotRow) (component : ℕ → ℕ) →
-    AreNumbersOf f lines component → All (IsPivotRowBelow f.order) rows → (front rest : List PivotRow) →
-    rows ≡ front ++ rest → All (Holds (Extreme f lines rows)) (group_demands (length front) rest) →
-    MeetGroups f component (components_in lines) (rows_before f component (components_in lines) front) rest
-groups_meet f lines rows component numbers below front [] place h = tt
-groups_meet f lines rows component numbers below front (one ∷ rest) place h =
+groups_meet : (numbers : Numbers) (f : FunctionData) (lines : List CoverLine) (rows : List PivotRow) (component : ℕ → ℕ) →
+    AreNumbersOf f lines component → All (IsPivotRowBelow f.order) rows → (front rest : List PivotRow) → rows ≡ front ++ rest →
+    All (Holds (extreme_claim numbers f lines rows)) (group_demands_by numbers (length front) rest) →
+    MeetGroups numbers f component (components_in lines) (rows_before_by (arithmetic_of numbers) f component (components_in lines) front) rest
+groups_meet numbers f lines rows component are below front [] place h = tt
+groups_meet numbers f lines rows component are below front (one ∷ rest) place h =
     let n = components_in lines in
-    let P : Demand → Type 0 = Holds (Extreme f lines rows) in
+    let P : Demand → Type 0 = Holds (extreme_claim numbers f lines rows) in
     let g = length front in
-    let steps = step_demands g 0 one.reduce in
-    let later = group_demands (g + 1) rest in
+    let steps = step_demands_by numbers g 0 one.reduce in
+    let later = group_demands_by numbers (g + 1) rest in
     let behind = All-back P steps (Demand.pivot g ∷ later) (All-tail P (Demand.row g) (steps ++ Demand.pivot g ∷ later) h) in
-    let tight : MeetsRow f one.name = All-head P (Demand.row g) (steps ++ Demand.pivot g ∷ later) h front one rest place refl in
-    let last = All-head P (Demand.pivot g) later behind front one rest place refl component numbers in
+    let tight : MeetsRow f one.name =
+    (groups_say numbers f lines rows (Demand.row g) tt).1 (All-head P (Demand.row g) (steps ++ Demand.pivot g ∷ later) h) front one rest place refl in
+    let last = (groups_say numbers f lines rows (Demand.pivot g) tt).1 (All-head P (Demand.pivot g) later behind) front one rest place refl
+    component are in
     let within : IsPivotRowBelow f.order one =
     All-head (IsPivotRowBelow f.order) one rest
     (All-back (IsPivotRowBelow f.order) front (one ∷ rest) (subst (All (IsPivotRowBelow f.order)) place below)) in
     let long : g + 1 ≡ length (front ++ one ∷ []) = sym (length_push front one) in (
       record { below = within.name; row = tight; pivot = last },
-      subst (λ (kept : List KeptRow). MeetGroups f component n kept rest) (rows_behind_push f component n [] front one)
-          (groups_meet f lines rows component numbers below (front ++ one ∷ []) rest
+      subst (λ (kept : List KeptRow). MeetGroups numbers f component n kept rest)
+          (rows_behind_push (arithmetic_of numbers) f component n [] front one)
+          (groups_meet numbers f lines rows component are below (front ++ one ∷ []) rest
           (place ∙ sym (append_assoc front (one ∷ []) rest))
-          (subst (λ (k : ℕ). All P (group_demands k rest)) long (All-tail P (Demand.pivot g) later behind))),
+          (subst (λ (k : ℕ). All P (group_demands_by numbers k rest)) long (All-tail P (Demand.pivot g) later behind))),
     )
 
-pub extreme_meaning : (f : FunctionData) (lines : List CoverLine) (rows : List PivotRow) → IsWithinBounds f →
-    HasText (Extreme f lines rows) → MeetsRules (Extreme f lines rows) → ClaimHolds (Extreme f lines rows)
-extreme_meaning f lines rows b text rules =
-    let P : Demand → Type 0 = Holds (Extreme f lines rows) in
+-- as many groups as components leave only 0
+groups_leave_zero : (numbers : Numbers) (f : FunctionData) (component : ℕ → ℕ) (n : ℕ) (rows : List PivotRow) (slopes : List ℤ) →
+    MeetGroups numbers f component n [] rows → length rows ≡ n → length slopes ≡ n → SolveRows component n f slopes →
+    All (λ x. x ≡ pos 0) slopes
+groups_leave_zero Whole f component n rows slopes meets full long solve =
+    let kept = groups_keep f component n slopes [] rows solve (no_rows_triangular n) (All-nil (λ k. Solves slopes k.entries)) meets in
+    zeros_of n (rows_before f component n rows) slopes kept.triangular (let many = kept.many in omega arith) long kept.solved
+groups_leave_zero Residues f component n rows slopes meets full long solve = groups_leave_residues_zero f component n rows slopes meets full long
+    (each_row_solved Residues f component n rows slopes [] meets solve)
+
+-- what all rules say
+pub extreme_meaning : (numbers : Numbers) (f : FunctionData) (lines : List CoverLine) (rows : List PivotRow) → IsWithinBounds f →
+    AreExtremeLines f lines rows → MeetsRules (extreme_claim numbers f lines rows) → IsContinuous f × IsExtreme f
+extreme_meaning numbers f lines rows b text rules =
+    let P : Demand → Type 0 = Holds (extreme_claim numbers f lines rows) in
+    let all = says numbers f lines rows in
     let covers = map Demand.cover (range_with_len 0 (length lines)) in
-    let groups = group_demands 0 rows in
-    let first = All-tail P Demand.minimal (Demand.continuous ∷ covers ++ groups ++ Demand.rank ∷ []) rules in
-    let is_continuous = All-head P Demand.continuous (covers ++ groups ++ Demand.rank ∷ []) first in
+    let groups = group_demands_by numbers 0 rows in
+    let asked : All P (Demand.minimal ∷ Demand.continuous ∷ covers ++ groups ++ Demand.rank ∷ []) = subst (All P) all.demands rules in
+    let first = All-tail P Demand.minimal (Demand.continuous ∷ covers ++ groups ++ Demand.rank ∷ []) asked in
+    let is_continuous = all.continuity.1 (All-head P Demand.continuous (covers ++ groups ++ Demand.rank ∷ []) first) in
     let behind = All-tail P Demand.continuous (covers ++ groups ++ Demand.rank ∷ []) first in
     let early = All-front P (covers ++ groups) (Demand.rank ∷ []) behind in
     let cover_rules : MeetsCoverRules f.order (IsTight f) lines =
     λ before l after place.
     let long = ap length place ∙ length-append before (l ∷ after) in
-    made_has P Demand.cover (length before) (length lines) (omega arith) (All-front P covers groups early) before l after
-    place refl in
-    let full = All-head P Demand.rank [] (All-back P (covers ++ groups) (Demand.rank ∷ []) behind) in
+    (all.meets_cover (length before)).1
+    (made_has P Demand.cover (length before) (length lines) (omega arith) (All-front P covers groups early)) before l after place refl in
+    let full = all.has_rank.1 (All-head P Demand.rank [] (All-back P (covers ++ groups) (Demand.rank ∷ []) behind)) in
     let has = λ (i : ℕ) (low : i < f.order).
     component_of_line f.order (IsTight f) lines i cover_rules
     (line_for_each f.order (IsTight f) lines cover_rules (λ k d k_low. (text.1 k d k_low).interval) text.0 i low) in
     let component = λ (i : ℕ). number_of lines f.order has i (cases_lt i f.order) in
-    let numbers : AreNumbersOf f lines component = λ i low. number_is lines f.order has i (cases_lt i f.order) low in
+    let are : AreNumbersOf f lines component = λ i low. number_is lines f.order has i (cases_lt i f.order) low in
     let n = components_in lines in
-    let meets = groups_meet f lines rows component numbers text.2 [] rows refl (All-back P covers groups early) in
-    let is_minimal = minimal_from_tests f b (All-head P Demand.minimal (Demand.continuous ∷ covers ++ groups ++ Demand.rank ∷ []) rules) in (
+    let meets = groups_meet numbers f lines rows component are text.2 [] rows refl (All-back P covers groups early) in
+    let is_minimal =
+    minimal_from_tests f b (all.is_minimal.1 (All-head P Demand.minimal (Demand.continuous ∷ covers ++ groups ++ Demand.rank ∷ []) asked)) in (
       is_continuous,
-      extreme_by_cover f lines component n b is_continuous is_minimal cover_rules numbers refl
-          (λ slopes long solve.
-          let kept = groups_keep f component n slopes [] rows solve (no_rows_triangular n) (All-nil (λ k. Solves slopes k.entries)) meets in
-          zeros_of n (rows_before f component n rows) slopes kept.triangular (let many = kept.many in omega arith) long kept.solved),
+      extreme_by_cover f lines component n b is_continuous is_minimal cover_rules are refl
+          (λ slopes long solve. groups_leave_zero numbers f component n rows slopes meets full long solve),
     )

@@ -11,14 +11,16 @@ use Rattle.gj_shape.specs.FunctionData.{FunctionData}
 use Rattle.gj_shape.specs.declared.extremality.CoverLine.{CoverLine}
 use Rattle.gj_shape.specs.declared.extremality.Halves.{Halves}
 use Rattle.gj_proof.specs.declared.claim.Claim.{Claim}
-use Rattle.gj_proof.specs.declared.claim.Claim.TheVariants.{Extreme, NotExtreme}
+use Rattle.gj_proof.specs.declared.claim.Claim.TheVariants.{Extreme, ExtremeByResidues, NotExtreme}
+use Rattle.gj_proof.specs.declared.numbers.Numbers.{Numbers}
+use Rattle.gj_proof.specs.declared.numbers.Numbers.TheVariants.{Whole, Residues}
 use Rattle.gj_proof.specs.declared.pivot.PivotRow.{PivotRow}
-use Rattle.gj_proof.specs.ProofText.{ProofLine, OwnLine, Subject, function, gmic, subject_of, subject_lines, own_lines, covered_lines, reduction_lines, group_lines, group_line, pivot_line, halves_line, pair_lines, HasNumber}
+use Rattle.gj_proof.specs.ProofText.{ProofLine, OwnLine, Subject, function, gmic, subject_of, subject_lines, own_lines, extreme_claim, modulus_lines, extreme_lines, covered_lines, reduction_lines, group_lines, group_line, pivot_line, halves_line, pair_lines, HasNumber}
 use Rattle.gj_proof.specs.ProofText.ProofLine.{title, claim, order, place, point, rule_named, covered, group, group_pivot, halves, pair, last}
 use Rattle.gj_proof.proofs.LineLists.{names}
 use Rattle.gj_proof.proofs.LineNumbers.{number_of_own}
 use Rattle.gj_proof.proofs.OwnLines.{IsOwn, own_lines_are_own}
-use Rattle.gj_rank.proofs.ClaimGroups.{length-covered}
+use Rattle.gj_rank.proofs.ClaimGroups.{length-covered, number_in_extreme}
 use Rattle.gj_rank.proofs.GroupDemands.{length-reductions}
 use Rattle.gj_proof.proofs.AtPlaces.{split_there}
 
@@ -72,24 +74,26 @@ covered_split i (l ∷ front) rest =
     (covered_split (i + 1) front rest ∙ ap (λ (k : ℕ). covered_lines (i + 1) front ++ covered_lines k rest) next)
 
 -- the line of the i-th covered interval
-pub number_of_cover : (f : FunctionData) (lines : List CoverLine) (rows : List PivotRow) (i : ℕ) → i < length lines →
-    HasNumber (Extreme f lines rows) (covered i) (f.order + 5 + i)
-number_of_cover f lines rows i below =
+pub number_of_cover : (n : Numbers) (f : FunctionData) (lines : List CoverLine) (rows : List PivotRow) (i : ℕ) → i < length lines →
+    HasNumber (extreme_claim n f lines rows) (covered i) (f.order + 5 + i)
+number_of_cover n f lines rows i below =
+    let c = extreme_claim n f lines rows in
+    let more = modulus_lines n ++ group_lines 0 rows in
     let split = split_there lines i below in
     let front = covered_lines 0 split.before in
     let back = covered_lines (0 + length split.before) (split.item ∷ split.after) in
-    let own : own_lines (Extreme f lines rows) ≡ front ++ (back ++ group_lines 0 rows) =
-    ap (λ ls. covered_lines 0 ls ++ group_lines 0 rows) split.place
-    ∙ ap (λ ls. ls ++ group_lines 0 rows) (covered_split 0 split.before (split.item ∷ split.after))
-    ∙ append_assoc front back (group_lines 0 rows) in
+    let own : extreme_lines n lines rows ≡ front ++ (back ++ more) =
+    ap (λ ls. covered_lines 0 ls ++ more) split.place
+    ∙ ap (λ ls. ls ++ more) (covered_split 0 split.before (split.item ∷ split.after))
+    ∙ append_assoc front back more in
     let subject = function_lines f in
     let long = length-covered 0 split.before in
     let index = split.index in
     let number : length (subject_lines (function f)) + length front + 3 ≡ f.order + 5 + i = omega arith in
     let same : 0 + length split.before ≡ i = omega arith in
-    subst (HasNumber (Extreme f lines rows) (covered i)) number
-    (subst (λ (k : ℕ). HasNumber (Extreme f lines rows) (covered k) (length (subject_lines (function f)) + length front + 3)) same
-    (number_of_own (Extreme f lines rows) front _ _ own))
+    subst (HasNumber c (covered i)) number
+    (subst (λ (k : ℕ). HasNumber c (covered k) (length (subject_lines (function f)) + length front + 3)) same
+    (number_in_extreme n f lines rows front _ _ own))
 
 -- one group more
 pub one_group_more : (g : ℕ) (rows : List PivotRow) (row : PivotRow) →
@@ -108,15 +112,21 @@ one_group_more g (first ∷ rows) row =
     omega arith
 
 -- the last line of an extreme function
-pub number_behind_groups : (f : FunctionData) (lines : List CoverLine) (rows : List PivotRow) →
-    HasNumber (Extreme f lines rows) last (f.order + 5 + length lines + length (group_lines 0 rows))
-number_behind_groups f lines rows =
+pub number_behind_groups : (n : Numbers) (f : FunctionData) (lines : List CoverLine) (rows : List PivotRow) →
+    HasNumber (extreme_claim n f lines rows) last (f.order + 5 + length lines + length (modulus_lines n) + length (group_lines 0 rows))
+number_behind_groups n f lines rows =
     let subject = function_lines f in
     let covers = length-covered 0 lines in
-    let both = length-append (covered_lines 0 lines) (group_lines 0 rows) in
-    let number : length (subject_lines (function f)) + length (covered_lines 0 lines ++ group_lines 0 rows) + 3
-    ≡ f.order + 5 + length lines + length (group_lines 0 rows) = omega arith in
-    subst (HasNumber (Extreme f lines rows) last) number (number_of_last (Extreme f lines rows))
+    let both = length-append (covered_lines 0 lines) (modulus_lines n ++ group_lines 0 rows) in
+    let more = length-append (modulus_lines n) (group_lines 0 rows) in
+    let number : length (subject_lines (function f)) + length (extreme_lines n lines rows) + 3
+    ≡ f.order + 5 + length lines + length (modulus_lines n) + length (group_lines 0 rows) = omega arith in
+    subst (HasNumber (extreme_claim n f lines rows) last) number (number_of_end n)
+  where
+    number_of_end : (n : Numbers) →
+        HasNumber (extreme_claim n f lines rows) last (length (subject_lines (function f)) + length (extreme_lines n lines rows) + 3)
+    number_of_end Whole = number_of_last (Extreme f lines rows)
+    number_of_end Residues = number_of_last (ExtremeByResidues f lines rows)
 
 -- ---- one that is not extreme
 

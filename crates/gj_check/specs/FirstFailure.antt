@@ -48,6 +48,7 @@ TakesMemory (claim.Minimal f) = ⊥
 TakesMemory (claim.NotMinimal f v) = ⊥
 TakesMemory (claim.Cut rule rows) = Unit {0}
 TakesMemory (claim.Extreme f lines rows) = Unit {0}
+TakesMemory (claim.ExtremeByResidues f lines rows) = Unit {0}
 TakesMemory (claim.NotExtreme f h) = Unit {0}
 
 -- the fault is the first rule that fails, or, where the check takes memory, the want of it

@@ -1,5 +1,7 @@
 //! The check of a proof.
 ghost use Rattle.std.specs.Prelude.{◌≡◌, OnOk, IfErr, MatchResult};
+ghost use Rattle.gj_proof.specs.Meaning.{ClaimHolds};
+ghost use Rattle.gj_proof.specs.ProofText.{IsBounded};
 ghost use Rattle.gj_proof.specs.Rules.{MeetsRules};
 ghost use Rattle.gj_check.specs.FirstFailure.{IsFaultOf, IsWantOfMemory};
 
@@ -10,20 +12,22 @@ use crate::halves::check_halves;
 use crate::minimality::is_minimal;
 use crate::points::is_shown;
 use crate::rules::CheckRule;
-use gj_proof::{Claim, Proof};
+use gj_proof::{Claim, Numbers, Proof};
 use std::alloc::Global;
 
 /// Checks every rule on a proof, in the order of its lines.
 ///
-/// Ok exactly where every rule holds; else the line and the rule of the first that fails. `Memory` may come in place of
-/// either where the claim is about cuts, or says that a function is extreme or not extreme, and never for another claim,
+/// Ok exactly if every rule holds; else the line and the rule of the first that fails. `Memory` may come in place of
+/// either if the claim is about cuts, or says that a function is extreme or not extreme, and never for another claim,
 /// whose check takes no memory.
 pub fn check(alloc: Global, proof: &Proof) -> Result<(), CheckFault>
-    // Where it answers Ok, every rule holds.
+    // If it answers Ok, every rule holds.
     ensures ok { OnOk result (MeetsRules proof.now) }
-    // Where every rule holds, it answers Ok, unless there is no memory.
+    // So what the claim says is true. A claim that was read is bounded.
+    ensures holds { IsBounded proof.now → OnOk result (ClaimHolds proof.now) }
+    // If every rule holds, it answers Ok, unless there is no memory.
     ensures only { MeetsRules proof.now → MatchResult result (λ _. Unit {0}) (IsWantOfMemory proof.now) }
-    // Where it rejects, this is the first rule that fails.
+    // If it rejects, this is the first rule that fails.
     ensures fault { IfErr result (IsFaultOf proof.now) }
 {
     match proof.claim() {
@@ -40,7 +44,22 @@ pub fn check(alloc: Global, proof: &Proof) -> Result<(), CheckFault>
         }
         Claim::Cut(rule, rows) => return check_cuts(alloc, rule, rows.as_slice()),
         Claim::Extreme(shape, lines, rows) => {
-            return check_extreme(alloc, shape, lines.as_slice(), rows.as_slice());
+            return check_extreme(
+                alloc,
+                Numbers::Whole,
+                shape,
+                lines.as_slice(),
+                rows.as_slice(),
+            );
+        }
+        Claim::ExtremeByResidues(shape, lines, rows) => {
+            return check_extreme(
+                alloc,
+                Numbers::Residues,
+                shape,
+                lines.as_slice(),
+                rows.as_slice(),
+            );
         }
         Claim::NotExtreme(shape, halves) => return check_halves(alloc, shape, halves),
     }

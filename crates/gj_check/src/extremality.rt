@@ -1,8 +1,7 @@
 //! The rules on the proof that a function is extreme, in the order of its lines.
-ghost use Rattle.std.specs.Prelude.{◌≡◌, ◌+◌, OnOk, IfOk, IfErr, All, length};
-ghost use Rattle.gj_proof.specs.ProofText.{IsCoverLineBelow, IsPivotRowBelow, group_lines};
+ghost use Rattle.std.specs.Prelude.{◌≡◌, ◌+◌, ◌*◌, ◌≤◌, OnOk, IfOk, IfErr, All, length};
+ghost use Rattle.gj_proof.specs.ProofText.{extreme_claim, modulus_lines, IsCoverLineBelow, IsPivotRowBelow, group_lines};
 ghost use Rattle.gj_proof.specs.Rules.{MeetsRules};
-ghost use Rattle.gj_proof.specs.declared.claim.Claim.TheVariants as claim;
 ghost use Rattle.gj_check.specs.FirstFailure.{IsFaultOf};
 ghost use Rattle.gj_check.specs.GroupRules.{rule_on_groups as checked_rule};
 
@@ -11,14 +10,15 @@ use crate::cuts::line_below;
 use crate::faults::CheckFault;
 use crate::minimality::is_minimal;
 use crate::rules::CheckRule;
-use gj_proof::PivotRow;
+use gj_proof::{Numbers, PivotRow};
 use gj_rank::{GroupRule, failure_in_groups};
 use gj_shape::{CoverLine, Shape};
 use std::alloc::{AllocError, Global};
 
-/// Checks every rule on the cover lines and the rows of a function, in the order of the lines of their proof.
+/// Checks every rule on the cover lines and the rows of these numbers of a function, in the order of the lines of their proof.
 pub(crate) fn check_extreme(
     alloc: Global,
+    numbers: Numbers,
     shape: &Shape,
     lines: &[CoverLine],
     rows: &[PivotRow],
@@ -26,8 +26,8 @@ pub(crate) fn check_extreme(
     requires count { length lines.now ≡ shape.now.order }
     requires lines { All (IsCoverLineBelow shape.now.order) lines.now }
     requires rows { All (IsPivotRowBelow shape.now.order) rows.now }
-    ensures ok { OnOk result (MeetsRules (claim.Extreme shape.now lines.now rows.now)) }
-    ensures fault { IfErr result (IsFaultOf (claim.Extreme shape.now lines.now rows.now)) }
+    ensures ok { OnOk result (MeetsRules (extreme_claim numbers shape.now lines.now rows.now)) }
+    ensures fault { IfErr result (IsFaultOf (extreme_claim numbers shape.now lines.now rows.now)) }
 {
     if !is_minimal(shape) {
         return Err(CheckFault::Rejected(2, CheckRule::Minimal));
@@ -43,9 +43,16 @@ pub(crate) fn check_extreme(
             return Err(CheckFault::Rejected(line, CheckRule::Cover));
         }
     };
-    let groups = 2 * order + 5;
+    let groups = first_group_line(order, numbers);
     let number = components.number.as_slice();
-    if let Some(failure) = failure_in_groups(alloc, shape, number, components.count, rows)? {
+    if let Some(failure) = failure_in_groups(
+        alloc,
+        numbers,
+        shape,
+        number,
+        components.count,
+        rows,
+    )? {
         let line = line_below(groups, failure.below)?;
         return Err(CheckFault::Rejected(line, rule_on_groups(failure.rule)));
     }
@@ -54,6 +61,18 @@ pub(crate) fn check_extreme(
         return Err(CheckFault::Rejected(line, CheckRule::Rank));
     }
     Ok(())
+}
+
+/// The number of the line with which the first group begins, of a function of this order: behind the title, the claim, the lines of
+/// the function and of its intervals, and by residues that of the modulus.
+fn first_group_line(order: u64, numbers: Numbers) -> u64
+    requires { order ≤ 1000 }
+    ensures { result ≡ 2 * order + 5 + length (modulus_lines numbers) }
+{
+    match numbers {
+        Numbers::Whole => 2 * order + 5,
+        Numbers::Residues => 2 * order + 6,
+    }
 }
 
 /// The rule on groups among those of the checker.

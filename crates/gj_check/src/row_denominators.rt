@@ -1,15 +1,14 @@
 //! The rule `limit`: the numbers of a row are small and have a small common denominator.
 ghost use Rattle.std.specs.Prelude.{◌≡◌, ◌<◌, ◌^◌, ◌↔◌, IsTrue, IfSome, IfNone, unsigned_abs};
 ghost use Rattle.gj_frac.specs.Fraction.{denominator};
-ghost use Rattle.gj_tools.specs.Divisors.{IsLcm};
 ghost use Rattle.gj_check.specs.RowLimits.{IsWithinLimits, Extends, IsBeyond};
 
-use gj_frac::{Frac, gcd};
+use gj_frac::{Frac, lcm};
 
 /// The greatest common denominator that the numbers of a row may have.
 const GREATEST_DENOMINATOR: i128 = (1 << 31) - 1;
 
-/// The least common denominator of the numbers of a row so far, `common`, with one more number; none where with it
+/// The least common denominator of the numbers of a row so far, `common`, with one more number; none if with it
 /// they are beyond the limits.
 pub(crate) fn extended(common: u64, x: Frac) -> Option<u64>
     requires some { 0 < common }
@@ -20,7 +19,7 @@ pub(crate) fn extended(common: u64, x: Frac) -> Option<u64>
     if !is_within_limits(x) {
         return None;
     }
-    let multiple = least_common_multiple(common, denominator_of(x));
+    let multiple = lcm(common as u32, denominator_of(x) as u32);
     if multiple >= 1 << 31 {
         return None;
     }
@@ -35,17 +34,6 @@ fn is_within_limits(x: Frac) -> bool
         return false;
     }
     x.num().unsigned_abs() <= x.den().unsigned_abs() * (1 << 31)
-}
-
-/// The least common multiple of two numbers from 1 to 2^31 - 1.
-fn least_common_multiple(a: u64, b: u64) -> u64
-    requires a_some { 0 < a }
-    requires a_high { a < 2 ^ 31 }
-    requires b_high { b < 2 ^ 31 }
-    ensures { IsLcm a b result }
-{
-    let divisor = gcd(u128::from(a), u128::from(b)) as u64;
-    a / divisor * b
 }
 
 /// The denominator of a number, from 1 to 2^31 - 1.

@@ -15,9 +15,9 @@ pub enum CheckRule {
     Row,
     /// A row is reduced at a column where it has an entry and an earlier row has its pivot.
     Reduce,
-    /// The numbers of a reduction are at most 2^127 - 1 in absolute value.
+    /// The numbers of a reduction of whole numbers are at most 2^127 - 1 in absolute value.
     Size,
-    /// The pivot of a row is its first entry, in a column with no earlier pivot.
+    /// The pivot of a row is its first entry, in a column with no earlier pivot; of residues, it has an inverse.
     Pivot,
     /// There are as many pivots as components.
     Rank,

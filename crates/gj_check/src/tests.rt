@@ -3,7 +3,7 @@ use crate::minimality::is_minimal;
 use crate::{CheckFault, CheckRule, check};
 use gj_frac::Frac;
 use gj_lex::Name;
-use gj_proof::{Claim, CutLine, CutRule, CutTerm, PivotRow, Proof, SkipReason};
+use gj_proof::{Claim, CutLine, CutRule, CutTerm, Numbers, PivotRow, Proof, SkipReason};
 use gj_shape::{CoverLine, Face, FaceKind, Halves, List, RowName, Shape, Violation};
 use std::test::Fail;
 
@@ -261,6 +261,7 @@ fn cover_line(interval: u32, from: u32, kind: FaceKind, a: u32, b: u32) -> Cover
 /// of which has this kind of face, and these rows.
 fn checked_extreme(
     rt: &HostRuntime,
+    numbers: Numbers,
     first: FaceKind,
     rows: Vec<PivotRow>,
 ) -> Result<Result<(), CheckFault>, Fail> {
@@ -272,7 +273,12 @@ fn checked_extreme(
         cover_line(3, 3, FaceKind::Upper, 3, 4),
         cover_line(4, 3, FaceKind::Diagonal, 3, 4),
     ]?;
-    checked(rt, Claim::Extreme(shape, List::of(lines), List::of(rows)))
+    let lines = List::of(lines);
+    let rows = List::of(rows);
+    match numbers {
+        Numbers::Whole => checked(rt, Claim::Extreme(shape, lines, rows)),
+        Numbers::Residues => checked(rt, Claim::ExtremeByResidues(shape, lines, rows)),
+    }
 }
 
 /// A row that is reduced at these columns.
@@ -284,17 +290,48 @@ fn row(name: RowName, reduce: Vec<u32>, pivot: u32) -> PivotRow {
     }
 }
 
+/// By residues: an extreme function; a row without its step, and too few rows.
+#[test]
+fn extreme_by_residues(rt: HostRuntime) -> Result<(), Fail> {
+    let period = row(RowName::Period, Vec::new(rt.alloc()), 0);
+    let at_f = row(RowName::F, vec![in rt.alloc(); 0]?, 1);
+    let rows = vec![in rt.alloc(); period, at_f]?;
+    assert_eq!(rt;
+        checked_extreme(&rt, Numbers::Residues, FaceKind::Lower, rows)?,
+        Ok(())
+    );
+
+    let period = row(RowName::Period, Vec::new(rt.alloc()), 0);
+    let at_f = row(RowName::F, Vec::new(rt.alloc()), 1);
+    let rows = vec![in rt.alloc(); period, at_f]?;
+    assert_eq!(rt;
+        checked_extreme(&rt, Numbers::Residues, FaceKind::Lower, rows)?,
+        Err(CheckFault::Rejected(19, CheckRule::Pivot))
+    );
+
+    let period = row(RowName::Period, Vec::new(rt.alloc()), 0);
+    let rows = vec![in rt.alloc(); period]?;
+    assert_eq!(rt;
+        checked_extreme(&rt, Numbers::Residues, FaceKind::Lower, rows)?,
+        Err(CheckFault::Rejected(18, CheckRule::Rank))
+    );
+    Ok(())
+}
+
 /// An extreme function; an edge where a triangle has to stand, a row without its step, and too few rows.
 #[test]
 fn extreme(rt: HostRuntime) -> Result<(), Fail> {
     let period = row(RowName::Period, Vec::new(rt.alloc()), 0);
     let at_f = row(RowName::F, vec![in rt.alloc(); 0]?, 1);
     let rows = vec![in rt.alloc(); period, at_f]?;
-    assert_eq!(rt; checked_extreme(&rt, FaceKind::Lower, rows)?, Ok(()));
+    assert_eq!(rt;
+        checked_extreme(&rt, Numbers::Whole, FaceKind::Lower, rows)?,
+        Ok(())
+    );
 
     let none = Vec::new(rt.alloc());
     assert_eq!(rt;
-        checked_extreme(&rt, FaceKind::Horizontal, none)?,
+        checked_extreme(&rt, Numbers::Whole, FaceKind::Horizontal, none)?,
         Err(CheckFault::Rejected(10, CheckRule::Cover))
     );
 
@@ -302,14 +339,14 @@ fn extreme(rt: HostRuntime) -> Result<(), Fail> {
     let at_f = row(RowName::F, Vec::new(rt.alloc()), 1);
     let rows = vec![in rt.alloc(); period, at_f]?;
     assert_eq!(rt;
-        checked_extreme(&rt, FaceKind::Lower, rows)?,
+        checked_extreme(&rt, Numbers::Whole, FaceKind::Lower, rows)?,
         Err(CheckFault::Rejected(18, CheckRule::Pivot))
     );
 
     let period = row(RowName::Period, Vec::new(rt.alloc()), 0);
     let rows = vec![in rt.alloc(); period]?;
     assert_eq!(rt;
-        checked_extreme(&rt, FaceKind::Lower, rows)?,
+        checked_extreme(&rt, Numbers::Whole, FaceKind::Lower, rows)?,
         Err(CheckFault::Rejected(17, CheckRule::Rank))
     );
     Ok(())

@@ -1,5 +1,5 @@
 -- The lines of an extreme function and those of halves: their names differ, and each has one line feed, at its end.
-use Rattle.std.proofs.Common.{◌≡◌, ◌≢◌, ℕ, ℤ, ◌+◌, ◌<◌, ◌≤◌, List, [], ◌∷◌, ◌++◌, All, flat_map, zip, codes, decimal, refl, sym, ap, subst, ◌∙◌, arith}
+use Rattle.std.proofs.Common.{◌≡◌, ◌≢◌, ℕ, ℤ, ◌+◌, ◌<◌, ◌≤◌, List, [], ◌∷◌, ◌++◌, All, flat_map, zip, codes, decimal, refl, sym, ap, subst, ◌∙◌, arith, lit<}
 use Rattle.std.proofs.lemmas.Int.{ints}
 use Rattle.std.specs.Fmt.{signed_decimal}
 use Rattle.std.proofs.lemmas.List.{append_assoc, map-append}
@@ -14,10 +14,13 @@ use Rattle.gj_shape.specs.declared.extremality.RowName.{RowName}
 use Rattle.gj_shape.specs.declared.extremality.RowName.TheVariants.{Period, F, Pair}
 use Rattle.gj_shape.specs.declared.faces.FaceKind.{FaceKind}
 use Rattle.gj_shape.specs.declared.faces.FaceKind.TheVariants.{Vertex, Horizontal, Vertical, Diagonal, Lower, Upper}
+use Rattle.gj_theory.specs.Modulus.{modulus}
 use Rattle.gj_lines.specs.FaceLines.{face_word, face_text, cover_line}
 use Rattle.gj_lines.specs.FunctionLines.{line}
-use Rattle.gj_proof.specs.ProofText.{ProofLine, OwnLine, group_line, reduction_line, pivot_line, covered_lines, reduction_lines, group_lines, halves_line, pair_line, pair_lines, IsCoverLineBelow, IsRowNameBelow, IsPivotRowBelow}
+use Rattle.gj_proof.specs.ProofText.{ProofLine, OwnLine, group_line, reduction_line, pivot_line, covered_lines, reduction_lines, group_lines, modulus_line, modulus_lines, extreme_lines, halves_line, pair_line, pair_lines, IsCoverLineBelow, IsRowNameBelow, IsPivotRowBelow}
 use Rattle.gj_proof.specs.ExtremeTexts.{group_text, halves_text}
+use Rattle.gj_proof.specs.declared.numbers.Numbers.{Numbers}
+use Rattle.gj_proof.specs.declared.numbers.Numbers.TheVariants.{Whole, Residues}
 use Rattle.gj_proof.specs.declared.pivot.PivotRow.{PivotRow}
 use Rattle.gj_proof.proofs.LineLists.{names, bytes, bytes_append, Differ, differ_append, HasOneFeed, feeds_of_line, feeds_of_two, feeds_of_word}
 use Rattle.gj_proof.proofs.WholeNumbers.{whole_is_word}
@@ -45,11 +48,13 @@ group_bytes g (row ∷ rows) =
     regroup : (a b c d : List ℕ) → a ++ (b ++ (c ++ d)) ≡ (a ++ b ++ c) ++ d
     regroup a b c d = simp append_assoc
 
-pub extreme_bytes : (lines : List CoverLine) (rows : List PivotRow) →
-    bytes (covered_lines 0 lines ++ group_lines 0 rows) ≡ flat_map cover_line lines ++ flat_map group_text rows
-extreme_bytes lines rows =
-    bytes_append (covered_lines 0 lines) (group_lines 0 rows) ∙ ap (λ t. t ++ bytes (group_lines 0 rows)) (covered_bytes 0 lines)
-    ∙ ap (λ t. flat_map cover_line lines ++ t) (group_bytes 0 rows)
+pub extreme_bytes : (n : Numbers) (lines : List CoverLine) (rows : List PivotRow) →
+    bytes (extreme_lines n lines rows) ≡ flat_map cover_line lines ++ (bytes (modulus_lines n) ++ flat_map group_text rows)
+extreme_bytes n lines rows =
+    let more = modulus_lines n ++ group_lines 0 rows in
+    bytes_append (covered_lines 0 lines) more ∙ ap (λ t. t ++ bytes more) (covered_bytes 0 lines)
+    ∙ ap (λ t. flat_map cover_line lines ++ t)
+    (bytes_append (modulus_lines n) (group_lines 0 rows) ∙ ap (λ t. bytes (modulus_lines n) ++ t) (group_bytes 0 rows))
 
 pub pair_bytes : (i : ℕ) (pairs : List (ℤ × ℤ)) → bytes (pair_lines i pairs) ≡ flat_map pair_line pairs
 pair_bytes i [] = refl
@@ -217,22 +222,57 @@ groups_differ g (row ∷ rows) =
     differ_append steps behind (reductions_differ g 0 row.reduce) (pivot_first, groups_differ (g + 1) rows) apart in
     subst Differ (sym (joined g row rows)) (first, others)
 
--- a line of a covered interval is no line of a group
-cover_apart : (l m : ProofLine) → IsCoveredFrom 0 l → IsGroupFrom 0 m → m ≢ l
-cover_apart l m h k e = both l h (subst (IsGroupFrom 0) e k)
+-- the line is that of the modulus, or of a group
+abbrev pub IsBehindCover : ProofLine → Type 0
+IsBehindCover ProofLine.modulus_named = Unit {0}
+IsBehindCover (ProofLine.group k) = Unit {0}
+IsBehindCover (ProofLine.reduction k m) = Unit {0}
+IsBehindCover (ProofLine.group_pivot k) = Unit {0}
+IsBehindCover l = ⊥
+
+group_is_behind : (l : ProofLine) → IsGroupFrom 0 l → IsBehindCover l
+group_is_behind (ProofLine.group k) h = tt
+group_is_behind (ProofLine.reduction k m) h = tt
+group_is_behind (ProofLine.group_pivot k) h = tt
+group_is_behind l h = absurd h
+
+groups_are_behind : (rows : List PivotRow) → All IsBehindCover (names (group_lines 0 rows))
+groups_are_behind rows = All-weaker (IsGroupFrom 0) IsBehindCover group_is_behind (names (group_lines 0 rows)) (groups_are 0 rows)
+
+-- the lines behind those of covered intervals
+abbrev pub behind_cover : Numbers → List PivotRow → List OwnLine
+behind_cover n rows = modulus_lines n ++ group_lines 0 rows
+
+pub behind_are : (n : Numbers) (rows : List PivotRow) → All IsBehindCover (names (behind_cover n rows))
+behind_are Whole rows = groups_are_behind rows
+behind_are Residues rows = All-cons IsBehindCover ProofLine.modulus_named (names (group_lines 0 rows)) tt (groups_are_behind rows)
+
+not_modulus : (l : ProofLine) → IsGroupFrom 0 l → l ≢ ProofLine.modulus_named
+not_modulus l h e = subst (IsGroupFrom 0) e h
+
+behind_differ : (n : Numbers) (rows : List PivotRow) → Differ (names (behind_cover n rows))
+behind_differ Whole rows = groups_differ 0 rows
+behind_differ Residues rows = (
+  All-weaker (IsGroupFrom 0) (λ k. k ≢ ProofLine.modulus_named) not_modulus (names (group_lines 0 rows)) (groups_are 0 rows),
+  groups_differ 0 rows,
+)
+
+-- a line of a covered interval is none of these
+cover_apart : (l m : ProofLine) → IsCoveredFrom 0 l → IsBehindCover m → m ≢ l
+cover_apart l m h k e = both l h (subst IsBehindCover e k)
   where
-    both : (l : ProofLine) → IsCoveredFrom 0 l → IsGroupFrom 0 l → ⊥
+    both : (l : ProofLine) → IsCoveredFrom 0 l → IsBehindCover l → ⊥
     both (ProofLine.covered k) h r = r
     both l h r = absurd h
 
-pub extreme_lines_differ : (lines : List CoverLine) (rows : List PivotRow) → Differ (names (covered_lines 0 lines ++ group_lines 0 rows))
-extreme_lines_differ lines rows =
+pub extreme_lines_differ : (n : Numbers) (lines : List CoverLine) (rows : List PivotRow) → Differ (names (extreme_lines n lines rows))
+extreme_lines_differ n lines rows =
     let first = names (covered_lines 0 lines) in
-    let more = names (group_lines 0 rows) in
-    subst Differ (sym (map-append (λ (o : OwnLine). o.name) (covered_lines 0 lines) (group_lines 0 rows)))
-    (differ_append first more (covered_differ 0 lines) (groups_differ 0 rows)
+    let more = names (behind_cover n rows) in
+    subst Differ (sym (map-append (λ (o : OwnLine). o.name) (covered_lines 0 lines) (behind_cover n rows)))
+    (differ_append first more (covered_differ 0 lines) (behind_differ n rows)
     (All-weaker (IsCoveredFrom 0) (λ l. All (λ k. k ≢ l) more)
-    (λ l h. All-weaker (IsGroupFrom 0) (λ k. k ≢ l) (λ m k. cover_apart l m h k) more (groups_are 0 rows)) first (covered_are 0 lines)))
+    (λ l h. All-weaker IsBehindCover (λ k. k ≢ l) (λ m k. cover_apart l m h k) more (behind_are n rows)) first (covered_are 0 lines)))
 
 pairs_differ : (i : ℕ) (pairs : List (ℤ × ℤ)) → Differ (names (pair_lines i pairs))
 pairs_differ i [] = tt
@@ -311,7 +351,7 @@ feeds_of_pair p first second =
     (feeds_of_spaced (codes "pair " ++ signed_decimal p.0) (signed_decimal p.1)
     (feeds_of_two (codes "pair ") (signed_decimal p.0) refl (feeds_of_whole p.0 first)) (feeds_of_whole p.1 second))
 
-pub covered_have_one_feed : (i q : ℕ) (lines : List CoverLine) → q ≤ 1000 → All (IsCoverLineBelow q) lines →
+covered_have_one_feed : (i q : ℕ) (lines : List CoverLine) → q ≤ 1000 → All (IsCoverLineBelow q) lines →
     All HasOneFeed (covered_lines i lines)
 covered_have_one_feed i q [] small h = All-nil HasOneFeed
 covered_have_one_feed i q (l ∷ lines) small h =
@@ -327,7 +367,7 @@ reductions_have_one_feed g r (c ∷ columns) h =
     (feeds_of_column (codes "reduce ") c refl (All-head P c columns h))
     (reductions_have_one_feed g (r + 1) columns (All-tail P c columns h))
 
-pub groups_have_one_feed : (g q : ℕ) (rows : List PivotRow) → q ≤ 1000 → All (IsPivotRowBelow q) rows → All HasOneFeed (group_lines g rows)
+groups_have_one_feed : (g q : ℕ) (rows : List PivotRow) → q ≤ 1000 → All (IsPivotRowBelow q) rows → All HasOneFeed (group_lines g rows)
 groups_have_one_feed g q [] small h = All-nil HasOneFeed
 groups_have_one_feed g q (row ∷ rows) small h =
     let here = All-head (IsPivotRowBelow q) row rows h in
@@ -338,6 +378,23 @@ groups_have_one_feed g q (row ∷ rows) small h =
     (All-append HasOneFeed (reduction_lines g 0 row.reduce) (last ∷ more) (reductions_have_one_feed g 0 row.reduce here.reduce)
     (All-cons HasOneFeed last more (feeds_of_column (codes "pivot ") row.pivot refl here.pivot)
     (groups_have_one_feed (g + 1) q rows small (All-tail (IsPivotRowBelow q) row rows h))))
+
+feeds_of_modulus : line_feeds modulus_line ≡ 1
+feeds_of_modulus =
+    feeds_of_line (codes "modulus " ++ decimal modulus)
+    (feeds_of_two (codes "modulus ") (decimal modulus) refl (feeds_of_word (decimal modulus) (decimal_is_word modulus (lit< tt))))
+
+modulus_has_one_feed : (n : Numbers) → All HasOneFeed (modulus_lines n)
+modulus_has_one_feed Whole = All-nil HasOneFeed
+modulus_has_one_feed Residues =
+    All-cons HasOneFeed (record { name = ProofLine.modulus_named; bytes = modulus_line }) [] feeds_of_modulus (All-nil HasOneFeed)
+
+pub extreme_have_one_feed : (n : Numbers) (q : ℕ) (lines : List CoverLine) (rows : List PivotRow) → q ≤ 1000 →
+    All (IsCoverLineBelow q) lines → All (IsPivotRowBelow q) rows → All HasOneFeed (extreme_lines n lines rows)
+extreme_have_one_feed n q lines rows small lines_below rows_below =
+    All-append HasOneFeed (covered_lines 0 lines) (behind_cover n rows) (covered_have_one_feed 0 q lines small lines_below)
+    (All-append HasOneFeed (modulus_lines n) (group_lines 0 rows) (modulus_has_one_feed n)
+    (groups_have_one_feed 0 q rows small rows_below))
 
 pairs_have_one_feed : (i : ℕ) (first second : List ℤ) → All Fits first → All Fits second →
     All HasOneFeed (pair_lines i (zip first second))

@@ -8,12 +8,14 @@ use Rattle.gj_shape.specs.declared.extremality.CoverLine.{CoverLine}
 use Rattle.gj_shape.specs.declared.extremality.Halves.{Halves}
 use Rattle.gj_shape.specs.declared.extremality.RowName.{RowName}
 use Rattle.gj_lex.specs.Parts.{BeginsWithLine, BeginsWithWord}
-use Rattle.gj_proof.specs.ProofGrammar.{cover_rule, covered_part, row_name_rule, column_rule, next_step, group_part, next_group, groups_part, halves_rule, pair_rule, pairs_part, halves_part}
+use Rattle.gj_proof.specs.ProofGrammar.{cover_rule, covered_part, modulus_rule, modulus_part, row_name_rule, column_rule, next_step, group_part, next_group, groups_part, halves_rule, pair_rule, pairs_part, halves_part}
 use Rattle.gj_proof.specs.declared.halves.HalvesHead.{HalvesHead}
+use Rattle.gj_proof.specs.declared.numbers.Numbers.{Numbers}
+use Rattle.gj_proof.specs.declared.numbers.Numbers.TheVariants.{Whole, Residues}
 use Rattle.gj_proof.specs.declared.pivot.PivotRow.{PivotRow}
 use Rattle.gj_lex.proofs.WhereLaws.{where_part_is_exact, shorter_behind_line}
 use Rattle.gj_proof.proofs.CutParts.{end_words}
-use Rattle.gj_proof.proofs.ExtremeWords.{cover_rule_is_exact, row_name_rule_is_exact, column_rule_is_exact, halves_rule_is_exact, pair_rule_is_exact}
+use Rattle.gj_proof.proofs.ExtremeWords.{cover_rule_is_exact, row_name_rule_is_exact, column_rule_is_exact, modulus_rule_is_exact, halves_rule_is_exact, pair_rule_is_exact}
 
 -- ---- covered intervals
 
@@ -27,6 +29,12 @@ covered_part_is_exact q (suc n) lines small =
     then_part_is_exact (cover_part q) (λ l. covered_part q n (lines ++ l ∷ []))
     (line_part_is_exact Strict (cover_rule q) (cover_rule_is_exact q small))
     (λ l. covered_part_is_exact q n (lines ++ l ∷ []) small)
+
+-- ---- the modulus
+
+pub modulus_part_is_exact : (n : Numbers) → IsExactPart (modulus_part n).Reads (modulus_part n).Faults
+modulus_part_is_exact Whole = empty_part_is_exact tt
+modulus_part_is_exact Residues = line_part_is_exact Strict modulus_rule modulus_rule_is_exact
 
 -- ---- groups
 

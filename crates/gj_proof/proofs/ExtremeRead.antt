@@ -9,14 +9,17 @@ use Rattle.gj_shape.specs.declared.extremality.CoverLine.{CoverLine}
 use Rattle.gj_shape.specs.declared.extremality.RowName.{RowName}
 use Rattle.gj_lines.specs.FunctionGrammar.{function_part}
 use Rattle.gj_lex.specs.Parts.{BeginsWithLine, BeginsWithWord}
-use Rattle.gj_proof.specs.ProofGrammar.{covered_part, next_step, group_part, next_group, groups_part, pairs_part, halves_part, claim_part}
-use Rattle.gj_proof.specs.declared.claim.ClaimWord.TheVariants.{Extreme, NotExtreme}
+use Rattle.gj_proof.specs.ProofText.{extreme_claim}
+use Rattle.gj_proof.specs.ProofGrammar.{covered_part, modulus_part, next_step, group_part, next_group, groups_part, pairs_part, halves_part, extreme_part, claim_part}
+use Rattle.gj_proof.specs.declared.claim.Claim.{Claim}
+use Rattle.gj_proof.specs.declared.claim.ClaimWord.TheVariants.{NotExtreme}
+use Rattle.gj_proof.specs.declared.numbers.Numbers.{Numbers}
 use Rattle.gj_proof.specs.declared.pivot.PivotRow.{PivotRow}
 use Rattle.gj_lex.proofs.LoopRead.{LeadsOn, leads_on, leads_to_end, leads_to_fault}
 use Rattle.gj_lex.proofs.WhereLaws.{fault_where, fault_else}
 use Rattle.gj_proof.proofs.CutParts.{end_words}
 use Rattle.gj_proof.proofs.ExtremeParts.{cover_part, name_part, step_part, pivot_part, more_steps, steps_part, makes_row, behind_steps, behind_name, more_groups, pair_part}
-use Rattle.gj_proof.proofs.ReadTexts.{makes_extreme, behind_cover, behind_function, makes_not_extreme, behind_subject}
+use Rattle.gj_proof.proofs.ReadTexts.{makes_extreme, behind_modulus, behind_cover, behind_function, makes_not_extreme, behind_subject}
 
 -- what the part r reads of the rest, the part p reads of the text, and so its faults
 pub record Leads {A : Type 0} (p : Part A) (text : List ℕ) (r : Part A) (rest : List ℕ) : Type 0 where
@@ -128,22 +131,47 @@ module _ (n i : ℕ) (text rest : List ℕ) (first second : List ℤ)
 
 -- ---- the claims
 
-pub fault_in_cover : (q : ℕ) (text middle : List ℕ) (f : FunctionData) (e : PartFault) → q ≡ f.order →
-    (function_part Strict).Reads text f middle → IsFaultOf (covered_part q q []) middle e → IsFaultOf (claim_part Extreme) text e
-fault_in_cover q text middle f e is reads h =
-    fault_in_next (function_part Strict) behind_function text f middle e reads
-    (fault_in_first (covered_part f.order f.order []) (behind_cover f) middle e
-    (subst (λ (n : ℕ). IsFaultOf (covered_part n n []) middle e) is h))
+module _ (n : Numbers) (q : ℕ) (text middle : List ℕ) (f : FunctionData) (e : PartFault) (is : q ≡ f.order)
+    (reads : (function_part Strict).Reads text f middle) where
+  pub fault_in_cover : IsFaultOf (covered_part q q []) middle e → IsFaultOf (extreme_part n) text e
+  fault_in_cover h =
+      fault_in_next (function_part Strict) (behind_function n) text f middle e reads
+      (fault_in_first (covered_part f.order f.order []) (behind_cover n f) middle e
+      (subst (λ (m : ℕ). IsFaultOf (covered_part m m []) middle e) is h))
 
-pub fault_in_groups : (q : ℕ) (text middle behind : List ℕ) (f : FunctionData) (lines : List CoverLine) (e : PartFault) → q ≡ f.order →
-    (function_part Strict).Reads text f middle → (covered_part q q []).Reads middle lines behind →
-    IsFaultOf (groups_part q []) behind e → IsFaultOf (claim_part Extreme) text e
-fault_in_groups q text middle behind f lines e is reads covered h =
-    fault_in_next (function_part Strict) behind_function text f middle e reads
-    (fault_in_next (covered_part f.order f.order []) (behind_cover f) middle lines behind e
-    (subst (λ (n : ℕ). (covered_part n n []).Reads middle lines behind) is covered)
-    (fault_in_made (makes_extreme f lines) (groups_part f.order []) behind e
-    (subst (λ (n : ℕ). IsFaultOf (groups_part n []) behind e) is h)))
+  module _ (behind : List ℕ) (lines : List CoverLine) (covered : (covered_part q q []).Reads middle lines behind) where
+    fault_behind_cover : IsFaultOf (behind_cover n f lines) behind e → IsFaultOf (extreme_part n) text e
+    fault_behind_cover h =
+        fault_in_next (function_part Strict) (behind_function n) text f middle e reads
+        (fault_in_next (covered_part f.order f.order []) (behind_cover n f) middle lines behind e
+        (subst (λ (m : ℕ). (covered_part m m []).Reads middle lines behind) is covered) h)
+
+    pub fault_in_modulus : IsFaultOf (modulus_part n) behind e → IsFaultOf (extreme_part n) text e
+    fault_in_modulus h = fault_behind_cover (fault_in_first (modulus_part n) (λ t. behind_modulus n f lines) behind e h)
+
+    pub fault_in_groups : (groups : List ℕ) → (modulus_part n).Reads behind tt groups → IsFaultOf (groups_part q []) groups e →
+        IsFaultOf (extreme_part n) text e
+    fault_in_groups groups modulus h =
+        fault_behind_cover
+        (fault_in_next (modulus_part n) (λ t. behind_modulus n f lines) behind tt groups e modulus
+        (fault_in_made (makes_extreme n f lines) (groups_part f.order []) groups e
+        (subst (λ (m : ℕ). IsFaultOf (groups_part m []) groups e) is h)))
+
+pub extreme_read : (n : Numbers) (q : ℕ) (text middle behind groups rest : List ℕ) (f : FunctionData) (lines : List CoverLine)
+    (rows : List PivotRow) (c : Claim) → q ≡ f.order → (function_part Strict).Reads text f middle →
+    (covered_part q q []).Reads middle lines behind → (modulus_part n).Reads behind tt groups → (groups_part q []).Reads groups rows rest →
+    c ≡ extreme_claim n f lines rows → (extreme_part n).Reads text c rest
+extreme_read n q text middle behind groups rest f lines rows c is reads covered modulus h c_is = (
+  f,
+  middle,
+  reads,
+  (
+    lines,
+    behind,
+    subst (λ (m : ℕ). (covered_part m m []).Reads middle lines behind) is covered,
+    (tt, groups, modulus, (rows, subst (λ (m : ℕ). (groups_part m []).Reads groups rows rest) is h, c_is)),
+  ),
+)
 
 pub fault_in_halves : (text middle : List ℕ) (f : FunctionData) (e : PartFault) → (function_part Strict).Reads text f middle →
     IsFaultOf halves_part middle e → IsFaultOf (claim_part NotExtreme) text e

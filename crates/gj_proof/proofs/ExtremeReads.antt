@@ -17,16 +17,20 @@ use Rattle.gj_shape.specs.declared.extremality.RowName.{RowName}
 use Rattle.gj_shape.specs.declared.extremality.RowName.TheVariants.{Period, F, Pair}
 use Rattle.gj_lines.specs.FaceLines.{cover_line}
 use Rattle.gj_lines.specs.FunctionLines.{line}
-use Rattle.gj_proof.specs.ProofText.{group_line, reduction_line, pivot_line, halves_line, pair_line, IsCoverLineBelow, IsRowNameBelow, IsPivotRowBelow}
+use Rattle.gj_theory.specs.Modulus.{modulus}
+use Rattle.gj_proof.specs.ProofText.{modulus_line, modulus_lines, group_line, reduction_line, pivot_line, halves_line, pair_line, IsCoverLineBelow, IsRowNameBelow, IsPivotRowBelow}
 use Rattle.gj_proof.specs.ExtremeTexts.{group_text, halves_text}
 use Rattle.gj_lex.specs.Parts.{BeginsWithLine, BeginsWithWord}
-use Rattle.gj_proof.specs.ProofGrammar.{cover_words, cover_rule, covered_part, row_words, row_name_rule, column_rule, next_step, group_part, groups_part, halves_words, halves_rule, IsHeadInBounds, pair_words, pair_rule, pairs_part, halves_part}
+use Rattle.gj_proof.specs.ProofGrammar.{cover_words, cover_rule, covered_part, modulus_rule, modulus_part, row_words, row_name_rule, column_rule, next_step, group_part, groups_part, halves_words, halves_rule, IsHeadInBounds, pair_words, pair_rule, pairs_part, halves_part}
 use Rattle.gj_proof.specs.declared.halves.HalvesHead.{HalvesHead}
+use Rattle.gj_proof.specs.declared.numbers.Numbers.{Numbers}
+use Rattle.gj_proof.specs.declared.numbers.Numbers.TheVariants.{Whole, Residues}
 use Rattle.gj_proof.specs.declared.pivot.PivotRow.{PivotRow}
+use Rattle.gj_proof.proofs.LineLists.{bytes}
 use Rattle.gj_proof.proofs.StrictParts.{line_reads, line_found, strict_line}
 use Rattle.gj_lex.proofs.WhereLaws.{other_line, other_word}
 use Rattle.gj_proof.proofs.CutParts.{end_words}
-use Rattle.gj_proof.proofs.ExtremeWords.{cover_is_plain, bytes_of_cover, row_name_is_plain, bytes_of_row_name, column_is_plain, head_is_plain, bytes_of_head, pair_is_plain, bytes_of_pair}
+use Rattle.gj_proof.proofs.ExtremeWords.{cover_is_plain, bytes_of_cover, row_name_is_plain, bytes_of_row_name, column_is_plain, modulus_is_plain, head_is_plain, bytes_of_head, pair_is_plain, bytes_of_pair}
 use Rattle.gj_proof.proofs.ExtremeParts.{cover_part, name_part, head_part, pair_part}
 
 -- ---- covered intervals
@@ -82,6 +86,21 @@ covered_found q (suc n) before all text rest (l, middle, one_line, more) =
       below = All-cons (IsCoverLineBelow q) l found.lines one.1 found.below;
       spelled = one.0 ∙ ap (λ m. cover_line l ++ m) found.spelled ∙ sym (append_assoc (cover_line l) (flat_map cover_line found.lines) rest);
     }
+
+-- ---- the modulus
+
+pub modulus_read : (n : Numbers) (rest : List ℕ) → (modulus_part n).Reads (bytes (modulus_lines n) ++ rest) tt rest
+modulus_read Whole rest = (refl, refl)
+modulus_read Residues rest =
+    line_reads modulus_rule (modulus_line ++ [] ++ rest) rest (codes "modulus" ∷ decimal modulus ∷ []) tt (λ e. cc) modulus_is_plain refl
+    (ap (λ t. t ++ rest) (append-nil modulus_line))
+
+pub modulus_found : (n : Numbers) (text rest : List ℕ) (t : Unit {0}) → (modulus_part n).Reads text t rest →
+    text ≡ bytes (modulus_lines n) ++ rest
+modulus_found Whole text rest t (is, text_is) = text_is
+modulus_found Residues text rest t h =
+    let (words, is, spelled) = line_found modulus_rule text rest t h in
+    spelled ∙ ap (λ ws. line (join_with_byte 32 ws) ++ rest) is ∙ ap (λ u. u ++ rest) (sym (append-nil modulus_line))
 
 -- ---- the lines of a column
 

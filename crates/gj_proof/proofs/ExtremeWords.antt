@@ -1,5 +1,5 @@
 -- The words of the lines of extremality: they are those of one line, or break one rule, and are plain.
-use Rattle.std.proofs.Common.{◌≡◌, inl, inr, ℕ, ◌+◌, ◌*◌, ◌<◌, ◌≤◌, ℤ, List, [], ◌∷◌, ◌++◌, All, codes, decimal, get_or, refl, sym, ap, subst, ◌∙◌, arith}
+use Rattle.std.proofs.Common.{◌≡◌, inl, inr, ℕ, ◌+◌, ◌*◌, ◌<◌, ◌≤◌, ℤ, List, [], ◌∷◌, ◌++◌, All, codes, decimal, get_or, refl, sym, ap, subst, ◌∙◌, arith, lit<}
 use Rattle.std.specs.Fmt.{signed_decimal}
 use Rattle.std.specs.List.{join_with_byte}
 use Rattle.std.proofs.lemmas.Int.{ints}
@@ -14,6 +14,7 @@ use Rattle.gj_lex.proofs.CanonicalLines.{plain_by_test}
 use Rattle.gj_lex.proofs.Decimals.{same_from_decimal}
 use Rattle.gj_lex.proofs.SpelledWords.{canonical_count, count_is_plain}
 use Rattle.gj_lex.proofs.StrictLines.{IsPlain}
+use Rattle.gj_theory.specs.Modulus.{modulus}
 use Rattle.gj_shape.specs.declared.extremality.CoverLine.{CoverLine}
 use Rattle.gj_shape.specs.declared.extremality.RowName.{RowName}
 use Rattle.gj_shape.specs.declared.extremality.RowName.TheVariants.{Period, F, Pair}
@@ -22,7 +23,7 @@ use Rattle.gj_shape.specs.declared.faces.FaceKind.TheVariants.{Vertex, Horizonta
 use Rattle.gj_lines.specs.FaceLines.{face_word, cover_line}
 use Rattle.gj_lines.specs.FunctionLines.{line}
 use Rattle.gj_proof.specs.ProofText.{group_line, pair_line, IsCoverLineBelow, IsRowNameBelow}
-use Rattle.gj_proof.specs.ProofGrammar.{IsCountIn, cover_words, BreaksCover, cover_rule, row_words, BreaksRowName, row_name_rule, column_rule, IsHeadInBounds, halves_words, halves_rule, pair_words, pair_rule}
+use Rattle.gj_proof.specs.ProofGrammar.{IsCountIn, cover_words, BreaksCover, cover_rule, row_words, BreaksRowName, row_name_rule, column_rule, modulus_rule, IsHeadInBounds, halves_words, halves_rule, pair_words, pair_rule}
 use Rattle.gj_proof.specs.declared.halves.HalvesHead.{HalvesHead}
 use Rattle.gj_proof.proofs.WholeNumbers.{same_from_whole, whole_is_plain}
 use Rattle.gj_proof.proofs.CutWords.{two_joined, plain_word}
@@ -235,6 +236,28 @@ column_rule_is_exact word = record { one_thing = one; one_reason = reason_of; no
 
 pub column_is_plain : (word : List ℕ) (c : ℕ) → All IsPlain (word ∷ []) → c < 1000 → All IsPlain (word ∷ decimal c ∷ [])
 column_is_plain word c h below = two_plain word (decimal c) h (count_is_plain c (omega arith))
+
+-- ---- the modulus
+
+pub modulus_rule_is_exact : IsExactRule modulus_rule.Spells modulus_rule.Breaks
+modulus_rule_is_exact = record { one_thing = λ words a b h k. refl; one_reason = reason_of; not_both = unbroken }
+  where
+    reason_of : (words : List (List ℕ)) (e d : Reason) → modulus_rule.Breaks words e → modulus_rule.Breaks words d → e ≡ d
+    reason_of words e d (inl h) (inl k) = h.0 ∙ sym k.0
+    reason_of words e d (inl (h, none)) (inr (k, (word, is, other))) = absurd (none word is)
+    reason_of words e d (inr (h, (word, is, other))) (inl (k, none)) = absurd (none word is)
+    reason_of words e d (inr h) (inr k) = h.0 ∙ sym k.0
+
+    unbroken : (words : List (List ℕ)) (t : Unit {0}) (e : Reason) → modulus_rule.Spells words t → modulus_rule.Breaks words e → ⊥
+    unbroken words t e is (inl (form, none)) = none (decimal modulus) is
+    unbroken words t e is (inr (number, (word, is', other))) = other (second (sym is' ∙ is))
+      where
+        second : {v w : List ℕ} → codes "modulus" ∷ v ∷ [] ≡ codes "modulus" ∷ w ∷ [] → v ≡ w
+        second e = cc
+
+pub modulus_is_plain : All IsPlain (codes "modulus" ∷ decimal modulus ∷ [])
+modulus_is_plain =
+    two_plain (codes "modulus") (decimal modulus) (plain_by_test (codes "modulus" ∷ []) refl) (count_is_plain modulus (lit< tt))
 
 -- ---- the first line of halves
 

@@ -14,11 +14,15 @@ use Rattle.gj_shape.specs.declared.extremality.CoverLine.{CoverLine}
 use Rattle.gj_shape.specs.declared.extremality.Halves.{Halves}
 use Rattle.gj_lines.specs.FaceLines.{cover_line}
 use Rattle.gj_lines.specs.FunctionLines.{line, AreFunctionLines}
-use Rattle.gj_proof.specs.ProofText.{pair_line, HasText, IsProofText}
+use Rattle.gj_proof.specs.ProofText.{extreme_claim, title_text, modulus_lines, pair_line, HasText, IsProofText}
 use Rattle.gj_proof.specs.ExtremeTexts.{group_text, halves_text}
-use Rattle.gj_proof.specs.declared.claim.Claim.TheVariants.{Extreme, NotExtreme}
+use Rattle.gj_proof.specs.declared.claim.Claim.TheVariants.{NotExtreme}
+use Rattle.gj_proof.specs.declared.numbers.Numbers.{Numbers}
+use Rattle.gj_proof.specs.declared.numbers.Numbers.TheVariants.{Whole}
 use Rattle.gj_proof.specs.declared.pivot.PivotRow.{PivotRow}
+use Rattle.gj_proof.proofs.ExtremeClaims.{extreme_text, extreme_has_text}
 use Rattle.gj_proof.proofs.ExtremeLines.{extreme_bytes, halves_bytes}
+use Rattle.gj_proof.proofs.LineLists.{bytes}
 use Rattle.gj_proof.proofs.WholeNumbers.{text_of_ratio}
 
 -- a whole number, printed as the fraction over 1
@@ -54,28 +58,34 @@ pairs_pushed first second n start new n_is new_is =
     (ap (λ k. take k (zip first second)) (n_is ∙ sym (length-zip first second)) ∙ take-length (zip first second))
 
 -- what a text of some function begins with
-abbrev StartsText : FunctionData → List ℕ → List ℕ → Type 0
-StartsText f word text =
-    (lines : List ℕ) × AreFunctionLines f lines × (text ≡ line (codes "gj-proof 1") ++ line (codes "claim " ++ word) ++ lines)
+abbrev StartsText : Numbers → FunctionData → List ℕ → List ℕ → Type 0
+StartsText n f word text =
+    (lines : List ℕ) × AreFunctionLines f lines × (text ≡ line (title_text n) ++ line (codes "claim " ++ word) ++ lines)
 
-pub extreme_written : (f : FunctionData) (cover : List CoverLine) (rows : List PivotRow) (first second third text : List ℕ) →
-    HasText (Extreme f cover rows) → StartsText f (codes "extreme") first → second ≡ first ++ flat_map cover_line cover →
-    third ≡ second ++ flat_map group_text rows → text ≡ third ++ codes "end\n" → IsProofText (Extreme f cover rows) text
-extreme_written f cover rows first second third text has (lines, are, first_is) second_is third_is text_is = record {
-  has_text = has;
-  subject = lines;
-  are_subject_lines = are;
-  spelled = text_is
-      ∙ ap (λ t. t ++ line (codes "end"))
-      (third_is ∙ ap (λ t. t ++ flat_map group_text rows) (second_is ∙ ap (λ t. t ++ flat_map cover_line cover) first_is)
-      ∙ append_assoc (line (codes "gj-proof 1") ++ line (codes "claim extreme") ++ lines) (flat_map cover_line cover)
-      (flat_map group_text rows))
-      ∙ ap (λ t. line (codes "gj-proof 1") ++ line (codes "claim extreme") ++ lines ++ t ++ line (codes "end"))
-      (sym (extreme_bytes cover rows));
-}
+pub extreme_written : (n : Numbers) (f : FunctionData) (cover : List CoverLine) (rows : List PivotRow)
+    (first second third fourth text : List ℕ) → HasText (extreme_claim n f cover rows) → StartsText n f (codes "extreme") first →
+    second ≡ first ++ flat_map cover_line cover → third ≡ second ++ bytes (modulus_lines n) → fourth ≡ third ++ flat_map group_text rows →
+    text ≡ fourth ++ codes "end\n" → IsProofText (extreme_claim n f cover rows) text
+extreme_written n f cover rows first second third fourth text has (lines, are, first_is) second_is third_is fourth_is text_is =
+    let front = line (title_text n) ++ line (codes "claim extreme") ++ lines in
+    let modulus = bytes (modulus_lines n) in
+    extreme_text f cover rows n text (record {
+      has_text = extreme_has_text f cover rows n has;
+      subject = lines;
+      are_subject_lines = are;
+      spelled = text_is
+          ∙ ap (λ t. t ++ line (codes "end"))
+          (fourth_is ∙ ap (λ t. t ++ flat_map group_text rows)
+          (third_is ∙ ap (λ t. t ++ modulus) (second_is ∙ ap (λ t. t ++ flat_map cover_line cover) first_is))
+          ∙ regroup front (flat_map cover_line cover) modulus (flat_map group_text rows))
+          ∙ ap (λ t. front ++ t ++ line (codes "end")) (sym (extreme_bytes n cover rows));
+    })
+  where
+    regroup : (a b c d : List ℕ) → a ++ b ++ c ++ d ≡ a ++ (b ++ (c ++ d))
+    regroup a b c d = simp append_assoc
 
 pub not_extreme_written : (f : FunctionData) (h : Halves) (first second text : List ℕ) → HasText (NotExtreme f h) →
-    StartsText f (codes "not-extreme") first → second ≡ first ++ halves_text h → text ≡ second ++ codes "end\n" →
+    StartsText Whole f (codes "not-extreme") first → second ≡ first ++ halves_text h → text ≡ second ++ codes "end\n" →
     IsProofText (NotExtreme f h) text
 not_extreme_written f h first second text has (lines, are, first_is) second_is text_is = record {
   has_text = has;

@@ -14,6 +14,7 @@ pub mod WholeNumbers
 pub mod CountWords
 pub mod LineLists
 pub mod ExtremeLines
+pub mod ExtremeClaims
 pub mod ExtremeWords
 pub mod ExtremeParts
 pub mod ExtremeReads

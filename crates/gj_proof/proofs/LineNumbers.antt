@@ -17,10 +17,12 @@ use Rattle.gj_lines.proofs.PointLines.{text_of_one, text_of_three}
 use Rattle.gj_tools.specs.FirstThatFails.{IsFirstFailing}
 use Rattle.gj_tools.proofs.FirstThatFails.{first_failing, one_first_failing}
 use Rattle.gj_tools.proofs.Lists.{All-front, All-back, All-range}
-use Rattle.gj_proof.specs.ProofText.{ProofLine, OwnLine, Subject, function, gmic, IfFunction, IsBounded, claim_word, subject_of, subject_lines, AreSubjectLines, own_lines, lines_of, HasBytes, HasNumber, violation_line, IsProofText}
+use Rattle.gj_proof.specs.ProofText.{ProofLine, OwnLine, Subject, function, gmic, IfFunction, IsBounded, title_text, claim_word, subject_of, numbers_of, subject_lines, AreSubjectLines, own_lines, lines_of, HasBytes, HasNumber, violation_line, IsProofText}
 use Rattle.gj_proof.specs.ProofText.ProofLine.{title, claim, order, place, point, rule_named, violation_shown, last}
 use Rattle.gj_proof.specs.declared.claim.Claim.{Claim}
-use Rattle.gj_proof.specs.declared.claim.Claim.TheVariants.{Minimal, NotMinimal, Cut, Extreme, NotExtreme}
+use Rattle.gj_proof.specs.declared.claim.Claim.TheVariants.{Minimal, NotMinimal, Cut, Extreme, ExtremeByResidues, NotExtreme}
+use Rattle.gj_proof.specs.declared.numbers.Numbers.{Numbers}
+use Rattle.gj_proof.specs.declared.numbers.Numbers.TheVariants.{Whole, Residues}
 use Rattle.gj_proof.proofs.LineLists.{names, bytes, bytes_append, Differ, differs_from_those_before, HasOneFeed, feeds_of_own, feeds_of_line, feeds_of_two, feeds_of_word, feeds_of_fraction}
 use Rattle.gj_proof.proofs.OwnLines.{own_lines_differ, IsOwn, own_lines_are_own, own_lines_have_one_feed}
 
@@ -149,14 +151,18 @@ feeds_of_subject gmic text b l = ap line_feeds l
 abbrev pub StandsAt : List ℕ → List ℕ → ℕ → Type 0
 StandsAt text bytes n = (before rest : List ℕ) × (text ≡ before ++ (bytes ++ rest)) × (n ≡ line_feeds before + 1)
 
+feeds_of_title : (n : Numbers) → line_feeds (line (title_text n)) ≡ 1
+feeds_of_title Whole = refl
+feeds_of_title Residues = refl
+
 claim_at : (c : Claim) (text : List ℕ) → IsProofText c text → StandsAt text (line (codes "claim " ++ claim_word c)) 2
 claim_at c text p = (
-  line (codes "gj-proof 1"),
+  line (title_text (numbers_of c)),
   p.subject ++ flat_map (λ l. l.bytes) (own_lines c) ++ line (codes "end"),
   p.spelled
-      ∙ regroup (line (codes "gj-proof 1")) (line (codes "claim " ++ claim_word c)) p.subject
+      ∙ regroup (line (title_text (numbers_of c))) (line (codes "claim " ++ claim_word c)) p.subject
       (flat_map (λ l. l.bytes) (own_lines c)) (line (codes "end")),
-  refl,
+  ap (λ k. k + 1) (sym (feeds_of_title (numbers_of c))),
 )
   where
     regroup : (a b c d e : List ℕ) → a ++ b ++ c ++ d ++ e ≡ a ++ (b ++ (c ++ d ++ e))
@@ -167,6 +173,7 @@ feeds_of_claim (Minimal f) = refl
 feeds_of_claim (NotMinimal f v) = refl
 feeds_of_claim (Cut rule rows) = refl
 feeds_of_claim (Extreme f lines rows) = refl
+feeds_of_claim (ExtremeByResidues f lines rows) = refl
 feeds_of_claim (NotExtreme f h) = refl
 
 subject_is_bounded : (c : Claim) → IsBounded c → IfFunction (subject_of c) IsWithinBounds
@@ -174,18 +181,19 @@ subject_is_bounded (Minimal f) b = b
 subject_is_bounded (NotMinimal f v) b = b
 subject_is_bounded (Cut rule rows) b = b.0
 subject_is_bounded (Extreme f lines rows) b = b
+subject_is_bounded (ExtremeByResidues f lines rows) b = b
 subject_is_bounded (NotExtreme f h) b = b
 
 own_at : (c : Claim) (text : List ℕ) (a b : List OwnLine) (l : OwnLine) → IsBounded c → IsProofText c text → own_lines c ≡ a ++ l ∷ b →
     StandsAt text l.bytes (length (subject_lines (subject_of c)) + length a + 3)
 own_at c text a b l within p is =
-    let title_bytes = line (codes "gj-proof 1") in
+    let title_bytes = line (title_text (numbers_of c)) in
     let claim_bytes = line (codes "claim " ++ claim_word c) in
     let front = title_bytes ++ claim_bytes ++ p.subject ++ bytes a in
     let ones : All HasOneFeed a = All-front HasOneFeed a (l ∷ b) (subst (All HasOneFeed) is (own_lines_have_one_feed c within p.has_text)) in
     let own = feeds_of_own a ones in
     let subject = feeds_of_subject (subject_of c) p.subject (subject_is_bounded c within) p.are_subject_lines in
-    let one : line_feeds title_bytes ≡ 1 = refl in
+    let one : line_feeds title_bytes ≡ 1 = feeds_of_title (numbers_of c) in
     let two = feeds_of_claim c in
     let x = line_feeds_append title_bytes claim_bytes in
     let y = line_feeds_append (title_bytes ++ claim_bytes) p.subject in

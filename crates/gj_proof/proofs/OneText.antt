@@ -4,11 +4,11 @@ use Rattle.gj_lex.specs.declared.reason.Reason.{Reason}
 use Rattle.gj_lex.proofs.LineNumbers as numbers
 use Rattle.gj_lines.specs.FunctionLines.{line}
 use Rattle.gj_lines.proofs.OneTextOfLines.{one_text_of_lines}
-use Rattle.gj_proof.specs.ProofText.{IsBounded, subject_of, AreSubjectLines, claim_word, own_lines, IsProofText}
+use Rattle.gj_proof.specs.ProofText.{IsBounded, subject_of, numbers_of, AreSubjectLines, title_text, claim_word, own_lines, IsProofText}
 use Rattle.gj_proof.specs.ProofGrammar.{proof_text}
 use Rattle.gj_proof.specs.FirstFault.{IsFirstFault}
 use Rattle.gj_proof.specs.declared.claim.Claim.{Claim}
-use Rattle.gj_proof.specs.declared.claim.Claim.TheVariants.{Minimal, NotMinimal, Cut, Extreme, NotExtreme}
+use Rattle.gj_proof.specs.declared.claim.Claim.TheVariants.{Minimal, NotMinimal, Cut, Extreme, ExtremeByResidues, NotExtreme}
 use Rattle.gj_proof.specs.declared.cut.CutRule.TheVariants.{Gmic, Table}
 use Rattle.gj_proof.proofs.ReadTexts.{proof_text_is_exact, text_is_read}
 
@@ -23,13 +23,14 @@ one_subject (NotMinimal f v) s t b l m = one_text_of_lines f s t b l m
 one_subject (Cut (Table f) rows) s t b l m = one_text_of_lines f s t b.0 l m
 one_subject (Cut Gmic rows) s t b l m = l ∙ sym m
 one_subject (Extreme f lines rows) s t b l m = one_text_of_lines f s t b l m
+one_subject (ExtremeByResidues f lines rows) s t b l m = one_text_of_lines f s t b l m
 one_subject (NotExtreme f h) s t b l m = one_text_of_lines f s t b l m
 
 pub one_text : (c : Claim) (s t : List ℕ) → IsBounded c → IsProofText c s → IsProofText c t → s ≡ t
 one_text c s t b p q =
     let same = one_subject c p.subject q.subject b p.are_subject_lines q.are_subject_lines in
     p.spelled
-    ∙ ap (λ u. line (codes "gj-proof 1") ++ line (codes "claim " ++ claim_word c) ++ u
+    ∙ ap (λ u. line (title_text (numbers_of c)) ++ line (codes "claim " ++ claim_word c) ++ u
     ++ flat_map (λ l. l.bytes) (own_lines c) ++ line (codes "end")) same
     ∙ sym q.spelled
 

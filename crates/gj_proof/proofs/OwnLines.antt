@@ -6,19 +6,23 @@ use Rattle.gj_frac.specs.declared.Frac.{Frac}
 use Rattle.gj_lex.specs.Name.{IsName, IsNameByte}
 use Rattle.gj_lex.specs.NumberText.{fraction_text}
 use Rattle.gj_lex.specs.TextLines.{line_feeds}
+use Rattle.gj_shape.specs.declared.extremality.CoverLine.{CoverLine}
 use Rattle.gj_shape.specs.declared.violations.Violation.{Violation}
 use Rattle.gj_shape.specs.declared.violations.Violation.TheVariants as violation
-use Rattle.gj_proof.specs.ProofText.{ProofLine, OwnLine, IsBounded, HasNames, HasText, own_lines, violation_line, reason_word, row_line, term_line, terms_of, term_lines, row_lines, covered_lines, group_lines, pair_lines}
+use Rattle.gj_proof.specs.ProofText.{ProofLine, OwnLine, IsBounded, HasNames, HasText, own_lines, violation_line, reason_word, row_line, term_line, terms_of, term_lines, row_lines, covered_lines, extreme_lines, pair_lines}
 use Rattle.gj_proof.specs.CutTexts.{row_text}
 use Rattle.gj_proof.specs.declared.claim.Claim.{Claim}
-use Rattle.gj_proof.specs.declared.claim.Claim.TheVariants.{Minimal, NotMinimal, Cut, Extreme, NotExtreme}
+use Rattle.gj_proof.specs.declared.claim.Claim.TheVariants.{Minimal, NotMinimal, Cut, Extreme, ExtremeByResidues, NotExtreme}
+use Rattle.gj_proof.specs.declared.numbers.Numbers.{Numbers}
+use Rattle.gj_proof.specs.declared.numbers.Numbers.TheVariants.{Whole, Residues}
+use Rattle.gj_proof.specs.declared.pivot.PivotRow.{PivotRow}
 use Rattle.gj_proof.specs.declared.cut.CutLine.{CutLine}
 use Rattle.gj_proof.specs.declared.cut.CutLine.TheVariants as cuts
 use Rattle.gj_proof.specs.declared.cut.CutTerm.{CutTerm}
 use Rattle.gj_proof.specs.declared.cut.SkipReason.{SkipReason}
 use Rattle.gj_proof.specs.declared.cut.SkipReason.TheVariants.{Integral, Other}
 use Rattle.gj_proof.proofs.LineLists.{names, bytes, bytes_append, Differ, differ_append, no_feeds, feeds_of_line, feeds_of_two, feeds_of_fraction, HasOneFeed}
-use Rattle.gj_proof.proofs.ExtremeLines.{IsCoveredFrom, covered_are, IsGroupFrom, groups_are, IsPairFrom, pairs_are, extreme_lines_differ, halves_lines_differ, covered_have_one_feed, groups_have_one_feed, halves_have_one_feed}
+use Rattle.gj_proof.proofs.ExtremeLines.{IsCoveredFrom, covered_are, IsBehindCover, behind_cover, behind_are, IsPairFrom, pairs_are, extreme_lines_differ, halves_lines_differ, extreme_have_one_feed, halves_have_one_feed}
 
 -- ---- the bytes of the lines of cuts
 
@@ -147,7 +151,8 @@ pub own_lines_differ : (c : Claim) → Differ (names (own_lines c))
 own_lines_differ (Minimal f) = tt
 own_lines_differ (NotMinimal f v) = (All-nil (λ k. k ≢ ProofLine.violation_shown), tt)
 own_lines_differ (Cut rule rows) = rows_differ 0 rows
-own_lines_differ (Extreme f lines rows) = extreme_lines_differ lines rows
+own_lines_differ (Extreme f lines rows) = extreme_lines_differ Whole lines rows
+own_lines_differ (ExtremeByResidues f lines rows) = extreme_lines_differ Residues lines rows
 own_lines_differ (NotExtreme f h) = halves_lines_differ h
 
 -- ---- and differ from all others
@@ -157,6 +162,7 @@ IsOwn ProofLine.violation_shown = Unit {0}
 IsOwn (ProofLine.cut i) = Unit {0}
 IsOwn (ProofLine.term i j) = Unit {0}
 IsOwn (ProofLine.covered i) = Unit {0}
+IsOwn ProofLine.modulus_named = Unit {0}
 IsOwn (ProofLine.group g) = Unit {0}
 IsOwn (ProofLine.reduction g r) = Unit {0}
 IsOwn (ProofLine.group_pivot g) = Unit {0}
@@ -173,25 +179,32 @@ covered_is_own : (l : ProofLine) → IsCoveredFrom 0 l → IsOwn l
 covered_is_own (ProofLine.covered k) h = tt
 covered_is_own l h = absurd h
 
-group_is_own : (l : ProofLine) → IsGroupFrom 0 l → IsOwn l
-group_is_own (ProofLine.group k) h = tt
-group_is_own (ProofLine.reduction k m) h = tt
-group_is_own (ProofLine.group_pivot k) h = tt
-group_is_own l h = absurd h
+behind_is_own : (l : ProofLine) → IsBehindCover l → IsOwn l
+behind_is_own ProofLine.modulus_named h = tt
+behind_is_own (ProofLine.group k) h = tt
+behind_is_own (ProofLine.reduction k m) h = tt
+behind_is_own (ProofLine.group_pivot k) h = tt
+behind_is_own l h = absurd h
 
 pair_is_own : (l : ProofLine) → IsPairFrom 0 l → IsOwn l
 pair_is_own (ProofLine.pair k) h = tt
 pair_is_own l h = absurd h
 
+extreme_are_own : (n : Numbers) (lines : List CoverLine) (rows : List PivotRow) → All IsOwn (names (extreme_lines n lines rows))
+extreme_are_own n lines rows =
+    let first = names (covered_lines 0 lines) in
+    let more = names (behind_cover n rows) in
+    subst (All IsOwn) (sym (map-append (λ (o : OwnLine). o.name) (covered_lines 0 lines) (behind_cover n rows)))
+    (All-append IsOwn first more
+    (All-weaker (IsCoveredFrom 0) IsOwn covered_is_own first (covered_are 0 lines))
+    (All-weaker IsBehindCover IsOwn behind_is_own more (behind_are n rows)))
+
 pub own_lines_are_own : (c : Claim) → All IsOwn (names (own_lines c))
 own_lines_are_own (Minimal f) = All-nil IsOwn
 own_lines_are_own (NotMinimal f v) = All-cons IsOwn ProofLine.violation_shown [] tt (All-nil IsOwn)
 own_lines_are_own (Cut rule rows) = All-weaker (IsRowFrom 0) IsOwn (row_is_own 0) (names (row_lines 0 rows)) (rows_are 0 rows)
-own_lines_are_own (Extreme f lines rows) =
-    subst (All IsOwn) (sym (map-append (λ (o : OwnLine). o.name) (covered_lines 0 lines) (group_lines 0 rows)))
-    (All-append IsOwn (names (covered_lines 0 lines)) (names (group_lines 0 rows))
-    (All-weaker (IsCoveredFrom 0) IsOwn covered_is_own (names (covered_lines 0 lines)) (covered_are 0 lines))
-    (All-weaker (IsGroupFrom 0) IsOwn group_is_own (names (group_lines 0 rows)) (groups_are 0 rows)))
+own_lines_are_own (Extreme f lines rows) = extreme_are_own Whole lines rows
+own_lines_are_own (ExtremeByResidues f lines rows) = extreme_are_own Residues lines rows
 own_lines_are_own (NotExtreme f h) =
     let pairs = pair_lines 0 (zip h.first h.second) in
     All-cons IsOwn ProofLine.halves (names pairs) tt
@@ -269,7 +282,6 @@ own_lines_have_one_feed (NotMinimal f v) b t =
     All-cons HasOneFeed (record { name = ProofLine.violation_shown; bytes = violation_line v }) [] (feeds_of_violation v)
     (All-nil HasOneFeed)
 own_lines_have_one_feed (Cut rule rows) b t = rows_have_one_feed 0 rows b.1
-own_lines_have_one_feed (Extreme f lines rows) b t =
-    All-append HasOneFeed (covered_lines 0 lines) (group_lines 0 rows) (covered_have_one_feed 0 f.order lines b.order_high t.1)
-    (groups_have_one_feed 0 f.order rows b.order_high t.2)
+own_lines_have_one_feed (Extreme f lines rows) b t = extreme_have_one_feed Whole f.order lines rows b.order_high t.1 t.2
+own_lines_have_one_feed (ExtremeByResidues f lines rows) b t = extreme_have_one_feed Residues f.order lines rows b.order_high t.1 t.2
 own_lines_have_one_feed (NotExtreme f h) b t = halves_have_one_feed h t

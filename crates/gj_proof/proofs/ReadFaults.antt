@@ -1,8 +1,8 @@
 -- The fault of a line of a proof text is that of the text.
-use Rattle.std.proofs.Common.{◌≡◌, List, ℕ, Result, Err, IfErr, refl}
+use Rattle.std.proofs.Common.{◌≡◌, List, ℕ, Result, Err, IfErr}
 use Rattle.gj_lex.specs.declared.spelling.Spelling.TheVariants.{Strict}
 use Rattle.gj_lex.specs.declared.fault.PartFault.{PartFault}
-use Rattle.gj_lex.specs.Parts.{empty_part, made_part, end_part, IsFaultOf, IsTail}
+use Rattle.gj_lex.specs.Parts.{made_part, end_part, IsFaultOf, IsTail}
 use Rattle.gj_lex.proofs.PartLaws.{fault_in_first, fault_in_next, fault_in_made, tail_refused}
 use Rattle.gj_shape.specs.FunctionData.{FunctionData}
 use Rattle.gj_shape.specs.declared.violations.Violation.{Violation}
@@ -12,7 +12,8 @@ use Rattle.gj_proof.specs.declared.claim.Claim.{Claim}
 use Rattle.gj_proof.specs.declared.claim.Claim.TheVariants as claims
 use Rattle.gj_proof.specs.declared.claim.ClaimWord.{ClaimWord}
 use Rattle.gj_proof.specs.declared.claim.ClaimWord.TheVariants.{NotMinimal}
-use Rattle.gj_proof.proofs.ReadTexts.{title_part, word_part, last_part, violation_part, named_claim, after_claim, after_title, lines_part}
+use Rattle.gj_proof.specs.declared.numbers.Numbers.{Numbers}
+use Rattle.gj_proof.proofs.ReadTexts.{title_part, word_part, last_part, violation_part, named_claim, after_claim, after_title}
 
 -- an error that is passed on has what the callee's has
 pub passed_on : {T E : Type 0} (Q : E → Type 0) (e y : E) (r : Result T E) → r ≡ Err y → y ≡ e → Q e → IfErr r Q
@@ -29,32 +30,27 @@ fault_in_violation text middle f fault reads h =
 
 -- ---- in the text
 
-behind_title : (text m : List ℕ) (fault : PartFault) → title_part.Reads text tt m → IsFaultOf after_title m fault →
-    IsFaultOf proof_text text fault
-behind_title text m fault title h =
-    fault_in_first lines_part (end_part Strict) text fault (fault_in_next title_part (λ _. after_title) text tt m fault title h)
+module _ (text m : List ℕ) (n : Numbers) (fault : PartFault) (title : title_part.Reads text n m) where
+  behind_title : IsFaultOf (after_title n) m fault → IsFaultOf proof_text text fault
+  behind_title h = fault_in_next title_part after_title text n m fault title h
 
-pub fault_in_word : (text m : List ℕ) (fault : PartFault) → title_part.Reads text tt m → IsFaultOf word_part m fault →
-    IsFaultOf proof_text text fault
-fault_in_word text m fault title h =
-    behind_title text m fault title (fault_in_first named_claim after_claim m fault (fault_in_first word_part claim_part m fault h))
+  pub fault_in_word : IsFaultOf (word_part n) m fault → IsFaultOf proof_text text fault
+  fault_in_word h =
+      behind_title (fault_in_first (named_claim n) after_claim m fault (fault_in_first (word_part n) claim_part m fault h))
 
-pub fault_in_claim : (text m inner : List ℕ) (w : ClaimWord) (fault : PartFault) → title_part.Reads text tt m →
-    word_part.Reads m w inner → IsFaultOf (claim_part w) inner fault → IsFaultOf proof_text text fault
-fault_in_claim text m inner w fault title word h =
-    behind_title text m fault title
-    (fault_in_first named_claim after_claim m fault (fault_in_next word_part claim_part m w inner fault word h))
+  module _ (inner : List ℕ) (w : ClaimWord) (word : (word_part n).Reads m w inner) where
+    pub fault_in_claim : IsFaultOf (claim_part w) inner fault → IsFaultOf proof_text text fault
+    fault_in_claim h =
+        behind_title (fault_in_first (named_claim n) after_claim m fault (fault_in_next (word_part n) claim_part m w inner fault word h))
 
-pub fault_in_last : (text m inner rest : List ℕ) (w : ClaimWord) (c : Claim) (fault : PartFault) → title_part.Reads text tt m →
-    word_part.Reads m w inner → (claim_part w).Reads inner c rest → IsFaultOf last_part rest fault → IsFaultOf proof_text text fault
-fault_in_last text m inner rest w c fault title word reads h =
-    behind_title text m fault title
-    (fault_in_next named_claim after_claim m c rest fault (w, inner, word, reads)
-    (fault_in_first last_part (λ _. empty_part c) rest fault h))
+    module _ (rest : List ℕ) (c : Claim) (reads : (claim_part w).Reads inner c rest) where
+      behind_claim : IsFaultOf (after_claim c) rest fault → IsFaultOf proof_text text fault
+      behind_claim h = behind_title (fault_in_next (named_claim n) after_claim m c rest fault (w, inner, word, reads) h)
 
-pub fault_behind_last : (text m inner rest behind : List ℕ) (w : ClaimWord) (c : Claim) (fault : PartFault) →
-    title_part.Reads text tt m → word_part.Reads m w inner → (claim_part w).Reads inner c rest → last_part.Reads rest tt behind →
-    IsTail Strict behind fault → IsFaultOf proof_text text fault
-fault_behind_last text m inner rest behind w c fault title word reads end h =
-    let lines : lines_part.Reads text c behind = (tt, m, title, (c, rest, (w, inner, word, reads), (tt, behind, end, (refl, refl)))) in
-    fault_in_next lines_part (end_part Strict) text c behind fault lines (tail_refused Strict c behind fault h)
+      pub fault_in_last : IsFaultOf last_part rest fault → IsFaultOf proof_text text fault
+      fault_in_last h = behind_claim (fault_in_first last_part (λ _. end_part Strict c) rest fault h)
+
+      pub fault_behind_last : (behind : List ℕ) → last_part.Reads rest tt behind → IsTail Strict behind fault →
+          IsFaultOf proof_text text fault
+      fault_behind_last behind end h =
+          behind_claim (fault_in_next last_part (λ _. end_part Strict c) rest tt behind fault end (tail_refused Strict c behind fault h))

@@ -1,5 +1,5 @@
 -- Proof texts are short.
-use Rattle.std.proofs.Common.{◌≡◌, ℕ, ◌+◌, ◌*◌, ◌<◌, ◌≤◌, ℤ, List, [], ◌∷◌, ◌++◌, All, length, flat_map, zip, codes, decimal, ap, arith}
+use Rattle.std.proofs.Common.{◌≡◌, ℕ, ◌+◌, ◌*◌, ◌<◌, ◌≤◌, ℤ, List, [], ◌∷◌, ◌++◌, All, length, flat_map, zip, codes, decimal, ap, arith, lit<}
 use Rattle.std.specs.Fmt.{signed_decimal}
 use Rattle.std.proofs.lemmas.Fmt.{length-decimal-le_wide}
 use Rattle.std.proofs.lemmas.Int.{ints}
@@ -18,15 +18,19 @@ use Rattle.gj_shape.specs.declared.faces.FaceKind.{FaceKind}
 use Rattle.gj_shape.specs.declared.faces.FaceKind.TheVariants.{Vertex, Horizontal, Vertical, Diagonal, Lower, Upper}
 use Rattle.gj_shape.specs.declared.violations.Violation.{Violation}
 use Rattle.gj_shape.specs.declared.violations.Violation.TheVariants as violation
+use Rattle.gj_theory.specs.Modulus.{modulus}
 use Rattle.gj_lines.specs.FaceLines.{face_word, face_text, cover_line}
 use Rattle.gj_lines.specs.FunctionLines.{line}
 use Rattle.gj_lines.proofs.StrictFunctions.{function_lines_are_short}
-use Rattle.gj_proof.specs.ProofText.{IsBounded, IsShort, own_lines, violation_line, group_line, reduction_line, pivot_line, halves_line, pair_line, IsCoverLineBelow, IsRowNameBelow, IsPivotRowBelow, HaveFewSteps, IsProofText}
+use Rattle.gj_proof.specs.ProofText.{IsBounded, IsShort, own_lines, title_text, modulus_line, modulus_lines, extreme_lines, violation_line, group_line, reduction_line, pivot_line, halves_line, pair_line, IsCoverLineBelow, IsRowNameBelow, IsPivotRowBelow, HaveFewSteps, IsProofText}
 use Rattle.gj_proof.specs.ExtremeTexts.{group_text, halves_text}
 use Rattle.gj_proof.specs.declared.claim.Claim.{Claim}
-use Rattle.gj_proof.specs.declared.claim.Claim.TheVariants.{Minimal, NotMinimal, Cut, Extreme, NotExtreme}
+use Rattle.gj_proof.specs.declared.claim.Claim.TheVariants.{Minimal, NotMinimal, Cut, Extreme, ExtremeByResidues, NotExtreme}
+use Rattle.gj_proof.specs.declared.numbers.Numbers.{Numbers}
+use Rattle.gj_proof.specs.declared.numbers.Numbers.TheVariants.{Whole, Residues}
 use Rattle.gj_proof.specs.declared.pivot.PivotRow.{PivotRow}
 use Rattle.gj_proof.proofs.LineLists.{bytes}
+use Rattle.gj_proof.proofs.ExtremeClaims.{IsExtremeText, of_extreme_text}
 use Rattle.gj_proof.proofs.ExtremeLines.{extreme_bytes, halves_bytes}
 use Rattle.gj_proof.proofs.WholeNumbers.{whole_is_short}
 
@@ -114,6 +118,7 @@ text_is_short (NotMinimal f v) text few b p =
     )
 text_is_short (Cut rule rows) text few b p = absurd few
 text_is_short (Extreme f lines rows) text few b p = absurd few
+text_is_short (ExtremeByResidues f lines rows) text few b p = absurd few
 text_is_short (NotExtreme f h) text few b p =
     omega (
       arith,
@@ -221,20 +226,42 @@ groups_are_short q (row ∷ rows) small h few =
       length-append (group_text row) (flat_map group_text rows),
     )
 
-pub extreme_text_is_short : (f : FunctionData) (lines : List CoverLine) (rows : List PivotRow) (text : List ℕ) → IsWithinBounds f →
-    HaveFewSteps rows → IsProofText (Extreme f lines rows) text → length text ≤ 12000000
-extreme_text_is_short f lines rows text b few p =
+title_is_short : (n : Numbers) → length (line (title_text n)) ≤ 11
+title_is_short Whole = omega arith
+title_is_short Residues = omega arith
+
+modulus_is_short : (n : Numbers) → length (bytes (modulus_lines n)) ≤ 28
+modulus_is_short Whole = omega arith
+modulus_is_short Residues =
+    omega (
+      arith,
+      length-append modulus_line [],
+      line_is_long (codes "modulus ") (decimal modulus),
+      length-decimal-le_wide 19 modulus (omega arith) (omega arith) (lit< tt),
+    )
+
+pub extreme_text_is_short_by : (n : Numbers) (f : FunctionData) (lines : List CoverLine) (rows : List PivotRow) (text : List ℕ) →
+    IsWithinBounds f → HaveFewSteps rows → IsExtremeText n f lines rows text → length text ≤ 12000000
+extreme_text_is_short_by n f lines rows text b few p =
     let small = b.order_high in
     let groups = few.groups in
     let count = p.has_text.0 in
     omega (
       arith,
       ap length p.spelled,
-      ap length (extreme_bytes lines rows),
-      text_is_long (line (codes "gj-proof 1")) (line (codes "claim extreme")) p.subject (bytes (own_lines (Extreme f lines rows)))
+      ap length (extreme_bytes n lines rows),
+      text_is_long (line (title_text n)) (line (codes "claim extreme")) p.subject (bytes (extreme_lines n lines rows))
           (line (codes "end")),
-      length-append (flat_map cover_line lines) (flat_map group_text rows),
+      length-append (flat_map cover_line lines) (bytes (modulus_lines n) ++ flat_map group_text rows),
+      length-append (bytes (modulus_lines n)) (flat_map group_text rows),
+      title_is_short n,
+      modulus_is_short n,
       function_lines_are_short f p.subject b p.are_subject_lines,
       covers_are_short f.order lines small p.has_text.1,
       groups_are_short f.order rows small p.has_text.2 few.steps,
     )
+
+pub extreme_text_is_short : (f : FunctionData) (lines : List CoverLine) (rows : List PivotRow) (text : List ℕ) → IsWithinBounds f →
+    HaveFewSteps rows → IsProofText (Extreme f lines rows) text → length text ≤ 12000000
+extreme_text_is_short f lines rows text b few p =
+    extreme_text_is_short_by Whole f lines rows text b few (of_extreme_text f lines rows Whole text p)

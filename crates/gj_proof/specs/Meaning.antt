@@ -8,7 +8,7 @@ use Rattle.gj_shape.specs.Violation.{ShowsViolation}
 use Rattle.gj_shape.specs.declared.extremality.Halves.{Halves}
 use Rattle.gj_theory.specs.Halves.{AreDifferentHalves}
 use Rattle.gj_proof.specs.declared.claim.Claim.{Claim}
-use Rattle.gj_proof.specs.declared.claim.Claim.TheVariants.{Minimal, NotMinimal, Cut, Extreme, NotExtreme}
+use Rattle.gj_proof.specs.declared.claim.Claim.TheVariants.{Minimal, NotMinimal, Cut, Extreme, ExtremeByResidues, NotExtreme}
 use Rattle.gj_proof.specs.declared.cut.CutLine.{CutLine}
 use Rattle.gj_proof.specs.declared.cut.CutLine.TheVariants as cuts
 
@@ -25,11 +25,12 @@ ShowHalves f h =
     × AreDifferentHalves (table f m) (f.order * m) (f.place * m) (f.scale * m) c (at h.first) (at h.second)
 
 -- a minimal function, its table on every grid; the violation shows that the function is not minimal; each cut holds; a continuous
--- function that is extreme: each of its tables is minimal, and no average of two different minimal ones; or a continuous minimal
--- function and two different minimal tables that average to its own
+-- function that is extreme, by whatever rows: each of its tables is minimal, and no average of two different minimal ones; or a
+-- continuous minimal function and two different minimal tables that average to its own
 abbrev pub ClaimHolds : Claim → Type 0
 ClaimHolds (Minimal f) = IsMinimal f
 ClaimHolds (NotMinimal f v) = ShowsViolation f v
 ClaimHolds (Cut rule rows) = All CutLineHolds rows
 ClaimHolds (Extreme f lines rows) = IsContinuous f × IsExtreme f
+ClaimHolds (ExtremeByResidues f lines rows) = IsContinuous f × IsExtreme f
 ClaimHolds (NotExtreme f h) = IsContinuous f × IsMinimal f × ShowHalves f h

@@ -10,7 +10,7 @@ use Rattle.gj_lex.specs.declared.reason.Reason.TheVariants as reason
 use Rattle.gj_lex.specs.Name.{IsName}
 use Rattle.gj_lex.specs.NumberText.{fraction_text}
 use Rattle.gj_lex.specs.SpelledNumbers.{IsCountWord, IsFractionWord}
-use Rattle.gj_lex.specs.Parts.{LineRule, Part, words_rule, line_part, empty_part, then_part, made_part, loop_part, framed_part, end_part}
+use Rattle.gj_lex.specs.Parts.{LineRule, Part, words_rule, line_part, empty_part, then_part, made_part, loop_part, end_part}
 use Rattle.gj_shape.specs.declared.extremality.CoverLine.{CoverLine}
 use Rattle.gj_shape.specs.declared.extremality.Halves.{Halves}
 use Rattle.gj_shape.specs.declared.extremality.RowName.{RowName}
@@ -21,12 +21,15 @@ use Rattle.gj_shape.specs.declared.violations.Violation.{Violation}
 use Rattle.gj_shape.specs.declared.violations.Violation.TheVariants as violation
 use Rattle.gj_lines.specs.FaceLines.{face_word}
 use Rattle.gj_lines.specs.FunctionGrammar.{function_part}
-use Rattle.gj_proof.specs.ProofText.{reason_word, IsCoverLineBelow, IsRowNameBelow}
+use Rattle.gj_theory.specs.Modulus.{modulus}
+use Rattle.gj_proof.specs.ProofText.{reason_word, extreme_claim, IsCoverLineBelow, IsRowNameBelow}
 use Rattle.gj_lex.specs.Parts.{BeginsWithLine, BeginsWithWord, where_part}
 use Rattle.gj_proof.specs.declared.claim.Claim.{Claim}
 use Rattle.gj_proof.specs.declared.claim.Claim.TheVariants as claim
 use Rattle.gj_proof.specs.declared.claim.ClaimWord.{ClaimWord}
 use Rattle.gj_proof.specs.declared.claim.ClaimWord.TheVariants.{Minimal, NotMinimal, Cut, Extreme, NotExtreme}
+use Rattle.gj_proof.specs.declared.numbers.Numbers.{Numbers}
+use Rattle.gj_proof.specs.declared.numbers.Numbers.TheVariants.{Whole, Residues}
 use Rattle.gj_proof.specs.declared.cut.CutRule.{CutRule}
 use Rattle.gj_proof.specs.declared.cut.CutRule.TheVariants.{Gmic, Table}
 use Rattle.gj_proof.specs.declared.cut.CutLine.{CutLine}
@@ -38,19 +41,49 @@ use Rattle.gj_proof.specs.declared.cut_rows.RowKind.{RowKind}
 use Rattle.gj_proof.specs.declared.cut_rows.RowKind.TheVariants.{WithCut, Skipped}
 use Rattle.gj_proof.specs.declared.cut_rows.RowHead.{RowHead}
 
+-- ---- `gj-proof N`
+
+abbrev pub title_words : Numbers → List (List ℕ)
+title_words Whole = codes "gj-proof" ∷ codes "1" ∷ []
+title_words Residues = codes "gj-proof" ∷ codes "2" ∷ []
+
+-- it tells the numbers of the rows
+abbrev pub title_rule : LineRule Numbers
+title_rule = record {
+  Spells = λ words n. words ≡ title_words n;
+  Breaks = λ words e. (e ≡ reason.Form) × ((n : Numbers) → words ≡ title_words n → ⊥);
+}
+
 -- ---- `claim W`
 
 abbrev pub claim_words : ClaimWord → List (List ℕ)
 claim_words Minimal = codes "claim" ∷ codes "minimal" ∷ []
 claim_words NotMinimal = codes "claim" ∷ codes "not-minimal" ∷ []
 claim_words Cut = codes "claim" ∷ codes "cut" ∷ []
-claim_words Extreme = codes "claim" ∷ codes "extreme" ∷ []
+claim_words (Extreme numbers) = codes "claim" ∷ codes "extreme" ∷ []
 claim_words NotExtreme = codes "claim" ∷ codes "not-extreme" ∷ []
 
-abbrev pub claim_rule : LineRule ClaimWord
-claim_rule = record {
-  Spells = λ words c. words ≡ claim_words c;
-  Breaks = λ words e. (e ≡ reason.Form) × ((c : ClaimWord) → words ≡ claim_words c → ⊥);
+-- the numbers of the texts in which a claim of the word stands
+abbrev pub numbers_of_word : ClaimWord → Numbers
+numbers_of_word Minimal = Whole
+numbers_of_word NotMinimal = Whole
+numbers_of_word Cut = Whole
+numbers_of_word (Extreme numbers) = numbers
+numbers_of_word NotExtreme = Whole
+
+-- it is that of a claim that a function is extreme
+abbrev pub IsExtremeWord : ClaimWord → Type 0
+IsExtremeWord Minimal = ⊥
+IsExtremeWord NotMinimal = ⊥
+IsExtremeWord Cut = ⊥
+IsExtremeWord (Extreme numbers) = Unit {0}
+IsExtremeWord NotExtreme = ⊥
+
+-- in a text of these numbers
+abbrev pub claim_rule : Numbers → LineRule ClaimWord
+claim_rule numbers = record {
+  Spells = λ words c. (words ≡ claim_words c) × (numbers_of_word c ≡ numbers);
+  Breaks = λ words e. (e ≡ reason.Form) × ((c : ClaimWord) → words ≡ claim_words c → numbers_of_word c ≡ numbers → ⊥);
 }
 
 -- ---- the line of a violation
@@ -191,6 +224,20 @@ abbrev pub covered_part : ℕ → ℕ → List CoverLine → Part (List CoverLin
 covered_part q zero lines = empty_part lines
 covered_part q (suc n) lines = then_part (line_part Strict (cover_rule q)) (λ l. covered_part q n (lines ++ l ∷ []))
 
+-- ---- `modulus M`
+
+abbrev pub modulus_rule : LineRule (Unit {0})
+modulus_rule = record {
+  Spells = λ words t. words ≡ codes "modulus" ∷ decimal modulus ∷ [];
+  Breaks = λ words e. ((e ≡ reason.Form) × ((word : List ℕ) → words ≡ codes "modulus" ∷ word ∷ [] → ⊥))
+      ⊎ ((e ≡ reason.Number) × ((word : List ℕ) × (words ≡ codes "modulus" ∷ word ∷ []) × (word ≢ decimal modulus)));
+}
+
+-- by residues this line, and else none
+abbrev pub modulus_part : Numbers → Part (Unit {0})
+modulus_part Whole = empty_part tt
+modulus_part Residues = line_part Strict modulus_rule
+
 -- ---- groups of a row, its steps and its pivot
 
 -- `row period`, `row f`, or `row A B` with these words for its numbers
@@ -296,22 +343,28 @@ halves_part =
 
 -- ---- the whole text
 
+-- of a claim that a function is extreme, by rows of these numbers: the lines of the function, of covered intervals, of the modulus
+-- and of groups
+abbrev pub extreme_part : Numbers → Part Claim
+extreme_part numbers =
+    then_part (function_part Strict) (λ f.
+    then_part (covered_part f.order f.order []) (λ lines.
+    then_part (modulus_part numbers) (λ t.
+    made_part (λ rows c. c ≡ extreme_claim numbers f lines rows) (groups_part f.order []))))
+
 -- the lines between the word of the claim and `end`: those of its subject and its own
 abbrev pub claim_part : ClaimWord → Part Claim
 claim_part Minimal = made_part (λ f c. c ≡ claim.Minimal f) (function_part Strict)
 claim_part NotMinimal =
     then_part (function_part Strict) (λ f. made_part (λ v c. c ≡ claim.NotMinimal f v) (line_part Strict violation_rule))
 claim_part Cut = then_part rule_part (λ rule. made_part (λ rows c. c ≡ claim.Cut rule rows) (rows_part []))
-claim_part Extreme =
-    then_part (function_part Strict) (λ f.
-    then_part (covered_part f.order f.order []) (λ lines.
-    made_part (λ rows c. c ≡ claim.Extreme f lines rows) (groups_part f.order [])))
+claim_part (Extreme numbers) = extreme_part numbers
 claim_part NotExtreme =
     then_part (function_part Strict) (λ f. made_part (λ h c. c ≡ claim.NotExtreme f h) halves_part)
 
--- `gj-proof 1`, the line `claim W`, those lines, `end`, and nothing more
+-- `gj-proof N`, the line `claim W`, those lines, `end`, and nothing more
 abbrev pub proof_text : Part Claim
 proof_text =
-    then_part
-    (framed_part Strict (codes "gj-proof" ∷ codes "1" ∷ []) (then_part (line_part Strict claim_rule) claim_part) (codes "end" ∷ []))
-    (λ c. end_part Strict c)
+    then_part (line_part Strict title_rule) (λ numbers.
+    then_part (then_part (line_part Strict (claim_rule numbers)) claim_part) (λ c.
+    then_part (line_part Strict (words_rule (codes "end" ∷ []))) (λ t. end_part Strict c)))

@@ -16,7 +16,8 @@ use Rattle.gj_shape.specs.declared.violations.Violation.TheVariants as violation
 use Rattle.gj_lines.specs.FaceLines.{cover_line}
 use Rattle.gj_lines.specs.FunctionLines.{line, fraction_line, AreFunctionLines}
 use Rattle.gj_proof.specs.declared.claim.Claim.{Claim}
-use Rattle.gj_proof.specs.declared.claim.Claim.TheVariants.{Minimal, NotMinimal, Cut, Extreme, NotExtreme}
+use Rattle.gj_theory.specs.Modulus.{modulus}
+use Rattle.gj_proof.specs.declared.claim.Claim.TheVariants.{Minimal, NotMinimal, Cut, Extreme, ExtremeByResidues, NotExtreme}
 use Rattle.gj_proof.specs.declared.cut.CutRule.{CutRule}
 use Rattle.gj_proof.specs.declared.cut.CutRule.TheVariants.{Gmic, Table}
 use Rattle.gj_proof.specs.declared.cut.CutLine.{CutLine}
@@ -24,6 +25,8 @@ use Rattle.gj_proof.specs.declared.cut.CutLine.TheVariants as cuts
 use Rattle.gj_proof.specs.declared.cut.CutTerm.{CutTerm}
 use Rattle.gj_proof.specs.declared.cut.SkipReason.{SkipReason}
 use Rattle.gj_proof.specs.declared.cut.SkipReason.TheVariants.{Integral, Other}
+use Rattle.gj_proof.specs.declared.numbers.Numbers.{Numbers}
+use Rattle.gj_proof.specs.declared.numbers.Numbers.TheVariants.{Whole, Residues}
 use Rattle.gj_proof.specs.declared.pivot.PivotRow.{PivotRow}
 
 -- ---- what a claim is about
@@ -42,6 +45,7 @@ subject_of (Minimal f) = function f
 subject_of (NotMinimal f v) = function f
 subject_of (Cut rule rows) = subject_of_rule rule
 subject_of (Extreme f lines rows) = function f
+subject_of (ExtremeByResidues f lines rows) = function f
 subject_of (NotExtreme f halves) = function f
 
 -- the subject, where it is a function, has a property of functions
@@ -64,6 +68,7 @@ IsBounded (Minimal f) = IsWithinBounds f
 IsBounded (NotMinimal f v) = IsWithinBounds f
 IsBounded (Cut rule rows) = IsBoundedRule rule × All HasNames rows
 IsBounded (Extreme f lines rows) = IsWithinBounds f
+IsBounded (ExtremeByResidues f lines rows) = IsWithinBounds f
 IsBounded (NotExtreme f halves) = IsWithinBounds f
 
 -- a claim whose lines are not any number, so that its text is short
@@ -72,9 +77,29 @@ IsShort (Minimal f) = Unit {0}
 IsShort (NotMinimal f v) = Unit {0}
 IsShort (Cut rule rows) = ⊥
 IsShort (Extreme f lines rows) = ⊥
+IsShort (ExtremeByResidues f lines rows) = ⊥
 IsShort (NotExtreme f halves) = Unit {0}
 
+-- the numbers of the rows of a claim: residues, if it says so, and else whole numbers
+abbrev pub numbers_of : Claim → Numbers
+numbers_of (Minimal f) = Whole
+numbers_of (NotMinimal f v) = Whole
+numbers_of (Cut rule rows) = Whole
+numbers_of (Extreme f lines rows) = Whole
+numbers_of (ExtremeByResidues f lines rows) = Residues
+numbers_of (NotExtreme f halves) = Whole
+
+-- the claim that a function is extreme, by rows of these numbers
+abbrev pub extreme_claim : Numbers → FunctionData → List CoverLine → List PivotRow → Claim
+extreme_claim Whole f lines rows = Extreme f lines rows
+extreme_claim Residues f lines rows = ExtremeByResidues f lines rows
+
 -- ---- the lines of a claim
+
+-- the first line of a text: `gj-proof 1`, or of a claim by residues `gj-proof 2`
+abbrev pub title_text : Numbers → List ℕ
+title_text Whole = codes "gj-proof 1"
+title_text Residues = codes "gj-proof 2"
 
 -- the word of a claim
 abbrev pub claim_word : Claim → List ℕ
@@ -82,11 +107,12 @@ claim_word (Minimal f) = codes "minimal"
 claim_word (NotMinimal f v) = codes "not-minimal"
 claim_word (Cut rule rows) = codes "cut"
 claim_word (Extreme f lines rows) = codes "extreme"
+claim_word (ExtremeByResidues f lines rows) = codes "extreme"
 claim_word (NotExtreme f halves) = codes "not-extreme"
 
 -- a line of a proof text, by its place in the form: of a claim about cuts, the line of the i-th row, and that of the j-th term of
--- the i-th row; of an extreme function, the line of the i-th covered interval, the first line of the g-th group, its r-th step and
--- its pivot; of one that is not extreme, the line of its halves, and that of their i-th values; all from 0
+-- the i-th row; of an extreme function, the line of the i-th covered interval, that of the modulus, the first line of the g-th
+-- group, its r-th step and its pivot; of one that is not extreme, the line of its halves, and that of their i-th values; all from 0
 pub data ProofLine : Type 0 where
   title : ProofLine
   claim : ProofLine
@@ -98,6 +124,7 @@ pub data ProofLine : Type 0 where
   cut : ℕ → ProofLine
   term : ℕ → ℕ → ProofLine
   covered : ℕ → ProofLine
+  modulus_named : ProofLine
   group : ℕ → ProofLine
   reduction : ℕ → ℕ → ProofLine
   group_pivot : ℕ → ProofLine
@@ -195,6 +222,19 @@ group_lines g (row ∷ more) =
     record { name = group g; bytes = group_line row.name } ∷ reduction_lines g 0 row.reduce
     ++ record { name = group_pivot g; bytes = pivot_line row.pivot } ∷ group_lines (g + 1) more
 
+-- `modulus M`
+abbrev pub modulus_line : List ℕ
+modulus_line = line (codes "modulus " ++ decimal modulus)
+
+-- by residues, this line
+abbrev pub modulus_lines : Numbers → List OwnLine
+modulus_lines Whole = []
+modulus_lines Residues = record { name = modulus_named; bytes = modulus_line } ∷ []
+
+-- the lines of covered intervals, that of the modulus, and those of the groups
+abbrev pub extreme_lines : Numbers → List CoverLine → List PivotRow → List OwnLine
+extreme_lines numbers lines rows = covered_lines 0 lines ++ (modulus_lines numbers ++ group_lines 0 rows)
+
 -- ---- the lines of halves
 
 -- `halves N S`
@@ -217,7 +257,8 @@ abbrev pub own_lines : Claim → List OwnLine
 own_lines (Minimal f) = []
 own_lines (NotMinimal f v) = record { name = violation_shown; bytes = violation_line v } ∷ []
 own_lines (Cut rule rows) = row_lines 0 rows
-own_lines (Extreme f lines rows) = covered_lines 0 lines ++ group_lines 0 rows
+own_lines (Extreme f lines rows) = extreme_lines Whole lines rows
+own_lines (ExtremeByResidues f lines rows) = extreme_lines Residues lines rows
 own_lines (NotExtreme f h) = record { name = halves; bytes = halves_line h } ∷ pair_lines 0 (zip h.first h.second)
 
 -- all lines of the text of a claim
@@ -264,13 +305,18 @@ pub record HaveFewSteps (rows : List PivotRow) : Type 0 where
   pub groups : length rows ≤ 1000
   pub steps : All (λ row. length row.reduce ≤ 1000) rows
 
+-- each interval has a line, and the lines and the rows are within the ranges of the form
+abbrev pub AreExtremeLines : FunctionData → List CoverLine → List PivotRow → Type 0
+AreExtremeLines f lines rows =
+    (length lines ≡ f.order) × All (IsCoverLineBelow f.order) lines × All (IsPivotRowBelow f.order) rows
+
 -- the ranges and counts of the claim are those of the form; names are names by their type
 abbrev pub HasText : Claim → Type 0
 HasText (Minimal f) = Unit {0}
 HasText (NotMinimal f v) = Unit {0}
 HasText (Cut rule rows) = Unit {0}
-HasText (Extreme f lines rows) =
-    (length lines ≡ f.order) × All (IsCoverLineBelow f.order) lines × All (IsPivotRowBelow f.order) rows
+HasText (Extreme f lines rows) = AreExtremeLines f lines rows
+HasText (ExtremeByResidues f lines rows) = AreExtremeLines f lines rows
 HasText (NotExtreme f h) = AreHalvesInBounds h
 
 -- the text is the proof text of the claim
@@ -278,5 +324,5 @@ pub record IsProofText (c : Claim) (text : List ℕ) : Type 0 where
   pub has_text : HasText c
   pub subject : List ℕ
   pub are_subject_lines : AreSubjectLines (subject_of c) subject
-  pub spelled : text ≡ line (codes "gj-proof 1") ++ line (codes "claim " ++ claim_word c) ++ subject
+  pub spelled : text ≡ line (title_text (numbers_of c)) ++ line (codes "claim " ++ claim_word c) ++ subject
       ++ flat_map (λ l. l.bytes) (own_lines c) ++ line (codes "end")

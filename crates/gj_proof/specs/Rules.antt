@@ -3,6 +3,7 @@ use Rattle.std.specs.Prelude.{ℕ, ℤ, pos, ◌≡◌, ◌≢◌, ◌+◌, ◌-
 use Rattle.std.specs.List.{range_with_len}
 use Rattle.gj_frac.specs.declared.Frac.{Frac}
 use Rattle.gj_frac.specs.Fraction.{numerator, denominator, IsRatio, IsWhole}
+use Rattle.gj_tools.specs.Divisors.{gcd_of}
 use Rattle.gj_shape.specs.Cover.{components_in}
 use Rattle.gj_shape.specs.Additive.{IsTight}
 use Rattle.gj_shape.specs.Elimination.{KeptRow, at_column, entries_of, row_with_pivot, marked_in_step, Passes}
@@ -19,18 +20,21 @@ use Rattle.gj_shape.specs.declared.extremality.RowName.TheVariants.{Period, F, P
 use Rattle.gj_shape.specs.declared.violations.Violation.{Violation}
 use Rattle.gj_shape.specs.declared.violations.Violation.TheVariants as violation
 use Rattle.gj_theory.specs.CoverRules.{MeetsCoverRule}
-use Rattle.gj_theory.specs.TriangularRows.{present_row}
-use Rattle.gj_proof.specs.PresentRows.{AreNumbersOf, named_row, rows_before}
-use Rattle.gj_proof.specs.ProofText.{ProofLine, subject_of, IfFunction}
+use Rattle.gj_theory.specs.Modulus.{modulus}
+use Rattle.gj_theory.specs.TriangularRows.{present_row_by}
+use Rattle.gj_proof.specs.PresentRows.{arithmetic_of, AreNumbersOf, begun_row, rows_before_by}
+use Rattle.gj_proof.specs.ProofText.{ProofLine, subject_of, numbers_of, IfFunction}
 use Rattle.gj_proof.specs.ProofText.ProofLine.{claim, violation_shown, cut, term, covered, group, reduction, group_pivot, halves, pair, last}
 use Rattle.gj_proof.specs.declared.claim.Claim.{Claim}
-use Rattle.gj_proof.specs.declared.claim.Claim.TheVariants.{Minimal, NotMinimal, Cut, Extreme, NotExtreme}
+use Rattle.gj_proof.specs.declared.claim.Claim.TheVariants.{Minimal, NotMinimal, Cut, Extreme, ExtremeByResidues, NotExtreme}
 use Rattle.gj_proof.specs.declared.cut.CutRule.{CutRule}
 use Rattle.gj_proof.specs.declared.cut.CutRule.TheVariants.{Gmic, Table}
 use Rattle.gj_proof.specs.declared.cut.CutLine.{CutLine}
 use Rattle.gj_proof.specs.declared.cut.CutLine.TheVariants as cuts
 use Rattle.gj_proof.specs.declared.cut.CutTerm.{CutTerm}
 use Rattle.gj_proof.specs.declared.cut.SkipReason.TheVariants.{Integral, Other}
+use Rattle.gj_proof.specs.declared.numbers.Numbers.{Numbers}
+use Rattle.gj_proof.specs.declared.numbers.Numbers.TheVariants.{Whole, Residues}
 use Rattle.gj_proof.specs.declared.pivot.PivotRow.{PivotRow}
 
 -- the coordinates of the points of a violation
@@ -123,6 +127,11 @@ pub record MeetsPivot (n : ℕ) (kept : List KeptRow) (row : List ℤ) (c : ℕ)
   pub zero_before : (j : ℕ) → j < c → at_column row j ≡ pos 0
   pub not_zero : at_column row c ≢ pos 0
 
+-- of residues it asks in addition that the greatest common divisor of the entry there with the modulus is 1
+abbrev pub MeetsPivotBy : Numbers → ℕ → List KeptRow → List ℤ → ℕ → Type 0
+MeetsPivotBy Whole n kept row c = MeetsPivot n kept row c
+MeetsPivotBy Residues n kept row c = MeetsPivot n kept row c × (gcd_of (unsigned_abs (at_column row c)) modulus ≡ 1)
+
 -- ---- the rules of halves
 
 -- the rule `scale`: the order is m times the function's for some m, and the scale a multiple of m times the function's
@@ -209,15 +218,32 @@ abbrev pub cut_demands : ℕ → List CutLine → List Demand
 cut_demands i [] = []
 cut_demands i (l ∷ more) = row_demands i l ++ cut_demands (i + 1) more
 
+-- the demand on the size of the numbers of a step: of residues, none
+abbrev pub size_demands : Numbers → ℕ → ℕ → List Demand
+size_demands Whole g r = size g r ∷ []
+size_demands Residues g r = []
+
 -- the demands on the r-th step of the g-th group, from the r-th on
+abbrev pub step_demands_by : Numbers → ℕ → ℕ → List ℕ → List Demand
+step_demands_by numbers g r [] = []
+step_demands_by numbers g r (c ∷ more) = reduce g r ∷ (size_demands numbers g r ++ step_demands_by numbers g (r + 1) more)
+
 abbrev pub step_demands : ℕ → ℕ → List ℕ → List Demand
-step_demands g r [] = []
-step_demands g r (c ∷ more) = reduce g r ∷ size g r ∷ step_demands g (r + 1) more
+step_demands g r columns = step_demands_by Whole g r columns
 
 -- the demands on groups, from the g-th on
+abbrev pub group_demands_by : Numbers → ℕ → List PivotRow → List Demand
+group_demands_by numbers g [] = []
+group_demands_by numbers g (one ∷ more) =
+    row g ∷ step_demands_by numbers g 0 one.reduce ++ pivot g ∷ group_demands_by numbers (g + 1) more
+
 abbrev pub group_demands : ℕ → List PivotRow → List Demand
-group_demands g [] = []
-group_demands g (one ∷ more) = row g ∷ step_demands g 0 one.reduce ++ pivot g ∷ group_demands (g + 1) more
+group_demands g rows = group_demands_by Whole g rows
+
+-- the demands of a claim that a function is extreme, by rows of these numbers
+abbrev pub extreme_demands : Numbers → List CoverLine → List PivotRow → List Demand
+extreme_demands numbers lines rows =
+    minimal ∷ continuous ∷ map cover (range_with_len 0 (length lines)) ++ group_demands_by numbers 0 rows ++ rank ∷ []
 
 -- the demands on pairs of values, from the i-th on
 abbrev pub pair_demands : List ℕ → List Demand
@@ -229,8 +255,8 @@ abbrev pub demands_of : Claim → List Demand
 demands_of (Minimal f) = minimal ∷ []
 demands_of (NotMinimal f v) = point ∷ []
 demands_of (Cut rule rows) = rule_demands rule ++ cut_demands 0 rows
-demands_of (Extreme f lines rows) =
-    minimal ∷ continuous ∷ map cover (range_with_len 0 (length lines)) ++ group_demands 0 rows ++ rank ∷ []
+demands_of (Extreme f lines rows) = extreme_demands Whole lines rows
+demands_of (ExtremeByResidues f lines rows) = extreme_demands Residues lines rows
 demands_of (NotExtreme f h) =
     minimal ∷ continuous ∷ scale ∷ pair_demands (range_with_len 0 h.order) ++ first ∷ second ∷ same ∷ []
 
@@ -263,6 +289,7 @@ IsShown (Minimal f) = Unit {0}
 IsShown (NotMinimal f v) = MeetsPoint f v
 IsShown (Cut rule rows) = Unit {0}
 IsShown (Extreme f lines rows) = Unit {0}
+IsShown (ExtremeByResidues f lines rows) = Unit {0}
 IsShown (NotExtreme f h) = Unit {0}
 
 -- the i-th item of a list, where it has one, has a property behind those before it
@@ -275,6 +302,7 @@ IfRow (Minimal f) i P = Unit {0}
 IfRow (NotMinimal f v) i P = Unit {0}
 IfRow (Cut rule rows) i P = AtIndex rows i (λ before l. P rule l)
 IfRow (Extreme f lines rows) i P = Unit {0}
+IfRow (ExtremeByResidues f lines rows) i P = Unit {0}
 IfRow (NotExtreme f h) i P = Unit {0}
 
 -- a row with a cut has a property of its basic variable, its right side and its terms
@@ -292,6 +320,7 @@ IfExtreme (Minimal f) P = Unit {0}
 IfExtreme (NotMinimal f v) P = Unit {0}
 IfExtreme (Cut rule rows) P = Unit {0}
 IfExtreme (Extreme f lines rows) P = P f lines rows
+IfExtreme (ExtremeByResidues f lines rows) P = P f lines rows
 IfExtreme (NotExtreme f h) P = Unit {0}
 
 -- the g-th group has a property: of the number of components, the rows that the groups before it keep, and the row that it begins
@@ -299,13 +328,13 @@ IfExtreme (NotExtreme f h) P = Unit {0}
 abbrev pub IfGroup : Claim → ℕ → (ℕ → List KeptRow → List ℤ → PivotRow → Type 0) → Type 0
 IfGroup c g P = IfExtreme c (λ f lines rows. AtIndex rows g (λ before one.
     (component : ℕ → ℕ) → AreNumbersOf f lines component →
-    P (components_in lines) (rows_before f component (components_in lines) before)
-    (named_row f component (components_in lines) one.name) one))
+    P (components_in lines) (rows_before_by (arithmetic_of (numbers_of c)) f component (components_in lines) before)
+    (begun_row (arithmetic_of (numbers_of c)) f component (components_in lines) one.name) one))
 
 -- the r-th step of the g-th group has a property: of the rows kept before, the row before the step, and the column
 abbrev pub IfStep : Claim → ℕ → ℕ → (List KeptRow → List ℤ → ℕ → Type 0) → Type 0
 IfStep c g r P = IfGroup c g (λ n kept begun one. AtIndex one.reduce r (λ before column.
-    P kept (present_row kept begun before) column))
+    P kept (present_row_by (arithmetic_of (numbers_of c)) kept begun before) column))
 
 -- a claim that a function is not extreme has a property of the function and its halves
 abbrev pub IfHalves : Claim → (FunctionData → Halves → Type 0) → Type 0
@@ -313,6 +342,7 @@ IfHalves (Minimal f) P = Unit {0}
 IfHalves (NotMinimal f v) P = Unit {0}
 IfHalves (Cut rule rows) P = Unit {0}
 IfHalves (Extreme f lines rows) P = Unit {0}
+IfHalves (ExtremeByResidues f lines rows) P = Unit {0}
 IfHalves (NotExtreme f h) P = P f h
 
 -- what a demand says of the claim; for `minimal`, that all tests of minimality pass
@@ -329,7 +359,8 @@ Holds c (cover i) = IfExtreme c (λ f lines rows. AtIndex lines i (MeetsCoverRul
 Holds c (row g) = IfExtreme c (λ f lines rows. AtIndex rows g (λ before one. MeetsRow f one.name))
 Holds c (reduce g r) = IfStep c g r MeetsReduce
 Holds c (size g r) = IfStep c g r MeetsSize
-Holds c (pivot g) = IfGroup c g (λ n kept begun one. MeetsPivot n kept (present_row kept begun one.reduce) one.pivot)
+Holds c (pivot g) = IfGroup c g (λ n kept begun one.
+    MeetsPivotBy (numbers_of c) n kept (present_row_by (arithmetic_of (numbers_of c)) kept begun one.reduce) one.pivot)
 Holds c rank = IfExtreme c (λ f lines rows. length rows ≡ components_in lines)
 Holds c scale = IfHalves c MeetsScale
 Holds c (range i) = IfHalves c (λ f h. MeetsRange h i)

@@ -1,10 +1,11 @@
 //! Claims about a function or about cuts, and those among them that have a proof text.
 
 ghost use Rattle.std.specs.Prelude.{◌≡◌, ◌↔◌, IfSome, IsSome, IsTrue};
-ghost use Rattle.gj_proof.specs.ProofText.{HasText};
+ghost use Rattle.gj_proof.specs.ProofText.{HasText, AreExtremeLines};
 
 use crate::bounds::{are_cover_lines_below, are_halves_in_bounds, are_pivot_rows_below};
 use crate::cut::{CutLine, CutRule};
+use crate::numbers::Numbers;
 use crate::pivot::PivotRow;
 use gj_shape::{CoverLine, Halves, List, Shape, Violation};
 use std::marker::Model;
@@ -20,6 +21,8 @@ pub enum Claim {
     Cut(CutRule, List<CutLine>),
     /// The function is extreme: the lines tell why each interval is covered, and the rows leave no other slopes than 0.
     Extreme(Shape, List<CoverLine>, List<PivotRow>),
+    /// The same, by rows of residues modulo `MODULUS`.
+    ExtremeByResidues(Shape, List<CoverLine>, List<PivotRow>),
     /// The function is not extreme: it is the average of the halves.
     NotExtreme(Shape, Halves),
 }
@@ -30,7 +33,8 @@ pub(crate) enum ClaimWord {
     Minimal,
     NotMinimal,
     Cut,
-    Extreme,
+    /// By rows of these numbers.
+    Extreme(Numbers),
     NotExtreme,
 }
 
@@ -55,7 +59,7 @@ impl Model for Proof {
 impl Proof {
     ghost use Rattle.gj_proof.specs.ProofText.{HasText};
 
-    /// The proof of a claim. None exactly where the claim has no text: where a range or a count is not that of the form.
+    /// The proof of a claim. None exactly if the claim has no text: if a range or a count is not that of the form.
     /// It takes no memory.
     pub fn new(claim: Claim) -> Option<Proof>
         ensures some { IsSome result ↔ HasText claim }
@@ -82,12 +86,19 @@ fn has_text(claim: &Claim) -> bool
 {
     match claim {
         Claim::Minimal(_) | Claim::NotMinimal(_, _) | Claim::Cut(_, _) => true,
-        Claim::Extreme(shape, lines, rows) => {
-            let order = shape.order();
-            lines.as_slice().len() == order as usize
-                && are_cover_lines_below(order, lines.as_slice())
-                && are_pivot_rows_below(order, rows.as_slice())
+        Claim::Extreme(shape, lines, rows) | Claim::ExtremeByResidues(shape, lines, rows) => {
+            are_extreme_lines(shape, lines.as_slice(), rows.as_slice())
         }
         Claim::NotExtreme(_, halves) => are_halves_in_bounds(halves),
     }
+}
+
+/// Whether each interval has a line, and the lines and the rows are within the ranges of the form.
+fn are_extreme_lines(shape: &Shape, lines: &[CoverLine], rows: &[PivotRow]) -> bool
+    ensures { IsTrue result ↔ AreExtremeLines shape.now lines.now rows.now }
+{
+    let order = shape.order();
+    lines.len() == order as usize
+        && are_cover_lines_below(order, lines)
+        && are_pivot_rows_below(order, rows)
 }

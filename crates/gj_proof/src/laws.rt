@@ -6,9 +6,9 @@ ghost use Rattle.gj_lex.specs.declared.reason.Reason.{Reason};
 ghost use Rattle.gj_shape.specs.FunctionData.{FunctionData, IsWithinBounds};
 ghost use Rattle.gj_shape.specs.declared.extremality.CoverLine.{CoverLine};
 ghost use Rattle.gj_proof.specs.declared.claim.Claim.{Claim};
-ghost use Rattle.gj_proof.specs.declared.claim.Claim.TheVariants.{Extreme};
+ghost use Rattle.gj_proof.specs.declared.numbers.Numbers.{Numbers};
 ghost use Rattle.gj_proof.specs.declared.pivot.PivotRow.{PivotRow};
-ghost use Rattle.gj_proof.specs.ProofText.{ProofLine, IsBounded, IsShort, HaveFewSteps, IsProofText, HasBytes, HasNumber};
+ghost use Rattle.gj_proof.specs.ProofText.{ProofLine, extreme_claim, IsBounded, IsShort, HaveFewSteps, IsProofText, HasBytes, HasNumber};
 ghost use Rattle.gj_proof.specs.ProofGrammar.{proof_text};
 ghost use Rattle.gj_proof.specs.FirstFault.{IsFirstFault};
 
@@ -52,9 +52,9 @@ pub fn proof_text_is_short()
     ensures { (c : Claim) (text : List ℕ) → IsShort c → IsBounded c → IsProofText c text → length text ≤ 1_000_000 }
 {}
 
-/// The text of a claim that a function is extreme is at most 12,000,000 bytes long, where it has at most 1,000 groups of at most
+/// The text of a claim that a function is extreme is at most 12,000,000 bytes long if it has at most 1,000 groups of at most
 /// 1,000 steps each.
 pub fn extreme_proof_text_is_short()
-    ensures { (f : FunctionData) (lines : List CoverLine) (rows : List PivotRow) (text : List ℕ) → IsWithinBounds f →
-        HaveFewSteps rows → IsProofText (Extreme f lines rows) text → length text ≤ 12_000_000 }
+    ensures { (numbers : Numbers) (f : FunctionData) (lines : List CoverLine) (rows : List PivotRow) (text : List ℕ) →
+        IsWithinBounds f → HaveFewSteps rows → IsProofText (extreme_claim numbers f lines rows) text → length text ≤ 12_000_000 }
 {}

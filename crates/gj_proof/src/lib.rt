@@ -14,6 +14,8 @@ mod faults;
 mod fields;
 mod halves;
 mod laws;
+mod modulus;
+mod numbers;
 mod pivot;
 mod pivot_rows;
 mod read;
@@ -29,6 +31,7 @@ pub use laws::{
     extreme_proof_text_is_short, no_fault_in_proof_text, numbers_of_lines, one_first_fault,
     one_spelling, proof_text_is_short, proof_texts_are_read,
 };
+pub use numbers::{MODULUS, Numbers};
 pub use pivot::PivotRow;
 pub use read::read_proof;
 pub use write::{push_violation_line, write_proof};

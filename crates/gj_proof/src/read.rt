@@ -4,28 +4,33 @@ ghost use Rattle.std.specs.Prelude.{◌≡◌, [], IfOk, IfErr, IfSome, IfNone, 
 ghost use Rattle.gj_lex.specs.Words.{word_texts};
 ghost use Rattle.gj_lex.specs.Parts.{line_part, IsFaultOf};
 ghost use Rattle.gj_lex.specs.declared.spelling.Spelling.TheVariants.{Strict};
-ghost use Rattle.gj_proof.specs.ProofText.{IsBounded, IsProofText};
-ghost use Rattle.gj_proof.specs.ProofGrammar.{claim_words, claim_rule, claim_part, proof_text};
+ghost use Rattle.gj_proof.specs.ProofText.{IsBounded, IsProofText, extreme_claim};
+ghost use Rattle.gj_proof.specs.ProofGrammar.{title_words, title_rule, claim_words, numbers_of_word, IsExtremeWord, claim_rule, claim_part, extreme_part, proof_text};
 ghost use Rattle.gj_proof.specs.FirstFault.{NamesFirstFault, IsMemoryFault};
 ghost use Rattle.gj_proof.specs.declared.claim.Claim.{Claim};
 ghost use Rattle.gj_proof.specs.declared.claim.ClaimWord.{ClaimWord};
-ghost use Rattle.gj_proof.specs.declared.claim.ClaimWord.TheVariants.{Minimal, NotMinimal, Cut, Extreme, NotExtreme};
+ghost use Rattle.gj_proof.specs.declared.claim.ClaimWord.TheVariants.{Minimal, NotMinimal, Cut, NotExtreme};
+ghost use Rattle.gj_proof.specs.declared.numbers.Numbers.{Numbers};
+ghost use Rattle.gj_proof.specs.declared.numbers.Numbers.TheVariants.{Whole};
 
 use crate::claim::{Claim, ClaimWord, Proof};
 use crate::cover_rows::cover_lines_at;
 use crate::cut_rows::{rows_at, rule_at};
 use crate::faults::ProofFault;
 use crate::halves::halves_at;
+use crate::modulus::modulus_at;
+use crate::numbers::Numbers;
+use crate::pivot::PivotRow;
 use crate::pivot_rows::groups_at;
 use crate::violations::violation_at;
 use gj_lex::{PartFault, Reason, Spelling, end_at, has_words, line_at, line_number, words_at};
 use gj_lines::function_at;
-use gj_shape::List;
+use gj_shape::{CoverLine, List, Shape};
 use std::alloc::Global;
 
 /// The proof that the bytes spell, all of them.
 ///
-/// `Refused` has the line and the reason of the first fault, and comes exactly where the bytes are
+/// `Refused` has the line and the reason of the first fault, and comes exactly if the bytes are
 /// no proof text.
 pub fn read_proof(alloc: Global, bytes: &[u8]) -> Result<Proof, ProofFault>
     // What is read is spelled so.
@@ -50,30 +55,70 @@ fn proof_at(alloc: Global, text: &[u8]) -> Result<Proof, PartFault>
     ensures found { IfOk result (λ p. proof_text.Reads text.now p []) }
     ensures fault { IfErr result (IsFaultOf proof_text text.now) }
 {
-    let rest = words_at(Spelling::Strict, text, b"gj-proof 1")?;
-    let (word, rest) = claim_word_at(rest)?;
+    let (numbers, rest) = numbers_at(text)?;
+    let (word, rest) = claim_word_at(rest, numbers)?;
     let (claim, rest) = claim_at(alloc, rest, word)?;
     let rest = words_at(Spelling::Strict, rest, b"end")?;
     end_at(Spelling::Strict, rest)?;
     Ok(Proof::new(claim).unwrap())
 }
 
-/// The word of the claim in the first line of the text, and what follows the line.
-fn claim_word_at(text: &[u8]) -> Result<(ClaimWord, &[u8]), PartFault>
-    ensures found { IfOk result (λ r. (line_part Strict claim_rule).Reads text.now r.0 r.1.now) }
-    ensures fault { IfErr result (IsFaultOf (line_part Strict claim_rule) text.now) }
+/// The numbers that the first line of the text tells, and what follows the line.
+fn numbers_at(text: &[u8]) -> Result<(Numbers, &[u8]), PartFault>
+    ensures found { IfOk result (λ r. (line_part Strict title_rule).Reads text.now r.0 r.1.now) }
+    ensures fault { IfErr result (IsFaultOf (line_part Strict title_rule) text.now) }
 {
     let line = line_at(Spelling::Strict, text)?;
-    match claim_word_of(line.bytes) {
+    match numbers_in(line.bytes) {
+        Some(numbers) => Ok((numbers, line.rest)),
+        None => Err(PartFault::at(line.start, Reason::Form)),
+    }
+}
+
+/// The numbers that the line tells.
+fn numbers_in(line: &[u8]) -> Option<Numbers>
+    ensures found { IfSome result (λ n. word_texts line.now ≡ title_words n) }
+    ensures none { IfNone result ((n : Numbers) → word_texts line.now ≡ title_words n → ⊥) }
+{
+    if has_words(line, b"gj-proof 1") {
+        return Some(Numbers::Whole);
+    }
+    if has_words(line, b"gj-proof 2") {
+        return Some(Numbers::Residues);
+    }
+    None
+}
+
+/// The word of the claim in the first line of what follows the title, and what follows the line.
+fn claim_word_at(text: &[u8], numbers: Numbers) -> Result<(ClaimWord, &[u8]), PartFault>
+    ensures found { IfOk result (λ r. (line_part Strict (claim_rule numbers)).Reads text.now r.0 r.1.now) }
+    ensures fault { IfErr result (IsFaultOf (line_part Strict (claim_rule numbers)) text.now) }
+{
+    let line = line_at(Spelling::Strict, text)?;
+    match claim_word_of(line.bytes, numbers) {
         Some(word) => Ok((word, line.rest)),
         None => Err(PartFault::at(line.start, Reason::Form)),
     }
 }
 
-/// The word of the claim in the line.
-fn claim_word_of(line: &[u8]) -> Option<ClaimWord>
-    ensures found { IfSome result (λ w. word_texts line.now ≡ claim_words w) }
-    ensures none { IfNone result ((w : ClaimWord) → word_texts line.now ≡ claim_words w → ⊥) }
+/// The word of the claim in the line, in a text of these numbers.
+fn claim_word_of(line: &[u8], numbers: Numbers) -> Option<ClaimWord>
+    ensures found { IfSome result ((claim_rule numbers).Spells (word_texts line.now)) }
+    ensures none { IfNone result ((w : ClaimWord) → word_texts line.now ≡ claim_words w → numbers_of_word w ≡ numbers → ⊥) }
+{
+    if has_words(line, b"claim extreme") {
+        return Some(ClaimWord::Extreme(numbers));
+    }
+    match numbers {
+        Numbers::Whole => other_word_of(line),
+        Numbers::Residues => None,
+    }
+}
+
+/// The word of the claim in the line, if it is one that stands in texts of whole numbers alone.
+fn other_word_of(line: &[u8]) -> Option<ClaimWord>
+    ensures found { IfSome result ((claim_rule Whole).Spells (word_texts line.now)) }
+    ensures none { IfNone result ((w : ClaimWord) → word_texts line.now ≡ claim_words w → IsExtremeWord w) }
 {
     if has_words(line, b"claim minimal") {
         return Some(ClaimWord::Minimal);
@@ -83,9 +128,6 @@ fn claim_word_of(line: &[u8]) -> Option<ClaimWord>
     }
     if has_words(line, b"claim cut") {
         return Some(ClaimWord::Cut);
-    }
-    if has_words(line, b"claim extreme") {
-        return Some(ClaimWord::Extreme);
     }
     if has_words(line, b"claim not-extreme") {
         return Some(ClaimWord::NotExtreme);
@@ -102,7 +144,7 @@ fn claim_at(alloc: Global, text: &[u8], word: ClaimWord) -> Result<(Claim, &[u8]
         ClaimWord::Minimal => minimal_at(alloc, text),
         ClaimWord::NotMinimal => not_minimal_at(alloc, text),
         ClaimWord::Cut => cut_at(alloc, text),
-        ClaimWord::Extreme => extreme_at(alloc, text),
+        ClaimWord::Extreme(numbers) => extreme_at(alloc, text, numbers),
         ClaimWord::NotExtreme => not_extreme_at(alloc, text),
     }
 }
@@ -136,16 +178,35 @@ fn cut_at(alloc: Global, text: &[u8]) -> Result<(Claim, &[u8]), PartFault>
     Ok((Claim::Cut(rule, List::of(rows)), rest))
 }
 
-/// The claim that the function of the next lines is extreme, as the lines and the groups behind it show, and what follows.
-fn extreme_at(alloc: Global, text: &[u8]) -> Result<(Claim, &[u8]), PartFault>
-    ensures found { IfOk result (λ r. (claim_part Extreme).Reads text.now r.0 r.1.now) }
-    ensures fault { IfErr result (IsFaultOf (claim_part Extreme) text.now) }
+/// The claim that the function of the next lines is extreme, as the lines and the groups behind it show by these numbers, and what
+/// follows.
+fn extreme_at(alloc: Global, text: &[u8], numbers: Numbers) -> Result<(Claim, &[u8]), PartFault>
+    ensures found { IfOk result (λ r. (extreme_part numbers).Reads text.now r.0 r.1.now) }
+    ensures fault { IfErr result (IsFaultOf (extreme_part numbers) text.now) }
 {
     let (shape, rest) = function_at(alloc, Spelling::Strict, text)?;
     let order = shape.order();
     let (lines, rest) = cover_lines_at(alloc, rest, order)?;
+    let rest = modulus_at(rest, numbers)?;
     let (rows, rest) = groups_at(alloc, rest, order)?;
-    Ok((Claim::Extreme(shape, List::of(lines), List::of(rows)), rest))
+    Ok((extreme_claim(numbers, shape, lines, rows), rest))
+}
+
+/// The claim that the function is extreme, by these lines and these rows.
+fn extreme_claim(
+    numbers: Numbers,
+    shape: Shape,
+    lines: Vec<CoverLine>,
+    rows: Vec<PivotRow>,
+) -> Claim
+    ensures { result ≡ extreme_claim numbers shape lines.items rows.items }
+{
+    let lines = List::of(lines);
+    let rows = List::of(rows);
+    match numbers {
+        Numbers::Whole => Claim::Extreme(shape, lines, rows),
+        Numbers::Residues => Claim::ExtremeByResidues(shape, lines, rows),
+    }
 }
 
 /// The claim that the function of the next lines is not extreme, as the halves behind it show, and what follows.

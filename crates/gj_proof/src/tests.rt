@@ -27,6 +27,11 @@ const EXTREME: &[u8] =
 cover 0 0 lower 0 0\ncover 1 0 upper 0 0\ncover 2 0 upper 0 1\ncover 3 3 upper 3 4\n\
 cover 4 3 diagonal 3 4\nrow period\npivot 0\nrow f\nreduce 0\npivot 1\nend\n";
 
+const EXTREME_BY_RESIDUES: &[u8] =
+    b"gj-proof 2\nclaim extreme\norder 5\nf 3/5\npoint 0\npoint 1/3\npoint 2/3\npoint 1\npoint 1/2\n\
+cover 0 0 lower 0 0\ncover 1 0 upper 0 0\ncover 2 0 upper 0 1\ncover 3 3 upper 3 4\n\
+cover 4 3 diagonal 3 4\nmodulus 2305843009213693951\nrow period\npivot 0\nrow f\nreduce 0\npivot 1\nend\n";
+
 const NOT_EXTREME: &[u8] =
     b"gj-proof 1\nclaim not-extreme\norder 6\nf 1/2\npoint 0\npoint 2/3\npoint 1/3\npoint 1\npoint 1/3\npoint 2/3\n\
 halves 24 36\npair 0 0\npair 6 6\npair 12 12\npair 18 18\npair 24 24\npair 22 20\npair 18 18\n\
@@ -83,7 +88,7 @@ fn cuts_are_read_and_written(rt: HostRuntime) -> Result<(), Fail> {
 
 #[test]
 fn claims_of_extremality_are_read_and_written(rt: HostRuntime) -> Result<(), Fail> {
-    for text in [EXTREME, NOT_EXTREME] {
+    for text in [EXTREME, EXTREME_BY_RESIDUES, NOT_EXTREME] {
         let proof = read_proof(rt.alloc(), text)?;
         assert_eq!(rt; write_proof(rt.alloc(), &proof)?.as_slice(), text);
     }
@@ -92,8 +97,36 @@ fn claims_of_extremality_are_read_and_written(rt: HostRuntime) -> Result<(), Fai
 
 #[test]
 fn refused(rt: HostRuntime) {
-    let texts: [(&[u8], u64, Reason); 38] = [
+    let texts: [(&[u8], u64, Reason); 44] = [
         (b"", 1, Reason::Form),
+        (b"gj-proof 3\nclaim minimal\norder 5\n", 1, Reason::Form),
+        (b"gj-proof 2\nclaim minimal\norder 5\n", 2, Reason::Form),
+        (
+            b"gj-proof 1\nclaim extreme\norder 5\nf 3/5\npoint 0\npoint 1/3\npoint 2/3\npoint 1\npoint 1/2\n\
+cover 0 0 lower 0 0\ncover 1 0 upper 0 0\ncover 2 0 upper 0 1\ncover 3 3 upper 3 4\n\
+cover 4 3 diagonal 3 4\nmodulus 2305843009213693951\nrow period\npivot 0\nrow f\nreduce 0\npivot 1\nend\n",
+            15,
+            Reason::Form,
+        ),
+        (
+            b"gj-proof 2\nclaim extreme\norder 2\nf 1/2\npoint 0\npoint 1\n\
+cover 0 0 lower 0 0\ncover 1 1 upper 1 1\nrow period\n",
+            9,
+            Reason::Form,
+        ),
+        (
+            b"gj-proof 2\nclaim extreme\norder 5\nf 3/5\npoint 0\npoint 1/3\npoint 2/3\npoint 1\npoint 1/2\n\
+cover 0 0 lower 0 0\ncover 1 0 upper 0 0\ncover 2 0 upper 0 1\ncover 3 3 upper 3 4\n\
+cover 4 3 diagonal 3 4\nmodulus 7\nrow period\npivot 0\nrow f\nreduce 0\npivot 1\nend\n",
+            15,
+            Reason::Number,
+        ),
+        (
+            b"gj-proof 2\nclaim extreme\norder 2\nf 1/2\npoint 0\npoint 1\n\
+cover 0 0 lower 0 0\ncover 1 1 upper 1 1\nmodulus 2305843009213693951 1\n",
+            9,
+            Reason::Form,
+        ),
         (b"gj-proof 1\nclaim extremal\norder 5\n", 2, Reason::Form),
         (b"gj-proof 1\nclaim minimal\norder  5\n", 3, Reason::Form),
         (b"gj-proof 1\nclaim minimal\norder 5\r\n", 3, Reason::Form),

@@ -125,7 +125,7 @@ fn push_pair(alloc: Global, out: &mut Vec<u8>, x: i128, y: i128) -> Result<(), A
 }
 
 /// Appends a space, a whole number and the end of the line.
-fn push_whole_line(alloc: Global, out: &mut Vec<u8>, n: i128) -> Result<(), AllocError>
+pub(crate) fn push_whole_line(alloc: Global, out: &mut Vec<u8>, n: i128) -> Result<(), AllocError>
     requires { Fits n }
     ensures { OnOk result (out.new.items ≡ out.old.items ++ line (codes " " ++ signed_decimal n)) }
 {

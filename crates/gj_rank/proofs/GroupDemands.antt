@@ -6,20 +6,21 @@ use Rattle.std.proofs.lemmas.List.{length-append, length-take-le}
 use Rattle.std.proofs.lemmas.List.Elements.{All-nil, All-cons, All-append}
 use Rattle.gj_shape.specs.Elimination.{KeptRow}
 use Rattle.gj_shape.specs.FunctionData.{FunctionData}
-use Rattle.gj_theory.specs.TriangularRows.{present_row}
+use Rattle.gj_proof.specs.declared.numbers.Numbers.{Numbers}
+use Rattle.gj_proof.specs.declared.numbers.Numbers.TheVariants.{Whole, Residues}
 use Rattle.gj_tools.specs.FirstThatFails.{IsFirstFailing}
 use Rattle.gj_tools.proofs.FirstThatFails.{first_failing, first_failing_in_front, first_failing_in_back}
 use Rattle.gj_proof.specs.declared.pivot.PivotRow.{PivotRow}
-use Rattle.gj_proof.specs.PresentRows.{named_row, rows_before}
+use Rattle.gj_proof.specs.PresentRows.{arithmetic_of, begun_row, rows_before_by}
 use Rattle.gj_proof.specs.ProofText.{OwnLine, group_line, reduction_line, pivot_line, reduction_lines, group_lines}
 use Rattle.gj_proof.specs.ProofText.ProofLine.{group, reduction, group_pivot}
-use Rattle.gj_proof.specs.Rules.{Demand, AtIndex, MeetsRow, MeetsReduce, MeetsSize, step_demands, group_demands, line_of}
+use Rattle.gj_proof.specs.Rules.{Demand, AtIndex, MeetsRow, MeetsReduce, MeetsSize, size_demands, step_demands_by, group_demands_by, line_of}
 use Rattle.gj_proof.specs.Rules.Demand.{row, reduce, size, pivot}
 use Rattle.gj_rank.specs.declared.failure.GroupRule.{GroupRule}
 use Rattle.gj_rank.specs.declared.failure.GroupRule.TheVariants.{Reduce, Size}
 use Rattle.gj_rank.specs.declared.failure.GroupFailure.{GroupFailure}
 use Rattle.gj_rank.specs.Groups.{GroupHolds, IsRuleOf, IsFirstGroupFailure}
-use Rattle.gj_rank.specs.GroupOutcomes.{FailsStep, MeetsStepBehind, FailsGroup}
+use Rattle.gj_rank.specs.GroupOutcomes.{stepped, HasSize, FailsStep, MeetsStepBehind, FailsGroup}
 use Rattle.gj_rank.specs.GroupOutcomes.FailsGroup.{at_row, at_step, at_pivot}
 use Rattle.gj_proof.proofs.AtPlaces.{at_index, split_there}
 use Rattle.gj_rank.proofs.GroupsInTurn.{MeetsBehind, count_of}
@@ -45,116 +46,158 @@ fails_in_front H xs ys d h = record { before = h.before; first = first_failing_i
 
 -- ---- steps
 
+-- the demand on the size of its numbers holds; of residues there is none
+abbrev SizeHolds : Numbers → (Demand → Type 0) → ℕ → ℕ → Type 0
+SizeHolds Whole H g r = H (size g r)
+SizeHolds Residues H g r = Unit {0}
+
+-- or it fails
+abbrev SizeFails : Numbers → (Demand → Type 0) → ℕ → ℕ → Demand → Type 0
+SizeFails Whole H g r d = (d ≡ size g r) × (H (size g r) → ⊥)
+SizeFails Residues H g r d = ⊥
+
 -- the demands on the r-th step of the g-th group hold
-pub record StepHolds (H : Demand → Type 0) (g r : ℕ) : Type 0 where
+pub record StepHolds (numbers : Numbers) (H : Demand → Type 0) (g r : ℕ) : Type 0 where
   pub reduces : H (reduce g r)
-  pub fits : H (size g r)
+  pub fits : SizeHolds numbers H g r
 
 -- this is the first of them that fails
-abbrev StepFails : (Demand → Type 0) → ℕ → ℕ → Demand → Type 0
-StepFails H g r d =
-    ((d ≡ reduce g r) × (H (reduce g r) → ⊥)) ⊎ ((d ≡ size g r) × H (reduce g r) × (H (size g r) → ⊥))
+abbrev StepFails : Numbers → (Demand → Type 0) → ℕ → ℕ → Demand → Type 0
+StepFails numbers H g r d =
+    ((d ≡ reduce g r) × (H (reduce g r) → ⊥)) ⊎ (H (reduce g r) × SizeFails numbers H g r d)
 
-steps_hold : (H : Demand → Type 0) (g r : ℕ) (columns : List ℕ) → ((j : ℕ) → StepHolds H g j) → All H (step_demands g r columns)
-steps_hold H g r [] h = All-nil H
-steps_hold H g r (c ∷ columns) h =
-    All-cons H (reduce g r) (size g r ∷ step_demands g (r + 1) columns) (h r).reduces
-    (All-cons H (size g r) (step_demands g (r + 1) columns) (h r).fits (steps_hold H g (r + 1) columns h))
+sizes_hold : (numbers : Numbers) (H : Demand → Type 0) (g r : ℕ) → SizeHolds numbers H g r → All H (size_demands numbers g r)
+sizes_hold Whole H g r h = All-cons H (size g r) [] h (All-nil H)
+sizes_hold Residues H g r h = All-nil H
 
-step_fails : (H : Demand → Type 0) (g r : ℕ) (more : List Demand) (d : Demand) → StepFails H g r d →
-    FailsFirst H (reduce g r ∷ size g r ∷ more) d
-step_fails H g r more d (inl h) =
-    subst (FailsFirst H (reduce g r ∷ size g r ∷ more)) (sym h.0) (fails_here H (reduce g r) (size g r ∷ more) h.1)
-step_fails H g r more d (inr h) =
-    subst (FailsFirst H (reduce g r ∷ size g r ∷ more)) (sym h.0)
-    (fails_next H (reduce g r) (size g r ∷ more) (size g r) h.1 (fails_here H (size g r) more h.2))
+size_fails : (numbers : Numbers) (H : Demand → Type 0) (g r : ℕ) (d : Demand) → SizeFails numbers H g r d →
+    FailsFirst H (size_demands numbers g r) d
+size_fails Whole H g r d h = subst (FailsFirst H (size g r ∷ [])) (sym h.0) (fails_here H (size g r) [] h.1)
+size_fails Residues H g r d h = absurd h
 
-steps_fail : (H : Demand → Type 0) (g r m : ℕ) (columns : List ℕ) (d : Demand) → r ≤ m → m < r + length columns →
-    ((j : ℕ) → j < m → StepHolds H g j) → StepFails H g m d → FailsFirst H (step_demands g r columns) d
-steps_fail H g r m [] d low high h fails = absurd (omega arith)
-steps_fail H g r m (c ∷ columns) d low high h fails =
-    by_place (cases_lt r m) (λ later. steps_fail H g (r + 1) m columns d (omega arith) (omega arith) h fails)
+steps_hold : (numbers : Numbers) (H : Demand → Type 0) (g r : ℕ) (columns : List ℕ) → ((j : ℕ) → StepHolds numbers H g j) →
+    All H (step_demands_by numbers g r columns)
+steps_hold numbers H g r [] h = All-nil H
+steps_hold numbers H g r (c ∷ columns) h =
+    All-cons H (reduce g r) (size_demands numbers g r ++ step_demands_by numbers g (r + 1) columns) (h r).reduces
+    (All-append H (size_demands numbers g r) (step_demands_by numbers g (r + 1) columns) (sizes_hold numbers H g r (h r).fits)
+    (steps_hold numbers H g (r + 1) columns h))
+
+step_fails : (numbers : Numbers) (H : Demand → Type 0) (g r : ℕ) (more : List Demand) (d : Demand) → StepFails numbers H g r d →
+    FailsFirst H (reduce g r ∷ (size_demands numbers g r ++ more)) d
+step_fails numbers H g r more d (inl h) =
+    subst (FailsFirst H (reduce g r ∷ (size_demands numbers g r ++ more))) (sym h.0)
+    (fails_here H (reduce g r) (size_demands numbers g r ++ more) h.1)
+step_fails numbers H g r more d (inr h) =
+    fails_next H (reduce g r) (size_demands numbers g r ++ more) d h.0
+    (fails_in_front H (size_demands numbers g r) more d (size_fails numbers H g r d h.1))
+
+steps_fail : (numbers : Numbers) (H : Demand → Type 0) (g r m : ℕ) (columns : List ℕ) (d : Demand) → r ≤ m → m < r + length columns →
+    ((j : ℕ) → j < m → StepHolds numbers H g j) → StepFails numbers H g m d → FailsFirst H (step_demands_by numbers g r columns) d
+steps_fail numbers H g r m [] d low high h fails = absurd (omega arith)
+steps_fail numbers H g r m (c ∷ columns) d low high h fails =
+    by_place (cases_lt r m) (λ later. steps_fail numbers H g (r + 1) m columns d (omega arith) (omega arith) h fails)
   where
-    by_place : (r < m) ⊎ (m ≤ r) → (r < m → FailsFirst H (step_demands g (r + 1) columns) d) →
-        FailsFirst H (reduce g r ∷ size g r ∷ step_demands g (r + 1) columns) d
+    by_place : (r < m) ⊎ (m ≤ r) → (r < m → FailsFirst H (step_demands_by numbers g (r + 1) columns) d) →
+        FailsFirst H (reduce g r ∷ (size_demands numbers g r ++ step_demands_by numbers g (r + 1) columns)) d
     by_place (inl before) later =
-        fails_next H (reduce g r) (size g r ∷ step_demands g (r + 1) columns) d (h r before).reduces
-        (fails_next H (size g r) (step_demands g (r + 1) columns) d (h r before).fits (later before))
+        fails_next H (reduce g r) (size_demands numbers g r ++ step_demands_by numbers g (r + 1) columns) d (h r before).reduces
+        (fails_behind H (size_demands numbers g r) (step_demands_by numbers g (r + 1) columns) d
+        (sizes_hold numbers H g r (h r before).fits) (later before))
     by_place (inr here) later =
         let same : m ≡ r = omega arith in
-        step_fails H g r (step_demands g (r + 1) columns) d (subst (λ (k : ℕ). StepFails H g k d) same fails)
+        step_fails numbers H g r (step_demands_by numbers g (r + 1) columns) d (subst (λ (k : ℕ). StepFails numbers H g k d) same fails)
 
 -- ---- groups
 
 -- the demands on the g-th group hold
-pub record AllHoldAt (H : Demand → Type 0) (g : ℕ) : Type 0 where
+pub record AllHoldAt (numbers : Numbers) (H : Demand → Type 0) (g : ℕ) : Type 0 where
   pub row_holds : H (row g)
-  pub steps_hold : (r : ℕ) → StepHolds H g r
+  pub steps_hold : (r : ℕ) → StepHolds numbers H g r
   pub pivot_holds : H (pivot g)
 
 -- this is the first of them that fails
-data FailsAt (H : Demand → Type 0) (g : ℕ) (columns : List ℕ) (d : Demand) : Type 0 where
-  row_fails : d ≡ row g → (H (row g) → ⊥) → FailsAt H g columns d
-  some_step_fails : H (row g) → FailsFirst H (step_demands g 0 columns) d → FailsAt H g columns d
-  pivot_fails : d ≡ pivot g → H (row g) → All H (step_demands g 0 columns) → (H (pivot g) → ⊥) → FailsAt H g columns d
+data FailsAt (numbers : Numbers) (H : Demand → Type 0) (g : ℕ) (columns : List ℕ) (d : Demand) : Type 0 where
+  row_fails : d ≡ row g → (H (row g) → ⊥) → FailsAt numbers H g columns d
+  some_step_fails : H (row g) → FailsFirst H (step_demands_by numbers g 0 columns) d → FailsAt numbers H g columns d
+  pivot_fails : d ≡ pivot g → H (row g) → All H (step_demands_by numbers g 0 columns) → (H (pivot g) → ⊥) → FailsAt numbers H g columns d
 
 -- the demands on the first of some groups
-abbrev demands_on : ℕ → PivotRow → List PivotRow → List Demand
-demands_on g one more = step_demands g 0 one.reduce ++ pivot g ∷ group_demands (g + 1) more
+abbrev demands_on : Numbers → ℕ → PivotRow → List PivotRow → List Demand
+demands_on numbers g one more = step_demands_by numbers g 0 one.reduce ++ pivot g ∷ group_demands_by numbers (g + 1) more
 
-groups_hold : (H : Demand → Type 0) (g : ℕ) (rows : List PivotRow) → ((j : ℕ) → AllHoldAt H j) → All H (group_demands g rows)
-groups_hold H g [] h = All-nil H
-groups_hold H g (one ∷ more) h =
-    All-cons H (row g) (demands_on g one more) (h g).row_holds
-    (All-append H (step_demands g 0 one.reduce) (pivot g ∷ group_demands (g + 1) more) (steps_hold H g 0 one.reduce (h g).steps_hold)
-    (All-cons H (pivot g) (group_demands (g + 1) more) (h g).pivot_holds (groups_hold H (g + 1) more h)))
+groups_hold : (numbers : Numbers) (H : Demand → Type 0) (g : ℕ) (rows : List PivotRow) → ((j : ℕ) → AllHoldAt numbers H j) → All H (group_demands_by numbers g rows)
+groups_hold numbers H g [] h = All-nil H
+groups_hold numbers H g (one ∷ more) h =
+    All-cons H (row g) (demands_on numbers g one more) (h g).row_holds
+    (All-append H (step_demands_by numbers g 0 one.reduce) (pivot g ∷ group_demands_by numbers (g + 1) more) (steps_hold numbers H g 0 one.reduce (h g).steps_hold)
+    (All-cons H (pivot g) (group_demands_by numbers (g + 1) more) (h g).pivot_holds (groups_hold numbers H (g + 1) more h)))
 
-group_fails : (H : Demand → Type 0) (g : ℕ) (one : PivotRow) (more : List PivotRow) (d : Demand) → FailsAt H g one.reduce d →
-    FailsFirst H (row g ∷ demands_on g one more) d
-group_fails H g one more d (row_fails is fails) =
-    subst (FailsFirst H (row g ∷ demands_on g one more)) (sym is) (fails_here H (row g) (demands_on g one more) fails)
-group_fails H g one more d (some_step_fails holds fails) =
-    fails_next H (row g) (demands_on g one more) d holds
-    (fails_in_front H (step_demands g 0 one.reduce) (pivot g ∷ group_demands (g + 1) more) d fails)
-group_fails H g one more d (pivot_fails is holds all fails) =
-    subst (FailsFirst H (row g ∷ demands_on g one more)) (sym is)
-    (fails_next H (row g) (demands_on g one more) (pivot g) holds
-    (fails_behind H (step_demands g 0 one.reduce) (pivot g ∷ group_demands (g + 1) more) (pivot g) all
-    (fails_here H (pivot g) (group_demands (g + 1) more) fails)))
+group_fails : (numbers : Numbers) (H : Demand → Type 0) (g : ℕ) (one : PivotRow) (more : List PivotRow) (d : Demand) → FailsAt numbers H g one.reduce d →
+    FailsFirst H (row g ∷ demands_on numbers g one more) d
+group_fails numbers H g one more d (row_fails is fails) =
+    subst (FailsFirst H (row g ∷ demands_on numbers g one more)) (sym is) (fails_here H (row g) (demands_on numbers g one more) fails)
+group_fails numbers H g one more d (some_step_fails holds fails) =
+    fails_next H (row g) (demands_on numbers g one more) d holds
+    (fails_in_front H (step_demands_by numbers g 0 one.reduce) (pivot g ∷ group_demands_by numbers (g + 1) more) d fails)
+group_fails numbers H g one more d (pivot_fails is holds all fails) =
+    subst (FailsFirst H (row g ∷ demands_on numbers g one more)) (sym is)
+    (fails_next H (row g) (demands_on numbers g one more) (pivot g) holds
+    (fails_behind H (step_demands_by numbers g 0 one.reduce) (pivot g ∷ group_demands_by numbers (g + 1) more) (pivot g) all
+    (fails_here H (pivot g) (group_demands_by numbers (g + 1) more) fails)))
 
-groups_fail : (H : Demand → Type 0) (g m : ℕ) (front : List PivotRow) (one : PivotRow) (back : List PivotRow) (d : Demand) →
-    m ≡ g + length front → ((j : ℕ) → j < m → AllHoldAt H j) → FailsAt H m one.reduce d →
-    FailsFirst H (group_demands g (front ++ one ∷ back)) d
-groups_fail H g m [] one back d count h fails =
+groups_fail : (numbers : Numbers) (H : Demand → Type 0) (g m : ℕ) (front : List PivotRow) (one : PivotRow) (back : List PivotRow) (d : Demand) →
+    m ≡ g + length front → ((j : ℕ) → j < m → AllHoldAt numbers H j) → FailsAt numbers H m one.reduce d →
+    FailsFirst H (group_demands_by numbers g (front ++ one ∷ back)) d
+groups_fail numbers H g m [] one back d count h fails =
     let same : m ≡ g = omega arith in
-    group_fails H g one back d (subst (λ (k : ℕ). FailsAt H k one.reduce d) same fails)
-groups_fail H g m (first ∷ front) one back d count h fails =
+    group_fails numbers H g one back d (subst (λ (k : ℕ). FailsAt numbers H k one.reduce d) same fails)
+groups_fail numbers H g m (first ∷ front) one back d count h fails =
     let here = h g (omega arith) in
     let rest = front ++ one ∷ back in
-    fails_next H (row g) (demands_on g first rest) d here.row_holds
-    (fails_behind H (step_demands g 0 first.reduce) (pivot g ∷ group_demands (g + 1) rest) d
-    (steps_hold H g 0 first.reduce here.steps_hold)
-    (fails_next H (pivot g) (group_demands (g + 1) rest) d here.pivot_holds
-    (groups_fail H (g + 1) m front one back d (omega arith) h fails)))
+    fails_next H (row g) (demands_on numbers g first rest) d here.row_holds
+    (fails_behind H (step_demands_by numbers g 0 first.reduce) (pivot g ∷ group_demands_by numbers (g + 1) rest) d
+    (steps_hold numbers H g 0 first.reduce here.steps_hold)
+    (fails_next H (pivot g) (group_demands_by numbers (g + 1) rest) d here.pivot_holds
+    (groups_fail numbers H (g + 1) m front one back d (omega arith) h fails)))
 
 -- ---- what the rules on a group say
 
+-- a rule holds of a step of a group behind others
+abbrev OnStep : Numbers → FunctionData → (ℕ → ℕ) → ℕ → (List KeptRow → List ℤ → ℕ → Type 0) → List PivotRow → PivotRow → List ℕ → ℕ →
+    Type 0
+OnStep numbers f component n P before one steps c =
+    P (rows_before_by (arithmetic_of numbers) f component n before)
+    (stepped numbers (rows_before_by (arithmetic_of numbers) f component n before)
+    (begun_row (arithmetic_of numbers) f component n one.name) steps) c
+
+-- of the r-th
+abbrev OnStepAt : Numbers → FunctionData → (ℕ → ℕ) → ℕ → ℕ → (List KeptRow → List ℤ → ℕ → Type 0) → List PivotRow → PivotRow → Type 0
+OnStepAt numbers f component n r P before one = AtIndex one.reduce r (OnStep numbers f component n P before one)
+
+-- the demand on the size of a step's numbers, where there is one
+sizes_of : (numbers : Numbers) (f : FunctionData) (component : ℕ → ℕ) (n : ℕ) (rows : List PivotRow) (g r : ℕ) →
+    AtIndex rows g (OnStepAt numbers f component n r (HasSize numbers)) → SizeHolds numbers (GroupHolds numbers f component n rows) g r
+sizes_of Whole f component n rows g r h = h
+sizes_of Residues f component n rows g r h = tt
+
 -- all demands on the group
-pub all_hold_at : (f : FunctionData) (component : ℕ → ℕ) (n : ℕ) (rows : List PivotRow) (g : ℕ) →
-    AtIndex rows g (MeetsBehind f component n) → AllHoldAt (GroupHolds f component n rows) g
-all_hold_at f component n rows g h = record {
+pub all_hold_at : (numbers : Numbers) (f : FunctionData) (component : ℕ → ℕ) (n : ℕ) (rows : List PivotRow) (g : ℕ) →
+    AtIndex rows g (MeetsBehind numbers f component n) → AllHoldAt numbers (GroupHolds numbers f component n rows) g
+all_hold_at numbers f component n rows g h = record {
   row_holds = λ before one after place index. (h before one after place index).row;
   steps_hold = λ r. record {
     reduces = λ before one after place index front c back split at. ((h before one after place index).steps r front c back split at).reduce;
-    fits = λ before one after place index front c back split at. ((h before one after place index).steps r front c back split at).size;
+    fits = sizes_of numbers f component n rows g r
+        (λ before one after place index front c back split at. ((h before one after place index).steps r front c back split at).size);
   };
   pivot_holds = λ before one after place index. (h before one after place index).pivot;
 }
 
-pub all_groups_hold : (f : FunctionData) (component : ℕ → ℕ) (n : ℕ) (rows : List PivotRow) →
-    ((g : ℕ) → AtIndex rows g (MeetsBehind f component n)) → All (GroupHolds f component n rows) (group_demands 0 rows)
-all_groups_hold f component n rows h =
-    groups_hold (GroupHolds f component n rows) 0 rows (λ g. all_hold_at f component n rows g (h g))
+pub all_groups_hold : (numbers : Numbers) (f : FunctionData) (component : ℕ → ℕ) (n : ℕ) (rows : List PivotRow) →
+    ((g : ℕ) → AtIndex rows g (MeetsBehind numbers f component n)) → All (GroupHolds numbers f component n rows) (group_demands_by numbers 0 rows)
+all_groups_hold numbers f component n rows h =
+    groups_hold numbers (GroupHolds numbers f component n rows) 0 rows (λ g. all_hold_at numbers f component n rows g (h g))
 
 -- ---- the lines of groups
 
@@ -209,63 +252,59 @@ of_group : (rows : List PivotRow) (g : ℕ) (front : List PivotRow) (one : Pivot
     IsGroup rows g front one back → (P : List PivotRow → PivotRow → Type 0) → P front one → AtIndex rows g P
 of_group rows g front one back at P h = subst (λ (k : ℕ). AtIndex rows k P) at.index (at_index rows P front one back at.place h)
 
--- a rule holds of a step of a group behind others
-abbrev OnStep : FunctionData → (ℕ → ℕ) → ℕ → (List KeptRow → List ℤ → ℕ → Type 0) → List PivotRow → PivotRow → List ℕ → ℕ → Type 0
-OnStep f component n P before one steps c =
-    P (rows_before f component n before) (present_row (rows_before f component n before) (named_row f component n one.name) steps) c
-
--- of the r-th
-abbrev OnStepAt : FunctionData → (ℕ → ℕ) → ℕ → ℕ → (List KeptRow → List ℤ → ℕ → Type 0) → List PivotRow → PivotRow → Type 0
-OnStepAt f component n r P before one = AtIndex one.reduce r (OnStep f component n P before one)
-
--- the demands on a step of the group hold where its rules do
-step_holds : (f : FunctionData) (component : ℕ → ℕ) (n : ℕ) (rows : List PivotRow) (g : ℕ) (front : List PivotRow) (one : PivotRow)
+-- the demands on a step of the group hold if its rules do
+step_holds : (numbers : Numbers) (f : FunctionData) (component : ℕ → ℕ) (n : ℕ) (rows : List PivotRow) (g : ℕ) (front : List PivotRow) (one : PivotRow)
     (back : List PivotRow) → IsGroup rows g front one back → (r : ℕ) →
-    AtIndex one.reduce r (MeetsStepBehind (rows_before f component n front) (named_row f component n one.name)) →
-    StepHolds (GroupHolds f component n rows) g r
-step_holds f component n rows g front one back at r h = record {
-  reduces = of_group rows g front one back at (OnStepAt f component n r MeetsReduce)
+    AtIndex one.reduce r (MeetsStepBehind numbers (rows_before_by (arithmetic_of numbers) f component n front) (begun_row (arithmetic_of numbers) f component n one.name)) →
+    StepHolds numbers (GroupHolds numbers f component n rows) g r
+step_holds numbers f component n rows g front one back at r h = record {
+  reduces = of_group rows g front one back at (OnStepAt numbers f component n r MeetsReduce)
       (λ steps c more split index. (h steps c more split index).reduce);
-  fits = of_group rows g front one back at (OnStepAt f component n r MeetsSize)
-      (λ steps c more split index. (h steps c more split index).size);
+  fits = sizes_of numbers f component n rows g r
+      (of_group rows g front one back at (OnStepAt numbers f component n r (HasSize numbers))
+      (λ steps c more split index. (h steps c more split index).size));
 }
 
 -- the demand on a step that fails, and its line
-record StepFailsAs (H : Demand → Type 0) (g r : ℕ) (rule : GroupRule) : Type 0 where
+record StepFailsAs (numbers : Numbers) (H : Demand → Type 0) (g r : ℕ) (rule : GroupRule) : Type 0 where
   pub demand : Demand
-  pub fails : StepFails H g r demand
+  pub fails : StepFails numbers H g r demand
   pub rule_is : IsRuleOf rule demand
   pub line_is : line_of demand ≡ reduction g r
 
-step_fails_as : (f : FunctionData) (component : ℕ → ℕ) (n : ℕ) (rows : List PivotRow) (g : ℕ) (front : List PivotRow) (one : PivotRow)
+step_fails_as : (numbers : Numbers) (f : FunctionData) (component : ℕ → ℕ) (n : ℕ) (rows : List PivotRow) (g : ℕ) (front : List PivotRow) (one : PivotRow)
     (back : List PivotRow) → IsGroup rows g front one back → (r : ℕ) (rule : GroupRule) (steps : List ℕ) (c : ℕ) (more : List ℕ) →
     one.reduce ≡ steps ++ c ∷ more → length steps ≡ r →
-    OnStep f component n (FailsStep rule) front one steps c →
-    StepFailsAs (GroupHolds f component n rows) g r rule
-step_fails_as f component n rows g front one back at r Reduce steps c more split index h = record {
+    OnStep numbers f component n (FailsStep numbers rule) front one steps c →
+    StepFailsAs numbers (GroupHolds numbers f component n rows) g r rule
+step_fails_as numbers f component n rows g front one back at r Reduce steps c more split index h = record {
   demand = reduce g r;
   fails = inl (refl, λ holds. h (holds front one back at.place at.index steps c more split index));
   rule_is = refl;
   line_is = refl;
 }
-step_fails_as f component n rows g front one back at r Size steps c more split index h = record {
+step_fails_as numbers f component n rows g front one back at r Size steps c more split index h = record {
   demand = size g r;
   fails = inr (
-    refl,
-    of_group rows g front one back at (OnStepAt f component n r MeetsReduce)
-        (subst (λ (k : ℕ). AtIndex one.reduce k (OnStep f component n MeetsReduce front one)) index
-        (at_index one.reduce (OnStep f component n MeetsReduce front one) steps c more split h.0)),
-    λ holds. h.1 (holds front one back at.place at.index steps c more split index),
+    of_group rows g front one back at (OnStepAt numbers f component n r MeetsReduce)
+        (subst (λ (k : ℕ). AtIndex one.reduce k (OnStep numbers f component n MeetsReduce front one)) index
+        (at_index one.reduce (OnStep numbers f component n MeetsReduce front one) steps c more split h.0)),
+    size_fails_at numbers h.1,
   );
   rule_is = refl;
   line_is = refl;
 }
-step_fails_as f component n rows g front one back at r _ steps c more split index h = absurd h
+  where
+    size_fails_at : (m : Numbers) → (OnStep m f component n (HasSize m) front one steps c → ⊥) →
+        SizeFails m (GroupHolds m f component n rows) g r (size g r)
+    size_fails_at Whole fails = (refl, λ holds. fails (holds front one back at.place at.index steps c more split index))
+    size_fails_at Residues fails = absurd (fails (λ (i, x, low, is, at). absurd (omega (arith, low))))
+step_fails_as numbers f component n rows g front one back at r _ steps c more split index h = absurd h
 
 -- the demand on the group that fails, and its line
-record GroupFailsAs (H : Demand → Type 0) (g : ℕ) (one : PivotRow) (back : List PivotRow) (failure : GroupFailure) : Type 0 where
+record GroupFailsAs (numbers : Numbers) (H : Demand → Type 0) (g : ℕ) (one : PivotRow) (back : List PivotRow) (failure : GroupFailure) : Type 0 where
   pub demand : Demand
-  pub fails : FailsAt H g one.reduce demand
+  pub fails : FailsAt numbers H g one.reduce demand
   pub rule_is : IsRuleOf failure.rule demand
   pub above : List OwnLine
   pub line : OwnLine
@@ -274,11 +313,11 @@ record GroupFailsAs (H : Demand → Type 0) (g : ℕ) (one : PivotRow) (back : L
   pub line_is : line.name ≡ line_of demand
   pub below : failure.below ≡ length above
 
-group_fails_as : (f : FunctionData) (component : ℕ → ℕ) (n : ℕ) (rows : List PivotRow) (g : ℕ) (front : List PivotRow) (one : PivotRow)
+group_fails_as : (numbers : Numbers) (f : FunctionData) (component : ℕ → ℕ) (n : ℕ) (rows : List PivotRow) (g : ℕ) (front : List PivotRow) (one : PivotRow)
     (back : List PivotRow) (failure : GroupFailure) → IsGroup rows g front one back →
-    FailsGroup f n (rows_before f component n front) (named_row f component n one.name) one failure →
-    GroupFailsAs (GroupHolds f component n rows) g one back failure
-group_fails_as f component n rows g front one back failure at (at_row below rule fails) = record {
+    FailsGroup numbers f n (rows_before_by (arithmetic_of numbers) f component n front) (begun_row (arithmetic_of numbers) f component n one.name) one failure →
+    GroupFailsAs numbers (GroupHolds numbers f component n rows) g one back failure
+group_fails_as numbers f component n rows g front one back failure at (at_row below rule fails) = record {
   demand = row g;
   fails = row_fails refl (λ holds. fails (holds front one back at.place at.index));
   rule_is = rule;
@@ -289,11 +328,11 @@ group_fails_as f component n rows g front one back failure at (at_row below rule
   line_is = refl;
   below = below;
 }
-group_fails_as f component n rows g front one back failure at (at_step meets h) =
-    let H = GroupHolds f component n rows in
+group_fails_as numbers f component n rows g front one back failure at (at_step meets h) =
+    let H = GroupHolds numbers f component n rows in
     let r = h.index in
     let split = split_there one.reduce r h.fails.within in
-    let step = step_fails_as f component n rows g front one back at r failure.rule split.before split.item split.after
+    let step = step_fails_as numbers f component n rows g front one back at r failure.rule split.before split.item split.after
     split.place split.index (h.fails.here split.before split.item split.after split.place split.index) in
     let steps = reduction_lines g 0 split.before in
     let behind = reduction_lines g (r + 1) split.after in
@@ -308,8 +347,8 @@ group_fails_as f component n rows g front one back failure at (at_step meets h) 
       demand = step.demand;
       fails = some_step_fails
           (of_group rows g front one back at (λ before x. MeetsRow f x.name) meets)
-          (steps_fail H g 0 r one.reduce step.demand (omega arith) (omega (arith, h.fails.within))
-          (λ j before. step_holds f component n rows g front one back at j (h.fails.before j before)) step.fails);
+          (steps_fail numbers H g 0 r one.reduce step.demand (omega arith) (omega (arith, h.fails.within))
+          (λ j before. step_holds numbers f component n rows g front one back at j (h.fails.before j before)) step.fails);
       rule_is = step.rule_is;
       above = first_line g one ∷ steps;
       line = here;
@@ -319,14 +358,14 @@ group_fails_as f component n rows g front one back failure at (at_step meets h) 
       line_is = sym step.line_is;
       below = omega arith;
     }
-group_fails_as f component n rows g front one back failure at (at_pivot below rule meets steps fails) =
-    let H = GroupHolds f component n rows in
+group_fails_as numbers f component n rows g front one back failure at (at_pivot below rule meets steps fails) =
+    let H = GroupHolds numbers f component n rows in
     let long = length-reductions g 0 one.reduce in
     record {
       demand = pivot g;
       fails = pivot_fails refl
           (of_group rows g front one back at (λ before x. MeetsRow f x.name) meets)
-          (steps_hold H g 0 one.reduce (λ r. step_holds f component n rows g front one back at r (steps r)))
+          (steps_hold numbers H g 0 one.reduce (λ r. step_holds numbers f component n rows g front one back at r (steps r)))
           (λ holds. fails (holds front one back at.place at.index));
       rule_is = rule;
       above = first_line g one ∷ reduction_lines g 0 one.reduce;
@@ -345,23 +384,23 @@ line_in_rest : (all front rest above : List OwnLine) (line : OwnLine) (under : L
 line_in_rest all front rest above line under first second =
     first ∙ ap (λ ls. front ++ ls) second ∙ sym (append_assoc front above (line ∷ under))
 
-pub first_group_failure : (f : FunctionData) (component : ℕ → ℕ) (n : ℕ) (rows : List PivotRow) (g above below : ℕ) (one : PivotRow)
-    (begun : List ℤ) (failure : GroupFailure) → ((i : ℕ) → i < g → AtIndex rows i (MeetsBehind f component n)) →
-    above ≡ count_of (take g rows) → g < length rows → one ≡ get_or rows g one → begun ≡ named_row f component n one.name →
-    FailsGroup f n (rows_before f component n (take g rows)) begun one failure → below ≡ above + failure.below →
-    IsFirstGroupFailure f component n rows (record { below = below; rule = failure.rule })
-first_group_failure f component n rows g above below one begun failure meet above_is within is begun_is fails below_is =
-    let H = GroupHolds f component n rows in
+pub first_group_failure : (numbers : Numbers) (f : FunctionData) (component : ℕ → ℕ) (n : ℕ) (rows : List PivotRow) (g above below : ℕ) (one : PivotRow)
+    (begun : List ℤ) (failure : GroupFailure) → ((i : ℕ) → i < g → AtIndex rows i (MeetsBehind numbers f component n)) →
+    above ≡ count_of (take g rows) → g < length rows → one ≡ get_or rows g one → begun ≡ begun_row (arithmetic_of numbers) f component n one.name →
+    FailsGroup numbers f n (rows_before_by (arithmetic_of numbers) f component n (take g rows)) begun one failure → below ≡ above + failure.below →
+    IsFirstGroupFailure numbers f component n rows (record { below = below; rule = failure.rule })
+first_group_failure numbers f component n rows g above below one begun failure meet above_is within is begun_is fails below_is =
+    let H = GroupHolds numbers f component n rows in
     let front = take g rows in
     let back = drop (suc g) rows in
     let place : rows ≡ front ++ one ∷ back = split_at rows g one within ∙ ap (λ x. front ++ x ∷ back) (sym is) in
     let index : length front ≡ g = length-take-le g rows (omega arith) in
-    let here = group_fails_as f component n rows g front one back failure (record { place = place; index = index })
-    (subst (λ (b : List ℤ). FailsGroup f n (rows_before f component n front) b one failure) begun_is fails) in
-    let first : FailsFirst H (group_demands 0 rows) here.demand =
-    subst (λ (xs : List PivotRow). FailsFirst H (group_demands 0 xs) here.demand) (sym place)
-    (groups_fail H 0 g front one back here.demand (omega arith)
-    (λ j before. all_hold_at f component n rows j (meet j before)) here.fails) in
+    let here = group_fails_as numbers f component n rows g front one back failure (record { place = place; index = index })
+    (subst (λ (b : List ℤ). FailsGroup numbers f n (rows_before_by (arithmetic_of numbers) f component n front) b one failure) begun_is fails) in
+    let first : FailsFirst H (group_demands_by numbers 0 rows) here.demand =
+    subst (λ (xs : List PivotRow). FailsFirst H (group_demands_by numbers 0 xs) here.demand) (sym place)
+    (groups_fail numbers H 0 g front one back here.demand (omega arith)
+    (λ j before. all_hold_at numbers f component n rows j (meet j before)) here.fails) in
     let lines = group_lines 0 front in
     let split : group_lines 0 rows ≡ lines ++ group_lines g (one ∷ back) =
     ap (group_lines 0) place ∙ groups_split 0 g front (one ∷ back) (omega arith) in

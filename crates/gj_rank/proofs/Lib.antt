@@ -1,4 +1,6 @@
 pub mod RowSizes
+pub mod ResidueRows
+pub mod KeptRows
 pub mod StepsInTurn
 pub mod Tables
 pub mod GroupsInTurn

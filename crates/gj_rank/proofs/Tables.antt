@@ -5,9 +5,11 @@ use Rattle.std.proofs.lemmas.Bool.{eq-eqb, ne_eqb}
 use Rattle.std.proofs.lemmas.List.{get_or-take, length-take-le}
 use Rattle.std.proofs.lemmas.List.Elements.{All-get_or, All-from_get_or}
 use Rattle.gj_theory.proofs.Kernels.{any_with_pivot, no_pivot_at}
-use Rattle.gj_shape.specs.Elimination.{KeptRow, at_column, entries_of, row_with_pivot, reduced, marked_in_step, Passes}
-use Rattle.gj_proof.specs.Rules.{MeetsReduce, MeetsSize, MeetsPivot}
-use Rattle.gj_rank.specs.GroupOutcomes.{MeetsStep}
+use Rattle.gj_shape.specs.Elimination.{KeptRow, at_column, entries_of, row_with_pivot, Passes}
+use Rattle.gj_proof.specs.declared.numbers.Numbers.{Numbers}
+use Rattle.gj_proof.specs.PresentRows.{arithmetic_of}
+use Rattle.gj_proof.specs.Rules.{MeetsReduce, MeetsPivot}
+use Rattle.gj_rank.specs.GroupOutcomes.{HasSize, MeetsStep}
 use Rattle.gj_rank.specs.KeptTable.{entries_kept, AreRowsAt}
 
 -- ---- the row with a pivot
@@ -57,25 +59,26 @@ pub step_reduces : (kept : List KeptRow) (table : List (Option (List ℤ))) (row
     Some e ≡ get_or table c None → at_column row c ≢ pos 0 → MeetsReduce kept row c
 step_reduces kept table row e c rows some not_zero = record { pivot = (entries_at kept table c e rows some).0; not_zero = not_zero }
 
-pub step_meets : (kept : List KeptRow) (table : List (Option (List ℤ))) (row e after : List ℤ) (c : ℕ) → AreRowsAt kept table →
-    Some e ≡ get_or table c None → at_column row c ≢ pos 0 → (Passes (marked_in_step e row c) → ⊥) → after ≡ reduced e row c →
-    MeetsStep kept row c × (after ≡ reduced (entries_of (row_with_pivot kept c)) row c)
-step_meets kept table row e after c rows some not_zero narrow is =
+pub step_meets : (numbers : Numbers) (kept : List KeptRow) (table : List (Option (List ℤ))) (row e after : List ℤ) (c : ℕ) → AreRowsAt kept table →
+    Some e ≡ get_or table c None → at_column row c ≢ pos 0 → (Passes ((arithmetic_of numbers).marked e row c) → ⊥) →
+    after ≡ (arithmetic_of numbers).step e row c →
+    MeetsStep numbers kept row c × (after ≡ (arithmetic_of numbers).step (entries_of (row_with_pivot kept c)) row c)
+step_meets numbers kept table row e after c rows some not_zero narrow is =
     let same = sym (entries_at kept table c e rows some).1 in (
       record {
         reduce = step_reduces kept table row e c rows some not_zero;
-        size = subst (λ (xs : List ℤ). Passes (marked_in_step xs row c) → ⊥) same narrow;
+        size = subst (λ (xs : List ℤ). Passes ((arithmetic_of numbers).marked xs row c) → ⊥) same narrow;
       },
-      is ∙ ap (λ xs. reduced xs row c) same,
+      is ∙ ap (λ xs. (arithmetic_of numbers).step xs row c) same,
     )
 
-pub step_too_wide : (kept : List KeptRow) (table : List (Option (List ℤ))) (row e : List ℤ) (c : ℕ) → AreRowsAt kept table →
-    Some e ≡ get_or table c None → at_column row c ≢ pos 0 → Passes (marked_in_step e row c) →
-    MeetsReduce kept row c × (MeetsSize kept row c → ⊥)
-step_too_wide kept table row e c rows some not_zero wide =
+pub step_too_wide : (numbers : Numbers) (kept : List KeptRow) (table : List (Option (List ℤ))) (row e : List ℤ) (c : ℕ) → AreRowsAt kept table →
+    Some e ≡ get_or table c None → at_column row c ≢ pos 0 → Passes ((arithmetic_of numbers).marked e row c) →
+    MeetsReduce kept row c × (HasSize numbers kept row c → ⊥)
+step_too_wide numbers kept table row e c rows some not_zero wide =
     let same = sym (entries_at kept table c e rows some).1 in (
       step_reduces kept table row e c rows some not_zero,
-      λ narrow. narrow (subst (λ (xs : List ℤ). Passes (marked_in_step xs row c)) same wide),
+      λ narrow. narrow (subst (λ (xs : List ℤ). Passes ((arithmetic_of numbers).marked xs row c)) same wide),
     )
 
 -- ---- a pivot

@@ -1,3 +1,4 @@
 pub mod Groups
+pub mod RowNumbers
 pub mod KeptTable
 pub mod GroupOutcomes

@@ -3,31 +3,33 @@ ghost use Rattle.std.specs.Prelude.{ℤ, pos, ◌≡◌, ◌<◌, ◌^◌, ◌�
 ghost use Rattle.std.specs.declared.option.Option.TheVariants.{Some, None};
 ghost use Rattle.gj_shape.specs.Additive.{IsTight};
 ghost use Rattle.gj_shape.specs.Elimination.{KeptRow};
-ghost use Rattle.gj_frac.specs.Fraction.{Fits};
+ghost use Rattle.gj_rank.specs.RowNumbers.{AreNumbers};
 ghost use Rattle.gj_rank.specs.KeptTable.{IsTable, AreRowsAt};
 ghost use Rattle.gj_proof.specs.ProofText.{IsRowNameBelow};
-ghost use Rattle.gj_proof.specs.Rules.{MeetsRow, MeetsPivot};
+ghost use Rattle.gj_proof.specs.Rules.{MeetsRow, MeetsPivot, MeetsPivotBy};
 ghost use Rattle.gj_rank.specs.GroupOutcomes.{IsStepOutcome, IsStepsOutcome, IsGroupOutcome};
 
 use crate::failure::{GroupFailure, GroupRule};
-use crate::step::reduce_by;
-use gj_proof::PivotRow;
+use crate::modulo::inverse_modulo;
+use crate::step::reduce;
+use gj_proof::{Numbers, PivotRow};
 use gj_shape::{List, RowName, Shape};
 
-/// The first rule that fails in a group, where the row is that of its name; none where all hold, and then the row is as its steps
+/// The first rule that fails in a group, if the row is that of its name; none if all hold, and then the row is as its steps
 /// leave it.
 pub(crate) fn failure_in_group(
+    numbers: Numbers,
     shape: &Shape,
     table: &[Option<List<i128>>],
     row: &mut [i128],
     group: &PivotRow,
 ) -> Option<GroupFailure>
     requires name { IsRowNameBelow shape.now.order group.now.name }
-    requires table { IsTable (length row.old) table.now }
-    requires fits { All Fits row.old }
+    requires table { IsTable numbers (length row.old) table.now }
+    requires fits { AreNumbers numbers row.old }
     ensures outcome { (kept : List KeptRow) → AreRowsAt kept table.now →
-        IsGroupOutcome shape.now (length row.old) kept row.old group.now row.new result }
-    ensures fits { IfNone result (All Fits row.new) }
+        IsGroupOutcome numbers shape.now (length row.old) kept row.old group.now row.new result }
+    ensures fits { IfNone result (AreNumbers numbers row.new) }
 {
     if !meets_row(shape, group.name) {
         return Some(GroupFailure {
@@ -36,10 +38,10 @@ pub(crate) fn failure_in_group(
         });
     }
     let columns = group.reduce.as_slice();
-    if let Some(failure) = failure_in_steps(table, row, columns) {
+    if let Some(failure) = failure_in_steps(numbers, table, row, columns) {
         return Some(failure);
     }
-    if !meets_pivot(table, row, group.pivot) {
+    if !meets_pivot_by(numbers, table, row, group.pivot) {
         return Some(GroupFailure {
             below: columns.len() + 1,
             rule: GroupRule::Pivot,
@@ -81,18 +83,19 @@ fn adds_up(x: i64, y: i64, sum: i64) -> bool
 
 /// Reduces a row at these columns in turn. The answer is the first rule that fails; the row is no longer used then.
 fn failure_in_steps(
+    numbers: Numbers,
     table: &[Option<List<i128>>],
     row: &mut [i128],
     columns: &[u32],
 ) -> Option<GroupFailure>
-    requires table { IsTable (length row.old) table.now }
-    requires fits { All Fits row.old }
+    requires table { IsTable numbers (length row.old) table.now }
+    requires fits { AreNumbers numbers row.old }
     ensures outcome { (kept : List KeptRow) → AreRowsAt kept table.now →
-        IsStepsOutcome kept row.old columns.now row.new result }
-    ensures fits { IfNone result (All Fits row.new) }
+        IsStepsOutcome numbers kept row.old columns.now row.new result }
+    ensures fits { IfNone result (AreNumbers numbers row.new) }
 {
     for (place, column) in columns.iter().enumerate() {
-        if let Some(rule) = failure_in_step(table, row, *column) {
+        if let Some(rule) = failure_in_step(numbers, table, row, *column) {
             return Some(GroupFailure {
                 below: place + 1,
                 rule,
@@ -103,12 +106,17 @@ fn failure_in_steps(
 }
 
 /// Reduces a row at a column. The answer is the first rule that fails; the row is no longer used then.
-fn failure_in_step(table: &[Option<List<i128>>], row: &mut [i128], column: u32) -> Option<GroupRule>
-    requires table { IsTable (length row.old) table.now }
-    requires fits { All Fits row.old }
+fn failure_in_step(
+    numbers: Numbers,
+    table: &[Option<List<i128>>],
+    row: &mut [i128],
+    column: u32,
+) -> Option<GroupRule>
+    requires table { IsTable numbers (length row.old) table.now }
+    requires fits { AreNumbers numbers row.old }
     ensures outcome { (kept : List KeptRow) → AreRowsAt kept table.now →
-        IsStepOutcome kept row.old column row.new result }
-    ensures fits { IfNone result (All Fits row.new) }
+        IsStepOutcome numbers kept row.old column row.new result }
+    ensures fits { IfNone result (AreNumbers numbers row.new) }
 {
     let column = column as usize;
     let kept = match row_at(table, column) {
@@ -118,7 +126,7 @@ fn failure_in_step(table: &[Option<List<i128>>], row: &mut [i128], column: u32) 
     if row[column] == 0 {
         return Some(GroupRule::Reduce);
     }
-    match reduce_by(kept, row, column) {
+    match reduce(numbers, kept, row, column) {
         Ok(()) => None,
         Err(_) => Some(GroupRule::Size),
     }
@@ -138,11 +146,28 @@ fn row_at(table: &[Option<List<i128>>], column: usize) -> Option<&[i128]>
     }
 }
 
+/// Whether a row of these numbers can be kept with its pivot at the column.
+fn meets_pivot_by(numbers: Numbers, table: &[Option<List<i128>>], row: &[i128], column: u32) -> bool
+    requires table { IsTable numbers (length row.now) table.now }
+    requires fits { AreNumbers numbers row.now }
+    ensures { (kept : List KeptRow) → AreRowsAt kept table.now →
+        (IsTrue result ↔ MeetsPivotBy numbers (length row.now) kept row.now column) }
+{
+    if !meets_pivot(table, row, column) {
+        return false;
+    }
+    match numbers {
+        Numbers::Whole => true,
+        Numbers::Residues => inverse_modulo(row[column as usize]).is_some(),
+    }
+}
+
 /// Whether the column is within the row and has no pivot yet, and the row is 0 before it and not 0 there.
 fn meets_pivot(table: &[Option<List<i128>>], row: &[i128], column: u32) -> bool
-    requires { IsTable (length row.now) table.now }
-    ensures { (kept : List KeptRow) → AreRowsAt kept table.now →
+    requires { length table.now ≡ length row.now }
+    ensures outcome { (kept : List KeptRow) → AreRowsAt kept table.now →
         (IsTrue result ↔ MeetsPivot (length row.now) kept row.now column) }
+    ensures within { IsTrue result → column < length row.now }
 {
     let column = column as usize;
     if column >= row.len() {

@@ -10,14 +10,15 @@ use crate::begin::begin_row;
 use crate::failure::GroupFailure;
 use crate::group::failure_in_group;
 use crate::keep::keep;
-use gj_proof::PivotRow;
+use gj_proof::{Numbers, PivotRow};
 use gj_shape::{List, Shape};
 use std::alloc::{AllocError, Global};
 
-/// The first rule that fails on the groups of a proof that a function is extreme, of the rules `row`, `reduce`, `size` and `pivot`;
-/// none where all hold. `component` has the component of each interval, and `count` is the number of components.
+/// The first rule that fails on the groups of a proof that a function is extreme by rows of these numbers, of the rules `row`,
+/// `reduce`, `size` and `pivot`; none if all hold. An error says that memory ran out. `component` has the component of each interval, and `count` is the number of components.
 pub fn failure_in_groups(
     alloc: Global,
+    numbers: Numbers,
     shape: &Shape,
     component: &[u32],
     count: u32,
@@ -26,12 +27,13 @@ pub fn failure_in_groups(
     requires order { length component.now ≡ shape.now.order }
     requires components { All (λ c. c < count) component.now }
     requires rows { All (IsPivotRowBelow shape.now.order) rows.now }
-    ensures { IfOk result (IsGroupsOutcome shape.now (component_in component.now) count rows.now) }
+    ensures { IfOk result (IsGroupsOutcome numbers shape.now (component_in component.now) count rows.now) }
 {
     let mut table = no_rows(alloc, count)?;
     let mut row = vec![in alloc; 0; count as usize]?;
     failure_in_turn(
         alloc,
+        numbers,
         shape,
         component,
         table.as_mut_slice(),
@@ -43,6 +45,7 @@ pub fn failure_in_groups(
 /// The first rule that fails on groups, from a table without rows on. The row is used for one group after another.
 fn failure_in_turn(
     alloc: Global,
+    numbers: Numbers,
     shape: &Shape,
     component: &[u32],
     table: &mut [Option<List<i128>>],
@@ -53,18 +56,18 @@ fn failure_in_turn(
     requires components { All (λ c. c < length row.old) component.now }
     requires rows { All (IsPivotRowBelow shape.now.order) rows.now }
     requires table { table.old ≡ map (λ i. None) (range_with_len 0 (length row.old)) }
-    ensures { IfOk result (IsGroupsOutcome shape.now (component_in component.now) (length row.old) rows.now) }
+    ensures { IfOk result (IsGroupsOutcome numbers shape.now (component_in component.now) (length row.old) rows.now) }
 {
     let mut above = 0;
     for group in rows {
-        begin_row(row, component, shape.place(), group.name);
-        if let Some(failure) = failure_in_group(shape, table, row, group) {
+        begin_row(numbers, row, component, shape.place(), group.name);
+        if let Some(failure) = failure_in_group(numbers, shape, table, row, group) {
             return Ok(Some(GroupFailure {
                 below: lines_behind(above, failure.below)?,
                 rule: failure.rule,
             }));
         }
-        keep(alloc, table, row, group.pivot)?;
+        keep(alloc, numbers, table, row, group.pivot)?;
         above = lines_behind(above, group.reduce.as_slice().len() + 2)?;
     }
     Ok(None)

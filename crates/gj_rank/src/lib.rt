@@ -2,8 +2,10 @@
 //!
 //! A group of lines names a row of the linear system for the slopes of a perturbation, reduces it by the rows that the groups
 //! before it keep, and keeps what is left. `failure_in_groups` takes the rules `row`, `reduce`, `size` and `pivot` of all groups in
-//! the order of their lines, and answers the first that fails. It calls nothing of the elimination that finds such rows: the step on
-//! two rows and the counts of a row, the natural loops for their definitions, are written out here too.
+//! the order of their lines, and answers the first that fails; in a proof by residues it takes `pivot` as that proof has it, and no
+//! `size`. The rule `rank`, that there are as many groups as components, is not among them. It calls nothing of the elimination that
+//! finds such rows: the steps on two rows, by whole numbers and by residues, and the counts of a row, the natural loops for their
+//! definitions, are written out here too.
 #![tactic(auto)]
 
 mod begin;
@@ -12,6 +14,8 @@ mod fitting;
 mod group;
 mod groups;
 mod keep;
+mod modulo;
+mod residue;
 mod rises;
 mod step;
 

@@ -4,9 +4,14 @@ ghost use Rattle.gj_shape.specs.Elimination.{at_column, divided, scaled, differe
 ghost use Rattle.gj_tools.specs.Divisors.{gcd_of};
 ghost use Rattle.gj_frac.specs.Fraction.{Fits};
 ghost use Rattle.gj_theory.specs.Fitting.{FitsCombined};
+ghost use Rattle.gj_proof.specs.PresentRows.{arithmetic_of};
+ghost use Rattle.gj_rank.specs.KeptTable.{IsKeptAt};
+ghost use Rattle.gj_rank.specs.RowNumbers.{AreNumbers};
 
 use crate::fitting::{TooWide, difference, product};
+use crate::modulo::reduce_modulo;
 use gj_frac::gcd;
+use gj_proof::Numbers;
 
 /// The greatest common divisor of the absolute values of two numbers, one of them at most 2^127 - 1 and not 0.
 pub(crate) fn common_divisor(n: i128, m: i128) -> i128
@@ -89,6 +94,30 @@ pub(crate) fn reduce_by(kept: &[i128], row: &mut [i128], column: usize) -> Resul
     combine(pivot / divisor, row, entry / divisor, kept)?;
     divide(row);
     Ok(())
+}
+
+/// Reduces a row of these numbers by a kept row with its pivot at the column. After an error some entries are changed.
+pub(crate) fn reduce(
+    numbers: Numbers,
+    kept: &[i128],
+    row: &mut [i128],
+    column: usize,
+) -> Result<(), TooWide>
+    requires within { column < length row.old }
+    requires kept { IsKeptAt numbers (length row.old) column kept.now }
+    requires row { AreNumbers numbers row.old }
+    ensures value { OnOk result (row.new ≡ (arithmetic_of numbers).step kept.now row.old column) }
+    ensures fits { OnOk result (AreNumbers numbers row.new) }
+    ensures narrow { OnOk result (¬ Passes ((arithmetic_of numbers).marked kept.now row.old column)) }
+    ensures wide { OnErr result (Passes ((arithmetic_of numbers).marked kept.now row.old column)) }
+{
+    match numbers {
+        Numbers::Whole => reduce_by(kept, row, column),
+        Numbers::Residues => {
+            reduce_modulo(kept, row, column);
+            Ok(())
+        }
+    }
 }
 
 /// Divides a row, and makes its entry at the column positive.

@@ -6,7 +6,7 @@ use crate::failure::{GroupFailure, GroupRule};
 use crate::groups::failure_in_groups;
 use crate::step::reduce_by;
 use gj_frac::Frac;
-use gj_proof::PivotRow;
+use gj_proof::{Numbers, PivotRow};
 use gj_shape::{List, RowName, Shape};
 use std::alloc::AllocError;
 use std::test::Fail;
@@ -48,9 +48,10 @@ fn group(
     })
 }
 
-/// The first failure in groups of a function of this order.
-fn failure_of(
+/// The first failure in groups of a function of this order, by rows of these numbers.
+fn failure_by(
     rt: &HostRuntime,
+    numbers: Numbers,
     shape: &Shape,
     order: u32,
     component: &[u32],
@@ -64,7 +65,23 @@ fn failure_of(
     if shape.order() != order {
         return Err("another order")?;
     }
-    Ok(failure_in_groups(rt.alloc(), shape, component, count, rows)?)
+    Ok(failure_in_groups(rt.alloc(), numbers, shape, component, count, rows)?)
+}
+
+/// The first failure in groups of a function of this order.
+fn failure_of(
+    rt: &HostRuntime,
+    shape: &Shape,
+    order: u32,
+    component: &[u32],
+    count: u32,
+    rows: &[PivotRow],
+) -> Result<Option<GroupFailure>, Fail>
+    requires order { length component.now ≡ order }
+    requires components { All (λ c. c < count) component.now }
+    requires rows { All (IsPivotRowBelow order) rows.now }
+{
+    failure_by(rt, Numbers::Whole, shape, order, component, count, rows)
 }
 
 /// A failure of a rule at a line of the groups, counted from 0.
@@ -115,6 +132,30 @@ fn order_five(rt: HostRuntime) -> Result<(), Fail> {
     assert_eq!(rt;
         failure_of(&rt, &shape, 5, &component, 2, &rows)?,
         fails(0, GroupRule::Row)
+    );
+    Ok(())
+}
+
+/// By residues: the rows (3, 2) and (3, 0) become (1, m) and (0, 1); without the step the second row is not 0 before column 1.
+#[test]
+fn order_five_by_residues(rt: HostRuntime) -> Result<(), Fail> {
+    let shape = function(&rt, 5, 3, &[0, 2, 4, 6, 3], 6)?;
+    let component = [0, 0, 0, 1, 1];
+    let rows = [
+        group(&rt, 5, RowName::Period, &[], 0)?,
+        group(&rt, 5, RowName::F, &[0], 1)?,
+    ];
+    assert_eq!(rt;
+        failure_by(&rt, Numbers::Residues, &shape, 5, &component, 2, &rows)?,
+        None
+    );
+    let rows = [
+        group(&rt, 5, RowName::Period, &[], 0)?,
+        group(&rt, 5, RowName::F, &[], 1)?,
+    ];
+    assert_eq!(rt;
+        failure_by(&rt, Numbers::Residues, &shape, 5, &component, 2, &rows)?,
+        fails(3, GroupRule::Pivot)
     );
     Ok(())
 }

@@ -65,6 +65,7 @@ pub mod ResiduePivots
 pub mod ResidueInsertions
 pub mod ResidueElimination
 pub mod Inverses
+pub mod Euclid
 pub mod Repeats
 pub mod RepeatedRows
 pub mod OrderedPairs

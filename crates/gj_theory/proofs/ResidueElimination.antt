@@ -117,28 +117,33 @@ triangular_pivots m n kept h full =
           (pos 1, zero_is m _ (pos 0) (ap (λ z. pos 1 *ℤ z -ℤ pos 1) (row g low).one) (zero_none m));
     }
 
-to_modulo : (m : ℕ) (w : List ℤ) (rows : List (List ℤ)) → All (Solves w) rows → All (SolvesModulo m w) rows
+pub to_modulo : (m : ℕ) (w : List ℤ) (rows : List (List ℤ)) → All (Solves w) rows → All (SolvesModulo m w) rows
 to_modulo m w [] all = All-nil (SolvesModulo m w)
 to_modulo m w (row ∷ rows) all =
     All-cons (SolvesModulo m w) row rows (zero_is m _ (pos 0) (All-head (Solves w) row rows all) (zero_none m))
     (to_modulo m w rows (All-tail (Solves w) row rows all))
 
+-- as many kept rows as columns, which each solution of some rows of whole numbers solves modulo m, leave those rows only 0
+pub kept_residues_leave_zero : (m n : ℕ) (kept : List KeptRow) (rows : List (List ℤ)) (w : List ℤ) → 1 < m → AreTriangularResidues n kept →
+    length kept ≡ n → ((v : List ℤ) → length v ≡ n → All (Solves v) rows → SolvesKeptModulo m v kept) →
+    length w ≡ n → All (Solves w) rows → All (λ x. x ≡ pos 0) w
+kept_residues_leave_zero m n kept rows w large h full solves long solved =
+    only_zero_of_rows m n (λ g. (get_or kept g no_row).entries) (λ g. (get_or kept g no_row).pivot) rows w large
+    (triangular_pivots m n kept h full)
+    (λ v len all g low. All-get_or (λ k. SolvesModulo m v k.entries) kept g no_row (omega arith) (solves v len all))
+    long solved
+
 pub elimination_modulo_zero : (m n : ℕ) (rows : List (List ℤ)) (w : List ℤ) → 1 < m → All (λ row. length row ≡ n) rows →
     length (elimination_by (modulo m) n rows).kept ≡ n → length w ≡ n → All (Solves w) rows → All (λ x. x ≡ pos 0) w
 elimination_modulo_zero m n rows w large columns full long solved =
     let some : 0 < m = omega arith in
-    let kept = (elimination_by (modulo m) n rows).kept in
-    only_zero_of_rows m n (λ g. (get_or kept g no_row).entries) (λ g. (get_or kept g no_row).pivot) rows w large
-    (triangular_pivots m n kept (elimination_modulo_triangular m n rows some columns) full)
-    (λ v len all g low.
-    All-get_or (λ k. SolvesModulo m v k.entries) kept g no_row (omega arith)
-    (elimination_modulo_solved m n rows v some columns (to_modulo m v rows all)))
-    long solved
+    kept_residues_leave_zero m n (elimination_by (modulo m) n rows).kept rows w large (elimination_modulo_triangular m n rows some columns)
+    full (λ v len all. elimination_modulo_solved m n rows v some columns (to_modulo m v rows all)) long solved
 
 -- ---- rows after several steps
 
 -- the row has n entries, or none
-abbrev HasColumns : ℕ → List ℤ → Type 0
+abbrev pub HasColumns : ℕ → List ℤ → Type 0
 HasColumns n row = (row ≡ []) ⊎ (length row ≡ n)
 
 -- a step by no row, and a step of no row, leave no entries
@@ -151,28 +156,45 @@ of_none : (m : ℕ) (kept : List ℤ) (c : ℕ) → reduced_modulo m kept [] c �
 unfolding reduced_modulo
 of_none m kept c = refl
 
-step_of : (m n : ℕ) (kept : List KeptRow) (row w : List ℤ) (c : ℕ) → 0 < m → All (λ k. length k.entries ≡ n) kept →
-    HasColumns n row → SolvesKeptModulo m w kept → SolvesModulo m w row → (o : Option KeptRow) → row_with_pivot kept c ≡ o →
-    HasColumns n (reduced_modulo m (entries_of o) row c) × SolvesModulo m w (reduced_modulo m (entries_of o) row c)
+step_columns : (m n : ℕ) (kept : List KeptRow) (row : List ℤ) (c : ℕ) → All (λ k. length k.entries ≡ n) kept → HasColumns n row →
+    (o : Option KeptRow) → row_with_pivot kept c ≡ o → HasColumns n (reduced_modulo m (entries_of o) row c)
 unfolding entries_of
-step_of m n kept row w c some columns has all solved None e =
-    let none = by_none m row c in (inl none, subst (SolvesModulo m w) (sym none) (zero_none m))
-step_of m n kept row w c some columns (inl is) all solved (Some k) e =
+step_columns m n kept row c columns has None e = inl (by_none m row c)
+step_columns m n kept row c columns (inl is) (Some k) e = inl (ap (λ r. reduced_modulo m k.entries r c) is ∙ of_none m k.entries c)
+step_columns m n kept row c columns (inr len) (Some k) e =
+    let same : length k.entries ≡ length row =
+    (find_has (λ r. length r.entries ≡ n) (λ r. eqb r.pivot c) kept k columns e).0 ∙ sym len in
+    inr (length-reduced_modulo m k.entries row c same ∙ len)
+
+pub columns_after_steps : (m n : ℕ) (kept : List KeptRow) (row : List ℤ) (columns : List ℕ) → All (λ k. length k.entries ≡ n) kept →
+    HasColumns n row → HasColumns n (present_row_by (modulo m) kept row columns)
+columns_after_steps m n kept row [] all has = has
+columns_after_steps m n kept row (c ∷ columns) all has =
+    columns_after_steps m n kept (reduced_modulo m (entries_of (row_with_pivot kept c)) row c) columns all
+    (step_columns m n kept row c all has (row_with_pivot kept c) refl)
+
+step_solves : (m n : ℕ) (kept : List KeptRow) (row w : List ℤ) (c : ℕ) → 0 < m → All (λ k. length k.entries ≡ n) kept →
+    HasColumns n row → SolvesKeptModulo m w kept → SolvesModulo m w row → (o : Option KeptRow) → row_with_pivot kept c ≡ o →
+    SolvesModulo m w (reduced_modulo m (entries_of o) row c)
+unfolding entries_of
+step_solves m n kept row w c some columns has all solved None e = subst (SolvesModulo m w) (sym (by_none m row c)) (zero_none m)
+step_solves m n kept row w c some columns (inl is) all solved (Some k) e =
     let none : reduced_modulo m k.entries row c ≡ [] = ap (λ r. reduced_modulo m k.entries r c) is ∙ of_none m k.entries c in
-    (inl none, subst (SolvesModulo m w) (sym none) (zero_none m))
-step_of m n kept row w c some columns (inr len) all solved (Some k) e =
+    subst (SolvesModulo m w) (sym none) (zero_none m)
+step_solves m n kept row w c some columns (inr len) all solved (Some k) e =
     let same : length k.entries ≡ length row =
     (find_has (λ r. length r.entries ≡ n) (λ r. eqb r.pivot c) kept k columns e).0 ∙ sym len in
     let by : SolvesModulo m w k.entries = (find_has (λ r. SolvesModulo m w r.entries) (λ r. eqb r.pivot c) kept k all e).0 in
-    (inr (length-reduced_modulo m k.entries row c same ∙ len), solves_reduced_modulo m k.entries row w c some same by solved)
+    solves_reduced_modulo m k.entries row w c some same by solved
 
 present_solved : (m n : ℕ) (kept : List KeptRow) (row w : List ℤ) (columns : List ℕ) → 0 < m →
     All (λ k. length k.entries ≡ n) kept → HasColumns n row → SolvesKeptModulo m w kept → SolvesModulo m w row →
     SolvesModulo m w (present_row_by (modulo m) kept row columns)
 present_solved m n kept row w [] some all has k solved = solved
 present_solved m n kept row w (c ∷ columns) some all has k solved =
-    let next = step_of m n kept row w c some all has k solved (row_with_pivot kept c) refl in
-    present_solved m n kept (reduced_modulo m (entries_of (row_with_pivot kept c)) row c) w columns some all next.0 k next.1
+    present_solved m n kept (reduced_modulo m (entries_of (row_with_pivot kept c)) row c) w columns some all
+    (step_columns m n kept row c all has (row_with_pivot kept c) refl) k
+    (step_solves m n kept row w c some all has k solved (row_with_pivot kept c) refl)
 
 pub present_row_solved_modulo : (m n : ℕ) (kept : List KeptRow) (row w : List ℤ) (columns : List ℕ) → 0 < m →
     All (λ k. length k.entries ≡ n) kept → length row ≡ n → SolvesKeptModulo m w kept → SolvesModulo m w row →

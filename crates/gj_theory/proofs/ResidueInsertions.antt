@@ -169,11 +169,12 @@ step_zero m n kept row c k h len found none =
     (λ j below. reduced_at_zero m k.entries row c j columns (is.zero_before j (subst (λ (i : ℕ). j < i) (sym at) below)) (none j below))
     (reduced_at_column m k.entries row c columns (subst (λ (i : ℕ). at_column k.entries i ≡ pos 1) at is.one))
 
-kept_here : (m n : ℕ) (kept : List KeptRow) (row : List ℤ) (c : ℕ) → 0 < m → length row ≡ n → c < n →
+-- a row that is 0 before a column without a pivot is kept there, if its entry has an inverse
+pub kept_here_modulo : (m n : ℕ) (kept : List KeptRow) (row : List ℤ) (c : ℕ) → 0 < m → length row ≡ n → c < n →
     row_with_pivot kept c ≡ None → IsZeroBefore row c → (o : Option ℕ) → inverse m (at_column row c) ≡ o →
     LeavesModulo m n kept row (with_pivot c (times_inverse m row o))
-kept_here m n kept row c some len below free none None e = tt
-kept_here m n kept row c some len below free none (Some u) e =
+kept_here_modulo m n kept row c some len below free none None e = tt
+kept_here_modulo m n kept row c some len below free none (Some u) e =
     let entry = λ (i : ℕ). at_residues m (scaled (pos u) row) i ∙ ap (residue m) (at_scaled (pos u) row i) in record {
       free = free;
       columns = length-map (scaled (pos u) row) (residue m) ∙ length-scaled (pos u) row ∙ len;
@@ -195,7 +196,7 @@ leaves_here : (m n : ℕ) (kept : List KeptRow) (a : ℕ) (row : List ℤ) (onwa
     LeavesModulo m n kept row (inserted_at_by (modulo m) o a row onward).kept
 unfolding inserted_at_by
 leaves_here m n kept a row onward some h below len none later None e =
-    kept_here m n kept row a some len below e none (inverse m (at_column row a)) refl
+    kept_here_modulo m n kept row a some len below e none (inverse m (at_column row a)) refl
 leaves_here m n kept a row onward some h below len none later (Some k) e =
     leaves_along m n kept row (reduced_modulo m k.entries row a) (onward (reduced_modulo m k.entries row a)).kept
     (step_solved m n kept row a k some h len e)

@@ -1,10 +1,11 @@
-use Rattle.std.proofs.Common.{◌≡◌, ◌+◌, true, false, OnOk, IfErr, sym, subst, subst₂, ◌∙◌, arith}
+use Rattle.std.proofs.Common.{rules, ◌≡◌, ◌+◌, true, false, OnOk, IfErr, sym, subst, subst₂, ◌∙◌, arith}
 use Rattle.gj_proof.specs.declared.claim.Claim.{Claim}
-use Rattle.gj_proof.specs.declared.claim.Claim.TheVariants.{Cut, Extreme, NotExtreme}
+use Rattle.gj_proof.specs.declared.claim.Claim.TheVariants.{Cut, Extreme, ExtremeByResidues, NotExtreme}
 use Rattle.gj_proof.specs.Rules.{MeetsRules}
 use Rattle.gj_check.specs.declared.rules.CheckRule.TheVariants.{Minimal, Point}
 use Rattle.gj_check.specs.FirstFailure.{IsFirstFailure, IsFaultOf}
 use Rattle.gj_check.proofs.DemandsOfClaims.{minimal_fails, point_fails, accepted_unless}
+use Rattle.gj_check.proofs.RulesGiveMeaning.{meaning_of_rules, accepted_holds}
 use Rattle.gj_check.proofs.checker.check.Goals as goal
 
 pub returns-then-not-is_minimal-clause-fault : goal.returns-then-not-is_minimal-clause-fault
@@ -44,8 +45,42 @@ returns-in-Extreme-clause-only c =
     (subst₂ (λ lines rows. IfErr c.check_extreme.result (IsFaultOf (Extreme c.in-Extreme.shape lines rows)))
     c.as_slice-in-Extreme.ensures c.as_slice-in-Extreme-2.ensures c.check_extreme.ensures.fault))
 
+pub returns-in-ExtremeByResidues-clause-ok : goal.returns-in-ExtremeByResidues-clause-ok
+returns-in-ExtremeByResidues-clause-ok c =
+    let is : ExtremeByResidues c.in-ExtremeByResidues.shape c.in-ExtremeByResidues.lines c.in-ExtremeByResidues.rows ≡ c.args.proof.now = sym c.in-ExtremeByResidues.is ∙ c.claim.ensures.claim in
+    subst (λ (d : Claim). OnOk c.check_extreme-in-ExtremeByResidues.result (MeetsRules d)) is
+    (subst₂ (λ lines rows. OnOk c.check_extreme-in-ExtremeByResidues.result (MeetsRules (ExtremeByResidues c.in-ExtremeByResidues.shape lines rows)))
+    c.as_slice-in-ExtremeByResidues.ensures c.as_slice-in-ExtremeByResidues-2.ensures c.check_extreme-in-ExtremeByResidues.ensures.ok)
+
+pub returns-in-ExtremeByResidues-clause-only : goal.returns-in-ExtremeByResidues-clause-only
+returns-in-ExtremeByResidues-clause-only c =
+    let is : ExtremeByResidues c.in-ExtremeByResidues.shape c.in-ExtremeByResidues.lines c.in-ExtremeByResidues.rows ≡ c.args.proof.now = sym c.in-ExtremeByResidues.is ∙ c.claim.ensures.claim in
+    accepted_unless c.args.proof.now c.check_extreme-in-ExtremeByResidues.result
+    (subst (λ (d : Claim). IfErr c.check_extreme-in-ExtremeByResidues.result (IsFaultOf d)) is
+    (subst₂ (λ lines rows. IfErr c.check_extreme-in-ExtremeByResidues.result (IsFaultOf (ExtremeByResidues c.in-ExtremeByResidues.shape lines rows)))
+    c.as_slice-in-ExtremeByResidues.ensures c.as_slice-in-ExtremeByResidues-2.ensures c.check_extreme-in-ExtremeByResidues.ensures.fault))
+
 pub returns-in-NotExtreme-clause-only : goal.returns-in-NotExtreme-clause-only
 returns-in-NotExtreme-clause-only c =
     let is : NotExtreme c.in-NotExtreme.shape c.in-NotExtreme.halves ≡ c.args.proof.now = sym c.in-NotExtreme.is ∙ c.claim.ensures.claim in
     accepted_unless c.args.proof.now c.check_halves.result
     (subst (λ (d : Claim). IfErr c.check_halves.result (IsFaultOf d)) is c.check_halves.ensures.fault)
+
+pub returns-else-not-is_minimal-clause-holds : goal.returns-else-not-is_minimal-clause-holds
+returns-else-not-is_minimal-clause-holds c = λ b. meaning_of_rules c.args.proof.now b c.claim.ensures.has_text (search rules)
+
+pub returns-else-not-is_shown-clause-holds : goal.returns-else-not-is_shown-clause-holds
+returns-else-not-is_shown-clause-holds c = λ b. meaning_of_rules c.args.proof.now b c.claim.ensures.has_text (search rules)
+
+pub returns-in-Cut-clause-holds : goal.returns-in-Cut-clause-holds
+returns-in-Cut-clause-holds c = accepted_holds c.args.proof.now _ c.claim.ensures.has_text (search rules)
+
+pub returns-in-Extreme-clause-holds : goal.returns-in-Extreme-clause-holds
+returns-in-Extreme-clause-holds c = accepted_holds c.args.proof.now _ c.claim.ensures.has_text (returns-in-Extreme-clause-ok c)
+
+pub returns-in-ExtremeByResidues-clause-holds : goal.returns-in-ExtremeByResidues-clause-holds
+returns-in-ExtremeByResidues-clause-holds c =
+    accepted_holds c.args.proof.now _ c.claim.ensures.has_text (returns-in-ExtremeByResidues-clause-ok c)
+
+pub returns-in-NotExtreme-clause-holds : goal.returns-in-NotExtreme-clause-holds
+returns-in-NotExtreme-clause-holds c = accepted_holds c.args.proof.now _ c.claim.ensures.has_text (search rules)

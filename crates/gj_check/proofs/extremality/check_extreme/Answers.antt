@@ -1,6 +1,5 @@
 use Rattle.std.proofs.Common.{◌≡◌, ◌+◌, ℕ, List, length, get_or, sym, subst, subst₂, ◌∙◌, arith}
-use Rattle.gj_proof.specs.declared.claim.Claim.TheVariants.{Extreme}
-use Rattle.gj_proof.specs.ProofText.{group_lines}
+use Rattle.gj_proof.specs.ProofText.{extreme_claim, modulus_lines, group_lines}
 use Rattle.gj_rank.specs.Groups.{IsGroupsOutcome}
 use Rattle.gj_check.specs.declared.rules.CheckRule.TheVariants.{Cover, Rank}
 use Rattle.gj_check.specs.CoverLines.{IsCoverOutcome}
@@ -11,11 +10,11 @@ use Rattle.gj_check.proofs.extremality.check_extreme.Goals as goal
 
 pub returns-then-not-is_minimal-clause-fault : goal.returns-then-not-is_minimal-clause-fault
 returns-then-not-is_minimal-clause-fault c =
-    extreme_not_minimal c.args.shape.now c.args.lines.now c.args.rows.now (denied _ _ c.if-not-is_minimal.true c.is_minimal.ensures)
+    extreme_not_minimal c.args.numbers c.args.shape.now c.args.lines.now c.args.rows.now (denied _ _ c.if-not-is_minimal.true c.is_minimal.ensures)
 
 pub returns-then-not-is_continuous-clause-fault : goal.returns-then-not-is_continuous-clause-fault
 returns-then-not-is_continuous-clause-fault c =
-    extreme_not_continuous c.args.shape.now c.args.lines.now c.args.rows.now (c.is_minimal.ensures.0 c.if-not-is_minimal.false)
+    extreme_not_continuous c.args.numbers c.args.shape.now c.args.lines.now c.args.rows.now (c.is_minimal.ensures.0 c.if-not-is_minimal.false)
     (denied _ _ c.if-not-is_continuous.true c.is_continuous.ensures)
 
 pub returns-in-BrokenAt-clause-fault : goal.returns-in-BrokenAt-clause-fault
@@ -24,8 +23,8 @@ returns-in-BrokenAt-clause-fault c =
     let lines = c.args.lines.now in
     let rows = c.args.rows.now in
     let order : c.from-order.result ≡ f.order = c.from-order.ensures ∙ c.order.ensures.value in
-    subst (λ (n : ℕ). IsFirstFailure (Extreme f lines rows) (n + 5 + c.in-BrokenAt.index) Cover) (sym order)
-    (extreme_cover_broken f lines rows c.in-BrokenAt.index (c.is_minimal.ensures.0 c.if-not-is_minimal.false)
+    subst (λ (n : ℕ). IsFirstFailure (extreme_claim c.args.numbers f lines rows) (n + 5 + c.in-BrokenAt.index) Cover) (sym order)
+    (extreme_cover_broken c.args.numbers f lines rows c.in-BrokenAt.index (c.is_minimal.ensures.0 c.if-not-is_minimal.false)
     (c.is_continuous.ensures.0 c.if-not-is_continuous.false)
     (subst (IsCoverOutcome f lines) c.in-BrokenAt.is c.in_ok-components.ensures))
 
@@ -37,14 +36,15 @@ returns-in-Some-clause-fault c =
     let components = c.in-Whole.components in
     let failure = c.in-Some.failure in
     let whole = subst (IsCoverOutcome f lines) c.in-Whole.is c.in_ok-components.ensures in
-    let outcome = subst₂ (λ (number : List ℕ) r. IsGroupsOutcome f (λ i. get_or number i 0) components.count rows r)
+    let outcome = subst₂ (λ (number : List ℕ) r. IsGroupsOutcome c.args.numbers f (λ i. get_or number i 0) components.count rows r)
     c.as_slice-number.ensures.value c.in-Some.is c.in_ok-failure.ensures in
     let order : c.from-order.result ≡ f.order = c.from-order.ensures ∙ c.order.ensures.value in
     let count = c.requires.count in
     let line = c.in_ok-line.ensures in
-    let number : f.order + length lines + 5 + failure.below ≡ c.in_ok-line.line = omega arith in
-    subst₂ (IsFirstFailure (Extreme f lines rows)) number (sym c.rule_on_groups.ensures)
-    (extreme_group_fails f lines rows components failure c.order.ensures.limits (c.is_minimal.ensures.0 c.if-not-is_minimal.false)
+    let first = c.first_group_line-groups.ensures in
+    let number : f.order + length lines + 5 + length (modulus_lines c.args.numbers) + failure.below ≡ c.in_ok-line.line = omega arith in
+    subst₂ (IsFirstFailure (extreme_claim c.args.numbers f lines rows)) number (sym c.rule_on_groups.ensures)
+    (extreme_group_fails c.args.numbers f lines rows components failure c.order.ensures.limits (c.is_minimal.ensures.0 c.if-not-is_minimal.false)
     (c.is_continuous.ensures.0 c.if-not-is_continuous.false) c.requires.rows whole.0 whole.1 outcome)
 
 pub returns-then-rows-components-clause-fault : goal.returns-then-rows-components-clause-fault
@@ -54,14 +54,15 @@ returns-then-rows-components-clause-fault c =
     let rows = c.args.rows.now in
     let components = c.in-Whole.components in
     let whole = subst (IsCoverOutcome f lines) c.in-Whole.is c.in_ok-components.ensures in
-    let outcome = subst₂ (λ (number : List ℕ) r. IsGroupsOutcome f (λ i. get_or number i 0) components.count rows r)
+    let outcome = subst₂ (λ (number : List ℕ) r. IsGroupsOutcome c.args.numbers f (λ i. get_or number i 0) components.count rows r)
     c.as_slice-number.ensures.value c.in_default.is c.in_ok-failure.ensures in
     let order : c.from-order.result ≡ f.order = c.from-order.ensures ∙ c.order.ensures.value in
     let count = c.requires.count in
     let line = c.in_ok-line-2.ensures in
-    let number : f.order + 5 + length lines + length (group_lines 0 rows) ≡ c.in_ok-line-2.line = omega arith in
-    subst (λ (n : ℕ). IsFirstFailure (Extreme f lines rows) n Rank) number
-    (extreme_rank_fails f lines rows components c.order.ensures.limits (c.is_minimal.ensures.0 c.if-not-is_minimal.false)
+    let first = c.first_group_line-groups.ensures in
+    let number : f.order + 5 + length lines + length (modulus_lines c.args.numbers) + length (group_lines 0 rows) ≡ c.in_ok-line-2.line = omega arith in
+    subst (λ (n : ℕ). IsFirstFailure (extreme_claim c.args.numbers f lines rows) n Rank) number
+    (extreme_rank_fails c.args.numbers f lines rows components c.order.ensures.limits (c.is_minimal.ensures.0 c.if-not-is_minimal.false)
     (c.is_continuous.ensures.0 c.if-not-is_continuous.false) c.requires.rows whole.0 whole.1 outcome c.if-rows-components.true)
 
 pub returns-clause-ok : goal.returns-clause-ok
@@ -71,7 +72,7 @@ returns-clause-ok c =
     let rows = c.args.rows.now in
     let components = c.in-Whole.components in
     let whole = subst (IsCoverOutcome f lines) c.in-Whole.is c.in_ok-components.ensures in
-    let outcome = subst₂ (λ (number : List ℕ) r. IsGroupsOutcome f (λ i. get_or number i 0) components.count rows r)
+    let outcome = subst₂ (λ (number : List ℕ) r. IsGroupsOutcome c.args.numbers f (λ i. get_or number i 0) components.count rows r)
     c.as_slice-number.ensures.value c.in_default.is c.in_ok-failure.ensures in
-    extreme_meets f lines rows components c.order.ensures.limits (c.is_minimal.ensures.0 c.if-not-is_minimal.false)
+    extreme_meets c.args.numbers f lines rows components c.order.ensures.limits (c.is_minimal.ensures.0 c.if-not-is_minimal.false)
     (c.is_continuous.ensures.0 c.if-not-is_continuous.false) c.requires.rows whole.0 whole.1 outcome c.if-rows-components.false

@@ -11,14 +11,14 @@ returns-then-not-is_within_limits-clause-beyond c xs h meets =
 
 pub returns-then-multiple-clause-beyond : goal.returns-then-multiple-clause-beyond
 returns-then-multiple-clause-beyond c =
-    let m = c.least_common_multiple-multiple.result in
+    let m = c.lcm-multiple.result in
     beyond_multiple c.args.common m c.args.x
-    (subst (λ (d : ℕ). IsLcm c.args.common d m) c.denominator_of.ensures.value c.least_common_multiple-multiple.ensures)
+    (subst (λ (d : ℕ). IsLcm c.args.common d m) c.denominator_of.ensures.value c.lcm-multiple.ensures)
     (omega (arith, c.if-multiple.true))
 
 pub returns-clause-within : goal.returns-clause-within
 returns-clause-within c =
-    let m = c.least_common_multiple-multiple.result in
+    let m = c.lcm-multiple.result in
     extends c.args.common m c.args.x (c.if-not-is_within_limits.ensures.0 refl)
-    (subst (λ (d : ℕ). IsLcm c.args.common d m) c.denominator_of.ensures.value c.least_common_multiple-multiple.ensures)
+    (subst (λ (d : ℕ). IsLcm c.args.common d m) c.denominator_of.ensures.value c.lcm-multiple.ensures)
     (omega (arith, c.if-multiple.false))

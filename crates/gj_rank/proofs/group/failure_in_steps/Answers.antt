@@ -10,7 +10,7 @@ returns-in-Some-clause-outcome c kept rows =
     record {
       index = r;
       below = refl;
-      fails = stepped_fails kept c.args.row.now columns r (get_or columns r 0) c.loop-place.row c.in-Some.rule
+      fails = stepped_fails c.args.numbers kept c.args.row.now columns r (get_or columns r 0) c.loop-place.row c.in-Some.rule
           (c.loop-place.invariant.stepped kept rows) (omega arith) (get_or_default columns r 0 (get_or columns r 0) (omega arith))
           (c.in-Some.ensures.outcome kept rows);
     }
@@ -22,12 +22,12 @@ loop-place-preserved c =
     record {
       fits = c.in_default.ensures.fits;
       stepped = λ kept rows.
-          stepped_more kept c.args.row.now columns r (get_or columns r 0) c.loop-place.row c.failure_in_step.new.row
+          stepped_more c.args.numbers kept c.args.row.now columns r (get_or columns r 0) c.loop-place.row c.failure_in_step.new.row
           (c.loop-place.invariant.stepped kept rows) (omega arith) (get_or_default columns r 0 (get_or columns r 0) (omega arith))
           (c.in_default.ensures.outcome kept rows);
     }
 
 pub returns-clause-outcome : goal.returns-clause-outcome
 returns-clause-outcome c kept rows =
-    stepped_all kept c.args.row.now c.args.columns.now c.loop-place.place c.loop-place.row
+    stepped_all c.args.numbers kept c.args.row.now c.args.columns.now c.loop-place.place c.loop-place.row
     (c.loop-place.invariant.stepped kept rows) (omega arith)

@@ -5,4 +5,4 @@ use Rattle.gj_rank.proofs.groups.failure_in_turn.Given as goal
 
 abbrev pub invariant-loop-group : goal.invariant-loop-group
 invariant-loop-group l =
-    AreChecked l.shape (component_in l.component) (length l.initial.row) l.rows l.group-index l.table l.above
+    AreChecked l.numbers l.shape (component_in l.component) (length l.initial.row) l.rows l.group-index l.table l.above

@@ -1,0 +1,48 @@
+//! The line of the modulus, read.
+ghost use Rattle.std.specs.Prelude.{IfOk, IfErr};
+ghost use Rattle.gj_lex.specs.Words.{word_texts};
+ghost use Rattle.gj_lex.specs.Parts.{line_part, IsFaultOf};
+ghost use Rattle.gj_lex.specs.declared.spelling.Spelling.TheVariants.{Strict};
+ghost use Rattle.gj_proof.specs.ProofGrammar.{modulus_rule, modulus_part};
+
+use crate::fields::whole_of;
+use crate::numbers::{MODULUS, Numbers};
+use gj_lex::{PartFault, Reason, Spelling, field_of, line_at};
+
+/// What follows the line of the modulus in a text by residues; the text itself in one by whole numbers, which has none.
+/// It takes no memory.
+pub(crate) fn modulus_at(text: &[u8], numbers: Numbers) -> Result<&[u8], PartFault>
+    ensures found { IfOk result (λ rest. (modulus_part numbers).Reads text.now tt rest.now) }
+    ensures fault { IfErr result (IsFaultOf (modulus_part numbers) text.now) }
+{
+    match numbers {
+        Numbers::Whole => Ok(text),
+        Numbers::Residues => behind_modulus(text),
+    }
+}
+
+/// What follows the line of the modulus.
+fn behind_modulus(text: &[u8]) -> Result<&[u8], PartFault>
+    ensures found { IfOk result (λ rest. (line_part Strict modulus_rule).Reads text.now tt rest.now) }
+    ensures fault { IfErr result (IsFaultOf (line_part Strict modulus_rule) text.now) }
+{
+    let line = line_at(Spelling::Strict, text)?;
+    match test_modulus(line.bytes) {
+        Ok(()) => Ok(line.rest),
+        Err(reason) => Err(PartFault::at(line.start, reason)),
+    }
+}
+
+/// Ok if the line tells the modulus.
+fn test_modulus(line: &[u8]) -> Result<(), Reason>
+    ensures found { IfOk result (λ u. modulus_rule.Spells (word_texts line.now) tt) }
+    ensures fault { IfErr result (modulus_rule.Breaks (word_texts line.now)) }
+{
+    let Some(word) = field_of(line, b"modulus") else {
+        return Err(Reason::Form);
+    };
+    match whole_of(word) {
+        Some(n) if n == MODULUS => Ok(()),
+        _ => Err(Reason::Number),
+    }
+}
