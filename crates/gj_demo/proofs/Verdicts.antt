@@ -4,7 +4,7 @@ use Rattle.gj_shape.specs.FunctionData.{FunctionData, IsWithinBounds, IsJump, at
 use Rattle.gj_shape.specs.declared.extremality.Halves.{Halves}
 use Rattle.gj_theory.proofs.Violations.{first_shown, violation_denies}
 use Rattle.gj_proof.specs.declared.claim.Claim.{Claim}
-use Rattle.gj_proof.specs.declared.claim.Claim.TheVariants.{Minimal, NotMinimal, Cut, Extreme, NotExtreme}
+use Rattle.gj_proof.specs.declared.claim.Claim.TheVariants.{Minimal, NotMinimal, Cut, Extreme, ExtremeByResidues, NotExtreme}
 use Rattle.gj_extreme.specs.Decision.{IsDecided, IsTooWide}
 use Rattle.gj_extreme.proofs.DecidedHolds.{extreme_holds}
 use Rattle.gj_extreme.proofs.FewComponents.{few_components as few_are_narrow}
@@ -20,6 +20,7 @@ demo_decided n f (NotMinimal g v) some h bounds (is, first) =
 demo_decided n f (Cut rule rows) some h bounds decided = absurd decided
 demo_decided n f (Extreme g lines rows) some h bounds (is, minimal, continuous, rows_are) =
     absurd (demo_not_extreme n f some h bounds (extreme_holds f lines rows bounds minimal continuous rows_are))
+demo_decided n f (ExtremeByResidues g lines rows) some h bounds decided = absurd decided
 demo_decided n f (NotExtreme g halves) some h bounds (is, minimal, continuous, rest) = (halves, ap (λ x. NotExtreme x halves) is)
 
 pub demo_not_wide : (n : ℕ) (f : FunctionData) → IsDemo n f → IsWithinBounds f → IsTooWide f → ⊥

@@ -14,7 +14,7 @@ use Rattle.gj_theory.proofs.Eliminations.{elimination_has, zeros_of}
 use Rattle.gj_theory.proofs.ExtremeByCover.{extreme_by_cover}
 use Rattle.gj_theory.proofs.Violations.{first_shown}
 use Rattle.gj_proof.specs.declared.claim.Claim.{Claim}
-use Rattle.gj_proof.specs.declared.claim.Claim.TheVariants.{Minimal, NotMinimal, Cut, Extreme, NotExtreme}
+use Rattle.gj_proof.specs.declared.claim.Claim.TheVariants.{Minimal, NotMinimal, Cut, Extreme, ExtremeByResidues, NotExtreme}
 use Rattle.gj_proof.specs.declared.pivot.PivotRow.{PivotRow}
 use Rattle.gj_proof.specs.Meaning.{ClaimHolds}
 use Rattle.gj_proof.specs.PresentRows.{named_row}
@@ -43,6 +43,7 @@ decided_holds f (NotMinimal g v) l h =
 decided_holds f (Cut rule rows) l h = absurd h
 decided_holds f (Extreme g lines rows) l h =
     subst (λ (x : FunctionData). ClaimHolds (Extreme x lines rows)) (sym h.0) (h.2, extreme_holds f lines rows l h.1 h.2 h.3)
+decided_holds f (ExtremeByResidues g lines rows) l h = absurd h
 decided_holds f (NotExtreme g halves) l (is, minimal, continuous, inl zig) =
     subst (λ (x : FunctionData). ClaimHolds (NotExtreme x halves)) (sym is)
     (continuous, minimal, (4, 3 * zig.halves.p, omega arith, zig.halves.order, zig.halves.scale, zigzag_halves f halves l continuous minimal zig))

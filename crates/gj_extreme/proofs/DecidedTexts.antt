@@ -13,7 +13,7 @@ use Rattle.gj_shape.specs.declared.extremality.CoverLine.{CoverLine}
 use Rattle.gj_proof.specs.PresentRows.{named_row}
 use Rattle.gj_proof.specs.ProofText.{IsBounded, HaveFewSteps, IsProofText}
 use Rattle.gj_proof.specs.declared.claim.Claim.{Claim}
-use Rattle.gj_proof.specs.declared.claim.Claim.TheVariants.{Minimal, NotMinimal, Cut, Extreme, NotExtreme}
+use Rattle.gj_proof.specs.declared.claim.Claim.TheVariants.{Minimal, NotMinimal, Cut, Extreme, ExtremeByResidues, NotExtreme}
 use Rattle.gj_proof.specs.declared.pivot.PivotRow.{PivotRow}
 use Rattle.gj_proof.proofs.ShortTexts.{text_is_short, extreme_text_is_short}
 use Rattle.gj_extreme.specs.Decision.{AreExtremeRows, IsDecided, group_of, slope_elimination}
@@ -91,6 +91,7 @@ decided_is_bounded f (NotExtreme g h) within d = subst IsWithinBounds (sym d.0) 
 decided_is_bounded f (NotMinimal g v) within d = subst IsWithinBounds (sym d.0) within
 decided_is_bounded f (Minimal g) within d = absurd d
 decided_is_bounded f (Cut r rows) within d = absurd d
+decided_is_bounded f (ExtremeByResidues g lines rows) within d = absurd d
 
 pub decided_text_is_short : (f : FunctionData) (c : Claim) (text : List ℕ) → IsWithinBounds f → IsDecided f c → IsProofText c text →
     length text ≤ 12000000
@@ -103,3 +104,4 @@ decided_text_is_short f (NotMinimal g v) text within d p =
     omega (arith, text_is_short (NotMinimal g v) text tt (decided_is_bounded f (NotMinimal g v) within d) p)
 decided_text_is_short f (Minimal g) text within d p = absurd d
 decided_text_is_short f (Cut r rows) text within d p = absurd d
+decided_text_is_short f (ExtremeByResidues g lines rows) text within d p = absurd d

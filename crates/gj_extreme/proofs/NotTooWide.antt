@@ -14,7 +14,7 @@ use Rattle.gj_theory.proofs.FirstFailed.{first_denies}
 use Rattle.gj_theory.proofs.Kernels.{kernel_none}
 use Rattle.gj_theory.proofs.TestsFromMinimal.{tests_from_minimal}
 use Rattle.gj_proof.specs.declared.claim.Claim.{Claim}
-use Rattle.gj_proof.specs.declared.claim.Claim.TheVariants.{Minimal, NotMinimal, Cut, Extreme, NotExtreme}
+use Rattle.gj_proof.specs.declared.claim.Claim.TheVariants.{Minimal, NotMinimal, Cut, Extreme, ExtremeByResidues, NotExtreme}
 use Rattle.gj_proof.specs.declared.pivot.PivotRow.{PivotRow}
 use Rattle.gj_proof.specs.PresentRows.{named_row}
 use Rattle.gj_proof.specs.ProofText.{HasText}
@@ -82,6 +82,7 @@ decided_not_wide f (Minimal g) l minimal text h wide = h
 decided_not_wide f (NotMinimal g v) l minimal text h wide = first_denies f v h.1 (tests_from_minimal f l minimal)
 decided_not_wide f (Cut rule rows) l minimal text h wide = h
 decided_not_wide f (Extreme g lines rows) l minimal text h wide = extreme_not_wide f lines rows l h.3 wide
+decided_not_wide f (ExtremeByResidues g lines rows) l minimal text h wide = h
 decided_not_wide f (NotExtreme g halves) l minimal text (is, same_minimal, continuous, inl zig) wide =
     zigzag_not_covered f halves wide.lines wide.component wide.n zig wide.covered
 decided_not_wide f (NotExtreme g halves) l minimal text (is, same_minimal, continuous, inr slope) wide =

@@ -31,7 +31,7 @@ use Rattle.gj_theory.proofs.Zigzags.{same_tests}
 use Rattle.gj_cover.specs.CoverOf.{IsLeastClass}
 use Rattle.gj_cover.proofs.Joining.{covered_on, covered_directly}
 use Rattle.gj_proof.specs.declared.claim.Claim.{Claim}
-use Rattle.gj_proof.specs.declared.claim.Claim.TheVariants.{Minimal, NotMinimal, Cut, Extreme, NotExtreme}
+use Rattle.gj_proof.specs.declared.claim.Claim.TheVariants.{Minimal, NotMinimal, Cut, Extreme, ExtremeByResidues, NotExtreme}
 use Rattle.gj_proof.specs.declared.pivot.PivotRow.{PivotRow}
 use Rattle.gj_extreme.specs.Decision.{AreAllCovered, slope_elimination, group_of, slope_perturbation, AreExtremeRows, AreZigzagHalves, AreSlopeHalves, IsDecided}
 use Rattle.gj_extreme.proofs.DecidedGroups.{elimination_same, map_same}
@@ -224,11 +224,13 @@ extreme_no_halves f lines rows h l minimal continuous is (inr slope) =
 pub one_decision : (f : FunctionData) (c d : Claim) → IsWithinBounds f → IsDecided f c → IsDecided f d → c ≡ d
 one_decision f (Minimal g) d l h k = absurd h
 one_decision f (Cut rule rows) d l h k = absurd h
+one_decision f (ExtremeByResidues g lines rows) d l h k = absurd h
 one_decision f (NotMinimal g v) (Minimal g') l h k = absurd k
 one_decision f (NotMinimal g v) (Cut rule rows) l h k = absurd k
 one_decision f (NotMinimal g v) (NotMinimal g' w) l h k =
     ap₂ (λ x y. NotMinimal x y) (h.0 ∙ sym k.0) (one_violation f v w l h.1 k.1)
 one_decision f (NotMinimal g v) (Extreme g' lines rows) l h k = absurd (first_denies f v h.1 (tests_from_minimal f l k.1))
+one_decision f (NotMinimal g v) (ExtremeByResidues g' lines rows) l h k = absurd k
 one_decision f (NotMinimal g v) (NotExtreme g' halves) l h k = absurd (first_denies f v h.1 (tests_from_minimal f l k.1))
 one_decision f (Extreme g lines rows) (Minimal g') l h k = absurd k
 one_decision f (Extreme g lines rows) (Cut rule cuts) l h k = absurd k
@@ -236,10 +238,12 @@ one_decision f (Extreme g lines rows) (NotMinimal g' v) l h k = absurd (first_de
 one_decision f (Extreme g lines rows) (Extreme g' others more) l h k =
     let one = one_rows f lines others rows more l h.3 k.3 in
     ap (λ x. Extreme x lines rows) (h.0 ∙ sym k.0) ∙ ap₂ (λ x y. Extreme g' x y) one.0 one.1
+one_decision f (Extreme g lines rows) (ExtremeByResidues g' others more) l h k = absurd k
 one_decision f (Extreme g lines rows) (NotExtreme g' halves) l h k = absurd (extreme_no_halves f lines rows halves l h.1 h.2 h.3 k.3)
 one_decision f (NotExtreme g halves) (Minimal g') l h k = absurd k
 one_decision f (NotExtreme g halves) (Cut rule rows) l h k = absurd k
 one_decision f (NotExtreme g halves) (NotMinimal g' v) l h k = absurd (first_denies f v k.1 (tests_from_minimal f l h.1))
 one_decision f (NotExtreme g halves) (Extreme g' lines rows) l h k = absurd (extreme_no_halves f lines rows halves l k.1 k.2 k.3 h.3)
+one_decision f (NotExtreme g halves) (ExtremeByResidues g' lines rows) l h k = absurd k
 one_decision f (NotExtreme g halves) (NotExtreme g' others) l h k =
     ap₂ (λ x y. NotExtreme x y) (h.0 ∙ sym k.0) (one_halves f halves others l h.3 k.3)

@@ -14,7 +14,7 @@ use Rattle.gj_theory.proofs.TwoSlopes.{minimal_values, rises_and_falls}
 use Rattle.gj_theory.proofs.TwoSlopesAreExtreme.{two_slopes_extreme}
 use Rattle.gj_proof.specs.Meaning.{ShowHalves}
 use Rattle.gj_proof.specs.declared.claim.Claim.{Claim}
-use Rattle.gj_proof.specs.declared.claim.Claim.TheVariants.{Minimal, NotMinimal, Cut, Extreme, NotExtreme}
+use Rattle.gj_proof.specs.declared.claim.Claim.TheVariants.{Minimal, NotMinimal, Cut, Extreme, ExtremeByResidues, NotExtreme}
 use Rattle.gj_extreme.specs.Decision.{IsDecided, IsExtremeClaim, IsTooWide}
 use Rattle.gj_extreme.specs.Faults.{IsMemoryFault}
 use Rattle.gj_extreme.specs.declared.faults.DecideFault.{DecideFault}
@@ -33,6 +33,7 @@ two_slopes_decided f (Minimal g) l minimal two h = absurd h
 two_slopes_decided f (NotMinimal g v) l minimal two h = absurd (first_denies f v h.1 (tests_from_minimal f l minimal))
 two_slopes_decided f (Cut rule rows) l minimal two h = absurd h
 two_slopes_decided f (Extreme g lines rows) l minimal two h = (lines, rows, ap (λ x. Extreme x lines rows) h.0)
+two_slopes_decided f (ExtremeByResidues g lines rows) l minimal two h = absurd h
 two_slopes_decided f (NotExtreme g halves) l minimal two h =
     let (same_continuous, same_minimal, shown) = decided_holds f (NotExtreme f halves) l (refl, h.1, h.2, h.3) in
     absurd (shown_halves_deny f halves shown (two_slopes_extreme f l minimal two))

@@ -16,7 +16,7 @@ use Rattle.gj_shape.specs.declared.extremality.RowName.TheVariants.{Period}
 use Rattle.gj_cover.specs.CoverOf.{IsLeastClass}
 use Rattle.gj_proof.specs.PresentRows.{AreNumbersOf, named_row}
 use Rattle.gj_proof.specs.declared.claim.Claim.{Claim}
-use Rattle.gj_proof.specs.declared.claim.Claim.TheVariants.{Minimal, NotMinimal, Cut, Extreme, NotExtreme}
+use Rattle.gj_proof.specs.declared.claim.Claim.TheVariants.{Minimal, NotMinimal, Cut, Extreme, ExtremeByResidues, NotExtreme}
 use Rattle.gj_proof.specs.declared.pivot.PivotRow.{PivotRow}
 
 -- ---- the linear system for the slopes
@@ -75,6 +75,7 @@ IsDecided f (Minimal g) = ⊥
 IsDecided f (NotMinimal g v) = (g ≡ f) × IsFirstViolation f v
 IsDecided f (Cut rule rows) = ⊥
 IsDecided f (Extreme g lines rows) = (g ≡ f) × IsMinimal f × IsContinuous f × AreExtremeRows f lines rows
+IsDecided f (ExtremeByResidues g lines rows) = ⊥
 IsDecided f (NotExtreme g h) = (g ≡ f) × IsMinimal f × IsContinuous f × (AreZigzagHalves f h ⊎ AreSlopeHalves f h)
 
 -- it is that the function is extreme, by cover lines and rows
@@ -93,6 +94,7 @@ IsByTable f (Minimal g) = Unit {0}
 IsByTable f (NotMinimal g v) = Unit {0}
 IsByTable f (Cut rule rows) = Unit {0}
 IsByTable f (Extreme g lines rows) = IsExtremeOnGrid4 f
+IsByTable f (ExtremeByResidues g lines rows) = IsExtremeOnGrid4 f
 IsByTable f (NotExtreme g h) = IsExtremeOnGrid4 f → ⊥
 
 -- ---- where it gives none

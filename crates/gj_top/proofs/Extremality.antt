@@ -9,7 +9,7 @@ use Rattle.gj_theory.proofs.DecidingGrid.{four_times_decides}
 use Rattle.gj_theory.proofs.Fillings.{halves_deny}
 use Rattle.gj_theory.proofs.Violations.{violation_denies}
 use Rattle.gj_proof.specs.declared.claim.Claim.{Claim}
-use Rattle.gj_proof.specs.declared.claim.Claim.TheVariants.{Minimal, NotMinimal, Cut, Extreme, NotExtreme}
+use Rattle.gj_proof.specs.declared.claim.Claim.TheVariants.{Minimal, NotMinimal, Cut, Extreme, ExtremeByResidues, NotExtreme}
 use Rattle.gj_proof.specs.ProofText.{IsProofText}
 use Rattle.gj_proof.specs.Meaning.{ClaimHolds, ShowHalves}
 use Rattle.gj_proof.proofs.OneText.{one_claim}
@@ -58,6 +58,7 @@ by_claim f (NotMinimal g v) text within d shown p =
     ))
 by_claim f (Minimal g) text within d shown p = absurd d
 by_claim f (Cut r rows) text within d shown p = absurd d
+by_claim f (ExtremeByResidues g lines rows) text within d shown p = absurd d
 
 pub extremality_true : (f : FunctionData) (text : List ℕ) → IsWithinBounds f → IsDecisionText f text → IsTrueExtremality f text
 extremality_true f text within d = by_claim f d.claim text within d.decided d.holds d.spelled

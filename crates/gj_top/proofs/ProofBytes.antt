@@ -30,7 +30,7 @@ use Rattle.gj_shape.specs.declared.points.Point.{Point}
 use Rattle.gj_shape.specs.declared.violations.Violation.{Violation}
 use Rattle.gj_shape.specs.declared.violations.Violation.TheVariants as violation
 use Rattle.gj_proof.specs.declared.claim.Claim.{Claim}
-use Rattle.gj_proof.specs.declared.claim.Claim.TheVariants.{Minimal, NotMinimal, Cut, Extreme, NotExtreme}
+use Rattle.gj_proof.specs.declared.claim.Claim.TheVariants.{Minimal, NotMinimal, Cut, Extreme, ExtremeByResidues, NotExtreme}
 use Rattle.gj_proof.specs.declared.cut.CutLine.{CutLine}
 use Rattle.gj_proof.specs.declared.cut.CutLine.TheVariants as cuts
 use Rattle.gj_proof.specs.declared.cut.CutRule.TheVariants.{Gmic, Table}
@@ -38,7 +38,10 @@ use Rattle.gj_proof.specs.declared.cut.CutTerm.{CutTerm}
 use Rattle.gj_proof.specs.declared.cut.SkipReason.{SkipReason}
 use Rattle.gj_proof.specs.declared.cut.SkipReason.TheVariants.{Integral, Other}
 use Rattle.gj_lex.specs.Name.{IsNameByte, IsName}
-use Rattle.gj_proof.specs.ProofText.{HasText, IsCoverLineBelow, IsRowNameBelow, IsPivotRowBelow, covered_lines, group_line, reduction_lines, pivot_line, group_lines, halves_line, pair_line, pair_lines, claim_word, OwnLine, own_lines, violation_line, row_line, term_line, reason_word, terms_of, term_lines, row_lines, HasNames, subject_of, AreSubjectLines, IsBounded, IsProofText}
+use Rattle.gj_theory.specs.Modulus.{modulus}
+use Rattle.gj_proof.specs.declared.numbers.Numbers.{Numbers}
+use Rattle.gj_proof.specs.declared.numbers.Numbers.TheVariants.{Whole, Residues}
+use Rattle.gj_proof.specs.ProofText.{title_text, numbers_of, modulus_line, modulus_lines, HasText, IsCoverLineBelow, IsRowNameBelow, IsPivotRowBelow, covered_lines, group_line, reduction_lines, pivot_line, group_lines, halves_line, pair_line, pair_lines, claim_word, OwnLine, own_lines, violation_line, row_line, term_line, reason_word, terms_of, term_lines, row_lines, HasNames, subject_of, AreSubjectLines, IsBounded, IsProofText}
 use Rattle.gj_proof.specs.ProofText.ProofLine.{group_pivot}
 use Rattle.gj_proof.specs.declared.pivot.PivotRow.{PivotRow}
 use Rattle.gj_proof.proofs.OwnLines.{names_of_terms}
@@ -134,6 +137,7 @@ claim_word_printable (Minimal f) = known (codes "minimal") refl
 claim_word_printable (NotMinimal f v) = known (codes "not-minimal") refl
 claim_word_printable (Cut r rows) = known (codes "cut") refl
 claim_word_printable (Extreme f lines rows) = known (codes "extreme") refl
+claim_word_printable (ExtremeByResidues f lines rows) = known (codes "extreme") refl
 claim_word_printable (NotExtreme f h) = known (codes "not-extreme") refl
 
 subject_bytes : (c : Claim) (text : List ℕ) → IsBounded c → AreSubjectLines (subject_of c) text → All IsProofByte text
@@ -141,6 +145,7 @@ subject_bytes (Minimal f) text within a = function_bytes f text within a
 subject_bytes (NotMinimal f v) text within a = function_bytes f text within a
 subject_bytes (Cut (Table f) rows) text within a = function_bytes f text within.0 a
 subject_bytes (Extreme f lines rows) text within a = function_bytes f text within a
+subject_bytes (ExtremeByResidues f lines rows) text within a = function_bytes f text within a
 subject_bytes (NotExtreme f h) text within a = function_bytes f text within a
 subject_bytes (Cut Gmic rows) text within a =
     subst (All IsProofByte) (sym a) (line_bytes (codes "rule gmic") (known (codes "rule gmic") refl))
@@ -327,6 +332,16 @@ pairs_bytes i (x ∷ xs) (y ∷ ys) h k =
     (pair_bytes x y (All-head Fits x xs h) (All-head Fits y ys k))
     (pairs_bytes (i + 1) xs ys (All-tail Fits x xs h) (All-tail Fits y ys k))
 
+modulus_bytes : All IsProofByte modulus_line
+modulus_bytes =
+    line_bytes (codes "modulus " ++ decimal modulus)
+    (joined (codes "modulus ") (decimal modulus) (known (codes "modulus ") refl)
+    (All-weaker IsAsciiDigit IsPrintable (λ b d. number_printable b (inl d)) (decimal modulus) (decimal_bytes modulus (omega arith))))
+
+title_bytes : (numbers : Numbers) → All IsProofByte (line (title_text numbers))
+title_bytes Whole = line_bytes (codes "gj-proof 1") (known (codes "gj-proof 1") refl)
+title_bytes Residues = line_bytes (codes "gj-proof 2") (known (codes "gj-proof 2") refl)
+
 -- ---- all lines of the claim's own
 
 own_bytes : (c : Claim) → IsBounded c → HasText c → All IsProofByte (flat_map (λ l. l.bytes) (own_lines c))
@@ -337,6 +352,11 @@ own_bytes (Extreme f lines rows) within has =
     All-flat_map IsProofByte (λ (l : OwnLine). l.bytes) (covered_lines 0 lines ++ group_lines 0 rows)
     (All-append (λ (l : OwnLine). All IsProofByte l.bytes) (covered_lines 0 lines) (group_lines 0 rows)
     (covers_bytes f.order 0 lines within.order_high has.1) (groups_bytes f.order 0 rows within.order_high has.2))
+own_bytes (ExtremeByResidues f lines rows) within has =
+    All-flat_map IsProofByte (λ (l : OwnLine). l.bytes) (covered_lines 0 lines ++ (modulus_lines Residues ++ group_lines 0 rows))
+    (All-append (λ (l : OwnLine). All IsProofByte l.bytes) (covered_lines 0 lines) (modulus_lines Residues ++ group_lines 0 rows)
+    (covers_bytes f.order 0 lines within.order_high has.1)
+    (All-cons (λ (o : OwnLine). All IsProofByte o.bytes) _ (group_lines 0 rows) modulus_bytes (groups_bytes f.order 0 rows within.order_high has.2)))
 own_bytes (NotExtreme f h) within has =
     both (halves_line h) (flat_map (λ (l : OwnLine). l.bytes) (pair_lines 0 (zip h.first h.second))) (halves_bytes h has)
     (All-flat_map IsProofByte (λ (l : OwnLine). l.bytes) (pair_lines 0 (zip h.first h.second))
@@ -344,14 +364,14 @@ own_bytes (NotExtreme f h) within has =
 
 pub proof_bytes : (c : Claim) (text : List ℕ) → IsBounded c → IsProofText c text → All IsProofByte text
 proof_bytes c text within p =
-    let head = line (codes "gj-proof 1") ++ line (codes "claim " ++ claim_word c) in
+    let head = line (title_text (numbers_of c)) ++ line (codes "claim " ++ claim_word c) in
     let own = flat_map (λ (l : OwnLine). l.bytes) (own_lines c) in
     subst (All IsProofByte) (sym p.spelled)
     (both (head ++ p.subject ++ own) (line (codes "end"))
     (both (head ++ p.subject) own
     (both head p.subject
-    (both (line (codes "gj-proof 1")) (line (codes "claim " ++ claim_word c))
-    (line_bytes (codes "gj-proof 1") (known (codes "gj-proof 1") refl))
+    (both (line (title_text (numbers_of c))) (line (codes "claim " ++ claim_word c))
+    (title_bytes (numbers_of c))
     (line_bytes (codes "claim " ++ claim_word c)
     (joined (codes "claim ") (claim_word c) (known (codes "claim ") refl) (claim_word_printable c))))
     (subject_bytes c p.subject within p.are_subject_lines))
@@ -360,6 +380,6 @@ proof_bytes c text within p =
 
 pub proof_is_ended : (c : Claim) (text : List ℕ) → IsProofText c text → IsEnded text
 proof_is_ended c text p =
-    let front = line (codes "gj-proof 1") ++ line (codes "claim " ++ claim_word c) ++ p.subject
+    let front = line (title_text (numbers_of c)) ++ line (codes "claim " ++ claim_word c) ++ p.subject
     ++ flat_map (λ (l : OwnLine). l.bytes) (own_lines c) in
     inr (front ++ codes "end", p.spelled ∙ sym (append_assoc front (codes "end") (10 ∷ [])))

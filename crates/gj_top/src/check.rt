@@ -46,6 +46,7 @@ fn accepted(alloc: Global, claim: &Claim) -> Result<Vec<u8>, AllocError>
         Claim::NotMinimal(_, _) => Vec::from_slice(alloc, b"accepted not-minimal\n"),
         Claim::Cut(_, _) => Vec::from_slice(alloc, b"accepted cut\n"),
         Claim::Extreme(_, _, _) => Vec::from_slice(alloc, b"accepted extreme\n"),
+        Claim::ExtremeByResidues(_, _, _) => Vec::from_slice(alloc, b"accepted extreme\n"),
         Claim::NotExtreme(_, _) => Vec::from_slice(alloc, b"accepted not-extreme\n"),
     }
 }

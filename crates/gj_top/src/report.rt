@@ -26,6 +26,7 @@ fn claim_word(claim: &Claim) -> &'static str
         Claim::NotMinimal(_, _) => "not-minimal",
         Claim::Cut(_, _) => "cut",
         Claim::Extreme(_, _, _) => "extreme",
+        Claim::ExtremeByResidues(_, _, _) => "extreme",
         Claim::NotExtreme(_, _) => "not-extreme",
     }
 }
