@@ -20,7 +20,7 @@ use Rattle.gj_top.specs.Continuity.{NamesFirstJump}
 -- the text is that of the function of n x with the place (f + j)/n, which is minimal exactly if the function is
 pub record IsTimesText (n j : ℕ) (f : FunctionData) (text : List ℕ) : Type 0 where
   pub function : FunctionData
-  pub times : IsTimesOf f n j function
+  pub is_times : IsTimesOf f n j function
   pub minimal : IsMinimal f ↔ IsMinimal function
   pub spelled : IsCanonicalText text function
 
@@ -44,7 +44,7 @@ times n j = record {
 -- the text is that of the function of -x with the place 1 - f, which is minimal, and extreme, exactly if the function is
 pub record IsMirrorText (f : FunctionData) (text : List ℕ) : Type 0 where
   pub function : FunctionData
-  pub mirror : IsMirrorOf f function
+  pub is_mirror : IsMirrorOf f function
   pub minimal : IsMinimal f ↔ IsMinimal function
   pub extreme : IsExtreme f ↔ IsExtreme function
   pub spelled : IsCanonicalText text function
@@ -69,7 +69,7 @@ mirror = record {
 pub record IsRestrictionText (d : ℕ) (f : FunctionData) (text : List ℕ) : Type 0 where
   pub continuous : IsContinuous f
   pub function : FunctionData
-  pub restriction : IsRestrictionOf f d function
+  pub is_restriction : IsRestrictionOf f d function
   pub minimal : IsMinimal f → IsMinimal function
   pub spelled : IsCanonicalText text function
 
