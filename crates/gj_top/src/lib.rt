@@ -34,14 +34,14 @@ mod reply;
 mod report;
 mod show;
 mod status;
-mod transform;
 #[cfg(test)]
 mod tests;
+mod transform;
 
 use answer::answer_to;
 pub use laws::{
     extreme_exactly_where_order_4q_is, one_proof_in_a_report, shown_text_is_read,
-    written_proofs_are_accepted,
+    two_slopes_are_called_extreme, written_proofs_are_accepted,
 };
 pub use status::Status;
 

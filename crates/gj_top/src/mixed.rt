@@ -27,11 +27,7 @@ pub(crate) fn reply(alloc: Global, input: &[u8]) -> Result<Reply, Unanswered>
 }
 
 /// The mixed cuts of the rows of the tableau, or the first violation or the first jump of the function of the rule.
-fn mixed_or_violation(
-    alloc: Global,
-    rule: &CutRule,
-    tableau: &Tableau,
-) -> Result<Reply, AllocError>
+fn mixed_or_violation(alloc: Global, rule: &CutRule, tableau: &Tableau) -> Result<Reply, AllocError>
     requires rule { IsBoundedRule rule.now }
     requires tableau { IsTableau tableau.now }
     ensures { IfOk result (λ reply. IsMixedReply (record { «rule» = rule.now; tableau = tableau.now }) reply.end reply.text.items) }
