@@ -12,11 +12,7 @@ use std::alloc::{AllocError, Global};
 
 /// Appends the lines of a rule: `rule gmic`, or those of its function. An error says that memory ran out; `out` may then have a
 /// part of them.
-pub fn push_rule_lines(
-    alloc: Global,
-    out: &mut Vec<u8>,
-    rule: &CutRule,
-) -> Result<(), AllocError>
+pub fn push_rule_lines(alloc: Global, out: &mut Vec<u8>, rule: &CutRule) -> Result<(), AllocError>
     ensures { OnOk result ((lines : List ℕ) × AreSubjectLines (subject_of_rule rule.now) lines
         × (out.new.items ≡ out.old.items ++ lines)) }
 {
