@@ -1,6 +1,6 @@
 -- The decision on the function of the demonstration is always that it is not extreme.
-use Rattle.std.proofs.Common.{◌≡◌, ℕ, ◌≤◌, inl, inr, sym, ap, subst}
-use Rattle.gj_shape.specs.FunctionData.{FunctionData, IsWithinBounds, IsJump, at}
+use Rattle.std.proofs.Common.{◌≡◌, ℕ, ◌≤◌, sym, ap, subst}
+use Rattle.gj_shape.specs.FunctionData.{FunctionData, IsWithinBounds, IsJump}
 use Rattle.gj_shape.specs.declared.extremality.Halves.{Halves}
 use Rattle.gj_theory.proofs.Violations.{first_shown, violation_denies}
 use Rattle.gj_proof.specs.declared.claim.Claim.{Claim}
@@ -8,9 +8,10 @@ use Rattle.gj_proof.specs.declared.claim.Claim.TheVariants.{Minimal, NotMinimal,
 use Rattle.gj_extreme.specs.Decision.{IsDecided, IsTooWide}
 use Rattle.gj_extreme.proofs.DecidedHolds.{extreme_holds}
 use Rattle.gj_extreme.proofs.FewComponents.{few_components as few_are_narrow}
+use Rattle.gj_extreme.proofs.TwoSlopeDecisions.{continuous_no_jump}
 use Rattle.gj_demo.specs.Demo.{IsDemo}
 use Rattle.gj_demo.proofs.FewComponents.{few_components}
-use Rattle.gj_demo.proofs.Values.{demo_minimal, demo_not_extreme}
+use Rattle.gj_demo.proofs.Values.{demo_continuous, demo_minimal, demo_not_extreme}
 
 pub demo_decided : (n : ℕ) (f : FunctionData) (c : Claim) → 1 ≤ n → IsDemo n f → IsWithinBounds f → IsDecided f c →
     (h : Halves) × (c ≡ NotExtreme f h)
@@ -30,5 +31,4 @@ demo_not_wide n f h bounds wide =
     (subst (λ m. m ≤ 4) (sym covered.count) (few_components n f wide.lines h bounds covered.are_lines)) wide
 
 pub demo_no_jump : (n : ℕ) (f : FunctionData) (i : ℕ) → IsDemo n f → IsJump f i → ⊥
-demo_no_jump n f i h (inl differs) = differs (ap (λ xs. at xs i) h.left)
-demo_no_jump n f i h (inr differs) = differs (ap (λ xs. at xs i) (sym h.right))
+demo_no_jump n f i h = continuous_no_jump f i (demo_continuous n f h)

@@ -1,12 +1,10 @@
 -- The proof text of a decision keeps what is promised of it, and calls f extreme exactly where the table of order 4 q is.
 use Rattle.std.proofs.Common.{◌≡◌, ◌↔◌, ◌*◌, ℕ, inl, inr, List, Result, Err, subst, arith}
-use Rattle.gj_shape.specs.FunctionData.{FunctionData, IsWithinBounds, IsContinuous, IsFirstJump, at}
+use Rattle.gj_shape.specs.FunctionData.{FunctionData, IsWithinBounds, IsContinuous, IsFirstJump}
 use Rattle.gj_shape.specs.Table.{table, IsMinimal}
 use Rattle.gj_shape.specs.Extreme.{IsExtreme, IsExtremeTable}
 use Rattle.gj_shape.specs.Violation.{ShowsViolation}
-use Rattle.gj_shape.specs.declared.extremality.Halves.{Halves}
 use Rattle.gj_theory.proofs.DecidingGrid.{four_times_decides}
-use Rattle.gj_theory.proofs.Fillings.{halves_deny}
 use Rattle.gj_theory.proofs.Violations.{violation_denies}
 use Rattle.gj_proof.specs.declared.claim.Claim.{Claim}
 use Rattle.gj_proof.specs.declared.claim.Claim.TheVariants.{Minimal, NotMinimal, Cut, Extreme, ExtremeByResidues, NotExtreme}
@@ -17,15 +15,11 @@ use Rattle.gj_extreme.specs.Decision.{IsDecided, IsTooWide}
 use Rattle.gj_extreme.specs.declared.faults.DecideFault.{DecideFault}
 use Rattle.gj_extreme.specs.declared.faults.DecideFault.TheVariants as fault
 use Rattle.gj_extreme.proofs.DecidedTexts.{decided_is_bounded}
+use Rattle.gj_extreme.proofs.TwoSlopeDecisions.{shown_halves_deny}
 use Rattle.gj_top.specs.Minimal.{IsNotMinimalText}
 use Rattle.gj_top.specs.Extreme.{IsDecisionText, IsExtremeText, IsNotExtremeText, IsTrueExtremality, IsUndecided, extreme}
 
 -- ---- what is promised
-
--- the halves deny that f is extreme
-denied_by : (f : FunctionData) (h : Halves) → ShowHalves f h → IsExtreme f → ⊥
-denied_by f h (m, c, some, order, scale, halves) extreme =
-    halves_deny (table f m) (f.order * m) (f.place * m) (f.scale * m) c (at h.first) (at h.second) halves (extreme m some)
 
 by_claim : (f : FunctionData) (c : Claim) (text : List ℕ) → IsWithinBounds f → IsDecided f c → ClaimHolds c → IsProofText c text →
     IsTrueExtremality f text
@@ -45,7 +39,7 @@ by_claim f (NotExtreme g h) text within d (continuous, minimal, shown) p =
       subst IsContinuous e continuous,
       subst IsMinimal e minimal,
       here,
-      denied_by f h here,
+      shown_halves_deny f h here,
     ))
 by_claim f (NotMinimal g v) text within d shown p =
     let e : g ≡ f = d.0 in

@@ -6,7 +6,8 @@ ghost use Rattle.gj_top.specs.declared.reply.End.TheVariants as end;
 ghost use Rattle.gj_top.specs.declared.status.Status.{Status};
 ghost use Rattle.gj_top.specs.declared.status.Status.TheVariants.{Done};
 ghost use Rattle.gj_shape.specs.FunctionData.{FunctionData, IsContinuous};
-ghost use Rattle.gj_shape.specs.Table.{table};
+ghost use Rattle.gj_shape.specs.Table.{table, IsMinimal};
+ghost use Rattle.gj_shape.specs.TwoSlopes.{HasTwoSlopes};
 ghost use Rattle.gj_shape.specs.Extreme.{IsExtremeTable};
 ghost use Rattle.gj_ftext.specs.FunctionText.{IsWholeFunctionText};
 ghost use Rattle.gj_proof.specs.declared.claim.Claim.{Claim};
@@ -42,6 +43,15 @@ pub fn extreme_exactly_where_order_4q_is()
     ensures { (f : FunctionData) (input text : List ℕ) → IsWholeFunctionText input f → IsReply extreme input end.Done text →
         IsExtremeText f text
         ↔ (IsContinuous f × IsExtremeTable (table f 4) (f.order * 4) (f.place * 4) (f.scale * 4)) }
+{}
+
+/// A minimal continuous function with two slopes is always called extreme: `extreme` tells of it neither that
+/// a number is too wide nor that it jumps (Gomory and Johnson 1972).
+pub fn two_slopes_are_called_extreme()
+    ensures answer { (f : FunctionData) (input text : List ℕ) (s : Status) → IsWholeFunctionText input f → IsMinimal f → HasTwoSlopes f →
+        length input ≤ input_limit → IsAnswerTo extreme input s text → (s ≡ Done) × IsExtremeText f text }
+    ensures reply { (f : FunctionData) (input text : List ℕ) (e : End) → IsWholeFunctionText input f → IsMinimal f → HasTwoSlopes f →
+        IsReply extreme input e text → (e ≡ end.Done) × IsExtremeText f text }
 {}
 
 /// What `show` writes is a function text of the function that it read, and `show` writes it again as it stands.
