@@ -1,7 +1,6 @@
 -- The command `mixed`: a function or a rule, and a tableau behind it of which columns may be continuous, are answered with the mixed cuts
 -- of its rows (Gomory and Johnson 1972; the form is own).
 use Rattle.std.specs.Prelude.{ℕ, List}
-use Rattle.gj_shape.specs.FunctionData.{FunctionData}
 use Rattle.gj_shape.specs.Table.{IsMinimal}
 use Rattle.gj_proof.specs.declared.cut.CutRule.{CutRule}
 use Rattle.gj_proof.specs.declared.cut.CutRule.TheVariants.{Gmic, Table}
