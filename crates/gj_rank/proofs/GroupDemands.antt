@@ -14,7 +14,7 @@ use Rattle.gj_proof.specs.declared.pivot.PivotRow.{PivotRow}
 use Rattle.gj_proof.specs.PresentRows.{arithmetic_of, begun_row, rows_before_by}
 use Rattle.gj_proof.specs.ProofText.{OwnLine, group_line, reduction_line, pivot_line, reduction_lines, group_lines}
 use Rattle.gj_proof.specs.ProofText.ProofLine.{group, reduction, group_pivot}
-use Rattle.gj_proof.specs.Rules.{Demand, AtIndex, MeetsRow, MeetsReduce, MeetsSize, size_demands, step_demands_by, group_demands_by, line_of}
+use Rattle.gj_proof.specs.Rules.{Demand, AtIndex, MeetsRow, MeetsReduce, size_demands, step_demands_by, group_demands_by, line_of}
 use Rattle.gj_proof.specs.Rules.Demand.{row, reduce, size, pivot}
 use Rattle.gj_rank.specs.declared.failure.GroupRule.{GroupRule}
 use Rattle.gj_rank.specs.declared.failure.GroupRule.TheVariants.{Reduce, Size}

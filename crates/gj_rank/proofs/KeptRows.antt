@@ -1,5 +1,5 @@
 -- What a row is when it is kept.
-use Rattle.std.proofs.Common.{◌≡◌, ℕ, ℤ, pos, ◌*ℤ◌, List, length, sym, ap, subst, ◌∙◌}
+use Rattle.std.proofs.Common.{◌≡◌, ℕ, ℤ, pos, ◌*ℤ◌, List, length, sym, subst, ◌∙◌}
 use Rattle.std.specs.Prelude.{Option, None, Some, All}
 use Rattle.std.proofs.lemmas.List.{length-map}
 use Rattle.gj_frac.specs.Fraction.{Fits}
@@ -10,7 +10,6 @@ use Rattle.gj_theory.proofs.Entries.{kept_at_pivot}
 use Rattle.gj_theory.proofs.Steps.{length-kept_entries}
 use Rattle.gj_proof.specs.declared.numbers.Numbers.TheVariants.{Whole, Residues}
 use Rattle.gj_proof.specs.Rules.{MeetsPivot}
-use Rattle.gj_rank.specs.RowNumbers.{IsResidue}
 use Rattle.gj_rank.specs.KeptTable.{IsKeptAt}
 use Rattle.gj_rank.proofs.ResidueRows.{all_residues}
 

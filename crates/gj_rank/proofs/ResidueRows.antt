@@ -1,17 +1,17 @@
 -- Rows of residues: their entries, computed one after another.
-use Rattle.std.proofs.Common.{◌≡◌, ℕ, zero, suc, ◌+◌, ◌*◌, ◌<◌, ◌≤◌, ◌^◌, ℤ, pos, ◌-ℤ◌, ◌*ℤ◌, ◌≤ℤ◌, ◌<ℤ◌, List, [], ◌∷◌, length, map, get_or, set, below_more, get_or-set_same, get_or-set_other, refl, sym, ap, subst, ◌∙◌, arith, lit<, ◌↔◌, ◌⊎◌, inl, inr, Bool, true, false, IsTrue, unsigned_abs}
+use Rattle.std.proofs.Common.{◌≡◌, ℕ, ◌+◌, ◌<◌, ◌≤◌, ℤ, pos, ◌-ℤ◌, ◌*ℤ◌, List, [], ◌∷◌, length, map, get_or, set, below_more, get_or-set_same, get_or-set_other, refl, sym, ap, subst, ◌∙◌, arith, lit<, ◌↔◌, ◌⊎◌, inl, inr, Bool, false, IsTrue, unsigned_abs}
 use Rattle.std.specs.Prelude.{All, Option, None, Some, IfSome, is_some}
 use Rattle.std.proofs.lemmas.Bool.{cases_eq}
 use Rattle.std.proofs.lemmas.Int.{ints}
-use Rattle.std.proofs.lemmas.List.{same_lists, get_or_default, length-map}
-use Rattle.std.proofs.lemmas.List.Elements.{All-map, All-get_or}
+use Rattle.std.proofs.lemmas.List.{same_lists, get_or_default}
+use Rattle.std.proofs.lemmas.List.Elements.{All-map}
 use Rattle.gj_tools.specs.Divisors.{gcd_of}
 use Rattle.gj_shape.specs.Elimination.{at_column, scaled, differences}
 use Rattle.gj_shape.specs.Residues.{residue, residues, inverse, reduced_modulo, IsZeroModulo}
 use Rattle.gj_theory.specs.Modulus.{modulus}
 use Rattle.gj_theory.proofs.Inverses.{inverse_found, inverse_none}
 use Rattle.gj_theory.proofs.Modulo.{residue_below}
-use Rattle.gj_theory.proofs.ResidueInsertions.{at_reduced_modulo, length-reduced_modulo}
+use Rattle.gj_theory.proofs.ResidueInsertions.{at_reduced_modulo}
 use Rattle.gj_rank.specs.RowNumbers.{IsResidue}
 
 -- ---- residues
@@ -28,11 +28,6 @@ all_residues row = All-map IsResidue (residue modulus) row (λ i d below. residu
 pub reduced_residues : (kept row : List ℤ) (c : ℕ) → All IsResidue (reduced_modulo modulus kept row c)
 unfolding reduced_modulo
 reduced_residues kept row c = all_residues (differences row (scaled (at_column row c) kept))
-
--- as a natural number
-pub natural : (x : ℤ) → IsResidue x → (n : ℕ) × (x ≡ pos n) × (n < modulus)
-natural (pos n) h = (n, refl, omega (arith, ints, h.below))
-natural x h = absurd (omega (arith, ints, h.low))
 
 -- an inverse is one
 pub inverse_is_residue : (x : ℤ) (w : ℕ) → inverse modulus x ≡ Some w → IsResidue (pos w)
@@ -65,9 +60,6 @@ multiplied u (x ∷ row) = ap (λ xs. residue modulus (u *ℤ x) ∷ xs) (multip
 pub record AreDone (f : ℕ → ℤ) (old row : List ℤ) (i : ℕ) : Type 0 where
   pub done : (k : ℕ) → k < i → at_column row k ≡ f k
   pub later : (k : ℕ) → i ≤ k → at_column row k ≡ at_column old k
-
-pub done_start : (f : ℕ → ℤ) (old : List ℤ) → AreDone f old old 0
-done_start f old = record { done = λ k below. absurd (omega arith); later = λ k from. refl }
 
 pub done_more : (f : ℕ → ℤ) (old row : List ℤ) (i : ℕ) (z : ℤ) → AreDone f old row i → i < length row → z ≡ f i →
     AreDone f old (set row i z) (i + 1)

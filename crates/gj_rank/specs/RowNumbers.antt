@@ -1,5 +1,5 @@
 -- The numbers that the rows of a proof may have (own).
-use Rattle.std.specs.Prelude.{ℕ, ℤ, pos, ◌≤ℤ◌, ◌<ℤ◌, List, All}
+use Rattle.std.specs.Prelude.{ℤ, pos, ◌≤ℤ◌, ◌<ℤ◌, List, All}
 use Rattle.gj_frac.specs.Fraction.{Fits}
 use Rattle.gj_theory.specs.Modulus.{modulus}
 use Rattle.gj_proof.specs.declared.numbers.Numbers.{Numbers}

@@ -136,7 +136,7 @@ fn order_five(rt: HostRuntime) -> Result<(), Fail> {
     Ok(())
 }
 
-/// By residues: the rows (3, 2) and (3, 0) become (1, m) and (0, 1); without the step the second row is not 0 before column 1.
+/// By residues: the rows (3, 2) and (3, 0) become (1, 2/3) and (0, 1); without the step the second row is not 0 before column 1.
 #[test]
 fn order_five_by_residues(rt: HostRuntime) -> Result<(), Fail> {
     let shape = function(&rt, 5, 3, &[0, 2, 4, 6, 3], 6)?;

@@ -1,9 +1,7 @@
-use Rattle.std.proofs.Common.{rules, ◌≡◌, ◌↔◌, pos, get_or, length, IsTrue, refl, sym, subst, ◌∙◌, arith}
+use Rattle.std.proofs.Common.{rules, ◌↔◌, pos, get_or, length, IsTrue, refl, sym, subst}
 use Rattle.std.proofs.lemmas.Int.{to_z-of_z}
 use mir.Syntax.{w128}
 use Rattle.gj_shape.specs.Elimination.{at_column}
-use Rattle.gj_shape.specs.Residues.{inverse}
-use Rattle.gj_theory.specs.Modulus.{modulus}
 use Rattle.gj_proof.specs.declared.numbers.Numbers.{Numbers}
 use Rattle.gj_proof.specs.Rules.{MeetsPivotBy}
 use Rattle.gj_rank.proofs.ResidueRows.{some_inverse}

@@ -1,10 +1,10 @@
-use Rattle.std.proofs.Common.{rules, ◌≡◌, ℤ, pos, Option, None, Some, IfSome, get_or, List, refl, sym, ap, subst, ◌∙◌, lit<, arith}
-use Rattle.std.proofs.lemmas.Int.{ints, to_z-of_z}
+use Rattle.std.proofs.Common.{rules, ◌≡◌, pos, None, Some, get_or, sym, ap, subst, ◌∙◌, lit<}
+use Rattle.std.proofs.lemmas.Int.{to_z-of_z}
 use mir.Syntax.{w128}
 use Rattle.gj_shape.specs.Elimination.{at_column, scaled}
 use Rattle.gj_shape.specs.Residues.{inverse, residues, times_inverse}
 use Rattle.gj_theory.specs.Modulus.{modulus}
-use Rattle.gj_theory.proofs.Inverses.{inverse_found, inverse_none}
+use Rattle.gj_theory.proofs.Inverses.{inverse_none}
 use Rattle.gj_rank.specs.RowNumbers.{IsResidue}
 use Rattle.gj_rank.proofs.ResidueRows.{inverse_is_residue}
 use Rattle.gj_rank.proofs.modulo.make_kept_modulo.Goals as goal

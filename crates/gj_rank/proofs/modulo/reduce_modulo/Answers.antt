@@ -1,4 +1,4 @@
-use Rattle.std.proofs.Common.{rules, ◌≡◌, ℤ, pos, ap, ap₂, sym, subst, length, get_or, ◌-ℤ◌, ◌*ℤ◌, ◌∙◌, arith}
+use Rattle.std.proofs.Common.{rules, pos, ap, sym, subst, get_or, ◌-ℤ◌, ◌*ℤ◌, ◌∙◌, arith}
 use Rattle.std.proofs.lemmas.Int.{to_z-of_z}
 use Rattle.std.proofs.lemmas.List.Elements.{All-get_or}
 use mir.Syntax.{w128}

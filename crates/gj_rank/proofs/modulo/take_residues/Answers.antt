@@ -1,4 +1,4 @@
-use Rattle.std.proofs.Common.{rules, pos, get_or, ap, ◌∙◌, arith}
+use Rattle.std.proofs.Common.{rules, pos, get_or, ◌∙◌, arith}
 use Rattle.std.proofs.lemmas.Int.{to_z-of_z}
 use mir.Syntax.{w128}
 use Rattle.gj_shape.specs.Residues.{residue}

@@ -1,4 +1,4 @@
-use Rattle.std.proofs.Common.{OnOk, sym, subst}
+use Rattle.std.proofs.Common.{sym, subst}
 use Rattle.std.specs.Prelude.{All}
 use Rattle.gj_proof.specs.declared.numbers.Numbers.{Numbers}
 use Rattle.gj_rank.specs.RowNumbers.{IsResidue, AreNumbers}
