@@ -18,7 +18,7 @@ use Rattle.gj_family.proofs.Tables.{table_remainder, table_rising, table_falling
 
 -- ---- continuous functions
 
--- where the limits are the values the function is continuous
+-- if the limits are the values the function is continuous
 continuous_over : (k d : ℕ) (values : List ℤ) (f : FunctionData) → 0 < d → IsOver k d values values f → IsContinuous f
 continuous_over k d values f some h =
     let bounds = h.within in

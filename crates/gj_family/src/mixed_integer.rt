@@ -16,8 +16,8 @@ use std::alloc::{AllocError, Global};
 /// The mixed-integer cut of Gomory for this f: x/f from 0 to f and (1 - x)/(1 - f) from f to 1, continuous. Its order is
 /// the denominator of f.
 ///
-/// The error is `BadF` exactly where f is not between 0 and 1, both excluded, and otherwise `TooManyPieces` exactly
-/// where the order is above 1,000.
+/// The error is `BadF` exactly if f is not between 0 and 1, both excluded, and otherwise `TooManyPieces` exactly
+/// if the order is above 1,000.
 ///
 /// ```
 /// let shape = gmic(alloc, Frac::new(3, 5).unwrap())?;

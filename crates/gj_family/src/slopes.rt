@@ -17,8 +17,8 @@ use std::alloc::{AllocError, Global};
 /// With r rises and t falls in all, and r' rises and t' falls among the first `k` intervals, each rise is
 /// t/(r' t - t' r) and each fall is r/(r' t - t' r).
 ///
-/// The error is that of the first test that fails: `TooManyPieces` where there are more than 1,000 signs, `BadSigns`
-/// where there are fewer than two, `BadF` where `k` is not from 1 to q - 1, and `NoSlopes` where r = 0, t = 0 or
+/// The error is that of the first test that fails: `TooManyPieces` if there are more than 1,000 signs, `BadSigns`
+/// if there are fewer than two, `BadF` if `k` is not from 1 to q - 1, and `NoSlopes` if r = 0, t = 0 or
 /// r' t - t' r is not above 0.
 pub fn two_slope(alloc: Global, k: u32, signs: &[bool]) -> Result<Shape, FamilyFault>
     ensures closed_form { IfOk result (IsTwoSlope k signs.now) }
@@ -62,7 +62,7 @@ fn count_falls(signs: &[bool]) -> u32
     signs.iter().filter(|sign| !**sign).count() as u32
 }
 
-/// The sum of all steps, where a rise goes up by `up` and a fall down by `down`.
+/// The sum of all steps, if a rise goes up by `up` and a fall down by `down`.
 fn last_sum(signs: &[bool], up: u32, down: u32) -> i64
     requires few { length signs.now ≤ 1000 }
     requires up_small { up ≤ 1000 }
@@ -73,7 +73,7 @@ fn last_sum(signs: &[bool], up: u32, down: u32) -> i64
     i64::from(count_rises(signs) * up) - i64::from(count_falls(signs) * down)
 }
 
-/// The sums of the first 0, 1, .., q - 1 steps, where a rise goes up by `up`, a fall goes down by `down`, and q is the
+/// The sums of the first 0, 1, .., q - 1 steps, if a rise goes up by `up`, a fall goes down by `down`, and q is the
 /// number of signs.
 fn sums_of_steps(alloc: Global, signs: &[bool], up: u32, down: u32) -> Result<Vec<i64>, AllocError>
     requires few { length signs.now ≤ 1000 }

@@ -15,7 +15,7 @@ use Rattle.gj_frac.proofs.SameValues.{is_along, parts_from_is}
 
 -- ---- lowest terms
 
--- two products have only 1 in common where each two of their factors do
+-- two products have only 1 in common if each two of their factors do
 coprime_products : (a b c d : ℕ) → IsGcd a b 1 → IsGcd a d 1 → IsGcd c b 1 → IsGcd c d 1 → IsGcd (a * c) (b * d) 1
 coprime_products a b c d ab ad cb cd =
     coprime_product (a * c) b d
@@ -39,7 +39,7 @@ product_parts x y z h k same =
     parts_from_is z (x.num *ℤ y.num) (x.den *ℤ y.den) (mul_positive_z x.den y.den x.lowest.positive y.lowest.positive)
     (product_lowest x y h k) same
 
--- and where the product fits, they fit
+-- and if the product fits, they fit
 pub numerators_fit : (x y : Frac) → IsGcd (unsigned_abs x.num) (unsigned_abs y.den) 1 →
     IsGcd (unsigned_abs y.num) (unsigned_abs x.den) 1 → FitsProduct x y → Fits (x.num *ℤ y.num)
 numerators_fit x y h k fits =
@@ -63,7 +63,7 @@ numerator_divides_each x n d h =
     gauss (unsigned_abs x.num) (unsigned_abs x.den) (unsigned_abs n) x.lowest.coprime
     (subst (λ (m : ℕ). unsigned_abs x.num ∣ m) sizes (dvd-mul_right (unsigned_abs x.num) (unsigned_abs d)))
 
--- where x is n/m and y is k/l, and n and l have only 1 in common, so have the numerator of x and the denominator of y
+-- if x is n/m and y is k/l, and n and l have only 1 in common, so have the numerator of x and the denominator of y
 pub crosswise_coprime : (x y : Frac) (n m k l : ℤ) → IsRatio x n m → IsRatio y k l →
     IsGcd (unsigned_abs n) (unsigned_abs l) 1 → IsGcd (unsigned_abs x.num) (unsigned_abs y.den) 1
 crosswise_coprime x y n m k l x_is y_is h =

@@ -93,7 +93,7 @@ rest_coprime n d q r h e =
     subst (λ (m : ℕ). c ∣ m) (sym (unsigned_abs-mul q d)) (dvd_trans c v (dvd-mul_left (unsigned_abs d) (unsigned_abs q))) in
     (one-dvd _, one-dvd _, λ c u v. h.2 c (subst (λ (z : ℤ). c ∣ unsigned_abs z) (sym whole) (divides_sum c r (q *ℤ d) u (multiple c v))) v)
 
--- the rest over the divisor is in lowest terms, where the number over it is
+-- the rest over the divisor is in lowest terms, if the number over it is
 pub rest_lowest : (n d r : ℤ) → IsLowest n d → r ≡ int_rem_euclid n d → pos 0 ≤ℤ r → unsigned_abs r < unsigned_abs d →
     IsLowest r d
 rest_lowest n d r h e low high =

@@ -27,7 +27,7 @@ common_divides x y g n m d h x_is y_is =
     (lcm_from_gcd _ _ g (unsigned_abs x.den / g) h (sym (div-mul_cancel g h.0)) some).2 (unsigned_abs d)
     (denominator_divides_each x n d x_is) (denominator_divides_each y m d y_is)
 
--- where x is s/c and n/d, and d is c times k, n is s times k
+-- if x is s/c and n/d, and d is c times k, n is s times k
 multiple_of : (x : Frac) (s c n d k : ℤ) → IsRatio x s c → IsRatio x n d → k *ℤ c ≡ d → k *ℤ s ≡ n
 multiple_of x s c n d k over h d_is =
     let some = abs_positive_z x.den x.lowest.positive in
@@ -67,7 +67,7 @@ multiplier x y g n m d h x_is y_is some =
       },
     )
 
--- two fractions over one denominator can be added where their parts and the sum of the numerators fit there
+-- two fractions over one denominator can be added if their parts and the sum of the numerators fit there
 pub fits_sum_over : (x y : Frac) (n m d : ℤ) → IsRatio x n d → IsRatio y m d → unsigned_abs d ≢ 0 → Fits d →
     Fits n → Fits m → Fits (n +ℤ m) → FitsSum x y
 fits_sum_over x y n m d x_is y_is some d_fits n_fits m_fits total_fits g h =
@@ -79,7 +79,7 @@ fits_sum_over x y n m d x_is y_is some d_fits n_fits m_fits total_fits g h =
     let bottom_within = factor_within k _ d by.some by.bottom in
     record { first = omega arith; second = omega arith; total = omega arith; bottom = omega arith }
 
--- they can be subtracted where their parts and the difference of the numerators fit
+-- they can be subtracted if their parts and the difference of the numerators fit
 pub fits_difference_over : (x y : Frac) (n m d : ℤ) → IsRatio x n d → IsRatio y m d → unsigned_abs d ≢ 0 → Fits d →
     Fits n → Fits m → Fits (n -ℤ m) → FitsDifference x y
 fits_difference_over x y n m d x_is y_is some d_fits n_fits m_fits difference_fits g h =
@@ -91,7 +91,7 @@ fits_difference_over x y n m d x_is y_is some d_fits n_fits m_fits difference_fi
     let bottom_within = factor_within k _ d by.some by.bottom in
     record { first = omega arith; second = omega arith; difference = omega arith; bottom = omega arith }
 
--- both, where all three numbers are at most 2^125
+-- both, if all three numbers are at most 2^125
 pub over_one_denominator : FitsOverOneDenominator
 over_one_denominator x y n m d x_is y_is some d_small n_small m_small =
     let total = abs_add_z n m in

@@ -40,7 +40,7 @@ divisor_of_positive g n h k =
     let above : g ≢ 0 = λ e. h (eq-zero_of_zero-dvd (subst (λ (d : ℕ). d ∣ n) e k)) in
     (omega arith, below)
 
--- two equal fractions stay equal where both parts of one are multiplied
+-- two equal fractions stay equal if both parts of one are multiplied
 pub same_from_multiples : (n d p q g num den : ℤ) → p *ℤ g ≡ num → q *ℤ g ≡ den → n *ℤ q ≡ p *ℤ d → n *ℤ den ≡ num *ℤ d
 same_from_multiples n d p q g num den e f h =
     subst (λ (z : ℤ). n *ℤ z ≡ num *ℤ d) f
@@ -58,7 +58,7 @@ unsigned_abs-negated (pos (suc n)) =
     let turned : pos 0 -ℤ pos (suc n) ≡ negsuc n = omega (arith, ints) in ap unsigned_abs turned
 unsigned_abs-negated (negsuc n) = omega arith
 
--- with both signs turned the parts of a fraction in lowest terms stay so, where the denominator was negative
+-- with both signs turned the parts of a fraction in lowest terms stay so, if the denominator was negative
 pub lowest_negated : (num den : ℤ) → pos 0 <ℤ (pos 0 -ℤ den) → unsigned_abs num < 2 ^ 127 → unsigned_abs den < 2 ^ 127 →
     IsGcd (unsigned_abs num) (unsigned_abs den) 1 → IsLowest (pos 0 -ℤ num) (pos 0 -ℤ den)
 lowest_negated num den h f g d =

@@ -11,7 +11,7 @@ use mir.Syntax.{w128}
 
 -- ---- one step
 
--- where the number that i128 gives is tested for the one that does not fit a part, all is tested
+-- if the number that i128 gives is tested for the one that does not fit a part, all is tested
 pub step_fits : {E : Type 0} → (number : Option ℤ) (result : Result ℤ E) (v : ℤ) → SomeIff number (FitsSigned w128 v) v →
     MatchOption number (IsErr result) (λ n. OkIff result (Fits n) n) → OkIff result (Fits v) v
 step_fits (Some n) (Ok r) v given tested =

@@ -17,7 +17,7 @@ is_along x = ratio_along x.num x.den
 pub same_from_is : (x y : Frac) (n d : ℤ) → unsigned_abs d ≢ 0 → IsRatio x n d → IsRatio y n d → x ≡ y
 same_from_is x y n d some h k = same_value_same x y (is_along x n d y.num y.den some h (sym k))
 
--- its parts, where n and d are in lowest terms and d is positive
+-- its parts, if n and d are in lowest terms and d is positive
 pub parts_from_is : (x : Frac) (n d : ℤ) → pos 0 <ℤ d → IsGcd (unsigned_abs n) (unsigned_abs d) 1 → IsRatio x n d →
     (x.num ≡ n) × (x.den ≡ d)
 parts_from_is x n d some h k = same_ratio x.num x.den n d x.lowest.coprime h x.lowest.positive some k

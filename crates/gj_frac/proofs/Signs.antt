@@ -1,4 +1,4 @@
--- How two fractions compare by their signs, and by their absolute values where the signs agree.
+-- How two fractions compare by their signs, and by their absolute values if the signs agree.
 use Rattle.std.proofs.Common.{◌≡◌, ℕ, ◌*◌, ◌<◌, ℤ, pos, ◌*ℤ◌, ◌<ℤ◌, ◌≤ℤ◌, neg_ℤ, unsigned_abs, sym, ap, ◌∙◌, arith}
 use Rattle.std.proofs.lemmas.Int.{ints}
 use Rattle.std.specs.Cmp.{int_cmp_is, ranks}

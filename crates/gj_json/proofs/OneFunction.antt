@@ -123,7 +123,7 @@ pub no_reason : (text : List ℕ) (f : FunctionData) (e : JsonReason) → IsJson
 no_reason text f e (d, h, s) (inl (is, none)) = none d h
 no_reason text f e (d, h, s) (inr (x, j, r)) = no_refusal_said d f e s (subst (λ y. RefusesValue y e) (one_value text x d j h) r)
 
--- a fault that names a reason is want of memory where the text spells a function
+-- a fault that names a reason is want of memory if the text spells a function
 pub only_memory : (text : List ℕ) (f : FunctionData) (e : JsonFault) → IsJsonFunction text f → NamesReason (HasFirstReason text) e →
     IsMemoryFault e
 only_memory text f (Refused e) h r = absurd (no_reason text f e h r)

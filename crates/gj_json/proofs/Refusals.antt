@@ -70,7 +70,7 @@ pub record SameForm (p q : Data) (ls ms vs ws rs ts : List Data) : Type 0 where
   pub value : vs ≡ ws
   pub right : rs ≡ ts
 
--- where nothing stands at a key, no list does
+-- if nothing stands at a key, no list does
 no_list : (key : List ℕ) (d : Data) → get key d ≡ None → list_at key d ≡ None
 no_list key d e = ap (λ o. option_map list_of (option_and_then as_array o)) e
 

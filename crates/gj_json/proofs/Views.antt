@@ -28,7 +28,7 @@ all_from_map f P xs h k d within =
 abbrev KeyIs : String Global → Type 0
 KeyIs key = IsKey (string_bytes key)
 
--- an object has only the keys of a function where its map has
+-- an object has only the keys of a function if its map has
 pub only_keys : (d : Data) (es : List (String Global × Value)) (b : Bool) → Some (members_view es) ≡ as_object d →
     IsTrue b ↔ All KeyIs (map.keys_of es) → IsTrue b ↔ HasOnlyKeys d
 only_keys d es b is test = (
@@ -41,7 +41,7 @@ only_keys d es b is test = (
       (subst (All IsKey) (ap keys_of (same_some h.0 (members_view es) (sym h.1 ∙ sym is)) ∙ keys_of_map es) h.2)),
 )
 
--- values are entries where each is
+-- values are entries if each is
 pub entries_along : (vs : List Value) (n : ℕ) (b : Bool) → length vs ≡ n → IsTrue b ↔ All (λ v. IsEntry (view v)) vs →
     IsTrue b ↔ AreEntries n (map view vs)
 entries_along vs n b long test = (

@@ -22,7 +22,7 @@ pub(crate) struct Form<'a> {
     pub(crate) right: &'a [Value],
 }
 
-/// What stands in the value, where it is of the form.
+/// What stands in the value, if it is of the form.
 pub(crate) fn form_of(value: &Value) -> Option<Form<'_>>
     ensures found { IfSome result (λ form. HasForm (view value.now) (view form.place.now)
         (map view form.left.now) (map view form.value.now) (map view form.right.now)) }
@@ -49,7 +49,7 @@ pub(crate) fn form_of(value: &Value) -> Option<Form<'_>>
     None
 }
 
-/// Both lists of limits, or the values where it has neither.
+/// Both lists of limits, or the values if it has neither.
 fn limits_of<'a>(value: &'a Value, values: &'a [Value]) -> Option<(&'a [Value], &'a [Value])>
     ensures found { IfSome result (λ r. HasLimits (view value.now) (map view r.0.now) (map view values.now) (map view r.1.now)) }
     ensures none { IfNone result ((ls rs : List Data) → HasLimits (view value.now) ls (map view values.now) rs → ⊥) }

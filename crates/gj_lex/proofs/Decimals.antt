@@ -88,7 +88,7 @@ value_after_take_le n bs i =
     (take-append-drop i bs) in
     omega (arith, value_after_at_least (digits_value_after 10 n (take i bs)) (drop i bs), value_after_append n (take i bs) (drop i bs))
 
--- where a byte is no digit, or the number so far is too large with it, the whole word is no number
+-- if a byte is no digit, or the number so far is too large with it, the whole word is no number
 -- within the limit
 pub no_number_from_there : (start : ℕ) (word : List ℕ) (i front limit : ℕ) → i < length word → front ≡ digits_value_after 10 start (take i word) →
     ¬ ((digit_value (get_or word i 0) < 10) × (front * 10 + digit_value (get_or word i 0) < limit)) →

@@ -36,7 +36,7 @@ word_ended rest h =
     ap is_blank (get_or-drop end rest 0 0 ∙ ap (λ k. get_or rest k 0) (omega arith))
     ∙ passes_at_first is_blank rest 0 (omega (arith, length-drop end rest))
 
--- it is not empty where it begins with no blank
+-- it is not empty if it begins with no blank
 word_some : (b : ℕ) (bs : List ℕ) → is_blank b ≡ false → 0 < length (take (position_or_len is_blank (b ∷ bs)) (b ∷ bs))
 word_some b bs h =
     let at : position_or_len is_blank (b ∷ bs) ≡ 1 + position_or_len is_blank bs = rw h refl in

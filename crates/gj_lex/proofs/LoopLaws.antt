@@ -1,4 +1,4 @@
--- Parts that are read in turn are exact where each is.
+-- Parts that are read in turn are exact if each is.
 use Rattle.std.proofs.Common.{◌≡◌, ◌⊎◌, inl, inr, ℕ, List, ◌++◌, sym, subst}
 use Rattle.gj_lex.specs.declared.reason.Reason.{Reason}
 use Rattle.gj_lex.specs.declared.fault.PartFault.{PartFault}

@@ -88,7 +88,7 @@ strict_suffix text ws r h =
 
 -- ---- found by its parts
 
--- the line up to the first LF, where its parts between spaces are words and no CR is at its end
+-- the line up to the first LF, if its parts between spaces are words and no CR is at its end
 pub strict_found : (text line rest : List ℕ) → text ≡ line ++ 10 ∷ rest → All IsWord (slice_split is_space line) →
     get_or line (length line - 1) 0 ≢ 13 → HasStrictLine text (word_texts line) rest
 strict_found text line rest e words no_return = by_parts (slice_split is_space line) refl

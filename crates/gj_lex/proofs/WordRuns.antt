@@ -13,7 +13,7 @@ is_word_byte b = not (is_blank b)
 pub blank_until : (line : List ℕ) (from : ℕ) → AllBlank line from (from + position_or_len is_word_byte (drop from line))
 blank_until line from = λ k low high. not_false (is_blank (get_or line k 0)) (fails_until is_word_byte line from k low high)
 
--- only blanks, where no byte is none
+-- only blanks, if no byte is none
 pub blank_to_end : (line : List ℕ) (from : ℕ) → length line ≡ from + position_or_len is_word_byte (drop from line) → AllBlank line from (length line)
 blank_to_end line from e = subst (AllBlank line from) (sym e) (blank_until line from)
 

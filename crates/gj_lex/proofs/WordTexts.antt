@@ -26,7 +26,7 @@ skip_blanks (b ∷ bs) xs h =
 keep_word : (word : List ℕ) (parts : List (List ℕ)) → 0 < length word → filter has_bytes (word ∷ parts) ≡ word ∷ filter has_bytes parts
 keep_word word parts some = let yes : has_bytes word ≡ true = grind (arith, nat_tests) in rw yes refl
 
--- and the first word, where no blank stands before it
+-- and the first word, if no blank stands before it
 pub take_word : (word rest : List ℕ) → 0 < length word → All (λ b. is_blank b ≡ false) word → (0 < length rest → is_blank (get_or rest 0 0) ≡ true) →
     word_texts (word ++ rest) ≡ word ∷ word_texts rest
 take_word word [] some whole ended =

@@ -17,7 +17,7 @@ use Rattle.gj_shape.proofs.AtLemmas.{at_below}
 abbrev pub HaveSameRatios : ℕ → List ℤ → List ℤ → ℕ → ℕ → Type 0
 HaveSameRatios n xs ys s t = (i : ℕ) → i < n → at xs i *ℤ pos t ≡ at ys i *ℤ pos s
 
--- where s = a c and t = b c, and a and b have only 1 in common, a divides each entry
+-- if s = a c and t = b c, and a and b have only 1 in common, a divides each entry
 part_divides : (x y : ℤ) (a b c : ℕ) → IsGcd a b 1 → 0 < c → x *ℤ pos (b * c) ≡ y *ℤ pos (a * c) → a ∣ unsigned_abs x
 part_divides x y a b c alone some e =
     let sizes : unsigned_abs x * (b * c) ≡ unsigned_abs y * (a * c) =

@@ -20,7 +20,7 @@ at_same_remainder xs i j e = ap (λ k. get_or xs k (pos 0)) e
 pub at_remainder : (xs : List ℤ) (i : ℕ) → at xs (i % length xs) ≡ at xs i
 at_remainder xs i = at_same_remainder xs (i % length xs) i (mod-mod i (length xs))
 
--- the same where the length is known by another name
+-- the same if the length is known by another name
 pub at_wrapped : (xs : List ℤ) (i j n : ℕ) → length xs ≡ n → j ≡ i % n → at xs j ≡ at xs i
 at_wrapped xs i j n len e = ap (at xs) (e ∙ ap (λ m. i % m) (sym len)) ∙ at_remainder xs i
 

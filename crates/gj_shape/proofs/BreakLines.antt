@@ -121,7 +121,7 @@ IsPlaceOn q x = (p : ℕ) × (p < q) × IsRatio x (pos p) (pos q)
 pub place_divides : (q : ℕ) (x : Frac) → IsPlaceOn q x → Divides q x
 place_divides q x (p, below, is) = divides_from_over q x (pos p) is
 
--- p/q is p'/q only where p is p'
+-- p/q is p'/q only if p is p'
 pub less_pos : (m n : ℕ) → pos m <ℤ pos n → m < n
 less_pos m n h = omega (arith, ints)
 

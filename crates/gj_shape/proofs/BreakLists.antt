@@ -26,7 +26,7 @@ use Rattle.gj_shape.proofs.OverScale.{over_scale}
 
 -- ---- the place of the next one
 
--- x can stand behind breakpoints where it can stand behind the last
+-- x can stand behind breakpoints if it can stand behind the last
 pub next_behind_last : (breaks : List Break) (last : Break) (x : Frac) → 0 < length breaks →
     last ≡ get_or breaks (length breaks - 1) last →
     (LessValue (fraction_of last.x) (fraction_of x) × LessValue (fraction_of x) (record { top = pos 1; bottom = pos 1 }))
@@ -136,7 +136,7 @@ order_fits s are =
     let at_most = le_of_dvd (order_some s are) (place_divides s are) in
     (omega (arith, ints), are.few)
 
--- k/order is a fraction between 0 and 1 where n/d is
+-- k/order is a fraction between 0 and 1 if n/d is
 place_within : (n d : ℤ) (order : ℕ) → 0 < order → pos 0 <ℤ n → n <ℤ d → unsigned_abs d ∣ order →
     (pos 0 <ℤ (n *ℤ pos (order / unsigned_abs d))) × ((n *ℤ pos (order / unsigned_abs d)) <ℤ pos order)
 place_within n d order some positive below divides =

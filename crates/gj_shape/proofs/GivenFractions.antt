@@ -33,7 +33,7 @@ are_over_push t s xs x n e are is i d within =
     (sym e) ∙ get_or-append_seam xs x [] y)) is in
     below_more P n before here i (omega arith) d
 
--- a fraction n/d is small where n is at most 2^20 d
+-- a fraction n/d is small if n is at most 2^20 d
 pub is_small : (x : Frac) (n : ℤ) (d : ℕ) → 0 < d → unsigned_abs n ≤ 2 ^ 20 * d → IsRatio x n (pos d) → IsSmall x
 is_small x n d some small is =
     let b = unsigned_abs (denominator x) in
@@ -50,7 +50,7 @@ all_small t s xs some small are k d h = is_small (get_or xs k d) (t k) s some (s
 
 -- ---- faults
 
--- where all fractions are small none is too large
+-- if all fractions are small none is too large
 none_too_large : (l v r : List Frac) (i : ℕ) → All IsSmall (in_order l v r) → IsTooLarge l v r i → ⊥
 none_too_large l v r i small (before, x, first, large) =
     let rest = x ∷ first.first.after in
@@ -98,7 +98,7 @@ list_is scale xs t s y common are i within =
     at_below (map F xs) i inside ∙ get_or_default (map F xs) i (pos 0) (F y) inside ∙ get_or-map F xs i y (F y) within in
     ap (λ z. z *ℤ pos s) entry ∙ numerator_is (get_or xs i y) (t i) s scale (common i y within) (are i y within)
 
--- the same at any index, where t goes by the remainder of the index
+-- the same at any index, if t goes by the remainder of the index
 pub list_is_at : (scale : ℕ) (hs : List ℤ) (xs : List Frac) (t : ℕ → ℤ) (s n : ℕ) → hs ≡ map (numerator_over scale) xs →
     length xs ≡ n → 0 < n → IsCommonDenominator xs scale → AreOver t s xs → ((i : ℕ) → t (i % n) ≡ t i) →
     (i : ℕ) → at hs i *ℤ pos s ≡ t i *ℤ pos scale

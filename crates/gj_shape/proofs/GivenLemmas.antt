@@ -29,7 +29,7 @@ all_from_map : (P : ℤ → Type 0) (f : Frac → ℤ) (xs : List Frac) → All 
 all_from_map P f xs h k d l =
     subst P (get_or-map f xs k d (f d) l) (h k (f d) (subst (λ n. k < n) (sym (length-map xs f)) l))
 
--- where d c is the scale and d divides the numerator of n/b over the scale, c is a multiple of b
+-- if d c is the scale and d divides the numerator of n/b over the scale, c is a multiple of b
 quotient_is_multiple : (n : ℤ) (b d c scale : ℕ) → IsGcd (unsigned_abs n) b 1 → b ∣ scale → 0 < scale → scale ≡ d * c →
     d ∣ unsigned_abs (n *ℤ pos (scale / b)) → b ∣ c
 quotient_is_multiple n b d c scale lowest h some e p =

@@ -21,7 +21,7 @@ entries_push t n xs x h e =
       entry_is = λ i l. below_more P n before here i l;
     }
 
--- they are small where the numbers are
+-- they are small if the numbers are
 pub entries_small : (t : ℕ → ℤ) (n d : ℕ) (xs : List ℤ) → HasEntries t n xs → ((i : ℕ) → i < n → unsigned_abs (t i) ≤ 2 ^ 20 * d) →
     All (IsSmallOver d) xs
 entries_small t n d xs h small k e l =
@@ -41,7 +41,7 @@ pub entries_pushed : (t : ℕ → ℤ) (n : ℕ) (xs ys : List ℤ) (x : ℤ) �
     HasEntries t (n + 1) ys
 entries_pushed t n xs ys x h made e = subst (HasEntries t (n + 1)) (sym made) (entries_push t n xs x h e)
 
--- the entries at every index, where the numbers go by the remainder of the index
+-- the entries at every index, if the numbers go by the remainder of the index
 pub entries_everywhere : (t : ℕ → ℤ) (n : ℕ) (xs : List ℤ) → HasEntries t n xs → 0 < n → ((i : ℕ) → t (i % n) ≡ t i) →
     (i : ℕ) → at xs i ≡ t i
 entries_everywhere t n xs h some same i =

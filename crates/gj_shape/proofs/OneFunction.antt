@@ -14,7 +14,7 @@ use Rattle.gj_shape.specs.Given.{in_order, IsCommonDenominator, IsGivenBy, numer
 use Rattle.gj_shape.proofs.InOrder.{all_from_in_order}
 use Rattle.gj_shape.proofs.LeastDenominator.{Divides, denominator_some}
 
--- where b divides c, t divides each numerator n/b over c t
+-- if b divides c, t divides each numerator n/b over c t
 factor_divides : (n : ℤ) (b c t scale : ℕ) → 0 < b → b ∣ c → scale ≡ c * t → t ∣ unsigned_abs (n *ℤ pos (scale / b))
 factor_divides n b c t scale some h e =
     let f = c / b in

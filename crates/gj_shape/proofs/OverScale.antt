@@ -30,7 +30,7 @@ over_scale scale x h =
     ap pos whole ∙ ap (λ z. pos (scale / d) *ℤ z) (denominator_is x) in
     ap (λ z. numerator x *ℤ z) split ∙ sym (mul_assoc_z (numerator x) (pos (scale / d)) (denominator x))
 
--- where a whole number over the scale is the fraction, the denominator divides the scale
+-- if a whole number over the scale is the fraction, the denominator divides the scale
 pub divides_from_over : (scale : ℕ) (x : Frac) (n : ℤ) → IsOver scale x n → Divides scale x
 divides_from_over scale x n e =
     whole_multiple (numerator x) n (unsigned_abs (denominator x)) scale x.lowest.coprime
@@ -43,7 +43,7 @@ numerator_from_over scale x n e =
     mul_cancel_right_z n (numerator_over scale x) (denominator x)
     (sym e ∙ over_scale scale x (divides_from_over scale x n e)) (omega arith)
 
--- a fraction is small where its numerator over the scale is
+-- a fraction is small if its numerator over the scale is
 small_from_over : (scale : ℕ) (x : Frac) → 1 ≤ scale → Divides scale x → IsSmallOver scale (numerator_over scale x) → IsSmall x
 small_from_over scale x low h small =
     let n = unsigned_abs (numerator x) in

@@ -236,7 +236,7 @@ refinement_from_given f g t l v r t_some h are given =
 
 -- ---- the new order and place
 
--- where t is above the quotient, the order is too high
+-- if t is above the quotient, the order is too high
 pub order_too_high : (q t : ℕ) → 0 < q → 1000 / q < t → 1000 < q * t
 order_too_high q t some above =
     let split = div-add-mod' 1000 q in
@@ -244,7 +244,7 @@ order_too_high q t some above =
     let scaled = mul-le-mul_left q above in
     omega arith
 
--- the order and the place are within the limits where it is not
+-- the order and the place are within the limits if it is not
 pub order_fits : (q k t : ℕ) → IsOrder q → IsPlace q k → 0 < t → t ≤ 1000 / q → IsOrder (q * t) × IsPlace (q * t) (k * t)
 order_fits q k t order place some below =
     let split = div-add-mod' 1000 q in

@@ -10,11 +10,11 @@ true_false e = cc
 pub number_Decides : (a b : ℕ) → Decides (eqb a b) (a ≡ b)
 number_Decides a b = (λ e. eqb→eq a b (subst T (sym e) tt), λ e. eq-eqb a b e)
 
--- a second test, made where the first holds
+-- a second test, made if the first holds
 pub and_then : (v w t : Bool) (P Q : Type 0) → Decides v P → Decides t Q → v ≡ true → w ≡ t → Decides w (P × Q)
 and_then v w t P Q first second holds is = (λ e. (first.0 holds, second.0 (sym is ∙ e)), λ h. is ∙ second.1 h.1)
 
--- a second test, not made where the first fails
+-- a second test, not made if the first fails
 pub and_else : (v w : Bool) (P Q : Type 0) → Decides v P → v ≡ false → w ≡ v → Decides w (P × Q)
 and_else v w P Q first fails is =
     (λ e. absurd (true_false (sym e ∙ is ∙ fails)), λ h. is ∙ first.1 h.0)

@@ -108,7 +108,7 @@ fine_between scale m n i r u w a b within below first second =
         let g : n * m ≡ i * m + m + t * m = ap (λ k. k * m) n_is ∙ omega arith in
         omega arith
 
--- what is x over the scale is on the line where x is
+-- what is x over the scale is on the line if x is
 pub on_line_over : (scale : ℕ) (u w : Frac) (n j : ℕ) (x : Frac) (z : ℤ) → SameValue (fraction_of x) (on_line u w n j) →
     IsRatio x z (pos scale) → IsOnLine scale u w n j z
 on_line_over scale u w n j x z same is =

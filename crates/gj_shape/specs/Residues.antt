@@ -1,5 +1,5 @@
--- Elimination modulo a number (own): insertion over residues, of which nothing is computed yet. Rows stay lists of whole
--- numbers, and those that it keeps have 1 at their pivots.
+-- Elimination modulo a number (own): insertion over residues, as `gj_residue` and `gj_rank` compute it. Rows stay lists of
+-- whole numbers, and those that it keeps have 1 at their pivots.
 use Rattle.std.specs.Prelude.{ℕ, ℤ, pos, ◌≡◌, ◌-ℤ◌, ◌*ℤ◌, Option, None, Some, List, [], map}
 use Rattle.std.specs.Int.{int_rem_euclid}
 use Rattle.std.specs.List.{range_with_len, find}

@@ -1,4 +1,4 @@
--- The table on a coarser grid is minimal, and so a continuous function is minimal where its table on any grid is.
+-- The table on a coarser grid is minimal, and so a continuous function is minimal if its table on any grid is.
 use Rattle.std.proofs.Common.{◌≡◌, ℕ, ◌+◌, ◌*◌, ◌%◌, ◌<◌, ℤ, pos, ◌+ℤ◌, ◌*ℤ◌, sym, subst, ap, ◌∙◌, arith}
 use Rattle.std.proofs.lemmas.Int.{ints}
 use Rattle.std.proofs.Math.Nat.{one-mul}
@@ -9,7 +9,7 @@ use Rattle.gj_shape.proofs.TableLemmas.{table_finer, table_period}
 use Rattle.gj_theory.proofs.CarriedSteps.{same_place}
 use Rattle.gj_theory.proofs.Continuous.{minimal_from_own_grid}
 
--- where the table on a finer grid is minimal, that on the grid is
+-- if the table on a finer grid is minimal, that on the grid is
 pub coarser_minimal : (f : FunctionData) (d m : ℕ) → IsWithinBounds f → 0 < d → 0 < m → IsMinimalOnGrid f (d * m) → IsMinimalOnGrid f d
 coarser_minimal f d m l d_some m_some h = record {
   has_period = λ i. table_period f d i d_some l;

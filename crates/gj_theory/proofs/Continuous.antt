@@ -1,4 +1,4 @@
--- A continuous function is minimal where the table on its own grid is.
+-- A continuous function is minimal if the table on its own grid is.
 use Rattle.std.proofs.Common.{◌≡◌, ℕ, ◌+◌, ◌-◌, ◌%◌, ◌<◌, ℤ, pos, ◌≤ℤ◌, length, get_or, map, ap, sym, subst, ◌∙◌, arith}
 use Rattle.std.proofs.Math.Nat.{mul-one, add-mod_right}
 use Rattle.std.proofs.lemmas.Int.{ints}

@@ -1,4 +1,4 @@
--- A continuous function is extreme where its table on the grid of order 4 q is.
+-- A continuous function is extreme if its table on the grid of order 4 q is.
 use Rattle.std.proofs.Common.{◌≡◌, ◌≢◌, ℕ, zero, suc, inl, inr, ◌↔◌, ◌+◌, ◌-◌, ◌*◌, ◌/◌, ◌%◌, ◌<◌, ◌≤◌, ℤ, pos, ◌+ℤ◌, ◌-ℤ◌, ◌*ℤ◌, List, [], ◌∷◌, All, Contains, map, get_or, refl, sym, ap, ap₂, subst, ◌∙◌, mul-pos, arith}
 use Rattle.std.specs.List.{range_with_len}
 use Rattle.std.proofs.Math.Nat.{mod-lt, mod-mod}
@@ -35,7 +35,7 @@ use Rattle.gj_theory.proofs.TightFaces.{value_at_place, tight_in_face}
 use Rattle.gj_theory.proofs.TightPairs.{additive_from_faces}
 use Rattle.gj_theory.proofs.Zigzags.{zigzag_perturbs, zigzag_at_quarter}
 
--- ---- a minimal table is extreme exactly where it has no perturbation but 0
+-- ---- a minimal table is extreme exactly if it has no perturbation but 0
 
 -- all perturbations of the table are 0
 abbrev pub HasNoPerturbation : (ℕ → ℤ) → ℕ → ℕ → Type 0
@@ -251,7 +251,7 @@ not_no_list P (suc n) refuse = not_no_list P n with_last
         further : (j : ℕ) → Contains class j → Contains (n ∷ class) j
         further j (k, below, there) = (suc k, omega arith, there)
 
--- no interval is uncovered where the table on the grid of order 4 q has no perturbation
+-- no interval is uncovered if the table on the grid of order 4 q has no perturbation
 not_uncovered : (f : FunctionData) → IsWithinBounds f → IsContinuous f → IsMinimal f →
     HasNoPerturbation (table f 4) (f.order * 4) (f.place * 4) → (i : ℕ) → i < f.order →
     (IsCovered f.order (IsTight f) i → ⊥) → ⊥

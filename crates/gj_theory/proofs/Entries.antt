@@ -69,7 +69,7 @@ at_eliminated kept row c i e =
     (length-map row (λ x. row_factor kept row c *ℤ x) ∙ sym e ∙ sym (length-map kept (λ y. kept_factor kept row c *ℤ y)))
     ∙ ap₂ (λ a b. a -ℤ b) (at_scaled (row_factor kept row c) row i) (at_scaled (kept_factor kept row c) kept i)
 
--- 0 where both rows are
+-- 0 if both rows are
 pub reduced_at_zero : (kept row : List ℤ) (c i : ℕ) → length kept ≡ length row → at_column kept i ≡ pos 0 →
     at_column row i ≡ pos 0 → at_column (reduced kept row c) i ≡ pos 0
 unfolding reduced

@@ -1,4 +1,4 @@
--- A continuous minimal function is extreme where cover lines and rows leave no perturbation but 0.
+-- A continuous minimal function is extreme if cover lines and rows leave no perturbation but 0.
 use Rattle.std.proofs.Common.{◌≡◌, ℕ, zero, suc, ◌+◌, ◌*◌, ◌/◌, ◌%◌, ◌<◌, ◌≤◌, ◌==◌, true, ℤ, pos, ◌+ℤ◌, ◌-ℤ◌, ◌*ℤ◌, List, [], ◌∷◌, All, length, count_by, refl, ap, sym, subst, ◌∙◌, arith}
 use Rattle.std.proofs.Math.Nat.{mod-mod, mod-lt, mul-pos, div-add-mod'}
 use Rattle.std.proofs.lemmas.Bool.Decides.{Decides-int_eq}
@@ -75,7 +75,7 @@ each_row P f period place pairs =
     (All-cons P F rest place
     (all_pairs P Pair (is_tight f) f.order (λ a b a_low b_low passes. pairs a b a_low b_low (pair_is_tight f a b passes))))
 
--- the sum of the values at two places, where the table is additive
+-- the sum of the values at two places, if the table is additive
 pair_of_values : (f : FunctionData) (m a b : ℕ) (p : ℕ → ℤ) → IsContinuous f → 0 < m → IsAdditiveOnGrid f m p →
     IsTight f a b → p (a * m) +ℤ p (b * m) ≡ p ((a + b) % f.order * m)
 pair_of_values f m a b p continuous some h tight =

@@ -1,4 +1,4 @@
--- Elements that pass a test are at most n where each has a number below n and no two have one.
+-- Elements that pass a test are at most n if each has a number below n and no two have one.
 use Rattle.std.proofs.Common.{◌≡◌, ◌≢◌, ℕ, ◌<◌, ◌≤◌, Bool, true, false, ◌||◌, cond, eqb, List, [], ◌∷◌, ◌++◌, map, filter, count_by, refl, sym, ap, subst, arith}
 use Rattle.std.specs.List.{list_any, AllByRecursion, IsDistinct}
 use Rattle.std.proofs.lemmas.Bool.{ne_eqb}

@@ -69,7 +69,7 @@ behind f xs ys t pass (before, h) = (xs ++ before, first_failing_in_back (Passes
 at_head : (f : FunctionData) (xs : List Test) (t : Test) → (Passes f t → ⊥) → Fails f (t ∷ xs) t
 at_head f xs t fails = ([], first_failing (Passes f) (t ∷ xs) [] xs t refl (All-nil (Passes f)) fails)
 
--- the test of a number, where those of the numbers before it pass
+-- the test of a number, if those of the numbers before it pass
 of_number : (f : FunctionData) (g : ℕ → Test) (i n : ℕ) → i < n → ((j : ℕ) → j < i → Passes f (g j)) →
     (Passes f (g i) → ⊥) → Fails f (map g (range_with_len 0 n)) (g i)
 of_number f g i n below h fails = (
@@ -88,7 +88,7 @@ among_number f g i n t below pass (before, h) =
           (first_failing_in_range (λ k. All (Passes f) (g k)) i n below pass fails) h,
     )
 
--- a test of a square, where the tests of all squares before it pass
+-- a test of a square, if the tests of all squares before it pass
 in_squares : (f : FunctionData) (P : ℕ → ℕ → Type 0) (tests : ℕ → ℕ → List Test) (a b : ℕ) (t : Test) →
     a < f.order → b < f.order → ((i j : ℕ) → P i j → All (Passes f) (tests i j)) → HoldsBefore f P a b →
     Fails f (tests a b) t → Fails f (over_squares f.order tests) t
@@ -98,7 +98,7 @@ in_squares f P tests a b t a_below b_below pass h fails =
     (λ j j_below. pass i j (h.rows i j i_below (omega arith))))
     (among_number f (λ j. tests a j) b f.order t b_below (λ j j_below. pass a j (h.row j j_below)) fails)
 
--- a limit of a face, where those at the corners before it pass
+-- a limit of a face, if those at the corners before it pass
 in_face : (f : FunctionData) (kind : FaceKind) (a b c : ℕ) → c < length (corners_of kind a b) →
     ((k : ℕ) → k < c → Passes f (subadditive_at kind a b k)) → (Passes f (subadditive_at kind a b c) → ⊥) →
     Fails f (tests_of_face kind a b) (subadditive_at kind a b c)
@@ -113,7 +113,7 @@ IsNoVertex Diagonal = Unit {0}
 IsNoVertex Lower = Unit {0}
 IsNoVertex Upper = Unit {0}
 
--- a test of a face in the list of its square, where those of the faces before it pass
+-- a test of a face in the list of its square, if those of the faces before it pass
 in_square : (f : FunctionData) (kind : FaceKind) (a b : ℕ) (t : Test) → IsNoVertex kind → PassesKindsBefore f a b kind →
     Fails f (tests_of_face kind a b) t → Fails f (square_tests a b) t
 in_square f Vertex a b t other h first = absurd other
@@ -158,7 +158,7 @@ whole_from_signs_between f t first =
 whole_from_signs : (f : FunctionData) (t : Test) → Fails f (to_signs f) t → Fails f (tests_of f) t
 whole_from_signs f t first = whole_from_signs_between f t (in_front f (to_signs f) (sign_tests_between f) t first)
 
--- a test of an open interval, where the values and the intervals before it pass
+-- a test of an open interval, if the values and the intervals before it pass
 of_interval : (f : FunctionData) (i : ℕ) (t : Test) → i < f.order → PassesValues f →
     ((j : ℕ) → j < i → Passes f (nonnegative_after j) × Passes f (nonnegative_before j)) →
     Fails f (signs_around i) t → Fails f (tests_of f) t
@@ -168,7 +168,7 @@ of_interval f i t below values h first =
     (among_number f signs_around i f.order t below
     (λ j j_below. signs_around_have (Passes f) j (h j j_below).0 (h j j_below).1) first))
 
--- the limit at a vertex, where those before it pass
+-- the limit at a vertex, if those before it pass
 of_vertex : (f : FunctionData) (a b c : ℕ) → a < f.order → b < f.order → c < 1 → PassesSymmetry f →
     HoldsBefore f (λ i j. Passes f (subadditive_at Vertex i j 0)) a b → (Passes f (subadditive_at Vertex a b c) → ⊥) →
     Fails f (tests_of f) (subadditive_at Vertex a b c)
@@ -179,7 +179,7 @@ of_vertex f a b c a_below b_below c_below symmetry h fails =
     (in_squares f (λ i j. Passes f (subadditive_at Vertex i j 0)) (tests_of_face Vertex) a b t a_below b_below
     (vertex_passes f) h (in_face f Vertex a b c c_below (λ k k_below. absurd (omega arith)) fails)))
 
--- a limit at a corner of another face, where those before it pass
+-- a limit at a corner of another face, if those before it pass
 of_face : (f : FunctionData) (kind : FaceKind) (a b c : ℕ) → IsNoVertex kind → a < f.order → b < f.order →
     c < length (corners_of kind a b) → PassesFacesBefore f kind a b c → (Passes f (subadditive_at kind a b c) → ⊥) →
     Fails f (tests_of f) (subadditive_at kind a b c)
@@ -189,7 +189,7 @@ of_face f kind a b c other a_below b_below c_below h fails =
     (in_squares f (PassesSquare f) square_tests a b t a_below b_below (square_passes f) h.squares
     (in_square f kind a b t other h.kinds (in_face f kind a b c c_below h.corners fails)))
 
--- a test of the function that fails, where those that come before it pass
+-- a test of the function that fails, if those that come before it pass
 fails_first : (f : FunctionData) (t : Test) → IsTestOf f t → PassesBefore f t → (Passes f t → ⊥) → Fails f (tests_of f) t
 fails_first f zero_at_zero is before fails =
     whole_from_signs f zero_at_zero (at_head f (sign_tests f) zero_at_zero fails)
@@ -222,7 +222,7 @@ fails_first f (subadditive_at Upper a b c) is before fails = of_face f Upper a b
 
 -- ---- the three theorems
 
--- all tests pass where those of all parts do
+-- all tests pass if those of all parts do
 pub tests_pass : (f : FunctionData) → PassesVertices f →
     ((a b : ℕ) → a < f.order → b < f.order → PassesSquare f a b) → PassesAll f
 tests_pass f vertices_part squares =
@@ -230,13 +230,13 @@ tests_pass f vertices_part squares =
     (squares_have (Passes f) f.order square_tests
     (λ a b a_below b_below. square_passes f a b (squares a b a_below b_below)))
 
--- where all tests before a test pass and it fails, what it shows is the first violation
+-- if all tests before a test pass and it fails, what it shows is the first violation
 pub first_failed : (f : FunctionData) (t : Test) (v : Violation) → IsTestOf f t → PassesBefore f t → (Passes f t → ⊥) →
     Shows f t v → IsFirstViolation f v
 first_failed f t v is before fails shows =
     let (passed, first) = fails_first f t is before fails in
     record { before = passed; test = t; first = first; shows = shows }
 
--- where there is a first violation not all tests pass
+-- if there is a first violation not all tests pass
 pub first_denies : (f : FunctionData) (v : Violation) → IsFirstViolation f v → PassesAll f → ⊥
 first_denies f v h = first_failing_denies_all (Passes f) (tests_of f) h.before h.test h.first

@@ -55,7 +55,7 @@ below_falling k l r u g h =
 
 -- ---- sums of two entries
 
--- the rest of a sum is the sum of the rests, less the period k + l where it is reached
+-- the rest of a sum is the sum of the rests, less the period k + l if it is reached
 abbrev IsRestOfSum : ℕ → ℕ → ℕ → ℕ → Type 0
 IsRestOfSum n r s q = (q ≡ r + s) ⊎ (q + n ≡ r + s)
 

@@ -46,7 +46,7 @@ pub record IsKept (n : ℕ) (kept : List KeptRow) (row : List ℤ) (c : ℕ) (en
   pub positive : pos 0 <ℤ at_column entries c
   pub same : (w : List ℤ) → SolvesKept w kept → (Solves w entries ↔ Solves w row)
 
--- nothing, where the kept rows have no other solutions; or a row that is kept
+-- nothing, if the kept rows have no other solutions; or a row that is kept
 abbrev pub Leaves : ℕ → List KeptRow → List ℤ → Option (ℕ × List ℤ) → Type 0
 Leaves n kept row None = (w : List ℤ) → SolvesKept w kept → Solves w row
 Leaves n kept row (Some p) = IsKept n kept row p.0 p.1
@@ -102,7 +102,7 @@ kept_here n kept row c len below free none some = record {
   same = λ w all. solves_kept_entries row w c;
 }
 
--- at a column, where the later columns leave what they should
+-- at a column, if the later columns leave what they should
 leaves_here : (n : ℕ) (kept : List KeptRow) (a : ℕ) (row : List ℤ) (onward : List ℤ → Insertion) → AreTriangular n kept →
     a < n → length row ≡ n → IsZeroBefore row a →
     ((next : List ℤ) → length next ≡ n → IsZeroBefore next (a + 1) → Leaves n kept next (onward next).kept) →

@@ -116,7 +116,7 @@ coprime_of_inverse m w x (k, is) = (
 
 -- ---- what is found
 
--- where nothing is found, nothing is there
+-- if nothing is found, nothing is there
 pub find_none : {X : Type 0} (p : X → Bool) (xs : List X) → find p xs ≡ None → All (λ x. p x ≡ false) xs
 find_none p [] e = All-nil (λ x. p x ≡ false)
 find_none p (y ∷ ys) e = by_test (p y) refl e (find_none p ys)

@@ -146,7 +146,7 @@ sum_scaled_numbers u (x ∷ row) (v ∷ w) =
     ap₂ (λ a b. a +ℤ b) (mul_left_comm_z x u v) (sum_scaled_numbers u row w)
     ∙ sym (mul_add_z u (x *ℤ v) (sum_of_products row w))
 
--- where the row is 0 at a column, the number there does not count
+-- if the row is 0 at a column, the number there does not count
 pub sum_set_at_zero : (row w : List ℤ) (j : ℕ) (v : ℤ) → at_column row j ≡ pos 0 →
     sum_of_products row (set w j v) ≡ sum_of_products row w
 sum_set_at_zero [] w j v e = refl
@@ -289,7 +289,7 @@ no_pivot_at (k ∷ kept) c e = by_test (eqb k.pivot c) refl e (no_pivot_at kept 
     by_test false t e later =
         All-cons (λ r. r.pivot ≢ c) k kept (λ same. let u = eq-eqb k.pivot c same in absurd cc) (later e)
 
--- where there is one, a kept row has its pivot there
+-- if there is one, a kept row has its pivot there
 pub any_with_pivot : (kept : List KeptRow) (c : ℕ) (k : KeptRow) → row_with_pivot kept c ≡ Some k → Any (λ r. r.pivot ≡ c) kept
 any_with_pivot [] c k e = absurd cc
 any_with_pivot (r ∷ kept) c k e = by_test (eqb r.pivot c) refl e (any_with_pivot kept c k)

@@ -156,7 +156,7 @@ two_corners P p q = below_more P 1 (one_corner P p) q
 three_corners : (P : ℕ → Type 0) → P 0 → P 1 → P 2 → (c : ℕ) → c < 3 → P c
 three_corners P p q r = below_more P 2 (two_corners P p q) r
 
--- a slack does not change where its two terms change places
+-- a slack does not change if its two terms change places
 swapped : (x y s t : ℤ) → s ≡ t → pos 0 ≤ℤ slack_from x y s → pos 0 ≤ℤ slack_from y x t
 swapped x y s t e h = omega (arith, ints)
 
@@ -340,7 +340,7 @@ each_passes f left value right a b t vertex fit Upper =
     three_corners (λ c. Passes f (subadditive_at Upper a b c)) (t.upper_first.0 fit.upper.0)
     (t.upper_second.0 fit.upper.1) (t.upper.0 fit.upper.2)
 
--- the tests in a square pass where no limit is negative over lanes
+-- the tests in a square pass if no limit is negative over lanes
 pub square_passes : (f : FunctionData) (left value right : ℕ → ℕ) (n a b : ℕ) → HasLanes f left value right n →
     a + b + 1 < n → Passes f (subadditive_at Vertex a b 0) → FitLanes left value right a b → PassesAt f a b
 square_passes f left value right n a b has below =
@@ -369,7 +369,7 @@ square_fits f left value right n a b has below h =
 
 -- ---- a continuous function
 
--- where no slack at grid points is negative, none is at indices from the order on
+-- if no slack at grid points is negative, none is at indices from the order on
 vertex_anywhere : (f : FunctionData) → IsWithinBounds f →
     ((a b : ℕ) → a < f.order → b < f.order → Passes f (subadditive_at Vertex a b 0)) →
     (a b : ℕ) → pos 0 ≤ℤ slack_at f (a, b)

@@ -97,7 +97,7 @@ listed_line lines i line = by_test (list_any (eqb i) (intervals_of lines)) refl
     by_test true t = t
     by_test false t = absurd (none lines t line)
 
--- where each interval has a line, there are as many lines as intervals
+-- if each interval has a line, there are as many lines as intervals
 pub lines_for_all : (q : ℕ) (Tight : ℕ → ℕ → Type 0) (lines : List CoverLine) → MeetsCoverRules q Tight lines →
     All (λ l. l.interval < q) lines → ((i : ℕ) → i < q → HasLine lines i) → length lines ≡ q
 lines_for_all q Tight lines rules below each =

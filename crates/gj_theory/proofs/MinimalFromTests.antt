@@ -250,6 +250,6 @@ minimal_on_grid f l h m some = record {
   symmetric = λ i j opposite. symmetric_places f l h m i j some opposite;
 }
 
--- where all tests pass the table on every grid is minimal
+-- if all tests pass the table on every grid is minimal
 pub minimal_from_tests : (f : FunctionData) → IsWithinBounds f → PassesAll f → IsMinimal f
 minimal_from_tests f l h m some = minimal_on_grid f l (test_has f (Passes f) h) m some

@@ -11,7 +11,7 @@ use Rattle.gj_theory.proofs.CoverLines.{lines_meet_rules}
 use Rattle.gj_theory.proofs.CoverPaths.{joined_remainders, joined_turned, leads_onward, leads_through, leads_turned}
 use Rattle.gj_theory.proofs.ComponentIntervals.{next_within}
 
--- where no interval without a line is joined to one with a line, lists of joined intervals lead from intervals with a
+-- if no interval without a line is joined to one with a line, lists of joined intervals lead from intervals with a
 -- line to such alone
 line_along : (q : ℕ) (Tight : ℕ → ℕ → Type 0) (lines : List CoverLine) → 0 < q →
     ((i j : ℕ) → JoinsLines q Tight lines i j → ⊥) → (j i : ℕ) → LeadsTo q Tight j i → HasLine lines (i % q) →

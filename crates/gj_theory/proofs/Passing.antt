@@ -56,7 +56,7 @@ none_pass xs all (k, x, below, is, h) =
     let small : unsigned_abs x < 2 ^ 127 = subst Fits same (all k below) in
     omega arith
 
--- where none passes, all fit
+-- if none passes, all fit
 pub all_fit : (xs : List ℤ) → (Passes xs → ⊥) → All Fits xs
 all_fit xs none = All-from_get_or Fits xs (pos 0) (λ k below. by_size k below (cases_lt (unsigned_abs (get_or xs k (pos 0))) (2 ^ 127)))
   where

@@ -78,7 +78,7 @@ find_pivot_below n pivot c inside different within =
           absurd (omega arith)
     ]
 
--- ---- the sum of products, where all but one are 0
+-- ---- the sum of products, if all but one are 0
 
 no_products : (row numbers : List ℤ) → ((d : ℕ) → get_or numbers d (pos 0) ≡ pos 0) → sum_of_products row numbers ≡ pos 0
 no_products [] numbers zeros = refl

@@ -52,7 +52,7 @@ pub reduced_narrow : (kept row : List ℤ) (c : ℕ) (u w : ℤ) → AreFactors 
     (Passes (marked_numbers u w row kept) → ⊥) → Passes (marked_in_step kept row c) → ⊥
 reduced_narrow kept row c u w h none p = none (subst Passes (sym (marked_value kept row c u w h)) p)
 
--- where none passes, all entries fit
+-- if none passes, all entries fit
 pub combined_fits : (u w : ℤ) (row kept combined : List ℤ) → combined ≡ differences (scaled u row) (scaled w kept) →
     (Passes (marked_numbers u w row kept) → ⊥) → All Fits combined
 combined_fits u w row kept combined is none =

@@ -188,7 +188,7 @@ kept_here_modulo m n kept row c some len below free none (Some u) e =
     times_zero : (v : ℤ) → v *ℤ pos 0 ≡ pos 0
     times_zero v = omega (arith, ints)
 
--- at a column, where the later columns leave what they should
+-- at a column, if the later columns leave what they should
 leaves_here : (m n : ℕ) (kept : List KeptRow) (a : ℕ) (row : List ℤ) (onward : List ℤ → Insertion) → 0 < m →
     AreTriangularResidues n kept → a < n → length row ≡ n → IsZeroBefore row a →
     ((next : List ℤ) → length next ≡ n → IsZeroBefore next (a + 1) → LeavesModulo m n kept next (onward next).kept) →

@@ -16,7 +16,7 @@ use Rattle.gj_theory.proofs.Kernels.{sum_scaled_numbers}
 use Rattle.gj_theory.proofs.Modulo.{zero_is, zero_none, zero_sum, zero_times, zero_second, cancel_invertible}
 use Rattle.gj_theory.proofs.PivotsLeaveZero.{find_pivot_below}
 
--- ---- the sum of products, where all but one are 0 modulo m
+-- ---- the sum of products, if all but one are 0 modulo m
 
 no_products : (m : ℕ) (row numbers : List ℤ) → ((d : ℕ) → IsZeroModulo m (at_column numbers d)) →
     IsZeroModulo m (sum_of_products row numbers)

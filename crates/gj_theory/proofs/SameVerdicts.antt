@@ -69,7 +69,7 @@ extreme_over t u n k s r s_some r_some same h = record {
 
 -- ---- coarser grids
 
--- where the table of a continuous function on a finer grid is extreme, that on the grid is
+-- if the table of a continuous function on a finer grid is extreme, that on the grid is
 pub coarser_extreme : (f : FunctionData) (d m : ℕ) → IsWithinBounds f → IsContinuous f → 0 < d → 0 < m →
     IsExtremeTable (table f (d * m)) (f.order * (d * m)) (f.place * (d * m)) (f.scale * (d * m)) →
     IsExtremeTable (table f d) (f.order * d) (f.place * d) (f.scale * d)

@@ -95,7 +95,7 @@ pair_at_places f h i j n d m e h_some d_some e_some x_place y_place =
 
 -- ---- what fails on a grid is shown at points
 
--- from k x < y, where k x ≡ d x' and so on, to x' < y'
+-- from k x < y, if k x ≡ d x' and so on, to x' < y'
 pub below_scaled : (h d : ℕ) (x y x' y' : ℤ) → 0 < h → 0 < d → pos h *ℤ x' ≡ pos d *ℤ x → pos h *ℤ y' ≡ pos d *ℤ y →
     x <ℤ y → x' <ℤ y'
 below_scaled h d x y x' y' h_some d_some e g less =

@@ -166,7 +166,7 @@ slopes_perturb f component n slopes l len below solved = record {
         ∙ tight
         ∙ sym (value (i % f.order + j % f.order) (i + j) (sym (add-mod i j f.order)))
 
--- where the slope of an interval is not 0, the perturbation is not 0 at one of its ends
+-- if the slope of an interval is not 0, the perturbation is not 0 at one of its ends
 pub slopes_not_zero : (f : FunctionData) (component : ℕ → ℕ) (n : ℕ) (slopes : List ℤ) (i : ℕ) → IsWithinBounds f →
     length slopes ≡ n → ((j : ℕ) → j < f.order → component j < n) → SolveRows component n f slopes → i < f.order →
     at_column slopes (component i) ≢ pos 0 →

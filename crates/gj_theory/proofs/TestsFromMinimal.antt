@@ -43,7 +43,7 @@ left_limit f h i =
     limit_from_near 2 (at f.left (i + 1)) (total (at f.right i ∷ at f.left (i + 1) ∷ [])) (λ n low some.
     subst (λ z. pos 0 ≤ℤ z) (near_before f i n low) ((h n some).nonnegative (i * n + n - 1)))
 
--- what a sum exceeds another by where it is not less
+-- what a sum exceeds another by if it is not less
 excess : (s w : ℤ) {x : ℤ} → x ≡ s +ℤ w → s ≤ℤ x → pos 0 ≤ℤ w
 excess s w e h = omega (arith, ints)
 

@@ -28,7 +28,7 @@ weighted_nonnegative (w ∷ ws) (x ∷ xs) h =
     let rest = weighted_nonnegative ws xs (All-tail (λ y. pos 0 ≤ℤ y) x xs h) in
     omega (arith, ints)
 
--- numbers that are not negative are 0 where their sum is, each with a weight above 0
+-- numbers that are not negative are 0 if their sum is, each with a weight above 0
 zero_terms : (ws : List ℕ) (xs : List ℤ) → All (λ w. 0 < w) ws → length xs ≤ length ws →
     All (λ x. pos 0 ≤ℤ x) xs → weighted ws xs ≡ pos 0 → All (λ x. x ≡ pos 0) xs
 zero_terms ws [] some long h e = All-nil (λ x. x ≡ pos 0)
@@ -67,7 +67,7 @@ slacks_nonnegative f c h kind a b =
     (All-map (λ x. pos 0 ≤ℤ x) (slack_at f) (corners_of kind a b) (λ k d below.
     slack_nonnegative f h (get_or (corners_of kind a b) k d)))
 
--- where the slack at a point of a face is 0, and the point has a weight above 0 at each corner, the face is additive
+-- if the slack at a point of a face is 0, and the point has a weight above 0 at each corner, the face is additive
 additive_from_weights : (f : FunctionData) → IsContinuous f → IsMinimal f → (kind : FaceKind) (a b : ℕ) (ws : List ℕ) →
     All (λ w. 0 < w) ws → length (corners_of kind a b) ≤ length ws → (x y : ℤ) →
     x ≡ y +ℤ weighted ws (limits_of f kind a b) →

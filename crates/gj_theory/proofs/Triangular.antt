@@ -65,7 +65,7 @@ sum_at_zeros (x ∷ row) (v ∷ w) h =
     zero_times : (x : ℤ) → x *ℤ pos 0 +ℤ pos 0 ≡ pos 0
     zero_times x = omega (arith, ints)
 
--- where the row is 0 before a column and the numbers are behind it
+-- if the row is 0 before a column and the numbers are behind it
 pub only_term : (row w : List ℤ) (c : ℕ) → ((j : ℕ) → j < c → at_column row j ≡ pos 0) →
     ((j : ℕ) → c < j → at_column w j ≡ pos 0) → sum_of_products row w ≡ at_column row c *ℤ at_column w c
 only_term [] w c h k = omega (arith, ints)

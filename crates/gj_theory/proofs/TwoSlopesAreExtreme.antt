@@ -69,7 +69,7 @@ slopes_along v slope x y u w n along (suc i) low =
           (step_down x y u w (sum_before slope i) t (v i -ℤ v 0) (pos i) before refl)
     ]
 
--- both are 0 where the slopes add up to 0 at the period and at a place k at which the table is not as at 0
+-- both are 0 if the slopes add up to 0 at the period and at a place k at which the table is not as at 0
 pub both_zero : (v slope : ℕ → ℤ) (x y u w : ℤ) (n k : ℕ) → GoAlong v slope x y u w n → 0 < n → k ≤ n → y <ℤ x →
     v n ≡ v 0 → v 0 <ℤ v k → sum_before slope n ≡ pos 0 → sum_before slope k ≡ pos 0 → (u ≡ pos 0) × (w ≡ pos 0)
 both_zero v slope x y u w n k along some k_low apart period higher whole place =

@@ -114,7 +114,7 @@ pair_dominated t n k s i j valid below =
 
 -- ---- entries at opposite places that add up to too much
 
--- the uses of a in a list: how many, and where there are some, what the others add up to
+-- the uses of a in a list: how many, and if there are some, what the others add up to
 record Uses (t u : ℕ → ℤ) (n c s a : ℕ) (xs : List ℕ) : Type 0 where
   m : ℕ
   whole : weight u xs +ℤ pos m ≡ pos c *ℤ weight t xs
@@ -403,7 +403,7 @@ neither t n k s some h d = not_dominated t n k s (minimal_among t n k s some h) 
 
 -- ---- extreme tables
 
--- e a + d b is valid over e s + d s' where a and b are
+-- e a + d b is valid over e s + d s' if a and b are
 sum_valid : (a b w : ℕ → ℤ) (n k s r e d q : ℕ) → IsValidTable a n k s → IsValidTable b n k r →
     ((i : ℕ) → w i ≡ pos e *ℤ a i +ℤ pos d *ℤ b i) → q ≡ e * s + d * r → IsValidTable w n k q
 sum_valid a b w n k s r e d q first second is scale = record {

@@ -35,7 +35,7 @@ test_is_of f v h =
 not_nonnegative : (x : ℤ) → (pos 0 ≤ℤ x → ⊥) → x <ℤ pos 0
 not_nonnegative x h = grind (arith, ints)
 
--- the values at (i + 1/4)/order and at f less that do not add up, where those at (i + 1/2)/order and at f less do
+-- the values at (i + 1/4)/order and at f less that do not add up, if those at (i + 1/2)/order and at f less do
 quarters_differ : (s : ℕ) (x x' y y' : ℤ) →
     (pos 1 *ℤ x +ℤ pos 1 *ℤ x') +ℤ (pos 1 *ℤ y +ℤ pos 1 *ℤ y') ≡ pos (s * 2) →
     ((x +ℤ y' ≡ pos s) × (x' +ℤ y ≡ pos s) → ⊥) →
@@ -178,7 +178,7 @@ asymmetric_denies f m x n d j l some s held minimal =
     ∙ scales_swapped d m f.scale in
     s.differs (mul_cancel_left_z (value_of f n d +ℤ table f d j) (pos (f.scale * d)) (pos m) both (omega arith))
 
--- where a violation is shown, the table on no grid that holds its points is minimal
+-- if a violation is shown, the table on no grid that holds its points is minimal
 pub violation_denies_tables : (f : FunctionData) (v : Violation) (m : ℕ) → IsWithinBounds f → ShowsViolation f v → 0 < m →
     HoldsPoints f m v → IsMinimalOnGrid f m → ⊥
 violation_denies_tables f violation.Zero m l s some held h = zero_denies f m some s h.zero_at_zero

@@ -41,7 +41,7 @@ gcd_exists a b = (gcd_of a b, gcd_of_is a b)
 pub gcd_is_gcd_of : (a b g : ℕ) → IsGcd a b g → g ≡ gcd_of a b
 gcd_is_gcd_of a b g h = same_from_IsGcd a b g (gcd_of a b) h (gcd_of_is a b)
 
--- it is positive where one of the two is
+-- it is positive if one of the two is
 pub gcd_positive : (a b g : ℕ) → IsGcd a b g → (0 < a) ⊎ (0 < b) → 0 < g
 gcd_positive a b g h some = ⊎_elim (pos_of_dvd_of_pos h.0) (pos_of_dvd_of_pos h.1) some
 
@@ -117,7 +117,7 @@ pub denominator_divides : (n : ℤ) (d k : ℕ) → IsGcd (unsigned_abs n) d 1 �
 denominator_divides n d k h p =
     gauss d (unsigned_abs n) k (IsGcd-swap (unsigned_abs n) d 1 h) (subst (λ m. d ∣ m) (mul_comm k (unsigned_abs n)) p)
 
--- where n/d is in lowest terms and k n/d is the whole number q, d divides k
+-- if n/d is in lowest terms and k n/d is the whole number q, d divides k
 pub whole_multiple : (n q : ℤ) (d k : ℕ) → IsGcd (unsigned_abs n) d 1 → pos k *ℤ n ≡ q *ℤ pos d → d ∣ k
 whole_multiple n q d k h e =
     let sizes : k * unsigned_abs n ≡ unsigned_abs q * d =
@@ -148,7 +148,7 @@ same_ratio n d m e h k d_some e_some same =
 
 -- ---- the least common multiple
 
--- what a' g and b' g divide, a' b' g divides, where a' and b' have only 1 in common
+-- what a' g and b' g divide, a' b' g divides, if a' and b' have only 1 in common
 common_multiple : (a b g c : ℕ) → IsGcd a b 1 → 0 < g → a * g ∣ c → b * g ∣ c → a * b * g ∣ c
 common_multiple a b g c h some p q =
     let (y, from) = cofactor g c (dvd_trans g (dvd-mul_left g a) p) in
@@ -170,7 +170,7 @@ lcm_from_gcd a b g a' h a_is some =
           (common_multiple a' b' g c apart some (subst (λ n. n ∣ c) a_is p) (subst (λ n. n ∣ c) b_is q)),
     )
 
--- it is positive where both are
+-- it is positive if both are
 pub lcm_positive : (a b m : ℕ) → IsLcm a b m → 0 < a → 0 < b → 0 < m
 lcm_positive a b m h a_some b_some =
     pos_of_dvd_of_pos (h.2 (a * b) (dvd-mul_right a b) (dvd-mul_left b a)) (mul-pos a_some b_some)

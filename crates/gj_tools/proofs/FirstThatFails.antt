@@ -56,7 +56,7 @@ first_failing_in_front Good xs ys before x h = record {
   bad = h.bad;
 }
 
--- ---- where each element is tested alone
+-- ---- if each element is tested alone
 
 -- the first element that fails a test, behind elements that pass
 pub first_failing : {A : Type 0} (P : A → Type 0) (xs before after : List A) (x : A) → xs ≡ before ++ x ∷ after →
@@ -86,7 +86,7 @@ first_failing_in_back P xs ys before x all h =
     (ap (λ l. xs ++ l) h.place ∙ sym (append_assoc xs before (x ∷ h.after)))
     (All-append P xs before all h.good) (first_failing_fails P ys before x h)
 
--- where f y is tested for y
+-- if f y is tested for y
 pub first_failing_in_map : {A B : Type 0} (P : B → Type 0) (f : A → B) (ys before : List A) (y : A) →
     IsFirstFailing (All (λ z. P (f z))) ys before y → IsFirstFailing (All P) (map f ys) (map f before) (f y)
 first_failing_in_map P f ys before y h =
@@ -94,7 +94,7 @@ first_failing_in_map P f ys before y h =
     (ap (map f) h.place ∙ map-append f before (y ∷ h.after))
     (All-map P f before h.good) (first_failing_fails (λ z. P (f z)) ys before y h)
 
--- in the lists of all elements, where those of the elements before y pass
+-- in the lists of all elements, if those of the elements before y pass
 pub first_failing_in_joined : {A B : Type 0} (P : B → Type 0) (f : A → List B) (ys earlier : List A) (y : A)
     (before : List B) (x : B) → IsFirstFailing (All (λ z. All P (f z))) ys earlier y →
     IsFirstFailing (All P) (f y) before x → IsFirstFailing (All P) (flat_map f ys) (flat_map f earlier ++ before) x
@@ -107,7 +107,7 @@ first_failing_in_joined P f ys earlier y before x h k =
 
 -- ---- at an index
 
--- a number below n, where those below it pass
+-- a number below n, if those below it pass
 pub first_failing_in_range : (P : ℕ → Type 0) (i n : ℕ) → i < n → ((j : ℕ) → j < i → P j) → (P i → ⊥) →
     IsFirstFailing (All P) (range_with_len 0 n) (range_with_len 0 i) i
 first_failing_in_range P i n below passed fails =

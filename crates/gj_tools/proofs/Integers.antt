@@ -202,7 +202,7 @@ same_or_apart_z x y = elim (ℤ_discrete x y) [ yes e ↦ inl e | no n ↦ inr n
 
 -- ---- weights
 
--- a number is 0 where a positive multiple of it is
+-- a number is 0 if a positive multiple of it is
 pub zero_factor_z : (m : ℕ) (x : ℤ) → 0 < m → pos m *ℤ x ≡ pos 0 → x ≡ pos 0
 zero_factor_z m x some e = mul_cancel_left_z x (pos 0) (pos m) (e ∙ omega (arith, ints)) (omega arith)
 

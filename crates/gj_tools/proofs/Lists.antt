@@ -47,7 +47,7 @@ All-flat_map P g (y ∷ ys) h =
     All-append P (g y) (flat_map g ys) (All-head (λ z. All P (g z)) y ys h)
     (All-flat_map P g ys (All-tail (λ z. All P (g z)) y ys h))
 
--- where each number makes a list
+-- if each number makes a list
 pub All-joined : {X : Type 0} (P : X → Type 0) (g : ℕ → List X) (a n : ℕ) → ((i : ℕ) → i < a + n → All P (g i)) →
     All P (flat_map g (range_with_len a n))
 All-joined P g a n h = All-flat_map P g (range_with_len a n) (All-range (λ i. All P (g i)) a n h)
@@ -86,7 +86,7 @@ pub made_at : {X : Type 0} (g : ℕ → X) (i n : ℕ) → i < n →
 made_at g i n h =
     ap (map g) (range_at i n h) ∙ map-append g (range_with_len 0 i) (i ∷ range_with_len (i + 1) (n - suc i))
 
--- the same where each index makes a list
+-- the same if each index makes a list
 pub joined_at : {X : Type 0} (g : ℕ → List X) (i n : ℕ) → i < n →
     flat_map g (range_with_len 0 n)
     ≡ flat_map g (range_with_len 0 i) ++ (g i ++ flat_map g (range_with_len (i + 1) (n - suc i)))

@@ -1,4 +1,4 @@
--- Ratios of whole numbers, by cross products: a/b is n/d where a d is n b.
+-- Ratios of whole numbers, by cross products: a/b is n/d if a d is n b.
 use Rattle.std.proofs.Common.{◌≡◌, ◌≢◌, ◌↔◌, ℤ, pos, ◌+ℤ◌, ◌-ℤ◌, ◌*ℤ◌, neg_ℤ, ◌<ℤ◌, [], ◌∷◌, unsigned_abs, refl, sym, ap, ap₂, subst, subst₂, ◌∙◌, arith}
 use Rattle.std.proofs.lemmas.Int.{ints}
 use Rattle.gj_tools.proofs.Integers.{mul_assoc_z, mul_comm_z, mul_mul_comm_z, swap_last_z, neg_mul_z, mul_add_z, mul_cancel_right_z, mul_lt_mul_right_z, mul_lt_cancel_right_z, mul_positive_z, mul_some_z, positive_some_z, add_assoc_z, add_comm_z}
@@ -37,7 +37,7 @@ pub ratio_product : (a b c d n w m v : ℤ) → a *ℤ w ≡ n *ℤ b → c *ℤ
 ratio_product a b c d n w m v h k =
     mul_mul_comm_z a c w v ∙ (λ i. h i *ℤ k i) ∙ sym (mul_mul_comm_z n m b d)
 
--- with bottoms above 0, n/w is less than m/w exactly where n is less than m
+-- with bottoms above 0, n/w is less than m/w exactly if n is less than m
 pub ratio_less : (a b c d n m w : ℤ) → pos 0 <ℤ b → pos 0 <ℤ d → pos 0 <ℤ w → a *ℤ w ≡ n *ℤ b → c *ℤ w ≡ m *ℤ d →
     ((a *ℤ d) <ℤ (c *ℤ b)) ↔ (n <ℤ m)
 ratio_less a b c d n m w b_some d_some w_some h k =
@@ -180,7 +180,7 @@ products_over_sums x y z s t u v w s_is t_is u_is v_is w_is =
 pub not_below_itself : (x : Ratio) → IsBelow x x → ⊥
 not_below_itself x h = omega (arith, ints)
 
--- n/w is below m/w exactly where n is less than m
+-- n/w is below m/w exactly if n is less than m
 pub below_over : (x y : Ratio) (n m w : ℤ) → pos 0 <ℤ w → IsOver x n w → IsOver y m w → IsBelow x y ↔ (n <ℤ m)
 below_over x y n m w some h k = ratio_less x.top x.bottom y.top y.bottom n m w x.positive y.positive some h k
 

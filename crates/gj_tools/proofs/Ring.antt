@@ -368,7 +368,7 @@ pub ruleset ring = (read_both, read_add, read_mul, read_neg, read_pos, read_negs
 abbrev pub SameForm : {atoms : List ℤ} {x y : ℤ} → Readings atoms x y → Type 0
 SameForm (readings e f p q) = normal e ≡ normal f
 
--- two sums of products are equal where they have one normal form
+-- two sums of products are equal if they have one normal form
 pub by_ring : (atoms : List ℤ) {x y : ℤ} → (h : Readings atoms x y) → SameForm h → x ≡ y
 by_ring atoms (readings e f p q) form =
     sym p ∙ sym (normal_is atoms e) ∙ ap (total atoms) form ∙ normal_is atoms f ∙ q

@@ -197,7 +197,7 @@ split v u t n s c e (y ∷ ys) none below each =
     (λ off. split_off u t n s c e (weight (λ y. (each y).z) ys) (each y).z y ys below off r)
     (each y).from
 
--- the rest is on the grid too, where all add up to a point on it
+-- the rest is on the grid too, if all add up to a point on it
 rest_on_grid : (p r n e k : ℕ) → 0 < e → (p * e + r) % (n * e) ≡ (k * e) % (n * e) → (w : ℕ) × (r ≡ w * e) × ((w + p) % n ≡ k % n)
 rest_on_grid p r n e k some same =
     let x = k * e / (n * e) in

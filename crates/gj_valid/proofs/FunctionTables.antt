@@ -1,4 +1,4 @@
--- The table of a valid function on a grid is valid, over some scale; the function that data tell is valid where its tables are.
+-- The table of a valid function on a grid is valid, over some scale; the function that data tell is valid if its tables are.
 use Rattle.std.proofs.Common.{◌≡◌, ℕ, ◌+◌, ◌*◌, ◌/◌, ◌%◌, ◌<◌, List, [], ◌∷◌, map, ℤ, pos, ◌+ℤ◌, ◌*ℤ◌, ◌≤ℤ◌, refl, sym, subst, ap, ap₂, ◌∙◌, arith}
 use Rattle.std.specs.Prelude.{sum}
 use Rattle.std.proofs.Math.Nat.{add-mod_right, eq_of_mul-eq-mul_right, mod-lt, mod-mod, mul-pos, mul_comm, zero-mul}

@@ -335,7 +335,7 @@ multiple_of_all (suc n) =
           (cases_lt m (suc n)),
     )
 
--- where v is too low for a weight that m divides, the next number makes it no more than it must be
+-- if v is too low for a weight that m divides, the next number makes it no more than it must be
 next_is_tight : (m d v s : ℕ) (x : ℤ) → 0 < m → (pos (m * v) +ℤ pos (m * d) *ℤ x) <ℤ pos (m * d * s) →
     (pos m *ℤ pos (suc v) +ℤ pos (m * d) *ℤ x) ≤ℤ pos (m * d * s)
 next_is_tight m d v s x some low =

@@ -83,7 +83,7 @@ falling_top p d q = by_ring (p ∷ d ∷ q ∷ []) (search ring depth 40) refl
 falling_bottom : (d n q : ℤ) → (pos 1 *ℤ d) *ℤ (pos 1 *ℤ q -ℤ n *ℤ pos 1) ≡ d *ℤ (q -ℤ n)
 falling_bottom d n q = by_ring (d ∷ n ∷ q ∷ []) (search ring depth 40) refl
 
--- where n/q is less than p/d, 1 - p/d is less than 1 - n/q
+-- if n/q is less than p/d, 1 - p/d is less than 1 - n/q
 falling_at_most : (p d n q : ℤ) → (n *ℤ d) <ℤ (p *ℤ q) → ((d -ℤ p) *ℤ q) ≤ℤ (d *ℤ (q -ℤ n))
 falling_at_most p d n q less =
     let left = sub_mul_z d p q in

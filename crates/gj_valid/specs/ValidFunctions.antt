@@ -8,7 +8,7 @@ use Rattle.gj_shape.specs.Violation.{value_of}
 abbrev pub over : ℕ → ℕ → Fraction
 over n d = record { top = pos n; bottom = pos d }
 
--- x is at most y, where both bottoms are above 0
+-- x is at most y, if both bottoms are above 0
 abbrev pub AtMost : Fraction → Fraction → Type 0
 AtMost x y = (x.top *ℤ y.bottom) ≤ℤ (y.top *ℤ x.bottom)
 
@@ -30,7 +30,7 @@ pub record IsFunction (v : Fraction → Fraction) : Type 0 where
   pub nonnegative : (x : Fraction) → IsNonnegative x → IsNonnegative (v x)
   pub has_period : (x y : Fraction) → IsNonnegative x → IsNonnegative y → IsSamePoint x y → SameValue (v x) (v y)
 
--- a valid function for f: where points, each as often as it is used, add up to f modulo 1, its values at them add up to 1 or more
+-- a valid function for f: if points, each as often as it is used, add up to f modulo 1, its values at them add up to 1 or more
 pub record IsValidFunction (v : Fraction → Fraction) (f : Fraction) : Type 0 where
   pub function : IsFunction v
   pub at_solutions : (points : List Fraction) → All IsNonnegative points → IsSamePoint (total_of points) f → AtMost (over 1 1) (total_of (map v points))
