@@ -3,23 +3,13 @@ use Rattle.std.proofs.Common.{◌≡◌, ℕ, zero, suc, ◌⊎◌, inl, inr, �
 use Rattle.std.specs.Int.{int_min}
 use Rattle.std.proofs.Math.Nat.{div-add-mod', mod-lt, mul-le-mul_right, mul-lt-mul_of_pos_right}
 use Rattle.std.proofs.lemmas.Bool.{cases_lt}
-use Rattle.std.proofs.lemmas.Int.{ints, by_lt_z, int_min_is}
+use Rattle.std.proofs.lemmas.Int.{ints, by_lt_z}
 use Rattle.gj_tools.proofs.Integers.{add_comm_z, mul_le_mul_left_z, mul_nonnegative_z, mul_add_z, add_mul_z}
+use Rattle.gj_tools.proofs.Lesser.{min_below, min_first, min_second}
 use Rattle.gj_tools.proofs.Quotients.{parts_of_place}
 use Rattle.gj_tools.proofs.Ring.{by_ring, ring}
 use Rattle.gj_shape.proofs.TableLemmas.{period_of_parts}
 use Rattle.gj_fill.specs.FillIn.{IsSubadditiveTable, AreGreatestSteps, filled_between, filled}
-
--- ---- the lesser of two numbers
-
-min_below : (x y : ℤ) → (int_min x y ≤ℤ x) × (int_min x y ≤ℤ y)
-min_below x y = let e = int_min_is x y in (omega (arith, ints), omega (arith, ints))
-
-min_first : (x y : ℤ) → x ≤ℤ y → int_min x y ≡ x
-min_first x y h = let e = int_min_is x y in omega (arith, ints)
-
-min_second : (x y : ℤ) → y ≤ℤ x → int_min x y ≡ y
-min_second x y h = let e = int_min_is x y in omega (arith, ints)
 
 -- ---- the fill-in at a place that is given by its parts
 

@@ -1,19 +1,11 @@
 -- The least positive slack of a table that is given as a list, row by row.
 use Rattle.std.proofs.Common.{◌≡◌, ℕ, inl, inr, ◌+◌, ◌-◌, ◌<◌, ◌≤◌, ◌^◌, ℤ, pos, ◌+ℤ◌, ◌-ℤ◌, ◌<ℤ◌, ◌≤ℤ◌, List, unsigned_abs, w64, to_z, of_z, FitsSigned, refl, sym, ap₂, subst, ◌∙◌, below_more, arith}
 use Rattle.std.specs.Int.{int_min}
-use Rattle.std.proofs.lemmas.Int.{ints, clamps, by_lt_z, to_z-of_z}
+use Rattle.std.proofs.lemmas.Int.{ints, by_lt_z, to_z-of_z}
+use Rattle.gj_tools.proofs.Lesser.{min_below, min_first, min_second}
 use Rattle.gj_perturb.specs.ListSlacks.{IsShort, slack_in, IsSlackOrNone, IsLeastOfRow, IsLeastOfRows}
 
 -- ---- the lesser of two
-
-min_first : (x y : ℤ) → x ≤ℤ y → int_min x y ≡ x
-min_first x y h = omega (arith, ints, clamps)
-
-min_second : (x y : ℤ) → y ≤ℤ x → int_min x y ≡ y
-min_second x y h = omega (arith, ints, clamps)
-
-min_low : (x y : ℤ) → (int_min x y ≤ℤ x) × (int_min x y ≤ℤ y)
-min_low x y = (omega (arith, ints, clamps), omega (arith, ints, clamps))
 
 pub lesser_reached : (t : List ℤ) (n : ℕ) (x y : ℤ) → IsSlackOrNone t n x → IsSlackOrNone t n y → IsSlackOrNone t n (int_min x y)
 lesser_reached t n x y first second = by_lt_z x y
@@ -51,11 +43,11 @@ one_pair_more t n i j x y i_below j_below h more = record {
   least = below_more (λ k. i ≤ k → pos 0 <ℤ slack_in t i k → int_min x y ≤ℤ slack_in t i k) j
       (λ k below from positive.
       let before = h.least k below from positive in
-      let low = (min_low x y).0 in
+      let low = (min_below x y).0 in
       omega (arith, ints))
       (λ from positive.
       let same = more.positive positive in
-      let low = (min_low x y).1 in
+      let low = (min_below x y).1 in
       omega (arith, ints));
 }
 
@@ -71,11 +63,11 @@ one_row_more t n i x y h row = record {
   least = below_more (λ a. (j : ℕ) → j < n → a ≤ j → pos 0 <ℤ slack_in t a j → int_min x y ≤ℤ slack_in t a j) i
       (λ a below j j_below from positive.
       let before = h.least a below j j_below from positive in
-      let low = (min_low x y).0 in
+      let low = (min_below x y).0 in
       omega (arith, ints))
       (λ j j_below from positive.
       let here = row.least j j_below from positive in
-      let low = (min_low x y).1 in
+      let low = (min_below x y).1 in
       omega (arith, ints));
 }
 

@@ -1,5 +1,5 @@
 pub mod EachEntry
-pub mod Euclid
+pub mod Residues
 pub mod Inserting
 pub mod Coming
 pub mod SettledRows

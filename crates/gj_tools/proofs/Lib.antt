@@ -1,4 +1,5 @@
 pub mod Integers
+pub mod Lesser
 pub mod Ring
 pub mod Ratios
 pub mod Divisors

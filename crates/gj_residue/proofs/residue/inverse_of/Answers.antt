@@ -1,6 +1,6 @@
 use Rattle.std.proofs.Common.{sym, lit<, arith}
 use Rattle.gj_theory.specs.Modulus.{modulus}
-use Rattle.gj_residue.proofs.Euclid.{euclid_start, euclid_step, euclid_inverse, euclid_none}
+use Rattle.gj_theory.proofs.Euclid.{euclid_start, euclid_step, euclid_inverse, euclid_none}
 use Rattle.gj_residue.proofs.residue.inverse_of.Goals as goal
 
 pub loop-next-init : goal.loop-next-init

@@ -1,5 +1,5 @@
 use Rattle.gj_theory.specs.Modulus.{modulus}
-use Rattle.gj_residue.proofs.Euclid.{IsEuclid}
+use Rattle.gj_theory.proofs.Euclid.{IsEuclid}
 use Rattle.gj_residue.proofs.residue.inverse_of.Given as goal
 
 abbrev pub invariant-loop-next : goal.invariant-loop-next

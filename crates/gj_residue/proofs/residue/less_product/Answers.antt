@@ -1,6 +1,6 @@
 use Rattle.std.proofs.Common.{pos, ◌*ℤ◌, lit<}
 use Rattle.gj_theory.specs.Modulus.{modulus}
-use Rattle.gj_residue.proofs.Euclid.{residue_taken}
+use Rattle.gj_residue.proofs.Residues.{residue_taken}
 use Rattle.gj_residue.proofs.residue.less_product.Goals as goal
 
 pub returns-clause-value : goal.returns-clause-value
