@@ -69,3 +69,4 @@ pub mod Euclid
 pub mod Repeats
 pub mod RepeatedRows
 pub mod OrderedPairs
+pub mod CornerSlacks

@@ -15,3 +15,4 @@ pub mod RisesAndFalls
 pub mod TriangularResidues
 pub mod HandedOver
 pub mod Modulus
+pub mod CornerSlacks

@@ -6,7 +6,8 @@
 //! denies that the function, or the table on a grid that holds the points, is minimal. `constant_steps` says that a table
 //! that is additive where a function's table is has constant steps, and `extreme` that cover lines and rows show a function to be
 //! extreme. `perturbations` says what a perturbation is and that it gives two different minimal tables, and
-//! `decisive_order` that the table on the grid of order 4 q decides whether a function is extreme. `elimination` says that
+//! `decisive_order` that the table on the grid of order 4 q decides whether a function is extreme; `corner_slacks` says how the
+//! slacks at the corners give the least positive slack on a finer grid. `elimination` says that
 //! elimination keeps the solutions of rows and needs each row only once, `residues` what elimination over residues says of
 //! whole numbers, `cuts` that the cuts of rows by minimal functions hold, `two_slopes` that minimal functions with two slopes are
 //! extreme, and `valid` what minimal and extreme mean: minimal and extreme among the valid tables.
@@ -16,6 +17,7 @@
 #![tactic(auto)]
 
 pub mod constant_steps;
+pub mod corner_slacks;
 pub mod cuts;
 pub mod decisive_order;
 pub mod elimination;
