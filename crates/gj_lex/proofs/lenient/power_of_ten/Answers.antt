@@ -1,4 +1,4 @@
-use Rattle.std.proofs.Common.{◌^◌, ◌≤◌, ◌<◌, ◌≡◌, arith, sym, ◌∙◌}
+use Rattle.std.proofs.Common.{◌^◌, ◌≤◌, ◌<◌, arith, ◌∙◌}
 use Rattle.std.proofs.Math.Nat.{pow-le-pow_right}
 use Rattle.gj_lex.proofs.WrittenNumbers.{ten_small, ten_large}
 use Rattle.gj_lex.proofs.lenient.power_of_ten.Goals as goal
