@@ -5,7 +5,7 @@ ghost use Rattle.gj_tools.specs.Divisors.{IsLcm};
 
 /// The greatest common divisor of two whole numbers, by Euclid's algorithm; that of 0 and 0 is 0.
 ///
-/// From the first divisor below 2^64 on, all remainders are taken in 64 bits, which is much faster.
+/// From the first pair of numbers below 2^64 on, all remainders are taken in 64 bits, which is much faster.
 pub fn gcd(a: u128, b: u128) -> u128
     ensures { IsGcd a b result }
 {
@@ -15,6 +15,9 @@ pub fn gcd(a: u128, b: u128) -> u128
         let rest = x % y;
         x = y;
         y = rest;
+    }
+    if x < 1 << 64 {
+        return u128::from(gcd_in_64_bits(x as u64, y as u64));
     }
     if y == 0 {
         return x;
@@ -42,6 +45,6 @@ pub fn lcm(a: u32, b: u32) -> u64
     requires { 0 < a }
     ensures { IsLcm a b result }
 {
-    let divisor = gcd(u128::from(a), u128::from(b)) as u32;
+    let divisor = gcd_in_64_bits(u64::from(a), u64::from(b)) as u32;
     u64::from(a / divisor) * u64::from(b)
 }

@@ -23,7 +23,10 @@ pub(crate) fn quotient(n: i128, divisor: i128) -> i128
     if divisor == 1 {
         return n;
     }
-    n / divisor
+    match (i64::try_from(n), i64::try_from(divisor)) {
+        (Ok(n), Ok(divisor)) => i128::from(n / divisor),
+        _ => n / divisor,
+    }
 }
 
 /// Two positive numbers, each divided by their greatest common divisor.

@@ -9,8 +9,13 @@ loop-y-preserved c g h = c.loop-y.invariant g (IsGcd-from_mod _ _ g h)
 pub returns-then-y-eq0 : goal.returns-then-y-eq0
 returns-then-y-eq0 c = c.loop-y.invariant _ (IsGcd-from_zero _ _ (omega arith))
 
+pub returns-then-x : goal.returns-then-x
+returns-then-x c =
+    let same = c.from.ensures in
+    c.loop-y.invariant _ (subst (λ (g : ℕ). IsGcd c.loop-y.x c.loop-y.y g) (sym same) c.gcd_in_64_bits.ensures)
+
 pub returns : goal.returns
 returns c =
-    let same = c.from.ensures in
+    let same = c.from-2.ensures in
     c.loop-y.invariant _
-    (IsGcd-from_mod _ _ _ (subst (λ (g : ℕ). IsGcd c.loop-y.y (c.loop-y.x % c.loop-y.y) g) (sym same) c.gcd_in_64_bits.ensures))
+    (IsGcd-from_mod _ _ _ (subst (λ (g : ℕ). IsGcd c.loop-y.y (c.loop-y.x % c.loop-y.y) g) (sym same) c.gcd_in_64_bits-2.ensures))

@@ -7,21 +7,21 @@ use Rattle.gj_frac.proofs.divisors.lcm.Goals as goal
 
 pub overflow_cast-divisor : goal.overflow_cast-divisor
 overflow_cast-divisor c =
-    let h : IsGcd c.args.a c.args.b c.gcd-divisor.result = subst₂ (λ a b. IsGcd a b c.gcd-divisor.result) c.from.ensures
-    c.from-2.ensures c.gcd-divisor.ensures in
-    let most : c.gcd-divisor.result ≤ c.args.a = le_of_dvd c.requires h.0 in
+    let h : IsGcd c.args.a c.args.b c.gcd_in_64_bits-divisor.result = subst₂ (λ a b. IsGcd a b c.gcd_in_64_bits-divisor.result) c.from.ensures
+    c.from-2.ensures c.gcd_in_64_bits-divisor.ensures in
+    let most : c.gcd_in_64_bits-divisor.result ≤ c.args.a = le_of_dvd c.requires h.0 in
     omega arith
 
 pub nonzero_div-a : goal.nonzero_div-a
 nonzero_div-a c =
-    let h : IsGcd c.args.a c.args.b c.gcd-divisor.result = subst₂ (λ a b. IsGcd a b c.gcd-divisor.result) c.from.ensures
-    c.from-2.ensures c.gcd-divisor.ensures in
+    let h : IsGcd c.args.a c.args.b c.gcd_in_64_bits-divisor.result = subst₂ (λ a b. IsGcd a b c.gcd_in_64_bits-divisor.result) c.from.ensures
+    c.from-2.ensures c.gcd_in_64_bits-divisor.ensures in
     gcd_positive _ _ _ h (inl c.requires)
 
 pub returns : goal.returns
 returns c =
-    let g = c.gcd-divisor.result in
-    let h : IsGcd c.args.a c.args.b g = subst₂ (λ a b. IsGcd a b g) c.from.ensures c.from-2.ensures c.gcd-divisor.ensures in
+    let g = c.gcd_in_64_bits-divisor.result in
+    let h : IsGcd c.args.a c.args.b g = subst₂ (λ a b. IsGcd a b g) c.from.ensures c.from-2.ensures c.gcd_in_64_bits-divisor.ensures in
     let product : c.from-3.result * c.from-4.result ≡ c.args.a / g * c.args.b = rw (c.from-3.ensures, c.from-4.ensures) in
     rw product
     (lcm_from_gcd c.args.a c.args.b g (c.args.a / g) h (sym (div-mul_cancel g h.0)) (gcd_positive _ _ _ h (inl c.requires)))
