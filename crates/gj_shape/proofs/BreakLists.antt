@@ -4,7 +4,7 @@ use Rattle.std.specs.Int.{◌∣◌}
 use Rattle.std.proofs.Math.Nat.{mul-div_cancel', dvd_refl}
 use Rattle.std.proofs.lemmas.Int.{ints}
 use Rattle.std.proofs.lemmas.Nat.Gcd.{le_of_dvd}
-use Rattle.std.proofs.lemmas.List.{map-append}
+use Rattle.std.proofs.lemmas.List.{map-append, get_or_default}
 use Rattle.std.proofs.lemmas.List.Concat.{flat_map-append}
 use Rattle.std.proofs.lemmas.List.Elements.{All-head, All-tail}
 use Rattle.gj_tools.specs.Divisors.{IsLcm}
@@ -13,9 +13,11 @@ use Rattle.gj_tools.proofs.Integers.{mul_lt_cancel_right_z, mul_lt_mul_right_z, 
 use Rattle.gj_tools.proofs.Lists.{All-back, All-one}
 use Rattle.gj_frac.specs.declared.Frac.{Frac}
 use Rattle.gj_frac.specs.Fraction.{LessValue, fraction_of, numerator, denominator, IsInside, IsRatio}
+use Rattle.gj_frac.proofs.SameValues.{same_from_is}
 use Rattle.gj_shape.specs.Given.{IsCommonDenominator, IsOrder, numerator_over, IsLeastCommonDenominator}
 use Rattle.gj_shape.specs.Denominators.{AreWithinBoundsOver, ExtendsBy, IsRefusedBehind}
 use Rattle.gj_shape.specs.Points.{all_fractions, fractions_of}
+use Rattle.gj_shape.specs.BreakPlaces.{IsBehindOthers}
 use Rattle.gj_shape.specs.Breaks.{BreakList, no_breaks, AreBreaks, AreAscending, AreOnGrid, IsNextBreak, HasOrderWith, Follows, IsBreakFault, break_fault, points_at, point_at}
 use Rattle.gj_shape.specs.declared.breaks.Break.{Break}
 use Rattle.gj_shape.specs.declared.faults.FractionFault.{FractionFault}
@@ -26,21 +28,51 @@ use Rattle.gj_shape.proofs.OverScale.{over_scale}
 
 -- ---- the place of the next one
 
--- x can stand behind breakpoints if it can stand behind the last
-pub next_behind_last : (breaks : List Break) (last : Break) (x : Frac) → 0 < length breaks →
-    last ≡ get_or breaks (length breaks - 1) last →
-    (LessValue (fraction_of last.x) (fraction_of x) × LessValue (fraction_of x) (record { top = pos 1; bottom = pos 1 }))
-    ↔ IsNextBreak breaks x
-next_behind_last breaks last x some at = (
+-- x is behind breakpoints if it is behind the last
+pub behind_others_last : (breaks : List Break) (last : Break) (start x : Frac) → 0 < length breaks →
+    last ≡ get_or breaks (length breaks - 1) last → LessValue (fraction_of last.x) (fraction_of x) ↔ IsBehindOthers breaks start x
+behind_others_last breaks last start x some at = (
   λ h. record {
     first = λ none. let long = ap length none in absurd (omega arith);
     further = λ front b split.
-        subst
-        (λ (c : Break). LessValue (fraction_of c.x) (fraction_of x) × LessValue (fraction_of x) (record { top = pos 1; bottom = pos 1 }))
-        (at_last_index breaks front last b at split) h;
+        subst (λ (c : Break). LessValue (fraction_of c.x) (fraction_of x)) (at_last_index breaks front last b at split) h;
   },
   λ next. next.further (take (length breaks - 1) breaks) last (behind_others breaks last some at),
 )
+
+zero_over_one : (x : Frac) → IsRatio x (pos 0) (pos 1) → numerator x ≡ pos 0
+zero_over_one x is = omega (arith, ints)
+
+-- a breakpoint that is behind the others, the first at 0, and below 1 is in its place
+pub next_from_behind : (breaks : List Break) (start x : Frac) → IsRatio start (pos 0) (pos 1) → IsBehindOthers breaks start x →
+    numerator x <ℤ denominator x → IsNextBreak breaks x
+next_from_behind breaks start x zero h below = record {
+  first = λ none. ap (λ (y : Frac). numerator y) (h.first none) ∙ zero_over_one start zero;
+  further = λ front b split. (h.further front b split, omega (arith, ints));
+}
+
+-- and one in its place is so
+pub behind_from_next : (breaks : List Break) (start x : Frac) → IsRatio start (pos 0) (pos 1) → IsNextBreak breaks x →
+    IsBehindOthers breaks start x
+behind_from_next breaks start x zero next = record {
+  first = λ none.
+      let e : numerator x ≡ pos 0 = next.first none in
+      let is : IsRatio x (pos 0) (pos 1) = omega (arith, ints) in
+      same_from_is x start (pos 0) (pos 1) (omega (arith, ints)) is zero;
+  further = λ front b split. (next.further front b split).0;
+}
+
+pub below_from_next : (breaks : List Break) (x : Frac) → IsNextBreak breaks x → numerator x <ℤ denominator x
+below_from_next [] x next =
+    let e = next.first refl in
+    let positive = x.lowest.positive in
+    omega (arith, ints)
+below_from_next (b ∷ more) x next =
+    let breaks = b ∷ more in
+    let last = get_or breaks (length breaks - 1) b in
+    let at = get_or_default breaks (length breaks - 1) b last (omega arith) in
+    let less = (next.further (take (length breaks - 1) breaks) last (behind_others breaks last (omega arith) at)).1 in
+    omega (arith, ints)
 
 -- ---- the order
 

@@ -2,7 +2,7 @@
 use Rattle.std.proofs.Common.{◌≡◌, ℕ, zero, suc, ◌+◌, ◌-◌, ◌<◌, ◌≤◌, ℤ, pos, ◌*ℤ◌, ◌<ℤ◌, List, [], ◌∷◌, ◌++◌, length, map, take, drop, get_or, All, refl, sym, ap, subst, ◌∙◌, append_assoc, below_more, arith}
 use Rattle.std.proofs.Math.Seq.{get_or-append_seam}
 use Rattle.std.proofs.lemmas.Int.{ints}
-use Rattle.std.proofs.lemmas.List.{length_push, length-append, length-map, map-append, get_or_append_left, take_more, drop_more, take-append-drop, drop_all, get_or_default, get_or-map}
+use Rattle.std.proofs.lemmas.List.{append-nil, length_push, length-append, length-map, map-append, get_or_append_left, take_more, drop_more, take-append-drop, drop_all, get_or_default, get_or-map}
 use Rattle.std.proofs.lemmas.List.Elements.{All-nil, All-cons, All-head, All-tail, All-append, All-map, All-get_or}
 use Rattle.gj_frac.specs.declared.Frac.{Frac}
 use Rattle.gj_frac.specs.Fraction.{SameValue, LessValue, IsRatio, fraction_of, numerator, denominator}
@@ -10,7 +10,7 @@ use Rattle.gj_tools.proofs.Integers.{mul_comm_z}
 use Rattle.gj_tools.proofs.Lists.{All-two}
 use Rattle.gj_tools.proofs.Ratios.{ratio_less}
 use Rattle.gj_frac.proofs.SameValues.{one_place}
-use Rattle.gj_shape.specs.Breaks.{point_at, points_at, even, on_line, IsPiece, AreLaid, AreGridPoints, AreAscending, AreOnGrid, AreListsOfBreaks}
+use Rattle.gj_shape.specs.Breaks.{point_at, points_at, even, on_line, IsLine, IsPiece, AreLaid, AreGridPoints, AreAscending, AreOnGrid, AreListsOfBreaks}
 use Rattle.gj_shape.specs.Breaks.AreLaid.{last, onward}
 use Rattle.gj_shape.specs.Given.{IsSmall, AreWithinBounds, IsOrder, IsPlace, HaveLength, HasFault, IsTooFineOf}
 use Rattle.gj_shape.specs.Points.{lefts, values, rights, all_fractions}
@@ -23,34 +23,48 @@ use Rattle.gj_shape.proofs.LeastDenominator.{Divides}
 
 -- ---- one piece
 
--- behind the points `front` come that of b and those of the line up to, not including, i
-pub record IsPieceSoFar (front : List Point) (b : Break) (w : Frac) (n i : ℕ) (items : List Point) : Type 0 where
+-- behind the points `front` come those on the line from u to w up to, not including, i
+pub record IsLineSoFar (front : List Point) (u w : Frac) (n i : ℕ) (items : List Point) : Type 0 where
   pub between : List Frac
   pub count : length between + 1 ≡ i
-  pub on : (j : ℕ) (x : Frac) → j < length between → SameValue (fraction_of (get_or between j x)) (on_line b.right w n (j + 1))
-  pub items_are : items ≡ front ++ point_at b ∷ map even between
+  pub on : (j : ℕ) (x : Frac) → j < length between → SameValue (fraction_of (get_or between j x)) (on_line u w n (j + 1))
+  pub items_are : items ≡ front ++ map even between
+
+-- none of it at first
+pub no_line_yet : (front : List Point) (u w : Frac) (n : ℕ) → IsLineSoFar front u w n 1 front
+no_line_yet front u w n = record { between = []; count = refl; on = λ j x below. absurd (omega arith); items_are = sym (append-nil front) }
 
 -- one more point of the line
-pub piece_more : (front : List Point) (b : Break) (w : Frac) (n i : ℕ) (items : List Point) (x : Frac) →
-    IsPieceSoFar front b w n i items → SameValue (fraction_of x) (on_line b.right w n i) →
-    IsPieceSoFar front b w n (i + 1) (items ++ even x ∷ [])
-piece_more front b w n i items x h is =
+pub line_more : (front : List Point) (u w : Frac) (n i : ℕ) (items : List Point) (x : Frac) →
+    IsLineSoFar front u w n i items → SameValue (fraction_of x) (on_line u w n i) →
+    IsLineSoFar front u w n (i + 1) (items ++ even x ∷ [])
+line_more front u w n i items x h is =
     let xs = h.between in
     let k = length xs in
     let more = length_push xs x in
-    let P : ℕ → Type 0 = λ j. (y : Frac) → SameValue (fraction_of (get_or (xs ++ x ∷ []) j y)) (on_line b.right w n (j + 1)) in
+    let P : ℕ → Type 0 = λ j. (y : Frac) → SameValue (fraction_of (get_or (xs ++ x ∷ []) j y)) (on_line u w n (j + 1)) in
     let before : (j : ℕ) → j < k → P j = λ j below y.
-    subst (λ z. SameValue (fraction_of z) (on_line b.right w n (j + 1))) (sym (get_or_append_left xs (x ∷ []) y j below)) (h.on j y below) in
+    subst (λ z. SameValue (fraction_of z) (on_line u w n (j + 1))) (sym (get_or_append_left xs (x ∷ []) y j below)) (h.on j y below) in
     let here : P k = λ y.
-    subst (λ z. SameValue (fraction_of z) (on_line b.right w n (k + 1))) (sym (get_or-append_seam xs x [] y))
-    (subst (λ j. SameValue (fraction_of x) (on_line b.right w n j)) (sym h.count) is) in
+    subst (λ z. SameValue (fraction_of z) (on_line u w n (k + 1))) (sym (get_or-append_seam xs x [] y))
+    (subst (λ j. SameValue (fraction_of x) (on_line u w n j)) (sym h.count) is) in
     record {
       between = xs ++ x ∷ [];
       count = ap (λ m. m + 1) (more ∙ h.count);
       on = λ j y below. below_more P k before here j (omega arith) y;
-      items_are = ap (λ ps. ps ++ even x ∷ []) h.items_are ∙ append_assoc front (point_at b ∷ map even xs) (even x ∷ [])
-          ∙ ap (λ ps. front ++ point_at b ∷ ps) (sym (map-append even xs (x ∷ [])));
+      items_are = ap (λ ps. ps ++ even x ∷ []) h.items_are ∙ append_assoc front (map even xs) (even x ∷ [])
+          ∙ ap (λ ps. front ++ ps) (sym (map-append even xs (x ∷ [])));
     }
+
+-- the point of a breakpoint and the line behind it make a piece
+pub piece_pushed : (b : Break) (w : Frac) (n : ℕ) (front pushed items : List Point) →
+    (between : List Frac) × IsLine b.right w n between × (items ≡ pushed ++ map even between) → pushed ≡ front ++ point_at b ∷ [] →
+    (more : List Point) × IsPiece b w n more × (items ≡ front ++ more)
+piece_pushed b w n front pushed items (between, line, items_are) pushed_is = (
+  point_at b ∷ map even between,
+  record { between = between; count = line.count; on = line.on; points_are = refl },
+  items_are ∙ ap (λ ps. ps ++ map even between) pushed_is ∙ append_assoc front (point_at b ∷ []) (map even between),
+)
 
 -- a piece has as many points as steps
 pub piece_length : (b : Break) (w : Frac) (n : ℕ) (points : List Point) → IsPiece b w n points → length points ≡ n

@@ -72,6 +72,11 @@ pub record HasBreaks (f : FunctionData) (breaks : List Break) : Type 0 where
 abbrev pub even : Frac → Point
 even x = record { left = x; value = x; right = x }
 
+-- the points on the line from u to w, n steps long, one a step, without its two ends
+pub record IsLine (u w : Frac) (n : ℕ) (between : List Frac) : Type 0 where
+  pub count : length between + 1 ≡ n
+  pub on : (i : ℕ) (x : Frac) → i < length between → SameValue (fraction_of (slice_index_or between i x)) (on_line u w n (i + 1))
+
 -- the points of the grid from a breakpoint on, up to where the line from its limit from the right arrives, n steps on, at w:
 -- its own, and those on the line
 pub record IsPiece (b : Break) (w : Frac) (n : ℕ) (points : List Point) : Type 0 where

@@ -22,6 +22,7 @@ pub mod Elimination
 pub mod Perturbation
 pub mod RowCut
 pub mod Breaks
+pub mod BreakPlaces
 pub mod KeptBreaks
 pub mod Valid
 pub mod Residues

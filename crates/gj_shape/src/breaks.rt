@@ -7,6 +7,7 @@ ghost use Rattle.gj_shape.specs.Limits.{greatest_order};
 ghost use Rattle.gj_shape.specs.Given.{IsOrder, IsPlace, AreWithinBounds, IsTooFineOf};
 ghost use Rattle.gj_shape.specs.Points.{all_fractions};
 ghost use Rattle.gj_shape.specs.Breaks.{points_at, AreAscending, AreOnGrid, HasBreaks, IsGivenByBreaks, AreListsOfBreaks, no_breaks, IsNextBreak, Follows, IsBreakFault, break_fault, IsOfBreaks};
+ghost use Rattle.gj_shape.specs.BreakPlaces.{IsBehindOthers};
 ghost use Rattle.gj_shape.specs.declared.breaks.Break.{Break};
 ghost use Rattle.gj_shape.specs.declared.breaks.BreakFault.TheVariants.{Memory};
 
@@ -14,7 +15,7 @@ use crate::denominators::{small_denominator, with_point};
 use crate::faults::{FractionFault, ShapeFault};
 use crate::limits::GREATEST_ORDER;
 use crate::numerators::numerator_over;
-use crate::pieces::{place_of, push_piece, with_points};
+use crate::pieces::{place_of, push_line, with_points};
 use crate::points::{Point, Points};
 use crate::shape::Shape;
 use gj_frac::{Frac, lcm};
@@ -74,23 +75,21 @@ impl From<AllocError> for BreakFault {
     }
 }
 
-/// Whether a breakpoint at x can stand behind the others: the first is at 0, and each further one behind the one before
-/// and below 1.
-fn is_next(breaks: &[Break], x: Frac) -> bool
-    ensures { IsTrue result ↔ IsNextBreak breaks.now x }
+/// Whether x is behind the other breakpoints or, if there are none, is `start`.
+fn is_next(breaks: &[Break], x: Frac, start: Frac) -> bool
+    ensures { IsTrue result ↔ IsBehindOthers breaks.now start x }
 {
     match breaks.last() {
-        None => x.num() == 0,
+        None => x == start,
         Some(before) => is_behind(before.x, x),
     }
 }
 
-/// Whether x is greater than the place of the breakpoint before it, and below 1.
+/// Whether x is greater than the place of the breakpoint before it.
 fn is_behind(before: Frac, x: Frac) -> bool
-    ensures { IsTrue result ↔ (LessValue (fraction_of before) (fraction_of x)
-        × LessValue (fraction_of x) (record { top = pos 1; bottom = pos 1 })) }
+    ensures { IsTrue result ↔ LessValue (fraction_of before) (fraction_of x) }
 {
-    before < x && x.num() < x.den()
+    before < x
 }
 
 /// The least common multiple of the order so far and the denominator of x, if it is at most 1,000.
@@ -157,7 +156,10 @@ impl Breaks {
         ensures err { OnErr result (self.new ≡ self.old) }
         ensures fault { IfErr result (IsBreakFault self.old point) }
     {
-        if !is_next(self.breaks.as_slice(), point.x) {
+        if !is_next(self.breaks.as_slice(), point.x, Frac::ratio(0, 1)) {
+            return Err(BreakFault::Break);
+        }
+        if point.x.num() >= point.x.den() {
             return Err(BreakFault::Break);
         }
         let Some(order) = order_with(self.order, point.x) else {
@@ -225,11 +227,21 @@ impl Shape {
             let b = points[i];
             let next = points[i + 1];
             let steps = place_of(next.x, q) - place_of(b.x, q);
-            push_piece(&mut grid, b, next.left, steps)?;
+            grid.push(Point {
+                left: b.left,
+                value: b.value,
+                right: b.right,
+            })?;
+            push_line(&mut grid, b.right, next.left, steps)?;
         }
-        let b = points[last];
-        let steps = q - place_of(b.x, q);
-        push_piece(&mut grid, b, first.left, steps)?;
+        let end = points[last];
+        let steps = q - place_of(end.x, q);
+        grid.push(Point {
+            left: end.left,
+            value: end.value,
+            right: end.right,
+        })?;
+        push_line(&mut grid, end.right, first.left, steps)?;
         with_points(alloc, q, k, grid.as_slice())
     }
 }

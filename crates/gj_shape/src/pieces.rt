@@ -1,14 +1,14 @@
 //! The points of a function on the grid, from one breakpoint to the next.
-ghost use Rattle.std.specs.Prelude.{◌≡◌, ◌<◌, ◌≤◌, ◌+◌, ◌-◌, ◌*◌, ◌+ℤ◌, ◌*ℤ◌, ◌++◌, ◌∷◌, [], ℕ, pos, List, IfOk, IfErr, OnOk, unsigned_abs};
+ghost use Rattle.std.specs.Prelude.{◌≡◌, ◌<◌, ◌≤◌, ◌+◌, ◌-◌, ◌*◌, ◌+ℤ◌, ◌*ℤ◌, ◌++◌, ◌∷◌, [], ℕ, pos, List, map, IfOk, IfErr, OnOk, unsigned_abs};
 ghost use Rattle.std.specs.Int.{◌∣◌};
+ghost use Rattle.gj_frac.specs.declared.Frac.{Frac};
 ghost use Rattle.gj_frac.specs.Fraction.{IsRatio, denominator};
-ghost use Rattle.gj_shape.specs.Breaks.{IsPiece};
+ghost use Rattle.gj_shape.specs.Breaks.{even, IsLine};
 ghost use Rattle.gj_shape.specs.Limits.{greatest_order, denominator_bound};
 ghost use Rattle.gj_shape.specs.Given.{AreWithinBounds, IsGivenBy, HasFault};
 ghost use Rattle.gj_shape.specs.Points.{lefts, values, rights};
 ghost use Rattle.gj_shape.specs.declared.points.Point.{Point};
 
-use crate::breaks::Break;
 use crate::faults::ShapeFault;
 use crate::numerators::numerator_over;
 use crate::points::Point;
@@ -27,26 +27,21 @@ pub(crate) fn place_of(x: Frac, q: u32) -> u32
     numerator_over(x, q) as u32
 }
 
-/// Adds the point of a breakpoint, and those between it and where the line from its limit from the right arrives, so many
-/// steps on, at w.
-pub(crate) fn push_piece(
+/// Adds the points on the line from u to w, so many steps long, without its two ends.
+pub(crate) fn push_line(
     points: &mut Vec<Point>,
-    b: Break,
+    u: Frac,
     w: Frac,
     steps: u32,
 ) -> Result<(), AllocError>
     requires some { 0 < steps }
     requires few { steps ≤ greatest_order }
-    requires within { AreWithinBounds (b.right ∷ w ∷ []) }
-    ensures { OnOk result ((more : List Point) × IsPiece b w steps more × (points.new.items ≡ points.old.items ++ more)) }
+    requires within { AreWithinBounds (u ∷ w ∷ []) }
+    ensures { OnOk result ((between : List Frac) × IsLine u w steps between
+        × (points.new.items ≡ points.old.items ++ map even between)) }
 {
-    points.push(Point {
-        left: b.left,
-        value: b.value,
-        right: b.right,
-    })?;
-    let scale = scale_of(b.right, w);
-    let start = numerator_over(b.right, scale);
+    let scale = scale_of(u, w);
+    let start = numerator_over(u, scale);
     let end = numerator_over(w, scale);
     for i in 1..steps {
         let x = on_line(start, end, scale, steps, i);

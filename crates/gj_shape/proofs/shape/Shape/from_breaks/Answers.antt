@@ -2,7 +2,7 @@ use Rattle.std.proofs.Common.{◌≡◌, ◌+◌, ◌-◌, pos, length, sym, sub
 use Rattle.std.proofs.lemmas.List.{nil_from_length}
 use Rattle.std.proofs.lemmas.Result.{IfOk-weaker, IfErr-weaker}
 use Rattle.gj_frac.specs.Fraction.{IsRatio}
-use Rattle.gj_shape.proofs.BreakPieces.{IsBreakAt, AreLaidFrom, ends_within, place_on, place_below, places_ascend, laid_more, grid_done, grid_fault}
+use Rattle.gj_shape.proofs.BreakPieces.{IsBreakAt, AreLaidFrom, piece_pushed, ends_within, place_on, place_below, places_ascend, laid_more, grid_done, grid_fault}
 use Rattle.gj_shape.proofs.BreakValues.{has_breaks}
 use Rattle.gj_shape.proofs.shape.Shape.from_breaks.Goals as goal
 
@@ -31,8 +31,8 @@ overflow_sub-steps c =
     c.place_of-in-loop-i.result c.place_of.result (omega (arith, h.order.0)) h.ascending at next c.place_of-in-loop-i.ensures c.place_of.ensures in
     omega arith
 
-pub push_piece-requires-clause-some : goal.push_piece-requires-clause-some
-push_piece-requires-clause-some c =
+pub push_line-requires-clause-some : goal.push_line-requires-clause-some
+push_line-requires-clause-some c =
     let h = c.requires in
     let at : IsBreakAt c.args.points.now c.loop-i.i c.index-points-i.result = record { within = omega arith; is = c.index-points-i.is } in
     let next : IsBreakAt c.args.points.now (c.loop-i.i + 1) c.index-points-i-in-loop-i.result =
@@ -41,8 +41,8 @@ push_piece-requires-clause-some c =
     c.place_of-in-loop-i.result c.place_of.result (omega (arith, h.order.0)) h.ascending at next c.place_of-in-loop-i.ensures c.place_of.ensures in
     omega arith
 
-pub push_piece-requires-clause-few : goal.push_piece-requires-clause-few
-push_piece-requires-clause-few c =
+pub push_line-requires-clause-few : goal.push_line-requires-clause-few
+push_line-requires-clause-few c =
     let h = c.requires in
     let next : IsBreakAt c.args.points.now (c.loop-i.i + 1) c.index-points-i-in-loop-i.result =
     record { within = omega arith; is = c.index-points-i-in-loop-i.is } in
@@ -50,8 +50,8 @@ push_piece-requires-clause-few c =
     (omega (arith, h.order.0)) h.ascending h.on_grid next c.place_of.ensures in
     omega (arith, h.order.1)
 
-pub push_piece-requires-clause-within : goal.push_piece-requires-clause-within
-push_piece-requires-clause-within c =
+pub push_line-requires-clause-within : goal.push_line-requires-clause-within
+push_line-requires-clause-within c =
     let at : IsBreakAt c.args.points.now c.loop-i.i c.index-points-i.result = record { within = omega arith; is = c.index-points-i.is } in
     let next : IsBreakAt c.args.points.now (c.loop-i.i + 1) c.index-points-i-in-loop-i.result =
     record { within = omega arith; is = c.index-points-i-in-loop-i.is } in
@@ -72,7 +72,7 @@ loop-i-preserved c =
     let next : IsBreakAt breaks (i + 1) d = record { within = omega arith; is = c.index-points-i-in-loop-i.is } in
     let greater = places_ascend q breaks i b d m n (omega (arith, h.order.0)) h.ascending at next c.place_of-in-loop-i.ensures c.place_of.ensures in
     let on : n ≡ m + (n - m) = omega arith in
-    let (more, piece, items) = c.in_ok-push_piece.ensures in
+    let (more, piece, items) = piece_pushed b d.left (n - m) _ _ _ c.in_ok-push_line.ensures c.in_ok-push.ensures.items in
     subst (AreLaidFrom q w breaks (i + 1)) (sym items)
     (laid_more q w breaks i m (n - m) b d _ more at next c.place_of-in-loop-i.ensures
     (subst (λ p. IsRatio d.x (pos p) (pos q)) on c.place_of.ensures) piece c.loop-i.invariant)
@@ -97,8 +97,8 @@ overflow_sub-steps-2 c =
     h.ascending h.on_grid at c.place_of-2.ensures in
     omega arith
 
-pub push_piece-requires-2-clause-some : goal.push_piece-requires-2-clause-some
-push_piece-requires-2-clause-some c =
+pub push_line-requires-2-clause-some : goal.push_line-requires-2-clause-some
+push_line-requires-2-clause-some c =
     let h = c.requires in
     let breaks = c.args.points.now in
     let some : length breaks ≡ 0 → ⊥ = λ e. h.some (nil_from_length breaks e) in
@@ -107,8 +107,8 @@ push_piece-requires-2-clause-some c =
     h.ascending h.on_grid at c.place_of-2.ensures in
     omega arith
 
-pub push_piece-requires-2-clause-within : goal.push_piece-requires-2-clause-within
-push_piece-requires-2-clause-within c =
+pub push_line-requires-2-clause-within : goal.push_line-requires-2-clause-within
+push_line-requires-2-clause-within c =
     let h = c.requires in
     let breaks = c.args.points.now in
     let some : length breaks ≡ 0 → ⊥ = λ e. h.some (nil_from_length breaks e) in
@@ -127,7 +127,7 @@ returns-clause-given c =
     let at : IsBreakAt breaks (length breaks - 1) b = record { within = omega (arith, some); is = c.index-points-last.is } in
     let below = place_below q breaks (length breaks - 1) b c.place_of-2.result (omega (arith, h.order.0)) h.ascending h.on_grid at
     c.place_of-2.ensures in
-    let (more, piece, items) = c.in_ok-push_piece-2.ensures in
+    let (more, piece, items) = piece_pushed b c.index-points-0.result.left (q - c.place_of-2.result) _ _ _ c.in_ok-push_line-2.ensures c.in_ok-push-2.ensures.items in
     let grid = grid_done q breaks (length breaks - 1) c.loop-i.i c.place_of-2.result _ b _ more c.as_slice.result.now first at
     (omega (arith, some)) (omega arith) (omega arith) c.place_of-2.ensures piece c.loop-i.invariant (c.as_slice.ensures.value ∙ items) in
     IfOk-weaker c.with_points.result _ _ (λ f given. (c.as_slice.result.now, grid, given)) c.with_points.ensures.given
@@ -143,7 +143,7 @@ returns-clause-value c =
     let at : IsBreakAt breaks (length breaks - 1) b = record { within = omega (arith, some); is = c.index-points-last.is } in
     let below = place_below q breaks (length breaks - 1) b c.place_of-2.result (omega (arith, h.order.0)) h.ascending h.on_grid at
     c.place_of-2.ensures in
-    let (more, piece, items) = c.in_ok-push_piece-2.ensures in
+    let (more, piece, items) = piece_pushed b c.index-points-0.result.left (q - c.place_of-2.result) _ _ _ c.in_ok-push_line-2.ensures c.in_ok-push-2.ensures.items in
     let grid = grid_done q breaks (length breaks - 1) c.loop-i.i c.place_of-2.result _ b _ more c.as_slice.result.now first at
     (omega (arith, some)) (omega arith) (omega arith) c.place_of-2.ensures piece c.loop-i.invariant (c.as_slice.ensures.value ∙ items) in
     IfOk-weaker c.with_points.result _ _ (λ f given. has_breaks q c.args.k breaks c.as_slice.result.now f grid given) c.with_points.ensures.given
@@ -159,7 +159,7 @@ returns-clause-fault c =
     let at : IsBreakAt breaks (length breaks - 1) b = record { within = omega (arith, some); is = c.index-points-last.is } in
     let below = place_below q breaks (length breaks - 1) b c.place_of-2.result (omega (arith, h.order.0)) h.ascending h.on_grid at
     c.place_of-2.ensures in
-    let (more, piece, items) = c.in_ok-push_piece-2.ensures in
+    let (more, piece, items) = piece_pushed b c.index-points-0.result.left (q - c.place_of-2.result) _ _ _ c.in_ok-push_line-2.ensures c.in_ok-push-2.ensures.items in
     let grid = grid_done q breaks (length breaks - 1) c.loop-i.i c.place_of-2.result _ b _ more c.as_slice.result.now first at
     (omega (arith, some)) (omega arith) (omega arith) c.place_of-2.ensures piece c.loop-i.invariant (c.as_slice.ensures.value ∙ items) in
     IfErr-weaker c.with_points.result _ _
