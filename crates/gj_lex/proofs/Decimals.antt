@@ -8,6 +8,7 @@ use Rattle.std.proofs.lemmas.Str.{digit_value_digit}
 use Rattle.std.proofs.lemmas.Str.Parse.{digit_from_value, digit_at}
 use Rattle.std.proofs.lemmas.Fmt.{decimal_digit, decimal_step_wide, decimal_by_steps_wide, decimal_is_IsNumeral_wide, length-decimal-le_wide}
 use Rattle.std.proofs.lemmas.List.{drop-set}
+use Rattle.std.proofs.Math.Nat.{pow-suc, mul-le-mul_left, one-le-pow, pow-le-pow_right}
 
 -- digits after a number only add to it
 pub value_after_at_least : (n : ℕ) (ds : List ℕ) → n ≤ digits_value_after 10 n ds
@@ -152,3 +153,37 @@ read_digits_only word None h n small e =
     let value : digits_value 10 word ≡ n = ap (digits_value 10) e ∙ spelled.1 in
     absurd (h (subst (AllDigits 10) (sym e) spelled.0.1, omega arith))
 read_digits_only word (Some m) h n small e = ap Some (h.1 ∙ ap (digits_value 10) e ∙ value_of_decimal n (omega arith))
+
+-- where a byte is no digit the word is no number
+pub no_digit_there : (start : ℕ) (word : List ℕ) (i limit : ℕ) → i < length word → ¬ (digit_value (get_or word i 0) < 10) →
+    ¬ (AllDigits 10 word × (digits_value_after 10 start word < limit))
+no_digit_there start word i limit l none (d, small) =
+    let r = digit_at word i d l in
+    let k = digit_value_digit (get_or word i 0) r in
+    none (omega arith)
+
+-- room for all digits that are left is room for one of them, and then for the others
+pub room_behind_digit : (v d n i limit : ℕ) → i < n → d < 10 → (v + 1) * 10 ^ (n - i) ≤ limit →
+    (v * 10 + d + 1) * 10 ^ (n - (i + 1)) ≤ limit
+room_behind_digit v d n i limit l digit room =
+    let left : n - i ≡ suc (n - (i + 1)) = omega arith in
+    let p = 10 ^ (n - (i + 1)) in
+    let power : 10 ^ (n - i) ≡ p * 10 = ap (λ k. 10 ^ k) left ∙ pow-suc 10 (n - (i + 1)) in
+    let room' : (v + 1) * (p * 10) ≤ limit = subst (λ k. (v + 1) * k ≤ limit) power room in
+    let below : p * (d + 1) ≤ p * 10 = mul-le-mul_left p (omega arith) in
+    omega (arith, room', below)
+
+-- a number that has room for digits is below the limit
+pub room_is_below : (v k limit : ℕ) → (v + 1) * 10 ^ k ≤ limit → v < limit
+room_is_below v k limit room =
+    let ten : 0 < 10 = omega arith in
+    let some : 1 ≤ 10 ^ k = one-le-pow k 10 ten in
+    let more : (v + 1) * 1 ≤ (v + 1) * 10 ^ k = mul-le-mul_left (v + 1) some in
+    omega (arith, room, more)
+
+-- a number below 10 ^ 9 has room for 10 digits behind it
+pub room_for_ten : (v k : ℕ) → v < 10 ^ 9 → k ≤ 10 → (v + 1) * 10 ^ k ≤ 10 ^ 19
+room_for_ten v k small few =
+    let most : 10 ^ k ≤ 10 ^ 10 = pow-le-pow_right (omega arith) few in
+    let first : (v + 1) * 10 ^ k ≤ (v + 1) * 10 ^ 10 = mul-le-mul_left (v + 1) most in
+    omega (arith, first)

@@ -1,10 +1,12 @@
 -- The lines of a strict text: each is determined, has its words, and is a lenient line.
-use Rattle.std.proofs.Common.{◌≡◌, ◌≢◌, ℕ, zero, suc, ◌+◌, ◌-◌, ◌<◌, Bool, false, List, [], ◌∷◌, ◌++◌, length, get_or, take, drop, None, Some, refl, sym, ◌∙◌, ap, subst, arith, append-nil, append_assoc, length-append}
-use Rattle.std.specs.List.{All, join_with_byte, slice_split, position}
+use Rattle.std.proofs.Common.{◌≡◌, ◌≢◌, ℕ, zero, suc, ◌+◌, ◌-◌, ◌<◌, Bool, false, List, [], ◌∷◌, ◌++◌, length, get_or, take, drop, None, Some, refl, sym, ◌∙◌, ap, subst, arith, append-nil, append_assoc, length-append, length-take, length-drop, get_or-take, get_or-drop, ◌↔◌, ◌≤◌}
+use Rattle.std.specs.List.{All, join_with_byte, slice_split, position, position_or_len}
 use Rattle.std.proofs.Math.Dec.{eqb}
 use Rattle.std.proofs.lemmas.Bool.{ne_eqb}
 use Rattle.std.proofs.Math.Seq.{get_or-append_seam}
-use Rattle.std.proofs.lemmas.List.Elements.{All-nil, All-cons, All-head, All-tail, All-append, All-same, All-weaker}
+use Rattle.std.proofs.lemmas.List.Elements.{All-nil, All-cons, All-head, All-tail, All-append, All-same, All-weaker, All-get_or, All-from_get_or}
+use Rattle.std.proofs.lemmas.List.{drop-drop, take_all}
+use Rattle.std.proofs.lemmas.List.Sums.{position_or_len_is}
 use Rattle.std.proofs.lemmas.List.Splits.{slice_split_none, slice_split_at, length-slice_split, join_with_byte-slice_split}
 use Rattle.gj_lex.specs.Lines.{is_line_feed}
 use Rattle.gj_lex.specs.Words.{is_blank, word_texts}
@@ -13,7 +15,7 @@ use Rattle.gj_lex.specs.TextLines.{IsInWord, IsWord, HasStrictLine, HasNextLine,
 use Rattle.gj_lex.specs.TextLines.IsFirstLine.{ended}
 use Rattle.gj_lex.specs.TextLines.AreBytesOf.{kept}
 use Rattle.gj_lex.specs.TextLines.HasNextLine.{here}
-use Rattle.gj_lex.proofs.FirstPlaces.{first_place, no_place}
+use Rattle.gj_lex.proofs.FirstPlaces.{first_place, no_place, position_is, position_none}
 use Rattle.gj_lex.proofs.WordTexts.{skip_blank, take_word}
 use Rattle.gj_lex.proofs.LenientLines.{one_cut, feed_within, uncut}
 
@@ -146,6 +148,107 @@ words_of_one left h =
       λ all. All-head IsWord left [] (subst (All IsWord) parts all),
       λ one. subst (All IsWord) (sym parts) (All-cons IsWord left [] one (All-nil IsWord)),
     )
+
+-- each byte of words with one space between them is a space or stands in a word
+words_bytes : (w : List ℕ) (ws : List (List ℕ)) → All IsWord (w ∷ ws) → All (λ b. b ≢ 32 → IsInWord b) (join_with_byte 32 (w ∷ ws))
+words_bytes w [] h = All-weaker IsInWord (λ b. b ≢ 32 → IsInWord b) (λ b i n. i) w (All-head IsWord w [] h).bytes
+words_bytes w (v ∷ ws) h =
+    All-append (λ b. b ≢ 32 → IsInWord b) w (32 ∷ join_with_byte 32 (v ∷ ws))
+    (All-weaker IsInWord (λ b. b ≢ 32 → IsInWord b) (λ b i n. i) w (All-head IsWord w (v ∷ ws) h).bytes)
+    (All-cons (λ b. b ≢ 32 → IsInWord b) 32 (join_with_byte 32 (v ∷ ws)) (λ n. absurd (n refl)) (words_bytes v ws (All-tail IsWord w (v ∷ ws) h)))
+
+-- so does each byte of a line whose parts between spaces are words
+pub in_words : (line : List ℕ) (k : ℕ) → All IsWord (slice_split is_space line) → k < length line → get_or line k 0 ≢ 32 →
+    IsInWord (get_or line k 0)
+in_words line k all l other = by_parts (slice_split is_space line) refl
+  where
+    by_parts : (parts : List (List ℕ)) → slice_split is_space line ≡ parts → IsInWord (get_or line k 0)
+    by_parts [] is = absurd (omega (arith, length-slice_split is_space line, ap length is))
+    by_parts (w ∷ ws) is =
+        let line_is : join_with_byte 32 (w ∷ ws) ≡ line = ap (join_with_byte 32) (sym is) ∙ join_with_byte-slice_split 32 line in
+        All-get_or (λ b. b ≢ 32 → IsInWord b) line k 0 l
+        (subst (All (λ b. b ≢ 32 → IsInWord b)) line_is (words_bytes w ws (subst (All IsWord) is all))) other
+
+-- bytes of a word from `start` up to `end`
+abbrev pub IsPlainBetween : List ℕ → ℕ → ℕ → Type 0
+IsPlainBetween line start end = (k : ℕ) → start ≤ k → k < end → IsInWord (get_or line k 0)
+
+plain_word : (line : List ℕ) (start n : ℕ) → 0 < n → start + n ≤ length line → IsPlainBetween line start (start + n) →
+    IsWord (take n (drop start line))
+plain_word line start n some within plain =
+    let left = drop start line in
+    let len : length (take n left) ≡ n = length-take n left ∙ omega (arith, length-drop start line) in
+    record {
+      some = omega (arith, len);
+      bytes = All-from_get_or IsInWord (take n left) 0
+          (λ i l.
+          let short : i < n = omega (arith, len) in
+          subst IsInWord (sym (get_or-take n left i 0 short ∙ get_or-drop start line i 0)) (plain (start + i) (omega arith) (omega arith)));
+    }
+
+-- where the first space behind the bytes of a word stands
+space_behind : (line : List ℕ) (start place : ℕ) → start ≤ place → place < length line → IsPlainBetween line start place →
+    get_or line place 0 ≡ 32 → position is_space (drop start line) ≡ Some (place - start)
+space_behind line start place behind within plain feed =
+    let left = drop start line in
+    let len = length-drop start line in
+    let at : start + (place - start) ≡ place = omega arith in
+    position_is is_space left (place - start)
+    (position_or_len_is is_space left (place - start) 0 (omega (arith, len))
+    (λ k l.
+    ap is_space (get_or-drop start line k 0)
+    ∙ ne_eqb (get_or line (start + k) 0) 32 (plain (start + k) (omega arith) (omega arith)).no_space)
+    (λ l. ap is_space (get_or-drop start line (place - start) 0 ∙ ap (λ j. get_or line j 0) at ∙ feed)))
+    (omega (arith, len))
+
+-- no word stands before a space at the front
+pub no_word_before : (line : List ℕ) (start place : ℕ) → place ≡ start → place < length line → get_or line place 0 ≡ 32 →
+    All IsWord (slice_split is_space (drop start line)) → ⊥
+no_word_before line start place same within feed all =
+    let cut = words_of_cut (drop start line) (place - start)
+    (space_behind line start place (omega arith) within (λ k l h. absurd (omega arith)) feed) in
+    omega (arith, (cut.0 all).0.some, length-take (place - start) (drop start line))
+
+-- a word stands before a space behind its bytes
+pub word_before : (line : List ℕ) (start place : ℕ) → start < place → place < length line → IsPlainBetween line start place →
+    get_or line place 0 ≡ 32 →
+    All IsWord (slice_split is_space (drop start line)) ↔ All IsWord (slice_split is_space (drop (place + 1) line))
+word_before line start place some within plain feed =
+    let left = drop start line in
+    let n = place - start in
+    let cut = words_of_cut left n (space_behind line start place (omega arith) within plain feed) in
+    let at : start + (n + 1) ≡ place + 1 = omega arith in
+    let rest : drop (n + 1) left ≡ drop (place + 1) line = drop-drop (n + 1) start line ∙ ap (λ j. drop j line) at in
+    let word : IsWord (take n left) = plain_word line start n (omega arith) (omega arith) (λ k l h. plain k l (omega arith)) in (
+      λ all. subst (λ t. All IsWord (slice_split is_space t)) rest (cut.0 all).1,
+      λ more. cut.1 word (subst (λ t. All IsWord (slice_split is_space t)) (sym rest) more),
+    )
+
+-- the last word has a byte
+pub last_word : (line : List ℕ) (start : ℕ) → start ≤ length line → IsPlainBetween line start (length line) →
+    (start < length line) ↔ All IsWord (slice_split is_space (drop start line))
+last_word line start within plain =
+    let left = drop start line in
+    let len = length-drop start line in
+    let nowhere : position_or_len is_space left ≡ length left = position_or_len_is is_space left (length left) 0 (omega arith)
+    (λ k l.
+    ap is_space (get_or-drop start line k 0)
+    ∙ ne_eqb (get_or line (start + k) 0) 32 (plain (start + k) (omega arith) (omega (arith, len))).no_space)
+    (λ l. absurd (omega arith)) in
+    let one = words_of_one left (position_none is_space left (omega (arith, nowhere))) in (
+      λ some.
+          let n = length line - start in
+          one.1 (subst IsWord (take_all n left (omega (arith, len)))
+          (plain_word line start n (omega arith) (omega arith) (λ k l h. plain k l (omega arith)))),
+      λ all. omega (arith, len, (one.0 all).some),
+    )
+
+-- a strict line begins as its first word
+pub begin_as_word : (text word : List ℕ) (ws : List (List ℕ)) (rest : List ℕ) → HasStrictLine text (word ∷ ws) rest →
+    (0 < length text) × (0 < length word) × (get_or text 0 0 ≡ get_or word 0 0)
+begin_as_word text [] ws rest h = absurd (omega (arith, (All-head IsWord [] ws h.are_words).some))
+begin_as_word text (b ∷ bs) [] rest h = (omega (arith, ap length h.spelled), omega arith, ap (λ t. get_or t 0 0) h.spelled)
+begin_as_word text (b ∷ bs) (w ∷ ws) rest h = (omega (arith, ap length h.spelled), omega arith, ap (λ t. get_or t 0 0) h.spelled)
 
 -- ---- a line of words without a CR
 

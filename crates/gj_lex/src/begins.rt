@@ -1,16 +1,22 @@
 //! How a text begins.
-ghost use Rattle.std.specs.Prelude.{◌↔◌, IsTrue};
+ghost use Rattle.std.specs.Prelude.{◌≡◌, ◌↔◌, ◌<◌, IsTrue, IfSome, IfNone, OnSome, length, slice_index};
 ghost use Rattle.gj_lex.specs.Words.{word_texts};
+ghost use Rattle.gj_lex.specs.TextLines.{HasLine};
 ghost use Rattle.gj_lex.specs.Parts.{BeginsWithLine, BeginsWithWord};
 
 use crate::spelling::Spelling;
-use crate::text_lines::{line_at, words_at};
-use crate::words::has_first_word;
+use crate::text_lines::{TextLine, line_at, words_at};
+use crate::words::{has_first_word, split_word};
 
 /// Whether the next line of the text has these words and no others. It takes no memory.
 pub fn begins_with_line(spelling: Spelling, text: &[u8], words: &[u8]) -> bool
     ensures { IsTrue result ↔ BeginsWithLine spelling (word_texts words.now) text.now }
 {
+    if let Some((word, _)) = split_word(words) {
+        if !may_begin_with(spelling, text, word) {
+            return false;
+        }
+    }
     words_at(spelling, text, words).is_ok()
 }
 
@@ -18,8 +24,42 @@ pub fn begins_with_line(spelling: Spelling, text: &[u8], words: &[u8]) -> bool
 pub fn begins_with_word(spelling: Spelling, text: &[u8], word: &[u8]) -> bool
     ensures { IsTrue result ↔ BeginsWithWord spelling word.now text.now }
 {
-    match line_at(spelling, text) {
-        Ok(line) => has_first_word(line.bytes, word),
-        Err(_) => false,
+    line_with_word(spelling, text, word).is_some()
+}
+
+/// The next line of the text, if its first word is this word. It takes no memory.
+pub fn line_with_word<'a>(spelling: Spelling, text: &'a [u8], word: &[u8]) -> Option<TextLine<'a>>
+    ensures found { IfSome result (λ l. HasLine spelling text.now l.start.now (word_texts l.bytes.now) l.rest.now) }
+    ensures begins { OnSome result (BeginsWithWord spelling word.now text.now) }
+    ensures none { IfNone result (BeginsWithWord spelling word.now text.now → ⊥) }
+{
+    if !may_begin_with(spelling, text, word) {
+        return None;
     }
+    match line_at(spelling, text) {
+        Ok(line) => {
+            if !has_first_word(line.bytes, word) {
+                return None;
+            }
+            Some(line)
+        }
+        Err(_) => None,
+    }
+}
+
+/// Whether the next line of the text can begin with this word, by the first byte of the text: a strict line begins with its first word.
+fn may_begin_with(spelling: Spelling, text: &[u8], word: &[u8]) -> bool
+    ensures { BeginsWithWord spelling word.now text.now → IsTrue result }
+{
+    match spelling {
+        Spelling::Lenient => true,
+        Spelling::Strict => begin_alike(text, word),
+    }
+}
+
+/// Whether both have a first byte, and the same.
+fn begin_alike(text: &[u8], word: &[u8]) -> bool
+    ensures { (0 < length text.now) → (0 < length word.now) → slice_index text.now 0 ≡ slice_index word.now 0 → IsTrue result }
+{
+    !text.is_empty() && !word.is_empty() && text[0] == word[0]
 }

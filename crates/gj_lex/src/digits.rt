@@ -8,6 +8,9 @@ ghost use Rattle.std.specs.Str.Parse.{AllDigits, IsNumeral, digits_value, digits
 /// The greatest number that is read: 2^127 - 1.
 const LIMIT: u128 = 0x7fff_ffff_ffff_ffff_ffff_ffff_ffff_ffff;
 
+/// So many digits make a number that fits 64 bits.
+const SHORT: usize = 19;
+
 /// The number that the word spells in digits, without a leading zero.
 ///
 /// None if the word is no such number, or one above 2^127 - 1.
@@ -45,7 +48,10 @@ fn value_of(word: &[u8]) -> Option<u128>
     ensures { let value = digits_value 10 word.now in
         SomeIff result (AllDigits 10 word.now × (value < 2 ^ 127)) value }
 {
-    value_after(0, word)
+    if word.len() <= SHORT {
+        return short_value(0, word);
+    }
+    long_value(0, word)
 }
 
 /// The number that the bytes spell behind the digits of `front`, if each is a digit and the
@@ -55,11 +61,46 @@ pub(crate) fn value_after(front: u128, word: &[u8]) -> Option<u128>
     ensures { let value = digits_value_after 10 front word.now in
         SomeIff result (AllDigits 10 word.now × (value < 2 ^ 127)) value }
 {
+    if front < 1_000_000_000 && word.len() <= SHORT - 9 {
+        return short_value(front as u64, word);
+    }
+    long_value(front, word)
+}
+
+/// The same, whatever the size of the number and the number of digits.
+fn long_value(front: u128, word: &[u8]) -> Option<u128>
+    requires { front < 2 ^ 127 }
+    ensures { let value = digits_value_after 10 front word.now in
+        SomeIff result (AllDigits 10 word.now × (value < 2 ^ 127)) value }
+{
     let mut value = front;
     for byte in word {
         value = with_digit(value, *byte)?;
     }
     Some(value)
+}
+
+/// The same, where the number has at most 19 digits, so that it fits 64 bits.
+fn short_value(front: u64, word: &[u8]) -> Option<u128>
+    requires { (front + 1) * 10 ^ length word.now ≤ 10 ^ 19 }
+    ensures { let value = digits_value_after 10 front word.now in
+        SomeIff result (AllDigits 10 word.now × (value < 2 ^ 127)) value }
+{
+    let mut value = front;
+    for byte in word {
+        value = value * 10 + digit_of(*byte)?;
+    }
+    Some(u128::from(value))
+}
+
+/// What the byte is worth, if it is a digit.
+fn digit_of(byte: u8) -> Option<u64>
+    ensures { SomeIff result (digit_value byte < 10) (digit_value byte) }
+{
+    if !byte.is_ascii_digit() {
+        return None;
+    }
+    Some(u64::from(byte - b'0'))
 }
 
 /// The number with one more digit at its end, if the byte is a digit and the number is at most
@@ -81,6 +122,20 @@ fn with_digit(front: u128, byte: u8) -> Option<u128>
 
 /// Writes the digits of `n` into the text so that they end before `end`, and says where they begin.
 pub(crate) fn write_digits(text: &mut [u8], end: usize, n: u128) -> usize
+    requires within { end ≤ length text.old }
+    requires room { 39 ≤ end }
+    ensures written { drop result text.new ≡ decimal n ++ drop end text.old }
+    ensures begins { result < end }
+    ensures room { end ≤ result + 39 }
+{
+    if n < 1 << 64 {
+        return itoa::write_digits(n as u64, text, end);
+    }
+    write_long_digits(text, end, n)
+}
+
+/// The same, whatever the size of the number.
+fn write_long_digits(text: &mut [u8], end: usize, n: u128) -> usize
     requires within { end ≤ length text.old }
     requires room { 39 ≤ end }
     ensures written { drop result text.new ≡ decimal n ++ drop end text.old }

@@ -127,5 +127,8 @@ fn power_of_ten(exponent: usize) -> Option<u128>
     if exponent > MOST_DECIMALS {
         return None;
     }
+    if exponent < 20 {
+        return Some(u128::from(10u64.pow(exponent as u32)));
+    }
     Some(10u128.pow(exponent as u32))
 }

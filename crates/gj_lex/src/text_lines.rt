@@ -12,7 +12,7 @@ use crate::fault::PartFault;
 use crate::reason::Reason;
 use crate::spelling::Spelling;
 use crate::words::{first_byte, has_words};
-use memchr::{memchr, memchr_iter};
+use memchr::memchr_iter;
 
 /// A line of a text.
 #[derive(Clone, Copy, Debug, PartialEq, Eq)]
@@ -210,29 +210,16 @@ fn ends_with_return(bytes: &[u8]) -> bool
 fn are_words(bytes: &[u8]) -> bool
     ensures { IsTrue result ↔ All IsWord (slice_split (λ b. b == 32) bytes.now) }
 {
-    let mut left = bytes;
-    while let Some(end) = first_space(left) {
-        if !is_word(&left[..end]) {
+    let mut start = 0;
+    for (place, byte) in bytes.iter().enumerate() {
+        if *byte == b' ' {
+            if place == start {
+                return false;
+            }
+            start = place + 1;
+        } else if *byte == b'\t' || *byte == b'\n' {
             return false;
         }
-        left = &left[end + 1..];
     }
-    is_word(left)
-}
-
-/// Where the first space stands.
-fn first_space(bytes: &[u8]) -> Option<usize>
-    ensures { result ≡ position (λ b. b == 32) bytes.now }
-{
-    memchr(b' ', bytes)
-}
-
-/// Whether the bytes are a word: some bytes without tab, LF and space.
-fn is_word(word: &[u8]) -> bool
-    ensures { IsTrue result ↔ IsWord word.now }
-{
-    !word.is_empty()
-        && word
-            .iter()
-            .all(|byte| *byte != b'\t' && *byte != b'\n' && *byte != b' ')
+    start < bytes.len()
 }

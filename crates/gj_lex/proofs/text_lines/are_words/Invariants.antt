@@ -1,14 +1,12 @@
-use Rattle.std.proofs.Common.{◌↔◌, ◌≤◌, length}
+use Rattle.std.proofs.Common.{◌↔◌, ◌≤◌, drop}
 use Rattle.std.specs.List.{All, slice_split}
 use Rattle.gj_lex.specs.TextLines.{IsWord}
-use Rattle.gj_lex.proofs.StrictLines.{is_space}
+use Rattle.gj_lex.proofs.StrictLines.{is_space, IsPlainBetween}
 use Rattle.gj_lex.proofs.text_lines.are_words.Given as goal
 
-abbrev pub invariant-loop-end : goal.invariant-loop-end
-invariant-loop-end l = record {
-  same : All IsWord (slice_split is_space l.left) ↔ All IsWord (slice_split is_space l.bytes);
-  within : length l.left ≤ length l.bytes;
+abbrev pub invariant-loop-place : goal.invariant-loop-place
+invariant-loop-place l = record {
+  same : All IsWord (slice_split is_space (drop l.start l.bytes)) ↔ All IsWord (slice_split is_space l.bytes);
+  within : l.start ≤ l.place;
+  plain : IsPlainBetween l.bytes l.start l.place;
 }
-
-abbrev pub decreases-loop-end : goal.decreases-loop-end
-decreases-loop-end l = length l.left

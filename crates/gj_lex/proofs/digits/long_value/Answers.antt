@@ -2,7 +2,7 @@ use Rattle.std.proofs.Common.{◌*◌, ◌+◌, get_or, arith, sym, ap, ◌∙�
 use Rattle.std.specs.Char.{digit_value}
 use Rattle.std.proofs.lemmas.Int.Digits.{digits_more}
 use Rattle.gj_lex.proofs.Decimals.{no_number_from_there, value_after_more}
-use Rattle.gj_lex.proofs.digits.value_after.Goals as goal
+use Rattle.gj_lex.proofs.digits.long_value.Goals as goal
 
 pub returns-in_err-value : goal.returns-in_err-value
 returns-in_err-value c =

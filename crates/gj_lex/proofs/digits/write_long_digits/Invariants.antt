@@ -1,5 +1,5 @@
 use Rattle.std.proofs.Common.{◌≡◌, ◌+◌, ◌<◌, ◌≤◌, ◌^◌, ◌++◌, length, drop, decimal}
-use Rattle.gj_lex.proofs.digits.write_digits.Given as goal
+use Rattle.gj_lex.proofs.digits.write_long_digits.Given as goal
 
 abbrev pub invariant-loop-rest : goal.invariant-loop-rest
 invariant-loop-rest l = record {
