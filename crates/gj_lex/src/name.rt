@@ -4,6 +4,7 @@ ghost use Rattle.std.specs.Prelude.{◌≡◌, ◌↔◌, IfOk, OnOk, IsErrOf, I
 ghost use Rattle.gj_lex.specs.Name.{IsName, IsNameByte};
 ghost use Rattle.gj_lex.specs.declared.name.NameFault.TheVariants.{Memory};
 
+use smallvec::SmallVec;
 use std::alloc::{AllocError, Global};
 use std::marker::Model;
 use thiserror::Error;
@@ -11,10 +12,13 @@ use thiserror::Error;
 /// The greatest length of a name.
 const LONGEST: usize = 255;
 
+/// So many bytes stand in the name itself; a longer name takes memory.
+const INLINE: usize = 16;
+
 /// A name: 1 to 255 visible ASCII bytes, none of them a `"`. Contracts see it as its list of bytes.
 #[derive(Debug, Drop)]
 pub struct Name {
-    bytes: Vec<u8>,
+    bytes: SmallVec<u8, INLINE>,
 }
 
 impl Model for Name {
@@ -59,7 +63,7 @@ impl Name {
         if !is_name(bytes) {
             return Err(NameFault::Form);
         }
-        let bytes = Vec::from_slice(alloc, bytes)?;
+        let bytes = SmallVec::from_slice(alloc, bytes)?;
         Ok(Name { bytes })
     }
 
@@ -75,7 +79,7 @@ impl Name {
     pub fn copy(&self, alloc: Global) -> Result<Name, AllocError>
         ensures { IfOk result (λ name. name ≡ self.now) }
     {
-        let bytes = Vec::from_slice(alloc, self.bytes.as_slice())?;
+        let bytes = SmallVec::from_slice(alloc, self.bytes.as_slice())?;
         Ok(Name { bytes })
     }
 }
