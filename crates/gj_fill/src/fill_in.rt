@@ -8,7 +8,7 @@ ghost use Rattle.gj_shape.specs.TwoSlopes.{rise};
 ghost use Rattle.gj_shape.specs.declared.breaks.Break.{Break};
 ghost use Rattle.gj_fill.specs.Faults.{IsFillFault};
 ghost use Rattle.gj_fill.specs.FillIn.{IsSubadditiveTable};
-ghost use Rattle.gj_fill.specs.FillPoints.{IsBreakAt, AreFillBreaks, value_point, crossing_point, points_from};
+ghost use Rattle.gj_fill.specs.FillPoints.{IsBreakAt, AreFillBreaks, value_point, crossing_point, points_from, fill_points};
 
 use crate::faults::FillFault;
 use crate::pairs::first_pair;
@@ -47,7 +47,8 @@ pub fn fill(alloc: Global, shape: &Shape) -> Result<Filled, FillFault>
     if let Some((a, b)) = first_pair(shape) {
         return Err(FillFault::NotSubadditive(a, b));
     }
-    let points = points_of(alloc, shape)?;
+    let steps = greatest_steps(shape.value_numerators());
+    let points = points_of(alloc, shape, steps)?;
     let f = place_of(shape);
     Ok(Filled { f, points })
 }
@@ -60,12 +61,13 @@ fn place_of(shape: &Shape) -> Frac
     Frac::ratio(i64::from(shape.place()), shape.order())
 }
 
-/// All points of the fill-in, from 0 on.
-fn points_of(alloc: Global, shape: &Shape) -> Result<Vec<Break>, AllocError>
-    ensures points { IfOk result (λ points. AreFillBreaks shape.now points.items) }
+/// All points of the fill-in by lines with these steps, from 0 on.
+fn points_of(alloc: Global, shape: &Shape, steps: Steps) -> Result<Vec<Break>, AllocError>
+    requires rise_small { unsigned_abs steps.rise < 2 ^ 52 }
+    requires fall_small { unsigned_abs steps.fall < 2 ^ 52 }
+    ensures points { IfOk result (λ points. AllZip IsBreakAt (fill_points shape.now steps.rise steps.fall) points.items) }
     ensures ascending { IfOk result (λ points. AreAscending points.items) }
 {
-    let steps = greatest_steps(shape.value_numerators());
     let mut points = Vec::with_capacity(alloc, 2 * shape.order() as usize)?;
     for a in 0..shape.order() {
         push_points(&mut points, shape, steps, a)?;

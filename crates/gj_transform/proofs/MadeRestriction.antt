@@ -1,5 +1,5 @@
 -- The restriction to the multiples of 1/d from its list of values, and if there is one.
-use Rattle.std.proofs.Common.{◌≡◌, ◌≢◌, ℕ, inl, inr, ◌*◌, ◌/◌, ◌%◌, ◌<◌, ◌≤◌, ◌^◌, ℤ, pos, ◌*ℤ◌, List, [], ◌∷◌, ◌++◌, length, All, unsigned_abs, int_div, refl, sym, ap, ap₂, subst, subst₂, ◌∙◌, arith}
+use Rattle.std.proofs.Common.{◌≡◌, ◌≢◌, ◌↔◌, ◌⊎◌, ℕ, inl, inr, ◌*◌, ◌/◌, ◌%◌, ◌<◌, ◌≤◌, ◌^◌, ℤ, pos, ◌*ℤ◌, List, [], ◌∷◌, ◌++◌, length, All, unsigned_abs, int_div, refl, sym, ap, ap₂, subst, subst₂, ◌∙◌, arith}
 use Rattle.std.specs.Int.{◌∣◌}
 use Rattle.std.proofs.Math.Nat.{div-mul_cancel, mul-le-mul_left, dvd-mul_left, dvd-mul_right, mul-dvd-mul_right, dvd_of_mul-dvd-mul_right, le_of_mul-le-mul_right, eq_of_mul-eq-mul_right, div-add-mod', one-mul, mod-lt, lt_of_mul-lt-mul_right, eq-one_of_dvd-one}
 use Rattle.std.proofs.lemmas.Int.{unsigned_abs-mul}
@@ -32,6 +32,15 @@ step_has_restriction f d s h (inr (inr apart)) =
     let scaled : f.place * d ≡ s * p * d = ap (λ k. k * d) place in
     let order : p * f.order ≡ p * (d * s) = ap (λ q. p * q) h.divides in omega arith in
     apart (subst (λ (n : ℕ). f.order ∣ n) (sym whole) (dvd-mul_left f.order p))
+
+-- the result is another, and there is a restriction
+pub not_refused : {A : Type 0} (P Q : A) (f : FunctionData) (d s : ℕ) → P ≢ Q → IsStep f d s → (P ≡ Q) ↔ HasNoRestriction f d
+not_refused P Q f d s other step = (λ e. absurd (other e), λ none. absurd (step_has_restriction f d s step none))
+
+-- no step
+pub no_step : (f : FunctionData) (d : ℕ) → (d < 2) ⊎ (d ∣ f.order → ⊥) → HasNoRestriction f d
+no_step f d (inl low) = inl low
+no_step f d (inr apart) = inr (inl apart)
 
 -- a place that is no multiple of the step
 pub no_place : (f : FunctionData) (d s : ℕ) → 0 < d → f.order ≡ d * s → f.place % s ≢ 0 → HasNoRestriction f d

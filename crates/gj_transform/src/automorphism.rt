@@ -23,15 +23,15 @@ pub fn mirror(alloc: Global, shape: &Shape) -> Result<Shape, AllocError>
 {
     let order = shape.order();
     let backwards = order - 1;
-    let left = entries_at_multiples(alloc, shape.right_numerators(), order, backwards)?;
+    let left = entries_at_multiples(alloc, shape.left_numerators(), order, backwards)?;
     let value = entries_at_multiples(alloc, shape.value_numerators(), order, backwards)?;
-    let right = entries_at_multiples(alloc, shape.left_numerators(), order, backwards)?;
+    let right = entries_at_multiples(alloc, shape.right_numerators(), order, backwards)?;
     Ok(Shape::from_numerators(
         order,
         order - shape.place(),
         shape.common_denominator() as u32,
-        left,
-        value,
         right,
+        value,
+        left,
     ))
 }

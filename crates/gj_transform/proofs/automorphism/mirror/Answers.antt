@@ -9,24 +9,6 @@ use Rattle.gj_transform.proofs.MirrorTables.{mirror_back, mirror_minimal, mirror
 use Rattle.gj_transform.proofs.automorphism.mirror.Goals as goal
 use mir.Syntax.{w128}
 
-pub from_numerators-requires : goal.from_numerators-requires
-from_numerators-requires c =
-    let f = c.args.shape.now in
-    let limits = c.order-order.ensures.limits in
-    let low = limits.order_low in
-    let order = c.order-order.ensures.value in
-    let scale : unsigned_abs (to_z w128 (of_z w128 c.common_denominator.result)) ≡ f.scale =
-    ap unsigned_abs (to_z-of_z w128 _ (search rules) ∙ c.common_denominator.ensures.value) in
-    let place = ap₂ (λ q k. q - k) order c.place.ensures.value in
-    let backwards = c.order-order.result - 1 in
-    let one : backwards + 1 ≡ f.order = omega arith in
-    let are : AreTaken (exchanged f) f.order backwards c.in_ok-left.left.items c.in_ok-value.value.items c.in_ok-right.right.items = record {
-      left_is = taken_as _ _ _ _ backwards _ c.right_numerators.ensures.value order c.in_ok-left.ensures;
-      value_is = taken_as _ _ _ _ backwards _ c.value_numerators.ensures.value order c.in_ok-value.ensures;
-      right_is = taken_as _ _ _ _ backwards _ c.left_numerators.ensures.value order c.in_ok-right.ensures;
-    } in
-    subst IsWithinBounds (sym (function_as order place scale refl refl refl)) (mirror_within f backwards _ _ _ limits one are)
-
 pub returns-clause-mirror : goal.returns-clause-mirror
 returns-clause-mirror c =
     let f = c.args.shape.now in
@@ -38,12 +20,30 @@ returns-clause-mirror c =
     let place = ap₂ (λ q k. q - k) order c.place.ensures.value in
     let backwards = c.order-order.result - 1 in
     let one : backwards + 1 ≡ f.order = omega arith in
-    let are : AreTaken (exchanged f) f.order backwards c.in_ok-left.left.items c.in_ok-value.value.items c.in_ok-right.right.items = record {
-      left_is = taken_as _ _ _ _ backwards _ c.right_numerators.ensures.value order c.in_ok-left.ensures;
+    let are : AreTaken (exchanged f) f.order backwards c.in_ok-right.right.items c.in_ok-value.value.items c.in_ok-left.left.items = record {
+      left_is = taken_as _ _ _ _ backwards _ c.right_numerators.ensures.value order c.in_ok-right.ensures;
       value_is = taken_as _ _ _ _ backwards _ c.value_numerators.ensures.value order c.in_ok-value.ensures;
-      right_is = taken_as _ _ _ _ backwards _ c.left_numerators.ensures.value order c.in_ok-right.ensures;
+      right_is = taken_as _ _ _ _ backwards _ c.left_numerators.ensures.value order c.in_ok-left.ensures;
     } in
     subst (IsMirrorOf f) (sym (c.from_numerators.ensures ∙ function_as order place scale refl refl refl)) (mirror_made f backwards _ _ _ limits one are)
+
+pub from_numerators-requires : goal.from_numerators-requires
+from_numerators-requires c =
+    let f = c.args.shape.now in
+    let limits = c.order-order.ensures.limits in
+    let low = limits.order_low in
+    let order = c.order-order.ensures.value in
+    let scale : unsigned_abs (to_z w128 (of_z w128 c.common_denominator.result)) ≡ f.scale =
+    ap unsigned_abs (to_z-of_z w128 _ (search rules) ∙ c.common_denominator.ensures.value) in
+    let place = ap₂ (λ q k. q - k) order c.place.ensures.value in
+    let backwards = c.order-order.result - 1 in
+    let one : backwards + 1 ≡ f.order = omega arith in
+    let are : AreTaken (exchanged f) f.order backwards c.in_ok-right.right.items c.in_ok-value.value.items c.in_ok-left.left.items = record {
+      left_is = taken_as _ _ _ _ backwards _ c.right_numerators.ensures.value order c.in_ok-right.ensures;
+      value_is = taken_as _ _ _ _ backwards _ c.value_numerators.ensures.value order c.in_ok-value.ensures;
+      right_is = taken_as _ _ _ _ backwards _ c.left_numerators.ensures.value order c.in_ok-left.ensures;
+    } in
+    subst IsWithinBounds (sym (function_as order place scale refl refl refl)) (mirror_within f backwards _ _ _ limits one are)
 
 pub returns-clause-values : goal.returns-clause-values
 returns-clause-values c =
