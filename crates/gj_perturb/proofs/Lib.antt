@@ -1,5 +1,4 @@
 pub mod ContinuousEntries
-pub mod ListedSlacks
 pub mod LaneSlacks
 pub mod Sizes
 pub mod MovedEntries
@@ -8,3 +7,4 @@ pub mod SlopeValues
 pub mod TableParts
 pub mod SplitParts
 pub mod Splittable
+pub mod FinerSlacks

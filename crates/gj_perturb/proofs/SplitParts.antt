@@ -1,5 +1,5 @@
 -- From the parts of a split to the halves.
-use Rattle.std.proofs.Common.{◌≡◌, ◌≢◌, ℕ, ◌*◌, ◌<◌, ◌≤◌, ◌^◌, ℤ, pos, neg_ℤ, ◌+ℤ◌, ◌-ℤ◌, ◌*ℤ◌, ◌≤ℤ◌, List, length, get_or, map, All, unsigned_abs, FitsSigned, w64, to_z, refl, sym, ap, ap₂, subst, ◌∙◌, mul-pos, mul-le-mul_right, arith}
+use Rattle.std.proofs.Common.{◌≡◌, ◌≢◌, ℕ, ◌*◌, ◌<◌, ◌≤◌, ◌^◌, ℤ, pos, neg_ℤ, ◌+ℤ◌, ◌-ℤ◌, ◌*ℤ◌, ◌≤ℤ◌, List, length, get_or, map, All, unsigned_abs, to_z, refl, sym, ap, ap₂, subst, ◌∙◌, mul-pos, mul-le-mul_right, arith}
 use Rattle.std.specs.List.{range_with_len}
 use Rattle.std.proofs.Math.Nat.{mul-le-mul_left}
 use Rattle.std.proofs.lemmas.Int.{ints, unsigned_abs-mul, to_z-of_z, to_z_pos, fits_signed_from_abs}
@@ -7,18 +7,17 @@ use Rattle.std.proofs.lemmas.List.FromFn.{fill_by_all, get_or-map-range_with_len
 use Rattle.gj_tools.proofs.Integers.{abs_add_z, abs_zero_z, neg_mul_z}
 use Rattle.gj_tools.proofs.Lists.{All-made}
 use Rattle.gj_shape.specs.FunctionData.{FunctionData, IsWithinBounds, at}
-use Rattle.gj_shape.specs.Perturbation.{IsGreatestSize, AreHalvesOf, AreHalvesInBounds}
+use Rattle.gj_shape.specs.Perturbation.{IsLeastSlack, IsGreatestSize, AreHalvesOf, AreHalvesInBounds}
 use Rattle.gj_shape.specs.Table.{table, IsMinimal}
 use Rattle.gj_shape.specs.declared.extremality.Halves.{Halves}
 use Rattle.gj_shape.proofs.AtLemmas.{at_below}
 use Rattle.gj_theory.specs.Halves.{AreDifferentHalves}
 use Rattle.gj_theory.proofs.HalvesAsLists.{lists_are_halves}
-use Rattle.gj_perturb.specs.ListSlacks.{IsLeastOfRows}
 use Rattle.gj_perturb.specs.Moves.{moved_at, IsSmallMove}
 use Rattle.gj_frac.specs.Fraction.{Fits}
 use Rattle.gj_perturb.specs.Split.{CanSplit, IsWide}
 use Rattle.gj_perturb.specs.declared.tables.Perturbation.{Perturbation}
-use Rattle.gj_perturb.proofs.TableParts.{entry_at_most, listed_at, HasLeastSlack, least_from_rows}
+use Rattle.gj_perturb.proofs.TableParts.{entry_at_most, listed_at, HasLeastSlack, has_least_slack}
 use Rattle.gj_perturb.proofs.MovedEntries.{wide}
 use mir.Syntax.{w128}
 
@@ -36,14 +35,16 @@ pub record AreParts (f : FunctionData) (p : Perturbation) (size : ℕ) (x : ℤ)
   pub values_is : values ≡ p.values
   pub greatest : IsGreatestSize (at values) size
   pub narrow : 3 * size * (f.scale * p.times) ≤ 2 ^ 124
-  pub table_is : xs ≡ map (table f p.times) (range_with_len 0 (2 * (f.order * p.times)))
-  pub least : IsLeastOfRows xs (length values) (length values) x
+  pub table_is : xs ≡ map (table f p.times) (range_with_len 0 (f.order * p.times))
+  pub u : ℕ
+  pub same : x ≡ pos u
+  pub least : IsLeastSlack f p.times u
 
-pub parts_of : (f : FunctionData) (p : Perturbation) (size : ℕ) (x : ℤ) (values xs : List ℤ) → IsWithinBounds f → IsMinimal f →
+pub parts_of : (f : FunctionData) (p : Perturbation) (size u : ℕ) (values xs : List ℤ) → IsWithinBounds f → IsMinimal f →
     CanSplit f p → values ≡ p.values → IsGreatestSize (at values) size → 3 * size * (f.scale * p.times) ≤ 2 ^ 124 →
-    xs ≡ map (table f p.times) (range_with_len 0 (2 * (f.order * p.times))) →
-    IsLeastOfRows xs (length values) (length values) x → AreParts f p size x values xs
-parts_of f p size x values xs within minimal can values_is greatest narrow table_is least = record {
+    xs ≡ map (table f p.times) (range_with_len 0 (f.order * p.times)) → IsLeastSlack f p.times u →
+    AreParts f p size (pos u) values xs
+parts_of f p size u values xs within minimal can values_is greatest narrow table_is least = record {
   within = within;
   minimal = minimal;
   can = can;
@@ -51,6 +52,8 @@ parts_of f p size x values xs within minimal can values_is greatest narrow table
   greatest = greatest;
   narrow = narrow;
   table_is = table_is;
+  u = u;
+  same = refl;
   least = least;
 }
 
@@ -62,6 +65,9 @@ size_fits size d m d_some m_some narrow =
     let least : 3 * size * 1 ≤ 3 * size * (d * m) = mul-le-mul_left (3 * size) unit in
     omega arith
 
+pub step_read : (u : ℕ) → u < 2 ^ 64 → wide (pos u) ≡ pos u
+step_read u small = to_z-of_z w128 (pos u) (omega (arith, ints))
+
 pub factor_read : (size : ℕ) → 3 * size ≤ 2 ^ 124 → wide (pos 3 *ℤ to_z w128 size) ≡ pos (3 * size)
 factor_read size small =
     ap (λ z. wide (pos 3 *ℤ z)) (to_z_pos w128 size (omega arith))
@@ -70,9 +76,9 @@ factor_read size small =
 turned : (x : ℤ) → pos 0 -ℤ x ≡ neg_ℤ x
 turned x = omega (arith, ints)
 
-pub turned_read : (y x : ℤ) → y ≡ x → FitsSigned w64 x → wide (pos 0 -ℤ y) ≡ neg_ℤ x
-turned_read y x e fits =
-    ap (λ z. wide (pos 0 -ℤ z)) e ∙ to_z-of_z w128 (pos 0 -ℤ x) (omega (arith, ints)) ∙ turned x
+pub turned_read : (y : ℤ) (u : ℕ) → y ≡ pos u → u < 2 ^ 64 → wide (pos 0 -ℤ y) ≡ neg_ℤ (pos u)
+turned_read y u e small =
+    ap (λ z. wide (pos 0 -ℤ z)) e ∙ to_z-of_z w128 (pos 0 -ℤ pos u) (omega (arith, ints)) ∙ turned (pos u)
 
 pub count_is : (f : FunctionData) (p : Perturbation) (size : ℕ) (x : ℤ) (values xs : List ℤ) → AreParts f p size x values xs →
     length values ≡ f.order * p.times
@@ -81,8 +87,7 @@ count_is f p size x values xs h = ap length h.values_is ∙ h.can.whole
 slack_is : (f : FunctionData) (p : Perturbation) (size : ℕ) (x : ℤ) (values xs : List ℤ) → AreParts f p size x values xs →
     HasLeastSlack f p.times x
 slack_is f p size x values xs h =
-    least_from_rows f p.times xs x h.within h.minimal h.can.times_low h.can.times_high h.table_is
-    (subst (λ n. IsLeastOfRows xs n n x) (count_is f p size x values xs h) h.least)
+    has_least_slack f p.times x h.u h.within h.minimal h.can.times_low h.same h.least
 
 -- the greatest size is not 0
 pub size_some : (p : ℕ → ℤ) (size i : ℕ) → IsGreatestSize p size → p i ≢ pos 0 → 0 < size
@@ -109,7 +114,7 @@ small_move f p size x values xs h step same i below =
     let count : length values ≡ f.order * p.times = count_is f p size x values xs h in
     let n_some : 0 < f.order * p.times = omega arith in
     let here : get_or xs i (pos 0) ≡ table f p.times i =
-    listed_at (table f m) xs (2 * n) i h.table_is (omega arith) in
+    listed_at (table f m) xs n i h.table_is (omega arith) in
     let entry : unsigned_abs (get_or xs i (pos 0)) ≤ f.scale * p.times =
     subst (λ z. unsigned_abs z ≤ f.scale * p.times) (sym here)
     (entry_at_most (table f m) n (f.place * m) s i n_some (h.minimal m h.can.times_low)) in
@@ -145,7 +150,7 @@ are_halves f p size x values xs made h d =
     let slack = slack_is f p size x values xs h in
     let count : length values ≡ f.order * p.times = count_is f p size x values xs h in
     let entry = λ (i : ℕ) (below : i < f.order * p.times).
-    listed_at (table f m) xs (2 * n) i h.table_is (omega arith) in
+    listed_at (table f m) xs n i h.table_is (omega arith) in
     let value = λ (i : ℕ) (below : i < f.order * p.times).
     sym (at_below values i (omega arith)) ∙ ap (λ ys. at ys i) h.values_is in
     record {

@@ -1,19 +1,55 @@
--- The entries of a table in lanes of 32 bits (own).
-use Rattle.std.specs.Prelude.{ℕ, ℤ, pos, ◌≡◌, ◌+◌, ◌-◌, ◌<◌, ◌^◌, ◌<ℤ◌, ◌≤ℤ◌, List, map, All, nat_lt, if◌then◌else◌}
+-- The values of a function in lanes of 32 bits, and the slacks at the corners of triangles (own).
+use Rattle.std.specs.Prelude.{ℕ, ◌≡◌, ◌⊎◌, ◌+◌, ◌-◌, ◌*◌, ◌<◌, ◌≤◌, ◌^◌, List, [], ◌∷◌, length, get_or, All}
+use Rattle.std.specs.List.{Contains}
 
--- sums of two lanes fit 32 bits
-abbrev pub IsLane : ℕ → Type 0
-IsLane x = x < 2 ^ 31
+-- the slack at a pair of indices, where it is not negative
+abbrev pub lane_slack : List ℕ → ℕ → ℕ → ℕ
+lane_slack lanes a b = get_or lanes a 0 + get_or lanes b 0 - get_or lanes (a + b) 0
 
--- an entry that fits a lane
-abbrev pub FitsLane : ℤ → Type 0
-FitsLane x = (pos 0 ≤ℤ x) × (x <ℤ pos (2 ^ 31))
+-- the slacks at the corners of the lower triangle of the square (a, b)
+abbrev pub triangle : List ℕ → ℕ → ℕ → List ℕ
+triangle lanes a b = lane_slack lanes a b ∷ lane_slack lanes (a + 1) b ∷ lane_slack lanes a (b + 1) ∷ []
 
--- the lanes are the entries of the table
-pub record AreLanesOf (table : List ℤ) (lanes : List ℕ) : Type 0 where
-  pub same : map pos lanes ≡ table
-  pub small : All IsLane lanes
+-- two periods of n lanes below 2^31, of which no two add up to less than that at the sum of their indices
+pub record AreSubadditive (lanes : List ℕ) (n : ℕ) : Type 0 where
+  pub count : length lanes ≡ 2 * n
+  pub small : (i : ℕ) → i < 2 * n → get_or lanes i 0 < 2 ^ 31
+  pub subadditive : (a b : ℕ) → a + b < 2 * n → get_or lanes (a + b) 0 ≤ get_or lanes a 0 + get_or lanes b 0
 
--- the slack that is one above a lane; the greatest lane stands for none
-unfoldable pub slack_above : ℕ → ℤ
-slack_above lane = if nat_lt lane (2 ^ 32 - 1) then pos (lane + 1) else pos (2 ^ 63 - 1)
+-- the greatest lane stands for no slack, and each other one for the slack that is one more
+abbrev pub no_slack : ℕ
+no_slack = 4294967295
+
+-- the triangle of a square below n has this slack at a corner
+pub record IsAtCorner (lanes : List ℕ) (n x : ℕ) : Type 0 where
+  pub a : ℕ
+  pub b : ℕ
+  pub a_below : a < n
+  pub b_below : b < n
+  pub here : Contains (triangle lanes a b) x
+
+-- and the slack 0 at another
+pub record IsBesideZero (lanes : List ℕ) (n x : ℕ) : Type 0 where
+  pub a : ℕ
+  pub b : ℕ
+  pub a_below : a < n
+  pub b_below : b < n
+  pub tight : Contains (triangle lanes a b) 0
+  pub here : Contains (triangle lanes a b) x
+
+-- the lane of the least positive slack at a corner of the chosen triangles, and that of the least one in such a triangle that
+-- has the slack 0 at a corner as well
+pub record AreLeast (lanes : List ℕ) (n : ℕ) (IsChosen : ℕ → ℕ → Type 0) (any beside_zero : ℕ) : Type 0 where
+  pub any_met : (any ≡ no_slack) ⊎ IsAtCorner lanes n (any + 1)
+  pub beside_met : (beside_zero ≡ no_slack) ⊎ IsBesideZero lanes n (beside_zero + 1)
+  pub any_low : (a b : ℕ) → IsChosen a b → All (λ x. 0 < x → any < x) (triangle lanes a b)
+  pub beside_low : (a b : ℕ) → IsChosen a b → Contains (triangle lanes a b) 0 →
+      All (λ x. 0 < x → beside_zero < x) (triangle lanes a b)
+
+-- the squares (i, b) with b from i to below `end`
+abbrev pub IsInRow : ℕ → ℕ → ℕ → ℕ → Type 0
+IsInRow i end a b = (a ≡ i) × (i ≤ b) × (b < end)
+
+-- the squares (a, b) with a below `end` and b from a to below n
+abbrev pub IsInRows : ℕ → ℕ → ℕ → ℕ → Type 0
+IsInRows n end a b = (a < end) × (a ≤ b) × (b < n)

@@ -1,5 +1,5 @@
 pub mod SlopeSums
-pub mod ListSlacks
 pub mod Lanes
 pub mod Moves
 pub mod Split
+pub mod Values

@@ -3,13 +3,13 @@ ghost use Rattle.std.specs.Prelude.{ℕ, ℤ, pos, ◌≡◌, ◌+◌, ◌*◌, 
 ghost use Rattle.std.specs.List.{range_with_len};
 ghost use Rattle.gj_shape.specs.FunctionData.{IsWithinBounds, IsContinuous, at};
 ghost use Rattle.gj_shape.specs.Table.{table};
-ghost use Rattle.gj_perturb.specs.ListSlacks.{IsNumerator};
+ghost use Rattle.gj_perturb.specs.Moves.{IsNumerator};
 
 use gj_shape::Shape;
 use std::alloc::{AllocError, Global};
 
-/// The table on the grid of order `times` q, over two periods, so that no sum of two indices is reduced.
-pub(crate) fn doubled_table(
+/// The table on the grid of order `times` q, over one period.
+pub(crate) fn table_on_grid(
     alloc: Global,
     shape: &Shape,
     times: u32,
@@ -18,9 +18,9 @@ pub(crate) fn doubled_table(
     requires low { 1 ≤ times }
     requires high { times ≤ 4 }
     ensures { IfOk result (λ v. v.items ≡
-        map (table shape.now times) (range_with_len 0 (2 * (shape.now.order * times)))) }
+        map (table shape.now times) (range_with_len 0 (shape.now.order * times))) }
 {
-    let count = 2 * (shape.order() * times);
+    let count = shape.order() * times;
     let mut values = Vec::with_capacity(alloc, count as usize)?;
     for i in 0..count {
         values.push(table_entry(shape, times, i))?;
@@ -33,7 +33,7 @@ fn table_entry(shape: &Shape, times: u32, i: u32) -> i64
     requires continuous { IsContinuous shape.now }
     requires low { 1 ≤ times }
     requires high { times ≤ 4 }
-    requires below { i < 8000 }
+    requires below { i < 4000 }
     ensures { result ≡ table shape.now times i }
 {
     let start = i / times;
@@ -42,7 +42,7 @@ fn table_entry(shape: &Shape, times: u32, i: u32) -> i64
 }
 
 /// The value at i/q, times the common denominator.
-fn value_at(shape: &Shape, i: u32) -> i64
+pub(crate) fn value_at(shape: &Shape, i: u32) -> i64
     ensures value { result ≡ at shape.now.value i }
     ensures small { unsigned_abs result < 2 ^ 51 }
 {

@@ -9,7 +9,7 @@ ghost use Rattle.gj_perturb.specs.Moves.{moved_at, IsSmallMove};
 ghost use Rattle.gj_perturb.specs.Split.{CanSplit, IsWide};
 
 use crate::faults::SplitFault;
-use crate::grid::doubled_table;
+use crate::grid::table_on_grid;
 use crate::slacks::least_slack;
 use crate::tables::Perturbation;
 use gj_shape::{Halves, List, Shape};
@@ -41,10 +41,10 @@ pub fn split(alloc: Global, shape: &Shape, p: &Perturbation) -> Result<Halves, S
     let Some(scale) = scale_of_halves(shape, p.times, size) else {
         return Err(SplitFault::Wide);
     };
-    let doubled = doubled_table(alloc, shape, p.times)?;
-    let table = doubled.as_slice();
-    let least = least_slack(alloc, table, values.len())?;
+    let least = least_slack(alloc, shape, p.times)?;
     let step = i128::from(least);
+    let entries = table_on_grid(alloc, shape, p.times)?;
+    let table = entries.as_slice();
     let factor = 3 * size as i128;
     let first = moved(alloc, table, factor, values, step)?;
     let second = moved(alloc, table, factor, values, -step)?;

@@ -1,75 +1,80 @@
-//! The entries of a table in lanes of 32 bits, over which the processor finds several slacks at once.
-ghost use Rattle.std.specs.Prelude.{ℕ, ℤ, pos, ◌≡◌, ◌*◌, ◌<◌, length, map, All, IfOk, MatchOption};
-ghost use Rattle.gj_perturb.specs.Lanes.{IsLane, FitsLane, AreLanesOf, slack_above};
-ghost use Rattle.gj_perturb.specs.ListSlacks.{IsLeastOfRow, IsLeastOfRows};
+//! The slacks at the corners of the complex, over lanes of 32 bits, so that the processor finds several at once.
+ghost use Rattle.std.specs.Prelude.{ℕ, ◌≡◌, ◌≢◌, ◌⊎◌, ◌+◌, ◌*◌, ◌<◌, ◌≤◌, min};
+ghost use Rattle.gj_perturb.specs.Lanes.{AreSubadditive, AreLeast, IsInRow, IsInRows, no_slack};
 
-use std::alloc::{AllocError, Global};
-
-/// What no lane reaches, so that the sum of two lanes fits 32 bits.
-const LANE_END: i64 = 1 << 31;
-
-/// The lanes of a table, where all entries fit them.
-pub(crate) fn lanes_of(alloc: Global, table: &[i64]) -> Result<Option<Vec<u32>>, AllocError>
-    ensures { IfOk result (λ o. MatchOption o (¬ All FitsLane table.now) (λ v. AreLanesOf table.now v.items)) }
-{
-    let mut lanes = Vec::with_capacity(alloc, table.len())?;
-    for entry in table {
-        let Some(lane) = lane_of(*entry) else {
-            return Ok(None);
-        };
-        lanes.push(lane)?;
-    }
-    Ok(Some(lanes))
+/// The least positive slacks at the corners of lower triangles, each less 1; `u32::MAX` where none is positive.
+#[derive(Clone, Copy)]
+pub(crate) struct LeastSlacks {
+    /// At any corner.
+    pub(crate) any: u32,
+    /// At the corners of triangles that have a corner with the slack 0.
+    pub(crate) beside_zero: u32,
 }
 
-/// The lane of an entry from 0 to below 2^31.
-fn lane_of(entry: i64) -> Option<u32>
-    ensures { MatchOption result (¬ FitsLane entry) (λ lane. (pos lane ≡ entry) × IsLane lane) }
+/// The least positive slacks of a table over two periods of n lanes each. The slack is symmetric: of each two squares that are
+/// mirrored one is read.
+pub(crate) fn least_slacks(lanes: &[u32], n: usize) -> LeastSlacks
+    requires { AreSubadditive lanes.now n }
+    ensures { AreLeast lanes.now n (IsInRows n n) result.any result.beside_zero }
 {
-    if 0 <= entry && entry < LANE_END {
-        Some(entry as u32)
-    } else {
-        None
-    }
-}
-
-/// The least positive slack of a table over two periods of n entries each; `i64::MAX` where no slack is positive.
-pub(crate) fn least_over_lanes(lanes: &[u32], n: usize) -> i64
-    requires length { length lanes.now ≡ 2 * n }
-    requires small { All IsLane lanes.now }
-    ensures { IsLeastOfRows (map pos lanes.now) n n result }
-{
-    let mut least = i64::MAX;
+    let mut any = u32::MAX;
+    let mut beside_zero = u32::MAX;
     for i in 0..n {
-        least = least.min(least_in_row(lanes, n, i));
+        let row = least_in_row(lanes, n, i);
+        any = any.min(row.any);
+        beside_zero = beside_zero.min(row.beside_zero);
     }
-    least
+    LeastSlacks { any, beside_zero }
 }
 
-/// The least positive slack at the pairs (i, j) with j from i to below n; `i64::MAX` where none is positive.
-fn least_in_row(lanes: &[u32], n: usize, i: usize) -> i64
-    requires length { length lanes.now ≡ 2 * n }
-    requires small { All IsLane lanes.now }
+/// The same of the squares (i, j) with j from i to below n.
+fn least_in_row(lanes: &[u32], n: usize, i: usize) -> LeastSlacks
+    requires lanes { AreSubadditive lanes.now n }
     requires below { i < n }
-    ensures { IsLeastOfRow (map pos lanes.now) n i n result }
+    ensures { AreLeast lanes.now n (IsInRow i n) result.any result.beside_zero }
 {
     let first = lanes[i];
-    let mut least = u32::MAX;
+    let second = lanes[i + 1];
+    let mut any = u32::MAX;
+    let mut beside_zero = u32::MAX;
     for j in i..n {
-        let slack = (first + lanes[j]).saturating_sub(lanes[i + j]);
+        let corner = first + lanes[j] - lanes[i + j];
+        let across = second + lanes[j] - lanes[i + 1 + j];
+        let along = first + lanes[j + 1] - lanes[i + (j + 1)];
         // One below a slack of 0 is the greatest lane, so the least lane is that of a positive slack.
-        least = least.min(slack.wrapping_sub(1));
+        let x = corner.wrapping_sub(1);
+        let y = across.wrapping_sub(1);
+        let z = along.wrapping_sub(1);
+        let least = x.min(y).min(z);
+        let greatest = x.max(y).max(z);
+        any = any.min(least);
+        beside_zero = beside_zero.min(where_greatest_is_none(least, greatest));
     }
-    slack_above(least)
+    LeastSlacks { any, beside_zero }
 }
 
-/// The slack that is one above a lane; `i64::MAX` for the greatest lane, which stands for none.
-fn slack_above(lane: u32) -> i64
-    ensures { result ≡ slack_above lane }
+/// The least of lanes where one of them stands for none, which is then the greatest.
+fn where_greatest_is_none(least: u32, greatest: u32) -> u32
+    ensures none { greatest ≡ no_slack → result ≡ least }
+    ensures some { greatest ≢ no_slack → result ≡ no_slack }
 {
-    if lane < u32::MAX {
-        i64::from(lane) + 1
+    if greatest == u32::MAX {
+        least
     } else {
-        i64::MAX
+        u32::MAX
     }
+}
+
+/// The least positive slack on the grid that is so many times finer, from those at the corners.
+pub(crate) fn least_on_grid(least: LeastSlacks, times: u32) -> u64
+    requires { times ≤ 4 }
+    ensures corners { result ≤ times * (least.any + 1) }
+    ensures beside { least.beside_zero < no_slack → result ≤ least.beside_zero + 1 }
+    ensures met { (result ≡ times * (least.any + 1)) ⊎ ((least.beside_zero < no_slack) × (result ≡ least.beside_zero + 1)) }
+{
+    let at_corners = u64::from(times) * (u64::from(least.any) + 1);
+    if least.beside_zero == u32::MAX {
+        return at_corners;
+    }
+    at_corners.min(u64::from(least.beside_zero) + 1)
 }

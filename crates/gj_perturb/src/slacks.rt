@@ -1,54 +1,38 @@
-//! The least positive slack of a table.
-ghost use Rattle.std.specs.Prelude.{ℕ, ℤ, pos, ◌≡◌, ◌-◌, ◌*◌, ◌<◌, ◌^◌, ◌<ℤ◌, ◌≤ℤ◌, length, All, IfOk};
-ghost use Rattle.gj_perturb.specs.ListSlacks.{IsShort, IsLeastOfRow, IsLeastOfRows};
+//! The least positive slack of a minimal continuous function on a finer grid.
+ghost use Rattle.std.specs.Prelude.{◌*◌, ◌≤◌, IfOk, length};
+ghost use Rattle.gj_shape.specs.FunctionData.{IsContinuous, at};
+ghost use Rattle.gj_shape.specs.Perturbation.{IsLeastSlack};
+ghost use Rattle.gj_shape.specs.Table.{IsMinimal};
+ghost use Rattle.gj_perturb.specs.Values.{AreTwoPeriods};
 
-use crate::lanes::{lanes_of, least_over_lanes};
+use crate::grid::value_at;
+use crate::lanes::{least_on_grid, least_slacks};
+use gj_shape::Shape;
 use std::alloc::{AllocError, Global};
 
-/// The least positive slack of a table over two periods of n entries each; `i64::MAX` where no slack is positive.
-pub(crate) fn least_slack(alloc: Global, table: &[i64], n: usize) -> Result<i64, AllocError>
-    requires length { length table.now ≡ 2 * n }
-    requires short { All IsShort table.now }
-    ensures { IfOk result (IsLeastOfRows table.now n n) }
+/// The least positive slack of the function's table on the grid of order `times` q. The slack is affine on each face, so those at
+/// the corners give it.
+pub(crate) fn least_slack(alloc: Global, shape: &Shape, times: u32) -> Result<u64, AllocError>
+    requires minimal { IsMinimal shape.now }
+    requires continuous { IsContinuous shape.now }
+    requires low { 1 ≤ times }
+    requires high { times ≤ 4 }
+    ensures { IfOk result (IsLeastSlack shape.now times) }
 {
-    let Some(lanes) = lanes_of(alloc, table)? else {
-        return Ok(least_over_entries(table, n));
-    };
-    Ok(least_over_lanes(lanes.as_slice(), n))
+    let lanes = two_periods(alloc, shape)?;
+    let least = least_slacks(lanes.as_slice(), shape.order() as usize);
+    Ok(least_on_grid(least, times))
 }
 
-/// The same over the entries, which have up to 60 bits.
-fn least_over_entries(table: &[i64], n: usize) -> i64
-    requires length { length table.now ≡ 2 * n }
-    requires short { All IsShort table.now }
-    ensures { IsLeastOfRows table.now n n result }
+/// The values at 0, 1/q, .., (2 q - 1)/q as lanes, so that no sum of two indices is reduced.
+fn two_periods(alloc: Global, shape: &Shape) -> Result<Vec<u32>, AllocError>
+    requires { IsMinimal shape.now }
+    ensures { IfOk result (λ v. AreTwoPeriods shape.now v.items) }
 {
-    let mut least = i64::MAX;
-    for i in 0..n {
-        least = least.min(least_in_row(table, n, i));
+    let count = 2 * shape.order();
+    let mut lanes = Vec::with_capacity(alloc, count as usize)?;
+    for i in 0..count {
+        lanes.push(value_at(shape, i) as u32)?;
     }
-    least
-}
-
-/// The least positive slack at the pairs (i, j) with j from i to below n; `i64::MAX` where none is positive.
-fn least_in_row(table: &[i64], n: usize, i: usize) -> i64
-    requires length { length table.now ≡ 2 * n }
-    requires short { All IsShort table.now }
-    requires below { i < n }
-    ensures { IsLeastOfRow table.now n i n result }
-{
-    let first = table[i];
-    let mut least = i64::MAX;
-    for j in i..n {
-        least = least.min(where_positive(first + table[j] - table[i + j]));
-    }
-    least
-}
-
-/// The slack where it is positive, else `i64::MAX`.
-fn where_positive(slack: i64) -> i64
-    ensures positive { pos 0 <ℤ slack → result ≡ slack }
-    ensures not { slack ≤ℤ pos 0 → result ≡ pos (2 ^ 63 - 1) }
-{
-    if slack > 0 { slack } else { i64::MAX }
+    Ok(lanes)
 }

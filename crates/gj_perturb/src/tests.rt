@@ -1,6 +1,6 @@
 //! Examples by hand. Halves need a function that is proved minimal: they are tried where functions are decided.
 use crate::faults::SplitFault;
-use crate::grid::doubled_table;
+use crate::grid::table_on_grid;
 use crate::tables::{from_slopes, zigzag};
 use gj_frac::Frac;
 use gj_shape::Shape;
@@ -37,9 +37,9 @@ fn wide_sums(rt: HostRuntime) -> Result<(), Fail> {
     Ok(())
 }
 
-/// The table of the function of order 2 with f = 1/2 on the grid of order 8, over two periods.
+/// The table of the function of order 2 with f = 1/2 on the grid of order 8.
 #[test]
-fn table_over_two_periods(rt: HostRuntime) -> Result<(), Fail> {
+fn table_of_order_8(rt: HostRuntime) -> Result<(), Fail> {
     let values = [
         Frac::new(0, 1).ok_or("no fraction")?,
         Frac::new(1, 1).ok_or("no fraction")?,
@@ -48,8 +48,8 @@ fn table_over_two_periods(rt: HostRuntime) -> Result<(), Fail> {
     if !shape.is_continuous() {
         return Err("a jump".into());
     }
-    let table = doubled_table(rt.alloc(), &shape, 4)?;
-    let expected = [0, 1, 2, 3, 4, 3, 2, 1, 0, 1, 2, 3, 4, 3, 2, 1];
+    let table = table_on_grid(rt.alloc(), &shape, 4)?;
+    let expected = [0, 1, 2, 3, 4, 3, 2, 1];
     assert_eq!(rt; table.as_slice(), expected.as_slice());
     Ok(())
 }

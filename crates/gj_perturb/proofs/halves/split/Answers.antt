@@ -1,4 +1,4 @@
-use Rattle.std.proofs.Common.{◌≡◌, ◌*◌, ◌<◌, pos, neg_ℤ, length, map, List, ℕ, ℤ, unsigned_abs, w64, sym, ap, ap₂, subst, subst₂, refl, ◌∙◌, mul-pos, arith, rules}
+use Rattle.std.proofs.Common.{◌≡◌, ◌*◌, pos, neg_ℤ, length, map, List, ℕ, ℤ, unsigned_abs, sym, ap, ap₂, subst, subst₂, refl, ◌∙◌, arith, rules}
 use Rattle.std.specs.List.{range_with_len}
 use Rattle.std.proofs.lemmas.Int.{ints, to_z-of_z, to_z_pos, fits_signed_from_abs}
 use Rattle.std.proofs.lemmas.List.FromFn.{length-map-range_with_len}
@@ -8,37 +8,16 @@ use Rattle.gj_shape.specs.Table.{table as table_of}
 use Rattle.gj_shape.specs.declared.extremality.Halves.{Halves}
 use Rattle.gj_perturb.specs.Moves.{moved_at, IsSmallMove}
 use Rattle.gj_perturb.proofs.MovedEntries.{wide}
-use Rattle.gj_perturb.proofs.TableParts.{listed_short, entry_at_most, scale_small}
-use Rattle.gj_perturb.proofs.SplitParts.{AreMade, parts_of, size_fits, factor_read, turned_read, count_is, small_move, are_halves, are_different, fit_proof_text, not_wide}
+use Rattle.gj_perturb.proofs.SplitParts.{AreMade, step_read, parts_of, size_fits, factor_read, turned_read, count_is, small_move, are_halves, are_different, fit_proof_text, not_wide}
 use Rattle.gj_perturb.proofs.halves.split.Goals as goal
 use mir.Syntax.{w128}
 
 same_size : (x : ℤ) → unsigned_abs (neg_ℤ x) ≡ unsigned_abs x
 same_size x = omega (arith, ints)
 
--- the list has the entries of two periods
-table_length : (t : ℕ → ℤ) (xs : List ℤ) (n : ℕ) → xs ≡ map t (range_with_len 0 (2 * n)) → length xs ≡ 2 * n
-table_length t xs n e = ap length e ∙ length-map-range_with_len t 0 (2 * n)
-
-pub least_slack-requires : goal.least_slack-requires
-least_slack-requires c =
-    let f = c.args.shape.now in
-    let m = c.args.p.now.times in
-    let n = f.order * m in
-    let can = c.requires.perturbation in
-    let limits = c.order.ensures.limits in
-    let xs = c.as_slice-table.result.now in
-    let table_is = c.as_slice-table.ensures.value ∙ c.in_ok-doubled.ensures in
-    let count : length c.as_slice-values.result.now ≡ c.args.shape.now.order * c.args.p.now.times =
-    ap length c.as_slice-values.ensures ∙ can.whole in
-    let some : 0 < c.args.shape.now.order * c.args.p.now.times =
-    mul-pos (omega (arith, limits.order_low)) can.times_low in
-    record {
-      length = table_length (table_of f m) xs n table_is ∙ ap (λ k. 2 * k) (sym count);
-      short = listed_short (table_of f m) xs (2 * n) (f.scale * m) table_is
-          (scale_small f.scale m limits.scale_high can.times_high)
-          (λ i. entry_at_most (table_of f m) n (f.place * m) (f.scale * m) i some (c.requires.minimal m can.times_low));
-    }
+-- the list has the entries of one period
+table_length : (t : ℕ → ℤ) (xs : List ℤ) (n : ℕ) → xs ≡ map t (range_with_len 0 n) → length xs ≡ n
+table_length t xs n e = ap length e ∙ length-map-range_with_len t 0 n
 
 pub overflow_cast-factor : goal.overflow_cast-factor
 overflow_cast-factor c =
@@ -60,15 +39,16 @@ moved-requires-clause-length c =
     let f = c.args.shape.now in
     let p = c.args.p.now in
     let size = c.greatest_size-size.result in
-    let x = c.in_ok-least.least in
+    let u = c.in_ok-least.least in
+    let x = pos u in
     let values = c.as_slice-values.result.now in
     let xs = c.as_slice-table.result.now in
-    let parts = parts_of f p size x values xs c.order.ensures.limits c.requires.minimal c.requires.perturbation
+    let parts = parts_of f p size u values xs c.order.ensures.limits c.requires.minimal c.requires.perturbation
     c.as_slice-values.ensures c.greatest_size-size.ensures c.in-Some.ensures.1
-    (c.as_slice-table.ensures.value ∙ c.in_ok-doubled.ensures) c.in_ok-least.ensures in
+    (c.as_slice-table.ensures.value ∙ c.in_ok-entries.ensures) c.in_ok-least.ensures in
     let count : length c.as_slice-values.result.now ≡ c.args.shape.now.order * c.args.p.now.times =
     count_is f p size x values xs parts in
-    let whole : length c.as_slice-table.result.now ≡ 2 * (c.args.shape.now.order * c.args.p.now.times) =
+    let whole : length c.as_slice-table.result.now ≡ c.args.shape.now.order * c.args.p.now.times =
     table_length (table_of f p.times) xs (f.order * p.times) parts.table_is in
     omega arith
 
@@ -77,15 +57,16 @@ moved-requires-2-clause-length c =
     let f = c.args.shape.now in
     let p = c.args.p.now in
     let size = c.greatest_size-size.result in
-    let x = c.in_ok-least.least in
+    let u = c.in_ok-least.least in
+    let x = pos u in
     let values = c.as_slice-values.result.now in
     let xs = c.as_slice-table.result.now in
-    let parts = parts_of f p size x values xs c.order.ensures.limits c.requires.minimal c.requires.perturbation
+    let parts = parts_of f p size u values xs c.order.ensures.limits c.requires.minimal c.requires.perturbation
     c.as_slice-values.ensures c.greatest_size-size.ensures c.in-Some.ensures.1
-    (c.as_slice-table.ensures.value ∙ c.in_ok-doubled.ensures) c.in_ok-least.ensures in
+    (c.as_slice-table.ensures.value ∙ c.in_ok-entries.ensures) c.in_ok-least.ensures in
     let count : length c.as_slice-values.result.now ≡ c.args.shape.now.order * c.args.p.now.times =
     count_is f p size x values xs parts in
-    let whole : length c.as_slice-table.result.now ≡ 2 * (c.args.shape.now.order * c.args.p.now.times) =
+    let whole : length c.as_slice-table.result.now ≡ c.args.shape.now.order * c.args.p.now.times =
     table_length (table_of f p.times) xs (f.order * p.times) parts.table_is in
     omega arith
 
@@ -94,17 +75,17 @@ moved-requires-clause-small c =
     let f = c.args.shape.now in
     let p = c.args.p.now in
     let size = c.greatest_size-size.result in
-    let x = c.in_ok-least.least in
+    let u = c.in_ok-least.least in
+    let x = pos u in
     let values = c.as_slice-values.result.now in
     let xs = c.as_slice-table.result.now in
-    let parts = parts_of f p size x values xs c.order.ensures.limits c.requires.minimal c.requires.perturbation
+    let parts = parts_of f p size u values xs c.order.ensures.limits c.requires.minimal c.requires.perturbation
     c.as_slice-values.ensures c.greatest_size-size.ensures c.in-Some.ensures.1
-    (c.as_slice-table.ensures.value ∙ c.in_ok-doubled.ensures) c.in_ok-least.ensures in
+    (c.as_slice-table.ensures.value ∙ c.in_ok-entries.ensures) c.in_ok-least.ensures in
     let factor_is = factor_read size (size_fits size f.scale p.times c.order.ensures.limits.scale_low
     c.requires.perturbation.times_low c.in-Some.ensures.1) in
-    let step_is : wide c.from-step.result ≡ c.in_ok-least.least =
-    to_z-of_z w128 c.from-step.result (search rules) ∙ c.from-step.ensures
-    ∙ to_z-of_z w64 c.in_ok-least.least (search rules) in
+    let step_is : wide c.from-step.result ≡ pos c.in_ok-least.least =
+    ap wide c.from-step.ensures ∙ step_read c.in_ok-least.least (search rules) in
     λ i below. subst₂ (λ a b. IsSmallMove xs a values b i) (sym factor_is) (sym step_is)
     (small_move f p size x values xs parts x refl i below)
 
@@ -113,18 +94,18 @@ moved-requires-2-clause-small c =
     let f = c.args.shape.now in
     let p = c.args.p.now in
     let size = c.greatest_size-size.result in
-    let x = c.in_ok-least.least in
+    let u = c.in_ok-least.least in
+    let x = pos u in
     let values = c.as_slice-values.result.now in
     let xs = c.as_slice-table.result.now in
-    let parts = parts_of f p size x values xs c.order.ensures.limits c.requires.minimal c.requires.perturbation
+    let parts = parts_of f p size u values xs c.order.ensures.limits c.requires.minimal c.requires.perturbation
     c.as_slice-values.ensures c.greatest_size-size.ensures c.in-Some.ensures.1
-    (c.as_slice-table.ensures.value ∙ c.in_ok-doubled.ensures) c.in_ok-least.ensures in
+    (c.as_slice-table.ensures.value ∙ c.in_ok-entries.ensures) c.in_ok-least.ensures in
     let factor_is = factor_read size (size_fits size f.scale p.times c.order.ensures.limits.scale_low
     c.requires.perturbation.times_low c.in-Some.ensures.1) in
-    let step_is : wide c.from-step.result ≡ c.in_ok-least.least =
-    to_z-of_z w128 c.from-step.result (search rules) ∙ c.from-step.ensures
-    ∙ to_z-of_z w64 c.in_ok-least.least (search rules) in
-    let turned_is = turned_read (wide c.from-step.result) x step_is (search rules) in
+    let step_is : wide c.from-step.result ≡ pos c.in_ok-least.least =
+    ap wide c.from-step.ensures ∙ step_read c.in_ok-least.least (search rules) in
+    let turned_is = turned_read (wide c.from-step.result) u step_is (search rules) in
     λ i below. subst₂ (λ a b. IsSmallMove xs a values b i) (sym factor_is) (sym turned_is)
     (small_move f p size x values xs parts (neg_ℤ x) (same_size x) i below)
 
@@ -133,18 +114,18 @@ returns c =
     let f = c.args.shape.now in
     let p = c.args.p.now in
     let size = c.greatest_size-size.result in
-    let x = c.in_ok-least.least in
+    let u = c.in_ok-least.least in
+    let x = pos u in
     let values = c.as_slice-values.result.now in
     let xs = c.as_slice-table.result.now in
-    let parts = parts_of f p size x values xs c.order.ensures.limits c.requires.minimal c.requires.perturbation
+    let parts = parts_of f p size u values xs c.order.ensures.limits c.requires.minimal c.requires.perturbation
     c.as_slice-values.ensures c.greatest_size-size.ensures c.in-Some.ensures.1
-    (c.as_slice-table.ensures.value ∙ c.in_ok-doubled.ensures) c.in_ok-least.ensures in
+    (c.as_slice-table.ensures.value ∙ c.in_ok-entries.ensures) c.in_ok-least.ensures in
     let factor_is = factor_read size (size_fits size f.scale p.times c.order.ensures.limits.scale_low
     c.requires.perturbation.times_low c.in-Some.ensures.1) in
-    let step_is : wide c.from-step.result ≡ c.in_ok-least.least =
-    to_z-of_z w128 c.from-step.result (search rules) ∙ c.from-step.ensures
-    ∙ to_z-of_z w64 c.in_ok-least.least (search rules) in
-    let turned_is = turned_read (wide c.from-step.result) x step_is (search rules) in
+    let step_is : wide c.from-step.result ≡ pos c.in_ok-least.least =
+    ap wide c.from-step.ensures ∙ step_read c.in_ok-least.least (search rules) in
+    let turned_is = turned_read (wide c.from-step.result) u step_is (search rules) in
     let scale_is : wide c.in-Some.scale ≡ pos (3 * c.greatest_size-size.result * (c.args.shape.now.scale * c.args.p.now.times)) =
     to_z-of_z w128 c.in-Some.scale (search rules) ∙ c.in-Some.ensures.0 in
     let halves : Halves =

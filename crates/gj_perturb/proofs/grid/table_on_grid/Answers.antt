@@ -4,7 +4,7 @@ use Rattle.std.proofs.Math.Nat.{zero-add}
 use Rattle.std.proofs.lemmas.Int.{to_z-of_z}
 use Rattle.std.proofs.lemmas.List.FromFn.{map-range_with_len_more}
 use Rattle.gj_shape.specs.Table.{table}
-use Rattle.gj_perturb.proofs.grid.doubled_table.Goals as goal
+use Rattle.gj_perturb.proofs.grid.table_on_grid.Goals as goal
 
 pub loop-i-preserved : goal.loop-i-preserved
 loop-i-preserved c =

@@ -1,0 +1,250 @@
+-- The least positive slack on a finer grid, from those at the corners in lanes.
+use Rattle.std.proofs.Math.Nat.{mul-le-mul_left, mul-lt-mul_of_pos_left}
+use Rattle.std.proofs.Common.{◌≡◌, ℕ, zero, suc, ◌⊎◌, inl, inr, ◌+◌, ◌*◌, ◌<◌, ◌≤◌, ◌^◌, ℤ, pos, ◌+ℤ◌, ◌*ℤ◌, ◌<ℤ◌, ◌≤ℤ◌, List, [], ◌∷◌, ◌++◌, length, get_or, map, All, refl, sym, ap, subst, ◌∙◌, mul-pos, below_more, unsigned_abs, w64, to_z, of_z, arith}
+use Rattle.std.specs.List.{Contains}
+use Rattle.std.proofs.Math.ListN.{get_or-map, get_or-append}
+use Rattle.std.proofs.Math.Seq.{get_or-append_seam}
+use Rattle.std.proofs.lemmas.List.{length-map, length-append}
+use Rattle.std.proofs.lemmas.Bool.{cases_lt}
+use Rattle.std.proofs.lemmas.Int.{ints, to_z-of_z}
+use Rattle.std.proofs.lemmas.List.Elements.{All-map}
+use Rattle.gj_shape.specs.FunctionData.{FunctionData, IsWithinBounds, IsContinuous, at}
+use Rattle.gj_shape.specs.Faces.{limits_of}
+use Rattle.gj_shape.specs.Perturbation.{slack_on_grid, IsLeastSlack}
+use Rattle.gj_shape.specs.Table.{table, IsMinimal}
+use Rattle.gj_shape.specs.declared.faces.FaceKind.TheVariants.{Lower}
+use Rattle.gj_shape.proofs.TableLemmas.{table_of_order, limits_are_slacks, slack_at}
+use Rattle.gj_theory.specs.CornerSlacks.{IsBelowCorners}
+use Rattle.gj_theory.proofs.CornerSlacks.{grid_slacks_low, slack_at_multiples, reached_beside_zero}
+use Rattle.gj_theory.specs.Lanes.{AreNumbers}
+use Rattle.gj_theory.proofs.Lanes.{IsLane}
+use Rattle.gj_theory.proofs.SlacksAndSizes.{least_slack}
+use Rattle.gj_perturb.specs.Lanes.{lane_slack, triangle, AreSubadditive, no_slack, IsAtCorner, IsBesideZero, AreLeast, IsInRows}
+use Rattle.gj_perturb.specs.Values.{AreTwoPeriods}
+use Rattle.gj_perturb.proofs.LaneSlacks.{three_of, slack_small}
+use Rattle.gj_perturb.proofs.TableParts.{has_least_slack, entry_at_most}
+
+-- ---- the lanes of a minimal function
+
+subadditive_at : (f : FunctionData) (a b : ℕ) → IsMinimal f → at f.value (a + b) ≤ℤ (at f.value a +ℤ at f.value b)
+subadditive_at f a b h =
+    let whole = (h 1 (omega arith)).subadditive a b in
+    let value = table_of_order f in
+    let values = rw (value (a + b), value a, value b) at whole in
+    values
+
+pub are_subadditive : (f : FunctionData) (lanes : List ℕ) → IsMinimal f → AreTwoPeriods f lanes → AreSubadditive lanes f.order
+are_subadditive f lanes h d = record {
+  count = d.count;
+  small = d.numbers.small;
+  subadditive = λ a b below.
+      let whole = subadditive_at f a b h in
+      let first = d.numbers.same a (omega arith) in
+      let second = d.numbers.same b (omega arith) in
+      let sum_is = d.numbers.same (a + b) below in
+      omega (arith, ints);
+}
+
+lane_slack_is : (f : FunctionData) (lanes : List ℕ) (a b : ℕ) → IsMinimal f → AreTwoPeriods f lanes → a + b < 2 * f.order →
+    pos (lane_slack lanes a b) ≡ slack_at f (a, b)
+lane_slack_is f lanes a b h d below =
+    let whole = (are_subadditive f lanes h d).subadditive a b below in
+    let first = d.numbers.same a (omega arith) in
+    let second = d.numbers.same b (omega arith) in
+    let sum_is = d.numbers.same (a + b) below in
+    omega (arith, ints)
+
+limits_are : (f : FunctionData) (lanes : List ℕ) (a b : ℕ) → IsContinuous f → IsMinimal f → AreTwoPeriods f lanes →
+    a < f.order → b < f.order → limits_of f Lower a b ≡ map pos (triangle lanes a b)
+limits_are f lanes a b c h d a_below b_below =
+    let first = lane_slack_is f lanes a b h d (omega arith) in
+    let second = lane_slack_is f lanes (a + 1) b h d (omega arith) in
+    let third = lane_slack_is f lanes a (b + 1) h d (omega arith) in
+    limits_are_slacks f Lower a b c
+    ∙ (let same : slack_at f (a, b) ∷ slack_at f (a + 1, b) ∷ slack_at f (a, b + 1) ∷ []
+    ≡ pos (lane_slack lanes a b) ∷ pos (lane_slack lanes (a + 1) b) ∷ pos (lane_slack lanes a (b + 1)) ∷ [] =
+    cc (first, second, third) in
+    same)
+
+-- ---- the lanes are made
+
+-- a value can be a lane
+pub value_is_lane : (f : FunctionData) (i : ℕ) → IsWithinBounds f → IsMinimal f → IsLane (at f.value i)
+value_is_lane f i l h =
+    let whole = h 1 (omega arith) in
+    let some : 0 < f.order * 1 = omega (arith, l.order_low) in
+    let most = entry_at_most (table f 1) (f.order * 1) (f.place * 1) (f.scale * 1) i some whole in
+    let low = whole.nonnegative i in
+    let scale = l.scale_high in
+    let same = table_of_order f i in (
+      omega (arith, ints),
+      omega (arith, ints),
+    )
+
+-- the lanes at the indices below n
+abbrev pub AreLanesBelow : List ℕ → (ℕ → ℤ) → ℕ → Type 0
+AreLanesBelow lanes number n = (length lanes ≡ n) × AreNumbers lanes number n
+
+pub no_lane : (number : ℕ → ℤ) → AreLanesBelow [] number 0
+no_lane number = (refl, record { same = λ i below. absurd (omega arith); small = λ i below. absurd (omega arith) })
+
+pub one_lane_more : (lanes more : List ℕ) (number : ℕ → ℤ) (n lane : ℕ) → AreLanesBelow lanes number n → pos lane ≡ number n → lane < 2 ^ 31 →
+    more ≡ lanes ++ lane ∷ [] → AreLanesBelow more number (n + 1)
+one_lane_more lanes more number n lane (count, h) is small pushed =
+    let long = ap length pushed ∙ length-append lanes (lane ∷ []) in
+    let before = λ (i : ℕ) (below : i < n).
+    let inside : i < length lanes = omega arith in
+    ap (λ xs. get_or xs i 0) pushed ∙ get_or-append lanes (lane ∷ []) 0 i inside in
+    let last : get_or more n 0 ≡ lane =
+    ap (λ xs. get_or xs n 0) pushed
+    ∙ subst (λ (k : ℕ). get_or (lanes ++ lane ∷ []) k 0 ≡ lane) count (get_or-append_seam lanes lane [] 0) in (
+      omega arith,
+      record {
+        same = below_more (λ i. pos (get_or more i 0) ≡ number i) n (λ i below. ap pos (before i below) ∙ h.same i below) (ap pos last ∙ is);
+        small = below_more (λ i. get_or more i 0 < 2 ^ 31) n
+            (λ i below. subst (λ (k : ℕ). k < 2 ^ 31) (sym (before i below)) (h.small i below))
+            (subst (λ (k : ℕ). k < 2 ^ 31) (sym last) small);
+      },
+    )
+
+-- a lane as the code makes it
+pub lane_read : (n m : ℤ) → n ≡ m → IsLane m → (pos (unsigned_abs (to_z w64 (of_z w64 n))) ≡ m) × (unsigned_abs (to_z w64 (of_z w64 n)) < 2 ^ 31)
+lane_read n m e h =
+    let low = h.0 in
+    let high = h.1 in
+    let read = to_z-of_z w64 n (omega (arith, ints)) in
+    (omega (arith, ints), omega (arith, ints))
+
+-- ---- lists of naturals among whole numbers
+
+up_contains : (xs : List ℕ) (x : ℕ) → Contains xs x → Contains (map pos xs) (pos x)
+up_contains xs x (k, below, e) =
+    let long = length-map xs pos in
+    (k, omega arith, get_or-map pos xs k x ∙ ap pos e)
+
+down_contains : (xs : List ℕ) → Contains (map pos xs) (pos 0) → Contains xs 0
+down_contains xs (k, below, e) =
+    let same = sym (get_or-map pos xs k 0) ∙ e in
+    let long = length-map xs pos in
+    (k, omega arith, omega (arith, ints))
+
+-- ---- the bounds
+
+triangle_small : (lanes : List ℕ) (n a b : ℕ) → AreSubadditive lanes n → a ≤ b → b < n → All (λ x. x < no_slack) (triangle lanes a b)
+triangle_small lanes n a b d from below =
+    three_of (λ x. x < no_slack) _ _ _ (slack_small lanes n a b d (omega arith) (omega arith))
+    (slack_small lanes n (a + 1) b d (omega arith) (omega arith)) (slack_small lanes n a (b + 1) d (omega arith) (omega arith))
+
+below_corners : (lanes : List ℕ) (n m u any beside : ℕ) (a b : ℕ) → AreLeast lanes n (IsInRows n n) any beside → a ≤ b → b < n →
+    AreSubadditive lanes n → u ≤ m * (any + 1) → (beside < no_slack → u ≤ beside + 1) →
+    IsBelowCorners m u (map pos (triangle lanes a b))
+below_corners lanes n m u any beside a b h from below d at_corners at_beside = record {
+  each = All-map (λ x. pos 0 <ℤ x → pos u ≤ℤ (pos m *ℤ x)) pos (triangle lanes a b) (λ k e inside above.
+      let x = get_or (triangle lanes a b) k e in
+      let low : any < x = h.any_low a b (omega arith, from, below) k e inside (omega (arith, ints)) in
+      let more : m * (any + 1) ≤ m * x = mul-le-mul_left m (omega arith) in
+      omega (arith, ints));
+  beside_zero = λ zero_in.
+      let tight = down_contains (triangle lanes a b) zero_in in
+      All-map (λ x. pos 0 <ℤ x → pos u ≤ℤ x) pos (triangle lanes a b) (λ k e inside above.
+      let x = get_or (triangle lanes a b) k e in
+      let low : beside < x = h.beside_low a b (omega arith, from, below) tight k e inside (omega (arith, ints)) in
+      let fits = triangle_small lanes n a b d from below k e inside in
+      let least = at_beside (omega arith) in
+      omega (arith, ints));
+}
+
+-- ---- the slack that is met
+
+module _ (f : FunctionData) (m : ℕ) (l : IsWithinBounds f) (c : IsContinuous f) (minimal : IsMinimal f) (some : 0 < m) where
+  abbrev IsMet : ℕ → Type 0
+  IsMet x = (i : ℕ) × (j : ℕ) × (slack_on_grid f m i j ≡ pos x)
+
+  at_multiple : (lanes : List ℕ) (a b x : ℕ) → AreTwoPeriods f lanes → a + b < 2 * f.order → lane_slack lanes a b ≡ x → IsMet (m * x)
+  at_multiple lanes a b x d below e =
+      let here = slack_at_multiples f m a b some in
+      let slack = lane_slack_is f lanes a b minimal d below in
+      let value : slack_at f (a, b) ≡ pos x = sym slack ∙ ap pos e in
+      (a * m, b * m, here ∙ ap (λ z. pos m *ℤ z) value ∙ omega (arith, ints))
+
+  corner_met : (lanes : List ℕ) (x : ℕ) → AreTwoPeriods f lanes → IsAtCorner lanes f.order x → IsMet (m * x)
+  corner_met lanes x d h = of_here h.here
+    where
+      a : ℕ
+      a = h.a
+
+      b : ℕ
+      b = h.b
+
+      a_below : h.a < f.order
+      a_below = h.a_below
+
+      b_below : h.b < f.order
+      b_below = h.b_below
+
+      of_here : Contains (triangle lanes h.a h.b) x → IsMet (m * x)
+      of_here (zero, below, e) = at_multiple lanes a b x d (let p = a_below in let q = b_below in omega arith) e
+      of_here (suc zero, below, e) = at_multiple lanes (a + 1) b x d (let p = a_below in let q = b_below in omega arith) e
+      of_here (suc (suc zero), below, e) = at_multiple lanes a (b + 1) x d (let p = a_below in let q = b_below in omega arith) e
+      of_here (suc (suc (suc k)), below, e) = absurd (omega arith)
+
+  beside_met : (lanes : List ℕ) (x : ℕ) → AreTwoPeriods f lanes → 0 < x → IsBesideZero lanes f.order x → IsMet x
+  beside_met lanes x d positive h = elim (cases_lt 1 m) [
+    | inl two ↦
+        let limits = limits_are f lanes h.a h.b c minimal d h.a_below h.b_below in
+        reached_beside_zero f m h.a h.b (pos x) c two
+        (subst (λ xs. Contains xs (pos 0)) (sym limits) (up_contains (triangle lanes h.a h.b) 0 h.tight))
+        (subst (λ xs. Contains xs (pos x)) (sym limits) (up_contains (triangle lanes h.a h.b) x h.here)) (omega (arith, ints))
+    | inr one ↦
+        let whole : m ≡ 1 = omega arith in
+        subst IsMet (let same : m * x ≡ x = ap (λ k. k * x) whole ∙ omega arith in same)
+        (corner_met lanes x d (record { a = h.a; b = h.b; a_below = h.a_below; b_below = h.b_below; here = h.here }))
+  ]
+
+  pub is_least : (lanes : List ℕ) (any beside u : ℕ) → AreTwoPeriods f lanes →
+      AreLeast lanes f.order (IsInRows f.order f.order) any beside → u ≤ m * (any + 1) →
+      (beside < no_slack → u ≤ beside + 1) → (u ≡ m * (any + 1)) ⊎ ((beside < no_slack) × (u ≡ beside + 1)) → IsLeastSlack f m u
+  is_least lanes any beside u d h at_corners at_beside met = of_met met_here
+    where
+      low : (i j : ℕ) → pos 0 <ℤ slack_on_grid f m i j → pos u ≤ℤ slack_on_grid f m i j
+      low = grid_slacks_low f m u l c minimal some (λ a b from below.
+          subst (IsBelowCorners m u) (sym (limits_are f lanes a b c minimal d (omega arith) below))
+          (below_corners lanes f.order m u any beside a b h from below (are_subadditive f lanes minimal d) at_corners at_beside))
+
+      -- some slack is positive, and none of them is as great as what stands for none
+      some_corner : any ≡ no_slack → u ≡ m * (any + 1) → ⊥
+      some_corner none e = of_least (least_slack f m l minimal some)
+        where
+          of_least : (v : ℕ) × IsLeastSlack f m v → ⊥
+          of_least (v, least) =
+              let has = has_least_slack f m (pos v) v l minimal some refl least in
+              let small = has.small in
+              let v_is : pos v ≡ pos has.u = has.same in
+              let here : pos u ≤ℤ pos v = subst (λ z. pos u ≤ℤ z) least.reached
+              (low least.i least.j (subst (λ z. pos 0 <ℤ z) (sym least.reached) least.positive)) in
+              let scale : f.scale < 2 ^ 31 = l.scale_high in
+              let most : m * (2 * f.scale) < m * (any + 1) = mul-lt-mul_of_pos_left (omega arith) some in
+              let turned : 2 * (f.scale * m) ≡ m * (2 * f.scale) = omega arith in
+              omega (arith, ints)
+
+      met_here : IsMet u × (0 < u)
+      met_here = elim met [
+        | inl e ↦ elim h.any_met [
+          | inl none ↦ absurd (some_corner none e)
+          | inr corner ↦ (
+            subst IsMet (sym e) (corner_met lanes (any + 1) d corner),
+            (let positive : 0 < m * (any + 1) = mul-pos some (omega arith) in omega arith),
+          )
+        ]
+        | inr both ↦ elim h.beside_met [
+          | inl none ↦ (let less = both.0 in absurd (omega arith))
+          | inr beside_here ↦ (
+            subst IsMet (sym both.1) (beside_met lanes (beside + 1) d (omega arith) beside_here),
+            (let e = both.1 in omega arith),
+          )
+        ]
+      ]
+
+      of_met : IsMet u × (0 < u) → IsLeastSlack f m u
+      of_met ((i, j, e), positive) =
+          record { positive = omega (arith, ints); i = i; j = j; reached = e; least = low }
