@@ -1,5 +1,5 @@
 -- What the lanes of a function say of its tight pairs.
-use Rattle.std.proofs.Common.{◌≡◌, ◌≢◌, ◌↔◌, inl, inr, ℕ, ◌+◌, ◌-◌, ◌*◌, ◌<◌, ◌≤◌, ◌^◌, ℤ, pos, ◌+ℤ◌, unsigned_abs, List, length, get_or, set, drop, take, replicate, to_z, of_z, w32, w64, ap, subst, sym, ◌∙◌, get_or-set_other, get_or-set_same, below_more, arith}
+use Rattle.std.proofs.Common.{◌≡◌, ◌≢◌, ◌↔◌, inl, inr, ℕ, ◌+◌, ◌-◌, ◌*◌, ◌<◌, ◌≤◌, ◌^◌, ℤ, pos, ◌+ℤ◌, unsigned_abs, List, length, get_or, set, drop, take, replicate, to_z, of_z, w16, w32, w64, ap, subst, sym, ◌∙◌, get_or-set_other, get_or-set_same, below_more, arith}
 use Rattle.std.proofs.lemmas.Bool.{cases_lt, cases_eq}
 use Rattle.std.proofs.Math.ListN.{length-set}
 use Rattle.std.proofs.lemmas.Int.{ints, to_z-of_z, fits_signed_from_abs}
@@ -55,6 +55,13 @@ read_alone_narrow x small = to_z-of_z w32 x (fits_signed_from_abs w32 x (omega a
 pub read_narrow : (x : ℤ) → unsigned_abs x < 2 ^ 30 → to_z w32 (of_z w32 (to_z w64 (of_z w64 x))) ≡ x
 read_narrow x small =
     ap (λ z. to_z w32 (of_z w32 z)) (read_wide x (omega arith)) ∙ read_alone_narrow x small
+
+pub read_alone_short : (x : ℤ) → unsigned_abs x < 2 ^ 14 → to_z w16 (of_z w16 x) ≡ x
+read_alone_short x small = to_z-of_z w16 x (fits_signed_from_abs w16 x (omega arith))
+
+pub read_short : (x : ℤ) → unsigned_abs x < 2 ^ 14 → to_z w16 (of_z w16 (to_z w64 (of_z w64 x))) ≡ x
+read_short x small =
+    ap (λ z. to_z w16 (of_z w16 z)) (read_wide x (omega arith)) ∙ read_alone_short x small
 
 -- ---- the values in lanes, twice
 

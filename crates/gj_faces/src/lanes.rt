@@ -8,9 +8,11 @@ use gj_shape::Shape;
 /// How many lanes there are: one for each index below 2 q, where the order q is at most 1,000, and 64 behind the last.
 const COUNT: usize = 2_064;
 
-/// The values at i/q for each i below 2 q, each times the common denominator, in lanes of 32 bits if they fit.
+/// The values at i/q for each i below 2 q, each times the common denominator, in the narrowest lanes in which they fit.
 #[derive(Drop)]
 pub(crate) enum Lanes {
+    /// Each number is below 2^14 in absolute value.
+    Short([i16; COUNT]),
     /// Each number is below 2^30 in absolute value.
     Narrow([i32; COUNT]),
     /// Each number is below 2^62 in absolute value.
@@ -27,7 +29,9 @@ impl Lanes {
         ensures { AreLanesOf shape.now result }
     {
         let values = shape.value_numerators();
-        if are_narrow(values) {
+        if are_below(values, 1 << 14) {
+            Lanes::Short(short_lanes(values))
+        } else if are_below(values, 1 << 30) {
             Lanes::Narrow(narrow_lanes(values))
         } else {
             Lanes::Wide(wide_lanes(values))
@@ -42,6 +46,7 @@ impl Lanes {
     {
         let order = shape.order() as usize;
         match self {
+            Lanes::Short(lanes) => IndexSet::of_short_sums(lanes, lanes[a], &lanes[a..], order),
             Lanes::Narrow(lanes) => {
                 IndexSet::of_narrow_sums(lanes, lanes[a], &lanes[a..], order)
             }
@@ -50,16 +55,36 @@ impl Lanes {
     }
 }
 
-/// Whether the numbers fit narrow lanes.
-fn are_narrow(values: &[i64]) -> bool
-    ensures { IsTrue result ↔ AreSmall (2 ^ 30) values.now }
+/// Whether each number is below the bound in absolute value.
+fn are_below(values: &[i64], bound: u64) -> bool
+    requires { 0 < bound }
+    ensures { IsTrue result ↔ AreSmall bound values.now }
 {
     for value in values {
-        if value.unsigned_abs() >= 1 << 30 {
+        if value.unsigned_abs() >= bound {
             return false;
         }
     }
     true
+}
+
+/// The numbers twice, in lanes of 16 bits, and zeros behind them.
+fn short_lanes(values: &[i64]) -> [i16; COUNT]
+    requires few { length values.now ≤ 1000 }
+    requires small { AreSmall (2 ^ 14) values.now }
+    ensures length { length result ≡ 2064 }
+    ensures small { AreSmall (2 ^ 14) result }
+    ensures once { (k : ℕ) → k < length values.now → slice_index_or result k (pos 0) ≡ slice_index_or values.now k (pos 0) }
+    ensures again { (k : ℕ) → k < length values.now →
+        slice_index_or result (length values.now + k) (pos 0) ≡ slice_index_or values.now k (pos 0) }
+{
+    let order = values.len();
+    let mut lanes = [0i16; COUNT];
+    for i in 0..order {
+        lanes[i] = values[i] as i16;
+        lanes[order + i] = values[i] as i16;
+    }
+    lanes
 }
 
 /// The numbers twice, in lanes of 32 bits, and zeros behind them.

@@ -3,12 +3,11 @@ use Rattle.std.proofs.Common.{◌≡◌, ◌↔◌, inl, inr, ◌≢◌, ℕ, ze
 use Rattle.std.proofs.Common.{w64}
 use Rattle.std.specs.Prelude.{◌==◌}
 use Rattle.std.specs.Simd.Lanes.{zip2}
-use Rattle.std.proofs.lemmas.Simd.{length-zip2}
+use Rattle.std.proofs.lemmas.Simd.{length-zip2, length-replicate, get_or-replicate}
 use Rattle.std.specs.Int.{bit_at}
 use Rattle.std.proofs.lemmas.List.{get_or_past, get_or-set_same, get_or-set_other}
 use Rattle.std.proofs.lemmas.Bool.{cases_eq, cases_lt, eq-eqb, ne_eqb, or_right, and_right, lt-ltb, le-ltb, lt-leb, le-leb, ltb-true, and_parts, and_from}
-use Rattle.std.proofs.lemmas.Nat.Bits.{bit_at_and, bit_at_or, bit_at_xor, bit_at-lt, bit_at-zero, bit_at_set_same, bit_at_set_other, bit_at_clear_same, bit_at_clear_other, bit_at_ones, bit_at_ones_above}
-use Rattle.std.proofs.lemmas.Nat.{one_shl}
+use Rattle.std.proofs.lemmas.Nat.Bits.{bit_at_and, bit_at_or, bit_at_xor, bit_at-lt, bit_at-zero, bit_at_set_same, bit_at_set_other, bit_at_clear_same, bit_at_clear_other, bit_at_ones}
 use Rattle.gj_sets.specs.IndexSets.{bit_of, has, no_set}
 
 -- ---- a digit is 0 or 1
@@ -107,18 +106,6 @@ get_or-zeros (suc n) (suc i) = get_or-zeros n i
 pub bit_of_zeros : (n i : ℕ) → bit_of (replicate n 0) i ≡ false
 bit_of_zeros n i = ap (λ n. bit n (i % 64)) (get_or-zeros n (i / 64)) ∙ ap (λ n. n == 1) (bit_at-zero (i % 64))
 
--- ---- tests
-
-pub same_order : (a b c d : ℕ) → (a < b → c < d) → (c < d → a < b) → nat_lt a b ≡ nat_lt c d
-same_order a b c d h k =
-    elim (cases_lt a b) [
-      | inl below ↦ lt-ltb a b below ∙ sym (lt-ltb c d (h below))
-      | inr above ↦ elim (cases_lt c d) [
-        | inl other ↦ let below = k other in absurd (omega arith)
-        | inr both ↦ le-ltb a b above ∙ sym (le-ltb c d both)
-      ]
-    ]
-
 -- ---- a word in the place of another
 
 pub bit_of-set_same : (words : List ℕ) (place v j : ℕ) → j / 64 ≡ place → place < length words →
@@ -179,26 +166,17 @@ bit_of-removed words i j within =
           bit_of-set_other words (i / 64) v j d ∙ and_all (bit_of words j) (not (j == i)) (ap not (ne_eqb j i differ))
     ]
 
--- ---- the lowest bits
+-- ---- the lowest indices
 
-pub ones_below : (n i : ℕ) → bit (2 ^ n - 1) i ≡ nat_lt i n
-ones_below n i =
-    elim (cases_lt i n) [
-      | inl below ↦ ap (λ k. k == 1) (bit_at_ones n i below) ∙ sym (lt-ltb i n below)
-      | inr above ↦ ap (λ k. k == 1) (bit_at_ones_above n i above) ∙ sym (le-ltb i n above)
-    ]
-
-pub low_ones_below : (n i : ℕ) → n < 64 → bit (1 * 2 ^ n % 2 ^ 64 - 1) i ≡ nat_lt i n
-low_ones_below n i below = ap (λ k. bit (k - 1) i) (one_shl n 64 below) ∙ ones_below n i
-
--- place by place the bits below n
-pub bits_below : (words : List ℕ) (n i : ℕ) → n ≤ 64 * length words →
-    ((k j : ℕ) → k < length words → bit (get_or words k 0) j ≡ nat_lt j (min (n - 64 * k) 64)) → bit_of words i ≡ nat_lt i n
-bits_below words n i within each =
-    elim (cases_lt (i / 64) (length words)) [
-      | inl below ↦ each (i / 64) (i % 64) below
-          ∙ same_order (i % 64) (min (n - 64 * (i / 64)) 64) i n (λ h. omega arith) (λ h. omega arith)
-      | inr past ↦ bit_of_past words i past ∙ sym (le-ltb i n (omega arith))
+-- all bits of 16 words, moved down
+pub all_but_those_below : (n i : ℕ) → n ≤ 1024 → bit_of (replicate 16 (2 ^ 64 - 1)) (i + (1024 - n)) ≡ nat_lt i n
+all_but_those_below n i within =
+    let k = i + (1024 - n) in
+    let long : length {A = ℕ} (replicate 16 (2 ^ 64 - 1)) ≡ 16 = length-replicate {A = ℕ} 16 (2 ^ 64 - 1) in
+    elim (cases_lt (i + (1024 - n)) 1024) [
+      | inl below ↦ ap (λ w. bit w (k % 64)) (get_or-replicate 16 (k / 64) (2 ^ 64 - 1) 0 (omega arith))
+          ∙ ap (λ d. d == 1) (bit_at_ones 64 (k % 64) (omega arith)) ∙ sym (lt-ltb i n (omega arith))
+      | inr past ↦ bit_of_past (replicate 16 (2 ^ 64 - 1)) (i + (1024 - n)) (omega arith) ∙ sym (le-ltb i n (omega arith))
     ]
 
 -- from one number on, below another

@@ -179,11 +179,12 @@ bit_of-high words i s e within =
 
 -- ---- turned within a period
 
--- u: moved up, d: moved down and below s, o: both, r: below n
-pub turned_bits : (p : ℕ → Bool) (i s n : ℕ) (u d o r : Bool) → n ≤ 1024 → (i < 1024 → u ≡ (nat_le s i && p (i - s))) →
-    d ≡ (p (i + (n - s)) && nat_lt i s) → o ≡ (u || d) → r ≡ (o && nat_lt i n) →
+-- those below n, u: moved up, d: moved down, o: both, r: below n
+pub turned_bits : (p : ℕ → Bool) (i s n : ℕ) (u d o r : Bool) → n ≤ 1024 →
+    (i < 1024 → u ≡ (nat_le s i && (p (i - s) && nat_lt (i - s) n))) →
+    d ≡ (p (i + (n - s)) && nat_lt (i + (n - s)) n) → o ≡ (u || d) → r ≡ (o && nat_lt i n) → s ≤ n →
     r ≡ (nat_lt i n && p (if nat_le s i then i - s else i + (n - s)))
-turned_bits p i s n u d o r within up down both masked =
+turned_bits p i s n u d o r within up down both masked step =
     elim (cases_lt i n) [
       | inr past ↦
           let no : nat_lt i n ≡ false = le-ltb i n past in
@@ -195,15 +196,17 @@ turned_bits p i s n u d o r within up down both masked =
           elim (cases_lt i s) [
             | inl before ↦
                 let le : nat_le s i ≡ false = lt-leb s i before in
-                let lt : nat_lt i s ≡ true = lt-ltb i s before in
-                kept ∙ both ∙ ap (λ b. b || d) (here ∙ and_left (nat_le s i) (p (i - s)) le)
-                ∙ down ∙ sym (and_all (p (i + (n - s))) (nat_lt i s) lt)
+                let lt : nat_lt (i + (n - s)) n ≡ true = lt-ltb (i + (n - s)) n (omega arith) in
+                kept ∙ both ∙ ap (λ b. b || d) (here ∙ and_left (nat_le s i) (p (i - s) && nat_lt (i - s) n) le)
+                ∙ down ∙ sym (and_all (p (i + (n - s))) (nat_lt (i + (n - s)) n) lt)
                 ∙ ap₂ (λ b c. b && p (if c then i - s else i + (n - s))) (sym yes) (sym le)
             | inr behind ↦
                 let le : nat_le s i ≡ true = le-leb s i behind in
-                let lt : nat_lt i s ≡ false = le-ltb i s behind in
-                kept ∙ both ∙ ap (λ b. u || b) (down ∙ and_right (p (i + (n - s))) (nat_lt i s) lt)
-                ∙ or_false u false refl ∙ here ∙ ap (λ b. b && p (i - s)) le
+                let lt : nat_lt (i - s) n ≡ true = lt-ltb (i - s) n (omega arith) in
+                let past : nat_lt (i + (n - s)) n ≡ false = le-ltb (i + (n - s)) n (omega arith) in
+                kept ∙ both ∙ ap (λ b. u || b) (down ∙ and_right (p (i + (n - s))) (nat_lt (i + (n - s)) n) past)
+                ∙ or_false u false refl ∙ here ∙ ap (λ b. b && (p (i - s) && nat_lt (i - s) n)) le
+                ∙ sym (and_all (p (i - s)) (nat_lt (i - s) n) lt)
                 ∙ ap₂ (λ b c. b && p (if c then i - s else i + (n - s))) (sym yes) (sym le)
           ]
     ]

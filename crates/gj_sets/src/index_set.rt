@@ -1,7 +1,4 @@
 //! Sets of indices.
-ghost use Rattle.std.specs.Prelude.{ℕ, ◌≡◌, ◌<◌, ◌≤◌, ◌==◌, nat_lt};
-ghost use Rattle.std.specs.Int.{bit_at};
-
 /// The indices of a set are below it.
 pub const LIMIT: usize = 1_024;
 
@@ -31,11 +28,10 @@ impl IndexSet {
         requires { n ≤ LIMIT }
         ensures { (i : ℕ) → has result i ≡ nat_lt i n }
     {
-        let mut words = [0; WORDS];
-        for place in 0..WORDS {
-            words[place] = low_ones(n.saturating_sub(64 * place).min(64));
-        }
-        IndexSet { words }
+        let all = IndexSet {
+            words: [u64::MAX; WORDS],
+        };
+        all.down(LIMIT - n)
     }
 
     /// The indices from `from` on that are below `end`.
@@ -84,12 +80,4 @@ impl IndexSet {
             self.remove(i);
         }
     }
-}
-
-/// The word with its n lowest bits set.
-fn low_ones(n: usize) -> u64
-    requires { n ≤ 64 }
-    ensures { (i : ℕ) → (bit_at result i == 1) ≡ nat_lt i n }
-{
-    if n == 64 { u64::MAX } else { (1 << n) - 1 }
 }

@@ -35,8 +35,9 @@ impl IndexSet {
         requires period { n ≤ LIMIT }
         ensures { (j : ℕ) → has result j ≡ (nat_lt j n && has self.now (if nat_le s j then j - s else j + (n - s))) }
     {
-        let begun_again = self.down(n - s).and(&IndexSet::below(s));
-        self.up(s).or(&begun_again).and(&IndexSet::below(n))
+        let within = IndexSet::below(n);
+        let kept = self.and(&within);
+        kept.up(s).or(&kept.down(n - s)).and(&within)
     }
 
     /// Each index less 1, where 0 becomes n - 1. Indices from n on go down by 1 too, but n itself is left out.

@@ -1,4 +1,5 @@
-use Rattle.std.proofs.Common.{ap, ◌∙◌, ◌&&◌, ◌+◌, ◌-◌}
+use Rattle.std.proofs.Common.{ap, ◌∙◌, ◌&&◌, ℕ, ◌+◌, ◌-◌}
+use Rattle.std.specs.Prelude.{nat_le}
 use Rattle.gj_sets.specs.IndexSets.{has}
 use Rattle.gj_sets.proofs.Shifts.{turned_bits}
 use Rattle.gj_sets.proofs.index_set.IndexSet.turned.Goals as goal
@@ -6,10 +7,11 @@ use Rattle.gj_sets.proofs.index_set.IndexSet.turned.Goals as goal
 pub returns : goal.returns
 returns c i =
     let p = has c.args.self.now in
-    let down = has c.down.result i in
+    let s = c.args.s in
+    let n = c.args.n in
     let both = has c.or.result i in
-    turned_bits p i c.args.s c.args.n (has c.up.result i) (has c.and-begun_again.result i) (has c.or.result i) (has c.and.result i)
-    c.requires.period (c.up.ensures i)
-    (c.and-begun_again.ensures i ∙ ap (λ b. b && has c.below.result i) (c.down.ensures i)
-    ∙ ap (λ b. p (i + (c.args.n - c.args.s)) && b) (c.below.ensures i))
-    (c.or.ensures i) (c.and.ensures i ∙ ap (λ b. both && b) (c.below-2.ensures i))
+    let kept = λ (k : ℕ). c.and-kept.ensures k ∙ ap (λ b. p k && b) (c.below-within.ensures k) in
+    turned_bits p i s n (has c.up.result i) (has c.down.result i) (has c.or.result i) (has c.and.result i)
+    c.requires.period (λ h. c.up.ensures i h ∙ ap (λ b. nat_le s i && b) (kept (i - s)))
+    (c.down.ensures i ∙ kept (i + (n - s)))
+    (c.or.ensures i) (c.and.ensures i ∙ ap (λ b. both && b) (c.below-within.ensures i)) c.requires.step

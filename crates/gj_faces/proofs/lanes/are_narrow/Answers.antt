@@ -1,9 +1,0 @@
-use Rattle.std.proofs.Common.{◌^◌, refl, arith}
-use Rattle.gj_faces.proofs.Readings.{small_all}
-use Rattle.gj_faces.proofs.lanes.are_narrow.Goals as goal
-
-pub returns : goal.returns
-returns c = (
-  λ _. small_all (2 ^ 30) c.args.values.now (omega arith) (λ k below. c.loop-value.invariant k (omega arith)),
-  λ _. refl,
-)
