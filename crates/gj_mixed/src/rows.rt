@@ -1,5 +1,5 @@
 //! The cut of a row with continuous columns by a rule and slopes.
-ghost use Rattle.std.specs.Prelude.{◌<◌, IfOk, All, length};
+ghost use Rattle.std.specs.Prelude.{◌≡◌, ◌<◌, IfOk, All, length, true, false};
 ghost use Rattle.std.specs.List.{AllZip};
 ghost use Rattle.gj_row.specs.TableauLimits.{AreWithinLimits, numbers_of};
 ghost use Rattle.gj_rule.specs.Kind.{IsKind, IsMinimalKind};
@@ -133,13 +133,35 @@ fn terms_of<E: Evaluator, G: Evaluator>(
     let mut terms = Vec::new(alloc);
     let mut weights = Vec::new(alloc);
     for entry in entries {
-        if continuous[entry.column as usize] {
-            weights.push(weight_term(slopes, *entry))?;
+        let flag = continuous[entry.column as usize];
+        let made = mixed_term(rule, slopes, *entry, flag);
+        if flag {
+            weights.push(made)?;
         } else {
-            terms.push(term(rule, *entry))?;
+            terms.push(made)?;
         }
     }
     Ok(Terms { terms, weights })
+}
+
+/// The term of an entry: by the rule or, in a continuous column, by the slopes, with the weight for a coefficient.
+///
+/// The entry is at most 2^31 in absolute value and has a denominator of at most 2^31 - 1.
+pub fn mixed_term<E: Evaluator, G: Evaluator>(
+    rule: &Rule<E>,
+    slopes: &Slopes<G>,
+    entry: Entry,
+    continuous: bool,
+) -> Term
+    requires { IsRowNumber entry.value }
+    ensures whole { continuous ≡ false → IsTermOf E.answers rule.now entry result }
+    ensures continuous { continuous ≡ true → IsWeightTermOf G.answers slopes.now entry result }
+{
+    if continuous {
+        weight_term(slopes, entry)
+    } else {
+        term(rule, entry)
+    }
 }
 
 /// The term of an entry in a continuous column: its coefficient is the weight.

@@ -3,7 +3,7 @@ use Rattle.gj_cut.specs.RowCuts.{IsTermOf}
 use Rattle.gj_mixed.specs.MixedCuts.{IsWeightTermOf, is_continuous}
 use Rattle.gj_mixed.proofs.MixedTerms.{zip_kept, zip_dropped}
 use Rattle.gj_mixed.proofs.rows.terms_of.Goals as goal
-use Rattle.gj_mixed.proofs.rows.terms_of.Goals.{then-continuous-entry+in_ok-push, else-continuous-entry+in_ok-push-2}
+use Rattle.gj_mixed.proofs.rows.terms_of.Goals.{then-flag+in_ok-push, else-flag+in_ok-push-2}
 
 pub loop-entry-preserved : goal.loop-entry-preserved
 loop-entry-preserved g c =
@@ -16,19 +16,19 @@ loop-entry-preserved g c =
     let here = is_continuous continuous in
     let below = c.loop-entry-test.true in
     let kept = c.loop-entry.invariant in
-    elim c.if-continuous-entry.branch [
-      | then-continuous-entry+in_ok-push w ↦ record {
-        terms = zip_dropped terms (λ e. not (here e)) entries i x c.loop-entry.terms.items c.if-continuous-entry.terms.items below
-            c.entry-item.is (ap not w.if-continuous-entry.true) (ap (λ v. v.items) w.terms-is) kept.terms;
-        weights = zip_kept weights here entries i x c.loop-entry.weights.items w.push.new.self.items c.if-continuous-entry.weights.items
-            w.weight_term.result below c.entry-item.is w.if-continuous-entry.true (ap (λ v. v.items) w.weights-is) w.in_ok-push.ensures.items
-            kept.weights w.weight_term.ensures;
+    elim c.if-flag.branch [
+      | then-flag+in_ok-push w ↦ record {
+        terms = zip_dropped terms (λ e. not (here e)) entries i x c.loop-entry.terms.items c.if-flag.terms.items below
+            c.entry-item.is (ap not w.if-flag.true) (ap (λ v. v.items) w.terms-is) kept.terms;
+        weights = zip_kept weights here entries i x c.loop-entry.weights.items w.push.new.self.items c.if-flag.weights.items
+            c.mixed_term-made.result below c.entry-item.is w.if-flag.true (ap (λ v. v.items) w.weights-is) w.in_ok-push.ensures.items
+            kept.weights (c.mixed_term-made.ensures.continuous w.if-flag.true);
       }
-      | else-continuous-entry+in_ok-push-2 w ↦ record {
-        terms = zip_kept terms (λ e. not (here e)) entries i x c.loop-entry.terms.items w.push-else-continuous-entry.new.self.items
-            c.if-continuous-entry.terms.items w.term.result below c.entry-item.is (ap not w.if-continuous-entry.false)
-            (ap (λ v. v.items) w.terms-is) w.in_ok-push-2.ensures.items kept.terms w.term.ensures;
-        weights = zip_dropped weights here entries i x c.loop-entry.weights.items c.if-continuous-entry.weights.items below
-            c.entry-item.is w.if-continuous-entry.false (ap (λ v. v.items) w.weights-is) kept.weights;
+      | else-flag+in_ok-push-2 w ↦ record {
+        terms = zip_kept terms (λ e. not (here e)) entries i x c.loop-entry.terms.items w.push-else-flag.new.self.items
+            c.if-flag.terms.items c.mixed_term-made.result below c.entry-item.is (ap not w.if-flag.false)
+            (ap (λ v. v.items) w.terms-is) w.in_ok-push-2.ensures.items kept.terms (c.mixed_term-made.ensures.whole w.if-flag.false);
+        weights = zip_dropped weights here entries i x c.loop-entry.weights.items c.if-flag.weights.items below
+            c.entry-item.is w.if-flag.false (ap (λ v. v.items) w.weights-is) kept.weights;
       }
     ]
