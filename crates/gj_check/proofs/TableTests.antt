@@ -1,5 +1,6 @@
 -- A table is minimal exactly where the values of one period pass their tests.
-use Rattle.std.proofs.Common.{◌≡◌, ◌↔◌, ℕ, ◌+◌, ◌-◌, ◌*◌, ◌%◌, ◌<◌, ◌≤◌, ℤ, pos, ◌+ℤ◌, ◌-ℤ◌, ◌<ℤ◌, ◌≤ℤ◌, List, [], ◌∷◌, ◌++◌, length, get_or, subst, below_more, unsigned_abs, to_z, of_z, FitsSigned, refl, sym, ap, ap₂, ◌∙◌, arith}
+use Rattle.std.proofs.lemmas.Bool.{cases_lt}
+use Rattle.std.proofs.Common.{◌≡◌, ◌↔◌, ◌⊎◌, inl, inr, max, min, ◌/◌, ℕ, ◌+◌, ◌-◌, ◌*◌, ◌%◌, ◌<◌, ◌≤◌, ℤ, pos, ◌+ℤ◌, ◌-ℤ◌, ◌<ℤ◌, ◌≤ℤ◌, List, [], ◌∷◌, ◌++◌, length, get_or, subst, below_more, unsigned_abs, to_z, of_z, FitsSigned, refl, sym, ap, ap₂, ◌∙◌, arith}
 use mir.Syntax.{w128}
 use Rattle.std.proofs.Math.Nat.{add_comm, add-mod, add-mod_right, mod-lt}
 use Rattle.std.proofs.Math.ListN.{get_or-append}
@@ -11,21 +12,22 @@ use Rattle.gj_shape.specs.FunctionData.{at}
 use Rattle.gj_shape.specs.Table.{IsMinimalTable}
 use Rattle.gj_shape.proofs.AtLemmas.{at_below, at_wrapped, at_plus_length}
 use Rattle.gj_theory.proofs.Everywhere.{symmetric_everywhere}
-use Rattle.gj_check.specs.Tables.{IsTableInRange, IsSymmetricList, IsSubadditivePair, IsSubadditiveList, AreTwoPeriods}
+use Rattle.gj_check.specs.Tables.{IsTableInRange, IsSymmetricList, IsSubadditivePair, IsSubadditiveUpTo, IsSubadditiveAhead, IsSubadditiveList, AreTwoPeriods}
 
 -- ---- one pair
 
 -- the pair does not change with the order of the indices
-pub mirrored_pair : (values : List ℤ) (i j : ℕ) → IsSubadditivePair values i j → IsSubadditivePair values j i
+mirrored_pair : (values : List ℤ) (i j : ℕ) → IsSubadditivePair values i j → IsSubadditivePair values j i
 mirrored_pair values i j h =
     let turned = ap (at values) (add_comm j i) in
     omega (arith, ints)
 
 -- ---- one row over the entries of two periods
 
--- the greatest of the value at i and of the rises over the pairs before j is that value exactly where these pairs pass
-abbrev pub BoundsRises : List ℤ → ℕ → ℕ → ℤ → Type 0
-BoundsRises values i j rise = (rise ≤ℤ at values i) ↔ ((k : ℕ) → k < j → i ≤ k → IsSubadditivePair values i k)
+-- the greatest of the value at i and of the rises over the pairs from `from` on and before j is that value exactly where these
+-- pairs pass
+abbrev pub BoundsRises : List ℤ → ℕ → ℕ → ℕ → ℤ → Type 0
+BoundsRises values i from j rise = (rise ≤ℤ at values i) ↔ ((k : ℕ) → k < j → from ≤ k → IsSubadditivePair values i k)
 
 -- an entry that was read
 pub entry_read : {E : Type 0} (number : E → ℤ) (entries : List E) (values : List ℤ) (i : ℕ) (e : E) → AreTwoPeriods number entries values →
@@ -33,19 +35,123 @@ pub entry_read : {E : Type 0} (number : E → ℤ) (entries : List E) (values : 
 entry_read number entries values i e p below is = ap number is ∙ p.same i e below
 
 -- one pair more
-pub one_more_rise : (values : List ℤ) (i j : ℕ) (rise more second sum : ℤ) → i ≤ j → second ≡ at values j → sum ≡ at values (i + j) →
-    more ≡ int_max rise (sum -ℤ second) → BoundsRises values i j rise → BoundsRises values i (j + 1) more
-one_more_rise values i j rise more second sum from second_is sum_is greater h =
+pub one_more_rise : (values : List ℤ) (i from j : ℕ) (rise more second sum : ℤ) → from ≤ j → second ≡ at values j → sum ≡ at values (i + j) →
+    more ≡ int_max rise (sum -ℤ second) → BoundsRises values i from j rise → BoundsRises values i from (j + 1) more
+one_more_rise values i from j rise more second sum low second_is sum_is greater h =
     let greatest = int_max_is rise (sum -ℤ second) in (
       λ all.
-          below_more (λ k. i ≤ k → IsSubadditivePair values i k) j (h.0 (omega (arith, ints))) (λ _. omega (arith, ints)),
+          below_more (λ k. from ≤ k → IsSubadditivePair values i k) j (h.0 (omega (arith, ints))) (λ _. omega (arith, ints)),
       λ all.
           let before = h.1 (λ k below. all k (omega arith)) in
-          let here = all j (omega arith) from in
+          let here = all j (omega arith) low in
           omega (arith, ints),
     )
 
+-- the pairs that the row tries with one total: their second index lies between two bounds
+pub part_by : (values : List ℤ) (total i low high j : ℕ) (rise : ℤ) → i < length values → low ≡ max i (total + 1 - (i + length values)) →
+    high ≡ min (length values) ((total + 2 - i) / 2) → high ≤ j → j ≤ max low high → BoundsRises values i low j rise →
+    (rise ≤ℤ at values i) ↔ IsSubadditiveUpTo values total i
+part_by values total i low high j rise below low_is high_is past most h = (
+  λ all m k from next k_below whole. h.0 all m (omega arith) (omega arith),
+  λ all. h.1 (λ m m_below from. all m (total - i - m) (omega arith) (omega arith) (omega arith) (omega arith)),
+)
+
+-- ---- of three indices the two least
+
+-- the sum of three indices below n is the place modulo n
+abbrev IsTotal : ℕ → ℕ → ℕ → Type 0
+IsTotal place n x = (x ≡ place) ⊎ ((x ≡ place + n) ⊎ (x ≡ place + 2 * n))
+
+third_index : (place n a b : ℕ) → place < n → a < n → b < n → (c : ℕ) × (c < n) × IsTotal place n (a + b + c)
+third_index place n a b place_below a_below b_below = elim (cases_lt place (a + b)) [
+  | inr low ↦ (place - (a + b), omega arith, inl (omega arith))
+  | inl above ↦ elim (cases_lt (place + n) (a + b)) [
+    | inr low ↦ (place + n - (a + b), omega arith, inr (inl (omega arith)))
+    | inl high ↦ (place + 2 * n - (a + b), omega arith, inr (inr (omega arith)))
+  ]
+]
+
+moved_total : (place n x y : ℕ) → x ≡ y → IsTotal place n x → IsTotal place n y
+moved_total place n x y e = subst (IsTotal place n) e
+
+two_least : (P : ℕ → ℕ → Type 0) (place n : ℕ) → place < n → ((a b : ℕ) → P a b → P b a) →
+    ((a b c : ℕ) → IsTotal place n (a + b + c) → P a b → P a c) →
+    ((a b c : ℕ) → a ≤ b → b ≤ c → c < n → IsTotal place n (a + b + c) → P a b) → (a b : ℕ) → a < n → b < n → P a b
+two_least P place n place_below mirror turn h a b a_below b_below = of_third (third_index place n a b place_below a_below b_below)
+  where
+    of_third : (c : ℕ) × (c < n) × IsTotal place n (a + b + c) → P a b
+    of_third (c, c_below, total) = elim (cases_lt b a) [
+      | inr ab ↦ elim (cases_lt c b) [
+        | inr bc ↦ h a b c ab bc c_below total
+        | inl cb ↦
+            let acb = moved_total place n (a + b + c) (a + c + b) (omega arith) total in
+            elim (cases_lt c a) [
+              | inr ac ↦ turn a c b acb (h a c b ac (omega arith) b_below acb)
+              | inl ca ↦
+                  let cab = moved_total place n (a + b + c) (c + a + b) (omega arith) total in
+                  turn a c b acb (mirror c a (h c a b (omega arith) ab b_below cab))
+            ]
+      ]
+      | inl ba ↦
+          let bac = moved_total place n (a + b + c) (b + a + c) (omega arith) total in
+          elim (cases_lt c a) [
+            | inr ac ↦ mirror b a (h b a c (omega arith) ac c_below bac)
+            | inl ca ↦
+                let bca = moved_total place n (a + b + c) (b + c + a) (omega arith) total in
+                elim (cases_lt c b) [
+                  | inr bc ↦ mirror b a (turn b c a bca (h b c a bc (omega arith) a_below bca))
+                  | inl cb ↦
+                      let cba = moved_total place n (a + b + c) (c + b + a) (omega arith) total in
+                      mirror b a (turn b c a bca (mirror c b (h c b a (omega arith) (omega arith) a_below cba)))
+                ]
+          ]
+    ]
+
 -- ---- all pairs
+
+-- values at indices that add up to the place modulo the length add up to the scale
+symmetric_sums : (values : List ℤ) (place : ℕ) (scale : ℤ) → IsTableInRange values place scale → IsSymmetricList values place scale →
+    (i j : ℕ) → IsTotal place (length values) (i + j) → at values i +ℤ at values j ≡ scale
+symmetric_sums values place scale t symmetric i j total =
+    let n = length values in
+    let place_below = t.place_below in
+    let low = t.low 0 in
+    let high = t.high 0 in
+    let is : pos (unsigned_abs scale) ≡ scale = omega (arith, ints) in
+    symmetric_everywhere values n place (unsigned_abs scale) refl (omega arith) (λ k below. symmetric k below ∙ sym is) i j
+    (elim total [
+      | inl e ↦ ap (λ x. x % n) e
+      | inr other ↦ elim other [
+        | inl e ↦ ap (λ x. x % n) e ∙ add-mod_right place n
+        | inr e ↦ ap (λ x. x % n) (e ∙ (let twice : place + 2 * n ≡ place + n + n = omega arith in twice))
+            ∙ add-mod_right (place + n) n ∙ add-mod_right place n
+      ]
+    ])
+    ∙ is
+
+-- two of three indices that add up to the place
+turned_pair : (values : List ℤ) (place : ℕ) (scale : ℤ) → IsTableInRange values place scale → IsSymmetricList values place scale →
+    (a b c : ℕ) → IsTotal place (length values) (a + b + c) → IsSubadditivePair values a b → IsSubadditivePair values a c
+turned_pair values place scale t symmetric a b c total h =
+    let n = length values in
+    let first = symmetric_sums values place scale t symmetric (a + b) c total in
+    let second = symmetric_sums values place scale t symmetric (a + c) b (moved_total place n (a + b + c) (a + c + b) (omega arith) total) in
+    omega (arith, ints)
+
+pub all_pairs : (values : List ℤ) (place : ℕ) (scale : ℤ) → IsTableInRange values place scale → IsSymmetricList values place scale →
+    ((i : ℕ) → i < length values → IsSubadditiveAhead values place i) → IsSubadditiveList values
+all_pairs values place scale t symmetric h =
+    two_least (IsSubadditivePair values) place (length values) t.place_below (mirrored_pair values)
+    (turned_pair values place scale t symmetric)
+    (λ a b c ab bc below total.
+    let row = h a (omega arith) in
+    elim total [
+      | inl e ↦ row.0 b c ab bc below e
+      | inr other ↦ elim other [
+        | inl e ↦ row.1 b c ab bc below e
+        | inr e ↦ row.2 b c ab bc below e
+      ]
+    ])
 
 -- the pairs of indices below the length give all pairs
 subadditive_everywhere : (values : List ℤ) → 0 < length values → IsSubadditiveList values → (i j : ℕ) → IsSubadditivePair values i j

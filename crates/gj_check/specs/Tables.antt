@@ -21,9 +21,16 @@ IsSymmetricList values place scale = (i : ℕ) → i < length values → IsSymme
 abbrev pub IsSubadditivePair : List ℤ → ℕ → ℕ → Type 0
 IsSubadditivePair values i j = at values (i + j) ≤ℤ (at values i +ℤ at values j)
 
--- for each j from i on
-abbrev pub IsSubadditiveFrom : List ℤ → ℕ → Type 0
-IsSubadditiveFrom values i = (j : ℕ) → i ≤ j → j < length values → IsSubadditivePair values i j
+-- for each j from i on where the third index with this total is no less than j
+abbrev pub IsSubadditiveUpTo : List ℤ → ℕ → ℕ → Type 0
+IsSubadditiveUpTo values total i =
+    (j k : ℕ) → i ≤ j → j ≤ k → k < length values → i + j + k ≡ total → IsSubadditivePair values i j
+
+-- for each j from i on where the third index with which they add up to the place, modulo the length, is no less than j
+abbrev pub IsSubadditiveAhead : List ℤ → ℕ → ℕ → Type 0
+IsSubadditiveAhead values place i =
+    IsSubadditiveUpTo values place i × IsSubadditiveUpTo values (place + length values) i
+    × IsSubadditiveUpTo values (place + 2 * length values) i
 
 -- for all i and j
 abbrev pub IsSubadditiveList : List ℤ → Type 0

@@ -2,7 +2,7 @@
 ghost use Rattle.std.specs.Prelude.{pos, ◌≡◌, ◌↔◌, ◌*◌, ◌<◌, ◌≤◌, ◌^◌, ◌<ℤ◌, IsTrue, IfOk, length, unsigned_abs};
 ghost use Rattle.gj_shape.specs.FunctionData.{at};
 ghost use Rattle.gj_shape.specs.Table.{IsMinimalTable};
-ghost use Rattle.gj_check.specs.Tables.{IsTableInRange, IsSymmetricList, IsSubadditiveFrom, IsSubadditiveList, AreTwoPeriods};
+ghost use Rattle.gj_check.specs.Tables.{IsTableInRange, IsSymmetricList, IsSubadditiveUpTo, IsSubadditiveAhead, IsSubadditiveList, AreTwoPeriods};
 
 use crate::entries::Entry;
 use crate::pieces::wrapped;
@@ -50,7 +50,8 @@ fn is_subadditive_list(
     place: usize,
     scale: i128,
 ) -> Result<bool, AllocError>
-    requires { IsTableInRange values.now place scale }
+    requires table { IsTableInRange values.now place scale }
+    requires symmetric { IsSymmetricList values.now place scale }
     ensures { IfOk result (λ all. IsTrue all ↔ IsSubadditiveList values.now) }
 {
     if scale <= i128::from(i32::MAX) {
@@ -62,7 +63,8 @@ fn is_subadditive_list(
     is_subadditive_over::<i128>(alloc, values, place, scale)
 }
 
-/// The same over entries of one width, in which the scale fits.
+/// The same over entries of one width, in which the scale fits. Of three indices that add up to the place modulo the length the
+/// pairs of any two pass or fail together, since the values are symmetric: only that of the two least is tried.
 fn is_subadditive_over<E: Entry>(
     alloc: Global,
     values: &[i128],
@@ -70,13 +72,14 @@ fn is_subadditive_over<E: Entry>(
     scale: i128,
 ) -> Result<bool, AllocError>
     requires table { IsTableInRange values.now place scale }
+    requires symmetric { IsSymmetricList values.now place scale }
     requires fits { scale <ℤ pos E.bound }
     ensures { IfOk result (λ all. IsTrue all ↔ IsSubadditiveList values.now) }
 {
     let periods = two_periods::<E>(alloc, values, place, scale)?;
     let entries = periods.as_slice();
     for i in 0..values.len() {
-        if !is_subadditive_row(values, entries, i) {
+        if !is_subadditive_row(values, entries, place, i) {
             return Ok(false);
         }
     }
@@ -102,16 +105,38 @@ fn two_periods<E: Entry>(
     Ok(entries)
 }
 
-/// Whether the value at i and none from there on add up to less than the value at the sum of their indices: then no
-/// rise from a value to that at the sum is above the value at i.
-fn is_subadditive_row<E: Entry>(values: &[i128], entries: &[E], i: usize) -> bool
+/// Whether the pairs (i, j) pass that are tried in the row: those where i is the least of the three indices and j the next.
+fn is_subadditive_row<E: Entry>(values: &[i128], entries: &[E], place: usize, i: usize) -> bool
     requires periods { AreTwoPeriods E.number entries.now values.now }
+    requires few { length values.now ≤ 4000 }
+    requires place { place < length values.now }
     requires within { i < length values.now }
-    ensures { IsTrue result ↔ IsSubadditiveFrom values.now i }
+    ensures { IsTrue result ↔ IsSubadditiveAhead values.now place i }
 {
+    let n = values.len();
+    if !is_subadditive_part(values, entries, place, i) {
+        return false;
+    }
+    if !is_subadditive_part(values, entries, place + n, i) {
+        return false;
+    }
+    is_subadditive_part(values, entries, place + 2 * n, i)
+}
+
+/// The same of the indices with this total: no rise from a value to that at the sum is above the value at i.
+fn is_subadditive_part<E: Entry>(values: &[i128], entries: &[E], total: usize, i: usize) -> bool
+    requires periods { AreTwoPeriods E.number entries.now values.now }
+    requires few { length values.now ≤ 4000 }
+    requires total { total < 12000 }
+    requires within { i < length values.now }
+    ensures { IsTrue result ↔ IsSubadditiveUpTo values.now total i }
+{
+    let n = values.len();
+    let from = i.max((total + 1).saturating_sub(i + n));
+    let end = n.min((total + 2).saturating_sub(i) / 2);
     let first = entries[i];
     let mut rise = first;
-    for j in i..values.len() {
+    for j in from..end {
         rise = rise.max_rise(entries[j], entries[i + j]);
     }
     rise.is_at_most(first)
