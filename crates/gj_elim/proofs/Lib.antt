@@ -3,3 +3,4 @@ pub mod Progressing
 pub mod Keeping
 pub mod Solving
 pub mod KernelSteps
+pub mod KernelFits

@@ -21,6 +21,9 @@ fn number(checked: Option<i128>) -> Result<i128, TooWide>
 pub(crate) fn product(n: i128, m: i128) -> Result<i128, TooWide>
     ensures { OkIff result (Fits (n *ℤ m)) (n *ℤ m) }
 {
+    if m == 0 {
+        return Ok(0);
+    }
     number(n.checked_mul(m))
 }
 

@@ -52,6 +52,9 @@ fn combination(u: i128, x: i128, w: i128, e: i128) -> Result<i128, TooWide>
     ensures fits { OnOk result (FitsCombined u x w e) }
     ensures wide { OnErr result (¬ FitsCombined u x w e) }
 {
+    if x == 0 && e == 0 {
+        return Ok(0);
+    }
     let first = product(u, x)?;
     let second = product(w, e)?;
     difference(first, second)

@@ -1,3 +1,8 @@
 pub mod RowSums
 pub mod GroupSolutions
-pub mod Worked
+pub mod PairRows
+pub mod DenseRows
+pub mod TightTests
+pub mod RowBounds
+pub mod TableAnswers
+mod Worked

@@ -11,10 +11,10 @@ use Rattle.gj_group.specs.GroupRows.{one_at, entry_row, sum_row}
 abbrev row_sum : (ℕ → ℤ) → ℕ → List ℤ → ℤ
 row_sum g a w = sum_of_products (map g (range_with_len a (length w))) w
 
-one_here : (c : ℕ) → one_at c c ≡ pos 1
+pub one_here : (c : ℕ) → one_at c c ≡ pos 1
 one_here c = ap (λ b. if b then pos 1 else pos 0) (eq-eqb c c refl)
 
-one_apart : (c i : ℕ) → (i ≡ c → ⊥) → one_at c i ≡ pos 0
+pub one_apart : (c i : ℕ) → (i ≡ c → ⊥) → one_at c i ≡ pos 0
 one_apart c i apart = ap (λ b. if b then pos 1 else pos 0) (ne_eqb i c apart)
 
 -- past the column nothing is left

@@ -1,1 +1,4 @@
 pub mod GroupRows
+pub mod RowsToCome
+pub mod Faults
+pub mod Decision
