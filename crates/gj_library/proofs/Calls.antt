@@ -1,0 +1,249 @@
+-- From the outcome of a run to what a call says.
+use Rattle.std.proofs.Common.{◌≡◌, ◌≢◌, ◌⊎◌, inl, inr, ℕ, ◌-◌, ◌^◌, ◌<◌, ◌≤◌, Bool, true, false, List, [], ◌∷◌, ◌++◌, length, take, drop, IsTrue}
+use Rattle.std.proofs.Common.{Option, None, Some, String, refl, sym, ap, subst, ◌∙◌, arith}
+use Rattle.std.proofs.lemmas.List.{length-take-le, take-append-le, take_all}
+use Rattle.std.specs.Str.{IsUtf8}
+use Rattle.std.specs.declared.alloc.Global.{Global}
+use Rattle.gj_port.specs.Faults.{HasFailed}
+use Rattle.gj_port.specs.MemorySource.{MemorySource, never_fails}
+use Rattle.gj_words.specs.Grammar.{SpellRequest, HasFlag, command_words, json_word}
+use Rattle.gj_words.specs.declared.requests.Command.{Command}
+use Rattle.gj_words.specs.declared.requests.Command.TheVariants.{Minimal, Extreme, Cut, Check, Show, Faces, Demo, Mixed, Fill, Times, Mirror, Restrict}
+use Rattle.gj_words.specs.declared.requests.Request.{Request}
+use Rattle.gj_top.specs.declared.status.Status.{Status}
+use Rattle.gj_top.specs.declared.status.Status.TheVariants.{Done, Words, ReadFault, WriteFault, Memory}
+use Rattle.gj_top.specs.Answer.{IsAnswer, IsSourceFault}
+use Rattle.gj_top.specs.Answer.IsAnswer.{no_request, read_fault, of_request}
+use Rattle.gj_top.specs.Causes.{IsTrueRun, IsCause, IsGoodInput, IsStatusOfReply}
+use Rattle.gj_top.specs.Code.{code_of}
+use Rattle.gj_top.specs.Command.{IsNamed, task_for}
+use Rattle.gj_top.specs.Outcome.{IsOutcome, IsTold}
+use Rattle.gj_top.specs.Outcome.IsOutcome.{silent, told, cut_off}
+use Rattle.gj_top.proofs.Clauses.{no_write_fault, failed_source, headline_clause, cause_clause, complete_clause}
+use Rattle.gj_top.proofs.Ends.{not_answered}
+use Rattle.gj_library.specs.Call.{AreWordsOf, OfWords, IsAnswered, IsCall, IsTooSmall}
+use Rattle.gj_library.proofs.Codes.{status_is}
+
+-- ---- words
+
+unflagged : (c : Command) → [] ≡ command_words c → ⊥
+unflagged Minimal e = cc
+unflagged Extreme e = cc
+unflagged Cut e = cc
+unflagged Check e = cc
+unflagged Show e = cc
+unflagged Faces e = cc
+unflagged (Demo n) e = cc
+unflagged Mixed e = cc
+unflagged Fill e = cc
+unflagged (Times n j) e = cc
+unflagged Mirror e = cc
+unflagged (Restrict d) e = cc
+
+flagged : (front back : List (List ℕ)) → [] ≡ front ++ json_word ∷ back → ⊥
+flagged [] back e = cc
+flagged (x ∷ front) back e = cc
+
+no_words : (c : Command) (json : Bool) → HasFlag json (command_words c) [] → ⊥
+no_words c true h = flagged h.0 h.1 h.3
+no_words c false h = unflagged c h
+
+-- no words name no request
+none_named : (words : List (String Global)) (r : Request) → words ≡ [] → IsNamed words r → ⊥
+none_named words r e named =
+    let empty : IsNamed [] r = subst (λ (w : List (String Global)). IsNamed w r) e named in
+    no_words r.command r.json empty.placed
+
+-- ---- the answer of a run
+
+-- one over a source that did not fail
+steadied : (words : List (String Global)) (Fault : Type 0) (left after : Option (List ℕ)) (s : Status) (text : List ℕ) → (Fault → ⊥) →
+    IsAnswer words Fault left after s text → IsAnswer words ⊥ left after s text
+steadied words Fault left after s text steady (no_request a) = no_request a
+steadied words Fault left after s text steady (read_fault a) = absurd (steady a.failed)
+steadied words Fault left after s text steady (of_request a) = of_request a
+
+-- an answer is not that there was no memory
+no_memory : (words : List (String Global)) (Fault : Type 0) (left after : Option (List ℕ)) (s : Status) (text : List ℕ) →
+    IsAnswer words Fault left after s text → s ≡ Memory → ⊥
+no_memory words Fault left after s text (no_request a) e = let is = a.status_is in cc
+no_memory words Fault left after s text (read_fault a) e = let is = a.status_is in cc
+no_memory words Fault left after s text (of_request a) e = not_answered (task_for a.request) a.input s Memory text e refl a.answer
+
+-- the text that was written is the answer
+told_answer : (bytes input : List ℕ) (words : List (String Global)) (Fault : Type 0) (left written : Option (List ℕ)) (text : List ℕ) (s : Status) →
+    AreWordsOf bytes words → (Fault → ⊥) → written ≡ Some text → IsTold words Fault (Some input) left (Some []) written s →
+    IsAnswered bytes input s text
+told_answer bytes input words Fault left written text s are steady is o =
+    let gain : written ≡ Some o.text = o.gain in
+    let same : o.text ≡ text = cc in
+    record {
+      words = words;
+      are_words = are;
+      left = left;
+      answer = subst (λ (t : List ℕ). IsAnswer words ⊥ (Some input) left s t) same (steadied words Fault (Some input) left s o.text steady o.answer);
+    }
+
+answered : (bytes input : List ℕ) (words : List (String Global)) (Fault : Type 0) (left written : Option (List ℕ)) (text : List ℕ) (sure : ℕ)
+    (s : Status) → AreWordsOf bytes words → (Fault → ⊥) → written ≡ Some text → (s ≡ Memory → ⊥) → (s ≡ WriteFault → ⊥) →
+    IsOutcome words Fault (Some input) left (Some []) written sure s → IsAnswered bytes input s text
+answered bytes input words Fault left written text sure s are steady is m w (silent o) = absurd (m o.status_is)
+answered bytes input words Fault left written text sure s are steady is m w (cut_off o) = absurd (w o.status_is)
+answered bytes input words Fault left written text sure s are steady is m w (told o) =
+    told_answer bytes input words Fault left written text s are steady is o
+
+-- a sink that has not failed was not answered so
+sound_sink : (s : Status) (before after : ℕ) → before ≡ 0 → after ≡ 0 → (s ≡ WriteFault → HasFailed before after) → s ≡ WriteFault → ⊥
+sound_sink s before after b a fault e = elim (fault e) [
+  | inl more ↦ omega arith
+  | inr last ↦ let zero : 0 ≡ 2 ^ 64 - 1 = sym a ∙ last in omega arith
+]
+
+-- the same from what is known of the source and of the sink, before and after
+pub answered_run : (bytes input : List ℕ) (words : List (String Global)) (given : MemorySource) (before written : List ℕ) (ended : Option (List ℕ))
+    (f g h : ℕ) (sure : ℕ) (s : Status) → AreWordsOf bytes words →
+    given ≡ record { left = input; step = 2 ^ 64 - 1; fail = []; calls = 0; faults = 0 } → before ≡ [] → f ≡ 0 → g ≡ 0 → (s ≡ Memory → ⊥) →
+    (s ≡ WriteFault → HasFailed f g) →
+    IsOutcome words (IsSourceFault (never_fails given.fail) given.faults h) (Some given.left) ended (Some before) (Some written) sure s →
+    IsAnswered bytes input s written
+answered_run bytes input words given before written ended f g h sure s are given_is before_is f_is g_is m w o =
+    let over : IsOutcome words (IsSourceFault true 0 h) (Some input) ended (Some before) (Some written) sure s =
+    subst (λ (source : MemorySource). IsOutcome words (IsSourceFault (never_fails source.fail) source.faults h) (Some source.left) ended
+    (Some before) (Some written) sure s) given_is o in
+    let bare : IsOutcome words (IsSourceFault true 0 h) (Some input) ended (Some []) (Some written) sure s =
+    subst (λ (b : List ℕ). IsOutcome words (IsSourceFault true 0 h) (Some input) ended (Some b) (Some written) sure s) before_is over in
+    answered bytes input words (IsSourceFault true 0 h) ended (Some written) written sure s are (λ fault. fault.1 refl) refl m
+    (sound_sink s f g f_is g_is w) bare
+
+-- ---- the call
+
+module _ (bytes input : List ℕ) (s : Status) (text : List ℕ) (a : IsAnswered bytes input s text) where
+  -- there is room for the answer
+  pub whole : (room : ℕ) → IsCall bytes input room text (code_of s)
+  whole room = record {
+    words = a.words;
+    are_words = a.are_words;
+    status = s;
+    code_is = refl;
+    left = a.left;
+    outcome = told (record { text = text; answer = a.answer; gain = refl });
+  }
+
+  -- there is none
+  pub front : (room : ℕ) → room < length text → IsCall bytes input room (take room text) 5
+  front room small = record {
+    words = a.words;
+    are_words = a.are_words;
+    status = WriteFault;
+    code_is = refl;
+    left = a.left;
+    outcome = cut_off (record { status_is = refl; status = s; text = text; answer = a.answer; unsure = small; gain = (room, small, refl) });
+  }
+
+  pub no_memory_code : code_of s ≢ 6
+  no_memory_code e = no_memory a.words ⊥ (Some input) a.left s text a.answer (status_is s 6 e)
+
+  pub no_room_code : code_of s ≢ 5
+  no_room_code e = no_write_fault a.words ⊥ (Some input) a.left s text a.answer (status_is s 5 e)
+
+-- ---- what stands in the output
+
+module _ (bytes input : List ℕ) (s : Status) (text : List ℕ) (a : IsAnswered bytes input s text) (out taken : List ℕ) (count code : ℕ) where
+  front_is : count ≤ length text → taken ≡ take count text → take count (taken ++ drop count out) ≡ take count text
+  front_is h e =
+      let whole : length taken ≡ count = ap length e ∙ length-take-le count text h in
+      let kept : take count (taken ++ drop count out) ≡ take count taken = take-append-le count taken (drop count out) (omega arith) in
+      let all : take count taken ≡ taken = take_all count taken (omega arith) in
+      kept ∙ all ∙ e
+
+  -- there was no room for all of the answer
+  pub front_call : count ≡ length out → count < length text → taken ≡ take count text → code ≡ 5 →
+      IsCall bytes input (length out) (take count (taken ++ drop count out)) code
+  front_call room small e five =
+      let written = front_is (omega arith) e in
+      let call : IsCall bytes input (length out) (take count text) 5 =
+      subst (λ (n : ℕ). IsCall bytes input (length out) (take n text) 5) (sym room) (front bytes input s text a (length out) (omega arith)) in
+      let same : IsCall bytes input (length out) (take count (taken ++ drop count out)) 5 =
+      subst (λ (t : List ℕ). IsCall bytes input (length out) t 5) (sym written) call in
+      subst (λ (n : ℕ). IsCall bytes input (length out) (take count (taken ++ drop count out)) n) (sym five) same
+
+  -- there was
+  pub whole_call : count ≡ length text → taken ≡ take count text → code ≡ code_of s →
+      IsCall bytes input (length out) (take count (taken ++ drop count out)) code
+  whole_call all e is =
+      let written = front_is (omega arith) e in
+      let full : take count text ≡ text = take_all count text (omega arith) in
+      let same : IsCall bytes input (length out) (take count (taken ++ drop count out)) (code_of s) =
+      subst (λ (t : List ℕ). IsCall bytes input (length out) t (code_of s)) (sym (written ∙ full)) (whole bytes input s text a (length out)) in
+      subst (λ (n : ℕ). IsCall bytes input (length out) (take count (taken ++ drop count out)) n) (sym is) same
+
+-- ---- its clauses
+
+module _ (bytes input : List ℕ) (room : ℕ) (text : List ℕ) (code : ℕ) (c : IsCall bytes input room text code) where
+  pub headline_of : code ≡ 0 → OfWords bytes (λ given. IsTrueRun given input [] (Some text))
+  headline_of e = (
+    c.words,
+    c.are_words,
+    headline_clause c.words ⊥ (Some input) c.left (Some []) (Some text) room c.status c.outcome (status_is c.status 0 (sym c.code_is ∙ e)) input
+        (λ r named reads. refl),
+  )
+
+  pub cause_of : OfWords bytes (λ given. (status : Status) × (code ≡ code_of status) × IsCause given input status)
+  cause_of = (
+    c.words,
+    c.are_words,
+    (
+      c.status,
+      c.code_is,
+      cause_clause c.words ⊥ (Some input) c.left (Some []) (Some text) room c.status c.outcome input (λ r named reads. refl),
+    ),
+  )
+
+  pub no_read_fault_of : code ≢ 4
+  no_read_fault_of e =
+      let is : c.status ≡ ReadFault = status_is c.status 4 (sym c.code_is ∙ e) in
+      elim c.outcome [
+        | silent o ↦ let memory = o.status_is in cc
+        | cut_off o ↦ let fault = o.status_is in cc
+        | told o ↦ failed_source c.words ⊥ (Some input) c.left c.status o.text o.answer is
+      ]
+
+  pub room_of : code ≡ 5 → IsTooSmall bytes input room
+  room_of e =
+      let is : c.status ≡ WriteFault = status_is c.status 5 (sym c.code_is ∙ e) in
+      elim c.outcome [
+        | silent o ↦ absurd (let memory = o.status_is in cc)
+        | cut_off o ↦ (c.words, c.are_words, (c.left, (o.status, o.text, o.answer, o.unsure)))
+        | told o ↦ absurd (no_write_fault c.words ⊥ (Some input) c.left c.status o.text o.answer is)
+      ]
+
+  complete_for : code ≢ 5 → code ≢ 6 → (r : Request) → IsNamed c.words r → IsGoodInput (task_for r) (Some input) input →
+      (status : Status) × (code ≡ code_of status) × IsStatusOfReply (task_for r) input status
+  complete_for full memory r named good =
+      let fits : c.status ≡ WriteFault → ⊥ = λ e. full (c.code_is ∙ ap code_of e) in
+      elim (complete_clause c.words ⊥ (Some input) c.left (Some []) (Some text) room c.status ⊥ ⊥ c.outcome (λ fault. fault) fits r input named good
+      (λ reads fault. fault) (λ fault. fault)) [
+        | inl e ↦ absurd (memory (c.code_is ∙ ap code_of e))
+        | inr replied ↦ (c.status, c.code_is, replied)
+      ]
+
+  pub complete_of : code ≢ 5 → code ≢ 6 → OfWords bytes (λ given. (r : Request) → IsNamed given r → IsGoodInput (task_for r) (Some input) input →
+      (status : Status) × (code ≡ code_of status) × IsStatusOfReply (task_for r) input status)
+  complete_of full memory = (c.words, c.are_words, complete_for full memory)
+
+  -- bytes that are not UTF-8 are refused as words
+  refused : (IsUtf8 bytes → ⊥) → AreWordsOf bytes c.words → c.words ≡ []
+  refused other (inl are) = absurd (other are.0)
+  refused other (inr none) = none.1
+
+  unanswered : (s : Status) (t : List ℕ) → c.words ≡ [] → IsAnswer c.words ⊥ (Some input) c.left s t → s ≡ Words
+  unanswered s t none (no_request a) = a.status_is
+  unanswered s t none (read_fault a) = absurd a.failed
+  unanswered s t none (of_request a) = absurd (none_named c.words a.request none a.named)
+
+  pub no_text_of : (IsUtf8 bytes → ⊥) → (code ≡ 2) ⊎ (code ≡ 5) ⊎ (code ≡ 6)
+  no_text_of other = elim c.outcome [
+    | silent o ↦ inr (inr (c.code_is ∙ ap code_of o.status_is))
+    | cut_off o ↦ inr (inl (c.code_is ∙ ap code_of o.status_is))
+    | told o ↦ inl (c.code_is ∙ ap code_of (unanswered c.status o.text (refused other c.are_words) o.answer))
+  ]

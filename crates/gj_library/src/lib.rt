@@ -1,0 +1,69 @@
+//! The top call for programs in C and in other languages: words and an input in memory, the answer and its status in memory.
+#![tactic(auto)]
+
+ghost use Rattle.std.specs.Prelude.{◌≡◌, ◌≢◌, ◌⊎◌, ◌≤◌, [], length, take, drop, Some};
+ghost use Rattle.std.specs.Str.{IsUtf8};
+ghost use Rattle.gj_words.specs.declared.requests.Request.{Request};
+ghost use Rattle.gj_top.specs.Command.{IsNamed, task_for};
+ghost use Rattle.gj_top.specs.Code.{code_of};
+ghost use Rattle.gj_top.specs.Causes.{IsTrueRun, IsCause, IsGoodInput, IsStatusOfReply};
+ghost use Rattle.gj_library.specs.Call.{OfWords, IsCall, IsTooSmall};
+
+use gj_top::Status;
+use std::alloc::Global;
+
+mod answer;
+mod sink;
+#[cfg(test)]
+mod tests;
+mod words;
+
+use answer::answer_to;
+
+/// Answers the request that the words name, over the input, as the program does. The words stand behind one another with one blank
+/// between two; bytes that are not UTF-8 are no words. The answer is written to the front of the output, `written` is set to its
+/// length, and what stands behind it in the output stays. The result is the status of the program, with these meanings of two of
+/// them: 5 if the output has no room for the answer, of which it has then taken as many bytes as it has; 6 if there is no memory,
+/// and then nothing is written. 4 never comes. Nothing is kept from one call to the next, and `written` is not read.
+#[unsafe(no_mangle)]
+pub extern "C" fn gjcut_answer(
+    alloc: Global,
+    words: &[u8],
+    input: &[u8],
+    output: &mut [u8],
+    written: &mut usize,
+) -> u8
+    // The headline.
+    ensures headline { result ≡ 0 → OfWords words.now (λ given. IsTrueRun given input.now [] (Some (take written.new output.new))) }
+
+    // What stands at the front of the output is the answer, all of it or as much as there is room for; or nothing for want of memory.
+    ensures outcome { result ≢ 6 → IsCall words.now input.now (length output.old) (take written.new output.new) result }
+    ensures memory { result ≡ 6 → written.new ≡ 0 }
+    ensures within { written.new ≤ length output.old }
+    ensures behind { drop written.new output.new ≡ drop written.new output.old }
+
+    // Each status has its cause.
+    ensures cause { result ≢ 6 → OfWords words.now (λ given. (status : Status) × (result ≡ code_of status) × IsCause given input.now status) }
+    ensures no_text { (IsUtf8 words.now → ⊥) → (result ≡ 2) ⊎ (result ≡ 5) ⊎ (result ≡ 6) }
+    ensures no_read_fault { result ≢ 4 }
+    ensures full { result ≡ 5 → written.new ≡ length output.old }
+    ensures room { result ≡ 5 → IsTooSmall words.now input.now (length output.old) }
+
+    // An input in its form is answered, unless there is no room or no memory.
+    ensures complete { result ≢ 5 → result ≢ 6 → OfWords words.now (λ given. (r : Request) → IsNamed given r →
+        IsGoodInput (task_for r) (Some input.now) input.now →
+        (status : Status) × (result ≡ code_of status) × IsStatusOfReply (task_for r) input.now status) }
+{
+    let Ok(answer) = answer_to(alloc, words, input) else {
+        *written = 0;
+        return Status::Memory.code();
+    };
+    let text = answer.text.as_slice();
+    let count = text.len().min(output.len());
+    output[..count].copy_from_slice(&text[..count]);
+    *written = count;
+    if count < text.len() {
+        return Status::WriteFault.code();
+    }
+    answer.status.code()
+}
