@@ -5,6 +5,7 @@ ghost use Rattle.gj_lex.specs.Name.{IsName};
 ghost use Rattle.gj_lex.specs.NumberText.{fraction_text};
 ghost use Rattle.gj_lex.specs.Words.{word_texts};
 ghost use Rattle.gj_lex.specs.Parts.{line_part, IsFaultOf};
+ghost use Rattle.gj_lex.specs.TextLines.{HasLine};
 ghost use Rattle.gj_lex.specs.declared.spelling.Spelling.TheVariants.{Strict};
 ghost use Rattle.gj_lex.specs.declared.reason.Reason.TheVariants.{Form, Number};
 ghost use Rattle.gj_proof.specs.ProofText.{reason_word};
@@ -17,8 +18,8 @@ use crate::cut::{CutLine, CutRule, CutTerm, SkipReason};
 use crate::fields::{number_of, three_fields_of};
 use gj_frac::Frac;
 use gj_lex::{
-    Name, NameFault, PartFault, Reason, Spelling, begins_with_line, begins_with_word, line_at,
-    two_fields_of, words_at,
+    Name, NameFault, PartFault, Reason, Spelling, TextLine, begins_with_line, line_at,
+    line_with_word, two_fields_of, words_at,
 };
 use gj_lines::function_at;
 use gj_shape::List;
@@ -184,20 +185,24 @@ fn terms_at(alloc: Global, text: &[u8]) -> Result<(Vec<CutTerm>, &[u8]), PartFau
 {
     let mut terms = Vec::new(alloc);
     let mut rest = text;
-    while begins_with_word(Spelling::Strict, rest, b"term") {
-        let (term, behind) = term_at(alloc, rest)?;
+    while let Some(line) = line_with_word(Spelling::Strict, rest, b"term") {
+        let (term, behind) = term_at(alloc, rest, line)?;
         terms.push(term)?;
         rest = behind;
     }
     Ok((terms, rest))
 }
 
-/// The term in the next line, and what follows the line.
-fn term_at(alloc: Global, text: &[u8]) -> Result<(CutTerm, &[u8]), PartFault>
-    ensures found { IfOk result (λ r. (line_part Strict term_rule).Reads text.now r.0 r.1.now) }
-    ensures fault { IfErr result (IsFaultOf (line_part Strict term_rule) text.now) }
+/// The term in the next line of the text, which is this line, and what follows the line.
+fn term_at<'a>(
+    alloc: Global,
+    _text: &[u8],
+    line: TextLine<'a>,
+) -> Result<(CutTerm, &'a [u8]), PartFault>
+    requires { HasLine Strict _text.now line.start.now (word_texts line.bytes.now) line.rest.now }
+    ensures found { IfOk result (λ r. (line_part Strict term_rule).Reads _text.now r.0 r.1.now) }
+    ensures fault { IfErr result (IsFaultOf (line_part Strict term_rule) _text.now) }
 {
-    let line = line_at(Spelling::Strict, text)?;
     match term_in(alloc, line.bytes) {
         Ok(term) => Ok((term, line.rest)),
         Err(LineFault::Broken(reason)) => Err(PartFault::at(line.start, reason)),

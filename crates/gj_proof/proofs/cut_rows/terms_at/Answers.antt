@@ -1,5 +1,4 @@
 use Rattle.gj_lex.specs.declared.spelling.Spelling.TheVariants.{Strict}
-use Rattle.std.proofs.lemmas.Bool.{false≢true}
 use Rattle.std.proofs.lemmas.Result.{err_from_is_err_and}
 use Rattle.std.proofs.Common.{[]}
 use Rattle.gj_lex.specs.Parts.{IsFaultOf}
@@ -9,19 +8,19 @@ use Rattle.gj_lex.proofs.WhereLaws.{shorter_behind_line}
 use Rattle.gj_proof.proofs.CutRead.{term_on, terms_end, term_at_fault}
 use Rattle.gj_proof.proofs.cut_rows.terms_at.Goals as goal
 
-pub loop-alloc-preserved : goal.loop-alloc-preserved
-loop-alloc-preserved c =
-    term_on _ _ _ _ _ _ c.loop-alloc.invariant (c.begins_with_word.ensures.0 c.loop-alloc-test.true) c.in_ok-term.ensures.found
+pub loop-line-preserved : goal.loop-line-preserved
+loop-line-preserved c =
+    term_on _ _ _ _ _ _ c.loop-line.invariant c.in-Some.ensures.begins c.in_ok-term.ensures.found
     c.in_ok-push.ensures.items
 
-pub loop-alloc-smaller : goal.loop-alloc-smaller
-loop-alloc-smaller c = shorter_behind_line Strict term_rule _ _ c.in_ok-term.term c.in_ok-term.ensures.found
+pub loop-line-smaller : goal.loop-line-smaller
+loop-line-smaller c = shorter_behind_line Strict term_rule _ _ c.in_ok-term.term c.in_ok-term.ensures.found
 
 pub returns-clause-found : goal.returns-clause-found
-returns-clause-found c = terms_end _ _ _ c.loop-alloc.invariant (λ is. false≢true (c.loop-alloc-test.ensures.1 is))
+returns-clause-found c = terms_end _ _ _ c.loop-line.invariant c.in_default.ensures.none
 
 pub returns-in_err-term-clause-fault : goal.returns-in_err-term-clause-fault
 returns-in_err-term-clause-fault c =
     let p = err_from_is_err_and c.from_residual.result c.from_residual.ensures.1 in
     passed_on (IsFaultOf (terms_part []) c.args.text.now) _ _ _ p.1 p.2
-    (term_at_fault _ _ _ _ c.loop-alloc.invariant (c.begins_with_word.ensures.0 c.loop-alloc-test.true) c.in_err-term.ensures.fault)
+    (term_at_fault _ _ _ _ c.loop-line.invariant c.in-Some.ensures.begins c.in_err-term.ensures.fault)
