@@ -33,13 +33,14 @@ fn push_lines(alloc: Global, out: &mut Vec<u8>, lines: &[MixedLine]) -> Result<(
     ensures { OnOk result (out.new.items ≡ out.old.items ++ flat_map mixed_row_text lines.now) }
 {
     for line in lines {
-        push_line(alloc, out, line)?;
+        push_mixed_row(alloc, out, line)?;
     }
     Ok(())
 }
 
-/// Appends the lines of a row.
-fn push_line(alloc: Global, out: &mut Vec<u8>, line: &MixedLine) -> Result<(), AllocError>
+/// Appends the lines of a row: those of its cut with the whole columns, or that it is passed over, and behind them a line for each
+/// continuous column.
+pub fn push_mixed_row(alloc: Global, out: &mut Vec<u8>, line: &MixedLine) -> Result<(), AllocError>
     ensures { OnOk result (out.new.items ≡ out.old.items ++ mixed_row_text line.now) }
 {
     push_row(alloc, out, &line.line)?;
