@@ -12,6 +12,8 @@ pub mod FirstFaces
 pub mod LineLists
 pub mod NextLines
 pub mod Pending
+pub mod Adding
+pub mod OneSquare
 pub mod Advance
 pub mod Ends
 pub mod Transfers

@@ -1,5 +1,5 @@
 -- The intervals that edges link, as sets.
-use Rattle.std.proofs.Common.{◌≡◌, ℕ, ◌+◌, ◌%◌, ◌<◌, ◌↔◌, ◌||◌, ◌&&◌, Bool, true, refl, sym, ap, ◌∙◌, inl, inr, arith}
+use Rattle.std.proofs.Common.{◌≡◌, ℕ, ◌+◌, ◌%◌, ◌<◌, ◌↔◌, ◌||◌, ◌&&◌, Bool, true, false, refl, sym, ap, ap₂, ◌∙◌, inl, inr, arith}
 use Rattle.std.proofs.Math.Nat.{mod-mod}
 use Rattle.std.proofs.lemmas.Bool.{and_parts, and_from, or_cases, or_left, or_right}
 use Rattle.gj_shape.specs.declared.faces.FaceKind.TheVariants.{Horizontal, Vertical, Diagonal}
@@ -56,6 +56,22 @@ linked_from t i j k r d h v i_below j_below k_below leads r_is d_is h_is v_is =
       ]),
     )
 
+-- two of three sets are one
+pub again : (d h : Bool) → (d || h) ≡ ((d || h) || h)
+again true h = refl
+again false true = refl
+again false false = refl
+
+-- where the test does not see the order of two indices, the vertical edges are the horizontal ones
+pub linked_from_symmetric : (t : Table) (i j k : ℕ) (r d h : Bool) → i < t.order → j < t.order → k < t.order →
+    (i + k) % t.order ≡ j → ((a b : ℕ) → is_tight_in t a b ≡ is_tight_in t b a) → r ≡ (d || h) →
+    d ≡ (is_tight_in t (i + 1) j && is_tight_in t i ((j + 1) % t.order)) →
+    h ≡ (is_tight_in t i k && is_tight_in t (i + 1) k) →
+    (r ≡ true) ↔ Links t.order (IsTightIn t) i j
+linked_from_symmetric t i j k r d h i_below j_below k_below leads about r_is d_is h_is =
+    linked_from t i j k r d h h i_below j_below k_below leads (r_is ∙ again d h) d_is h_is
+    (h_is ∙ ap₂ (λ (x y : Bool). x && y) (about i k) (about (i + 1) k))
+
 -- the same for the intervals behind which i stands: j is before i, and k leads from j to i
 pub linked_to : (t : Table) (i j k : ℕ) (r d h v : Bool) → i < t.order → j < t.order → k < t.order → (j + k) % t.order ≡ i →
     r ≡ ((d || h) || v) →
@@ -105,3 +121,12 @@ linked_to t i j k r d h v i_below j_below k_below leads r_is d_is h_is v_is =
             (after k ∙ ap (λ n. is_tight_in t n (j + 1)) (sym same) ∙ told t b (j + 1) both.1))
       ]),
     )
+
+pub linked_to_symmetric : (t : Table) (i j k : ℕ) (r d h : Bool) → i < t.order → j < t.order → k < t.order →
+    (j + k) % t.order ≡ i → ((a b : ℕ) → is_tight_in t a b ≡ is_tight_in t b a) → r ≡ (d || h) →
+    d ≡ (is_tight_in t j (i + 1) && is_tight_in t ((j + 1) % t.order) i) →
+    h ≡ (is_tight_in t j k && is_tight_in t ((j + 1) % t.order) k) →
+    (r ≡ true) ↔ Links t.order (IsTightIn t) j i
+linked_to_symmetric t i j k r d h i_below j_below k_below leads about r_is d_is h_is =
+    linked_to t i j k r d h h i_below j_below k_below leads (r_is ∙ again d h) d_is h_is
+    (h_is ∙ ap₂ (λ (x y : Bool). x && y) (about j k) (about ((j + 1) % t.order) k))

@@ -6,7 +6,7 @@ use Rattle.gj_cover.specs.FirstFound.{IsNotBefore, IsFirstOf, FindsFirst, IsEarl
 use Rattle.std.proofs.lemmas.Bool.{cases_order}
 
 -- walk order is transitive
-not_before : (f g : Face) (kind : FaceKind) (a b : ℕ) → IsNotBefore f g.kind g.a g.b → IsNotBefore g kind a b →
+pub not_before : (f g : Face) (kind : FaceKind) (a b : ℕ) → IsNotBefore f g.kind g.a g.b → IsNotBefore g kind a b →
     IsNotBefore f kind a b
 not_before f g kind a b (inl x) (inl y) = inl (omega arith)
 not_before f g kind a b (inl x) (inr (y, z)) = inl (omega arith)
@@ -18,7 +18,7 @@ not_before f g kind a b (inr (x, inr (u, w))) (inr (y, inr (v, z))) =
     inr (omega arith, inr (omega arith, omega arith))
 
 -- a square that is not earlier than another is later, or both are one
-later : (f g : Face) → (IsEarlier g f → ⊥) → ((f.a < g.a) ⊎ ((f.a ≡ g.a) × (f.b < g.b))) ⊎ ((f.a ≡ g.a) × (f.b ≡ g.b))
+pub later : (f g : Face) → (IsEarlier g f → ⊥) → ((f.a < g.a) ⊎ ((f.a ≡ g.a) × (f.b < g.b))) ⊎ ((f.a ≡ g.a) × (f.b ≡ g.b))
 later f g not = elim (cases_order f.a g.a) [
   | inl same ↦ elim (cases_order f.b g.b) [
     | inl y ↦ inr (same, y)

@@ -1,5 +1,5 @@
 -- What is read from the lists of numbers, and where the search for lines begins and goes on.
-use Rattle.std.proofs.Common.{◌≡◌, ◌≢◌, ℕ, ◌<◌, ◌≤◌, ◌↔◌, ◌&&◌, ltb, List, [], length, get_or, Bool, true, false, not, IsTrue, Option, Some, None, replicate, refl, sym, ap, ◌∙◌, inl, inr, arith}
+use Rattle.std.proofs.Common.{◌≡◌, ◌≢◌, ℕ, ◌+◌, ◌<◌, ◌≤◌, ◌↔◌, ◌&&◌, ltb, List, [], length, get_or, Bool, true, false, not, IsTrue, Option, Some, None, replicate, refl, sym, ap, subst, ◌∙◌, inl, inr, arith}
 use Rattle.std.specs.Option.{is_some, is_none}
 use Rattle.std.proofs.lemmas.List.Sums.{count_by-le-length}
 use Rattle.gj_cover.specs.declared.progress.Progress.{Progress}
@@ -8,7 +8,7 @@ use Rattle.std.proofs.lemmas.Bool.{cases_lt, ltb-true, lt-ltb, and_parts, and_fr
 use Rattle.std.proofs.lemmas.List.{get_or_default, get_or_past, get_or-replicate}
 use Rattle.gj_sets.specs.IndexSets.{has, IsFirst}
 use Rattle.gj_sets.specs.declared.index_set.IndexSet.{IndexSet}
-use Rattle.gj_shape.specs.Cover.{AreJoined, JoinsLines, IsOpen, IsOpeningLine, Covers, IsFirstFace}
+use Rattle.gj_shape.specs.Cover.{AreJoined, JoinsLines, IsOpen, IsOpeningLine, Covers, IsFirstFace, IsDirectlyCovered}
 use Rattle.gj_shape.specs.FirstViolation.{IsLeastFrom}
 use Rattle.gj_shape.specs.declared.extremality.CoverLine.{CoverLine}
 use Rattle.gj_shape.specs.declared.faces.Face.{Face}
@@ -72,6 +72,18 @@ near_none q T c near none = record {
 
 pub searched_none : (q : ℕ) (T : ℕ → ℕ → Type 0) (c : List (Option ℕ)) → AreSearched q T c 0
 searched_none q T c = record { each = λ i below. absurd (omega arith) }
+
+-- one interval more, that has a number or is not directly covered
+pub searched_more : (q : ℕ) (T : ℕ → ℕ → Type 0) (c : List (Option ℕ)) (n : ℕ) → AreSearched q T c n →
+    (number_at c n ≡ None → IsDirectlyCovered q T n → ⊥) → AreSearched q T c (n + 1)
+searched_more q T c n h here = record {
+  each = λ i below none. elim (cases_lt i n) [
+    | inl low ↦ h.each i low none
+    | inr high ↦
+        let e : i ≡ n = omega arith in
+        λ covered. here (subst (λ k. number_at c k ≡ None) e none) (subst (λ k. IsDirectlyCovered q T k) e covered)
+  ];
+}
 
 -- ---- the next interval that is joined
 

@@ -1,6 +1,7 @@
 -- The tight pairs of a table as a relation.
-use Rattle.std.proofs.Common.{◌≡◌, ℕ, ◌%◌, true, sym, ap, ◌∙◌}
-use Rattle.gj_cover.specs.SetRows.{in_row}
+use Rattle.std.proofs.Common.{◌≡◌, ℕ, ◌%◌, ◌<◌, true, sym, ap, ◌∙◌, arith}
+use Rattle.std.proofs.Math.Nat.{mod-lt}
+use Rattle.gj_cover.specs.SetRows.{in_row, AreColumns}
 use Rattle.gj_cover.specs.Table.{is_tight_in, IsTightIn}
 use Rattle.gj_cover.specs.declared.table.Table.{Table}
 use Rattle.gj_cover.proofs.Parts.{HasPeriod}
@@ -24,3 +25,12 @@ tight t i j h = h
 pub told : (t : Table) (i j : ℕ) → IsTightIn t i j → is_tight_in t i j ≡ true
 unfolding IsTightIn
 told t i j h = h
+
+-- where the pairs turned around are tight too, the test does not see the order of the two
+pub symmetric_tight : (t : Table) → AreColumns t.order t.rows.items t.rows.items → (i j : ℕ) →
+    is_tight_in t i j ≡ is_tight_in t j i
+unfolding is_tight_in
+symmetric_tight t h i j =
+    let few = t.few in
+    let some : 0 < t.order = omega arith in
+    h (j % t.order) (i % t.order) (mod-lt j some) (mod-lt i some)

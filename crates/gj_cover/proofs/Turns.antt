@@ -1,7 +1,8 @@
 -- Places in sets whose indices were turned.
-use Rattle.std.proofs.Common.{◌≡◌, ℕ, ◌+◌, ◌-◌, ◌%◌, ◌<◌, ◌&&◌, Bool, true, cond, leb, ltb, ap, sym, ◌∙◌, arith}
+use Rattle.std.proofs.Common.{◌≡◌, inl, inr, ℕ, ◌+◌, ◌-◌, ◌%◌, ◌<◌, ◌&&◌, Bool, true, cond, leb, ltb, ap, sym, ◌∙◌, arith}
+use Rattle.std.specs.Prelude.{◌==◌, if◌then◌else◌}
 use Rattle.std.proofs.Math.Nat.{mod-eq_of_lt, mod-eq-sub-mod, mod_self}
-use Rattle.std.proofs.lemmas.Bool.{cond_both, leb-true, leb-false, ltb-true, lt-ltb, and_parts}
+use Rattle.std.proofs.lemmas.Bool.{cases_lt, cases_eq, eq-eqb, ne_eqb, le-ltb, and_left, cond_both, leb-true, leb-false, ltb-true, lt-ltb, and_parts}
 
 -- where an index is that was turned to j by s
 abbrev pub place_of : ℕ → ℕ → ℕ → ℕ
@@ -24,20 +25,22 @@ turned_place q s j s_below j_below =
     let sum : s + (j + (q - s)) ≡ j + q = omega arith in
     (omega arith, ap (λ n. n % q) sum ∙ once_more q j j_below))
 
--- one back
-pub place_back : (q j : ℕ) → 0 < q → j < q → place_of q (q - 1) j ≡ (j + 1) % q
-place_back q j some below =
-    cond_both (leb (q - 1) j) (j - (q - 1)) (j + (q - (q - 1))) (λ k. k ≡ (j + 1) % q)
-    (λ e.
-    let le = leb-true (q - 1) j e in
-    let last : j + 1 ≡ q = omega arith in
-    let none : j - (q - 1) ≡ 0 = omega arith in
-    none ∙ sym (ap (λ n. n % q) last ∙ mod_self q))
-    (λ e.
-    let lt = leb-false (q - 1) j e in
-    let next : j + (q - (q - 1)) ≡ j + 1 = omega arith in
-    let in' : j + 1 < q = omega arith in
-    next ∙ sym (mod-eq_of_lt in'))
+-- one back, below q
+pub back_place : (q j : ℕ) (f : ℕ → Bool) (r : Bool) → r ≡ f (if j + 1 == q then 0 else j + 1) →
+    (ltb j q && r) ≡ (ltb j q && f ((j + 1) % q))
+back_place q j f r is =
+    elim (cases_lt j q) [
+      | inl below ↦ elim (cases_eq (j + 1) q) [
+        | inl last ↦
+            ap (λ x. ltb j q && x) (is ∙ ap (λ b. f (if b then 0 else j + 1)) (eq-eqb (j + 1) q last)
+            ∙ ap f (sym (ap (λ n. n % q) last ∙ mod_self q)))
+        | inr other ↦
+            let inside : j + 1 < q = omega arith in
+            ap (λ x. ltb j q && x) (is ∙ ap (λ b. f (if b then 0 else j + 1)) (ne_eqb (j + 1) q other)
+            ∙ ap f (sym (mod-eq_of_lt inside)))
+      ]
+      | inr past ↦ and_left (ltb j q) r (le-ltb j q past) ∙ sym (and_left (ltb j q) (f ((j + 1) % q)) (le-ltb j q past))
+    ]
 
 -- ---- sets
 

@@ -1,5 +1,7 @@
 -- Tight pairs as sets of indices (own).
-use Rattle.std.specs.Prelude.{ℕ, ◌↔◌, ◌%◌, Bool, IsTrue}
+use Rattle.std.specs.Prelude.{ℕ, ◌≢◌, ◌↔◌, ◌%◌, ◌<◌, Bool, IsTrue}
+use Rattle.gj_sets.specs.IndexSets.{has}
+use Rattle.gj_sets.specs.declared.index_set.IndexSet.{IndexSet}
 use Rattle.gj_shape.specs.Cover.{Joins, Covers, AreJoined}
 use Rattle.gj_shape.specs.declared.faces.FaceKind.{FaceKind}
 use Rattle.gj_cover.specs.SetRows.{in_row}
@@ -28,3 +30,7 @@ AreJoinedBy t i j = AreJoined t.order (IsTightIn t) i j
 -- the face is an additive triangle by the table and projects on the interval i
 abbrev pub CoversBy : Table → ℕ → FaceKind → ℕ → ℕ → Type 0
 CoversBy t i kind a b = Covers t.order (IsTightIn t) kind a b i
+
+-- besides i itself the set has the intervals that are joined to i
+abbrev pub IsJoinedSet : Table → ℕ → IndexSet → Type 0
+IsJoinedSet t i set = (j : ℕ) → j < t.order → i ≢ j → IsTrue (has set j) ↔ AreJoinedBy t i j

@@ -1,8 +1,8 @@
 //! The first face in walk order that joins two intervals or covers one.
-ghost use Rattle.std.specs.Prelude.{◌≡◌, ◌≢◌, ◌⊎◌, ◌+◌, ◌%◌, ◌<◌, ◌^◌, IfSome, IfNone, MatchOption};
+ghost use Rattle.std.specs.Prelude.{◌≡◌, ◌≢◌, ◌⊎◌, ◌+◌, ◌%◌, ◌<◌, ◌≤◌, ◌^◌, IsTrue, IfSome, IfNone, MatchOption};
 ghost use Rattle.gj_shape.specs.Cover.{IsFirstFace, IsDirectlyCovered};
 ghost use Rattle.gj_cover.specs.Table.{IsTightIn, JoinsBy, AreJoinedBy, CoversBy};
-ghost use Rattle.gj_cover.specs.FirstFound.{FindsFirst, IsEarlier};
+ghost use Rattle.gj_cover.specs.FirstFound.{FindsFirst, AddsFirst, IsFirstOfItsSquare, IsEarlier};
 ghost use Rattle.gj_cover.specs.Links.{IsSquareFrom, IsInRow, IsAcross};
 
 use crate::squares::{covering_in_square, joining_in_square};
@@ -18,28 +18,63 @@ pub(crate) fn first_joining(table: &Table, i: u32, j: u32) -> Option<Face>
     ensures found { IfSome result (IsFirstFace table.now.order (JoinsBy table.now i j)) }
     ensures none { IfNone result (AreJoinedBy table.now i j → ⊥) }
 {
-    earlier(
-        joining_from(table, i, j, i, j),
-        joining_from(table, j, i, i, j),
-    )
+    let found = joining_from(table, None, j, i, i, j);
+    joining_from(table, found, i, j, i, j)
 }
 
-/// The first face that joins the intervals i and j in the squares in which `to` stands behind `from`.
-fn joining_from(table: &Table, from: u32, to: u32, i: u32, j: u32) -> Option<Face>
+/// The first of a face that was found and those that join the intervals i and j in the squares in which `to` stands behind `from`.
+fn joining_from(
+    table: &Table,
+    found: Option<Face>,
+    from: u32,
+    to: u32,
+    i: u32,
+    j: u32,
+) -> Option<Face>
     requires start { from < table.now.order }
     requires end { to < table.now.order }
     requires first { i < table.now.order }
     requires second { j < table.now.order }
-    ensures { FindsFirst (IsSquareFrom table.now.order from to) (JoinsBy table.now i j) result }
+    requires found { IfSome found (IsFirstOfItsSquare (JoinsBy table.now i j)) }
+    ensures { AddsFirst (IsSquareFrom table.now.order from to) (JoinsBy table.now i j) found result }
 {
     let q = table.order();
     let step = difference(to, from, q);
     let short = difference(step, 1, q);
-    let found = joining_in_square(table, from, to, i, j);
-    let found = earlier(found, joining_in_square(table, from, step, i, j));
-    let found = earlier(found, joining_in_square(table, from, short, i, j));
-    let found = earlier(found, joining_in_square(table, step, from, i, j));
-    earlier(found, joining_in_square(table, short, from, i, j))
+    let found = joining_there(table, found, from, to, i, j);
+    let found = joining_there(table, found, from, step, i, j);
+    let found = joining_there(table, found, from, short, i, j);
+    let found = joining_there(table, found, step, from, i, j);
+    joining_there(table, found, short, from, i, j)
+}
+
+/// The first of a face that was found and those of the square (a, b) that join the intervals i and j. A square that is not before
+/// the face is not looked at.
+fn joining_there(table: &Table, found: Option<Face>, a: u32, b: u32, i: u32, j: u32) -> Option<Face>
+    requires first { a < table.now.order }
+    requires second { b < table.now.order }
+    requires first_interval { i < table.now.order }
+    requires second_interval { j < table.now.order }
+    requires found { IfSome found (IsFirstOfItsSquare (JoinsBy table.now i j)) }
+    ensures { AddsFirst (λ c d. (c ≡ a) × (d ≡ b)) (JoinsBy table.now i j) found result }
+{
+    if is_behind(found, a, b) {
+        return found;
+    }
+    earlier(found, joining_in_square(table, a, b, i, j))
+}
+
+/// Whether a face was found and the square (a, b) is not before its square.
+fn is_behind(found: Option<Face>, a: u32, b: u32) -> bool
+    ensures { IsTrue result → MatchOption found ⊥ (λ f. (f.a < a) ⊎ ((f.a ≡ a) × (f.b ≤ b))) }
+{
+    let Some(face) = found else {
+        return false;
+    };
+    if face.a == a {
+        return face.b <= b;
+    }
+    face.a < a
 }
 
 /// The first triangle in walk order that covers the interval.

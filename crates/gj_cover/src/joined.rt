@@ -1,7 +1,7 @@
 //! The intervals that are joined to one.
-ghost use Rattle.std.specs.Prelude.{ℕ, ◌≡◌, ◌≢◌, ◌↔◌, ◌+◌, ◌%◌, ◌<◌, ◌≤◌, ◌&&◌, nat_lt, IsTrue};
+ghost use Rattle.std.specs.Prelude.{ℕ, ◌↔◌, ◌<◌, IsTrue};
 ghost use Rattle.gj_sets.specs.IndexSets.{has};
-ghost use Rattle.gj_cover.specs.Table.{IsTightIn, AreJoinedBy};
+ghost use Rattle.gj_cover.specs.Table.{IsTightIn, IsJoinedSet};
 ghost use Rattle.gj_cover.specs.Links.{Links};
 
 use crate::table::Table;
@@ -11,7 +11,7 @@ use gj_sets::IndexSet;
 pub(crate) fn joined(table: &Table, i: u32) -> IndexSet
     requires { i < table.now.order }
     ensures within { (j : ℕ) → IsTrue (has result j) → j < table.now.order }
-    ensures joined { (j : ℕ) → j < table.now.order → i ≢ j → IsTrue (has result j) ↔ AreJoinedBy table.now i j }
+    ensures joined { IsJoinedSet table.now i result }
 {
     linked_from(table, i).or(&linked_to(table, i))
 }
@@ -25,11 +25,15 @@ fn linked_from(table: &Table, i: u32) -> IndexSet
 {
     let order = table.order() as usize;
     let (row, next_row) = (table.row(i), table.row(i + 1));
-    let (column, next_column) = (table.column(i), table.column(i + 1));
-    let diagonal = next_row.and(&turned_back(row, order));
+    let diagonal = next_row.and(&table.turned_back(row));
     let horizontal = row.and(next_row).turned(i as usize, order);
+    let links = diagonal.or(&horizontal);
+    if table.is_symmetric() {
+        return links;
+    }
+    let (column, next_column) = (table.column(i), table.column(i + 1));
     let vertical = column.and(next_column).turned(i as usize, order);
-    diagonal.or(&horizontal).or(&vertical)
+    links.or(&vertical)
 }
 
 /// The intervals j that an additive edge links to the interval i as one that stands behind them.
@@ -38,23 +42,15 @@ fn linked_to(table: &Table, i: u32) -> IndexSet
     ensures within { (j : ℕ) → IsTrue (has result j) → j < table.now.order }
     ensures links { (j : ℕ) → j < table.now.order → IsTrue (has result j) ↔ Links table.now.order (IsTightIn table.now) j i }
 {
-    let order = table.order() as usize;
     let (column, next_column) = (table.column(i), table.column(i + 1));
-    let diagonal = next_column.and(&turned_back(column, order));
-    let horizontal = table
-        .firsts(i)
-        .and(&turned_back(table.firsts(i + 1), order));
+    let diagonal = next_column.and(&table.turned_back(column));
+    let horizontal = table.firsts(i).and(&table.turned_back(table.firsts(i + 1)));
+    let links = diagonal.or(&horizontal);
+    if table.is_symmetric() {
+        return links;
+    }
     let vertical = table
         .seconds(i)
-        .and(&turned_back(table.seconds(i + 1), order));
-    diagonal.or(&horizontal).or(&vertical)
-}
-
-/// Each index less 1, where 0 becomes the last index below the order.
-pub(crate) fn turned_back(set: &IndexSet, order: usize) -> IndexSet
-    requires some { 2 ≤ order }
-    requires few { order ≤ 1000 }
-    ensures { (j : ℕ) → has result j ≡ (nat_lt j order && has set.now ((j + 1) % order)) }
-{
-    set.turned(order - 1, order)
+        .and(&table.turned_back(table.seconds(i + 1)));
+    links.or(&vertical)
 }

@@ -2,7 +2,7 @@
 ghost use Rattle.std.specs.Prelude.{ℕ, ◌≡◌, ◌<◌, length, replicate, OnOk, IfOk, IfSome, IfNone};
 ghost use Rattle.gj_shape.specs.Cover.{JoinsLines, IsOpen, IsOpeningLine, IsNextLine};
 ghost use Rattle.gj_shape.specs.FirstViolation.{IsLeastFrom};
-ghost use Rattle.gj_cover.specs.Table.{IsTightIn};
+ghost use Rattle.gj_cover.specs.Table.{IsTightIn, IsJoinedSet};
 ghost use Rattle.gj_cover.specs.Progress.{IsComplete};
 
 use crate::covered::Cover;
@@ -30,6 +30,13 @@ pub(crate) struct Progress {
     searched: u32,
 }
 
+/// A line that comes next, and the intervals that are joined to its own.
+#[derive(Drop)]
+struct Next {
+    line: CoverLine,
+    joined: IndexSet,
+}
+
 impl Progress {
     ghost use Rattle.gj_cover.specs.Progress.{IsProgress, unnumbered};
 
@@ -54,8 +61,8 @@ impl Progress {
         ensures complete { IfOk result (λ p. IsComplete table.now.order (IsTightIn table.now) p.lines.items) }
     {
         let mut progress = Progress::new(alloc, table)?;
-        while let Some(line) = progress.next_line(table) {
-            progress.add(table, line)?;
+        while let Some(next) = progress.next_line(table) {
+            progress.add(table, next.line, &next.joined)?;
         }
         Ok(progress)
     }
@@ -85,39 +92,46 @@ impl Progress {
     }
 
     /// The next line.
-    fn next_line(&self, table: &Table) -> Option<CoverLine>
+    fn next_line(&self, table: &Table) -> Option<Next>
         requires { IsProgress table.now.order (IsTightIn table.now) self.now }
-        ensures found { IfSome result (IsNextLine table.now.order (IsTightIn table.now) self.now.lines.items) }
+        ensures found { IfSome result (λ next.
+            IsNextLine table.now.order (IsTightIn table.now) self.now.lines.items next.line) }
+        ensures joined { IfSome result (λ next. IsJoinedSet table.now next.line.interval next.joined) }
         ensures none { IfNone result (IsComplete table.now.order (IsTightIn table.now) self.now.lines.items) }
     {
-        let Some((interval, from)) = self.next_joined(table) else {
-            return self.next_opening(table);
+        let Some((interval, from, joined)) = self.next_joined(table) else {
+            let line = self.next_opening(table)?;
+            let joined = joined(table, line.interval);
+            return Some(Next { line, joined });
         };
         let face = first_joining(table, interval, from)?;
-        Some(CoverLine {
+        let line = CoverLine {
             interval,
             from,
             face,
-        })
+        };
+        Some(Next { line, joined })
     }
 
-    /// The least interval without a line that is joined to one with a line, and the least such.
-    fn next_joined(&self, table: &Table) -> Option<(u32, u32)>
+    /// The least interval without a line that is joined to one with a line, the least such, and all that are joined to it.
+    fn next_joined(&self, table: &Table) -> Option<(u32, u32, IndexSet)>
         requires { IsProgress table.now.order (IsTightIn table.now) self.now }
         ensures interval { IfSome result (λ p. IsLeastFrom 0
             (λ i. (j : ℕ) × JoinsLines table.now.order (IsTightIn table.now) self.now.lines.items i j) p.0) }
         ensures from { IfSome result (λ p. IsLeastFrom 0
             (JoinsLines table.now.order (IsTightIn table.now) self.now.lines.items p.0) p.1) }
+        ensures joined { IfSome result (λ p. IsJoinedSet table.now p.0 p.2) }
         ensures none { IfNone result ((i j : ℕ) →
             JoinsLines table.now.order (IsTightIn table.now) self.now.lines.items i j → ⊥) }
     {
         let Some(interval) = self.near.and(&self.free).first() else {
             return None;
         };
-        let Some(from) = joined(table, interval as u32).and_not(&self.free).first() else {
+        let joined = joined(table, interval as u32);
+        let Some(from) = joined.and_not(&self.free).first() else {
             return None;
         };
-        Some((interval as u32, from as u32))
+        Some((interval as u32, from as u32, joined))
     }
 
     /// The line that opens the next component, where no line joins.
@@ -143,10 +157,11 @@ impl Progress {
         None
     }
 
-    /// Adds the next line.
-    fn add(&mut self, table: &Table, line: CoverLine) -> Result<(), AllocError>
+    /// Adds the next line, where these intervals are joined to its own.
+    fn add(&mut self, table: &Table, line: CoverLine, joined: &IndexSet) -> Result<(), AllocError>
         requires progress { IsProgress table.now.order (IsTightIn table.now) self.old }
         requires next { IsNextLine table.now.order (IsTightIn table.now) self.old.lines.items line }
+        requires joined { IsJoinedSet table.now line.interval joined.now }
         ensures progress { OnOk result (IsProgress table.now.order (IsTightIn table.now) self.new) }
         ensures fewer { OnOk result (unnumbered self.new.component.items < unnumbered self.old.component.items) }
     {
@@ -154,7 +169,7 @@ impl Progress {
         let number = self.component[line.from as usize].unwrap_or(self.count);
         self.component[line.interval as usize] = Some(number);
         self.free.remove(line.interval as usize);
-        self.near = self.near.or(&joined(table, line.interval));
+        self.near = self.near.or(joined);
         if line.from != line.interval {
             return Ok(());
         }

@@ -1,5 +1,6 @@
 //! The tight pairs as sets.
-ghost use Rattle.std.specs.Prelude.{◌≡◌, ◌↔◌, ◌+◌, ◌*◌, ◌<◌, ◌≤◌, length, IfOk, IsTrue};
+ghost use Rattle.std.specs.Prelude.{ℕ, ◌≡◌, ◌↔◌, ◌+◌, ◌*◌, ◌<◌, ◌≤◌, nat_lt, length, IfOk, IsTrue};
+ghost use Rattle.gj_sets.specs.IndexSets.{has};
 ghost use Rattle.gj_shape.specs.Additive.{IsAdditive};
 ghost use Rattle.gj_shape.specs.Given.{IsOrder};
 ghost use Rattle.gj_cover.specs.SetRows.{AreColumns, AreFirsts, AreSeconds};
@@ -22,6 +23,10 @@ pub(crate) struct Table {
     firsts: Vec<IndexSet>,
     /// For each s the indices b of the tight pairs (a, b) with the sum s, modulo the order.
     seconds: Vec<IndexSet>,
+    /// The indices below the order.
+    within: IndexSet,
+    /// Whether (b, a) is known to be tight with each tight (a, b), so that a row and the column of its index are one.
+    is_symmetric: bool,
     ghost few: { IsOrder order },
     ghost rows_length: { length rows.items ≡ order },
     ghost columns_length: { length columns.items ≡ order },
@@ -30,10 +35,12 @@ pub(crate) struct Table {
     ghost columns_are: { AreColumns order rows.items columns.items },
     ghost firsts_are: { AreFirsts order rows.items firsts.items },
     ghost seconds_are: { AreSeconds order rows.items seconds.items },
+    ghost within_is: { (i : ℕ) → has within i ≡ nat_lt i order },
+    ghost symmetric: { IsTrue is_symmetric → AreColumns order rows.items rows.items },
 }
 
 impl Table {
-    ghost use Rattle.std.specs.Prelude.{ℕ, ◌%◌};
+    ghost use Rattle.std.specs.Prelude.{ℕ, ◌%◌, ◌&&◌, nat_lt};
     ghost use Rattle.gj_sets.specs.IndexSets.{has};
     ghost use Rattle.gj_cover.specs.Table.{IsTightIn, is_tight_in};
 
@@ -53,10 +60,12 @@ impl Table {
             columns,
             firsts,
             seconds,
+            within: IndexSet::below(order as usize),
+            is_symmetric: false,
         })
     }
 
-    /// The table with these sets. It takes no memory.
+    /// The table with these sets, where (b, a) is tight with each tight (a, b). It takes no memory.
     pub(crate) fn with(
         order: u32,
         rows: Vec<IndexSet>,
@@ -72,6 +81,7 @@ impl Table {
         requires columns_are { AreColumns order rows.items columns.items }
         requires firsts_are { AreFirsts order rows.items firsts.items }
         requires seconds_are { AreSeconds order rows.items seconds.items }
+        requires symmetric { AreColumns order rows.items rows.items }
         ensures order { result.order ≡ order }
         ensures rows { result.rows.items ≡ rows.items }
     {
@@ -81,6 +91,8 @@ impl Table {
             columns,
             firsts,
             seconds,
+            within: IndexSet::below(order as usize),
+            is_symmetric: true,
         }
     }
 
@@ -90,6 +102,20 @@ impl Table {
         ensures few { IsOrder result }
     {
         self.order
+    }
+
+    /// Whether (b, a) is known to be tight with each tight (a, b).
+    pub(crate) fn is_symmetric(&self) -> bool
+        ensures { IsTrue result → (i j : ℕ) → is_tight_in self.now i j ≡ is_tight_in self.now j i }
+    {
+        self.is_symmetric
+    }
+
+    /// Each index of the set less 1, where 0 becomes the last index below the order; none that is not below the order.
+    pub(crate) fn turned_back(&self, set: &IndexSet) -> IndexSet
+        ensures { (j : ℕ) → has result j ≡ (nat_lt j self.now.order && has set.now ((j + 1) % self.now.order)) }
+    {
+        self.within.and(&set.turned_down(self.order as usize))
     }
 
     /// The indices b with a tight pair (a, b).

@@ -4,7 +4,6 @@ ghost use Rattle.gj_sets.specs.IndexSets.{has};
 ghost use Rattle.gj_shape.specs.declared.faces.FaceKind.{FaceKind};
 ghost use Rattle.gj_cover.specs.Table.{CoversBy};
 
-use crate::joined::turned_back;
 use crate::table::Table;
 use gj_sets::IndexSet;
 
@@ -15,10 +14,9 @@ pub(crate) fn covering_row(table: &Table, i: u32) -> IndexSet
     ensures covering { (b : ℕ) → b < table.now.order →
         IsTrue (has result b) ↔ ((kind : FaceKind) × CoversBy table.now i kind i b) }
 {
-    let order = table.order() as usize;
     let (here, east) = (table.row(i), table.row(i + 1));
-    let north = turned_back(here, order);
-    let corner = turned_back(east, order);
+    let north = table.turned_back(here);
+    let corner = table.turned_back(east);
     east.and(&north).and(&here.or(&corner))
 }
 
@@ -30,14 +28,13 @@ pub(crate) fn covering_across(table: &Table, i: u32) -> IndexSet
         IsTrue (has result a) ↔ ((kind : FaceKind) × (b : ℕ) × (b < table.now.order) × CoversBy table.now i kind a b) }
     ensures other { has result i ≡ false }
 {
-    let order = table.order() as usize;
     let (here, north) = (table.column(i), table.column(i + 1));
-    let east = turned_back(here, order);
-    let corner = turned_back(north, order);
+    let east = table.turned_back(here);
+    let corner = table.turned_back(north);
     let second = east.and(north).and(&here.or(&corner));
     let (sum, next_sum) = (table.firsts(i), table.firsts(i + 1));
-    let later = turned_back(next_sum, order);
-    let shorter = turned_back(sum, order);
+    let later = table.turned_back(next_sum);
+    let shorter = table.turned_back(sum);
     let third = sum.and(&later).and(&next_sum.or(&shorter));
     let mut places = second.or(&third);
     places.remove(i as usize);

@@ -25,6 +25,11 @@ with-requires-clause-seconds_are c =
     (seconds_of c.args.shape.now c.in_ok-rows.rows.items c.in_ok-seconds.seconds.items c.order-2.ensures.limits
     (c.is_mirrored.ensures c.if-not-is_mirrored.false) c.in_ok-rows.ensures.rows c.in_ok-seconds.ensures.rows)
 
+pub with-requires-clause-symmetric : goal.with-requires-clause-symmetric
+with-requires-clause-symmetric c =
+    subst (λ q. AreColumns q c.in_ok-rows.rows.items c.in_ok-rows.rows.items) (sym c.order-2.ensures.value)
+    (columns_of c.args.shape.now c.in_ok-rows.rows.items c.in_ok-rows.rows.items c.in_ok-rows.ensures.rows c.in_ok-rows.ensures.rows)
+
 pub returns-clause-tells : goal.returns-clause-tells
 returns-clause-tells c =
     tells_pairs c.args.shape.now c.with.result c.in_ok-rows.rows.items c.order-2.ensures.limits

@@ -19,7 +19,7 @@ returns-then-line-clause-progress c =
     } in
     let more = line_more q T c.args.self.now new c.args.line c.unwrap_or-number.result c.index.result.now
     c.requires.progress c.requires.next c.index.ensures c.unwrap_or-number.ensures c.in_ok-push.ensures.items refl
-    c.remove.ensures c.joined.result c.joined.ensures.joined c.or-self.ensures in
+    c.remove.ensures c.args.joined.now c.requires.joined c.or-self.ensures in
     joined_on q T c.args.self.now new c.args.line c.unwrap_or-number.result c.requires.progress c.requires.next more
     c.if-line.true refl refl
 
@@ -37,7 +37,7 @@ returns-then-line-clause-fewer c =
     } in
     let more = line_more q T c.args.self.now new c.args.line c.unwrap_or-number.result c.index.result.now
     c.requires.progress c.requires.next c.index.ensures c.unwrap_or-number.ensures c.in_ok-push.ensures.items refl
-    c.remove.ensures c.joined.result c.joined.ensures.joined c.or-self.ensures in
+    c.remove.ensures c.args.joined.now c.requires.joined c.or-self.ensures in
     let less = fewer q T c.args.self.now new c.args.line c.unwrap_or-number.result c.requires.progress c.requires.next more in
     omega (arith, less)
 
@@ -55,7 +55,7 @@ returns-clause-progress c =
     } in
     let more = line_more q T c.args.self.now new c.args.line c.unwrap_or-number.result c.index.result.now
     c.requires.progress c.requires.next c.index.ensures c.unwrap_or-number.ensures c.in_ok-push.ensures.items refl
-    c.remove.ensures c.joined.result c.joined.ensures.joined c.or-self.ensures in
+    c.remove.ensures c.args.joined.now c.requires.joined c.or-self.ensures in
     opened_on q T c.args.self.now new c.args.line c.unwrap_or-number.result c.requires.progress c.requires.next more
     c.if-line.false refl refl
 
@@ -73,6 +73,6 @@ returns-clause-fewer c =
     } in
     let more = line_more q T c.args.self.now new c.args.line c.unwrap_or-number.result c.index.result.now
     c.requires.progress c.requires.next c.index.ensures c.unwrap_or-number.ensures c.in_ok-push.ensures.items refl
-    c.remove.ensures c.joined.result c.joined.ensures.joined c.or-self.ensures in
+    c.remove.ensures c.args.joined.now c.requires.joined c.or-self.ensures in
     let less = fewer q T c.args.self.now new c.args.line c.unwrap_or-number.result c.requires.progress c.requires.next more in
     omega (arith, less)

@@ -30,4 +30,6 @@ invariant_of-result c =
       columns_are = columns_are;
       firsts_are = firsts_are;
       seconds_are = seconds_are q rows columns seconds columns_are turned;
+      within_is = c.below.ensures;
+      symmetric = λ no. cc (no);
     }
