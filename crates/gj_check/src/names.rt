@@ -4,8 +4,8 @@ ghost use Rattle.gj_proof.specs.Rules.{AtIndex, MeetsName};
 
 use gj_lex::Name;
 use gj_proof::CutTerm;
+use indexmap::IndexSet;
 use std::alloc::{AllocError, Global};
-use std::collections::BTreeSet;
 
 /// The index of the first term whose name is that of the basic variable or of a term before it; the number of terms
 /// where each name is new.
@@ -18,7 +18,7 @@ pub(crate) fn first_repeated(
     ensures repeated { IfOk result (λ n. n < length terms.now →
         AtIndex terms.now n (λ before t. MeetsName basic.now before t → ⊥)) }
 {
-    let mut seen: BTreeSet<&[u8]> = BTreeSet::new(alloc);
+    let mut seen: IndexSet<&[u8]> = IndexSet::new(alloc);
     seen.insert(basic.bytes())?;
     for (index, term) in terms.iter().enumerate() {
         if !seen.insert(term.name.bytes())? {

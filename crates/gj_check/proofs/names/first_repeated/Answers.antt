@@ -1,14 +1,15 @@
-use Rattle.std.proofs.Common.{◌<◌, length, take, [], below_more, sym, ap, subst, ◌∙◌, arith}
+use Rattle.std.proofs.Common.{◌<◌, length, take, [], ◌∷◌, ◌++◌, below_more, sym, ap, subst, ◌∙◌, arith}
 use Rattle.gj_proof.specs.Rules.{AtIndex, MeetsName}
 use Rattle.gj_proof.proofs.AtPlaces.{at_place, with_place}
-use Rattle.gj_tools.proofs.Choices.{not_true, not_false}
-use Rattle.gj_check.proofs.SeenNames.{HasNames, basic_seen, name_seen, is_among, is_new, is_repeated}
+use Rattle.gj_check.proofs.SeenNames.{HasNames, same_bytes, basic_seen, name_seen, told_old, told_new, is_among, is_new, is_repeated}
+use Rattle.indexmap.specs.IndexSet.{insert_key}
 use Rattle.gj_check.proofs.names.first_repeated.Goals as goal
 
 pub loop-index-init : goal.loop-index-init
 loop-index-init c = (
-  subst (λ b. HasNames c.insert.new.self b []) c.bytes.ensures.value
-      (basic_seen c.new-seen.result c.insert.new.self c.bytes.result c.new-seen.ensures.empty c.in_ok-insert.ensures.updates),
+  subst (λ ks. HasNames ks c.args.basic.now []) (sym c.in_ok-insert.ensures.keys)
+      (subst (λ b. HasNames (insert_key same_bytes c.new-seen.result.keys c.bytes.result) b []) c.bytes.ensures.value
+      (basic_seen c.new-seen.result.keys c.bytes.result c.new-seen.ensures.empty)),
   λ i below. absurd (omega arith),
 )
 
@@ -22,7 +23,7 @@ returns-then-not-branch-clause-repeated c below =
     at_place terms (λ before u. MeetsName basic before u → ⊥) n t below c.index-terms-index.is
     (is_repeated basic (take n terms) t
     (sym (ap (λ q. is_among q basic (take n terms)) c.bytes-in-loop-index.ensures.value) ∙ sym among
-    ∙ not_false _ (sym c.in_ok-insert-2.ensures.added ∙ c.if-not-branch.true)))
+    ∙ told_old _ _ c.in_ok-insert-2.ensures.added c.if-not-branch.true))
 
 pub loop-index-preserved : goal.loop-index-preserved
 loop-index-preserved c =
@@ -31,13 +32,14 @@ loop-index-preserved c =
     let n = c.loop-index.index in
     let t = c.index-terms-index.result in
     let below : n < length terms = c.loop-index-test.true in
-    let among = c.loop-index.invariant.0 c.bytes-in-loop-index.result.now in (
-      subst (HasNames c.insert-in-loop-index.new.self basic) (sym (with_place terms n t below c.index-terms-index.is))
-          (name_seen c.loop-index.seen c.insert-in-loop-index.new.self c.bytes-in-loop-index.result basic (take n terms) t
-          c.loop-index.invariant.0 c.bytes-in-loop-index.ensures.value c.in_ok-insert-2.ensures.updates),
+    let among = c.loop-index.invariant.0 c.bytes-in-loop-index.result.now in
+    let new = told_new _ _ c.in_ok-insert-2.ensures.added c.if-not-branch.false in (
+      subst (HasNames c.insert-in-loop-index.new.self.keys basic) (sym (with_place terms n t below c.index-terms-index.is))
+          (subst (λ ks. HasNames ks basic (take n terms ++ t ∷ [])) (sym c.in_ok-insert-2.ensures.keys)
+          (name_seen c.loop-index.seen.keys c.bytes-in-loop-index.result basic (take n terms) t
+          c.loop-index.invariant.0 c.bytes-in-loop-index.ensures.value new)),
       below_more (λ i. AtIndex terms i (MeetsName basic)) n c.loop-index.invariant.1
           (at_place terms (MeetsName basic) n t below c.index-terms-index.is
           (is_new basic (take n terms) t
-          (sym (ap (λ q. is_among q basic (take n terms)) c.bytes-in-loop-index.ensures.value) ∙ sym among
-          ∙ not_true _ (sym c.in_ok-insert-2.ensures.added ∙ c.if-not-branch.false)))),
+          (sym (ap (λ q. is_among q basic (take n terms)) c.bytes-in-loop-index.ensures.value) ∙ sym among ∙ new))),
     )
