@@ -1,17 +1,17 @@
 -- From the outcome of a run to what a call says.
-use Rattle.std.proofs.Common.{◌≡◌, ◌≢◌, ◌⊎◌, inl, inr, ℕ, ◌-◌, ◌^◌, ◌<◌, ◌≤◌, Bool, true, false, List, [], ◌∷◌, ◌++◌, length, take, drop, IsTrue}
-use Rattle.std.proofs.Common.{Option, None, Some, String, refl, sym, ap, subst, ◌∙◌, arith}
+use Rattle.std.proofs.Common.{◌≡◌, ◌≢◌, ◌⊎◌, inl, inr, ℕ, ◌-◌, ◌^◌, ◌<◌, ◌≤◌, Bool, true, false, List, [], ◌∷◌, ◌++◌, length, take, drop}
+use Rattle.std.proofs.Common.{Option, Some, String, refl, sym, ap, subst, ◌∙◌, arith}
 use Rattle.std.proofs.lemmas.List.{length-take-le, take-append-le, take_all}
 use Rattle.std.specs.Str.{IsUtf8}
 use Rattle.std.specs.declared.alloc.Global.{Global}
 use Rattle.gj_port.specs.Faults.{HasFailed}
 use Rattle.gj_port.specs.MemorySource.{MemorySource, never_fails}
-use Rattle.gj_words.specs.Grammar.{SpellRequest, HasFlag, command_words, json_word}
+use Rattle.gj_words.specs.Grammar.{HasFlag, command_words, json_word}
 use Rattle.gj_words.specs.declared.requests.Command.{Command}
 use Rattle.gj_words.specs.declared.requests.Command.TheVariants.{Minimal, Extreme, Cut, Check, Show, Faces, Demo, Mixed, Fill, Times, Mirror, Restrict}
 use Rattle.gj_words.specs.declared.requests.Request.{Request}
 use Rattle.gj_top.specs.declared.status.Status.{Status}
-use Rattle.gj_top.specs.declared.status.Status.TheVariants.{Done, Words, ReadFault, WriteFault, Memory}
+use Rattle.gj_top.specs.declared.status.Status.TheVariants.{Words, ReadFault, WriteFault, Memory}
 use Rattle.gj_top.specs.Answer.{IsAnswer, IsSourceFault}
 use Rattle.gj_top.specs.Answer.IsAnswer.{no_request, read_fault, of_request}
 use Rattle.gj_top.specs.Causes.{IsTrueRun, IsCause, IsGoodInput, IsStatusOfReply}

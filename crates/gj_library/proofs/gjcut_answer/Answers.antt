@@ -1,4 +1,4 @@
-use Rattle.std.proofs.Common.{◌≡◌, ◌<◌, ℕ, List, length, take, drop, ◌++◌, subst, sym, arith}
+use Rattle.std.proofs.Common.{◌≡◌, ℕ, List, length, take, drop, ◌++◌, subst, sym, arith}
 use Rattle.gj_library.specs.Call.{IsAnswered, IsCall}
 use Rattle.gj_library.proofs.Calls.{front_call, whole_call, headline_of, cause_of, no_read_fault_of, room_of, complete_of, no_text_of}
 use Rattle.gj_library.proofs.gjcut_answer.Goals as goal

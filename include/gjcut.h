@@ -1,0 +1,49 @@
+/* The library of gjcut: one call, over memory. docs/library.md says how to build and link it, and what is proved of it. */
+#ifndef GJCUT_H
+#define GJCUT_H
+
+#include <stddef.h>
+#include <stdint.h>
+
+#ifdef __cplusplus
+extern "C" {
+#endif
+
+/* How a call ended: the status with which the program ends. */
+enum gjcut_status {
+    GJCUT_DONE = 0,            /* the answer was written */
+    GJCUT_REJECTED = 1,        /* `check`: a rule of the checker fails */
+    GJCUT_WORDS = 2,           /* the words name no request */
+    GJCUT_INPUT = 3,           /* the input is outside its form or a limit */
+    GJCUT_NO_ROOM = 5,         /* the output has no room for the answer: its front was written */
+    GJCUT_NO_MEMORY = 6,       /* there was no memory: nothing was written */
+    GJCUT_WIDE = 7,            /* `extreme`: a number passed its bound */
+    GJCUT_NOT_CONTINUOUS = 8,  /* the function jumps, and the command takes none that does */
+    GJCUT_NO_FUNCTION = 9,     /* `cut`, `mixed`: the function is not minimal */
+    GJCUT_NOT_SUBADDITIVE = 10, /* `fill`: the function is not subadditive */
+    GJCUT_ORDER_LIMIT = 11,    /* `times`: the order would be above 1,000 */
+    GJCUT_BAD_ORDER = 12       /* `restrict`: the function has no restriction of that order */
+};
+
+/* Answers a request over an input, as the program does: `words` are the words of its command line, with one blank between two, as
+ * "times 3 1", `input` is what it reads, and the answer is what it writes. It is put at the front of `output`, and its length into
+ * `*written`; what stands behind it in `output` stays as it was. If the answer is longer than `output_length`, the status is
+ * GJCUT_NO_ROOM, and the output is full of its front: call again with more room. Nothing is kept from one call to the next.
+ *
+ * What a caller owes, since nothing tests it:
+ * - `words`, `input` and `output` point to as many bytes as their lengths say, less than 2^63, and `written` to a number. No pointer
+ *   is NULL, not even where a length is 0.
+ * - `output` and `*written` overlap nothing else that is handed over, and during the call nobody else reads or writes them, nor writes
+ *   `words` or `input`. Calls at one time from several threads are fine where each has an output and a number of its own.
+ * - malloc, realloc and free of the program belong together, and malloc and realloc align a block to each power of two up to 16 that
+ *   divides its size, as those of the C library do.
+ * - The call is not made in a signal handler, nor in the child of a fork in a process with threads.
+ */
+uint8_t gjcut_answer(const uint8_t *words, size_t words_length, const uint8_t *input, size_t input_length, uint8_t *output,
+                     size_t output_length, size_t *written);
+
+#ifdef __cplusplus
+}
+#endif
+
+#endif
