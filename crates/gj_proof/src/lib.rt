@@ -36,7 +36,7 @@ pub use pivot::PivotRow;
 pub use read::read_proof;
 pub use write::{push_violation_line, write_proof};
 pub use write_cuts::{push_named, push_row, push_rule_lines};
-pub use write_extreme::push_halves_line;
+pub use write_extreme::{push_halves, push_halves_line};
 
 #[cfg(test)]
 mod tests;

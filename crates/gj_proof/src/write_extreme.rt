@@ -67,12 +67,9 @@ fn push_column(out: &mut Vec<u8>, word: &[u8], column: u32) -> Result<(), AllocE
     Ok(())
 }
 
-/// Appends the lines of halves.
-pub(crate) fn push_halves(
-    alloc: Global,
-    out: &mut Vec<u8>,
-    halves: &Halves,
-) -> Result<(), AllocError>
+/// Appends the lines of halves: `halves N S`, and a line `pair A B` for the values of both at each index. An error says that memory ran
+/// out; `out` may then have a part of them.
+pub fn push_halves(alloc: Global, out: &mut Vec<u8>, halves: &Halves) -> Result<(), AllocError>
     requires { AreHalvesInBounds halves.now }
     ensures { OnOk result (out.new.items ≡ out.old.items ++ halves_text halves.now) }
 {
