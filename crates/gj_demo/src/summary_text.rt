@@ -1,5 +1,8 @@
 //! The summary of the demonstration.
 ghost use Rattle.std.specs.Prelude.{◌≡◌, ◌-◌, ◌<◌, ◌≤◌, ◌^◌, ◌++◌, count_by, decimal, is_some, length, IfOk, OnOk};
+ghost use Rattle.gj_cover.specs.CoverOf.{IsCoverOf};
+ghost use Rattle.gj_faces.specs.TightPairs.{AreTightPairsOf};
+ghost use Rattle.gj_shape.specs.Additive.{IsTight};
 ghost use Rattle.gj_shape.specs.Perturbation.{AreHalvesInBounds};
 ghost use Rattle.gj_shape.specs.FunctionData.{FunctionData, IsWithinBounds};
 ghost use Rattle.gj_shape.specs.declared.extremality.Halves.{Halves};
@@ -10,8 +13,8 @@ ghost use Rattle.gj_demo.specs.Demo.{IsDemo};
 ghost use Rattle.gj_demo.specs.Summary.{HasSummary, lines_with};
 
 use crate::function::demo_function;
-use gj_cover::cover_of_pairs;
-use gj_extreme::{DecideFault, decide};
+use gj_cover::{Cover, cover_of_pairs};
+use gj_extreme::{DecideFault, decide_by_cover};
 use gj_faces::{TightPairs, count_additive_triangles};
 use gj_lex::print_count;
 use gj_lines::push_order_line;
@@ -31,15 +34,16 @@ pub fn summary(alloc: Global, n: u32) -> Result<Vec<u8>, AllocError>
     let pairs = TightPairs::new(alloc, &shape)?;
     let triangles = count_additive_triangles(&shape, &pairs);
     let cover = cover_of_pairs(alloc, &shape, &pairs)?;
-    let proof = verdict(alloc, &shape, n)?;
     let covered = count_covered(cover.component.as_slice());
+    let components = cover.count;
+    let proof = verdict(alloc, &shape, &pairs, cover, n)?;
     text_of(
         alloc,
         n,
         shape.order(),
         triangles,
         covered,
-        cover.count,
+        components,
         halves_of(&proof),
     )
 }
@@ -72,14 +76,22 @@ fn text_of(
 }
 
 /// The proof that the function of the demonstration with this number is not extreme. It is never anything else, and never too wide.
-fn verdict(alloc: Global, shape: &Shape, n: u32) -> Result<Proof, AllocError>
+fn verdict(
+    alloc: Global,
+    shape: &Shape,
+    pairs: &TightPairs,
+    cover: Cover,
+    n: u32,
+) -> Result<Proof, AllocError>
     requires low { 1 ≤ n }
     requires demo { IsDemo n shape.now }
     requires within { IsWithinBounds shape.now }
+    requires pairs { AreTightPairsOf shape.now pairs.now }
+    requires cover { IsCoverOf shape.now.order (IsTight shape.now) cover }
     ensures decided { IfOk result (IsDecided shape.now) }
     ensures not_extreme { IfOk result (λ claim. (h : Halves) × (claim ≡ NotExtreme shape.now h)) }
 {
-    match decide(alloc, shape) {
+    match decide_by_cover(alloc, shape, pairs, cover) {
         Ok(proof) => Ok(proof),
         Err(DecideFault::Memory(error)) => Err(error),
         Err(DecideFault::NotContinuous(_index)) => unreachable!(),

@@ -9,10 +9,11 @@ use Rattle.gj_theory.proofs.Violations.{first_shown, violation_denies}
 use Rattle.gj_proof.specs.Rules.{MeetsRules}
 use Rattle.gj_proof.specs.declared.claim.Claim.{Claim}
 use Rattle.gj_proof.specs.declared.claim.Claim.TheVariants.{Minimal, NotMinimal, Cut, Extreme, ExtremeByResidues, NotExtreme}
+use Rattle.gj_proof.specs.declared.numbers.Numbers.TheVariants.{Whole, Residues}
 use Rattle.gj_extreme.specs.Decision.{AreZigzagHalves, AreSlopeHalves, IsDecided, IsByTable}
 use Rattle.gj_extreme.proofs.DecidedHalves.{zigzag_halves, slope_halves}
 use Rattle.gj_extreme.proofs.DecidedHolds.{extreme_holds}
-use Rattle.gj_extreme.proofs.DecidedRules.{decided_extreme_rules, decided_halves_rules}
+use Rattle.gj_extreme.proofs.DecidedRules.{decided_extreme_rules, decided_residue_rules, decided_halves_rules}
 
 -- what is claimed of a minimal function meets the rules
 pub minimal_rules : (f : FunctionData) (c : Claim) → IsWithinBounds f → IsMinimal f → IsDecided f c → MeetsRules c
@@ -20,7 +21,7 @@ minimal_rules f (Minimal g) l minimal h = absurd h
 minimal_rules f (NotMinimal g v) l minimal h = absurd (violation_denies f v l (first_shown f v l h.1) minimal)
 minimal_rules f (Cut rule rows) l minimal h = absurd h
 minimal_rules f (Extreme g lines rows) l minimal h = decided_extreme_rules f g lines rows l h
-minimal_rules f (ExtremeByResidues g lines rows) l minimal h = absurd h
+minimal_rules f (ExtremeByResidues g lines rows) l minimal h = decided_residue_rules f g lines rows l h
 minimal_rules f (NotExtreme g halves) l minimal h = decided_halves_rules f g halves l h
 
 -- the claim that a function is extreme, or that it is not, is by the table of order 4 q
@@ -28,8 +29,8 @@ pub decided_by_table : (f : FunctionData) (c : Claim) → IsWithinBounds f → I
 decided_by_table f (Minimal g) l h = tt
 decided_by_table f (NotMinimal g v) l h = tt
 decided_by_table f (Cut rule rows) l h = tt
-decided_by_table f (Extreme g lines rows) l h = extreme_holds f lines rows l h.1 h.2 h.3 4 (omega arith)
-decided_by_table f (ExtremeByResidues g lines rows) l h = absurd h
+decided_by_table f (Extreme g lines rows) l h = extreme_holds Whole f lines rows l h.1 h.2 h.3 4 (omega arith)
+decided_by_table f (ExtremeByResidues g lines rows) l h = extreme_holds Residues f lines rows l h.1 h.2 h.3 4 (omega arith)
 decided_by_table f (NotExtreme g halves) l h = λ extreme. by_halves extreme h.3
   where
     by_halves : IsExtremeTable (table f 4) (f.order * 4) (f.place * 4) (f.scale * 4) →

@@ -10,7 +10,7 @@ use Rattle.gj_tools.proofs.Lists.{All-back, All-joined, All-flat_map}
 use Rattle.gj_cover.proofs.Parts.{any_none}
 use Rattle.gj_shape.specs.Additive.{IsTight}
 use Rattle.gj_shape.specs.Cover.{Joins, Covers, IsFirstFace, IsNextLine, AreCoverLines}
-use Rattle.gj_shape.specs.Elimination.{KeptRow, entries_of, row_with_pivot, reduced}
+use Rattle.gj_shape.specs.Elimination.{KeptRow, entries_of, row_with_pivot}
 use Rattle.gj_shape.specs.FunctionData.{FunctionData, IsWithinBounds}
 use Rattle.gj_shape.specs.SlopeRows.{is_tight, row_names}
 use Rattle.gj_shape.specs.WalkOrder.{faces_of, faces_of_square, faces_in}
@@ -22,11 +22,14 @@ use Rattle.gj_shape.specs.declared.faces.FaceKind.TheVariants.{Vertex, Horizonta
 use Rattle.gj_theory.proofs.CoverLines.{lines_meet_rules}
 use Rattle.gj_theory.proofs.LineComponents.{line_of_component}
 use Rattle.gj_theory.proofs.LineIntervals.{lines_for_all}
-use Rattle.gj_proof.specs.ProofText.{IsCoverLineBelow, IsRowNameBelow, IsPivotRowBelow, HasText}
-use Rattle.gj_proof.specs.declared.claim.Claim.TheVariants as claim
+use Rattle.gj_proof.specs.PresentRows.{arithmetic_of}
+use Rattle.gj_proof.specs.ProofText.{IsCoverLineBelow, IsRowNameBelow, IsPivotRowBelow, AreExtremeLines}
+use Rattle.gj_proof.specs.Rules.{MeetsPivot, MeetsPivotBy}
+use Rattle.gj_proof.specs.declared.numbers.Numbers.{Numbers}
+use Rattle.gj_proof.specs.declared.numbers.Numbers.TheVariants.{Whole, Residues}
 use Rattle.gj_proof.specs.declared.pivot.PivotRow.{PivotRow}
-use Rattle.gj_extreme.specs.Decision.{AreAllCovered, AreExtremeRows, group_of, slope_elimination}
-use Rattle.gj_extreme.proofs.KeptGroups.{StepsMeet, AllMeet, all_kept_meet}
+use Rattle.gj_extreme.specs.Decision.{AreAllCovered, AreExtremeRows, group_of, elimination_over}
+use Rattle.gj_extreme.proofs.KeptGroups.{StepsMeet, AllMeet, all_kept_meet, rows_are_narrow}
 
 -- ---- halves
 
@@ -143,29 +146,34 @@ name_below f i = by_place (cases_lt i (length (row_names f)))
     by_place (inr past) = subst (IsRowNameBelow f.order) (sym (get_or_past (row_names f) i Period past)) tt
 
 -- each step is at the pivot of an earlier row
-steps_below : (n : ℕ) (kept : List KeptRow) (row : List ℤ) (columns : List ℕ) → All (λ k. k.pivot < n) kept → StepsMeet kept row columns →
-    All (λ c. c < n) columns
-steps_below n kept row [] low h = All-nil (λ c. c < n)
-steps_below n kept row (c ∷ columns) low h =
-    All-cons (λ j. j < n) c columns (of_some kept low h.0.pivot) (steps_below n kept (reduced (entries_of (row_with_pivot kept c)) row c) columns low h.2)
+steps_below : (numbers : Numbers) (n : ℕ) (kept : List KeptRow) (row : List ℤ) (columns : List ℕ) → All (λ k. k.pivot < n) kept →
+    StepsMeet numbers kept row columns → All (λ c. c < n) columns
+steps_below numbers n kept row [] low h = All-nil (λ c. c < n)
+steps_below numbers n kept row (c ∷ columns) low h =
+    All-cons (λ j. j < n) c columns (of_some kept low h.0.pivot)
+    (steps_below numbers n kept ((arithmetic_of numbers).step (entries_of (row_with_pivot kept c)) row c) columns low h.2)
   where
     of_some : (rows : List KeptRow) → All (λ k. k.pivot < n) rows → Any (λ k. k.pivot ≡ c) rows → c < n
     of_some rows all (i, k, below, is, e) =
         subst (λ (j : ℕ). j < n) (ap (λ r. r.pivot) is ∙ e) (All-get_or (λ r. r.pivot < n) rows i k below all)
 
-groups_below : (f : FunctionData) (component : ℕ → ℕ) (n : ℕ) (kept more : List KeptRow) → n ≤ 1000 → All (λ k. k.pivot < n) kept →
-    AllMeet f component n kept more → All (IsPivotRowBelow f.order) (map (group_of f) more)
-groups_below f component n kept [] few low h = All-nil (IsPivotRowBelow f.order)
-groups_below f component n kept (k ∷ more) few low h =
-    let columns = steps_below n kept _ k.reduce low h.0.steps in
-    let pivot : k.pivot < n = h.0.pivot.column in
+pivot_below : (numbers : Numbers) (n : ℕ) (kept : List KeptRow) (row : List ℤ) (c : ℕ) → MeetsPivotBy numbers n kept row c → c < n
+pivot_below Whole n kept row c h = h.column
+pivot_below Residues n kept row c h = h.0.column
+
+groups_below : (numbers : Numbers) (f : FunctionData) (component : ℕ → ℕ) (n : ℕ) (kept more : List KeptRow) → n ≤ 1000 →
+    All (λ k. k.pivot < n) kept → AllMeet numbers f component n kept more → All (IsPivotRowBelow f.order) (map (group_of f) more)
+groups_below numbers f component n kept [] few low h = All-nil (IsPivotRowBelow f.order)
+groups_below numbers f component n kept (k ∷ more) few low h =
+    let columns = steps_below numbers n kept _ k.reduce low h.0.steps in
+    let pivot = pivot_below numbers n kept _ k.pivot h.0.pivot in
     All-cons (IsPivotRowBelow f.order) (group_of f k) (map (group_of f) more)
     record {
       name = name_below f k.number;
       reduce = λ i d below. (let one = columns i d below in omega arith);
       pivot = omega arith;
     }
-    (groups_below f component n (kept ++ k ∷ []) more few (All-append (λ r. r.pivot < n) kept (k ∷ []) low
+    (groups_below numbers f component n (kept ++ k ∷ []) more few (All-append (λ r. r.pivot < n) kept (k ∷ []) low
     (All-cons (λ r. r.pivot < n) k [] pivot (All-nil (λ r. r.pivot < n)))) h.1)
 
 -- there are at most as many components as lines
@@ -178,14 +186,14 @@ components_are_few f lines component n l h =
     let top = l.order_high in
     omega arith
 
-pub extreme_has_text : (f g : FunctionData) (lines : List CoverLine) (rows : List PivotRow) → IsWithinBounds f → g ≡ f →
-    AreExtremeRows f lines rows → HasText (claim.Extreme g lines rows)
-extreme_has_text f g lines rows l same h =
+pub extreme_has_text : (numbers : Numbers) (f g : FunctionData) (lines : List CoverLine) (rows : List PivotRow) → IsWithinBounds f →
+    g ≡ f → AreExtremeRows numbers f lines rows → AreExtremeLines g lines rows
+extreme_has_text numbers f g lines rows l same h =
     let few = components_are_few f lines h.component h.n l h.covered in
-    subst (λ (x : FunctionData). HasText (claim.Extreme x lines rows)) (sym same) (
+    subst (λ (x : FunctionData). AreExtremeLines x lines rows) (sym same) (
       lines_are_all f lines h.component h.n h.covered,
       lines_below_order f.order (IsTight f) lines h.covered.are_lines,
       subst (All (IsPivotRowBelow f.order)) (sym h.rows_are)
-          (groups_below f h.component h.n [] (slope_elimination f h.component h.n).kept few (All-nil (λ k. k.pivot < h.n))
-          (all_kept_meet f h.component h.n h.fits)),
+          (groups_below numbers f h.component h.n [] (elimination_over numbers f h.component h.n).kept few (All-nil (λ k. k.pivot < h.n))
+          (all_kept_meet numbers f h.component h.n (rows_are_narrow numbers f lines rows h))),
     )

@@ -25,36 +25,41 @@ use Rattle.gj_theory.proofs.TestsFromMinimal.{tests_from_minimal}
 use Rattle.gj_proof.specs.declared.claim.Claim.TheVariants as claim
 use Rattle.gj_proof.specs.declared.pivot.PivotRow.{PivotRow}
 use Rattle.gj_proof.proofs.GridCoordinates.{meets_point}
-use Rattle.gj_proof.specs.PresentRows.{AreNumbersOf, named_row, rows_before}
-use Rattle.gj_proof.specs.Rules.{Demand, MeetsRange, MeetsAverage, IsMinimalHalf, step_demands, group_demands, pair_demands, Holds, MeetsRules}
-use Rattle.gj_extreme.specs.Decision.{group_of, slope_elimination, AreExtremeRows, AreZigzagHalves, AreSlopeHalves, IsDecided}
-use Rattle.gj_extreme.proofs.KeptGroups.{all_kept_meet}
+use Rattle.gj_proof.specs.PresentRows.{AreNumbersOf, arithmetic_of, begun_row, named_row, rows_before, rows_before_by}
+use Rattle.gj_proof.specs.Rules.{Demand, MeetsRange, MeetsAverage, IsMinimalHalf, size_demands, step_demands_by, group_demands_by, extreme_demands, pair_demands, Holds, MeetsRules}
+use Rattle.gj_proof.specs.declared.numbers.Numbers.{Numbers}
+use Rattle.gj_proof.specs.declared.numbers.Numbers.TheVariants.{Whole, Residues}
+use Rattle.gj_extreme.specs.Decision.{group_of, elimination_over, AreExtremeRows, AreZigzagHalves, AreSlopeHalves, IsDecided}
+use Rattle.gj_extreme.proofs.KeptGroups.{all_kept_meet, rows_are_narrow}
 use Rattle.gj_extreme.proofs.DecidedGroups.{elimination_same, GroupIsMet, group_is_met, step_is_met}
 use Rattle.gj_extreme.proofs.DecidedHalves.{zigzag_halves, slope_halves}
 
 -- ---- demands that hold at each place
 
-each_step : (P : Demand → Type 0) (g r : ℕ) (columns : List ℕ) → ((i : ℕ) → P (Demand.reduce g i)) → ((i : ℕ) → P (Demand.size g i)) →
-    All P (step_demands g r columns)
-each_step P g r [] reduce size = All-nil P
-each_step P g r (c ∷ columns) reduce size =
-    All-cons P (Demand.reduce g r) (Demand.size g r ∷ step_demands g (r + 1) columns) (reduce r)
-    (All-cons P (Demand.size g r) (step_demands g (r + 1) columns) (size r) (each_step P g (r + 1) columns reduce size))
+each_step : (numbers : Numbers) (P : Demand → Type 0) (g r : ℕ) (columns : List ℕ) → ((i : ℕ) → P (Demand.reduce g i)) →
+    ((i : ℕ) → All P (size_demands numbers g i)) → All P (step_demands_by numbers g r columns)
+each_step numbers P g r [] reduce size = All-nil P
+each_step numbers P g r (c ∷ columns) reduce size =
+    All-cons P (Demand.reduce g r) (size_demands numbers g r ++ step_demands_by numbers g (r + 1) columns) (reduce r)
+    (All-append P (size_demands numbers g r) (step_demands_by numbers g (r + 1) columns) (size r)
+    (each_step numbers P g (r + 1) columns reduce size))
 
 -- what holds at each group
-record HoldAtGroups (P : Demand → Type 0) : Type 0 where
+record HoldAtGroups (numbers : Numbers) (P : Demand → Type 0) : Type 0 where
   row : (g : ℕ) → P (Demand.row g)
   reduce : (g r : ℕ) → P (Demand.reduce g r)
-  size : (g r : ℕ) → P (Demand.size g r)
+  size : (g r : ℕ) → All P (size_demands numbers g r)
   pivot : (g : ℕ) → P (Demand.pivot g)
 
-each_group : (P : Demand → Type 0) (g : ℕ) (rows : List PivotRow) → HoldAtGroups P → All P (group_demands g rows)
-each_group P g [] h = All-nil P
-each_group P g (one ∷ more) h =
-    All-cons P (Demand.row g) (step_demands g 0 one.reduce ++ Demand.pivot g ∷ group_demands (g + 1) more) (h.row g)
-    (All-append P (step_demands g 0 one.reduce) (Demand.pivot g ∷ group_demands (g + 1) more)
-    (each_step P g 0 one.reduce (h.reduce g) (h.size g))
-    (All-cons P (Demand.pivot g) (group_demands (g + 1) more) (h.pivot g) (each_group P (g + 1) more h)))
+each_group : (numbers : Numbers) (P : Demand → Type 0) (g : ℕ) (rows : List PivotRow) → HoldAtGroups numbers P →
+    All P (group_demands_by numbers g rows)
+each_group numbers P g [] h = All-nil P
+each_group numbers P g (one ∷ more) h =
+    let steps = step_demands_by numbers g 0 one.reduce in
+    let later = group_demands_by numbers (g + 1) more in
+    All-cons P (Demand.row g) (steps ++ Demand.pivot g ∷ later) (h.row g)
+    (All-append P steps (Demand.pivot g ∷ later) (each_step numbers P g 0 one.reduce (h.reduce g) (h.size g))
+    (All-cons P (Demand.pivot g) later (h.pivot g) (each_group numbers P (g + 1) more h)))
 
 each_pair : (P : Demand → Type 0) (a n : ℕ) → ((i : ℕ) → i < a + n → P (Demand.range i) × P (Demand.average i)) →
     All P (pair_demands (range_with_len a n))
@@ -67,62 +72,108 @@ each_pair P a (suc n) h =
 
 -- ---- extreme
 
-extreme_rules : (f : FunctionData) (lines : List CoverLine) (rows : List PivotRow) → IsWithinBounds f → IsMinimal f → IsContinuous f →
-    AreExtremeRows f lines rows → MeetsRules (claim.Extreme f lines rows)
-extreme_rules f lines rows l minimal continuous h =
-    All-append P (early ++ group_demands 0 rows) (Demand.rank ∷ [])
-    (All-append P early (group_demands 0 rows)
-    (All-cons P Demand.minimal (Demand.continuous ∷ covers) (tests_from_minimal f l minimal)
-    (All-cons P Demand.continuous covers continuous
-    (All-made P Demand.cover 0 (length lines) (λ i below before line after place index. cover_rules before line after place))))
-    (each_group P 0 rows groups))
-    (All-one P Demand.rank rank)
+-- by any numbers of the components each group meets the rules
+groups_met : (numbers : Numbers) (f : FunctionData) (lines : List CoverLine) (rows : List PivotRow) → IsWithinBounds f →
+    AreExtremeRows numbers f lines rows → (component : ℕ → ℕ) → AreNumbersOf f lines component → (before : List PivotRow) (one : PivotRow)
+    (after : List PivotRow) → rows ≡ before ++ one ∷ after → GroupIsMet numbers f component (components_in lines) before one
+groups_met numbers f lines rows l h component are before one after place =
+    let e = same in
+    group_is_met numbers f component n (elimination_over numbers f component n).kept rows before one after
+    (h.rows_are ∙ ap (λ x. map (group_of f) x.kept) e)
+    (all_kept_meet numbers f component n (subst (λ x. Passes x.marked → ⊥) e (rows_are_narrow numbers f lines rows h))) place
   where
-    P : Demand → Type 0
-    P = Holds (claim.Extreme f lines rows)
+    n : ℕ
+    n = components_in lines
 
+    -- the elimination by other numbers
+    same : elimination_over numbers f h.component h.n ≡ elimination_over numbers f component n
+    same =
+        elimination_same numbers f h.component component h.n l
+        (λ i low. one_component f.order (IsTight f) lines i (h.component i) (component i)
+        (lines_meet_rules f.order (IsTight f) lines h.covered.are_lines) (h.covered.numbers i low) (are i low))
+        ∙ ap (elimination_over numbers f component) h.covered.count
+
+whole_groups : (f : FunctionData) (lines : List CoverLine) (rows : List PivotRow) → IsWithinBounds f →
+    (h : AreExtremeRows Whole f lines rows) → HoldAtGroups Whole (Holds (claim.Extreme f lines rows))
+whole_groups f lines rows l h =
+    let n = components_in lines in
+    let met = groups_met Whole f lines rows l h in
+    record {
+      row = λ g before one after place index. (met h.component h.covered.numbers before one after place).row;
+      reduce = λ g r before one after place index component numbers first c last there at.
+          (step_is_met Whole (rows_before f component n before) (named_row f component n one.name) one.reduce first c last there
+          (met component numbers before one after place).steps).0;
+      size = λ g r. All-one (Holds (claim.Extreme f lines rows)) (Demand.size g r)
+          (λ before one after place index component numbers first c last there at.
+          (step_is_met Whole (rows_before f component n before) (named_row f component n one.name) one.reduce first c last there
+          (met component numbers before one after place).steps).1);
+      pivot = λ g before one after place index component numbers. (met component numbers before one after place).pivot;
+    }
+
+residue_groups : (f : FunctionData) (lines : List CoverLine) (rows : List PivotRow) → IsWithinBounds f →
+    (h : AreExtremeRows Residues f lines rows) → HoldAtGroups Residues (Holds (claim.ExtremeByResidues f lines rows))
+residue_groups f lines rows l h =
+    let n = components_in lines in
+    let by = arithmetic_of Residues in
+    let met = groups_met Residues f lines rows l h in
+    record {
+      row = λ g before one after place index. (met h.component h.covered.numbers before one after place).row;
+      reduce = λ g r before one after place index component numbers first c last there at.
+          (step_is_met Residues (rows_before_by by f component n before) (begun_row by f component n one.name) one.reduce first c last there
+          (met component numbers before one after place).steps).0;
+      size = λ g r. All-nil (Holds (claim.ExtremeByResidues f lines rows));
+      pivot = λ g before one after place index component numbers. (met component numbers before one after place).pivot;
+    }
+
+-- the demands that both claims have
+record HoldAtFunction (P : Demand → Type 0) (lines : List CoverLine) : Type 0 where
+  minimal : P Demand.minimal
+  continuous : P Demand.continuous
+  cover : (i : ℕ) → P (Demand.cover i)
+  rank : P Demand.rank
+
+all_demands : (numbers : Numbers) (P : Demand → Type 0) (lines : List CoverLine) (rows : List PivotRow) → HoldAtFunction P lines →
+    HoldAtGroups numbers P → All P (extreme_demands numbers lines rows)
+all_demands numbers P lines rows h groups =
+    All-append P (early ++ group_demands_by numbers 0 rows) (Demand.rank ∷ [])
+    (All-append P early (group_demands_by numbers 0 rows)
+    (All-cons P Demand.minimal (Demand.continuous ∷ covers) h.minimal
+    (All-cons P Demand.continuous covers h.continuous (All-made P Demand.cover 0 (length lines) (λ i below. h.cover i))))
+    (each_group numbers P 0 rows groups))
+    (All-one P Demand.rank h.rank)
+  where
     covers : List Demand
     covers = map Demand.cover (range_with_len 0 (length lines))
 
     early : List Demand
     early = Demand.minimal ∷ Demand.continuous ∷ covers
 
-    n : ℕ
-    n = components_in lines
+rank_is : (numbers : Numbers) (f : FunctionData) (lines : List CoverLine) (rows : List PivotRow) → AreExtremeRows numbers f lines rows →
+    length rows ≡ components_in lines
+rank_is numbers f lines rows h =
+    ap length h.rows_are ∙ length-map (elimination_over numbers f h.component h.n).kept _ ∙ h.all ∙ h.covered.count
 
-    cover_rules : (before : List CoverLine) (line : CoverLine) (after : List CoverLine) → lines ≡ before ++ line ∷ after →
-        MeetsCoverRule f.order (IsTight f) before line
-    cover_rules = lines_meet_rules f.order (IsTight f) lines h.covered.are_lines
+extreme_rules : (f : FunctionData) (lines : List CoverLine) (rows : List PivotRow) → IsWithinBounds f → IsMinimal f → IsContinuous f →
+    AreExtremeRows Whole f lines rows → MeetsRules (claim.Extreme f lines rows)
+extreme_rules f lines rows l minimal continuous h =
+    all_demands Whole (Holds (claim.Extreme f lines rows)) lines rows record {
+      minimal = tests_from_minimal f l minimal;
+      continuous = continuous;
+      cover = λ i before line after place index.
+          lines_meet_rules f.order (IsTight f) lines h.covered.are_lines before line after place;
+      rank = rank_is Whole f lines rows h;
+    } (whole_groups f lines rows l h)
 
-    -- the elimination by other numbers
-    same : (component : ℕ → ℕ) → AreNumbersOf f lines component → slope_elimination f h.component h.n ≡ slope_elimination f component n
-    same component numbers =
-        elimination_same f h.component component h.n l
-        (λ i low. one_component f.order (IsTight f) lines i (h.component i) (component i) cover_rules (h.covered.numbers i low) (numbers i low))
-        ∙ ap (slope_elimination f component) h.covered.count
-
-    met : (component : ℕ → ℕ) → AreNumbersOf f lines component → (before : List PivotRow) (one : PivotRow) (after : List PivotRow) →
-        rows ≡ before ++ one ∷ after → GroupIsMet f component n before one
-    met component numbers before one after place =
-        let e = same component numbers in
-        group_is_met f component n (slope_elimination f component n).kept rows before one after
-        (h.rows_are ∙ ap (λ x. map (group_of f) x.kept) e)
-        (all_kept_meet f component n (subst (λ x. Passes x.marked → ⊥) e h.fits)) place
-
-    groups : HoldAtGroups P
-    groups = record {
-      row = λ g before one after place index. (met h.component h.covered.numbers before one after place).row;
-      reduce = λ g r before one after place index component numbers first c last there at.
-          (step_is_met (rows_before f component n before) (named_row f component n one.name) one.reduce first c last there
-          (met component numbers before one after place).steps).0;
-      size = λ g r before one after place index component numbers first c last there at.
-          (step_is_met (rows_before f component n before) (named_row f component n one.name) one.reduce first c last there
-          (met component numbers before one after place).steps).1;
-      pivot = λ g before one after place index component numbers. (met component numbers before one after place).pivot;
-    }
-
-    rank : length rows ≡ components_in lines
-    rank = ap length h.rows_are ∙ length-map (slope_elimination f h.component h.n).kept _ ∙ h.all ∙ h.covered.count
+residue_rules : (f : FunctionData) (lines : List CoverLine) (rows : List PivotRow) → IsWithinBounds f → IsMinimal f → IsContinuous f →
+    AreExtremeRows Residues f lines rows → MeetsRules (claim.ExtremeByResidues f lines rows)
+residue_rules f lines rows l minimal continuous h =
+    all_demands Residues (Holds (claim.ExtremeByResidues f lines rows)) lines rows record {
+      minimal = tests_from_minimal f l minimal;
+      continuous = continuous;
+      cover = λ i before line after place index.
+          lines_meet_rules f.order (IsTight f) lines h.covered.are_lines before line after place;
+      rank = rank_is Residues f lines rows h;
+    } (residue_groups f lines rows l h)
 
 -- ---- not extreme
 
@@ -233,6 +284,11 @@ pub decided_extreme_rules : (f g : FunctionData) (lines : List CoverLine) (rows 
     IsDecided f (claim.Extreme g lines rows) → MeetsRules (claim.Extreme g lines rows)
 decided_extreme_rules f g lines rows l h =
     subst (λ (x : FunctionData). MeetsRules (claim.Extreme x lines rows)) (sym h.0) (extreme_rules f lines rows l h.1 h.2 h.3)
+
+pub decided_residue_rules : (f g : FunctionData) (lines : List CoverLine) (rows : List PivotRow) → IsWithinBounds f →
+    IsDecided f (claim.ExtremeByResidues g lines rows) → MeetsRules (claim.ExtremeByResidues g lines rows)
+decided_residue_rules f g lines rows l h =
+    subst (λ (x : FunctionData). MeetsRules (claim.ExtremeByResidues x lines rows)) (sym h.0) (residue_rules f lines rows l h.1 h.2 h.3)
 
 pub decided_halves_rules : (f g : FunctionData) (halves : Halves) → IsWithinBounds f → IsDecided f (claim.NotExtreme g halves) →
     MeetsRules (claim.NotExtreme g halves)

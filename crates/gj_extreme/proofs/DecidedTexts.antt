@@ -6,37 +6,42 @@ use Rattle.std.specs.Ordering.{int_eq}
 use Rattle.std.proofs.lemmas.List.{length-map}
 use Rattle.std.proofs.lemmas.List.Elements.{All-nil, All-push, All-map}
 use Rattle.std.proofs.lemmas.List.FromFn.{length-range_with_len}
-use Rattle.gj_shape.specs.Elimination.{KeptRow, Insertion, at_column, reduced, row_with_pivot, insertion, insertion_by, inserted, inserted_at, inserted_at_by, kept_behind, behind_insertion, elimination_from, elimination_from_by}
+use Rattle.gj_shape.specs.Elimination.{KeptRow, Insertion, Arithmetic, at_column, row_with_pivot, insertion_by, inserted_by, inserted_at_by, kept_behind, behind_insertion, elimination_from_by}
 use Rattle.gj_shape.specs.FunctionData.{FunctionData, IsWithinBounds}
 use Rattle.gj_shape.specs.SlopeRows.{row_names}
 use Rattle.gj_shape.specs.declared.extremality.CoverLine.{CoverLine}
-use Rattle.gj_proof.specs.PresentRows.{named_row}
+use Rattle.gj_proof.specs.PresentRows.{arithmetic_of, named_row}
 use Rattle.gj_proof.specs.ProofText.{IsBounded, HaveFewSteps, IsProofText}
 use Rattle.gj_proof.specs.declared.claim.Claim.{Claim}
 use Rattle.gj_proof.specs.declared.claim.Claim.TheVariants.{Minimal, NotMinimal, Cut, Extreme, ExtremeByResidues, NotExtreme}
+use Rattle.gj_proof.specs.declared.numbers.Numbers.{Numbers}
+use Rattle.gj_proof.specs.declared.numbers.Numbers.TheVariants.{Whole, Residues}
 use Rattle.gj_proof.specs.declared.pivot.PivotRow.{PivotRow}
-use Rattle.gj_proof.proofs.ShortTexts.{text_is_short, extreme_text_is_short}
-use Rattle.gj_extreme.specs.Decision.{AreExtremeRows, IsDecided, group_of, slope_elimination}
+use Rattle.gj_proof.proofs.ExtremeClaims.{of_extreme_text}
+use Rattle.gj_proof.proofs.ShortTexts.{text_is_short, extreme_text_is_short, extreme_text_is_short_by}
+use Rattle.gj_extreme.specs.Decision.{AreExtremeRows, IsDecided, group_of, elimination_over}
 use Rattle.gj_extreme.proofs.ClaimTexts.{components_are_few}
 
 -- ---- steps of a row
 
-steps_at : (c m : ℕ) (row : List ℤ) (onward : List ℤ → Insertion) → ((next : List ℤ) → length (onward next).reduce ≤ m) →
-    (o : Option KeptRow) → length (inserted_at o c row onward).reduce ≤ m + 1
+steps_at : (by : Arithmetic) (c m : ℕ) (row : List ℤ) (onward : List ℤ → Insertion) → ((next : List ℤ) → length (onward next).reduce ≤ m) →
+    (o : Option KeptRow) → length (inserted_at_by by o c row onward).reduce ≤ m + 1
 unfolding inserted_at_by
-steps_at c m row onward later None = omega arith
-steps_at c m row onward later (Some k) = omega (arith, later (reduced k.entries row c))
+steps_at by c m row onward later None = omega arith
+steps_at by c m row onward later (Some k) = omega (arith, later (by.step k.entries row c))
 
-steps_of_row : (kept : List KeptRow) (columns : List ℕ) (row : List ℤ) → length (insertion kept columns row).reduce ≤ length columns
+steps_of_row : (by : Arithmetic) (kept : List KeptRow) (columns : List ℕ) (row : List ℤ) → length (insertion_by by kept columns row).reduce ≤ length columns
 unfolding insertion_by
-steps_of_row kept [] row = omega arith
-steps_of_row kept (c ∷ columns) row = by_entry (steps_of_row kept columns) (int_eq (at_column row c) (pos 0))
+steps_of_row by kept [] row = omega arith
+steps_of_row by kept (c ∷ columns) row = by_entry (steps_of_row by kept columns) (int_eq (at_column row c) (pos 0))
   where
-    by_entry : ((next : List ℤ) → length (insertion kept columns next).reduce ≤ length columns) → (b : Bool) →
-        length (if b then insertion kept columns row else inserted_at (row_with_pivot kept c) c row (insertion kept columns)).reduce
+    by_entry : ((next : List ℤ) → length (insertion_by by kept columns next).reduce ≤ length columns) → (b : Bool) →
+        length
+        (if b then insertion_by by kept columns row
+        else inserted_at_by by (row_with_pivot kept c) c row (insertion_by by kept columns)).reduce
         ≤ length (c ∷ columns)
     by_entry later true = omega (arith, later row)
-    by_entry later false = omega (arith, steps_at c (length columns) row (insertion kept columns) later (row_with_pivot kept c))
+    by_entry later false = omega (arith, steps_at by c (length columns) row (insertion_by by kept columns) later (row_with_pivot kept c))
 
 -- ---- steps of all rows
 
@@ -50,33 +55,33 @@ few_behind n number kept reduce None few h = h
 few_behind n number kept reduce (Some p) few h =
     All-push (HasFew n) kept (record { number = number; reduce = reduce; pivot = p.0; entries = p.1 }) h few
 
-few_in_elimination : (n number : ℕ) (kept : List KeptRow) (rows : List (List ℤ)) → All (HasFew n) kept →
-    All (HasFew n) (elimination_from n kept number rows).kept
+few_in_elimination : (by : Arithmetic) (n number : ℕ) (kept : List KeptRow) (rows : List (List ℤ)) → All (HasFew n) kept →
+    All (HasFew n) (elimination_from_by by n kept number rows).kept
 unfolding elimination_from_by
-few_in_elimination n number kept [] h = h
-few_in_elimination n number kept (row ∷ rows) h =
-    let i = inserted n kept row in
-    let few : length i.reduce ≤ n = omega (arith, steps_of_row kept (range_with_len 0 n) row, length-range_with_len 0 n) in
-    by_count (few_in_elimination n (number + 1) (kept_behind kept number i.reduce i.kept) rows (few_behind n number kept i.reduce i.kept few h))
+few_in_elimination by n number kept [] h = h
+few_in_elimination by n number kept (row ∷ rows) h =
+    let i = inserted_by by n kept row in
+    let few : length i.reduce ≤ n = omega (arith, steps_of_row by kept (range_with_len 0 n) (by.read row), length-range_with_len 0 n) in
+    by_count (few_in_elimination by n (number + 1) (kept_behind kept number i.reduce i.kept) rows (few_behind n number kept i.reduce i.kept few h))
     (nat_le n (length kept))
   where
-    by_count : All (HasFew n) (elimination_from n (kept_behind kept number (inserted n kept row).reduce (inserted n kept row).kept) (number + 1) rows).kept →
+    by_count : All (HasFew n) (elimination_from_by by n (kept_behind kept number (inserted_by by n kept row).reduce (inserted_by by n kept row).kept) (number + 1) rows).kept →
         (b : Bool) →
         All (HasFew n)
         (if b then record { kept = kept; marked = [] }
-        else behind_insertion (inserted n kept row).marked
-        (elimination_from n (kept_behind kept number (inserted n kept row).reduce (inserted n kept row).kept) (number + 1) rows)).kept
+        else behind_insertion (inserted_by by n kept row).marked
+        (elimination_from_by by n (kept_behind kept number (inserted_by by n kept row).reduce (inserted_by by n kept row).kept) (number + 1) rows)).kept
     by_count later true = h
     by_count later false = later
 
 -- ---- texts
 
-extreme_has_few_steps : (f : FunctionData) (lines : List CoverLine) (rows : List PivotRow) → IsWithinBounds f →
-    AreExtremeRows f lines rows → HaveFewSteps rows
-extreme_has_few_steps f lines rows within h =
+extreme_has_few_steps : (numbers : Numbers) (f : FunctionData) (lines : List CoverLine) (rows : List PivotRow) → IsWithinBounds f →
+    AreExtremeRows numbers f lines rows → HaveFewSteps rows
+extreme_has_few_steps numbers f lines rows within h =
     let n = components_are_few f lines h.component h.n within h.covered in
-    let kept = (slope_elimination f h.component h.n).kept in
-    let few = few_in_elimination h.n 0 [] (map (named_row f h.component h.n) (row_names f)) (All-nil (HasFew h.n)) in
+    let kept = (elimination_over numbers f h.component h.n).kept in
+    let few = few_in_elimination (arithmetic_of numbers) h.n 0 [] (map (named_row f h.component h.n) (row_names f)) (All-nil (HasFew h.n)) in
     let all = h.all in
     subst HaveFewSteps (sym h.rows_are)
     (record {
@@ -91,17 +96,19 @@ decided_is_bounded f (NotExtreme g h) within d = subst IsWithinBounds (sym d.0) 
 decided_is_bounded f (NotMinimal g v) within d = subst IsWithinBounds (sym d.0) within
 decided_is_bounded f (Minimal g) within d = absurd d
 decided_is_bounded f (Cut r rows) within d = absurd d
-decided_is_bounded f (ExtremeByResidues g lines rows) within d = absurd d
+decided_is_bounded f (ExtremeByResidues g lines rows) within d = subst IsWithinBounds (sym d.0) within
 
 pub decided_text_is_short : (f : FunctionData) (c : Claim) (text : List ℕ) → IsWithinBounds f → IsDecided f c → IsProofText c text →
     length text ≤ 12000000
 decided_text_is_short f (Extreme g lines rows) text within d p =
     extreme_text_is_short g lines rows text (decided_is_bounded f (Extreme g lines rows) within d)
-    (extreme_has_few_steps f lines rows within d.3) p
+    (extreme_has_few_steps Whole f lines rows within d.3) p
 decided_text_is_short f (NotExtreme g h) text within d p =
     omega (arith, text_is_short (NotExtreme g h) text tt (decided_is_bounded f (NotExtreme g h) within d) p)
 decided_text_is_short f (NotMinimal g v) text within d p =
     omega (arith, text_is_short (NotMinimal g v) text tt (decided_is_bounded f (NotMinimal g v) within d) p)
 decided_text_is_short f (Minimal g) text within d p = absurd d
 decided_text_is_short f (Cut r rows) text within d p = absurd d
-decided_text_is_short f (ExtremeByResidues g lines rows) text within d p = absurd d
+decided_text_is_short f (ExtremeByResidues g lines rows) text within d p =
+    extreme_text_is_short_by Residues g lines rows text (decided_is_bounded f (ExtremeByResidues g lines rows) within d)
+    (extreme_has_few_steps Residues f lines rows within d.3) (of_extreme_text g lines rows Residues text p)

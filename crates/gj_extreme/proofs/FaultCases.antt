@@ -6,7 +6,9 @@ use Rattle.gj_elim.specs.declared.faults.ElimFault.{ElimFault}
 use Rattle.gj_elim.specs.declared.faults.ElimFault.TheVariants as elimination
 use Rattle.gj_perturb.specs.declared.faults.SplitFault.{SplitFault}
 use Rattle.gj_perturb.specs.declared.faults.SplitFault.TheVariants as split
-use Rattle.gj_extreme.specs.Faults.{of_elimination, of_split}
+use Rattle.gj_residue.specs.declared.settling.SettleFault.{SettleFault}
+use Rattle.gj_residue.specs.declared.settling.SettleFault.TheVariants as settling
+use Rattle.gj_extreme.specs.Faults.{of_elimination, of_split, of_settling}
 use Rattle.gj_extreme.specs.declared.faults.DecideFault.{DecideFault}
 use Rattle.gj_extreme.specs.declared.faults.DecideFault.TheVariants.{NotContinuous, Wide}
 
@@ -22,6 +24,12 @@ pub wide_split : {T U : Type 0} (r : Result T DecideFault) (x : SplitFault) → 
 wide_split (Ok v) x is_err h e = absurd cc
 wide_split (Err z) split.Wide is_err h e = refl
 wide_split (Err z) (split.Memory m) is_err h e = absurd cc
+
+pub wide_settling : {T U : Type 0} (r : Result T DecideFault) (x : SettleFault) → IsErr r → IsErrAnd r (λ e. e ≡ of_settling x) →
+    IsErrOf r Wide → IsErrOf {T = U} (Err x) settling.Wide
+wide_settling (Ok v) x is_err h e = absurd cc
+wide_settling (Err z) settling.Wide is_err h e = refl
+wide_settling (Err z) (settling.Memory m) is_err h e = absurd cc
 
 -- no part but the test of jumps finds one
 pub no_jump_elimination : {T : Type 0} (r : Result T DecideFault) (x : ElimFault) (i : ℕ) → IsErr r → IsErrAnd r (λ e. e ≡ of_elimination x) →

@@ -22,7 +22,12 @@ use Rattle.gj_theory.proofs.Eliminations.{elimination_has}
 use Rattle.gj_theory.proofs.ExtremeByCover.{each_row}
 use Rattle.gj_theory.proofs.RiseCounts.{rises_at_most}
 use Rattle.gj_proof.specs.PresentRows.{named_row}
-use Rattle.gj_extreme.specs.Decision.{AreAllCovered, slope_elimination, slope_perturbation, IsWideBehind, IsTooWide}
+use Rattle.gj_proof.specs.ProofText.{numbers_of}
+use Rattle.gj_proof.specs.declared.claim.Claim.{Claim}
+use Rattle.gj_proof.specs.declared.claim.Claim.TheVariants.{Minimal, NotMinimal, Cut, Extreme, ExtremeByResidues, NotExtreme}
+use Rattle.gj_proof.specs.declared.numbers.Numbers.TheVariants.{Whole, Residues}
+use Rattle.gj_proof.specs.declared.pivot.PivotRow.{PivotRow}
+use Rattle.gj_extreme.specs.Decision.{AreAllCovered, AreExtremeRows, IsDecided, slope_elimination, slope_perturbation, IsWideBehind, IsTooWide}
 use Rattle.gj_extreme.specs.Decision.IsWideBehind.{kernel_passes, perturbation_passes, scale_passes}
 use Rattle.gj_extreme.proofs.DecidedHalves.{begun_columns}
 use Rattle.gj_extreme.proofs.OneCover.{one_cover}
@@ -158,8 +163,8 @@ narrow_components f lines component n t l covered few fits wide =
     elim (wide.passes) [
       | inl passes ↦
           narrow (bound 1000 t) (slope_elimination f wide.component wide.n).marked fits.elimination
-          (elimination_is_small f wide.component wide.n t l so_few).marked passes
-      | inr behind ↦
+          (elimination_is_small f wide.component wide.n t l so_few).marked passes.0
+      | inr (narrow_elimination, behind) ↦
           narrow_behind f wide.component behind.0 (grown 1000 t t) (2 ^ 31) l scale_low fits.perturbation fits.scale
           (solution_is_small f wide.component wide.n t behind.0 l fits.some so_few behind.1) behind.2
     ]
@@ -185,3 +190,28 @@ four_fit = record {
 pub few_components : (f : FunctionData) (lines : List CoverLine) (component : ℕ → ℕ) (n : ℕ) → IsWithinBounds f →
     AreAllCovered f lines component n → n ≤ 4 → IsTooWide f → ⊥
 few_components f lines component n l covered few wide = narrow_components f lines component n 3 l covered few four_fit wide
+
+-- no number of the elimination passes, so that no proof is by residues
+pub few_components_narrow : (f : FunctionData) (lines : List CoverLine) (component : ℕ → ℕ) (n : ℕ) → IsWithinBounds f →
+    AreAllCovered f lines component n → n ≤ 4 → Passes (slope_elimination f component n).marked → ⊥
+few_components_narrow f lines component n l covered few passes =
+    narrow (bound 1000 3) (slope_elimination f component n).marked four_fit.elimination (elimination_is_small f component n 3 l few).marked
+    passes
+
+few_residues : (f : FunctionData) (lines others : List CoverLine) (component : ℕ → ℕ) (n : ℕ) (rows : List PivotRow) → IsWithinBounds f →
+    AreAllCovered f lines component n → n ≤ 4 → AreExtremeRows Residues f others rows → ⊥
+few_residues f lines others component n rows l covered few h =
+    let same : h.n ≡ n =
+    h.covered.count ∙ ap components_in (one_cover f.order (IsTight f) others lines h.covered.are_lines covered.are_lines)
+    ∙ sym covered.count in
+    few_components_narrow f others h.component h.n l h.covered (omega arith) h.needed
+
+pub few_components_plain : (f : FunctionData) (lines : List CoverLine) (component : ℕ → ℕ) (n : ℕ) (c : Claim) → IsWithinBounds f →
+    AreAllCovered f lines component n → n ≤ 4 → IsDecided f c → numbers_of c ≡ Whole
+few_components_plain f lines component n (Minimal g) l covered few h = refl
+few_components_plain f lines component n (NotMinimal g v) l covered few h = refl
+few_components_plain f lines component n (Cut rule rows) l covered few h = refl
+few_components_plain f lines component n (Extreme g others rows) l covered few h = refl
+few_components_plain f lines component n (ExtremeByResidues g others rows) l covered few h =
+    absurd (few_residues f lines others component n rows l covered few h.3)
+few_components_plain f lines component n (NotExtreme g halves) l covered few h = refl

@@ -1,8 +1,8 @@
 -- The numbers of the kernel that the decision finds.
 use Rattle.std.proofs.Common.{◌≡◌, ℕ, ◌<◌, Option, None, Some, ℤ, List, length, refl, sym, ap, subst, ◌∙◌, arith}
 use Rattle.std.specs.Prelude.{All, IfSome}
-use Rattle.std.proofs.lemmas.List.{get_or_default}
-use Rattle.gj_shape.specs.Elimination.{KeptRow, Solution, kernel, Passes}
+use Rattle.std.proofs.lemmas.List.{get_or_default, length-map}
+use Rattle.gj_shape.specs.Elimination.{Solution, kernel, Passes}
 use Rattle.gj_shape.specs.FunctionData.{FunctionData}
 use Rattle.gj_shape.specs.SlopeRows.{row_names, component_in}
 use Rattle.gj_shape.specs.declared.extremality.CoverLine.{CoverLine}
@@ -13,6 +13,10 @@ use Rattle.gj_elim.specs.KeptRows.{marked_in}
 use Rattle.gj_extreme.specs.Decision.{AreAllCovered, slope_elimination}
 use Rattle.gj_extreme.proofs.DecidedHalves.{begun_columns, solution_solves, components_below}
 use Rattle.gj_extreme.proofs.KernelFits.{kernel_fits}
+use Rattle.gj_extreme.proofs.RenumberedKernel.{kernel_renumbered}
+use Rattle.gj_extreme.specs.RowsToCome.{AreInserted}
+use Rattle.gj_extreme.specs.declared.rows.Rows.{Rows}
+use Rattle.gj_theory.specs.HandedOver.{renumbered}
 
 -- the numbers are those of the kernel, none of whose marked numbers passes
 pub record IsKernel (f : FunctionData) (component : ℕ → ℕ) (n : ℕ) (numbers : List ℤ) : Type 0 where
@@ -21,23 +25,29 @@ pub record IsKernel (f : FunctionData) (component : ℕ → ℕ) (n : ℕ) (numb
   pub fits : Passes solution.marked → ⊥
   pub same : numbers ≡ solution.numbers
 
--- where fewer rows are kept than there are components, there is one
-pub kernel_found : (f : FunctionData) (component : ℕ → ℕ) (n m : ℕ) (kept : List KeptRow) (numbers : List ℤ) → m ≡ n →
-    (slope_elimination f component n).kept ≡ kept → length kept < n → IfSome (kernel m kept) (λ s. numbers ≡ s.numbers) →
-    (Passes (marked_in (kernel m kept)) → ⊥) → IsKernel f component n numbers
-kernel_found f component n m kept numbers same kept_is fewer value narrow = by_solution (kernel m kept) refl value narrow
-  where
-    whole : kernel n (slope_elimination f component n).kept ≡ kernel m kept
-    whole = ap (kernel n) kept_is ∙ ap (λ k. kernel k kept) (sym same)
+-- the basis has the kernel of the rows that are kept of all
+pub kernel_same : (f : FunctionData) (component : ℕ → ℕ) (n : ℕ) (rows : Rows) → AreInserted f component n rows →
+    kernel n (slope_elimination f component n).kept ≡ kernel rows.basis.columns rows.basis.kept
+kernel_same f component n rows h =
+    ap (kernel n) h.kept ∙ kernel_renumbered h.numbers n rows.basis.kept ∙ ap (λ m. kernel m rows.basis.kept) (sym h.columns)
 
-    by_solution : (o : Option Solution) → kernel m kept ≡ o → IfSome o (λ s. numbers ≡ s.numbers) → (Passes (marked_in o) → ⊥) →
-        IsKernel f component n numbers
+-- where fewer rows are kept than there are components, there is one
+pub kernel_found : (f : FunctionData) (component : ℕ → ℕ) (n : ℕ) (rows : Rows) (numbers : List ℤ) →
+    AreInserted f component n rows → length rows.basis.kept < n →
+    IfSome (kernel rows.basis.columns rows.basis.kept) (λ s. numbers ≡ s.numbers) →
+    (Passes (marked_in (kernel rows.basis.columns rows.basis.kept)) → ⊥) → IsKernel f component n numbers
+kernel_found f component n rows numbers h fewer value narrow =
+    by_solution (kernel rows.basis.columns rows.basis.kept) refl value narrow
+  where
+    by_solution : (o : Option Solution) → kernel rows.basis.columns rows.basis.kept ≡ o → IfSome o (λ s. numbers ≡ s.numbers) →
+        (Passes (marked_in o) → ⊥) → IsKernel f component n numbers
     by_solution None e is fits =
         let triangular = (elimination_has n _ (begun_columns f component n (row_names f))).triangular in
-        let full = (kernel_none n (slope_elimination f component n).kept triangular).0 (whole ∙ e) in
-        let len = ap length kept_is in
+        let full = (kernel_none n (slope_elimination f component n).kept triangular).0 (kernel_same f component n rows h ∙ e) in
+        let len = ap length h.kept in
+        let same = length-map rows.basis.kept (renumbered h.numbers) in
         absurd (omega arith)
-    by_solution (Some s) e is fits = record { solution = s; solves = whole ∙ e; fits = fits; same = is }
+    by_solution (Some s) e is fits = record { solution = s; solves = kernel_same f component n rows h ∙ e; fits = fits; same = is }
 
 -- they have a number for each component, and are within the bound
 pub kernel_covers : (f : FunctionData) (lines : List CoverLine) (component : List ℕ) (n : ℕ) (numbers : List ℤ) →

@@ -14,12 +14,15 @@ pub mod TwoSlopeDecisions
 pub mod RowOrder
 pub mod FoundPairs
 pub mod TakenRows
+pub mod SeenRows
 pub mod GroupLists
 pub mod KernelFits
 pub mod ListedHalves
 pub mod CoveredNumbers
 pub mod WideParts
+pub mod ResidueRows
 pub mod FaultCases
+pub mod RenumberedKernel
 pub mod FoundKernel
 pub mod ClaimTexts
 pub mod DecidedTexts

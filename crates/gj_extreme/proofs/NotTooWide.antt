@@ -1,5 +1,5 @@
 -- Where the decision gives a proof of a minimal function, no number is too wide.
-use Rattle.std.proofs.Common.{◌≡◌, ℕ, inl, inr, ◌*◌, ◌<◌, ◌≤◌, ◌^◌, Option, None, Some, ℤ, pos, ◌<ℤ◌, ◌≤ℤ◌, List, map, unsigned_abs, sym, ap, ap₂, subst, ◌∙◌, mul-le-mul_left, arith}
+use Rattle.std.proofs.Common.{◌≡◌, ℕ, inl, inr, ◌*◌, ◌<◌, ◌≤◌, ◌^◌, Option, None, Some, ℤ, pos, ◌<ℤ◌, ◌≤ℤ◌, List, length, map, unsigned_abs, sym, ap, ap₂, subst, ◌∙◌, mul-le-mul_left, arith}
 use Rattle.std.proofs.Math.Path.{fun_ext}
 use Rattle.std.proofs.lemmas.Int.{ints}
 use Rattle.gj_shape.specs.Elimination.{Elimination, Solution, Passes, kernel}
@@ -15,22 +15,24 @@ use Rattle.gj_theory.proofs.Kernels.{kernel_none}
 use Rattle.gj_theory.proofs.TestsFromMinimal.{tests_from_minimal}
 use Rattle.gj_proof.specs.declared.claim.Claim.{Claim}
 use Rattle.gj_proof.specs.declared.claim.Claim.TheVariants.{Minimal, NotMinimal, Cut, Extreme, ExtremeByResidues, NotExtreme}
+use Rattle.gj_proof.specs.declared.numbers.Numbers.{Numbers}
+use Rattle.gj_proof.specs.declared.numbers.Numbers.TheVariants.{Whole, Residues}
 use Rattle.gj_proof.specs.declared.pivot.PivotRow.{PivotRow}
 use Rattle.gj_proof.specs.PresentRows.{named_row}
 use Rattle.gj_proof.specs.ProofText.{HasText}
-use Rattle.gj_extreme.specs.Decision.{slope_elimination, slope_perturbation, AreExtremeRows, AreSlopeHalves, IsDecided, IsWideBehind, IsTooWide}
+use Rattle.gj_extreme.specs.Decision.{elimination_over, slope_elimination, slope_perturbation, AreExtremeRows, AreSlopeHalves, IsDecided, IsWideBehind, IsTooWide}
 use Rattle.gj_extreme.specs.Decision.IsWideBehind.{kernel_passes, perturbation_passes, scale_passes}
 use Rattle.gj_extreme.proofs.DecidedHalves.{begun_columns}
 use Rattle.gj_extreme.proofs.OneDecision.{one_all_covered, one_elimination, one_solution, perturbation_same, one_pair, zigzag_not_covered}
 
-extreme_not_wide : (f : FunctionData) (lines : List CoverLine) (rows : List PivotRow) → IsWithinBounds f → AreExtremeRows f lines rows →
-    IsTooWide f → ⊥
+extreme_not_wide : (f : FunctionData) (lines : List CoverLine) (rows : List PivotRow) → IsWithinBounds f →
+    AreExtremeRows Whole f lines rows → IsTooWide f → ⊥
 extreme_not_wide f lines rows l h wide =
-    let same = one_elimination f wide.lines lines wide.component h.component wide.n h.n l wide.covered h.covered in
+    let same = one_elimination Whole f wide.lines lines wide.component h.component wide.n h.n l wide.covered h.covered in
     let one = one_all_covered f wide.lines lines wide.component h.component wide.n h.n wide.covered h.covered in
     elim (wide.passes) [
-      | inl passes ↦ h.fits (subst (λ (e : Elimination). Passes e.marked) same passes)
-      | inr behind ↦
+      | inl passes ↦ h.needed (subst (λ (e : Elimination). Passes e.marked) same passes.0)
+      | inr (narrow, behind) ↦
           let kept = (slope_elimination f h.component h.n).kept in
           let has = elimination_has h.n (map (named_row f h.component h.n) (row_names f)) (begun_columns f h.component h.n (row_names f)) in
           let some : kernel h.n kept ≡ Some behind.0 =
@@ -41,6 +43,24 @@ extreme_not_wide f lines rows l h wide =
   where
     apart : (s : Solution) (o : Option Solution) → o ≡ Some s → o ≡ None → ⊥
     apart s o some none = cc
+
+residues_not_wide : (f : FunctionData) (lines : List CoverLine) (rows : List PivotRow) → IsWithinBounds f →
+    AreExtremeRows Residues f lines rows → IsTooWide f → ⊥
+residues_not_wide f lines rows l h wide =
+    let one = one_all_covered f wide.lines lines wide.component h.component wide.n h.n wide.covered h.covered in
+    elim (wide.passes) [
+      | inl passes ↦
+          let over = one_elimination Residues f wide.lines lines wide.component h.component wide.n h.n l wide.covered h.covered in
+          let same : length (elimination_over Residues f wide.component wide.n).kept
+          ≡ length (elimination_over Residues f h.component h.n).kept = ap (λ e. length e.kept) over in
+          let fewer = passes.1 in
+          let count = one.count_same in
+          let all = h.all in
+          omega arith
+      | inr (narrow, behind) ↦
+          let plain = one_elimination Whole f wide.lines lines wide.component h.component wide.n h.n l wide.covered h.covered in
+          narrow (subst (λ (e : Elimination). Passes e.marked) (sym plain) h.needed)
+    ]
 
 -- numbers behind a scale within its limit
 scale_apart : (p s x : ℕ) → 1 ≤ s → 3 * p * (s * 1) ≤ 2 ^ 124 → x ≤ p → 2 ^ 127 ≤ x → ⊥
@@ -82,15 +102,15 @@ decided_not_wide f (Minimal g) l minimal text h wide = h
 decided_not_wide f (NotMinimal g v) l minimal text h wide = first_denies f v h.1 (tests_from_minimal f l minimal)
 decided_not_wide f (Cut rule rows) l minimal text h wide = h
 decided_not_wide f (Extreme g lines rows) l minimal text h wide = extreme_not_wide f lines rows l h.3 wide
-decided_not_wide f (ExtremeByResidues g lines rows) l minimal text h wide = h
+decided_not_wide f (ExtremeByResidues g lines rows) l minimal text h wide = residues_not_wide f lines rows l h.3 wide
 decided_not_wide f (NotExtreme g halves) l minimal text (is, same_minimal, continuous, inl zig) wide =
     zigzag_not_covered f halves wide.lines wide.component wide.n zig wide.covered
 decided_not_wide f (NotExtreme g halves) l minimal text (is, same_minimal, continuous, inr slope) wide =
     let one = one_all_covered f wide.lines slope.lines wide.component slope.component wide.n slope.n wide.covered slope.covered in
-    let same = one_elimination f wide.lines slope.lines wide.component slope.component wide.n slope.n l wide.covered slope.covered in
+    let same = one_elimination Whole f wide.lines slope.lines wide.component slope.component wide.n slope.n l wide.covered slope.covered in
     elim (wide.passes) [
-      | inl passes ↦ slope.fits (subst (λ (e : Elimination). Passes e.marked) same passes)
-      | inr behind ↦
+      | inl passes ↦ slope.fits (subst (λ (e : Elimination). Passes e.marked) same passes.0)
+      | inr (narrow, behind) ↦
           slope_not_wide f halves l text.scale_high slope wide.component one.numbers_same behind.0
           (one_solution f wide.lines slope.lines wide.component slope.component wide.n slope.n behind.0 slope.solution l wide.covered
           slope.covered behind.1 slope.solves) behind.2

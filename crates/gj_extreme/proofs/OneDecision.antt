@@ -14,7 +14,7 @@ use Rattle.gj_tools.proofs.Lists.{All-range}
 use Rattle.gj_shape.specs.Additive.{IsTight}
 use Rattle.gj_shape.specs.Cover.{IsCovered, HasComponent, components_in}
 use Rattle.gj_shape.specs.Cover.HasComponent.{opened, joined}
-use Rattle.gj_shape.specs.Elimination.{Solution, at_column, kernel}
+use Rattle.gj_shape.specs.Elimination.{Elimination, Solution, Passes, at_column, kernel}
 use Rattle.gj_shape.specs.FunctionData.{FunctionData, IsWithinBounds, IsContinuous}
 use Rattle.gj_shape.specs.Perturbation.{zigzag, IsLeastSlack, IsGreatestSize, AreHalvesOf}
 use Rattle.gj_shape.specs.SlopeRows.{total}
@@ -32,8 +32,10 @@ use Rattle.gj_cover.specs.CoverOf.{IsLeastClass}
 use Rattle.gj_cover.proofs.Joining.{covered_on, covered_directly}
 use Rattle.gj_proof.specs.declared.claim.Claim.{Claim}
 use Rattle.gj_proof.specs.declared.claim.Claim.TheVariants.{Minimal, NotMinimal, Cut, Extreme, ExtremeByResidues, NotExtreme}
+use Rattle.gj_proof.specs.declared.numbers.Numbers.{Numbers}
+use Rattle.gj_proof.specs.declared.numbers.Numbers.TheVariants.{Whole, Residues}
 use Rattle.gj_proof.specs.declared.pivot.PivotRow.{PivotRow}
-use Rattle.gj_extreme.specs.Decision.{AreAllCovered, slope_elimination, group_of, slope_perturbation, AreExtremeRows, AreZigzagHalves, AreSlopeHalves, IsDecided}
+use Rattle.gj_extreme.specs.Decision.{AreAllCovered, elimination_over, slope_elimination, group_of, slope_perturbation, AreExtremeRows, AreZigzagHalves, AreSlopeHalves, IsDecided}
 use Rattle.gj_extreme.proofs.DecidedGroups.{elimination_same, map_same}
 use Rattle.gj_extreme.proofs.DecidedHalves.{IsLeastUncovered, some_least, zigzag_halves, slope_halves}
 use Rattle.gj_extreme.proofs.DecidedHolds.{extreme_holds}
@@ -60,11 +62,12 @@ one_all_covered f lines others component other n m h k =
           (h.numbers i low) (subst (λ (ls : List CoverLine). HasComponent ls (other i) i) (sym same) (k.numbers i low));
     }
 
-pub one_elimination : (f : FunctionData) (lines others : List CoverLine) (component other : ℕ → ℕ) (n m : ℕ) → IsWithinBounds f →
-    AreAllCovered f lines component n → AreAllCovered f others other m → slope_elimination f component n ≡ slope_elimination f other m
-one_elimination f lines others component other n m l h k =
+pub one_elimination : (numbers : Numbers) (f : FunctionData) (lines others : List CoverLine) (component other : ℕ → ℕ) (n m : ℕ) →
+    IsWithinBounds f → AreAllCovered f lines component n → AreAllCovered f others other m →
+    elimination_over numbers f component n ≡ elimination_over numbers f other m
+one_elimination numbers f lines others component other n m l h k =
     let one = one_all_covered f lines others component other n m h k in
-    elimination_same f component other n l one.numbers_same ∙ ap (slope_elimination f other) one.count_same
+    elimination_same numbers f component other n l one.numbers_same ∙ ap (elimination_over numbers f other) one.count_same
 
 -- an interval with a component is covered
 component_covered : (q : ℕ) (Tight : ℕ → ℕ → Type 0) (lines : List CoverLine) → MeetsCoverRules q Tight lines → (number i : ℕ) →
@@ -179,7 +182,7 @@ pub one_solution : (f : FunctionData) (lines others : List CoverLine) (component
 one_solution f lines others component other n m s t l h k e g =
     let one = one_all_covered f lines others component other n m h k in
     same_some s t
-    (sym e ∙ ap₂ (λ i x. kernel i x.kept) one.count_same (one_elimination f lines others component other n m l h k) ∙ g)
+    (sym e ∙ ap₂ (λ i x. kernel i x.kept) one.count_same (one_elimination Whole f lines others component other n m l h k) ∙ g)
 
 one_of_slopes : (f : FunctionData) (g h : Halves) → IsWithinBounds f → AreSlopeHalves f g → AreSlopeHalves f h → g ≡ h
 one_of_slopes f g h l a b =
@@ -195,14 +198,21 @@ one_of_slopes f g h l a b =
 
 -- ---- one proof
 
-one_rows : (f : FunctionData) (lines others : List CoverLine) (rows more : List PivotRow) → IsWithinBounds f →
-    AreExtremeRows f lines rows → AreExtremeRows f others more → (lines ≡ others) × (rows ≡ more)
-one_rows f lines others rows more l h k = (
+one_rows : (numbers : Numbers) (f : FunctionData) (lines others : List CoverLine) (rows more : List PivotRow) → IsWithinBounds f →
+    AreExtremeRows numbers f lines rows → AreExtremeRows numbers f others more → (lines ≡ others) × (rows ≡ more)
+one_rows numbers f lines others rows more l h k = (
   one_cover f.order (IsTight f) lines others h.covered.are_lines k.covered.are_lines,
   h.rows_are
-      ∙ ap (λ e. map (group_of f) e.kept) (one_elimination f lines others h.component k.component h.n k.n l h.covered k.covered)
+      ∙ ap (λ e. map (group_of f) e.kept) (one_elimination numbers f lines others h.component k.component h.n k.n l h.covered k.covered)
       ∙ sym k.rows_are,
 )
+
+-- rows over residues come only where those of whole numbers do not
+not_both : (f : FunctionData) (lines others : List CoverLine) (rows more : List PivotRow) → IsWithinBounds f →
+    AreExtremeRows Whole f lines rows → AreExtremeRows Residues f others more → ⊥
+not_both f lines others rows more l h k =
+    let same = one_elimination Whole f others lines k.component h.component k.n h.n l k.covered h.covered in
+    h.needed (subst (λ (e : Elimination). Passes e.marked) same k.needed)
 
 one_halves : (f : FunctionData) (g h : Halves) → IsWithinBounds f → AreZigzagHalves f g ⊎ AreSlopeHalves f g →
     AreZigzagHalves f h ⊎ AreSlopeHalves f h → g ≡ h
@@ -212,38 +222,50 @@ one_halves f g h l (inr a) (inl b) = absurd (zigzag_not_covered f h a.lines a.co
 one_halves f g h l (inr a) (inr b) = one_of_slopes f g h l a b
 
 -- no halves of an extreme function
-extreme_no_halves : (f : FunctionData) (lines : List CoverLine) (rows : List PivotRow) (h : Halves) → IsWithinBounds f → IsMinimal f →
-    IsContinuous f → AreExtremeRows f lines rows → AreZigzagHalves f h ⊎ AreSlopeHalves f h → ⊥
-extreme_no_halves f lines rows h l minimal continuous is (inl zig) =
+extreme_no_halves : (numbers : Numbers) (f : FunctionData) (lines : List CoverLine) (rows : List PivotRow) (h : Halves) → IsWithinBounds f → IsMinimal f →
+    IsContinuous f → AreExtremeRows numbers f lines rows → AreZigzagHalves f h ⊎ AreSlopeHalves f h → ⊥
+extreme_no_halves numbers f lines rows h l minimal continuous is (inl zig) =
     halves_deny (table f 4) (f.order * 4) (f.place * 4) (f.scale * 4) (3 * zig.halves.p) _ _ (zigzag_halves f h l continuous minimal zig)
-    (extreme_holds f lines rows l minimal continuous is 4 (omega arith))
-extreme_no_halves f lines rows h l minimal continuous is (inr slope) =
+    (extreme_holds numbers f lines rows l minimal continuous is 4 (omega arith))
+extreme_no_halves numbers f lines rows h l minimal continuous is (inr slope) =
     halves_deny (table f 1) (f.order * 1) (f.place * 1) (f.scale * 1) (3 * slope.halves.p) _ _ (slope_halves f h l minimal slope)
-    (extreme_holds f lines rows l minimal continuous is 1 (omega arith))
+    (extreme_holds numbers f lines rows l minimal continuous is 1 (omega arith))
 
 pub one_decision : (f : FunctionData) (c d : Claim) → IsWithinBounds f → IsDecided f c → IsDecided f d → c ≡ d
 one_decision f (Minimal g) d l h k = absurd h
 one_decision f (Cut rule rows) d l h k = absurd h
-one_decision f (ExtremeByResidues g lines rows) d l h k = absurd h
 one_decision f (NotMinimal g v) (Minimal g') l h k = absurd k
 one_decision f (NotMinimal g v) (Cut rule rows) l h k = absurd k
 one_decision f (NotMinimal g v) (NotMinimal g' w) l h k =
     ap₂ (λ x y. NotMinimal x y) (h.0 ∙ sym k.0) (one_violation f v w l h.1 k.1)
 one_decision f (NotMinimal g v) (Extreme g' lines rows) l h k = absurd (first_denies f v h.1 (tests_from_minimal f l k.1))
-one_decision f (NotMinimal g v) (ExtremeByResidues g' lines rows) l h k = absurd k
+one_decision f (NotMinimal g v) (ExtremeByResidues g' lines rows) l h k = absurd (first_denies f v h.1 (tests_from_minimal f l k.1))
 one_decision f (NotMinimal g v) (NotExtreme g' halves) l h k = absurd (first_denies f v h.1 (tests_from_minimal f l k.1))
 one_decision f (Extreme g lines rows) (Minimal g') l h k = absurd k
 one_decision f (Extreme g lines rows) (Cut rule cuts) l h k = absurd k
 one_decision f (Extreme g lines rows) (NotMinimal g' v) l h k = absurd (first_denies f v k.1 (tests_from_minimal f l h.1))
 one_decision f (Extreme g lines rows) (Extreme g' others more) l h k =
-    let one = one_rows f lines others rows more l h.3 k.3 in
+    let one = one_rows Whole f lines others rows more l h.3 k.3 in
     ap (λ x. Extreme x lines rows) (h.0 ∙ sym k.0) ∙ ap₂ (λ x y. Extreme g' x y) one.0 one.1
-one_decision f (Extreme g lines rows) (ExtremeByResidues g' others more) l h k = absurd k
-one_decision f (Extreme g lines rows) (NotExtreme g' halves) l h k = absurd (extreme_no_halves f lines rows halves l h.1 h.2 h.3 k.3)
+one_decision f (Extreme g lines rows) (ExtremeByResidues g' others more) l h k = absurd (not_both f lines others rows more l h.3 k.3)
+one_decision f (Extreme g lines rows) (NotExtreme g' halves) l h k =
+    absurd (extreme_no_halves Whole f lines rows halves l h.1 h.2 h.3 k.3)
+one_decision f (ExtremeByResidues g lines rows) (Minimal g') l h k = absurd k
+one_decision f (ExtremeByResidues g lines rows) (Cut rule cuts) l h k = absurd k
+one_decision f (ExtremeByResidues g lines rows) (NotMinimal g' v) l h k =
+    absurd (first_denies f v k.1 (tests_from_minimal f l h.1))
+one_decision f (ExtremeByResidues g lines rows) (Extreme g' others more) l h k = absurd (not_both f others lines more rows l k.3 h.3)
+one_decision f (ExtremeByResidues g lines rows) (ExtremeByResidues g' others more) l h k =
+    let one = one_rows Residues f lines others rows more l h.3 k.3 in
+    ap (λ x. ExtremeByResidues x lines rows) (h.0 ∙ sym k.0) ∙ ap₂ (λ x y. ExtremeByResidues g' x y) one.0 one.1
+one_decision f (ExtremeByResidues g lines rows) (NotExtreme g' halves) l h k =
+    absurd (extreme_no_halves Residues f lines rows halves l h.1 h.2 h.3 k.3)
 one_decision f (NotExtreme g halves) (Minimal g') l h k = absurd k
 one_decision f (NotExtreme g halves) (Cut rule rows) l h k = absurd k
 one_decision f (NotExtreme g halves) (NotMinimal g' v) l h k = absurd (first_denies f v k.1 (tests_from_minimal f l h.1))
-one_decision f (NotExtreme g halves) (Extreme g' lines rows) l h k = absurd (extreme_no_halves f lines rows halves l k.1 k.2 k.3 h.3)
-one_decision f (NotExtreme g halves) (ExtremeByResidues g' lines rows) l h k = absurd k
+one_decision f (NotExtreme g halves) (Extreme g' lines rows) l h k =
+    absurd (extreme_no_halves Whole f lines rows halves l k.1 k.2 k.3 h.3)
+one_decision f (NotExtreme g halves) (ExtremeByResidues g' lines rows) l h k =
+    absurd (extreme_no_halves Residues f lines rows halves l k.1 k.2 k.3 h.3)
 one_decision f (NotExtreme g halves) (NotExtreme g' others) l h k =
     ap₂ (λ x y. NotExtreme x y) (h.0 ∙ sym k.0) (one_halves f halves others l h.3 k.3)

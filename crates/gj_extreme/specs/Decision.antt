@@ -3,7 +3,7 @@
 use Rattle.std.specs.Prelude.{ℕ, ℤ, pos, ◌≡◌, ◌≢◌, ◌⊎◌, ◌*◌, ◌<◌, ◌≤◌, ◌^◌, ◌<ℤ◌, List, [], Some, length, map, get_or, unsigned_abs}
 use Rattle.gj_shape.specs.Additive.{IsTight}
 use Rattle.gj_shape.specs.Cover.{AreCoverLines, components_in}
-use Rattle.gj_shape.specs.Elimination.{KeptRow, Elimination, Solution, Passes, at_column, elimination, kernel}
+use Rattle.gj_shape.specs.Elimination.{KeptRow, Elimination, Solution, Passes, at_column, elimination_by, kernel}
 use Rattle.gj_shape.specs.Extreme.{IsExtremeTable}
 use Rattle.gj_shape.specs.FirstViolation.{IsFirstViolation}
 use Rattle.gj_shape.specs.FunctionData.{FunctionData, IsContinuous}
@@ -14,9 +14,11 @@ use Rattle.gj_shape.specs.declared.extremality.CoverLine.{CoverLine}
 use Rattle.gj_shape.specs.declared.extremality.Halves.{Halves}
 use Rattle.gj_shape.specs.declared.extremality.RowName.TheVariants.{Period}
 use Rattle.gj_cover.specs.CoverOf.{IsLeastClass}
-use Rattle.gj_proof.specs.PresentRows.{AreNumbersOf, named_row}
+use Rattle.gj_proof.specs.PresentRows.{AreNumbersOf, arithmetic_of, named_row}
 use Rattle.gj_proof.specs.declared.claim.Claim.{Claim}
 use Rattle.gj_proof.specs.declared.claim.Claim.TheVariants.{Minimal, NotMinimal, Cut, Extreme, ExtremeByResidues, NotExtreme}
+use Rattle.gj_proof.specs.declared.numbers.Numbers.{Numbers}
+use Rattle.gj_proof.specs.declared.numbers.Numbers.TheVariants.{Whole, Residues}
 use Rattle.gj_proof.specs.declared.pivot.PivotRow.{PivotRow}
 
 -- ---- the linear system for the slopes
@@ -27,9 +29,18 @@ pub record AreAllCovered (f : FunctionData) (lines : List CoverLine) (component 
   pub numbers : AreNumbersOf f lines component
   pub count : n ≡ components_in lines
 
--- the elimination of all rows of the system, in their order
+-- the elimination of all rows of the system, in their order, over whole numbers or over residues
+abbrev pub elimination_over : Numbers → FunctionData → (ℕ → ℕ) → ℕ → Elimination
+elimination_over numbers f component n = elimination_by (arithmetic_of numbers) n (map (named_row f component n) (row_names f))
+
+-- plain elimination
 abbrev pub slope_elimination : FunctionData → (ℕ → ℕ) → ℕ → Elimination
-slope_elimination f component n = elimination n (map (named_row f component n) (row_names f))
+slope_elimination f component n = elimination_over Whole f component n
+
+-- residues are for rows whose plain elimination has a number above 2^127 - 1 in absolute value
+abbrev pub AreNeeded : Numbers → List ℤ → Type 0
+AreNeeded Whole marked = Passes marked → ⊥
+AreNeeded Residues marked = Passes marked
 
 -- the group of a row that it keeps
 abbrev pub group_of : FunctionData → KeptRow → PivotRow
@@ -41,14 +52,14 @@ slope_perturbation f component numbers i = perturbation_of f.order (λ a. at_col
 
 -- ---- the three ends of the decision on a minimal continuous function
 
--- all intervals are covered, and the rows that are kept, one for each component, leave only the slopes 0
-pub record AreExtremeRows (f : FunctionData) (lines : List CoverLine) (rows : List PivotRow) : Type 0 where
+-- all intervals are covered, and the rows that are kept over these numbers, one for each component, leave only the slopes 0
+pub record AreExtremeRows (numbers : Numbers) (f : FunctionData) (lines : List CoverLine) (rows : List PivotRow) : Type 0 where
   pub component : ℕ → ℕ
   pub n : ℕ
   pub covered : AreAllCovered f lines component n
-  pub fits : Passes (slope_elimination f component n).marked → ⊥
-  pub all : length (slope_elimination f component n).kept ≡ n
-  pub rows_are : rows ≡ map (group_of f) (slope_elimination f component n).kept
+  pub needed : AreNeeded numbers (slope_elimination f component n).marked
+  pub all : length (elimination_over numbers f component n).kept ≡ n
+  pub rows_are : rows ≡ map (group_of f) (elimination_over numbers f component n).kept
 
 -- an interval is uncovered, and the halves are those of the zigzag of the class of the least one
 pub record AreZigzagHalves (f : FunctionData) (h : Halves) : Type 0 where
@@ -74,11 +85,11 @@ abbrev pub IsDecided : FunctionData → Claim → Type 0
 IsDecided f (Minimal g) = ⊥
 IsDecided f (NotMinimal g v) = (g ≡ f) × IsFirstViolation f v
 IsDecided f (Cut rule rows) = ⊥
-IsDecided f (Extreme g lines rows) = (g ≡ f) × IsMinimal f × IsContinuous f × AreExtremeRows f lines rows
-IsDecided f (ExtremeByResidues g lines rows) = ⊥
+IsDecided f (Extreme g lines rows) = (g ≡ f) × IsMinimal f × IsContinuous f × AreExtremeRows Whole f lines rows
+IsDecided f (ExtremeByResidues g lines rows) = (g ≡ f) × IsMinimal f × IsContinuous f × AreExtremeRows Residues f lines rows
 IsDecided f (NotExtreme g h) = (g ≡ f) × IsMinimal f × IsContinuous f × (AreZigzagHalves f h ⊎ AreSlopeHalves f h)
 
--- it is that the function is extreme, by cover lines and rows
+-- it is that the function is extreme, by cover lines and rows of whole numbers
 abbrev pub IsExtremeClaim : FunctionData → Claim → Type 0
 IsExtremeClaim f c = (lines : List CoverLine) × (rows : List PivotRow) × (c ≡ Extreme f lines rows)
 
@@ -105,11 +116,13 @@ pub data IsWideBehind (f : FunctionData) (component : ℕ → ℕ) (s : Solution
   perturbation_passes : (i : ℕ) → i < f.order → 2 ^ 127 ≤ unsigned_abs (slope_perturbation f component s.numbers i) → IsWideBehind f component s
   scale_passes : (h : Halves) → AreHalvesOf f 1 (slope_perturbation f component s.numbers) h → pos (2 ^ 124) <ℤ h.scale → IsWideBehind f component s
 
--- all intervals are covered, and a number of the elimination is above 2^127 - 1 in absolute value, or one of those behind it
+-- all intervals are covered, and a number of the elimination is above 2^127 - 1 in absolute value and residues keep fewer rows than
+-- there are components, or none is, and one of those behind it is too wide
 pub record IsTooWide (f : FunctionData) : Type 0 where
   pub lines : List CoverLine
   pub component : ℕ → ℕ
   pub n : ℕ
   pub covered : AreAllCovered f lines component n
-  pub passes : Passes (slope_elimination f component n).marked
-      ⊎ ((s : Solution) × (kernel n (slope_elimination f component n).kept ≡ Some s) × IsWideBehind f component s)
+  pub passes : (Passes (slope_elimination f component n).marked × (length (elimination_over Residues f component n).kept < n))
+      ⊎ ((Passes (slope_elimination f component n).marked → ⊥)
+      × ((s : Solution) × (kernel n (slope_elimination f component n).kept ≡ Some s) × IsWideBehind f component s))

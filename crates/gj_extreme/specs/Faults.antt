@@ -3,6 +3,8 @@ use Rattle.gj_elim.specs.declared.faults.ElimFault.{ElimFault}
 use Rattle.gj_elim.specs.declared.faults.ElimFault.TheVariants as elimination
 use Rattle.gj_perturb.specs.declared.faults.SplitFault.{SplitFault}
 use Rattle.gj_perturb.specs.declared.faults.SplitFault.TheVariants as split
+use Rattle.gj_residue.specs.declared.settling.SettleFault.{SettleFault}
+use Rattle.gj_residue.specs.declared.settling.SettleFault.TheVariants as settling
 use Rattle.gj_extreme.specs.declared.faults.DecideFault.{DecideFault}
 use Rattle.gj_extreme.specs.declared.faults.DecideFault.TheVariants.{NotContinuous, Wide, Memory}
 
@@ -15,6 +17,11 @@ of_elimination (elimination.Memory e) = Memory e
 abbrev pub of_split : SplitFault → DecideFault
 of_split split.Wide = Wide
 of_split (split.Memory e) = Memory e
+
+-- the fault by that of the decision on rows
+abbrev pub of_settling : SettleFault → DecideFault
+of_settling settling.Wide = Wide
+of_settling (settling.Memory e) = Memory e
 
 -- memory was wanting
 abbrev pub IsMemoryFault : DecideFault → Type 0

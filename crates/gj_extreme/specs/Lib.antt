@@ -1,3 +1,4 @@
 pub mod Faults
 pub mod Decision
+pub mod SeenPairs
 pub mod RowsToCome

@@ -3,6 +3,7 @@ ghost use Rattle.std.specs.Prelude.{◌≡◌};
 
 use gj_elim::ElimFault;
 use gj_perturb::SplitFault;
+use gj_residue::SettleFault;
 use std::alloc::{AllocError, AllocFailed};
 use thiserror::Error;
 
@@ -12,7 +13,8 @@ pub enum DecideFault {
     /// The function is minimal and not continuous: it jumps at i/q, and at no multiple of 1/q before.
     #[error("the function jumps at the index {0}")]
     NotContinuous(u32),
-    /// A number of the elimination passes 2^127 - 1 in absolute value, or one of those behind it passes its bound.
+    /// A number of the elimination passes 2^127 - 1 in absolute value and residues do not help, or one of those behind it passes its
+    /// bound.
     #[error("a number of the decision is too wide")]
     Wide,
     /// There was no memory.
@@ -42,6 +44,19 @@ impl From<SplitFault> for DecideFault {
         match fault {
             SplitFault::Wide => DecideFault::Wide,
             SplitFault::Memory(error) => DecideFault::Memory(error),
+        }
+    }
+}
+
+impl From<SettleFault> for DecideFault {
+    ghost use Rattle.gj_extreme.specs.Faults.{of_settling};
+
+    ghost from_gives = { λ given fault. fault ≡ of_settling given };
+
+    fn from(fault: SettleFault) -> DecideFault {
+        match fault {
+            SettleFault::Wide => DecideFault::Wide,
+            SettleFault::Memory(error) => DecideFault::Memory(error),
         }
     }
 }

@@ -1,30 +1,46 @@
 //! The rows that are kept, as a proof has them.
-ghost use Rattle.std.specs.Prelude.{◌≡◌, length, map, IfOk};
+ghost use Rattle.std.specs.Prelude.{◌≡◌, List, get_or, length, map, IfOk};
+ghost use Rattle.gj_shape.specs.Elimination.{KeptRow};
 ghost use Rattle.gj_shape.specs.FunctionData.{FunctionData};
+ghost use Rattle.gj_shape.specs.declared.extremality.RowName.TheVariants.{Period};
 ghost use Rattle.gj_extreme.specs.Decision.{group_of};
-ghost use Rattle.gj_extreme.specs.RowsToCome.{name_of};
+ghost use Rattle.gj_extreme.specs.RowsToCome.{name_of, AreLinesOf};
 
-use crate::rows::Rows;
+use gj_elim::LogRow;
 use gj_proof::PivotRow;
-use gj_shape::List;
+use gj_shape::{List, RowName};
 use std::alloc::{AllocError, Global};
 
 /// The group of each row that is kept: its name, the steps that change it, and its pivot.
-pub(crate) fn groups(alloc: Global, rows: &Rows) -> Result<Vec<PivotRow>, AllocError>
-    requires { length rows.now.names.items ≡ length rows.now.basis.kept }
-    ensures { IfOk result (λ v. (f : FunctionData) → rows.now.names.items ≡ map (name_of f) rows.now.basis.kept →
-        v.items ≡ map (group_of f) rows.now.basis.kept) }
+pub(crate) fn groups_of(
+    alloc: Global,
+    names: &[RowName],
+    log: &[LogRow],
+) -> Result<Vec<PivotRow>, AllocError>
+    requires { length names.now ≡ length log.now }
+    ensures { IfOk result (λ v. (f : FunctionData) (kept : List KeptRow) → names.now ≡ map (name_of f) kept →
+        AreLinesOf kept log.now → v.items ≡ map (group_of f) kept) }
 {
-    let log = rows.basis.log();
     let mut groups = Vec::with_capacity(alloc, log.len())?;
     for g in 0..log.len() {
         let line = &log[g];
         let reduce = Vec::from_slice(alloc, line.reduce.as_slice())?;
         groups.push(PivotRow {
-            name: rows.names[g],
+            name: name_at(names, g as u64),
             reduce: List::of(reduce),
             pivot: line.pivot,
         })?;
     }
     Ok(groups)
+}
+
+/// The name with this number, and past the last one that of the first row.
+pub(crate) fn name_at(names: &[RowName], number: u64) -> RowName
+    ensures { result ≡ get_or names.now number Period }
+{
+    if number < names.len() as u64 {
+        names[number as usize]
+    } else {
+        RowName::Period
+    }
 }

@@ -5,8 +5,9 @@ ghost use Rattle.gj_shape.specs.Table.{IsMinimal};
 ghost use Rattle.gj_shape.specs.TwoSlopes.{HasTwoSlopes};
 ghost use Rattle.gj_shape.specs.declared.extremality.CoverLine.{CoverLine};
 ghost use Rattle.gj_proof.specs.Meaning.{ClaimHolds};
-ghost use Rattle.gj_proof.specs.ProofText.{HasText, IsProofText};
+ghost use Rattle.gj_proof.specs.ProofText.{HasText, IsProofText, numbers_of};
 ghost use Rattle.gj_proof.specs.declared.claim.Claim.{Claim};
+ghost use Rattle.gj_proof.specs.declared.numbers.Numbers.TheVariants.{Whole};
 ghost use Rattle.gj_extreme.specs.Decision.{AreAllCovered, IsDecided, IsExtremeClaim, IsTooWide};
 
 /// What the decision gives of a function within the limits holds, and is decided by the function alone. A proof of a minimal
@@ -24,10 +25,12 @@ pub fn decided_texts_are_short()
         length text ≤ 12_000_000 }
 {}
 
-/// With at most four components no number is too wide.
+/// With at most four components no number is too wide, and a proof is never by residues.
 pub fn few_components_are_not_wide()
-    ensures { (f : FunctionData) (lines : List CoverLine) (component : ℕ → ℕ) (n : ℕ) → IsWithinBounds f →
+    ensures not_wide { (f : FunctionData) (lines : List CoverLine) (component : ℕ → ℕ) (n : ℕ) → IsWithinBounds f →
         AreAllCovered f lines component n → n ≤ 4 → IsTooWide f → ⊥ }
+    ensures plain { (f : FunctionData) (lines : List CoverLine) (component : ℕ → ℕ) (n : ℕ) (c : Claim) → IsWithinBounds f →
+        AreAllCovered f lines component n → n ≤ 4 → IsDecided f c → numbers_of c ≡ Whole }
 {}
 
 /// What the decision gives of a minimal continuous function with two slopes is that it is extreme, and no number is too wide.

@@ -8,11 +8,13 @@ mod decision;
 mod faults;
 mod groups;
 mod laws;
+mod residues;
 mod rows;
+mod seen;
 mod slopes;
 mod uncovered;
 
-pub use decision::decide;
+pub use decision::{decide, decide_by_cover};
 pub use faults::DecideFault;
 pub use laws::{
     decided_claims, decided_texts_are_short, few_components_are_not_wide,

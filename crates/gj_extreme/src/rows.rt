@@ -1,49 +1,49 @@
 //! The rows of the linear system for the slopes, inserted in their order until there is one for each component.
-ghost use Rattle.std.specs.Prelude.{ℕ, ◌≡◌, ◌<◌, ◌≤◌, ◌+◌, ◌↔◌, ◌∷◌, [], List, length, All, IfOk, OnOk, IsErrOf, IsTrue};
+ghost use Rattle.std.specs.Prelude.{ℕ, ◌≡◌, ◌<◌, ◌≤◌, ◌+◌, ◌^◌, ◌↔◌, ◌∷◌, List, length, IfOk, OnOk, IsErrOf, IsTrue};
 ghost use Rattle.gj_faces.specs.TightPairs.{AreTightPairsOf};
 ghost use Rattle.gj_shape.specs.Elimination.{Passes};
 ghost use Rattle.gj_shape.specs.FunctionData.{FunctionData, IsWithinBounds};
 ghost use Rattle.gj_shape.specs.SlopeRows.{row_names, component_in};
 ghost use Rattle.gj_shape.specs.declared.extremality.RowName.{RowName};
+ghost use Rattle.gj_shape.specs.declared.extremality.RowName.TheVariants.{Pair};
 ghost use Rattle.gj_system.specs.Components.{IsNameBelow};
 ghost use Rattle.gj_extreme.specs.Decision.{slope_elimination};
-ghost use Rattle.gj_extreme.specs.RowsToCome.{AreToCome, AreInserted, IsReady, rows_from};
+ghost use Rattle.gj_extreme.specs.RowsToCome.{AreToCome, AreInserted, IsReady, IsTaken, rows_from};
 
+use crate::seen::{SeenPair, SeenPairs};
 use gj_elim::{Basis, ElimFault, Inserted};
 use gj_faces::TightPairs;
 use gj_shape::{RowName, Shape};
 use gj_system::SlopeRows;
 use std::alloc::{AllocError, Global};
 
-/// Rows that are inserted, with the names of those that are kept.
+/// Rows that are inserted, with the names of those that are kept. A row that was inserted before is passed over, since it
+/// changes nothing.
 #[derive(Drop)]
 pub(crate) struct Rows {
     pub(crate) basis: Basis,
     pub(crate) names: Vec<RowName>,
     /// The row that is being inserted.
     pub(crate) row: Vec<i128>,
+    pub(crate) seen: SeenPairs,
 }
 
-/// The rows of the system for intervals in these components, inserted in their order until there is one for each of the `count`
-/// components.
+/// The rows of the system for intervals in these components, inserted in their order until there is one for each component.
 pub(crate) fn rows_of(
     alloc: Global,
     shape: &Shape,
     pairs: &TightPairs,
-    component: &[u32],
-    count: u32,
+    system: &SlopeRows,
 ) -> Result<Rows, ElimFault>
     requires pairs { AreTightPairsOf shape.now pairs.now }
-    requires order { length component.now ≡ shape.now.order }
-    requires components { All (λ c. c < count) component.now }
+    requires components { length system.now.component ≡ shape.now.order }
     ensures limits { IsWithinBounds shape.now }
-    ensures rows { IfOk result (AreInserted shape.now (component_in component.now) count) }
+    ensures rows { IfOk result (AreInserted shape.now (component_in system.now.component) system.now.columns) }
     ensures wide { IsErrOf result ElimFault.Wide →
-        Passes (slope_elimination shape.now (component_in component.now) count).marked }
+        Passes (slope_elimination shape.now (component_in system.now.component) system.now.columns).marked }
 {
     let order = shape.order();
-    let system = SlopeRows::new(alloc, component, count)?;
-    insert_rows(alloc, shape, pairs, order, &system)
+    insert_rows(alloc, shape, pairs, order, system)
 }
 
 /// Inserts the rows of the system for a function of this order, until there is one for each component.
@@ -95,7 +95,7 @@ fn insert_pairs(
     let row = pairs.row(a);
     let mut from = a as usize;
     'pairs: while let Some(b) = row.first_from(from) {
-        rows.insert(shape, system, RowName::Pair(a, b as u32))?;
+        rows.insert_pair(shape, system, a, b as u32)?;
         from = b + 1;
     }
     Ok(())
@@ -104,7 +104,9 @@ fn insert_pairs(
 impl Rows {
     /// No rows, of which all are still to come.
     fn new(alloc: Global, system: &SlopeRows) -> Result<Rows, AllocError>
-        ensures { IfOk result (λ rows. (f : FunctionData) →
+        requires some { 0 < length system.now.component }
+        requires few { length system.now.component < 2 ^ 31 }
+        ensures { IfOk result (λ rows. (f : FunctionData) → f.order ≡ length system.now.component →
             AreToCome f (component_in system.now.component) system.now.columns rows (row_names f)) }
     {
         let columns = system.columns();
@@ -112,6 +114,7 @@ impl Rows {
             basis: Basis::new(alloc, columns)?,
             names: Vec::new(alloc),
             row: vec![in alloc; 0; columns as usize]?,
+            seen: SeenPairs::new(alloc, system.component())?,
         })
     }
 
@@ -122,17 +125,48 @@ impl Rows {
         self.row.len() <= self.basis.rank() as usize
     }
 
+    /// Inserts the row of a tight pair, if it is not known that the row was inserted before.
+    fn insert_pair(
+        &mut self,
+        shape: &Shape,
+        system: &SlopeRows,
+        a: u32,
+        b: u32,
+    ) -> Result<(), ElimFault>
+        requires order { length system.now.component ≡ shape.now.order }
+        requires limits { IsWithinBounds shape.now }
+        requires name { IsNameBelow (Pair a b) shape.now.order }
+        requires ready { IsReady self.old shape.now.order system.now.columns }
+        ensures to_come { OnOk result ((rest : List RowName) →
+            AreToCome shape.now (component_in system.now.component) system.now.columns self.old (Pair a b ∷ rest) →
+            AreToCome shape.now (component_in system.now.component) system.now.columns self.new rest) }
+        ensures wide { IsErrOf result ElimFault.Wide → (rest : List RowName) →
+            AreToCome shape.now (component_in system.now.component) system.now.columns self.old (Pair a b ∷ rest) →
+            Passes (slope_elimination shape.now (component_in system.now.component) system.now.columns).marked }
+    {
+        let place = self.seen.place(a, b);
+        let seen = self.seen.pairs[place];
+        if system.have_same_row(seen.a, seen.b, a, b) {
+            return Ok(());
+        }
+        self.insert(shape, system, RowName::Pair(a, b))?;
+        self.seen.pairs[place] = SeenPair { a, b };
+        Ok(())
+    }
+
     /// Inserts the row with this name, where there is not yet one for each component.
     fn insert(&mut self, shape: &Shape, system: &SlopeRows, name: RowName) -> Result<(), ElimFault>
         requires order { length system.now.component ≡ shape.now.order }
+        requires limits { IsWithinBounds shape.now }
         requires name { IsNameBelow name shape.now.order }
-        requires ready { IsReady self.old system.now.columns }
+        requires ready { IsReady self.old shape.now.order system.now.columns }
         ensures to_come { OnOk result ((rest : List RowName) →
             AreToCome shape.now (component_in system.now.component) system.now.columns self.old (name ∷ rest) →
-            AreToCome shape.now (component_in system.now.component) system.now.columns self.new rest) }
+            IsTaken shape.now (component_in system.now.component) system.now.columns name self.new rest) }
         ensures wide { IsErrOf result ElimFault.Wide → (rest : List RowName) →
             AreToCome shape.now (component_in system.now.component) system.now.columns self.old (name ∷ rest) →
             Passes (slope_elimination shape.now (component_in system.now.component) system.now.columns).marked }
+        ensures seen { self.new.seen ≡ self.old.seen }
     {
         if self.is_full() {
             return Ok(());

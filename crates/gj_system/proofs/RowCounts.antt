@@ -1,5 +1,5 @@
 -- The counts of the intervals before each grid point, and the rows that are made from them.
-use Rattle.std.proofs.Common.{◌≡◌, ◌≢◌, ℕ, ◌+◌, ◌%◌, ◌<◌, ◌≤◌, ◌^◌, ◌⊎◌, inl, inr, ℤ, pos, ◌+ℤ◌, ◌-ℤ◌, List, [], ◌∷◌, ◌++◌, length, map, get_or, set, replicate, unsigned_abs, refl, sym, ap, ap₂, subst, ◌∙◌, zero-add, arith}
+use Rattle.std.proofs.Common.{◌≡◌, ◌≢◌, ℕ, ◌+◌, ◌%◌, ◌<◌, ◌≤◌, ◌^◌, ◌⊎◌, ◌↔◌, inl, inr, ℤ, pos, ◌+ℤ◌, ◌-ℤ◌, List, [], ◌∷◌, ◌++◌, length, map, get_or, set, replicate, unsigned_abs, refl, sym, ap, ap₂, subst, ◌∙◌, zero-add, arith}
 use Rattle.std.specs.Prelude.{All}
 use Rattle.std.specs.List.{range_with_len}
 use Rattle.std.proofs.Math.ListN.{length-set, length-replicate}
@@ -8,7 +8,7 @@ use Rattle.std.proofs.lemmas.Int.{ints}
 use Rattle.std.proofs.lemmas.List.{get_or-set_same, get_or-set_other, get_or-replicate}
 use Rattle.std.proofs.lemmas.List.Elements.{All-from_get_or}
 use Rattle.std.proofs.lemmas.List.FromFn.{length-map-range_with_len, get_or-map-range_with_len, map-range_with_len_more, fill_by_all}
-use Rattle.gj_shape.specs.SlopeRows.{rises, row_of}
+use Rattle.gj_shape.specs.SlopeRows.{rises, row_entry, row_of}
 use Rattle.gj_shape.specs.declared.extremality.RowName.{RowName}
 use Rattle.gj_shape.specs.declared.extremality.RowName.TheVariants.{Period, F, Pair}
 use Rattle.gj_system.specs.Components.{rises_at, IsNameBelow}
@@ -111,3 +111,39 @@ entries_small f n q k (Pair a b) small place within =
     let first = within.0 in
     let second = within.1 in
     slack_small (rises f a c) (rises f b c) (rises f ((a + b) % q) c) q (omega arith) (omega arith) (omega arith) small)
+
+-- two pairs have the same row where the counts of their points differ by the same
+pub record AreCounts (f : ℕ → ℕ) (n a b s : ℕ) (first second third : List ℕ) : Type 0 where
+  pub first_is : first ≡ rises_at f n a
+  pub second_is : second ≡ rises_at f n b
+  pub third_is : third ≡ rises_at f n s
+
+abbrev pub slack_at : List ℕ → List ℕ → List ℕ → ℕ → ℤ
+slack_at first second third c = pos (get_or first c 0) +ℤ pos (get_or second c 0) -ℤ pos (get_or third c 0)
+
+slack_is : (f : ℕ → ℕ) (n q k a b c : ℕ) (first second third : List ℕ) → AreCounts f n a b ((a + b) % q) first second third → c < n →
+    slack_at first second third c ≡ get_or (row_of f n q k (Pair a b)) c (pos 0)
+slack_is f n q k a b c first second third h below =
+    let s = (a + b) % q in
+    let x : get_or first c 0 ≡ rises f a c = ap (λ l. get_or l c 0) h.first_is ∙ count_at f n a c below in
+    let y : get_or second c 0 ≡ rises f b c = ap (λ l. get_or l c 0) h.second_is ∙ count_at f n b c below in
+    let z : get_or third c 0 ≡ rises f s c = ap (λ l. get_or l c 0) h.third_is ∙ count_at f n s c below in
+    ap₂ (λ u v. pos u +ℤ pos v -ℤ pos (get_or third c 0)) x y ∙ ap (λ w. pos (rises f a c) +ℤ pos (rises f b c) -ℤ pos w) z
+    ∙ sym (get_or-map-range_with_len (row_entry f q k (Pair a b)) 0 n c c (pos 0) below (zero-add c))
+
+pub same_rows : (f : ℕ → ℕ) (n q k a b d e : ℕ) (first second third fourth fifth sixth : List ℕ) →
+    AreCounts f n a b ((a + b) % q) first second third → AreCounts f n d e ((d + e) % q) fourth fifth sixth →
+    ((c : ℕ) → c < n → slack_at first second third c ≡ slack_at fourth fifth sixth c)
+    ↔ (row_of f n q k (Pair a b) ≡ row_of f n q k (Pair d e))
+same_rows f n q k a b d e first second third fourth fifth sixth h g = (
+  λ all.
+      fill_by_all (row_entry f q k (Pair d e)) (row_of f n q k (Pair a b)) n (pos 0)
+      (length-map-range_with_len (row_entry f q k (Pair a b)) 0 n)
+      (λ c below.
+      sym (slack_is f n q k a b c first second third h below) ∙ all c below
+      ∙ slack_is f n q k d e c fourth fifth sixth g below
+      ∙ get_or-map-range_with_len (row_entry f q k (Pair d e)) 0 n c c (pos 0) below (zero-add c)),
+  λ same c below.
+      slack_is f n q k a b c first second third h below ∙ ap (λ r. get_or r c (pos 0)) same
+      ∙ sym (slack_is f n q k d e c fourth fifth sixth g below),
+)

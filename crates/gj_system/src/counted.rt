@@ -1,6 +1,7 @@
 //! Rows that are made from counts of intervals, which are made once for all rows.
-ghost use Rattle.std.specs.Prelude.{ℕ, ℤ, pos, ◌≡◌, ◌<◌, ◌≤◌, ◌^◌, ◌+ℤ◌, ◌-ℤ◌, get_or, length, map, All, IfOk, unsigned_abs};
+ghost use Rattle.std.specs.Prelude.{ℕ, ℤ, pos, ◌≡◌, ◌+◌, ◌%◌, ◌<◌, ◌≤◌, ◌^◌, ◌↔◌, ◌+ℤ◌, ◌-ℤ◌, get_or, length, map, All, IfOk, IsTrue, unsigned_abs};
 ghost use Rattle.gj_shape.specs.SlopeRows.{row_of as row_entries, component_in};
+ghost use Rattle.gj_shape.specs.declared.extremality.RowName.TheVariants.{Pair};
 ghost use Rattle.gj_system.specs.Components.{rises_at, IsNameBelow};
 
 use gj_shape::{List, RowName};
@@ -51,6 +52,13 @@ impl SlopeRows {
         })
     }
 
+    /// The component of each interval.
+    pub fn component(&self) -> &[u32]
+        ensures { result.now ≡ self.now.component }
+    {
+        self.component.as_slice()
+    }
+
     /// How many components there are.
     pub fn columns(&self) -> u32
         ensures { result ≡ self.now.columns }
@@ -84,6 +92,27 @@ impl SlopeRows {
         }
     }
 
+    /// Whether the pairs (a, b) and (c, d) have the same row. It takes no memory.
+    pub fn have_same_row(&self, a: u32, b: u32, c: u32, d: u32) -> bool
+        requires first { (a < length self.now.component) × (b < length self.now.component) }
+        requires second { (c < length self.now.component) × (d < length self.now.component) }
+        ensures { (place : ℕ) → IsTrue result ↔ (
+            row_entries (component_in self.now.component) self.now.columns (length self.now.component) place (Pair a b)
+            ≡ row_entries (component_in self.now.component) self.now.columns (length self.now.component) place (Pair c d)) }
+    {
+        let order = self.component.len();
+        let first_sum = sum_below(a, b, order);
+        let second_sum = sum_below(c, d, order);
+        are_same_slacks(
+            self.counts_before(a as usize),
+            self.counts_before(b as usize),
+            self.counts_before(first_sum),
+            self.counts_before(c as usize),
+            self.counts_before(d as usize),
+            self.counts_before(second_sum),
+        )
+    }
+
     /// How many of the intervals before i/q are in each component.
     fn counts_before(&self, i: usize) -> &[u32]
         requires { i ≤ length self.now.component }
@@ -91,6 +120,44 @@ impl SlopeRows {
     {
         self.counts[i].as_slice()
     }
+}
+
+/// The sum of two numbers below the order, less the order where that is not below it.
+fn sum_below(a: u32, b: u32, order: usize) -> usize
+    requires first { a < order }
+    requires second { b < order }
+    ensures { result ≡ (a + b) % order }
+{
+    let sum = a as usize + b as usize;
+    if sum < order { sum } else { sum - order }
+}
+
+/// Whether the sums of the counts of two, less those of a third, are those of three others.
+fn are_same_slacks(
+    first: &[u32],
+    second: &[u32],
+    third: &[u32],
+    fourth: &[u32],
+    fifth: &[u32],
+    sixth: &[u32],
+) -> bool
+    requires second { length second.now ≡ length first.now }
+    requires third { length third.now ≡ length first.now }
+    requires fourth { length fourth.now ≡ length first.now }
+    requires fifth { length fifth.now ≡ length first.now }
+    requires sixth { length sixth.now ≡ length first.now }
+    ensures { IsTrue result ↔ ((c : ℕ) → c < length first.now →
+        pos (get_or first.now c 0) +ℤ pos (get_or second.now c 0) -ℤ pos (get_or third.now c 0)
+        ≡ pos (get_or fourth.now c 0) +ℤ pos (get_or fifth.now c 0) -ℤ pos (get_or sixth.now c 0)) }
+{
+    for c in 0..first.len() {
+        let one = u64::from(first[c]) + u64::from(second[c]) + u64::from(sixth[c]);
+        let other = u64::from(fourth[c]) + u64::from(fifth[c]) + u64::from(third[c]);
+        if one != other {
+            return false;
+        }
+    }
+    true
 }
 
 /// Writes the counts.

@@ -1,4 +1,5 @@
 //! Rows by hand.
+use crate::counted::SlopeRows;
 use crate::rows::row_of;
 use gj_shape::RowName;
 use std::test::Fail;
@@ -13,5 +14,14 @@ fn two_components(rt: HostRuntime) -> Result<(), Fail> {
     assert_eq!(rt; at_f.as_slice(), [3, 0].as_slice());
     let pair = row_of(rt.alloc(), &component, 2, 3, RowName::Pair(2, 4))?;
     assert_eq!(rt; pair.as_slice(), [4, 1].as_slice());
+    Ok(())
+}
+
+/// The pairs (1, 1) and (1, 2), which have the row of 0, and (2, 2), which has the row (1, -1).
+#[test]
+fn same_rows(rt: HostRuntime) -> Result<(), Fail> {
+    let system = SlopeRows::new(rt.alloc(), &[0, 0, 0, 1, 1], 2)?;
+    assert!(rt; system.have_same_row(1, 1, 1, 2));
+    assert!(rt; !system.have_same_row(1, 1, 2, 2));
     Ok(())
 }

@@ -8,6 +8,7 @@ use Rattle.gj_theory.proofs.DecidingGrid.{four_times_decides}
 use Rattle.gj_theory.proofs.Violations.{violation_denies}
 use Rattle.gj_proof.specs.declared.claim.Claim.{Claim}
 use Rattle.gj_proof.specs.declared.claim.Claim.TheVariants.{Minimal, NotMinimal, Cut, Extreme, ExtremeByResidues, NotExtreme}
+use Rattle.gj_proof.specs.declared.numbers.Numbers.TheVariants.{Whole, Residues}
 use Rattle.gj_proof.specs.ProofText.{IsProofText}
 use Rattle.gj_proof.specs.Meaning.{ClaimHolds, ShowHalves}
 use Rattle.gj_proof.proofs.OneText.{one_claim}
@@ -26,7 +27,7 @@ by_claim : (f : FunctionData) (c : Claim) (text : List ℕ) → IsWithinBounds f
 by_claim f (Extreme g lines rows) text within d (continuous, extreme) p =
     let e : g ≡ f = d.0 in
     inl (
-      (lines, rows, subst (λ (k : FunctionData). IsProofText (Extreme k lines rows) text) e p),
+      (Whole, lines, rows, subst (λ (k : FunctionData). IsProofText (Extreme k lines rows) text) e p),
       subst IsContinuous e continuous,
       subst IsExtreme e extreme,
     )
@@ -52,7 +53,13 @@ by_claim f (NotMinimal g v) text within d shown p =
     ))
 by_claim f (Minimal g) text within d shown p = absurd d
 by_claim f (Cut r rows) text within d shown p = absurd d
-by_claim f (ExtremeByResidues g lines rows) text within d shown p = absurd d
+by_claim f (ExtremeByResidues g lines rows) text within d (continuous, extreme) p =
+    let e : g ≡ f = d.0 in
+    inl (
+      (Residues, lines, rows, subst (λ (k : FunctionData). IsProofText (ExtremeByResidues k lines rows) text) e p),
+      subst IsContinuous e continuous,
+      subst IsExtreme e extreme,
+    )
 
 pub extremality_true : (f : FunctionData) (text : List ℕ) → IsWithinBounds f → IsDecisionText f text → IsTrueExtremality f text
 extremality_true f text within d = by_claim f d.claim text within d.decided d.holds d.spelled
@@ -76,9 +83,14 @@ from_four f text within (inr (inr (v, spelled, shown, denied))) continuous four 
 -- where it calls f extreme, that table is
 to_four : (f : FunctionData) (text : List ℕ) → IsWithinBounds f → IsDecisionText f text → IsExtremeText f text →
     IsContinuous f × IsExtremeAtFour f
-to_four f text within d (lines, rows, p) =
+to_four f text within d (Whole, lines, rows, p) =
     let same : d.claim ≡ Extreme f lines rows =
     one_claim d.claim (Extreme f lines rows) text (decided_is_bounded f d.claim within d.decided) within d.spelled p in
+    let holds : IsContinuous f × IsExtreme f = subst ClaimHolds same d.holds in
+    (holds.0, holds.1 4 (omega arith))
+to_four f text within d (Residues, lines, rows, p) =
+    let same : d.claim ≡ ExtremeByResidues f lines rows =
+    one_claim d.claim (ExtremeByResidues f lines rows) text (decided_is_bounded f d.claim within d.decided) within d.spelled p in
     let holds : IsContinuous f × IsExtreme f = subst ClaimHolds same d.holds in
     (holds.0, holds.1 4 (omega arith))
 

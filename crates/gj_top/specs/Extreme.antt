@@ -10,8 +10,9 @@ use Rattle.gj_shape.specs.declared.extremality.Halves.{Halves}
 use Rattle.gj_lines.specs.FunctionLines.{line}
 use Rattle.gj_proof.specs.declared.pivot.PivotRow.{PivotRow}
 use Rattle.gj_proof.specs.declared.claim.Claim.{Claim}
-use Rattle.gj_proof.specs.declared.claim.Claim.TheVariants.{Extreme, NotExtreme}
-use Rattle.gj_proof.specs.ProofText.{IsProofText}
+use Rattle.gj_proof.specs.declared.claim.Claim.TheVariants.{NotExtreme}
+use Rattle.gj_proof.specs.declared.numbers.Numbers.{Numbers}
+use Rattle.gj_proof.specs.ProofText.{IsProofText, extreme_claim}
 use Rattle.gj_proof.specs.Meaning.{ClaimHolds, ShowHalves}
 use Rattle.gj_proof.specs.Rules.{MeetsRules}
 use Rattle.gj_extreme.specs.Decision.{IsDecided, IsTooWide}
@@ -63,9 +64,10 @@ abbrev pub IsExtremality : FunctionData → End → List ℕ → Type 0
 IsExtremality f Done text = IsDecisionText f text
 IsExtremality f end text = IsNoVerdict f end text
 
--- the text claims that f is extreme, by cover lines and rows
+-- the text claims that f is extreme, by cover lines and rows, of whole numbers or over residues
 abbrev pub IsExtremeText : FunctionData → List ℕ → Type 0
-IsExtremeText f text = (lines : List CoverLine) × (rows : List PivotRow) × IsProofText (Extreme f lines rows) text
+IsExtremeText f text =
+    (numbers : Numbers) × (lines : List CoverLine) × (rows : List PivotRow) × IsProofText (extreme_claim numbers f lines rows) text
 
 -- the text claims that f is not extreme, and gives the halves
 abbrev pub IsNotExtremeText : FunctionData → Halves → List ℕ → Type 0

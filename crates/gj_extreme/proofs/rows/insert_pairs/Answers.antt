@@ -14,24 +14,24 @@ pairs-init c = (
       (next_rows c.args.shape.now c.args.a c.requires.below) c.requires.to_come,
 )
 
-pub insert-requires-clause-name : goal.insert-requires-clause-name
-insert-requires-clause-name c = (
+pub insert_pair-requires-clause-name : goal.insert_pair-requires-clause-name
+insert_pair-requires-clause-name c = (
   c.requires.below,
   found_below c.args.shape.now c.args.pairs.now c.args.a c.pairs.from c.in-Some.b c.row-row.result.now c.requires.pairs
       (record { tells = c.row-row.ensures.tells; within = c.row-row.ensures.within }) c.in-Some.ensures,
 )
 
-pub insert-requires-clause-ready : goal.insert-requires-clause-ready
-insert-requires-clause-ready c =
+pub insert_pair-requires-clause-ready : goal.insert_pair-requires-clause-ready
+insert_pair-requires-clause-ready c =
     rows_are_ready c.args.shape.now (component_in c.args.system.now.component) c.args.system.now.columns c.pairs.rows _
     c.requires.limits c.pairs.invariant.1
 
-pub returns-in_err-insert-clause-wide : goal.returns-in_err-insert-clause-wide
-returns-in_err-insert-clause-wide c = λ e.
+pub returns-in_err-insert_pair-clause-wide : goal.returns-in_err-insert_pair-clause-wide
+returns-in_err-insert_pair-clause-wide c = λ e.
     let behind = rows_from c.args.shape.now (c.args.a + 1) in
     let rest = pairs_from c.args.shape.now c.args.a (c.in-Some.b + 1) ++ behind in
-    c.in_err-insert.ensures.wide
-    (same_error c.from_residual.result c.in_err-insert.field-0.0 _ c.from_residual.ensures.0 c.from_residual.ensures.1 e)
+    c.in_err-insert_pair.ensures.wide
+    (same_error c.from_residual.result c.in_err-insert_pair.field-0.0 _ c.from_residual.ensures.0 c.from_residual.ensures.1 e)
     rest
     (subst (AreToCome c.args.shape.now (component_in c.args.system.now.component) c.args.system.now.columns c.pairs.rows)
     (found_next c.args.shape.now c.args.pairs.now c.args.a c.pairs.from c.in-Some.b c.row-row.result.now behind c.requires.pairs
@@ -51,7 +51,7 @@ pairs-preserved c =
     let below = found_below c.args.shape.now c.args.pairs.now c.args.a c.pairs.from c.in-Some.b c.row-row.result.now c.requires.pairs r
     c.in-Some.ensures in (
       omega (arith, below),
-      c.in_ok-insert.ensures.to_come rest
+      c.in_ok-insert_pair.ensures.to_come rest
           (subst (AreToCome c.args.shape.now (component_in c.args.system.now.component) c.args.system.now.columns c.pairs.rows)
           (found_next c.args.shape.now c.args.pairs.now c.args.a c.pairs.from c.in-Some.b c.row-row.result.now behind c.requires.pairs r
           c.in-Some.ensures) c.pairs.invariant.1),

@@ -6,7 +6,7 @@ use Rattle.gj_shape.specs.SlopeRows.{component_in}
 use Rattle.gj_shape.specs.Elimination.{kernel}
 use Rattle.gj_perturb.specs.SlopeSums.{slope_sum, IsWideSum}
 use Rattle.gj_extreme.proofs.FaultCases.{wide_elimination, wide_split, no_jump_elimination, no_jump_split}
-use Rattle.gj_extreme.proofs.FoundKernel.{kernel_found, kernel_covers, kernel_is_small}
+use Rattle.gj_extreme.proofs.FoundKernel.{kernel_same, kernel_found, kernel_covers, kernel_is_small}
 use Rattle.gj_extreme.proofs.ListedHalves.{sums_are, sums_can_split, slope_halves_are}
 use Rattle.gj_extreme.proofs.WideParts.{kernel_wide, sum_wide, scale_wide}
 use Rattle.gj_extreme.proofs.slopes.slope_halves.Goals as goal
@@ -14,15 +14,17 @@ use Rattle.gj_extreme.proofs.slopes.slope_halves.Goals as goal
 pub returns-in_err-kernel-clause-wide : goal.returns-in_err-kernel-clause-wide
 returns-in_err-kernel-clause-wide c = λ e.
     kernel_wide c.args.shape.now c.requires.covered.0 (component_in c.args.component.now) (length c.args.rows.now.row.items)
-    c.args.rows.now.basis.columns c.args.rows.now.basis.kept c.requires.covered.1 c.requires.inserted.columns c.requires.inserted.kept
+    c.args.rows.now.basis.columns c.args.rows.now.basis.kept c.requires.covered.1 c.requires.inserted.fits
+    (kernel_same c.args.shape.now (component_in c.args.component.now) (length c.args.rows.now.row.items) c.args.rows.now
+    c.requires.inserted)
     (c.in_err-kernel.ensures.wide (wide_elimination c.from_residual.result c.in_err-kernel.field-0.0 c.from_residual.ensures.0
     c.from_residual.ensures.1 e))
 
 pub from_slopes-requires-clause-components : goal.from_slopes-requires-clause-components
 from_slopes-requires-clause-components c =
     let n = length c.args.rows.now.row.items in
-    let found = kernel_found c.args.shape.now (component_in c.args.component.now) n c.args.rows.now.basis.columns c.args.rows.now.basis.kept
-    c.unwrap-numbers.result.items c.requires.inserted.columns c.requires.inserted.kept c.requires.fewer
+    let found = kernel_found c.args.shape.now (component_in c.args.component.now) n c.args.rows.now
+    c.unwrap-numbers.result.items c.requires.inserted c.requires.fewer
     (subst (λ o. IfSome o (λ v. IfSome (kernel c.args.rows.now.basis.columns c.args.rows.now.basis.kept) (λ s. v.items ≡ s.numbers)))
     c.unwrap-numbers.ensures c.in_ok-kernel.ensures.value)
     c.in_ok-kernel.ensures.narrow in
@@ -33,8 +35,8 @@ from_slopes-requires-clause-components c =
 pub from_slopes-requires-clause-small : goal.from_slopes-requires-clause-small
 from_slopes-requires-clause-small c =
     let n = length c.args.rows.now.row.items in
-    let found = kernel_found c.args.shape.now (component_in c.args.component.now) n c.args.rows.now.basis.columns c.args.rows.now.basis.kept
-    c.unwrap-numbers.result.items c.requires.inserted.columns c.requires.inserted.kept c.requires.fewer
+    let found = kernel_found c.args.shape.now (component_in c.args.component.now) n c.args.rows.now
+    c.unwrap-numbers.result.items c.requires.inserted c.requires.fewer
     (subst (λ o. IfSome o (λ v. IfSome (kernel c.args.rows.now.basis.columns c.args.rows.now.basis.kept) (λ s. v.items ≡ s.numbers)))
     c.unwrap-numbers.ensures c.in_ok-kernel.ensures.value)
     c.in_ok-kernel.ensures.narrow in
@@ -44,12 +46,13 @@ from_slopes-requires-clause-small c =
 pub returns-in_err-perturbation-clause-wide : goal.returns-in_err-perturbation-clause-wide
 returns-in_err-perturbation-clause-wide c = λ e.
     let n = length c.args.rows.now.row.items in
-    let found = kernel_found c.args.shape.now (component_in c.args.component.now) n c.args.rows.now.basis.columns c.args.rows.now.basis.kept
-    c.unwrap-numbers.result.items c.requires.inserted.columns c.requires.inserted.kept c.requires.fewer
+    let found = kernel_found c.args.shape.now (component_in c.args.component.now) n c.args.rows.now
+    c.unwrap-numbers.result.items c.requires.inserted c.requires.fewer
     (subst (λ o. IfSome o (λ v. IfSome (kernel c.args.rows.now.basis.columns c.args.rows.now.basis.kept) (λ s. v.items ≡ s.numbers)))
     c.unwrap-numbers.ensures c.in_ok-kernel.ensures.value)
     c.in_ok-kernel.ensures.narrow in
-    sum_wide c.args.shape.now c.requires.covered.0 c.args.component.now n found.solution c.requires.order c.requires.covered.1 found.solves
+    sum_wide c.args.shape.now c.requires.covered.0 c.args.component.now n found.solution c.requires.order c.requires.covered.1
+    c.requires.inserted.fits found.solves
     (subst (IsWideSum c.args.component.now) (c.as_slice.ensures.value ∙ found.same)
     (c.in_err-perturbation.ensures.wide (wide_split c.from_residual-in_err-perturbation.result c.in_err-perturbation.field-0.0
     c.from_residual-in_err-perturbation.ensures.0 c.from_residual-in_err-perturbation.ensures.1 e)))
@@ -57,8 +60,8 @@ returns-in_err-perturbation-clause-wide c = λ e.
 pub split-requires-clause-perturbation : goal.split-requires-clause-perturbation
 split-requires-clause-perturbation c =
     let n = length c.args.rows.now.row.items in
-    let found = kernel_found c.args.shape.now (component_in c.args.component.now) n c.args.rows.now.basis.columns c.args.rows.now.basis.kept
-    c.unwrap-numbers.result.items c.requires.inserted.columns c.requires.inserted.kept c.requires.fewer
+    let found = kernel_found c.args.shape.now (component_in c.args.component.now) n c.args.rows.now
+    c.unwrap-numbers.result.items c.requires.inserted c.requires.fewer
     (subst (λ o. IfSome o (λ v. IfSome (kernel c.args.rows.now.basis.columns c.args.rows.now.basis.kept) (λ s. v.items ≡ s.numbers)))
     c.unwrap-numbers.ensures c.in_ok-kernel.ensures.value)
     c.in_ok-kernel.ensures.narrow in
@@ -72,8 +75,8 @@ split-requires-clause-perturbation c =
 pub returns-in_err-split-clause-wide : goal.returns-in_err-split-clause-wide
 returns-in_err-split-clause-wide c = λ e.
     let n = length c.args.rows.now.row.items in
-    let found = kernel_found c.args.shape.now (component_in c.args.component.now) n c.args.rows.now.basis.columns c.args.rows.now.basis.kept
-    c.unwrap-numbers.result.items c.requires.inserted.columns c.requires.inserted.kept c.requires.fewer
+    let found = kernel_found c.args.shape.now (component_in c.args.component.now) n c.args.rows.now
+    c.unwrap-numbers.result.items c.requires.inserted c.requires.fewer
     (subst (λ o. IfSome o (λ v. IfSome (kernel c.args.rows.now.basis.columns c.args.rows.now.basis.kept) (λ s. v.items ≡ s.numbers)))
     c.unwrap-numbers.ensures c.in_ok-kernel.ensures.value)
     c.in_ok-kernel.ensures.narrow in
@@ -82,15 +85,15 @@ returns-in_err-split-clause-wide c = λ e.
     (c.in_ok-perturbation.ensures.values ∙ ap (λ xs. map (slope_sum c.args.component.now xs) (range_with_len 0 (length c.args.component.now)))
     (c.as_slice.ensures.value ∙ found.same)) in
     scale_wide c.args.shape.now c.requires.covered.0 c.args.component.now n found.solution c.in_ok-perturbation.perturbation
-    c.requires.limits c.requires.minimal c.requires.covered.1 found.solves sums
+    c.requires.limits c.requires.minimal c.requires.covered.1 c.requires.inserted.fits found.solves sums
     (c.in_err-split.ensures.wide (wide_split c.from_residual-in_err-split.result c.in_err-split.field-0.0
     c.from_residual-in_err-split.ensures.0 c.from_residual-in_err-split.ensures.1 e))
 
 pub returns-clause-halves : goal.returns-clause-halves
 returns-clause-halves c =
     let n = length c.args.rows.now.row.items in
-    let found = kernel_found c.args.shape.now (component_in c.args.component.now) n c.args.rows.now.basis.columns c.args.rows.now.basis.kept
-    c.unwrap-numbers.result.items c.requires.inserted.columns c.requires.inserted.kept c.requires.fewer
+    let found = kernel_found c.args.shape.now (component_in c.args.component.now) n c.args.rows.now
+    c.unwrap-numbers.result.items c.requires.inserted c.requires.fewer
     (subst (λ o. IfSome o (λ v. IfSome (kernel c.args.rows.now.basis.columns c.args.rows.now.basis.kept) (λ s. v.items ≡ s.numbers)))
     c.unwrap-numbers.ensures c.in_ok-kernel.ensures.value)
     c.in_ok-kernel.ensures.narrow in

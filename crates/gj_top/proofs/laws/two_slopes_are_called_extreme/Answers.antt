@@ -4,6 +4,7 @@ use Rattle.gj_shape.specs.Table.{IsMinimal}
 use Rattle.gj_shape.specs.TwoSlopes.{HasTwoSlopes}
 use Rattle.gj_ftext.specs.FunctionText.{IsWholeFunctionText}
 use Rattle.gj_proof.specs.declared.claim.Claim.{Claim}
+use Rattle.gj_proof.specs.declared.numbers.Numbers.TheVariants.{Whole}
 use Rattle.gj_proof.specs.ProofText.{IsProofText}
 use Rattle.gj_extreme.proofs.TwoSlopeDecisions.{two_slopes_decided, two_slopes_not_wide, continuous_no_jump}
 use Rattle.gj_top.specs.declared.reply.End.{End}
@@ -24,7 +25,7 @@ called_extreme : (f : FunctionData) (e : End) (text : List ℕ) → IsWithinBoun
     IsExtremality f e text → (e ≡ end.Done) × IsExtremeText f text
 called_extreme f end.Done text l minimal two d =
     let (lines, rows, same) = two_slopes_decided f d.claim l minimal two d.decided in
-    (refl, (lines, rows, subst (λ (c : Claim). IsProofText c text) same d.spelled))
+    (refl, (Whole, lines, rows, subst (λ (c : Claim). IsProofText c text) same d.spelled))
 called_extreme f end.NotContinuous text l minimal two h =
     absurd (continuous_no_jump f h.1.index two.continuous h.1.first.jump)
 called_extreme f end.Wide text l minimal two h = absurd (two_slopes_not_wide f l minimal two h.2)

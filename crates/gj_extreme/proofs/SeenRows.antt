@@ -1,0 +1,90 @@
+-- Pairs that are seen.
+use Rattle.std.proofs.Common.{◌≡◌, ℕ, ◌+◌, ◌%◌, ◌*◌, ◌<◌, ℤ, pos, ◌+ℤ◌, ◌-ℤ◌, List, [], ◌∷◌, ◌++◌, length, map, get_or, set, refl, sym, ap, ap₂, subst, ◌∙◌, inl, inr, arith}
+use Rattle.std.specs.Prelude.{All, Contains}
+use Rattle.std.specs.List.{range_with_len}
+use Rattle.std.proofs.Math.ListN.{length-set}
+use Rattle.std.proofs.Math.Nat.{mod-eq_of_lt}
+use Rattle.std.proofs.lemmas.List.Elements.{All-set}
+use Rattle.gj_tools.proofs.Lists.{All-made}
+use Rattle.gj_shape.specs.Elimination.{elimination, elimination_from, Passes}
+use Rattle.gj_shape.specs.FunctionData.{FunctionData}
+use Rattle.gj_shape.specs.SlopeRows.{row_entry, row_names, rises}
+use Rattle.gj_shape.specs.declared.extremality.RowName.{RowName}
+use Rattle.gj_shape.specs.declared.extremality.RowName.TheVariants.{Pair}
+use Rattle.gj_proof.specs.PresentRows.{named_row}
+use Rattle.gj_extreme.specs.RowsToCome.{AreToCome, IsTaken, AreHandedOver, name_of}
+use Rattle.gj_extreme.specs.SeenPairs.{IsPairBelow, AreSeenBelow, IsSeenRow}
+use Rattle.gj_extreme.specs.declared.rows.Rows.{Rows}
+use Rattle.gj_extreme.specs.declared.seen.SeenPair.{SeenPair}
+use Rattle.gj_extreme.specs.declared.seen.SeenPairs.{SeenPairs}
+use Rattle.gj_theory.specs.HandedOver.{handed_numbers, renumbered}
+
+-- the pair of zeros has a row of zeros
+zeros_at : (q : ℕ) → 0 < q → (0 + 0) % q ≡ 0
+zeros_at q some = mod-eq_of_lt some
+
+pub zero_pair : (f : FunctionData) (component : ℕ → ℕ) (n : ℕ) (before : List (List ℤ)) (p : SeenPair) → 0 < f.order →
+    p ≡ record { a = 0; b = 0 } → IsSeenRow f component n before p
+zero_pair f component n before p some is =
+    subst (IsSeenRow f component n before) (sym is)
+    (inl (All-made (λ x. x ≡ pos 0) (row_entry component f.order f.place (Pair 0 0)) 0 n
+    (λ c below. ap (λ i. pos 0 +ℤ pos 0 -ℤ pos (rises component i c)) (zeros_at f.order some))))
+
+-- a pair whose row was handed over is remembered
+pub pair_is_set : (f : FunctionData) (component : ℕ → ℕ) (n : ℕ) (rows : Rows) (seen : SeenPairs) (place : ℕ) (p : SeenPair)
+    (rest : List RowName) → IsPairBelow f.order p → seen.codes ≡ rows.seen.codes → seen.pairs.items ≡ set rows.seen.pairs.items place p →
+    IsTaken f component n (Pair p.a p.b) rows rest →
+    AreToCome f component n (record { basis = rows.basis; names = rows.names; row = rows.row; seen = seen }) rest
+pair_is_set f component n rows seen place p rest below codes pairs (h, has) =
+    let g = h.handed_over in
+    record {
+      columns = h.columns;
+      width = h.width;
+      seen_below = record {
+        places = ap length pairs ∙ length-set rows.seen.pairs.items place p ∙ h.seen_below.places;
+        points = subst (All (IsPairBelow f.order)) (sym pairs)
+            (All-set (IsPairBelow f.order) rows.seen.pairs.items place p below h.seen_below.points);
+        codes = ap (λ c. length c.items) codes ∙ h.seen_below.codes;
+      };
+      handed_over = record {
+        handed = g.handed;
+        before = g.before;
+        number = g.number;
+        few = g.few;
+        next = g.next;
+        onward = g.onward;
+        inserted = g.inserted;
+        kept = g.kept;
+        marked = g.marked;
+        names = g.names;
+        seen = subst (All (IsSeenRow f component n g.before)) (sym pairs)
+            (All-set (IsSeenRow f component n g.before) rows.seen.pairs.items place p (inr has) g.seen);
+      };
+    }
+
+-- no rows, of which all are to come
+pub none_yet : (f : FunctionData) (component : ℕ → ℕ) (n : ℕ) (rows : Rows) → rows.basis.columns ≡ n → rows.basis.inserted ≡ 0 →
+    rows.basis.kept ≡ [] → rows.names.items ≡ [] → length rows.row.items ≡ n → 0 < f.order → AreSeenBelow f.order rows.seen →
+    All (λ p. p ≡ record { a = 0; b = 0 }) rows.seen.pairs.items → AreToCome f component n rows (row_names f)
+none_yet f component n rows columns inserted kept names width some below zeros =
+    let start = λ (more : List (List ℤ)). ap₂ (λ ks i. elimination_from n ks i more) (sym kept) (sym inserted) in
+    record {
+      columns = columns;
+      width = width;
+      seen_below = below;
+      handed_over = record {
+        handed = [];
+        before = [];
+        number = 0;
+        few = omega arith;
+        next = ([], refl, refl);
+        onward = λ more given. given;
+        inserted = λ short. inserted;
+        kept = λ more. ap (λ e. e.kept) (start more);
+        marked = λ more.
+            (subst (λ e. Passes e.marked) (start more), subst (λ e. Passes e.marked) (sym (start more)));
+        names = λ more.
+            names ∙ ap (map (λ k. name_of f (renumbered more k))) (sym kept);
+        seen = λ i d low. zero_pair f component n [] (get_or rows.seen.pairs.items i d) some (zeros i d low);
+      };
+    }

@@ -1,0 +1,22 @@
+-- Pairs whose rows were handed over (own).
+use Rattle.std.specs.Prelude.{ℕ, ℤ, pos, ◌≡◌, ◌⊎◌, ◌*◌, ◌<◌, List, All, Contains, length}
+use Rattle.gj_shape.specs.FunctionData.{FunctionData}
+use Rattle.gj_shape.specs.declared.extremality.RowName.TheVariants.{Pair}
+use Rattle.gj_proof.specs.PresentRows.{named_row}
+use Rattle.gj_extreme.specs.declared.seen.SeenPair.{SeenPair}
+use Rattle.gj_extreme.specs.declared.seen.SeenPairs.{SeenPairs}
+
+-- both points are below the order
+abbrev pub IsPairBelow : ℕ → SeenPair → Type 0
+IsPairBelow q p = (p.a < q) × (p.b < q)
+
+-- there is a pair for each place, with points below the order, and a code for each point below twice the order
+pub record AreSeenBelow (q : ℕ) (seen : SeenPairs) : Type 0 where
+  pub places : length seen.pairs.items ≡ 4096
+  pub points : All (IsPairBelow q) seen.pairs.items
+  pub codes : length seen.codes.items ≡ 2 * q
+
+-- the row of the pair is all 0, or one of those before
+abbrev pub IsSeenRow : FunctionData → (ℕ → ℕ) → ℕ → List (List ℤ) → SeenPair → Type 0
+IsSeenRow f component n before p =
+    All (λ x. x ≡ pos 0) (named_row f component n (Pair p.a p.b)) ⊎ Contains before (named_row f component n (Pair p.a p.b))
