@@ -1,7 +1,13 @@
 -- What words spell as numbers, and what stops a row.
-use Rattle.std.proofs.Common.{◌≡◌, ℕ, ◌==◌, true, false, List, [], ◌∷◌, refl, length, Option, Some, None, Result, Ok, Err, IfSome, IfNone, IfErr, ap, subst, inl, inr, arith}
+use Rattle.std.proofs.Common.{pos, ◌<◌, ◌≡◌, ℕ, ◌==◌, true, false, List, [], ◌∷◌, refl, length, Option, Some, None, Result, Ok, Err, IfSome, IfNone, IfErr, ap, subst, inl, inr, arith}
 use Rattle.gj_frac.specs.declared.Frac.{Frac}
+use Rattle.std.proofs.Math.Nat.{one-dvd}
+use Rattle.std.proofs.lemmas.Int.{ints}
+use Rattle.std.proofs.lemmas.Nat.Gcd.{dvd_refl, IsGcd-from_zero, IsGcd-swap}
 use Rattle.gj_tools.proofs.Choices.{same_some}
+use Rattle.gj_lex.proofs.CanonicalTexts.{empty_word}
+use Rattle.gj_shape.specs.Denominators.{Extends}
+use Rattle.gj_shape.specs.Limits.{denominator_bound, greatest_number}
 use Rattle.gj_lex.specs.SpelledNumbers.{IsFractionWord}
 use Rattle.gj_lex.specs.declared.spelling.Spelling.TheVariants.{Lenient}
 use Rattle.gj_row.specs.TableauText.{SpellsEntry, is_zero, entry_at}
@@ -53,3 +59,30 @@ entry_none column x e = rw e refl
 
 pub entry_one : (column : ℕ) (x : Frac) → is_zero x ≡ false → entry_at column x ≡ record { column = column; value = x } ∷ []
 entry_one column x e = rw e refl
+
+zero : Frac
+zero = record {
+  num = pos 0;
+  den = pos 1;
+  lowest = record {
+    positive = omega (arith, ints);
+    num_fits = omega arith;
+    den_fits = omega arith;
+    coprime = IsGcd-swap 1 0 1 (IsGcd-from_zero 1 0 refl);
+  };
+}
+
+-- nothing spells 0, which leaves the common denominator as it is
+pub nothing_spells_zero : (word : List ℕ) (scale : ℕ) → true ≡ (length word == 0) → scale < denominator_bound →
+    (x : Frac) × SpellsEntry word x × Extends greatest_number scale x scale × (is_zero x ≡ true)
+unfolding zero
+nothing_spells_zero word scale empty high = (
+  zero,
+  inl (empty_word word empty, refl),
+  record {
+    small = omega arith;
+    least = (dvd_refl scale, one-dvd scale, λ c d e. d);
+    high = high;
+  },
+  refl,
+)

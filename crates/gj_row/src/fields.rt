@@ -23,6 +23,9 @@ pub(crate) fn word_at(fields: &ByteRecord, place: usize) -> &[u8]
 fn word_of(field: &[u8]) -> &[u8]
     ensures { result.now ≡ word_of field.now }
 {
+    if field.is_empty() {
+        return field;
+    }
     without_blanks_behind(without_blanks_before(field))
 }
 

@@ -5,7 +5,7 @@ ghost use Rattle.gj_frac.specs.declared.Frac.{Frac};
 ghost use Rattle.gj_frac.specs.Fraction.{IsRatio};
 ghost use Rattle.gj_lex.specs.SpelledNumbers.{IsFractionWord};
 ghost use Rattle.gj_lex.specs.declared.spelling.Spelling.{Spelling};
-ghost use Rattle.gj_shape.specs.Limits.{greatest_number};
+ghost use Rattle.gj_shape.specs.Limits.{denominator_bound, greatest_number};
 ghost use Rattle.gj_shape.specs.Denominators.{Extends};
 ghost use Rattle.gj_row.specs.TableauLimits.{most_entries};
 ghost use Rattle.gj_row.specs.TableauText.{SpellsEntry, entry_at, is_zero};
@@ -76,11 +76,15 @@ fn with_entry(
     word: &[u8],
 ) -> Result<u32, RecordFault>
     requires low { 0 < scale }
+    requires high { scale < denominator_bound }
     requires few { used + length entries.old.items ≤ most_entries }
     ensures found { IfOk result (λ m. (x : Frac) × SpellsEntry word.now x × Extends greatest_number scale x m
         × (entries.new.items ≡ entries.old.items ++ entry_at column x) × (used + length entries.new.items ≤ most_entries)) }
     ensures refused { IfErr result (NamesReason (StopsEntry (SpellsEntry word.now) scale (used + length entries.old.items))) }
 {
+    if word.is_empty() {
+        return Ok(scale);
+    }
     let (x, multiple) = match entry(scale, word) {
         Ok(read) => read,
         Err(reason) => return Err(RecordFault::Refused(reason)),

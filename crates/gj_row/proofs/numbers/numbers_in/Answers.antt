@@ -25,6 +25,7 @@ loop-place-init c =
 pub with_entry-requires : goal.with_entry-requires
 with_entry-requires c = record {
   low = c.loop-place.invariant.low;
+  high = c.loop-place.invariant.high;
   few = let e = ap length c.loop-place.invariant.entries_are in omega (arith, c.loop-place.invariant.begins.few);
 }
 

@@ -1,8 +1,15 @@
 use Rattle.std.proofs.Common.{sym, ap, ◌∙◌, ◌+◌, ◌≤◌, ◌≡◌, ◌++◌, length, false, arith}
 use Rattle.std.proofs.lemmas.List.{append-nil, length_push}
 use Rattle.gj_row.specs.TableauText.{is_zero}
-use Rattle.gj_row.proofs.SpelledNumbers.{entry_none, entry_one}
+use Rattle.gj_row.proofs.SpelledNumbers.{entry_none, entry_one, nothing_spells_zero}
 use Rattle.gj_row.proofs.numbers.with_entry.Goals as goal
+
+pub returns-then-is_empty-clause-found : goal.returns-then-is_empty-clause-found
+returns-then-is_empty-clause-found c =
+    let items = c.args.entries.now.items in
+    let (x, spelled, extends, is) = nothing_spells_zero c.args.word.now c.args.scale c.if-is_empty.ensures c.requires.high in
+    let none = entry_none c.args.column x is in
+    (x, spelled, extends, sym (append-nil items) ∙ ap (λ l. items ++ l) (sym none), c.requires.few)
 
 pub returns-then-is_zero-clause-found : goal.returns-then-is_zero-clause-found
 returns-then-is_zero-clause-found c =
