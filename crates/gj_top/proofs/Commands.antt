@@ -2,7 +2,7 @@
 use Rattle.std.proofs.Common.{◌≡◌, Bool, true, false, List, map, String, string_bytes, refl}
 use Rattle.std.specs.declared.alloc.Global.{Global}
 use Rattle.gj_words.specs.declared.requests.Command.{Command}
-use Rattle.gj_words.specs.declared.requests.Command.TheVariants.{Minimal, Extreme, Cut, Check, Show, Faces, Demo, Mixed, Fill, Times, Mirror, Restrict}
+use Rattle.gj_words.specs.declared.requests.Command.TheVariants.{Minimal, Extreme, Cut, Check, Show, Faces, Demo, Mixed, Fill, Group, Times, Mirror, Restrict}
 use Rattle.gj_words.specs.declared.requests.Request.{Request}
 use Rattle.gj_words.proofs.Spelling.{one}
 use Rattle.gj_top.specs.Promise.{reads}
@@ -29,6 +29,7 @@ each_reads Faces json = refl
 each_reads (Demo n) json = refl
 each_reads Mixed json = refl
 each_reads Fill json = refl
+each_reads Group json = refl
 each_reads (Times n j) json = refl
 each_reads Mirror json = refl
 each_reads (Restrict d) json = refl

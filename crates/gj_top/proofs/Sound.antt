@@ -3,7 +3,7 @@
 use Rattle.std.proofs.Common.{inl, inr, ℕ, Bool, true, false, List, IsTrue, refl}
 use Rattle.gj_shape.specs.FunctionData.{FunctionData, IsWithinBounds}
 use Rattle.gj_words.specs.declared.requests.Command.{Command}
-use Rattle.gj_words.specs.declared.requests.Command.TheVariants.{Minimal, Extreme, Cut, Check, Show, Faces, Demo, Mixed, Fill, Times, Mirror, Restrict}
+use Rattle.gj_words.specs.declared.requests.Command.TheVariants.{Minimal, Extreme, Cut, Check, Show, Faces, Demo, Mixed, Fill, Group, Times, Mirror, Restrict}
 use Rattle.gj_words.specs.declared.requests.Request.{Request}
 use Rattle.gj_top.specs.declared.reply.End.TheVariants.{Done}
 use Rattle.gj_top.specs.Promise.{reads, Spells}
@@ -20,6 +20,7 @@ use Rattle.gj_top.specs.Faces.{faces}
 use Rattle.gj_top.specs.Cut.{cut}
 use Rattle.gj_top.specs.Mixed.{mixed}
 use Rattle.gj_top.specs.Fill.{fill}
+use Rattle.gj_top.specs.Group.{group}
 use Rattle.gj_top.specs.Transform.{times, mirror, restriction}
 use Rattle.gj_top.specs.Demo.{IsTrueDemonstration, demo}
 use Rattle.gj_demo.specs.Summary.{HasSummary}
@@ -120,6 +121,14 @@ mixed_sound = record {
 fill_sound : IsSound fill
 fill_sound = record { form = function_text_sound; refusals = λ input text refused. refl; work = λ input f text spelled filled. filled }
 
+group_sound : IsSound group
+group_sound = record {
+  form = function_text_sound;
+  refusals = λ input text refused. refl;
+  work = λ input f text spelled decided.
+      record { continuous = decided.continuous; answer = decided.answer; says = decided.says; spelled = decided.spelled };
+}
+
 times_sound : (n j : ℕ) → IsSound (times n j)
 times_sound n j = record { form = function_text_sound; refusals = λ input text refused. refl; work = λ input f text spelled shown. shown }
 
@@ -165,6 +174,7 @@ sound_with Faces json = faces_sound
 sound_with (Demo n) json = demo_sound n
 sound_with Mixed json = mixed_sound
 sound_with Fill json = fill_sound
+sound_with Group json = group_sound
 sound_with (Times n j) json = times_sound n j
 sound_with Mirror json = mirror_sound
 sound_with (Restrict d) json = restriction_sound d

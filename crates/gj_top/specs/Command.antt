@@ -3,7 +3,7 @@ use Rattle.std.specs.Prelude.{Bool, true, false, List, map, String, string_bytes
 use Rattle.std.specs.declared.alloc.Global.{Global}
 use Rattle.gj_words.specs.Grammar.{SpellRequest}
 use Rattle.gj_words.specs.declared.requests.Command.{Command}
-use Rattle.gj_words.specs.declared.requests.Command.TheVariants.{Minimal, Extreme, Cut, Show, Check, Faces, Demo, Mixed, Fill, Times, Mirror, Restrict}
+use Rattle.gj_words.specs.declared.requests.Command.TheVariants.{Minimal, Extreme, Cut, Show, Check, Faces, Demo, Mixed, Fill, Group, Times, Mirror, Restrict}
 use Rattle.gj_words.specs.declared.requests.Request.{Request}
 use Rattle.gj_top.specs.Promise.{Promise}
 use Rattle.gj_top.specs.Task.{Work, Task}
@@ -16,6 +16,7 @@ use Rattle.gj_top.specs.Cut.{cut, cut_promise}
 use Rattle.gj_top.specs.Demo.{demo, demo_promise}
 use Rattle.gj_top.specs.Mixed.{mixed, mixed_promise}
 use Rattle.gj_top.specs.Fill.{fill, fill_promise}
+use Rattle.gj_top.specs.Group.{group, group_promise}
 use Rattle.gj_top.specs.Transform.{times, times_promise, mirror, mirror_promise, restriction, restriction_promise}
 
 -- what a command with the flag or without it promises
@@ -32,6 +33,7 @@ promise_with Cut json = cut_promise
 promise_with (Demo n) json = demo_promise n
 promise_with Mixed json = mixed_promise
 promise_with Fill json = fill_promise
+promise_with Group json = group_promise
 promise_with (Times n j) json = times_promise n j
 promise_with Mirror json = mirror_promise
 promise_with (Restrict d) json = restriction_promise d
@@ -53,6 +55,7 @@ work_with Cut json = cut.work
 work_with (Demo n) json = (demo n).work
 work_with Mixed json = mixed.work
 work_with Fill json = fill.work
+work_with Group json = group.work
 work_with (Times n j) json = (times n j).work
 work_with Mirror json = mirror.work
 work_with (Restrict d) json = (restriction d).work

@@ -14,6 +14,7 @@ pub mod Cut
 pub mod CutSteps
 pub mod Mixed
 pub mod Fill
+pub mod Group
 pub mod Transform
 pub mod Command
 pub mod Reply

@@ -6,7 +6,7 @@ ghost use Rattle.gj_top.specs.Promise.{reads};
 ghost use Rattle.gj_top.specs.Task.{IsAnswering};
 
 use crate::reply::{Reply, Unanswered};
-use crate::{check, cut, demo, extreme, faces, fill, minimal, mixed, show, transform};
+use crate::{check, cut, demo, extreme, faces, fill, group, minimal, mixed, show, transform};
 use gj_words::{Command, Request, WordFault, read_words};
 use std::alloc::{AllocError, Global};
 
@@ -35,6 +35,7 @@ pub(crate) fn reads_input(request: Request) -> bool
         Command::Demo(_) => false,
         Command::Mixed => true,
         Command::Fill => true,
+        Command::Group => true,
         Command::Times(_, _) => true,
         Command::Mirror => true,
         Command::Restrict(_) => true,
@@ -59,6 +60,7 @@ pub(crate) fn reply_to(alloc: Global, request: Request, input: &[u8]) -> Result<
         Command::Demo(n) => demo::reply(alloc, n),
         Command::Mixed => mixed::reply(alloc, input),
         Command::Fill => fill::reply(alloc, input),
+        Command::Group => group::reply(alloc, input),
         Command::Times(n, j) => transform::times_reply(alloc, input, n, j),
         Command::Mirror => transform::mirror_reply(alloc, input),
         Command::Restrict(order) => transform::restrict_reply(alloc, input, order),

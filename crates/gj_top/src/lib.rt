@@ -26,6 +26,7 @@ mod face_lines;
 mod faces;
 mod fill;
 mod forms;
+mod group;
 mod laws;
 mod lines;
 mod minimal;
@@ -55,7 +56,8 @@ pub use status::Status;
 /// maximal additive faces and its covered intervals. With `--json`, `minimal`, `extreme` and `show` read a function in
 /// JSON, and `minimal` and `extreme` write a report of the proof text, `show` the function in JSON. `demo` reads nothing, and writes the summary of
 /// the decision on a function of its own. `mixed` reads what `cut` reads and writes the cuts of the rows, of which columns with a name that begins
-/// with `c:` are continuous. `fill` reads the function text of a continuous function and writes its two-slope fill-in by breakpoints. `times`,
+/// with `c:` are continuous. `fill` reads the function text of a continuous function and writes its two-slope fill-in by breakpoints. `group` reads the
+/// function text of a continuous function and says whether the table of its own order is extreme. `times`,
 /// `mirror` and `restrict` read a function text and write the canonical text of the function of n x, of that of -x, or of a restriction. The whole input is read first, and the whole
 /// answer is made before its first byte is written.
 pub fn run<S: Source, K: Sink>(

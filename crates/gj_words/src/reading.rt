@@ -134,6 +134,7 @@ fn plain_command(name: &str) -> Option<Command>
         "faces" => Some(Command::Faces),
         "mixed" => Some(Command::Mixed),
         "fill" => Some(Command::Fill),
+        "group" => Some(Command::Group),
         "mirror" => Some(Command::Mirror),
         _ => None,
     }

@@ -27,6 +27,8 @@ pub enum Command {
     Mixed,
     /// Prints the two-slope fill-in of a function by its breakpoints.
     Fill,
+    /// Decides whether the table of a function's own order is extreme.
+    Group,
     /// Prints the function with the value of a function at n x, for the first number n, and with the place (f + j)/n, for
     /// the second number j.
     Times(u32, u32),

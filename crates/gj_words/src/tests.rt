@@ -29,6 +29,7 @@ fn each_command_is_read(rt: HostRuntime) -> Result<(), Fail> {
         ("demo 249", Command::Demo(249), false),
         ("mixed", Command::Mixed, false),
         ("fill", Command::Fill, false),
+        ("group", Command::Group, false),
         ("times 1 0", Command::Times(1, 0), false),
         ("times 500 499", Command::Times(500, 499), false),
         ("mirror", Command::Mirror, false),

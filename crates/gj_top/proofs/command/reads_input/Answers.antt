@@ -1,4 +1,4 @@
-use Rattle.gj_words.specs.declared.requests.Command.TheVariants.{Minimal, Extreme, Show, Check, Faces, Cut, Demo, Mixed, Fill, Times, Mirror, Restrict}
+use Rattle.gj_words.specs.declared.requests.Command.TheVariants.{Minimal, Extreme, Show, Check, Faces, Cut, Demo, Mixed, Fill, Group, Times, Mirror, Restrict}
 use Rattle.gj_top.proofs.Commands.{each_reads}
 use Rattle.gj_top.proofs.command.reads_input.Goals as goal
 
@@ -28,6 +28,9 @@ returns-in-Mixed c = rw c.in-Mixed.is (each_reads Mixed c.args.request.json)
 
 pub returns-in-Fill : goal.returns-in-Fill
 returns-in-Fill c = rw c.in-Fill.is (each_reads Fill c.args.request.json)
+
+pub returns-in-Group : goal.returns-in-Group
+returns-in-Group c = rw c.in-Group.is (each_reads Group c.args.request.json)
 
 pub returns-in-Mirror : goal.returns-in-Mirror
 returns-in-Mirror c = rw c.in-Mirror.is (each_reads Mirror c.args.request.json)

@@ -36,6 +36,9 @@ returns-in-Mixed c = rw c.in-Mixed.is c.reply-in-Mixed.ensures
 pub returns-in-Fill : goal.returns-in-Fill
 returns-in-Fill c = rw c.in-Fill.is c.reply-in-Fill.ensures
 
+pub returns-in-Group : goal.returns-in-Group
+returns-in-Group c = rw c.in-Group.is c.reply-in-Group.ensures
+
 pub returns-in-Times : goal.returns-in-Times
 returns-in-Times c = rw c.in-Times.is c.times_reply.ensures
 

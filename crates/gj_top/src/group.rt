@@ -1,0 +1,58 @@
+//! The command `group`: whether the table of a function's own order is extreme.
+ghost use Rattle.std.specs.Prelude.{IfOk};
+ghost use Rattle.gj_shape.specs.FunctionData.{IsContinuous};
+ghost use Rattle.gj_top.specs.Task.{IsAnswering};
+ghost use Rattle.gj_top.specs.Group.{IsGroupReply, group};
+
+use crate::continuity::jump_line;
+use crate::forms::function_of;
+use crate::reply::{End, Reply, Unanswered};
+use gj_group::{GREATEST_GROUP_ORDER, GroupFault, decide_group};
+use gj_gtext::group_text;
+use gj_shape::Shape;
+use std::alloc::{AllocError, Global};
+
+/// The verdict on the table of the function that the input spells.
+pub(crate) fn reply(alloc: Global, input: &[u8]) -> Result<Reply, Unanswered>
+    ensures { IsAnswering group input.now result }
+{
+    let shape = function_of(alloc, input)?;
+    Ok(verdict_or_jump(alloc, &shape)?)
+}
+
+/// The verdict on the function's table, or its first jump.
+fn verdict_or_jump(alloc: Global, shape: &Shape) -> Result<Reply, AllocError>
+    ensures { IfOk result (λ reply. IsGroupReply shape.now reply.end reply.text.items) }
+{
+    match shape.first_jump() {
+        Some(index) => Ok(Reply {
+            end: End::NotContinuous,
+            text: jump_line(alloc, shape, index)?,
+        }),
+        None => verdict_or_limit(alloc, shape),
+    }
+}
+
+/// The verdict on the table of a continuous function, unless its order passes the limit or a number is too wide.
+fn verdict_or_limit(alloc: Global, shape: &Shape) -> Result<Reply, AllocError>
+    requires { IsContinuous shape.now }
+    ensures { IfOk result (λ reply. IsGroupReply shape.now reply.end reply.text.items) }
+{
+    if shape.order() > GREATEST_GROUP_ORDER {
+        return Ok(Reply {
+            end: End::OrderLimit,
+            text: Vec::from_slice(alloc, b"order limit\n")?,
+        });
+    }
+    match decide_group(alloc, shape) {
+        Ok(answer) => Ok(Reply {
+            end: End::Done,
+            text: group_text(alloc, shape, &answer)?,
+        }),
+        Err(GroupFault::Wide) => Ok(Reply {
+            end: End::Wide,
+            text: Vec::from_slice(alloc, b"wide\n")?,
+        }),
+        Err(GroupFault::Memory(error)) => Err(error),
+    }
+}
