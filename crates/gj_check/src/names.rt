@@ -18,7 +18,7 @@ pub(crate) fn first_repeated(
     ensures repeated { IfOk result (λ n. n < length terms.now →
         AtIndex terms.now n (λ before t. MeetsName basic.now before t → ⊥)) }
 {
-    let mut seen: IndexSet<&[u8]> = IndexSet::new(alloc);
+    let mut seen: IndexSet<&[u8]> = IndexSet::with_capacity(alloc, terms.len())?;
     seen.insert(basic.bytes())?;
     for (index, term) in terms.iter().enumerate() {
         if !seen.insert(term.name.bytes())? {

@@ -8,8 +8,8 @@ use Rattle.gj_check.proofs.names.first_repeated.Goals as goal
 pub loop-index-init : goal.loop-index-init
 loop-index-init c = (
   subst (λ ks. HasNames ks c.args.basic.now []) (sym c.in_ok-insert.ensures.keys)
-      (subst (λ b. HasNames (insert_key same_bytes c.new-seen.result.keys c.bytes.result) b []) c.bytes.ensures.value
-      (basic_seen c.new-seen.result.keys c.bytes.result c.new-seen.ensures.empty)),
+      (subst (λ b. HasNames (insert_key same_bytes c.in_ok-seen.seen.keys c.bytes.result) b []) c.bytes.ensures.value
+      (basic_seen c.in_ok-seen.seen.keys c.bytes.result c.in_ok-seen.ensures.empty)),
   λ i below. absurd (omega arith),
 )
 
