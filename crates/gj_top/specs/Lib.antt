@@ -16,6 +16,7 @@ pub mod Mixed
 pub mod Fill
 pub mod Transform
 pub mod Command
+pub mod OneAnswer
 pub mod Reply
 pub mod Answer
 pub mod Outcome
