@@ -4,6 +4,7 @@ pub mod Names
 pub mod SpelledNumbers
 pub mod RowNumbers
 pub mod OneTableau
+pub mod OneFirstFault
 pub mod RowsRead
 pub mod RowWords
 pub mod HeaderWords

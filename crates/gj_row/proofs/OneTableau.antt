@@ -52,7 +52,7 @@ one_entry w x y (inl h) (inr k) = absurd (nothing_spelled y (subst (λ v. IsFrac
 one_entry w x y (inr h) (inl k) = absurd (nothing_spelled x (subst (λ v. IsFractionWord Lenient v x) k.0 h))
 one_entry w x y (inr h) (inr k) = one_fraction Lenient w x y h k
 
-one_next : (xs : List Frac) (w : List ℕ) (x y : Frac) → SpellsNext xs w x → SpellsNext xs w y → x ≡ y
+pub one_next : (xs : List Frac) (w : List ℕ) (x y : Frac) → SpellsNext xs w x → SpellsNext xs w y → x ≡ y
 one_next [] w x y h k = one_fraction Lenient w x y h k
 one_next (r ∷ xs) w x y h k = one_entry w x y h k
 
@@ -68,7 +68,7 @@ one_each R one (u ∷ us) (x ∷ xs) (y ∷ ys) h k =
     let rest = one_each R one us xs ys h.1 k.1 in
     cc
 
-one_list : (ws : List (List ℕ)) (xs ys : List Frac) → SpellNumbers ws xs → SpellNumbers ws ys → xs ≡ ys
+pub one_list : (ws : List (List ℕ)) (xs ys : List Frac) → SpellNumbers ws xs → SpellNumbers ws ys → xs ≡ ys
 one_list [] [] [] h k = refl
 one_list [] [] (y ∷ ys) h k = absurd k
 one_list [] (x ∷ xs) ys h k = absurd h
@@ -123,7 +123,7 @@ front_names xs ys h = record {
       (get_or_append_left xs ys d i first ∙ e ∙ sym (get_or_append_left xs ys d j within));
 }
 
-name_denied : (front back : List (List ℕ)) (word : List ℕ) (e : RowReason) → AreNames (front ++ word ∷ back) → BreaksName front word e → ⊥
+pub name_denied : (front back : List (List ℕ)) (word : List ℕ) (e : RowReason) → AreNames (front ++ word ∷ back) → BreaksName front word e → ⊥
 name_denied front back word Name h b = b (All-head IsName word back (All-back IsName front (word ∷ back) h.valid))
 name_denied front back word Twice h b =
     let k = b.1.0 in
@@ -191,7 +191,7 @@ front_few : (xs ys : List Frac) → length (entries_of xs) ≤ length (entries_o
 front_few [] ys = omega arith
 front_few (x ∷ xs) ys = entries_long 0 xs ys
 
-number_denied : (used : ℕ) (ws : List (List ℕ)) (zs : List Frac) (e : RowReason) → SpellNumbers ws zs → AreWithinLimits zs →
+pub number_denied : (used : ℕ) (ws : List (List ℕ)) (zs : List Frac) (e : RowReason) → SpellNumbers ws zs → AreWithinLimits zs →
     used + length (entries_of zs) ≤ 100000 → HasNumberFault used ws e → ⊥
 number_denied used ws zs e spelled within few fault =
     let p = parted fault.front fault.back fault.word zs (subst (λ v. SpellNumbers v zs) fault.place spelled) in

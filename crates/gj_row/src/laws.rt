@@ -15,3 +15,9 @@ pub fn no_fault_in_a_tableau_text()
     ensures { (text : List ℕ) (t : Tableau) (number : ℕ) (reason : RowReason) → IsTableauText text t →
         IsFirstFaultOfTableau text number reason → ⊥ }
 {}
+
+/// A text has one first fault: a refusal says which.
+pub fn one_first_fault_of_a_tableau_text()
+    ensures { (text : List ℕ) (n m : ℕ) (e d : RowReason) →
+        IsFirstFaultOfTableau text n e → IsFirstFaultOfTableau text m d → (n ≡ m) × (e ≡ d) }
+{}

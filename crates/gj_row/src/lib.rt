@@ -18,7 +18,9 @@ mod read;
 mod tableau;
 
 pub use faults::{RowFault, RowReason};
-pub use laws::{no_fault_in_a_tableau_text, one_tableau_for_a_text};
+pub use laws::{
+    no_fault_in_a_tableau_text, one_first_fault_of_a_tableau_text, one_tableau_for_a_text,
+};
 pub use tableau::{Entry, Row, Tableau};
 
 #[cfg(test)]
