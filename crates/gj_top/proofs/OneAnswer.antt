@@ -8,22 +8,26 @@ use Rattle.gj_top.specs.Answer.{IsAnswerTo}
 use Rattle.gj_top.specs.Command.{task_with, task_for}
 use Rattle.gj_top.specs.OneAnswer.{makes_function}
 use Rattle.gj_top.proofs.Determined.{IsDetermined, one_answer_of}
+use Rattle.gj_top.proofs.OneCuts.{cut_is_determined}
+use Rattle.gj_top.proofs.OneListing.{faces_is_determined, fill_is_determined, demo_is_determined}
+use Rattle.gj_top.proofs.OneMixed.{mixed_is_determined}
+use Rattle.gj_top.proofs.OneReported.{minimal_json_is_determined, extreme_json_is_determined, show_json_is_determined}
 use Rattle.gj_top.proofs.OneVerdict.{minimal_is_determined, extreme_is_determined, show_is_determined, check_is_determined}
 use Rattle.gj_top.proofs.Sound.{sound}
 
 is_determined : (c : Command) (json : Bool) → makes_function c ≡ false → IsDetermined (task_with c json)
-is_determined Minimal true e = ?
+is_determined Minimal true e = minimal_json_is_determined
 is_determined Minimal false e = minimal_is_determined
-is_determined Extreme true e = ?
+is_determined Extreme true e = extreme_json_is_determined
 is_determined Extreme false e = extreme_is_determined
-is_determined Show true e = ?
+is_determined Show true e = show_json_is_determined
 is_determined Show false e = show_is_determined
 is_determined Check json e = check_is_determined
-is_determined Faces json e = ?
-is_determined Cut json e = ?
-is_determined (Demo n) json e = ?
-is_determined Mixed json e = ?
-is_determined Fill json e = ?
+is_determined Faces json e = faces_is_determined
+is_determined Cut json e = cut_is_determined
+is_determined (Demo n) json e = demo_is_determined n
+is_determined Mixed json e = mixed_is_determined
+is_determined Fill json e = fill_is_determined
 is_determined (Times n j) json e = absurd (cc)
 is_determined Mirror json e = absurd (cc)
 is_determined (Restrict d) json e = absurd (cc)

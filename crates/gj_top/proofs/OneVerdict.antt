@@ -155,12 +155,12 @@ one_decision_text f x y l h k =
 
 -- a minimal function that is decided is continuous
 decided_continuous : (f : FunctionData) (c : Claim) → IsWithinBounds f → IsMinimal f → IsDecided f c → IsContinuous f
-decided_continuous f (Minimal g) l minimal h = absurd h
-decided_continuous f (NotMinimal g v) l minimal h = absurd (violation_denies f v l (first_shown f v l h.1) minimal)
-decided_continuous f (Cut r rows) l minimal h = absurd h
-decided_continuous f (Extreme g lines rows) l minimal h = h.2
-decided_continuous f (ExtremeByResidues g lines rows) l minimal h = absurd h
-decided_continuous f (NotExtreme g halves) l minimal h = h.2
+decided_continuous f (Minimal g) l m h = absurd h
+decided_continuous f (NotMinimal g v) l m h = absurd (violation_denies f v l (first_shown f v l h.1) m)
+decided_continuous f (Cut r rows) l m h = absurd h
+decided_continuous f (Extreme g lines rows) l m h = h.2
+decided_continuous f (ExtremeByResidues g lines rows) l m h = absurd h
+decided_continuous f (NotExtreme g halves) l m h = h.2
 
 decided_no_jump : (f : FunctionData) (x y : List ℕ) → IsWithinBounds f → IsDecisionText f x → IsJumpText f y → ⊥
 decided_no_jump f x y l h k = no_jump_named f y (decided_continuous f h.claim l k.0 h.decided) k.1
