@@ -173,9 +173,11 @@ one_reported : (replies : FunctionData → End → List ℕ → Type 0) →
 one_reported replies one f l e d x y h k =
     let (p, first, tells) = reply_of replies f e x h in
     let (q, second, told) = reply_of replies f d y k in
-    let same = one f l e d p q first second in
-    (same.0, one_told e p x y tells
-    (subst (λ (t : List ℕ). Tells e t y) (sym same.1) (subst (λ (n : End). Tells n q y) (sym same.0) told)))
+    let same = one f l e d p q first second in (
+      same.0,
+      one_told e p x y tells
+          (subst (λ (t : List ℕ). Tells e t y) (sym same.1) (subst (λ (n : End). Tells n q y) (sym same.0) told)),
+    )
 
 pub minimal_json_is_determined : IsDetermined minimal_json
 minimal_json_is_determined = record {
