@@ -38,12 +38,12 @@ rule_is_bounded text (Table f) rest h = function_is_within text f rest h.1
 
 -- ---- refusals
 
-no_rule_fault : (text : List ℕ) (r : CutRule) (rest : List ℕ) (n : ℕ) (e : Reason) → BeginsWithRule text r rest →
+pub no_rule_fault : (text : List ℕ) (r : CutRule) (rest : List ℕ) (n : ℕ) (e : Reason) → BeginsWithRule text r rest →
     BeginsAsRule text → IsFirstFaultOfRule text n e → ⊥
 no_rule_fault text Gmic rest n e h begins fault = no_fault_of_rule text rest n e h.1 fault
 no_rule_fault text (Table f) rest n e h begins fault = h.0 begins
 
-no_function_fault : (text : List ℕ) (r : CutRule) (rest : List ℕ) (n : ℕ) (e : Reason) → BeginsWithRule text r rest →
+pub no_function_fault : (text : List ℕ) (r : CutRule) (rest : List ℕ) (n : ℕ) (e : Reason) → BeginsWithRule text r rest →
     (BeginsAsRule text → ⊥) → IsFirstFault text n e → ⊥
 no_function_fault text Gmic rest n e h begins fault = begins h.0
 no_function_fault text (Table f) rest n e h begins fault = no_fault_of_text text rest f n e h.1 fault

@@ -32,7 +32,7 @@ part_of_cut x k q below has =
 -- ---- the mixed-integer cut
 
 -- f is the fractional part of the right side
-place_is : (right f : Frac) (n k : ℕ) → HasFractionalPart right (numerator f) (denominator f) → HasPart right k n → IsRatio f (pos k) (pos n)
+pub place_is : (right f : Frac) (n k : ℕ) → HasFractionalPart right (numerator f) (denominator f) → HasPart right k n → IsRatio f (pos k) (pos n)
 place_is right f n k has h =
     let w = int_div_euclid right.num right.den in
     let floor = quotient_is_floor right in

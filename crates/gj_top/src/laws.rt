@@ -1,6 +1,7 @@
 //! Laws of the answers of commands, the limit of length included, of their replies, whatever the length, and of reports.
 
-ghost use Rattle.std.specs.Prelude.{◌≡◌, ◌↔◌, ◌*◌, ◌≤◌, ℕ, List, length};
+ghost use Rattle.std.specs.Prelude.{◌≡◌, ◌↔◌, ◌*◌, ◌≤◌, ℕ, List, false, length, String};
+ghost use Rattle.std.specs.declared.alloc.Global.{Global};
 ghost use Rattle.gj_top.specs.declared.reply.End.{End};
 ghost use Rattle.gj_top.specs.declared.reply.End.TheVariants as end;
 ghost use Rattle.gj_top.specs.declared.status.Status.{Status};
@@ -13,7 +14,10 @@ ghost use Rattle.gj_ftext.specs.FunctionText.{IsWholeFunctionText};
 ghost use Rattle.gj_proof.specs.declared.claim.Claim.{Claim};
 ghost use Rattle.gj_proof.specs.ProofText.{IsBounded, IsProofText};
 ghost use Rattle.gj_json.specs.JsonText.{IsReport};
+ghost use Rattle.gj_words.specs.declared.requests.Request.{Request};
 ghost use Rattle.gj_top.specs.Task.{IsReply};
+ghost use Rattle.gj_top.specs.Command.{IsNamed, task_for};
+ghost use Rattle.gj_top.specs.OneAnswer.{makes_function};
 ghost use Rattle.gj_top.specs.Minimal.{minimal};
 ghost use Rattle.gj_top.specs.Show.{show};
 ghost use Rattle.gj_top.specs.Check.{check};
@@ -70,4 +74,12 @@ pub fn one_proof_in_a_report()
         (verdict ≡ word) × (first ≡ second) }
     ensures claim { (c d : Claim) (verdict word first second text : List ℕ) → IsBounded c → IsBounded d →
         IsProofText c first → IsProofText d second → IsReport verdict first text → IsReport word second text → c ≡ d }
+{}
+
+/// To words and an input there is one answer, one status and one text: words name at most one request, and but for `times`,
+/// `mirror` and `restrict` a request has one answer to an input.
+pub fn one_answer()
+    ensures request { (words : List (String Global)) (r q : Request) → IsNamed words r → IsNamed words q → r ≡ q }
+    ensures answer { (r : Request) (input : List ℕ) (s t : Status) (x y : List ℕ) → makes_function r.command ≡ false →
+        IsAnswerTo (task_for r) input s x → IsAnswerTo (task_for r) input t y → (s ≡ t) × (x ≡ y) }
 {}

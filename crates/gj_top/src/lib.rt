@@ -41,7 +41,7 @@ mod transform;
 
 use answer::answer_to;
 pub use laws::{
-    extreme_exactly_where_order_4q_is, one_proof_in_a_report, shown_text_is_read,
+    extreme_exactly_where_order_4q_is, one_answer, one_proof_in_a_report, shown_text_is_read,
     two_slopes_are_called_extreme, written_proofs_are_accepted,
 };
 pub use status::Status;

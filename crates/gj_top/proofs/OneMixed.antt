@@ -1,0 +1,287 @@
+-- The command `mixed` has one answer.
+use Rattle.std.proofs.Common.{◌≡◌, ◌≢◌, ℕ, ◌-◌, ◌<◌, ◌≤◌, Bool, true, false, ℤ, pos, int_lt, neg_ℤ, ◌-ℤ◌, ◌*ℤ◌, ◌<ℤ◌, ◌≤ℤ◌, unsigned_abs, List, ◌++◌, codes, flat_map, refl, sym, ap₂, subst, ◌∙◌, arith}
+use Rattle.std.specs.Int.{int_div_euclid}
+use Rattle.std.proofs.lemmas.Int.{ints}
+use Rattle.gj_tools.proofs.Integers.{mul_some_z, positive_some_z}
+use Rattle.gj_frac.specs.declared.Frac.{Frac}
+use Rattle.gj_frac.specs.Floor.{IsFloor, rest_above, HasFractionalPart}
+use Rattle.gj_frac.specs.Fraction.{IsWhole, IsInside, numerator, denominator, fraction_of, quotient_of}
+use Rattle.gj_frac.proofs.Floors.{quotient_is_floor}
+use Rattle.gj_frac.proofs.SameValues.{same_from_is}
+use Rattle.gj_lines.specs.FunctionLines.{line}
+use Rattle.gj_lines.proofs.OneTextOfLines.{one_text_of_lines}
+use Rattle.gj_shape.specs.FunctionData.{FunctionData, IsWithinBounds, at}
+use Rattle.gj_shape.proofs.LeastDenominator.{denominator_some}
+use Rattle.gj_theory.specs.Cuts.{IsGmicValue, one_minus}
+use Rattle.gj_row.specs.declared.tableau.Entry.{Entry}
+use Rattle.gj_row.specs.declared.tableau.Row.{Row}
+use Rattle.gj_row.specs.declared.tableau.Tableau.{Tableau}
+use Rattle.gj_rule.specs.declared.kind.RuleKind.TheVariants as kind
+use Rattle.gj_cut.specs.RowCuts.{IsTermOfKind}
+use Rattle.gj_cut.specs.declared.cut.Term.{Term}
+use Rattle.gj_mixed.specs.MixedCuts.{whole_entries, continuous_entries, IsWeightTerm, IsMixedCutOfKind, IsGmicMixedCutOf}
+use Rattle.gj_mixed.specs.Slopes.{IsWeight, AreGmicSlopes}
+use Rattle.gj_mixed.specs.declared.cut.MixedCut.{MixedCut}
+use Rattle.gj_mixed.specs.declared.cut.MixedCut.TheVariants as mixed_cut
+use Rattle.gj_mtext.specs.Columns.{continuous_columns}
+use Rattle.gj_mtext.specs.MixedLines.{IsNamedTerm, IsMixedCutBy, NamesMixedCut, IsMixedLineFor, AreMixedCutsOf, MakesMixedCuts, mixed_row_text}
+use Rattle.gj_mtext.specs.declared.lines.MixedLine.{MixedLine}
+use Rattle.gj_fill.proofs.Ascending.{inside_from_ratio}
+use Rattle.gj_check.proofs.FractionalParts.{some_part, part_some}
+use Rattle.gj_check.proofs.ValuesOfCuts.{one_value}
+use Rattle.gj_proof.specs.ProofText.{IsBoundedRule, AreSubjectLines, subject_of_rule}
+use Rattle.gj_proof.specs.declared.cut.CutLine.{CutLine}
+use Rattle.gj_proof.specs.declared.cut.CutLine.TheVariants.{Cut, Skip}
+use Rattle.gj_proof.specs.declared.cut.CutRule.{CutRule}
+use Rattle.gj_proof.specs.declared.cut.CutRule.TheVariants.{Gmic, Table}
+use Rattle.gj_proof.specs.declared.cut.CutTerm.{CutTerm}
+use Rattle.gj_proof.specs.declared.cut.SkipReason.TheVariants.{Integral, Other}
+use Rattle.gj_top.specs.declared.reply.End.{End}
+use Rattle.gj_top.specs.declared.reply.End.TheVariants as end
+use Rattle.gj_top.specs.Cut.{CutInput, SpellsCutInput, NamesViolation}
+use Rattle.gj_top.specs.Mixed.{NamesJump, IsMixedReply, mixed}
+use Rattle.gj_top.proofs.CutParts.{place_is}
+use Rattle.gj_top.proofs.Determined.{IsDetermined, one_each}
+use Rattle.gj_top.proofs.OneCuts.{one_cut_spelled, one_cut_refusal, by_rule_bounds, one_violation_text, no_violation, same_cut_term}
+use Rattle.gj_top.proofs.OneVerdict.{one_jump_text, no_jump_named}
+
+-- ---- weights and values of mixed cuts
+
+one_weight : (up down c w v : Frac) → IsWeight up down c w → IsWeight up down c v → w ≡ v
+one_weight up down c w v h k = by_sign (int_lt c.num (pos 0)) refl
+  where
+    up_some : unsigned_abs (up.den *ℤ c.den) ≢ 0
+    up_some = mul_some_z up.den c.den (positive_some_z up.den up.lowest.positive) (positive_some_z c.den c.lowest.positive)
+
+    down_some : unsigned_abs (down.den *ℤ c.den) ≢ 0
+    down_some = mul_some_z down.den c.den (positive_some_z down.den down.lowest.positive) (positive_some_z c.den c.lowest.positive)
+
+    by_sign : (b : Bool) → int_lt c.num (pos 0) ≡ b → w ≡ v
+    by_sign true e =
+        let below : c.num <ℤ pos 0 = omega (arith, ints) in
+        same_from_is w v (down.num *ℤ neg_ℤ c.num) (down.den *ℤ c.den) down_some (h.falls below) (k.falls below)
+    by_sign false e =
+        let from : pos 0 ≤ℤ c.num = omega (arith, ints) in
+        same_from_is w v (up.num *ℤ c.num) (up.den *ℤ c.den) up_some (h.rises from) (k.rises from)
+
+one_minus_some : (f : Frac) → IsInside f → unsigned_abs (pos 1 *ℤ f.den -ℤ f.num *ℤ pos 1) ≢ 0
+one_minus_some f inside = let low = inside.1 in omega (arith, ints)
+
+one_value_above : (f x y z : Frac) (w : ℤ) → IsInside f → IsFloor x w → IsGmicValue f x y → IsGmicValue f x z → y ≡ z
+one_value_above f x y z w inside floor h k = by_test (int_lt (f.num *ℤ x.den) ((x.num -ℤ w *ℤ x.den) *ℤ f.den)) refl
+  where
+    x_some : unsigned_abs x.den ≢ 0
+    x_some = positive_some_z x.den x.lowest.positive
+
+    by_test : (b : Bool) → int_lt (f.num *ℤ x.den) ((x.num -ℤ w *ℤ x.den) *ℤ f.den) ≡ b → y ≡ z
+    by_test true e =
+        let above : (f.num *ℤ x.den) <ℤ ((x.num -ℤ w *ℤ x.den) *ℤ f.den) = omega (arith, ints) in
+        let value = quotient_of (one_minus (rest_above x w)) (one_minus (fraction_of f)) in
+        let some =
+        mul_some_z (pos 1 *ℤ x.den) (pos 1 *ℤ f.den -ℤ f.num *ℤ pos 1) (mul_some_z (pos 1) x.den (omega (arith, ints)) x_some)
+        (one_minus_some f inside) in
+        same_from_is y z value.top value.bottom some (h.falls w floor above) (k.falls w floor above)
+    by_test false e =
+        let not_above : (f.num *ℤ x.den) <ℤ ((x.num -ℤ w *ℤ x.den) *ℤ f.den) → ⊥ = λ less. absurd (omega (arith, ints)) in
+        let value = quotient_of (rest_above x w) (fraction_of f) in
+        same_from_is y z value.top value.bottom (mul_some_z x.den f.num x_some (positive_some_z f.num inside.0)) (h.rises w floor not_above)
+        (k.rises w floor not_above)
+
+one_gmic_value : (f x y z : Frac) → IsInside f → IsGmicValue f x y → IsGmicValue f x z → y ≡ z
+one_gmic_value f x y z inside h k = one_value_above f x y z (int_div_euclid x.num x.den) inside (quotient_is_floor x) h k
+
+-- ---- the terms of mixed cuts
+
+same_term : (t u : Term) → t.column ≡ u.column → t.entry ≡ u.entry → t.cut ≡ u.cut → t ≡ u
+same_term t u a b c = λ i. record { column = a i; entry = b i; cut = c i }
+
+one_weight_term : (up down : Frac) (e : Entry) (t u : Term) → IsWeightTerm up down e t → IsWeightTerm up down e u → t ≡ u
+one_weight_term up down e t u h k =
+    same_term t u (h.column_is ∙ sym k.column_is) (h.entry_is ∙ sym k.entry_is) (one_weight up down e.value t.cut u.cut h.weight_is k.weight_is)
+
+one_table_term : (f : FunctionData) (e : Entry) (t u : Term) → IsWithinBounds f → IsTermOfKind (kind.Table f) e t →
+    IsTermOfKind (kind.Table f) e u → t ≡ u
+one_table_term f e t u l h k =
+    same_term t u (h.column_is ∙ sym k.column_is) (h.entry_is ∙ sym k.entry_is)
+    (one_value f (numerator e.value *ℤ pos f.order) (unsigned_abs (denominator e.value)) t.cut u.cut l (denominator_some e.value) h.value_is k.value_is)
+
+one_gmic_term : (f : Frac) (e : Entry) (t u : Term) → IsInside f → IsTermOfKind (kind.Gmic f) e t → IsTermOfKind (kind.Gmic f) e u → t ≡ u
+one_gmic_term f e t u inside h k =
+    same_term t u (h.column_is ∙ sym k.column_is) (h.entry_is ∙ sym k.entry_is) (one_gmic_value f e.value t.cut u.cut inside h.value_is k.value_is)
+
+-- ---- mixed cuts
+
+-- by a function and slopes
+one_cut_by_table : (f : FunctionData) (up down : Frac) (continuous : List Bool) (row : Row) (a b : MixedCut) → IsWithinBounds f →
+    IsMixedCutOfKind (kind.Table f) up down continuous row a → IsMixedCutOfKind (kind.Table f) up down continuous row b → a ≡ b
+one_cut_by_table f up down continuous row (mixed_cut.Cut ts ws) (mixed_cut.Cut us vs) l h k =
+    let terms = one_each (IsTermOfKind (kind.Table f)) (λ e t u. one_table_term f e t u l) (whole_entries continuous row.entries) ts us h.2 k.2 in
+    let weights = one_each (IsWeightTerm up down) (one_weight_term up down) (continuous_entries continuous row.entries) ws vs h.3 k.3 in
+    λ i. mixed_cut.Cut (terms i) (weights i)
+one_cut_by_table f up down continuous row (mixed_cut.Cut ts ws) mixed_cut.Integral l h k = absurd (h.0 k)
+one_cut_by_table f up down continuous row (mixed_cut.Cut ts ws) mixed_cut.OtherFraction l h k = absurd (k.1 h.1)
+one_cut_by_table f up down continuous row mixed_cut.Integral (mixed_cut.Cut us vs) l h k = absurd (k.0 h)
+one_cut_by_table f up down continuous row mixed_cut.Integral mixed_cut.Integral l h k = refl
+one_cut_by_table f up down continuous row mixed_cut.Integral mixed_cut.OtherFraction l h k = absurd (k.0 h)
+one_cut_by_table f up down continuous row mixed_cut.OtherFraction (mixed_cut.Cut us vs) l h k = absurd (h.1 k.1)
+one_cut_by_table f up down continuous row mixed_cut.OtherFraction mixed_cut.Integral l h k = absurd (h.0 k)
+one_cut_by_table f up down continuous row mixed_cut.OtherFraction mixed_cut.OtherFraction l h k = refl
+
+-- the mixed-integer cut, by the fractional part of a right side that is not whole
+part_inside : (right f : Frac) → (IsWhole right → ⊥) → HasFractionalPart right (numerator f) (denominator f) → IsInside f
+part_inside right f not_whole part =
+    let p = some_part right in
+    let n = unsigned_abs (denominator right) in
+    inside_from_ratio f p.0 n (part_some right p.0 n not_whole p.1) p.1.below (place_is right f n p.0 part p.1)
+
+one_part : (right f g : Frac) → HasFractionalPart right (numerator f) (denominator f) → HasFractionalPart right (numerator g) (denominator g) → f ≡ g
+one_part right f g h k =
+    let p = some_part right in
+    let n = unsigned_abs (denominator right) in
+    let some = denominator_some right in
+    same_from_is f g (pos p.0) (pos n) (omega (arith, ints)) (place_is right f n p.0 h p.1) (place_is right g n p.0 k p.1)
+
+one_up : (f up other : Frac) (down below : Frac) → IsInside f → AreGmicSlopes f up down → AreGmicSlopes f other below → up ≡ other
+one_up f up other down below inside h k =
+    same_from_is up other (pos 1 *ℤ f.den) (pos 1 *ℤ f.num) (mul_some_z (pos 1) f.num (omega (arith, ints)) (positive_some_z f.num inside.0)) h.up_is k.up_is
+
+one_down : (f up other : Frac) (down below : Frac) → IsInside f → AreGmicSlopes f up down → AreGmicSlopes f other below → down ≡ below
+one_down f up other down below inside h k =
+    let value = quotient_of (record { top = pos 1; bottom = pos 1 }) (one_minus (fraction_of f)) in
+    same_from_is down below value.top value.bottom
+    (mul_some_z (pos 1) (pos 1 *ℤ f.den -ℤ f.num *ℤ pos 1) (omega (arith, ints)) (one_minus_some f inside)) h.down_is k.down_is
+
+one_gmic_terms : (f up down : Frac) (continuous : List Bool) (row : Row) (ts ws us vs : List Term) →
+    IsMixedCutOfKind (kind.Gmic f) up down continuous row (mixed_cut.Cut ts ws) →
+    IsMixedCutOfKind (kind.Gmic f) up down continuous row (mixed_cut.Cut us vs) → (ts ≡ us) × (ws ≡ vs)
+one_gmic_terms f up down continuous row ts ws us vs h k =
+    let inside = part_inside row.rhs f h.0 h.1 in (
+      one_each (IsTermOfKind (kind.Gmic f)) (λ e t u. one_gmic_term f e t u inside) (whole_entries continuous row.entries) ts us h.2 k.2,
+      one_each (IsWeightTerm up down) (one_weight_term up down) (continuous_entries continuous row.entries) ws vs h.3 k.3,
+    )
+
+one_gmic_cut : (continuous : List Bool) (row : Row) (ts ws us vs : List Term) → IsGmicMixedCutOf continuous row (mixed_cut.Cut ts ws) →
+    IsGmicMixedCutOf continuous row (mixed_cut.Cut us vs) → (ts ≡ us) × (ws ≡ vs)
+one_gmic_cut continuous row ts ws us vs (f, up, down, slopes, h) (g, other, below, slopes', k) =
+    let same : g ≡ f = one_part row.rhs g f k.1 h.1 in
+    let inside = part_inside row.rhs f h.0 h.1 in
+    let there : AreGmicSlopes f other below = subst (λ (x : Frac). AreGmicSlopes x other below) same slopes' in
+    let ups : other ≡ up = one_up f other up below down inside there slopes in
+    let downs : below ≡ down = one_down f other up below down inside there slopes in
+    let by_f = subst (λ (x : Frac). IsMixedCutOfKind (kind.Gmic x) other below continuous row (mixed_cut.Cut us vs)) same k in
+    let by_up = subst (λ (x : Frac). IsMixedCutOfKind (kind.Gmic f) x below continuous row (mixed_cut.Cut us vs)) ups by_f in
+    one_gmic_terms f up down continuous row ts ws us vs h
+    (subst (λ (x : Frac). IsMixedCutOfKind (kind.Gmic f) up x continuous row (mixed_cut.Cut us vs)) downs by_up)
+
+one_cut_by_gmic : (continuous : List Bool) (row : Row) (a b : MixedCut) → IsGmicMixedCutOf continuous row a → IsGmicMixedCutOf continuous row b → a ≡ b
+one_cut_by_gmic continuous row (mixed_cut.Cut ts ws) (mixed_cut.Cut us vs) h k =
+    let same = one_gmic_cut continuous row ts ws us vs h k in
+    λ i. mixed_cut.Cut (same.0 i) (same.1 i)
+one_cut_by_gmic continuous row (mixed_cut.Cut ts ws) mixed_cut.Integral (f, up, down, slopes, h) k = absurd (h.0 k)
+one_cut_by_gmic continuous row (mixed_cut.Cut ts ws) mixed_cut.OtherFraction h k = absurd k
+one_cut_by_gmic continuous row mixed_cut.Integral (mixed_cut.Cut us vs) h (f, up, down, slopes, k) = absurd (k.0 h)
+one_cut_by_gmic continuous row mixed_cut.Integral mixed_cut.Integral h k = refl
+one_cut_by_gmic continuous row mixed_cut.Integral mixed_cut.OtherFraction h k = absurd k
+one_cut_by_gmic continuous row mixed_cut.OtherFraction b h k = absurd h
+
+one_mixed_cut : (r : CutRule) (columns : List (List ℕ)) (row : Row) (a b : MixedCut) → IsBoundedRule r → IsMixedCutBy r columns row a →
+    IsMixedCutBy r columns row b → a ≡ b
+one_mixed_cut Gmic columns row a b l h k = one_cut_by_gmic (continuous_columns columns) row a b h k
+one_mixed_cut (Table f) columns row a b l (up, down, slopes, h) (other, below, slopes', k) =
+    let scale = l.scale_low in
+    let some : unsigned_abs (pos f.scale) ≢ 0 = omega (arith, ints) in
+    let ups : other ≡ up =
+    same_from_is other up (pos f.order *ℤ (at f.value 1 -ℤ at f.value 0)) (pos f.scale) some slopes'.up_is slopes.up_is in
+    let downs : below ≡ down =
+    same_from_is below down (pos f.order *ℤ (at f.value (f.order - 1) -ℤ at f.value 0)) (pos f.scale) some slopes'.down_is slopes.down_is in
+    let by_up = subst (λ (x : Frac). IsMixedCutOfKind (kind.Table f) x below (continuous_columns columns) row b) ups k in
+    one_cut_by_table f up down (continuous_columns columns) row a b l h
+    (subst (λ (x : Frac). IsMixedCutOfKind (kind.Table f) up x (continuous_columns columns) row b) downs by_up)
+
+-- ---- lines of mixed cuts
+
+one_named : (columns : List (List ℕ)) (t : Term) (a b : CutTerm) → IsNamedTerm columns t a → IsNamedTerm columns t b → a ≡ b
+one_named columns t a b h k = same_cut_term a b (h.name ∙ sym k.name) (h.entry ∙ sym k.entry) (h.cut ∙ sym k.cut)
+
+same_line : (a b : MixedLine) → a.line ≡ b.line → a.weights ≡ b.weights → a ≡ b
+same_line a b l w = λ i. record { line = l i; weights = w i }
+
+one_naming : (columns : List (List ℕ)) (row : Row) (cut : MixedCut) (a b : CutLine) (us vs : List CutTerm) → NamesMixedCut columns row cut a us →
+    NamesMixedCut columns row cut b vs → (a ≡ b) × (us ≡ vs)
+one_naming columns row (mixed_cut.Cut ts ws) (Cut n x ns) (Cut m y ms) us vs h k =
+    let name : n ≡ m = h.0 ∙ sym k.0 in
+    let right : x ≡ y = h.1 ∙ sym k.1 in
+    let terms = one_each (IsNamedTerm columns) (one_named columns) ts ns ms h.2 k.2 in
+    (λ i. Cut (name i) (right i) (terms i), one_each (IsNamedTerm columns) (one_named columns) ws us vs h.3 k.3)
+one_naming columns row mixed_cut.Integral (Skip n x Integral) (Skip m y Integral) us vs h k =
+    let name : n ≡ m = h.0 ∙ sym k.0 in
+    let right : x ≡ y = h.1 ∙ sym k.1 in
+    (λ i. Skip (name i) (right i) Integral, h.2 ∙ sym k.2)
+one_naming columns row mixed_cut.OtherFraction (Skip n x Other) (Skip m y Other) us vs h k =
+    let name : n ≡ m = h.0 ∙ sym k.0 in
+    let right : x ≡ y = h.1 ∙ sym k.1 in
+    (λ i. Skip (name i) (right i) Other, h.2 ∙ sym k.2)
+one_naming columns row (mixed_cut.Cut ts ws) (Cut n x ns) b us vs h k = absurd k
+one_naming columns row mixed_cut.Integral (Skip n x Integral) b us vs h k = absurd k
+one_naming columns row mixed_cut.OtherFraction (Skip n x Other) b us vs h k = absurd k
+one_naming columns row cut a b us vs h k = absurd h
+
+one_mixed_line : (r : CutRule) (columns : List (List ℕ)) (row : Row) (a b : MixedLine) → IsBoundedRule r → IsMixedLineFor r columns row a →
+    IsMixedLineFor r columns row b → a ≡ b
+one_mixed_line r columns row a b l h k =
+    let cuts : k.cut ≡ h.cut = one_mixed_cut r columns row k.cut h.cut l k.is_cut h.is_cut in
+    let same =
+    one_naming columns row h.cut a.line b.line a.weights b.weights h.names
+    (subst (λ (c : MixedCut). NamesMixedCut columns row c b.line b.weights) cuts k.names) in
+    same_line a b same.0 same.1
+
+one_subject : (r : CutRule) (x y : List ℕ) → IsBoundedRule r → AreSubjectLines (subject_of_rule r) x → AreSubjectLines (subject_of_rule r) y → x ≡ y
+one_subject Gmic x y l h k = h ∙ sym k
+one_subject (Table f) x y l h k = one_text_of_lines f x y l h k
+
+one_mixed_text : (r : CutRule) (t : Tableau) (x y : List ℕ) → IsBoundedRule r → AreMixedCutsOf r t x → AreMixedCutsOf r t y → x ≡ y
+one_mixed_text r t x y l h k =
+    let lines = one_each (IsMixedLineFor r t.columns) (λ row a b. one_mixed_line r t.columns row a b l) t.rows h.lines k.lines h.lines_are k.lines_are in
+    let subject = one_subject r h.subject k.subject l h.subject_is k.subject_is in
+    h.spelled ∙ ap₂ (λ s ls. line (codes "gj-mixed 1") ++ s ++ flat_map mixed_row_text ls ++ line (codes "end")) subject lines ∙ sym k.spelled
+
+-- ---- replies
+
+mixed_no_violation : (r : CutRule) (x : List ℕ) → IsBoundedRule r → MakesMixedCuts r → NamesViolation r x → ⊥
+mixed_no_violation Gmic x l h k = k
+mixed_no_violation (Table f) x l h k = no_violation f x l h.0 k
+
+mixed_no_jump : (r : CutRule) (x : List ℕ) → MakesMixedCuts r → NamesJump r x → ⊥
+mixed_no_jump Gmic x h k = k
+mixed_no_jump (Table f) x h k = no_jump_named f x h.1 k.1
+
+jump_no_violation : (r : CutRule) (x y : List ℕ) → IsBoundedRule r → NamesJump r x → NamesViolation r y → ⊥
+jump_no_violation Gmic x y l h k = k
+jump_no_violation (Table f) x y l h k = no_violation f y l h.0 k
+
+one_jump_of_rule : (r : CutRule) (x y : List ℕ) → IsBoundedRule r → NamesJump r x → NamesJump r y → x ≡ y
+one_jump_of_rule Gmic x y l h k = absurd h
+one_jump_of_rule (Table f) x y l h k = one_jump_text f x y l h.1 k.1
+
+one_mixed_reply : (input : List ℕ) (thing : CutInput) → SpellsCutInput input thing → IsBoundedRule thing.rule → (e d : End) (x y : List ℕ) →
+    IsMixedReply thing e x → IsMixedReply thing d y → (e ≡ d) × (x ≡ y)
+one_mixed_reply input thing spelled l end.Done end.Done x y h k = (refl, one_mixed_text thing.rule thing.tableau x y l h.1 k.1)
+one_mixed_reply input thing spelled l end.Done end.NoFunction x y h k = absurd (mixed_no_violation thing.rule y l h.0 k)
+one_mixed_reply input thing spelled l end.Done end.NotContinuous x y h k = absurd (mixed_no_jump thing.rule y h.0 k)
+one_mixed_reply input thing spelled l end.NoFunction end.Done x y h k = absurd (mixed_no_violation thing.rule x l k.0 h)
+one_mixed_reply input thing spelled l end.NoFunction end.NoFunction x y h k = (refl, one_violation_text thing.rule x y l h k)
+one_mixed_reply input thing spelled l end.NoFunction end.NotContinuous x y h k = absurd (jump_no_violation thing.rule y x l k h)
+one_mixed_reply input thing spelled l end.NotContinuous end.Done x y h k = absurd (mixed_no_jump thing.rule x k.0 h)
+one_mixed_reply input thing spelled l end.NotContinuous end.NoFunction x y h k = absurd (jump_no_violation thing.rule x y l h k)
+one_mixed_reply input thing spelled l end.NotContinuous end.NotContinuous x y h k = (refl, one_jump_of_rule thing.rule x y l h k)
+one_mixed_reply input thing spelled l end.Done d x y h k = absurd k
+one_mixed_reply input thing spelled l end.NoFunction d x y h k = absurd k
+one_mixed_reply input thing spelled l end.NotContinuous d x y h k = absurd k
+one_mixed_reply input thing spelled l e d x y h k = absurd h
+
+pub mixed_is_determined : IsDetermined mixed
+mixed_is_determined = record {
+  spells = one_cut_spelled;
+  refuses = one_cut_refusal;
+  replies = by_rule_bounds IsMixedReply one_mixed_reply;
+}

@@ -1,0 +1,191 @@
+-- The commands `minimal`, `extreme`, `show` and `check` have one answer.
+use Rattle.std.proofs.Common.{◌≡◌, inl, inr, ℕ, pos, ◌<◌, ◌≤◌, ◌++◌, List, [], ◌∷◌, codes, decimal, refl, sym, ap, ap₂, subst, ◌∙◌, arith}
+use Rattle.std.proofs.lemmas.Bool.{cases_lt}
+use Rattle.std.proofs.lemmas.Int.{ints}
+use Rattle.gj_frac.specs.Fraction.{IsRatio}
+use Rattle.gj_frac.proofs.SameValues.{same_from_is}
+use Rattle.gj_lines.specs.FunctionLines.{line, fraction_line}
+use Rattle.gj_shape.specs.FunctionData.{FunctionData, IsWithinBounds, IsContinuous, IsFirstJump, IsJump}
+use Rattle.gj_shape.specs.Table.{IsMinimal}
+use Rattle.gj_shape.specs.declared.violations.Violation.{Violation}
+use Rattle.gj_theory.proofs.Violations.{violation_denies, first_shown}
+use Rattle.gj_ftext.proofs.OneText.{one_first_fault as one_function_fault}
+use Rattle.gj_proof.specs.declared.claim.Claim.{Claim}
+use Rattle.gj_proof.specs.declared.claim.Claim.TheVariants.{Minimal, NotMinimal, Cut, Extreme, ExtremeByResidues, NotExtreme}
+use Rattle.gj_proof.specs.ProofText.{IsProofText}
+use Rattle.gj_proof.proofs.OneText.{one_text, one_fault as one_proof_fault}
+use Rattle.gj_check.proofs.DemandsOfClaims.{one_failure, no_failure}
+use Rattle.gj_check.specs.RuleWords.{rule_word}
+use Rattle.gj_extreme.specs.Decision.{IsDecided}
+use Rattle.gj_extreme.proofs.DecidedTexts.{decided_is_bounded}
+use Rattle.gj_extreme.proofs.NotTooWide.{decided_not_wide}
+use Rattle.gj_extreme.proofs.OneDecision.{one_decision}
+use Rattle.gj_extreme.proofs.OneViolation.{one_violation}
+use Rattle.gj_extreme.proofs.TwoSlopeDecisions.{continuous_no_jump}
+use Rattle.gj_top.specs.declared.reply.End.{End}
+use Rattle.gj_top.specs.declared.reply.End.TheVariants as end
+use Rattle.gj_top.specs.Continuity.{NamesFirstJump}
+use Rattle.gj_top.specs.Check.{IsJudgement, IsRejected, check}
+use Rattle.gj_top.specs.Extreme.{IsDecisionText, IsExtremality, IsJumpText, IsWideText, extreme}
+use Rattle.gj_top.specs.Forms.{function_text, proof_text, RefusesFunctionText, RefusesProofText}
+use Rattle.gj_top.specs.Minimal.{IsVerdict, IsDecision, minimal}
+use Rattle.gj_top.specs.Show.{IsShowing, show}
+use Rattle.gj_top.proofs.Determined.{SpellsOne, RefusesOne, RepliesOne, IsDetermined, one_named_fault}
+use Rattle.gj_top.proofs.TextLaws.{function_is_bounded, one_function, one_proof, one_canonical}
+
+-- ---- the forms
+
+pub one_function_spelled : SpellsOne function_text
+one_function_spelled input f g h k = one_function input f g h k
+
+pub one_function_refusal : RefusesOne RefusesFunctionText
+one_function_refusal input x y h k = one_named_fault _ (λ n m e d. one_function_fault input n m e d) x y h k
+
+one_proof_spelled : SpellsOne proof_text
+one_proof_spelled input c d h k = one_proof input c d h k
+
+one_proof_refusal : RefusesOne RefusesProofText
+one_proof_refusal input x y h k = one_named_fault _ (λ n m e d. one_proof_fault input n m e d) x y h k
+
+-- the replies to function texts, where those to a function within the limits are one
+pub by_bounds : (replies : FunctionData → End → List ℕ → Type 0) →
+    ((f : FunctionData) → IsWithinBounds f → (e d : End) (x y : List ℕ) → replies f e x → replies f d y → (e ≡ d) × (x ≡ y)) →
+    RepliesOne function_text replies
+by_bounds replies one input f spelled = one f (function_is_bounded input f spelled)
+
+-- ---- the first jump
+
+-- a function has one first jump
+pub one_jump : (f : FunctionData) (i j : ℕ) → IsFirstJump f i → IsFirstJump f j → i ≡ j
+one_jump f i j h k = elim (cases_lt i j) [
+  | inl less ↦ absurd (k.first i less h.jump)
+  | inr more ↦ elim (cases_lt j i) [
+    | inl less ↦ absurd (h.first j less k.jump)
+    | inr same ↦ omega arith
+  ]
+]
+
+pub one_jump_text : (f : FunctionData) (x y : List ℕ) → IsWithinBounds f → NamesFirstJump f x → NamesFirstJump f y → x ≡ y
+one_jump_text f x y l h k =
+    let same : k.index ≡ h.index = one_jump f k.index h.index k.first h.first in
+    let low = l.order_low in
+    let point : h.point ≡ k.point =
+    same_from_is h.point k.point (pos h.index) (pos f.order) (omega (arith, ints)) h.point_is
+    (subst (λ (i : ℕ). IsRatio k.point (pos i) (pos f.order)) same k.point_is) in
+    h.spelled ∙ ap (fraction_line (codes "not continuous ")) point ∙ sym k.spelled
+
+pub no_jump_named : (f : FunctionData) (x : List ℕ) → IsContinuous f → NamesFirstJump f x → ⊥
+no_jump_named f x continuous h = continuous_no_jump f h.index continuous h.first.jump
+
+-- ---- verdicts on minimality
+
+one_verdict : (f : FunctionData) (x y : List ℕ) → IsWithinBounds f → IsVerdict f x → IsVerdict f y → x ≡ y
+one_verdict f x y l (inl h) (inl k) = one_text (Minimal f) x y l h.2 k.2
+one_verdict f x y l (inl h) (inr k) = absurd (violation_denies f k.0 l k.2 h.0)
+one_verdict f x y l (inr h) (inl k) = absurd (violation_denies f h.0 l h.2 k.0)
+one_verdict f x y l (inr h) (inr k) =
+    let same : k.0 ≡ h.0 = one_violation f k.0 h.0 l k.1 h.1 in
+    one_text (NotMinimal f h.0) x y l h.4 (subst (λ (v : Violation). IsProofText (NotMinimal f v) y) same k.4)
+
+decision_done : (f : FunctionData) (e : End) (x : List ℕ) → IsDecision f e x → (e ≡ end.Done) × IsVerdict f x
+decision_done f end.Done x h = (refl, h)
+decision_done f e x h = absurd h
+
+pub one_decision_reply : (f : FunctionData) → IsWithinBounds f → (e d : End) (x y : List ℕ) → IsDecision f e x → IsDecision f d y → (e ≡ d) × (x ≡ y)
+one_decision_reply f l e d x y h k =
+    let (first, verdict) = decision_done f e x h in
+    let (second, other) = decision_done f d y k in
+    (first ∙ sym second, one_verdict f x y l verdict other)
+
+pub minimal_is_determined : IsDetermined minimal
+minimal_is_determined = record {
+  spells = one_function_spelled;
+  refuses = one_function_refusal;
+  replies = by_bounds IsDecision one_decision_reply;
+}
+
+-- ---- canonical texts
+
+showing_done : (f : FunctionData) (e : End) (x : List ℕ) → IsShowing f e x → (e ≡ end.Done) × IsShowing f end.Done x
+showing_done f end.Done x h = (refl, h)
+showing_done f e x h = absurd h
+
+one_showing : (f : FunctionData) → IsWithinBounds f → (e d : End) (x y : List ℕ) → IsShowing f e x → IsShowing f d y → (e ≡ d) × (x ≡ y)
+one_showing f l e d x y h k =
+    let (first, shown) = showing_done f e x h in
+    let (second, other) = showing_done f d y k in
+    (first ∙ sym second, one_canonical f x y l shown other)
+
+pub show_is_determined : IsDetermined show
+show_is_determined = record {
+  spells = one_function_spelled;
+  refuses = one_function_refusal;
+  replies = by_bounds IsShowing one_showing;
+}
+
+-- ---- what the checker says
+
+one_rejection : (c : Claim) (x y : List ℕ) → IsRejected c x → IsRejected c y → x ≡ y
+one_rejection c x y h k =
+    let same = one_failure c h.at_line k.at_line h.rule k.rule h.first k.first in
+    h.spelled ∙ ap₂ (λ n r. line (codes "rejected line " ++ decimal n ++ codes " " ++ rule_word r)) same.0 same.1 ∙ sym k.spelled
+
+one_judgement : (c : Claim) (e d : End) (x y : List ℕ) → IsJudgement c e x → IsJudgement c d y → (e ≡ d) × (x ≡ y)
+one_judgement c end.Done end.Done x y h k = (refl, h.spelled ∙ sym k.spelled)
+one_judgement c end.Done end.Rejected x y h k = absurd (no_failure c k.at_line k.rule k.first h.rules)
+one_judgement c end.Rejected end.Done x y h k = absurd (no_failure c h.at_line h.rule h.first k.rules)
+one_judgement c end.Rejected end.Rejected x y h k = (refl, one_rejection c x y h k)
+one_judgement c end.Done d x y h k = absurd k
+one_judgement c end.Rejected d x y h k = absurd k
+one_judgement c e d x y h k = absurd h
+
+pub check_is_determined : IsDetermined check
+check_is_determined = record {
+  spells = one_proof_spelled;
+  refuses = one_proof_refusal;
+  replies = λ input c spelled. one_judgement c;
+}
+
+-- ---- decisions on extremality
+
+one_decision_text : (f : FunctionData) (x y : List ℕ) → IsWithinBounds f → IsDecisionText f x → IsDecisionText f y → x ≡ y
+one_decision_text f x y l h k =
+    let same : k.claim ≡ h.claim = one_decision f k.claim h.claim l k.decided h.decided in
+    one_text h.claim x y (decided_is_bounded f h.claim l h.decided) h.spelled (subst (λ (c : Claim). IsProofText c y) same k.spelled)
+
+-- a minimal function that is decided is continuous
+decided_continuous : (f : FunctionData) (c : Claim) → IsWithinBounds f → IsMinimal f → IsDecided f c → IsContinuous f
+decided_continuous f (Minimal g) l m h = absurd h
+decided_continuous f (NotMinimal g v) l m h = absurd (violation_denies f v l (first_shown f v l h.1) m)
+decided_continuous f (Cut r rows) l m h = absurd h
+decided_continuous f (Extreme g lines rows) l m h = h.2
+decided_continuous f (ExtremeByResidues g lines rows) l m h = absurd h
+decided_continuous f (NotExtreme g halves) l m h = h.2
+
+decided_no_jump : (f : FunctionData) (x y : List ℕ) → IsWithinBounds f → IsDecisionText f x → IsJumpText f y → ⊥
+decided_no_jump f x y l h k = no_jump_named f y (decided_continuous f h.claim l k.0 h.decided) k.1
+
+decided_narrow : (f : FunctionData) (x y : List ℕ) → IsWithinBounds f → IsDecisionText f x → IsWideText f y → ⊥
+decided_narrow f x y l h k = decided_not_wide f h.claim l k.0 h.spelled.has_text h.decided k.2
+
+pub one_extremality : (f : FunctionData) → IsWithinBounds f → (e d : End) (x y : List ℕ) → IsExtremality f e x → IsExtremality f d y → (e ≡ d) × (x ≡ y)
+one_extremality f l end.Done end.Done x y h k = (refl, one_decision_text f x y l h k)
+one_extremality f l end.Done end.NotContinuous x y h k = absurd (decided_no_jump f x y l h k)
+one_extremality f l end.Done end.Wide x y h k = absurd (decided_narrow f x y l h k)
+one_extremality f l end.NotContinuous end.Done x y h k = absurd (decided_no_jump f y x l k h)
+one_extremality f l end.NotContinuous end.NotContinuous x y h k = (refl, one_jump_text f x y l h.1 k.1)
+one_extremality f l end.NotContinuous end.Wide x y h k = absurd (no_jump_named f x k.1 h.1)
+one_extremality f l end.Wide end.Done x y h k = absurd (decided_narrow f y x l k h)
+one_extremality f l end.Wide end.NotContinuous x y h k = absurd (no_jump_named f y h.1 k.1)
+one_extremality f l end.Wide end.Wide x y h k = (refl, h.3 ∙ sym k.3)
+one_extremality f l end.Done d x y h k = absurd k
+one_extremality f l end.NotContinuous d x y h k = absurd k
+one_extremality f l end.Wide d x y h k = absurd k
+one_extremality f l e d x y h k = absurd h
+
+pub extreme_is_determined : IsDetermined extreme
+extreme_is_determined = record {
+  spells = one_function_spelled;
+  refuses = one_function_refusal;
+  replies = by_bounds IsExtremality one_extremality;
+}

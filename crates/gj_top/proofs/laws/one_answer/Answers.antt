@@ -1,0 +1,9 @@
+use Rattle.gj_top.proofs.Commands.{one_named}
+use Rattle.gj_top.proofs.OneAnswer.{one_answer}
+use Rattle.gj_top.proofs.laws.one_answer.Goals as goal
+
+pub returns-clause-request : goal.returns-clause-request
+returns-clause-request c = one_named
+
+pub returns-clause-answer : goal.returns-clause-answer
+returns-clause-answer c = one_answer
