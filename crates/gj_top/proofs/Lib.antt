@@ -17,6 +17,7 @@ pub mod OneListing
 pub mod OneMixed
 pub mod OneReport
 pub mod OneReported
+pub mod OneTable
 pub mod OneVerdict
 pub mod ProofBytes
 pub mod Refusals

@@ -1,7 +1,7 @@
 -- The task of each request is determined, so that it gives one answer to an input.
 use Rattle.std.proofs.Common.{◌≡◌, ℕ, Bool, true, false, List}
 use Rattle.gj_words.specs.declared.requests.Command.{Command}
-use Rattle.gj_words.specs.declared.requests.Command.TheVariants.{Minimal, Extreme, Cut, Check, Show, Faces, Demo, Mixed, Fill, Times, Mirror, Restrict}
+use Rattle.gj_words.specs.declared.requests.Command.TheVariants.{Minimal, Extreme, Cut, Check, Show, Faces, Demo, Mixed, Fill, Group, Times, Mirror, Restrict}
 use Rattle.gj_words.specs.declared.requests.Request.{Request}
 use Rattle.gj_top.specs.declared.status.Status.{Status}
 use Rattle.gj_top.specs.Answer.{IsAnswerTo}
@@ -12,6 +12,7 @@ use Rattle.gj_top.proofs.OneCuts.{cut_is_determined}
 use Rattle.gj_top.proofs.OneListing.{faces_is_determined, fill_is_determined, demo_is_determined}
 use Rattle.gj_top.proofs.OneMixed.{mixed_is_determined}
 use Rattle.gj_top.proofs.OneReported.{minimal_json_is_determined, extreme_json_is_determined, show_json_is_determined}
+use Rattle.gj_top.proofs.OneTable.{group_is_determined}
 use Rattle.gj_top.proofs.OneVerdict.{minimal_is_determined, extreme_is_determined, show_is_determined, check_is_determined}
 use Rattle.gj_top.proofs.Sound.{sound}
 
@@ -28,6 +29,7 @@ is_determined Cut json e = cut_is_determined
 is_determined (Demo n) json e = demo_is_determined n
 is_determined Mixed json e = mixed_is_determined
 is_determined Fill json e = fill_is_determined
+is_determined Group json e = group_is_determined
 is_determined (Times n j) json e = absurd (cc)
 is_determined Mirror json e = absurd (cc)
 is_determined (Restrict d) json e = absurd (cc)

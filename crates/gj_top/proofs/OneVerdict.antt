@@ -159,7 +159,7 @@ decided_continuous f (Minimal g) l m h = absurd h
 decided_continuous f (NotMinimal g v) l m h = absurd (violation_denies f v l (first_shown f v l h.1) m)
 decided_continuous f (Cut r rows) l m h = absurd h
 decided_continuous f (Extreme g lines rows) l m h = h.2
-decided_continuous f (ExtremeByResidues g lines rows) l m h = absurd h
+decided_continuous f (ExtremeByResidues g lines rows) l m h = h.2
 decided_continuous f (NotExtreme g halves) l m h = h.2
 
 decided_no_jump : (f : FunctionData) (x y : List ℕ) → IsWithinBounds f → IsDecisionText f x → IsJumpText f y → ⊥
