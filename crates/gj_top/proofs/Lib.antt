@@ -14,6 +14,7 @@ pub mod InputRead
 pub mod OneAnswer
 pub mod OneCuts
 pub mod OneListing
+pub mod OneMade
 pub mod OneMixed
 pub mod OneReport
 pub mod OneReported

@@ -17,7 +17,6 @@ pub mod Fill
 pub mod Group
 pub mod Transform
 pub mod Command
-pub mod OneAnswer
 pub mod Reply
 pub mod Answer
 pub mod Outcome

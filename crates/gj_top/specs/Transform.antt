@@ -3,7 +3,7 @@
 use Rattle.std.specs.Prelude.{ℕ, ◌≡◌, ◌*◌, ◌<◌, ◌↔◌, List, codes}
 use Rattle.gj_shape.specs.Limits.{greatest_order}
 use Rattle.gj_shape.specs.Extreme.{IsExtreme}
-use Rattle.gj_shape.specs.FunctionData.{FunctionData, IsContinuous}
+use Rattle.gj_shape.specs.FunctionData.{FunctionData, IsWithinBounds, IsContinuous}
 use Rattle.gj_shape.specs.Table.{IsMinimal}
 use Rattle.gj_lines.specs.FunctionLines.{line}
 use Rattle.gj_ftext.specs.FunctionText.{IsCanonicalText}
@@ -17,10 +17,11 @@ use Rattle.gj_top.specs.Continuity.{NamesFirstJump}
 
 -- ---- times
 
--- the text is that of the function of n x with the place (f + j)/n, which is minimal exactly if the function is
+-- the text is that of the function of n x with the place (f + j)/n, which is within the limits, and minimal exactly if the function is
 pub record IsTimesText (n j : ℕ) (f : FunctionData) (text : List ℕ) : Type 0 where
   pub function : FunctionData
   pub is_times : IsTimesOf f n j function
+  pub within : IsWithinBounds function
   pub minimal : IsMinimal f ↔ IsMinimal function
   pub spelled : IsCanonicalText text function
 
@@ -41,10 +42,12 @@ times n j = record {
 
 -- ---- mirror
 
--- the text is that of the function of -x with the place 1 - f, which is minimal, and extreme, exactly if the function is
+-- the text is that of the function of -x with the place 1 - f, which is within the limits, and minimal, and extreme, exactly if the
+-- function is
 pub record IsMirrorText (f : FunctionData) (text : List ℕ) : Type 0 where
   pub function : FunctionData
   pub is_mirror : IsMirrorOf f function
+  pub within : IsWithinBounds function
   pub minimal : IsMinimal f ↔ IsMinimal function
   pub extreme : IsExtreme f ↔ IsExtreme function
   pub spelled : IsCanonicalText text function
@@ -65,11 +68,12 @@ mirror = record {
 -- ---- restrict
 
 -- the function is continuous, and the text is that of the continuous function of order d with its values at the multiples of 1/d, which
--- is minimal if the function is
+-- is within the limits, and minimal if the function is
 pub record IsRestrictionText (d : ℕ) (f : FunctionData) (text : List ℕ) : Type 0 where
   pub continuous : IsContinuous f
   pub function : FunctionData
   pub is_restriction : IsRestrictionOf f d function
+  pub within : IsWithinBounds function
   pub minimal : IsMinimal f → IsMinimal function
   pub spelled : IsCanonicalText text function
 

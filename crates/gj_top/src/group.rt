@@ -17,27 +17,20 @@ pub(crate) fn reply(alloc: Global, input: &[u8]) -> Result<Reply, Unanswered>
     ensures { IsAnswering group input.now result }
 {
     let shape = function_of(alloc, input)?;
-    Ok(verdict_or_jump(alloc, &shape)?)
+    Ok(group_reply(alloc, &shape)?)
 }
 
-/// The verdict on the function's table, or its first jump.
-fn verdict_or_jump(alloc: Global, shape: &Shape) -> Result<Reply, AllocError>
+/// The verdict on the table of the function's own order, as the command `group` gives it: of a function that jumps the first jump is named, and of
+/// a continuous one whose order passes 120 that is said; `Wide` comes exactly if [`decide_group`] answers so.
+pub fn group_reply(alloc: Global, shape: &Shape) -> Result<Reply, AllocError>
     ensures { IfOk result (λ reply. IsGroupReply shape.now reply.end reply.text.items) }
 {
-    match shape.first_jump() {
-        Some(index) => Ok(Reply {
+    if let Some(index) = shape.first_jump() {
+        return Ok(Reply {
             end: End::NotContinuous,
             text: jump_line(alloc, shape, index)?,
-        }),
-        None => verdict_or_limit(alloc, shape),
+        });
     }
-}
-
-/// The verdict on the table of a continuous function, unless its order passes the limit or a number is too wide.
-fn verdict_or_limit(alloc: Global, shape: &Shape) -> Result<Reply, AllocError>
-    requires { IsContinuous shape.now }
-    ensures { IfOk result (λ reply. IsGroupReply shape.now reply.end reply.text.items) }
-{
     if shape.order() > GREATEST_GROUP_ORDER {
         return Ok(Reply {
             end: End::OrderLimit,

@@ -1,6 +1,6 @@
 //! Laws of the answers of commands, the limit of length included, of their replies, whatever the length, and of reports.
 
-ghost use Rattle.std.specs.Prelude.{◌≡◌, ◌↔◌, ◌*◌, ◌≤◌, ℕ, List, false, length, String};
+ghost use Rattle.std.specs.Prelude.{◌≡◌, ◌↔◌, ◌*◌, ◌≤◌, ℕ, List, length, String};
 ghost use Rattle.std.specs.declared.alloc.Global.{Global};
 ghost use Rattle.gj_top.specs.declared.reply.End.{End};
 ghost use Rattle.gj_top.specs.declared.reply.End.TheVariants as end;
@@ -17,7 +17,6 @@ ghost use Rattle.gj_json.specs.JsonText.{IsReport};
 ghost use Rattle.gj_words.specs.declared.requests.Request.{Request};
 ghost use Rattle.gj_top.specs.Task.{IsReply};
 ghost use Rattle.gj_top.specs.Command.{IsNamed, task_for};
-ghost use Rattle.gj_top.specs.OneAnswer.{makes_function};
 ghost use Rattle.gj_top.specs.Minimal.{minimal};
 ghost use Rattle.gj_top.specs.Show.{show};
 ghost use Rattle.gj_top.specs.Check.{check};
@@ -76,10 +75,10 @@ pub fn one_proof_in_a_report()
         IsProofText c first → IsProofText d second → IsReport verdict first text → IsReport word second text → c ≡ d }
 {}
 
-/// To words and an input there is one answer, one status and one text: words name at most one request, and but for `times`,
-/// `mirror` and `restrict` a request has one answer to an input.
+/// To words and an input there is one answer, one status and one text: words name at most one request, and a request has one answer to an
+/// input.
 pub fn one_answer()
     ensures request { (words : List (String Global)) (r q : Request) → IsNamed words r → IsNamed words q → r ≡ q }
-    ensures answer { (r : Request) (input : List ℕ) (s t : Status) (x y : List ℕ) → makes_function r.command ≡ false →
+    ensures answer { (r : Request) (input : List ℕ) (s t : Status) (x y : List ℕ) →
         IsAnswerTo (task_for r) input s x → IsAnswerTo (task_for r) input t y → (s ≡ t) × (x ≡ y) }
 {}

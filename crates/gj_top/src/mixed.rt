@@ -23,31 +23,22 @@ pub(crate) fn reply(alloc: Global, input: &[u8]) -> Result<Reply, Unanswered>
 {
     let (rule, len) = rule_of(alloc, input)?;
     let tableau = tableau_behind(alloc, input, len)?;
-    Ok(mixed_or_violation(alloc, &rule, &tableau)?)
+    Ok(mixed_reply(alloc, &rule, &tableau)?)
 }
 
-/// The mixed cuts of the rows of the tableau, or the first violation or the first jump of the function of the rule.
-fn mixed_or_violation(alloc: Global, rule: &CutRule, tableau: &Tableau) -> Result<Reply, AllocError>
+/// The mixed cuts of the rows of the tableau by the rule, as the command `mixed` gives them, or the first violation or the first jump of the
+/// function of the rule.
+pub fn mixed_reply(alloc: Global, rule: &CutRule, tableau: &Tableau) -> Result<Reply, AllocError>
     requires rule { IsBoundedRule rule.now }
     requires tableau { IsTableau tableau.now }
     ensures { IfOk result (λ reply. IsMixedReply (record { «rule» = rule.now; tableau = tableau.now }) reply.end reply.text.items) }
 {
-    match violation_of(rule) {
-        Some(violation) => Ok(Reply {
+    if let Some(violation) = violation_of(rule) {
+        return Ok(Reply {
             end: End::NoFunction,
             text: violation_text(alloc, violation)?,
-        }),
-        None => mixed_or_jump(alloc, rule, tableau),
+        });
     }
-}
-
-/// The mixed cuts of the rows of the tableau, or the first jump of the function of the rule.
-fn mixed_or_jump(alloc: Global, rule: &CutRule, tableau: &Tableau) -> Result<Reply, AllocError>
-    requires rule { IsBoundedRule rule.now }
-    requires tests { PassesTests rule.now }
-    requires tableau { IsTableau tableau.now }
-    ensures { IfOk result (λ reply. IsMixedReply (record { «rule» = rule.now; tableau = tableau.now }) reply.end reply.text.items) }
-{
     match jump_of(alloc, rule)? {
         Some(text) => Ok(Reply {
             end: End::NotContinuous,

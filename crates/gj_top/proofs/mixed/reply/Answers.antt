@@ -5,15 +5,15 @@ use Rattle.gj_top.proofs.mixed.reply.Goals as goal
 pub tableau_behind-requires-clause-rule : goal.tableau_behind-requires-clause-rule
 tableau_behind-requires-clause-rule c = (c.in_ok-rule.rule, c.in_ok-rule.ensures.found.1)
 
-pub mixed_or_violation-requires-clause-rule : goal.mixed_or_violation-requires-clause-rule
-mixed_or_violation-requires-clause-rule c =
+pub mixed_reply-requires-clause-rule : goal.mixed_reply-requires-clause-rule
+mixed_reply-requires-clause-rule c =
     rule_is_bounded c.args.input.now c.in_ok-rule.rule (drop c.in_ok-rule.len c.args.input.now) c.in_ok-rule.ensures.found.1
 
-pub mixed_or_violation-requires-clause-tableau : goal.mixed_or_violation-requires-clause-tableau
-mixed_or_violation-requires-clause-tableau c = c.in_ok-tableau.ensures.found.is_tableau
+pub mixed_reply-requires-clause-tableau : goal.mixed_reply-requires-clause-tableau
+mixed_reply-requires-clause-tableau c = c.in_ok-tableau.ensures.found.is_tableau
 
 pub returns : goal.returns
 returns c =
     mixed_reply_of c.args.input.now (drop c.in_ok-rule.len c.args.input.now) c.in_ok-rule.rule c.in_ok-tableau.tableau
-    c.in_ok-mixed_or_violation.field-0.end c.in_ok-mixed_or_violation.field-0.text.items c.in_ok-rule.ensures.found.1
-    c.in_ok-tableau.ensures.found c.in_ok-mixed_or_violation.ensures
+    c.in_ok-mixed_reply.field-0.end c.in_ok-mixed_reply.field-0.text.items c.in_ok-rule.ensures.found.1
+    c.in_ok-tableau.ensures.found c.in_ok-mixed_reply.ensures
