@@ -1,52 +1,30 @@
 -- The command `cut` has one answer, and what `mixed` shares with it.
-use Rattle.std.proofs.Common.{◌≡◌, ◌≢◌, inl, inr, ℕ, ◌*◌, ◌<◌, ◌≤◌, Bool, true, false, ℤ, pos, int_lt, neg_ℤ, ◌+ℤ◌, ◌-ℤ◌, ◌*ℤ◌, ◌<ℤ◌, ◌≤ℤ◌, unsigned_abs, List, [], ◌++◌, codes, flat_map, refl, sym, ap, ap₂, subst, ◌∙◌, arith}
-use Rattle.std.specs.Int.{int_div_euclid}
-use Rattle.std.specs.List.{AllZip}
+use Rattle.std.proofs.Common.{◌≡◌, ℕ, ◌*◌, ℤ, pos, ◌+ℤ◌, ◌*ℤ◌, unsigned_abs, List, ◌++◌, codes, refl, sym, ap, ap₂, subst, ◌∙◌, arith}
 use Rattle.std.proofs.lemmas.Int.{ints}
-use Rattle.gj_tools.proofs.Integers.{mul_some_z, one_mul_z, positive_some_z}
 use Rattle.gj_frac.specs.declared.Frac.{Frac}
-use Rattle.gj_frac.specs.Floor.{rest_above}
-use Rattle.gj_frac.specs.Fraction.{IsRatio, IsWhole, IsInside, numerator, denominator, fraction_of, quotient_of, product_of, negation_of}
-use Rattle.gj_frac.proofs.Floors.{quotient_is_floor}
-use Rattle.gj_frac.proofs.SameValues.{same_from_is}
+use Rattle.gj_frac.specs.Fraction.{IsWhole, numerator, denominator}
 use Rattle.gj_lex.specs.declared.reason.Reason.{Reason}
 use Rattle.gj_lex.proofs.LineNumbers as numbers
 use Rattle.gj_lines.specs.FunctionLines.{line}
-use Rattle.gj_lines.proofs.OneTextOfLines.{one_text_of_lines}
-use Rattle.gj_shape.specs.FunctionData.{FunctionData, IsWithinBounds, IsContinuous, at}
+use Rattle.gj_shape.specs.FunctionData.{FunctionData, IsWithinBounds}
 use Rattle.gj_shape.specs.Table.{IsMinimal}
-use Rattle.gj_shape.specs.FirstViolation.{IsFirstViolation}
 use Rattle.gj_shape.specs.Values.{IsValueAt}
-use Rattle.gj_shape.specs.declared.violations.Violation.{Violation}
 use Rattle.gj_shape.proofs.LeastDenominator.{denominator_some}
-use Rattle.gj_theory.specs.Cuts.{IsGmicValue, one_minus}
 use Rattle.gj_theory.proofs.Violations.{violation_denies, first_shown}
 use Rattle.gj_ftext.specs.FirstFault.{IsFirstFault}
 use Rattle.gj_ftext.specs.FunctionText.{function_text}
 use Rattle.gj_ftext.proofs.OneText.{one_function_text, function_text_is_exact}
-use Rattle.gj_ftext.proofs.RuleTexts.{one_end, one_fault_of_rule}
+use Rattle.gj_ftext.proofs.RuleTexts.{one_fault_of_rule}
 use Rattle.gj_row.specs.TableauText.{records_of, IsTableauText}
 use Rattle.gj_row.specs.FirstFault.{IsFirstFaultOfTableau}
 use Rattle.gj_row.specs.declared.tableau.Entry.{Entry}
 use Rattle.gj_row.specs.declared.tableau.Row.{Row}
-use Rattle.gj_row.specs.declared.tableau.Tableau.{Tableau}
 use Rattle.gj_row.proofs.OneFirstFault.{one_first_fault as one_tableau_fault}
 use Rattle.gj_row.proofs.OneTableau.{one_tableau}
-use Rattle.gj_rule.specs.declared.kind.RuleKind.TheVariants as kind
-use Rattle.gj_cut.specs.RowCuts.{IsTermOfKind}
-use Rattle.gj_cut.specs.declared.cut.Term.{Term}
-use Rattle.gj_mixed.specs.MixedCuts.{whole_entries, continuous_entries, IsWeightTerm, IsMixedCutOfKind}
-use Rattle.gj_mixed.specs.Slopes.{IsWeight, AreSlopesAtZero, AreGmicSlopes}
-use Rattle.gj_mixed.specs.declared.cut.MixedCut.{MixedCut}
-use Rattle.gj_mixed.specs.declared.cut.MixedCut.TheVariants as mixed_cut
-use Rattle.gj_mtext.specs.Columns.{continuous_columns}
-use Rattle.gj_mtext.specs.MixedLines.{IsNamedTerm, IsMixedCutBy, NamesMixedCut, IsMixedLineFor, AreMixedCutsOf, mixed_row_text}
-use Rattle.gj_mtext.specs.declared.lines.MixedLine.{MixedLine}
-use Rattle.gj_fill.proofs.Ascending.{inside_from_ratio}
 use Rattle.gj_extreme.proofs.OneViolation.{one_violation}
-use Rattle.gj_check.proofs.FractionalParts.{some_part, same_parts, part_some, one_gmic}
+use Rattle.gj_check.proofs.FractionalParts.{same_parts, one_gmic}
 use Rattle.gj_check.proofs.ValuesOfCuts.{one_value}
-use Rattle.gj_proof.specs.ProofText.{IsBoundedRule, IsProofText, AreSubjectLines, subject_of_rule, violation_line}
+use Rattle.gj_proof.specs.ProofText.{IsBoundedRule, IsProofText, violation_line}
 use Rattle.gj_proof.specs.Rules.{HasPart, IsGmicAt, MeetsFraction, MeetsValue}
 use Rattle.gj_proof.proofs.OneText.{one_text}
 use Rattle.gj_proof.specs.declared.claim.Claim.TheVariants as claim
@@ -61,13 +39,11 @@ use Rattle.gj_top.specs.declared.reply.End.{End}
 use Rattle.gj_top.specs.declared.reply.End.TheVariants as end
 use Rattle.gj_top.specs.Cut.{CutInput, cut_input, BeginsWithRule, SpellsCutInput, RefusesCutInput, NamesRecord, refused_record_line, IsTermFor, IsLineFor, AreCutsOf, MakesCuts, NamesViolation, IsCutReply, cut}
 use Rattle.gj_top.specs.Cut.RefusesCutInput.{of_rule, of_function, of_tableau}
-use Rattle.gj_top.specs.Mixed.{NamesJump, IsMixedReply, mixed}
+use Rattle.gj_top.specs.Mixed.{mixed}
 use Rattle.gj_top.proofs.CutClaims.{lines_are_bounded}
 use Rattle.gj_top.proofs.CutForm.{one_rest, rule_is_bounded, no_rule_fault, no_function_fault}
-use Rattle.gj_top.proofs.CutParts.{place_is}
 use Rattle.gj_top.proofs.Determined.{SpellsOne, RefusesOne, RepliesOne, IsDetermined, one_named_fault, one_each}
 use Rattle.gj_top.proofs.InputLines.{rule_of_lines}
-use Rattle.gj_top.proofs.OneVerdict.{one_jump_text, no_jump_named}
 
 -- ---- the form
 

@@ -1,22 +1,21 @@
 -- The commands `faces`, `fill` and `demo` have one answer.
-use Rattle.std.proofs.Common.{◌≡◌, ◌≢◌, inl, inr, ℕ, ◌+◌, ◌*◌, ◌<◌, ◌≤◌, Bool, true, false, cond, ◌&&◌, ℤ, pos, neg_ℤ, int_lt, ◌+ℤ◌, ◌-ℤ◌, ◌*ℤ◌, ◌<ℤ◌, ◌≤ℤ◌, unsigned_abs, List, [], ◌∷◌, ◌++◌, All, length, codes, decimal, flat_map, refl, sym, ap, ap₂, subst, ◌∙◌, arith}
-use Rattle.std.specs.List.{AllZip, range_with_len}
+use Rattle.std.proofs.Common.{◌≡◌, ◌≢◌, ℕ, ◌+◌, ◌*◌, ◌<◌, Bool, true, false, cond, ◌&&◌, ℤ, pos, neg_ℤ, int_lt, ◌+ℤ◌, ◌*ℤ◌, unsigned_abs, List, [], ◌∷◌, ◌++◌, All, length, codes, flat_map, refl, sym, ap, ap₂, subst, ◌∙◌, arith}
+use Rattle.std.specs.List.{AllZip}
 use Rattle.std.proofs.lemmas.Int.{ints}
 use Rattle.std.proofs.lemmas.List.Elements.{All-head, All-tail}
 use Rattle.gj_tools.proofs.Integers.{one_mul_z, mul_some_z}
 use Rattle.gj_tools.proofs.Lists.{All-one, All-two, All-joined}
 use Rattle.gj_tools.proofs.Ratios.{ratio_along}
 use Rattle.gj_tools.proofs.Ring.{by_ring, ring}
-use Rattle.gj_frac.specs.declared.Frac.{Frac}
 use Rattle.gj_frac.specs.Fraction.{IsRatio}
 use Rattle.gj_frac.proofs.SameValues.{same_from_is}
 use Rattle.gj_lex.specs.NumberText.{fraction_text}
 use Rattle.gj_lines.specs.FunctionLines.{line, order_line}
 use Rattle.gj_lines.specs.FaceLines.{face_text, cover_line}
 use Rattle.gj_shape.specs.Additive.{IsTight}
-use Rattle.gj_shape.specs.Cover.{AreCoverLines, components_in}
+use Rattle.gj_shape.specs.Cover.{components_in}
 use Rattle.gj_shape.specs.FirstViolation.{IsLeastFrom}
-use Rattle.gj_shape.specs.FunctionData.{FunctionData, IsWithinBounds, IsContinuous, at}
+use Rattle.gj_shape.specs.FunctionData.{FunctionData, IsWithinBounds, at}
 use Rattle.gj_shape.specs.declared.breaks.Break.{Break}
 use Rattle.gj_shape.specs.declared.extremality.CoverLine.{CoverLine}
 use Rattle.gj_shape.specs.declared.extremality.Halves.{Halves}
@@ -32,7 +31,7 @@ use Rattle.gj_extreme.proofs.OneDecision.{one_decision}
 use Rattle.gj_proof.specs.declared.claim.Claim.TheVariants.{NotExtreme}
 use Rattle.gj_fill.specs.FillIn.{AreGreatestSteps, filled}
 use Rattle.gj_fill.specs.FillPoints.{GraphPoint, value_point, crossing_point, points_from, fill_points, IsBreakAt, AreFillBreaks}
-use Rattle.gj_fill.specs.FirstPair.{IsFirstPair, IsSuperadditiveAt}
+use Rattle.gj_fill.specs.FirstPair.{IsSuperadditiveAt}
 use Rattle.gj_fill.proofs.FillIns.{at_place}
 use Rattle.gj_demo.specs.Demo.{IsDemo, demo_number}
 use Rattle.gj_demo.specs.Summary.{IsSummary, HasSummary, lines_with}
@@ -41,7 +40,7 @@ use Rattle.gj_top.specs.declared.reply.End.TheVariants as end
 use Rattle.gj_top.specs.Demo.{IsDemoReply, demo}
 use Rattle.gj_top.specs.Faces.{IsFacesText, IsFacesReply, uncovered_line, faces}
 use Rattle.gj_top.specs.Fill.{IsFillText, NamesFirstPair, IsFillReply, fill}
-use Rattle.gj_top.proofs.Determined.{IsDetermined, one_each}
+use Rattle.gj_top.proofs.Determined.{IsDetermined}
 use Rattle.gj_top.proofs.OneVerdict.{one_function_spelled, one_function_refusal, by_bounds, one_jump_text, no_jump_named}
 
 -- ---- faces

@@ -1,5 +1,5 @@
 -- The commands with `--json` have one answer.
-use Rattle.std.proofs.Common.{◌≡◌, ◌≢◌, inl, inr, ℕ, ℤ, ◌≤◌, pos, true, List, [], ◌∷◌, ◌++◌, All, drop, flat_map, codes, length, refl, sym, ap, ap₂, subst, ◌∙◌, append_assoc, arith}
+use Rattle.std.proofs.Common.{◌≡◌, ◌≢◌, ℕ, ℤ, ◌≤◌, pos, List, [], ◌∷◌, ◌++◌, All, drop, flat_map, codes, refl, sym, ap, ap₂, subst, ◌∙◌, append_assoc, arith}
 use Rattle.std.proofs.lemmas.Int.{ints}
 use Rattle.std.proofs.lemmas.List.Elements.{All-head, All-tail, All-append}
 use Rattle.gj_frac.specs.declared.Frac.{Frac}
@@ -8,7 +8,7 @@ use Rattle.gj_frac.proofs.SameValues.{same_from_is}
 use Rattle.gj_lex.proofs.LenientLines.{one_cut}
 use Rattle.gj_lines.specs.FunctionLines.{line}
 use Rattle.gj_shape.specs.FunctionData.{FunctionData, IsWithinBounds}
-use Rattle.gj_json.specs.JsonText.{IsPrintable, AreRatios, IsValueOf, IsJsonText, HasLines, IsReport, function_value, json_line, report_value}
+use Rattle.gj_json.specs.JsonText.{IsPrintable, AreRatios, IsJsonText, IsReport, function_value, json_line, report_value}
 use Rattle.gj_json.proofs.OneFunction.{one_function as one_json_function}
 use Rattle.gj_json.proofs.OneReason.{one_reason}
 use Rattle.gj_proof.specs.declared.claim.Claim.{Claim}
@@ -20,7 +20,7 @@ use Rattle.gj_top.specs.declared.reply.End.TheVariants as end
 use Rattle.gj_top.specs.Extreme.{IsExtremality, extreme_json}
 use Rattle.gj_top.specs.Forms.{json_function, RefusesJson, json_refused_line}
 use Rattle.gj_top.specs.Minimal.{IsDecision, minimal_json}
-use Rattle.gj_top.specs.Report.{IsReportOf, IsReportedReply}
+use Rattle.gj_top.specs.Report.{IsReportedReply}
 use Rattle.gj_top.specs.Show.{IsJsonShowing, show_json}
 use Rattle.gj_top.proofs.Determined.{SpellsOne, RefusesOne, RepliesOne, IsDetermined, each_one}
 use Rattle.gj_top.proofs.OneVerdict.{one_decision_reply, one_extremality}

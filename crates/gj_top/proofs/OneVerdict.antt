@@ -1,11 +1,11 @@
 -- The commands `minimal`, `extreme`, `show` and `check` have one answer.
-use Rattle.std.proofs.Common.{◌≡◌, inl, inr, ℕ, pos, ◌<◌, ◌≤◌, ◌++◌, List, [], ◌∷◌, codes, decimal, refl, sym, ap, ap₂, subst, ◌∙◌, arith}
+use Rattle.std.proofs.Common.{◌≡◌, inl, inr, ℕ, pos, ◌++◌, List, codes, decimal, refl, sym, ap, ap₂, subst, ◌∙◌, arith}
 use Rattle.std.proofs.lemmas.Bool.{cases_lt}
 use Rattle.std.proofs.lemmas.Int.{ints}
 use Rattle.gj_frac.specs.Fraction.{IsRatio}
 use Rattle.gj_frac.proofs.SameValues.{same_from_is}
 use Rattle.gj_lines.specs.FunctionLines.{line, fraction_line}
-use Rattle.gj_shape.specs.FunctionData.{FunctionData, IsWithinBounds, IsContinuous, IsFirstJump, IsJump}
+use Rattle.gj_shape.specs.FunctionData.{FunctionData, IsWithinBounds, IsContinuous, IsFirstJump}
 use Rattle.gj_shape.specs.Table.{IsMinimal}
 use Rattle.gj_shape.specs.declared.violations.Violation.{Violation}
 use Rattle.gj_theory.proofs.Violations.{violation_denies, first_shown}
