@@ -17,11 +17,11 @@ enum gjcut_status {
     GJCUT_INPUT = 3,           /* the input is outside its form or a limit */
     GJCUT_NO_ROOM = 5,         /* the output has no room for the answer: its front was written */
     GJCUT_NO_MEMORY = 6,       /* there was no memory: nothing was written */
-    GJCUT_WIDE = 7,            /* `extreme`: a number passed its bound */
-    GJCUT_NOT_CONTINUOUS = 8,  /* the function jumps, and the command takes none that does */
+    GJCUT_WIDE = 7,            /* `extreme`, `group`: a number passed its bound */
+    GJCUT_NOT_CONTINUOUS = 8,  /* the function jumps; of `extreme` and `mixed`: and is minimal */
     GJCUT_NO_FUNCTION = 9,     /* `cut`, `mixed`: the function is not minimal */
     GJCUT_NOT_SUBADDITIVE = 10, /* `fill`: the function is not subadditive */
-    GJCUT_ORDER_LIMIT = 11,    /* `times`: the order would be above 1,000 */
+    GJCUT_ORDER_LIMIT = 11,    /* `times`: the order would be above 1,000; `group`: it is above 120 */
     GJCUT_BAD_ORDER = 12       /* `restrict`: the function has no restriction of that order */
 };
 

@@ -63,7 +63,7 @@ def build(*archives):
     """Makes the shared library beside this file."""
     kit = os.environ.get("KIT") or os.path.dirname(os.path.dirname(os.path.realpath(shutil.which("rt") or HERE)))
     archives = archives or (os.path.join(HERE, "../crates/gj_library/out/libgj_library.a"), os.path.join(kit, "c/liblibc_c.a"))
-    compiler, made = next(filter(shutil.which, ("cc", "gcc", "clang")), "cc"), f"{SHARED}.{os.getpid()}"
+    compiler, made = next(filter(shutil.which, ("cc", "gcc", "clang")), "cc"), f"{SHARED}.{os.urandom(8).hex()}"
     subprocess.run([compiler, "-shared", "-o", made, "-Wl,--whole-archive", *archives, "-Wl,--no-whole-archive"], check=True)
     os.replace(made, SHARED)
 
