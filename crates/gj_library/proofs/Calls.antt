@@ -8,7 +8,7 @@ use Rattle.gj_port.specs.Faults.{HasFailed}
 use Rattle.gj_port.specs.MemorySource.{MemorySource, never_fails}
 use Rattle.gj_words.specs.Grammar.{HasFlag, command_words, json_word}
 use Rattle.gj_words.specs.declared.requests.Command.{Command}
-use Rattle.gj_words.specs.declared.requests.Command.TheVariants.{Minimal, Extreme, Cut, Check, Show, Faces, Demo, Mixed, Fill, Times, Mirror, Restrict}
+use Rattle.gj_words.specs.declared.requests.Command.TheVariants.{Minimal, Extreme, Cut, Check, Show, Faces, Demo, Mixed, Fill, Group, Times, Mirror, Restrict}
 use Rattle.gj_words.specs.declared.requests.Request.{Request}
 use Rattle.gj_top.specs.declared.status.Status.{Status}
 use Rattle.gj_top.specs.declared.status.Status.TheVariants.{Words, ReadFault, WriteFault, Memory}
@@ -36,6 +36,7 @@ unflagged Faces e = cc
 unflagged (Demo n) e = cc
 unflagged Mixed e = cc
 unflagged Fill e = cc
+unflagged Group e = cc
 unflagged (Times n j) e = cc
 unflagged Mirror e = cc
 unflagged (Restrict d) e = cc
