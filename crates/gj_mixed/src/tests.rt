@@ -30,7 +30,10 @@ fn first_row<'a>(tableau: &'a Tableau, continuous: &[bool]) -> Result<&'a Row, &
     if tableau.columns.as_slice().len() != continuous.len() {
         return Err("another number of columns");
     }
-    tableau.rows.as_slice().first().ok_or("no row")
+    match tableau.rows.as_slice().first() {
+        Some(row) => Ok(row),
+        None => Err("no row"),
+    }
 }
 
 /// The terms of these columns, entries and coefficients.
