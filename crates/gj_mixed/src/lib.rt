@@ -14,6 +14,8 @@
 mod cut;
 mod rows;
 mod slopes;
+#[cfg(test)]
+mod tests;
 pub mod theorems;
 mod weights;
 
