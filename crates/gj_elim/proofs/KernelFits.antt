@@ -15,13 +15,14 @@ use Rattle.gj_shape.specs.Elimination.{KeptRow, Solution, at_column, row_with_pi
 use Rattle.gj_theory.proofs.Passing.{first_passes, later_passes, front_passes, back_passes, all_fit}
 use Rattle.gj_frac.specs.Fraction.{Fits}
 
-factor_small : (u : ℤ) (g : ℕ) (x : ℤ) → 0 < g → u *ℤ pos g ≡ x → unsigned_abs u ≤ unsigned_abs x
+-- a factor is at most the product
+pub factor_small : (u : ℤ) (g : ℕ) (x : ℤ) → 0 < g → u *ℤ pos g ≡ x → unsigned_abs u ≤ unsigned_abs x
 factor_small u g x some e =
     let product : unsigned_abs u * g ≡ unsigned_abs x = sym (unsigned_abs-mul u (pos g)) ∙ ap unsigned_abs e in
     let more : unsigned_abs u * 1 ≤ unsigned_abs u * g = mul-le-mul_left (unsigned_abs u) some in
     omega arith
 
-small_negated : (x : ℤ) → unsigned_abs (neg_ℤ x) ≡ unsigned_abs x
+pub small_negated : (x : ℤ) → unsigned_abs (neg_ℤ x) ≡ unsigned_abs x
 small_negated x = omega (arith, ints)
 
 -- ---- one row is solved

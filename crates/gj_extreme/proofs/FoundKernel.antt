@@ -12,7 +12,7 @@ use Rattle.gj_frac.specs.Fraction.{Fits}
 use Rattle.gj_elim.specs.KeptRows.{marked_in}
 use Rattle.gj_extreme.specs.Decision.{AreAllCovered, slope_elimination}
 use Rattle.gj_extreme.proofs.DecidedHalves.{begun_columns, solution_solves, components_below}
-use Rattle.gj_extreme.proofs.KernelFits.{kernel_fits}
+use Rattle.gj_elim.proofs.KernelFits.{kernel_fits}
 use Rattle.gj_extreme.proofs.RenumberedKernel.{kernel_renumbered}
 use Rattle.gj_extreme.specs.RowsToCome.{AreInserted}
 use Rattle.gj_extreme.specs.declared.rows.Rows.{Rows}

@@ -32,6 +32,7 @@ use Rattle.gj_theory.proofs.Passing.{none_passes}
 use Rattle.gj_theory.proofs.ResidueElimination.{no_residues_triangular}
 use Rattle.gj_theory.proofs.ResidueInsertions.{at_reduced_modulo, length-reduced_modulo, kept_residues_at, inserted_leaves_modulo, triangular_behind_modulo}
 use Rattle.gj_theory.proofs.Steps.{length-reduced}
+use Rattle.gj_residue.proofs.Inserting.{no_marks}
 use Rattle.gj_proof.specs.PresentRows.{arithmetic_of, begun_row, entries_or_none, named_row}
 use Rattle.gj_proof.specs.Rules.{MeetsRow, MeetsReduce, MeetsPivot, MeetsPivotBy}
 use Rattle.gj_proof.specs.declared.numbers.Numbers.{Numbers}
@@ -124,19 +125,6 @@ pivot_over Residues n kept row c entries meets e = (meets, by_gcd (cases_eq (gcd
     by_gcd (inl one) = one
     by_gcd (inr other) =
         absurd (none_kept (inverse modulus (at_column row c)) ((inverse_none modulus (at_column row c) (lit< tt)).1 other) e)
-
--- residues mark no numbers
-no_marks : (kept : List KeptRow) (columns : List ℕ) (row : List ℤ) → (insertion_by (modulo modulus) kept columns row).marked ≡ []
-unfolding insertion_by inserted_at_by
-no_marks kept [] row = refl
-no_marks kept (c ∷ columns) row = by_entry (no_marks kept columns) (int_eq (at_column row c) (pos 0)) (row_with_pivot kept c)
-  where
-    by_entry : ((next : List ℤ) → (insertion_by (modulo modulus) kept columns next).marked ≡ []) → (b : Bool) (o : Option KeptRow) →
-        (if b then insertion_by (modulo modulus) kept columns row
-        else inserted_at_by (modulo modulus) o c row (insertion_by (modulo modulus) kept columns)).marked ≡ []
-    by_entry later true o = later row
-    by_entry later false None = refl
-    by_entry later false (Some k) = later (reduced_modulo modulus k.entries row c)
 
 pub residues_mark_none : (n : ℕ) (kept : List KeptRow) (number : ℕ) (rows : List (List ℤ)) →
     (elimination_from_by (modulo modulus) n kept number rows).marked ≡ []

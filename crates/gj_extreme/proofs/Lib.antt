@@ -16,7 +16,6 @@ pub mod FoundPairs
 pub mod TakenRows
 pub mod SeenRows
 pub mod GroupLists
-pub mod KernelFits
 pub mod ListedHalves
 pub mod CoveredNumbers
 pub mod WideParts

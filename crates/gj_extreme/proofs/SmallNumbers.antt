@@ -15,6 +15,7 @@ use Rattle.gj_shape.specs.Elimination.{KeptRow, Insertion, Elimination, at_colum
 use Rattle.gj_theory.proofs.Insertions.{find_has}
 use Rattle.gj_theory.proofs.RowSums.{divided_times}
 use Rattle.gj_theory.proofs.Steps.{row_factor_times, kept_factor_times}
+use Rattle.gj_elim.proofs.KernelFits.{factor_small, small_negated}
 
 -- ---- small numbers
 
@@ -44,13 +45,6 @@ small_differences a b (x ∷ xs) (y ∷ ys) h k =
     All-cons (λ z. unsigned_abs z ≤ a + b) (x -ℤ y) (differences xs ys) (omega arith)
     (small_differences a b xs ys (All-tail (λ z. unsigned_abs z ≤ a) x xs h) (All-tail (λ z. unsigned_abs z ≤ b) y ys k))
 
--- a factor is at most the product
-pub factor_small : (u : ℤ) (g : ℕ) (x : ℤ) → 0 < g → u *ℤ pos g ≡ x → unsigned_abs u ≤ unsigned_abs x
-factor_small u g x some e =
-    let product : unsigned_abs u * g ≡ unsigned_abs x = sym (unsigned_abs-mul u (pos g)) ∙ ap unsigned_abs e in
-    let more : unsigned_abs u * 1 ≤ unsigned_abs u * g = mul-le-mul_left (unsigned_abs u) some in
-    omega arith
-
 small_unscaled : (b g : ℕ) (xs : List ℤ) → 0 < g → IsSmall b (scaled (pos g) xs) → IsSmall b xs
 small_unscaled b g [] some h = All-nil (λ x. unsigned_abs x ≤ b)
 small_unscaled b g (x ∷ xs) some h =
@@ -64,9 +58,6 @@ small_divided : (b : ℕ) (row : List ℤ) → IsSmall b row → IsSmall b (divi
 small_divided b row h =
     let (g, some, is) = divided_times row in
     small_unscaled b g (divided row) some (subst (IsSmall b) (sym is) h)
-
-pub small_negated : (x : ℤ) → unsigned_abs (neg_ℤ x) ≡ unsigned_abs x
-small_negated x = omega (arith, ints)
 
 small_kept : (b : ℕ) (row : List ℤ) (c : ℕ) → IsSmall b row → IsSmall b (kept_entries row c)
 unfolding kept_entries

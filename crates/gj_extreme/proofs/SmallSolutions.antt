@@ -15,7 +15,8 @@ use Rattle.gj_shape.specs.SlopeRows.{total}
 use Rattle.gj_theory.specs.TriangularRows.{AreTriangular}
 use Rattle.gj_theory.proofs.Insertions.{kept_row_at}
 use Rattle.gj_theory.proofs.Kernels.{free_has_no_row, length-solved}
-use Rattle.gj_extreme.proofs.SmallNumbers.{IsSmall, small_up, small_at, small_scaled, factor_small, small_negated, bound, bound_some, bound_up, pivots_before, pivots_by_column, bound_at, AreSmall, kept_small_at}
+use Rattle.gj_elim.proofs.KernelFits.{factor_small, small_negated}
+use Rattle.gj_extreme.proofs.SmallNumbers.{IsSmall, small_up, small_at, small_scaled, bound, bound_some, bound_up, pivots_before, pivots_by_column, bound_at, AreSmall, kept_small_at}
 
 -- ---- sums and products
 

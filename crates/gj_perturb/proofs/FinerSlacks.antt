@@ -107,14 +107,6 @@ one_lane_more lanes more number n lane (count, h) is small pushed =
       },
     )
 
--- a lane as the code makes it
-pub lane_read : (n m : ℤ) → n ≡ m → IsLane m → (pos (unsigned_abs (to_z w64 (of_z w64 n))) ≡ m) × (unsigned_abs (to_z w64 (of_z w64 n)) < 2 ^ 31)
-lane_read n m e h =
-    let low = h.0 in
-    let high = h.1 in
-    let read = to_z-of_z w64 n (omega (arith, ints)) in
-    (omega (arith, ints), omega (arith, ints))
-
 -- ---- lists of naturals among whole numbers
 
 up_contains : (xs : List ℕ) (x : ℕ) → Contains xs x → Contains (map pos xs) (pos x)

@@ -5,7 +5,6 @@ use Rattle.std.proofs.lemmas.Int.{ints}
 use Rattle.std.proofs.lemmas.List.Elements.{All-head, All-tail}
 use Rattle.gj_tools.proofs.Integers.{one_mul_z, mul_some_z}
 use Rattle.gj_tools.proofs.Lists.{All-one, All-two, All-joined}
-use Rattle.gj_tools.proofs.Ratios.{ratio_along}
 use Rattle.gj_tools.proofs.Ring.{by_ring, ring}
 use Rattle.gj_frac.specs.Fraction.{IsRatio}
 use Rattle.gj_frac.proofs.SameValues.{same_from_is}
@@ -42,6 +41,7 @@ use Rattle.gj_top.specs.Faces.{IsFacesText, IsFacesReply, uncovered_line, faces}
 use Rattle.gj_top.specs.Fill.{IsFillText, NamesFirstPair, IsFillReply, fill}
 use Rattle.gj_top.proofs.Determined.{IsDetermined}
 use Rattle.gj_top.proofs.OneVerdict.{one_function_spelled, one_function_refusal, by_bounds, one_jump_text, no_jump_named}
+use Rattle.gj_transform.proofs.OneTransform.{over_both}
 
 -- ---- faces
 
@@ -214,10 +214,6 @@ fill_is_determined = record {
 }
 
 -- ---- the demonstration
-
--- x/s and y/t are n/d
-over_both : (x y n : ℤ) (d s t : ℕ) → 0 < d → x *ℤ pos d ≡ n *ℤ pos s → y *ℤ pos d ≡ n *ℤ pos t → x *ℤ pos t ≡ y *ℤ pos s
-over_both x y n d s t some first second = ratio_along x (pos s) n (pos d) y (pos t) (omega arith) first (sym second)
 
 turned : (s n : ℕ) → pos (s * n) ≡ pos n *ℤ pos s
 turned s n = by_ring (pos s ∷ pos n ∷ []) (search ring depth 20) refl

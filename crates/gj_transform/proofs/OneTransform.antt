@@ -93,7 +93,7 @@ agreeing_are_same f g l h order place agree =
 -- ---- transforms
 
 -- what is n/d over both scales
-over_both : (x y n : ℤ) (d s t : ℕ) → 0 < d → x *ℤ pos d ≡ n *ℤ pos s → y *ℤ pos d ≡ n *ℤ pos t → x *ℤ pos t ≡ y *ℤ pos s
+pub over_both : (x y n : ℤ) (d s t : ℕ) → 0 < d → x *ℤ pos d ≡ n *ℤ pos s → y *ℤ pos d ≡ n *ℤ pos t → x *ℤ pos t ≡ y *ℤ pos s
 over_both x y n d s t some first second = ratio_along x (pos s) n (pos d) y (pos t) (omega arith) first (sym second)
 
 pub one_times : (f g h : FunctionData) (n j : ℕ) → IsWithinBounds f → IsWithinBounds g → IsWithinBounds h → 0 < n →

@@ -6,7 +6,7 @@ ghost use Rattle.gj_transform.specs.Transforms.{IsTimesOf, HasValuesAtMultiples}
 
 use crate::entries::entries_at_multiples;
 use crate::faults::TransformFault;
-use gj_shape::Shape;
+use gj_shape::{GREATEST_ORDER, Shape};
 use std::alloc::Global;
 
 /// The function of `n` x, with the place (f + `j`)/`n`: a function of `n` times the order.
@@ -24,7 +24,7 @@ pub fn times(alloc: Global, shape: &Shape, n: u32, j: u32) -> Result<Shape, Tran
     ensures limit { (result ≡ Err TransformFault.OrderLimit) ↔ (1000 < shape.now.order * n) }
     ensures order { result ≢ Err TransformFault.BadOrder }
 {
-    if n > 1000 / shape.order() {
+    if n > GREATEST_ORDER / shape.order() {
         return Err(TransformFault::OrderLimit);
     }
     let order = shape.order() * n;

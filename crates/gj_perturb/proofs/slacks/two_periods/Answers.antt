@@ -1,7 +1,7 @@
 use Rattle.std.proofs.Common.{◌≡◌, ◌*◌, sym, ap, subst, ◌∙◌, arith}
 use Rattle.gj_theory.specs.Lanes.{AreNumbers}
-use Rattle.gj_theory.proofs.Lanes.{lane_cast}
-use Rattle.gj_perturb.proofs.FinerSlacks.{AreLanesBelow, value_is_lane, no_lane, one_lane_more, lane_read}
+use Rattle.gj_theory.proofs.Lanes.{lane_cast, lane_read}
+use Rattle.gj_perturb.proofs.FinerSlacks.{AreLanesBelow, value_is_lane, no_lane, one_lane_more}
 use Rattle.gj_shape.specs.FunctionData.{at}
 use Rattle.gj_perturb.proofs.slacks.two_periods.Goals as goal
 
