@@ -4,3 +4,4 @@ pub mod Keeping
 pub mod Solving
 pub mod KernelSteps
 pub mod KernelFits
+pub mod LazySteps

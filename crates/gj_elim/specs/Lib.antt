@@ -2,3 +2,4 @@ pub mod Data
 pub mod KeptRows
 pub mod Basis
 pub mod Progress
+pub mod Lazy
