@@ -5,3 +5,4 @@ pub mod Solving
 pub mod KernelSteps
 pub mod KernelFits
 pub mod LazySteps
+pub mod LazyRows

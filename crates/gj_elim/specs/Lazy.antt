@@ -1,5 +1,5 @@
 -- Steps that leave a positive multiple of a row in its place, and how far a row goes.
-use Rattle.std.specs.Prelude.{ℕ, ℤ, pos, ◌≡◌, ◌<◌, ◌≤◌, ◌^◌, ◌*ℤ◌, List, unsigned_abs}
+use Rattle.std.specs.Prelude.{ℕ, ℤ, pos, ◌≡◌, ◌<◌, ◌≤◌, ◌+◌, ◌*◌, ◌^◌, ◌*ℤ◌, ◌⊎◌, List, length, unsigned_abs}
 use Rattle.gj_shape.specs.Elimination.{at_column, scaled, reduced, marked_in_step, Passes}
 
 -- the row is another one times a positive factor
@@ -24,3 +24,18 @@ pub record AreLazyFactors (pivot entry u w : ℤ) : Type 0 where
 pub record IsExtent (bound end : ℕ) (row : List ℤ) : Type 0 where
   pub small : bound < 2 ^ 63 → (k : ℕ) → unsigned_abs (at_column row k) ≤ bound
   pub zero_from : (k : ℕ) → end ≤ k → at_column row k ≡ pos 0
+  pub within : end ≤ length row
+
+-- the row is 0 outside of these columns
+pub record IsZeroOutside (from to : ℕ) (row : List ℤ) : Type 0 where
+  pub before : (k : ℕ) → k < from → at_column row k ≡ pos 0
+  pub behind : (k : ℕ) → to ≤ k → at_column row k ≡ pos 0
+
+-- the products of the factors u and w with what the bounds let through are small, and the row after the step has this extent
+pub record HasRoom (u w : ℤ) (row_bound row_end kept_bound kept_end next_bound next_end : ℕ) : Type 0 where
+  pub row : unsigned_abs u * row_bound < 2 ^ 62
+  pub kept : unsigned_abs w * kept_bound < 2 ^ 62
+  pub bound : next_bound ≡ unsigned_abs u * row_bound + unsigned_abs w * kept_bound
+  pub row_inside : row_end ≤ next_end
+  pub kept_inside : kept_end ≤ next_end
+  pub end : (next_end ≡ row_end) ⊎ (next_end ≡ kept_end)
