@@ -1,20 +1,19 @@
 -- Rows that are read, written and combined entry by entry, and their extents.
-use Rattle.std.proofs.Common.{◌≡◌, ◌≢◌, ℕ, zero, suc, ◌+◌, ◌*◌, ◌<◌, ◌≤◌, ◌^◌, ◌⊎◌, inl, inr, ℤ, pos, ◌-ℤ◌, ◌*ℤ◌, ◌+ℤ◌, ◌<ℤ◌, int_div, int_rem, Option, None, Some, FitsSigned, to_z, of_z, List, length, set, unsigned_abs, below_more, mul-le-mul_left, refl, sym, ap, ap₂, subst, subst₂, ◌∙◌, arith}
+use Rattle.std.proofs.Common.{◌≡◌, ◌≢◌, ℕ, ◌+◌, ◌*◌, ◌<◌, ◌≤◌, ◌^◌, ◌⊎◌, inl, inr, ℤ, pos, ◌-ℤ◌, ◌*ℤ◌, ◌+ℤ◌, ◌<ℤ◌, int_div, int_rem, Bool, true, false, Option, None, Some, FitsSigned, to_z, of_z, List, length, unsigned_abs, below_more, mul-le-mul_left, sym, ap, ap₂, subst, subst₂, ◌∙◌, arith}
 use Rattle.std.proofs.lemmas.Bool.{cases_lt}
 use Rattle.std.proofs.lemmas.Int.{ints, quot-rem, rem_is, quot_fits, fits_signed_from_abs, to_z-of_z}
 use mir.Syntax.{w64, w128}
-use Rattle.std.proofs.lemmas.List.{same_lists, get_or_default, get_or-set_same, get_or-set_other, get_or_past, length-map}
+use Rattle.std.proofs.lemmas.List.{same_lists, get_or_default, get_or_past, length-map}
 use Rattle.gj_tools.proofs.Integers.{unsigned_abs-mul, abs_sub_z, abs_positive_z, pos_abs_z, one_mul_z}
 use Rattle.gj_shape.specs.Elimination.{at_column, divided, scaled, differences}
-use Rattle.gj_frac.specs.Fraction.{Fits}
 use Rattle.gj_theory.specs.Fitting.{FitsCombined}
-use Rattle.gj_theory.proofs.CombinedRows.{AreCombined, combined_more, combined_value}
+use Rattle.gj_theory.proofs.CombinedRows.{AreCombined, combined_value}
 use Rattle.gj_theory.proofs.DividedRows.{scaled_one}
 use Rattle.gj_theory.proofs.Entries.{at_scaled, at_differences, at_divided}
 use Rattle.gj_theory.proofs.Steps.{length-differences}
 use Rattle.std.specs.Prelude.{IfSome}
 use Rattle.gj_elim.proofs.LazySteps.{AreNarrow, divided_multiple}
-use Rattle.gj_elim.specs.Lazy.{IsMultiple, AreLazyFactors, IsExtent, HasRoom, IsZeroOutside}
+use Rattle.gj_elim.specs.Lazy.{IsMultiple, IsExactly, AreLazyFactors, IsExtent, HasRoom, IsZeroOutside}
 
 -- ---- extents
 
@@ -273,3 +272,11 @@ multiple_divided other row next multiple is next_is = record {
   some = omega arith;
   is = next_is ∙ ap divided multiple.is ∙ divided_multiple multiple.factor other multiple.some ∙ sym is ∙ sym (scaled_one other);
 }
+
+pub divided_if : (is_stepped : Bool) (other row : List ℤ) → is_stepped ≡ true → IsExactly is_stepped other row → other ≡ divided other
+divided_if true other row e h = h
+divided_if false other row e h = absurd cc
+
+pub exact_divided : (other row exact : List ℤ) → IsMultiple other row → other ≡ divided other → exact ≡ divided row → exact ≡ other
+exact_divided other row exact multiple is exact_is =
+    exact_is ∙ ap divided multiple.is ∙ divided_multiple multiple.factor other multiple.some ∙ sym is

@@ -1,10 +1,10 @@
 -- A step without divisions leaves a positive multiple of the row that the definition has, and marks nothing that it does not exceed.
-use Rattle.std.proofs.Common.{◌≡◌, ◌≢◌, ℕ, zero, suc, ◌+◌, ◌*◌, ◌<◌, ◌≤◌, ◌^◌, ◌⊎◌, inl, inr, ⊎_elim, Bool, true, false, if◌then◌else◌, ℤ, pos, negsuc, ◌+ℤ◌, ◌-ℤ◌, ◌*ℤ◌, neg_ℤ, ◌<ℤ◌, int_lt, List, [], ◌∷◌, ◌++◌, length, map, unsigned_abs, refl, sym, ap, ap₂, subst, ◌∙◌, arith}
+use Rattle.std.proofs.Common.{◌≡◌, ◌≢◌, ℕ, zero, suc, ◌*◌, ◌<◌, ◌≤◌, ◌⊎◌, inl, inr, ⊎_elim, Bool, true, false, if◌then◌else◌, ℤ, pos, ◌-ℤ◌, ◌*ℤ◌, neg_ℤ, ◌<ℤ◌, int_lt, List, [], ◌∷◌, ◌++◌, length, map, unsigned_abs, refl, sym, ap, ap₂, subst, ◌∙◌, arith}
 use Rattle.std.specs.Int.{IsGcd, ◌∣◌}
 use Rattle.std.proofs.lemmas.Int.{ints}
 use Rattle.std.proofs.lemmas.List.{same_lists, get_or_default, length-map}
 use Rattle.std.proofs.lemmas.Nat.Gcd.{dvd_trans, dvd_refl}
-use Rattle.std.proofs.Math.Nat.{dvd-mul_left, dvd-mul_right, mul-le-mul_right}
+use Rattle.std.proofs.Math.Nat.{dvd-mul_right, mul-le-mul_right}
 use Rattle.gj_tools.specs.Divisors.{gcd_of}
 use Rattle.gj_tools.proofs.Divisors.{cofactor, divides_product, gcd_of_is, gcd_is_gcd_of, gcd_positive, gcd_scaled}
 use Rattle.gj_tools.proofs.Integers.{unsigned_abs-mul, mul_cancel_left_z, mul_sub_z, mul_lt_cancel_left_z, mul_lt_mul_left_z, abs_zero_z, abs_positive_z}
@@ -12,7 +12,7 @@ use Rattle.gj_tools.proofs.Ring.{by_ring, ring}
 use Rattle.gj_shape.specs.Elimination.{at_column, gcd_of_row, divided, scaled, differences, eliminated, reduced, marked_in_step, row_factor, kept_factor, kept_entries, Passes}
 use Rattle.gj_frac.specs.Fraction.{Fits}
 use Rattle.gj_theory.proofs.Entries.{at_scaled, at_differences}
-use Rattle.gj_theory.proofs.RowSums.{scaled_quotients, divided_zero, divided_some, divided_times, zero_or_not}
+use Rattle.gj_theory.proofs.RowSums.{scaled_quotients, divided_some, divided_times, zero_or_not}
 use Rattle.gj_theory.proofs.Steps.{row_factor_times, kept_factor_times, length-differences, length-eliminated}
 use Rattle.gj_theory.proofs.Passing.{either_passes, none_pass}
 use Rattle.gj_elim.specs.Lazy.{IsMultiple, IsLazyStep, AreLazyFactors}

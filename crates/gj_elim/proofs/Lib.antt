@@ -6,3 +6,5 @@ pub mod KernelSteps
 pub mod KernelFits
 pub mod LazySteps
 pub mod LazyRows
+pub mod LazyProgress
+pub mod KeptTables

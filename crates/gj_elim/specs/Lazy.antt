@@ -1,6 +1,6 @@
 -- Steps that leave a positive multiple of a row in its place, and how far a row goes.
-use Rattle.std.specs.Prelude.{ℕ, ℤ, pos, ◌≡◌, ◌<◌, ◌≤◌, ◌+◌, ◌*◌, ◌^◌, ◌*ℤ◌, ◌⊎◌, List, length, unsigned_abs}
-use Rattle.gj_shape.specs.Elimination.{at_column, scaled, reduced, marked_in_step, Passes}
+use Rattle.std.specs.Prelude.{Bool, true, false, ℕ, ℤ, pos, ◌≡◌, ◌<◌, ◌≤◌, ◌+◌, ◌*◌, ◌^◌, ◌*ℤ◌, ◌⊎◌, List, length, unsigned_abs}
+use Rattle.gj_shape.specs.Elimination.{at_column, divided, scaled, reduced, marked_in_step, Passes}
 
 -- the row is another one times a positive factor
 pub record IsMultiple (other row : List ℤ) : Type 0 where
@@ -39,3 +39,8 @@ pub record HasRoom (u w : ℤ) (row_bound row_end kept_bound kept_end next_bound
   pub row_inside : row_end ≤ next_end
   pub kept_inside : kept_end ≤ next_end
   pub end : (next_end ≡ row_end) ⊎ (next_end ≡ kept_end)
+
+-- the row from which another comes is divided, once a step was made; before, it is that row
+abbrev pub IsExactly : Bool → List ℤ → List ℤ → Type 0
+IsExactly true other row = other ≡ divided other
+IsExactly false other row = other ≡ row

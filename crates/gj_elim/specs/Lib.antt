@@ -3,3 +3,4 @@ pub mod KeptRows
 pub mod Basis
 pub mod Progress
 pub mod Lazy
+pub mod Tables

@@ -1,10 +1,18 @@
 //! Steps in 64 bits, without a division: they leave a positive multiple of the row that the definition has.
-ghost use Rattle.std.specs.Prelude.{ℕ, ℤ, pos, ◌≡◌, ◌≢◌, ◌<◌, ◌≤◌, ◌+◌, ◌*◌, ◌^◌, ◌*ℤ◌, ◌<ℤ◌, List, length, unsigned_abs, IfSome, IsNone, IsTrue};
-ghost use Rattle.gj_shape.specs.Elimination.{at_column, divided, scaled, differences};
-ghost use Rattle.gj_elim.specs.Lazy.{IsMultiple, IsLazyStep, AreLazyFactors, IsExtent, HasRoom, IsZeroOutside};
+ghost use Rattle.std.specs.Prelude.{ℕ, ℤ, pos, ◌≡◌, ◌≢◌, ◌<◌, ◌≤◌, ◌+◌, ◌*◌, ◌^◌, ◌*ℤ◌, ◌<ℤ◌, List, length, unsigned_abs, IfSome, IsNone, IfOk, [], All};
+ghost use Rattle.gj_shape.specs.Elimination.{at_column, divided, scaled, differences, inserted};
+ghost use Rattle.gj_frac.specs.Fraction.{Fits};
+ghost use Rattle.gj_theory.specs.TriangularRows.{AreTriangular};
+ghost use Rattle.gj_elim.specs.KeptRows.{kept_rows};
+ghost use Rattle.gj_elim.specs.Progress.{IsReached, IsReachedWithin};
+ghost use Rattle.gj_elim.specs.Tables.{ArePlaces, AreExtents};
+ghost use Rattle.gj_elim.specs.Lazy.{IsMultiple, IsLazyStep, AreLazyFactors, IsExtent, HasRoom, IsZeroOutside, IsExactly};
 
 use crate::extent::{Extent, extent_of};
+use crate::log::LogRow;
 use crate::step::divide;
+use gj_shape::List;
+use std::alloc::AllocError;
 
 /// The products of a step in 64 bits are below it.
 const ROOM: u128 = 1 << 62;
@@ -124,37 +132,40 @@ pub(crate) fn store(row: &[i64], wide: &mut [i128])
     }
 }
 
-/// Divides a row by the greatest common divisor of its entries, and gives its extent, if its numbers are small then.
-fn tighten(row: &mut [i64], wide: &mut [i128]) -> Option<Extent>
-    requires columns { length wide.old ≡ length row.old }
+/// Divides a row by the greatest common divisor of its entries, and gives its extent, if its numbers are small then. The divided row
+/// is written with 128 bits a number too.
+fn tighten(row: &mut [i64], exact: &mut [i128]) -> Option<Extent>
+    requires columns { length exact.old ≡ length row.old }
     requires small { (k : ℕ) → unsigned_abs (at_column row.old k) < 2 ^ 63 }
     ensures value { IfSome result (λ _. row.new ≡ divided row.old) }
     ensures extent { IfSome result (λ e. IsExtent e.bound e.end row.new) }
     ensures bound { IfSome result (λ e. e.bound < 2 ^ 63) }
+    ensures exact { exact.new ≡ divided row.old }
+    ensures fits { All Fits exact.new }
 {
-    store(row, wide);
-    divide(wide);
-    let extent = extent_of(wide);
+    store(row, exact);
+    divide(exact);
+    let extent = extent_of(exact);
     if extent.bound >= GREATEST_BOUND {
         return None;
     }
-    load(row, wide);
+    load(row, exact);
     Some(extent)
 }
 
 /// A step at the column, if its numbers are small, or are small once the row is divided. Only a row that comes from a step is divided,
-/// since each such row is divided in the definition.
+/// since each such row is divided in the definition. If there is no step, the row of the definition is written with 128 bits a number.
 pub(crate) fn step(
     kept: &[i128],
     kept_extent: Extent,
     row: &mut [i64],
     extent: Extent,
     column: usize,
-    wide: &mut [i128],
+    exact: &mut [i128],
     is_stepped: bool,
 ) -> Option<Extent>
     requires columns { length kept.now ≡ length row.old }
-    requires wide { length wide.old ≡ length row.old }
+    requires exact { length exact.old ≡ length row.old }
     requires within { column < length row.old }
     requires kept_extent { IsExtent kept_extent.bound kept_extent.end kept.now }
     requires extent { IsExtent extent.bound extent.end row.old }
@@ -163,19 +174,86 @@ pub(crate) fn step(
     requires row_zero { (k : ℕ) → k < column → at_column row.old k ≡ pos 0 }
     requires positive { pos 0 <ℤ at_column kept.now column }
     requires some { at_column row.old column ≢ pos 0 }
-    ensures step { IfSome result (λ _. (other : List ℤ) → IsMultiple other row.old → (IsTrue is_stepped → other ≡ divided other) →
+    ensures step { IfSome result (λ _. (other : List ℤ) → IsMultiple other row.old → IsExactly is_stepped other row.old →
         IsLazyStep kept.now other row.new column) }
     ensures extent { IfSome result (λ e. IsExtent e.bound e.end row.new) }
     ensures bound { IfSome result (λ e. e.bound < 2 ^ 63) }
+    ensures exact { IsNone result → (other : List ℤ) → IsMultiple other row.old → IsExactly is_stepped other row.old →
+        exact.new ≡ other }
+    ensures fits { IsNone result → All Fits exact.new }
 {
     if let Some(next) = step_once(kept, kept_extent, row, extent, column) {
         return Some(next);
     }
     if !is_stepped {
+        store(row, exact);
         return None;
     }
-    match tighten(row, wide) {
+    match tighten(row, exact) {
         None => None,
         Some(tight) => step_once(kept, kept_extent, row, tight, column),
     }
+}
+
+/// Where the steps in 64 bits come to.
+pub(crate) enum Reached {
+    /// To the end, with something left of the row at this column, or with nothing.
+    End(Option<u32>),
+    /// To a column whose step may have large numbers.
+    Column(usize),
+}
+
+/// Takes a row through the columns as far as its numbers stay small, and adds to `reduce` the columns at which it is reduced. It
+/// becomes a multiple of the row of the definition; if a step may have large numbers, that row itself is written with 128 bits a number.
+pub(crate) fn reduce_lazily(
+    _log: &[LogRow],
+    rows: &[List<i128>],
+    extents: &[Extent],
+    places: &[Option<u32>],
+    row: &mut [i64],
+    first_extent: Extent,
+    exact: &mut [i128],
+    reduce: &mut Vec<u32>,
+) -> Result<Reached, AllocError>
+    requires lines { length _log.now ≡ length rows.now }
+    requires triangular { AreTriangular (length row.old) (kept_rows _log.now rows.now) }
+    requires extents { AreExtents rows.now extents.now }
+    requires places { ArePlaces (length row.old) _log.now places.now }
+    requires count { length row.old < 2 ^ 32 }
+    requires exact { length exact.old ≡ length row.old }
+    requires extent { IsExtent first_extent.bound first_extent.end row.old }
+    requires bound { first_extent.bound < 2 ^ 63 }
+    requires empty { reduce.old.items ≡ [] }
+    ensures reached { IfOk result (λ r. IsReached (kept_rows _log.now rows.now) (inserted (length row.old) (kept_rows _log.now rows.now) row.old)
+        r row.new exact.new reduce.new.items) }
+    ensures within { IfOk result (λ r. IsReachedWithin (length row.old) _log.now r row.new exact.new) }
+{
+    let mut extent = first_extent;
+    let mut is_stepped = false;
+    for column in 0..row.len() {
+        if row[column] != 0 {
+            let Some(place) = places[column] else {
+                return Ok(Reached::End(Some(column as u32)));
+            };
+            let next = step(
+                rows[place as usize].as_slice(),
+                extents[place as usize],
+                row,
+                extent,
+                column,
+                exact,
+                is_stepped,
+            );
+            match next {
+                None => return Ok(Reached::Column(column)),
+                Some(after) => {
+                    reduce.reserve(1)?;
+                    reduce.push_reserved(column as u32);
+                    extent = after;
+                    is_stepped = true;
+                }
+            }
+        }
+    }
+    Ok(Reached::End(None))
 }

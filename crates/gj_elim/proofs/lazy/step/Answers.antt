@@ -1,7 +1,7 @@
-use Rattle.std.proofs.Common.{rules, ◌≡◌, ap, refl, sym, subst, ◌∙◌, List, ℤ, pos, arith}
+use Rattle.std.proofs.Common.{rules, ◌≡◌, ap, refl, sym, ◌∙◌}
 use Rattle.gj_shape.specs.Elimination.{at_column, divided}
 use Rattle.gj_theory.proofs.Entries.{divided_at_zero}
-use Rattle.gj_elim.proofs.LazyRows.{if_some_more, divided_some_at, multiple_divided}
+use Rattle.gj_elim.proofs.LazyRows.{if_some_more, divided_if, exact_divided, divided_some_at, multiple_divided}
 use Rattle.gj_elim.proofs.lazy.step.Goals as goal
 
 pub returns-in-Some-clause-step : goal.returns-in-Some-clause-step
@@ -24,6 +24,18 @@ pub returns-in-Some-tighten-clause-step : goal.returns-in-Some-tighten-clause-st
 returns-in-Some-tighten-clause-step c =
     let same : c.step_once.new.row ≡ c.args.row.now = c.in_default.ensures.same refl in
     if_some_more c.step_once-in-Some-tighten.result _ _ c.step_once-in-Some-tighten.ensures.step
-    (λ x h other multiple divided_is.
-    h other (multiple_divided other c.args.row.now c.tighten.new.row multiple (divided_is (search rules))
+    (λ x h other multiple exactly.
+    h other (multiple_divided other c.args.row.now c.tighten.new.row multiple (divided_if c.args.is_stepped other c.args.row.now (search rules) exactly)
     (c.in-Some-tighten.ensures.value ∙ ap divided same)))
+
+pub returns-in-None-clause-exact : goal.returns-in-None-clause-exact
+returns-in-None-clause-exact c none other multiple exactly =
+    let same : c.step_once.new.row ≡ c.args.row.now = c.in_default.ensures.same refl in
+    exact_divided other c.args.row.now c.tighten.new.exact multiple (divided_if c.args.is_stepped other c.args.row.now (search rules) exactly)
+    (c.tighten.ensures.exact ∙ ap divided same)
+
+pub returns-in-Some-tighten-clause-exact : goal.returns-in-Some-tighten-clause-exact
+returns-in-Some-tighten-clause-exact c none other multiple exactly =
+    let same : c.step_once.new.row ≡ c.args.row.now = c.in_default.ensures.same refl in
+    exact_divided other c.args.row.now c.tighten.new.exact multiple (divided_if c.args.is_stepped other c.args.row.now (search rules) exactly)
+    (c.tighten.ensures.exact ∙ ap divided same)

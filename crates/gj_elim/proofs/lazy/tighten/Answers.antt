@@ -1,4 +1,4 @@
-use Rattle.std.proofs.Common.{List, ℤ, pos, get_or, unsigned_abs, sym, subst, arith}
+use Rattle.std.proofs.Common.{pos, sym, subst, arith}
 use Rattle.std.specs.Prelude.{All}
 use Rattle.std.proofs.lemmas.List.Elements.{All-from_get_or}
 use Rattle.gj_frac.specs.Fraction.{Fits}
