@@ -8,3 +8,4 @@ pub mod LazySteps
 pub mod LazyRows
 pub mod LazyProgress
 pub mod KeptTables
+pub mod SmallDivisors

@@ -1,6 +1,7 @@
 //! Steps in 64 bits, without a division: they leave a positive multiple of the row that the definition has.
 ghost use Rattle.std.specs.Prelude.{ℕ, ℤ, pos, ◌≡◌, ◌≢◌, ◌<◌, ◌≤◌, ◌+◌, ◌*◌, ◌^◌, ◌*ℤ◌, ◌<ℤ◌, List, length, unsigned_abs, IfSome, IsNone, IfOk, [], All};
-ghost use Rattle.gj_shape.specs.Elimination.{at_column, divided, scaled, differences, inserted};
+ghost use Rattle.gj_shape.specs.Elimination.{at_column, gcd_of_row, divided, scaled, differences, inserted};
+ghost use Rattle.std.specs.Int.{IsGcd};
 ghost use Rattle.gj_frac.specs.Fraction.{Fits};
 ghost use Rattle.gj_theory.specs.TriangularRows.{AreTriangular};
 ghost use Rattle.gj_elim.specs.KeptRows.{kept_rows};
@@ -8,9 +9,9 @@ ghost use Rattle.gj_elim.specs.Progress.{IsReached, IsReachedWithin};
 ghost use Rattle.gj_elim.specs.Tables.{ArePlaces, AreExtents};
 ghost use Rattle.gj_elim.specs.Lazy.{IsMultiple, IsLazyStep, AreLazyFactors, IsExtent, HasRoom, IsZeroOutside, IsExactly};
 
-use crate::extent::{Extent, extent_of};
+use crate::extent::Extent;
 use crate::log::LogRow;
-use crate::step::divide;
+use gj_frac::gcd;
 use gj_shape::List;
 use std::alloc::AllocError;
 
@@ -132,25 +133,93 @@ pub(crate) fn store(row: &[i64], wide: &mut [i128])
     }
 }
 
-/// Divides a row by the greatest common divisor of its entries, and gives its extent, if its numbers are small then. The divided row
-/// is written with 128 bits a number too.
-fn tighten(row: &mut [i64], exact: &mut [i128]) -> Option<Extent>
-    requires columns { length exact.old ≡ length row.old }
-    requires small { (k : ℕ) → unsigned_abs (at_column row.old k) < 2 ^ 63 }
-    ensures value { IfSome result (λ _. row.new ≡ divided row.old) }
-    ensures extent { IfSome result (λ e. IsExtent e.bound e.end row.new) }
-    ensures bound { IfSome result (λ e. e.bound < 2 ^ 63) }
-    ensures exact { exact.new ≡ divided row.old }
-    ensures fits { All Fits exact.new }
+/// The greatest common divisor of a number and of the absolute value of another.
+fn divisor_with(divisor: u64, x: i64) -> u64
+    requires divisor { divisor < 2 ^ 63 }
+    requires small { unsigned_abs x < 2 ^ 63 }
+    ensures value { IsGcd divisor (unsigned_abs x) result }
+    ensures small { result < 2 ^ 63 }
 {
-    store(row, exact);
-    divide(exact);
-    let extent = extent_of(exact);
-    if extent.bound >= GREATEST_BOUND {
-        return None;
+    if x == 0 {
+        return divisor;
     }
-    load(row, exact);
-    Some(extent)
+    gcd(u128::from(x.unsigned_abs()), u128::from(divisor)) as u64
+}
+
+/// The greatest common divisor of all entries of a row that is 0 outside of these columns; 0 if all are 0.
+fn divisor_within(row: &[i64], from: usize, to: usize) -> u64
+    requires within { to ≤ length row.now }
+    requires zero { IsZeroOutside from to row.now }
+    requires small { (k : ℕ) → unsigned_abs (at_column row.now k) < 2 ^ 63 }
+    ensures value { result ≡ gcd_of_row row.now }
+    ensures small { result < 2 ^ 63 }
+{
+    let mut divisor: u64 = 0;
+    for i in from..to {
+        if divisor == 1 {
+            return 1;
+        }
+        divisor = divisor_with(divisor, row[i]);
+    }
+    divisor
+}
+
+/// Divides a row that is 0 outside of these columns by the greatest common divisor of its entries.
+fn divide_within(row: &mut [i64], divisor: u64, from: usize, to: usize)
+    requires within { to ≤ length row.old }
+    requires zero { IsZeroOutside from to row.old }
+    requires divisor { divisor ≡ gcd_of_row row.old }
+    requires small { divisor < 2 ^ 63 }
+    requires some { 0 < divisor }
+    ensures { row.new ≡ divided row.old }
+{
+    for i in from..to {
+        row[i] /= divisor as i64;
+    }
+}
+
+/// Divides a row that is 0 outside of these columns by the greatest common divisor of its entries, if that is not 1.
+fn divide_small(row: &mut [i64], from: usize, to: usize)
+    requires within { to ≤ length row.old }
+    requires zero { IsZeroOutside from to row.old }
+    requires small { (k : ℕ) → unsigned_abs (at_column row.old k) < 2 ^ 63 }
+    ensures { row.new ≡ divided row.old }
+{
+    let divisor = divisor_within(row, from, to);
+    if divisor > 1 {
+        divide_within(row, divisor, from, to);
+    }
+}
+
+/// The greatest absolute value of a row that is 0 outside of these columns.
+fn bound_within(row: &[i64], from: usize, to: usize) -> u64
+    requires within { to ≤ length row.now }
+    requires zero { IsZeroOutside from to row.now }
+    requires small { (k : ℕ) → unsigned_abs (at_column row.now k) < 2 ^ 63 }
+    ensures bound { (k : ℕ) → unsigned_abs (at_column row.now k) ≤ result }
+    ensures small { result < 2 ^ 63 }
+{
+    let mut bound: u64 = 0;
+    for i in from..to {
+        bound = bound.max(row[i].unsigned_abs());
+    }
+    bound
+}
+
+/// Divides a row that is 0 before the column by the greatest common divisor of its entries, and gives its extent then.
+fn tighten(row: &mut [i64], extent: Extent, column: usize) -> Extent
+    requires extent { IsExtent extent.bound extent.end row.old }
+    requires bound { extent.bound < 2 ^ 63 }
+    requires row_zero { (k : ℕ) → k < column → at_column row.old k ≡ pos 0 }
+    ensures value { row.new ≡ divided row.old }
+    ensures extent { IsExtent result.bound result.end row.new }
+    ensures bound { result.bound < 2 ^ 63 }
+{
+    divide_small(row, column, extent.end);
+    Extent {
+        bound: bound_within(row, column, extent.end),
+        end: extent.end,
+    }
 }
 
 /// A step at the column, if its numbers are small, or are small once the row is divided. Only a row that comes from a step is divided,
@@ -189,9 +258,13 @@ pub(crate) fn step(
         store(row, exact);
         return None;
     }
-    match tighten(row, exact) {
-        None => None,
-        Some(tight) => step_once(kept, kept_extent, row, tight, column),
+    let tight = tighten(row, extent, column);
+    match step_once(kept, kept_extent, row, tight, column) {
+        None => {
+            store(row, exact);
+            None
+        }
+        Some(next) => Some(next),
     }
 }
 

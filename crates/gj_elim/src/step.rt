@@ -33,7 +33,7 @@ fn divisor_of_row(row: &[i128]) -> u128
 }
 
 /// Divides a row by the greatest common divisor of its entries, where they are not all 0.
-pub(crate) fn divide(row: &mut [i128])
+fn divide(row: &mut [i128])
     requires { All Fits row.old }
     ensures value { row.new ≡ divided row.old }
     ensures fits { All Fits row.new }
