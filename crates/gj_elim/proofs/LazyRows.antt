@@ -85,7 +85,31 @@ code_difference u x w e u_fits x_fits w_fits e_fits first second small =
       narrow = record { first = omega arith; second = omega arith; difference = omega arith };
     }
 
+-- the same for a row that is not multiplied
+pub code_subtraction : (x w e : ℤ) → FitsSigned w64 x → FitsSigned w64 w → FitsSigned w128 e →
+    unsigned_abs x < 2 ^ 62 → unsigned_abs (w *ℤ e) < 2 ^ 62 → unsigned_abs e < 2 ^ 63 →
+    IsCodeDifference (pos 1) x w e (to_z w64 (of_z w64 x)
+    -ℤ to_z w64 (of_z w64 (to_z w64 (of_z w64 w) *ℤ to_z w64 (of_z w64 (to_z w128 (of_z w128 e))))))
+code_subtraction x w e x_fits w_fits e_fits first second small =
+    let e_is : to_z w64 (of_z w64 (to_z w128 (of_z w128 e))) ≡ e =
+    ap (λ z. to_z w64 (of_z w64 z)) (to_z-of_z w128 e e_fits) ∙ read_small e small in
+    let second_is : to_z w64 (of_z w64 (to_z w64 (of_z w64 w) *ℤ to_z w64 (of_z w64 (to_z w128 (of_z w128 e))))) ≡ w *ℤ e =
+    ap (λ z. to_z w64 (of_z w64 z)) (ap₂ (λ a b. a *ℤ b) (to_z-of_z w64 w w_fits) e_is) ∙ read_small (w *ℤ e) (omega arith) in
+    let one : x ≡ pos 1 *ℤ x = sym (one_mul_z x) in
+    let first' : unsigned_abs (pos 1 *ℤ x) < 2 ^ 62 = subst (λ (y : ℤ). unsigned_abs y < 2 ^ 62) one first in
+    let whole = ap₂ (λ a b. a -ℤ b) (to_z-of_z w64 x x_fits ∙ one) second_is in
+    let less = abs_sub_z (pos 1 *ℤ x) (w *ℤ e) in
+    let low : unsigned_abs (pos 1 *ℤ x -ℤ w *ℤ e) < 2 ^ 63 = omega arith in record {
+      fits = subst (FitsSigned w64) (sym whole) (fits_signed_from_abs w64 (pos 1 *ℤ x -ℤ w *ℤ e) low);
+      value = ap (λ z. to_z w64 (of_z w64 z)) whole ∙ read_small (pos 1 *ℤ x -ℤ w *ℤ e) low;
+      narrow = record { first = omega arith; second = omega arith; difference = omega arith };
+    }
+
 -- ---- all entries of a step
+
+-- a factor as the code reads it
+pub read_factor : (u w w' : ℤ) (old kept row : List ℤ) (i : ℕ) → w' ≡ w → AreCombined u w old kept row i → AreCombined u w' old kept row i
+read_factor u w w' old kept row i e h = subst (λ (v : ℤ). AreCombined u v old kept row i) (sym e) h
 
 -- outside of the columns all is 0, and so combined
 pub combined_end : (u w : ℤ) (old kept row : List ℤ) (from to i : ℕ) → AreCombined u w old kept row i → IsZeroOutside from to old →

@@ -61,8 +61,24 @@ fn room(factors: Factors, row: Extent, kept: Extent) -> Option<Extent>
     })
 }
 
+/// Subtracts the kept row times its factor from the row, where both rows are 0 outside of these columns.
+fn subtract(factor: i64, row: &mut [i64], kept: &[i128], from: usize, to: usize)
+    requires columns { length kept.now ≡ length row.old }
+    requires within { to ≤ length row.old }
+    requires row { (k : ℕ) → unsigned_abs (at_column row.old k) < 2 ^ 62 }
+    requires kept { (k : ℕ) → unsigned_abs (factor *ℤ at_column kept.now k) < 2 ^ 62 }
+    requires entries { (k : ℕ) → unsigned_abs (at_column kept.now k) < 2 ^ 63 }
+    requires row_zero { IsZeroOutside from to row.old }
+    requires kept_zero { IsZeroOutside from to kept.now }
+    ensures { row.new ≡ differences (scaled (pos 1) row.old) (scaled factor kept.now) }
+{
+    for i in from..to {
+        row[i] -= factor * (kept[i] as i64);
+    }
+}
+
 /// Puts the row times its factor less the kept row times its own in the place of the row, where both rows are 0 outside of these columns.
-fn combine_within(factors: Factors, row: &mut [i64], kept: &[i128], from: usize, to: usize)
+fn scale_and_subtract(factors: Factors, row: &mut [i64], kept: &[i128], from: usize, to: usize)
     requires columns { length kept.now ≡ length row.old }
     requires within { to ≤ length row.old }
     requires row { (k : ℕ) → unsigned_abs (factors.row *ℤ at_column row.old k) < 2 ^ 62 }
@@ -74,6 +90,24 @@ fn combine_within(factors: Factors, row: &mut [i64], kept: &[i128], from: usize,
 {
     for i in from..to {
         row[i] = factors.row * row[i] - factors.kept * (kept[i] as i64);
+    }
+}
+
+/// Puts the row times its factor less the kept row times its own in the place of the row, where both rows are 0 outside of these columns.
+fn combine_within(factors: Factors, row: &mut [i64], kept: &[i128], from: usize, to: usize)
+    requires columns { length kept.now ≡ length row.old }
+    requires within { to ≤ length row.old }
+    requires row { (k : ℕ) → unsigned_abs (factors.row *ℤ at_column row.old k) < 2 ^ 62 }
+    requires kept { (k : ℕ) → unsigned_abs (factors.kept *ℤ at_column kept.now k) < 2 ^ 62 }
+    requires entries { (k : ℕ) → unsigned_abs (at_column kept.now k) < 2 ^ 63 }
+    requires row_zero { IsZeroOutside from to row.old }
+    requires kept_zero { IsZeroOutside from to kept.now }
+    ensures { row.new ≡ differences (scaled factors.row row.old) (scaled factors.kept kept.now) }
+{
+    if factors.row == 1 {
+        subtract(factors.kept, row, kept, from, to);
+    } else {
+        scale_and_subtract(factors, row, kept, from, to);
     }
 }
 

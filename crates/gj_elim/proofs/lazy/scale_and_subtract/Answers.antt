@@ -1,7 +1,7 @@
 use Rattle.std.proofs.Common.{rules, pos, get_or, ◌*ℤ◌, ℤ, ◌<◌, ◌^◌, unsigned_abs, sym, subst, arith}
 use Rattle.gj_elim.proofs.LazyRows.{code_difference, combined_end}
 use Rattle.gj_theory.proofs.CombinedRows.{combined_more}
-use Rattle.gj_elim.proofs.lazy.combine_within.Goals as goal
+use Rattle.gj_elim.proofs.lazy.scale_and_subtract.Goals as goal
 
 pub overflow_sub-row : goal.overflow_sub-row
 overflow_sub-row c =
