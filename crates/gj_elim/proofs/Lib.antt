@@ -4,3 +4,8 @@ pub mod Keeping
 pub mod Solving
 pub mod KernelSteps
 pub mod KernelFits
+pub mod LazySteps
+pub mod LazyRows
+pub mod LazyProgress
+pub mod KeptTables
+pub mod SmallDivisors

@@ -1,5 +1,5 @@
 -- An insertion goes on, column after column.
-use Rattle.std.proofs.Common.{◌≡◌, ◌≢◌, ℕ, ◌+◌, ◌-◌, ◌<◌, ◌≤◌, ◌⊎◌, inl, inr, ◌↔◌, if◌then◌else◌, Option, None, Some, ℤ, pos, List, [], ◌∷◌, ◌++◌, refl, sym, ap, subst, ◌∙◌, append_assoc, arith}
+use Rattle.std.proofs.Common.{◌≡◌, ◌≢◌, ℕ, ◌+◌, ◌-◌, ◌<◌, ◌≤◌, ◌⊎◌, inl, inr, if◌then◌else◌, None, Some, ℤ, pos, List, [], ◌∷◌, ◌++◌, refl, sym, ap, subst, ◌∙◌, append_assoc, arith}
 use Rattle.std.specs.List.{range_with_len}
 use Rattle.std.specs.Ordering.{int_eq}
 use Rattle.std.proofs.lemmas.Bool.Decides.{Decides-int_eq}
@@ -7,13 +7,9 @@ use Rattle.std.proofs.lemmas.List.{append-nil}
 use Rattle.gj_tools.proofs.Choices.{never_true}
 use Rattle.gj_tools.proofs.Lists.{range_step}
 use Rattle.gj_shape.specs.Elimination.{KeptRow, Insertion, Arithmetic, with_pivot, at_column, insertion_by, inserted_at_by, row_with_pivot, Passes}
-use Rattle.gj_elim.specs.Progress.{IsLeft}
+pub use Rattle.gj_elim.specs.Progress.{IsLeft, rest, IsBehind, IsDone}
 use Rattle.gj_elim.proofs.Places.{IsRowAt}
 use Rattle.gj_theory.proofs.Passing.{none_passes, front_passes, back_passes, either_passes}
-
--- the rest of the insertion from a column on
-abbrev pub rest : Arithmetic → List KeptRow → ℕ → ℕ → List ℤ → Insertion
-rest by kept n c row = insertion_by by kept (range_with_len c (n - c)) row
 
 rest_zero : (by : Arithmetic) (kept : List KeptRow) (n c : ℕ) (row : List ℤ) → c < n → at_column row c ≡ pos 0 →
     rest by kept n c row ≡ rest by kept n (c + 1) row
@@ -62,12 +58,6 @@ rest_none by kept n c row past =
     let none : n - c ≡ 0 = omega arith in ap (λ m. insertion_by by kept (range_with_len c m) row) none
 
 -- ---- how far it has come
-
--- the insertion is this far: behind steps at these columns, none of whose numbers passes, the rest of it is to come
-pub record IsBehind (i : Insertion) (reduce : List ℕ) (rest : Insertion) : Type 0 where
-  pub reduce_is : i.reduce ≡ reduce ++ rest.reduce
-  pub kept_is : i.kept ≡ rest.kept
-  pub marked : Passes i.marked ↔ Passes rest.marked
 
 pub behind_start : (by : Arithmetic) (kept : List KeptRow) (n : ℕ) (row : List ℤ) (reduce : List ℕ) → reduce ≡ [] →
     IsBehind (insertion_by by kept (range_with_len 0 n) row) reduce (rest by kept n 0 row)
@@ -122,10 +112,6 @@ behind_wide by i reduce kept n c row e h below some at p =
     (front_passes (by.marked e row c) (rest by kept n (c + 1) (by.step e row c)).marked p)
 
 -- the end
-pub record IsDone (by : Arithmetic) (i : Insertion) (left : Option ℕ) (row : List ℤ) (reduce : List ℕ) : Type 0 where
-  pub left_is : IsLeft by i left row reduce
-  pub narrow : Passes i.marked → ⊥
-
 pub behind_kept : (by : Arithmetic) (i : Insertion) (reduce : List ℕ) (kept : List KeptRow) (n c : ℕ) (row : List ℤ) →
     IsBehind i reduce (rest by kept n c row) → c < n → at_column row c ≢ pos 0 → row_with_pivot kept c ≡ None →
     IsDone by i (Some c) row reduce

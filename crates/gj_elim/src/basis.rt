@@ -6,10 +6,11 @@ ghost use Rattle.gj_frac.specs.Fraction.{Fits};
 ghost use Rattle.gj_elim.specs.Data.{behind};
 ghost use Rattle.gj_elim.specs.KeptRows.{log_row, answer_of, marked_in};
 
+use crate::extent::Extent;
 use crate::faults::ElimFault;
-use crate::keep::keep;
+use crate::keep::{keep, no_places};
 use crate::log::{Inserted, LogRow};
-use crate::reduce::{free_column, place_of, reduce_row};
+use crate::reduce::{free_column, reduce_row};
 use crate::solve::{solve_at, unit_row};
 use gj_shape::List;
 use std::alloc::{AllocError, Global};
@@ -25,8 +26,13 @@ pub struct Basis {
     log: Vec<LogRow>,
     /// The entries of the kept rows, in the order of the log.
     rows: Vec<List<i128>>,
-    /// The row that is being reduced, and the columns of its steps.
+    /// How far each kept row goes.
+    extents: Vec<Extent>,
+    /// For each column the place of the kept row with its pivot there.
+    places: Vec<Option<u32>>,
+    /// The row that is being reduced, with 128 and with 64 bits a number, and the columns of its steps.
     row: Vec<i128>,
+    small: Vec<i64>,
     reduce: Vec<u32>,
 }
 
@@ -55,7 +61,10 @@ impl Basis {
             inserted: 0,
             log: Vec::new(alloc),
             rows: Vec::new(alloc),
+            extents: Vec::new(alloc),
+            places: no_places(alloc, columns as usize)?,
             row: vec![in alloc; 0; columns as usize]?,
+            small: vec![in alloc; 0; columns as usize]?,
             reduce: Vec::new(alloc),
         })
     }
@@ -77,12 +86,15 @@ impl Basis {
             (SolvesKept w self.new.kept ↔ (SolvesKept w self.old.kept × Solves w row.now))) }
         ensures triangular { OnOk result (AreTriangular self.new.columns self.new.kept) }
     {
-        self.row.copy_from_slice(row);
         self.reduce.clear();
         let left = reduce_row(
             self.log.as_slice(),
             self.rows.as_slice(),
+            self.extents.as_slice(),
+            self.places.as_slice(),
+            row,
             self.row.as_mut_slice(),
+            self.small.as_mut_slice(),
             &mut self.reduce,
         )?;
         match left {
@@ -95,6 +107,8 @@ impl Basis {
                     self.alloc,
                     &mut self.log,
                     &mut self.rows,
+                    &mut self.extents,
+                    self.places.as_mut_slice(),
                     self.inserted,
                     self.reduce.as_slice(),
                     column,
@@ -152,9 +166,9 @@ impl Basis {
         };
         let mut numbers = unit_row(self.alloc, self.columns as usize, free as usize)?;
         for column in (0..free).rev() {
-            if let Some(place) = place_of(self.log.as_slice(), column) {
+            if let Some(place) = self.places[column as usize] {
                 solve_at(
-                    self.rows[place].as_slice(),
+                    self.rows[place as usize].as_slice(),
                     column as usize,
                     numbers.as_mut_slice(),
                 )?;

@@ -1,18 +1,30 @@
 //! What is left of a row is kept.
-ghost use Rattle.std.specs.Prelude.{ℤ, ◌≡◌, ◌<◌, [], ◌∷◌, ◌++◌, length, All, OnOk, OnErr};
+ghost use Rattle.std.specs.Prelude.{ℤ, ◌≡◌, ◌<◌, ◌^◌, [], ◌∷◌, ◌++◌, length, All, IfOk, OnOk, OnErr};
 ghost use Rattle.gj_shape.specs.Elimination.{kept_entries};
 ghost use Rattle.gj_frac.specs.Fraction.{Fits};
+ghost use Rattle.gj_elim.specs.Progress.{IsFreeColumn};
+ghost use Rattle.gj_elim.specs.Tables.{ArePlaces, AreExtents};
 
+use crate::extent::{Extent, extent_of};
 use crate::log::LogRow;
 use crate::step::make_kept;
 use gj_shape::List;
 use std::alloc::{AllocError, Global};
+
+/// No column has a pivot.
+pub(crate) fn no_places(alloc: Global, columns: usize) -> Result<Vec<Option<u32>>, AllocError>
+    ensures { IfOk result (λ v. ArePlaces columns [] v.items) }
+{
+    vec![in alloc; None; columns]
+}
 
 /// Keeps what is left of a row, and writes to the log how it came to be kept. After an error nothing is changed.
 pub(crate) fn keep(
     alloc: Global,
     log: &mut Vec<LogRow>,
     rows: &mut Vec<List<i128>>,
+    extents: &mut Vec<Extent>,
+    places: &mut [Option<u32>],
     number: u64,
     reduce: &[u32],
     pivot: u32,
@@ -20,23 +32,37 @@ pub(crate) fn keep(
 ) -> Result<(), AllocError>
     requires within { pivot < length row.now }
     requires fits { All Fits row.now }
+    requires lines { length log.old.items ≡ length rows.old.items }
+    requires count { length log.old.items < 2 ^ 32 }
+    requires extents { AreExtents rows.old.items extents.old.items }
+    requires places { ArePlaces (length places.old) log.old.items places.old }
+    requires free { IsFreeColumn (length places.old) log.old.items pivot }
     ensures line { OnOk result (log.new.items
         ≡ log.old.items ++ record { number = number; reduce = reduce.now; pivot = pivot } ∷ []) }
     ensures entries { OnOk result (rows.new.items ≡ rows.old.items ++ kept_entries row.now pivot ∷ []) }
     ensures fits { OnOk result (All Fits (kept_entries row.now pivot)) }
+    ensures extents { OnOk result (AreExtents rows.new.items extents.new.items) }
+    ensures places { OnOk result (ArePlaces (length places.old) log.new.items places.new) }
+    ensures same_extents { OnErr result (extents.new.items ≡ extents.old.items) }
+    ensures same_places { OnErr result (places.new ≡ places.old) }
     ensures same_log { OnErr result (log.new.items ≡ log.old.items) }
     ensures same_rows { OnErr result (rows.new.items ≡ rows.old.items) }
 {
     let mut entries = Vec::from_slice(alloc, row)?;
     make_kept(entries.as_mut_slice(), pivot as usize);
+    let extent = extent_of(entries.as_slice());
+    let place = log.len() as u32;
     let reduce = Vec::from_slice(alloc, reduce)?;
     log.reserve(1)?;
     rows.reserve(1)?;
+    extents.reserve(1)?;
     log.push_reserved(LogRow {
         number,
         reduce: List::of(reduce),
         pivot,
     });
     rows.push_reserved(List::of(entries));
+    extents.push_reserved(extent);
+    places[pivot as usize] = Some(place);
     Ok(())
 }

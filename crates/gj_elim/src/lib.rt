@@ -6,8 +6,10 @@
 
 mod basis;
 mod checked;
+mod extent;
 mod faults;
 mod keep;
+mod lazy;
 mod log;
 mod reduce;
 mod solve;

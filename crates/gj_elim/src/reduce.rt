@@ -1,13 +1,16 @@
 //! A row goes through all columns, and is reduced by the kept rows.
 ghost use Rattle.std.specs.Prelude.{ℤ, ◌≡◌, ◌<◌, ◌^◌, ◌==◌, List, [], length, All, IfOk, IfSome, OnOk, IsErrOf};
 ghost use Rattle.std.specs.List.{position};
-ghost use Rattle.gj_shape.specs.Elimination.{free_column, whole_numbers, inserted, Passes};
+ghost use Rattle.gj_shape.specs.Elimination.{Insertion, free_column, whole_numbers, inserted, Passes};
 ghost use Rattle.gj_theory.specs.TriangularRows.{AreTriangular};
 ghost use Rattle.gj_frac.specs.Fraction.{Fits};
 ghost use Rattle.gj_elim.specs.KeptRows.{kept_rows};
-ghost use Rattle.gj_elim.specs.Progress.{IsLeft};
+ghost use Rattle.gj_elim.specs.Progress.{IsLeft, IsBehind, IsDone, IsFreeColumn, rest};
+ghost use Rattle.gj_elim.specs.Tables.{ArePlaces, AreExtents};
 
+use crate::extent::{Extent, extent_of};
 use crate::faults::ElimFault;
+use crate::lazy::{GREATEST_BOUND, Reached, load, reduce_lazily, store};
 use crate::log::LogRow;
 use crate::step::reduce_by;
 use gj_shape::List;
@@ -32,34 +35,36 @@ pub(crate) fn free_column(log: &[LogRow], columns: u32) -> Option<u32>
     None
 }
 
-/// Takes a row through all columns, and adds to `reduce` the columns at which it is reduced. The answer is the column at which
-/// something is left of the row. After an error the row and the columns are no longer used.
-pub(crate) fn reduce_row(
+/// Takes a row through the columns from one on, and adds to `reduce` the columns at which it is reduced. The answer is the column at
+/// which something is left of the row. After an error the row and the columns are no longer used.
+fn reduce_exactly(
     log: &[LogRow],
     rows: &[List<i128>],
+    places: &[Option<u32>],
     row: &mut [i128],
+    first: usize,
     reduce: &mut Vec<u32>,
 ) -> Result<Option<u32>, ElimFault>
     requires lines { length log.now ≡ length rows.now }
     requires triangular { AreTriangular (length row.old) (kept_rows log.now rows.now) }
     requires small { All (All Fits) rows.now }
+    requires places { ArePlaces (length row.old) log.now places.now }
     requires count { length row.old < 2 ^ 32 }
     requires fits { All Fits row.old }
-    requires empty { reduce.old.items ≡ [] }
-    ensures left { IfOk result (λ left. IsLeft whole_numbers (inserted (length row.old) (kept_rows log.now rows.now) row.old) left row.new
-        reduce.new.items) }
-    ensures within { IfOk result (λ left. IfSome left (λ c. c < length row.old)) }
+    ensures done { IfOk result (λ left. (i : Insertion) →
+        IsBehind i reduce.old.items (rest whole_numbers (kept_rows log.now rows.now) (length row.old) first row.old) →
+        IsDone whole_numbers i left row.new reduce.new.items) }
+    ensures within { IfOk result (λ left. IfSome left (IsFreeColumn (length row.old) log.now)) }
     ensures fits { OnOk result (All Fits row.new) }
-    ensures narrow { OnOk result (¬ Passes (inserted (length row.old) (kept_rows log.now rows.now) row.old).marked) }
-    ensures wide { IsErrOf result ElimFault.Wide →
-        Passes (inserted (length row.old) (kept_rows log.now rows.now) row.old).marked }
+    ensures wide { IsErrOf result ElimFault.Wide → (i : Insertion) →
+        IsBehind i reduce.old.items (rest whole_numbers (kept_rows log.now rows.now) (length row.old) first row.old) → Passes i.marked }
 {
-    for column in 0..row.len() {
+    for column in first..row.len() {
         if row[column] != 0 {
-            match place_of(log, column as u32) {
+            match places[column] {
                 None => return Ok(Some(column as u32)),
                 Some(place) => {
-                    reduce_by(rows[place].as_slice(), row, column)?;
+                    reduce_by(rows[place as usize].as_slice(), row, column)?;
                     reduce.reserve(1)?;
                     reduce.push_reserved(column as u32);
                 }
@@ -67,4 +72,50 @@ pub(crate) fn reduce_row(
         }
     }
     Ok(None)
+}
+
+/// Takes a row through all columns, and adds to `reduce` the columns at which it is reduced. The answer is the column at which
+/// something is left of the row, which is then `row`, or a multiple of it. After an error the rows and the columns are no longer used.
+pub(crate) fn reduce_row(
+    log: &[LogRow],
+    rows: &[List<i128>],
+    extents: &[Extent],
+    places: &[Option<u32>],
+    given: &[i128],
+    row: &mut [i128],
+    small: &mut [i64],
+    reduce: &mut Vec<u32>,
+) -> Result<Option<u32>, ElimFault>
+    requires lines { length log.now ≡ length rows.now }
+    requires triangular { AreTriangular (length given.now) (kept_rows log.now rows.now) }
+    requires small { All (All Fits) rows.now }
+    requires extents { AreExtents rows.now extents.now }
+    requires places { ArePlaces (length given.now) log.now places.now }
+    requires count { length given.now < 2 ^ 32 }
+    requires row_columns { length row.old ≡ length given.now }
+    requires small_columns { length small.old ≡ length given.now }
+    requires fits { All Fits given.now }
+    requires empty { reduce.old.items ≡ [] }
+    ensures left { IfOk result (λ left. IsLeft whole_numbers (inserted (length given.now) (kept_rows log.now rows.now) given.now) left row.new
+        reduce.new.items) }
+    ensures within { IfOk result (λ left. IfSome left (IsFreeColumn (length given.now) log.now)) }
+    ensures fits { IfOk result (λ left. IfSome left (λ _. All Fits row.new)) }
+    ensures narrow { OnOk result (¬ Passes (inserted (length given.now) (kept_rows log.now rows.now) given.now).marked) }
+    ensures wide { IsErrOf result ElimFault.Wide →
+        Passes (inserted (length given.now) (kept_rows log.now rows.now) given.now).marked }
+{
+    let extent = extent_of(given);
+    if extent.bound >= GREATEST_BOUND {
+        row.copy_from_slice(given);
+        return reduce_exactly(log, rows, places, row, 0, reduce);
+    }
+    load(small, given);
+    match reduce_lazily(log, rows, extents, places, small, extent, row, reduce)? {
+        Reached::End(None) => Ok(None),
+        Reached::End(Some(column)) => {
+            store(small, row);
+            Ok(Some(column))
+        }
+        Reached::Column(column) => reduce_exactly(log, rows, places, row, column, reduce),
+    }
 }

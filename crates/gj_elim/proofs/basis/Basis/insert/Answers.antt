@@ -1,25 +1,31 @@
-use Rattle.std.proofs.Common.{Some, refl, ap, ap₂, sym, subst, length, ◌∙◌}
+use Rattle.std.proofs.Common.{ℕ, ℤ, List, Option, Some, refl, ap, ap₂, sym, subst, subst₂, length, ◌∙◌, arith}
 use Rattle.std.proofs.lemmas.List.{with_items_is}
 use Rattle.gj_shape.specs.Elimination.{Insertion, Passes, whole_numbers, kept_entries}
 use Rattle.gj_elim.specs.Basis.{data_of}
 use Rattle.gj_elim.specs.KeptRows.{kept_rows}
 use Rattle.gj_elim.specs.Progress.{IsLeft, kept_at}
-use Rattle.gj_elim.proofs.Keeping.{insertion_read, nothing_kept, row_kept, behind_from, triangular_from, solutions_from, same_length, all_small, same_error}
+use Rattle.gj_elim.specs.Tables.{ArePlaces, AreExtents}
+use Rattle.gj_elim.specs.declared.log.LogRow.{LogRow}
+use Rattle.std.specs.Prelude.{All}
+use Rattle.gj_frac.specs.Fraction.{Fits}
+use Rattle.gj_theory.specs.TriangularRows.{AreTriangular}
+use Rattle.gj_theory.proofs.Triangular.{rank_at_most}
+use Rattle.gj_elim.proofs.Keeping.{insertion_read, length-kept_rows, nothing_kept, row_kept, behind_from, triangular_from, solutions_from, same_length, all_small, same_error}
 use Rattle.gj_elim.proofs.basis.Basis.insert.Goals as goal
 
 pub returns-in_err-left-clause-wide : goal.returns-in_err-left-clause-wide
 returns-in_err-left-clause-wide c =
-    let whole = insertion_read (data_of c.self.inside) c.args.self.now c.as_slice.result.now c.as_slice-2.result.now c.as_mut_slice.result.now
+    let whole = insertion_read (data_of c.self.inside) c.args.self.now c.as_slice.result.now c.as_slice-2.result.now c.args.row.now
     c.args.row.now c.self.view_is (ap₂ kept_rows c.as_slice.ensures.value c.as_slice-2.ensures.value)
-    (c.as_mut_slice.ensures.value ∙ c.copy_from_slice.ensures.items) c.requires.columns in
+    refl c.requires.columns in
     λ e. subst (λ (i : Insertion). Passes i.marked) whole
     (c.in_err-left.ensures.wide (same_error c.from_residual.result c.in_err-left.field-0.0 _ c.from_residual.ensures.0 c.from_residual.ensures.1 e))
 
 pub returns-in-None-clause-kept : goal.returns-in-None-clause-kept
 returns-in-None-clause-kept c =
-    let whole = insertion_read (data_of c.self.inside) (data_of c.self.inside) c.as_slice.result.now c.as_slice-2.result.now c.as_mut_slice.result.now
+    let whole = insertion_read (data_of c.self.inside) (data_of c.self.inside) c.as_slice.result.now c.as_slice-2.result.now c.args.row.now
     c.args.row.now refl (ap₂ kept_rows c.as_slice.ensures.value c.as_slice-2.ensures.value)
-    (c.as_mut_slice.ensures.value ∙ c.copy_from_slice.ensures.items) (c.requires.columns ∙ sym (ap (λ d. d.columns) c.self.view_is)) in
+    refl (c.requires.columns ∙ sym (ap (λ d. d.columns) c.self.view_is)) in
     behind_from whole_numbers (data_of c.self.inside) c.args.self.now c.args.row.now _ c.self.view_is
     (nothing_kept whole_numbers (data_of c.self.inside) c.args.row.now c.reduce_row.new.row c.reduce_row.new.reduce.items c.in_ok-left.left
     (subst (λ (i : Insertion). IsLeft whole_numbers i c.in_ok-left.left c.reduce_row.new.row c.reduce_row.new.reduce.items) whole c.in_ok-left.ensures.left)
@@ -27,21 +33,51 @@ returns-in-None-clause-kept c =
 
 pub returns-in-None-clause-solutions : goal.returns-in-None-clause-solutions
 returns-in-None-clause-solutions c w =
-    let whole = insertion_read (data_of c.self.inside) (data_of c.self.inside) c.as_slice.result.now c.as_slice-2.result.now c.as_mut_slice.result.now
+    let whole = insertion_read (data_of c.self.inside) (data_of c.self.inside) c.as_slice.result.now c.as_slice-2.result.now c.args.row.now
     c.args.row.now refl (ap₂ kept_rows c.as_slice.ensures.value c.as_slice-2.ensures.value)
-    (c.as_mut_slice.ensures.value ∙ c.copy_from_slice.ensures.items) (c.requires.columns ∙ sym (ap (λ d. d.columns) c.self.view_is)) in
+    refl (c.requires.columns ∙ sym (ap (λ d. d.columns) c.self.view_is)) in
     solutions_from (data_of c.self.inside) c.args.self.now c.args.row.now w _ c.self.view_is c.self.invariant.triangular c.requires.columns
     (nothing_kept whole_numbers (data_of c.self.inside) c.args.row.now c.reduce_row.new.row c.reduce_row.new.reduce.items c.in_ok-left.left
     (subst (λ (i : Insertion). IsLeft whole_numbers i c.in_ok-left.left c.reduce_row.new.row c.reduce_row.new.reduce.items) whole c.in_ok-left.ensures.left)
     (ap (λ o. kept_at whole_numbers o c.reduce_row.new.row) c.in-None.is))
 
+pub keep-requires-clause-count : goal.keep-requires-clause-count
+keep-requires-clause-count c =
+    let most = rank_at_most c.self.inside.columns (kept_rows c.self.inside.log.items c.self.inside.rows.items) c.self.invariant.triangular in
+    let same = length-kept_rows c.self.inside.log.items c.self.inside.rows.items c.self.invariant.lines in
+    let narrow = c.self.invariant.narrow in
+    omega arith
+
+pub invariant_of-self-in_err-keep-in-Some : goal.invariant_of-self-in_err-keep-in-Some
+invariant_of-self-in_err-keep-in-Some c =
+    let held = with_items_is c.self.inside.row c.reduce_row.new.row
+    (c.reduce_row.auto.row ∙ ap length c.as_mut_slice.ensures.value ∙ sym c.self.inside.row.ok.0) in
+    let same_log = c.in_err-keep-in-Some.ensures.same_log in
+    let same_rows = c.in_err-keep-in-Some.ensures.same_rows in record {
+      lines = ap length same_log ∙ c.self.invariant.lines ∙ sym (ap length same_rows);
+      triangular = subst₂ (λ (ls : List LogRow) (rs : List (List ℤ)). AreTriangular c.self.inside.columns (kept_rows ls rs)) (sym same_log) (sym same_rows)
+          c.self.invariant.triangular;
+      fits = subst (All (All Fits)) (sym same_rows) c.self.invariant.fits;
+      columns = ap length held ∙ c.reduce_row.auto.row ∙ ap length c.as_mut_slice.ensures.value ∙ c.self.invariant.columns;
+      small_columns = ap length (with_items_is c.self.inside.small c.reduce_row.new.small
+          (c.reduce_row.auto.small ∙ ap length c.as_mut_slice-2.ensures.value ∙ sym c.self.inside.small.ok.0))
+          ∙ c.reduce_row.auto.small ∙ ap length c.as_mut_slice-2.ensures.value ∙ c.self.invariant.small_columns;
+      places = subst₂ (λ (ls : List LogRow) (ps : List (Option ℕ)). ArePlaces c.self.inside.columns ls ps) (sym same_log)
+          (sym (with_items_is c.self.inside.places c.keep.new.places
+          (c.keep.auto.places ∙ ap length c.as_mut_slice-in-Some.ensures.value ∙ sym c.self.inside.places.ok.0)
+          ∙ c.in_err-keep-in-Some.ensures.same_places ∙ c.as_mut_slice-in-Some.ensures.value))
+          c.self.invariant.places;
+      extents = subst₂ AreExtents (sym same_rows) (sym c.in_err-keep-in-Some.ensures.same_extents) c.self.invariant.extents;
+      narrow = c.self.invariant.narrow;
+    }
+
 pub invariant_of-self-in-Some : goal.invariant_of-self-in-Some
 invariant_of-self-in-Some c =
-    let whole = insertion_read (data_of c.self.inside) (data_of c.self.inside) c.as_slice.result.now c.as_slice-2.result.now c.as_mut_slice.result.now
+    let whole = insertion_read (data_of c.self.inside) (data_of c.self.inside) c.as_slice.result.now c.as_slice-2.result.now c.args.row.now
     c.args.row.now refl (ap₂ kept_rows c.as_slice.ensures.value c.as_slice-2.ensures.value)
-    (c.as_mut_slice.ensures.value ∙ c.copy_from_slice.ensures.items) (c.requires.columns ∙ sym (ap (λ d. d.columns) c.self.view_is)) in
-    let held = with_items_is c.copy_from_slice.new.self c.reduce_row.new.row
-    (c.reduce_row.auto.row ∙ ap length c.as_mut_slice.ensures.value ∙ sym c.copy_from_slice.new.self.ok.0) in
+    refl (c.requires.columns ∙ sym (ap (λ d. d.columns) c.self.view_is)) in
+    let held = with_items_is c.self.inside.row c.reduce_row.new.row
+    (c.reduce_row.auto.row ∙ ap length c.as_mut_slice.ensures.value ∙ sym c.self.inside.row.ok.0) in
     let are = row_kept whole_numbers (data_of c.self.inside) c.args.row.now c.reduce_row.new.row c.reduce_row.new.reduce.items c.in_ok-left.left
     c.self.inside.log.items c.keep.new.log.items c.self.inside.rows.items c.keep.new.rows.items
     record { number = c.self.inside.inserted; reduce = c.as_slice-in-Some.result.now; pivot = c.in-Some.column }
@@ -56,18 +92,26 @@ invariant_of-self-in-Some c =
           (c.requires.columns ∙ sym (ap (λ d. d.columns) c.self.view_is)) are;
       fits = all_small c.self.inside.rows.items c.keep.new.rows.items _ c.self.invariant.fits c.in_ok-keep-in-Some.ensures.entries
           c.in_ok-keep-in-Some.ensures.fits;
-      columns = ap length held ∙ c.reduce_row.auto.row ∙ ap length (c.as_mut_slice.ensures.value ∙ c.copy_from_slice.ensures.items)
-          ∙ (c.requires.columns ∙ sym (ap (λ d. d.columns) c.self.view_is));
+      columns = ap length held ∙ c.reduce_row.auto.row ∙ ap length c.as_mut_slice.ensures.value ∙ c.self.invariant.columns;
+      small_columns = ap length (with_items_is c.self.inside.small c.reduce_row.new.small
+          (c.reduce_row.auto.small ∙ ap length c.as_mut_slice-2.ensures.value ∙ sym c.self.inside.small.ok.0))
+          ∙ c.reduce_row.auto.small ∙ ap length c.as_mut_slice-2.ensures.value ∙ c.self.invariant.small_columns;
+      places = subst₂ (λ (n : ℕ) (ps : List (Option ℕ)). ArePlaces n c.keep.new.log.items ps)
+          (ap length c.as_mut_slice-in-Some.ensures.value ∙ c.self.invariant.places.columns_are)
+          (sym (with_items_is c.self.inside.places c.keep.new.places
+          (c.keep.auto.places ∙ ap length c.as_mut_slice-in-Some.ensures.value ∙ sym c.self.inside.places.ok.0)))
+          c.in_ok-keep-in-Some.ensures.places;
+      extents = c.in_ok-keep-in-Some.ensures.extents;
       narrow = c.self.invariant.narrow;
     }
 
 pub returns-in_ok-keep-in-Some-clause-kept : goal.returns-in_ok-keep-in-Some-clause-kept
 returns-in_ok-keep-in-Some-clause-kept c =
-    let whole = insertion_read (data_of c.self.inside) (data_of c.self.inside) c.as_slice.result.now c.as_slice-2.result.now c.as_mut_slice.result.now
+    let whole = insertion_read (data_of c.self.inside) (data_of c.self.inside) c.as_slice.result.now c.as_slice-2.result.now c.args.row.now
     c.args.row.now refl (ap₂ kept_rows c.as_slice.ensures.value c.as_slice-2.ensures.value)
-    (c.as_mut_slice.ensures.value ∙ c.copy_from_slice.ensures.items) (c.requires.columns ∙ sym (ap (λ d. d.columns) c.self.view_is)) in
-    let held = with_items_is c.copy_from_slice.new.self c.reduce_row.new.row
-    (c.reduce_row.auto.row ∙ ap length c.as_mut_slice.ensures.value ∙ sym c.copy_from_slice.new.self.ok.0) in
+    refl (c.requires.columns ∙ sym (ap (λ d. d.columns) c.self.view_is)) in
+    let held = with_items_is c.self.inside.row c.reduce_row.new.row
+    (c.reduce_row.auto.row ∙ ap length c.as_mut_slice.ensures.value ∙ sym c.self.inside.row.ok.0) in
     let are = row_kept whole_numbers (data_of c.self.inside) c.args.row.now c.reduce_row.new.row c.reduce_row.new.reduce.items c.in_ok-left.left
     c.self.inside.log.items c.keep.new.log.items c.self.inside.rows.items c.keep.new.rows.items
     record { number = c.self.inside.inserted; reduce = c.as_slice-in-Some.result.now; pivot = c.in-Some.column }
@@ -79,11 +123,11 @@ returns-in_ok-keep-in-Some-clause-kept c =
 
 pub returns-in_ok-keep-in-Some-clause-solutions : goal.returns-in_ok-keep-in-Some-clause-solutions
 returns-in_ok-keep-in-Some-clause-solutions c w =
-    let whole = insertion_read (data_of c.self.inside) (data_of c.self.inside) c.as_slice.result.now c.as_slice-2.result.now c.as_mut_slice.result.now
+    let whole = insertion_read (data_of c.self.inside) (data_of c.self.inside) c.as_slice.result.now c.as_slice-2.result.now c.args.row.now
     c.args.row.now refl (ap₂ kept_rows c.as_slice.ensures.value c.as_slice-2.ensures.value)
-    (c.as_mut_slice.ensures.value ∙ c.copy_from_slice.ensures.items) (c.requires.columns ∙ sym (ap (λ d. d.columns) c.self.view_is)) in
-    let held = with_items_is c.copy_from_slice.new.self c.reduce_row.new.row
-    (c.reduce_row.auto.row ∙ ap length c.as_mut_slice.ensures.value ∙ sym c.copy_from_slice.new.self.ok.0) in
+    refl (c.requires.columns ∙ sym (ap (λ d. d.columns) c.self.view_is)) in
+    let held = with_items_is c.self.inside.row c.reduce_row.new.row
+    (c.reduce_row.auto.row ∙ ap length c.as_mut_slice.ensures.value ∙ sym c.self.inside.row.ok.0) in
     let are = row_kept whole_numbers (data_of c.self.inside) c.args.row.now c.reduce_row.new.row c.reduce_row.new.reduce.items c.in_ok-left.left
     c.self.inside.log.items c.keep.new.log.items c.self.inside.rows.items c.keep.new.rows.items
     record { number = c.self.inside.inserted; reduce = c.as_slice-in-Some.result.now; pivot = c.in-Some.column }
@@ -95,11 +139,11 @@ returns-in_ok-keep-in-Some-clause-solutions c w =
 
 pub returns-in_ok-keep-in-Some-clause-triangular : goal.returns-in_ok-keep-in-Some-clause-triangular
 returns-in_ok-keep-in-Some-clause-triangular c =
-    let whole = insertion_read (data_of c.self.inside) (data_of c.self.inside) c.as_slice.result.now c.as_slice-2.result.now c.as_mut_slice.result.now
+    let whole = insertion_read (data_of c.self.inside) (data_of c.self.inside) c.as_slice.result.now c.as_slice-2.result.now c.args.row.now
     c.args.row.now refl (ap₂ kept_rows c.as_slice.ensures.value c.as_slice-2.ensures.value)
-    (c.as_mut_slice.ensures.value ∙ c.copy_from_slice.ensures.items) (c.requires.columns ∙ sym (ap (λ d. d.columns) c.self.view_is)) in
-    let held = with_items_is c.copy_from_slice.new.self c.reduce_row.new.row
-    (c.reduce_row.auto.row ∙ ap length c.as_mut_slice.ensures.value ∙ sym c.copy_from_slice.new.self.ok.0) in
+    refl (c.requires.columns ∙ sym (ap (λ d. d.columns) c.self.view_is)) in
+    let held = with_items_is c.self.inside.row c.reduce_row.new.row
+    (c.reduce_row.auto.row ∙ ap length c.as_mut_slice.ensures.value ∙ sym c.self.inside.row.ok.0) in
     let are = row_kept whole_numbers (data_of c.self.inside) c.args.row.now c.reduce_row.new.row c.reduce_row.new.reduce.items c.in_ok-left.left
     c.self.inside.log.items c.keep.new.log.items c.self.inside.rows.items c.keep.new.rows.items
     record { number = c.self.inside.inserted; reduce = c.as_slice-in-Some.result.now; pivot = c.in-Some.column }

@@ -1,0 +1,134 @@
+-- The places of the kept rows, and their extents.
+use Rattle.std.proofs.Common.{◌≡◌, ◌≢◌, ℕ, ◌+◌, ◌<◌, ◌≤◌, ◌⊎◌, inl, inr, Bool, true, false, not, cond, Option, None, Some, ℤ, List, [], ◌∷◌, ◌++◌, length, get_or, set, refl, sym, ap, ap₂, subst, ◌∙◌, arith}
+use Rattle.std.specs.Prelude.{nat_lt}
+use Rattle.std.specs.List.{position, position_or_len}
+use Rattle.std.proofs.lemmas.Bool.{cases_lt, lt-ltb, ltb-true, eq-eqb, ne_eqb}
+use Rattle.std.proofs.lemmas.List.{length_push, length-set, get_or_default, get_or-set_same, get_or-set_other}
+use Rattle.std.proofs.lemmas.List.Folds.{position_or_len_push}
+use Rattle.gj_tools.proofs.Choices.{never_true}
+use Rattle.gj_elim.specs.declared.log.LogRow.{LogRow}
+use Rattle.gj_elim.specs.Progress.{IsFreeColumn}
+use Rattle.gj_elim.specs.Tables.{ArePlaces, AreExtents}
+use Rattle.gj_elim.specs.declared.extent.Extent.{Extent}
+use Rattle.gj_elim.proofs.Places.{has}
+
+-- ---- the first place with one more element
+
+abbrev place_below : ℕ → ℕ → Option ℕ
+place_below n len = cond (nat_lt n len) (Some n) None
+
+some_below : (n len : ℕ) → n < len → place_below n len ≡ Some n
+some_below n len h = ap (λ b. cond b (Some n) None) (lt-ltb n len h)
+
+none_below : (n len : ℕ) → len ≤ n → place_below n len ≡ None
+none_below n len h =
+    ap (λ b. cond b (Some n) None) (never_true (nat_lt n len) (λ t. let below = ltb-true n len t in omega arith))
+
+at_most_length : {X : Type 0} (p : X → Bool) (xs : List X) → position_or_len p xs ≤ length xs
+at_most_length p [] = omega arith
+at_most_length p (x ∷ xs) = by_test (p x) (at_most_length p xs)
+  where
+    by_test : (b : Bool) → position_or_len p xs ≤ length xs → cond (not b) (1 + position_or_len p xs) 0 ≤ length (x ∷ xs)
+    by_test true h = omega arith
+    by_test false h = omega arith
+
+push_other : {X : Type 0} (p : X → Bool) (xs : List X) (y : X) → p y ≡ false → position p (xs ++ y ∷ []) ≡ position p xs
+push_other p xs y e = by_place (cases_lt (position_or_len p xs) (length xs))
+  where
+    by_place : (position_or_len p xs < length xs) ⊎ (length xs ≤ position_or_len p xs) → position p (xs ++ y ∷ []) ≡ position p xs
+    by_place (inl below) =
+        let same : position_or_len p (xs ++ y ∷ []) ≡ position_or_len p xs =
+        position_or_len_push p xs y
+        ∙ ap (λ b. cond b (length xs + cond (p y) 0 1) (position_or_len p xs))
+        (ne_eqb (position_or_len p xs) (length xs) (λ is. omega arith)) in
+        ap₂ place_below same (length_push xs y)
+        ∙ some_below (position_or_len p xs) (length xs + 1) (omega arith)
+        ∙ sym (some_below (position_or_len p xs) (length xs) below)
+    by_place (inr past) =
+        let most = at_most_length p xs in
+        let behind : position_or_len p (xs ++ y ∷ []) ≡ length xs + 1 =
+        position_or_len_push p xs y
+        ∙ ap (λ b. cond b (length xs + cond (p y) 0 1) (position_or_len p xs))
+        (eq-eqb (position_or_len p xs) (length xs) (omega arith))
+        ∙ ap (λ b. length xs + cond b 0 1) e in
+        ap₂ place_below behind (length_push xs y)
+        ∙ none_below (length xs + 1) (length xs + 1) (omega arith)
+        ∙ sym (none_below (position_or_len p xs) (length xs) past)
+
+push_here : {X : Type 0} (p : X → Bool) (xs : List X) (y : X) → p y ≡ true → None ≡ position p xs →
+    Some (length xs) ≡ position p (xs ++ y ∷ [])
+push_here p xs y e none = by_place (cases_lt (position_or_len p xs) (length xs))
+  where
+    plus_none : (n : ℕ) → n + 0 ≡ n
+    plus_none n = omega arith
+
+    by_place : (position_or_len p xs < length xs) ⊎ (length xs ≤ position_or_len p xs) →
+        Some (length xs) ≡ position p (xs ++ y ∷ [])
+    by_place (inl below) =
+        let clash : None ≡ Some (position_or_len p xs) = none ∙ some_below (position_or_len p xs) (length xs) below in
+        absurd cc
+    by_place (inr past) =
+        let most = at_most_length p xs in
+        let here : position_or_len p (xs ++ y ∷ []) ≡ length xs =
+        position_or_len_push p xs y
+        ∙ ap (λ b. cond b (length xs + cond (p y) 0 1) (position_or_len p xs))
+        (eq-eqb (position_or_len p xs) (length xs) (omega arith))
+        ∙ ap (λ b. length xs + cond b 0 1) e ∙ plus_none (length xs) in
+        sym (ap₂ place_below here (length_push xs y) ∙ some_below (length xs) (length xs + 1) (omega arith))
+
+-- ---- places
+
+pub no_places : (n : ℕ) (places : List (Option ℕ)) → length places ≡ n → ((c : ℕ) → c < n → get_or places c None ≡ None) → ArePlaces n [] places
+no_places n places len none = record { columns_are = len; place = none }
+
+pub places_more : (n : ℕ) (log log' : List LogRow) (places : List (Option ℕ)) (l : LogRow) (p : ℕ) → ArePlaces n log places →
+    IsFreeColumn n log l.pivot → p ≡ length log → log' ≡ log ++ l ∷ [] → ArePlaces n log' (set places l.pivot (Some p))
+places_more n log log' places l p h free p_is log_is =
+    subst (λ (xs : List LogRow). ArePlaces n xs (set places l.pivot (Some p))) (sym log_is) record {
+      columns_are = length-set places l.pivot (Some p) ∙ h.columns_are;
+      place = λ c below. by_column c below (cases_lt c l.pivot) (cases_lt l.pivot c);
+    }
+  where
+    other : (c : ℕ) → c < n → l.pivot ≢ c → get_or (set places l.pivot (Some p)) c None ≡ position (has c) (log ++ l ∷ [])
+    other c below apart =
+        get_or-set_other places l.pivot c (Some p) None (λ e. apart (sym e)) ∙ h.place c below
+        ∙ sym (push_other (has c) log l (ne_eqb l.pivot c apart))
+
+    by_column : (c : ℕ) → c < n → (c < l.pivot) ⊎ (l.pivot ≤ c) → (l.pivot < c) ⊎ (c ≤ l.pivot) →
+        get_or (set places l.pivot (Some p)) c None ≡ position (has c) (log ++ l ∷ [])
+    by_column c below (inl before) second = other c below (λ e. omega arith)
+    by_column c below (inr first) (inl behind) = other c below (λ e. omega arith)
+    by_column c below (inr first) (inr second) =
+        let same : l.pivot ≡ c = omega arith in
+        let inside : l.pivot < length places = omega (arith, h.columns_are, free.below) in
+        ap (λ k. get_or (set places l.pivot (Some p)) k None) (sym same)
+        ∙ get_or-set_same places l.pivot (Some p) None inside
+        ∙ ap Some p_is ∙ push_here (has l.pivot) log l (eq-eqb l.pivot l.pivot refl) free.free
+        ∙ ap (λ k. position (has k) (log ++ l ∷ [])) same
+
+pub place_at : (n : ℕ) (log : List LogRow) (places : List (Option ℕ)) (c : ℕ) (o : Option ℕ) → ArePlaces n log places → c < n →
+    get_or places c None ≡ o → o ≡ position (has c) log
+place_at n log places c o h below is = sym is ∙ h.place c below
+
+-- a column without a place is free
+pub free_at : (n : ℕ) (log : List LogRow) (places : List (Option ℕ)) (c : ℕ) → ArePlaces n log places → c < n →
+    get_or places c None ≡ None → IsFreeColumn n log c
+free_at n log places c h below is = record { below = below; free = place_at n log places c None h below is }
+
+pub pushed : {X : Type 0} (old old' new : List X) (x : X) → new ≡ old' ++ x ∷ [] → old' ≡ old → new ≡ old ++ x ∷ []
+pushed old old' new x e f = e ∙ ap (λ xs. xs ++ x ∷ []) f
+
+-- what the code's `places[c]` gives
+pub place_read : (n : ℕ) (log : List LogRow) (places : List (Option ℕ)) (c : ℕ) (x o : Option ℕ) → ArePlaces n log places → c < n →
+    x ≡ get_or places c x → x ≡ o → o ≡ position (has c) log
+place_read n log places c x o h below x_is is =
+    let inside : c < length places = omega (arith, h.columns_are) in
+    sym is ∙ x_is ∙ get_or_default places c x None inside ∙ h.place c below
+
+-- ---- extents
+
+pub no_extents : (rows : List (List ℤ)) (extents : List Extent) → rows ≡ [] → extents ≡ [] → AreExtents rows extents
+no_extents rows extents none none' = record {
+  rows_are = ap length none' ∙ sym (ap length none);
+  extent = λ i below. let empty : length rows ≡ 0 = ap length none in absurd (omega arith);
+}
