@@ -7,3 +7,4 @@ pub mod NearPoints
 pub mod NearPairs
 pub mod EntryBounds
 pub mod Midpoints
+pub mod NumbersInLanes

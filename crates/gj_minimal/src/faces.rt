@@ -13,9 +13,8 @@ use gj_shape::{Face, FaceKind, Shape};
 
 /// The first failed test of the slack on the faces that are no vertices, square by square. The limits of a continuous
 /// function are slacks at grid points, and need no test.
-pub(crate) fn failed_face(shape: &Shape, lanes: &Lanes) -> Option<Failure>
-    requires vertices { PassesVertices shape.now }
-    requires lanes { AreLanesOf shape.now lanes.now }
+pub(crate) fn failed_face(shape: &Shape) -> Option<Failure>
+    requires { PassesVertices shape.now }
     ensures found { IfSome result (FailsFirst shape.now) }
     ensures none { IfNone result (HoldsBelow (PassesRow shape.now) shape.now.order) }
 {
@@ -23,8 +22,9 @@ pub(crate) fn failed_face(shape: &Shape, lanes: &Lanes) -> Option<Failure>
     if shape.is_continuous() {
         return None;
     }
+    let lanes = Lanes::of(shape);
     for a in 0..order {
-        if let Some(failure) = failed_in_row(shape, lanes, a) {
+        if let Some(failure) = failed_in_row(shape, &lanes, a) {
             return Some(failure);
         }
     }

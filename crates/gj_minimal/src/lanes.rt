@@ -1,16 +1,11 @@
 //! The values and limits in lanes of 32 bits, over which a whole row of squares is tested at once.
 ghost use Rattle.std.specs.Prelude.{ℕ, ◌≡◌, ◌<◌, ◌≤◌, IsTrue};
 ghost use Rattle.gj_theory.specs.EarlierTests.{PassesSymmetry, PassesVertices, PassesSquare};
-ghost use Rattle.gj_minimal.specs.Failures.{PassesVertex};
 
-use crate::entries::{left_at, right_at, value_at};
+use crate::filling::{COUNT, narrow_lanes};
 use gj_shape::Shape;
 
-/// How many lanes there are: one for each index below 2 q, where the order q is at most 1,000.
-const COUNT: usize = 2_000;
-
-/// The values at i/q, the limits from the right there and the limits from the left at (i + 1)/q for each i below 2 q,
-/// each times the common denominator.
+/// The values and the limits at i/q for each i up to 2 q, each times the common denominator.
 #[derive(Drop)]
 pub(crate) struct Lanes {
     left: [u32; COUNT],
@@ -26,33 +21,10 @@ impl Lanes {
         requires { PassesSymmetry shape.now }
         ensures { AreLanesOf shape.now result }
     {
-        let mut left = [0u32; COUNT];
-        let mut value = [0u32; COUNT];
-        let mut right = [0u32; COUNT];
-        for i in 0..2 * shape.order() {
-            let lane = i as usize;
-            left[lane] = left_at(shape, i + 1) as u32;
-            value[lane] = value_at(shape, i) as u32;
-            right[lane] = right_at(shape, i) as u32;
-        }
+        let left = narrow_lanes(shape.left_numerators());
+        let value = narrow_lanes(shape.value_numerators());
+        let right = narrow_lanes(shape.right_numerators());
         Lanes { left, value, right }
-    }
-
-    /// Whether no slack at (a/q, b/q) is found to be negative, for each b from a to below q.
-    pub(crate) fn vertices_pass(&self, shape: &Shape, a: usize) -> bool
-        requires lanes { AreLanesOf shape.now self.now }
-        requires within { a < shape.now.order }
-        ensures { IsTrue result →
-            (b : ℕ) → a ≤ b → b < shape.now.order → PassesVertex shape.now a b }
-    {
-        let order = shape.order() as usize;
-        let first = self.value[a];
-        let mut excess = 0u32;
-        for b in a..order {
-            let sum = self.value[a + b];
-            excess = excess.max(sum.saturating_sub(first + self.value[b]));
-        }
-        excess == 0
     }
 
     /// Whether no limit of the slack on the other faces of the square (a, b) is found to be negative, for each b from
@@ -65,7 +37,7 @@ impl Lanes {
     {
         let order = shape.order() as usize;
         let right_first = self.right[a];
-        let left_first = self.left[a];
+        let left_first = self.left[a + 1];
         let least_first = right_first.min(self.value[a]);
         let mut excess = 0u32;
         for b in a..order {
@@ -73,10 +45,10 @@ impl Lanes {
             let next = sum + 1;
             let value = self.value[b];
             let right = self.right[b];
-            let left = self.left[b];
+            let left = self.left[b + 1];
             let at_sum = above(self.right[sum], right_first + value, least_first + right);
             let before_next = above(
-                self.left[sum],
+                self.left[next],
                 left_first + value.min(right),
                 least_first + left,
             );
@@ -85,7 +57,7 @@ impl Lanes {
                 left_first + right,
                 right_first + left,
             );
-            let before_last = self.left[next].saturating_sub(left_first + left);
+            let before_last = self.left[next + 1].saturating_sub(left_first + left);
             excess = excess
                 .max(at_sum)
                 .max(before_next)

@@ -9,7 +9,6 @@ ghost use Rattle.gj_minimal.specs.Failures.{FailsFirst};
 
 use crate::faces::failed_face;
 use crate::failures::Failure;
-use crate::lanes::Lanes;
 use crate::shown::shown;
 use crate::signs::{failed_interval_sign, failed_value};
 use crate::symmetry::{failed_interval_mirror, failed_mirror};
@@ -65,9 +64,8 @@ fn first_failure(shape: &Shape) -> Option<Failure>
     if let Some(failure) = failed_interval_mirror(shape) {
         return Some(failure);
     }
-    let lanes = Lanes::of(shape);
-    if let Some(failure) = failed_vertex(shape, &lanes) {
+    if let Some(failure) = failed_vertex(shape) {
         return Some(failure);
     }
-    failed_face(shape, &lanes)
+    failed_face(shape)
 }

@@ -1,23 +1,40 @@
-use Rattle.std.proofs.Common.{◌≤◌, eqb-true, below_more, arith}
+use Rattle.std.proofs.Common.{◌+◌, ◌≤◌, eqb-true, below_more, arith}
 use Rattle.gj_theory.specs.EarlierTests.{PassesSquare}
-use Rattle.gj_minimal.proofs.FailedFaces.{square_from_lanes}
+use Rattle.gj_minimal.proofs.FailedFaces.{fit_squares, square_from_lanes}
 use Rattle.gj_theory.proofs.Lanes.{lane_sum, lesser_lane, max_zero, no_excess}
 use Rattle.gj_minimal.proofs.lanes.Lanes.squares_pass.Goals as goal
 
-pub overflow_add-left_first : goal.overflow_add-left_first
-overflow_add-left_first c =
-    lane_sum _ _ (c.requires.lanes.lefts.small c.args.a (omega arith))
-    (lesser_lane _ _ _ c.min.ensures (c.requires.lanes.values.small c.loop-b.b (omega arith)))
+pub overflow_add-left_first-in-loop-b : goal.overflow_add-left_first-in-loop-b
+overflow_add-left_first-in-loop-b c =
+    let h = fit_squares c.args.shape.now c.args.self.now c.order-order.ensures.limits c.requires.lanes in
+    lane_sum _ _ (h.left (c.args.a + 1) (omega arith))
+    (lesser_lane _ _ _ c.min.ensures (h.value c.loop-b.b (omega arith)))
 
 pub overflow_add-least_first-in-loop-b : goal.overflow_add-least_first-in-loop-b
 overflow_add-least_first-in-loop-b c =
-    lane_sum _ _
-    (lesser_lane _ _ _ c.min-least_first.ensures (c.requires.lanes.rights.small c.args.a (omega arith)))
-    (c.requires.lanes.lefts.small c.loop-b.b (omega arith))
+    let h = fit_squares c.args.shape.now c.args.self.now c.order-order.ensures.limits c.requires.lanes in
+    lane_sum _ _ (lesser_lane _ _ _ c.min-least_first.ensures (h.right c.args.a (omega arith)))
+    (h.left (c.loop-b.b + 1) (omega arith))
+
+pub overflow_add-left_first-in-loop-b-2 : goal.overflow_add-left_first-in-loop-b-2
+overflow_add-left_first-in-loop-b-2 c =
+    let h = fit_squares c.args.shape.now c.args.self.now c.order-order.ensures.limits c.requires.lanes in
+    lane_sum _ _ (h.left (c.args.a + 1) (omega arith)) (h.right c.loop-b.b (omega arith))
+
+pub overflow_add-right_first-in-loop-b : goal.overflow_add-right_first-in-loop-b
+overflow_add-right_first-in-loop-b c =
+    let h = fit_squares c.args.shape.now c.args.self.now c.order-order.ensures.limits c.requires.lanes in
+    lane_sum _ _ (h.right c.args.a (omega arith)) (h.left (c.loop-b.b + 1) (omega arith))
+
+pub overflow_add-left_first-in-loop-b-3 : goal.overflow_add-left_first-in-loop-b-3
+overflow_add-left_first-in-loop-b-3 c =
+    let h = fit_squares c.args.shape.now c.args.self.now c.order-order.ensures.limits c.requires.lanes in
+    lane_sum _ _ (h.left (c.args.a + 1) (omega arith)) (h.left (c.loop-b.b + 1) (omega arith))
 
 pub loop-b-preserved : goal.loop-b-preserved
 loop-b-preserved c none =
     let f = c.args.shape.now in
+    let h = fit_squares f c.args.self.now c.order-order.ensures.limits c.requires.lanes in
     let four = (max_zero _ _ _ c.max-excess.ensures).0 none in
     let three = (max_zero _ _ _ c.max-in-loop-b-3.ensures).0 four.0 in
     let two = (max_zero _ _ _ c.max-in-loop-b-2.ensures).0 three.0 in
@@ -26,7 +43,7 @@ loop-b-preserved c none =
     let before_next = c.above-before_next.ensures two.1 in
     let at_next = c.above-at_next.ensures three.1 in
     below_more (λ b. c.args.a ≤ b → PassesSquare f c.args.a b) c.loop-b.b (c.loop-b.invariant one.0)
-    (λ from. square_from_lanes f c.args.self.now c.args.a c.loop-b.b c.requires.lanes c.requires.vertices
+    (λ from. square_from_lanes f c.args.self.now c.args.a c.loop-b.b h c.requires.vertices
     c.requires.within (omega arith) (record {
       at_sum = rw c.min-least_first.ensures at at_sum;
       before_next = rw (c.min.ensures, c.min-least_first.ensures) at before_next;

@@ -1,0 +1,44 @@
+//! Numbers twice over in lanes, so that no index below twice the order has to be reduced.
+ghost use Rattle.std.specs.Prelude.{◌<◌, ◌≤◌, ◌^◌, length};
+ghost use Rattle.gj_minimal.specs.Lanes.{AreFrom0Below, AreTwice};
+
+/// How many lanes there are: one for each index from 0 to 2 q, where the order q is at most 1,000.
+pub(crate) const COUNT: usize = 2_001;
+
+/// The numbers in lanes of 16 bits, of which the sum of two fits.
+pub(crate) fn short_lanes(numbers: &[i64]) -> [u16; COUNT]
+    requires some { 0 < length numbers.now }
+    requires few { length numbers.now ≤ 1000 }
+    requires small { AreFrom0Below (2 ^ 15) numbers.now }
+    ensures { AreTwice (2 ^ 15) numbers.now result }
+{
+    let order = numbers.len();
+    let mut lanes = [0u16; COUNT];
+    for i in 0..order {
+        lanes[i] = numbers[i] as u16;
+    }
+    for j in 0..order {
+        lanes[order + j] = numbers[j] as u16;
+    }
+    lanes[2 * order] = numbers[0] as u16;
+    lanes
+}
+
+/// The numbers in lanes of 32 bits, of which the sum of two fits.
+pub(crate) fn narrow_lanes(numbers: &[i64]) -> [u32; COUNT]
+    requires some { 0 < length numbers.now }
+    requires few { length numbers.now ≤ 1000 }
+    requires small { AreFrom0Below (2 ^ 31) numbers.now }
+    ensures { AreTwice (2 ^ 31) numbers.now result }
+{
+    let order = numbers.len();
+    let mut lanes = [0u32; COUNT];
+    for i in 0..order {
+        lanes[i] = numbers[i] as u32;
+    }
+    for j in 0..order {
+        lanes[order + j] = numbers[j] as u32;
+    }
+    lanes[2 * order] = numbers[0] as u32;
+    lanes
+}
