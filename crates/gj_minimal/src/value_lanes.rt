@@ -1,7 +1,8 @@
 //! The values in lanes, over which a whole row of vertices is tested at once.
-ghost use Rattle.std.specs.Prelude.{ℕ, ◌+◌, ◌<◌, ◌≤◌, ◌^◌, List, IsTrue, get_or};
+ghost use Rattle.std.specs.Prelude.{◌≡◌, ◌⊎◌, ◌+◌, ◌-◌, ◌*◌, ◌<◌, ◌^◌, IsTrue, max};
+ghost use Rattle.gj_shape.specs.FunctionData.{IsWithinBounds};
 ghost use Rattle.gj_theory.specs.EarlierTests.{PassesSymmetry};
-ghost use Rattle.gj_minimal.specs.Failures.{PassesVertex};
+ghost use Rattle.gj_minimal.specs.Failures.{PassesAhead, PassesWithSum};
 ghost use Rattle.gj_minimal.specs.Lanes.{AreTwice};
 
 use crate::filling::{COUNT, narrow_lanes, short_lanes};
@@ -36,48 +37,87 @@ impl ValueLanes {
         }
     }
 
-    /// Whether no slack at (a/q, b/q) is found to be negative, for each b from a to below q.
+    /// Whether no slack at (a/q, b/q) is found to be negative, for each b and c from a with b at most c and with a + b + c
+    /// the place modulo q. The pairs of any two of such indices pass or fail together, since the values are symmetric.
     pub(crate) fn row_passes(&self, shape: &Shape, a: usize) -> bool
         requires lanes { AreValuesOf shape.now self.now }
         requires within { a < shape.now.order }
-        ensures { IsTrue result →
-            (b : ℕ) → a ≤ b → b < shape.now.order → PassesVertex shape.now a b }
+        ensures { IsTrue result → PassesAhead shape.now a }
+    {
+        let rest = rest_of(shape, a);
+        if !self.part_passes(shape, a, rest) {
+            return false;
+        }
+        self.part_passes(shape, a, rest + shape.order() as usize)
+    }
+
+    /// The same of the indices b and c with this sum.
+    fn part_passes(&self, shape: &Shape, a: usize, rest: usize) -> bool
+        requires lanes { AreValuesOf shape.now self.now }
+        requires within { a < shape.now.order }
+        requires rest { rest < 2 * shape.now.order }
+        ensures { IsTrue result → PassesWithSum shape.now a rest }
     {
         match self {
-            ValueLanes::Short(lanes) => short_row_passes(lanes, shape, a),
-            ValueLanes::Narrow(lanes) => narrow_row_passes(lanes, shape, a),
+            ValueLanes::Short(lanes) => short_part_passes(lanes, shape, a, rest),
+            ValueLanes::Narrow(lanes) => narrow_part_passes(lanes, shape, a, rest),
         }
     }
 }
 
-/// Whether no slack is negative in row a, from the diagonal on, over lanes of 16 bits.
-fn short_row_passes(lanes: &[u16; COUNT], shape: &Shape, a: usize) -> bool
+/// The index that with a adds up to the place modulo q.
+fn rest_of(shape: &Shape, a: usize) -> usize
+    requires { a < shape.now.order }
+    ensures below { result < shape.now.order }
+    ensures sum { (a + result ≡ shape.now.place) ⊎ (a + result ≡ shape.now.place + shape.now.order) }
+    ensures limits { IsWithinBounds shape.now }
+{
+    let place = shape.place() as usize;
+    if a <= place {
+        place - a
+    } else {
+        place + shape.order() as usize - a
+    }
+}
+
+/// The same over lanes of 16 bits.
+fn short_part_passes(lanes: &[u16; COUNT], shape: &Shape, a: usize, rest: usize) -> bool
     requires lanes { AreTwice (2 ^ 15) shape.now.value lanes.now }
     requires within { a < shape.now.order }
-    ensures { IsTrue result →
-        (b : ℕ) → a ≤ b → b < shape.now.order → PassesVertex shape.now a b }
+    requires rest { rest < 2 * shape.now.order }
+    ensures { IsTrue result → PassesWithSum shape.now a rest }
 {
-    let order = shape.order() as usize;
+    let start = first_index(shape, a, rest);
     let first = lanes[a];
     let mut excess = 0u16;
-    for b in a..order {
+    for b in start..rest / 2 + 1 {
         excess = excess.max(lanes[a + b].saturating_sub(first + lanes[b]));
     }
     excess == 0
 }
 
-/// Whether no slack is negative in row a, from the diagonal on, over lanes of 32 bits.
-fn narrow_row_passes(lanes: &[u32; COUNT], shape: &Shape, a: usize) -> bool
+/// The same over lanes of 32 bits.
+fn narrow_part_passes(lanes: &[u32; COUNT], shape: &Shape, a: usize, rest: usize) -> bool
     requires lanes { AreTwice (2 ^ 31) shape.now.value lanes.now }
     requires within { a < shape.now.order }
-    ensures { IsTrue result →
-        (b : ℕ) → a ≤ b → b < shape.now.order → PassesVertex shape.now a b }
+    requires rest { rest < 2 * shape.now.order }
+    ensures { IsTrue result → PassesWithSum shape.now a rest }
 {
-    let order = shape.order() as usize;
+    let start = first_index(shape, a, rest);
     let first = lanes[a];
     let mut excess = 0u32;
-    for b in a..order {
+    for b in start..rest / 2 + 1 {
         excess = excess.max(lanes[a + b].saturating_sub(first + lanes[b]));
     }
     excess == 0
+}
+
+/// The least index from a on from which an index below the order leads to this sum.
+fn first_index(shape: &Shape, a: usize, rest: usize) -> usize
+    requires { rest < 2 * shape.now.order }
+    ensures least { result ≡ max a (rest + 1 - shape.now.order) }
+    ensures limits { IsWithinBounds shape.now }
+{
+    let order = shape.order() as usize;
+    a.max((rest + 1).saturating_sub(order))
 }
