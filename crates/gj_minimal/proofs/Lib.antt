@@ -8,3 +8,4 @@ pub mod NearPairs
 pub mod EntryBounds
 pub mod Midpoints
 pub mod NumbersInLanes
+pub mod ContinuousTests

@@ -52,20 +52,21 @@ fn first_failure(shape: &Shape) -> Option<Failure>
     ensures none { IfNone result (PassesAll shape.now) }
     ensures limits { IsWithinBounds shape.now }
 {
+    let is_continuous = shape.is_continuous();
     if let Some(failure) = failed_value(shape) {
         return Some(failure);
     }
-    if let Some(failure) = failed_interval_sign(shape) {
+    if let Some(failure) = failed_interval_sign(shape, is_continuous) {
         return Some(failure);
     }
     if let Some(failure) = failed_mirror(shape) {
         return Some(failure);
     }
-    if let Some(failure) = failed_interval_mirror(shape) {
+    if let Some(failure) = failed_interval_mirror(shape, is_continuous) {
         return Some(failure);
     }
     if let Some(failure) = failed_vertex(shape) {
         return Some(failure);
     }
-    failed_face(shape)
+    failed_face(shape, is_continuous)
 }
