@@ -130,12 +130,22 @@ filled_twice bound numbers lanes i most some few all small h =
 
 -- ---- of a function
 
--- the values of a function whose tests of signs and of symmetry pass, below any bound that is above the scale
-pub values_within : (f : FunctionData) (bound : ℕ) → IsWithinBounds f → PassesSymmetry f → f.scale < bound →
-    AreFrom0Below bound f.value
-values_within f bound limits h above =
+-- the limits and values are from 0 to below the bound
+pub record AreAllBelow (bound : ℕ) (f : FunctionData) : Type 0 where
+  pub lefts : AreFrom0Below bound f.left
+  pub values : AreFrom0Below bound f.value
+  pub rights : AreFrom0Below bound f.right
+
+-- if the tests of signs and of symmetry pass and the scale is below it
+pub all_below : (bound : ℕ) (f : FunctionData) → IsWithinBounds f → PassesSymmetry f → f.scale < bound →
+    AreAllBelow bound f
+all_below bound f limits h above =
     let b = are_bounded f limits h in
-    λ i. up_to_scale (at f.value i) f.scale bound above (b.value_low i) (b.value_high i)
+    record {
+      lefts = λ i. up_to_scale (at f.left i) f.scale bound above (b.left_low i) (b.left_high i);
+      values = λ i. up_to_scale (at f.value i) f.scale bound above (b.value_low i) (b.value_high i);
+      rights = λ i. up_to_scale (at f.right i) f.scale bound above (b.right_low i) (b.right_high i);
+    }
   where
     up_to_scale : (n : ℤ) (s bound : ℕ) → s < bound → pos 0 ≤ℤ n → n ≤ℤ pos s → (pos 0 ≤ℤ n) × (n <ℤ pos bound)
     up_to_scale n s bound above low high = (low, omega (arith, ints))

@@ -2,6 +2,7 @@
 use Rattle.std.specs.Prelude.{ℕ, ℤ, pos, ◌≡◌, ◌*◌, ◌<◌, ◌≤◌, ◌^◌, ◌≤ℤ◌, ◌<ℤ◌, List, length, get_or}
 use Rattle.gj_shape.specs.FunctionData.{FunctionData, at}
 use Rattle.gj_minimal.specs.declared.lanes.Lanes.{Lanes}
+use Rattle.gj_minimal.specs.declared.lanes.Lanes.TheVariants as limits
 use Rattle.gj_minimal.specs.declared.value_lanes.ValueLanes.{ValueLanes}
 use Rattle.gj_minimal.specs.declared.value_lanes.ValueLanes.TheVariants.{Short, Narrow}
 
@@ -19,8 +20,12 @@ abbrev pub AreValuesOf : FunctionData → ValueLanes → Type 0
 AreValuesOf f (Short lanes) = AreTwice (2 ^ 15) f.value lanes
 AreValuesOf f (Narrow lanes) = AreTwice (2 ^ 31) f.value lanes
 
--- the lanes are the limits and values of the function
-pub record AreLanesOf (f : FunctionData) (l : Lanes) : Type 0 where
-  pub lefts : AreTwice (2 ^ 31) f.left l.left
-  pub values : AreTwice (2 ^ 31) f.value l.value
-  pub rights : AreTwice (2 ^ 31) f.right l.right
+-- the lanes are the limits and values of the function, all below the bound
+pub record AreLimits (bound : ℕ) (f : FunctionData) (left value right : List ℕ) : Type 0 where
+  pub lefts : AreTwice bound f.left left
+  pub values : AreTwice bound f.value value
+  pub rights : AreTwice bound f.right right
+
+abbrev pub AreLanesOf : FunctionData → Lanes → Type 0
+AreLanesOf f (limits.Short left value right) = AreLimits (2 ^ 15) f left value right
+AreLanesOf f (limits.Narrow left value right) = AreLimits (2 ^ 31) f left value right

@@ -1,9 +1,21 @@
 //! Numbers twice over in lanes, so that no index below twice the order has to be reduced.
-ghost use Rattle.std.specs.Prelude.{◌<◌, ◌≤◌, ◌^◌, length};
+ghost use Rattle.std.specs.Prelude.{◌<◌, ◌≤◌, ◌^◌, length, IsTrue};
 ghost use Rattle.gj_minimal.specs.Lanes.{AreFrom0Below, AreTwice};
+
+use gj_shape::Shape;
 
 /// How many lanes there are: one for each index from 0 to 2 q, where the order q is at most 1,000.
 pub(crate) const COUNT: usize = 2_001;
+
+/// If the common denominator is below this, the sum of two numbers from 0 to it fits 16 bits.
+const SHORT_BOUND: i128 = 1 << 15;
+
+/// Whether lanes of 16 bits are enough for a function whose tests of signs and of symmetry pass.
+pub(crate) fn is_short(shape: &Shape) -> bool
+    ensures { IsTrue result → shape.now.scale < 2 ^ 15 }
+{
+    shape.common_denominator() < SHORT_BOUND
+}
 
 /// The numbers in lanes of 16 bits, of which the sum of two fits.
 pub(crate) fn short_lanes(numbers: &[i64]) -> [u16; COUNT]

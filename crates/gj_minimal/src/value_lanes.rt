@@ -5,11 +5,8 @@ ghost use Rattle.gj_theory.specs.EarlierTests.{PassesSymmetry};
 ghost use Rattle.gj_minimal.specs.Failures.{PassesAhead, PassesWithSum};
 ghost use Rattle.gj_minimal.specs.Lanes.{AreTwice};
 
-use crate::filling::{COUNT, narrow_lanes, short_lanes};
+use crate::filling::{COUNT, is_short, narrow_lanes, short_lanes};
 use gj_shape::Shape;
-
-/// Numbers below this fit the short lanes.
-const SHORT_BOUND: i128 = 1 << 15;
 
 /// The values at i/q for each i up to 2 q, each times the common denominator, in the narrowest lanes in which the sum of
 /// two fits.
@@ -30,7 +27,7 @@ impl ValueLanes {
         ensures { AreValuesOf shape.now result }
     {
         let values = shape.value_numerators();
-        if shape.common_denominator() < SHORT_BOUND {
+        if is_short(shape) {
             ValueLanes::Short(short_lanes(values))
         } else {
             ValueLanes::Narrow(narrow_lanes(values))
