@@ -26,6 +26,7 @@ pub record AreLimits (bound : ℕ) (f : FunctionData) (left value right : List �
   pub values : AreTwice bound f.value value
   pub rights : AreTwice bound f.right right
 
+-- in lanes of one of the widths
 abbrev pub AreLanesOf : FunctionData → Lanes → Type 0
 AreLanesOf f (limits.Short left value right) = AreLimits (2 ^ 15) f left value right
 AreLanesOf f (limits.Narrow left value right) = AreLimits (2 ^ 31) f left value right

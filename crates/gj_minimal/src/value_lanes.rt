@@ -62,22 +62,8 @@ impl ValueLanes {
     }
 }
 
-/// The index that with a adds up to the place modulo q.
-fn rest_of(shape: &Shape, a: usize) -> usize
-    requires { a < shape.now.order }
-    ensures below { result < shape.now.order }
-    ensures sum { (a + result ≡ shape.now.place) ⊎ (a + result ≡ shape.now.place + shape.now.order) }
-    ensures limits { IsWithinBounds shape.now }
-{
-    let place = shape.place() as usize;
-    if a <= place {
-        place - a
-    } else {
-        place + shape.order() as usize - a
-    }
-}
-
-/// The same over lanes of 16 bits.
+/// Whether no slack at (a/q, b/q) is found to be negative, for each b and c from a with this sum and with b at most c, over
+/// lanes of 16 bits.
 fn short_part_passes(lanes: &[u16; COUNT], shape: &Shape, a: usize, rest: usize) -> bool
     requires lanes { AreTwice (2 ^ 15) shape.now.value lanes.now }
     requires within { a < shape.now.order }
@@ -109,7 +95,22 @@ fn narrow_part_passes(lanes: &[u32; COUNT], shape: &Shape, a: usize, rest: usize
     excess == 0
 }
 
-/// The least index from a on from which an index below the order leads to this sum.
+/// The index that with a adds up to the place modulo q.
+fn rest_of(shape: &Shape, a: usize) -> usize
+    requires { a < shape.now.order }
+    ensures below { result < shape.now.order }
+    ensures sum { (a + result ≡ shape.now.place) ⊎ (a + result ≡ shape.now.place + shape.now.order) }
+    ensures limits { IsWithinBounds shape.now }
+{
+    let place = shape.place() as usize;
+    if a <= place {
+        place - a
+    } else {
+        place + shape.order() as usize - a
+    }
+}
+
+/// The least index from a on that has this sum with an index below the order.
 fn first_index(shape: &Shape, a: usize, rest: usize) -> usize
     requires { rest < 2 * shape.now.order }
     ensures least { result ≡ max a (rest + 1 - shape.now.order) }
