@@ -1,5 +1,5 @@
 -- From the limits of one square to the tests of its faces.
-use Rattle.std.proofs.Common.{◌≡◌, ℕ, ◌*◌, ◌<◌, ◌≤◌, pos, ◌≤ℤ◌, [], ◌∷◌, length, get_or, All, lit<, sym, subst, refl, ⊎_elim, below_none, below_more, arith}
+use Rattle.std.proofs.Common.{◌≡◌, ℕ, ◌+◌, ◌*◌, ◌<◌, ◌≤◌, ◌^◌, pos, ◌≤ℤ◌, min, Fits, w16, List, [], ◌∷◌, length, get_or, All, lit<, sym, subst, refl, ⊎_elim, below_none, below_more, arith}
 use Rattle.std.proofs.lemmas.Bool.{cases_lt}
 use Rattle.std.proofs.lemmas.List.Elements.{All-nil, All-cons}
 use Rattle.gj_shape.specs.FunctionData.{FunctionData, IsWithinBounds, IsContinuous}
@@ -13,13 +13,12 @@ use Rattle.gj_complex.specs.Squares.{HasLimits}
 use Rattle.gj_theory.specs.EarlierTests.{PassesVertices, PassesFace, PassesSquare, HoldsBefore, PassesKindsBefore, PassesFacesBefore}
 use Rattle.gj_theory.proofs.FirstFailed.{IsNoVertex}
 use Rattle.gj_tools.proofs.Lists.{made_has}
-use Rattle.gj_theory.proofs.Lanes.{PassesAt, FitAtSums, mirrored_square, continuous_square, square_passes, fit_from_sums}
+use Rattle.gj_theory.proofs.Lanes.{PassesAt, HasLanes, FitAtSums, mirrored_square, continuous_square, square_passes, fit_from_sums}
 use Rattle.gj_minimal.specs.FirstFailure.{IsFirstFailure, HoldsBelow}
 use Rattle.gj_minimal.specs.declared.failures.Failure.{Failure}
 use Rattle.gj_minimal.specs.declared.failures.Failure.TheVariants as failure
-use Rattle.gj_minimal.specs.declared.lanes.Lanes.{Lanes}
 use Rattle.gj_minimal.specs.Failures.{FailsFirst, PassesRow, IsNonnegativeIn}
-use Rattle.gj_minimal.specs.Lanes.{AreLanesOf}
+use Rattle.gj_minimal.specs.Lanes.{AreLimits}
 
 -- how many corners a face has does not depend on the square
 pub same_corners : (kind : FaceKind) (a b : ℕ) → length (corners_of kind 0 0) ≡ length (corners_of kind a b)
@@ -102,18 +101,48 @@ pub continuous_passes : (f : FunctionData) (a b : ℕ) → IsWithinBounds f → 
     PassesSquare f a b
 continuous_passes f a b l continuous v = square_passes_at f a b (continuous_square f l continuous v.vertices a b)
 
+-- the lanes are below the bound, and are the numbers of the function
+pub record FitSquares (bound : ℕ) (f : FunctionData) (left value right : List ℕ) : Type 0 where
+  pub lefts : (i : ℕ) → i ≤ 2 * f.order → get_or left i 0 < bound
+  pub values : (i : ℕ) → i ≤ 2 * f.order → get_or value i 0 < bound
+  pub rights : (i : ℕ) → i ≤ 2 * f.order → get_or right i 0 < bound
+  pub numbers : HasLanes f (λ i. get_or left (i + 1) 0) (λ i. get_or value i 0) (λ i. get_or right i 0) (2 * f.order)
+
+pub fit_squares : (bound : ℕ) (f : FunctionData) (left value right : List ℕ) → IsWithinBounds f →
+    AreLimits bound f left value right → FitSquares bound f left value right
+fit_squares bound f left value right limits lanes =
+    let lefts = limits.left_length in
+    let values = limits.value_length in
+    let rights = limits.right_length in
+    record {
+      lefts = λ i below. lanes.lefts.small i (omega arith);
+      values = λ i below. lanes.values.small i (omega arith);
+      rights = λ i below. lanes.rights.small i (omega arith);
+      numbers = record {
+        lefts = λ i below. lanes.lefts.same (i + 1) (omega arith);
+        values = λ i below. lanes.values.same i (omega arith);
+        rights = λ i below. lanes.rights.same i (omega arith);
+      };
+    }
+
+-- a sum of two fits 16 bits, and the lesser of two is below the bound
+pub short_sum : (x y : ℕ) → x < 2 ^ 15 → y < 2 ^ 15 → Fits w16 (x + y)
+short_sum x y h k = omega arith
+
+pub lesser_below : (bound x y m : ℕ) → m ≡ min x y → x < bound → m < bound
+lesser_below bound x y m e h = omega arith
+
 -- a square passes where no limit in it is negative over lanes
-pub square_from_lanes : (f : FunctionData) (l : Lanes) (a b : ℕ) → AreLanesOf f l → PassesVertices f → a < f.order →
-    b < f.order → FitAtSums (λ i. get_or l.left i 0) (λ i. get_or l.value i 0) (λ i. get_or l.right i 0) a b →
-    PassesSquare f a b
-square_from_lanes f l a b lanes v a_below b_below sums =
-    let left = λ (i : ℕ). get_or l.left i 0 in
-    let value = λ (i : ℕ). get_or l.value i 0 in
-    let right = λ (i : ℕ). get_or l.right i 0 in
+pub square_from_lanes : (bound : ℕ) (f : FunctionData) (left value right : List ℕ) (a b : ℕ) →
+    FitSquares bound f left value right → PassesVertices f → a < f.order → b < f.order →
+    FitAtSums (λ i. get_or left (i + 1) 0) (λ i. get_or value i 0) (λ i. get_or right i 0) a b → PassesSquare f a b
+square_from_lanes bound f left value right a b lanes v a_below b_below sums =
+    let before = λ (i : ℕ). get_or left (i + 1) 0 in
+    let there = λ (i : ℕ). get_or value i 0 in
+    let after = λ (i : ℕ). get_or right i 0 in
     square_passes_at f a b
-    (square_passes f left value right (2 * f.order) a b
-    (record { lefts = lanes.lefts.same; values = lanes.values.same; rights = lanes.rights.same }) (omega arith)
-    (v.vertices a b a_below b_below) (fit_from_sums left value right a b sums))
+    (square_passes f before there after (2 * f.order) a b lanes.numbers (omega arith) (v.vertices a b a_below b_below)
+    (fit_from_sums before there after a b sums))
 
 -- ---- the first failed limit
 

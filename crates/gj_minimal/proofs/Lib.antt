@@ -7,3 +7,5 @@ pub mod NearPoints
 pub mod NearPairs
 pub mod EntryBounds
 pub mod Midpoints
+pub mod NumbersInLanes
+pub mod ContinuousTests

@@ -1,5 +1,5 @@
 -- The first failed test of minimality (own).
-use Rattle.std.specs.Prelude.{ℕ, pos, ◌*◌, ◌<◌, ◌≤◌, ◌^◌, ◌≤ℤ◌, get_or}
+use Rattle.std.specs.Prelude.{ℕ, pos, ◌≡◌, ◌⊎◌, ◌+◌, ◌*◌, ◌<◌, ◌≤◌, ◌^◌, ◌≤ℤ◌, get_or}
 use Rattle.gj_shape.specs.FunctionData.{FunctionData}
 use Rattle.gj_shape.specs.FirstViolation.{Test, Passes}
 use Rattle.gj_shape.specs.FirstViolation.Test.{zero_at_zero, nonnegative_at, nonnegative_after, nonnegative_before, symmetric_at, symmetric_between, subadditive_at}
@@ -37,6 +37,19 @@ PassesVertex f a b = Passes f (subadditive_at Vertex a b 0)
 -- for each b
 abbrev pub PassesVertexRow : FunctionData → ℕ → Type 0
 PassesVertexRow f a = HoldsBelow (PassesVertex f a) f.order
+
+-- the sum of three indices below the order is the place modulo the order
+abbrev pub AddUpToPlace : FunctionData → ℕ → ℕ → ℕ → Type 0
+AddUpToPlace f a b c =
+    (a + b + c ≡ f.place) ⊎ ((a + b + c ≡ f.place + f.order) ⊎ (a + b + c ≡ f.place + 2 * f.order))
+
+-- of such indices a is the least: with the next of them it passes
+abbrev pub PassesAhead : FunctionData → ℕ → Type 0
+PassesAhead f a = (b c : ℕ) → a ≤ b → b ≤ c → c < f.order → AddUpToPlace f a b c → PassesVertex f a b
+
+-- the same if the other two have this sum
+abbrev pub PassesWithSum : FunctionData → ℕ → ℕ → Type 0
+PassesWithSum f a rest = (b c : ℕ) → a ≤ b → b ≤ c → c < f.order → b + c ≡ rest → PassesVertex f a b
 
 -- the limits at the corners of the faces of a row but its vertices pass
 abbrev pub PassesRow : FunctionData → ℕ → Type 0

@@ -1,6 +1,7 @@
 //! The tests of the slack on the faces that are no vertices.
-ghost use Rattle.std.specs.Prelude.{ℕ, ◌≡◌, ◌<◌, length, IfSome, IfNone};
+ghost use Rattle.std.specs.Prelude.{ℕ, ◌≡◌, ◌<◌, length, IsTrue, IfSome, IfNone};
 ghost use Rattle.gj_shape.specs.Faces.{corners_of};
+ghost use Rattle.gj_shape.specs.FunctionData.{IsContinuous};
 ghost use Rattle.gj_theory.specs.EarlierTests.{PassesVertices, PassesSquare, HoldsBefore};
 ghost use Rattle.gj_minimal.specs.FirstFailure.{IsFirstFailure, HoldsBelow};
 ghost use Rattle.gj_minimal.specs.Failures.{FailsFirst, PassesRow, IsNonnegativeIn};
@@ -13,18 +14,19 @@ use gj_shape::{Face, FaceKind, Shape};
 
 /// The first failed test of the slack on the faces that are no vertices, square by square. The limits of a continuous
 /// function are slacks at grid points, and need no test.
-pub(crate) fn failed_face(shape: &Shape, lanes: &Lanes) -> Option<Failure>
+pub(crate) fn failed_face(shape: &Shape, is_continuous: bool) -> Option<Failure>
     requires vertices { PassesVertices shape.now }
-    requires lanes { AreLanesOf shape.now lanes.now }
+    requires continuous { IsTrue is_continuous → IsContinuous shape.now }
     ensures found { IfSome result (FailsFirst shape.now) }
     ensures none { IfNone result (HoldsBelow (PassesRow shape.now) shape.now.order) }
 {
     let order = shape.order();
-    if shape.is_continuous() {
+    if is_continuous {
         return None;
     }
+    let lanes = Lanes::of(shape);
     for a in 0..order {
-        if let Some(failure) = failed_in_row(shape, lanes, a) {
+        if let Some(failure) = failed_in_row(shape, &lanes, a) {
             return Some(failure);
         }
     }

@@ -9,7 +9,6 @@ ghost use Rattle.gj_minimal.specs.Failures.{FailsFirst};
 
 use crate::faces::failed_face;
 use crate::failures::Failure;
-use crate::lanes::Lanes;
 use crate::shown::shown;
 use crate::signs::{failed_interval_sign, failed_value};
 use crate::symmetry::{failed_interval_mirror, failed_mirror};
@@ -53,21 +52,21 @@ fn first_failure(shape: &Shape) -> Option<Failure>
     ensures none { IfNone result (PassesAll shape.now) }
     ensures limits { IsWithinBounds shape.now }
 {
+    let is_continuous = shape.is_continuous();
     if let Some(failure) = failed_value(shape) {
         return Some(failure);
     }
-    if let Some(failure) = failed_interval_sign(shape) {
+    if let Some(failure) = failed_interval_sign(shape, is_continuous) {
         return Some(failure);
     }
     if let Some(failure) = failed_mirror(shape) {
         return Some(failure);
     }
-    if let Some(failure) = failed_interval_mirror(shape) {
+    if let Some(failure) = failed_interval_mirror(shape, is_continuous) {
         return Some(failure);
     }
-    let lanes = Lanes::of(shape);
-    if let Some(failure) = failed_vertex(shape, &lanes) {
+    if let Some(failure) = failed_vertex(shape) {
         return Some(failure);
     }
-    failed_face(shape, &lanes)
+    failed_face(shape, is_continuous)
 }

@@ -1,6 +1,6 @@
 //! The tests of signs.
-ghost use Rattle.std.specs.Prelude.{IfSome, IfNone};
-ghost use Rattle.gj_shape.specs.FunctionData.{IsWithinBounds};
+ghost use Rattle.std.specs.Prelude.{IsTrue, IfSome, IfNone};
+ghost use Rattle.gj_shape.specs.FunctionData.{IsWithinBounds, IsContinuous};
 ghost use Rattle.gj_theory.specs.EarlierTests.{PassesValues, PassesSigns};
 ghost use Rattle.gj_minimal.specs.Failures.{FailsFirst};
 
@@ -25,12 +25,18 @@ pub(crate) fn failed_value(shape: &Shape) -> Option<Failure>
     None
 }
 
-/// The first failed test of the signs on open intervals: the limits at both ends are not negative.
-pub(crate) fn failed_interval_sign(shape: &Shape) -> Option<Failure>
-    requires { PassesValues shape.now }
+/// The first failed test of the signs on open intervals: the limits at both ends are not negative. Those of a continuous
+/// function are values, and need no test.
+pub(crate) fn failed_interval_sign(shape: &Shape, is_continuous: bool) -> Option<Failure>
+    requires values { PassesValues shape.now }
+    requires continuous { IsTrue is_continuous → IsContinuous shape.now }
+    requires limits { IsWithinBounds shape.now }
     ensures found { IfSome result (FailsFirst shape.now) }
     ensures none { IfNone result (PassesSigns shape.now) }
 {
+    if is_continuous {
+        return None;
+    }
     for i in 0..shape.order() {
         if right_at(shape, i) < 0 {
             return Some(Failure::Start(i));

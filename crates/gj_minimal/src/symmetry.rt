@@ -1,5 +1,6 @@
 //! The tests of symmetry.
 ghost use Rattle.std.specs.Prelude.{◌<◌, ◌↔◌, IsTrue, IfSome, IfNone};
+ghost use Rattle.gj_shape.specs.FunctionData.{IsWithinBounds, IsContinuous};
 ghost use Rattle.gj_shape.specs.FirstViolation.{Passes, MidpointsAgree};
 ghost use Rattle.gj_shape.specs.FirstViolation.Test.{symmetric_at, symmetric_between};
 ghost use Rattle.gj_theory.specs.EarlierTests.{PassesSigns, PassesMirrors, PassesSymmetry};
@@ -23,12 +24,17 @@ pub(crate) fn failed_mirror(shape: &Shape) -> Option<Failure>
     None
 }
 
-/// The first failed test of symmetry on open intervals.
-pub(crate) fn failed_interval_mirror(shape: &Shape) -> Option<Failure>
-    requires { PassesMirrors shape.now }
+/// The first failed test of symmetry on open intervals. A continuous function that is symmetric at grid points needs no test.
+pub(crate) fn failed_interval_mirror(shape: &Shape, is_continuous: bool) -> Option<Failure>
+    requires mirrors { PassesMirrors shape.now }
+    requires continuous { IsTrue is_continuous → IsContinuous shape.now }
+    requires limits { IsWithinBounds shape.now }
     ensures found { IfSome result (FailsFirst shape.now) }
     ensures none { IfNone result (PassesSymmetry shape.now) }
 {
+    if is_continuous {
+        return None;
+    }
     for i in 0..shape.order() {
         if !is_interval_mirrored(shape, i) {
             return Some(Failure::Interval(i));

@@ -1,24 +1,25 @@
 //! The tests of the slack at grid points.
 ghost use Rattle.std.specs.Prelude.{◌≡◌, ◌<◌, IfSome, IfNone};
+ghost use Rattle.gj_shape.specs.FunctionData.{IsWithinBounds};
 ghost use Rattle.gj_theory.specs.EarlierTests.{PassesSymmetry, PassesVertices};
 ghost use Rattle.gj_minimal.specs.FirstFailure.{IsFirstFailure, HoldsBelow};
 ghost use Rattle.gj_minimal.specs.Failures.{FailsFirst, PassesVertex, PassesVertexRow};
-ghost use Rattle.gj_minimal.specs.Lanes.{AreLanesOf};
+ghost use Rattle.gj_minimal.specs.Lanes.{AreValuesOf};
 
 use crate::entries::value_at;
 use crate::failures::Failure;
-use crate::lanes::Lanes;
+use crate::value_lanes::ValueLanes;
 use gj_shape::{Face, FaceKind, Shape};
 
 /// The first failed test of the slack at grid points, row by row.
-pub(crate) fn failed_vertex(shape: &Shape, lanes: &Lanes) -> Option<Failure>
-    requires symmetry { PassesSymmetry shape.now }
-    requires lanes { AreLanesOf shape.now lanes.now }
+pub(crate) fn failed_vertex(shape: &Shape) -> Option<Failure>
+    requires { PassesSymmetry shape.now }
     ensures found { IfSome result (FailsFirst shape.now) }
     ensures none { IfNone result (PassesVertices shape.now) }
 {
+    let lanes = ValueLanes::of(shape);
     for a in 0..shape.order() {
-        if let Some(b) = failed_in_row(shape, lanes, a) {
+        if let Some(b) = failed_in_row(shape, &lanes, a) {
             return Some(Failure::Corner(vertex(a, b), 0));
         }
     }
@@ -37,16 +38,27 @@ fn vertex(a: u32, b: u32) -> Face
 }
 
 /// The first b at which the slack at (a/q, b/q) is negative. They are searched one by one where one may be.
-fn failed_in_row(shape: &Shape, lanes: &Lanes, a: u32) -> Option<u32>
+fn failed_in_row(shape: &Shape, lanes: &ValueLanes, a: u32) -> Option<u32>
     requires within { a < shape.now.order }
-    requires lanes { AreLanesOf shape.now lanes.now }
+    requires symmetry { PassesSymmetry shape.now }
+    requires lanes { AreValuesOf shape.now lanes.now }
     requires rows { HoldsBelow (PassesVertexRow shape.now) a }
+    requires limits { IsWithinBounds shape.now }
     ensures found { IfSome result (IsFirstFailure (PassesVertex shape.now a) shape.now.order) }
     ensures none { IfNone result (PassesVertexRow shape.now a) }
 {
-    if lanes.vertices_pass(shape, a as usize) {
+    if lanes.row_passes(shape, a as usize) {
         return None;
     }
+    first_negative(shape, a)
+}
+
+/// The first b at which the slack at (a/q, b/q) is negative, searched one by one.
+fn first_negative(shape: &Shape, a: u32) -> Option<u32>
+    requires { a < shape.now.order }
+    ensures found { IfSome result (IsFirstFailure (PassesVertex shape.now a) shape.now.order) }
+    ensures none { IfNone result (PassesVertexRow shape.now a) }
+{
     for b in 0..shape.order() {
         if value_at(shape, a) + value_at(shape, b) < value_at(shape, a + b) {
             return Some(b);

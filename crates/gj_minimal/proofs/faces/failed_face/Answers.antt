@@ -6,7 +6,7 @@ use Rattle.gj_minimal.proofs.faces.failed_face.Goals as goal
 pub returns-then-is_continuous-clause-none : goal.returns-then-is_continuous-clause-none
 returns-then-is_continuous-clause-none c = λ a a_below b b_below.
     continuous_passes c.args.shape.now a b c.order-order.ensures.limits
-    (c.is_continuous.ensures.0 c.if-is_continuous.true) c.requires.vertices
+    (c.requires.continuous c.if-is_continuous.true) c.requires.vertices
 
 pub loop-a-preserved : goal.loop-a-preserved
 loop-a-preserved c = below_more (PassesRow c.args.shape.now) c.loop-a.a c.loop-a.invariant c.in_default.ensures.none

@@ -1,6 +1,0 @@
-use Rattle.std.proofs.Common.{◌≡◌, ℕ, ◌<◌, ◌≤◌}
-use Rattle.gj_minimal.specs.Failures.{PassesVertex}
-use Rattle.gj_minimal.proofs.lanes.Lanes.vertices_pass.Given as goal
-
-abbrev pub invariant-loop-b : goal.invariant-loop-b
-invariant-loop-b l = l.excess ≡ 0 → (b : ℕ) → b < l.b → l.a ≤ b → PassesVertex l.shape l.a b
