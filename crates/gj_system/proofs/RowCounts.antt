@@ -1,12 +1,11 @@
 -- The counts of the intervals before each grid point, and the rows that are made from them.
-use Rattle.std.proofs.Common.{◌≡◌, ◌≢◌, ℕ, ◌+◌, ◌%◌, ◌<◌, ◌≤◌, ◌^◌, ◌⊎◌, ◌↔◌, inl, inr, ℤ, pos, ◌+ℤ◌, ◌-ℤ◌, List, [], ◌∷◌, ◌++◌, length, map, get_or, set, replicate, unsigned_abs, refl, sym, ap, ap₂, subst, ◌∙◌, zero-add, arith}
+use Rattle.std.proofs.Common.{◌≡◌, ℕ, ◌+◌, ◌%◌, ◌<◌, ◌≤◌, ◌^◌, ◌⊎◌, ◌↔◌, inl, inr, ℤ, pos, ◌+ℤ◌, ◌-ℤ◌, List, [], ◌∷◌, ◌++◌, length, map, get_or, set, replicate, unsigned_abs, refl, sym, ap, ap₂, subst, ◌∙◌, zero-add, arith}
 use Rattle.std.specs.Prelude.{All}
 use Rattle.std.specs.List.{range_with_len}
 use Rattle.std.proofs.Math.ListN.{length-set, length-replicate}
 use Rattle.std.proofs.lemmas.Bool.{cases_eq}
 use Rattle.std.proofs.lemmas.Int.{ints}
 use Rattle.std.proofs.lemmas.List.{get_or-set_same, get_or-set_other, get_or-replicate}
-use Rattle.std.proofs.lemmas.List.Elements.{All-from_get_or}
 use Rattle.std.proofs.lemmas.List.FromFn.{length-map-range_with_len, get_or-map-range_with_len, map-range_with_len_more, fill_by_all}
 use Rattle.gj_shape.specs.SlopeRows.{rises, row_entry, row_of}
 use Rattle.gj_shape.specs.declared.extremality.RowName.{RowName}
@@ -63,6 +62,16 @@ pub one_point_more : (f : ℕ → ℕ) (n i : ℕ) (counts pushed : List (List �
     pushed ≡ map (rises_at f n) (range_with_len 0 (i + 1 + 1))
 one_point_more f n i counts pushed last are is e =
     e ∙ ap₂ (λ xs x. xs ++ x ∷ []) are is ∙ sym (map-range_with_len_more (rises_at f n) 0 (i + 1) (i + 1) (zero-add (i + 1)))
+
+-- each grid point has a count for each column, at most the number of intervals
+pub all_columns : (f : ℕ → ℕ) (n m : ℕ) → All (λ row. length row ≡ n) (map (rises_at f n) (range_with_len 0 m))
+all_columns f n m = All-made (λ row. length row ≡ n) (rises_at f n) 0 m (λ i below. length-rises_at f n i)
+
+pub all_at_most : (f : ℕ → ℕ) (n m q : ℕ) → m ≤ q + 1 → All (All (λ x. x ≤ q)) (map (rises_at f n) (range_with_len 0 m))
+all_at_most f n m q few =
+    All-made (All (λ x. x ≤ q)) (rises_at f n) 0 m
+    (λ i below.
+    All-made (λ x. x ≤ q) (rises f i) 0 n (λ c inside. let most = rises_at_most f i c in omega (arith, few, below)))
 
 -- ---- rows
 

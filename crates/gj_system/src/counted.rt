@@ -4,6 +4,7 @@ ghost use Rattle.gj_shape.specs.SlopeRows.{row_of as row_entries, component_in};
 ghost use Rattle.gj_shape.specs.declared.extremality.RowName.TheVariants.{Pair};
 ghost use Rattle.gj_system.specs.Components.{rises_at, IsNameBelow};
 
+use crate::codes::{codes_of, sum_of_codes};
 use gj_shape::{List, RowName};
 use std::alloc::{AllocError, Global};
 use std::marker::Model;
@@ -16,6 +17,8 @@ pub struct SlopeRows {
     columns: u32,
     /// For each i up to q, how many of the intervals before i/q are in each component.
     counts: Vec<List<u32>>,
+    /// The code of each of them, or none if they are not packed.
+    codes: Vec<u64>,
 }
 
 impl Model for SlopeRows {
@@ -45,10 +48,12 @@ impl SlopeRows {
             count[*c as usize] += 1;
             counts.push(List::of(Vec::from_slice(alloc, count.as_slice())?))?;
         }
+        let codes = codes_of(alloc, counts.as_slice(), columns, component.len())?;
         Ok(SlopeRows {
             component: Vec::from_slice(alloc, component)?,
             columns,
             counts,
+            codes,
         })
     }
 
@@ -103,14 +108,20 @@ impl SlopeRows {
         let order = self.component.len();
         let first_sum = sum_below(a, b, order);
         let second_sum = sum_below(c, d, order);
-        are_same_slacks(
-            self.counts_before(a as usize),
-            self.counts_before(b as usize),
-            self.counts_before(first_sum),
-            self.counts_before(c as usize),
-            self.counts_before(d as usize),
-            self.counts_before(second_sum),
-        )
+        let codes = self.codes.as_slice();
+        if codes.is_empty() {
+            return are_same_slacks(
+                self.counts_before(a as usize),
+                self.counts_before(b as usize),
+                self.counts_before(first_sum),
+                self.counts_before(c as usize),
+                self.counts_before(d as usize),
+                self.counts_before(second_sum),
+            );
+        }
+        let one = sum_of_codes(codes, a as usize, b as usize, second_sum);
+        let other = sum_of_codes(codes, c as usize, d as usize, first_sum);
+        one == other
     }
 
     /// How many of the intervals before i/q are in each component.
@@ -126,7 +137,8 @@ impl SlopeRows {
 fn sum_below(a: u32, b: u32, order: usize) -> usize
     requires first { a < order }
     requires second { b < order }
-    ensures { result ≡ (a + b) % order }
+    ensures sum { result ≡ (a + b) % order }
+    ensures within { result < order }
 {
     let sum = a as usize + b as usize;
     if sum < order { sum } else { sum - order }

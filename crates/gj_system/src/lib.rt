@@ -1,6 +1,7 @@
 //! The rows of the linear system for the slopes of a perturbation, one column for each component.
 #![tactic(auto)]
 
+mod codes;
 mod counted;
 mod rises;
 mod rows;

@@ -1,8 +1,9 @@
-use Rattle.std.proofs.Common.{◌≡◌, ◌<◌, ◌+◌, ◌++◌, ◌∷◌, [], get_or, length, refl, sym, ap, ap₂, ◌∙◌, arith}
+use Rattle.std.proofs.Common.{◌≡◌, ◌<◌, ◌≤◌, ◌+◌, ◌++◌, ◌∷◌, [], get_or, length, sym, ap, ap₂, subst, ◌∙◌, arith}
+use Rattle.std.specs.Prelude.{All}
 use Rattle.std.proofs.lemmas.List.{get_or_default}
 use Rattle.std.proofs.lemmas.List.Elements.{All-get_or}
 use Rattle.gj_shape.specs.SlopeRows.{component_in}
-use Rattle.gj_system.proofs.RowCounts.{no_counts, length-rises_at, one_count_more, one_point_more, count_at_most}
+use Rattle.gj_system.proofs.RowCounts.{no_counts, length-rises_at, one_count_more, one_point_more, count_at_most, all_columns, all_at_most}
 use Rattle.gj_system.proofs.counted.SlopeRows.new.Goals as goal
 
 pub loop-c-init : goal.loop-c-init
@@ -54,3 +55,16 @@ loop-c-preserved c =
           (c.of-in-loop-c.ensures ∙ c.in_ok-from_slice-2.ensures.items ∙ c.as_slice-in-loop-c.ensures.value ∙ more)
           c.in_ok-push-2.ensures.items,
     )
+
+pub codes_of-requires-clause-columns : goal.codes_of-requires-clause-columns
+codes_of-requires-clause-columns c =
+    let n = c.args.columns in
+    subst (All (λ row. length row ≡ n)) (sym (c.as_slice-2.ensures.value ∙ c.loop-c.invariant.1))
+    (all_columns (component_in c.args.component.now) c.args.columns (c.loop-c.c-index + 1))
+
+pub codes_of-requires-clause-order : goal.codes_of-requires-clause-order
+codes_of-requires-clause-order c =
+    let q = length c.args.component.now in
+    subst (All (All (λ x. x ≤ q))) (sym (c.as_slice-2.ensures.value ∙ c.loop-c.invariant.1))
+    (all_at_most (component_in c.args.component.now) c.args.columns (c.loop-c.c-index + 1) (length c.args.component.now)
+    (omega (arith, c.loop-c.auto.c-index-end)))

@@ -1,0 +1,12 @@
+-- Counts packed into one number.
+use Rattle.std.specs.Prelude.{ℕ, ◌+◌, ◌*◌, ◌<◌, ◌≤◌, ◌^◌, List, [], ◌∷◌}
+
+-- the number with these digits to the base 2^16, the first for the ones
+abbrev pub packed : List ℕ → ℕ
+packed [] = 0
+packed (x ∷ xs) = x + 2 ^ 16 * packed xs
+
+-- the sum of three counts of n columns, each at most q, is that of its digits, and is below 2^64
+pub record ArePackable (n q : ℕ) : Type 0 where
+  pub columns : n ≤ 4
+  pub order : 3 * q < 2 ^ 16
