@@ -41,7 +41,8 @@ pair_is_set f component n rows seen place p rest below codes pairs (h, has) =
       columns = h.columns;
       width = h.width;
       seen_below = record {
-        places = ap length pairs ∙ length-set rows.seen.pairs.items place p ∙ h.seen_below.places;
+        some = subst (λ (m : ℕ). 0 < m) (sym (ap length pairs ∙ length-set rows.seen.pairs.items place p)) h.seen_below.some;
+        few = subst (λ (m : ℕ). m ≤ 4096) (sym (ap length pairs ∙ length-set rows.seen.pairs.items place p)) h.seen_below.few;
         points = subst (All (IsPairBelow f.order)) (sym pairs)
             (All-set (IsPairBelow f.order) rows.seen.pairs.items place p below h.seen_below.points);
         codes = ap (λ c. length c.items) codes ∙ h.seen_below.codes;

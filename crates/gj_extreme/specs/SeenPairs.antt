@@ -1,5 +1,5 @@
 -- Pairs whose rows were handed over (own).
-use Rattle.std.specs.Prelude.{ℕ, ℤ, pos, ◌≡◌, ◌⊎◌, ◌*◌, ◌<◌, List, All, Contains, length}
+use Rattle.std.specs.Prelude.{ℕ, ℤ, pos, ◌≡◌, ◌⊎◌, ◌*◌, ◌<◌, ◌≤◌, List, All, Contains, length}
 use Rattle.gj_shape.specs.FunctionData.{FunctionData}
 use Rattle.gj_shape.specs.declared.extremality.RowName.TheVariants.{Pair}
 use Rattle.gj_proof.specs.PresentRows.{named_row}
@@ -10,9 +10,10 @@ use Rattle.gj_extreme.specs.declared.seen.SeenPairs.{SeenPairs}
 abbrev pub IsPairBelow : ℕ → SeenPair → Type 0
 IsPairBelow q p = (p.a < q) × (p.b < q)
 
--- there is a pair for each place, with points below the order, and a code for each point below twice the order
+-- there is a pair for each of at most 4,096 places, with points below the order, and a code for each point below twice the order
 pub record AreSeenBelow (q : ℕ) (seen : SeenPairs) : Type 0 where
-  pub places : length seen.pairs.items ≡ 4096
+  pub some : 0 < length seen.pairs.items
+  pub few : length seen.pairs.items ≤ 4096
   pub points : All (IsPairBelow q) seen.pairs.items
   pub codes : length seen.codes.items ≡ 2 * q
 

@@ -1,11 +1,14 @@
 //! Pairs whose rows were handed over, found again by codes that are made from the counts of rows.
-ghost use Rattle.std.specs.Prelude.{◌≡◌, ◌+◌, ◌*◌, ◌<◌, ◌^◌, length, All, IfOk, OnOk};
+ghost use Rattle.std.specs.Prelude.{◌≡◌, ◌+◌, ◌*◌, ◌<◌, ◌≤◌, ◌^◌, length, All, IfOk, OnOk};
 ghost use Rattle.gj_extreme.specs.SeenPairs.{AreSeenBelow};
 
 use std::alloc::{AllocError, Global};
 
 /// How many pairs are remembered at most.
-const PLACES: usize = 4_096;
+const MOST_PLACES: usize = 4_096;
+
+/// How many places there are for each interval, as long as they are not more than that.
+const PLACES_OF_INTERVAL: usize = 8;
 
 /// An odd number by which codes are spread over the places: 2^64 divided by the golden ratio.
 const SPREAD: u64 = 11_400_714_819_323_198_485;
@@ -35,22 +38,25 @@ impl SeenPairs {
         ensures below { IfOk result (AreSeenBelow (length component.now)) }
         ensures zeros { IfOk result (λ seen. All (λ p. p ≡ record { a = 0; b = 0 }) seen.pairs.items) }
     {
+        let places = (PLACES_OF_INTERVAL * component.len()).min(MOST_PLACES);
         Ok(SeenPairs {
-            pairs: vec![in alloc; SeenPair { a: 0, b: 0 }; PLACES]?,
+            pairs: vec![in alloc; SeenPair { a: 0, b: 0 }; places]?,
             codes: codes_of(alloc, component)?,
         })
     }
 
     /// The place of the code of a pair of grid points below the order.
     pub(crate) fn place(&self, a: u32, b: u32) -> usize
-        requires { a + b < length self.now.codes.items }
-        ensures { result < 4096 }
+        requires below { a + b < length self.now.codes.items }
+        requires some { 0 < length self.now.pairs.items }
+        requires few { length self.now.pairs.items ≤ 4096 }
+        ensures { result < length self.now.pairs.items }
     {
         let (a, b) = (a as usize, b as usize);
         let code = self.codes[a]
             .wrapping_add(self.codes[b])
             .wrapping_sub(self.codes[a + b]);
-        (code.wrapping_mul(SPREAD) >> 52) as usize % PLACES
+        ((code.wrapping_mul(SPREAD) >> 32) * self.pairs.len() as u64 >> 32) as usize
     }
 }
 

@@ -14,7 +14,7 @@ returns-then-have_same_row-clause-to_come c = λ rest h.
     let comp = component_in c.args.system.now.component in
     let n = c.args.system.now.columns in
     let p = c.index-seen.result.now in
-    let low : c.place-place.result < length c.args.self.now.seen.pairs.items = omega (arith, h.seen_below.places, c.place-place.ensures) in
+    let low : c.place-place.result < length c.args.self.now.seen.pairs.items = c.place-place.ensures in
     let seen = subst (IsSeenRow f comp n h.handed_over.before) (sym c.index-seen.ensures)
     (All-get_or (IsSeenRow f comp n h.handed_over.before) c.args.self.now.seen.pairs.items c.place-place.result p low h.handed_over.seen) in
     let same = (c.have_same_row.ensures f.place).0 c.if-have_same_row.true in
