@@ -78,9 +78,6 @@ push_here p xs y e none = by_place (cases_lt (position_or_len p xs) (length xs))
 
 -- ---- places
 
-pub no_places : (n : ℕ) (places : List (Option ℕ)) → length places ≡ n → ((c : ℕ) → c < n → get_or places c None ≡ None) → ArePlaces n [] places
-no_places n places len none = record { columns_are = len; place = none }
-
 pub places_more : (n : ℕ) (log log' : List LogRow) (places : List (Option ℕ)) (l : LogRow) (p : ℕ) → ArePlaces n log places →
     IsFreeColumn n log l.pivot → p ≡ length log → log' ≡ log ++ l ∷ [] → ArePlaces n log' (set places l.pivot (Some p))
 places_more n log log' places l p h free p_is log_is =

@@ -1,5 +1,5 @@
 -- Rows that are read, written and combined entry by entry, and their extents.
-use Rattle.std.proofs.Common.{◌≡◌, ◌≢◌, ℕ, ◌+◌, ◌*◌, ◌<◌, ◌≤◌, ◌^◌, ◌⊎◌, inl, inr, ℤ, pos, ◌-ℤ◌, ◌*ℤ◌, ◌+ℤ◌, ◌<ℤ◌, int_div, int_rem, Bool, true, false, Option, None, Some, FitsSigned, to_z, of_z, List, length, unsigned_abs, below_more, mul-le-mul_left, sym, ap, ap₂, subst, subst₂, ◌∙◌, arith}
+use Rattle.std.proofs.Common.{◌≡◌, ◌≢◌, ℕ, ◌*◌, ◌<◌, ◌≤◌, ◌^◌, ◌⊎◌, inl, inr, ℤ, pos, ◌-ℤ◌, ◌*ℤ◌, ◌+ℤ◌, ◌<ℤ◌, int_div, int_rem, Bool, true, false, FitsSigned, to_z, of_z, List, length, unsigned_abs, mul-le-mul_left, sym, ap, ap₂, subst, subst₂, ◌∙◌, arith}
 use Rattle.std.proofs.lemmas.Bool.{cases_lt}
 use Rattle.std.proofs.lemmas.Int.{ints, quot-rem, rem_is, quot_fits, fits_signed_from_abs, to_z-of_z}
 use mir.Syntax.{w64, w128}
@@ -11,7 +11,6 @@ use Rattle.gj_theory.proofs.CombinedRows.{AreCombined, combined_value}
 use Rattle.gj_theory.proofs.DividedRows.{scaled_one}
 use Rattle.gj_theory.proofs.Entries.{at_scaled, at_differences, at_divided}
 use Rattle.gj_theory.proofs.Steps.{length-differences}
-use Rattle.std.specs.Prelude.{IfSome}
 use Rattle.gj_elim.proofs.LazySteps.{AreNarrow, divided_multiple}
 use Rattle.gj_elim.specs.Lazy.{IsMultiple, IsExactly, AreLazyFactors, IsExtent, HasRoom, IsZeroOutside}
 
@@ -22,29 +21,6 @@ pub record IsExtentTo (bound end : ℕ) (row : List ℤ) (i : ℕ) : Type 0 wher
   pub small : bound < 2 ^ 63 → (k : ℕ) → k < i → unsigned_abs (at_column row k) ≤ bound
   pub zero_from : (k : ℕ) → end ≤ k → k < i → at_column row k ≡ pos 0
   pub within : end ≤ i
-
-pub extent_start : (row : List ℤ) → IsExtentTo 0 0 row 0
-extent_start row = record {
-  small = λ low k below. absurd (omega arith);
-  zero_from = λ k from below. absurd (omega arith);
-  within = omega arith;
-}
-
-pub extent_more : (bound end bound' end' : ℕ) (row : List ℤ) (i : ℕ) → IsExtentTo bound end row i → bound ≤ bound' →
-    (bound' < 2 ^ 63 → unsigned_abs (at_column row i) ≤ bound') → end' ≤ i + 1 → end ≤ end' → (end' ≤ i → at_column row i ≡ pos 0) →
-    IsExtentTo bound' end' row (i + 1)
-extent_more bound end bound' end' row i h more small within later zero_at = record {
-  small = λ low. below_more (λ k. unsigned_abs (at_column row k) ≤ bound') i
-      (λ k below. let here = h.small (omega arith) k below in omega arith) (small low);
-  zero_from = λ k from below. by_place k from (cases_lt k i) below;
-  within = within;
-}
-  where
-    by_place : (k : ℕ) → end' ≤ k → (k < i) ⊎ (i ≤ k) → k < i + 1 → at_column row k ≡ pos 0
-    by_place k from (inl before) below = h.zero_from k (omega arith) before
-    by_place k from (inr there) below =
-        let same : k ≡ i = omega arith in
-        subst (λ (n : ℕ). at_column row n ≡ pos 0) (sym same) (zero_at (omega arith))
 
 -- ---- rows that are copied
 
@@ -276,10 +252,6 @@ exact_factors p x p_fits x_fits positive none =
     plus_none a r e = omega (arith, ints)
 
 -- ---- a row that is divided before the step
-
-pub if_some_more : {X : Type 0} (o : Option X) (P Q : X → Type 0) → IfSome o P → ((x : X) → P x → Q x) → IfSome o Q
-if_some_more None P Q h f = tt
-if_some_more (Some x) P Q h f = f x h
 
 pub divided_some_at : (row : List ℤ) (c : ℕ) → at_column row c ≢ pos 0 → at_column (divided row) c ≢ pos 0
 divided_some_at row c some e =

@@ -9,3 +9,4 @@ pub mod LazyRows
 pub mod LazyProgress
 pub mod KeptTables
 pub mod SmallDivisors
+pub mod SmallProducts

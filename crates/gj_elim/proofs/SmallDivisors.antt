@@ -4,7 +4,7 @@ use Rattle.std.specs.Int.{IsGcd}
 use Rattle.std.proofs.lemmas.Bool.{cases_lt}
 use Rattle.std.proofs.lemmas.Int.{ints, quot_fits, to_z-of_z, to_z_pos}
 use Rattle.std.proofs.lemmas.List.{same_lists, get_or_default, get_or-drop, get_or-set_same, get_or-set_other}
-use Rattle.std.proofs.lemmas.Nat.Gcd.{IsGcd-swap, IsGcd-from_zero, le_of_dvd}
+use Rattle.std.proofs.lemmas.Nat.Gcd.{IsGcd-swap, le_of_dvd}
 use mir.Syntax.{w64}
 use mir.Val.{Fits}
 use Rattle.gj_tools.specs.Divisors.{gcd_of}
@@ -18,9 +18,6 @@ use Rattle.gj_theory.proofs.Steps.{length-divided}
 use Rattle.gj_elim.specs.Lazy.{IsExtent, IsZeroOutside}
 
 -- ---- the divisor of two numbers
-
-pub gcd_with_zero : (d x : ℕ) → x ≡ 0 → IsGcd d x d
-gcd_with_zero d x e = IsGcd-from_zero d x e
 
 pub gcd_low : (a b g n : ℕ) → IsGcd a b g → a < n → b < n → g < n
 gcd_low zero zero g n h a_below b_below =
@@ -126,12 +123,6 @@ read_quotient_small x d fits some small =
     ap (λ z. to_z w64 (of_z w64 z)) (ap₂ int_div (to_z-of_z w64 x fits) (to_z_pos w64 d small))
     ∙ to_z-of_z w64 (int_div x (pos d)) (quot_fits w64 x (pos d) fits (omega (arith, ints)))
 
-pub quotient_fits_small : (x : ℤ) (d : ℕ) → FitsSigned w64 x → 0 < d → d < 2 ^ 63 →
-    FitsSigned w64 (int_div (to_z w64 (of_z w64 x)) (to_z w64 d))
-quotient_fits_small x d fits some small =
-    subst (FitsSigned w64) (sym (ap₂ int_div (to_z-of_z w64 x fits) (to_z_pos w64 d small)))
-    (quot_fits w64 x (pos d) fits (omega (arith, ints)))
-
 -- the entries of a divided row are as small
 pub divided_below : (row : List ℤ) (k n : ℕ) → unsigned_abs (at_column row k) < n → unsigned_abs (at_column (divided row) k) < n
 divided_below row k n h =
@@ -154,27 +145,6 @@ pub record IsBoundTo (row : List ℤ) (i bound : ℕ) : Type 0 where
 
 zero_at_most : (x : ℤ) (n : ℕ) → x ≡ pos 0 → unsigned_abs x ≤ n
 zero_at_most x n e = subst (λ (y : ℤ). unsigned_abs y ≤ n) (sym e) (omega arith)
-
-pub bound_start : (row : List ℤ) (from to : ℕ) → IsZeroOutside from to row → IsBoundTo row from 0
-bound_start row from to h = record {
-  is = λ k below. zero_at_most (at_column row k) 0 (h.before k below);
-  low = omega arith;
-}
-
-pub bound_more : (row : List ℤ) (i bound bound' : ℕ) → IsBoundTo row i bound → bound ≤ bound' → unsigned_abs (at_column row i) ≤ bound' →
-    bound' < 2 ^ 63 → IsBoundTo row (i + 1) bound'
-bound_more row i bound bound' h more here low = record {
-  is = below_more (λ k. unsigned_abs (at_column row k) ≤ bound') i (λ k below. let before = h.is k below in omega arith) here;
-  low = low;
-}
-
-pub bound_end : (row : List ℤ) (from to i bound : ℕ) → IsBoundTo row i bound → IsZeroOutside from to row → to ≤ i →
-    (k : ℕ) → unsigned_abs (at_column row k) ≤ bound
-bound_end row from to i bound h outside past k = by_place (cases_lt k i)
-  where
-    by_place : (k < i) ⊎ (i ≤ k) → unsigned_abs (at_column row k) ≤ bound
-    by_place (inl before) = h.is k before
-    by_place (inr there) = zero_at_most (at_column row k) bound (outside.behind k (omega arith))
 
 pub divided_extent : (row next : List ℤ) (from to bound : ℕ) → next ≡ divided row → IsZeroOutside from to row → to ≤ length row →
     ((k : ℕ) → unsigned_abs (at_column next k) ≤ bound) → IsExtent bound to next

@@ -1,11 +1,12 @@
 //! One step: a row is reduced by a kept row.
 ghost use Rattle.std.specs.Prelude.{ℤ, pos, ◌<ℤ◌, ◌≡◌, ◌≢◌, ◌<◌, ◌↔◌, ◌^◌, ◌*ℤ◌, ◌-ℤ◌, ◌++◌, length, map, All, IfOk, OnOk, OnErr, unsigned_abs, neg_ℤ};
 ghost use Rattle.gj_shape.specs.Elimination.{at_column, divided, scaled, differences, reduced, marked_in_step, kept_entries, gcd_of_row, Passes};
+ghost use Rattle.std.specs.Int.{IsGcd};
 ghost use Rattle.gj_tools.specs.Divisors.{gcd_of};
 ghost use Rattle.gj_frac.specs.Fraction.{Fits};
 ghost use Rattle.gj_theory.specs.Fitting.{FitsCombined};
 
-use crate::checked::{TooWide, difference, product};
+use crate::checked::{TooWide, difference, product, quotient};
 use gj_frac::gcd;
 
 /// The greatest common divisor of the absolute values of two numbers, one of them at most 2^127 - 1 and not 0.
@@ -18,6 +19,16 @@ pub(crate) fn common_divisor(n: i128, m: i128) -> i128
     gcd(m.unsigned_abs(), n.unsigned_abs()) as i128
 }
 
+/// The greatest common divisor of a number and of the absolute value of another.
+fn divisor_with(divisor: u128, x: i128) -> u128
+    ensures { IsGcd divisor (unsigned_abs x) result }
+{
+    if x == 0 {
+        return divisor;
+    }
+    gcd(x.unsigned_abs(), divisor)
+}
+
 /// The greatest common divisor of all entries; 0 where all are 0.
 fn divisor_of_row(row: &[i128]) -> u128
     ensures { result ≡ gcd_of_row row.now }
@@ -27,7 +38,7 @@ fn divisor_of_row(row: &[i128]) -> u128
         if divisor == 1 {
             return 1;
         }
-        divisor = gcd(divisor, x.unsigned_abs());
+        divisor = divisor_with(divisor, *x);
     }
     divisor
 }
@@ -41,7 +52,7 @@ fn divide(row: &mut [i128])
     let divisor = divisor_of_row(row);
     if divisor > 1 {
         for x in row.iter_mut() {
-            *x /= divisor as i128;
+            *x = quotient(*x, divisor as i128);
         }
     }
 }

@@ -1,4 +1,5 @@
-use Rattle.std.proofs.Common.{rules, sym, ap, ◌∙◌, drop, get_or, pos, unsigned_abs}
+use Rattle.std.proofs.Common.{rules, ℤ, refl, subst, sym, ap, ◌∙◌, drop, get_or, pos, unsigned_abs}
+use Rattle.std.specs.Int.{IsGcd}
 use Rattle.std.proofs.lemmas.Int.{to_z-of_z}
 use mir.Syntax.{w128}
 use Rattle.gj_tools.specs.Divisors.{gcd_of}
@@ -16,10 +17,10 @@ returns-then-divisor-eq1 c =
 
 pub loop-x-preserved : goal.loop-x-preserved
 loop-x-preserved c =
-    gcd_next c.args.row.now c.loop-x.x-index c.loop-x.divisor c.unsigned_abs.result c.gcd-divisor.result c.loop-x-test.true
-    (c.unsigned_abs.ensures.value
-    ∙ ap unsigned_abs (to_z-of_z w128 (get_or c.args.row.now c.loop-x.x-index (pos 0)) (search rules)))
-    c.loop-x.invariant c.gcd-divisor.ensures
+    gcd_next c.args.row.now c.loop-x.x-index c.loop-x.divisor (unsigned_abs (get_or c.args.row.now c.loop-x.x-index (pos 0)))
+    c.divisor_with-divisor.result c.loop-x-test.true refl c.loop-x.invariant
+    (subst (λ (x : ℤ). IsGcd c.loop-x.divisor (unsigned_abs x) c.divisor_with-divisor.result)
+    (to_z-of_z w128 (get_or c.args.row.now c.loop-x.x-index (pos 0)) (search rules)) c.divisor_with-divisor.ensures)
 
 pub returns : goal.returns
 returns c = gcd_last c.args.row.now c.loop-x.x-index c.loop-x.divisor c.loop-x-test.false c.loop-x.invariant

@@ -1,0 +1,30 @@
+-- The product of two numbers below 2^63 in absolute value.
+use Rattle.std.proofs.Common.{◌≡◌, ◌<◌, ◌≤◌, ◌*◌, ◌^◌, ℤ, ◌*ℤ◌, unsigned_abs, FitsSigned, to_z, of_z, mul-le-mul_left, sym, ap, ap₂, subst, ◌∙◌, arith}
+use Rattle.std.proofs.lemmas.Int.{to_z-of_z}
+use mir.Syntax.{w128}
+use Rattle.gj_tools.proofs.Integers.{unsigned_abs-mul}
+use Rattle.gj_frac.specs.Fraction.{Fits}
+use Rattle.gj_theory.proofs.WideNumbers.{fits_width, read_fitting}
+
+small_product_fits : (n m : ℤ) → unsigned_abs n < 2 ^ 63 → unsigned_abs m < 2 ^ 63 → Fits (n *ℤ m)
+small_product_fits n m first second =
+    let size = unsigned_abs-mul n m in
+    let more : unsigned_abs n * unsigned_abs m ≤ unsigned_abs n * 2 ^ 63 = mul-le-mul_left (unsigned_abs n) (omega arith) in
+    omega arith
+
+-- as the code reads the two numbers
+pub record IsSmallProduct (n m : ℤ) : Type 0 where
+  pub fits : FitsSigned w128 (to_z w128 (of_z w128 n) *ℤ to_z w128 (of_z w128 m))
+  pub small : Fits (n *ℤ m)
+  pub value : to_z w128 (of_z w128 (to_z w128 (of_z w128 n) *ℤ to_z w128 (of_z w128 m))) ≡ n *ℤ m
+
+pub small_product : (n m : ℤ) → FitsSigned w128 n → FitsSigned w128 m → unsigned_abs n < 2 ^ 63 → unsigned_abs m < 2 ^ 63 →
+    IsSmallProduct n m
+small_product n m n_fits m_fits first second =
+    let small = small_product_fits n m first second in
+    let same : to_z w128 (of_z w128 n) *ℤ to_z w128 (of_z w128 m) ≡ n *ℤ m =
+    ap₂ (λ a b. a *ℤ b) (to_z-of_z w128 n n_fits) (to_z-of_z w128 m m_fits) in record {
+      fits = subst (FitsSigned w128) (sym same) (fits_width (n *ℤ m) small);
+      small = small;
+      value = ap (λ z. to_z w128 (of_z w128 z)) same ∙ read_fitting (n *ℤ m) small;
+    }
