@@ -1,4 +1,4 @@
--- Counts packed into one number.
+-- Counts packed into one number, their code.
 use Rattle.std.specs.Prelude.{ℕ, ◌+◌, ◌*◌, ◌<◌, ◌≤◌, ◌^◌, List, [], ◌∷◌, ◌++◌, map, take}
 
 -- the number with these digits to the base 2^16, the first for the ones
@@ -10,7 +10,7 @@ packed (x ∷ xs) = x + 2 ^ 16 * packed xs
 abbrev pub codes_twice : ℕ → List (List ℕ) → List ℕ
 codes_twice q counts = map packed (take q counts) ++ map packed (take q counts)
 
--- the sum of three counts of n columns, each at most q, is that of its digits, and is below 2^64
+-- for counts of n columns, each at most q: a sum of three codes carries no digit, and is below 2^64
 pub record ArePackable (n q : ℕ) : Type 0 where
   pub columns : n ≤ 4
   pub order : 3 * q < 2 ^ 16

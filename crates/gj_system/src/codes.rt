@@ -17,7 +17,7 @@ const MOST_COLUMNS: u32 = u64::BITS / DIGIT_BITS;
 /// The greatest order of which three counts have a sum below the base.
 const GREATEST_ORDER: usize = (BASE as usize - 1) / 3;
 
-/// Whether no digit of a sum of three codes, for so many columns and counts up to the order, is carried.
+/// Whether a sum of three codes carries no digit, for so many columns and counts up to the order.
 fn are_packable(columns: u32, order: usize) -> bool
     ensures { IsTrue result ↔ ArePackable columns order }
 {
