@@ -26,16 +26,16 @@ packed_four (x ∷ xs) few digits =
     let room = packed_room xs (omega (arith, few)) (λ i d below. digits (suc i) d (omega arith)) in
     omega arith
 
--- the number of sums is the sum of the numbers
+-- the code of sums is the sum of the codes
 pub packed_sum : (f g : ℕ → ℕ) (cs : List ℕ) → packed (map f cs) + packed (map g cs) ≡ packed (map (λ c. f c + g c) cs)
 packed_sum f g [] = refl
 packed_sum f g (c ∷ cs) = let rest = packed_sum f g cs in omega arith
 
--- a digit is the rest, and the others are the quotient
+-- the first digit is the rest, and the others are the quotient
 digit_same : (x y m n : ℕ) → x < 2 ^ 16 → y < 2 ^ 16 → x + 2 ^ 16 * m ≡ y + 2 ^ 16 * n → (x ≡ y) × (m ≡ n)
 digit_same x y m n small bounded same = (omega arith, omega arith)
 
--- numbers are the same only if all digits are
+-- codes are the same only if all digits are
 pub same_digits : (f g : ℕ → ℕ) (cs : List ℕ) → ((c : ℕ) → f c < 2 ^ 16) → ((c : ℕ) → g c < 2 ^ 16) →
     packed (map f cs) ≡ packed (map g cs) → map f cs ≡ map g cs
 same_digits f g [] small bounded same = refl

@@ -2,7 +2,7 @@
 use Rattle.std.specs.Prelude.{◌≡◌, ◌+◌, ◌<◌, length, map}
 use Rattle.std.specs.List.{range_with_len}
 use Rattle.gj_shape.specs.SlopeRows.{component_in}
-use Rattle.gj_system.specs.Codes.{packed, ArePackable}
+use Rattle.gj_system.specs.Codes.{codes_twice, ArePackable}
 use Rattle.gj_system.specs.Components.{ComponentData, rises_at}
 use Rattle.gj_system.specs.declared.counted.SlopeRows.TheInside.{Inside}
 
@@ -10,8 +10,8 @@ use Rattle.gj_system.specs.declared.counted.SlopeRows.TheInside.{Inside}
 abbrev pub data_of : Inside → ComponentData
 data_of s = record { component = s.component.items; columns = s.columns }
 
--- there are counts for each grid point, and if there are codes, each is that of the counts
+-- there are counts for each grid point, and if there are codes, they are those of the counts
 pub record IsCounted (s : Inside) : Type 0 where
   pub counts : s.counts.items ≡ map (rises_at (component_in s.component.items) s.columns) (range_with_len 0 (length s.component.items + 1))
   pub packable : 0 < length s.codes.items → ArePackable s.columns (length s.component.items)
-  pub codes : 0 < length s.codes.items → s.codes.items ≡ map packed s.counts.items
+  pub codes : 0 < length s.codes.items → s.codes.items ≡ codes_twice (length s.component.items) s.counts.items

@@ -1,20 +1,23 @@
 //! Counts packed into one number, by which the sums of counts are compared at once.
-ghost use Rattle.std.specs.Prelude.{◌≡◌, ◌+◌, ◌<◌, ◌≤◌, ◌^◌, ◌↔◌, get_or, length, map, All, IfOk, IsTrue};
-ghost use Rattle.gj_system.specs.Codes.{packed as packed_counts, ArePackable};
+ghost use Rattle.std.specs.Prelude.{◌≡◌, ◌+◌, ◌++◌, ◌<◌, ◌≤◌, ◌^◌, ◌↔◌, get_or, length, map, All, IfOk, IsTrue};
+ghost use Rattle.gj_system.specs.Codes.{packed as packed_counts, codes_twice, ArePackable};
 
 use gj_shape::List;
 use std::alloc::{AllocError, Global};
 
-/// What a digit counts up to, and one: each has 16 bits.
-const DIGIT: u64 = 1 << 16;
+/// The bits of a digit.
+const DIGIT_BITS: u32 = 16;
+
+/// What a digit stays below, and what a one in the next digit is worth.
+const BASE: u64 = 1 << DIGIT_BITS;
 
 /// The most digits of a code.
-const MOST_COLUMNS: u32 = 4;
+const MOST_COLUMNS: u32 = u64::BITS / DIGIT_BITS;
 
-/// The greatest order of which three counts have a sum of one digit.
-const GREATEST_ORDER: usize = 21_845;
+/// The greatest order of which three counts have a sum below the base.
+const GREATEST_ORDER: usize = (BASE as usize - 1) / 3;
 
-/// Whether no digit of a sum of three codes, for so many columns and counts up to the order, is carried.
+/// Whether a sum of three codes carries no digit, for so many columns and counts up to the order.
 fn are_packable(columns: u32, order: usize) -> bool
     ensures { IsTrue result ↔ ArePackable columns order }
 {
@@ -29,35 +32,48 @@ fn packed(counts: &[u32]) -> u64
 {
     let mut code = 0;
     for c in (0..counts.len()).rev() {
-        code = code * DIGIT + u64::from(counts[c]);
+        code = code * BASE + u64::from(counts[c]);
     }
     code
 }
 
-/// The codes of the counts of so many columns, each up to the order; none if there are too many columns, or if the order is
-/// too great.
+/// Pushes the code of the counts of each of these points.
+fn push_codes(codes: &mut Vec<u64>, points: &[List<u32>]) -> Result<(), AllocError>
+    requires columns { All (λ row. length row ≤ 4) points.now }
+    requires digits { All (All (λ x. x < 2 ^ 16)) points.now }
+    ensures { IfOk result (λ _. codes.new.items ≡ codes.old.items ++ map packed_counts points.now) }
+{
+    for row in points {
+        codes.push(packed(row.as_slice()))?;
+    }
+    Ok(())
+}
+
+/// The codes of the counts before each grid point below 1, twice over, so that the code of a sum of two points stands at the
+/// sum; none if there are too many columns, or if the order is too great.
 pub(crate) fn codes_of(
     alloc: Global,
     counts: &[List<u32>],
     columns: u32,
     order: usize,
 ) -> Result<Vec<u64>, AllocError>
+    requires points { length counts.now ≡ order + 1 }
     requires columns { All (λ row. length row ≡ columns) counts.now }
     requires order { All (All (λ x. x ≤ order)) counts.now }
     ensures packable { IfOk result (λ codes. 0 < length codes.items → ArePackable columns order) }
-    ensures codes { IfOk result (λ codes. 0 < length codes.items → codes.items ≡ map packed_counts counts.now) }
+    ensures codes { IfOk result (λ codes. 0 < length codes.items → codes.items ≡ codes_twice order counts.now) }
 {
     if !are_packable(columns, order) {
         return Ok(Vec::new(alloc));
     }
-    let mut codes = Vec::with_capacity(alloc, counts.len())?;
-    for row in counts {
-        codes.push(packed(row.as_slice()))?;
-    }
+    let points = &counts[..order];
+    let mut codes = Vec::with_capacity(alloc, 2 * order)?;
+    push_codes(&mut codes, points)?;
+    push_codes(&mut codes, points)?;
     Ok(codes)
 }
 
-/// The sum of the codes of three grid points.
+/// The sum of three codes.
 pub(crate) fn sum_of_codes(codes: &[u64], i: usize, j: usize, k: usize) -> u64
     requires first { i < length codes.now }
     requires second { j < length codes.now }

@@ -17,7 +17,7 @@ pub struct SlopeRows {
     columns: u32,
     /// For each i up to q, how many of the intervals before i/q are in each component.
     counts: Vec<List<u32>>,
-    /// The code of each of them, or none if they are not packed.
+    /// The codes of those before 1, twice over, or none if they are not packed.
     codes: Vec<u64>,
 }
 
@@ -105,23 +105,34 @@ impl SlopeRows {
             row_entries (component_in self.now.component) self.now.columns (length self.now.component) place (Pair a b)
             ≡ row_entries (component_in self.now.component) self.now.columns (length self.now.component) place (Pair c d)) }
     {
+        let codes = self.codes.as_slice();
+        if codes.is_empty() {
+            return self.have_same_counts(a, b, c, d);
+        }
+        let one = sum_of_codes(codes, a as usize, b as usize, c as usize + d as usize);
+        let other = sum_of_codes(codes, c as usize, d as usize, a as usize + b as usize);
+        one == other
+    }
+
+    /// Whether the pairs (a, b) and (c, d) have the same row, column by column.
+    fn have_same_counts(&self, a: u32, b: u32, c: u32, d: u32) -> bool
+        requires first { (a < length self.now.component) × (b < length self.now.component) }
+        requires second { (c < length self.now.component) × (d < length self.now.component) }
+        ensures { (place : ℕ) → IsTrue result ↔ (
+            row_entries (component_in self.now.component) self.now.columns (length self.now.component) place (Pair a b)
+            ≡ row_entries (component_in self.now.component) self.now.columns (length self.now.component) place (Pair c d)) }
+    {
         let order = self.component.len();
         let first_sum = sum_below(a, b, order);
         let second_sum = sum_below(c, d, order);
-        let codes = self.codes.as_slice();
-        if codes.is_empty() {
-            return are_same_slacks(
-                self.counts_before(a as usize),
-                self.counts_before(b as usize),
-                self.counts_before(first_sum),
-                self.counts_before(c as usize),
-                self.counts_before(d as usize),
-                self.counts_before(second_sum),
-            );
-        }
-        let one = sum_of_codes(codes, a as usize, b as usize, second_sum);
-        let other = sum_of_codes(codes, c as usize, d as usize, first_sum);
-        one == other
+        are_same_slacks(
+            self.counts_before(a as usize),
+            self.counts_before(b as usize),
+            self.counts_before(first_sum),
+            self.counts_before(c as usize),
+            self.counts_before(d as usize),
+            self.counts_before(second_sum),
+        )
     }
 
     /// How many of the intervals before i/q are in each component.
@@ -137,8 +148,7 @@ impl SlopeRows {
 fn sum_below(a: u32, b: u32, order: usize) -> usize
     requires first { a < order }
     requires second { b < order }
-    ensures sum { result ≡ (a + b) % order }
-    ensures within { result < order }
+    ensures { result ≡ (a + b) % order }
 {
     let sum = a as usize + b as usize;
     if sum < order { sum } else { sum - order }

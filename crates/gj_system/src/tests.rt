@@ -25,3 +25,13 @@ fn same_rows(rt: HostRuntime) -> Result<(), Fail> {
     assert!(rt; !system.have_same_row(1, 1, 2, 2));
     Ok(())
 }
+
+/// Five components, which are too many for codes: the pairs (2, 2) and (1, 3) have the row (1, -1, 0, 0, 0), and (1, 4) has
+/// (2, 3, 0, 0, 0).
+#[test]
+fn same_rows_of_many_components(rt: HostRuntime) -> Result<(), Fail> {
+    let system = SlopeRows::new(rt.alloc(), &[0, 1, 1, 1, 2], 5)?;
+    assert!(rt; system.have_same_row(2, 2, 1, 3));
+    assert!(rt; !system.have_same_row(1, 3, 1, 4));
+    Ok(())
+}

@@ -2,7 +2,9 @@ use Rattle.std.proofs.Common.{◌≡◌, ◌<◌, ◌≤◌, ◌+◌, ◌++◌, 
 use Rattle.std.specs.Prelude.{All}
 use Rattle.std.proofs.lemmas.List.{get_or_default}
 use Rattle.std.proofs.lemmas.List.Elements.{All-get_or}
+use Rattle.std.proofs.lemmas.List.FromFn.{length-map-range_with_len}
 use Rattle.gj_shape.specs.SlopeRows.{component_in}
+use Rattle.gj_system.specs.Components.{rises_at}
 use Rattle.gj_system.proofs.RowCounts.{no_counts, length-rises_at, one_count_more, one_point_more, count_at_most, all_columns, all_at_most}
 use Rattle.gj_system.proofs.counted.SlopeRows.new.Goals as goal
 
@@ -55,6 +57,12 @@ loop-c-preserved c =
           (c.of-in-loop-c.ensures ∙ c.in_ok-from_slice-2.ensures.items ∙ c.as_slice-in-loop-c.ensures.value ∙ more)
           c.in_ok-push-2.ensures.items,
     )
+
+pub codes_of-requires-clause-points : goal.codes_of-requires-clause-points
+codes_of-requires-clause-points c =
+    let whole = ap length (c.as_slice-2.ensures.value ∙ c.loop-c.invariant.1)
+    ∙ length-map-range_with_len (rises_at (component_in c.args.component.now) c.args.columns) 0 (c.loop-c.c-index + 1) in
+    omega (arith, c.loop-c.auto.c-index-end, c.loop-c-test.false, whole)
 
 pub codes_of-requires-clause-columns : goal.codes_of-requires-clause-columns
 codes_of-requires-clause-columns c =
