@@ -21,6 +21,7 @@ pub mod CutMeaning
 pub mod RowOutcomes
 pub mod ValuesOfCuts
 pub mod TableTests
+pub mod GridTests
 pub mod NumberedLines
 pub mod HalvesTests
 pub mod OwnLineNumbers

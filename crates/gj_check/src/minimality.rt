@@ -1,14 +1,21 @@
 //! The rule `minimal`: all tests of minimality of a function.
-ghost use Rattle.std.specs.Prelude.{◌<◌, ◌↔◌, IsTrue};
+ghost use Rattle.std.specs.Prelude.{◌≡◌, ◌<◌, ◌↔◌, IsTrue, length};
+ghost use Rattle.gj_shape.specs.FunctionData.{IsWithinBounds};
 ghost use Rattle.gj_shape.specs.FirstViolation.{Passes, PassesAll};
 ghost use Rattle.gj_shape.specs.FirstViolation.Test.{zero_at_zero, symmetric_at, symmetric_between};
 ghost use Rattle.gj_theory.specs.EarlierTests.{PassesSymmetry};
 ghost use Rattle.gj_check.specs.Tests.{IsNonnegative, IsSymmetric, IsSubadditiveOnGrid, IsSubadditive};
 ghost use Rattle.gj_check.specs.Lanes.{AreLanesOf};
+ghost use Rattle.gj_check.specs.Tables.{AreTwoPeriods};
 
-use crate::pieces::{Piece, adds_up};
+use crate::entries::Entry;
+use crate::pieces::{Piece, adds_up, wrapped};
 use crate::squares::Lanes;
+use crate::tables::has_subadditive_rows;
 use gj_shape::Shape;
+
+/// How many entries there are: those of two periods, where the order is at most 1,000.
+const COUNT: usize = 2_000;
 
 /// Whether all tests of minimality pass. It takes no memory.
 pub(crate) fn is_minimal(shape: &Shape) -> bool
@@ -86,24 +93,47 @@ fn is_subadditive(shape: &Shape) -> bool
     requires { PassesSymmetry shape.now }
     ensures { IsTrue result ↔ IsSubadditive shape.now }
 {
-    let lanes = Lanes::of(shape);
     if shape.is_continuous() {
-        return is_subadditive_on_grid(shape, &lanes);
+        return is_subadditive_on_grid(shape);
     }
-    is_subadditive_between(shape, &lanes)
+    is_subadditive_between(shape, &Lanes::of(shape))
 }
 
-/// Whether no slack at grid points is negative. The slack is the same if the two points change places, so half of the pairs are tested.
-fn is_subadditive_on_grid(shape: &Shape, lanes: &Lanes) -> bool
-    requires { AreLanesOf shape.now lanes.now }
+/// Whether no slack at grid points is negative, over entries of the fewest bits that serve.
+fn is_subadditive_on_grid(shape: &Shape) -> bool
+    requires { PassesSymmetry shape.now }
+    ensures grid { IsTrue result ↔ IsSubadditiveOnGrid shape.now }
+    ensures limits { IsWithinBounds shape.now }
+{
+    if shape.common_denominator() <= i128::from(i16::MAX) {
+        return is_subadditive_in(shape, &mut [0i16; COUNT]);
+    }
+    is_subadditive_in(shape, &mut [0i32; COUNT])
+}
+
+/// The same over entries of one width, in which the common denominator fits: these are written over.
+fn is_subadditive_in<E: Entry>(shape: &Shape, entries: &mut [E]) -> bool
+    requires symmetric { PassesSymmetry shape.now }
+    requires room { length entries.old ≡ 2000 }
+    requires fits { shape.now.scale < E.bound }
     ensures { IsTrue result ↔ IsSubadditiveOnGrid shape.now }
 {
-    for a in 0..shape.order() as usize {
-        if !lanes.has_subadditive_vertices(shape, a) {
-            return false;
-        }
+    write_two_periods(shape, entries);
+    has_subadditive_rows(entries, shape.order() as usize, shape.place() as usize)
+}
+
+/// Writes the values of two periods.
+fn write_two_periods<E: Entry>(shape: &Shape, entries: &mut [E])
+    requires symmetric { PassesSymmetry shape.now }
+    requires room { length entries.old ≡ 2000 }
+    requires fits { shape.now.scale < E.bound }
+    ensures { AreTwoPeriods E.number entries.new shape.now.value }
+{
+    let values = shape.value_numerators();
+    let order = values.len();
+    for i in 0..2 * order {
+        entries[i] = E::of(i128::from(values[wrapped(i, order)]));
     }
-    true
 }
 
 /// Whether no limit of the slack is negative in any square. The squares (a, b) and (b, a) have the same limits, so half are tested.

@@ -1,8 +1,8 @@
 //! Minimal tables: the tests of the values of one period.
-ghost use Rattle.std.specs.Prelude.{pos, ◌≡◌, ◌↔◌, ◌*◌, ◌<◌, ◌≤◌, ◌^◌, ◌<ℤ◌, IsTrue, IfOk, length, unsigned_abs};
+ghost use Rattle.std.specs.Prelude.{ℤ, List, pos, ◌≡◌, ◌↔◌, ◌*◌, ◌<◌, ◌≤◌, ◌^◌, ◌<ℤ◌, IsTrue, IfOk, length, unsigned_abs};
 ghost use Rattle.gj_shape.specs.FunctionData.{at};
 ghost use Rattle.gj_shape.specs.Table.{IsMinimalTable};
-ghost use Rattle.gj_check.specs.Tables.{IsTableInRange, IsSymmetricList, IsSubadditiveUpTo, IsSubadditiveAhead, IsSubadditiveList, AreTwoPeriods};
+ghost use Rattle.gj_check.specs.Tables.{IsTableInRange, IsSymmetricList, IsSubadditiveUpTo, IsSubadditiveAhead, IsSubadditiveList, HasSubadditiveRows, HaveTwoPeriods, AreTwoPeriods};
 
 use crate::entries::Entry;
 use crate::pieces::wrapped;
@@ -54,6 +54,9 @@ fn is_subadditive_list(
     requires symmetric { IsSymmetricList values.now place scale }
     ensures { IfOk result (λ all. IsTrue all ↔ IsSubadditiveList values.now) }
 {
+    if scale <= i128::from(i16::MAX) {
+        return is_subadditive_over::<i16>(alloc, values, place, scale);
+    }
     if scale <= i128::from(i32::MAX) {
         return is_subadditive_over::<i32>(alloc, values, place, scale);
     }
@@ -63,8 +66,7 @@ fn is_subadditive_list(
     is_subadditive_over::<i128>(alloc, values, place, scale)
 }
 
-/// The same over entries of one width, in which the scale fits. Of three indices that add up to the place modulo the length the
-/// pairs of any two pass or fail together, since the values are symmetric: only that of the two least is tried.
+/// The same over entries of one width, in which the scale fits.
 fn is_subadditive_over<E: Entry>(
     alloc: Global,
     values: &[i128],
@@ -77,13 +79,7 @@ fn is_subadditive_over<E: Entry>(
     ensures { IfOk result (λ all. IsTrue all ↔ IsSubadditiveList values.now) }
 {
     let periods = two_periods::<E>(alloc, values, place, scale)?;
-    let entries = periods.as_slice();
-    for i in 0..values.len() {
-        if !is_subadditive_row(values, entries, place, i) {
-            return Ok(false);
-        }
-    }
-    Ok(true)
+    Ok(has_subadditive_rows(periods.as_slice(), values.len(), place))
 }
 
 /// The values of two periods as entries.
@@ -105,35 +101,53 @@ fn two_periods<E: Entry>(
     Ok(entries)
 }
 
-/// Whether the pairs (i, j) pass that are tried in the row: those where i is the least of the three indices and j the next.
-fn is_subadditive_row<E: Entry>(values: &[i128], entries: &[E], place: usize, i: usize) -> bool
-    requires periods { AreTwoPeriods E.number entries.now values.now }
-    requires few { length values.now ≤ 4000 }
-    requires place { place < length values.now }
-    requires within { i < length values.now }
-    ensures { IsTrue result ↔ IsSubadditiveAhead values.now place i }
+/// Whether the pairs (i, j) pass for each i that are tried in its row, by the entries of two periods of so many values. Of three indices
+/// that add up to the place modulo their number the pairs of any two pass or fail together, if the values are symmetric: only that of
+/// the two least is tried.
+pub(crate) fn has_subadditive_rows<E: Entry>(entries: &[E], count: usize, place: usize) -> bool
+    requires periods { HaveTwoPeriods E.number entries.now count }
+    requires few { count ≤ 4000 }
+    requires place { place < count }
+    ensures { (values : List ℤ) → length values ≡ count → AreTwoPeriods E.number entries.now values
+        → IsTrue result ↔ HasSubadditiveRows values place }
 {
-    let n = values.len();
-    if !is_subadditive_part(values, entries, place, i) {
+    for i in 0..count {
+        if !is_subadditive_row(entries, count, place, i) {
+            return false;
+        }
+    }
+    true
+}
+
+/// Whether the pairs (i, j) pass that are tried in the row: those where i is the least of the three indices and j the next.
+fn is_subadditive_row<E: Entry>(entries: &[E], count: usize, place: usize, i: usize) -> bool
+    requires periods { HaveTwoPeriods E.number entries.now count }
+    requires few { count ≤ 4000 }
+    requires place { place < count }
+    requires within { i < count }
+    ensures { (values : List ℤ) → length values ≡ count → AreTwoPeriods E.number entries.now values
+        → IsTrue result ↔ IsSubadditiveAhead values place i }
+{
+    if !is_subadditive_part(entries, count, place, i) {
         return false;
     }
-    if !is_subadditive_part(values, entries, place + n, i) {
+    if !is_subadditive_part(entries, count, place + count, i) {
         return false;
     }
-    is_subadditive_part(values, entries, place + 2 * n, i)
+    is_subadditive_part(entries, count, place + 2 * count, i)
 }
 
 /// The same of the indices with this total: no rise from a value to that at the sum is above the value at i.
-fn is_subadditive_part<E: Entry>(values: &[i128], entries: &[E], total: usize, i: usize) -> bool
-    requires periods { AreTwoPeriods E.number entries.now values.now }
-    requires few { length values.now ≤ 4000 }
+fn is_subadditive_part<E: Entry>(entries: &[E], count: usize, total: usize, i: usize) -> bool
+    requires periods { HaveTwoPeriods E.number entries.now count }
+    requires few { count ≤ 4000 }
     requires total { total < 12000 }
-    requires within { i < length values.now }
-    ensures { IsTrue result ↔ IsSubadditiveUpTo values.now total i }
+    requires within { i < count }
+    ensures { (values : List ℤ) → length values ≡ count → AreTwoPeriods E.number entries.now values
+        → IsTrue result ↔ IsSubadditiveUpTo values total i }
 {
-    let n = values.len();
-    let from = i.max((total + 1).saturating_sub(i + n));
-    let end = n.min((total + 2).saturating_sub(i) / 2);
+    let from = i.max((total + 1).saturating_sub(i + count));
+    let end = count.min((total + 2).saturating_sub(i) / 2);
     let first = entries[i];
     let mut rise = first;
     for j in from..end {
