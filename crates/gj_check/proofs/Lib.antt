@@ -5,7 +5,7 @@ pub mod ReadNumbers
 pub mod PassedTests
 pub mod SamePlaces
 pub mod ShownPoints
-pub mod PieceTests
+pub mod NumeratorTests
 pub mod RowTests
 pub mod DemandsOfClaims
 pub mod ExtremeMeaning

@@ -1,15 +1,16 @@
 //! The rule `minimal`: all tests of minimality of a function.
-ghost use Rattle.std.specs.Prelude.{◌≡◌, ◌<◌, ◌↔◌, IsTrue, length};
+ghost use Rattle.std.specs.Prelude.{◌≡◌, ◌<◌, ◌≤◌, ◌↔◌, IsTrue, length};
 ghost use Rattle.gj_shape.specs.FunctionData.{IsWithinBounds};
 ghost use Rattle.gj_shape.specs.FirstViolation.{Passes, PassesAll};
-ghost use Rattle.gj_shape.specs.FirstViolation.Test.{zero_at_zero, symmetric_at, symmetric_between};
+ghost use Rattle.gj_shape.specs.FirstViolation.Test.{zero_at_zero};
 ghost use Rattle.gj_theory.specs.EarlierTests.{PassesSymmetry};
 ghost use Rattle.gj_check.specs.Tests.{IsNonnegative, IsSymmetric, IsSubadditiveOnGrid, IsSubadditive};
+ghost use Rattle.gj_check.specs.Numerators.{HasNoNegative, AreSmall, AreOpposite};
 ghost use Rattle.gj_check.specs.Lanes.{AreLanesOf};
 ghost use Rattle.gj_check.specs.Tables.{AreTwoPeriods};
 
 use crate::entries::Entry;
-use crate::pieces::{Piece, adds_up, wrapped};
+use crate::pieces::{adds_up, wrapped};
 use crate::squares::Lanes;
 use crate::tables::has_subadditive_rows;
 use gj_shape::Shape;
@@ -44,8 +45,22 @@ fn is_zero_at_zero(shape: &Shape) -> bool
 fn is_nonnegative(shape: &Shape) -> bool
     ensures { IsTrue result ↔ IsNonnegative shape.now }
 {
-    for i in 0..shape.order() as usize {
-        if !Piece::at(shape, i).is_nonnegative() {
+    if !has_no_negative(shape.value_numerators()) {
+        return false;
+    }
+    if !has_no_negative(shape.right_numerators()) {
+        return false;
+    }
+    has_no_negative(shape.left_numerators())
+}
+
+/// Whether none of the numbers is negative.
+fn has_no_negative(numbers: &[i64]) -> bool
+    requires { AreSmall numbers.now }
+    ensures { IsTrue result ↔ HasNoNegative numbers.now }
+{
+    for i in 0..numbers.len() {
+        if numbers[i] < 0 {
             return false;
         }
     }
@@ -56,36 +71,37 @@ fn is_nonnegative(shape: &Shape) -> bool
 fn is_symmetric(shape: &Shape) -> bool
     ensures { IsTrue result ↔ IsSymmetric shape.now }
 {
-    for i in 0..shape.order() as usize {
-        if !is_symmetric_at(shape, i) || !is_symmetric_after(shape, i) {
-            return false;
-        }
-    }
-    true
-}
-
-/// Whether the values at i/q and f - i/q add up to 1.
-fn is_symmetric_at(shape: &Shape, i: usize) -> bool
-    requires { i < shape.now.order }
-    ensures { IsTrue result ↔ Passes shape.now (symmetric_at i) }
-{
-    let opposite = shape.place() as usize + (shape.order() as usize - i);
+    let place = shape.place() as usize;
     let total = shape.common_denominator() as i64;
-    adds_up(
-        Piece::at(shape, i).value,
-        Piece::at(shape, opposite).value,
+    let values = shape.value_numerators();
+    if !are_opposite(values, values, place, total) {
+        return false;
+    }
+    are_opposite(
+        shape.right_numerators(),
+        shape.left_numerators(),
+        place,
         total,
     )
 }
 
-/// Whether the limits at both ends of the open interval from i/q add up to 1 with those of the opposite interval.
-fn is_symmetric_after(shape: &Shape, i: usize) -> bool
-    requires { i < shape.now.order }
-    ensures { IsTrue result ↔ Passes shape.now (symmetric_between i) }
+/// Whether each of the numbers adds up to the total with that of the others at the place less its index, modulo their count.
+fn are_opposite(numbers: &[i64], others: &[i64], place: usize, total: i64) -> bool
+    requires count { length others.now ≡ length numbers.now }
+    requires few { length numbers.now ≤ 1000 }
+    requires place { place < length numbers.now }
+    requires numbers { AreSmall numbers.now }
+    requires others { AreSmall others.now }
+    ensures { IsTrue result ↔ AreOpposite numbers.now others.now place total }
 {
-    let opposite = shape.place() as usize + (shape.order() as usize - (i + 1));
-    let total = shape.common_denominator() as i64;
-    Piece::at(shape, i).is_opposite(Piece::at(shape, opposite), total)
+    let count = numbers.len();
+    for i in 0..count {
+        let opposite = wrapped(place + (count - i), count);
+        if !adds_up(numbers[i], others[opposite], total) {
+            return false;
+        }
+    }
+    true
 }
 
 /// Whether no limit of the slack is negative in any square. Those of a continuous function are slacks at grid points.
