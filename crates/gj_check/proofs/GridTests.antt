@@ -1,4 +1,4 @@
--- The slacks at grid points of a continuous function, by the rows of the table of its values.
+-- The slacks at grid points of a continuous function, by the table of its values.
 use Rattle.std.proofs.Common.{◌≡◌, ◌↔◌, ℕ, ◌+◌, ◌-◌, ◌%◌, ◌<◌, ℤ, pos, ◌+ℤ◌, ◌≤ℤ◌, List, length, get_or, to_z, of_z, w64, subst, sym, ap, ap₂, ◌∙◌, arith}
 use mir.Syntax.{w128}
 use Rattle.std.proofs.lemmas.Int.{ints, to_z-of_z}
@@ -8,8 +8,8 @@ use Rattle.gj_shape.proofs.NumeratorReadings.{value_below, small_read}
 use Rattle.gj_theory.specs.EarlierTests.{PassesSymmetry}
 use Rattle.gj_theory.proofs.Lanes.{are_bounded}
 use Rattle.gj_check.specs.Tests.{IsSubadditiveVertex, IsSubadditiveOnGrid}
-use Rattle.gj_check.specs.Tables.{IsTableInRange, IsSymmetricList, IsSubadditivePair, IsSubadditiveList, HasSubadditiveRows}
-use Rattle.gj_check.proofs.TableTests.{rows_decide}
+use Rattle.gj_check.specs.Tables.{IsTableInRange, IsSymmetricList, IsSubadditivePair, IsSubadditiveList, HasSubadditiveTotals}
+use Rattle.gj_check.proofs.TableTests.{totals_decide}
 
 -- the values lie from 0 to the scale
 pub values_in_range : (f : FunctionData) → IsWithinBounds f → PassesSymmetry f → IsTableInRange f.value f.place (pos f.scale)
@@ -47,12 +47,12 @@ pairs_are_vertices f l =
       λ all a b a_below b_below. (pair_is_vertex f a b).1 (all a b (omega arith) (omega arith)),
     )
 
--- so the rows decide
-pub grid_decides : (f : FunctionData) → IsWithinBounds f → PassesSymmetry f → HasSubadditiveRows f.value f.place ↔ IsSubadditiveOnGrid f
+-- so the totals decide
+pub grid_decides : (f : FunctionData) → IsWithinBounds f → PassesSymmetry f → HasSubadditiveTotals f.value f.place ↔ IsSubadditiveOnGrid f
 grid_decides f l h =
-    let rows = rows_decide f.value f.place (pos f.scale) (values_in_range f l h) (symmetric_values f l h) in
+    let totals = totals_decide f.value f.place (pos f.scale) (values_in_range f l h) (symmetric_values f l h) in
     let pairs = pairs_are_vertices f l in
-    (λ all. pairs.0 (rows.0 all), λ all. rows.1 (pairs.1 all))
+    (λ all. pairs.0 (totals.0 all), λ all. totals.1 (pairs.1 all))
 
 -- ---- what the code reads
 

@@ -12,7 +12,7 @@ use Rattle.gj_shape.specs.FunctionData.{at}
 use Rattle.gj_shape.specs.Table.{IsMinimalTable}
 use Rattle.gj_shape.proofs.AtLemmas.{at_below, at_wrapped, at_plus_length}
 use Rattle.gj_theory.proofs.Everywhere.{symmetric_everywhere}
-use Rattle.gj_check.specs.Tables.{IsTableInRange, IsSymmetricList, IsSubadditivePair, IsSubadditiveUpTo, IsSubadditiveList, HasSubadditiveRows, HaveTwoPeriods, AreTwoPeriods}
+use Rattle.gj_check.specs.Tables.{IsTableInRange, IsSymmetricList, IsSubadditivePair, IsSubadditiveUpTo, IsSubadditiveList, HasSubadditiveTotal, HasSubadditiveTotals, HaveTwoPeriods, AreTwoPeriods}
 
 -- ---- one pair
 
@@ -67,6 +67,12 @@ part_by values total i low high j rise below low_is high_is past most h = (
   λ all m k from next k_below whole. h.0 all m (omega arith) (omega arith),
   λ all. h.1 (λ m m_below from. all m (total - i - m) (omega arith) (omega arith) (omega arith) (omega arith)),
 )
+
+-- the least of three indices with one total lies between two bounds
+pub total_by : (values : List ℤ) (total from end i : ℕ) → from ≡ total + 2 - 2 * length values → end ≡ min (length values) (total / 3 + 1) →
+    end ≤ i → ((k : ℕ) → k < i → from ≤ k → IsSubadditiveUpTo values total k) → HasSubadditiveTotal values total
+total_by values total from end i from_is end_is past h least below j k low next k_below whole =
+    h least (omega arith) (omega arith) j k low next k_below whole
 
 -- ---- of three indices the two least
 
@@ -151,29 +157,28 @@ turned_pair values place scale t symmetric a b c total h =
     omega (arith, ints)
 
 all_pairs : (values : List ℤ) (place : ℕ) (scale : ℤ) → IsTableInRange values place scale → IsSymmetricList values place scale →
-    HasSubadditiveRows values place → IsSubadditiveList values
+    HasSubadditiveTotals values place → IsSubadditiveList values
 all_pairs values place scale t symmetric h =
     two_least (IsSubadditivePair values) place (length values) t.place_below (mirrored_pair values)
     (turned_pair values place scale t symmetric)
     (λ a b c ab bc below total.
-    let row = h a (omega arith) in
     elim total [
-      | inl e ↦ row.0 b c ab bc below e
+      | inl e ↦ h.0 a (omega arith) b c ab bc below e
       | inr other ↦ elim other [
-        | inl e ↦ row.1 b c ab bc below e
-        | inr e ↦ row.2 b c ab bc below e
+        | inl e ↦ h.1 a (omega arith) b c ab bc below e
+        | inr e ↦ h.2 a (omega arith) b c ab bc below e
       ]
     ])
 
--- so the rows decide
-pub rows_decide : (values : List ℤ) (place : ℕ) (scale : ℤ) → IsTableInRange values place scale → IsSymmetricList values place scale →
-    HasSubadditiveRows values place ↔ IsSubadditiveList values
-rows_decide values place scale t symmetric = (
+-- so the totals decide
+pub totals_decide : (values : List ℤ) (place : ℕ) (scale : ℤ) → IsTableInRange values place scale → IsSymmetricList values place scale →
+    HasSubadditiveTotals values place ↔ IsSubadditiveList values
+totals_decide values place scale t symmetric = (
   all_pairs values place scale t symmetric,
-  λ all i i_below. (
-    λ j k from next below total. all i j i_below (omega arith),
-    λ j k from next below total. all i j i_below (omega arith),
-    λ j k from next below total. all i j i_below (omega arith),
+  λ all. (
+    λ i i_below j k from next below total. all i j i_below (omega arith),
+    λ i i_below j k from next below total. all i j i_below (omega arith),
+    λ i i_below j k from next below total. all i j i_below (omega arith),
   ),
 )
 

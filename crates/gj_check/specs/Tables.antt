@@ -26,15 +26,15 @@ abbrev pub IsSubadditiveUpTo : List ℤ → ℕ → ℕ → Type 0
 IsSubadditiveUpTo values total i =
     (j k : ℕ) → i ≤ j → j ≤ k → k < length values → i + j + k ≡ total → IsSubadditivePair values i j
 
--- for each j from i on where the third index with which they add up to the place, modulo the length, is no less than j
-abbrev pub IsSubadditiveAhead : List ℤ → ℕ → ℕ → Type 0
-IsSubadditiveAhead values place i =
-    IsSubadditiveUpTo values place i × IsSubadditiveUpTo values (place + length values) i
-    × IsSubadditiveUpTo values (place + 2 * length values) i
-
 -- for each i
-abbrev pub HasSubadditiveRows : List ℤ → ℕ → Type 0
-HasSubadditiveRows values place = (i : ℕ) → i < length values → IsSubadditiveAhead values place i
+abbrev pub HasSubadditiveTotal : List ℤ → ℕ → Type 0
+HasSubadditiveTotal values total = (i : ℕ) → i < length values → IsSubadditiveUpTo values total i
+
+-- for each total of three indices that is the place modulo the length
+abbrev pub HasSubadditiveTotals : List ℤ → ℕ → Type 0
+HasSubadditiveTotals values place =
+    HasSubadditiveTotal values place × HasSubadditiveTotal values (place + length values)
+    × HasSubadditiveTotal values (place + 2 * length values)
 
 -- for all i and j
 abbrev pub IsSubadditiveList : List ℤ → Type 0

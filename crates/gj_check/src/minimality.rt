@@ -12,7 +12,7 @@ ghost use Rattle.gj_check.specs.Tables.{AreTwoPeriods};
 use crate::entries::Entry;
 use crate::pieces::{adds_up, wrapped};
 use crate::squares::Lanes;
-use crate::tables::has_subadditive_rows;
+use crate::tables::has_subadditive_totals;
 use gj_shape::Shape;
 
 /// How many entries there are: those of two periods, where the order is at most 1,000.
@@ -135,7 +135,7 @@ fn is_subadditive_in<E: Entry>(shape: &Shape, entries: &mut [E]) -> bool
     ensures { IsTrue result ↔ IsSubadditiveOnGrid shape.now }
 {
     write_two_periods(shape, entries);
-    has_subadditive_rows(entries, shape.order() as usize, shape.place() as usize)
+    has_subadditive_totals(entries, shape.order() as usize, shape.place() as usize)
 }
 
 /// Writes the values of two periods.

@@ -2,7 +2,7 @@
 ghost use Rattle.std.specs.Prelude.{ℤ, List, pos, ◌≡◌, ◌↔◌, ◌*◌, ◌<◌, ◌≤◌, ◌^◌, ◌<ℤ◌, IsTrue, IfOk, length, unsigned_abs};
 ghost use Rattle.gj_shape.specs.FunctionData.{at};
 ghost use Rattle.gj_shape.specs.Table.{IsMinimalTable};
-ghost use Rattle.gj_check.specs.Tables.{IsTableInRange, IsSymmetricList, IsSubadditiveUpTo, IsSubadditiveAhead, IsSubadditiveList, HasSubadditiveRows, HaveTwoPeriods, AreTwoPeriods};
+ghost use Rattle.gj_check.specs.Tables.{IsTableInRange, IsSymmetricList, IsSubadditiveUpTo, IsSubadditiveList, HasSubadditiveTotal, HasSubadditiveTotals, HaveTwoPeriods, AreTwoPeriods};
 
 use crate::entries::Entry;
 use crate::pieces::wrapped;
@@ -79,7 +79,7 @@ fn is_subadditive_over<E: Entry>(
     ensures { IfOk result (λ all. IsTrue all ↔ IsSubadditiveList values.now) }
 {
     let periods = two_periods::<E>(alloc, values, place, scale)?;
-    Ok(has_subadditive_rows(periods.as_slice(), values.len(), place))
+    Ok(has_subadditive_totals(periods.as_slice(), values.len(), place))
 }
 
 /// The values of two periods as entries.
@@ -101,43 +101,43 @@ fn two_periods<E: Entry>(
     Ok(entries)
 }
 
-/// Whether the pairs (i, j) pass for each i that are tried in its row, by the entries of two periods of so many values. Of three indices
-/// that add up to the place modulo their number the pairs of any two pass or fail together, if the values are symmetric: only that of
-/// the two least is tried.
-pub(crate) fn has_subadditive_rows<E: Entry>(entries: &[E], count: usize, place: usize) -> bool
+/// Whether the pairs pass that are tried, by the entries of two periods of so many values. Of three indices that add up to the place
+/// modulo their number the pairs of any two pass or fail together, if the values are symmetric: only that of the two least is tried.
+pub(crate) fn has_subadditive_totals<E: Entry>(entries: &[E], count: usize, place: usize) -> bool
     requires periods { HaveTwoPeriods E.number entries.now count }
     requires few { count ≤ 4000 }
     requires place { place < count }
     ensures { (values : List ℤ) → length values ≡ count → AreTwoPeriods E.number entries.now values
-        → IsTrue result ↔ HasSubadditiveRows values place }
+        → IsTrue result ↔ HasSubadditiveTotals values place }
 {
-    for i in 0..count {
-        if !is_subadditive_row(entries, count, place, i) {
+    if !has_subadditive_total(entries, count, place) {
+        return false;
+    }
+    if !has_subadditive_total(entries, count, place + count) {
+        return false;
+    }
+    has_subadditive_total(entries, count, place + 2 * count)
+}
+
+/// The same of three indices with this total. The least of them, i, is at most a third of it, and the others are below the count.
+fn has_subadditive_total<E: Entry>(entries: &[E], count: usize, total: usize) -> bool
+    requires periods { HaveTwoPeriods E.number entries.now count }
+    requires few { count ≤ 4000 }
+    requires total { total < 12000 }
+    ensures { (values : List ℤ) → length values ≡ count → AreTwoPeriods E.number entries.now values
+        → IsTrue result ↔ HasSubadditiveTotal values total }
+{
+    let from = (total + 2).saturating_sub(2 * count);
+    let end = count.min(total / 3 + 1);
+    for i in from..end {
+        if !is_subadditive_part(entries, count, total, i) {
             return false;
         }
     }
     true
 }
 
-/// Whether the pairs (i, j) pass that are tried in the row: those where i is the least of the three indices and j the next.
-fn is_subadditive_row<E: Entry>(entries: &[E], count: usize, place: usize, i: usize) -> bool
-    requires periods { HaveTwoPeriods E.number entries.now count }
-    requires few { count ≤ 4000 }
-    requires place { place < count }
-    requires within { i < count }
-    ensures { (values : List ℤ) → length values ≡ count → AreTwoPeriods E.number entries.now values
-        → IsTrue result ↔ IsSubadditiveAhead values place i }
-{
-    if !is_subadditive_part(entries, count, place, i) {
-        return false;
-    }
-    if !is_subadditive_part(entries, count, place + count, i) {
-        return false;
-    }
-    is_subadditive_part(entries, count, place + 2 * count, i)
-}
-
-/// The same of the indices with this total: no rise from a value to that at the sum is above the value at i.
+/// The same where i is the least of the three: no rise from a value to that at the sum is above the value at i.
 fn is_subadditive_part<E: Entry>(entries: &[E], count: usize, total: usize, i: usize) -> bool
     requires periods { HaveTwoPeriods E.number entries.now count }
     requires few { count ≤ 4000 }

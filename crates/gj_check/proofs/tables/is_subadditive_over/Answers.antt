@@ -1,11 +1,11 @@
 use Rattle.std.proofs.Common.{refl, sym, subst}
 use Rattle.gj_check.specs.Tables.{AreTwoPeriods}
 use Rattle.gj_check.proofs.TestsInTurn.{in_other_words}
-use Rattle.gj_check.proofs.TableTests.{have_periods, rows_decide}
+use Rattle.gj_check.proofs.TableTests.{have_periods, totals_decide}
 use Rattle.gj_check.proofs.tables.is_subadditive_over.Goals as goal
 
-pub has_subadditive_rows-requires-clause-periods : goal.has_subadditive_rows-requires-clause-periods
-has_subadditive_rows-requires-clause-periods g c =
+pub has_subadditive_totals-requires-clause-periods : goal.has_subadditive_totals-requires-clause-periods
+has_subadditive_totals-requires-clause-periods g c =
     have_periods g.E.Entry.number _ c.args.values.now
     (subst (λ xs. AreTwoPeriods g.E.Entry.number xs c.args.values.now) (sym c.as_slice.ensures.value) c.in_ok-periods.ensures)
 
@@ -13,5 +13,5 @@ pub returns : goal.returns
 returns g c =
     let values = c.args.values.now in
     let periods = subst (λ xs. AreTwoPeriods g.E.Entry.number xs values) (sym c.as_slice.ensures.value) c.in_ok-periods.ensures in
-    in_other_words _ _ _ (c.has_subadditive_rows.ensures values refl periods)
-    (rows_decide values c.args.place c.args.scale c.requires.table c.requires.symmetric)
+    in_other_words _ _ _ (c.has_subadditive_totals.ensures values refl periods)
+    (totals_decide values c.args.place c.args.scale c.requires.table c.requires.symmetric)
