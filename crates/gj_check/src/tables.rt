@@ -1,5 +1,5 @@
 //! Minimal tables: the tests of the values of one period.
-ghost use Rattle.std.specs.Prelude.{ℤ, List, pos, ◌≡◌, ◌↔◌, ◌*◌, ◌<◌, ◌≤◌, ◌^◌, ◌<ℤ◌, IsTrue, IfOk, length, unsigned_abs};
+ghost use Rattle.std.specs.Prelude.{ℤ, List, pos, ◌≡◌, ◌↔◌, ◌+◌, ◌*◌, ◌<◌, ◌≤◌, ◌^◌, ◌<ℤ◌, IsTrue, IfOk, length, unsigned_abs};
 ghost use Rattle.gj_shape.specs.FunctionData.{at};
 ghost use Rattle.gj_shape.specs.Table.{IsMinimalTable};
 ghost use Rattle.gj_check.specs.Tables.{IsTableInRange, IsSymmetricList, IsSubadditiveUpTo, IsSubadditiveList, HasSubadditiveTotal, HasSubadditiveTotals, HaveTwoPeriods, AreTwoPeriods};
@@ -143,11 +143,13 @@ fn is_subadditive_part<E: Entry>(entries: &[E], count: usize, total: usize, i: u
     requires few { count ≤ 4000 }
     requires total { total < 12000 }
     requires within { i < count }
+    requires least { 3 * i ≤ total }
+    requires greatest { total + 2 ≤ i + 2 * count }
     ensures { (values : List ℤ) → length values ≡ count → AreTwoPeriods E.number entries.now values
         → IsTrue result ↔ IsSubadditiveUpTo values total i }
 {
     let from = i.max((total + 1).saturating_sub(i + count));
-    let end = count.min((total + 2).saturating_sub(i) / 2);
+    let end = (total + 2 - i) / 2;
     let first = entries[i];
     let mut rise = first;
     for j in from..end {

@@ -1,4 +1,4 @@
-use Rattle.std.proofs.Common.{◌≡◌, ◌↔◌, ◌+◌, ◌-◌, ◌/◌, ◌≤ℤ◌, max, min, length, IsTrue, ap, ap₂, subst, sym, ◌∙◌, arith}
+use Rattle.std.proofs.Common.{◌≡◌, ◌↔◌, ◌+◌, ◌-◌, ◌/◌, ◌≤ℤ◌, max, min, length, IsTrue, ap, subst, ◌∙◌, arith}
 use Rattle.gj_check.proofs.TableTests.{entry_read, no_rise, one_more_rise, part_by}
 use Rattle.gj_check.proofs.tables.is_subadditive_part.Goals as goal
 
@@ -26,11 +26,11 @@ returns g c = λ values len periods.
     let i = c.args.i in
     let total = c.args.total in
     let first = entry_read g.E.Entry.number _ values i _ periods (omega arith) c.index-entries-i.is in
-    let low : c.max-from.result ≡ max i (total + 1 - (i + length values)) =
-    c.max-from.ensures ∙ ap (max i) (c.saturating_sub.ensures ∙ ap (λ n. total + 1 - (i + n)) (sym len)) in
-    let high : c.min-end.result ≡ min (length values) ((total + 2 - i) / 2) =
-    c.min-end.ensures ∙ ap₂ (λ n x. min n (x / 2)) (sym len) c.saturating_sub-2.ensures in
-    let part = part_by values total i c.max-from.result c.min-end.result c.loop-j.j (g.E.Entry.number c.loop-j.rise) (omega arith) low high
+    let apart : c.saturating_sub.result ≡ total + 1 - (i + length values) = let is = c.saturating_sub.ensures in omega arith in
+    let low : c.max-from.result ≡ max i (total + 1 - (i + length values)) = c.max-from.ensures ∙ ap (max i) apart in
+    let end = (total + 2 - i) / 2 in
+    let high : (total + 2 - i) / 2 ≡ min (length values) ((total + 2 - i) / 2) = omega arith in
+    let part = part_by values total i c.max-from.result end c.loop-j.j (g.E.Entry.number c.loop-j.rise) (omega arith) low high
     c.loop-j-test.false c.loop-j.invariant.1 (c.loop-j.invariant.0 values len periods) in
     let test = subst (λ z. IsTrue c.is_at_most.result ↔ (g.E.Entry.number c.loop-j.rise ≤ℤ z)) first c.is_at_most.ensures in
     (λ t. part.0 (test.0 t), λ all. test.1 (part.1 all))
