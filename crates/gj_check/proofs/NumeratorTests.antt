@@ -1,5 +1,6 @@
 -- The tests of signs and of symmetry, by the lists of a function.
-use Rattle.std.proofs.Common.{◌≡◌, ◌↔◌, ℕ, zero, suc, ◌+◌, ◌-◌, ◌%◌, ◌<◌, ◌^◌, ℤ, pos, ◌+ℤ◌, ◌≤ℤ◌, List, length, get_or, unsigned_abs, Bool, IsTrue, to_z, of_z, w64, refl, ap, sym, subst, ◌∙◌, arith}
+use Rattle.std.proofs.lemmas.Bool.{cases_lt}
+use Rattle.std.proofs.Common.{◌≤◌, inl, inr, ◌≡◌, ◌↔◌, ℕ, zero, suc, ◌+◌, ◌-◌, ◌%◌, ◌<◌, ◌^◌, ℤ, pos, ◌+ℤ◌, ◌≤ℤ◌, List, length, get_or, unsigned_abs, Bool, IsTrue, to_z, of_z, w64, refl, ap, sym, subst, ◌∙◌, arith}
 use Rattle.std.proofs.lemmas.Int.{ints}
 use Rattle.std.proofs.Math.Nat.{add-mod_right, mod-lt}
 use Rattle.gj_shape.specs.FunctionData.{FunctionData, IsWithinBounds, at}
@@ -7,7 +8,7 @@ use Rattle.gj_shape.proofs.AtLemmas.{at_below, at_wrapped, at_plus_length}
 use Rattle.gj_shape.proofs.NumeratorReadings.{small_read, left_below, value_below, right_below}
 use Rattle.gj_theory.proofs.Everywhere.{at_same, everywhere, opposite_index}
 use Rattle.gj_check.specs.Tests.{IsNonnegative, IsSymmetric}
-use Rattle.gj_check.specs.Numerators.{HasNoNegative, AreSmall, AreOpposite}
+use Rattle.gj_check.specs.Numerators.{HasNoNegative, AreSmall, AreOpposite, AreOppositeBetween}
 
 -- ---- signs
 
@@ -75,6 +76,29 @@ symmetry_of_lists f l =
     add_turned : (x y s : ℤ) → x +ℤ y ≡ s → y +ℤ x ≡ s
     add_turned x y s e = omega (arith, ints)
 
+-- up to the place and behind it
+pub opposite_in_parts : (xs ys : List ℤ) (place : ℕ) (total : ℤ) → length ys ≡ length xs → place < length xs →
+    (AreOppositeBetween xs ys 0 (place + 1) place total × AreOppositeBetween xs ys (place + 1) (length xs) (place + length xs) total)
+    ↔ AreOpposite xs ys place total
+opposite_in_parts xs ys place total len place_below = (
+  λ h i below. elim (cases_lt place i) [
+    | inl behind ↦ subst (λ k. at xs i +ℤ at ys k ≡ total) (behind_place i below) (h.1 i below (omega arith))
+    | inr upto ↦ subst (λ z. at xs i +ℤ z ≡ total) (upto_place i below upto) (h.0 i (omega arith) (omega arith))
+  ],
+  λ all. (
+    λ i below from. subst (λ z. at xs i +ℤ z ≡ total) (sym (upto_place i (omega arith) (omega arith))) (all i (omega arith)),
+    λ i below from. subst (λ k. at xs i +ℤ at ys k ≡ total) (sym (behind_place i below)) (all i below),
+  ),
+)
+  where
+    behind_place : (i : ℕ) → i < length xs → place + length xs - i ≡ place + (length xs - i)
+    behind_place i below = omega arith
+
+    upto_place : (i : ℕ) → i < length xs → i ≤ place → at ys (place - i) ≡ at ys (place + (length xs - i))
+    upto_place i below upto =
+        let whole : place - i + length ys ≡ place + (length xs - i) = omega arith in
+        sym (at_plus_length ys (place - i)) ∙ ap (at ys) whole
+
 -- ---- what the code reads
 
 -- the numerators have 51 bits
@@ -101,11 +125,6 @@ is_read xs k i here small =
 -- at an index below the length
 pub number_below : (xs : List ℤ) (i : ℕ) → i < length xs → AreSmall xs → IsRead xs i i
 number_below xs i below = is_read xs i i (sym (at_below xs i below))
-
--- at an index that was reduced
-pub number_behind : (xs : List ℤ) (i k n : ℕ) → length xs ≡ n → k ≡ i % n → AreSmall xs → IsRead xs k i
-unfolding at
-number_behind xs i k n len is = is_read xs k i (ap (λ j. get_or xs j (pos 0)) (is ∙ ap (λ m. i % m) (sym len)))
 
 -- the same sum of equal numbers
 pub same_sum : (x y t x' y' t' : ℤ) → x ≡ x' → y ≡ y' → t ≡ t' → (x +ℤ y ≡ t) ↔ (x' +ℤ y' ≡ t')

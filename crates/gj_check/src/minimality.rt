@@ -1,11 +1,11 @@
 //! The rule `minimal`: all tests of minimality of a function.
-ghost use Rattle.std.specs.Prelude.{◌≡◌, ◌<◌, ◌≤◌, ◌↔◌, IsTrue, length};
+ghost use Rattle.std.specs.Prelude.{◌≡◌, ◌+◌, ◌<◌, ◌≤◌, ◌↔◌, IsTrue, length};
 ghost use Rattle.gj_shape.specs.FunctionData.{IsWithinBounds};
 ghost use Rattle.gj_shape.specs.FirstViolation.{Passes, PassesAll};
 ghost use Rattle.gj_shape.specs.FirstViolation.Test.{zero_at_zero};
 ghost use Rattle.gj_theory.specs.EarlierTests.{PassesSymmetry};
 ghost use Rattle.gj_check.specs.Tests.{IsNonnegative, IsSymmetric, IsSubadditiveOnGrid, IsSubadditive};
-ghost use Rattle.gj_check.specs.Numerators.{HasNoNegative, AreSmall, AreOpposite};
+ghost use Rattle.gj_check.specs.Numerators.{HasNoNegative, AreSmall, AreOpposite, AreOppositeBetween};
 ghost use Rattle.gj_check.specs.Lanes.{AreLanesOf};
 ghost use Rattle.gj_check.specs.Tables.{AreTwoPeriods};
 
@@ -95,9 +95,31 @@ fn are_opposite(numbers: &[i64], others: &[i64], place: usize, total: i64) -> bo
     ensures { IsTrue result ↔ AreOpposite numbers.now others.now place total }
 {
     let count = numbers.len();
-    for i in 0..count {
-        let opposite = wrapped(place + (count - i), count);
-        if !adds_up(numbers[i], others[opposite], total) {
+    if !are_opposite_between(numbers, others, 0, place + 1, place, total) {
+        return false;
+    }
+    are_opposite_between(numbers, others, place + 1, count, place + count, total)
+}
+
+/// Whether each of the numbers from an index up to another adds up to the total with that of the others whose index makes up the sum.
+fn are_opposite_between(
+    numbers: &[i64],
+    others: &[i64],
+    from: usize,
+    end: usize,
+    sum: usize,
+    total: i64,
+) -> bool
+    requires few { sum ≤ 2000 }
+    requires end { end ≤ length numbers.now }
+    requires low { end ≤ sum + 1 }
+    requires high { sum < from + length others.now }
+    requires numbers { AreSmall numbers.now }
+    requires others { AreSmall others.now }
+    ensures { IsTrue result ↔ AreOppositeBetween numbers.now others.now from end sum total }
+{
+    for i in from..end {
+        if !adds_up(numbers[i], others[sum - i], total) {
             return false;
         }
     }

@@ -1,30 +1,32 @@
-use Rattle.std.proofs.Common.{◌+◌, ◌-◌, length, w64, below_more, refl, arith}
+use Rattle.std.proofs.Common.{◌↔◌, ◌+◌, IsTrue, length, w64, subst}
 use Rattle.std.proofs.lemmas.Int.{to_z-of_z}
-use Rattle.gj_check.specs.Numerators.{IsOpposite}
-use Rattle.gj_check.proofs.TestsInTurn.{in_other_words, one_fails}
-use Rattle.gj_check.proofs.NumeratorTests.{number_below, number_behind, same_sum}
+use Rattle.gj_check.specs.Numerators.{AreOppositeBetween}
+use Rattle.gj_check.proofs.NumeratorTests.{opposite_in_parts}
+use Rattle.gj_check.proofs.TestsInTurn.{one_fails}
 use Rattle.gj_check.proofs.minimality.are_opposite.Goals as goal
 
-pub adds_up-requires : goal.adds_up-requires
-adds_up-requires c =
-    let i = c.loop-i.i in
-    record {
-      first = (number_below _ i (omega arith) c.requires.numbers).1;
-      second = (number_behind _ (c.args.place + (length c.args.numbers.now - i)) _ _ c.requires.count c.wrapped-opposite.ensures c.requires.others).1;
-    }
-
-pub returns-then-not-adds_up : goal.returns-then-not-adds_up
-returns-then-not-adds_up c =
-    let i = c.loop-i.i in
-    let x = number_below _ i (omega arith) c.requires.numbers in
-    let y = number_behind _ (c.args.place + (length c.args.numbers.now - i)) _ _ c.requires.count c.wrapped-opposite.ensures c.requires.others in
+pub returns-then-not-are_opposite_between : goal.returns-then-not-are_opposite_between
+returns-then-not-are_opposite_between c =
+    let xs = c.args.numbers.now in
+    let ys = c.args.others.now in
+    let place = c.args.place in
     let total = to_z-of_z w64 c.args.total c.ranges.total in
-    one_fails _ _ _ c.if-not-adds_up.true (in_other_words _ _ _ c.adds_up.ensures (same_sum _ _ _ _ _ _ x.0 y.0 total)) (λ all. all i (omega arith))
+    let upto = subst (λ t. IsTrue c.are_opposite_between.result ↔ AreOppositeBetween xs ys 0 (place + 1) place t) total
+    c.are_opposite_between.ensures in
+    one_fails _ _ _ c.if-not-are_opposite_between.true upto
+    (λ all. ((opposite_in_parts xs ys place c.args.total c.requires.count c.requires.place).1 all).0)
 
-pub loop-i-preserved : goal.loop-i-preserved
-loop-i-preserved c =
-    let i = c.loop-i.i in
-    let x = number_below _ i (omega arith) c.requires.numbers in
-    let y = number_behind _ (c.args.place + (length c.args.numbers.now - i)) _ _ c.requires.count c.wrapped-opposite.ensures c.requires.others in
-    below_more (IsOpposite c.args.numbers.now c.args.others.now c.args.place _) i c.loop-i.invariant
-    ((same_sum _ _ _ _ _ _ x.0 y.0 refl).0 (c.adds_up.ensures.0 c.if-not-adds_up.false))
+pub returns : goal.returns
+returns c =
+    let xs = c.args.numbers.now in
+    let ys = c.args.others.now in
+    let place = c.args.place in
+    let total = to_z-of_z w64 c.args.total c.ranges.total in
+    let parts = opposite_in_parts xs ys place c.args.total c.requires.count c.requires.place in
+    let upto = subst (λ t. IsTrue c.are_opposite_between.result ↔ AreOppositeBetween xs ys 0 (place + 1) place t) total
+    c.are_opposite_between.ensures in
+    let behind = subst (λ t. IsTrue c.are_opposite_between-2.result ↔ AreOppositeBetween xs ys (place + 1) (length xs) (place + length xs) t) total
+    c.are_opposite_between-2.ensures in (
+      λ t. parts.0 (upto.0 c.if-not-are_opposite_between.false, behind.0 t),
+      λ all. behind.1 (parts.1 all).1,
+    )
