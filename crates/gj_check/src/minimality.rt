@@ -15,7 +15,7 @@ use crate::squares::Lanes;
 use crate::tables::has_subadditive_totals;
 use gj_shape::Shape;
 
-/// How many entries there are: those of two periods, where the order is at most 1,000.
+/// How many entries there are: those of two periods, since the order is at most 1,000.
 const COUNT: usize = 2_000;
 
 /// Whether all tests of minimality pass. It takes no memory.

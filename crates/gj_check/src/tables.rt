@@ -119,7 +119,7 @@ pub(crate) fn has_subadditive_totals<E: Entry>(entries: &[E], count: usize, plac
     has_subadditive_total(entries, count, place + 2 * count)
 }
 
-/// The same of three indices with this total. The least of them, i, is at most a third of it, and the others are below the count.
+/// The same for three indices with this total. The least of them, i, is at most a third of it, and the others are below the count.
 fn has_subadditive_total<E: Entry>(entries: &[E], count: usize, total: usize) -> bool
     requires periods { HaveTwoPeriods E.number entries.now count }
     requires few { count ≤ 4000 }
@@ -137,7 +137,7 @@ fn has_subadditive_total<E: Entry>(entries: &[E], count: usize, total: usize) ->
     true
 }
 
-/// The same where i is the least of the three: no rise from a value to that at the sum is above the value at i.
+/// The same for one i as the least of the three: no rise from a value to that at the sum is above the value at i.
 fn is_subadditive_part<E: Entry>(entries: &[E], count: usize, total: usize, i: usize) -> bool
     requires periods { HaveTwoPeriods E.number entries.now count }
     requires few { count ≤ 4000 }
