@@ -5,7 +5,7 @@ pub mod ReadNumbers
 pub mod PassedTests
 pub mod SamePlaces
 pub mod ShownPoints
-pub mod PieceTests
+pub mod NumeratorTests
 pub mod RowTests
 pub mod DemandsOfClaims
 pub mod ExtremeMeaning
@@ -21,6 +21,7 @@ pub mod CutMeaning
 pub mod RowOutcomes
 pub mod ValuesOfCuts
 pub mod TableTests
+pub mod GridTests
 pub mod NumberedLines
 pub mod HalvesTests
 pub mod OwnLineNumbers

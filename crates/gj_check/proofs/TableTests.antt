@@ -1,6 +1,6 @@
 -- A table is minimal exactly where the values of one period pass their tests.
 use Rattle.std.proofs.lemmas.Bool.{cases_lt}
-use Rattle.std.proofs.Common.{◌≡◌, ◌↔◌, ◌⊎◌, inl, inr, max, min, ◌/◌, ℕ, ◌+◌, ◌-◌, ◌*◌, ◌%◌, ◌<◌, ◌≤◌, ℤ, pos, ◌+ℤ◌, ◌-ℤ◌, ◌<ℤ◌, ◌≤ℤ◌, List, [], ◌∷◌, ◌++◌, length, get_or, subst, below_more, unsigned_abs, to_z, of_z, FitsSigned, refl, sym, ap, ap₂, ◌∙◌, arith}
+use Rattle.std.proofs.Common.{◌≡◌, ◌≢◌, ◌↔◌, ◌⊎◌, inl, inr, max, min, ◌/◌, ℕ, ◌+◌, ◌-◌, ◌*◌, ◌%◌, ◌<◌, ◌≤◌, ℤ, pos, ◌+ℤ◌, ◌-ℤ◌, ◌<ℤ◌, ◌≤ℤ◌, List, [], ◌∷◌, ◌++◌, length, get_or, set, get_or-set_other, get_or-set_same, subst, below_more, unsigned_abs, to_z, of_z, FitsSigned, refl, sym, ap, ap₂, ◌∙◌, arith}
 use mir.Syntax.{w128}
 use Rattle.std.proofs.Math.Nat.{add_comm, add-mod, add-mod_right, mod-lt}
 use Rattle.std.proofs.Math.ListN.{get_or-append}
@@ -12,7 +12,7 @@ use Rattle.gj_shape.specs.FunctionData.{at}
 use Rattle.gj_shape.specs.Table.{IsMinimalTable}
 use Rattle.gj_shape.proofs.AtLemmas.{at_below, at_wrapped, at_plus_length}
 use Rattle.gj_theory.proofs.Everywhere.{symmetric_everywhere}
-use Rattle.gj_check.specs.Tables.{IsTableInRange, IsSymmetricList, IsSubadditivePair, IsSubadditiveUpTo, IsSubadditiveAhead, IsSubadditiveList, AreTwoPeriods}
+use Rattle.gj_check.specs.Tables.{IsTableInRange, IsSymmetricList, IsSubadditivePair, IsSubadditiveUpTo, IsSubadditiveList, HasSubadditiveTotal, HasSubadditiveTotals, HaveTwoPeriods, AreTwoPeriods}
 
 -- ---- one pair
 
@@ -33,6 +33,18 @@ BoundsRises values i from j rise = (rise ≤ℤ at values i) ↔ ((k : ℕ) → 
 pub entry_read : {E : Type 0} (number : E → ℤ) (entries : List E) (values : List ℤ) (i : ℕ) (e : E) → AreTwoPeriods number entries values →
     i < 2 * length values → e ≡ get_or entries i e → number e ≡ at values i
 entry_read number entries values i e p below is = ap number is ∙ p.same i e below
+
+-- none of the entries of two periods is negative
+pub have_periods : {E : Type 0} (number : E → ℤ) (entries : List E) (values : List ℤ) → AreTwoPeriods number entries values →
+    HaveTwoPeriods number entries (length values)
+have_periods number entries values p = record {
+  room = p.room;
+  low = λ i e below. subst (λ z. pos 0 ≤ℤ z) (sym (p.same i e below)) (p.low i);
+}
+
+-- before the first pair
+pub no_rise : (values : List ℤ) (i from : ℕ) (rise : ℤ) → rise ≡ at values i → BoundsRises values i from from rise
+no_rise values i from rise is = (λ low k below high. absurd (omega arith), λ all. omega (arith, ints))
 
 -- one pair more
 pub one_more_rise : (values : List ℤ) (i from j : ℕ) (rise more second sum : ℤ) → from ≤ j → second ≡ at values j → sum ≡ at values (i + j) →
@@ -55,6 +67,12 @@ part_by values total i low high j rise below low_is high_is past most h = (
   λ all m k from next k_below whole. h.0 all m (omega arith) (omega arith),
   λ all. h.1 (λ m m_below from. all m (total - i - m) (omega arith) (omega arith) (omega arith) (omega arith)),
 )
+
+-- the least of three indices with one total lies between two bounds
+pub total_by : (values : List ℤ) (total from end i : ℕ) → from ≡ total + 2 - 2 * length values → end ≡ min (length values) (total / 3 + 1) →
+    end ≤ i → ((k : ℕ) → k < i → from ≤ k → IsSubadditiveUpTo values total k) → HasSubadditiveTotal values total
+total_by values total from end i from_is end_is past h least below j k low next k_below whole =
+    h least (omega arith) (omega arith) j k low next k_below whole
 
 -- ---- of three indices the two least
 
@@ -138,20 +156,31 @@ turned_pair values place scale t symmetric a b c total h =
     let second = symmetric_sums values place scale t symmetric (a + c) b (moved_total place n (a + b + c) (a + c + b) (omega arith) total) in
     omega (arith, ints)
 
-pub all_pairs : (values : List ℤ) (place : ℕ) (scale : ℤ) → IsTableInRange values place scale → IsSymmetricList values place scale →
-    ((i : ℕ) → i < length values → IsSubadditiveAhead values place i) → IsSubadditiveList values
+all_pairs : (values : List ℤ) (place : ℕ) (scale : ℤ) → IsTableInRange values place scale → IsSymmetricList values place scale →
+    HasSubadditiveTotals values place → IsSubadditiveList values
 all_pairs values place scale t symmetric h =
     two_least (IsSubadditivePair values) place (length values) t.place_below (mirrored_pair values)
     (turned_pair values place scale t symmetric)
     (λ a b c ab bc below total.
-    let row = h a (omega arith) in
     elim total [
-      | inl e ↦ row.0 b c ab bc below e
+      | inl e ↦ h.0 a (omega arith) b c ab bc below e
       | inr other ↦ elim other [
-        | inl e ↦ row.1 b c ab bc below e
-        | inr e ↦ row.2 b c ab bc below e
+        | inl e ↦ h.1 a (omega arith) b c ab bc below e
+        | inr e ↦ h.2 a (omega arith) b c ab bc below e
       ]
     ])
+
+-- so the totals decide
+pub totals_decide : (values : List ℤ) (place : ℕ) (scale : ℤ) → IsTableInRange values place scale → IsSymmetricList values place scale →
+    HasSubadditiveTotals values place ↔ IsSubadditiveList values
+totals_decide values place scale t symmetric = (
+  all_pairs values place scale t symmetric,
+  λ all. (
+    λ i i_below j k from next below total. all i j i_below (omega arith),
+    λ i i_below j k from next below total. all i j i_below (omega arith),
+    λ i i_below j k from next below total. all i j i_below (omega arith),
+  ),
+)
 
 -- the pairs of indices below the length give all pairs
 subadditive_everywhere : (values : List ℤ) → 0 < length values → IsSubadditiveList values → (i j : ℕ) → IsSubadditivePair values i j
@@ -243,9 +272,21 @@ value_fits values place scale bound i x t fits is =
       omega (arith, ints),
     )
 
--- the entries are the values at the indices below n
+-- the entries at the indices below n are the values there
+abbrev pub AgreeBelow : {E : Type 0} → (E → ℤ) → List E → List ℤ → ℕ → Type 0
+AgreeBelow {E} number entries values n = (i : ℕ) → i < n → (e : E) → number (get_or entries i e) ≡ at values i
+
+-- and there are no others
 abbrev pub AreEntriesBelow : {E : Type 0} → (E → ℤ) → List E → List ℤ → ℕ → Type 0
-AreEntriesBelow {E} number entries values n = (length entries ≡ n) × ((i : ℕ) → i < n → (e : E) → number (get_or entries i e) ≡ at values i)
+AreEntriesBelow number entries values n = (length entries ≡ n) × AgreeBelow number entries values n
+
+-- one entry more is written
+pub one_more_written : {E : Type 0} (number : E → ℤ) (entries : List E) (values : List ℤ) (n : ℕ) (entry : E) → n < length entries →
+    number entry ≡ at values n → AgreeBelow number entries values n → AgreeBelow number (set entries n entry) values (n + 1)
+one_more_written {E} number entries values n entry within is h =
+    below_more (λ i. (e : E) → number (get_or (set entries n entry) i e) ≡ at values i) n
+    (λ i below e. let other : i ≢ n = omega arith in ap number (get_or-set_other entries n i entry e other) ∙ h i below e)
+    (λ e. ap number (get_or-set_same entries n entry e within) ∙ is)
 
 -- one entry more
 pub one_more_entry : {E : Type 0} (number : E → ℤ) (entries more : List E) (values : List ℤ) (n : ℕ) (entry : E) →

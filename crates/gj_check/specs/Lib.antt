@@ -10,3 +10,4 @@ pub mod Tables
 pub mod CoverLines
 pub mod HalvesRules
 pub mod GroupRules
+pub mod Numerators

@@ -26,18 +26,27 @@ abbrev pub IsSubadditiveUpTo : List ℤ → ℕ → ℕ → Type 0
 IsSubadditiveUpTo values total i =
     (j k : ℕ) → i ≤ j → j ≤ k → k < length values → i + j + k ≡ total → IsSubadditivePair values i j
 
--- for each j from i on where the third index with which they add up to the place, modulo the length, is no less than j
-abbrev pub IsSubadditiveAhead : List ℤ → ℕ → ℕ → Type 0
-IsSubadditiveAhead values place i =
-    IsSubadditiveUpTo values place i × IsSubadditiveUpTo values (place + length values) i
-    × IsSubadditiveUpTo values (place + 2 * length values) i
+-- for each i
+abbrev pub HasSubadditiveTotal : List ℤ → ℕ → Type 0
+HasSubadditiveTotal values total = (i : ℕ) → i < length values → IsSubadditiveUpTo values total i
+
+-- for each total of three indices that is the place modulo the length
+abbrev pub HasSubadditiveTotals : List ℤ → ℕ → Type 0
+HasSubadditiveTotals values place =
+    HasSubadditiveTotal values place × HasSubadditiveTotal values (place + length values)
+    × HasSubadditiveTotal values (place + 2 * length values)
 
 -- for all i and j
 abbrev pub IsSubadditiveList : List ℤ → Type 0
 IsSubadditiveList values = (i j : ℕ) → i < length values → j < length values → IsSubadditivePair values i j
 
--- the entries are the values of two periods, none of them negative
+-- there are entries of two periods of n numbers, none of them negative
+pub record HaveTwoPeriods {E : Type 0} (number : E → ℤ) (entries : List E) (n : ℕ) : Type 0 where
+  pub room : 2 * n ≤ length entries
+  pub low : (i : ℕ) (e : E) → i < 2 * n → pos 0 ≤ℤ number (slice_index_or entries i e)
+
+-- the first entries are the values of two periods, none of them negative
 pub record AreTwoPeriods {E : Type 0} (number : E → ℤ) (entries : List E) (values : List ℤ) : Type 0 where
-  pub count : length entries ≡ 2 * length values
+  pub room : 2 * length values ≤ length entries
   pub same : (i : ℕ) (e : E) → i < 2 * length values → number (slice_index_or entries i e) ≡ at values i
   pub low : (i : ℕ) → pos 0 ≤ℤ at values i

@@ -40,10 +40,6 @@ IsSubadditive f = (a b : ℕ) → a < f.order → b < f.order → IsSubadditiveA
 abbrev pub IsSubadditiveVertex : FunctionData → ℕ → ℕ → Type 0
 IsSubadditiveVertex f a b = Passes f (subadditive_at Vertex a b 0)
 
--- for each b from a on
-abbrev pub HasSubadditiveVertices : FunctionData → ℕ → Type 0
-HasSubadditiveVertices f a = (b : ℕ) → a ≤ b → b < f.order → IsSubadditiveVertex f a b
-
 -- for all a and b
 abbrev pub IsSubadditiveOnGrid : FunctionData → Type 0
 IsSubadditiveOnGrid f = (a b : ℕ) → a < f.order → b < f.order → IsSubadditiveVertex f a b

@@ -1,4 +1,4 @@
-//! Numbers of three widths, in which the values of a table are kept: the fewer bits, the faster the tests.
+//! Numbers of four widths, in which the values of a table are kept: the fewer bits, the faster the tests.
 ghost use Rattle.std.specs.Prelude.{ℕ, ℤ, pos, ◌≡◌, ◌↔◌, ◌^◌, ◌-ℤ◌, ◌<ℤ◌, ◌≤ℤ◌, IsTrue};
 ghost use Rattle.std.specs.Int.{int_max};
 
@@ -25,6 +25,24 @@ pub(crate) trait Entry: Copy {
     /// Whether this is no greater than the other.
     fn is_at_most(self, other: Self) -> bool
         ensures { IsTrue result ↔ (number self ≤ℤ number other) };
+}
+
+impl Entry for i16 {
+    ghost number = { λ n. n };
+
+    ghost bound = { 2 ^ 15 };
+
+    fn of(value: i128) -> i16 {
+        value as i16
+    }
+
+    fn max_rise(self, from: i16, to: i16) -> i16 {
+        self.max(to - from)
+    }
+
+    fn is_at_most(self, other: i16) -> bool {
+        self <= other
+    }
 }
 
 impl Entry for i32 {

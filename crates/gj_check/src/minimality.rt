@@ -1,14 +1,22 @@
 //! The rule `minimal`: all tests of minimality of a function.
-ghost use Rattle.std.specs.Prelude.{◌<◌, ◌↔◌, IsTrue};
+ghost use Rattle.std.specs.Prelude.{◌≡◌, ◌+◌, ◌<◌, ◌≤◌, ◌↔◌, IsTrue, length};
+ghost use Rattle.gj_shape.specs.FunctionData.{IsWithinBounds};
 ghost use Rattle.gj_shape.specs.FirstViolation.{Passes, PassesAll};
-ghost use Rattle.gj_shape.specs.FirstViolation.Test.{zero_at_zero, symmetric_at, symmetric_between};
+ghost use Rattle.gj_shape.specs.FirstViolation.Test.{zero_at_zero};
 ghost use Rattle.gj_theory.specs.EarlierTests.{PassesSymmetry};
 ghost use Rattle.gj_check.specs.Tests.{IsNonnegative, IsSymmetric, IsSubadditiveOnGrid, IsSubadditive};
+ghost use Rattle.gj_check.specs.Numerators.{HasNoNegative, AreSmall, AreOpposite, AreOppositeBetween};
 ghost use Rattle.gj_check.specs.Lanes.{AreLanesOf};
+ghost use Rattle.gj_check.specs.Tables.{AreTwoPeriods};
 
-use crate::pieces::{Piece, adds_up};
+use crate::entries::Entry;
+use crate::pieces::{adds_up, wrapped};
 use crate::squares::Lanes;
+use crate::tables::has_subadditive_totals;
 use gj_shape::Shape;
+
+/// How many entries there are: those of two periods, since the order is at most 1,000.
+const COUNT: usize = 2_000;
 
 /// Whether all tests of minimality pass. It takes no memory.
 pub(crate) fn is_minimal(shape: &Shape) -> bool
@@ -37,8 +45,22 @@ fn is_zero_at_zero(shape: &Shape) -> bool
 fn is_nonnegative(shape: &Shape) -> bool
     ensures { IsTrue result ↔ IsNonnegative shape.now }
 {
-    for i in 0..shape.order() as usize {
-        if !Piece::at(shape, i).is_nonnegative() {
+    if !has_no_negative(shape.value_numerators()) {
+        return false;
+    }
+    if !has_no_negative(shape.right_numerators()) {
+        return false;
+    }
+    has_no_negative(shape.left_numerators())
+}
+
+/// Whether none of the numbers is negative.
+fn has_no_negative(numbers: &[i64]) -> bool
+    requires { AreSmall numbers.now }
+    ensures { IsTrue result ↔ HasNoNegative numbers.now }
+{
+    for i in 0..numbers.len() {
+        if numbers[i] < 0 {
             return false;
         }
     }
@@ -49,36 +71,59 @@ fn is_nonnegative(shape: &Shape) -> bool
 fn is_symmetric(shape: &Shape) -> bool
     ensures { IsTrue result ↔ IsSymmetric shape.now }
 {
-    for i in 0..shape.order() as usize {
-        if !is_symmetric_at(shape, i) || !is_symmetric_after(shape, i) {
-            return false;
-        }
-    }
-    true
-}
-
-/// Whether the values at i/q and f - i/q add up to 1.
-fn is_symmetric_at(shape: &Shape, i: usize) -> bool
-    requires { i < shape.now.order }
-    ensures { IsTrue result ↔ Passes shape.now (symmetric_at i) }
-{
-    let opposite = shape.place() as usize + (shape.order() as usize - i);
+    let place = shape.place() as usize;
     let total = shape.common_denominator() as i64;
-    adds_up(
-        Piece::at(shape, i).value,
-        Piece::at(shape, opposite).value,
+    let values = shape.value_numerators();
+    if !are_opposite(values, values, place, total) {
+        return false;
+    }
+    are_opposite(
+        shape.right_numerators(),
+        shape.left_numerators(),
+        place,
         total,
     )
 }
 
-/// Whether the limits at both ends of the open interval from i/q add up to 1 with those of the opposite interval.
-fn is_symmetric_after(shape: &Shape, i: usize) -> bool
-    requires { i < shape.now.order }
-    ensures { IsTrue result ↔ Passes shape.now (symmetric_between i) }
+/// Whether each of the numbers adds up to the total with that of the others at the place less its index, modulo their count.
+fn are_opposite(numbers: &[i64], others: &[i64], place: usize, total: i64) -> bool
+    requires count { length others.now ≡ length numbers.now }
+    requires few { length numbers.now ≤ 1000 }
+    requires place { place < length numbers.now }
+    requires numbers { AreSmall numbers.now }
+    requires others { AreSmall others.now }
+    ensures { IsTrue result ↔ AreOpposite numbers.now others.now place total }
 {
-    let opposite = shape.place() as usize + (shape.order() as usize - (i + 1));
-    let total = shape.common_denominator() as i64;
-    Piece::at(shape, i).is_opposite(Piece::at(shape, opposite), total)
+    let count = numbers.len();
+    if !are_opposite_between(numbers, others, 0, place + 1, place, total) {
+        return false;
+    }
+    are_opposite_between(numbers, others, place + 1, count, place + count, total)
+}
+
+/// Whether each of the numbers from an index up to another adds up to the total with that of the others whose index makes up the sum.
+fn are_opposite_between(
+    numbers: &[i64],
+    others: &[i64],
+    from: usize,
+    end: usize,
+    sum: usize,
+    total: i64,
+) -> bool
+    requires few { sum ≤ 2000 }
+    requires end { end ≤ length numbers.now }
+    requires low { end ≤ sum + 1 }
+    requires high { sum < from + length others.now }
+    requires numbers { AreSmall numbers.now }
+    requires others { AreSmall others.now }
+    ensures { IsTrue result ↔ AreOppositeBetween numbers.now others.now from end sum total }
+{
+    for i in from..end {
+        if !adds_up(numbers[i], others[sum - i], total) {
+            return false;
+        }
+    }
+    true
 }
 
 /// Whether no limit of the slack is negative in any square. Those of a continuous function are slacks at grid points.
@@ -86,24 +131,47 @@ fn is_subadditive(shape: &Shape) -> bool
     requires { PassesSymmetry shape.now }
     ensures { IsTrue result ↔ IsSubadditive shape.now }
 {
-    let lanes = Lanes::of(shape);
     if shape.is_continuous() {
-        return is_subadditive_on_grid(shape, &lanes);
+        return is_subadditive_on_grid(shape);
     }
-    is_subadditive_between(shape, &lanes)
+    is_subadditive_between(shape, &Lanes::of(shape))
 }
 
-/// Whether no slack at grid points is negative. The slack is the same if the two points change places, so half of the pairs are tested.
-fn is_subadditive_on_grid(shape: &Shape, lanes: &Lanes) -> bool
-    requires { AreLanesOf shape.now lanes.now }
+/// Whether no slack at grid points is negative, over entries of the fewest bits that serve.
+fn is_subadditive_on_grid(shape: &Shape) -> bool
+    requires { PassesSymmetry shape.now }
+    ensures grid { IsTrue result ↔ IsSubadditiveOnGrid shape.now }
+    ensures limits { IsWithinBounds shape.now }
+{
+    if shape.common_denominator() <= i128::from(i16::MAX) {
+        return is_subadditive_in(shape, &mut [0i16; COUNT]);
+    }
+    is_subadditive_in(shape, &mut [0i32; COUNT])
+}
+
+/// The same over entries of one width, in which the common denominator fits: these are written over.
+fn is_subadditive_in<E: Entry>(shape: &Shape, entries: &mut [E]) -> bool
+    requires symmetric { PassesSymmetry shape.now }
+    requires room { length entries.old ≡ 2000 }
+    requires fits { shape.now.scale < E.bound }
     ensures { IsTrue result ↔ IsSubadditiveOnGrid shape.now }
 {
-    for a in 0..shape.order() as usize {
-        if !lanes.has_subadditive_vertices(shape, a) {
-            return false;
-        }
+    write_two_periods(shape, entries);
+    has_subadditive_totals(entries, shape.order() as usize, shape.place() as usize)
+}
+
+/// Writes the values of two periods.
+fn write_two_periods<E: Entry>(shape: &Shape, entries: &mut [E])
+    requires symmetric { PassesSymmetry shape.now }
+    requires room { length entries.old ≡ 2000 }
+    requires fits { shape.now.scale < E.bound }
+    ensures { AreTwoPeriods E.number entries.new shape.now.value }
+{
+    let values = shape.value_numerators();
+    let order = values.len();
+    for i in 0..2 * order {
+        entries[i] = E::of(i128::from(values[wrapped(i, order)]));
     }
-    true
 }
 
 /// Whether no limit of the slack is negative in any square. The squares (a, b) and (b, a) have the same limits, so half are tested.

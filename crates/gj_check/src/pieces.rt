@@ -18,7 +18,7 @@ pub(crate) struct Piece {
 }
 
 impl Piece {
-    ghost use Rattle.gj_check.specs.Pieces.{IsPieceAt, IsNonnegativePiece, AreOpposite};
+    ghost use Rattle.gj_check.specs.Pieces.{IsPieceAt};
 
     /// The piece from i/q on, where i is below twice the order.
     pub(crate) fn at(shape: &Shape, i: usize) -> Piece
@@ -33,20 +33,6 @@ impl Piece {
             right: shape.right_numerators()[here],
             left: shape.left_numerators()[next],
         }
-    }
-
-    /// Whether no number of the piece is negative.
-    pub(crate) fn is_nonnegative(self) -> bool
-        ensures { IsTrue result ↔ IsNonnegativePiece self }
-    {
-        self.value >= 0 && self.right >= 0 && self.left >= 0
-    }
-
-    /// Whether the limits at the ends of the piece add up to the total with those at the other ends of the other.
-    pub(crate) fn is_opposite(self, other: Piece, total: i64) -> bool
-        ensures { IsTrue result ↔ AreOpposite self other total }
-    {
-        adds_up(self.right, other.left, total) && adds_up(self.left, other.right, total)
     }
 }
 

@@ -2,7 +2,7 @@
 ghost use Rattle.std.specs.Prelude.{◌≡◌, ◌<◌, ◌≤◌, ◌↔◌, IsTrue};
 ghost use Rattle.gj_shape.specs.FunctionData.{IsWithinBounds};
 ghost use Rattle.gj_theory.specs.EarlierTests.{PassesSymmetry};
-ghost use Rattle.gj_check.specs.Tests.{IsSubadditiveRow, HasSubadditiveVertices};
+ghost use Rattle.gj_check.specs.Tests.{IsSubadditiveRow};
 
 use crate::pieces::Piece;
 use gj_shape::Shape;
@@ -41,21 +41,6 @@ impl Lanes {
             left[i] = piece.left as u32;
         }
         Lanes { value, right, left }
-    }
-
-    /// Whether no slack at (a/q, b/q) is negative, for each b from a on.
-    pub(crate) fn has_subadditive_vertices(&self, shape: &Shape, a: usize) -> bool
-        requires lanes { AreLanesOf shape.now self.now }
-        requires within { a < shape.now.order }
-        ensures { IsTrue result ↔ HasSubadditiveVertices shape.now a }
-    {
-        let order = shape.order() as usize;
-        let mut excess = 0u32;
-        for b in a..order {
-            let total = self.value[a] + self.value[b];
-            excess = excess.max(self.value[a + b].saturating_sub(total));
-        }
-        excess == 0
     }
 
     /// Whether no limit of the slack is negative in any square (a, b) with b from a on.

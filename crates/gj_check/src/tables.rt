@@ -1,8 +1,8 @@
 //! Minimal tables: the tests of the values of one period.
-ghost use Rattle.std.specs.Prelude.{pos, ◌≡◌, ◌↔◌, ◌*◌, ◌<◌, ◌≤◌, ◌^◌, ◌<ℤ◌, IsTrue, IfOk, length, unsigned_abs};
+ghost use Rattle.std.specs.Prelude.{ℤ, List, pos, ◌≡◌, ◌↔◌, ◌+◌, ◌*◌, ◌<◌, ◌≤◌, ◌^◌, ◌<ℤ◌, IsTrue, IfOk, length, unsigned_abs};
 ghost use Rattle.gj_shape.specs.FunctionData.{at};
 ghost use Rattle.gj_shape.specs.Table.{IsMinimalTable};
-ghost use Rattle.gj_check.specs.Tables.{IsTableInRange, IsSymmetricList, IsSubadditiveUpTo, IsSubadditiveAhead, IsSubadditiveList, AreTwoPeriods};
+ghost use Rattle.gj_check.specs.Tables.{IsTableInRange, IsSymmetricList, IsSubadditiveUpTo, IsSubadditiveList, HasSubadditiveTotal, HasSubadditiveTotals, HaveTwoPeriods, AreTwoPeriods};
 
 use crate::entries::Entry;
 use crate::pieces::wrapped;
@@ -54,6 +54,9 @@ fn is_subadditive_list(
     requires symmetric { IsSymmetricList values.now place scale }
     ensures { IfOk result (λ all. IsTrue all ↔ IsSubadditiveList values.now) }
 {
+    if scale <= i128::from(i16::MAX) {
+        return is_subadditive_over::<i16>(alloc, values, place, scale);
+    }
     if scale <= i128::from(i32::MAX) {
         return is_subadditive_over::<i32>(alloc, values, place, scale);
     }
@@ -63,8 +66,7 @@ fn is_subadditive_list(
     is_subadditive_over::<i128>(alloc, values, place, scale)
 }
 
-/// The same over entries of one width, in which the scale fits. Of three indices that add up to the place modulo the length the
-/// pairs of any two pass or fail together, since the values are symmetric: only that of the two least is tried.
+/// The same over entries of one width, in which the scale fits.
 fn is_subadditive_over<E: Entry>(
     alloc: Global,
     values: &[i128],
@@ -77,13 +79,7 @@ fn is_subadditive_over<E: Entry>(
     ensures { IfOk result (λ all. IsTrue all ↔ IsSubadditiveList values.now) }
 {
     let periods = two_periods::<E>(alloc, values, place, scale)?;
-    let entries = periods.as_slice();
-    for i in 0..values.len() {
-        if !is_subadditive_row(values, entries, place, i) {
-            return Ok(false);
-        }
-    }
-    Ok(true)
+    Ok(has_subadditive_totals(periods.as_slice(), values.len(), place))
 }
 
 /// The values of two periods as entries.
@@ -105,35 +101,55 @@ fn two_periods<E: Entry>(
     Ok(entries)
 }
 
-/// Whether the pairs (i, j) pass that are tried in the row: those where i is the least of the three indices and j the next.
-fn is_subadditive_row<E: Entry>(values: &[i128], entries: &[E], place: usize, i: usize) -> bool
-    requires periods { AreTwoPeriods E.number entries.now values.now }
-    requires few { length values.now ≤ 4000 }
-    requires place { place < length values.now }
-    requires within { i < length values.now }
-    ensures { IsTrue result ↔ IsSubadditiveAhead values.now place i }
+/// Whether the pairs pass that are tried, by the entries of two periods of so many values. Of three indices that add up to the place
+/// modulo their number the pairs of any two pass or fail together, if the values are symmetric: only that of the two least is tried.
+pub(crate) fn has_subadditive_totals<E: Entry>(entries: &[E], count: usize, place: usize) -> bool
+    requires periods { HaveTwoPeriods E.number entries.now count }
+    requires few { count ≤ 4000 }
+    requires place { place < count }
+    ensures { (values : List ℤ) → length values ≡ count → AreTwoPeriods E.number entries.now values
+        → IsTrue result ↔ HasSubadditiveTotals values place }
 {
-    let n = values.len();
-    if !is_subadditive_part(values, entries, place, i) {
+    if !has_subadditive_total(entries, count, place) {
         return false;
     }
-    if !is_subadditive_part(values, entries, place + n, i) {
+    if !has_subadditive_total(entries, count, place + count) {
         return false;
     }
-    is_subadditive_part(values, entries, place + 2 * n, i)
+    has_subadditive_total(entries, count, place + 2 * count)
 }
 
-/// The same of the indices with this total: no rise from a value to that at the sum is above the value at i.
-fn is_subadditive_part<E: Entry>(values: &[i128], entries: &[E], total: usize, i: usize) -> bool
-    requires periods { AreTwoPeriods E.number entries.now values.now }
-    requires few { length values.now ≤ 4000 }
+/// The same for three indices with this total. The least of them, i, is at most a third of it, and the others are below the count.
+fn has_subadditive_total<E: Entry>(entries: &[E], count: usize, total: usize) -> bool
+    requires periods { HaveTwoPeriods E.number entries.now count }
+    requires few { count ≤ 4000 }
     requires total { total < 12000 }
-    requires within { i < length values.now }
-    ensures { IsTrue result ↔ IsSubadditiveUpTo values.now total i }
+    ensures { (values : List ℤ) → length values ≡ count → AreTwoPeriods E.number entries.now values
+        → IsTrue result ↔ HasSubadditiveTotal values total }
 {
-    let n = values.len();
-    let from = i.max((total + 1).saturating_sub(i + n));
-    let end = n.min((total + 2).saturating_sub(i) / 2);
+    let from = (total + 2).saturating_sub(2 * count);
+    let end = count.min(total / 3 + 1);
+    for i in from..end {
+        if !is_subadditive_part(entries, count, total, i) {
+            return false;
+        }
+    }
+    true
+}
+
+/// The same for one i as the least of the three: no rise from a value to that at the sum is above the value at i.
+fn is_subadditive_part<E: Entry>(entries: &[E], count: usize, total: usize, i: usize) -> bool
+    requires periods { HaveTwoPeriods E.number entries.now count }
+    requires few { count ≤ 4000 }
+    requires total { total < 12000 }
+    requires within { i < count }
+    requires least { 3 * i ≤ total }
+    requires greatest { total + 2 ≤ i + 2 * count }
+    ensures { (values : List ℤ) → length values ≡ count → AreTwoPeriods E.number entries.now values
+        → IsTrue result ↔ IsSubadditiveUpTo values total i }
+{
+    let from = i.max((total + 1).saturating_sub(i + count));
+    let end = (total + 2 - i) / 2;
     let first = entries[i];
     let mut rise = first;
     for j in from..end {

@@ -1,16 +1,17 @@
-use Rattle.std.proofs.Common.{refl, below_more, arith}
-use Rattle.gj_check.specs.Tables.{IsSubadditiveAhead}
-use Rattle.gj_check.proofs.TableTests.{all_pairs}
+use Rattle.std.proofs.Common.{refl, sym, subst}
+use Rattle.gj_check.specs.Tables.{AreTwoPeriods}
+use Rattle.gj_check.proofs.TestsInTurn.{in_other_words}
+use Rattle.gj_check.proofs.TableTests.{have_periods, totals_decide}
 use Rattle.gj_check.proofs.tables.is_subadditive_over.Goals as goal
 
-pub returns : goal.returns
-returns g c = (
-  λ _. all_pairs c.args.values.now c.args.place c.args.scale c.requires.table c.requires.symmetric
-      (λ i below. c.loop-i.invariant i (omega arith)),
-  λ _. refl,
-)
+pub has_subadditive_totals-requires-clause-periods : goal.has_subadditive_totals-requires-clause-periods
+has_subadditive_totals-requires-clause-periods g c =
+    have_periods g.E.Entry.number _ c.args.values.now
+    (subst (λ xs. AreTwoPeriods g.E.Entry.number xs c.args.values.now) (sym c.as_slice.ensures.value) c.in_ok-periods.ensures)
 
-pub loop-i-preserved : goal.loop-i-preserved
-loop-i-preserved g c =
-    below_more (IsSubadditiveAhead c.args.values.now c.args.place) _ c.loop-i.invariant
-    (c.is_subadditive_row.ensures.0 c.if-not-is_subadditive_row.false)
+pub returns : goal.returns
+returns g c =
+    let values = c.args.values.now in
+    let periods = subst (λ xs. AreTwoPeriods g.E.Entry.number xs values) (sym c.as_slice.ensures.value) c.in_ok-periods.ensures in
+    in_other_words _ _ _ (c.has_subadditive_totals.ensures values refl periods)
+    (totals_decide values c.args.place c.args.scale c.requires.table c.requires.symmetric)
