@@ -1,26 +1,17 @@
 -- The tests of signs and of symmetry, by the lists of a function.
 use Rattle.std.proofs.lemmas.Bool.{cases_lt}
-use Rattle.std.proofs.Common.{◌≤◌, inl, inr, ◌≡◌, ◌↔◌, ℕ, zero, suc, ◌+◌, ◌-◌, ◌%◌, ◌<◌, ◌^◌, ℤ, pos, ◌+ℤ◌, ◌≤ℤ◌, List, length, get_or, unsigned_abs, Bool, IsTrue, to_z, of_z, w64, refl, ap, sym, subst, ◌∙◌, arith}
+use Rattle.std.proofs.Common.{◌≤◌, inl, inr, ◌≡◌, ◌↔◌, ℕ, ◌+◌, ◌-◌, ◌%◌, ◌<◌, ◌^◌, ℤ, pos, ◌+ℤ◌, ◌≤ℤ◌, List, length, get_or, unsigned_abs, Bool, IsTrue, to_z, of_z, w64, refl, ap, sym, subst, ◌∙◌, arith}
 use Rattle.std.proofs.lemmas.Int.{ints}
 use Rattle.std.proofs.Math.Nat.{add-mod_right, mod-lt}
 use Rattle.gj_shape.specs.FunctionData.{FunctionData, IsWithinBounds, at}
 use Rattle.gj_shape.proofs.AtLemmas.{at_below, at_wrapped, at_plus_length}
 use Rattle.gj_shape.proofs.NumeratorReadings.{small_read, left_below, value_below, right_below}
 use Rattle.gj_theory.proofs.Everywhere.{at_same, everywhere, opposite_index}
+use Rattle.gj_theory.proofs.Lanes.{each_below}
 use Rattle.gj_check.specs.Tests.{IsNonnegative, IsSymmetric}
 use Rattle.gj_check.specs.Numerators.{HasNoNegative, AreSmall, AreOpposite, AreOppositeBetween}
 
 -- ---- signs
-
--- what holds of each entry one further on than an index below the length
-each_below : (P : ℤ → Type 0) (xs : List ℤ) (n : ℕ) → length xs ≡ n → ((i : ℕ) → i < n → P (at xs (i + 1))) →
-    (i : ℕ) → i < n → P (at xs i)
-each_below P xs n len h zero below =
-    let last : n - 1 + 1 ≡ 0 + length xs = omega arith in
-    subst P (ap (at xs) last ∙ at_plus_length xs 0) (h (n - 1) (omega arith))
-each_below P xs n len h (suc i) below =
-    let next : i + 1 ≡ suc i = omega arith in
-    subst P (ap (at xs) next) (h i (omega arith))
 
 -- no value and no limit is negative if no entry of the lists is
 pub signs_of_lists : (f : FunctionData) → IsWithinBounds f →

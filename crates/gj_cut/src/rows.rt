@@ -22,6 +22,11 @@ use std::alloc::{AllocError, Global};
 /// It is `Integral` exactly if the right side is whole, and `OtherFraction` exactly if it is not and its
 /// fractional part is not the rule's f. The right side and the entries are at most 2^31 in absolute value and have a
 /// common denominator of at most 2^31 - 1. The only error is want of memory.
+///
+/// ```text
+/// let rule = Rule::new(RuleKind::Table(shape), |x| table_value(&function, x));
+/// let cut = cut_row(alloc, &rule, &row)?; // RowCut::Cut(terms), Integral or OtherFraction
+/// ```
 pub fn cut_row<E: Evaluator>(alloc: Global, rule: &Rule<E>, row: &Row) -> Result<RowCut, AllocError>
     requires { AreWithinLimits (numbers_of row.now) }
     ensures cut { IfOk result (IsCutOf E.answers rule.now row.now) }
@@ -41,6 +46,12 @@ pub fn cut_row<E: Evaluator>(alloc: Global, rule: &Rule<E>, row: &Row) -> Result
 ///
 /// It is `Integral` exactly if the right side is whole, and never `OtherFraction`. The limits are those of
 /// [`cut_row`], and the only error is want of memory.
+///
+/// ```text
+/// let tableau = Tableau::read(alloc, b"basic,rhs,x1,x2\nx0,8/5,7/5,-1/5\n")?;
+/// let cut = gmic_cut_row(alloc, &tableau.rows.as_slice()[0])?;
+/// // f is 3/5; the terms are those of the columns 0 and 1, with the coefficients 2/3 and 1/2: 2/3 x1 + 1/2 x2 >= 1
+/// ```
 pub fn gmic_cut_row(alloc: Global, row: &Row) -> Result<RowCut, AllocError>
     requires { AreWithinLimits (numbers_of row.now) }
     ensures cut { IfOk result (IsGmicCutOf row.now) }

@@ -11,7 +11,7 @@ use Rattle.gj_tools.proofs.Integers.{unsigned_abs-mul, mul_cancel_left_z, mul_su
 use Rattle.gj_tools.proofs.Ring.{by_ring, ring}
 use Rattle.gj_shape.specs.Elimination.{at_column, gcd_of_row, divided, scaled, differences, eliminated, reduced, marked_in_step, row_factor, kept_factor, kept_entries, Passes}
 use Rattle.gj_frac.specs.Fraction.{Fits}
-use Rattle.gj_theory.proofs.Entries.{at_scaled, at_differences}
+use Rattle.gj_theory.proofs.Entries.{at_scaled, at_differences, at_eliminated}
 use Rattle.gj_theory.proofs.RowSums.{scaled_quotients, divided_some, divided_times, zero_or_not}
 use Rattle.gj_theory.proofs.Steps.{row_factor_times, kept_factor_times, length-differences, length-eliminated}
 use Rattle.gj_theory.proofs.Passing.{either_passes, none_pass}
@@ -196,15 +196,6 @@ below_multiple m x y some e fits =
     let size : unsigned_abs y ≡ m * unsigned_abs x = ap unsigned_abs e ∙ unsigned_abs-mul (pos m) x in
     let more : 1 * unsigned_abs x ≤ m * unsigned_abs x = mul-le-mul_right (unsigned_abs x) some in
     omega arith
-
-at_eliminated : (kept row : List ℤ) (c i : ℕ) → length kept ≡ length row →
-    at_column (eliminated kept row c) i
-    ≡ row_factor kept row c *ℤ at_column row i -ℤ kept_factor kept row c *ℤ at_column kept i
-unfolding eliminated
-at_eliminated kept row c i e =
-    at_differences (scaled (row_factor kept row c) row) (scaled (kept_factor kept row c) kept) i
-    (length-map row (λ x. row_factor kept row c *ℤ x) ∙ sym e ∙ sym (length-map kept (λ y. kept_factor kept row c *ℤ y)))
-    ∙ ap₂ (λ a b. a -ℤ b) (at_scaled (row_factor kept row c) row i) (at_scaled (kept_factor kept row c) kept i)
 
 pub lazy_step : (kept other row next : List ℤ) (c : ℕ) (u w : ℤ) → IsMultiple other row → length kept ≡ length row →
     pos 0 <ℤ at_column kept c → AreLazyFactors (at_column kept c) (at_column row c) u w → AreNarrow u w row kept →

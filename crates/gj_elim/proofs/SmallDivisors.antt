@@ -143,9 +143,6 @@ pub record IsBoundTo (row : List ℤ) (i bound : ℕ) : Type 0 where
   pub is : (k : ℕ) → k < i → unsigned_abs (at_column row k) ≤ bound
   pub low : bound < 2 ^ 63
 
-zero_at_most : (x : ℤ) (n : ℕ) → x ≡ pos 0 → unsigned_abs x ≤ n
-zero_at_most x n e = subst (λ (y : ℤ). unsigned_abs y ≤ n) (sym e) (omega arith)
-
 pub divided_extent : (row next : List ℤ) (from to bound : ℕ) → next ≡ divided row → IsZeroOutside from to row → to ≤ length row →
     ((k : ℕ) → unsigned_abs (at_column next k) ≤ bound) → IsExtent bound to next
 divided_extent row next from to bound is h within small = record {

@@ -18,6 +18,15 @@ use std::marker::Model;
 
 /// Rows of whole numbers, of which plain elimination keeps those that are needed. Contracts see how many columns they have, how
 /// many rows were inserted, and the kept rows.
+///
+/// ```rust
+/// let mut basis = Basis::new(alloc, 3)?;
+/// basis.insert(&[2, 4, 0])?; // kept, with its pivot in column 0
+/// basis.insert(&[3, 6, 0])?; // a multiple of it: not kept
+/// basis.insert(&[0, 0, 5])?; // kept, with its pivot in column 2
+/// let two = basis.rank(); // 2
+/// let numbers = basis.kernel()?; // some numbers that solve both kept rows: a multiple of -2, 1, 0
+/// ```
 #[derive(Drop)]
 pub struct Basis {
     alloc: Global,

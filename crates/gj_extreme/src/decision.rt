@@ -35,6 +35,12 @@ use std::alloc::Global;
 /// No function is known for which a number is too wide.
 /// A minimal continuous function with two slopes is always proved extreme, if there is memory (Gomory and Johnson 1972).
 /// Source: Basu, Hildebrand and Köppe, "Equivariant Perturbation in Gomory and Johnson's infinite group problem I".
+///
+/// ```rust
+/// let values = [Frac::ratio(0, 1), Frac::ratio(1, 3), Frac::ratio(2, 3), Frac::ratio(1, 1), Frac::ratio(1, 2)];
+/// let shape = Shape::new(alloc, 5, 3, &values, &values, &values)?; // the mixed-integer cut for f = 3/5
+/// let proof = decide(alloc, &shape)?; // proof.claim() is Claim::Extreme(..)
+/// ```
 pub fn decide(alloc: Global, shape: &Shape) -> Result<Proof, DecideFault>
     ensures decided { IfOk result (IsDecided shape.now) }
     ensures bounded { IfOk result IsBounded }

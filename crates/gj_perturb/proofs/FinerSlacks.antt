@@ -1,12 +1,12 @@
 -- The least positive slack on a finer grid, from those at the corners in lanes.
 use Rattle.std.proofs.Math.Nat.{mul-le-mul_left, mul-lt-mul_of_pos_left}
-use Rattle.std.proofs.Common.{◌≡◌, ℕ, zero, suc, ◌⊎◌, inl, inr, ◌+◌, ◌*◌, ◌<◌, ◌≤◌, ◌^◌, ℤ, pos, ◌+ℤ◌, ◌*ℤ◌, ◌<ℤ◌, ◌≤ℤ◌, List, [], ◌∷◌, ◌++◌, length, get_or, map, All, refl, sym, ap, subst, ◌∙◌, mul-pos, below_more, unsigned_abs, w64, to_z, of_z, arith}
+use Rattle.std.proofs.Common.{◌≡◌, ℕ, zero, suc, ◌⊎◌, inl, inr, ◌+◌, ◌*◌, ◌<◌, ◌≤◌, ◌^◌, ℤ, pos, ◌+ℤ◌, ◌*ℤ◌, ◌<ℤ◌, ◌≤ℤ◌, List, [], ◌∷◌, ◌++◌, length, get_or, map, All, refl, sym, ap, subst, ◌∙◌, mul-pos, below_more, arith}
 use Rattle.std.specs.List.{Contains}
 use Rattle.std.proofs.Math.ListN.{get_or-map, get_or-append}
 use Rattle.std.proofs.Math.Seq.{get_or-append_seam}
 use Rattle.std.proofs.lemmas.List.{length-map, length-append}
 use Rattle.std.proofs.lemmas.Bool.{cases_lt}
-use Rattle.std.proofs.lemmas.Int.{ints, to_z-of_z}
+use Rattle.std.proofs.lemmas.Int.{ints}
 use Rattle.std.proofs.lemmas.List.Elements.{All-map}
 use Rattle.gj_shape.specs.FunctionData.{FunctionData, IsWithinBounds, IsContinuous, at}
 use Rattle.gj_shape.specs.Faces.{limits_of}
@@ -21,7 +21,8 @@ use Rattle.gj_theory.proofs.Lanes.{IsLane}
 use Rattle.gj_theory.proofs.SlacksAndSizes.{least_slack}
 use Rattle.gj_perturb.specs.Lanes.{lane_slack, triangle, AreSubadditive, no_slack, IsAtCorner, IsBesideZero, AreLeast, IsInRows}
 use Rattle.gj_perturb.specs.Values.{AreTwoPeriods}
-use Rattle.gj_perturb.proofs.LaneSlacks.{three_of, slack_small}
+use Rattle.gj_perturb.proofs.LaneSlacks.{slack_small}
+use Rattle.gj_theory.proofs.CarriedSteps.{all_three}
 use Rattle.gj_perturb.proofs.TableParts.{has_least_slack, entry_at_most}
 
 -- ---- the lanes of a minimal function
@@ -124,7 +125,7 @@ down_contains xs (k, below, e) =
 
 triangle_small : (lanes : List ℕ) (n a b : ℕ) → AreSubadditive lanes n → a ≤ b → b < n → All (λ x. x < no_slack) (triangle lanes a b)
 triangle_small lanes n a b d from below =
-    three_of (λ x. x < no_slack) _ _ _ (slack_small lanes n a b d (omega arith) (omega arith))
+    all_three (λ x. x < no_slack) _ _ _ (slack_small lanes n a b d (omega arith) (omega arith))
     (slack_small lanes n (a + 1) b d (omega arith) (omega arith)) (slack_small lanes n a (b + 1) d (omega arith) (omega arith))
 
 below_corners : (lanes : List ℕ) (n m u any beside : ℕ) (a b : ℕ) → AreLeast lanes n (IsInRows n n) any beside → a ≤ b → b < n →

@@ -2,7 +2,7 @@
 use Rattle.std.proofs.Common.{◌≡◌, ◌≢◌, ℕ, zero, suc, ◌⊎◌, inl, inr, ◌+◌, ◌-◌, ◌*◌, ◌%◌, ◌<◌, ◌≤◌, ◌^◌, min, max, List, [], ◌∷◌, All, refl, sym, subst, ◌∙◌, arith}
 use Rattle.std.specs.List.{Contains}
 use Rattle.std.proofs.lemmas.Bool.{cases_lt}
-use Rattle.std.proofs.lemmas.List.Elements.{All-nil, All-cons}
+use Rattle.gj_theory.proofs.CarriedSteps.{all_three}
 use Rattle.gj_perturb.specs.Lanes.{lane_slack, triangle, AreSubadditive, no_slack, IsAtCorner, IsBesideZero, AreLeast, IsInRow, IsInRows}
 
 -- ---- the least of two choices of triangles
@@ -82,9 +82,6 @@ greatest_of x y z = elim (cases_lt x y) [
   | inr more ↦ elim (cases_lt x z) [ inl low ↦ inr (inr (omega arith)) | inr high ↦ inl (omega arith) ]
 ]
 
-pub three_of : (P : ℕ → Type 0) (x y z : ℕ) → P x → P y → P z → All P (x ∷ y ∷ z ∷ [])
-three_of P x y z p q r = All-cons P x (y ∷ z ∷ []) p (All-cons P y (z ∷ []) q (All-cons P z [] r (All-nil P)))
-
 -- a slack in the list that the lane stands for
 met_by : (xs : List ℕ) (s x least : ℕ) → Contains xs s → StandsFor s x → least ≡ x → (least ≡ no_slack) ⊎ Contains xs (least + 1)
 met_by xs zero x least here h e = let none = h.none refl in inl (omega arith)
@@ -122,7 +119,7 @@ module _ (s t r x y z least greatest chosen : ℕ)
   low : All (λ v. 0 < v → least < v) (s ∷ t ∷ r ∷ [])
   low =
       let least_is = h.least_is in
-      three_of (λ v. 0 < v → least < v) s t r (λ above. let e = first.some above in omega arith)
+      all_three (λ v. 0 < v → least < v) s t r (λ above. let e = first.some above in omega arith)
       (λ above. let e = second.some above in omega arith) (λ above. let e = third.some above in omega arith)
 
   -- where a slack is 0 the greatest lane is that of none
@@ -234,9 +231,6 @@ one_triangle lanes n i j least greatest chosen h i_below j_below d = record {
     third = stands_for r (let small = r_small in omega arith)
 
 -- ---- the loops
-
-pub no_square : (lanes : List ℕ) (n i : ℕ) → AreLeast lanes n (IsInRow i i) no_slack no_slack
-no_square lanes n i = nothing lanes n (IsInRow i i) (λ a b (e, from, below). omega arith)
 
 pub one_square_more : (lanes : List ℕ) (n i j x y x' y' : ℕ) → AreLeast lanes n (IsInRow i j) x y → AreLeast lanes n (IsSquare i j) x' y' →
     AreLeast lanes n (IsInRow i (j + 1)) (min x x') (min y y')

@@ -56,7 +56,8 @@ pub one_next : (xs : List Frac) (w : List ℕ) (x y : Frac) → SpellsNext xs w 
 one_next [] w x y h k = one_fraction Lenient w x y h k
 one_next (r ∷ xs) w x y h k = one_entry w x y h k
 
-one_each : {A B : Type 0} (R : A → B → Type 0) → ((a : A) (x y : B) → R a x → R a y → x ≡ y) → (us : List A) (xs ys : List B) →
+-- where each element has one partner, lists of partners are one
+pub one_each : {A B : Type 0} (R : A → B → Type 0) → ((a : A) (x y : B) → R a x → R a y → x ≡ y) → (us : List A) (xs ys : List B) →
     AllZip R us xs → AllZip R us ys → xs ≡ ys
 one_each R one [] [] [] h k = refl
 one_each R one [] [] (y ∷ ys) h k = absurd k

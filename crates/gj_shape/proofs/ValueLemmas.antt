@@ -26,7 +26,7 @@ congruent_to_remainder (negsuc a) p some =
     let below = mod-lt a some in
     (negsuc (a / p), omega (arith, ints))
 
-congruent_join : (i n j : ℤ) (p : ℕ) → IsCongruent i n p → IsCongruent n j p → IsCongruent i j p
+pub congruent_join : (i n j : ℤ) (p : ℕ) → IsCongruent i n p → IsCongruent n j p → IsCongruent i j p
 congruent_join i n j p (k, e) (l, g) =
     let both = add_mul_z k l (pos p) in
     (k +ℤ l, omega (arith, ints))

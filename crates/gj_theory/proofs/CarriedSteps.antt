@@ -22,7 +22,7 @@ all_of_any P Q xs all some = (some.1, subst P some.3 (all some.0 some.1 some.2),
 all_two : (P : ℕ → Type 0) (x y : ℕ) → P x → P y → All P (x ∷ y ∷ [])
 all_two P x y first second = All-cons P x (y ∷ []) first (All-cons P y [] second (All-nil P))
 
-all_three : (P : ℕ → Type 0) (x y z : ℕ) → P x → P y → P z → All P (x ∷ y ∷ z ∷ [])
+pub all_three : (P : ℕ → Type 0) (x y z : ℕ) → P x → P y → P z → All P (x ∷ y ∷ z ∷ [])
 all_three P x y z first second third = All-cons P x (y ∷ z ∷ []) first (all_two P y z second third)
 
 -- ---- intervals modulo the order

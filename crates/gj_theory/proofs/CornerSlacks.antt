@@ -22,7 +22,7 @@ use Rattle.gj_theory.proofs.MinimalFromTests.Place.{at_multiple, inside}
 
 -- ---- sums by weights above 0 of numbers that are not negative
 
-sum_nonnegative : (ws : List ℕ) (xs : List ℤ) → All (λ x. pos 0 ≤ℤ x) xs → pos 0 ≤ℤ weighted ws xs
+pub sum_nonnegative : (ws : List ℕ) (xs : List ℤ) → All (λ x. pos 0 ≤ℤ x) xs → pos 0 ≤ℤ weighted ws xs
 sum_nonnegative [] xs h = omega (arith, ints)
 sum_nonnegative (w ∷ ws) [] h = omega (arith, ints)
 sum_nonnegative (w ∷ ws) (x ∷ xs) h =
@@ -237,7 +237,7 @@ on_face f m u h Lower a b = h a b
 on_face f m u h Upper a b =
     from_pairs m u _ _ _ (last_two m u _ _ _ (h a b)) (outer_two m u _ _ _ (h (a + 1) b)) (first_two m u _ _ _ (h a (b + 1)))
 
-slack_low : (f : FunctionData) → IsMinimal f → (corner : ℕ × ℕ) → pos 0 ≤ℤ slack_at f corner
+pub slack_low : (f : FunctionData) → IsMinimal f → (corner : ℕ × ℕ) → pos 0 ≤ℤ slack_at f corner
 slack_low f h corner =
     let whole = (h 1 (omega arith)).subadditive corner.0 corner.1 in
     let value = table_of_order f in
@@ -264,13 +264,13 @@ face_low f m u c minimal m_some h kind a b ws some len whole i j e positive =
     let large = from_weights m u ws (limits_of f kind a b) m_some some (count ∙ len) whole low below above in
     omega (arith, ints)
 
-one_weight : (u : ℕ) → 0 < u → All (λ w. 0 < w) (u ∷ [])
+pub one_weight : (u : ℕ) → 0 < u → All (λ w. 0 < w) (u ∷ [])
 one_weight u u_some = All-cons (λ w. 0 < w) u [] u_some (All-nil (λ w. 0 < w))
 
-two_weights : (u v : ℕ) → 0 < u → 0 < v → All (λ w. 0 < w) (u ∷ v ∷ [])
+pub two_weights : (u v : ℕ) → 0 < u → 0 < v → All (λ w. 0 < w) (u ∷ v ∷ [])
 two_weights u v u_some v_some = All-cons (λ w. 0 < w) u (v ∷ []) u_some (one_weight v v_some)
 
-three_weights : (u v w : ℕ) → 0 < u → 0 < v → 0 < w → All (λ w. 0 < w) (u ∷ v ∷ w ∷ [])
+pub three_weights : (u v w : ℕ) → 0 < u → 0 < v → 0 < w → All (λ w. 0 < w) (u ∷ v ∷ w ∷ [])
 three_weights u v w u_some v_some w_some = All-cons (λ w. 0 < w) u (v ∷ w ∷ []) u_some (two_weights v w v_some w_some)
 
 low_inside : (f : FunctionData) (m u : ℕ) → IsContinuous f → IsMinimal f → Allows f m u → (i j a b r s : ℕ) →

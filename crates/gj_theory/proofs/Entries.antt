@@ -60,7 +60,7 @@ divided_at_negative row i h =
 
 -- ---- a row after a step
 
-at_eliminated : (kept row : List ℤ) (c i : ℕ) → length kept ≡ length row →
+pub at_eliminated : (kept row : List ℤ) (c i : ℕ) → length kept ≡ length row →
     at_column (eliminated kept row c) i
     ≡ row_factor kept row c *ℤ at_column row i -ℤ kept_factor kept row c *ℤ at_column kept i
 unfolding eliminated

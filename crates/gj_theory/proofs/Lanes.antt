@@ -21,7 +21,7 @@ use lib.Signed.{non_neg}
 -- ---- from 0 to the scale
 
 -- what holds of each entry one further on than an index below the length
-each_below : (P : ℤ → Type 0) (xs : List ℤ) (n : ℕ) → length xs ≡ n → ((i : ℕ) → i < n → P (at xs (i + 1))) →
+pub each_below : (P : ℤ → Type 0) (xs : List ℤ) (n : ℕ) → length xs ≡ n → ((i : ℕ) → i < n → P (at xs (i + 1))) →
     (i : ℕ) → i < n → P (at xs i)
 each_below P xs n len h zero below =
     let last : n - 1 + 1 ≡ 0 + length xs = omega arith in
@@ -113,12 +113,9 @@ one_more_lane P lanes i x within h p =
     below_more (λ k. P k (get_or (set lanes i x) k 0)) i
     (λ k below. let other : k ≢ i = omega arith in rw get_or-set_other (h k below)) (rw get_or-set_same p)
 
--- the sum of two fits 32 bits, and so does the lesser of two
+-- the sum of two fits 32 bits
 pub lane_sum : (x y : ℕ) → x < 2 ^ 31 → y < 2 ^ 31 → Fits w32 (x + y)
 lane_sum x y h k = omega arith
-
-pub lesser_lane : (x y m : ℕ) → m ≡ min x y → x < 2 ^ 31 → m < 2 ^ 31
-lesser_lane x y m e h = omega arith
 
 -- one number more
 pub one_more_number : (lanes : List ℕ) (number : ℕ → ℤ) (i : ℕ) (n : ℤ) → i < length lanes →

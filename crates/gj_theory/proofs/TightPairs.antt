@@ -12,21 +12,14 @@ use Rattle.gj_shape.specs.Faces.{corners_of, limits_of}
 use Rattle.gj_shape.specs.Table.{table, IsMinimal}
 use Rattle.gj_shape.specs.declared.faces.FaceKind.{FaceKind}
 use Rattle.gj_shape.specs.declared.faces.FaceKind.TheVariants.{Vertex, Horizontal, Vertical, Diagonal, Lower, Upper}
-use Rattle.gj_shape.proofs.TableLemmas.{table_of_order, slack_at, limits_are_slacks}
+use Rattle.gj_shape.proofs.TableLemmas.{slack_at, limits_are_slacks}
 use Rattle.gj_theory.specs.Steps.{IsAdditiveAtTight}
 use Rattle.gj_theory.proofs.Affine.{weighted, limit_count, slack_on_vertex, slack_on_horizontal, slack_on_vertical, slack_on_diagonal, slack_on_lower, slack_on_upper}
+use Rattle.gj_theory.proofs.CornerSlacks.{sum_nonnegative, slack_low, one_weight, two_weights, three_weights}
 use Rattle.gj_theory.proofs.MinimalFromTests.{Place, place_of}
 use Rattle.gj_theory.proofs.MinimalFromTests.Place.{at_multiple, inside}
 
 -- ---- weights above 0
-
-weighted_nonnegative : (ws : List ℕ) (xs : List ℤ) → All (λ x. pos 0 ≤ℤ x) xs → pos 0 ≤ℤ weighted ws xs
-weighted_nonnegative [] xs h = omega (arith, ints)
-weighted_nonnegative (w ∷ ws) [] h = omega (arith, ints)
-weighted_nonnegative (w ∷ ws) (x ∷ xs) h =
-    let first = mul_nonnegative_z (pos w) x (omega (arith, ints)) (All-head (λ y. pos 0 ≤ℤ y) x xs h) in
-    let rest = weighted_nonnegative ws xs (All-tail (λ y. pos 0 ≤ℤ y) x xs h) in
-    omega (arith, ints)
 
 -- numbers that are not negative are 0 if their sum is, each with a weight above 0
 zero_terms : (ws : List ℕ) (xs : List ℤ) → All (λ w. 0 < w) ws → length xs ≤ length ws →
@@ -37,7 +30,7 @@ zero_terms (w ∷ ws) (x ∷ xs) some long h e =
     let P = λ (y : ℤ). pos 0 ≤ℤ y in
     let w_some = All-head (λ v. 0 < v) w ws some in
     let first = mul_nonnegative_z (pos w) x (omega (arith, ints)) (All-head P x xs h) in
-    let rest = weighted_nonnegative ws xs (All-tail P x xs h) in
+    let rest = sum_nonnegative ws xs (All-tail P x xs h) in
     All-cons (λ y. y ≡ pos 0) x xs (zero_factor_z w x w_some (omega (arith, ints)))
     (zero_terms ws xs (All-tail (λ v. 0 < v) w ws some) (omega arith) (All-tail P x xs h) (omega (arith, ints)))
 
@@ -49,13 +42,6 @@ all_images P g [] h = All-nil (λ x. P (g x))
 all_images P g (x ∷ xs) h =
     All-cons (λ y. P (g y)) x xs (All-head P (g x) (map g xs) h) (all_images P g xs (All-tail P (g x) (map g xs) h))
 
-slack_nonnegative : (f : FunctionData) → IsMinimal f → (corner : ℕ × ℕ) → pos 0 ≤ℤ slack_at f corner
-slack_nonnegative f h corner =
-    let whole = (h 1 (omega arith)).subadditive corner.0 corner.1 in
-    let value = table_of_order f in
-    let values = rw (value (corner.0 + corner.1), value corner.0, value corner.1) at whole in
-    omega (arith, ints)
-
 tight_from_slack : (f : FunctionData) (corner : ℕ × ℕ) → slack_at f corner ≡ pos 0 → IsTight f corner.0 corner.1
 tight_from_slack f corner e = omega (arith, ints)
 
@@ -65,7 +51,7 @@ slacks_nonnegative : (f : FunctionData) → IsContinuous f → IsMinimal f → (
 slacks_nonnegative f c h kind a b =
     subst (All (λ x. pos 0 ≤ℤ x)) (sym (limits_are_slacks f kind a b c))
     (All-map (λ x. pos 0 ≤ℤ x) (slack_at f) (corners_of kind a b) (λ k d below.
-    slack_nonnegative f h (get_or (corners_of kind a b) k d)))
+    slack_low f h (get_or (corners_of kind a b) k d)))
 
 -- if the slack at a point of a face is 0, and the point has a weight above 0 at each corner, the face is additive
 additive_from_weights : (f : FunctionData) → IsContinuous f → IsMinimal f → (kind : FaceKind) (a b : ℕ) (ws : List ℕ) →
@@ -92,15 +78,6 @@ LiesInAdditiveFace f m i j =
 lies_in : (f : FunctionData) (m i j : ℕ) (kind : FaceKind) (a b : ℕ) → IsInFace m kind a b i j →
     IsAdditive (IsTight f) kind a b → LiesInAdditiveFace f m i j
 lies_in f m i j kind a b closed additive = (kind, a, b, (i, j, refl, refl, closed), additive)
-
-one_weight : (u : ℕ) → 0 < u → All (λ w. 0 < w) (u ∷ [])
-one_weight u u_some = All-cons (λ w. 0 < w) u [] u_some (All-nil (λ w. 0 < w))
-
-two_weights : (u v : ℕ) → 0 < u → 0 < v → All (λ w. 0 < w) (u ∷ v ∷ [])
-two_weights u v u_some v_some = All-cons (λ w. 0 < w) u (v ∷ []) u_some (one_weight v v_some)
-
-three_weights : (u v w : ℕ) → 0 < u → 0 < v → 0 < w → All (λ w. 0 < w) (u ∷ v ∷ w ∷ [])
-three_weights u v w u_some v_some w_some = All-cons (λ w. 0 < w) u (v ∷ w ∷ []) u_some (two_weights v w v_some w_some)
 
 -- inside a square
 tight_inside : (f : FunctionData) → IsContinuous f → IsMinimal f → (m i j a b r s : ℕ) → i ≡ a * m + r → j ≡ b * m + s →

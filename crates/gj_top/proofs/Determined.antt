@@ -63,17 +63,7 @@ one_named_fault IsFirst one x y h k =
     let same = one h.at_line k.at_line h.reason k.reason h.first k.first in
     h.spelled ∙ ap₂ refused_line same.0 same.1 ∙ sym k.spelled
 
--- where each element has one partner, lists of partners are one
-pub one_each : {A B : Type 0} (R : A → B → Type 0) → ((a : A) (x y : B) → R a x → R a y → x ≡ y) → (us : List A) (xs ys : List B) →
-    AllZip R us xs → AllZip R us ys → xs ≡ ys
-one_each R one [] [] [] h k = refl
-one_each R one [] [] (y ∷ ys) h k = absurd k
-one_each R one [] (x ∷ xs) ys h k = absurd h
-one_each R one (u ∷ us) [] ys h k = absurd h
-one_each R one (u ∷ us) (x ∷ xs) [] h k = absurd k
-one_each R one (u ∷ us) (x ∷ xs) (y ∷ ys) h k = ap₂ (λ z zs. z ∷ zs) (one u x y h.0 k.0) (one_each R one us xs ys h.1 k.1)
-
--- the same where the partners are on the left
+-- if each element has one partner to its left, lists of partners are one
 pub each_one : {A B : Type 0} (R : A → B → Type 0) → ((b : B) (x y : A) → R x b → R y b → x ≡ y) → (us : List B) (xs ys : List A) →
     AllZip R xs us → AllZip R ys us → xs ≡ ys
 each_one R one [] [] [] h k = refl

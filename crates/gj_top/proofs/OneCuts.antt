@@ -20,7 +20,7 @@ use Rattle.gj_row.specs.FirstFault.{IsFirstFaultOfTableau}
 use Rattle.gj_row.specs.declared.tableau.Entry.{Entry}
 use Rattle.gj_row.specs.declared.tableau.Row.{Row}
 use Rattle.gj_row.proofs.OneFirstFault.{one_first_fault as one_tableau_fault}
-use Rattle.gj_row.proofs.OneTableau.{one_tableau}
+use Rattle.gj_row.proofs.OneTableau.{one_tableau, one_each}
 use Rattle.gj_extreme.proofs.OneViolation.{one_violation}
 use Rattle.gj_check.proofs.FractionalParts.{same_parts, one_gmic}
 use Rattle.gj_check.proofs.ValuesOfCuts.{one_value}
@@ -42,7 +42,7 @@ use Rattle.gj_top.specs.Cut.RefusesCutInput.{of_rule, of_function, of_tableau}
 use Rattle.gj_top.specs.Mixed.{mixed}
 use Rattle.gj_top.proofs.CutClaims.{lines_are_bounded}
 use Rattle.gj_top.proofs.CutForm.{one_rest, rule_is_bounded, no_rule_fault, no_function_fault}
-use Rattle.gj_top.proofs.Determined.{SpellsOne, RefusesOne, RepliesOne, IsDetermined, one_named_fault, one_each}
+use Rattle.gj_top.proofs.Determined.{SpellsOne, RefusesOne, RepliesOne, IsDetermined, one_named_fault}
 use Rattle.gj_top.proofs.InputLines.{rule_of_lines}
 
 -- ---- the form

@@ -41,7 +41,8 @@ use Rattle.gj_top.specs.declared.reply.End.TheVariants as end
 use Rattle.gj_top.specs.Cut.{CutInput, SpellsCutInput, NamesViolation}
 use Rattle.gj_top.specs.Mixed.{NamesJump, IsMixedReply, mixed}
 use Rattle.gj_top.proofs.CutParts.{place_is}
-use Rattle.gj_top.proofs.Determined.{IsDetermined, one_each}
+use Rattle.gj_top.proofs.Determined.{IsDetermined}
+use Rattle.gj_row.proofs.OneTableau.{one_each}
 use Rattle.gj_top.proofs.OneCuts.{one_cut_spelled, one_cut_refusal, by_rule_bounds, one_violation_text, no_violation, same_cut_term}
 use Rattle.gj_top.proofs.OneVerdict.{one_jump_text, no_jump_named}
 
