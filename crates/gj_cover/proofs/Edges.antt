@@ -1,11 +1,13 @@
 -- Joined intervals are linked by additive edges, and where a face that joins or covers can stand.
-use Rattle.std.proofs.Common.{◌≡◌, ◌≢◌, ℕ, ◌⊎◌, ◌+◌, ◌/◌, ◌%◌, ◌<◌, refl, sym, ap, ◌∙◌, inl, inr, arith}
+use Rattle.std.proofs.Common.{◌≡◌, ◌≢◌, ℕ, ◌⊎◌, ◌+◌, ◌/◌, ◌%◌, ◌<◌, ◌≤◌, refl, sym, ap, ◌∙◌, inl, inr, arith}
 use Rattle.std.proofs.Math.Nat.{mod-mod, mod-lt, mod-eq_of_lt}
 use Rattle.gj_tools.proofs.Quotients.{same_remainder, from_same_remainder}
+use Rattle.gj_shape.specs.Additive.{IsAdditive}
 use Rattle.gj_shape.specs.Cover.{Joins, AreJoined}
 use Rattle.gj_shape.specs.declared.faces.FaceKind.{FaceKind}
 use Rattle.gj_shape.specs.declared.faces.FaceKind.TheVariants.{Vertex, Horizontal, Vertical, Diagonal, Lower, Upper}
-use Rattle.gj_cover.specs.Links.{Links, diagonal, horizontal, vertical, LeadsFrom}
+use Rattle.gj_cover.specs.FirstFound.{rank}
+use Rattle.gj_cover.specs.Links.{Links, diagonal, horizontal, vertical, LeadsBy}
 use Rattle.gj_faces.proofs.Periods.{same_sum}
 use Rattle.gj_cover.proofs.Parts.{Corners, corners, additive, corners_same, Intervals, intervals, one_of, HasPeriod}
 
@@ -151,116 +153,161 @@ linked q T p i j i_below j_below other (kind, a, b, h) =
     (record { some = omega arith; first = i_below; second = j_below; different = other })
     (corners T kind a b h.additive) (intervals q kind a b i h.first) (intervals q kind a b j h.second)
 
+-- ---- faces that lead from one interval to another
+
+leads_ends : (q i j : ℕ) → j < q → (kind : FaceKind) (a b : ℕ) → LeadsBy q i j kind a b →
+    Intervals q kind a b i × Intervals q kind a b j
+leads_ends q i j j_below Vertex a b h = absurd h
+leads_ends q i j j_below Horizontal a b (x, y, z) = (inl (ap (λ n. n % q) x), inr (z ∙ sym (mod-eq_of_lt j_below)))
+leads_ends q i j j_below Vertical a b (x, y, z) = (inl (ap (λ n. n % q) y), inr (z ∙ sym (mod-eq_of_lt j_below)))
+leads_ends q i j j_below Diagonal a b (x, y) = (inl (ap (λ n. n % q) x), inr (ap (λ n. n % q) y))
+leads_ends q i j j_below Lower a b h = absurd h
+leads_ends q i j j_below Upper a b (x, y, inl z, w) =
+    (inl (ap (λ n. n % q) z), inr (inr (w ∙ sym (mod-eq_of_lt j_below))))
+leads_ends q i j j_below Upper a b (x, y, inr z, w) =
+    (inr (inl (ap (λ n. n % q) z)), inr (inr (w ∙ sym (mod-eq_of_lt j_below))))
+
+-- an additive one joins the two
+pub joins_by : (q : ℕ) (T : ℕ → ℕ → Type 0) (i j : ℕ) → j < q → (kind : FaceKind) (a b : ℕ) → LeadsBy q i j kind a b →
+    IsAdditive T kind a b → Joins q T kind a b i j
+joins_by q T i j j_below kind a b at h =
+    let ends = leads_ends q i j j_below kind a b at in
+    record { additive = h; first = one_of q kind a b i ends.0; second = one_of q kind a b j ends.1 }
+
 -- linked intervals are joined
 pub joined_by_links : (q : ℕ) (T : ℕ → ℕ → Type 0) (i j : ℕ) → i < q → j < q → Links q T i j → AreJoined q T i j
-joined_by_links q T i j i_below j_below (diagonal h) = (
-  Diagonal,
-  i,
-  j,
-  record {
-    additive = h;
-    first = one_of q Diagonal i j i (inl refl);
-    second = one_of q Diagonal i j j (inr refl);
-  },
-)
-joined_by_links q T i j i_below j_below (horizontal b b_below e h) = (
-  Horizontal,
-  i,
-  b,
-  record {
-    additive = h;
-    first = one_of q Horizontal i b i (inl refl);
-    second = one_of q Horizontal i b j (inr (e ∙ sym (mod-eq_of_lt j_below)));
-  },
-)
-joined_by_links q T i j i_below j_below (vertical a a_below e h) = (
-  Vertical,
-  a,
-  i,
-  record {
-    additive = h;
-    first = one_of q Vertical a i i (inl refl);
-    second = one_of q Vertical a i j (inr (e ∙ sym (mod-eq_of_lt j_below)));
-  },
-)
+joined_by_links q T i j i_below j_below (diagonal h) = (Diagonal, i, j, joins_by q T i j j_below Diagonal i j (refl, refl) h)
+joined_by_links q T i j i_below j_below (horizontal b b_below e h) =
+    (Horizontal, i, b, joins_by q T i j j_below Horizontal i b (refl, b_below, e) h)
+joined_by_links q T i j i_below j_below (vertical a a_below e h) =
+    (Vertical, a, i, joins_by q T i j j_below Vertical a i (a_below, refl, e) h)
 
--- ---- where a face that joins can stand
+-- ---- the faces that lead are first
 
 -- the square (a, b) lies in the complex
 record IsSquare (q a b : ℕ) : Type 0 where
   first : a < q
   second : b < q
 
-stands_horizontal : (q a b i j : ℕ) → AreTwo q i j → IsSquare q a b → Intervals q Horizontal a b i →
-    Intervals q Horizontal a b j → LeadsFrom q i j a b ⊎ LeadsFrom q j i a b
-stands_horizontal q a b i j t s (inl x) (inl y) = clash q a i j t.first t.second t.different x y
-stands_horizontal q a b i j t s (inl x) (inr y) =
-    inl (inr (inl (is_it q a i s.first t.first x, below_same q (a + b) j t.second y)))
-stands_horizontal q a b i j t s (inr x) (inl y) =
-    inr (inr (inl (is_it q a j s.first t.second y, below_same q (a + b) i t.first x)))
-stands_horizontal q a b i j t s (inr x) (inr y) = clash q (a + b) i j t.first t.second t.different x y
+-- an additive face of the square (a, b) leads from one of two intervals to the other, and has no higher rank than the kind
+pub record IsLed (q : ℕ) (T : ℕ → ℕ → Type 0) (kind : FaceKind) (a b i j : ℕ) : Type 0 where
+  pub by : FaceKind
+  pub leads : LeadsBy q i j by a b ⊎ LeadsBy q j i by a b
+  pub additive : IsAdditive T by a b
+  pub low : rank by ≤ rank kind
 
-stands_vertical : (q a b i j : ℕ) → AreTwo q i j → IsSquare q a b → Intervals q Vertical a b i →
-    Intervals q Vertical a b j → LeadsFrom q i j a b ⊎ LeadsFrom q j i a b
-stands_vertical q a b i j t s (inl x) (inl y) = clash q b i j t.first t.second t.different x y
-stands_vertical q a b i j t s (inl x) (inr y) =
-    inl (inr (inr (inr (inl (is_it q b i s.second t.first x, below_same q (a + b) j t.second y)))))
-stands_vertical q a b i j t s (inr x) (inl y) =
-    inr (inr (inr (inr (inl (is_it q b j s.second t.second y, below_same q (a + b) i t.first x)))))
-stands_vertical q a b i j t s (inr x) (inr y) = clash q (a + b) i j t.first t.second t.different x y
+led_horizontal : (q : ℕ) (T : ℕ → ℕ → Type 0) (kind : FaceKind) (a b i j : ℕ) → 1 ≤ rank kind → AreTwo q i j → IsSquare q a b →
+    Corners T Horizontal a b → Intervals q Horizontal a b i → Intervals q Horizontal a b j → IsLed q T kind a b i j
+led_horizontal q T kind a b i j r t s h (inl x) (inl y) = clash q a i j t.first t.second t.different x y
+led_horizontal q T kind a b i j r t s h (inl x) (inr y) = record {
+  by = Horizontal;
+  leads = inl (is_it q a i s.first t.first x, s.second, below_same q (a + b) j t.second y);
+  additive = additive T Horizontal a b h;
+  low = r;
+}
+led_horizontal q T kind a b i j r t s h (inr x) (inl y) = record {
+  by = Horizontal;
+  leads = inr (is_it q a j s.first t.second y, s.second, below_same q (a + b) i t.first x);
+  additive = additive T Horizontal a b h;
+  low = r;
+}
+led_horizontal q T kind a b i j r t s h (inr x) (inr y) = clash q (a + b) i j t.first t.second t.different x y
 
-stands_diagonal : (q a b i j : ℕ) → AreTwo q i j → IsSquare q a b → Intervals q Diagonal a b i →
-    Intervals q Diagonal a b j → LeadsFrom q i j a b ⊎ LeadsFrom q j i a b
-stands_diagonal q a b i j t s (inl x) (inl y) = clash q a i j t.first t.second t.different x y
-stands_diagonal q a b i j t s (inl x) (inr y) =
-    inl (inl (is_it q a i s.first t.first x, is_it q b j s.second t.second y))
-stands_diagonal q a b i j t s (inr x) (inl y) =
-    inr (inl (is_it q a j s.first t.second y, is_it q b i s.second t.first x))
-stands_diagonal q a b i j t s (inr x) (inr y) = clash q b i j t.first t.second t.different x y
+led_vertical : (q : ℕ) (T : ℕ → ℕ → Type 0) (kind : FaceKind) (a b i j : ℕ) → 2 ≤ rank kind → AreTwo q i j → IsSquare q a b →
+    Corners T Vertical a b → Intervals q Vertical a b i → Intervals q Vertical a b j → IsLed q T kind a b i j
+led_vertical q T kind a b i j r t s h (inl x) (inl y) = clash q b i j t.first t.second t.different x y
+led_vertical q T kind a b i j r t s h (inl x) (inr y) = record {
+  by = Vertical;
+  leads = inl (s.first, is_it q b i s.second t.first x, below_same q (a + b) j t.second y);
+  additive = additive T Vertical a b h;
+  low = r;
+}
+led_vertical q T kind a b i j r t s h (inr x) (inl y) = record {
+  by = Vertical;
+  leads = inr (s.first, is_it q b j s.second t.second y, below_same q (a + b) i t.first x);
+  additive = additive T Vertical a b h;
+  low = r;
+}
+led_vertical q T kind a b i j r t s h (inr x) (inr y) = clash q (a + b) i j t.first t.second t.different x y
 
-stands_lower : (q a b i j : ℕ) → AreTwo q i j → IsSquare q a b → Intervals q Lower a b i →
-    Intervals q Lower a b j → LeadsFrom q i j a b ⊎ LeadsFrom q j i a b
-stands_lower q a b i j t s (inl x) (inl y) = stands_diagonal q a b i j t s (inl x) (inl y)
-stands_lower q a b i j t s (inl x) (inr (inl y)) = stands_diagonal q a b i j t s (inl x) (inr y)
-stands_lower q a b i j t s (inl x) (inr (inr y)) = stands_horizontal q a b i j t s (inl x) (inr y)
-stands_lower q a b i j t s (inr (inl x)) (inl y) = stands_diagonal q a b i j t s (inr x) (inl y)
-stands_lower q a b i j t s (inr (inl x)) (inr (inl y)) = stands_diagonal q a b i j t s (inr x) (inr y)
-stands_lower q a b i j t s (inr (inl x)) (inr (inr y)) = stands_vertical q a b i j t s (inl x) (inr y)
-stands_lower q a b i j t s (inr (inr x)) (inl y) = stands_horizontal q a b i j t s (inr x) (inl y)
-stands_lower q a b i j t s (inr (inr x)) (inr (inl y)) = stands_vertical q a b i j t s (inr x) (inl y)
-stands_lower q a b i j t s (inr (inr x)) (inr (inr y)) = stands_horizontal q a b i j t s (inr x) (inr y)
+led_diagonal : (q : ℕ) (T : ℕ → ℕ → Type 0) (kind : FaceKind) (a b i j : ℕ) → 3 ≤ rank kind → AreTwo q i j → IsSquare q a b →
+    Corners T Diagonal a b → Intervals q Diagonal a b i → Intervals q Diagonal a b j → IsLed q T kind a b i j
+led_diagonal q T kind a b i j r t s h (inl x) (inl y) = clash q a i j t.first t.second t.different x y
+led_diagonal q T kind a b i j r t s h (inl x) (inr y) = record {
+  by = Diagonal;
+  leads = inl (is_it q a i s.first t.first x, is_it q b j s.second t.second y);
+  additive = additive T Diagonal a b h;
+  low = r;
+}
+led_diagonal q T kind a b i j r t s h (inr x) (inl y) = record {
+  by = Diagonal;
+  leads = inr (is_it q a j s.first t.second y, is_it q b i s.second t.first x);
+  additive = additive T Diagonal a b h;
+  low = r;
+}
+led_diagonal q T kind a b i j r t s h (inr x) (inr y) = clash q b i j t.first t.second t.different x y
 
-stands_upper : (q a b i j : ℕ) → AreTwo q i j → IsSquare q a b → Intervals q Upper a b i →
-    Intervals q Upper a b j → LeadsFrom q i j a b ⊎ LeadsFrom q j i a b
-stands_upper q a b i j t s (inl x) (inl y) = stands_diagonal q a b i j t s (inl x) (inl y)
-stands_upper q a b i j t s (inl x) (inr (inl y)) = stands_diagonal q a b i j t s (inl x) (inr y)
-stands_upper q a b i j t s (inl x) (inr (inr y)) =
-    inl (inr (inr (inl (is_it q a i s.first t.first x, below_same q (a + b + 1) j t.second y))))
-stands_upper q a b i j t s (inr (inl x)) (inl y) = stands_diagonal q a b i j t s (inr x) (inl y)
-stands_upper q a b i j t s (inr (inl x)) (inr (inl y)) = stands_diagonal q a b i j t s (inr x) (inr y)
-stands_upper q a b i j t s (inr (inl x)) (inr (inr y)) =
-    inl (inr (inr (inr (inr (is_it q b i s.second t.first x, below_same q (a + b + 1) j t.second y)))))
-stands_upper q a b i j t s (inr (inr x)) (inl y) =
-    inr (inr (inr (inl (is_it q a j s.first t.second y, below_same q (a + b + 1) i t.first x))))
-stands_upper q a b i j t s (inr (inr x)) (inr (inl y)) =
-    inr (inr (inr (inr (inr (is_it q b j s.second t.second y, below_same q (a + b + 1) i t.first x)))))
-stands_upper q a b i j t s (inr (inr x)) (inr (inr y)) =
+led_lower : (q : ℕ) (T : ℕ → ℕ → Type 0) (a b i j : ℕ) → AreTwo q i j → IsSquare q a b → Corners T Lower a b →
+    Intervals q Lower a b i → Intervals q Lower a b j → IsLed q T Lower a b i j
+led_lower q T a b i j t s h (inl x) (inl y) = clash q a i j t.first t.second t.different x y
+led_lower q T a b i j t s h (inl x) (inr (inl y)) =
+    led_diagonal q T Lower a b i j (omega arith) t s (h.1, h.2) (inl x) (inr y)
+led_lower q T a b i j t s h (inl x) (inr (inr y)) =
+    led_horizontal q T Lower a b i j (omega arith) t s (h.0, h.1) (inl x) (inr y)
+led_lower q T a b i j t s h (inr (inl x)) (inl y) =
+    led_diagonal q T Lower a b i j (omega arith) t s (h.1, h.2) (inr x) (inl y)
+led_lower q T a b i j t s h (inr (inl x)) (inr (inl y)) = clash q b i j t.first t.second t.different x y
+led_lower q T a b i j t s h (inr (inl x)) (inr (inr y)) =
+    led_vertical q T Lower a b i j (omega arith) t s (h.0, h.2) (inl x) (inr y)
+led_lower q T a b i j t s h (inr (inr x)) (inl y) =
+    led_horizontal q T Lower a b i j (omega arith) t s (h.0, h.1) (inr x) (inl y)
+led_lower q T a b i j t s h (inr (inr x)) (inr (inl y)) =
+    led_vertical q T Lower a b i j (omega arith) t s (h.0, h.2) (inr x) (inl y)
+led_lower q T a b i j t s h (inr (inr x)) (inr (inr y)) = clash q (a + b) i j t.first t.second t.different x y
+
+-- an upper triangle that leads itself
+led_itself : (q : ℕ) (T : ℕ → ℕ → Type 0) (a b i j : ℕ) → Corners T Upper a b → LeadsBy q i j Upper a b ⊎ LeadsBy q j i Upper a b →
+    IsLed q T Upper a b i j
+led_itself q T a b i j h leads =
+    record { by = Upper; leads = leads; additive = additive T Upper a b h; low = omega arith }
+
+led_upper : (q : ℕ) (T : ℕ → ℕ → Type 0) (a b i j : ℕ) → AreTwo q i j → IsSquare q a b → Corners T Upper a b →
+    Intervals q Upper a b i → Intervals q Upper a b j → IsLed q T Upper a b i j
+led_upper q T a b i j t s h (inl x) (inl y) = clash q a i j t.first t.second t.different x y
+led_upper q T a b i j t s h (inl x) (inr (inl y)) =
+    led_diagonal q T Upper a b i j (omega arith) t s (h.0, h.1) (inl x) (inr y)
+led_upper q T a b i j t s h (inl x) (inr (inr y)) =
+    led_itself q T a b i j h
+    (inl (s.first, s.second, inl (is_it q a i s.first t.first x), below_same q (a + b + 1) j t.second y))
+led_upper q T a b i j t s h (inr (inl x)) (inl y) =
+    led_diagonal q T Upper a b i j (omega arith) t s (h.0, h.1) (inr x) (inl y)
+led_upper q T a b i j t s h (inr (inl x)) (inr (inl y)) = clash q b i j t.first t.second t.different x y
+led_upper q T a b i j t s h (inr (inl x)) (inr (inr y)) =
+    led_itself q T a b i j h
+    (inl (s.first, s.second, inr (is_it q b i s.second t.first x), below_same q (a + b + 1) j t.second y))
+led_upper q T a b i j t s h (inr (inr x)) (inl y) =
+    led_itself q T a b i j h
+    (inr (s.first, s.second, inl (is_it q a j s.first t.second y), below_same q (a + b + 1) i t.first x))
+led_upper q T a b i j t s h (inr (inr x)) (inr (inl y)) =
+    led_itself q T a b i j h
+    (inr (s.first, s.second, inr (is_it q b j s.second t.second y), below_same q (a + b + 1) i t.first x))
+led_upper q T a b i j t s h (inr (inr x)) (inr (inr y)) =
     clash q (a + b + 1) i j t.first t.second t.different x y
 
-stands : (q : ℕ) (kind : FaceKind) (a b i j : ℕ) → AreTwo q i j → IsSquare q a b → Intervals q kind a b i →
-    Intervals q kind a b j → LeadsFrom q i j a b ⊎ LeadsFrom q j i a b
-stands q Vertex a b i j t s x y = absurd x
-stands q Horizontal a b i j t s x y = stands_horizontal q a b i j t s x y
-stands q Vertical a b i j t s x y = stands_vertical q a b i j t s x y
-stands q Diagonal a b i j t s x y = stands_diagonal q a b i j t s x y
-stands q Lower a b i j t s x y = stands_lower q a b i j t s x y
-stands q Upper a b i j t s x y = stands_upper q a b i j t s x y
+led : (q : ℕ) (T : ℕ → ℕ → Type 0) (kind : FaceKind) (a b i j : ℕ) → AreTwo q i j → IsSquare q a b → Corners T kind a b →
+    Intervals q kind a b i → Intervals q kind a b j → IsLed q T kind a b i j
+led q T Vertex a b i j t s h x y = absurd x
+led q T Horizontal a b i j t s h x y = led_horizontal q T Horizontal a b i j (omega arith) t s h x y
+led q T Vertical a b i j t s h x y = led_vertical q T Vertical a b i j (omega arith) t s h x y
+led q T Diagonal a b i j t s h x y = led_diagonal q T Diagonal a b i j (omega arith) t s h x y
+led q T Lower a b i j t s h x y = led_lower q T a b i j t s h x y
+led q T Upper a b i j t s h x y = led_upper q T a b i j t s h x y
 
--- one of two different intervals stands behind the other in a square with a face that joins them
-pub joins_where : (q : ℕ) (T : ℕ → ℕ → Type 0) (kind : FaceKind) (a b i j : ℕ) → i < q → j < q → i ≢ j →
-    a < q → b < q → Joins q T kind a b i j → LeadsFrom q i j a b ⊎ LeadsFrom q j i a b
-joins_where q T kind a b i j i_below j_below other a_below b_below h =
-    stands q kind a b i j
+-- in the square of a face that joins two different intervals
+pub joins_led : (q : ℕ) (T : ℕ → ℕ → Type 0) (kind : FaceKind) (a b i j : ℕ) → i < q → j < q → i ≢ j → a < q → b < q →
+    Joins q T kind a b i j → IsLed q T kind a b i j
+joins_led q T kind a b i j i_below j_below other a_below b_below h =
+    led q T kind a b i j
     (record { some = omega arith; first = i_below; second = j_below; different = other })
     (record { first = a_below; second = b_below })
-    (intervals q kind a b i h.first) (intervals q kind a b j h.second)
+    (corners T kind a b h.additive) (intervals q kind a b i h.first) (intervals q kind a b j h.second)

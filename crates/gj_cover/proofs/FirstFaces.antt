@@ -4,13 +4,15 @@ use Rattle.std.proofs.Math.Nat.{mod-mod, mod-lt, mod-eq_of_lt}
 use Rattle.std.proofs.lemmas.Bool.{cases_order, cases_eq}
 use Rattle.gj_sets.specs.IndexSets.{has, IsFirst}
 use Rattle.gj_sets.specs.declared.index_set.IndexSet.{IndexSet}
+use Rattle.gj_shape.specs.Additive.{IsAdditive}
 use Rattle.gj_shape.specs.Cover.{Joins, AreJoined, Covers, IsDirectlyCovered, IsFirstFace}
 use Rattle.gj_shape.specs.declared.faces.Face.{Face}
 use Rattle.gj_shape.specs.declared.faces.FaceKind.{FaceKind}
 use Rattle.gj_shape.specs.declared.faces.FaceKind.TheVariants.{Vertex, Horizontal, Vertical, Diagonal, Lower, Upper}
-use Rattle.gj_cover.specs.FirstFound.{FindsFirst}
-use Rattle.gj_cover.specs.Links.{LeadsFrom, IsSquareFrom, IsInRow, IsAcross}
-use Rattle.gj_cover.proofs.Edges.{one_step, joins_where}
+use Rattle.gj_cover.specs.FirstFound.{FindsFirst, IsThis, AddsFirst}
+use Rattle.gj_cover.specs.Links.{LeadsBy, IsInRow, IsAcross}
+use Rattle.gj_cover.proofs.Adding.{EitherOf, ranked_behind}
+use Rattle.gj_cover.proofs.Edges.{one_step, joins_by, joins_led}
 use Rattle.gj_cover.proofs.Joining.{joins_within, covers_within}
 use Rattle.gj_cover.proofs.Merging.{Either}
 use Rattle.gj_faces.proofs.Periods.{same_sum}
@@ -55,89 +57,91 @@ is_short q i step short j b s b_below e =
     one_step q (i + 1) b short j b_below s.short_below (ap (λ n. n % q) first ∙ e)
     (ap (λ n. n % q) second ∙ next_leads q i step short j s)
 
--- ---- five squares in which j stands behind i
+-- ---- the faces by which i leads to j
 
-abbrev pub Five : ℕ → ℕ → ℕ → ℕ → ℕ → ℕ → Type 0
-Five i step short j = Either (Either (Either (Either (Square i j) (Square i step)) (Square i short)) (Square step i)) (Square short i)
+-- five of them
+abbrev pub Five : ℕ → ℕ → ℕ → ℕ → FaceKind → ℕ → ℕ → Type 0
+Five i step short j =
+    EitherOf (EitherOf (EitherOf (EitherOf (IsThis Diagonal i j) (IsThis Horizontal i step)) (IsThis Upper i short)) (IsThis Vertical step i))
+    (IsThis Upper short i)
 
-place : (q a b i j : ℕ) → a < q → b < q → LeadsFrom q i j a b → IsSquareFrom q i j a b
-place q a b i j a_below b_below h = (a_below, b_below, h)
+-- what holds of one face, of the same face in other words
+here : (P : FaceKind → ℕ → ℕ → Type 0) (kind other : FaceKind) (a b c d : ℕ) → P kind a b → IsThis kind a b other c d → P other c d
+here P kind other a b c d h (e, x, y) =
+    subst (λ k. P k c d) (sym e) (subst (λ n. P kind n d) (sym x) (subst (λ n. P kind a n) (sym y) h))
 
-pub five_on : (q i step short j : ℕ) → AreSteps q i step short j → (a b : ℕ) → Five i step short j a b → IsSquareFrom q i j a b
-five_on q i step short j s a b (inl (inl (inl (inl (x, y))))) =
-    (subst (λ n. n < q) (sym x) s.start, subst (λ n. n < q) (sym y) s.end, inl (x, y))
-five_on q i step short j s a b (inl (inl (inl (inr (x, y))))) = (
-  subst (λ n. n < q) (sym x) s.start,
-  subst (λ n. n < q) (sym y) s.step_below,
-  inr (inl (x, ap (λ n. (n + b) % q) x ∙ ap (λ n. (i + n) % q) y ∙ s.step_leads)),
-)
-five_on q i step short j s a b (inl (inl (inr (x, y)))) = (
-  subst (λ n. n < q) (sym x) s.start,
-  subst (λ n. n < q) (sym y) s.short_below,
-  inr (inr (inl (x, ap (λ n. (n + b + 1) % q) x ∙ ap (λ n. (i + n + 1) % q) y ∙ next_leads q i step short j s))),
-)
-five_on q i step short j s a b (inl (inr (x, y))) = (
-  subst (λ n. n < q) (sym x) s.step_below,
-  subst (λ n. n < q) (sym y) s.start,
-  inr (inr (inr (inl (y, ap (λ n. (n + b) % q) x ∙ ap (λ n. (step + n) % q) y ∙ turned q i step j s.step_leads)))),
-)
-five_on q i step short j s a b (inr (x, y)) = (
-  subst (λ n. n < q) (sym x) s.short_below,
-  subst (λ n. n < q) (sym y) s.start,
-  inr (inr (inr (inr (
-    y,
-    ap (λ n. (n + b + 1) % q) x ∙ ap (λ n. (short + n + 1) % q) y
-        ∙ turned_next q i short j (next_leads q i step short j s),
-  )))),
-)
+pub five_on : (q i step short j : ℕ) → AreSteps q i step short j → (kind : FaceKind) (a b : ℕ) → Five i step short j kind a b →
+    LeadsBy q i j kind a b
+five_on q i step short j s kind a b (inl (inl (inl (inl h)))) = here (LeadsBy q i j) Diagonal kind i j a b (refl, refl) h
+five_on q i step short j s kind a b (inl (inl (inl (inr h)))) =
+    here (LeadsBy q i j) Horizontal kind i step a b (refl, s.step_below, s.step_leads) h
+five_on q i step short j s kind a b (inl (inl (inr h))) =
+    here (LeadsBy q i j) Upper kind i short a b (s.start, s.short_below, inl refl, next_leads q i step short j s) h
+five_on q i step short j s kind a b (inl (inr h)) =
+    here (LeadsBy q i j) Vertical kind step i a b (s.step_below, refl, turned q i step j s.step_leads) h
+five_on q i step short j s kind a b (inr h) =
+    here (LeadsBy q i j) Upper kind short i a b
+    (s.short_below, s.start, inr refl, turned_next q i short j (next_leads q i step short j s)) h
 
-pub five_back : (q i step short j : ℕ) → AreSteps q i step short j → (a b : ℕ) → IsSquareFrom q i j a b → Five i step short j a b
-five_back q i step short j s a b (a_below, b_below, inl (x, y)) = inl (inl (inl (inl (x, y))))
-five_back q i step short j s a b (a_below, b_below, inr (inl (x, y))) =
-    inl (inl (inl (inr (x, is_step q i step short j b s b_below (ap (λ n. (n + b) % q) (sym x) ∙ y)))))
-five_back q i step short j s a b (a_below, b_below, inr (inr (inl (x, y)))) =
-    inl (inl (inr (x, is_short q i step short j b s b_below (ap (λ n. (n + b + 1) % q) (sym x) ∙ y))))
-five_back q i step short j s a b (a_below, b_below, inr (inr (inr (inl (x, y))))) =
-    inl (inr (is_step q i step short j a s a_below (ap (λ n. (n + a) % q) (sym x) ∙ turned q a b j y), x))
-five_back q i step short j s a b (a_below, b_below, inr (inr (inr (inr (x, y))))) =
-    inr (is_short q i step short j a s a_below (ap (λ n. (n + a + 1) % q) (sym x) ∙ turned_next q a b j y), x)
+pub five_back : (q i step short j : ℕ) → AreSteps q i step short j → (kind : FaceKind) (a b : ℕ) → LeadsBy q i j kind a b →
+    Five i step short j kind a b
+five_back q i step short j s Vertex a b h = absurd h
+five_back q i step short j s Horizontal a b (x, below, e) =
+    inl (inl (inl (inr (refl, x, is_step q i step short j b s below (ap (λ n. (n + b) % q) (sym x) ∙ e)))))
+five_back q i step short j s Vertical a b (below, x, e) =
+    inl (inr (refl, is_step q i step short j a s below (ap (λ n. (n + a) % q) (sym x) ∙ turned q a b j e), x))
+five_back q i step short j s Diagonal a b (x, y) = inl (inl (inl (inl (refl, x, y))))
+five_back q i step short j s Lower a b h = absurd h
+five_back q i step short j s Upper a b (a_below, b_below, inl x, e) =
+    inl (inl (inr (refl, x, is_short q i step short j b s b_below (ap (λ n. (n + b + 1) % q) (sym x) ∙ e))))
+five_back q i step short j s Upper a b (a_below, b_below, inr x, e) =
+    inr (refl, is_short q i step short j a s a_below (ap (λ n. (n + a + 1) % q) (sym x) ∙ turned_next q a b j e), x)
 
 -- ---- first of all faces
 
-abbrev Both : ℕ → ℕ → ℕ → ℕ → ℕ → Type 0
-Both q i j = Either (IsSquareFrom q i j) (IsSquareFrom q j i)
+-- either way
+abbrev pub Leads : ℕ → ℕ → ℕ → FaceKind → ℕ → ℕ → Type 0
+Leads q i j = EitherOf (LeadsBy q i j) (LeadsBy q j i)
 
-both_where : (q : ℕ) (T : ℕ → ℕ → Type 0) (i j : ℕ) → i < q → j < q → i ≢ j → (kind : FaceKind) (a b : ℕ) →
-    a < q → b < q → Joins q T kind a b i j → Both q i j a b
-both_where q T i j i_below j_below other kind a b a_below b_below h =
-    elim (joins_where q T kind a b i j i_below j_below other a_below b_below h) [
-      | inl x ↦ inl (a_below, b_below, x)
-      | inr x ↦ inr (a_below, b_below, x)
-    ]
-
-both_within : (q i j a b : ℕ) → Both q i j a b → (a < q) × (b < q)
-both_within q i j a b (inl (x, y, z)) = (x, y)
-both_within q i j a b (inr (x, y, z)) = (x, y)
+leads_within : (q i j : ℕ) → i < q → j < q → (kind : FaceKind) (a b : ℕ) → LeadsBy q i j kind a b → (a < q) × (b < q)
+leads_within q i j i_below j_below Vertex a b h = absurd h
+leads_within q i j i_below j_below Horizontal a b (x, y, z) = (subst (λ n. n < q) (sym x) i_below, y)
+leads_within q i j i_below j_below Vertical a b (x, y, z) = (x, subst (λ n. n < q) (sym y) i_below)
+leads_within q i j i_below j_below Diagonal a b (x, y) =
+    (subst (λ n. n < q) (sym x) i_below, subst (λ n. n < q) (sym y) j_below)
+leads_within q i j i_below j_below Lower a b h = absurd h
+leads_within q i j i_below j_below Upper a b (x, y, z, w) = (x, y)
 
 pub joining_found : (q : ℕ) (T : ℕ → ℕ → Type 0) (i j : ℕ) → i < q → j < q → i ≢ j → (result : Option Face) →
-    FindsFirst (Both q i j) (λ kind a b. Joins q T kind a b i j) result →
-    IfSome result (IsFirstFace q (λ kind a b. Joins q T kind a b i j))
+    AddsFirst (Leads q i j) (IsAdditive T) None result → IfSome result (IsFirstFace q (λ kind a b. Joins q T kind a b i j))
 joining_found q T i j i_below j_below other None h = tt
-joining_found q T i j i_below j_below other (Some f) h =
-    let within = both_within q i j f.a f.b h.square in
-    first_face q (λ kind a b. Joins q T kind a b i j) f within.0 within.1 h.holds
-    (λ kind a b a_below b_below p.
-    h.first kind a b (both_where q T i j i_below j_below other kind a b a_below b_below p) p)
+joining_found q T i j i_below j_below other (Some f) h = elim h.from [
+  | inl e ↦ absurd (cc (e))
+  | inr (leads, additive) ↦
+      let within : (f.a < q) × (f.b < q) = elim leads [
+        | inl x ↦ leads_within q i j i_below j_below f.kind f.a f.b x
+        | inr x ↦ leads_within q j i j_below i_below f.kind f.a f.b x
+      ] in
+      let joins : Joins q T f.kind f.a f.b i j = elim leads [
+        | inl x ↦ joins_by q T i j j_below f.kind f.a f.b x additive
+        | inr x ↦
+            let back = joins_by q T j i i_below f.kind f.a f.b x additive in
+            record { additive = additive; first = back.second; second = back.first }
+      ] in
+      first_face q (λ kind a b. Joins q T kind a b i j) f within.0 within.1 joins
+      (λ kind a b a_below b_below p.
+      let led = joins_led q T kind a b i j i_below j_below other a_below b_below p in
+      ranked_behind f led.by kind a b led.low (h.first led.by a b led.leads led.additive))
+]
 
 pub joining_none : (q : ℕ) (T : ℕ → ℕ → Type 0) → HasPeriod q T → (i j : ℕ) → i < q → j < q → i ≢ j →
-    (result : Option Face) → FindsFirst (Both q i j) (λ kind a b. Joins q T kind a b i j) result →
-    IfNone result (AreJoined q T i j → ⊥)
+    (result : Option Face) → AddsFirst (Leads q i j) (IsAdditive T) None result → IfNone result (AreJoined q T i j → ⊥)
 joining_none q T p i j i_below j_below other (Some f) h = tt
 joining_none q T p i j i_below j_below other None h = λ (kind, a, b, k).
     let some : 0 < q = omega arith in
     let in' = joins_within q T p kind a b (a % q) (b % q) i j (sym (mod-mod a q)) (sym (mod-mod b q)) k in
-    h kind (a % q) (b % q)
-    (both_where q T i j i_below j_below other kind (a % q) (b % q) (mod-lt a some) (mod-lt b some) in') in'
+    let led = joins_led q T kind (a % q) (b % q) i j i_below j_below other (mod-lt a some) (mod-lt b some) in' in
+    h.first led.by (a % q) (b % q) led.leads led.additive
 
 -- all squares of the complex
 abbrev pub IsSquare : ℕ → ℕ → ℕ → Type 0

@@ -1,5 +1,5 @@
 -- The intervals that edges link, as sets.
-use Rattle.std.proofs.Common.{◌≡◌, ℕ, ◌+◌, ◌%◌, ◌<◌, ◌↔◌, ◌||◌, ◌&&◌, Bool, true, false, refl, sym, ap, ap₂, ◌∙◌, inl, inr, arith}
+use Rattle.std.proofs.Common.{◌≡◌, ℕ, ◌+◌, ◌%◌, ◌<◌, ◌⊎◌, ◌↔◌, ◌||◌, ◌&&◌, Bool, true, false, refl, sym, ap, ap₂, ◌∙◌, inl, inr, arith}
 use Rattle.std.proofs.Math.Nat.{mod-mod}
 use Rattle.std.proofs.lemmas.Bool.{and_parts, and_from, or_cases, or_left, or_right}
 use Rattle.gj_shape.specs.declared.faces.FaceKind.TheVariants.{Horizontal, Vertical, Diagonal}
@@ -122,11 +122,28 @@ linked_to t i j k r d h v i_below j_below k_below leads r_is d_is h_is v_is =
       ]),
     )
 
-pub linked_to_symmetric : (t : Table) (i j k : ℕ) (r d h : Bool) → i < t.order → j < t.order → k < t.order →
-    (j + k) % t.order ≡ i → ((a b : ℕ) → is_tight_in t a b ≡ is_tight_in t b a) → r ≡ (d || h) →
-    d ≡ (is_tight_in t j (i + 1) && is_tight_in t ((j + 1) % t.order) i) →
+-- where the test does not see the order of two indices, the horizontal edges are all but those diagonal ones that link both ways
+pub linked_to_symmetric : (t : Table) (i j k : ℕ) (h : Bool) → i < t.order → j < t.order → k < t.order →
+    (j + k) % t.order ≡ i → ((a b : ℕ) → is_tight_in t a b ≡ is_tight_in t b a) →
     h ≡ (is_tight_in t j k && is_tight_in t ((j + 1) % t.order) k) →
-    (r ≡ true) ↔ Links t.order (IsTightIn t) j i
-linked_to_symmetric t i j k r d h i_below j_below k_below leads about r_is d_is h_is =
-    linked_to t i j k r d h h i_below j_below k_below leads (r_is ∙ again d h) d_is h_is
-    (h_is ∙ ap₂ (λ (x y : Bool). x && y) (about j k) (about ((j + 1) % t.order) k))
+    ((h ≡ true) → Links t.order (IsTightIn t) j i)
+    × (Links t.order (IsTightIn t) j i → (h ≡ true) ⊎ Links t.order (IsTightIn t) i j)
+linked_to_symmetric t i j k h i_below j_below k_below leads about h_is =
+    let q = t.order in
+    let T = IsTightIn t in
+    let d = is_tight_in t j (i + 1) && is_tight_in t ((j + 1) % q) i in
+    let told = linked_to t i j k ((d || h) || h) d h h i_below j_below k_below leads refl refl h_is
+    (h_is ∙ ap₂ (λ (x y : Bool). x && y) (about j k) (about ((j + 1) % q) k)) in (
+      λ e. told.0 (or_right (d || h) h e),
+      λ l. elim (or_cases (d || h) h (told.1 l)) [
+        | inl x ↦ elim (or_cases d h x) [
+          | inl y ↦
+              let both = and_parts (is_tight_in t j (i + 1)) (is_tight_in t ((j + 1) % q) i) y in
+              let next = same_tight t i ((j + 1) % q) i (j + 1) refl (mod-mod (j + 1) q) in
+              inr (diagonal (additive T Diagonal i j
+              (tight t (i + 1) j (about (i + 1) j ∙ both.0), tight t i (j + 1) (sym next ∙ about i ((j + 1) % q) ∙ both.1))))
+          | inr y ↦ inl y
+        ]
+        | inr y ↦ inl y
+      ],
+    )

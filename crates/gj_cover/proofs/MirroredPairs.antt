@@ -11,7 +11,8 @@ use Rattle.gj_faces.proofs.Periods.{tight_is_periodic}
 use Rattle.gj_shape.proofs.AtLemmas.{at_same_remainder, at_wrapped}
 use Rattle.gj_theory.proofs.Zigzags.{same_tests}
 use Rattle.gj_cover.specs.Mirrored.{AreMirrored}
-use Rattle.gj_cover.specs.SetRows.{in_row, AreColumns, AreFirsts, AreSeconds}
+use Rattle.gj_cover.specs.SetRows.{in_row, AreColumns}
+use Rattle.gj_cover.specs.Sides.{AreOwnSides}
 use Rattle.gj_cover.specs.Table.{is_tight_in, IsTightIn, TellsTight}
 use Rattle.gj_cover.specs.declared.table.Table.{Table}
 use Rattle.gj_cover.proofs.SetRows.{row_before, row_pushed}
@@ -86,37 +87,28 @@ row_more T q n rows row len last before a b below b_below = elim (cases_lt a n) 
 abbrev pub HavePairs : FunctionData → List IndexSet → Type 0
 HavePairs f rows = (a b : ℕ) → a < f.order → b < f.order → IsTrue (in_row rows a b) ↔ IsTight f a b
 
--- the rows have those of the opposite indices
-abbrev pub HaveOpposite : FunctionData → List IndexSet → Type 0
-HaveOpposite f rows = (s b : ℕ) → s < f.order → b < f.order →
-    IsTrue (in_row rows s b) ↔ IsTight f (f.place + (f.order - s)) b
-
-pub columns_of : (f : FunctionData) (rows columns : List IndexSet) → HavePairs f rows → HavePairs f columns →
-    AreColumns f.order rows columns
-columns_of f rows columns r c a b a_below b_below =
-    same_tests (in_row columns b a) (in_row rows a b)
-    (λ h. (r a b a_below b_below).1 (tight_turned f b a ((c b a b_below a_below).0 h)))
-    (λ h. (c b a b_below a_below).1 (tight_turned f a b ((r a b a_below b_below).0 h)))
-
-pub firsts_of : (f : FunctionData) (rows firsts : List IndexSet) → IsWithinBounds f → AreMirrored f → HavePairs f rows →
-    HaveOpposite f firsts → AreFirsts f.order rows firsts
-firsts_of f rows firsts w m r o a b a_below b_below =
-    let s_below = mod-lt (a + b) {m = f.order} (omega arith) in
-    let told = by_sum f w m a b a_below b_below in
-    let there = o ((a + b) % f.order) a s_below a_below in
-    let here = r a b a_below b_below in
-    same_tests (in_row firsts ((a + b) % f.order) a) (in_row rows a b)
-    (λ h. here.1 (told.0 (there.0 h))) (λ h. there.1 (told.1 (here.0 h)))
-
-pub seconds_of : (f : FunctionData) (rows seconds : List IndexSet) → IsWithinBounds f → AreMirrored f → HavePairs f rows →
-    HaveOpposite f seconds → AreSeconds f.order rows seconds
-seconds_of f rows seconds w m r o a b a_below b_below =
-    let order : a + b ≡ b + a = omega arith in
-    let turned : AreFirsts f.order rows seconds = firsts_of f rows seconds w m r o in
-    ap (λ n. in_row seconds (n % f.order) b) order ∙ turned b a b_below a_below
-    ∙ same_tests (in_row rows b a) (in_row rows a b)
+columns_of : (f : FunctionData) (rows : List IndexSet) → HavePairs f rows → AreColumns f.order rows rows
+columns_of f rows r a b a_below b_below =
+    same_tests (in_row rows b a) (in_row rows a b)
     (λ h. (r a b a_below b_below).1 (tight_turned f b a ((r b a b_below a_below).0 h)))
     (λ h. (r b a b_below a_below).1 (tight_turned f a b ((r a b a_below b_below).0 h)))
+
+-- the rows themselves have the pairs turned around and those with each sum
+pub own_sides : (f : FunctionData) (rows : List IndexSet) → IsWithinBounds f → AreMirrored f → HavePairs f rows →
+    AreOwnSides f.order rows f.place
+own_sides f rows w m r = record {
+  place_below = w.place_high;
+  columns_are = columns_of f rows r;
+  sums_are = λ a b a_below b_below.
+      let q = f.order in
+      let far = f.place + (q - (a + b) % q) in
+      let told = by_sum f w m a b a_below b_below in
+      let there = r (far % q) a (mod-lt far {m = q} (omega arith)) a_below in
+      let here = r a b a_below b_below in
+      same_tests (in_row rows (far % q) a) (in_row rows a b)
+      (λ h. here.1 (told.0 (tight_is_periodic f w (far % q) a far a (mod-mod far q) refl (there.0 h))))
+      (λ h. there.1 (tight_is_periodic f w far a (far % q) a (sym (mod-mod far q)) refl (told.1 (here.0 h))));
+}
 
 -- the table of the rows
 pub tells_pairs : (f : FunctionData) (t : Table) (rows : List IndexSet) → IsWithinBounds f → t.order ≡ f.order →

@@ -1,10 +1,10 @@
 -- The first face of one square.
-use Rattle.std.proofs.Common.{◌≡◌, ℕ, ◌<◌, refl, sym, subst, inl, inr, arith}
+use Rattle.std.proofs.Common.{ℕ, ◌<◌, refl, sym, subst, inl, inr, arith}
 use Rattle.std.proofs.lemmas.Bool.{cases_lt}
 use Rattle.gj_shape.specs.declared.faces.FaceKind.{FaceKind}
 use Rattle.gj_shape.specs.declared.faces.FaceKind.TheVariants.{Vertex, Horizontal, Vertical, Diagonal, Lower, Upper}
 use Rattle.gj_cover.specs.FirstFound.{rank, HasNone, IsFirstOf}
-use Rattle.gj_cover.specs.Table.{CoversBy, JoinsBy}
+use Rattle.gj_cover.specs.Table.{CoversBy}
 use Rattle.gj_cover.specs.declared.table.Table.{Table}
 use Rattle.gj_cover.proofs.FirstFaces.{Square}
 use Rattle.gj_cover.proofs.Parts.{covered_one}
@@ -48,7 +48,7 @@ pub all_ranked : (Q : FaceKind → Type 0) → (Q Vertex → ⊥) → (Q Horizon
 all_ranked Q p h v d l u kind q =
     ranked Q 6 p (λ low. h) (λ low. v) (λ low. d) (λ low. l) (λ low. u) kind (all_low kind) q
 
--- ---- what covers and what joins
+-- ---- what covers
 
 -- no face but a triangle covers
 pub edge_covers_none : (t : Table) (i a b : ℕ) →
@@ -59,7 +59,3 @@ edge_covers_none t i a b = (
   λ h. (covered_one t.order Vertical a b i h.projection).0,
   λ h. (covered_one t.order Diagonal a b i h.projection).0,
 )
-
--- a vertex joins no intervals
-pub vertex_joins_none : (t : Table) (i j a b : ℕ) → JoinsBy t i j Vertex a b → ⊥
-vertex_joins_none t i j a b h = (covered_one t.order Vertex a b i h.first).0

@@ -1,6 +1,6 @@
 -- The tight pairs of a table as a relation.
 use Rattle.std.proofs.Common.{◌≡◌, ℕ, ◌%◌, ◌<◌, true, sym, ap, ◌∙◌, arith}
-use Rattle.std.proofs.Math.Nat.{mod-lt}
+use Rattle.std.proofs.Math.Nat.{mod-lt, mod-eq_of_lt}
 use Rattle.gj_cover.specs.SetRows.{in_row, AreColumns}
 use Rattle.gj_cover.specs.Table.{is_tight_in, IsTightIn}
 use Rattle.gj_cover.specs.declared.table.Table.{Table}
@@ -16,6 +16,12 @@ same_tight t i j k l e g =
 pub table_period : (t : Table) → HasPeriod t.order (IsTightIn t)
 unfolding IsTightIn
 table_period t i j k l e g h = sym (same_tight t i j k l e g) ∙ h
+
+-- the test of indices that are their own rests
+pub read_tight : (t : Table) (a b : ℕ) → a < t.order → b < t.order → in_row t.rows.items a b ≡ is_tight_in t a b
+unfolding is_tight_in
+read_tight t a b a_below b_below =
+    ap (λ n. in_row t.rows.items n b) (sym (mod-eq_of_lt a_below)) ∙ ap (in_row t.rows.items (a % t.order)) (sym (mod-eq_of_lt b_below))
 
 -- between the test and the fact
 pub tight : (t : Table) (i j : ℕ) → is_tight_in t i j ≡ true → IsTightIn t i j

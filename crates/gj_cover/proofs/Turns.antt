@@ -1,5 +1,5 @@
 -- Places in sets whose indices were turned.
-use Rattle.std.proofs.Common.{◌≡◌, inl, inr, ℕ, ◌+◌, ◌-◌, ◌%◌, ◌<◌, ◌&&◌, Bool, true, cond, leb, ltb, ap, sym, ◌∙◌, arith}
+use Rattle.std.proofs.Common.{◌≡◌, inl, inr, ℕ, ◌+◌, ◌-◌, ◌%◌, ◌<◌, ◌&&◌, Bool, true, cond, leb, ltb, refl, ap, sym, ◌∙◌, arith}
 use Rattle.std.specs.Prelude.{◌==◌, if◌then◌else◌}
 use Rattle.std.proofs.Math.Nat.{mod-eq_of_lt, mod-eq-sub-mod, mod_self}
 use Rattle.std.proofs.lemmas.Bool.{cases_lt, cases_eq, eq-eqb, ne_eqb, le-ltb, and_left, cond_both, leb-true, leb-false, ltb-true, lt-ltb, and_parts}
@@ -46,6 +46,10 @@ back_place q j f r is =
 
 pub in_below : (q n j : ℕ) (x r : Bool) → n ≡ q → r ≡ (ltb j n && x) → r ≡ true → j < q
 in_below q n j x r same is e = let below = ltb-true j n ((and_parts (ltb j n) x (sym is ∙ e)).0) in omega arith
+
+-- what is in a set and in one that was moved back
+pub moved_below : (q j : ℕ) (x y r h : Bool) → h ≡ (y && r) → r ≡ (ltb j q && x) → h ≡ true → j < q
+moved_below q j x y r h both is e = in_below q q j x r refl is ((and_parts y r (sym both ∙ e)).1)
 
 pub turned_in : (q n s j : ℕ) (f : ℕ → Bool) (r : Bool) → n ≡ q → j < q → r ≡ (ltb j n && f (place_of n s j)) →
     r ≡ f (place_of q s j)

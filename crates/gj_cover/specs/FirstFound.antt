@@ -1,5 +1,5 @@
 -- The first face in walk order among those of some squares (own).
-use Rattle.std.specs.Prelude.{ℕ, ◌≡◌, ◌⊎◌, ◌<◌, ◌≤◌, Option, Some, None, MatchOption}
+use Rattle.std.specs.Prelude.{ℕ, ◌≡◌, ◌⊎◌, ◌<◌, ◌≤◌, Option, Some, IfSome, MatchOption}
 use Rattle.gj_shape.specs.declared.faces.Face.{Face}
 use Rattle.gj_shape.specs.declared.faces.FaceKind.{FaceKind}
 use Rattle.gj_shape.specs.declared.faces.FaceKind.TheVariants.{Vertex, Horizontal, Vertical, Diagonal, Lower, Upper}
@@ -36,17 +36,16 @@ FindsFirst Square P found = MatchOption found (HasNone Square P) (IsFirstOf Squa
 abbrev pub IsEarlier : Face → Face → Type 0
 IsEarlier f g = (f.a < g.a) ⊎ ((f.a ≡ g.a) × (f.b < g.b))
 
--- no face of the same square that has the property is before the face
-abbrev pub IsFirstOfItsSquare : (FaceKind → ℕ → ℕ → Type 0) → Face → Type 0
-IsFirstOfItsSquare P face = (kind : FaceKind) → P kind face.a face.b → rank face.kind ≤ rank kind
+-- the face of this kind of the square (a, b)
+abbrev pub IsThis : FaceKind → ℕ → ℕ → FaceKind → ℕ → ℕ → Type 0
+IsThis kind a b other c d = (other ≡ kind) × (c ≡ a) × (d ≡ b)
 
--- the face is the first of one that was found before and of those of these squares that have the property
-pub record IsFirstWith (Square : ℕ → ℕ → Type 0) (P : FaceKind → ℕ → ℕ → Type 0) (found : Option Face) (face : Face) : Type 0 where
-  pub from : (found ≡ Some face) ⊎ (Square face.a face.b × P face.kind face.a face.b)
-  pub behind : (other : Face) → found ≡ Some other → IsNotBefore face other.kind other.a other.b
-  pub first : (kind : FaceKind) (a b : ℕ) → Square a b → P kind a b → IsNotBefore face kind a b
-  pub own : IsFirstOfItsSquare P face
+-- a face was found that is not behind the face of this kind of the square (a, b)
+abbrev pub IsReached : Option Face → FaceKind → ℕ → ℕ → Type 0
+IsReached found kind a b = MatchOption found ⊥ (λ f. IsNotBefore f kind a b)
 
--- the first of a face that may have been found before and of those of these squares that have the property
-abbrev pub AddsFirst : (ℕ → ℕ → Type 0) → (FaceKind → ℕ → ℕ → Type 0) → Option Face → Option Face → Type 0
-AddsFirst Square P found result = MatchOption result ((found ≡ None) × HasNone Square P) (IsFirstWith Square P found)
+-- the first of a face that may have been found before and of those of these faces that have the property
+pub record AddsFirst (These P : FaceKind → ℕ → ℕ → Type 0) (found result : Option Face) : Type 0 where
+  pub from : IfSome result (λ f. (found ≡ Some f) ⊎ (These f.kind f.a f.b × P f.kind f.a f.b))
+  pub behind : (kind : FaceKind) (a b : ℕ) → IsReached found kind a b → IsReached result kind a b
+  pub first : (kind : FaceKind) (a b : ℕ) → These kind a b → P kind a b → IsReached result kind a b

@@ -1,5 +1,6 @@
 pub mod CoverOf
 pub mod SetRows
+pub mod Sides
 pub mod Mirrored
 pub mod Table
 pub mod FirstFound

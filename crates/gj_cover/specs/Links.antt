@@ -1,19 +1,20 @@
--- Squares in which an interval stands behind another, and edges that link two intervals (own).
+-- Faces that lead from an interval to another, and edges that link two intervals (own).
 use Rattle.std.specs.Prelude.{ℕ, ◌≡◌, ◌≢◌, ◌⊎◌, ◌+◌, ◌%◌, ◌<◌}
 use Rattle.gj_shape.specs.Additive.{IsAdditive}
-use Rattle.gj_shape.specs.declared.faces.FaceKind.TheVariants.{Horizontal, Vertical, Diagonal}
+use Rattle.gj_shape.specs.declared.faces.FaceKind.{FaceKind}
+use Rattle.gj_shape.specs.declared.faces.FaceKind.TheVariants.{Vertex, Horizontal, Vertical, Diagonal, Lower, Upper}
 
--- one of the intervals a, b of the square (a, b) is i, and a later one of a, b, a + b, a + b + 1 is j
-abbrev pub LeadsFrom : ℕ → ℕ → ℕ → ℕ → ℕ → Type 0
-LeadsFrom q i j a b =
-    ((a ≡ i) × (b ≡ j)) ⊎ ((a ≡ i) × ((a + b) % q ≡ j)) ⊎ ((a ≡ i) × ((a + b + 1) % q ≡ j))
-    ⊎ ((b ≡ i) × ((a + b) % q ≡ j)) ⊎ ((b ≡ i) × ((a + b + 1) % q ≡ j))
+-- the face is an edge of the complex of order q that links the interval i and j behind it, or an upper triangle that projects on
+-- both, with j as its sum
+abbrev pub LeadsBy : ℕ → ℕ → ℕ → FaceKind → ℕ → ℕ → Type 0
+LeadsBy q i j Vertex a b = ⊥
+LeadsBy q i j Horizontal a b = (a ≡ i) × (b < q) × ((a + b) % q ≡ j)
+LeadsBy q i j Vertical a b = (a < q) × (b ≡ i) × ((a + b) % q ≡ j)
+LeadsBy q i j Diagonal a b = (a ≡ i) × (b ≡ j)
+LeadsBy q i j Lower a b = ⊥
+LeadsBy q i j Upper a b = (a < q) × (b < q) × ((a ≡ i) ⊎ (b ≡ i)) × ((a + b + 1) % q ≡ j)
 
--- the square lies in the complex of order q, and the interval j stands behind i in it
-abbrev pub IsSquareFrom : ℕ → ℕ → ℕ → ℕ → ℕ → Type 0
-IsSquareFrom q i j a b = (a < q) × (b < q) × LeadsFrom q i j a b
-
--- an additive edge links both so
+-- an additive edge links the interval i and j behind it
 pub data Links (q : ℕ) (Tight : ℕ → ℕ → Type 0) (i j : ℕ) : Type 0 where
   diagonal : IsAdditive Tight Diagonal i j → Links q Tight i j
   horizontal : (b : ℕ) → b < q → (i + b) % q ≡ j → IsAdditive Tight Horizontal i b → Links q Tight i j

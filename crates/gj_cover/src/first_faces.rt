@@ -1,16 +1,20 @@
 //! The first face in walk order that joins two intervals or covers one.
-ghost use Rattle.std.specs.Prelude.{◌≡◌, ◌≢◌, ◌⊎◌, ◌+◌, ◌%◌, ◌<◌, ◌≤◌, ◌^◌, IsTrue, IfSome, IfNone, MatchOption};
+ghost use Rattle.std.specs.Prelude.{◌≡◌, ◌≢◌, ◌⊎◌, ◌↔◌, ◌+◌, ◌%◌, ◌<◌, ◌^◌, IsTrue, IfSome, IfNone, MatchOption};
+ghost use Rattle.gj_shape.specs.Additive.{IsAdditive};
 ghost use Rattle.gj_shape.specs.Cover.{IsFirstFace, IsDirectlyCovered};
 ghost use Rattle.gj_cover.specs.Table.{IsTightIn, JoinsBy, AreJoinedBy, CoversBy};
-ghost use Rattle.gj_cover.specs.FirstFound.{FindsFirst, AddsFirst, IsFirstOfItsSquare, IsEarlier};
-ghost use Rattle.gj_cover.specs.Links.{IsSquareFrom, IsInRow, IsAcross};
+ghost use Rattle.gj_cover.specs.FirstFound.{rank, FindsFirst, IsThis, IsReached, AddsFirst, IsEarlier};
+ghost use Rattle.gj_cover.specs.Links.{LeadsBy, IsInRow, IsAcross};
 
-use crate::squares::{covering_in_square, joining_in_square};
+use crate::squares::covering_in_square;
 use crate::table::Table;
 use crate::triangles::{covering_across, covering_row};
-use gj_shape::Face;
+use gj_shape::{Face, FaceKind};
 
 /// The first face in walk order that joins two different intervals.
+///
+/// A triangle that projects on both has an edge that links them, in its own square and before it, unless it is an upper one and one
+/// of the two is its sum.
 pub(crate) fn first_joining(table: &Table, i: u32, j: u32) -> Option<Face>
     requires first { i < table.now.order }
     requires second { j < table.now.order }
@@ -18,63 +22,70 @@ pub(crate) fn first_joining(table: &Table, i: u32, j: u32) -> Option<Face>
     ensures found { IfSome result (IsFirstFace table.now.order (JoinsBy table.now i j)) }
     ensures none { IfNone result (AreJoinedBy table.now i j → ⊥) }
 {
-    let found = joining_from(table, None, j, i, i, j);
-    joining_from(table, found, i, j, i, j)
+    let found = joining_from(table, None, i, j);
+    joining_from(table, found, j, i)
 }
 
-/// The first of a face that was found and those that join the intervals i and j in the squares in which `to` stands behind `from`.
-fn joining_from(
-    table: &Table,
-    found: Option<Face>,
-    from: u32,
-    to: u32,
-    i: u32,
-    j: u32,
-) -> Option<Face>
+/// The first of a face that was found and the additive ones that lead from one interval to the other: the edges that link both
+/// with `to` behind `from`, and the upper triangles that project on both with `to` as the sum.
+fn joining_from(table: &Table, found: Option<Face>, from: u32, to: u32) -> Option<Face>
     requires start { from < table.now.order }
     requires end { to < table.now.order }
-    requires first { i < table.now.order }
-    requires second { j < table.now.order }
-    requires found { IfSome found (IsFirstOfItsSquare (JoinsBy table.now i j)) }
-    ensures { AddsFirst (IsSquareFrom table.now.order from to) (JoinsBy table.now i j) found result }
+    ensures { AddsFirst (LeadsBy table.now.order from to) (IsAdditive (IsTightIn table.now)) found result }
 {
     let q = table.order();
     let step = difference(to, from, q);
     let short = difference(step, 1, q);
-    let found = joining_there(table, found, from, to, i, j);
-    let found = joining_there(table, found, from, step, i, j);
-    let found = joining_there(table, found, from, short, i, j);
-    let found = joining_there(table, found, step, from, i, j);
-    joining_there(table, found, short, from, i, j)
+    let found = with_face(table, found, FaceKind::Diagonal, from, to);
+    let found = with_face(table, found, FaceKind::Horizontal, from, step);
+    let found = with_face(table, found, FaceKind::Upper, from, short);
+    let found = with_face(table, found, FaceKind::Vertical, step, from);
+    with_face(table, found, FaceKind::Upper, short, from)
 }
 
-/// The first of a face that was found and those of the square (a, b) that join the intervals i and j. A square that is not before
-/// the face is not looked at.
-fn joining_there(table: &Table, found: Option<Face>, a: u32, b: u32, i: u32, j: u32) -> Option<Face>
+/// The first of a face that was found and the face of this kind of the square (a, b), if that is additive.
+fn with_face(table: &Table, found: Option<Face>, kind: FaceKind, a: u32, b: u32) -> Option<Face>
     requires first { a < table.now.order }
     requires second { b < table.now.order }
-    requires first_interval { i < table.now.order }
-    requires second_interval { j < table.now.order }
-    requires found { IfSome found (IsFirstOfItsSquare (JoinsBy table.now i j)) }
-    ensures { AddsFirst (λ c d. (c ≡ a) × (d ≡ b)) (JoinsBy table.now i j) found result }
+    ensures { AddsFirst (IsThis kind a b) (IsAdditive (IsTightIn table.now)) found result }
 {
-    if is_behind(found, a, b) {
+    if is_reached(found, kind, a, b) {
         return found;
     }
-    earlier(found, joining_in_square(table, a, b, i, j))
+    if table.is_additive(kind, a, b) {
+        return Some(Face { kind, a, b });
+    }
+    found
 }
 
-/// Whether a face was found and the square (a, b) is not before its square.
-fn is_behind(found: Option<Face>, a: u32, b: u32) -> bool
-    ensures { IsTrue result → MatchOption found ⊥ (λ f. (f.a < a) ⊎ ((f.a ≡ a) × (f.b ≤ b))) }
+/// Whether a face was found that is not behind the face of this kind of the square (a, b) in walk order.
+fn is_reached(found: Option<Face>, kind: FaceKind, a: u32, b: u32) -> bool
+    ensures { IsTrue result ↔ IsReached found kind a b }
 {
     let Some(face) = found else {
         return false;
     };
-    if face.a == a {
-        return face.b <= b;
+    if face.a != a {
+        return face.a < a;
     }
-    face.a < a
+    if face.b != b {
+        return face.b < b;
+    }
+    place_in_square(face.kind) <= place_in_square(kind)
+}
+
+/// The place of a kind among the faces of one square, from 0 to 5.
+fn place_in_square(kind: FaceKind) -> u32
+    ensures { result ≡ rank kind }
+{
+    match kind {
+        FaceKind::Vertex => 0,
+        FaceKind::Horizontal => 1,
+        FaceKind::Vertical => 2,
+        FaceKind::Diagonal => 3,
+        FaceKind::Lower => 4,
+        FaceKind::Upper => 5,
+    }
 }
 
 /// The first triangle in walk order that covers the interval.

@@ -1,5 +1,5 @@
 //! The intervals that are joined to one.
-ghost use Rattle.std.specs.Prelude.{ℕ, ◌↔◌, ◌<◌, IsTrue};
+ghost use Rattle.std.specs.Prelude.{ℕ, ◌⊎◌, ◌↔◌, ◌<◌, IsTrue};
 ghost use Rattle.gj_sets.specs.IndexSets.{has};
 ghost use Rattle.gj_cover.specs.Table.{IsTightIn, IsJoinedSet};
 ghost use Rattle.gj_cover.specs.Links.{Links};
@@ -36,21 +36,23 @@ fn linked_from(table: &Table, i: u32) -> IndexSet
     links.or(&vertical)
 }
 
-/// The intervals j that an additive edge links to the interval i as one that stands behind them.
+/// The intervals j that an additive edge links to the interval i as one that stands behind them, perhaps without those to which a
+/// diagonal edge links it both ways.
 fn linked_to(table: &Table, i: u32) -> IndexSet
     requires { i < table.now.order }
     ensures within { (j : ℕ) → IsTrue (has result j) → j < table.now.order }
-    ensures links { (j : ℕ) → j < table.now.order → IsTrue (has result j) ↔ Links table.now.order (IsTightIn table.now) j i }
+    ensures links { (j : ℕ) → j < table.now.order → IsTrue (has result j) → Links table.now.order (IsTightIn table.now) j i }
+    ensures all { (j : ℕ) → j < table.now.order → Links table.now.order (IsTightIn table.now) j i →
+        IsTrue (has result j) ⊎ Links table.now.order (IsTightIn table.now) i j }
 {
+    let horizontal = table.firsts(i).and(&table.turned_back(table.firsts(i + 1)));
+    if table.is_symmetric() {
+        return horizontal;
+    }
     let (column, next_column) = (table.column(i), table.column(i + 1));
     let diagonal = next_column.and(&table.turned_back(column));
-    let horizontal = table.firsts(i).and(&table.turned_back(table.firsts(i + 1)));
-    let links = diagonal.or(&horizontal);
-    if table.is_symmetric() {
-        return links;
-    }
     let vertical = table
         .seconds(i)
         .and(&table.turned_back(table.seconds(i + 1)));
-    links.or(&vertical)
+    diagonal.or(&horizontal).or(&vertical)
 }

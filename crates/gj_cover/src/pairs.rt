@@ -15,8 +15,8 @@ use std::alloc::{AllocError, Global};
 
 /// The table of the tight pairs of a function.
 ///
-/// If the values at each two points with the sum f add up to 1, the pairs with a sum are those of one row, so that no set is
-/// made but by a copy.
+/// If the values at each two points with the sum f add up to 1, the pairs with a sum are those of one row, so that the rows are all
+/// sets of the table.
 pub(crate) fn table_of_pairs(
     alloc: Global,
     shape: &Shape,
@@ -27,14 +27,11 @@ pub(crate) fn table_of_pairs(
     ensures tells { IfOk result (λ t. TellsTight t (IsTight shape.now)) }
 {
     let rows = copied_rows(alloc, shape, pairs)?;
-    if !is_mirrored(shape) {
-        let table = Table::of(alloc, rows, shape.order())?;
-        return Ok(table);
+    if is_mirrored(shape) {
+        return Ok(Table::with_own_sides(rows, shape.order(), shape.place()));
     }
-    let columns = copied_rows(alloc, shape, pairs)?;
-    let firsts = rows_of_sums(alloc, shape, pairs)?;
-    let seconds = rows_of_sums(alloc, shape, pairs)?;
-    Ok(Table::with(shape.order(), rows, columns, firsts, seconds))
+    let table = Table::of(alloc, rows, shape.order())?;
+    Ok(table)
 }
 
 /// The rows of the pairs.
@@ -52,26 +49,6 @@ fn copied_rows(
     let mut rows = Vec::with_capacity(alloc, order as usize)?;
     for a in 0..order {
         rows.push(*pairs.row(a))?;
-    }
-    Ok(rows)
-}
-
-/// For each index s the row of f less s/q.
-fn rows_of_sums(
-    alloc: Global,
-    shape: &Shape,
-    pairs: &TightPairs,
-) -> Result<Vec<IndexSet>, AllocError>
-    requires { AreTightPairsOf shape.now pairs.now }
-    ensures length { IfOk result (λ v. length v.items ≡ shape.now.order) }
-    ensures rows { IfOk result (λ v. (s b : ℕ) → s < shape.now.order → b < shape.now.order →
-        IsTrue (in_row v.items s b) ↔ IsTight shape.now (shape.now.place + (shape.now.order - s)) b) }
-{
-    let order = shape.order();
-    let place = shape.place();
-    let mut rows = Vec::with_capacity(alloc, order as usize)?;
-    for s in 0..order {
-        rows.push(*pairs.row(wrapped(place + (order - s), order)))?;
     }
     Ok(rows)
 }

@@ -1,64 +1,13 @@
-//! Faces of one square that join two intervals or cover one.
+//! Triangles of one square that cover an interval.
 ghost use Rattle.std.specs.Prelude.{◌≡◌, ◌↔◌, ◌<◌, ◌++◌, [], IsTrue};
 ghost use Rattle.gj_shape.specs.Cover.{IsOneOf, links_of, triangle_projections};
 ghost use Rattle.gj_shape.specs.Given.{IsOrder};
-ghost use Rattle.gj_cover.specs.Table.{JoinsBy, CoversBy};
+ghost use Rattle.gj_cover.specs.Table.{CoversBy};
 ghost use Rattle.gj_cover.specs.FirstFound.{FindsFirst};
 
 use crate::table::Table;
 use gj_complex::projections;
 use gj_shape::{Face, FaceKind};
-
-/// The first face of the square (a, b) that joins the intervals i and j.
-pub(crate) fn joining_in_square(table: &Table, a: u32, b: u32, i: u32, j: u32) -> Option<Face>
-    requires first { a < table.now.order }
-    requires second { b < table.now.order }
-    requires first_interval { i < table.now.order }
-    requires second_interval { j < table.now.order }
-    ensures { FindsFirst (λ c d. (c ≡ a) × (d ≡ b)) (JoinsBy table.now i j) result }
-{
-    let horizontal = Face {
-        kind: FaceKind::Horizontal,
-        a,
-        b,
-    };
-    if is_joining(table, horizontal, i, j) {
-        return Some(horizontal);
-    }
-    let vertical = Face {
-        kind: FaceKind::Vertical,
-        a,
-        b,
-    };
-    if is_joining(table, vertical, i, j) {
-        return Some(vertical);
-    }
-    let diagonal = Face {
-        kind: FaceKind::Diagonal,
-        a,
-        b,
-    };
-    if is_joining(table, diagonal, i, j) {
-        return Some(diagonal);
-    }
-    let lower = Face {
-        kind: FaceKind::Lower,
-        a,
-        b,
-    };
-    if is_joining(table, lower, i, j) {
-        return Some(lower);
-    }
-    let upper = Face {
-        kind: FaceKind::Upper,
-        a,
-        b,
-    };
-    if is_joining(table, upper, i, j) {
-        return Some(upper);
-    }
-    None
-}
 
 /// The first triangle of the square (a, b) that covers the interval i.
 pub(crate) fn covering_in_square(table: &Table, a: u32, b: u32, i: u32) -> Option<Face>
@@ -84,23 +33,6 @@ pub(crate) fn covering_in_square(table: &Table, a: u32, b: u32, i: u32) -> Optio
         return Some(upper);
     }
     None
-}
-
-/// Whether the face is additive and joins the intervals i and j.
-fn is_joining(table: &Table, face: Face, i: u32, j: u32) -> bool
-    requires first { face.a < table.now.order }
-    requires second { face.b < table.now.order }
-    requires first_interval { i < table.now.order }
-    requires second_interval { j < table.now.order }
-    ensures { IsTrue result ↔ JoinsBy table.now i j face.kind face.a face.b }
-{
-    if !table.is_additive(face.kind, face.a, face.b) {
-        return false;
-    }
-    if !has_interval(face, i, table.order()) {
-        return false;
-    }
-    has_interval(face, j, table.order())
 }
 
 /// Whether the triangle is additive and covers the interval i.

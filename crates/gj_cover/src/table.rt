@@ -3,45 +3,52 @@ ghost use Rattle.std.specs.Prelude.{ℕ, ◌≡◌, ◌↔◌, ◌+◌, ◌*◌,
 ghost use Rattle.gj_sets.specs.IndexSets.{has};
 ghost use Rattle.gj_shape.specs.Additive.{IsAdditive};
 ghost use Rattle.gj_shape.specs.Given.{IsOrder};
-ghost use Rattle.gj_cover.specs.SetRows.{AreColumns, AreFirsts, AreSeconds};
+ghost use Rattle.gj_cover.specs.Sides.{AreSides, one_way};
 
 use crate::transposed::{first_indices, transposed};
 use gj_sets::IndexSet;
 use gj_shape::{FaceKind, wrapped};
 use std::alloc::{AllocError, Global};
 
-/// Which pairs of indices below the order are tight. Each pair stands in four sets, so that each question about all pairs with
-/// one index, or with one sum, is asked of a whole set.
+/// Which pairs of indices below the order are tight, as sets, so that each question about all pairs with one index, or with one
+/// sum, is asked of a whole set.
 #[derive(Drop)]
 pub(crate) struct Table {
     order: u32,
     /// For each a the indices b of the tight pairs (a, b).
     rows: Vec<IndexSet>,
-    /// For each b the indices a of the tight pairs (a, b).
-    columns: Vec<IndexSet>,
-    /// For each s the indices a of the tight pairs (a, b) with the sum s, modulo the order.
-    firsts: Vec<IndexSet>,
-    /// For each s the indices b of the tight pairs (a, b) with the sum s, modulo the order.
-    seconds: Vec<IndexSet>,
+    sides: Sides,
     /// The indices below the order.
     within: IndexSet,
-    /// Whether (b, a) is known to be tight with each tight (a, b), so that a row and the column of its index are one.
-    is_symmetric: bool,
     ghost few: { IsOrder order },
     ghost rows_length: { length rows.items ≡ order },
-    ghost columns_length: { length columns.items ≡ order },
-    ghost firsts_length: { length firsts.items ≡ order },
-    ghost seconds_length: { length seconds.items ≡ order },
-    ghost columns_are: { AreColumns order rows.items columns.items },
-    ghost firsts_are: { AreFirsts order rows.items firsts.items },
-    ghost seconds_are: { AreSeconds order rows.items seconds.items },
+    ghost sides_are: { AreSides order rows.items sides } by { one_way order rows.items sides },
     ghost within_is: { (i : ℕ) → has within i ≡ nat_lt i order },
-    ghost symmetric: { IsTrue is_symmetric → AreColumns order rows.items rows.items },
+}
+
+/// The tight pairs by their second index, and by their sum modulo the order.
+#[derive(Drop)]
+enum Sides {
+    /// Sets of their own.
+    Apart {
+        /// For each b the indices a of the tight pairs (a, b).
+        columns: Vec<IndexSet>,
+        /// For each s the indices a of the tight pairs (a, b) with the sum s.
+        firsts: Vec<IndexSet>,
+        /// For each s the indices b of the tight pairs (a, b) with the sum s.
+        seconds: Vec<IndexSet>,
+    },
+    /// The rows again: (b, a) is tight with each tight (a, b), and the indices of the pairs with the sum s are those in the row of
+    /// the place less s.
+    Rows {
+        place: u32,
+    },
 }
 
 impl Table {
     ghost use Rattle.std.specs.Prelude.{ℕ, ◌%◌, ◌&&◌, nat_lt};
     ghost use Rattle.gj_sets.specs.IndexSets.{has};
+    ghost use Rattle.gj_cover.specs.Sides.{AreOwnSides};
     ghost use Rattle.gj_cover.specs.Table.{IsTightIn, is_tight_in};
 
     /// The table of the pairs in these rows.
@@ -57,42 +64,29 @@ impl Table {
         Ok(Table {
             order,
             rows,
-            columns,
-            firsts,
-            seconds,
+            sides: Sides::Apart {
+                columns,
+                firsts,
+                seconds,
+            },
             within: IndexSet::below(order as usize),
-            is_symmetric: false,
         })
     }
 
-    /// The table with these sets, where (b, a) is tight with each tight (a, b). It takes no memory.
-    pub(crate) fn with(
-        order: u32,
-        rows: Vec<IndexSet>,
-        columns: Vec<IndexSet>,
-        firsts: Vec<IndexSet>,
-        seconds: Vec<IndexSet>,
-    ) -> Table
+    /// The table of the pairs in these rows, where (b, a) is tight with each tight (a, b), and the pairs with a sum are those in the
+    /// row of the place less the sum. It takes no memory.
+    pub(crate) fn with_own_sides(rows: Vec<IndexSet>, order: u32, place: u32) -> Table
         requires few { IsOrder order }
-        requires rows_length { length rows.items ≡ order }
-        requires columns_length { length columns.items ≡ order }
-        requires firsts_length { length firsts.items ≡ order }
-        requires seconds_length { length seconds.items ≡ order }
-        requires columns_are { AreColumns order rows.items columns.items }
-        requires firsts_are { AreFirsts order rows.items firsts.items }
-        requires seconds_are { AreSeconds order rows.items seconds.items }
-        requires symmetric { AreColumns order rows.items rows.items }
+        requires length { length rows.items ≡ order }
+        requires sides { AreOwnSides order rows.items place }
         ensures order { result.order ≡ order }
         ensures rows { result.rows.items ≡ rows.items }
     {
         Table {
             order,
             rows,
-            columns,
-            firsts,
-            seconds,
+            sides: Sides::Rows { place },
             within: IndexSet::below(order as usize),
-            is_symmetric: true,
         }
     }
 
@@ -108,7 +102,7 @@ impl Table {
     pub(crate) fn is_symmetric(&self) -> bool
         ensures { IsTrue result → (i j : ℕ) → is_tight_in self.now i j ≡ is_tight_in self.now j i }
     {
-        self.is_symmetric
+        matches!(self.sides, Sides::Rows { .. })
     }
 
     /// Each index of the set less 1, where 0 becomes the last index below the order; none that is not below the order.
@@ -131,7 +125,10 @@ impl Table {
         requires { b ≤ self.now.order }
         ensures { (a : ℕ) → a < self.now.order → has result.now a ≡ is_tight_in self.now a b }
     {
-        &self.columns[wrapped(b, self.order) as usize]
+        match &self.sides {
+            Sides::Apart { columns, .. } => &columns[wrapped(b, self.order) as usize],
+            Sides::Rows { .. } => self.row(b),
+        }
     }
 
     /// The first indices of the tight pairs with this sum, modulo the order.
@@ -140,7 +137,10 @@ impl Table {
         ensures { (a b : ℕ) → a < self.now.order → b < self.now.order → (a + b) % self.now.order ≡ sum % self.now.order →
             has result.now a ≡ is_tight_in self.now a b }
     {
-        &self.firsts[wrapped(sum, self.order) as usize]
+        match &self.sides {
+            Sides::Apart { firsts, .. } => &firsts[wrapped(sum, self.order) as usize],
+            Sides::Rows { place } => self.row_of_sum(*place, sum),
+        }
     }
 
     /// The second indices of the tight pairs with this sum, modulo the order.
@@ -149,7 +149,21 @@ impl Table {
         ensures { (a b : ℕ) → a < self.now.order → b < self.now.order → (a + b) % self.now.order ≡ sum % self.now.order →
             has result.now b ≡ is_tight_in self.now a b }
     {
-        &self.seconds[wrapped(sum, self.order) as usize]
+        match &self.sides {
+            Sides::Apart { seconds, .. } => &seconds[wrapped(sum, self.order) as usize],
+            Sides::Rows { place } => self.row_of_sum(*place, sum),
+        }
+    }
+
+    /// The row of the place less the sum, which has the first indices of the tight pairs with this sum.
+    fn row_of_sum(&self, place: u32, sum: u32) -> &IndexSet
+        requires sides { AreOwnSides self.now.order self.now.rows.items place }
+        requires sum { sum ≤ self.now.order }
+        ensures { (a b : ℕ) → a < self.now.order → b < self.now.order → (a + b) % self.now.order ≡ sum % self.now.order →
+            has result.now a ≡ is_tight_in self.now a b }
+    {
+        let sum = wrapped(sum, self.order);
+        self.row(wrapped(place + (self.order - sum), self.order))
     }
 
     /// Whether the pair is tight, where no index is above the order.

@@ -1,26 +1,12 @@
 use Rattle.std.proofs.Common.{◌≡◌, ◌<◌, ◌+◌, ◌%◌, subst}
-use Rattle.gj_cover.specs.Links.{IsSquareFrom}
-use Rattle.gj_cover.specs.Table.{JoinsBy}
-use Rattle.gj_cover.proofs.Adding.{both_added, added_restated, own_first}
-use Rattle.gj_cover.proofs.FirstFaces.{AreSteps, Square, Five, five_on, five_back}
-use Rattle.gj_cover.proofs.Merging.{Either}
+use Rattle.gj_shape.specs.Additive.{IsAdditive}
+use Rattle.gj_shape.specs.declared.faces.FaceKind.TheVariants.{Horizontal, Vertical, Diagonal, Upper}
+use Rattle.gj_cover.specs.FirstFound.{IsThis}
+use Rattle.gj_cover.specs.Links.{LeadsBy}
+use Rattle.gj_cover.specs.Table.{IsTightIn}
+use Rattle.gj_cover.proofs.Adding.{EitherOf, both_added, added_restated}
+use Rattle.gj_cover.proofs.FirstFaces.{AreSteps, Five, five_on, five_back}
 use Rattle.gj_cover.proofs.first_faces.joining_from.Goals as goal
-
-pub joining_there-found-requires-2-clause-found : goal.joining_there-found-requires-2-clause-found
-joining_there-found-requires-2-clause-found c =
-    own_first (Square c.args.from c.args.to) (JoinsBy c.args.table.now c.args.i c.args.j) c.args.found c.joining_there-found.result c.joining_there-found.ensures
-
-pub joining_there-found-requires-3-clause-found : goal.joining_there-found-requires-3-clause-found
-joining_there-found-requires-3-clause-found c =
-    own_first (Square (c.args.from) (c.difference-step.result)) (JoinsBy c.args.table.now c.args.i c.args.j) c.joining_there-found.result c.joining_there-found-2.result c.joining_there-found-2.ensures
-
-pub joining_there-found-requires-4-clause-found : goal.joining_there-found-requires-4-clause-found
-joining_there-found-requires-4-clause-found c =
-    own_first (Square (c.args.from) (c.difference-short.result)) (JoinsBy c.args.table.now c.args.i c.args.j) c.joining_there-found-2.result c.joining_there-found-3.result c.joining_there-found-3.ensures
-
-pub joining_there-requires-clause-found : goal.joining_there-requires-clause-found
-joining_there-requires-clause-found c =
-    own_first (Square (c.difference-step.result) (c.args.from)) (JoinsBy c.args.table.now c.args.i c.args.j) c.joining_there-found-3.result c.joining_there-found-4.result c.joining_there-found-4.ensures
 
 pub returns : goal.returns
 returns c =
@@ -39,18 +25,18 @@ returns c =
       step_leads = subst (λ n. (i + step) % n ≡ j) is c.difference-step.ensures.value;
       short_leads = subst (λ n. (1 + short) % n ≡ step) is c.difference-short.ensures.value;
     } in
-    let P = JoinsBy t c.args.i c.args.j in
-    let one = Square i j in
-    let two = Either one (Square i step) in
-    let three = Either two (Square i short) in
-    let four = Either three (Square step i) in
-    let first = both_added one (Square i step) P c.args.found c.joining_there-found.result c.joining_there-found-2.result
-    c.joining_there-found.ensures c.joining_there-found-2.ensures in
-    let second = both_added two (Square i short) P c.args.found c.joining_there-found-2.result c.joining_there-found-3.result
-    first c.joining_there-found-3.ensures in
-    let third = both_added three (Square step i) P c.args.found c.joining_there-found-3.result c.joining_there-found-4.result
-    second c.joining_there-found-4.ensures in
-    let fourth = both_added four (Square short i) P c.args.found c.joining_there-found-4.result c.joining_there.result
-    third c.joining_there.ensures in
-    added_restated (Five i step short j) (IsSquareFrom q i j) P c.args.found c.joining_there.result
+    let P = IsAdditive (IsTightIn t) in
+    let one = IsThis Diagonal i j in
+    let two = EitherOf one (IsThis Horizontal i step) in
+    let three = EitherOf two (IsThis Upper i short) in
+    let four = EitherOf three (IsThis Vertical step i) in
+    let first = both_added one (IsThis Horizontal i step) P c.args.found c.with_face-found.result c.with_face-found-2.result
+    c.with_face-found.ensures c.with_face-found-2.ensures in
+    let second = both_added two (IsThis Upper i short) P c.args.found c.with_face-found-2.result c.with_face-found-3.result
+    first c.with_face-found-3.ensures in
+    let third = both_added three (IsThis Vertical step i) P c.args.found c.with_face-found-3.result c.with_face-found-4.result
+    second c.with_face-found-4.ensures in
+    let fourth = both_added four (IsThis Upper short i) P c.args.found c.with_face-found-4.result c.with_face.result
+    third c.with_face.ensures in
+    added_restated (Five i step short j) (LeadsBy q i j) P c.args.found c.with_face.result
     (five_on q i step short j steps) (five_back q i step short j steps) fourth

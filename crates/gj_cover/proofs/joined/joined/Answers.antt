@@ -20,10 +20,13 @@ returns-clause-joined c j below other =
       λ e. elim (or_cases (has c.linked_from.result j) (has c.linked_to.result j) (sym (c.or.ensures j) ∙ e)) [
         | inl x ↦ joined_by_links t.order (IsTightIn t) i j c.requires below ((c.linked_from.ensures.links j below).0 x)
         | inr x ↦ joined_turned t.order (IsTightIn t) j i
-            (joined_by_links t.order (IsTightIn t) j i below c.requires ((c.linked_to.ensures.links j below).0 x))
+            (joined_by_links t.order (IsTightIn t) j i below c.requires (c.linked_to.ensures.links j below x))
       ],
       λ h. c.or.ensures j ∙ (elim (linked t.order (IsTightIn t) (table_period t) i j c.requires below other h) [
         | inl l ↦ or_left (has c.linked_from.result j) (has c.linked_to.result j) ((c.linked_from.ensures.links j below).1 l)
-        | inr l ↦ or_right (has c.linked_from.result j) (has c.linked_to.result j) ((c.linked_to.ensures.links j below).1 l)
+        | inr l ↦ elim (c.linked_to.ensures.all j below l) [
+          | inl x ↦ or_right (has c.linked_from.result j) (has c.linked_to.result j) x
+          | inr x ↦ or_left (has c.linked_from.result j) (has c.linked_to.result j) ((c.linked_from.ensures.links j below).1 x)
+        ]
       ]),
     )

@@ -1,4 +1,4 @@
-use Rattle.std.proofs.Common.{◌≡◌, refl, ◌+◌, ◌%◌, ◌&&◌, ◌||◌, Bool, ap, ap₂, sym, ◌∙◌, inl, inr, arith}
+use Rattle.std.proofs.Common.{refl, ◌+◌, ◌%◌, ◌&&◌, ◌||◌, Bool, ap, ap₂, sym, ◌∙◌, inl, inr, arith}
 use Rattle.std.proofs.Math.Nat.{mod-lt}
 use Rattle.std.proofs.lemmas.Bool.{or_cases, and_parts}
 use Rattle.gj_sets.specs.IndexSets.{has}

@@ -1,6 +1,5 @@
 use Rattle.std.proofs.Common.{arith}
-use Rattle.gj_shape.specs.declared.faces.FaceKind.{FaceKind}
-use Rattle.gj_shape.specs.declared.faces.FaceKind.TheVariants.{Lower, Upper}
+use Rattle.gj_shape.specs.declared.faces.FaceKind.TheVariants.{Upper}
 use Rattle.gj_cover.specs.Table.{CoversBy}
 use Rattle.gj_cover.proofs.OneSquare.{first_there, none_there, ranked, all_ranked, edge_covers_none}
 use Rattle.gj_cover.proofs.squares.covering_in_square.Goals as goal

@@ -24,12 +24,13 @@ invariant_of-result c =
     record {
       few = c.requires.few;
       rows_length = c.requires.length;
-      columns_length = columns_length;
-      firsts_length = c.in_ok-firsts.ensures.length ∙ ap (λ (l : List IndexSet). length l) c.as_slice-2.ensures.value ∙ c.requires.length;
-      seconds_length = c.in_ok-seconds.ensures.length ∙ ap (λ (l : List IndexSet). length l) c.as_slice-3.ensures.value ∙ columns_length;
-      columns_are = columns_are;
-      firsts_are = firsts_are;
-      seconds_are = seconds_are q rows columns seconds columns_are turned;
+      sides_are = record {
+        columns_length = columns_length;
+        firsts_length = c.in_ok-firsts.ensures.length ∙ ap (λ (l : List IndexSet). length l) c.as_slice-2.ensures.value ∙ c.requires.length;
+        seconds_length = c.in_ok-seconds.ensures.length ∙ ap (λ (l : List IndexSet). length l) c.as_slice-3.ensures.value ∙ columns_length;
+        columns_are = columns_are;
+        firsts_are = firsts_are;
+        seconds_are = seconds_are q rows columns seconds columns_are turned;
+      };
       within_is = c.below.ensures;
-      symmetric = λ no. cc (no);
     }
