@@ -9,7 +9,6 @@ use Rattle.gj_sets.specs.Sums.{AreSmall}
 use Rattle.gj_shape.specs.Additive.{IsTight}
 use Rattle.gj_shape.specs.FunctionData.{FunctionData, IsWithinBounds, at}
 use Rattle.gj_shape.proofs.AtLemmas.{at_below, at_plus_length}
-use Rattle.gj_shape.proofs.NumeratorReadings.{value_below}
 use Rattle.gj_faces.specs.Lanes.{AreLaid}
 
 -- numbers that are small up to their end are small
@@ -20,14 +19,6 @@ small_all bound xs some h i =
       | inl below ↦ h i below
       | inr past ↦ subst (λ x. unsigned_abs x < bound) (sym (get_or_past xs i (pos 0) past)) some
     ]
-
--- the values of a function
-pub values_small : (f : FunctionData) → IsWithinBounds f → AreSmall (2 ^ 62) f.value
-values_small f limits =
-    small_all (2 ^ 62) f.value (omega arith) (λ i below.
-    let e = at_below f.value i below in
-    let small = value_below f i limits in
-    subst (λ x. unsigned_abs x < 2 ^ 62) e (omega arith))
 
 -- one number more in its place
 pub small_more : (bound : ℕ) (xs : List ℤ) (i : ℕ) (x : ℤ) → i < length xs → AreSmall bound xs → unsigned_abs x < bound →
