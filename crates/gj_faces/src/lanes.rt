@@ -31,9 +31,9 @@ pub(crate) fn tight_rows(alloc: Global, shape: &Shape) -> Result<Vec<IndexSet>, 
             short_rows(alloc, shape, &mut [0; COUNT])
         }
     } else if are_below(values, 1 << 30) {
-        narrow_rows(alloc, shape, &mut [0; COUNT])
+        narrow_rows(alloc, shape)
     } else {
-        wide_rows(alloc, shape, &mut [0; COUNT])
+        wide_rows(alloc, shape)
     }
 }
 
@@ -70,17 +70,17 @@ fn short_rows(alloc: Global, shape: &Shape, lanes: &mut [i16]) -> Result<Vec<Ind
     Ok(rows)
 }
 
-/// The rows of tight pairs off lanes of 32 bits, which the call fills.
+/// The rows of tight pairs off lanes of 32 bits.
 ///
-/// There is a lane for each index below twice the order, and there are 64 more.
-fn narrow_rows(alloc: Global, shape: &Shape, lanes: &mut [i32]) -> Result<Vec<IndexSet>, AllocError>
-    requires room { 2 * shape.now.order + 64 ≤ length lanes.old }
-    requires small { AreSmall (2 ^ 30) shape.now.value }
-    requires small_lanes { AreSmall (2 ^ 30) lanes.old }
+/// It stands apart, so that a call whose values fit narrower lanes has no room for these on its stack.
+#[inline(never)]
+fn narrow_rows(alloc: Global, shape: &Shape) -> Result<Vec<IndexSet>, AllocError>
+    requires { AreSmall (2 ^ 30) shape.now.value }
     ensures { IfOk result (λ rows. AreRows shape.now shape.now.order rows.items) }
 {
     let values = shape.value_numerators();
-    lay_narrow(lanes, values);
+    let mut lanes = [0; COUNT];
+    lay_narrow(&mut lanes, values);
     let lanes = &lanes[..];
     let order = values.len();
     let mut rows = Vec::with_capacity(alloc, order)?;
@@ -90,17 +90,17 @@ fn narrow_rows(alloc: Global, shape: &Shape, lanes: &mut [i32]) -> Result<Vec<In
     Ok(rows)
 }
 
-/// The rows of tight pairs off lanes of 64 bits, which the call fills.
+/// The rows of tight pairs off lanes of 64 bits.
 ///
-/// There is a lane for each index below twice the order, and there are 64 more.
-fn wide_rows(alloc: Global, shape: &Shape, lanes: &mut [i64]) -> Result<Vec<IndexSet>, AllocError>
-    requires room { 2 * shape.now.order + 64 ≤ length lanes.old }
-    requires small { AreSmall (2 ^ 62) shape.now.value }
-    requires small_lanes { AreSmall (2 ^ 62) lanes.old }
+/// It stands apart, so that a call whose values fit narrower lanes has no room for these on its stack.
+#[inline(never)]
+fn wide_rows(alloc: Global, shape: &Shape) -> Result<Vec<IndexSet>, AllocError>
+    requires { AreSmall (2 ^ 62) shape.now.value }
     ensures { IfOk result (λ rows. AreRows shape.now shape.now.order rows.items) }
 {
     let values = shape.value_numerators();
-    lay_wide(lanes, values);
+    let mut lanes = [0; COUNT];
+    lay_wide(&mut lanes, values);
     let lanes = &lanes[..];
     let order = values.len();
     let mut rows = Vec::with_capacity(alloc, order)?;

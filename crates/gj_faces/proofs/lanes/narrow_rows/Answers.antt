@@ -1,8 +1,11 @@
 use Rattle.std.proofs.Common.{◌^◌, IsTrue, get_or, pos, to_z, of_z, w32, arith}
 use Rattle.gj_sets.specs.IndexSets.{has}
 use Rattle.gj_faces.proofs.PairRows.{row_more}
-use Rattle.gj_faces.proofs.Readings.{row_of_lanes, read_alone_narrow}
+use Rattle.gj_faces.proofs.Readings.{zeros_small, row_of_lanes, read_alone_narrow}
 use Rattle.gj_faces.proofs.lanes.narrow_rows.Goals as goal
+
+pub lay_narrow-requires-clause-small_lanes : goal.lay_narrow-requires-clause-small_lanes
+lay_narrow-requires-clause-small_lanes c = zeros_small (2 ^ 30) 2064 (omega arith)
 
 pub loop-a-preserved : goal.loop-a-preserved
 loop-a-preserved c =
