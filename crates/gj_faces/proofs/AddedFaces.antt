@@ -60,6 +60,37 @@ adds_no_edge f a b alone old h below silent = record {
         let some = h.edges kind b below plain ((h.each kind b below).1 maximal) in
         true≢false (sym some ∙ silent)
 
+-- a square of which a face is maximal that is no triangle
+pub adds_edge : (f : FunctionData) (kind : FaceKind) (a b : ℕ) (alone : Alone) (old new : List Face) → AreAlone f a alone →
+    is_triangle kind ≡ false → IsMaximalIn f (record { kind = kind; a = a; b = b }) →
+    new ≡ old ++ record { kind = kind; a = a; b = b } ∷ [] → AddsMaximal f (faces_of_square a b) old new
+adds_edge f kind a b alone old new h plain maximal e = record {
+  added = record { kind = kind; a = a; b = b } ∷ [];
+  picked = picked kind plain maximal;
+  items = e;
+}
+  where
+    picked : (k : FaceKind) → is_triangle k ≡ false → IsMaximalIn f (record { kind = k; a = a; b = b }) →
+        ArePicked (IsMaximalIn f) (faces_of_square a b) (record { kind = k; a = a; b = b } ∷ [])
+    picked Vertex p m =
+        kept m (dropped (λ o. cc (h.apart Vertex Horizontal b p m o)) (dropped (λ o. cc (h.apart Vertex Vertical b p m o))
+        (dropped (λ o. cc (h.apart Vertex Diagonal b p m o)) (dropped (λ o. cc (h.apart Vertex Lower b p m o))
+        (dropped (λ o. cc (h.apart Vertex Upper b p m o)) none)))))
+    picked Horizontal p m =
+        dropped (λ o. cc (h.apart Horizontal Vertex b p m o)) (kept m (dropped (λ o. cc (h.apart Horizontal Vertical b p m o))
+        (dropped (λ o. cc (h.apart Horizontal Diagonal b p m o)) (dropped (λ o. cc (h.apart Horizontal Lower b p m o))
+        (dropped (λ o. cc (h.apart Horizontal Upper b p m o)) none)))))
+    picked Vertical p m =
+        dropped (λ o. cc (h.apart Vertical Vertex b p m o)) (dropped (λ o. cc (h.apart Vertical Horizontal b p m o))
+        (kept m (dropped (λ o. cc (h.apart Vertical Diagonal b p m o)) (dropped (λ o. cc (h.apart Vertical Lower b p m o))
+        (dropped (λ o. cc (h.apart Vertical Upper b p m o)) none)))))
+    picked Diagonal p m =
+        dropped (λ o. cc (h.apart Diagonal Vertex b p m o)) (dropped (λ o. cc (h.apart Diagonal Horizontal b p m o))
+        (dropped (λ o. cc (h.apart Diagonal Vertical b p m o)) (kept m (dropped (λ o. cc (h.apart Diagonal Lower b p m o))
+        (dropped (λ o. cc (h.apart Diagonal Upper b p m o)) none)))))
+    picked Lower p m = absurd (true≢false p)
+    picked Upper p m = absurd (true≢false p)
+
 -- squares of which no face is maximal
 adds_no_square : (f : FunctionData) (a b : ℕ) (alone : Alone) (old : List Face) → AreAlone f a alone → b < f.order →
     has alone.any b ≡ false → AddsMaximal f (faces_of_square a b) old old

@@ -1,5 +1,5 @@
 -- Which faces of a square are maximal, from the tight pairs around it.
-use Rattle.std.proofs.Common.{◌≡◌, ◌↔◌, ◌⊎◌, inl, inr, ℕ, ◌+◌, ◌-◌, ◌<◌, ◌≤◌, Bool, true, false, ◌&&◌, ◌||◌, not, sym, ◌∙◌, lit<, arith}
+use Rattle.std.proofs.Common.{◌≡◌, ◌↔◌, ◌⊎◌, inl, inr, ℕ, ◌+◌, ◌-◌, ◌<◌, ◌≤◌, Bool, true, false, ◌&&◌, ◌||◌, not, ap, sym, ◌∙◌, lit<, arith}
 use Rattle.std.proofs.lemmas.Bool.{and_parts, and_from, not-true, not_from_false, or_parts, or_from, or_left, or_right, and_left, false_from_ne_true, true≢false}
 use Rattle.gj_sets.specs.IndexSets.{has}
 use Rattle.gj_shape.specs.Additive.{IsTight, IsMaximalFace}
@@ -9,7 +9,7 @@ use Rattle.gj_shape.specs.declared.faces.FaceKind.TheVariants.{Vertex, Horizonta
 use Rattle.gj_faces.specs.declared.alone.Alone.{Alone}
 use Rattle.gj_faces.specs.Alone.{AreAlone, set_of}
 use Rattle.gj_faces.specs.Triangles.{is_triangle}
-use Rattle.gj_faces.proofs.Maximality.{IsExtended, vertex, horizontal, vertical, diagonal, lower, upper, corner, maximal_unless_extended, maximal_is_not_extended}
+use Rattle.gj_faces.proofs.Maximality.{IsExtended, vertex, horizontal, vertical, diagonal, lower, upper, corner, maximal_unless_extended, maximal_is_not_extended, no_other}
 use Rattle.gj_faces.proofs.Periods.{tight_is_periodic}
 use Rattle.gj_faces.proofs.RunSteps.{IsPeriodic}
 
@@ -183,6 +183,13 @@ edge_of Diagonal t plain e = or_right _ (flag Diagonal t) e
 edge_of Lower t plain e = absurd (true≢false plain)
 edge_of Upper t plain e = absurd (true≢false plain)
 
+-- where a kind that is no triangle has its flag, and no other before, the diagonal has it
+rest_of : (t : Around) → edge_flag t ≡ true → flag Vertex t ≡ false → flag Horizontal t ≡ false → flag Vertical t ≡ false →
+    flag Diagonal t ≡ true
+rest_of t some vertex horizontal vertical =
+    sym (ap (λ x. x || flag Diagonal t) (or_from (flag Vertex t || flag Horizontal t) (flag Vertical t)
+    (or_from (flag Vertex t) (flag Horizontal t) vertex horizontal) vertical)) ∙ some
+
 -- ---- as sets
 
 -- what they have at an index
@@ -205,6 +212,12 @@ all_flags f a alone around limits flags tells none = record {
       );
   any = λ kind b below yes. (flags b).any ∙ any_of kind (around b) (sym ((flags b).each kind) ∙ yes);
   edges = λ kind b below plain yes. (flags b).edges ∙ edge_of kind (around b) plain (sym ((flags b).each kind) ∙ yes);
+  rest = λ b some vertex horizontal vertical.
+      (flags b).each Diagonal
+      ∙ rest_of (around b) (sym (flags b).edges ∙ some) (sym ((flags b).each Vertex) ∙ vertex)
+      (sym ((flags b).each Horizontal) ∙ horizontal) (sym ((flags b).each Vertical) ∙ vertical);
+  apart = λ kind other b plain.
+      no_other f.order (IsTight f) (omega (arith, limits.order_low)) (tight_is_periodic f limits) kind other a b plain;
   within = λ b past. (flags b).any ∙ none b past;
 }
 

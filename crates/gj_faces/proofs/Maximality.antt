@@ -1,12 +1,14 @@
 -- When an additive face lies in the closure of one of higher dimension: by the tight pairs around it.
-use Rattle.std.proofs.Common.{◌≡◌, ◌⊎◌, inl, inr, ℕ, ◌+◌, ◌-◌, ◌%◌, ◌<◌, List, [], ◌∷◌, get_or, length, All, Any, refl, sym, ap, subst, lit<, ◌∙◌, arith}
+use Rattle.std.proofs.Common.{◌≡◌, ◌⊎◌, inl, inr, ℕ, ◌+◌, ◌-◌, ◌%◌, ◌<◌, false, List, [], ◌∷◌, get_or, length, All, Any, refl, sym, ap, subst, lit<, ◌∙◌, arith}
 use Rattle.std.proofs.Math.Nat.{add-mod_right}
+use Rattle.std.proofs.lemmas.Bool.{true≢false}
 use Rattle.std.proofs.lemmas.List.Elements.{All-nil, All-cons, All-weaker}
 use Rattle.gj_tools.proofs.Lists.{All-one, All-two, All-three}
 use Rattle.gj_shape.specs.Additive.{IsAdditive, IsSameFace, IsMaximalFace, border_of, edges_of}
 use Rattle.gj_shape.specs.Faces.{corners_of}
 use Rattle.gj_shape.specs.declared.faces.FaceKind.{FaceKind}
 use Rattle.gj_shape.specs.declared.faces.FaceKind.TheVariants.{Vertex, Horizontal, Vertical, Diagonal, Lower, Upper}
+use Rattle.gj_faces.specs.Triangles.{is_triangle}
 use Rattle.gj_faces.proofs.Periods.{same_sum}
 use Rattle.gj_faces.proofs.RunSteps.{IsPeriodic}
 
@@ -359,3 +361,42 @@ module _ (q : ℕ) (Tight : ℕ → ℕ → Type 0) (some : 0 < q) (periodic : I
   maximal_at_same kind c d a b e g h =
       maximal_unless_extended kind a b (additive_at_same kind c d a b e g h.additive)
       (λ extended. maximal_is_not_extended kind c d h (extended_at_same kind a b c d (sym e) (sym g) extended))
+
+  -- ---- beside a maximal face that is no triangle its square has no other
+
+  -- a corner of a maximal face
+  held : (kind : FaceKind) (a b k : ℕ) → k < length (corners_of kind a b) → IsMaximalFace q Tight kind a b →
+      Tight (get_or (corners_of kind a b) k (0, 0)).0 (get_or (corners_of kind a b) k (0, 0)).1
+  held kind a b k below h = corner kind a b k below h.additive
+
+  refused : (kind other : FaceKind) (a b : ℕ) → IsMaximalFace q Tight kind a b → IsExtended q Tight kind a b → kind ≡ other
+  refused kind other a b h extended = absurd (maximal_is_not_extended kind a b h extended)
+
+  pub no_other : (kind other : FaceKind) (a b : ℕ) → is_triangle kind ≡ false → IsMaximalFace q Tight kind a b →
+      IsMaximalFace q Tight other a b → kind ≡ other
+  no_other Vertex Vertex a b plain h k = refl
+  no_other Vertex Horizontal a b plain h k = refused Vertex Horizontal a b h (inl (inl (held Horizontal a b 1 (lit< tt) k)))
+  no_other Vertex Vertical a b plain h k = refused Vertex Vertical a b h (inr (inl (inl (held Vertical a b 1 (lit< tt) k))))
+  no_other Vertex Diagonal a b plain h k = refused Vertex Diagonal a b h (inl (inl (held Diagonal a b 0 (lit< tt) k)))
+  no_other Vertex Lower a b plain h k = refused Vertex Lower a b h (inl (inl (held Lower a b 1 (lit< tt) k)))
+  no_other Vertex Upper a b plain h k = refused Vertex Upper a b h (inl (inl (held Upper a b 0 (lit< tt) k)))
+  no_other Horizontal Vertex a b plain h k = sym (refused Vertex Horizontal a b k (inl (inl (held Horizontal a b 1 (lit< tt) h))))
+  no_other Horizontal Horizontal a b plain h k = refl
+  no_other Horizontal Vertical a b plain h k = refused Horizontal Vertical a b h (inl (held Vertical a b 1 (lit< tt) k))
+  no_other Horizontal Diagonal a b plain h k = refused Horizontal Diagonal a b h (inl (held Diagonal a b 1 (lit< tt) k))
+  no_other Horizontal Lower a b plain h k = refused Horizontal Lower a b h (inl (held Lower a b 2 (lit< tt) k))
+  no_other Horizontal Upper a b plain h k = refused Horizontal Upper a b h (inl (held Upper a b 1 (lit< tt) k))
+  no_other Vertical Vertex a b plain h k = sym (refused Vertex Vertical a b k (inr (inl (inl (held Vertical a b 1 (lit< tt) h)))))
+  no_other Vertical Horizontal a b plain h k = refused Vertical Horizontal a b h (inl (held Horizontal a b 1 (lit< tt) k))
+  no_other Vertical Vertical a b plain h k = refl
+  no_other Vertical Diagonal a b plain h k = refused Vertical Diagonal a b h (inl (held Diagonal a b 0 (lit< tt) k))
+  no_other Vertical Lower a b plain h k = refused Vertical Lower a b h (inl (held Lower a b 1 (lit< tt) k))
+  no_other Vertical Upper a b plain h k = refused Vertical Upper a b h (inl (held Upper a b 0 (lit< tt) k))
+  no_other Diagonal Vertex a b plain h k = refused Diagonal Vertex a b h (inl (held Vertex a b 0 (lit< tt) k))
+  no_other Diagonal Horizontal a b plain h k = refused Diagonal Horizontal a b h (inl (held Horizontal a b 0 (lit< tt) k))
+  no_other Diagonal Vertical a b plain h k = refused Diagonal Vertical a b h (inl (held Vertical a b 0 (lit< tt) k))
+  no_other Diagonal Diagonal a b plain h k = refl
+  no_other Diagonal Lower a b plain h k = refused Diagonal Lower a b h (inl (held Lower a b 0 (lit< tt) k))
+  no_other Diagonal Upper a b plain h k = refused Diagonal Upper a b h (inr (held Upper a b 2 (lit< tt) k))
+  no_other Lower other a b plain h k = absurd (true≢false plain)
+  no_other Upper other a b plain h k = absurd (true≢false plain)

@@ -9,27 +9,18 @@ use Rattle.gj_sets.specs.declared.index_set.IndexSet.{IndexSet}
 use Rattle.gj_sets.proofs.Bits.{none_in_no_set}
 use Rattle.gj_shape.specs.Additive.{IsTight}
 use Rattle.gj_shape.specs.FunctionData.{FunctionData, IsWithinBounds}
-use Rattle.gj_faces.specs.Rows.{AreWithin}
+use Rattle.gj_faces.specs.Rows.{AreWithin, TellsRow, AreRows}
 use Rattle.gj_faces.specs.TightPairs.{IsTightIn, AreTightPairsOf}
 use Rattle.gj_faces.specs.declared.tight_pairs.TightPairs.{TightPairs}
 use Rattle.gj_faces.proofs.Periods.{tight_is_periodic}
 
 -- ---- rows that are made one after another
 
--- the set has the indices below the order that are tight with i, and no others
-abbrev pub TellsRow : FunctionData → ℕ → IndexSet → Type 0
-TellsRow f i row = (b : ℕ) → IsTrue (has row b) ↔ ((b < f.order) × IsTight f i b)
-
--- there are n rows so far
-pub record AreRows (f : FunctionData) (rows : List IndexSet) (n : ℕ) : Type 0 where
-  pub count : length rows ≡ n
-  pub tell : (a : ℕ) → a < n → TellsRow f a (get_or rows a no_set)
-
-pub no_rows : (f : FunctionData) (rows : List IndexSet) → rows ≡ [] → AreRows f rows 0
+pub no_rows : (f : FunctionData) (rows : List IndexSet) → rows ≡ [] → AreRows f 0 rows
 no_rows f rows e = record { count = ap length e; tell = λ a below. absurd (omega arith) }
 
-pub row_more : (f : FunctionData) (rows : List IndexSet) (n : ℕ) (row : IndexSet) → AreRows f rows n → TellsRow f n row →
-    AreRows f (rows ++ row ∷ []) (n + 1)
+pub row_more : (f : FunctionData) (rows : List IndexSet) (n : ℕ) (row : IndexSet) → AreRows f n rows → TellsRow f n row →
+    AreRows f (n + 1) (rows ++ row ∷ [])
 row_more f rows n row h here =
     let count = h.count in record {
       count = length_push rows row ∙ ap (λ k. k + 1) h.count;
@@ -41,7 +32,7 @@ row_more f rows n row h here =
       ];
     }
 
-pub rows_within : (f : FunctionData) (rows : List IndexSet) (n : ℕ) → AreRows f rows n → AreWithin rows f.order
+pub rows_within : (f : FunctionData) (rows : List IndexSet) (n : ℕ) → AreRows f n rows → AreWithin rows f.order
 rows_within f rows n h a b past =
     elim (cases_lt a n) [
       | inl inside ↦ false_from_ne_true (has (get_or rows a no_set) b) (λ yes. let both = (h.tell a inside b).0 yes in
@@ -51,7 +42,7 @@ rows_within f rows n h a b past =
           ap (λ row. has row b) (get_or_past rows a no_set (omega arith)) ∙ none_in_no_set b
     ]
 
-pub all_rows_tell : (f : FunctionData) (pairs : TightPairs) → IsWithinBounds f → AreRows f pairs.rows.items f.order →
+pub all_rows_tell : (f : FunctionData) (pairs : TightPairs) → IsWithinBounds f → AreRows f f.order pairs.rows.items →
     pairs.order ≡ f.order → AreTightPairsOf f pairs
 unfolding IsTightIn
 all_rows_tell f pairs limits h order = record {

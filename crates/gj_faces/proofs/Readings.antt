@@ -9,8 +9,7 @@ use Rattle.gj_sets.specs.Sums.{AreSmall}
 use Rattle.gj_shape.specs.Additive.{IsTight}
 use Rattle.gj_shape.specs.FunctionData.{FunctionData, IsWithinBounds, at}
 use Rattle.gj_shape.proofs.AtLemmas.{at_below, at_plus_length}
-use Rattle.gj_shape.proofs.NumeratorReadings.{value_below}
-use Rattle.gj_faces.specs.Lanes.{AreRepeated}
+use Rattle.gj_faces.specs.Lanes.{AreLaid}
 
 -- numbers that are small up to their end are small
 pub small_all : (bound : ℕ) (xs : List ℤ) → 0 < bound → ((i : ℕ) → i < length xs → unsigned_abs (get_or xs i (pos 0)) < bound) →
@@ -20,14 +19,6 @@ small_all bound xs some h i =
       | inl below ↦ h i below
       | inr past ↦ subst (λ x. unsigned_abs x < bound) (sym (get_or_past xs i (pos 0) past)) some
     ]
-
--- the values of a function
-pub values_small : (f : FunctionData) → IsWithinBounds f → AreSmall (2 ^ 62) f.value
-values_small f limits =
-    small_all (2 ^ 62) f.value (omega arith) (λ i below.
-    let e = at_below f.value i below in
-    let small = value_below f i limits in
-    subst (λ x. unsigned_abs x < 2 ^ 62) e (omega arith))
 
 -- one number more in its place
 pub small_more : (bound : ℕ) (xs : List ℤ) (i : ℕ) (x : ℤ) → i < length xs → AreSmall bound xs → unsigned_abs x < bound →
@@ -65,31 +56,21 @@ read_short x small =
 
 -- ---- the values in lanes, twice
 
--- so far up to the n-th
-pub record AreFilled (bound : ℕ) (lanes values : List ℤ) (n : ℕ) : Type 0 where
-  pub count : length lanes ≡ 2064
-  pub small : AreSmall bound lanes
-  pub once : (k : ℕ) → k < n → get_or lanes k (pos 0) ≡ get_or values k (pos 0)
-  pub again : (k : ℕ) → k < n → get_or lanes (length values + k) (pos 0) ≡ get_or values k (pos 0)
-
-pub none_filled : (bound : ℕ) (values : List ℤ) → 0 < bound → AreFilled bound (replicate 2064 (pos 0)) values 0
-none_filled bound values some = record {
-  count = length-replicate 2064 (pos 0);
-  small = zeros_small bound 2064 some;
+pub none_laid : (bound : ℕ) (lanes values : List ℤ) → AreSmall bound lanes → AreLaid bound lanes values 0
+none_laid bound lanes values small = record {
+  small = small;
   once = λ k below. absurd (omega arith);
   again = λ k below. absurd (omega arith);
 }
 
-pub one_filled : (bound : ℕ) (lanes values : List ℤ) (n : ℕ) (x : ℤ) → AreFilled bound lanes values n → n < length values →
-    length values ≤ 1000 → AreSmall bound values → x ≡ get_or values n (pos 0) →
-    AreFilled bound (set (set lanes n x) (length values + n) x) values (n + 1)
-one_filled bound lanes values n x h below few small e =
-    let count = h.count in
+pub one_laid : (bound : ℕ) (lanes values : List ℤ) (n : ℕ) (x : ℤ) → AreLaid bound lanes values n → n < length values →
+    2 * length values ≤ length lanes → AreSmall bound values → x ≡ get_or values n (pos 0) →
+    AreLaid bound (set (set lanes n x) (length values + n) x) values (n + 1)
+one_laid bound lanes values n x h below room small e =
     let one = set lanes n x in
-    let one_count = length-set lanes n x ∙ h.count in
+    let one_count = length-set lanes n x in
     let fits : unsigned_abs x < bound = subst (λ y. unsigned_abs y < bound) (sym e) (small n) in
     record {
-      count = length-set one (length values + n) x ∙ one_count;
       small = small_more bound one (length values + n) x (omega arith) (small_more bound lanes n x (omega arith) h.small fits) fits;
       once = below_more (λ k. get_or (set (set lanes n x) (length values + n) x) k (pos 0) ≡ get_or values k (pos 0)) n
           (λ k early.
@@ -109,48 +90,47 @@ one_filled bound lanes values n x h below few small e =
     }
 
 -- all of them
-pub values_twice : (f : FunctionData) (bound : ℕ) (lanes values : List ℤ) (n : ℕ) → IsWithinBounds f → values ≡ f.value → n ≡ f.order →
-    length lanes ≡ 2064 → AreSmall bound lanes →
-    ((k : ℕ) → k < n → get_or lanes k (pos 0) ≡ get_or values k (pos 0)) →
-    ((k : ℕ) → k < n → get_or lanes (n + k) (pos 0) ≡ get_or values k (pos 0)) → AreRepeated f bound lanes
-values_twice f bound lanes values n limits e order count small once again = record { count = count; small = small; same = same }
-  where
-    entry : (k : ℕ) → k < n → get_or values k (pos 0) ≡ at f.value k
-    entry k below =
-        let len = limits.value_length in
-        ap (λ xs. get_or xs k (pos 0)) e ∙ sym (at_below f.value k (omega arith))
-
-    same : (i : ℕ) → i < 2 * f.order → get_or lanes i (pos 0) ≡ at f.value i
-    same i below =
-        elim (cases_lt i n) [
-          | inl first ↦ once i first ∙ entry i first
-          | inr second ↦
-              let place : n + (i - n) ≡ i = omega arith in
-              let len = limits.value_length in
-              let shifted : i - n + length f.value ≡ i = omega arith in
-              ap (λ k. get_or lanes k (pos 0)) (sym place) ∙ again (i - n) (omega arith) ∙ entry (i - n) (omega arith)
-              ∙ sym (at_plus_length f.value (i - n)) ∙ ap (at f.value) shifted
-        ]
+laid_at : (f : FunctionData) (bound : ℕ) (lanes : List ℤ) → IsWithinBounds f → AreLaid bound lanes f.value (length f.value) →
+    (i : ℕ) → i < 2 * f.order → get_or lanes i (pos 0) ≡ at f.value i
+laid_at f bound lanes limits h i below =
+    let len = limits.value_length in
+    elim (cases_lt i (length f.value)) [
+      | inl first ↦ h.once i first ∙ sym (at_below f.value i first)
+      | inr second ↦
+          let place : length f.value + (i - length f.value) ≡ i = omega arith in
+          let early : i - length f.value < length f.value = omega arith in
+          let shifted : i - length f.value + length f.value ≡ i = omega arith in
+          ap (λ k. get_or lanes k (pos 0)) (sym place) ∙ h.again (i - length f.value) early
+          ∙ sym (at_below f.value (i - length f.value) early)
+          ∙ sym (at_plus_length f.value (i - length f.value)) ∙ ap (at f.value) shifted
+    ]
 
 -- the pairs of a row, as they are read off lanes
-pub row_of_lanes : (f : FunctionData) (bound a b : ℕ) (lanes : List ℤ) (P : Type 0) → AreRepeated f bound lanes → IsWithinBounds f →
-    a < f.order →
-    P ↔ ((b < f.order) × (get_or lanes b (pos 0) +ℤ get_or lanes a (pos 0) ≡ get_or (take (2064 - a) (drop a lanes)) b (pos 0))) →
+pub row_of_lanes : (f : FunctionData) (bound a b : ℕ) (lanes values : List ℤ) (first : ℤ) (P : Type 0) → IsWithinBounds f →
+    values ≡ f.value → AreLaid bound lanes values (length values) → 2 * f.order ≤ length lanes → a < length values →
+    first ≡ get_or lanes a (pos 0) →
+    P ↔ ((b < length values) × (get_or lanes b (pos 0) +ℤ first ≡ get_or (take (length lanes - a) (drop a lanes)) b (pos 0))) →
     P ↔ ((b < f.order) × IsTight f a b)
-row_of_lanes f bound a b lanes P h limits below both = (
+row_of_lanes f bound a b lanes values first P limits e h room below read both = (
   λ p. let there = both.0 p in
-      let inside = there.0 in
+      let len = count in
+      let inside : b < f.order = omega (arith, there.0) in
       (inside, (tight inside).0 there.1),
-  λ pair. let inside = pair.0 in both.1 (inside, (tight inside).1 pair.1),
+  λ pair. let len = count in let inside = pair.0 in both.1 (omega arith, (tight inside).1 pair.1),
 )
   where
+    count : length values ≡ f.order
+    count = ap length e ∙ limits.value_length
+
     tight : b < f.order →
-        (get_or lanes b (pos 0) +ℤ get_or lanes a (pos 0) ≡ get_or (take (2064 - a) (drop a lanes)) b (pos 0)) ↔ IsTight f a b
+        (get_or lanes b (pos 0) +ℤ first ≡ get_or (take (length lanes - a) (drop a lanes)) b (pos 0)) ↔ IsTight f a b
     tight inside =
-        let first = h.same a (omega arith) in
-        let second = h.same b (omega arith) in
-        let few = limits.order_high in
-        let sum = get_or-take (2064 - a) (drop a lanes) b (pos 0) (omega arith) ∙ get_or-drop a lanes b (pos 0) ∙ h.same (a + b) (omega arith) in (
-          λ e. omega (arith, ints),
-          λ e. omega (arith, ints),
+        let len = count in
+        let laid : AreLaid bound lanes f.value (length f.value) = subst (λ xs. AreLaid bound lanes xs (length xs)) e h in
+        let at_a = laid_at f bound lanes limits laid a (omega arith) in
+        let at_b = laid_at f bound lanes limits laid b (omega arith) in
+        let sum = get_or-take (length lanes - a) (drop a lanes) b (pos 0) (omega arith) ∙ get_or-drop a lanes b (pos 0)
+        ∙ laid_at f bound lanes limits laid (a + b) (omega arith) in (
+          λ tie. omega (arith, ints),
+          λ tie. omega (arith, ints),
         )

@@ -1,7 +1,7 @@
 //! Which faces of a row of squares are maximal.
 use crate::tight_pairs::TightPairs;
 use gj_sets::IndexSet;
-use gj_shape::{Shape, wrapped};
+use gj_shape::{FaceKind, Shape, wrapped};
 
 /// For each kind the indices b below the order for which the face of the square (a, b) is a maximal additive face, and those
 /// for which any is.
@@ -21,9 +21,13 @@ pub(crate) struct Alone {
 }
 
 impl Alone {
-    ghost use Rattle.std.specs.Prelude.{◌<◌};
+    ghost use Rattle.std.specs.Prelude.{◌≡◌, ◌<◌, false, IsTrue};
+    ghost use Rattle.gj_sets.specs.IndexSets.{has};
+    ghost use Rattle.gj_shape.specs.Given.{IsOrder};
     ghost use Rattle.gj_faces.specs.Alone.{AreAlone};
+    ghost use Rattle.gj_faces.specs.Listed.{IsMaximalIn};
     ghost use Rattle.gj_faces.specs.TightPairs.{AreTightPairsOf};
+    ghost use Rattle.gj_faces.specs.Triangles.{is_triangle};
 
     /// Those of row a.
     pub(crate) fn of(pairs: &TightPairs, shape: &Shape, a: u32) -> Alone
@@ -66,6 +70,28 @@ impl Alone {
             diagonal,
             lower,
             upper,
+        }
+    }
+
+    /// The kind of the one maximal face of the square (a, b) that is no triangle.
+    #[inline]
+    pub(crate) fn edge_kind(&self, shape: &Shape, a: u32, b: u32) -> FaceKind
+        requires order { IsOrder shape.now.order }
+        requires alone { AreAlone shape.now a self.now }
+        requires second { b < shape.now.order }
+        requires one { IsTrue (has self.now.edges b) }
+        ensures plain { is_triangle result ≡ false }
+        ensures maximal { IsMaximalIn shape.now (record { kind = result; a = a; b = b }) }
+    {
+        let place = b as usize;
+        if self.vertex.contains(place) {
+            FaceKind::Vertex
+        } else if self.horizontal.contains(place) {
+            FaceKind::Horizontal
+        } else if self.vertical.contains(place) {
+            FaceKind::Vertical
+        } else {
+            FaceKind::Diagonal
         }
     }
 }

@@ -1,57 +1,39 @@
-//! The values of a function in lanes.
-ghost use Rattle.std.specs.Prelude.{ℕ, ℤ, pos, ◌≡◌, ◌↔◌, ◌+◌, ◌<◌, ◌≤◌, ◌^◌, length, IsTrue, slice_index_or, unsigned_abs};
+//! The tight pairs of a function, row by row, off its values in lanes.
+ghost use Rattle.std.specs.Prelude.{ℕ, ◌≡◌, ◌↔◌, ◌+◌, ◌*◌, ◌<◌, ◌≤◌, ◌^◌, length, IfOk, IsTrue};
 ghost use Rattle.gj_sets.specs.Sums.{AreSmall};
+ghost use Rattle.gj_faces.specs.Lanes.{AreLaid};
+ghost use Rattle.gj_faces.specs.Rows.{AreRows};
 
 use gj_sets::IndexSet;
 use gj_shape::Shape;
+use std::alloc::{AllocError, Global};
 
-/// How many lanes there are: one for each index below 2 q, where the order q is at most 1,000, and 64 behind the last.
+/// How many lanes serve each order: one for each index below 2 q, where the order q is at most 1,000, and 64 behind the last.
 const COUNT: usize = 2_064;
 
-/// The values at i/q for each i below 2 q, each times the common denominator, in the narrowest lanes in which they fit.
-#[derive(Drop)]
-pub(crate) enum Lanes {
-    /// Each number is below 2^14 in absolute value.
-    Short([i16; COUNT]),
-    /// Each number is below 2^30 in absolute value.
-    Narrow([i32; COUNT]),
-    /// Each number is below 2^62 in absolute value.
-    Wide([i64; COUNT]),
-}
+/// The orders up to it are small.
+const SMALL_ORDER: u32 = 120;
 
-impl Lanes {
-    ghost use Rattle.gj_sets.specs.IndexSets.{has};
-    ghost use Rattle.gj_shape.specs.Additive.{IsTight};
-    ghost use Rattle.gj_faces.specs.Lanes.{AreLanesOf};
+/// How many lanes serve a small order.
+const SMALL_COUNT: usize = 304;
 
-    /// The lanes of a function.
-    pub(crate) fn of(shape: &Shape) -> Lanes
-        ensures { AreLanesOf shape.now result }
-    {
-        let values = shape.value_numerators();
-        if are_below(values, 1 << 14) {
-            Lanes::Short(short_lanes(values))
-        } else if are_below(values, 1 << 30) {
-            Lanes::Narrow(narrow_lanes(values))
+/// For each a below the order, the indices b below it for which the pair (a, b) is tight.
+///
+/// The values, each times the common denominator, are added in the narrowest lanes in which they fit.
+pub(crate) fn tight_rows(alloc: Global, shape: &Shape) -> Result<Vec<IndexSet>, AllocError>
+    ensures { IfOk result (λ rows. AreRows shape.now shape.now.order rows.items) }
+{
+    let values = shape.value_numerators();
+    if are_below(values, 1 << 14) {
+        if shape.order() <= SMALL_ORDER {
+            short_rows(alloc, shape, &mut [0; SMALL_COUNT])
         } else {
-            Lanes::Wide(wide_lanes(values))
+            short_rows(alloc, shape, &mut [0; COUNT])
         }
-    }
-
-    /// The indices b below the order q for which the pair (a, b) is tight.
-    pub(crate) fn row(&self, shape: &Shape, a: usize) -> IndexSet
-        requires lanes { AreLanesOf shape.now self.now }
-        requires within { a < shape.now.order }
-        ensures { (b : ℕ) → IsTrue (has result b) ↔ (b < shape.now.order) × IsTight shape.now a b }
-    {
-        let order = shape.order() as usize;
-        match self {
-            Lanes::Short(lanes) => IndexSet::of_short_sums(lanes, lanes[a], &lanes[a..], order),
-            Lanes::Narrow(lanes) => {
-                IndexSet::of_narrow_sums(lanes, lanes[a], &lanes[a..], order)
-            }
-            Lanes::Wide(lanes) => IndexSet::of_wide_sums(lanes, lanes[a], &lanes[a..], order),
-        }
+    } else if are_below(values, 1 << 30) {
+        narrow_rows(alloc, shape)
+    } else {
+        wide_rows(alloc, shape)
     }
 }
 
@@ -68,59 +50,107 @@ fn are_below(values: &[i64], bound: u64) -> bool
     true
 }
 
-/// The numbers twice, in lanes of 16 bits, and zeros behind them.
-fn short_lanes(values: &[i64]) -> [i16; COUNT]
-    requires few { length values.now ≤ 1000 }
+/// The rows of tight pairs off lanes of 16 bits, which the call fills.
+///
+/// There is a lane for each index below twice the order, and there are 64 more.
+fn short_rows(alloc: Global, shape: &Shape, lanes: &mut [i16]) -> Result<Vec<IndexSet>, AllocError>
+    requires room { 2 * shape.now.order + 64 ≤ length lanes.old }
+    requires small { AreSmall (2 ^ 14) shape.now.value }
+    requires small_lanes { AreSmall (2 ^ 14) lanes.old }
+    ensures { IfOk result (λ rows. AreRows shape.now shape.now.order rows.items) }
+{
+    let values = shape.value_numerators();
+    lay_short(lanes, values);
+    let lanes = &lanes[..];
+    let order = values.len();
+    let mut rows = Vec::with_capacity(alloc, order)?;
+    for a in 0..order {
+        rows.push_reserved(IndexSet::of_short_sums(lanes, lanes[a], &lanes[a..], order));
+    }
+    Ok(rows)
+}
+
+/// The rows of tight pairs off lanes of 32 bits.
+///
+/// It stands apart, so that a call whose values fit narrower lanes has no room for these on its stack.
+#[inline(never)]
+fn narrow_rows(alloc: Global, shape: &Shape) -> Result<Vec<IndexSet>, AllocError>
+    requires { AreSmall (2 ^ 30) shape.now.value }
+    ensures { IfOk result (λ rows. AreRows shape.now shape.now.order rows.items) }
+{
+    let values = shape.value_numerators();
+    let mut lanes = [0; COUNT];
+    lay_narrow(&mut lanes, values);
+    let lanes = &lanes[..];
+    let order = values.len();
+    let mut rows = Vec::with_capacity(alloc, order)?;
+    for a in 0..order {
+        rows.push_reserved(IndexSet::of_narrow_sums(lanes, lanes[a], &lanes[a..], order));
+    }
+    Ok(rows)
+}
+
+/// The rows of tight pairs off lanes of 64 bits.
+///
+/// It stands apart, so that a call whose values fit narrower lanes has no room for these on its stack.
+#[inline(never)]
+fn wide_rows(alloc: Global, shape: &Shape) -> Result<Vec<IndexSet>, AllocError>
+    requires { AreSmall (2 ^ 62) shape.now.value }
+    ensures { IfOk result (λ rows. AreRows shape.now shape.now.order rows.items) }
+{
+    let values = shape.value_numerators();
+    let mut lanes = [0; COUNT];
+    lay_wide(&mut lanes, values);
+    let lanes = &lanes[..];
+    let order = values.len();
+    let mut rows = Vec::with_capacity(alloc, order)?;
+    for a in 0..order {
+        rows.push_reserved(IndexSet::of_wide_sums(lanes, lanes[a], &lanes[a..], order));
+    }
+    Ok(rows)
+}
+
+/// Lays the numbers into lanes of 16 bits twice: from lane 0 on, and behind the last of them. The other lanes stay.
+fn lay_short(lanes: &mut [i16], values: &[i64])
+    requires room { 2 * length values.now ≤ length lanes.old }
     requires small { AreSmall (2 ^ 14) values.now }
-    ensures length { length result ≡ 2064 }
-    ensures small { AreSmall (2 ^ 14) result }
-    ensures once { (k : ℕ) → k < length values.now → slice_index_or result k (pos 0) ≡ slice_index_or values.now k (pos 0) }
-    ensures again { (k : ℕ) → k < length values.now →
-        slice_index_or result (length values.now + k) (pos 0) ≡ slice_index_or values.now k (pos 0) }
+    requires small_lanes { AreSmall (2 ^ 14) lanes.old }
+    ensures length { length lanes.new ≡ length lanes.old }
+    ensures laid { AreLaid (2 ^ 14) lanes.new values.now (length values.now) }
 {
     let order = values.len();
-    let mut lanes = [0i16; COUNT];
     for i in 0..order {
         lanes[i] = values[i] as i16;
         lanes[order + i] = values[i] as i16;
     }
-    lanes
 }
 
-/// The numbers twice, in lanes of 32 bits, and zeros behind them.
-fn narrow_lanes(values: &[i64]) -> [i32; COUNT]
-    requires few { length values.now ≤ 1000 }
+/// Lays the numbers into lanes of 32 bits twice: from lane 0 on, and behind the last of them. The other lanes stay.
+fn lay_narrow(lanes: &mut [i32], values: &[i64])
+    requires room { 2 * length values.now ≤ length lanes.old }
     requires small { AreSmall (2 ^ 30) values.now }
-    ensures length { length result ≡ 2064 }
-    ensures small { AreSmall (2 ^ 30) result }
-    ensures once { (k : ℕ) → k < length values.now → slice_index_or result k (pos 0) ≡ slice_index_or values.now k (pos 0) }
-    ensures again { (k : ℕ) → k < length values.now →
-        slice_index_or result (length values.now + k) (pos 0) ≡ slice_index_or values.now k (pos 0) }
+    requires small_lanes { AreSmall (2 ^ 30) lanes.old }
+    ensures length { length lanes.new ≡ length lanes.old }
+    ensures laid { AreLaid (2 ^ 30) lanes.new values.now (length values.now) }
 {
     let order = values.len();
-    let mut lanes = [0i32; COUNT];
     for i in 0..order {
         lanes[i] = values[i] as i32;
         lanes[order + i] = values[i] as i32;
     }
-    lanes
 }
 
-/// The numbers twice, in lanes of 64 bits, and zeros behind them.
-fn wide_lanes(values: &[i64]) -> [i64; COUNT]
-    requires few { length values.now ≤ 1000 }
+/// Lays the numbers into lanes of 64 bits twice: from lane 0 on, and behind the last of them. The other lanes stay.
+fn lay_wide(lanes: &mut [i64], values: &[i64])
+    requires room { 2 * length values.now ≤ length lanes.old }
     requires small { AreSmall (2 ^ 62) values.now }
-    ensures length { length result ≡ 2064 }
-    ensures small { AreSmall (2 ^ 62) result }
-    ensures once { (k : ℕ) → k < length values.now → slice_index_or result k (pos 0) ≡ slice_index_or values.now k (pos 0) }
-    ensures again { (k : ℕ) → k < length values.now →
-        slice_index_or result (length values.now + k) (pos 0) ≡ slice_index_or values.now k (pos 0) }
+    requires small_lanes { AreSmall (2 ^ 62) lanes.old }
+    ensures length { length lanes.new ≡ length lanes.old }
+    ensures laid { AreLaid (2 ^ 62) lanes.new values.now (length values.now) }
 {
     let order = values.len();
-    let mut lanes = [0i64; COUNT];
     for i in 0..order {
         lanes[i] = values[i];
         lanes[order + i] = values[i];
     }
-    lanes
 }

@@ -3,7 +3,7 @@ ghost use Rattle.std.specs.Prelude.{◌≡◌, length};
 ghost use Rattle.gj_shape.specs.Given.{IsOrder};
 ghost use Rattle.gj_faces.specs.Rows.{AreWithin};
 
-use crate::lanes::Lanes;
+use crate::lanes::tight_rows;
 use gj_sets::IndexSet;
 use gj_shape::Shape;
 use std::alloc::{AllocError, Global};
@@ -30,11 +30,7 @@ impl TightPairs {
         ensures { IfOk result (AreTightPairsOf shape.now) }
     {
         let order = shape.order();
-        let lanes = Lanes::of(shape);
-        let mut rows = Vec::with_capacity(alloc, order as usize)?;
-        for a in 0..order {
-            rows.push(lanes.row(shape, a as usize))?;
-        }
+        let rows = tight_rows(alloc, shape)?;
         Ok(TightPairs { order, rows })
     }
 

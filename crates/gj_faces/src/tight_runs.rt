@@ -7,8 +7,8 @@ ghost use Rattle.gj_shape.specs.Given.{IsOrder};
 ghost use Rattle.gj_faces.specs.Runs.{AreRunsOf};
 ghost use Rattle.gj_faces.specs.RunsBefore.{AreRunsBefore};
 
-use crate::lanes::Lanes;
 use crate::run::Run;
+use crate::tight_pairs::TightPairs;
 use gj_sets::IndexSet;
 use gj_shape::Shape;
 use std::alloc::{AllocError, Global};
@@ -21,11 +21,10 @@ pub fn runs(alloc: Global, shape: &Shape) -> Result<Vec<Run>, AllocError>
     requires { IsContinuous shape.now }
     ensures { IfOk result (λ runs. AreRunsOf shape.now.order (IsTight shape.now) runs.items) }
 {
-    let lanes = Lanes::of(shape);
+    let pairs = TightPairs::new(alloc, shape)?;
     let mut runs = Vec::new(alloc);
     for a in 0..shape.order() {
-        let row = lanes.row(shape, a as usize);
-        push_row(&mut runs, shape, a, &row)?;
+        push_row(&mut runs, shape, a, pairs.row(a))?;
     }
     Ok(runs)
 }

@@ -1,4 +1,4 @@
-use Rattle.std.proofs.Common.{◌^◌, refl, arith}
+use Rattle.std.proofs.Common.{refl, arith}
 use Rattle.gj_faces.proofs.Readings.{small_all}
 use Rattle.gj_faces.proofs.lanes.are_below.Goals as goal
 

@@ -1,4 +1,4 @@
-use Rattle.std.proofs.Common.{ℕ, ◌<◌, ◌^◌, pos, get_or, unsigned_abs}
+use Rattle.std.proofs.Common.{ℕ, ◌<◌, pos, get_or, unsigned_abs}
 use Rattle.gj_faces.proofs.lanes.are_below.Given as goal
 
 abbrev pub invariant-loop-value : goal.invariant-loop-value

@@ -7,7 +7,7 @@ use Rattle.gj_faces.proofs.AddedFaces.{adds_nothing, adds_square, adds_no_square
 use Rattle.gj_faces.proofs.maximal_faces.push_row.Goals as goal
 
 pub loop-b-init : goal.loop-b-init
-loop-b-init c = (adds_nothing c.args.shape.now c.args.faces.now.items, omega arith)
+loop-b-init c = (adds_nothing c.args.shape.now c.args.faces.now.items, omega arith, omega arith)
 
 pub loop-b-preserved : goal.loop-b-preserved
 loop-b-preserved c =
@@ -27,8 +27,9 @@ loop-b-preserved c =
     (λ k from below. first.before k from (omega arith)) c.loop-b.invariant.0 in (
       adds_square f a b old middle c.push_square.new.faces.items
           (subst (λ k. AddsMaximal f (flat_map (faces_of_square a) (range_with_len 0 k)) old middle) e before)
-          c.in_ok-push_square.ensures,
+          c.push_square.ensures.added,
       omega arith,
+      omega (arith, c.push_square.ensures.few, c.push_square.ensures.capacity),
     )
 
 pub returns : goal.returns

@@ -1,0 +1,19 @@
+use Rattle.std.proofs.Common.{◌^◌, IsTrue, get_or, pos, to_z, of_z, w16, arith}
+use Rattle.gj_sets.specs.IndexSets.{has}
+use Rattle.gj_faces.proofs.PairRows.{row_more}
+use Rattle.gj_faces.proofs.Readings.{row_of_lanes, read_alone_short}
+use Rattle.gj_faces.proofs.lanes.short_rows.Goals as goal
+
+pub loop-a-preserved : goal.loop-a-preserved
+loop-a-preserved c =
+    let f = c.args.shape.now in
+    let lanes = c.lay_short.new.lanes in
+    let a = c.loop-a.a in
+    let read = c.value_numerators-values in
+    let laid = c.lay_short.ensures.laid in
+    let row = c.of_short_sums.result in (
+      rw c.push_reserved.ensures.items (row_more f c.loop-a.rows.items a row c.loop-a.invariant.0
+          (λ b. row_of_lanes f (2 ^ 14) a b lanes read.result.now (to_z w16 (of_z w16 (get_or lanes a (pos 0)))) (IsTrue (has row b)) read.ensures.limits
+          read.ensures.value laid (omega arith) c.loop-a-test.true (read_alone_short (get_or lanes a (pos 0)) (laid.small a)) (c.of_short_sums.ensures b))),
+      omega (arith, c.loop-a.invariant.1),
+    )
