@@ -1,14 +1,26 @@
 -- The closed form of the mixed-integer cut from quotients of fractions.
-use Rattle.std.proofs.Common.{◌≡◌, ◌<◌, ◌≤◌, ◌^◌, ℤ, pos, ◌-ℤ◌, ◌*ℤ◌, ◌<ℤ◌, ◌≤ℤ◌, ◌+ℤ◌, unsigned_abs, sym, ap, ap₂, subst, subst₂, ◌∙◌, arith}
+use Rattle.std.proofs.Common.{◌≡◌, ◌<◌, ◌≤◌, ◌^◌, ℤ, pos, ◌-ℤ◌, ◌*ℤ◌, ◌<ℤ◌, ◌≤ℤ◌, ◌+ℤ◌, unsigned_abs, sym, ap, ap₂, subst, subst₂, ◌∙◌, arith, to_z, of_z}
 use Rattle.std.proofs.lemmas.Int.{ints}
 use Rattle.gj_frac.specs.declared.Frac.{Frac}
 use Rattle.gj_frac.specs.Floor.{IsFloor}
 use Rattle.gj_frac.specs.Fraction.{IsRatio, LessValue, SameValue, fraction_of, quotient_of, numerator, denominator}
 use Rattle.gj_frac.specs.Lowest.{IsLowest}
 use Rattle.gj_frac.proofs.Floors.{quotient_is_floor, rest_from_floor, rest_lowest, complement_lowest}
+use Rattle.gj_frac.proofs.Reduced.{read_part}
 use Rattle.gj_frac.proofs.SameValues.{parts_from_is}
 use Rattle.gj_tools.proofs.Integers.{one_mul_z, add_mul_z}
 use Rattle.gj_theory.specs.Cuts.{IsGmicValue}
+use mir.Syntax.{w128}
+
+-- ---- whole numbers as the code passes them
+
+-- what a part of 128 bits is read as
+abbrev pub read : ℤ → ℤ
+read z = to_z w128 (of_z w128 z)
+
+-- a number that is known to be a part reads as that
+pub reads_as : (v z : ℤ) → v ≡ z → unsigned_abs z < 2 ^ 127 → read v ≡ z
+reads_as v z e fits = ap read e ∙ read_part z fits
 
 -- ---- the parts of what the code forms
 
