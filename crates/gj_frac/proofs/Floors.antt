@@ -105,6 +105,19 @@ rest_lowest n d r h e low high =
       coprime = rest_coprime n d (int_div_euclid n d) r h.coprime (e ∙ rest_is n d h.positive);
     }
 
+-- 1 minus a fraction from 0 to 1 is in lowest terms
+pub complement_lowest : (n d : ℤ) → IsLowest n d → pos 0 ≤ℤ n → n ≤ℤ d → IsLowest (d -ℤ n) d
+complement_lowest n d h low high =
+    let size = h.den_fits in
+    let apart : IsGcd (unsigned_abs (n -ℤ d)) (unsigned_abs d) 1 = rest_coprime n d (pos 1) (n -ℤ d) h.coprime (omega (arith, ints)) in
+    let turned : unsigned_abs (n -ℤ d) ≡ unsigned_abs (d -ℤ n) = omega (arith, ints) in
+    record {
+      positive = h.positive;
+      num_fits = omega (arith, ints);
+      den_fits = h.den_fits;
+      coprime = subst (λ (m : ℕ). IsGcd m (unsigned_abs d) 1) turned apart;
+    }
+
 -- it is the number minus any floor
 pub rest_from_floor : (x : Frac) (n : ℤ) → IsFloor x n → int_rem_euclid x.num x.den ≡ x.num -ℤ n *ℤ x.den
 rest_from_floor x n h =

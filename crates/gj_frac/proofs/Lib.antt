@@ -1,3 +1,4 @@
+mod OddParts
 pub mod Crosswise
 pub mod Floors
 pub mod OneDenominator

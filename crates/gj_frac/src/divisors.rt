@@ -1,11 +1,11 @@
 //! The greatest common divisor and the least common multiple.
-ghost use Rattle.std.specs.Prelude.{◌<◌};
+ghost use Rattle.std.specs.Prelude.{◌<◌, ◌≡◌, ◌%◌};
 ghost use Rattle.std.specs.Int.{IsGcd};
 ghost use Rattle.gj_tools.specs.Divisors.{IsLcm};
 
 /// The greatest common divisor of two whole numbers, by Euclid's algorithm; that of 0 and 0 is 0.
 ///
-/// From the first pair of numbers below 2^64 on, all remainders are taken in 64 bits, which is much faster.
+/// From the first pair of numbers below 2^64 on, all is done in 64 bits, which is much faster.
 pub fn gcd(a: u128, b: u128) -> u128
     ensures { IsGcd a b result }
 {
@@ -26,18 +26,52 @@ pub fn gcd(a: u128, b: u128) -> u128
     u128::from(gcd_in_64_bits(y as u64, rest as u64))
 }
 
-/// The greatest common divisor of two whole numbers below 2^64, by Euclid's algorithm.
+/// The greatest common divisor of two whole numbers below 2^64; that of 0 and 0 is 0.
+///
+/// After one remainder, which brings numbers of different sizes together, it divides no more.
 fn gcd_in_64_bits(a: u64, b: u64) -> u64
     ensures { IsGcd a b result }
 {
-    let mut x = a;
-    let mut y = b;
-    while y != 0 {
-        let rest = x % y;
-        x = y;
-        y = rest;
+    let greater = a.max(b);
+    let lesser = a.min(b);
+    if lesser == 0 {
+        return greater;
     }
-    x
+    if lesser == 1 {
+        return 1;
+    }
+    let rest = greater % lesser;
+    if rest == 0 {
+        return lesser;
+    }
+    gcd_of_positive(lesser, rest)
+}
+
+/// The greatest common divisor of two positive numbers: the lesser of their powers of 2, times that of their odd parts.
+fn gcd_of_positive(a: u64, b: u64) -> u64
+    requires first { 0 < a }
+    requires second { 0 < b }
+    ensures { IsGcd a b result }
+{
+    let a_zeros = a.trailing_zeros();
+    let b_zeros = b.trailing_zeros();
+    gcd_with_odd(a >> a_zeros, b >> b_zeros) << a_zeros.min(b_zeros)
+}
+
+/// The greatest common divisor of an odd number and another, by the binary algorithm: the odd part of the difference of
+/// two odd numbers stands for the greater of them.
+fn gcd_with_odd(a: u64, b: u64) -> u64
+    requires { a % 2 ≡ 1 }
+    ensures { IsGcd a b result }
+{
+    let mut odd = a;
+    let mut rest = b;
+    while rest != 0 {
+        let other = rest >> rest.trailing_zeros();
+        rest = odd.abs_diff(other);
+        odd = odd.min(other);
+    }
+    odd
 }
 
 /// The least common multiple of two whole numbers, the first not 0; that of a number and 0 is 0.

@@ -26,4 +26,17 @@ impl Frac {
             den: self.den,
         }
     }
+    /// 1 minus this fraction, which is from 0 to 1.
+    ///
+    /// No divisor is sought: it is in lowest terms at once.
+    pub fn complement(self) -> Frac
+        requires not_negative { pos 0 ≤ℤ numerator self }
+        requires at_most_one { numerator self ≤ℤ denominator self }
+        ensures { IsRatio result (denominator self -ℤ numerator self) (denominator self) }
+    {
+        Frac {
+            num: self.den - self.num,
+            den: self.den,
+        }
+    }
 }

@@ -81,6 +81,7 @@ fn the_floor_is_at_most_the_value(rt: HostRuntime) {
     assert_eq!(rt; fraction(-7, 3).fract(), fraction(2, 3));
     assert_eq!(rt; fraction(7, 3).floor(), 2);
     assert_eq!(rt; fraction(6, 3).fract(), fraction(0, 1));
+    assert_eq!(rt; fraction(7, 3).fract().complement(), fraction(2, 3));
 }
 
 #[test]

@@ -1,1 +1,2 @@
 pub mod ClosedForm
+pub mod SmallParts

@@ -1,7 +1,6 @@
 //! Evaluators.
-ghost use Rattle.std.specs.Prelude.{ℤ, ◌≡◌, ◌≢◌, ◌↔◌, IsTrue, ◌≤◌, ◌<◌, ◌^◌, ◌-ℤ◌, ◌*ℤ◌, ◌≤ℤ◌, ◌<ℤ◌, pos, unsigned_abs};
-ghost use Rattle.gj_frac.specs.Floor.{IsFloor};
-ghost use Rattle.gj_frac.specs.Fraction.{IsRatio, numerator, denominator, IsInside};
+ghost use Rattle.std.specs.Prelude.{◌≡◌, ◌≢◌, ◌↔◌, IsTrue, ◌≤◌, ◌<◌, ◌^◌, ◌*ℤ◌, ◌≤ℤ◌, ◌<ℤ◌, pos, unsigned_abs};
+ghost use Rattle.gj_frac.specs.Fraction.{IsRatio, LessValue, IsInside, fraction_of, numerator, denominator};
 ghost use Rattle.gj_theory.specs.Cuts.{IsGmicValue, IsValueOf};
 ghost use Rattle.gj_shape.specs.Limits.{IsRowNumber};
 
@@ -18,16 +17,11 @@ pub fn gmic_value(f: Frac, x: Frac) -> Frac
     requires x_fine { unsigned_abs (denominator x) ≤ 2 ^ 62 }
     ensures { IsGmicValue f x result }
 {
-    let rest = rest_of(x);
-    if is_above(f, x, rest) {
-        quotient(
-            difference(x.den(), rest),
-            x.den(),
-            difference(f.den(), f.num()),
-            f.den(),
-        )
+    let rest = x.fract();
+    if is_above(f, rest) {
+        rest.complement() / f.complement()
     } else {
-        quotient(rest, x.den(), f.num(), f.den())
+        rest / f
     }
 }
 
@@ -47,25 +41,16 @@ pub fn table_value(shape: &Shape, x: Frac) -> Frac
     shape.value_at(x)
 }
 
-/// What the floor of x leaves of its numerator.
-fn rest_of(x: Frac) -> i128
-    ensures value { (w : ℤ) → IsFloor x w → result ≡ numerator x -ℤ w *ℤ denominator x }
-    ensures low { pos 0 ≤ℤ result }
-    ensures high { result <ℤ denominator x }
-{
-    x.num().rem_euclid(x.den())
-}
-
-/// Whether rest over the denominator of x is above f.
-fn is_above(f: Frac, x: Frac, rest: i128) -> bool
+/// Whether a fractional part is above f.
+fn is_above(f: Frac, rest: Frac) -> bool
     requires inside { IsInside f }
     requires f_fine { unsigned_abs (denominator f) ≤ 2 ^ 62 }
-    requires x_fine { unsigned_abs (denominator x) ≤ 2 ^ 62 }
-    requires low { pos 0 ≤ℤ rest }
-    requires high { rest <ℤ denominator x }
-    ensures { IsTrue result ↔ ((numerator f *ℤ denominator x) <ℤ (rest *ℤ denominator f)) }
+    requires low { pos 0 ≤ℤ numerator rest }
+    requires high { numerator rest <ℤ denominator rest }
+    requires rest_fine { unsigned_abs (denominator rest) ≤ 2 ^ 62 }
+    ensures { IsTrue result ↔ LessValue (fraction_of f) (fraction_of rest) }
 {
-    product(f.num(), x.den()) < product(rest, f.den())
+    product(f.num(), rest.den()) < product(rest.num(), f.den())
 }
 
 /// The quotient of n/d by m/e, whose parts are at most 2^62 in absolute value; d and m are not 0.
@@ -79,18 +64,6 @@ pub fn quotient(n: i128, d: i128, m: i128, e: i128) -> Frac
     ensures { IsRatio result (n *ℤ e) (d *ℤ m) }
 {
     ratio(product(n, e), product(d, m))
-}
-
-/// The difference of two whole numbers from 0 to 2^62, the second less than the first.
-fn difference(n: i128, m: i128) -> i128
-    requires low { pos 0 ≤ℤ m }
-    requires less { m <ℤ n }
-    requires high { unsigned_abs n ≤ 2 ^ 62 }
-    ensures value { result ≡ n -ℤ m }
-    ensures some { unsigned_abs result ≢ 0 }
-    ensures small { unsigned_abs result ≤ 2 ^ 62 }
-{
-    n - m
 }
 
 /// The product of two whole numbers of at most 2^62 in absolute value.
