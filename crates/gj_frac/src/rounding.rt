@@ -26,6 +26,7 @@ impl Frac {
             den: self.den,
         }
     }
+
     /// 1 minus this fraction, which is from 0 to 1.
     ///
     /// No divisor is sought: it is in lowest terms at once.
