@@ -1,5 +1,5 @@
 -- Rows of tight pairs.
-use Rattle.std.proofs.Common.{◌≡◌, ◌↔◌, inl, inr, ℕ, ◌+◌, ◌-◌, ◌%◌, ◌<◌, List, [], ◌∷◌, ◌++◌, Bool, true, IsTrue, length, get_or, refl, sym, ap, subst, ◌∙◌, arith}
+use Rattle.std.proofs.Common.{◌≡◌, ◌↔◌, inl, inr, ℕ, ◌+◌, ◌-◌, ◌%◌, ◌<◌, List, [], ◌∷◌, ◌++◌, Bool, true, IsTrue, get_or, refl, sym, ap, subst, ◌∙◌, arith}
 use Rattle.std.proofs.Math.Nat.{mod-eq_of_lt, mod-mod, mod-lt, add-mod_right}
 use Rattle.std.proofs.lemmas.Bool.{cases_eq, cases_lt, false_from_ne_true, eq-eqb, ne_eqb}
 use Rattle.std.proofs.lemmas.List.{get_or_append_left, get_or_push, length_push, get_or_past}
@@ -15,9 +15,6 @@ use Rattle.gj_faces.specs.declared.tight_pairs.TightPairs.{TightPairs}
 use Rattle.gj_faces.proofs.Periods.{tight_is_periodic}
 
 -- ---- rows that are made one after another
-
-pub no_rows : (f : FunctionData) (rows : List IndexSet) → rows ≡ [] → AreRows f 0 rows
-no_rows f rows e = record { count = ap length e; tell = λ a below. absurd (omega arith) }
 
 pub row_more : (f : FunctionData) (rows : List IndexSet) (n : ℕ) (row : IndexSet) → AreRows f n rows → TellsRow f n row →
     AreRows f (n + 1) (rows ++ row ∷ [])

@@ -11,9 +11,11 @@ loop-a-preserved c =
     let a = c.loop-a.a in
     let read = c.value_numerators-values in
     let laid = c.lay_short.ensures.laid in
+    let first = get_or lanes a (pos 0) in
     let row = c.of_short_sums.result in (
       rw c.push_reserved.ensures.items (row_more f c.loop-a.rows.items a row c.loop-a.invariant.0
-          (λ b. row_of_lanes f (2 ^ 14) a b lanes read.result.now (to_z w16 (of_z w16 (get_or lanes a (pos 0)))) (IsTrue (has row b)) read.ensures.limits
-          read.ensures.value laid (omega arith) c.loop-a-test.true (read_alone_short (get_or lanes a (pos 0)) (laid.small a)) (c.of_short_sums.ensures b))),
+          (λ b. row_of_lanes f (2 ^ 14) a b lanes read.result.now (to_z w16 (of_z w16 first)) (IsTrue (has row b))
+          read.ensures.limits read.ensures.value laid (omega arith) c.loop-a-test.true (read_alone_short first (laid.small a))
+          (c.of_short_sums.ensures b))),
       omega (arith, c.loop-a.invariant.1),
     )

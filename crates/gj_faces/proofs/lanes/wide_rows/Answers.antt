@@ -14,9 +14,11 @@ loop-a-preserved c =
     let a = c.loop-a.a in
     let read = c.value_numerators-values in
     let laid = c.lay_wide.ensures.laid in
+    let first = get_or lanes a (pos 0) in
     let row = c.of_wide_sums.result in (
       rw c.push_reserved.ensures.items (row_more f c.loop-a.rows.items a row c.loop-a.invariant.0
-          (λ b. row_of_lanes f (2 ^ 62) a b lanes read.result.now (to_z w64 (of_z w64 (get_or lanes a (pos 0)))) (IsTrue (has row b)) read.ensures.limits
-          read.ensures.value laid (omega arith) c.loop-a-test.true (read_wide (get_or lanes a (pos 0)) (laid.small a)) (c.of_wide_sums.ensures b))),
+          (λ b. row_of_lanes f (2 ^ 62) a b lanes read.result.now (to_z w64 (of_z w64 first)) (IsTrue (has row b))
+          read.ensures.limits read.ensures.value laid (omega arith) c.loop-a-test.true (read_wide first (laid.small a))
+          (c.of_wide_sums.ensures b))),
       omega (arith, c.loop-a.invariant.1),
     )
