@@ -1,11 +1,11 @@
 -- A word that writes a number without a sign, cut at its first mark.
-use Rattle.std.proofs.Common.{◌≡◌, ◌≢◌, ℕ, ◌^◌, ◌<◌, ◌≤◌, List, [], ◌∷◌, ◌++◌, length, get_or, take, drop, Option, None, Some, IfSome, Bool, true, false, ◌||◌, ◌==◌, refl, sym, ◌∙◌, ap, subst, arith, append-nil, take-append-drop, length-drop, get_or-drop, add-zero}
+use Rattle.std.proofs.Common.{◌≡◌, ◌≢◌, ℕ, zero, suc, ◌*◌, ◌^◌, ◌<◌, ◌≤◌, List, [], ◌∷◌, ◌++◌, length, get_or, take, drop, Option, None, Some, IfSome, Bool, true, false, ◌||◌, ◌==◌, refl, sym, ◌∙◌, ap, subst, arith, append-nil, take-append-drop, length-drop, get_or-drop, add-zero}
 use Rattle.std.specs.List.{position_or_len}
 use Rattle.std.specs.Option.{SomeIff}
 use Rattle.std.specs.Str.Parse.{AllDigits, IsNumeral, digits_value, digits_value_after}
 use Rattle.std.proofs.lemmas.List.Sums.{passes_at_first}
 use Rattle.std.proofs.Math.Seq.{take-append_seam, drop-append_seam}
-use Rattle.std.proofs.Math.Nat.{pow-le-pow_right}
+use Rattle.std.proofs.Math.Nat.{mul_assoc, mul_comm, pow-suc, pow-le-pow_right}
 use Rattle.std.proofs.lemmas.Bool.Decides.{nat_tests}
 use Rattle.std.proofs.lemmas.Str.Parse.{digit_from_value}
 use Rattle.gj_lex.specs.NumberText.{IsWritten}
@@ -95,6 +95,17 @@ pub ten_large : (e : ℕ) → 38 < e → ¬ (10 ^ e < 2 ^ 127)
 ten_large e h small =
     let above : 10 ^ 39 ≤ 10 ^ e = pow-le-pow_right (omega arith) h in
     omega arith
+
+-- n numbers from p on, each ten times the one before it
+abbrev pub tens_from : ℕ → ℕ → List ℕ
+tens_from p zero = []
+tens_from p (suc n) = p ∷ tens_from (p * 10) n
+
+pub ten_at : (p n i d : ℕ) → i < n → get_or (tens_from p n) i d ≡ p * 10 ^ i
+ten_at p zero i d l = absurd (omega arith)
+ten_at p (suc n) zero d l = omega arith
+ten_at p (suc n) (suc i) d l =
+    ten_at (p * 10) n i d (omega arith) ∙ mul_assoc p 10 (10 ^ i) ∙ ap (λ k. p * k) (mul_comm 10 (10 ^ i) ∙ sym (pow-suc 10 i))
 
 -- the number of all the digits is within the limit only if that of the front is
 pub point_front : (front back : List ℕ) (e : ℕ) → ¬ (IsNumeral 10 front × (digits_value 10 front < 2 ^ 127)) →
