@@ -28,10 +28,14 @@ abbrev own_line : ProofLine → List ℕ → OwnLine
 own_line name bytes = record { name = name; bytes = bytes }
 
 -- the lines of a function
-function_lines : (f : FunctionData) → length (subject_lines (function f)) ≡ f.order + 2
+pub function_lines : (f : FunctionData) → length (subject_lines (function f)) ≡ f.order + 2
 function_lines f =
     let long : length (map point (range_with_len 0 f.order)) ≡ f.order = length-map-range_with_len point 0 f.order in
     omega arith
+
+-- the first line behind them
+pub behind_function : (f : FunctionData) (n : ℕ) → n ≡ length (subject_lines (function f)) + 3 → f.order + 5 ≡ n
+behind_function f n is = let points = function_lines f in omega arith
 
 -- ---- the last line
 

@@ -1,15 +1,16 @@
 -- The rules on a row of a claim about cuts: whether all hold, and which is the first that fails (own).
-use Rattle.std.specs.Prelude.{ℕ, ◌≡◌, ◌+◌, ◌<◌, List, [], ◌∷◌, map, length}
+use Rattle.std.specs.Prelude.{ℕ, ◌≡◌, ◌+◌, ◌<◌, pos, List, [], ◌∷◌, map, length}
 use Rattle.std.specs.declared.option.Option.{Option}
 use Rattle.std.specs.declared.option.Option.TheVariants.{Some, None}
 use Rattle.gj_frac.specs.declared.Frac.{Frac}
+use Rattle.gj_frac.specs.Floor.{HasFractionalPart}
 use Rattle.gj_frac.specs.Fraction.{IsWhole}
 use Rattle.gj_proof.specs.declared.cut.CutRule.{CutRule}
 use Rattle.gj_proof.specs.declared.cut.CutRule.TheVariants.{Gmic, Table}
 use Rattle.gj_proof.specs.declared.cut.CutLine.{CutLine}
 use Rattle.gj_proof.specs.declared.cut.CutLine.TheVariants.{Cut}
 use Rattle.gj_proof.specs.declared.cut.CutTerm.{CutTerm}
-use Rattle.gj_proof.specs.Rules.{AtIndex, IfCut, HasPart, MeetsFraction, MeetsLimit, MeetsName, MeetsValue}
+use Rattle.gj_proof.specs.Rules.{AtIndex, IfCut, MeetsFraction, MeetsLimit, MeetsName, MeetsValue}
 use Rattle.gj_check.specs.declared.rules.CheckRule.{CheckRule}
 use Rattle.gj_check.specs.declared.rules.CheckRule.TheVariants.{Fraction, Limit, Name, Value}
 use Rattle.gj_check.specs.declared.rows.RowFailure.{RowFailure}
@@ -55,12 +56,12 @@ IsTermsOutcome rule basic right terms (Some f) = FailTerms rule basic right term
 
 -- a right side with which the rule gives a cut
 abbrev pub GivesCut : CutRule → Frac → Type 0
-GivesCut (Table f) right = HasPart right f.place f.order
+GivesCut (Table f) right = HasFractionalPart right (pos f.place) (pos f.order)
 GivesCut Gmic right = IsWhole right → ⊥
 
 -- a right side of another fractional part than the function's, which is not whole; the mixed-integer cut has none such
 abbrev pub GivesNoCut : CutRule → Frac → Type 0
-GivesNoCut (Table f) right = (IsWhole right → ⊥) × (HasPart right f.place f.order → ⊥)
+GivesNoCut (Table f) right = (IsWhole right → ⊥) × (HasFractionalPart right (pos f.place) (pos f.order) → ⊥)
 GivesNoCut Gmic right = ⊥
 
 -- all rules hold

@@ -12,7 +12,7 @@ use crate::halves::check_halves;
 use crate::minimality::is_minimal;
 use crate::points::is_shown;
 use crate::rules::CheckRule;
-use gj_proof::{Claim, Numbers, Proof};
+use gj_proof::{CLAIM_LINE, Claim, Numbers, Proof, line_behind_function};
 use std::alloc::Global;
 
 /// Checks every rule on a proof, in the order of its lines.
@@ -33,12 +33,12 @@ pub fn check(alloc: Global, proof: &Proof) -> Result<(), CheckFault>
     match proof.claim() {
         Claim::Minimal(shape) => {
             if !is_minimal(shape) {
-                return Err(CheckFault::Rejected(2, CheckRule::Minimal));
+                return Err(CheckFault::Rejected(CLAIM_LINE, CheckRule::Minimal));
             }
         }
         Claim::NotMinimal(shape, violation) => {
             if !is_shown(shape, *violation) {
-                let line = u64::from(shape.order()) + 5;
+                let line = line_behind_function(shape);
                 return Err(CheckFault::Rejected(line, CheckRule::Point));
             }
         }

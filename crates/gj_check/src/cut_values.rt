@@ -1,8 +1,9 @@
 //! The rules `fraction` and `value`: fractional parts, and the values of cuts.
-ghost use Rattle.std.specs.Prelude.{◌≡◌, ◌≢◌, ◌<◌, ◌^◌, ◌↔◌, pos, IsTrue, unsigned_abs};
-ghost use Rattle.gj_frac.specs.Fraction.{IsRatio, denominator, IsWhole};
+ghost use Rattle.std.specs.Prelude.{ℤ, ◌≡◌, ◌≢◌, ◌-ℤ◌, ◌*ℤ◌, ◌<◌, ◌^◌, ◌↔◌, pos, IsTrue, unsigned_abs};
+ghost use Rattle.gj_frac.specs.Floor.{IsFloor, HasFractionalPart};
+ghost use Rattle.gj_frac.specs.Fraction.{IsRatio, numerator, denominator, IsWhole};
 ghost use Rattle.gj_proof.specs.ProofText.{IsBoundedRule};
-ghost use Rattle.gj_proof.specs.Rules.{HasPart, IsGmicAt, MeetsFraction, MeetsValue};
+ghost use Rattle.gj_proof.specs.Rules.{IsGmicCoefficient, MeetsFraction, MeetsValue};
 ghost use Rattle.gj_check.specs.CutRows.{GivesCut, GivesNoCut};
 ghost use Rattle.gj_check.specs.RowLimits.{IsWithinLimits};
 
@@ -51,7 +52,7 @@ fn is_whole(x: Frac) -> bool
 
 /// Whether the fractional part of the number is the function's f.
 fn has_place(shape: &Shape, x: Frac) -> bool
-    ensures { IsTrue result ↔ HasPart x shape.now.place shape.now.order }
+    ensures { IsTrue result ↔ HasFractionalPart x (pos shape.now.place) (pos shape.now.order) }
 {
     is_same(x.fract(), ratio(shape.place().into(), shape.order().into()))
 }
@@ -65,18 +66,18 @@ pub(crate) fn has_value(rule: &CutRule, right: Frac, term: &CutTerm) -> bool
     ensures { IsTrue result ↔ MeetsValue rule.now right term.now }
 {
     match rule {
-        CutRule::Gmic => is_same(gmic_value(right, term.entry), term.cut),
+        CutRule::Gmic => is_same(gmic_coefficient(right, term.entry), term.cut),
         CutRule::Table(shape) => is_same(shape.value_at(term.entry), term.cut),
     }
 }
 
-/// The value of the mixed-integer cut at the entry, for the fractional part f of the right side: with r that of the entry
-/// it is r/f where r is at most f, and else (1 - r)/(1 - f).
-fn gmic_value(right: Frac, entry: Frac) -> Frac
+/// The coefficient of the mixed-integer cut at the entry: with f the fractional part of the right side and r that of the
+/// entry it is r/f if r is at most f, and else (1 - r)/(1 - f).
+fn gmic_coefficient(right: Frac, entry: Frac) -> Frac
     requires gives { IsWhole right → ⊥ }
     requires right { IsWithinLimits right }
     requires entry { IsWithinLimits entry }
-    ensures { IsGmicAt right entry result }
+    ensures { IsGmicCoefficient right entry result }
 {
     let right_den = denominator_of(right);
     let entry_den = denominator_of(entry);
@@ -92,7 +93,8 @@ fn gmic_value(right: Frac, entry: Frac) -> Frac
 /// The numerator of the fractional part of a number, over the number's denominator.
 fn part_of(x: Frac) -> u64
     requires { IsWithinLimits x }
-    ensures part { HasPart x result (unsigned_abs (denominator x)) }
+    ensures value { (w : ℤ) → IsFloor x w → pos result ≡ numerator x -ℤ w *ℤ denominator x }
+    ensures below { result < unsigned_abs (denominator x) }
     ensures high { result < 2 ^ 31 }
 {
     x.num().rem_euclid(x.den()) as u64

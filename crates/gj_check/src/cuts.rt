@@ -2,7 +2,7 @@
 ghost use Rattle.std.specs.Prelude.{◌≡◌, ◌+◌, ◌↔◌, IsTrue, OnOk, IfOk, IfErr, length};
 ghost use Rattle.gj_shape.specs.FirstViolation.{PassesAll};
 ghost use Rattle.gj_proof.specs.declared.claim.Claim.TheVariants as claim;
-ghost use Rattle.gj_proof.specs.ProofText.{IfFunction, subject_of_rule, subject_lines, terms_of, IsBoundedRule};
+ghost use Rattle.gj_proof.specs.ProofText.{IfFunction, subject_of_rule, terms_of};
 ghost use Rattle.gj_proof.specs.Rules.{MeetsRules};
 ghost use Rattle.gj_check.specs.FirstFailure.{IsFaultOf};
 
@@ -10,7 +10,7 @@ use crate::faults::CheckFault;
 use crate::minimality::is_minimal;
 use crate::rows::failure_in_row;
 use crate::rules::CheckRule;
-use gj_proof::{CutLine, CutRule};
+use gj_proof::{CLAIM_LINE, CutLine, CutRule, line_behind_rule};
 use std::alloc::{AllocError, Global};
 
 /// Checks every rule on the cuts of rows by this rule, in the order of the lines of their proof.
@@ -19,9 +19,9 @@ pub(crate) fn check_cuts(alloc: Global, rule: &CutRule, rows: &[CutLine]) -> Res
     ensures fault { IfErr result (IsFaultOf (claim.Cut rule.now rows.now)) }
 {
     if !is_minimal_rule(rule) {
-        return Err(CheckFault::Rejected(2, CheckRule::Minimal));
+        return Err(CheckFault::Rejected(CLAIM_LINE, CheckRule::Minimal));
     }
-    let mut line = first_line(rule);
+    let mut line = line_behind_rule(rule);
     for row in rows {
         if let Some(failure) = failure_in_row(alloc, rule, row)? {
             let line = line_below(line, failure.below)?;
@@ -39,17 +39,6 @@ fn is_minimal_rule(rule: &CutRule) -> bool
     match rule {
         CutRule::Gmic => true,
         CutRule::Table(shape) => is_minimal(shape),
-    }
-}
-
-/// The number of the first line behind the title, the claim and the lines of the rule.
-fn first_line(rule: &CutRule) -> u64
-    ensures value { result ≡ length (subject_lines (subject_of_rule rule.now)) + 3 }
-    ensures bounded { IsBoundedRule rule.now }
-{
-    match rule {
-        CutRule::Gmic => 4,
-        CutRule::Table(shape) => u64::from(shape.order()) + 5,
     }
 }
 

@@ -1,6 +1,6 @@
 //! The rules on the proof that a function is extreme, in the order of its lines.
-ghost use Rattle.std.specs.Prelude.{◌≡◌, ◌+◌, ◌*◌, ◌≤◌, OnOk, IfOk, IfErr, All, length};
-ghost use Rattle.gj_proof.specs.ProofText.{extreme_claim, modulus_lines, IsCoverLineBelow, IsPivotRowBelow, group_lines};
+ghost use Rattle.std.specs.Prelude.{◌≡◌, ◌+◌, OnOk, IfOk, IfErr, All, length};
+ghost use Rattle.gj_proof.specs.ProofText.{extreme_claim, IsCoverLineBelow, IsPivotRowBelow, group_lines};
 ghost use Rattle.gj_proof.specs.Rules.{MeetsRules};
 ghost use Rattle.gj_check.specs.FirstFailure.{IsFaultOf};
 ghost use Rattle.gj_check.specs.GroupRules.{rule_on_groups as checked_rule};
@@ -10,7 +10,7 @@ use crate::cuts::line_below;
 use crate::faults::CheckFault;
 use crate::minimality::is_minimal;
 use crate::rules::CheckRule;
-use gj_proof::{Numbers, PivotRow};
+use gj_proof::{CLAIM_LINE, Numbers, PivotRow, first_group_line, line_behind_function};
 use gj_rank::{GroupRule, failure_in_groups};
 use gj_shape::{CoverLine, Shape};
 use std::alloc::{AllocError, Global};
@@ -30,20 +30,19 @@ pub(crate) fn check_extreme(
     ensures fault { IfErr result (IsFaultOf (extreme_claim numbers shape.now lines.now rows.now)) }
 {
     if !is_minimal(shape) {
-        return Err(CheckFault::Rejected(2, CheckRule::Minimal));
+        return Err(CheckFault::Rejected(CLAIM_LINE, CheckRule::Minimal));
     }
     if !shape.is_continuous() {
-        return Err(CheckFault::Rejected(2, CheckRule::Continuous));
+        return Err(CheckFault::Rejected(CLAIM_LINE, CheckRule::Continuous));
     }
-    let order = u64::from(shape.order());
     let components = match components_by(alloc, shape, lines)? {
         Covered::Whole(components) => components,
         Covered::BrokenAt(index) => {
-            let line = order + 5 + index as u64;
+            let line = line_behind_function(shape) + index as u64;
             return Err(CheckFault::Rejected(line, CheckRule::Cover));
         }
     };
-    let groups = first_group_line(order, numbers);
+    let groups = first_group_line(numbers, shape);
     let number = components.number.as_slice();
     if let Some(failure) = failure_in_groups(
         alloc,
@@ -61,18 +60,6 @@ pub(crate) fn check_extreme(
         return Err(CheckFault::Rejected(line, CheckRule::Rank));
     }
     Ok(())
-}
-
-/// The number of the line with which the first group begins, of a function of this order: behind the title, the claim, the lines of
-/// the function and of its intervals, and by residues that of the modulus.
-fn first_group_line(order: u64, numbers: Numbers) -> u64
-    requires { order ≤ 1000 }
-    ensures { result ≡ 2 * order + 5 + length (modulus_lines numbers) }
-{
-    match numbers {
-        Numbers::Whole => 2 * order + 5,
-        Numbers::Residues => 2 * order + 6,
-    }
 }
 
 /// The rule on groups among those of the checker.

@@ -13,6 +13,7 @@ use crate::minimality::is_minimal;
 use crate::points::times;
 use crate::rules::CheckRule;
 use crate::tables::is_minimal_table;
+use gj_proof::{CLAIM_LINE, line_behind_function};
 use gj_shape::{Halves, Shape};
 use std::alloc::{AllocError, Global};
 
@@ -39,12 +40,12 @@ pub(crate) fn check_halves(alloc: Global, shape: &Shape, halves: &Halves) -> Res
     ensures fault { IfErr result (IsFaultOf (claim.NotExtreme shape.now halves.now)) }
 {
     if !is_minimal(shape) {
-        return Err(CheckFault::Rejected(2, CheckRule::Minimal));
+        return Err(CheckFault::Rejected(CLAIM_LINE, CheckRule::Minimal));
     }
     if !shape.is_continuous() {
-        return Err(CheckFault::Rejected(2, CheckRule::Continuous));
+        return Err(CheckFault::Rejected(CLAIM_LINE, CheckRule::Continuous));
     }
-    let line = u64::from(shape.order()) + 5;
+    let line = line_behind_function(shape);
     let Some(refinement) = refinement_of(shape, halves) else {
         return Err(CheckFault::Rejected(line, CheckRule::Scale));
     };

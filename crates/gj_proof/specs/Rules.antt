@@ -2,7 +2,8 @@
 use Rattle.std.specs.Prelude.{ℕ, ℤ, pos, ◌≡◌, ◌≢◌, ◌+◌, ◌-◌, ◌*◌, ◌<◌, ◌≤◌, ◌^◌, ◌+ℤ◌, ◌*ℤ◌, ◌≤ℤ◌, ◌<ℤ◌, List, [], ◌∷◌, ◌++◌, All, Any, length, map, unsigned_abs}
 use Rattle.std.specs.List.{range_with_len}
 use Rattle.gj_frac.specs.declared.Frac.{Frac}
-use Rattle.gj_frac.specs.Fraction.{numerator, denominator, IsRatio, IsWhole}
+use Rattle.gj_frac.specs.Floor.{HasFractionalPart}
+use Rattle.gj_frac.specs.Fraction.{numerator, denominator, IsWhole}
 use Rattle.gj_tools.specs.Divisors.{gcd_of}
 use Rattle.gj_shape.specs.Cover.{components_in}
 use Rattle.gj_shape.specs.Additive.{IsTight}
@@ -20,6 +21,7 @@ use Rattle.gj_shape.specs.declared.extremality.RowName.TheVariants.{Period, F, P
 use Rattle.gj_shape.specs.declared.violations.Violation.{Violation}
 use Rattle.gj_shape.specs.declared.violations.Violation.TheVariants as violation
 use Rattle.gj_theory.specs.CoverRules.{MeetsCoverRule}
+use Rattle.gj_theory.specs.Cuts.{IsGmicValue}
 use Rattle.gj_theory.specs.Modulus.{modulus}
 use Rattle.gj_theory.specs.TriangularRows.{present_row_by}
 use Rattle.gj_proof.specs.PresentRows.{arithmetic_of, AreNumbersOf, begun_row, rows_before_by}
@@ -61,20 +63,14 @@ pub record MeetsPoint (f : FunctionData) (v : Violation) : Type 0 where
 
 -- ---- the rules of cuts
 
--- the fractional part of x is i/n
-pub record HasPart (x : Frac) (i n : ℕ) : Type 0 where
-  pub below : i < n
-  pub whole : ℤ
-  pub is : IsRatio x (whole *ℤ pos n +ℤ pos i) (pos n)
-
 -- the rule `fraction`: a row with a cut has a right side with the fractional part f, and by the rule of the mixed-integer cut
 -- one that is not whole; a row that is passed over has a whole one, or, by a function, one that is not whole and has another
 -- fractional part
 abbrev pub MeetsFraction : CutRule → CutLine → Type 0
-MeetsFraction (Table f) (cuts.Cut name right terms) = HasPart right f.place f.order
+MeetsFraction (Table f) (cuts.Cut name right terms) = HasFractionalPart right (pos f.place) (pos f.order)
 MeetsFraction Gmic (cuts.Cut name right terms) = IsWhole right → ⊥
 MeetsFraction rule (cuts.Skip name right Integral) = IsWhole right
-MeetsFraction (Table f) (cuts.Skip name right Other) = (IsWhole right → ⊥) × (HasPart right f.place f.order → ⊥)
+MeetsFraction (Table f) (cuts.Skip name right Other) = (IsWhole right → ⊥) × (HasFractionalPart right (pos f.place) (pos f.order) → ⊥)
 MeetsFraction Gmic (cuts.Skip name right Other) = ⊥
 
 -- the rule `limit`: x is at most 2^31 in absolute value, and has a common denominator of at most 2^31 - 1 with the fractions of
@@ -88,20 +84,14 @@ pub record MeetsName (basic : List ℕ) (before : List CutTerm) (t : CutTerm) : 
   pub not_basic : t.name ≢ basic
   pub new : All (λ u. u.name ≢ t.name) before
 
--- with f = k/n and r = i/n, x is r/f where r is at most f, and else (1 - r)/(1 - f)
-pub record IsGmicOver (n k i : ℕ) (x : Frac) : Type 0 where
-  pub rises : i ≤ k → IsRatio x (pos i) (pos k)
-  pub falls : k < i → IsRatio x (pos (n - i)) (pos (n - k))
-
--- x is the value of the mixed-integer cut at the entry, for the fractional part f of the right side: over each common
--- denominator of f and of the fractional part r of the entry
-abbrev pub IsGmicAt : Frac → Frac → Frac → Type 0
-IsGmicAt right entry x = (n k i : ℕ) → HasPart right k n → HasPart entry i n → IsGmicOver n k i x
+-- x is the coefficient of the mixed-integer cut at the entry: its value there for the fractional part f of the right side
+abbrev pub IsGmicCoefficient : Frac → Frac → Frac → Type 0
+IsGmicCoefficient right entry x = (f : Frac) → HasFractionalPart right (numerator f) (denominator f) → IsGmicValue f entry x
 
 -- the rule `value`: the coefficient of the term is the value of the rule at its entry
 abbrev pub MeetsValue : CutRule → Frac → CutTerm → Type 0
 MeetsValue (Table f) right t = IsValueAt f (numerator t.entry *ℤ pos f.order) (unsigned_abs (denominator t.entry)) t.cut
-MeetsValue Gmic right t = IsGmicAt right t.entry t.cut
+MeetsValue Gmic right t = IsGmicCoefficient right t.entry t.cut
 
 -- ---- the rules of an extreme function
 

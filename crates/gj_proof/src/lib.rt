@@ -14,6 +14,7 @@ mod faults;
 mod fields;
 mod halves;
 mod laws;
+mod layout;
 mod modulus;
 mod numbers;
 mod pivot;
@@ -31,6 +32,7 @@ pub use laws::{
     extreme_proof_text_is_short, no_fault_in_proof_text, numbers_of_lines, one_first_fault,
     one_spelling, proof_text_is_short, proof_texts_are_read,
 };
+pub use layout::{CLAIM_LINE, first_group_line, line_behind_function, line_behind_rule};
 pub use numbers::{MODULUS, Numbers};
 pub use pivot::PivotRow;
 pub use read::read_proof;

@@ -4,8 +4,7 @@ use Rattle.std.specs.List.{AllZip}
 use Rattle.std.proofs.lemmas.List.Elements.{All-nil, All-cons, All-head, All-tail}
 use Rattle.gj_frac.specs.declared.Frac.{Frac}
 use Rattle.gj_frac.specs.Fraction.{IsWhole}
-use Rattle.gj_check.proofs.CutMeaning.{part_of_function}
-use Rattle.gj_shape.specs.FunctionData.{FunctionData, IsWithinBounds}
+use Rattle.gj_shape.specs.FunctionData.{FunctionData}
 use Rattle.gj_rule.specs.Kept.{KeptRule}
 use Rattle.gj_rule.specs.Kind.{IsKindValue}
 use Rattle.gj_rule.specs.declared.kind.RuleKind.{RuleKind}
@@ -18,6 +17,7 @@ use Rattle.gj_cut.specs.declared.cut.RowCut.{RowCut}
 use Rattle.gj_cut.specs.declared.cut.RowCut.TheVariants as row_cut
 use Rattle.gj_cut.specs.declared.cut.Term.{Term}
 use Rattle.gj_cut.proofs.RowTerms.{cut_of_kind}
+use Rattle.gj_check.proofs.FractionalParts.{gmic_coefficient}
 use Rattle.gj_proof.specs.Rules.{MeetsValue}
 use Rattle.gj_proof.specs.declared.cut.CutLine.{CutLine}
 use Rattle.gj_proof.specs.declared.cut.CutLine.TheVariants.{Cut, Skip}
@@ -27,7 +27,6 @@ use Rattle.gj_proof.specs.declared.cut.CutTerm.{CutTerm}
 use Rattle.gj_proof.specs.declared.cut.SkipReason.TheVariants.{Integral, Other}
 use Rattle.gj_top.specs.Cut.{IsTermFor, IsLineFor}
 use Rattle.gj_top.specs.CutSteps.{AreInColumns, IsNamedTerm, IsLineOf}
-use Rattle.gj_top.proofs.CutParts.{part_of_cut, gmic_value_at}
 
 -- ---- the columns of terms
 
@@ -86,7 +85,7 @@ gmic_line_for columns row (row_cut.Cut terms) (Cut name right named) (f, h) l = 
   l.0,
   l.1,
   λ whole. h.0 (subst IsWhole l.1 whole),
-  named_for Gmic (kind.Gmic f) columns row row.entries terms named (λ entry y name v. gmic_value_at row.rhs f entry y h.0 h.1 v) h.2 l.2,
+  named_for Gmic (kind.Gmic f) columns row row.entries terms named (λ entry y name v. gmic_coefficient row.rhs f entry y h.1 v) h.2 l.2,
 )
 gmic_line_for columns row (row_cut.Cut terms) (Skip name right reason) h l = absurd l
 gmic_line_for columns row row_cut.Integral (Skip name right Integral) h l = (l.0, l.1, subst IsWhole (sym l.1) h)
@@ -94,31 +93,31 @@ gmic_line_for columns row row_cut.Integral (Skip name right Other) h l = absurd 
 gmic_line_for columns row row_cut.Integral (Cut name right named) h l = absurd l
 gmic_line_for columns row row_cut.OtherFraction line h l = absurd h
 
-function_line : (f : FunctionData) (columns : List (List ℕ)) (row : Row) (cut : RowCut) (line : CutLine) → IsWithinBounds f →
+function_line : (f : FunctionData) (columns : List (List ℕ)) (row : Row) (cut : RowCut) (line : CutLine) →
     IsCutOfKind (kind.Table f) row cut → IsLineOf columns row cut line → IsLineFor (Table f) columns row line
-function_line f columns row (row_cut.Cut terms) (Cut name right named) within h l = (
+function_line f columns row (row_cut.Cut terms) (Cut name right named) h l = (
   l.0,
   l.1,
-  part_of_cut right f.place f.order within.place_high (subst (HasPart (kind.Table f)) (sym l.1) h.1),
+  subst (HasPart (kind.Table f)) (sym l.1) h.1,
   named_for (Table f) (kind.Table f) columns row row.entries terms named (λ entry y name v. v) h.2 l.2,
 )
-function_line f columns row (row_cut.Cut terms) (Skip name right reason) within h l = absurd l
-function_line f columns row row_cut.Integral (Skip name right Integral) within h l = (l.0, l.1, subst IsWhole (sym l.1) h)
-function_line f columns row row_cut.Integral (Skip name right Other) within h l = absurd l
-function_line f columns row row_cut.Integral (Cut name right named) within h l = absurd l
-function_line f columns row row_cut.OtherFraction (Skip name right Other) within h l = (
+function_line f columns row (row_cut.Cut terms) (Skip name right reason) h l = absurd l
+function_line f columns row row_cut.Integral (Skip name right Integral) h l = (l.0, l.1, subst IsWhole (sym l.1) h)
+function_line f columns row row_cut.Integral (Skip name right Other) h l = absurd l
+function_line f columns row row_cut.Integral (Cut name right named) h l = absurd l
+function_line f columns row row_cut.OtherFraction (Skip name right Other) h l = (
   l.0,
   l.1,
   (
     λ whole. h.0 (subst IsWhole l.1 whole),
-    λ part. h.1 (subst (HasPart (kind.Table f)) l.1 (part_of_function right f.place f.order part)),
+    λ part. h.1 (subst (HasPart (kind.Table f)) l.1 part),
   ),
 )
-function_line f columns row row_cut.OtherFraction (Skip name right Integral) within h l = absurd l
-function_line f columns row row_cut.OtherFraction (Cut name right named) within h l = absurd l
+function_line f columns row row_cut.OtherFraction (Skip name right Integral) h l = absurd l
+function_line f columns row row_cut.OtherFraction (Cut name right named) h l = absurd l
 
 pub function_line_for : {E : Type 0} (answers : E → Frac → Frac → Type 0) (rule : KeptRule E) (f : FunctionData) (columns : List (List ℕ))
-    (row : Row) (cut : RowCut) (line : CutLine) → IsWithinBounds f → rule.kind ≡ kind.Table f → IsCutOf answers rule row cut →
+    (row : Row) (cut : RowCut) (line : CutLine) → rule.kind ≡ kind.Table f → IsCutOf answers rule row cut →
     IsLineOf columns row cut line → IsLineFor (Table f) columns row line
-function_line_for answers rule f columns row cut line within is h l =
-    function_line f columns row cut line within (subst (λ k. IsCutOfKind k row cut) is (cut_of_kind answers rule row cut h)) l
+function_line_for answers rule f columns row cut line is h l =
+    function_line f columns row cut line (subst (λ k. IsCutOfKind k row cut) is (cut_of_kind answers rule row cut h)) l

@@ -4,7 +4,6 @@ pub mod Commands
 pub mod CutClaims
 pub mod CutForm
 pub mod CutLines
-pub mod CutParts
 pub mod Determined
 pub mod Ends
 pub mod Extremality

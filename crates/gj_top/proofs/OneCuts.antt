@@ -1,7 +1,8 @@
 -- The command `cut` has one answer, and what `mixed` shares with it.
-use Rattle.std.proofs.Common.{◌≡◌, ℕ, ◌*◌, ℤ, pos, ◌+ℤ◌, ◌*ℤ◌, unsigned_abs, List, ◌++◌, codes, refl, sym, ap, ap₂, subst, ◌∙◌, arith}
+use Rattle.std.proofs.Common.{◌≡◌, ℕ, ℤ, pos, ◌*ℤ◌, unsigned_abs, List, ◌++◌, codes, refl, sym, ap, ap₂, subst, subst₂, ◌∙◌, arith}
 use Rattle.std.proofs.lemmas.Int.{ints}
 use Rattle.gj_frac.specs.declared.Frac.{Frac}
+use Rattle.gj_frac.specs.Floor.{HasFractionalPart}
 use Rattle.gj_frac.specs.Fraction.{IsWhole, numerator, denominator}
 use Rattle.gj_lex.specs.declared.reason.Reason.{Reason}
 use Rattle.gj_lex.proofs.LineNumbers as numbers
@@ -22,10 +23,10 @@ use Rattle.gj_row.specs.declared.tableau.Row.{Row}
 use Rattle.gj_row.proofs.OneFirstFault.{one_first_fault as one_tableau_fault}
 use Rattle.gj_row.proofs.OneTableau.{one_tableau, one_each}
 use Rattle.gj_extreme.proofs.OneViolation.{one_violation}
-use Rattle.gj_check.proofs.FractionalParts.{same_parts, one_gmic}
+use Rattle.gj_check.proofs.FractionalParts.{part_of_whole, part_is, one_gmic}
 use Rattle.gj_check.proofs.ValuesOfCuts.{one_value}
 use Rattle.gj_proof.specs.ProofText.{IsBoundedRule, IsProofText, violation_line}
-use Rattle.gj_proof.specs.Rules.{HasPart, IsGmicAt, MeetsFraction, MeetsValue}
+use Rattle.gj_proof.specs.Rules.{IsGmicCoefficient, MeetsFraction, MeetsValue}
 use Rattle.gj_proof.proofs.OneText.{one_text}
 use Rattle.gj_proof.specs.declared.claim.Claim.TheVariants as claim
 use Rattle.gj_proof.specs.declared.cut.CutLine.{CutLine}
@@ -112,19 +113,12 @@ made_no_violation (Table f) x l h k = no_violation f x l h k
 
 -- ---- cuts
 
--- a whole number has the fractional part 0
-whole_part : (x : Frac) → IsWhole x → HasPart x 0 1
-whole_part x h = record {
-  below = omega arith;
-  whole = x.num;
-  is = subst (λ (d : ℤ). x.num *ℤ pos 1 ≡ (x.num *ℤ pos 1 +ℤ pos 0) *ℤ d) (sym h) (omega (arith, ints));
-}
-
-not_at_place : (f : FunctionData) (x : Frac) → IsWithinBounds f → HasPart x f.place f.order → IsWhole x → ⊥
-not_at_place f x l h whole =
+not_at_place : (f : FunctionData) (x : Frac) → IsWithinBounds f → HasFractionalPart x (pos f.place) (pos f.order) → IsWhole x → ⊥
+not_at_place f x l part whole =
     let low = l.place_low in
-    let none : f.place * 1 ≡ 0 * f.order = same_parts x f.place f.order 0 1 h (whole_part x whole) in
-    omega arith
+    let none : pos 0 *ℤ pos f.order ≡ pos f.place *ℤ pos 1 =
+    subst₂ (λ z d. z *ℤ pos f.order ≡ pos f.place *ℤ d) (part_of_whole x whole) whole (part_is x (pos f.place) (pos f.order) part) in
+    absurd (omega (arith, ints))
 
 -- a line is that of a cut or that of a row that is passed over
 cut_or_skip : (r : CutRule) (n m : List ℕ) (x y : Frac) (terms : List CutTerm) (reason : SkipReason) → IsBoundedRule r → x ≡ y →
@@ -132,7 +126,7 @@ cut_or_skip : (r : CutRule) (n m : List ℕ) (x y : Frac) (terms : List CutTerm)
 cut_or_skip Gmic n m x y terms Integral l e h k = h (subst IsWhole (sym e) k)
 cut_or_skip Gmic n m x y terms Other l e h k = k
 cut_or_skip (Table f) n m x y terms Integral l e h k = not_at_place f x l h (subst IsWhole (sym e) k)
-cut_or_skip (Table f) n m x y terms Other l e h k = k.1 (subst (λ (z : Frac). HasPart z f.place f.order) e h)
+cut_or_skip (Table f) n m x y terms Other l e h k = k.1 (subst (λ (z : Frac). HasFractionalPart z (pos f.place) (pos f.order)) e h)
 
 one_reason : (r : CutRule) (n m : List ℕ) (x y : Frac) (a b : SkipReason) → x ≡ y → MeetsFraction r (Skip n x a) → MeetsFraction r (Skip m y b) →
     a ≡ b
@@ -146,7 +140,7 @@ one_reason (Table f) n m x y Other Integral e h k = absurd (h.0 (subst IsWhole (
 one_cut_value : (r : CutRule) (n : List ℕ) (right : Frac) (terms : List CutTerm) (t u : CutTerm) → IsBoundedRule r →
     MeetsFraction r (Cut n right terms) → t.entry ≡ u.entry → MeetsValue r right t → MeetsValue r right u → t.cut ≡ u.cut
 one_cut_value Gmic n right terms t u l part e h k =
-    one_gmic right u.entry t.cut u.cut part (subst (λ (x : Frac). IsGmicAt right x t.cut) e h) k
+    one_gmic right u.entry t.cut u.cut part (subst (λ (x : Frac). IsGmicCoefficient right x t.cut) e h) k
 one_cut_value (Table f) n right terms t u l part e h k =
     one_value f (numerator u.entry *ℤ pos f.order) (unsigned_abs (denominator u.entry)) t.cut u.cut l (denominator_some u.entry)
     (subst (λ (x : Frac). IsValueAt f (numerator x *ℤ pos f.order) (unsigned_abs (denominator x)) t.cut) e h) k

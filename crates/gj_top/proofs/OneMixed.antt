@@ -1,18 +1,15 @@
 -- The command `mixed` has one answer.
 use Rattle.std.proofs.Common.{◌≡◌, ◌≢◌, ℕ, ◌-◌, Bool, true, false, ℤ, pos, int_lt, neg_ℤ, ◌-ℤ◌, ◌*ℤ◌, ◌<ℤ◌, ◌≤ℤ◌, unsigned_abs, List, ◌++◌, codes, flat_map, refl, sym, ap₂, subst, ◌∙◌, arith}
-use Rattle.std.specs.Int.{int_div_euclid}
 use Rattle.std.proofs.lemmas.Int.{ints}
 use Rattle.gj_tools.proofs.Integers.{mul_some_z, positive_some_z}
 use Rattle.gj_frac.specs.declared.Frac.{Frac}
-use Rattle.gj_frac.specs.Floor.{IsFloor, rest_above, HasFractionalPart}
-use Rattle.gj_frac.specs.Fraction.{IsWhole, IsInside, numerator, denominator, fraction_of, quotient_of}
-use Rattle.gj_frac.proofs.Floors.{quotient_is_floor}
+use Rattle.gj_frac.specs.Fraction.{IsInside, numerator, denominator, fraction_of, quotient_of}
 use Rattle.gj_frac.proofs.SameValues.{same_from_is}
 use Rattle.gj_lines.specs.FunctionLines.{line}
 use Rattle.gj_lines.proofs.OneTextOfLines.{one_text_of_lines}
 use Rattle.gj_shape.specs.FunctionData.{FunctionData, IsWithinBounds, at}
 use Rattle.gj_shape.proofs.LeastDenominator.{denominator_some}
-use Rattle.gj_theory.specs.Cuts.{IsGmicValue, one_minus}
+use Rattle.gj_theory.specs.Cuts.{one_minus}
 use Rattle.gj_row.specs.declared.tableau.Entry.{Entry}
 use Rattle.gj_row.specs.declared.tableau.Row.{Row}
 use Rattle.gj_row.specs.declared.tableau.Tableau.{Tableau}
@@ -26,8 +23,7 @@ use Rattle.gj_mixed.specs.declared.cut.MixedCut.TheVariants as mixed_cut
 use Rattle.gj_mtext.specs.Columns.{continuous_columns}
 use Rattle.gj_mtext.specs.MixedLines.{IsNamedTerm, IsMixedCutBy, NamesMixedCut, IsMixedLineFor, AreMixedCutsOf, MakesMixedCuts, mixed_row_text}
 use Rattle.gj_mtext.specs.declared.lines.MixedLine.{MixedLine}
-use Rattle.gj_fill.proofs.Ascending.{inside_from_ratio}
-use Rattle.gj_check.proofs.FractionalParts.{some_part, part_some}
+use Rattle.gj_check.proofs.FractionalParts.{one_part, part_inside, one_minus_some, one_gmic_value}
 use Rattle.gj_check.proofs.ValuesOfCuts.{one_value}
 use Rattle.gj_proof.specs.ProofText.{IsBoundedRule, AreSubjectLines, subject_of_rule}
 use Rattle.gj_proof.specs.declared.cut.CutLine.{CutLine}
@@ -40,7 +36,6 @@ use Rattle.gj_top.specs.declared.reply.End.{End}
 use Rattle.gj_top.specs.declared.reply.End.TheVariants as end
 use Rattle.gj_top.specs.Cut.{CutInput, SpellsCutInput, NamesViolation}
 use Rattle.gj_top.specs.Mixed.{NamesJump, IsMixedReply, mixed}
-use Rattle.gj_top.proofs.CutParts.{place_is}
 use Rattle.gj_top.proofs.Determined.{IsDetermined}
 use Rattle.gj_row.proofs.OneTableau.{one_each}
 use Rattle.gj_top.proofs.OneCuts.{one_cut_spelled, one_cut_refusal, by_rule_bounds, one_violation_text, no_violation, same_cut_term}
@@ -64,32 +59,6 @@ one_weight up down c w v h k = by_sign (int_lt c.num (pos 0)) refl
     by_sign false e =
         let from : pos 0 ≤ℤ c.num = omega (arith, ints) in
         same_from_is w v (up.num *ℤ c.num) (up.den *ℤ c.den) up_some (h.rises from) (k.rises from)
-
-one_minus_some : (f : Frac) → IsInside f → unsigned_abs (pos 1 *ℤ f.den -ℤ f.num *ℤ pos 1) ≢ 0
-one_minus_some f inside = let low = inside.1 in omega (arith, ints)
-
-one_value_above : (f x y z : Frac) (w : ℤ) → IsInside f → IsFloor x w → IsGmicValue f x y → IsGmicValue f x z → y ≡ z
-one_value_above f x y z w inside floor h k = by_test (int_lt (f.num *ℤ x.den) ((x.num -ℤ w *ℤ x.den) *ℤ f.den)) refl
-  where
-    x_some : unsigned_abs x.den ≢ 0
-    x_some = positive_some_z x.den x.lowest.positive
-
-    by_test : (b : Bool) → int_lt (f.num *ℤ x.den) ((x.num -ℤ w *ℤ x.den) *ℤ f.den) ≡ b → y ≡ z
-    by_test true e =
-        let above : (f.num *ℤ x.den) <ℤ ((x.num -ℤ w *ℤ x.den) *ℤ f.den) = omega (arith, ints) in
-        let value = quotient_of (one_minus (rest_above x w)) (one_minus (fraction_of f)) in
-        let some =
-        mul_some_z (pos 1 *ℤ x.den) (pos 1 *ℤ f.den -ℤ f.num *ℤ pos 1) (mul_some_z (pos 1) x.den (omega (arith, ints)) x_some)
-        (one_minus_some f inside) in
-        same_from_is y z value.top value.bottom some (h.falls w floor above) (k.falls w floor above)
-    by_test false e =
-        let not_above : (f.num *ℤ x.den) <ℤ ((x.num -ℤ w *ℤ x.den) *ℤ f.den) → ⊥ = λ less. absurd (omega (arith, ints)) in
-        let value = quotient_of (rest_above x w) (fraction_of f) in
-        same_from_is y z value.top value.bottom (mul_some_z x.den f.num x_some (positive_some_z f.num inside.0)) (h.rises w floor not_above)
-        (k.rises w floor not_above)
-
-one_gmic_value : (f x y z : Frac) → IsInside f → IsGmicValue f x y → IsGmicValue f x z → y ≡ z
-one_gmic_value f x y z inside h k = one_value_above f x y z (int_div_euclid x.num x.den) inside (quotient_is_floor x) h k
 
 -- ---- the terms of mixed cuts
 
@@ -129,19 +98,6 @@ one_cut_by_table f up down continuous row mixed_cut.OtherFraction mixed_cut.Inte
 one_cut_by_table f up down continuous row mixed_cut.OtherFraction mixed_cut.OtherFraction l h k = refl
 
 -- the mixed-integer cut, by the fractional part of a right side that is not whole
-part_inside : (right f : Frac) → (IsWhole right → ⊥) → HasFractionalPart right (numerator f) (denominator f) → IsInside f
-part_inside right f not_whole part =
-    let p = some_part right in
-    let n = unsigned_abs (denominator right) in
-    inside_from_ratio f p.0 n (part_some right p.0 n not_whole p.1) p.1.below (place_is right f n p.0 part p.1)
-
-one_part : (right f g : Frac) → HasFractionalPart right (numerator f) (denominator f) → HasFractionalPart right (numerator g) (denominator g) → f ≡ g
-one_part right f g h k =
-    let p = some_part right in
-    let n = unsigned_abs (denominator right) in
-    let some = denominator_some right in
-    same_from_is f g (pos p.0) (pos n) (omega (arith, ints)) (place_is right f n p.0 h p.1) (place_is right g n p.0 k p.1)
-
 one_up : (f up other : Frac) (down below : Frac) → IsInside f → AreGmicSlopes f up down → AreGmicSlopes f other below → up ≡ other
 one_up f up other down below inside h k =
     same_from_is up other (pos 1 *ℤ f.den) (pos 1 *ℤ f.num) (mul_some_z (pos 1) f.num (omega (arith, ints)) (positive_some_z f.num inside.0)) h.up_is k.up_is

@@ -1,8 +1,7 @@
 //! The lines of the cuts of a tableau: a row each, in order.
 ghost use Rattle.std.specs.Prelude.{◌≡◌, ◌<◌, All, IfOk, length};
 ghost use Rattle.std.specs.List.{AllZip};
-ghost use Rattle.gj_proof.specs.ProofText.{IsBoundedRule};
-ghost use Rattle.gj_shape.specs.FunctionData.{FunctionData, IsWithinBounds};
+ghost use Rattle.gj_shape.specs.FunctionData.{FunctionData};
 ghost use Rattle.gj_theory.specs.Cuts.{IsValueOf};
 ghost use Rattle.gj_row.specs.TableauLimits.{IsTableau, IsRowWithinLimits};
 ghost use Rattle.gj_rule.specs.Kept.{Evaluates};
@@ -27,8 +26,7 @@ pub(crate) fn lines_of(
     rule: &CutRule,
     tableau: &Tableau,
 ) -> Result<Vec<CutLine>, AllocError>
-    requires rule { IsBoundedRule rule.now }
-    requires tableau { IsTableau tableau.now }
+    requires { IsTableau tableau.now }
     ensures { IfOk result (λ lines. AllZip (IsLineFor rule.now tableau.now.columns) tableau.now.rows lines.items) }
 {
     let columns = tableau.columns.as_slice();
@@ -68,8 +66,7 @@ fn function_lines(
     columns: &[Name],
     rows: &[Row],
 ) -> Result<Vec<CutLine>, AllocError>
-    requires shape { IsWithinBounds shape.now }
-    requires rows { All (IsRowWithinLimits (length columns.now)) rows.now }
+    requires { All (IsRowWithinLimits (length columns.now)) rows.now }
     ensures { IfOk result (λ lines. AllZip (IsLineFor (Table shape.now) columns.now) rows.now lines.items) }
 {
     let kept = shape.copy(alloc)?;
@@ -89,7 +86,6 @@ fn lines_by<E: Evaluator>(
     columns: &[Name],
     rows: &[Row],
 ) -> Result<Vec<CutLine>, AllocError>
-    requires shape { IsWithinBounds shape }
     requires evaluates { Evaluates E.can_answer E.answers (kind.Table shape) eval }
     requires rows { All (IsRowWithinLimits (length columns.now)) rows.now }
     ensures { IfOk result (λ lines. AllZip (IsLineFor (Table shape) columns.now) rows.now lines.items) }
@@ -110,8 +106,8 @@ fn line_by<E: Evaluator>(
     row: &Row,
 ) -> Result<CutLine, AllocError>
     requires { IsRowWithinLimits (length columns.now) row.now }
-    ensures { IfOk result (λ line. (f : FunctionData) → IsWithinBounds f →
-        rule.now.kind ≡ kind.Table f → IsLineFor (Table f) columns.now row.now line) }
+    ensures { IfOk result (λ line. (f : FunctionData) → rule.now.kind ≡ kind.Table f →
+        IsLineFor (Table f) columns.now row.now line) }
 {
     let cut = cut_row(alloc, rule, row)?;
     let line = line_of(alloc, columns, row, &cut)?;

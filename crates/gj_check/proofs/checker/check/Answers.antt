@@ -1,10 +1,11 @@
-use Rattle.std.proofs.Common.{rules, ◌≡◌, ◌+◌, true, false, OnOk, IfErr, sym, subst, subst₂, ◌∙◌, arith}
+use Rattle.std.proofs.Common.{rules, ◌≡◌, ◌+◌, true, false, OnOk, IfErr, sym, subst, subst₂, ◌∙◌}
 use Rattle.gj_proof.specs.declared.claim.Claim.{Claim}
 use Rattle.gj_proof.specs.declared.claim.Claim.TheVariants.{Cut, Extreme, ExtremeByResidues, NotExtreme}
 use Rattle.gj_proof.specs.Rules.{MeetsRules}
 use Rattle.gj_check.specs.declared.rules.CheckRule.TheVariants.{Minimal, Point}
 use Rattle.gj_check.specs.FirstFailure.{IsFirstFailure, IsFaultOf}
 use Rattle.gj_check.proofs.DemandsOfClaims.{minimal_fails, point_fails, accepted_unless}
+use Rattle.gj_check.proofs.OwnLineNumbers.{behind_function}
 use Rattle.gj_check.proofs.RulesGiveMeaning.{meaning_of_rules, accepted_holds}
 use Rattle.gj_check.proofs.checker.check.Goals as goal
 
@@ -17,7 +18,7 @@ returns-then-not-is_minimal-clause-fault c =
 pub returns-then-not-is_shown-clause-fault : goal.returns-then-not-is_shown-clause-fault
 returns-then-not-is_shown-clause-fault c =
     let is = sym c.in-NotMinimal.is ∙ c.claim.ensures.claim in
-    let number : c.in-NotMinimal.shape.order + 5 ≡ c.from-line.result + 5 = omega (arith, c.order.ensures.value, c.from-line.ensures) in
+    let number = behind_function c.in-NotMinimal.shape _ c.line_behind_function-line.ensures.value in
     subst (λ n. IsFirstFailure c.args.proof.now n Point) number
     (subst (λ (d : Claim). IsFirstFailure d (c.in-NotMinimal.shape.order + 5) Point) is
     (point_fails c.in-NotMinimal.shape c.in-NotMinimal.violation

@@ -5,7 +5,7 @@ use Rattle.gj_shape.specs.FunctionData.{IsWithinBounds}
 use Rattle.gj_shape.specs.Values.{IsValueAt}
 use Rattle.gj_shape.proofs.LeastDenominator.{denominator_some}
 use Rattle.gj_proof.specs.declared.cut.CutRule.{CutRule}
-use Rattle.gj_proof.specs.Rules.{MeetsValue, IsGmicAt}
+use Rattle.gj_proof.specs.Rules.{MeetsValue, IsGmicCoefficient}
 use Rattle.gj_check.specs.CutRows.{GivesCut}
 use Rattle.gj_check.proofs.FractionalParts.{one_gmic}
 use Rattle.gj_check.proofs.ValuesOfCuts.{one_value}
@@ -15,9 +15,9 @@ pub returns-in-Gmic : goal.returns-in-Gmic
 returns-in-Gmic c =
     let t = c.args.term.now in
     subst (λ (r : CutRule). IsTrue c.is_same.result ↔ MeetsValue r c.args.right t) (sym c.in-Gmic.is) (
-      λ yes. subst (λ (x : Frac). IsGmicAt c.args.right t.entry x) (c.is_same.ensures.0 yes) c.gmic_value.ensures,
-      λ is. c.is_same.ensures.1 (one_gmic c.args.right t.entry c.gmic_value.result t.cut
-          (subst (λ (r : CutRule). GivesCut r c.args.right) c.in-Gmic.is c.requires.gives) c.gmic_value.ensures is),
+      λ yes. subst (λ (x : Frac). IsGmicCoefficient c.args.right t.entry x) (c.is_same.ensures.0 yes) c.gmic_coefficient.ensures,
+      λ is. c.is_same.ensures.1 (one_gmic c.args.right t.entry c.gmic_coefficient.result t.cut
+          (subst (λ (r : CutRule). GivesCut r c.args.right) c.in-Gmic.is c.requires.gives) c.gmic_coefficient.ensures is),
     )
 
 pub returns-in-Table : goal.returns-in-Table

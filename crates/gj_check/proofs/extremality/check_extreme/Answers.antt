@@ -1,4 +1,4 @@
-use Rattle.std.proofs.Common.{◌≡◌, ◌+◌, ℕ, List, length, get_or, sym, subst, subst₂, ◌∙◌, arith}
+use Rattle.std.proofs.Common.{◌≡◌, ◌+◌, ℕ, List, length, get_or, sym, subst, subst₂, arith}
 use Rattle.gj_proof.specs.ProofText.{extreme_claim, modulus_lines, group_lines}
 use Rattle.gj_rank.specs.Groups.{IsGroupsOutcome}
 use Rattle.gj_check.specs.declared.rules.CheckRule.TheVariants.{Cover, Rank}
@@ -6,6 +6,7 @@ use Rattle.gj_check.specs.CoverLines.{IsCoverOutcome}
 use Rattle.gj_check.specs.FirstFailure.{IsFirstFailure}
 use Rattle.gj_check.proofs.TestsInTurn.{denied}
 use Rattle.gj_check.proofs.ExtremeDemands.{extreme_not_minimal, extreme_not_continuous, extreme_cover_broken, extreme_group_fails, extreme_rank_fails, extreme_meets}
+use Rattle.gj_check.proofs.OwnLineNumbers.{function_lines, behind_function}
 use Rattle.gj_check.proofs.extremality.check_extreme.Goals as goal
 
 pub returns-then-not-is_minimal-clause-fault : goal.returns-then-not-is_minimal-clause-fault
@@ -22,8 +23,8 @@ returns-in-BrokenAt-clause-fault c =
     let f = c.args.shape.now in
     let lines = c.args.lines.now in
     let rows = c.args.rows.now in
-    let order : c.from-order.result ≡ f.order = c.from-order.ensures ∙ c.order.ensures.value in
-    subst (λ (n : ℕ). IsFirstFailure (extreme_claim c.args.numbers f lines rows) (n + 5 + c.in-BrokenAt.index) Cover) (sym order)
+    subst (λ (n : ℕ). IsFirstFailure (extreme_claim c.args.numbers f lines rows) (n + c.in-BrokenAt.index) Cover)
+    (behind_function f _ c.line_behind_function.ensures.value)
     (extreme_cover_broken c.args.numbers f lines rows c.in-BrokenAt.index (c.is_minimal.ensures.0 c.if-not-is_minimal.false)
     (c.is_continuous.ensures.0 c.if-not-is_continuous.false)
     (subst (IsCoverOutcome f lines) c.in-BrokenAt.is c.in_ok-components.ensures))
@@ -38,14 +39,15 @@ returns-in-Some-clause-fault c =
     let whole = subst (IsCoverOutcome f lines) c.in-Whole.is c.in_ok-components.ensures in
     let outcome = subst₂ (λ (number : List ℕ) r. IsGroupsOutcome c.args.numbers f (λ i. get_or number i 0) components.count rows r)
     c.as_slice-number.ensures.value c.in-Some.is c.in_ok-failure.ensures in
-    let order : c.from-order.result ≡ f.order = c.from-order.ensures ∙ c.order.ensures.value in
+    let points = function_lines f in
     let count = c.requires.count in
     let line = c.in_ok-line.ensures in
-    let first = c.first_group_line-groups.ensures in
+    let first = c.first_group_line-groups.ensures.value in
     let number : f.order + length lines + 5 + length (modulus_lines c.args.numbers) + failure.below ≡ c.in_ok-line.line = omega arith in
     subst₂ (IsFirstFailure (extreme_claim c.args.numbers f lines rows)) number (sym c.rule_on_groups.ensures)
-    (extreme_group_fails c.args.numbers f lines rows components failure c.order.ensures.limits (c.is_minimal.ensures.0 c.if-not-is_minimal.false)
-    (c.is_continuous.ensures.0 c.if-not-is_continuous.false) c.requires.rows whole.0 whole.1 outcome)
+    (extreme_group_fails c.args.numbers f lines rows components failure c.first_group_line-groups.ensures.limits
+    (c.is_minimal.ensures.0 c.if-not-is_minimal.false) (c.is_continuous.ensures.0 c.if-not-is_continuous.false)
+    c.requires.rows whole.0 whole.1 outcome)
 
 pub returns-then-rows-components-clause-fault : goal.returns-then-rows-components-clause-fault
 returns-then-rows-components-clause-fault c =
@@ -56,14 +58,15 @@ returns-then-rows-components-clause-fault c =
     let whole = subst (IsCoverOutcome f lines) c.in-Whole.is c.in_ok-components.ensures in
     let outcome = subst₂ (λ (number : List ℕ) r. IsGroupsOutcome c.args.numbers f (λ i. get_or number i 0) components.count rows r)
     c.as_slice-number.ensures.value c.in_default.is c.in_ok-failure.ensures in
-    let order : c.from-order.result ≡ f.order = c.from-order.ensures ∙ c.order.ensures.value in
+    let points = function_lines f in
     let count = c.requires.count in
     let line = c.in_ok-line-2.ensures in
-    let first = c.first_group_line-groups.ensures in
+    let first = c.first_group_line-groups.ensures.value in
     let number : f.order + 5 + length lines + length (modulus_lines c.args.numbers) + length (group_lines 0 rows) ≡ c.in_ok-line-2.line = omega arith in
     subst (λ (n : ℕ). IsFirstFailure (extreme_claim c.args.numbers f lines rows) n Rank) number
-    (extreme_rank_fails c.args.numbers f lines rows components c.order.ensures.limits (c.is_minimal.ensures.0 c.if-not-is_minimal.false)
-    (c.is_continuous.ensures.0 c.if-not-is_continuous.false) c.requires.rows whole.0 whole.1 outcome c.if-rows-components.true)
+    (extreme_rank_fails c.args.numbers f lines rows components c.first_group_line-groups.ensures.limits
+    (c.is_minimal.ensures.0 c.if-not-is_minimal.false) (c.is_continuous.ensures.0 c.if-not-is_continuous.false)
+    c.requires.rows whole.0 whole.1 outcome c.if-rows-components.true)
 
 pub returns-clause-ok : goal.returns-clause-ok
 returns-clause-ok c =
@@ -74,5 +77,6 @@ returns-clause-ok c =
     let whole = subst (IsCoverOutcome f lines) c.in-Whole.is c.in_ok-components.ensures in
     let outcome = subst₂ (λ (number : List ℕ) r. IsGroupsOutcome c.args.numbers f (λ i. get_or number i 0) components.count rows r)
     c.as_slice-number.ensures.value c.in_default.is c.in_ok-failure.ensures in
-    extreme_meets c.args.numbers f lines rows components c.order.ensures.limits (c.is_minimal.ensures.0 c.if-not-is_minimal.false)
-    (c.is_continuous.ensures.0 c.if-not-is_continuous.false) c.requires.rows whole.0 whole.1 outcome c.if-rows-components.false
+    extreme_meets c.args.numbers f lines rows components c.first_group_line-groups.ensures.limits (c.is_minimal.ensures.0 c.if-not-is_minimal.false)
+    (c.is_continuous.ensures.0 c.if-not-is_continuous.false)
+    c.requires.rows whole.0 whole.1 outcome c.if-rows-components.false

@@ -1,4 +1,4 @@
-use Rattle.std.proofs.Common.{◌≡◌, ◌↔◌, ◌+◌, ℕ, IsTrue, List, ℤ, sym, subst, subst₂, ◌∙◌}
+use Rattle.std.proofs.Common.{◌↔◌, ◌+◌, ℕ, IsTrue, List, ℤ, subst, subst₂}
 use Rattle.gj_proof.specs.declared.claim.Claim.TheVariants.{NotExtreme}
 use Rattle.gj_proof.specs.Rules.{IsMinimalHalf}
 use Rattle.gj_check.specs.declared.rules.CheckRule.TheVariants.{Scale, First, Second, Same}
@@ -7,6 +7,7 @@ use Rattle.gj_check.specs.HalvesRules.{AreDifferent}
 use Rattle.gj_check.proofs.TestsInTurn.{denied}
 use Rattle.gj_check.proofs.HalvesTests.{scale_met}
 use Rattle.gj_check.proofs.HalvesDemands.{halves_not_minimal, halves_not_continuous, halves_scale_fails, halves_pair_fails, halves_first_fails, halves_second_fails, halves_same_fails, halves_meet}
+use Rattle.gj_check.proofs.OwnLineNumbers.{behind_function}
 use Rattle.gj_check.proofs.halves.check_halves.Goals as goal
 
 pub returns-then-not-is_minimal-clause-fault : goal.returns-then-not-is_minimal-clause-fault
@@ -22,8 +23,8 @@ pub returns-in_default-clause-fault : goal.returns-in_default-clause-fault
 returns-in_default-clause-fault c =
     let f = c.args.shape.now in
     let h = c.args.halves.now in
-    let order : c.from-line.result ≡ f.order = c.from-line.ensures ∙ c.order.ensures.value in
-    subst (λ (n : ℕ). IsFirstFailure (NotExtreme f h) (n + 5) Scale) (sym order)
+    let line = behind_function f _ c.line_behind_function-line.ensures.value in
+    subst (λ (n : ℕ). IsFirstFailure (NotExtreme f h) n Scale) line
     (halves_scale_fails f h (c.is_minimal.ensures.0 c.if-not-is_minimal.false) (c.is_continuous.ensures.0 c.if-not-is_continuous.false)
     c.in_default.ensures.none)
 
@@ -32,8 +33,8 @@ returns-in-Some-failure_in_pairs-clause-fault c =
     let f = c.args.shape.now in
     let h = c.args.halves.now in
     let failure = c.in-Some-failure_in_pairs.failure in
-    let order : c.from-line.result ≡ f.order = c.from-line.ensures ∙ c.order.ensures.value in
-    subst (λ (n : ℕ). IsFirstFailure (NotExtreme f h) (n + 5 + (failure.index + 1)) failure.rule) (sym order)
+    let line = behind_function f _ c.line_behind_function-line.ensures.value in
+    subst (λ (n : ℕ). IsFirstFailure (NotExtreme f h) (n + (failure.index + 1)) failure.rule) line
     (halves_pair_fails f h failure (c.is_minimal.ensures.0 c.if-not-is_minimal.false) (c.is_continuous.ensures.0 c.if-not-is_continuous.false)
     c.requires (scale_met f h c.in-Some.refinement c.in-Some.ensures.some) c.in-Some-failure_in_pairs.ensures)
 
@@ -41,10 +42,10 @@ pub returns-then-not-branch-clause-fault : goal.returns-then-not-branch-clause-f
 returns-then-not-branch-clause-fault c =
     let f = c.args.shape.now in
     let h = c.args.halves.now in
-    let order : c.from-line.result ≡ f.order = c.from-line.ensures ∙ c.order.ensures.value in
+    let line = behind_function f _ c.line_behind_function-line.ensures.value in
     let one = subst (λ (values : List ℤ). IsTrue c.in_ok-is_minimal_half.field-0 ↔ IsMinimalHalf f h values) c.as_slice-first.ensures
     c.in_ok-is_minimal_half.ensures in
-    subst (λ (n : ℕ). IsFirstFailure (NotExtreme f h) (n + 5) First) (sym order)
+    subst (λ (n : ℕ). IsFirstFailure (NotExtreme f h) n First) line
     (halves_first_fails f h (c.is_minimal.ensures.0 c.if-not-is_minimal.false) (c.is_continuous.ensures.0 c.if-not-is_continuous.false)
     (scale_met f h c.in-Some.refinement c.in-Some.ensures.some) c.in_default-failure_in_pairs.ensures (denied _ _ c.if-not-branch.true one))
 
@@ -52,12 +53,12 @@ pub returns-then-not-branch-2-clause-fault : goal.returns-then-not-branch-2-clau
 returns-then-not-branch-2-clause-fault c =
     let f = c.args.shape.now in
     let h = c.args.halves.now in
-    let order : c.from-line.result ≡ f.order = c.from-line.ensures ∙ c.order.ensures.value in
+    let line = behind_function f _ c.line_behind_function-line.ensures.value in
     let one = subst (λ (values : List ℤ). IsTrue c.in_ok-is_minimal_half.field-0 ↔ IsMinimalHalf f h values) c.as_slice-first.ensures
     c.in_ok-is_minimal_half.ensures in
     let two = subst (λ (values : List ℤ). IsTrue c.in_ok-is_minimal_half-2.field-0 ↔ IsMinimalHalf f h values) c.as_slice-second.ensures
     c.in_ok-is_minimal_half-2.ensures in
-    subst (λ (n : ℕ). IsFirstFailure (NotExtreme f h) (n + 5) Second) (sym order)
+    subst (λ (n : ℕ). IsFirstFailure (NotExtreme f h) n Second) line
     (halves_second_fails f h (c.is_minimal.ensures.0 c.if-not-is_minimal.false) (c.is_continuous.ensures.0 c.if-not-is_continuous.false)
     (scale_met f h c.in-Some.refinement c.in-Some.ensures.some) c.in_default-failure_in_pairs.ensures
     (one.0 c.if-not-branch.false) (denied _ _ c.if-not-branch-2.true two))
@@ -66,14 +67,14 @@ pub returns-then-not-are_different-clause-fault : goal.returns-then-not-are_diff
 returns-then-not-are_different-clause-fault c =
     let f = c.args.shape.now in
     let h = c.args.halves.now in
-    let order : c.from-line.result ≡ f.order = c.from-line.ensures ∙ c.order.ensures.value in
+    let line = behind_function f _ c.line_behind_function-line.ensures.value in
     let one = subst (λ (values : List ℤ). IsTrue c.in_ok-is_minimal_half.field-0 ↔ IsMinimalHalf f h values) c.as_slice-first.ensures
     c.in_ok-is_minimal_half.ensures in
     let two = subst (λ (values : List ℤ). IsTrue c.in_ok-is_minimal_half-2.field-0 ↔ IsMinimalHalf f h values) c.as_slice-second.ensures
     c.in_ok-is_minimal_half-2.ensures in
     let differ = subst₂ (λ (xs ys : List ℤ). IsTrue c.are_different.result ↔ AreDifferent xs ys) c.as_slice-first.ensures
     c.as_slice-second.ensures c.are_different.ensures in
-    subst (λ (n : ℕ). IsFirstFailure (NotExtreme f h) (n + 5) Same) (sym order)
+    subst (λ (n : ℕ). IsFirstFailure (NotExtreme f h) n Same) line
     (halves_same_fails f h (c.is_minimal.ensures.0 c.if-not-is_minimal.false) (c.is_continuous.ensures.0 c.if-not-is_continuous.false)
     (scale_met f h c.in-Some.refinement c.in-Some.ensures.some) c.in_default-failure_in_pairs.ensures
     (one.0 c.if-not-branch.false) (two.0 c.if-not-branch-2.false) (denied _ _ c.if-not-are_different.true differ))

@@ -7,6 +7,6 @@ line_of-requires g c =
     rule_in_columns g.E.Evaluator.answers c.args.rule.now (length c.args.columns.now) c.args.row.now c.in_ok-cut.cut c.requires c.in_ok-cut.ensures.cut
 
 pub returns : goal.returns
-returns g c f within is =
-    function_line_for g.E.Evaluator.answers c.args.rule.now f c.args.columns.now c.args.row.now c.in_ok-cut.cut c.in_ok-line.line within is
+returns g c f is =
+    function_line_for g.E.Evaluator.answers c.args.rule.now f c.args.columns.now c.args.row.now c.in_ok-cut.cut c.in_ok-line.line is
     c.in_ok-cut.ensures.cut c.in_ok-line.ensures

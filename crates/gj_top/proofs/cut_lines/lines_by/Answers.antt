@@ -9,7 +9,7 @@ pub loop-row-preserved : goal.loop-row-preserved
 loop-row-preserved g c =
     zip_next (IsLineFor (Table c.args.shape) c.args.columns.now) c.args.rows.now c.loop-row.row-index c.row-item.result
     c.loop-row.lines.items c.push.new.self.items c.in_ok-line_by.field-0 c.loop-row-test.true c.row-item.is c.in_ok-push.ensures.items
-    c.loop-row.invariant (c.in_ok-line_by.ensures c.args.shape c.requires.shape c.new-rule.ensures.kind)
+    c.loop-row.invariant (c.in_ok-line_by.ensures c.args.shape c.new-rule.ensures.kind)
 
 pub line_by-requires : goal.line_by-requires
 line_by-requires g c =
