@@ -8,7 +8,6 @@ pub mod CutParts
 pub mod Determined
 pub mod Ends
 pub mod Extremality
-pub mod FacesTexts
 pub mod InputLines
 pub mod InputRead
 pub mod OneAnswer
