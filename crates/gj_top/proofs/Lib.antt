@@ -7,7 +7,6 @@ pub mod CutLines
 pub mod Determined
 pub mod Ends
 pub mod Extremality
-pub mod FacesTexts
 pub mod InputLines
 pub mod InputRead
 pub mod OneAnswer

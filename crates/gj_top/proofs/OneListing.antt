@@ -37,7 +37,8 @@ use Rattle.gj_demo.specs.Summary.{IsSummary, HasSummary, lines_with}
 use Rattle.gj_top.specs.declared.reply.End.{End}
 use Rattle.gj_top.specs.declared.reply.End.TheVariants as end
 use Rattle.gj_top.specs.Demo.{IsDemoReply, demo}
-use Rattle.gj_top.specs.Faces.{IsFacesText, IsFacesReply, uncovered_line, faces}
+use Rattle.gj_facetext.specs.FacesText.{IsFacesText, uncovered_line}
+use Rattle.gj_top.specs.Faces.{IsFacesReply, faces}
 use Rattle.gj_top.specs.Fill.{IsFillText, NamesFirstPair, IsFillReply, fill}
 use Rattle.gj_top.proofs.Determined.{IsDetermined}
 use Rattle.gj_top.proofs.OneVerdict.{one_function_spelled, one_function_refusal, by_bounds, one_jump_text, no_jump_named}

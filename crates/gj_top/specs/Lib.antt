@@ -6,7 +6,6 @@ pub mod Minimal
 pub mod Show
 pub mod Check
 pub mod Continuity
-pub mod FacePieces
 pub mod Faces
 pub mod Extreme
 pub mod Demo

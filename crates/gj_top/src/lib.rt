@@ -22,7 +22,6 @@ mod cut_input;
 mod cut_lines;
 mod demo;
 mod extreme;
-mod face_lines;
 mod faces;
 mod fill;
 mod forms;

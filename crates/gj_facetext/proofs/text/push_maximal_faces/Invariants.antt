@@ -1,7 +1,7 @@
 use Rattle.std.proofs.Common.{◌≡◌, length}
-use Rattle.gj_top.specs.FacePieces.{AreEnds}
-use Rattle.gj_top.specs.Faces.{AreRowsPushed}
-use Rattle.gj_top.proofs.faces.push_maximal_faces.Given as goal
+use Rattle.gj_facetext.specs.FacePieces.{AreEnds}
+use Rattle.gj_facetext.specs.FacesText.{AreRowsPushed}
+use Rattle.gj_facetext.proofs.text.push_maximal_faces.Given as goal
 
 abbrev pub invariant-loop-a : goal.invariant-loop-a
 invariant-loop-a l = record {

@@ -1,8 +1,8 @@
 use Rattle.std.proofs.Common.{sym, ap, subst, ◌∙◌}
-use Rattle.gj_top.specs.Faces.{ArePushed}
-use Rattle.gj_top.proofs.FacesTexts.{none_pushed, one_pushed, none_more, with_number, without_number}
-use Rattle.gj_top.proofs.faces.push_uncovered_lines.Goals as goal
-use Rattle.gj_top.proofs.faces.push_uncovered_lines.Goals.{then-is_none+in_ok-push_uncovered_line, else-is_none}
+use Rattle.gj_facetext.specs.FacesText.{ArePushed}
+use Rattle.gj_facetext.proofs.FacesTexts.{none_pushed, one_pushed, none_more, with_number, without_number}
+use Rattle.gj_facetext.proofs.text.push_uncovered_lines.Goals as goal
+use Rattle.gj_facetext.proofs.text.push_uncovered_lines.Goals.{then-is_none+in_ok-push_uncovered_line, else-is_none}
 
 pub loop-interval-init : goal.loop-interval-init
 loop-interval-init c = none_pushed c.args.component.now c.args.out.now.items

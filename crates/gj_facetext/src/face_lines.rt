@@ -5,7 +5,7 @@
 ghost use Rattle.std.specs.Prelude.{◌≡◌, ◌+◌, ◌≤◌, [], ◌++◌, All, codes, decimal, flat_map, length, IfOk, OnOk};
 ghost use Rattle.gj_lines.specs.FunctionLines.{line};
 ghost use Rattle.gj_lines.specs.FaceLines.{face_text, face_word};
-ghost use Rattle.gj_top.specs.FacePieces.{text_of, start_of, AreStarts, AreEnds, HasPieces};
+ghost use Rattle.gj_facetext.specs.FacePieces.{text_of, start_of, AreStarts, AreEnds, HasPieces};
 
 use gj_lines::face_word;
 use gj_shape::{Face, FaceKind};

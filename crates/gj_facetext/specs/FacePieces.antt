@@ -5,8 +5,8 @@ use Rattle.gj_shape.specs.declared.faces.FaceKind.{FaceKind}
 use Rattle.gj_shape.specs.declared.faces.FaceKind.TheVariants.{Vertex, Horizontal, Vertical, Diagonal, Lower, Upper}
 use Rattle.gj_lines.specs.FunctionLines.{line}
 use Rattle.gj_lines.specs.FaceLines.{face_word}
-use Rattle.gj_top.specs.declared.face_lines.Piece.{Piece}
-use Rattle.gj_top.specs.declared.face_lines.Starts.{Starts}
+use Rattle.gj_facetext.specs.declared.face_lines.Piece.{Piece}
+use Rattle.gj_facetext.specs.declared.face_lines.Starts.{Starts}
 
 -- the text of a piece
 abbrev pub text_of : Piece → List ℕ

@@ -1,8 +1,8 @@
 use Rattle.std.proofs.Common.{◌++◌, flat_map, ap, subst, ◌∙◌}
 use Rattle.gj_lines.specs.FaceLines.{cover_line}
-use Rattle.gj_top.specs.Faces.{ArePushed}
-use Rattle.gj_top.proofs.FacesTexts.{text_of_faces}
-use Rattle.gj_top.proofs.faces.faces_text.Goals as goal
+use Rattle.gj_facetext.specs.FacesText.{ArePushed}
+use Rattle.gj_facetext.proofs.FacesTexts.{text_of_faces}
+use Rattle.gj_facetext.proofs.text.faces_text.Goals as goal
 
 pub returns : goal.returns
 returns c =

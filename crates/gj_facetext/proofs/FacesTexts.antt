@@ -22,10 +22,10 @@ use Rattle.gj_faces.proofs.PickedFaces.{picked_joined}
 use Rattle.gj_cover.specs.CoverOf.{IsCoverOf, number_at}
 use Rattle.gj_cover.specs.declared.covered.Cover.{Cover}
 use Rattle.gj_cover.proofs.TruePlaces.{range_next}
-use Rattle.gj_top.specs.FacePieces.{HasPieces}
-use Rattle.gj_top.specs.declared.face_lines.Piece.{Piece}
-use Rattle.gj_top.specs.declared.face_lines.Starts.{Starts}
-use Rattle.gj_top.specs.Faces.{ArePushed, AreRowsPushed, IsFacesText, uncovered_line}
+use Rattle.gj_facetext.specs.FacePieces.{HasPieces}
+use Rattle.gj_facetext.specs.declared.face_lines.Piece.{Piece}
+use Rattle.gj_facetext.specs.declared.face_lines.Starts.{Starts}
+use Rattle.gj_facetext.specs.FacesText.{ArePushed, AreRowsPushed, IsFacesText, uncovered_line}
 
 -- ---- the maximal faces
 

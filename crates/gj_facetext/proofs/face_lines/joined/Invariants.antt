@@ -1,6 +1,6 @@
 use Rattle.std.proofs.Common.{◌≡◌, ◌+◌, ◌++◌, length, take}
-use Rattle.gj_top.specs.FacePieces.{text_of}
-use Rattle.gj_top.proofs.face_lines.joined.Given as goal
+use Rattle.gj_facetext.specs.FacePieces.{text_of}
+use Rattle.gj_facetext.proofs.face_lines.joined.Given as goal
 
 abbrev pub invariant-loop-byte : goal.invariant-loop-byte
 invariant-loop-byte l = record {

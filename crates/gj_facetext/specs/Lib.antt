@@ -1,0 +1,2 @@
+pub mod FacesText
+pub mod FacePieces
