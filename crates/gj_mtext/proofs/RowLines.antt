@@ -1,4 +1,4 @@
--- The line of a row with a mixed cut: its columns, and that its cut holds.
+-- The columns of terms; the line of a row with a mixed cut: its columns, and that its cut holds.
 use Rattle.std.proofs.Common.{◌≡◌, ℕ, ◌<◌, Bool, not, List, [], ◌∷◌, All, map, filter, refl, sym, ap, ap₂, subst, subst₂, ◌∙◌, ◌++◌}
 use Rattle.std.specs.List.{AllZip}
 use Rattle.std.proofs.lemmas.List.Elements.{All-nil, All-cons, All-head, All-tail, All-filter}
@@ -24,7 +24,7 @@ use Rattle.gj_mtext.specs.declared.lines.MixedLine.{MixedLine}
 
 -- ---- the columns of terms
 
-terms_in_columns : (P : Entry → Term → Type 0) (n : ℕ) (entries : List Entry) (terms : List Term) →
+pub terms_in_columns : (P : Entry → Term → Type 0) (n : ℕ) (entries : List Entry) (terms : List Term) →
     ((e : Entry) (t : Term) → P e t → t.column ≡ e.column) → All (λ e. e.column < n) entries → AllZip P entries terms →
     All (λ t. t.column < n) terms
 terms_in_columns P n [] [] same below h = All-nil (λ t. t.column < n)

@@ -23,7 +23,8 @@ use Rattle.gj_proof.specs.declared.cut.CutTerm.{CutTerm}
 use Rattle.gj_check.specs.CutRows.{MeetTerms, MeetsRow}
 use Rattle.gj_check.proofs.CutDemands.{cuts_meet}
 use Rattle.gj_check.proofs.RulesGiveMeaning.{meaning_of_rules}
-use Rattle.gj_top.specs.Cut.{CutInput, SpellsCutInput, IsTermFor, IsLineFor, AreCheckedCutsOf}
+use Rattle.gj_mtext.specs.CutLines.{IsLineFor, IsTermFor}
+use Rattle.gj_top.specs.Cut.{CutInput, SpellsCutInput, AreCheckedCutsOf}
 use Rattle.gj_top.specs.CutSteps.{PassesTests}
 use Rattle.gj_top.proofs.CutForm.{rule_is_bounded}
 use Rattle.gj_top.proofs.InputLines.{rule_of_lines}

@@ -3,7 +3,6 @@ pub mod Clauses
 pub mod Commands
 pub mod CutClaims
 pub mod CutForm
-pub mod CutLines
 pub mod Determined
 pub mod Ends
 pub mod Extremality

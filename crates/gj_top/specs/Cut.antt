@@ -1,6 +1,6 @@
 -- The command `cut`: a function or a rule, and a tableau behind it, are answered with the cuts of its rows (Gomory and Johnson
 -- 1972; the form is own).
-use Rattle.std.specs.Prelude.{ℕ, ◌≡◌, List, [], ◌∷◌, ◌++◌, All, codes, decimal, get_or}
+use Rattle.std.specs.Prelude.{ℕ, ◌≡◌, List, [], ◌∷◌, ◌++◌, All, codes, decimal}
 use Rattle.std.specs.List.{AllZip}
 use Rattle.gj_shape.specs.FirstViolation.{IsFirstViolation}
 use Rattle.gj_shape.specs.Table.{IsMinimal}
@@ -15,18 +15,15 @@ use Rattle.gj_ftext.specs.RuleText.{rule_title_words, rule_name_words, BeginsAsR
 use Rattle.gj_row.specs.FirstFault.{IsFirstFaultOfTableau, reason_word}
 use Rattle.gj_row.specs.TableauText.{IsTableauText}
 use Rattle.gj_row.specs.declared.faults.RowReason.{RowReason}
-use Rattle.gj_row.specs.declared.tableau.Entry.{Entry}
-use Rattle.gj_row.specs.declared.tableau.Row.{Row}
 use Rattle.gj_row.specs.declared.tableau.Tableau.{Tableau}
 use Rattle.gj_proof.specs.Meaning.{CutLineHolds}
 use Rattle.gj_proof.specs.ProofText.{IsProofText, violation_line}
-use Rattle.gj_proof.specs.Rules.{MeetsFraction, MeetsRules, MeetsValue}
+use Rattle.gj_proof.specs.Rules.{MeetsRules}
 use Rattle.gj_proof.specs.declared.claim.Claim.TheVariants as claim
 use Rattle.gj_proof.specs.declared.cut.CutLine.{CutLine}
-use Rattle.gj_proof.specs.declared.cut.CutLine.TheVariants.{Cut, Skip}
 use Rattle.gj_proof.specs.declared.cut.CutRule.{CutRule}
 use Rattle.gj_proof.specs.declared.cut.CutRule.TheVariants.{Gmic, Table}
-use Rattle.gj_proof.specs.declared.cut.CutTerm.{CutTerm}
+use Rattle.gj_mtext.specs.CutLines.{IsLineFor}
 use Rattle.gj_top.specs.declared.reply.End.{End}
 use Rattle.gj_top.specs.declared.reply.End.TheVariants.{Done, NoFunction}
 use Rattle.gj_top.specs.Promise.{Form, Promise}
@@ -83,19 +80,6 @@ pub data RefusesCutInput (input text : List ℕ) : Type 0 where
   of_tableau : NamesRecord input text → RefusesCutInput input text
 
 -- ---- the cuts
-
--- the term of an entry: the name of its column, the entry, and the rule's value there for this right side
-pub record IsTermFor (r : CutRule) (columns : List (List ℕ)) (row : Row) (e : Entry) (t : CutTerm) : Type 0 where
-  pub name : t.name ≡ get_or columns e.column []
-  pub entry : t.entry ≡ e.value
-  pub value : MeetsValue r row.rhs t
-
--- the line of a row: its basic variable and its right side, and a term for each entry that is not 0, in the order of the columns,
--- or why the row has no cut
-abbrev pub IsLineFor : CutRule → List (List ℕ) → Row → CutLine → Type 0
-IsLineFor r columns row (Cut name right terms) = (name ≡ row.basic) × (right ≡ row.rhs) × MeetsFraction r (Cut name right terms)
-    × AllZip (IsTermFor r columns row) row.entries terms
-IsLineFor r columns row (Skip name right reason) = (name ≡ row.basic) × (right ≡ row.rhs) × MeetsFraction r (Skip name right reason)
 
 -- the text is the proof text of a line for each row, in their order; each cut holds at every solution of its row
 pub record AreCutsOf (input : CutInput) (text : List ℕ) : Type 0 where

@@ -7,9 +7,9 @@ ghost use Rattle.gj_top.specs.Cut.{AreCheckedCutsOf, IsCutReply, cut};
 ghost use Rattle.gj_top.specs.CutSteps.{IsViolationOf, PassesTests};
 
 use crate::cut_input::{rule_of, tableau_behind};
-use crate::cut_lines::lines_of;
 use crate::reply::{End, Reply, Unanswered};
 use gj_minimal::find_violation;
+use gj_mtext::cut_lines;
 use gj_proof::{Claim, CutRule, Proof, push_violation_line, write_proof};
 use gj_row::Tableau;
 use gj_shape::{List, Violation};
@@ -61,7 +61,7 @@ fn cuts_text(alloc: Global, rule: CutRule, tableau: &Tableau) -> Result<Vec<u8>,
     requires tableau { IsTableau tableau.now }
     ensures { IfOk result (λ text. AreCheckedCutsOf (record { «rule» = rule; tableau = tableau.now }) text.items) }
 {
-    let lines = lines_of(alloc, &rule, tableau)?;
+    let lines = cut_lines(alloc, &rule, tableau)?;
     let proof = Proof::new(Claim::Cut(rule, List::of(lines))).unwrap();
     let text = write_proof(alloc, &proof)?;
     Ok(text)

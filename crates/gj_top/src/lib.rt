@@ -19,7 +19,6 @@ mod command;
 mod continuity;
 mod cut;
 mod cut_input;
-mod cut_lines;
 mod demo;
 mod extreme;
 mod faces;

@@ -4,7 +4,7 @@ use Rattle.gj_proof.specs.declared.claim.Claim.{Claim}
 use Rattle.gj_proof.specs.declared.claim.Claim.TheVariants as claim
 use Rattle.gj_proof.specs.declared.cut.CutLine.{CutLine}
 use Rattle.gj_proof.specs.ProofText.{IsProofText}
-use Rattle.gj_top.specs.Cut.{IsLineFor}
+use Rattle.gj_mtext.specs.CutLines.{IsLineFor}
 use Rattle.gj_top.proofs.CutClaims.{cuts_of_lines}
 use Rattle.gj_top.proofs.cut.cuts_text.Goals as goal
 

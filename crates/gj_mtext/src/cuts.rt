@@ -1,5 +1,5 @@
-//! The lines of the cuts of a tableau: a row each, in order.
-ghost use Rattle.std.specs.Prelude.{◌≡◌, ◌<◌, All, IfOk, length};
+//! The lines of the cuts of a tableau whose columns are all whole, with the names of its columns.
+ghost use Rattle.std.specs.Prelude.{◌≡◌, All, IfOk, length};
 ghost use Rattle.std.specs.List.{AllZip};
 ghost use Rattle.gj_shape.specs.FunctionData.{FunctionData};
 ghost use Rattle.gj_theory.specs.Cuts.{IsValueOf};
@@ -8,20 +8,28 @@ ghost use Rattle.gj_rule.specs.Kept.{Evaluates};
 ghost use Rattle.gj_shape.specs.Limits.{IsRowNumber};
 ghost use Rattle.gj_rule.specs.declared.kind.RuleKind.TheVariants as kind;
 ghost use Rattle.gj_proof.specs.declared.cut.CutRule.TheVariants.{Gmic, Table};
-ghost use Rattle.gj_top.specs.Cut.{IsLineFor};
-ghost use Rattle.gj_top.specs.CutSteps.{AreInColumns, IsLineOf, IsNamedTerm};
+ghost use Rattle.gj_mtext.specs.CutLines.{IsInColumns, IsLineFor, IsLineOf};
 
-use gj_cut::{RowCut, Term, cut_row, gmic_cut_row};
+use crate::named::named_terms;
+use gj_cut::{RowCut, cut_row, gmic_cut_row};
 use gj_frac::Frac;
 use gj_lex::Name;
-use gj_proof::{CutLine, CutRule, CutTerm, SkipReason};
+use gj_proof::{CutLine, CutRule, SkipReason};
 use gj_row::{Row, Tableau};
 use gj_rule::{Evaluator, Rule, RuleKind, table_value};
 use gj_shape::{List, Shape};
 use std::alloc::{AllocError, Global};
 
-/// The line of each row of the tableau.
-pub(crate) fn lines_of(
+/// The line of each row of the tableau, in their order: its cut by the rule, or why it has none.
+///
+/// The only error is want of memory.
+///
+/// ```text
+/// let tableau = Tableau::read(alloc, b"basic,rhs,x1,x2\nx0,8/5,7/5,-1/5\n")?;
+/// let lines = cut_lines(alloc, &CutRule::Gmic, &tableau)?;
+/// // one line, CutLine::Cut: of x0 with the right side 8/5; its terms are x1 7/5 2/3 and x2 -1/5 1/2
+/// ```
+pub fn cut_lines(
     alloc: Global,
     rule: &CutRule,
     tableau: &Tableau,
@@ -116,7 +124,7 @@ fn line_by<E: Evaluator>(
 
 /// The line of a row with this cut.
 fn line_of(alloc: Global, columns: &[Name], row: &Row, cut: &RowCut) -> Result<CutLine, AllocError>
-    requires { AreInColumns (length columns.now) cut.now }
+    requires { IsInColumns (length columns.now) cut.now }
     ensures { IfOk result (IsLineOf columns.now row.now cut.now) }
 {
     let basic = row.basic.copy(alloc)?;
@@ -128,29 +136,4 @@ fn line_of(alloc: Global, columns: &[Name], row: &Row, cut: &RowCut) -> Result<C
         RowCut::Integral => Ok(CutLine::Skip(basic, row.rhs, SkipReason::Integral)),
         RowCut::OtherFraction => Ok(CutLine::Skip(basic, row.rhs, SkipReason::Other)),
     }
-}
-
-/// The terms with the names of their columns.
-fn named_terms(alloc: Global, columns: &[Name], terms: &[Term]) -> Result<Vec<CutTerm>, AllocError>
-    requires { All (λ t. t.column < length columns.now) terms.now }
-    ensures { IfOk result (λ named. AllZip (IsNamedTerm columns.now) terms.now named.items) }
-{
-    let mut named = Vec::with_capacity(alloc, terms.len())?;
-    for term in terms {
-        named.push(named_term(alloc, columns, *term)?)?;
-    }
-    Ok(named)
-}
-
-/// The term with the name of its column.
-fn named_term(alloc: Global, columns: &[Name], term: Term) -> Result<CutTerm, AllocError>
-    requires { term.column < length columns.now }
-    ensures { IfOk result (IsNamedTerm columns.now term) }
-{
-    let name = columns[term.column as usize].copy(alloc)?;
-    Ok(CutTerm {
-        name,
-        entry: term.entry,
-        cut: term.cut,
-    })
 }

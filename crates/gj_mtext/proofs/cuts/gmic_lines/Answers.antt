@@ -2,8 +2,8 @@ use Rattle.std.proofs.Common.{length, sym, subst}
 use Rattle.gj_row.specs.TableauLimits.{IsRowWithinLimits}
 use Rattle.gj_cut.proofs.RowTerms.{zip_next}
 use Rattle.gj_proof.specs.declared.cut.CutRule.TheVariants.{Gmic}
-use Rattle.gj_top.specs.Cut.{IsLineFor}
-use Rattle.gj_top.proofs.cut_lines.gmic_lines.Goals as goal
+use Rattle.gj_mtext.specs.CutLines.{IsLineFor}
+use Rattle.gj_mtext.proofs.cuts.gmic_lines.Goals as goal
 
 pub loop-row-preserved : goal.loop-row-preserved
 loop-row-preserved c =

@@ -1,10 +1,14 @@
--- The line of a row, from its cut.
-use Rattle.std.proofs.Common.{◌≡◌, ℕ, ◌<◌, List, [], ◌∷◌, All, get_or, sym, ap, subst, ◌∙◌}
+-- The line of a row of whole columns, from its cut.
+use Rattle.std.proofs.Common.{◌≡◌, ℕ, List, [], ◌∷◌, get_or, sym, ap, subst, ◌∙◌, arith}
 use Rattle.std.specs.List.{AllZip}
-use Rattle.std.proofs.lemmas.List.Elements.{All-nil, All-cons, All-head, All-tail}
+use Rattle.std.proofs.lemmas.Int.{ints}
 use Rattle.gj_frac.specs.declared.Frac.{Frac}
-use Rattle.gj_frac.specs.Fraction.{IsWhole}
+use Rattle.gj_frac.specs.Floor.{HasFractionalPart}
+use Rattle.gj_frac.specs.Fraction.{IsWhole, numerator, denominator}
+use Rattle.gj_frac.proofs.Floors.{quotient_is_floor}
+use Rattle.gj_frac.proofs.SameValues.{same_from_is}
 use Rattle.gj_shape.specs.FunctionData.{FunctionData}
+use Rattle.gj_theory.specs.Cuts.{IsGmicValue}
 use Rattle.gj_rule.specs.Kept.{KeptRule}
 use Rattle.gj_rule.specs.Kind.{IsKindValue}
 use Rattle.gj_rule.specs.declared.kind.RuleKind.{RuleKind}
@@ -17,7 +21,6 @@ use Rattle.gj_cut.specs.declared.cut.RowCut.{RowCut}
 use Rattle.gj_cut.specs.declared.cut.RowCut.TheVariants as row_cut
 use Rattle.gj_cut.specs.declared.cut.Term.{Term}
 use Rattle.gj_cut.proofs.RowTerms.{cut_of_kind}
-use Rattle.gj_check.proofs.FractionalParts.{gmic_coefficient}
 use Rattle.gj_proof.specs.Rules.{MeetsValue}
 use Rattle.gj_proof.specs.declared.cut.CutLine.{CutLine}
 use Rattle.gj_proof.specs.declared.cut.CutLine.TheVariants.{Cut, Skip}
@@ -25,33 +28,25 @@ use Rattle.gj_proof.specs.declared.cut.CutRule.{CutRule}
 use Rattle.gj_proof.specs.declared.cut.CutRule.TheVariants.{Gmic, Table}
 use Rattle.gj_proof.specs.declared.cut.CutTerm.{CutTerm}
 use Rattle.gj_proof.specs.declared.cut.SkipReason.TheVariants.{Integral, Other}
-use Rattle.gj_top.specs.Cut.{IsTermFor, IsLineFor}
-use Rattle.gj_top.specs.CutSteps.{AreInColumns, IsNamedTerm, IsLineOf}
+use Rattle.gj_mtext.specs.CutLines.{IsInColumns, IsLineFor, IsLineOf, IsTermFor}
+use Rattle.gj_mtext.specs.MixedLines.{IsNamedTerm}
+use Rattle.gj_mtext.proofs.RowLines.{terms_in_columns}
 
 -- ---- the columns of terms
 
-terms_in_columns : (k : RuleKind) (n : ℕ) (entries : List Entry) (terms : List Term) → All (λ e. e.column < n) entries →
-    AllZip (IsTermOfKind k) entries terms → All (λ t. t.column < n) terms
-terms_in_columns k n [] [] below h = All-nil (λ t. t.column < n)
-terms_in_columns k n [] (t ∷ terms) below h = absurd h
-terms_in_columns k n (e ∷ entries) [] below h = absurd h
-terms_in_columns k n (e ∷ entries) (t ∷ terms) below h =
-    All-cons (λ (t : Term). t.column < n) t terms
-    (subst (λ c. c < n) (sym h.0.column_is) (All-head (λ (e : Entry). e.column < n) e entries below))
-    (terms_in_columns k n entries terms (All-tail (λ (e : Entry). e.column < n) e entries below) h.1)
-
-cut_in_columns : (k : RuleKind) (n : ℕ) (row : Row) (cut : RowCut) → IsRowWithinLimits n row → IsCutOfKind k row cut → AreInColumns n cut
-cut_in_columns k n row (row_cut.Cut terms) limits h = terms_in_columns k n row.entries terms limits.below h.2
+cut_in_columns : (k : RuleKind) (n : ℕ) (row : Row) (cut : RowCut) → IsRowWithinLimits n row → IsCutOfKind k row cut → IsInColumns n cut
+cut_in_columns k n row (row_cut.Cut terms) limits h =
+    terms_in_columns (IsTermOfKind k) n row.entries terms (λ e t p. p.column_is) limits.below h.2
 cut_in_columns k n row row_cut.Integral limits h = tt
 cut_in_columns k n row row_cut.OtherFraction limits h = tt
 
-pub gmic_in_columns : (n : ℕ) (row : Row) (cut : RowCut) → IsRowWithinLimits n row → IsGmicCutOf row cut → AreInColumns n cut
+pub gmic_in_columns : (n : ℕ) (row : Row) (cut : RowCut) → IsRowWithinLimits n row → IsGmicCutOf row cut → IsInColumns n cut
 gmic_in_columns n row (row_cut.Cut terms) limits (f, h) = cut_in_columns (kind.Gmic f) n row (row_cut.Cut terms) limits h
 gmic_in_columns n row row_cut.Integral limits h = tt
 gmic_in_columns n row row_cut.OtherFraction limits h = tt
 
 pub rule_in_columns : {E : Type 0} (answers : E → Frac → Frac → Type 0) (rule : KeptRule E) (n : ℕ) (row : Row) (cut : RowCut) →
-    IsRowWithinLimits n row → IsCutOf answers rule row cut → AreInColumns n cut
+    IsRowWithinLimits n row → IsCutOf answers rule row cut → IsInColumns n cut
 rule_in_columns answers rule n row cut limits h = cut_in_columns rule.kind n row cut limits (cut_of_kind answers rule row cut h)
 
 -- ---- the terms
@@ -85,8 +80,16 @@ gmic_line_for columns row (row_cut.Cut terms) (Cut name right named) (f, h) l = 
   l.0,
   l.1,
   λ whole. h.0 (subst IsWhole l.1 whole),
-  named_for Gmic (kind.Gmic f) columns row row.entries terms named (λ entry y name v. gmic_coefficient row.rhs f entry y h.1 v) h.2 l.2,
+  named_for Gmic (kind.Gmic f) columns row row.entries terms named
+      (λ entry y name v g part. subst (λ (p : Frac). IsGmicValue p entry y) (one_part g part) v) h.2 l.2,
 )
+  where
+    -- f is the one fractional part of the right side
+    one_part : (g : Frac) → HasFractionalPart row.rhs (numerator g) (denominator g) → f ≡ g
+    one_part g part =
+        let positive = row.rhs.lowest.positive in
+        let floor = quotient_is_floor row.rhs in
+        same_from_is f g _ row.rhs.den (omega (arith, ints)) (sym (h.1 _ floor)) (sym (part _ floor))
 gmic_line_for columns row (row_cut.Cut terms) (Skip name right reason) h l = absurd l
 gmic_line_for columns row row_cut.Integral (Skip name right Integral) h l = (l.0, l.1, subst IsWhole (sym l.1) h)
 gmic_line_for columns row row_cut.Integral (Skip name right Other) h l = absurd l

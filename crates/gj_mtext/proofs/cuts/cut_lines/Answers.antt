@@ -1,4 +1,4 @@
-use Rattle.gj_top.proofs.cut_lines.lines_of.Goals as goal
+use Rattle.gj_mtext.proofs.cuts.cut_lines.Goals as goal
 
 pub gmic_lines-requires : goal.gmic_lines-requires
 gmic_lines-requires c = rw (c.as_slice-columns.ensures, c.as_slice-rows.ensures) c.requires.each_row
