@@ -20,6 +20,11 @@ use std::alloc::Global;
 /// Ok exactly if every rule holds; else the line and the rule of the first that fails. `Memory` may come in place of
 /// either if the claim is about cuts, or says that a function is extreme or not extreme, and never for another claim,
 /// whose check takes no memory.
+///
+/// ```rust
+/// let proof = read_proof(alloc, text)?;
+/// check(alloc, &proof)?; // Ok(()): what proof.claim() says is true
+/// ```
 pub fn check(alloc: Global, proof: &Proof) -> Result<(), CheckFault>
     // If it answers Ok, every rule holds.
     ensures ok { OnOk result (MeetsRules proof.now) }

@@ -27,6 +27,11 @@ use std::alloc::{AllocError, Global};
 /// is for the least such, with the least interval to which it is joined and the first face in walk order that joins the
 /// two; otherwise it is for the least interval without a line that is directly covered, with the first triangle in walk
 /// order, and opens the next component.
+///
+/// ```text
+/// let found = cover(alloc, &shape)?; // of the mixed-integer cut for f = 3/5, of order 5
+/// // found.count is 2, the intervals on which it rises and those on which it falls; found.class is empty
+/// ```
 pub fn cover(alloc: Global, shape: &Shape) -> Result<Cover, AllocError>
     requires { IsContinuous shape.now }
     ensures { IfOk result (IsCoverOf shape.now.order (IsTight shape.now)) }

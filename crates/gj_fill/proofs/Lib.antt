@@ -5,3 +5,4 @@ pub mod Extremes
 pub mod FirstPairs
 pub mod FillBreaks
 pub mod Ascending
+pub mod FilledValues

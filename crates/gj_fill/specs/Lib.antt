@@ -3,3 +3,4 @@ pub mod FillPoints
 pub mod FirstPair
 pub mod Numerators
 pub mod Faults
+pub mod FilledValue

@@ -192,7 +192,7 @@ fn product(x: i64, y: i64) -> i128
 }
 
 /// x y + u w.
-fn sum_of_products(x: i64, y: i64, u: i64, w: i64) -> i128
+pub(crate) fn sum_of_products(x: i64, y: i64, u: i64, w: i64) -> i128
     requires x { unsigned_abs x ≤ 2 ^ 53 }
     requires y { unsigned_abs y ≤ 2 ^ 53 }
     requires u { unsigned_abs u ≤ 2 ^ 53 }
@@ -204,7 +204,7 @@ fn sum_of_products(x: i64, y: i64, u: i64, w: i64) -> i128
 }
 
 /// The fraction with this numerator over n times the width.
-fn over_width(numerator: i128, n: u32, width: i64) -> Frac
+pub(crate) fn over_width(numerator: i128, n: u32, width: i64) -> Frac
     requires fits { unsigned_abs numerator < 2 ^ 127 }
     requires some { 0 < n }
     requires wide { pos 0 <ℤ width }

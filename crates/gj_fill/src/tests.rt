@@ -1,5 +1,8 @@
 //! Examples with values by hand.
-use crate::{FillFault, fill, two_slopes};
+ghost use Rattle.std.specs.Prelude.{IfOk};
+ghost use Rattle.gj_shape.specs.Limits.{IsRowNumber};
+
+use crate::{FillFault, fill, filled_value, two_slopes};
 use gj_frac::Frac;
 use gj_shape::{Break, Shape};
 use std::alloc::{AllocError, Global};
@@ -8,6 +11,18 @@ use std::test::Fail;
 /// The fraction n/d.
 fn fraction(n: i128, d: i128) -> Result<Frac, &'static str> {
     Frac::new(n, d).ok_or("no fraction")
+}
+
+/// The fraction n/d, from -1 to 1.
+fn place(n: i128, d: i128) -> Result<Frac, &'static str>
+    ensures { IfOk result IsRowNumber }
+{
+    let x = fraction(n, d)?;
+    if x.den() < 1 << 31 && x.num().unsigned_abs() <= x.den().unsigned_abs() {
+        Ok(x)
+    } else {
+        Err("out of the range")
+    }
 }
 
 /// The continuous function with f = `k/q`, q the number of values, and these values over d.
@@ -55,6 +70,17 @@ fn crossings(rt: HostRuntime) -> Result<(), Fail> {
     ];
     assert_eq!(rt; filled.f, fraction(1, 2)?);
     assert_eq!(rt; filled.points.as_slice(), expected.as_slice());
+    Ok(())
+}
+
+/// The same function: the value at 1/6 and at the crossing, and on both lines behind it, also a period away.
+#[test]
+fn values_of_fill_in(rt: HostRuntime) -> Result<(), Fail> {
+    let shape = function(rt.alloc(), 3, &[0, 2, 1, 3, 1, 2], 3)?;
+    assert_eq!(rt; filled_value(&shape, place(1, 6)?), fraction(2, 3)?);
+    assert_eq!(rt; filled_value(&shape, place(5, 24)?), fraction(5, 6)?);
+    assert_eq!(rt; filled_value(&shape, place(3, 16)?), fraction(3, 4)?);
+    assert_eq!(rt; filled_value(&shape, place(-3, 4)?), fraction(2, 3)?);
     Ok(())
 }
 
