@@ -1,6 +1,7 @@
 //! The lines of a function, printed.
-ghost use Rattle.std.specs.Prelude.{◌≡◌, ◌<◌, ◌++◌, ℕ, List, codes, flat_map, OnOk};
+ghost use Rattle.std.specs.Prelude.{◌≡◌, ◌<◌, ◌++◌, ℕ, List, codes, flat_map, IsTrue, OnOk};
 ghost use Rattle.gj_lex.specs.NumberText.{fraction_text};
+ghost use Rattle.gj_shape.specs.FunctionData.{at};
 ghost use Rattle.gj_shape.specs.Points.{ArePointsOf, IsPointAt};
 ghost use Rattle.gj_shape.specs.Breaks.{point_at};
 ghost use Rattle.gj_lines.specs.BreakLines.{break_line};
@@ -68,9 +69,30 @@ fn push_point_lines(alloc: Global, out: &mut Vec<u8>, shape: &Shape) -> Result<(
         × (out.new.items ≡ out.old.items ++ flat_map point_line points)) }
 {
     for i in 0..shape.order() {
-        push_point_line(alloc, out, point_at(shape, i))?;
+        push_line_at(alloc, out, shape, i)?;
     }
     Ok(())
+}
+
+/// Appends the line of the point at i/q. One fraction is made if the limits are the value.
+fn push_line_at(alloc: Global, out: &mut Vec<u8>, shape: &Shape, i: u32) -> Result<(), AllocError>
+    requires { i < shape.now.order }
+    ensures { OnOk result ((p : Point) × IsPointAt shape.now i p
+        × (out.new.items ≡ out.old.items ++ point_line p)) }
+{
+    if is_even_at(shape, i) {
+        return push_fraction_line(alloc, out, b"point ", shape.value(i));
+    }
+    push_point_line(alloc, out, point_at(shape, i))
+}
+
+/// Whether the limits at i/q are the value.
+fn is_even_at(shape: &Shape, i: u32) -> bool
+    requires { i < shape.now.order }
+    ensures { IsTrue result → (at shape.now.left i ≡ at shape.now.value i) × (at shape.now.right i ≡ at shape.now.value i) }
+{
+    let value = shape.value_num(i);
+    shape.left_num(i) == value && shape.right_num(i) == value
 }
 
 /// The limits and the value at i/q.
