@@ -74,16 +74,28 @@ fn push_point_lines(alloc: Global, out: &mut Vec<u8>, shape: &Shape) -> Result<(
     Ok(())
 }
 
-/// Appends the line of the point at i/q. One fraction is made if the limits are the value.
+/// Appends the line of the point at i/q.
 fn push_line_at(alloc: Global, out: &mut Vec<u8>, shape: &Shape, i: u32) -> Result<(), AllocError>
     requires { i < shape.now.order }
     ensures { OnOk result ((p : Point) × IsPointAt shape.now i p
         × (out.new.items ≡ out.old.items ++ point_line p)) }
 {
+    out.extend_from_slice(b"point ")?;
+    push_point_at(alloc, out, shape, i)?;
+    out.push(b'\n')?;
+    Ok(())
+}
+
+/// Appends the one fraction of the point at i/q, or the three if they are not equal. One fraction is made if the limits are the value.
+fn push_point_at(alloc: Global, out: &mut Vec<u8>, shape: &Shape, i: u32) -> Result<(), AllocError>
+    requires { i < shape.now.order }
+    ensures { OnOk result ((p : Point) × IsPointAt shape.now i p
+        × (out.new.items ≡ out.old.items ++ point_text p)) }
+{
     if is_even_at(shape, i) {
-        return push_fraction_line(alloc, out, b"point ", shape.value(i));
+        return print_frac(alloc, out, shape.value(i));
     }
-    push_point_line(alloc, out, point_at(shape, i))
+    push_point(alloc, out, point_at(shape, i))
 }
 
 /// Whether the limits at i/q are the value.
@@ -105,16 +117,6 @@ fn point_at(shape: &Shape, i: u32) -> Point
         value: shape.value(i),
         right: shape.right(i),
     }
-}
-
-/// Appends the line of a point.
-fn push_point_line(alloc: Global, out: &mut Vec<u8>, point: Point) -> Result<(), AllocError>
-    ensures { OnOk result (out.new.items ≡ out.old.items ++ point_line point) }
-{
-    out.extend_from_slice(b"point ")?;
-    push_point(alloc, out, point)?;
-    out.push(b'\n')?;
-    Ok(())
 }
 
 /// Appends the line of a breakpoint, `point X V`, or `point X L V R` if the limits are not the value.
@@ -165,7 +167,7 @@ fn push_three(alloc: Global, out: &mut Vec<u8>, point: Point) -> Result<(), Allo
 }
 
 /// Whether the limits are the value.
-fn has_no_jump(point: Point) -> bool
+pub(crate) fn has_no_jump(point: Point) -> bool
     ensures { result ≡ has_no_jump point }
 {
     point.left == point.value && point.value == point.right

@@ -1,9 +1,6 @@
-use Rattle.gj_lines.proofs.PointLines.{even_line_pushed, line_pushed}
+use Rattle.gj_lines.proofs.PointLines.{line_pushed}
 use Rattle.gj_lines.proofs.print.push_line_at.Goals as goal
 
-pub returns-then-is_even_at : goal.returns-then-is_even_at
-returns-then-is_even_at c =
-    even_line_pushed _ _ c.value.result _ _ _ (c.is_even_at.ensures c.if-is_even_at.true) c.value.ensures c.push_fraction_line.ensures
-
 pub returns : goal.returns
-returns c = line_pushed _ _ c.point_at.result _ _ _ c.point_at.ensures c.push_point_line.ensures
+returns c =
+    line_pushed c.args.shape.now c.args.i _ _ _ _ c.in_ok-extend_from_slice.ensures.items c.in_ok-push_point_at.ensures c.in_ok-push.ensures.items
