@@ -22,6 +22,7 @@ use Rattle.gj_shape.specs.declared.points.Point.{Point}
 use Rattle.gj_shape.proofs.GivenPoints.{given_by_points, good_points, count_of_points}
 use Rattle.gj_shape.proofs.LeastDenominator.{within_bounds_closed}
 use Rattle.gj_lines.specs.FunctionGrammar.{order_words, place_words, point_words, ArePointWords, SpellPoint, order_rule, place_rule, point_rule, points_part, function_part}
+use Rattle.gj_lines.specs.Reading.{IsPointLine}
 use Rattle.gj_lines.specs.FunctionLines.{line, has_no_jump, point_line, order_line, place_line, AreFunctionLines}
 use Rattle.gj_lines.proofs.PointLines.{text_of_one, text_of_three, same_where_no_jump, no_jump_where_same}
 
@@ -66,15 +67,21 @@ line_has_texts false p rest e =
     ∙ append_assoc (fraction_text p.left ++ codes " ") (fraction_text p.value) (32 ∷ fraction_text p.right)
     ∙ append_assoc (fraction_text p.left) (codes " ") (fraction_text p.value ++ 32 ∷ fraction_text p.right))
 
-point_is_read : (s : Spelling) (b : Bool) (points : List Point) (p : Point) (text rest : List ℕ) → has_no_jump p ≡ b →
-    text ≡ point_line p ++ rest → AreWithinBounds (all_fractions (points ++ p ∷ [])) →
-    (line_part s (point_rule s points)).Reads text p rest
-point_is_read s b points p text rest e is within =
+-- a text that begins with it spells the point there
+pub line_is_read : (s : Spelling) (b : Bool) (p : Point) (text rest : List ℕ) → has_no_jump p ≡ b → text ≡ point_line p ++ rest →
+    IsPointLine s text text rest p
+line_is_read s b p text rest e is =
     let plain : All IsPlain (point_words (texts_by b p)) =
     All-cons IsPlain (codes "point") (texts_by b p) (plain_by_test (codes "point" ∷ []) refl 0 [] (omega arith)) (texts_are_plain b p) in
     let has : HasLine s text text (point_words (texts_by b p)) rest =
     line_in s (codes "point") (texts_by b p) text rest plain (λ z. omega arith) (is ∙ line_has_texts b p rest e) in
-    (text, point_words (texts_by b p), has, (texts_by b p, refl, texts_are_words s b p e, texts_spell s b p e, within))
+    (point_words (texts_by b p), has, (texts_by b p, refl, texts_are_words s b p e, texts_spell s b p e))
+
+point_is_read : (s : Spelling) (points : List Point) (p : Point) (text rest : List ℕ) → text ≡ point_line p ++ rest →
+    AreWithinBounds (all_fractions (points ++ p ∷ [])) → (line_part s (point_rule s points)).Reads text p rest
+point_is_read s points p text rest is within =
+    let (words, has, (ws, words_are, are, spelled)) = line_is_read s (has_no_jump p) p text rest refl is in
+    (text, words, has, (ws, words_are, are, spelled, within))
 
 -- ---- all points
 
@@ -91,7 +98,7 @@ points_are_read : (s : Spelling) (before points : List Point) (text rest : List 
 points_are_read s before [] text rest is within = (append-nil before, is)
 points_are_read s before (p ∷ points) text rest is within =
     let more = flat_map point_line points ++ rest in
-    let first = point_is_read s (has_no_jump p) before p text more refl
+    let first = point_is_read s before p text more
     (is ∙ append_assoc (point_line p) (flat_map point_line points) rest) (within_first before p points within) in
     let joined = append_assoc before (p ∷ []) points in
     let others = points_are_read s (before ++ p ∷ []) points more rest refl

@@ -4,6 +4,7 @@ pub mod FunctionRead
 pub mod OneTextOfLines
 pub mod Places
 pub mod PointsRead
+pub mod PrintedPoints
 pub mod StrictFunctions
 pub mod PointLines
 pub mod ExactBreaks

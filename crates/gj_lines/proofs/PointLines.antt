@@ -77,6 +77,39 @@ first_all : (scale : ℕ) (ns : List ℤ) (n : ℕ) (xs : List Frac) → length 
     AllZip (IsOver scale) xs ns
 first_all scale ns n xs most are = subst (AllZip (IsOver scale) xs) (take_all n ns most) are
 
+-- one fraction is the text of a point whose limits are the value
+pub even_pushed : {E : Type 0} (f : FunctionData) (i : ℕ) (x : Frac) (r : Result (Unit {0}) E) (before now : List ℕ) →
+    (at f.left i ≡ at f.value i) × (at f.right i ≡ at f.value i) → IsOver f.scale x (at f.value i) →
+    OnOk r (now ≡ before ++ fraction_text x) → OnOk r ((p : Point) × IsPointAt f i p × (now ≡ before ++ point_text p))
+even_pushed f i x (Err e) before now same is h = tt
+even_pushed f i x (Ok u) before now (left, right) is h =
+    let p : Point = record { left = x; value = x; right = x } in (
+      p,
+      record {
+        left_is = subst (IsOver f.scale x) (sym left) is;
+        value_is = is;
+        right_is = subst (IsOver f.scale x) (sym right) is;
+      },
+      h ∙ ap (λ t. before ++ t) (sym (text_of_one p (no_jump_where_same p refl refl))),
+    )
+
+-- the text of the point at i/order
+pub point_pushed : {E : Type 0} (f : FunctionData) (i : ℕ) (p : Point) (r : Result (Unit {0}) E) (before now : List ℕ) → IsPointAt f i p →
+    OnOk r (now ≡ before ++ point_text p) → OnOk r ((q : Point) × IsPointAt f i q × (now ≡ before ++ point_text q))
+point_pushed f i p (Err e) before now is h = tt
+point_pushed f i p (Ok u) before now is h = (p, is, h)
+
+-- a point line is pushed in three parts
+pub line_pushed : (f : FunctionData) (i : ℕ) (before first second third : List ℕ) → first ≡ before ++ codes "point " →
+    (p : Point) × IsPointAt f i p × (second ≡ first ++ point_text p) → third ≡ second ++ 10 ∷ [] →
+    (p : Point) × IsPointAt f i p × (third ≡ before ++ point_line p)
+line_pushed f i before first second third first_is (p, is, second_is) third_is = (
+  p,
+  is,
+  third_is ∙ ap (λ t. t ++ 10 ∷ []) (second_is ∙ ap (λ t. t ++ point_text p) first_is ∙ append_assoc before (codes "point ") (point_text p))
+      ∙ append_assoc before (codes "point " ++ point_text p) (10 ∷ []),
+)
+
 -- the text before has gained the lines of the first n points of the function
 pub record ArePushed (f : FunctionData) (n : ℕ) (before now : List ℕ) : Type 0 where
   points : List Point

@@ -5,7 +5,6 @@ use Rattle.gj_lex.specs.declared.spelling.Spelling.{Spelling}
 use Rattle.gj_lex.specs.declared.spelling.Spelling.TheVariants.{Lenient, Strict}
 use Rattle.gj_lex.specs.declared.reason.Reason.{Reason}
 use Rattle.gj_lex.specs.declared.fault.PartFault.{PartFault}
-use Rattle.gj_lex.specs.TextLines.{HasLine}
 use Rattle.gj_lex.specs.Parts.{line_part, IsFaultOf}
 use Rattle.gj_lex.proofs.PartLaws.{line_refused, fault_in_first, fault_in_next}
 use Rattle.gj_shape.specs.Given.{IsSmall, HasCommonDenominator, AreWithinBounds}
@@ -14,7 +13,7 @@ use Rattle.gj_shape.specs.declared.points.Point.{Point}
 use Rattle.gj_shape.specs.declared.points.PointFault.{PointFault}
 use Rattle.gj_shape.specs.declared.points.PointFault.TheVariants.{Large, Fine, Memory}
 use Rattle.gj_lines.specs.FunctionGrammar.{ArePointWords, point_rule, points_part}
-use Rattle.gj_lines.specs.Reading.{IsOneOrThree, SpellsPoint, BreaksPointForm, refusal_of}
+use Rattle.gj_lines.specs.Reading.{IsOneOrThree, IsPointLine, BreaksPointForm, refusal_of}
 
 -- ---- the words of a point
 
@@ -38,25 +37,24 @@ form_breaks s points words e (inr number) = inr (inl number)
 
 -- ---- one point
 
-pub point_read : (s : Spelling) (text start : List ℕ) (words : List (List ℕ)) (rest : List ℕ) (points new : List Point)
-    (p : Point) → HasLine s text start words rest → SpellsPoint s words p → new ≡ points ++ p ∷ [] →
-    All IsSmall (all_fractions new) → HasCommonDenominator (all_fractions new) →
+pub point_read : (s : Spelling) (text start rest : List ℕ) (points new : List Point) (p : Point) → IsPointLine s text start rest p →
+    new ≡ points ++ p ∷ [] → All IsSmall (all_fractions new) → HasCommonDenominator (all_fractions new) →
     (q : Point) × (new ≡ points ++ q ∷ []) × (line_part s (point_rule s points)).Reads text q rest
-point_read s text start words rest points new p line (ws, is, are, spelled) new_is small common =
+point_read s text start rest points new p (words, line, (ws, is, are, spelled)) new_is small common =
     let within : AreWithinBounds (all_fractions new) = record { small = small; common = common } in
     (p, new_is, (start, words, line, (ws, is, are, spelled, subst (λ ps. AreWithinBounds (all_fractions ps)) new_is within)))
 
 -- a point that cannot follow
-pub point_refused : (s : Spelling) (text start : List ℕ) (words : List (List ℕ)) (rest : List ℕ) (points : List Point)
-    (p : Point) (e : PointFault) → HasLine s text start words rest → SpellsPoint s words p → IsPointFault points p e →
+pub point_refused : (s : Spelling) (text start rest : List ℕ) (points : List Point) (p : Point) (e : PointFault) →
+    IsPointLine s text start rest p → IsPointFault points p e →
     IsFaultOf (line_part s (point_rule s points)) text (refusal_of e (length start))
-point_refused s text start words rest points p Large line (ws, is, are, spelled) fault =
+point_refused s text start rest points p Large (words, line, (ws, is, are, spelled)) fault =
     line_refused s (point_rule s points) text start words rest _ _ line
     (inr (inr (inl (refl, (ws, p, is, are, spelled, fault))))) refl
-point_refused s text start words rest points p Fine line (ws, is, are, spelled) fault =
+point_refused s text start rest points p Fine (words, line, (ws, is, are, spelled)) fault =
     line_refused s (point_rule s points) text start words rest _ _ line
     (inr (inr (inr (refl, (ws, p, is, are, spelled, fault))))) refl
-point_refused s text start words rest points p (Memory e) line h fault = tt
+point_refused s text start rest points p (Memory e) line fault = tt
 
 -- ---- one after another
 

@@ -5,6 +5,7 @@ use Rattle.gj_lex.specs.declared.reason.Reason.{Reason}
 use Rattle.gj_lex.specs.declared.reason.Reason.TheVariants as reason
 use Rattle.gj_lex.specs.declared.fault.PartFault.{PartFault}
 use Rattle.gj_lex.specs.declared.fault.PartFault.TheVariants as part
+use Rattle.gj_lex.specs.TextLines.{HasLine}
 use Rattle.gj_shape.specs.declared.points.Point.{Point}
 use Rattle.gj_shape.specs.declared.points.PointFault.{PointFault}
 use Rattle.gj_shape.specs.declared.points.PointFault.TheVariants.{Large, Fine, Memory}
@@ -23,6 +24,10 @@ IsOneOrThree words = (length words ≡ 1) ⊎ (length words ≡ 3)
 -- the words of a line spell the point
 abbrev pub SpellsPoint : Spelling → List (List ℕ) → Point → Type 0
 SpellsPoint s words p = (ws : List (List ℕ)) × (words ≡ point_words ws) × ArePointWords s ws × SpellPoint s ws p
+
+-- the next line of the text begins at `start` and spells the point, and the rest follows it
+abbrev pub IsPointLine : Spelling → List ℕ → List ℕ → List ℕ → Point → Type 0
+IsPointLine s text start rest p = (words : List (List ℕ)) × HasLine s text start words rest × SpellsPoint s words p
 
 -- no `point` with such words; one of them is no number
 abbrev pub BreaksPointForm : Spelling → List (List ℕ) → Reason → Type 0

@@ -14,6 +14,7 @@ mod laws;
 mod place;
 mod points;
 mod print;
+mod printed;
 #[cfg(test)]
 mod tests;
 

@@ -4,9 +4,10 @@ ghost use Rattle.gj_lex.specs.Words.{word_texts};
 ghost use Rattle.gj_lex.specs.Parts.{line_part, IsFaultOf};
 ghost use Rattle.gj_shape.specs.declared.points.Point.{Point};
 ghost use Rattle.gj_lines.specs.FunctionGrammar.{point_words, ArePointWords, SpellPoint, point_rule, points_part};
-ghost use Rattle.gj_lines.specs.Reading.{words_of_point, IsOneOrThree, SpellsPoint, BreaksPointForm, refusal_of};
+ghost use Rattle.gj_lines.specs.Reading.{words_of_point, IsOneOrThree, SpellsPoint, IsPointLine, BreaksPointForm, refusal_of};
 ghost use Rattle.gj_lines.specs.declared.points.PointWords.{PointWords};
 
+use crate::printed::printed_point;
 use gj_lex::{
     PartFault, Reason, Spelling, behind_name, fraction_of, has_no_word, line_at, split_word,
 };
@@ -20,6 +21,17 @@ pub(crate) enum PointWords<'a> {
     One(&'a [u8]),
     /// The limit from the left, the value and the limit from the right.
     Three(&'a [u8], &'a [u8], &'a [u8]),
+}
+
+/// The line of a point in a text.
+#[derive(Clone, Copy, Debug)]
+struct PointLine<'a> {
+    /// The text from the line on.
+    start: &'a [u8],
+    /// The point that the line spells.
+    point: Point,
+    /// What follows the line.
+    rest: &'a [u8],
 }
 
 /// The points of the next lines, as many as `count`, and what follows them.
@@ -50,14 +62,34 @@ fn point_at<'a>(
         × (line_part spelling (point_rule spelling points.old)).Reads text.now p rest.now) }
     ensures fault { IfErr result (IsFaultOf (line_part spelling (point_rule spelling points.old)) text.now) }
 {
-    let line = line_at(spelling, text)?;
-    let point = match point_in(spelling, line.bytes) {
-        Ok(point) => point,
-        Err(reason) => return Err(PartFault::at(line.start, reason)),
-    };
-    match points.push(point) {
+    let line = point_line_at(spelling, text)?;
+    match points.push(line.point) {
         Ok(()) => Ok(line.rest),
         Err(fault) => Err(refusal_of(fault, line.start)),
+    }
+}
+
+/// The point of the next line. A line in the form in which it is printed is read in one pass, without the search for words.
+fn point_line_at(spelling: Spelling, text: &[u8]) -> Result<PointLine<'_>, PartFault>
+    ensures found { IfOk result (λ l. IsPointLine spelling text.now l.start.now l.rest.now l.point) }
+    ensures fault { IfErr result (λ e. (points : List Point) →
+        IsFaultOf (line_part spelling (point_rule spelling points)) text.now e) }
+{
+    if let Some((point, rest)) = printed_point(text) {
+        return Ok(PointLine {
+            start: text,
+            point,
+            rest,
+        });
+    }
+    let line = line_at(spelling, text)?;
+    match point_in(spelling, line.bytes) {
+        Ok(point) => Ok(PointLine {
+            start: line.start,
+            point,
+            rest: line.rest,
+        }),
+        Err(reason) => Err(PartFault::at(line.start, reason)),
     }
 }
 

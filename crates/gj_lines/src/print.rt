@@ -1,6 +1,7 @@
 //! The lines of a function, printed.
-ghost use Rattle.std.specs.Prelude.{◌≡◌, ◌<◌, ◌++◌, ℕ, List, codes, flat_map, OnOk};
+ghost use Rattle.std.specs.Prelude.{◌≡◌, ◌<◌, ◌++◌, ℕ, List, codes, flat_map, IsTrue, OnOk};
 ghost use Rattle.gj_lex.specs.NumberText.{fraction_text};
+ghost use Rattle.gj_shape.specs.FunctionData.{at};
 ghost use Rattle.gj_shape.specs.Points.{ArePointsOf, IsPointAt};
 ghost use Rattle.gj_shape.specs.Breaks.{point_at};
 ghost use Rattle.gj_lines.specs.BreakLines.{break_line};
@@ -68,9 +69,42 @@ fn push_point_lines(alloc: Global, out: &mut Vec<u8>, shape: &Shape) -> Result<(
         × (out.new.items ≡ out.old.items ++ flat_map point_line points)) }
 {
     for i in 0..shape.order() {
-        push_point_line(alloc, out, point_at(shape, i))?;
+        push_line_at(alloc, out, shape, i)?;
     }
     Ok(())
+}
+
+/// Appends the line of the point at i/q.
+fn push_line_at(alloc: Global, out: &mut Vec<u8>, shape: &Shape, i: u32) -> Result<(), AllocError>
+    requires { i < shape.now.order }
+    ensures { OnOk result ((p : Point) × IsPointAt shape.now i p
+        × (out.new.items ≡ out.old.items ++ point_line p)) }
+{
+    out.extend_from_slice(b"point ")?;
+    push_point_at(alloc, out, shape, i)?;
+    out.push(b'\n')?;
+    Ok(())
+}
+
+/// Appends the one fraction of the point at i/q, or the three if they are not equal. One fraction is made if the limits are the value.
+fn push_point_at(alloc: Global, out: &mut Vec<u8>, shape: &Shape, i: u32) -> Result<(), AllocError>
+    requires { i < shape.now.order }
+    ensures { OnOk result ((p : Point) × IsPointAt shape.now i p
+        × (out.new.items ≡ out.old.items ++ point_text p)) }
+{
+    if is_even_at(shape, i) {
+        return print_frac(alloc, out, shape.value(i));
+    }
+    push_point(alloc, out, point_at(shape, i))
+}
+
+/// Whether the limits at i/q are the value.
+fn is_even_at(shape: &Shape, i: u32) -> bool
+    requires { i < shape.now.order }
+    ensures { IsTrue result → (at shape.now.left i ≡ at shape.now.value i) × (at shape.now.right i ≡ at shape.now.value i) }
+{
+    let value = shape.value_num(i);
+    shape.left_num(i) == value && shape.right_num(i) == value
 }
 
 /// The limits and the value at i/q.
@@ -83,16 +117,6 @@ fn point_at(shape: &Shape, i: u32) -> Point
         value: shape.value(i),
         right: shape.right(i),
     }
-}
-
-/// Appends the line of a point.
-fn push_point_line(alloc: Global, out: &mut Vec<u8>, point: Point) -> Result<(), AllocError>
-    ensures { OnOk result (out.new.items ≡ out.old.items ++ point_line point) }
-{
-    out.extend_from_slice(b"point ")?;
-    push_point(alloc, out, point)?;
-    out.push(b'\n')?;
-    Ok(())
 }
 
 /// Appends the line of a breakpoint, `point X V`, or `point X L V R` if the limits are not the value.
@@ -143,7 +167,7 @@ fn push_three(alloc: Global, out: &mut Vec<u8>, point: Point) -> Result<(), Allo
 }
 
 /// Whether the limits are the value.
-fn has_no_jump(point: Point) -> bool
+pub(crate) fn has_no_jump(point: Point) -> bool
     ensures { result ≡ has_no_jump point }
 {
     point.left == point.value && point.value == point.right

@@ -108,6 +108,11 @@ fn first_faults_are_told(rt: HostRuntime) -> Result<(), Fail> {
             Reason::Large,
             14,
         ),
+        (
+            b"order 2\nf 1/2\npoint 2/4\n".as_slice(),
+            Reason::Number,
+            10,
+        ),
         (b"order 2\nf 1/2\npoint 0\n".as_slice(), Reason::Form, 0),
     ];
     for (text, reason, left) in refusals {

@@ -1,19 +1,17 @@
-use Rattle.gj_lex.proofs.PartLaws.{line_refused}
-use Rattle.gj_lines.specs.FunctionGrammar.{point_rule}
-use Rattle.gj_lines.proofs.PointsRead.{form_breaks, point_refused, point_read}
+use Rattle.std.proofs.lemmas.Result.{err_from_is_err_and}
+use Rattle.gj_lines.proofs.PointsRead.{point_refused, point_read}
 use Rattle.gj_lines.proofs.points.point_at.Goals as goal
+
+pub returns-in-Ok-clause-found : goal.returns-in-Ok-clause-found
+returns-in-Ok-clause-found c =
+    point_read _ _ _ _ _ _ c.in_ok-line.line.point c.in_ok-line.ensures.found c.in-Ok.ensures.ok c.in-Ok.ensures.small
+    c.in-Ok.ensures.common
 
 pub returns-in-Err-clause-fault : goal.returns-in-Err-clause-fault
 returns-in-Err-clause-fault c =
-    line_refused c.args.spelling (point_rule c.args.spelling c.args.points.now) _ _ _ _ _ _ c.in_ok-line.ensures.found
-    (form_breaks _ c.args.points.now _ _ c.in-Err.ensures.broken) c.at.ensures
+    rw c.refusal_of.ensures (point_refused _ _ _ _ _ c.in_ok-line.line.point _ c.in_ok-line.ensures.found c.in-Err.ensures.fault)
 
-pub returns-in-Ok-push-clause-found : goal.returns-in-Ok-push-clause-found
-returns-in-Ok-push-clause-found c =
-    point_read _ _ _ _ _ _ _ c.in-Ok.point c.in_ok-line.ensures.found c.in-Ok.ensures.found c.in-Ok-push.ensures.ok
-    c.in-Ok-push.ensures.small c.in-Ok-push.ensures.common
-
-pub returns-in-Err-push-clause-fault : goal.returns-in-Err-push-clause-fault
-returns-in-Err-push-clause-fault c =
-    rw c.refusal_of.ensures
-    (point_refused _ _ _ _ _ _ c.in-Ok.point _ c.in_ok-line.ensures.found c.in-Ok.ensures.found c.in-Err-push.ensures.fault)
+pub returns-in_err-line-clause-fault : goal.returns-in_err-line-clause-fault
+returns-in_err-line-clause-fault c =
+    let p = err_from_is_err_and c.from_residual.result c.from_residual.ensures.1 in
+    rw (p.1, p.2) (c.in_err-line.ensures.fault c.args.points.now)

@@ -7,8 +7,8 @@ loop-i-init c = none_pushed _ _
 
 pub loop-i-preserved : goal.loop-i-preserved
 loop-i-preserved c =
-    one_pushed _ _ c.point_at.result _ _ _ c.order-i-end.ensures.limits (omega (arith, c.order-i-end.ensures.value))
-    c.loop-i.invariant c.point_at.ensures c.in_ok-push_point_line.ensures
+    let (p, is, pushed) = c.in_ok-push_line_at.ensures in
+    one_pushed _ _ p _ _ _ c.order-i-end.ensures.limits (omega (arith, c.order-i-end.ensures.value)) c.loop-i.invariant is pushed
 
 pub returns : goal.returns
 returns c =
