@@ -22,10 +22,6 @@ in_other_words_ok (Err e) P Q p same = tt
 pub one_fails : (a : Bool) (P R : Type 0) → a ≡ false → IsTrue a ↔ P → (R → P) → IsTrue false ↔ R
 one_fails a P R e p has = (λ h. absurd (let k : false ≡ true = h in cc), λ r. sym e ∙ p.1 (has r))
 
--- two things
-pub as_they_are : (P Q : Type 0) → (P × Q) ↔ (P × Q)
-as_they_are P Q = (λ h. h, λ h. h)
-
 -- a test that failed
 pub denied : (a : Bool) (P : Type 0) → a ≡ false → IsTrue a ↔ P → P → ⊥
 denied a P e p h = let k : false ≡ true = sym e ∙ p.1 h in cc

@@ -8,7 +8,7 @@ use Rattle.std.proofs.lemmas.Str.{digit_value_digit}
 use Rattle.std.proofs.lemmas.Str.Parse.{digit_from_value, digit_at}
 use Rattle.std.proofs.lemmas.Fmt.{decimal_digit, decimal_step_wide, decimal_by_steps_wide, decimal_is_IsNumeral_wide, length-decimal-le_wide}
 use Rattle.std.proofs.lemmas.List.{drop-set}
-use Rattle.std.proofs.Math.Nat.{pow-suc, mul-le-mul_left, one-le-pow, pow-le-pow_right}
+use Rattle.std.proofs.Math.Nat.{pow-suc, mul-le-mul_left, one-le-pow}
 
 -- digits after a number only add to it
 pub value_after_at_least : (n : ℕ) (ds : List ℕ) → n ≤ digits_value_after 10 n ds
@@ -180,10 +180,3 @@ room_is_below v k limit room =
     let some : 1 ≤ 10 ^ k = one-le-pow k 10 ten in
     let more : (v + 1) * 1 ≤ (v + 1) * 10 ^ k = mul-le-mul_left (v + 1) some in
     omega (arith, room, more)
-
--- a number below 10 ^ 9 has room for 10 digits behind it
-pub room_for_ten : (v k : ℕ) → v < 10 ^ 9 → k ≤ 10 → (v + 1) * 10 ^ k ≤ 10 ^ 19
-room_for_ten v k small few =
-    let most : 10 ^ k ≤ 10 ^ 10 = pow-le-pow_right (omega arith) few in
-    let first : (v + 1) * 10 ^ k ≤ (v + 1) * 10 ^ 10 = mul-le-mul_left (v + 1) most in
-    omega (arith, first)

@@ -5,7 +5,7 @@ use Rattle.std.proofs.lemmas.Bool.{false≢true, lt-ltb, le-ltb}
 use Rattle.std.proofs.lemmas.List.{drop_more}
 use Rattle.std.proofs.lemmas.List.Elements.{All-get_or, All-from_get_or}
 use Rattle.std.proofs.lemmas.List.Quantifiers.{position-Some}
-use Rattle.std.proofs.lemmas.List.Sums.{prefix_len-le-length, fails_before_first, position_or_len_is}
+use Rattle.std.proofs.lemmas.List.Sums.{prefix_len-le-length, fails_before_first}
 use Rattle.memchr.specs.Find.{IsFirstByte, TakesFirst, first_of, places}
 use Rattle.memchr.proofs.lemmas.ValueLemmas.{IsFirstByte-value}
 
@@ -25,27 +25,6 @@ first_of_none = refl
 first_of_some : (k : ℕ) (ks : List ℕ) → first_of (k ∷ ks) ≡ Some k
 unfolding first_of
 first_of_some k ks = refl
-
--- as a search for a byte tells it
-pub position_of_search : (p : ℕ → Bool) (xs : List ℕ) (r : Option ℕ) → IsFirstByte p xs r → r ≡ position p xs
-position_of_search p xs None h =
-    sym (position_none p xs (omega (
-      arith,
-      position_or_len_is p xs (length xs) 0 (omega arith)
-          (λ k l. fails (p (get_or xs k 0)) (h k (omega arith) l)) (λ l. absurd (omega arith)),
-    )))
-  where
-    fails : (b : Bool) → (b ≡ true → ⊥) → b ≡ false
-    fails true h = absurd (h refl)
-    fails false h = refl
-position_of_search p xs (Some k) h =
-    sym (position_is p xs k
-    (position_or_len_is p xs k 0 (omega (arith, h.0.high)) (λ j l. fails (p (get_or xs j 0)) (h.0.before j (omega arith) l))
-    (λ l. h.1)) h.0.high)
-  where
-    fails : (b : Bool) → (b ≡ true → ⊥) → b ≡ false
-    fails true h = absurd (h refl)
-    fails false h = refl
 
 -- the first element that passes, and what stands before and behind it
 pub first_place : (p : ℕ → Bool) (xs : List ℕ) (k : ℕ) → position p xs ≡ Some k →

@@ -243,13 +243,6 @@ last_word line start within plain =
       λ all. omega (arith, len, (one.0 all).some),
     )
 
--- a strict line begins as its first word
-pub begin_as_word : (text word : List ℕ) (ws : List (List ℕ)) (rest : List ℕ) → HasStrictLine text (word ∷ ws) rest →
-    (0 < length text) × (0 < length word) × (get_or text 0 0 ≡ get_or word 0 0)
-begin_as_word text [] ws rest h = absurd (omega (arith, (All-head IsWord [] ws h.are_words).some))
-begin_as_word text (b ∷ bs) [] rest h = (omega (arith, ap length h.spelled), omega arith, ap (λ t. get_or t 0 0) h.spelled)
-begin_as_word text (b ∷ bs) (w ∷ ws) rest h = (omega (arith, ap length h.spelled), omega arith, ap (λ t. get_or t 0 0) h.spelled)
-
 -- ---- a line of words without a CR
 
 -- a word is not empty, and no byte of it parts words or ends a line
