@@ -7,6 +7,7 @@ pub mod SamePlaces
 pub mod ShownPoints
 pub mod NumeratorTests
 pub mod RowTests
+pub mod LanePieces
 pub mod DemandsOfClaims
 pub mod ExtremeMeaning
 pub mod HalvesMeaning

@@ -15,6 +15,7 @@ mod entries;
 mod extremality;
 mod faults;
 mod halves;
+mod lane;
 mod laws;
 mod minimality;
 mod names;

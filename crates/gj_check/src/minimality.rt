@@ -10,12 +10,13 @@ ghost use Rattle.gj_check.specs.Lanes.{AreLanesOf};
 ghost use Rattle.gj_check.specs.Tables.{AreTwoPeriods};
 
 use crate::entries::Entry;
+use crate::lane::Lane;
 use crate::pieces::{adds_up, wrapped};
-use crate::squares::Lanes;
+use crate::squares::{Lanes, write_pieces};
 use crate::tables::has_subadditive_totals;
 use gj_shape::Shape;
 
-/// How many entries there are: those of two periods, since the order is at most 1,000.
+/// How many entries or lanes there are: those of two periods, since the order is at most 1,000.
 const COUNT: usize = 2_000;
 
 /// Whether all tests of minimality pass. It takes no memory.
@@ -126,7 +127,8 @@ fn are_opposite_between(
     true
 }
 
-/// Whether no limit of the slack is negative in any square. Those of a continuous function are slacks at grid points.
+/// Whether no limit of the slack is negative in any square. Those of a continuous function are slacks at grid points. The other
+/// functions are tested over lanes of the fewest bits that serve.
 fn is_subadditive(shape: &Shape) -> bool
     requires { PassesSymmetry shape.now }
     ensures { IsTrue result ↔ IsSubadditive shape.now }
@@ -134,7 +136,20 @@ fn is_subadditive(shape: &Shape) -> bool
     if shape.is_continuous() {
         return is_subadditive_on_grid(shape);
     }
-    is_subadditive_between(shape, &Lanes::of(shape))
+    if shape.common_denominator() <= i128::from(i16::MAX) {
+        return is_subadditive_over(
+            shape,
+            &mut [0u16; COUNT],
+            &mut [0u16; COUNT],
+            &mut [0u16; COUNT],
+        );
+    }
+    is_subadditive_over(
+        shape,
+        &mut [0u32; COUNT],
+        &mut [0u32; COUNT],
+        &mut [0u32; COUNT],
+    )
 }
 
 /// Whether no slack at grid points is negative, over entries of the fewest bits that serve.
@@ -174,9 +189,28 @@ fn write_two_periods<E: Entry>(shape: &Shape, entries: &mut [E])
     }
 }
 
+/// Whether no limit of the slack is negative in any square, over lanes of one width, in which the common denominator fits: these
+/// are written over.
+fn is_subadditive_over<L: Lane>(
+    shape: &Shape,
+    value: &mut [L],
+    right: &mut [L],
+    left: &mut [L],
+) -> bool
+    requires symmetric { PassesSymmetry shape.now }
+    requires fits { shape.now.scale < L.bound }
+    requires value { length value.old ≡ 2000 }
+    requires right { length right.old ≡ 2000 }
+    requires left { length left.old ≡ 2000 }
+    ensures { IsTrue result ↔ IsSubadditive shape.now }
+{
+    write_pieces(shape, value, right, left);
+    is_subadditive_between(shape, Lanes { value, right, left })
+}
+
 /// Whether no limit of the slack is negative in any square. The squares (a, b) and (b, a) have the same limits, so half are tested.
-fn is_subadditive_between(shape: &Shape, lanes: &Lanes) -> bool
-    requires { AreLanesOf shape.now lanes.now }
+fn is_subadditive_between<L: Lane>(shape: &Shape, lanes: Lanes<'_, L>) -> bool
+    requires { AreLanesOf L.number L.bound shape.now lanes }
     ensures { IsTrue result ↔ IsSubadditive shape.now }
 {
     for a in 0..shape.order() as usize {

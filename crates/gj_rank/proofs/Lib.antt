@@ -1,3 +1,4 @@
+pub mod RiseRanges
 pub mod RowSizes
 pub mod ResidueRows
 pub mod KeptRows

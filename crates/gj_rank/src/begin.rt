@@ -5,7 +5,7 @@ ghost use Rattle.gj_proof.specs.ProofText.{IsRowNameBelow};
 ghost use Rattle.gj_proof.specs.PresentRows.{arithmetic_of};
 
 use crate::modulo::take_residues;
-use crate::rises::{add_rises, subtract_rises};
+use crate::rises::add_rises;
 use gj_proof::Numbers;
 use gj_shape::RowName;
 
@@ -19,13 +19,12 @@ fn add_named(row: &mut [i128], component: &[u32], place: u32, name: RowName)
 {
     let order = component.len();
     match name {
-        RowName::Period => add_rises(row, component, order),
-        RowName::F => add_rises(row, component, place as usize),
+        RowName::Period => add_rises(row, component, 0, order),
+        RowName::F => add_rises(row, component, 0, place as usize),
         RowName::Pair(a, b) => {
             let sum = (u64::from(a) + u64::from(b)) % order as u64;
-            add_rises(row, component, a as usize);
-            add_rises(row, component, b as usize);
-            subtract_rises(row, component, sum as usize);
+            add_rises(row, component, 0, a as usize);
+            add_rises(row, component, sum as usize, b as usize);
         }
     }
 }

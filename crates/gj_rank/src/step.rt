@@ -8,7 +8,7 @@ ghost use Rattle.gj_proof.specs.PresentRows.{arithmetic_of};
 ghost use Rattle.gj_rank.specs.KeptTable.{IsKeptAt};
 ghost use Rattle.gj_rank.specs.RowNumbers.{AreNumbers};
 
-use crate::fitting::{TooWide, difference, product};
+use crate::fitting::{TooWide, difference, product, quotient};
 use crate::modulo::reduce_modulo;
 use gj_frac::gcd;
 use gj_proof::Numbers;
@@ -46,7 +46,7 @@ fn divide(row: &mut [i128])
     let divisor = divisor_of_row(row);
     if divisor > 1 {
         for x in row.iter_mut() {
-            *x /= divisor as i128;
+            *x = quotient(*x, divisor as i128);
         }
     }
 }
