@@ -12,18 +12,20 @@ use Rattle.gj_facetext.specs.declared.face_lines.Starts.{Starts}
 abbrev pub text_of : Piece → List ℕ
 text_of piece = take piece.length piece.bytes
 
--- the piece of a kind
-abbrev pub start_of : Starts → FaceKind → Piece
-start_of starts Vertex = starts.vertex
-start_of starts Horizontal = starts.horizontal
-start_of starts Vertical = starts.vertical
-start_of starts Diagonal = starts.diagonal
-start_of starts Lower = starts.lower
-start_of starts Upper = starts.upper
+-- the place of the piece of a kind
+abbrev pub place_of : FaceKind → ℕ
+place_of Vertex = 0
+place_of Horizontal = 1
+place_of Vertical = 2
+place_of Diagonal = 3
+place_of Lower = 4
+place_of Upper = 5
 
 -- the lines of the row's faces begin with these pieces
-abbrev pub AreStarts : Starts → Type 0
-AreStarts starts = (kind : FaceKind) → text_of (start_of starts kind) ≡ face_word kind ++ codes " " ++ decimal starts.row
+pub record AreStarts (starts : Starts) : Type 0 where
+  pub count : length starts.pieces ≡ 6
+  pub texts : (kind : FaceKind) (none : Piece) →
+      text_of (get_or starts.pieces (place_of kind) none) ≡ face_word kind ++ codes " " ++ decimal starts.row
 
 -- the lines of the faces of each column end with its piece
 abbrev pub AreEnds : List Piece → Type 0

@@ -2,20 +2,21 @@
 //!
 //! There may be hundreds of thousands of lines, so the piece up to the row is put together once a row, and the piece
 //! behind it once a column.
-ghost use Rattle.std.specs.Prelude.{◌≡◌, ◌+◌, ◌≤◌, [], ◌++◌, All, codes, decimal, flat_map, length, IfOk, OnOk};
+ghost use Rattle.std.specs.Prelude.{◌≡◌, ◌+◌, ◌<◌, ◌≤◌, [], ◌++◌, All, codes, decimal, flat_map, length, IfOk, OnOk};
 ghost use Rattle.gj_lines.specs.FunctionLines.{line};
 ghost use Rattle.gj_lines.specs.FaceLines.{face_text, face_word};
-ghost use Rattle.gj_facetext.specs.FacePieces.{text_of, start_of, AreStarts, AreEnds, HasPieces};
+ghost use Rattle.gj_facetext.specs.FacePieces.{text_of, place_of, AreStarts, AreEnds, HasPieces};
 
 use gj_lines::face_word;
 use gj_shape::{Face, FaceKind};
 use itoa::Buffer;
 use std::alloc::{AllocError, Global};
 
-/// The room of a piece: a word of at most 10 bytes, a space, and a number of at most 10 digits.
-const ROOM: usize = 24;
+/// The room of a piece, in which a word of at most 10 bytes, a space, and a number of at most 10 digits fit. With its length a piece
+/// then has 32 bytes, so that it is found in a list by a shift.
+const ROOM: usize = 28;
 
-/// A text of at most 24 bytes.
+/// A text of at most 28 bytes.
 ///
 /// All of its room is copied and what is behind the text cut off again, since a copy of so many bytes that are known
 /// beforehand is fast.
@@ -29,12 +30,8 @@ pub(crate) struct Piece {
 #[derive(Clone, Copy)]
 pub(crate) struct Starts {
     row: u32,
-    vertex: Piece,
-    horizontal: Piece,
-    vertical: Piece,
-    diagonal: Piece,
-    lower: Piece,
-    upper: Piece,
+    /// That of each kind, at its place.
+    pieces: [Piece; 6],
 }
 
 /// The beginnings for a row.
@@ -44,15 +41,15 @@ pub(crate) fn starts_of(row: u32) -> Starts
 {
     let mut buffer = Buffer::new();
     let digits = buffer.format(row).as_bytes();
-    Starts {
-        row,
-        vertex: start(FaceKind::Vertex, digits),
-        horizontal: start(FaceKind::Horizontal, digits),
-        vertical: start(FaceKind::Vertical, digits),
-        diagonal: start(FaceKind::Diagonal, digits),
-        lower: start(FaceKind::Lower, digits),
-        upper: start(FaceKind::Upper, digits),
-    }
+    let pieces = [
+        start(FaceKind::Vertex, digits),
+        start(FaceKind::Horizontal, digits),
+        start(FaceKind::Vertical, digits),
+        start(FaceKind::Diagonal, digits),
+        start(FaceKind::Lower, digits),
+        start(FaceKind::Upper, digits),
+    ];
+    Starts { row, pieces }
 }
 
 /// The ends of the lines for the columns below n: a space, the column and a line feed.
@@ -97,21 +94,22 @@ fn push_face_line(
     requires face { HasPieces starts.now ends.now face }
     ensures { OnOk result (out.new.items ≡ out.old.items ++ line (face_text face)) }
 {
-    push_piece(out, start_for(starts, face.kind))?;
+    push_piece(out, &starts.pieces[place_of(face.kind)])?;
     push_piece(out, &ends[face.b as usize])
 }
 
-/// The beginning of the lines of the faces of a kind.
-fn start_for(starts: &Starts, kind: FaceKind) -> &Piece
-    ensures { result.now ≡ start_of starts.now kind }
+/// The place of the beginning for a kind.
+fn place_of(kind: FaceKind) -> usize
+    ensures value { result ≡ place_of kind }
+    ensures below { result < 6 }
 {
     match kind {
-        FaceKind::Vertex => &starts.vertex,
-        FaceKind::Horizontal => &starts.horizontal,
-        FaceKind::Vertical => &starts.vertical,
-        FaceKind::Diagonal => &starts.diagonal,
-        FaceKind::Lower => &starts.lower,
-        FaceKind::Upper => &starts.upper,
+        FaceKind::Vertex => 0,
+        FaceKind::Horizontal => 1,
+        FaceKind::Vertical => 2,
+        FaceKind::Diagonal => 3,
+        FaceKind::Lower => 4,
+        FaceKind::Upper => 5,
     }
 }
 
