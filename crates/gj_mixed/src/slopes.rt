@@ -1,6 +1,6 @@
 //! The slopes of functions at 0.
-ghost use Rattle.std.specs.Prelude.{pos, ◌≡◌, ◌≢◌, ◌<◌, ◌≤◌, ◌^◌, ◌-ℤ◌, ◌*ℤ◌, ◌≤ℤ◌, unsigned_abs};
-ghost use Rattle.gj_frac.specs.Fraction.{IsRatio, numerator, denominator};
+ghost use Rattle.std.specs.Prelude.{pos, ◌≡◌, ◌<◌, ◌-ℤ◌, ◌*ℤ◌, ◌≤ℤ◌};
+ghost use Rattle.gj_frac.specs.Fraction.{IsRatio};
 ghost use Rattle.gj_shape.specs.FunctionData.{IsWithinBounds, at};
 ghost use Rattle.gj_shape.specs.Table.{IsMinimal};
 ghost use Rattle.gj_rule.specs.Kind.{IsKind};
@@ -65,9 +65,9 @@ impl SlopesAtZero {
         ensures { IsWeight self.up self.down c result }
     {
         if c.num() < 0 {
-            product(self.down, -c.num(), c.den())
+            self.down * -c
         } else {
-            product(self.up, c.num(), c.den())
+            self.up * c
         }
     }
 }
@@ -93,15 +93,4 @@ fn rise_to(shape: &Shape, i: u32) -> i128
     ensures high { result ≤ℤ pos shape.now.scale }
 {
     shape.value_num(i) - shape.value_num(0)
-}
-
-/// The product of a slope and n/d, whose parts are at most 2^62 in absolute value.
-fn product(slope: Frac, n: i128, d: i128) -> Frac
-    requires slope { IsSlope slope }
-    requires some { unsigned_abs d ≢ 0 }
-    requires n_small { unsigned_abs n ≤ 2 ^ 62 }
-    requires d_small { unsigned_abs d ≤ 2 ^ 62 }
-    ensures { IsRatio result (numerator slope *ℤ n) (denominator slope *ℤ d) }
-{
-    quotient(slope.num(), slope.den(), d, n)
 }

@@ -1,5 +1,5 @@
 -- The names so far, as the keys of a set.
-use Rattle.std.proofs.Common.{◌≡◌, ℕ, Bool, true, false, not, ◌||◌, List, [], ◌∷◌, ◌++◌, Vec, nat_eq, Contains, refl, sym, ap, ◌∙◌}
+use Rattle.std.proofs.Common.{◌≡◌, ℕ, Bool, true, false, ◌||◌, List, [], ◌∷◌, ◌++◌, Vec, nat_eq, Contains, refl, sym, ap, ◌∙◌}
 use Rattle.std.specs.List.{list_any}
 use Rattle.std.specs.Cmp.Lexicographic.{pointwise, bytes_decides, nat_list_eq_equiv}
 use Rattle.std.proofs.lemmas.Bool.{true≢false}
@@ -29,12 +29,3 @@ stands_not keys k h at =
 pub name_kept : {A : Type 0} (keys : List (Vec ℕ A)) (k : Vec ℕ A) → list_any (same_bytes k) keys ≡ false →
     bytes_of (insert_key same_bytes keys k) ≡ bytes_of keys ++ k.items ∷ []
 name_kept keys k h = rw h (map-append (λ x. x.items) keys (k ∷ []))
-
--- whether it was new
-pub told_old : (r b : Bool) → r ≡ not b → r ≡ false → b ≡ true
-told_old r true e f = refl
-told_old r false e f = cc
-
-pub told_new : (r b : Bool) → r ≡ not b → r ≡ true → b ≡ false
-told_new r true e f = cc
-told_new r false e f = refl

@@ -57,12 +57,6 @@ read_quotient x d fits some small =
     ap (λ z. to_z w128 (of_z w128 z)) inner
     ∙ to_z-of_z w128 (int_div x (pos d)) (quot_fits w128 x (pos d) fits (omega (arith, ints)))
 
-pub quotient_fits : (x : ℤ) (d : ℕ) → FitsSigned w128 x → 0 < d → d < 2 ^ 127 →
-    FitsSigned w128 (int_div (to_z w128 (of_z w128 x)) (to_z w128 d))
-quotient_fits x d fits some small =
-    subst (FitsSigned w128) (sym (ap₂ int_div (to_z-of_z w128 x fits) (read_natural d small)))
-    (quot_fits w128 x (pos d) fits (omega (arith, ints)))
-
 pub read_signed_quotient : (x d : ℤ) → FitsSigned w128 x → FitsSigned w128 d → pos 0 <ℤ d →
     to_z w128 (of_z w128 (int_div (to_z w128 (of_z w128 x)) (to_z w128 (of_z w128 d)))) ≡ int_div x d
 read_signed_quotient x d fits d_fits some =

@@ -1,6 +1,6 @@
 -- Values and limits as lanes: once the tests of signs and of symmetry pass they are naturals up to the scale, and the
 -- limits of the slack in a square are sums of such naturals.
-use Rattle.std.proofs.Common.{◌≡◌, ◌≢◌, ◌↔◌, ℕ, zero, suc, ◌+◌, ◌-◌, ◌%◌, ◌^◌, ◌<◌, ◌≤◌, min, max, ℤ, pos, ◌+ℤ◌, ◌≤ℤ◌, ◌<ℤ◌, unsigned_abs, List, length, get_or, set, map, lit<, refl, sym, ap, subst, ◌∙◌, below_none, below_more, Fits, w32, w64, to_z, of_z, get_or-set_other, get_or-set_same, arith}
+use Rattle.std.proofs.Common.{◌≡◌, ◌↔◌, ℕ, zero, suc, ◌+◌, ◌-◌, ◌%◌, ◌^◌, ◌<◌, ◌≤◌, min, max, ℤ, pos, ◌+ℤ◌, ◌≤ℤ◌, ◌<ℤ◌, unsigned_abs, List, length, get_or, map, lit<, refl, sym, ap, subst, ◌∙◌, below_none, below_more, Fits, w32, w64, to_z, of_z, arith}
 use Rattle.std.proofs.Math.Nat.{add_comm, add-mod, mod-lt}
 use Rattle.std.proofs.lemmas.Int.{ints, to_z-of_z}
 use Rattle.std.proofs.lemmas.List.{get_or-map}
@@ -12,7 +12,6 @@ use Rattle.gj_shape.specs.declared.faces.FaceKind.{FaceKind}
 use Rattle.gj_shape.specs.declared.faces.FaceKind.TheVariants.{Vertex, Horizontal, Vertical, Diagonal, Lower, Upper}
 use Rattle.gj_shape.proofs.AtLemmas.{at_plus_length, at_wrapped}
 use Rattle.gj_shape.proofs.TableLemmas.{slack_at, limits_are_slacks}
-use Rattle.gj_theory.specs.Lanes.{AreNumbers}
 use Rattle.gj_theory.specs.EarlierTests.{PassesSymmetry}
 use Rattle.gj_theory.proofs.Everywhere.{everywhere}
 use lib.Dec.{T}
@@ -71,24 +70,6 @@ are_bounded f l h =
 abbrev pub IsLane : ℤ → Type 0
 IsLane n = (pos 0 ≤ℤ n) × (n <ℤ pos (2 ^ 31))
 
-up_to_scale : (n : ℤ) (s : ℕ) → s < 2 ^ 31 → pos 0 ≤ℤ n → n ≤ℤ pos s → IsLane n
-up_to_scale n s small low high = (low, omega (arith, ints))
-
--- so are the values and limits
-pub record HaveLanes (f : FunctionData) : Type 0 where
-  pub left : (i : ℕ) → IsLane (at f.left i)
-  pub value : (i : ℕ) → IsLane (at f.value i)
-  pub right : (i : ℕ) → IsLane (at f.right i)
-
-pub have_lanes : (f : FunctionData) → IsWithinBounds f → PassesSymmetry f → HaveLanes f
-have_lanes f l h =
-    let b = are_bounded f l h in
-    record {
-      left = λ i. up_to_scale _ f.scale l.scale_high (b.left_low i) (b.left_high i);
-      value = λ i. up_to_scale _ f.scale l.scale_high (b.value_low i) (b.value_high i);
-      right = λ i. up_to_scale _ f.scale l.scale_high (b.right_low i) (b.right_high i);
-    }
-
 -- such a number, as the code has it and puts it into a lane
 pub lane_cast : (n m : ℤ) → n ≡ m → IsLane m →
     T (non_neg (to_z w64 (of_z w64 n))) × Fits w32 (unsigned_abs (to_z w64 (of_z w64 n)))
@@ -106,28 +87,9 @@ lane_read n m e h =
     let read = to_z-of_z w64 n (omega (arith, ints)) in
     rw read (omega (arith, ints), omega (arith, ints))
 
--- one lane more
-pub one_more_lane : (P : ℕ → ℕ → Type 0) (lanes : List ℕ) (i x : ℕ) → i < length lanes →
-    ((k : ℕ) → k < i → P k (get_or lanes k 0)) → P i x → (k : ℕ) → k < i + 1 → P k (get_or (set lanes i x) k 0)
-one_more_lane P lanes i x within h p =
-    below_more (λ k. P k (get_or (set lanes i x) k 0)) i
-    (λ k below. let other : k ≢ i = omega arith in rw get_or-set_other (h k below)) (rw get_or-set_same p)
-
 -- the sum of two fits 32 bits
 pub lane_sum : (x y : ℕ) → x < 2 ^ 31 → y < 2 ^ 31 → Fits w32 (x + y)
 lane_sum x y h k = omega arith
-
--- one number more
-pub one_more_number : (lanes : List ℕ) (number : ℕ → ℤ) (i : ℕ) (n : ℤ) → i < length lanes →
-    AreNumbers lanes number i → n ≡ number i → IsLane (number i) →
-    AreNumbers (set lanes i (unsigned_abs (to_z w64 (of_z w64 n)))) number (i + 1)
-one_more_number lanes number i n within h n_is is_lane =
-    let x = unsigned_abs (to_z w64 (of_z w64 n)) in
-    let lane = lane_read n (number i) n_is is_lane in
-    record {
-      same = one_more_lane (λ k y. pos y ≡ number k) lanes i x within h.same lane.0;
-      small = one_more_lane (λ k y. y < 2 ^ 31) lanes i x within h.small lane.1;
-    }
 
 -- a maximum and a difference that are 0
 pub max_zero : (x y m : ℕ) → m ≡ max x y → (m ≡ 0) ↔ ((x ≡ 0) × (y ≡ 0))

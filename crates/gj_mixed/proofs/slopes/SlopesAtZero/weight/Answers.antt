@@ -1,19 +1,23 @@
-use Rattle.std.proofs.Common.{◌≡◌, pos, neg_ℤ, ◌-ℤ◌, ◌*ℤ◌, ap, subst₂, arith}
+use Rattle.std.proofs.Common.{◌≡◌, pos, ◌<ℤ◌, arith}
 use Rattle.std.proofs.lemmas.Int.{ints}
-use Rattle.gj_frac.specs.Fraction.{IsRatio}
-use Rattle.gj_rule.proofs.ClosedForm.{read, reads_as}
+use Rattle.gj_rule.proofs.ClosedForm.{reads_as}
+use Rattle.gj_mixed.proofs.SlopeParts.{turned_parts, slope_product, falling_weight, row_parts}
 use Rattle.gj_mixed.proofs.slopes.SlopesAtZero.weight.Goals as goal
+
+pub mul-requires : goal.mul-requires
+mul-requires c =
+    let (n, d) = turned_parts c.args.c c.neg.result c.neg.ensures in
+    let (n_small, d_small) = row_parts c.args.c c.requires.range in
+    slope_product c.args.self.down c.neg.result c.requires.down (rw n (omega (arith, ints))) (rw d d_small)
+
+pub mul-requires-else-num-lt0 : goal.mul-requires-else-num-lt0
+mul-requires-else-num-lt0 c =
+    let (n_small, d_small) = row_parts c.args.c c.requires.range in
+    slope_product c.args.self.up c.args.c c.requires.up n_small d_small
 
 pub returns-then-num-lt0 : goal.returns-then-num-lt0
 returns-then-num-lt0 c =
     let x = c.args.c in
-    let p = reads_as c.num-then-num-lt0.result x.num c.num-then-num-lt0.ensures x.lowest.num_fits in
-    let d = reads_as c.den.result x.den c.den.ensures x.lowest.den_fits in
-    let turned = pos 0 -ℤ read c.num-then-num-lt0.result in
-    let n : read turned ≡ neg_ℤ x.num = reads_as turned (neg_ℤ x.num) (omega (arith, ints)) (omega (arith, ints, x.lowest.num_fits)) in
-    let here = c.if-num-lt0.true in
     let sign = reads_as c.num.result x.num c.num.ensures x.lowest.num_fits in
-    record {
-      rises = λ low. absurd (omega (arith, ints));
-      falls = λ below. subst₂ (IsRatio c.product.result) (ap (λ z. c.args.self.down.num *ℤ z) n) (ap (λ z. c.args.self.down.den *ℤ z) d) c.product.ensures;
-    }
+    let here = c.if-num-lt0.true in
+    falling_weight c.args.self.up c.args.self.down x c.neg.result c.mul.result (omega (arith, ints)) (turned_parts x c.neg.result c.neg.ensures) c.mul.ensures
