@@ -1,6 +1,7 @@
 -- The columns of terms; the line of a row with a mixed cut: its columns, and that its cut holds.
-use Rattle.std.proofs.Common.{◌≡◌, ℕ, ◌<◌, Bool, not, List, [], ◌∷◌, All, map, filter, refl, sym, ap, ap₂, subst, subst₂, ◌∙◌, ◌++◌}
+use Rattle.std.proofs.Common.{◌≡◌, ℕ, ◌+◌, ◌<◌, Bool, not, List, [], ◌∷◌, All, flat_map, get_or, length, map, filter, take, refl, sym, ap, ap₂, subst, subst₂, ◌∙◌, ◌++◌}
 use Rattle.std.specs.List.{AllZip}
+use Rattle.std.proofs.lemmas.List.{flat_map_more}
 use Rattle.std.proofs.lemmas.List.Elements.{All-nil, All-cons, All-head, All-tail, All-filter}
 use Rattle.gj_frac.specs.declared.Frac.{Frac}
 use Rattle.gj_shape.specs.FunctionData.{FunctionData}
@@ -9,6 +10,7 @@ use Rattle.gj_row.specs.declared.tableau.Entry.{Entry}
 use Rattle.gj_row.specs.declared.tableau.Row.{Row}
 use Rattle.gj_rule.specs.declared.kind.RuleKind.{RuleKind}
 use Rattle.gj_rule.specs.declared.kind.RuleKind.TheVariants as kind
+use Rattle.gj_cut.proofs.RowTerms.{zip_next}
 use Rattle.gj_cut.specs.RowCuts.{IsTermOfKind}
 use Rattle.gj_cut.specs.declared.cut.Term.{Term}
 use Rattle.gj_mixed.specs.MixedCuts.{IsMixedCutOfKind, IsGmicMixedCutOf, IsWeightTerm, MixedHoldsFor, is_continuous}
@@ -19,7 +21,7 @@ use Rattle.gj_proof.specs.declared.cut.CutLine.{CutLine}
 use Rattle.gj_proof.specs.declared.cut.CutLine.TheVariants.{Cut, Skip}
 use Rattle.gj_proof.specs.declared.cut.CutRule.{CutRule}
 use Rattle.gj_proof.specs.declared.cut.CutTerm.{CutTerm}
-use Rattle.gj_mtext.specs.MixedLines.{AreInColumns, AreMadeLines, IsMixedLineFor, IsNamedTerm, LineHolds, MixedLineHolds, NamesMixedCut}
+use Rattle.gj_mtext.specs.MixedLines.{AppendsLines, AreInColumns, AreMadeLines, IsMadeLine, IsMixedLineFor, IsNamedTerm, LineHolds, MixedLineHolds, NamesMixedCut, mixed_row_text}
 use Rattle.gj_mtext.specs.declared.lines.MixedLine.{MixedLine}
 
 -- ---- the columns of terms
@@ -99,6 +101,16 @@ made_hold r columns [] [] h = All-nil MixedLineHolds
 made_hold r columns [] (m ∷ lines) h = absurd h
 made_hold r columns (row ∷ rows) [] h = absurd h
 made_hold r columns (row ∷ rows) (m ∷ lines) h = All-cons MixedLineHolds m lines h.0.holds (made_hold r columns rows lines h.1)
+
+-- the lines of one row more
+pub one_row_more : (r : CutRule) (columns : List (List ℕ)) (rows : List Row) (i : ℕ) (row : Row) (old now new : List ℕ) (m : MixedLine) →
+    i < length rows → row ≡ get_or rows i row → AppendsLines r columns (take i rows) old now → IsMadeLine r columns row m →
+    new ≡ now ++ mixed_row_text m → AppendsLines r columns (take (i + 1) rows) old new
+one_row_more r columns rows i row old now new m below here h made pushed = record {
+  lines = h.lines ++ m ∷ [];
+  are_made = zip_next (IsMadeLine r columns) rows i row h.lines (h.lines ++ m ∷ []) m below here refl h.are_made made;
+  appended = pushed ∙ ap (λ text. text ++ mixed_row_text m) h.appended ∙ flat_map_more mixed_row_text old h.lines m;
+}
 
 -- ---- kinds
 

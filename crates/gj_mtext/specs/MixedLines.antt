@@ -98,6 +98,12 @@ pub record IsMadeLine («rule» : CutRule) (columns : List (List ℕ)) (row : Ro
 abbrev pub AreMadeLines : CutRule → List (List ℕ) → List Row → List MixedLine → Type 0
 AreMadeLines r columns rows lines = AllZip (IsMadeLine r columns) rows lines
 
+-- the new text is the old one, with the lines of the rows behind it
+pub record AppendsLines (r : CutRule) (columns : List (List ℕ)) (rows : List Row) (old new : List ℕ) : Type 0 where
+  pub lines : List MixedLine
+  pub are_made : AreMadeLines r columns rows lines
+  pub appended : new ≡ old ++ flat_map mixed_row_text lines
+
 -- the columns of the terms of a cut are among so many
 abbrev pub AreInColumns : ℕ → MixedCut → Type 0
 AreInColumns n (mixed_cut.Cut terms weights) = All (λ t. t.column < n) terms × All (λ t. t.column < n) weights

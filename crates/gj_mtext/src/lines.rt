@@ -1,6 +1,5 @@
-//! The cuts of the rows of a tableau, with the names of their columns.
-ghost use Rattle.std.specs.Prelude.{◌≡◌, All, IfOk, length};
-ghost use Rattle.std.specs.List.{AllZip};
+//! The cuts of the rows of a tableau, with the names of their columns, and their lines.
+ghost use Rattle.std.specs.Prelude.{◌≡◌, All, IfOk, OnOk, length};
 ghost use Rattle.gj_shape.specs.FunctionData.{FunctionData, IsContinuous, IsWithinBounds};
 ghost use Rattle.gj_shape.specs.Limits.{IsRowNumber};
 ghost use Rattle.gj_shape.specs.Table.{IsMinimal};
@@ -12,10 +11,11 @@ ghost use Rattle.gj_mixed.specs.Slopes.{AreSlopesAtZero, IsSlope, IsWeight, Weig
 ghost use Rattle.gj_proof.specs.ProofText.{IsBoundedRule};
 ghost use Rattle.gj_proof.specs.declared.cut.CutRule.TheVariants.{Gmic, Table};
 ghost use Rattle.gj_mtext.specs.Columns.{continuous_columns};
-ghost use Rattle.gj_mtext.specs.MixedLines.{AreMadeLines, IsMadeLine, MakesMixedCuts};
+ghost use Rattle.gj_mtext.specs.MixedLines.{AppendsLines, IsMadeLine, MakesMixedCuts};
 
 use crate::columns::continuous_columns;
 use crate::named::line_of;
+use crate::text::push_mixed_row;
 use gj_frac::Frac;
 use gj_lex::Name;
 use gj_mixed::{Slopes, SlopesAtZero, cut_mixed, gmic_cut_mixed};
@@ -34,38 +34,45 @@ pub struct MixedLine {
     pub weights: List<CutTerm>,
 }
 
-/// The line of each row of the tableau, in their order.
+/// Appends the lines of each row of the tableau, in their order. The cut of a row is made and printed before that of the next, so
+/// that no more than one is kept.
 ///
 /// A function is minimal and continuous. The only error is want of memory.
-pub fn mixed_lines(
+pub fn push_mixed_lines(
     alloc: Global,
+    out: &mut Vec<u8>,
     rule: &CutRule,
     tableau: &Tableau,
-) -> Result<Vec<MixedLine>, AllocError>
+) -> Result<(), AllocError>
     requires bounded { IsBoundedRule rule.now }
     requires makes { MakesMixedCuts rule.now }
     requires tableau { IsTableau tableau.now }
-    ensures { IfOk result (λ lines. AreMadeLines rule.now tableau.now.columns tableau.now.rows lines.items) }
+    ensures { OnOk result (AppendsLines rule.now tableau.now.columns tableau.now.rows out.old.items out.new.items) }
 {
     let columns = tableau.columns.as_slice();
     let rows = tableau.rows.as_slice();
     match rule {
-        CutRule::Gmic => gmic_lines(alloc, columns, rows),
-        CutRule::Table(shape) => function_lines(alloc, shape, columns, rows),
+        CutRule::Gmic => push_gmic_lines(alloc, out, columns, rows),
+        CutRule::Table(shape) => push_function_lines(alloc, out, shape, columns, rows),
     }
 }
 
-/// The line of each row by the mixed-integer cut.
-fn gmic_lines(alloc: Global, columns: &[Name], rows: &[Row]) -> Result<Vec<MixedLine>, AllocError>
+/// Appends the lines of each row by the mixed-integer cut.
+fn push_gmic_lines(
+    alloc: Global,
+    out: &mut Vec<u8>,
+    columns: &[Name],
+    rows: &[Row],
+) -> Result<(), AllocError>
     requires { All (IsRowWithinLimits (length columns.now)) rows.now }
-    ensures { IfOk result (λ lines. AreMadeLines Gmic columns.now rows.now lines.items) }
+    ensures { OnOk result (AppendsLines Gmic columns.now rows.now out.old.items out.new.items) }
 {
     let continuous = continuous_columns(alloc, columns)?;
-    let mut lines = Vec::with_capacity(alloc, rows.len())?;
     for row in rows {
-        lines.push(gmic_line(alloc, columns, row, continuous.as_slice())?)?;
+        let line = gmic_line(alloc, columns, row, continuous.as_slice())?;
+        push_mixed_row(alloc, out, &line)?;
     }
-    Ok(lines)
+    Ok(())
 }
 
 /// The line of a row by the mixed-integer cut.
@@ -84,18 +91,19 @@ fn gmic_line(
     Ok(line)
 }
 
-/// The line of each row by a minimal continuous function.
-fn function_lines(
+/// Appends the lines of each row by a minimal continuous function.
+fn push_function_lines(
     alloc: Global,
+    out: &mut Vec<u8>,
     shape: &Shape,
     columns: &[Name],
     rows: &[Row],
-) -> Result<Vec<MixedLine>, AllocError>
+) -> Result<(), AllocError>
     requires minimal { IsMinimal shape.now }
     requires jumps_not { IsContinuous shape.now }
     requires bounds { IsWithinBounds shape.now }
     requires rows { All (IsRowWithinLimits (length columns.now)) rows.now }
-    ensures { IfOk result (λ lines. AreMadeLines (Table shape.now) columns.now rows.now lines.items) }
+    ensures { OnOk result (AppendsLines (Table shape.now) columns.now rows.now out.old.items out.new.items) }
 {
     let kept = shape.copy(alloc)?;
     let at_zero = SlopesAtZero::of_function(shape);
@@ -103,8 +111,9 @@ fn function_lines(
         requires { IsRowNumber x }
         ensures { IsValueOf shape.entry.now x result }
     { table_value(shape, x) };
-    let lines = lines_by(
+    push_lines_by(
         alloc,
+        out,
         kept,
         eval,
         at_zero,
@@ -112,19 +121,20 @@ fn function_lines(
         columns,
         rows,
     )?;
-    Ok(lines)
+    Ok(())
 }
 
-/// The line of each row by the function with this evaluator, and the slopes with this one.
-fn lines_by<E: Evaluator, G: Evaluator>(
+/// Appends the lines of each row by the function with this evaluator, and the slopes with this one.
+fn push_lines_by<E: Evaluator, G: Evaluator>(
     alloc: Global,
+    out: &mut Vec<u8>,
     shape: Shape,
     eval: E,
     at_zero: SlopesAtZero,
     weigh: G,
     columns: &[Name],
     rows: &[Row],
-) -> Result<Vec<MixedLine>, AllocError>
+) -> Result<(), AllocError>
     requires bounds { IsWithinBounds shape }
     requires minimal { IsMinimal shape }
     requires jumps_not { IsContinuous shape }
@@ -134,16 +144,16 @@ fn lines_by<E: Evaluator, G: Evaluator>(
     requires weighs { Weighs G.can_answer G.answers at_zero.up at_zero.down weigh }
     requires slopes { AreSlopesAtZero shape at_zero.up at_zero.down }
     requires rows { All (IsRowWithinLimits (length columns.now)) rows.now }
-    ensures { IfOk result (λ lines. AreMadeLines (Table shape) columns.now rows.now lines.items) }
+    ensures { OnOk result (AppendsLines (Table shape) columns.now rows.now out.old.items out.new.items) }
 {
     let continuous = continuous_columns(alloc, columns)?;
     let rule = Rule::new(RuleKind::Table(shape), eval);
     let slopes = Slopes::new(at_zero.up, at_zero.down, weigh);
-    let mut lines = Vec::with_capacity(alloc, rows.len())?;
     for row in rows {
-        lines.push(line_by(alloc, &rule, &slopes, columns, row, continuous.as_slice())?)?;
+        let line = line_by(alloc, &rule, &slopes, columns, row, continuous.as_slice())?;
+        push_mixed_row(alloc, out, &line)?;
     }
-    Ok(lines)
+    Ok(())
 }
 
 /// The line of a row by a rule that keeps a function, and its slopes at 0.

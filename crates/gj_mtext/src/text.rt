@@ -4,7 +4,7 @@ ghost use Rattle.gj_row.specs.TableauLimits.{IsTableau};
 ghost use Rattle.gj_proof.specs.ProofText.{IsBoundedRule};
 ghost use Rattle.gj_mtext.specs.MixedLines.{AreMixedCutsOf, MakesMixedCuts, mixed_row_text, weight_line};
 
-use crate::lines::{MixedLine, mixed_lines};
+use crate::lines::{MixedLine, push_mixed_lines};
 use gj_lines::push_fraction_line;
 use gj_proof::{CutRule, CutTerm, push_named, push_row, push_rule_lines};
 use gj_row::Tableau;
@@ -20,22 +20,11 @@ pub fn mixed_text(alloc: Global, rule: &CutRule, tableau: &Tableau) -> Result<Ve
     requires tableau { IsTableau tableau.now }
     ensures { IfOk result (λ text. AreMixedCutsOf rule.now tableau.now text.items) }
 {
-    let lines = mixed_lines(alloc, rule, tableau)?;
     let mut text = Vec::from_slice(alloc, b"gj-mixed 1\n")?;
     push_rule_lines(alloc, &mut text, rule)?;
-    push_lines(alloc, &mut text, lines.as_slice())?;
+    push_mixed_lines(alloc, &mut text, rule, tableau)?;
     text.extend_from_slice(b"end\n")?;
     Ok(text)
-}
-
-/// Appends the lines of all rows.
-fn push_lines(alloc: Global, out: &mut Vec<u8>, lines: &[MixedLine]) -> Result<(), AllocError>
-    ensures { OnOk result (out.new.items ≡ out.old.items ++ flat_map mixed_row_text lines.now) }
-{
-    for line in lines {
-        push_mixed_row(alloc, out, line)?;
-    }
-    Ok(())
 }
 
 /// Appends the lines of a row: those of its cut with the whole columns, or that it is passed over, and behind them a line for each

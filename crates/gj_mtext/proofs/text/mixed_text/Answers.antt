@@ -1,4 +1,4 @@
-use Rattle.std.proofs.Common.{◌∙◌, ◌++◌, ap, codes, flat_map}
+use Rattle.std.proofs.Common.{codes, flat_map}
 use Rattle.gj_lines.specs.FunctionLines.{line}
 use Rattle.gj_mtext.specs.MixedLines.{mixed_row_text}
 use Rattle.gj_mtext.proofs.RowLines.{lines_of_made, made_hold, text_written}
@@ -8,17 +8,14 @@ pub returns : goal.returns
 returns c =
     let columns = c.args.tableau.now.columns in
     let rows = c.args.tableau.now.rows in
-    let lines = c.in_ok-lines.lines.items in
-    let made = c.in_ok-lines.ensures in
+    let made = c.in_ok-push_mixed_lines.ensures in
     let pushed = c.in_ok-push_rule_lines.ensures in
     record {
-      lines = lines;
-      lines_are = lines_of_made c.args.rule.now columns rows lines made;
-      hold = made_hold c.args.rule.now columns rows lines made;
+      lines = made.lines;
+      lines_are = lines_of_made c.args.rule.now columns rows made.lines made.are_made;
+      hold = made_hold c.args.rule.now columns rows made.lines made.are_made;
       subject = pushed.0;
       subject_is = pushed.1;
-      spelled = text_written (line (codes "gj-mixed 1")) pushed.0 (flat_map mixed_row_text lines) (line (codes "end")) _ _ _ _
-          c.in_ok-text.ensures.items pushed.2
-          (c.in_ok-push_lines.ensures ∙ ap (λ ls. c.push_rule_lines.new.out.items ++ flat_map mixed_row_text ls) c.as_slice.ensures.value)
-          c.in_ok-extend_from_slice.ensures.items;
+      spelled = text_written (line (codes "gj-mixed 1")) pushed.0 (flat_map mixed_row_text made.lines) (line (codes "end")) _ _ _ _
+          c.in_ok-text.ensures.items pushed.2 made.appended c.in_ok-extend_from_slice.ensures.items;
     }

@@ -1,15 +1,13 @@
 use Rattle.std.proofs.Common.{length, sym, subst}
 use Rattle.gj_row.specs.TableauLimits.{IsRowWithinLimits}
-use Rattle.gj_cut.proofs.RowTerms.{zip_next}
 use Rattle.gj_proof.specs.declared.cut.CutRule.TheVariants.{Table}
-use Rattle.gj_mtext.specs.MixedLines.{IsMadeLine}
-use Rattle.gj_mtext.proofs.lines.lines_by.Goals as goal
+use Rattle.gj_mtext.proofs.RowLines.{one_row_more}
+use Rattle.gj_mtext.proofs.lines.push_lines_by.Goals as goal
 
 pub loop-row-preserved : goal.loop-row-preserved
 loop-row-preserved g c =
-    zip_next (IsMadeLine (Table c.args.shape) c.args.columns.now) c.args.rows.now c.loop-row.row-index c.row-item.result
-    c.loop-row.lines.items c.push.new.self.items c.in_ok-line_by.field-0 c.loop-row-test.true c.row-item.is c.in_ok-push.ensures.items
-    c.loop-row.invariant (c.in_ok-line_by.ensures c.args.shape c.new-rule.ensures.kind)
+    one_row_more (Table c.args.shape) c.args.columns.now c.args.rows.now c.loop-row.row-index c.row-item.result _ _ _ c.in_ok-line.line
+    c.loop-row-test.true c.row-item.is c.loop-row.invariant (c.in_ok-line.ensures c.args.shape c.new-rule.ensures.kind) c.in_ok-push_mixed_row.ensures
 
 pub line_by-requires-clause-row : goal.line_by-requires-clause-row
 line_by-requires-clause-row g c =

@@ -1,15 +1,13 @@
 use Rattle.std.proofs.Common.{length, sym, subst}
 use Rattle.gj_row.specs.TableauLimits.{IsRowWithinLimits}
-use Rattle.gj_cut.proofs.RowTerms.{zip_next}
 use Rattle.gj_proof.specs.declared.cut.CutRule.TheVariants.{Gmic}
-use Rattle.gj_mtext.specs.MixedLines.{IsMadeLine}
-use Rattle.gj_mtext.proofs.lines.gmic_lines.Goals as goal
+use Rattle.gj_mtext.proofs.RowLines.{one_row_more}
+use Rattle.gj_mtext.proofs.lines.push_gmic_lines.Goals as goal
 
 pub loop-row-preserved : goal.loop-row-preserved
 loop-row-preserved c =
-    zip_next (IsMadeLine Gmic c.args.columns.now) c.args.rows.now c.loop-row.row-index c.row-item.result
-    c.loop-row.lines.items c.push.new.self.items c.in_ok-gmic_line.field-0 c.loop-row-test.true c.row-item.is c.in_ok-push.ensures.items
-    c.loop-row.invariant c.in_ok-gmic_line.ensures
+    one_row_more Gmic c.args.columns.now c.args.rows.now c.loop-row.row-index c.row-item.result _ _ _ c.in_ok-line.line c.loop-row-test.true c.row-item.is
+    c.loop-row.invariant c.in_ok-line.ensures c.in_ok-push_mixed_row.ensures
 
 pub gmic_line-requires-clause-row : goal.gmic_line-requires-clause-row
 gmic_line-requires-clause-row c =
