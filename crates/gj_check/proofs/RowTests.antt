@@ -28,23 +28,6 @@ has_lanes number bound f l e h = record {
   rights = λ i. h.rights.same i e;
 }
 
--- five numbers that are 0
-pub five_zero : (v s t n w x1 x2 x3 x : ℕ) → x1 ≡ max v s → x2 ≡ max x1 t → x3 ≡ max x2 n → x ≡ max x3 w →
-    (x ≡ 0) ↔ ((v ≡ 0) × (s ≡ 0) × (t ≡ 0) × (n ≡ 0) × (w ≡ 0))
-five_zero v s t n w x1 x2 x3 x e1 e2 e3 e =
-    let one = max_zero v s x1 e1 in
-    let two = max_zero x1 t x2 e2 in
-    let three = max_zero x2 n x3 e3 in
-    let four = max_zero x3 w x e in (
-      λ h.
-          let k4 = four.0 h in
-          let k3 = three.0 k4.0 in
-          let k2 = two.0 k3.0 in
-          let k1 = one.0 k2.0 in
-          (k1.0, k1.1, k2.1, k3.1, k4.1),
-      λ h. four.1 (three.1 (two.1 (one.1 (h.0, h.1), h.2), h.3), h.4),
-    )
-
 -- the limits in a square, by four pieces
 pub square_read : {L : Type 0} (number : L → ℕ) (bound : ℕ) (f : FunctionData) (l : Lanes L) (a b : ℕ) (e : L) →
     AreLanesOf number bound f l → a < f.order → b < f.order →

@@ -1,5 +1,5 @@
 -- The names that were seen in a row.
-use Rattle.std.proofs.Common.{◌≡◌, ◌≢◌, ℕ, List, [], ◌∷◌, ◌++◌, All, Bool, true, false, not, ◌||◌, nat_eq, refl, sym, ap, ◌∙◌}
+use Rattle.std.proofs.Common.{◌≡◌, ◌≢◌, ℕ, List, [], ◌∷◌, ◌++◌, All, Bool, true, false, ◌||◌, nat_eq, refl, sym, ap, ◌∙◌}
 use Rattle.std.specs.List.{list_any}
 use Rattle.std.specs.Cmp.Lexicographic.{pointwise, bytes_decides}
 use Rattle.indexmap.specs.IndexSet.{insert_key}
@@ -42,15 +42,6 @@ name_seen keys k basic terms t h is new q =
     ∙ ap (λ b. pointwise nat_eq q basic || b) (sym (list_any-append (λ v. pointwise nat_eq q v.name) terms (t ∷ []))))
 
 -- ---- a new name
-
--- whether it was new
-pub told_old : (r b : Bool) → r ≡ not b → r ≡ false → b ≡ true
-told_old r true e f = refl
-told_old r false e f = cc
-
-pub told_new : (r b : Bool) → r ≡ not b → r ≡ true → b ≡ false
-told_new r true e f = cc
-told_new r false e f = refl
 
 or_first : (x y : Bool) → (x || y) ≡ false → (x ≡ false) × (y ≡ false)
 or_first true y e = absurd (cc)

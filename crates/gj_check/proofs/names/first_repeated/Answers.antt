@@ -1,7 +1,8 @@
 use Rattle.std.proofs.Common.{◌<◌, length, take, [], ◌∷◌, ◌++◌, below_more, sym, ap, subst, ◌∙◌, arith}
+use Rattle.gj_tools.proofs.Choices.{not_true, not_false}
 use Rattle.gj_proof.specs.Rules.{AtIndex, MeetsName}
 use Rattle.gj_proof.proofs.AtPlaces.{at_place, with_place}
-use Rattle.gj_check.proofs.SeenNames.{HasNames, same_bytes, basic_seen, name_seen, told_old, told_new, is_among, is_new, is_repeated}
+use Rattle.gj_check.proofs.SeenNames.{HasNames, same_bytes, basic_seen, name_seen, is_among, is_new, is_repeated}
 use Rattle.indexmap.specs.IndexSet.{insert_key}
 use Rattle.gj_check.proofs.names.first_repeated.Goals as goal
 
@@ -23,7 +24,7 @@ returns-then-not-branch-clause-repeated c below =
     at_place terms (λ before u. MeetsName basic before u → ⊥) n t below c.index-terms-index.is
     (is_repeated basic (take n terms) t
     (sym (ap (λ q. is_among q basic (take n terms)) c.bytes-in-loop-index.ensures.value) ∙ sym among
-    ∙ told_old _ _ c.in_ok-insert-2.ensures.added c.if-not-branch.true))
+    ∙ not_false _ (sym c.in_ok-insert-2.ensures.added ∙ c.if-not-branch.true)))
 
 pub loop-index-preserved : goal.loop-index-preserved
 loop-index-preserved c =
@@ -33,7 +34,7 @@ loop-index-preserved c =
     let t = c.index-terms-index.result in
     let below : n < length terms = c.loop-index-test.true in
     let among = c.loop-index.invariant.0 c.bytes-in-loop-index.result.now in
-    let new = told_new _ _ c.in_ok-insert-2.ensures.added c.if-not-branch.false in (
+    let new = not_true _ (sym c.in_ok-insert-2.ensures.added ∙ c.if-not-branch.false) in (
       subst (HasNames c.insert-in-loop-index.new.self.keys basic) (sym (with_place terms n t below c.index-terms-index.is))
           (subst (λ ks. HasNames ks basic (take n terms ++ t ∷ [])) (sym c.in_ok-insert-2.ensures.keys)
           (name_seen c.loop-index.seen.keys c.bytes-in-loop-index.result basic (take n terms) t
