@@ -14,12 +14,12 @@ use Rattle.gj_top.specs.declared.status.Status.{Status}
 use Rattle.gj_top.specs.declared.status.Status.TheVariants.{Words, ReadFault, WriteFault, Memory}
 use Rattle.gj_top.specs.Answer.{IsAnswer, IsSourceFault}
 use Rattle.gj_top.specs.Answer.IsAnswer.{no_request, read_fault, of_request}
-use Rattle.gj_top.specs.Causes.{IsTrueRun, IsCause, IsGoodInput, IsStatusOfReply}
+use Rattle.gj_top.specs.Causes.{IsTrueRun, IsDoneRun, IsCause, IsGoodInput, IsStatusOfReply}
 use Rattle.gj_top.specs.Code.{code_of}
 use Rattle.gj_top.specs.Command.{IsNamed, task_for}
 use Rattle.gj_top.specs.Outcome.{IsOutcome, IsTold}
 use Rattle.gj_top.specs.Outcome.IsOutcome.{silent, told, cut_off}
-use Rattle.gj_top.proofs.Clauses.{no_write_fault, failed_source, headline_clause, cause_clause, complete_clause}
+use Rattle.gj_top.proofs.Clauses.{no_write_fault, failed_source, headline_clause, reply_clause, cause_clause, complete_clause}
 use Rattle.gj_top.proofs.Ends.{not_answered}
 use Rattle.gj_library.specs.Call.{AreWordsOf, OfWords, IsAnswered, IsCall, IsTooSmall}
 use Rattle.gj_library.proofs.Codes.{status_is}
@@ -186,6 +186,14 @@ module _ (bytes input : List ℕ) (room : ℕ) (text : List ℕ) (code : ℕ) (c
     c.words,
     c.are_words,
     headline_clause c.words ⊥ (Some input) c.left (Some []) (Some text) room c.status c.outcome (status_is c.status 0 (sym c.code_is ∙ e)) input
+        (λ r named reads. refl),
+  )
+
+  pub reply_of : code ≡ 0 → OfWords bytes (λ given. IsDoneRun given input [] (Some text))
+  reply_of e = (
+    c.words,
+    c.are_words,
+    reply_clause c.words ⊥ (Some input) c.left (Some []) (Some text) room c.status c.outcome (status_is c.status 0 (sym c.code_is ∙ e)) input
         (λ r named reads. refl),
   )
 

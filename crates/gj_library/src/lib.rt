@@ -6,7 +6,7 @@ ghost use Rattle.std.specs.Str.{IsUtf8};
 ghost use Rattle.gj_words.specs.declared.requests.Request.{Request};
 ghost use Rattle.gj_top.specs.Command.{IsNamed, task_for};
 ghost use Rattle.gj_top.specs.Code.{code_of};
-ghost use Rattle.gj_top.specs.Causes.{IsTrueRun, IsCause, IsGoodInput, IsStatusOfReply};
+ghost use Rattle.gj_top.specs.Causes.{IsTrueRun, IsDoneRun, IsCause, IsGoodInput, IsStatusOfReply};
 ghost use Rattle.gj_library.specs.Call.{OfWords, IsCall, IsTooSmall};
 
 use gj_top::Status;
@@ -35,6 +35,9 @@ pub extern "C" fn gjcut_answer(
 ) -> u8
     // The headline.
     ensures headline { result ≡ 0 → OfWords words.now (λ given. IsTrueRun given input.now [] (Some (take written.new output.new))) }
+
+    // And what was written then is the reply of the request to what the input spells.
+    ensures reply { result ≡ 0 → OfWords words.now (λ given. IsDoneRun given input.now [] (Some (take written.new output.new))) }
 
     // What stands at the front of the output is the answer, all of it or as much as there is room for; or nothing for want of memory.
     ensures outcome { result ≢ 6 → IsCall words.now input.now (length output.old) (take written.new output.new) result }

@@ -18,7 +18,7 @@ use Rattle.gj_top.specs.Answer.IsUnanswered.{unread, so_far}
 use Rattle.gj_top.specs.Answer.IsAnswer.{no_request, read_fault, of_request}
 use Rattle.gj_top.specs.Outcome.{IsOutcome}
 use Rattle.gj_top.specs.Outcome.IsOutcome.{silent, told, cut_off}
-use Rattle.gj_top.specs.Causes.{IsTrueRun, IsInput, IsGoodInput, ReadNothing, IsStatusOf, IsCause, IsStatusOfReply}
+use Rattle.gj_top.specs.Causes.{IsTrueRun, IsDoneRun, IsInput, IsGoodInput, ReadNothing, IsStatusOf, IsCause, IsStatusOfReply}
 use Rattle.gj_top.proofs.Commands.{one_named}
 use Rattle.gj_top.proofs.Ends.{done_end, not_answered}
 use Rattle.gj_top.proofs.Sound.{sound}
@@ -151,28 +151,44 @@ module _ (words : List (String Global)) (Fault : Type 0) (left left' written wri
     | of_request a ↦ inr (inr (inr (inr (a.request, a.named, o.text, answer_to_input words left left' r o.text input t a))))
   ]
 
-  pub headline_clause : IsOutcome words Fault left left' written written' sure r → r ≡ Done → (input : List ℕ) → IsInput words left input →
-      IfSome written (λ before. IsTrueRun words input before written')
-  headline_clause (silent o) e input t = absurd (let is = o.status_is in cc)
-  headline_clause (cut_off o) e input t = absurd (let is = o.status_is in cc)
-  headline_clause (told o) e input t = elim o.answer [
+  pub reply_clause : IsOutcome words Fault left left' written written' sure r → r ≡ Done → (input : List ℕ) → IsInput words left input →
+      IfSome written (λ before. IsDoneRun words input before written')
+  reply_clause (silent o) e input t = absurd (let is = o.status_is in cc)
+  reply_clause (cut_off o) e input t = absurd (let is = o.status_is in cc)
+  reply_clause (told o) e input t = elim o.answer [
     | no_request a ↦ absurd (let is = a.status_is in cc)
     | read_fault a ↦ absurd (let is = a.status_is in cc)
     | of_request a ↦
         let answer = answer_to_input words left left' r o.text input t a in
         let reply = done_reply (task_for a.request) input o.text (subst (λ (s : Status). IsAnswerTo (task_for a.request) input s o.text) e answer) in
-        weaker written (λ before. written' ≡ Some (before ++ o.text)) (λ before. IsTrueRun words input before written') (λ before gain. record {
+        weaker written (λ before. written' ≡ Some (before ++ o.text)) (λ before. IsDoneRun words input before written') (λ before gain. record {
           request = a.request;
           named = a.named;
           text = o.text;
-          true_reply = record {
-            thing = reply.thing;
-            spelled = reply.spelled;
-            holds = (sound a.request).work _ reply.thing o.text reply.spelled reply.replied;
-          };
+          reply = reply;
           gain = gain;
         }) o.gain
   ]
+
+  -- a reply keeps what its request promises
+  true_run : (input before : List ℕ) → IsDoneRun words input before written' → IsTrueRun words input before written'
+  true_run input before done = record {
+    request = done.request;
+    named = done.named;
+    text = done.text;
+    true_reply = record {
+      thing = done.reply.thing;
+      spelled = done.reply.spelled;
+      holds = (sound done.request).work _ done.reply.thing done.text done.reply.spelled done.reply.replied;
+    };
+    gain = done.gain;
+  }
+
+  pub headline_clause : IsOutcome words Fault left left' written written' sure r → r ≡ Done → (input : List ℕ) → IsInput words left input →
+      IfSome written (λ before. IsTrueRun words input before written')
+  headline_clause o e input t =
+      weaker written (λ before. IsDoneRun words input before written') (λ before. IsTrueRun words input before written') (true_run input)
+      (reply_clause o e input t)
 
   pub complete_clause : (Unread Unwritten : Type 0) → IsOutcome words Fault left left' written written' sure r → (Fault → Unread) →
       (r ≡ WriteFault → Unwritten) → (c : Request) (input : List ℕ) → IsNamed words c → IsGoodInput (task_for c) left input →

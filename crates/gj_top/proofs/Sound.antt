@@ -102,7 +102,7 @@ check_sound = record {
 }
 
 pub faces_sound : IsSound faces
-faces_sound = record { form = function_text_sound; refusals = λ input text refused. refl; work = λ input f text spelled listed. listed }
+faces_sound = record { form = function_text_sound; refusals = λ input text refused. refl; work = λ input f text spelled listed. listed.0 }
 
 pub cut_sound : IsSound cut
 cut_sound = record {
@@ -144,7 +144,7 @@ demo_true n text h =
     record {
       function = h.function;
       halves = h.halves;
-      summary = h.summary;
+      is_function = h.summary.demo;
       continuous = holds.0;
       minimal = holds.1;
       shown = shown_of h.function h.halves holds;

@@ -3,6 +3,7 @@ use Rattle.std.specs.Prelude.{ℕ, ◌≡◌, ◌⊎◌, false, List, ◌++◌, 
 use Rattle.std.specs.declared.alloc.Global.{Global}
 use Rattle.gj_words.specs.declared.requests.Request.{Request}
 use Rattle.gj_top.specs.declared.reply.End.{End}
+use Rattle.gj_top.specs.declared.reply.End.TheVariants as end
 use Rattle.gj_top.specs.declared.status.Status.{Status}
 use Rattle.gj_top.specs.declared.status.Status.TheVariants.{Words, Input, ReadFault, WriteFault, Memory}
 use Rattle.gj_top.specs.Command.{IsNamed, NameNone, promise_for, task_for}
@@ -21,6 +22,14 @@ pub record IsTrueRun (words : List (String Global)) (input before : List ℕ) (w
   pub named : IsNamed words request
   pub text : List ℕ
   pub true_reply : IsTrueReply (promise_for request) input text
+  pub gain : written ≡ Some (before ++ text)
+
+-- the words name a request, and what was written is the reply to what the input spells, as the request's task has it
+pub record IsDoneRun (words : List (String Global)) (input before : List ℕ) (written : Option (List ℕ)) : Type 0 where
+  pub request : Request
+  pub named : IsNamed words request
+  pub text : List ℕ
+  pub reply : IsReply (task_for request) input end.Done text
   pub gain : written ≡ Some (before ++ text)
 
 -- the words name no request, or one that reads nothing

@@ -4,7 +4,8 @@ use Rattle.gj_shape.specs.FunctionData.{FunctionData, IsContinuous}
 use Rattle.gj_shape.specs.Table.{IsMinimal}
 use Rattle.gj_shape.specs.declared.extremality.Halves.{Halves}
 use Rattle.gj_proof.specs.Meaning.{ShowHalves}
-use Rattle.gj_demo.specs.Summary.{IsSummary, HasSummary}
+use Rattle.gj_demo.specs.Demo.{IsDemo}
+use Rattle.gj_demo.specs.Summary.{HasSummary}
 use Rattle.gj_top.specs.declared.reply.End.{End}
 use Rattle.gj_top.specs.declared.reply.End.TheVariants.{Done}
 use Rattle.gj_top.specs.Promise.{Promise}
@@ -16,11 +17,11 @@ abbrev pub IsDemoReply : ℕ → End → List ℕ → Type 0
 IsDemoReply n Done text = HasSummary n text
 IsDemoReply n end text = ⊥
 
--- the headline: the text sums up the n-th function, which is minimal and, as the halves show, not extreme
+-- the headline: the n-th function is minimal and, as the halves show, not extreme; what the text counts is said by the reply
 pub record IsTrueDemonstration (n : ℕ) (text : List ℕ) : Type 0 where
   pub function : FunctionData
   pub halves : Halves
-  pub summary : IsSummary n function halves text
+  pub is_function : IsDemo n function
   pub continuous : IsContinuous function
   pub minimal : IsMinimal function
   pub shown : ShowHalves function halves

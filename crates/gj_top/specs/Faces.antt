@@ -16,12 +16,12 @@ IsFacesReply f Done text = IsContinuous f × IsFacesText f text
 IsFacesReply f NotContinuous text = NamesFirstJump f text
 IsFacesReply f end text = ⊥
 
--- the headline: the function is continuous, and the text lists its faces and intervals
+-- the headline: the function is continuous; what the text lists is said by the reply
 abbrev pub faces_promise : Promise
 faces_promise = record {
   Thing = FunctionData;
   form = function_text;
-  headline = λ f text. IsContinuous f × IsFacesText f text;
+  headline = λ f text. IsContinuous f;
 }
 
 abbrev pub faces : Task

@@ -8,7 +8,7 @@ ghost use Rattle.gj_top.specs.Command.{IsNamed, NameNone, promise_for, task_for}
 ghost use Rattle.gj_top.specs.Promise.{reads};
 ghost use Rattle.gj_top.specs.Answer.{IsSourceFault, input_limit, words_line, fault_line};
 ghost use Rattle.gj_top.specs.Outcome.{IsOutcome, IsUnsure, Gains};
-ghost use Rattle.gj_top.specs.Causes.{IsInput, IsGoodInput, IsTrueRun, ReadNothing, IsStatusOf, IsCause, IsStatusOfReply};
+ghost use Rattle.gj_top.specs.Causes.{IsInput, IsGoodInput, IsTrueRun, IsDoneRun, ReadNothing, IsStatusOf, IsCause, IsStatusOfReply};
 
 use gj_port::{Sink, Source, write_all};
 use std::alloc::Global;
@@ -70,6 +70,10 @@ pub fn run<S: Source, K: Sink>(
     // The headline.
     ensures headline { result ≡ Status.Done → (input : List ℕ) → IsInput words.now (S.left source.old) input →
         IfSome (K.written sink.old) (λ before. IsTrueRun words.now input before (K.written sink.new)) }
+
+    // And what was written then is the reply of the request to what the input spells, every byte of it: what `faces` lists and `demo` counts, too.
+    ensures reply { result ≡ Status.Done → (input : List ℕ) → IsInput words.now (S.left source.old) input →
+        IfSome (K.written sink.old) (λ before. IsDoneRun words.now input before (K.written sink.new)) }
 
     // What was written is the answer, all of it, or as far as the sink took it, or nothing for want of memory.
     ensures outcome { IsOutcome words.now (IsSourceFault (S.steady source.old) (S.faults source.old) (S.faults source.new))

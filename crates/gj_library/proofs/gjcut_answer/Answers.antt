@@ -1,6 +1,6 @@
 use Rattle.std.proofs.Common.{◌≡◌, ℕ, List, length, take, drop, ◌++◌, subst, sym, arith}
 use Rattle.gj_library.specs.Call.{IsAnswered, IsCall}
-use Rattle.gj_library.proofs.Calls.{front_call, whole_call, headline_of, cause_of, no_read_fault_of, room_of, complete_of, no_text_of}
+use Rattle.gj_library.proofs.Calls.{front_call, whole_call, headline_of, reply_of, cause_of, no_read_fault_of, room_of, complete_of, no_text_of}
 use Rattle.gj_library.proofs.gjcut_answer.Goals as goal
 
 -- there is no room for all of the answer
@@ -30,6 +30,9 @@ returns-then-count-text-clause-room c = room_of _ _ _ _ _ (front c)
 
 pub returns-clause-headline : goal.returns-clause-headline
 returns-clause-headline c = headline_of _ _ _ _ _ (whole c)
+
+pub returns-clause-reply : goal.returns-clause-reply
+returns-clause-reply c = reply_of _ _ _ _ _ (whole c)
 
 pub returns-clause-outcome : goal.returns-clause-outcome
 returns-clause-outcome c = λ memory. whole c

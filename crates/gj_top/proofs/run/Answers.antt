@@ -3,7 +3,7 @@ use Rattle.gj_top.specs.declared.status.Status.{Status}
 use Rattle.gj_top.specs.Answer.{IsAnswer, IsSourceFault, answer_text}
 use Rattle.gj_top.specs.Outcome.{IsOutcome, Gains}
 use Rattle.gj_top.specs.Outcome.IsOutcome.{told}
-use Rattle.gj_top.proofs.Clauses.{no_write_fault, failed_source, input_clause, unread_by_answer, unread_unanswered, headline_clause}
+use Rattle.gj_top.proofs.Clauses.{no_write_fault, failed_source, input_clause, unread_by_answer, unread_unanswered, headline_clause, reply_clause}
 use Rattle.gj_top.proofs.Clauses.{ends_clause, cause_clause, complete_clause}
 use Rattle.gj_top.proofs.run.Given.{Over}
 use Rattle.gj_top.proofs.run.Goals as goal
@@ -34,6 +34,9 @@ returns-in-Ok-write_all-clause-outcome g c = outcome g c
 
 pub returns-in-Ok-write_all-clause-headline : goal.returns-in-Ok-write_all-clause-headline
 returns-in-Ok-write_all-clause-headline g c = headline_clause _ _ _ _ _ _ _ _ (outcome g c)
+
+pub returns-in-Ok-write_all-clause-reply : goal.returns-in-Ok-write_all-clause-reply
+returns-in-Ok-write_all-clause-reply g c = reply_clause _ _ _ _ _ _ _ _ (outcome g c)
 
 pub returns-in-Ok-write_all-clause-ends : goal.returns-in-Ok-write_all-clause-ends
 returns-in-Ok-write_all-clause-ends g c = ends_clause _ _ _ _ _ _ _ _ (outcome g c)
