@@ -1,15 +1,12 @@
 -- Powers of 10, and what the factors 2 and 5 leave of a fraction over one.
-use Rattle.std.proofs.Common.{◌≡◌, ◌≢◌, ◌⊎◌, ⊎_elim, ℕ, zero, suc, ◌+◌, ◌-◌, ◌*◌, ◌/◌, ◌%◌, ◌^◌, ◌<◌, ◌≤◌, List, [], ◌∷◌, get_or, ℤ, pos, neg_ℤ, ◌*ℤ◌, refl, sym, ap, subst, ◌∙◌, arith, min, w64, to_z}
+use Rattle.std.proofs.Common.{◌≡◌, ◌≢◌, ◌⊎◌, ⊎_elim, ℕ, zero, suc, ◌+◌, ◌-◌, ◌*◌, ◌/◌, ◌%◌, ◌^◌, ◌<◌, ◌≤◌, List, [], ◌∷◌, get_or, ℤ, pos, ◌*ℤ◌, refl, sym, ap, subst, ◌∙◌, arith, min, w64, to_z}
 use Rattle.std.specs.Int.{IsGcd, trailing_zeros}
 use Rattle.std.proofs.Math.Nat.{mul_assoc, mul_comm, one-dvd, pow-suc, pow-le-pow_right, mul-le-mul, mul-div_cancel, mul-pos, one-le-pow, mod-eq_of_lt}
 use Rattle.std.proofs.lemmas.Nat.{pow-add, mul-pow, pow_pos}
 use Rattle.std.proofs.lemmas.Nat.Gcd.{IsGcd-from_zero, IsGcd-from_mod}
 use Rattle.std.proofs.lemmas.Int.{ints, to_z_pos}
-use Rattle.gj_frac.specs.declared.Frac.{Frac}
 use Rattle.gj_frac.specs.Lowest.{IsLowest}
 use Rattle.gj_tools.proofs.Divisors.{coprime_product}
-use Rattle.gj_tools.proofs.Integers.{neg_mul_z, positive_some_z}
-use Rattle.gj_tools.proofs.Ratios.{ratio_along}
 use mir.Syntax.{w128}
 use Rattle.gj_frac.proofs.OddParts.{coprime_power, odd_power, twos_part}
 use Rattle.gj_frac.proofs.Reduced.{same_from_multiples}
@@ -132,10 +129,3 @@ pub decimal_is : (n d : ℤ) (size twos places : ℕ) → 0 < size → size < 2 
     n *ℤ pos (5 ^ places * 2 ^ (places - twos)) ≡ pos (size / 2 ^ twos) *ℤ d → n *ℤ pos (10 ^ places) ≡ pos size *ℤ d
 decimal_is n d size twos places some fits least =
     twos_out n d size (size / 2 ^ twos) places twos (twos_part size twos some fits (omega arith)) (omega arith)
-
--- the same with the sign of the number, which is below 0
-pub negated_out : (x z : Frac) (num : ℤ) (size p : ℕ) → num ≡ neg_ℤ (pos size) → z.num *ℤ x.den ≡ neg_ℤ x.num *ℤ z.den →
-    x.num *ℤ pos p ≡ pos size *ℤ x.den → z.num *ℤ pos p ≡ num *ℤ z.den
-negated_out x z num size p is turned h =
-    ratio_along z.num z.den (neg_ℤ x.num) x.den num (pos p) (positive_some_z x.den x.lowest.positive) turned
-    (neg_mul_z x.num (pos p) ∙ ap neg_ℤ h ∙ sym (neg_mul_z (pos size) x.den) ∙ ap (λ m. m *ℤ x.den) (sym is))

@@ -47,7 +47,7 @@ const POWERS_OF_TEN: [u128; 39] = [
     100_000_000_000_000_000_000_000_000_000_000_000_000,
 ];
 
-/// Decimals with so many places are read in 64 bits: 10^19 is below 2^64.
+/// So many places take no more than 64 bits: 10^19 is below 2^64.
 const SHORT: usize = 19;
 
 impl Frac {

@@ -1,9 +1,10 @@
-use Rattle.std.proofs.Common.{◌≡◌, ◌<◌, ◌^◌, pos, unsigned_abs, subst, ◌∙◌, ap, arith}
+use Rattle.std.proofs.Common.{◌≡◌, ◌<◌, ◌^◌, pos, neg_ℤ, unsigned_abs, subst, ◌∙◌, ap, arith}
 use Rattle.std.proofs.Math.Nat.{one-le-pow}
 use Rattle.std.proofs.lemmas.Int.{to_z-of_z, ints}
 use Rattle.gj_frac.specs.Fraction.{IsRatio}
 use Rattle.gj_frac.proofs.OddParts.{twos_left}
-use Rattle.gj_frac.proofs.TenPowers.{ten_small, read_ten, decimal_is, negated_out}
+use Rattle.gj_frac.proofs.TenPowers.{ten_small, read_ten, decimal_is}
+use Rattle.gj_frac.proofs.SameValues.{negation_is}
 use Rattle.gj_frac.proofs.Frac.decimal.Goals as goal
 use mir.Syntax.{w128}
 
@@ -36,10 +37,11 @@ pub returns-then-num-lt0 : goal.returns-then-num-lt0
 returns-then-num-lt0 c =
     let num = to_z-of_z w128 c.args.num c.ranges.num in
     let size : c.unsigned_abs-size.result ≡ unsigned_abs c.args.num = c.unsigned_abs-size.ensures.value ∙ ap unsigned_abs num in
+    let same : neg_ℤ (pos c.unsigned_abs-size.result) ≡ c.args.num = omega (arith, ints) in
     let value = decimal_is _ _ c.unsigned_abs-size.result c.min-twos.result c.args.places (omega arith) (omega arith) c.min-twos.ensures
     c.without_fives-fraction.ensures in
-    negated_out c.without_fives-fraction.result c.neg.result c.args.num c.unsigned_abs-size.result (10 ^ c.args.places)
-    (omega (arith, ints)) c.neg.ensures value
+    subst (λ z. IsRatio c.neg.result z (pos (10 ^ c.args.places))) same
+    (negation_is c.without_fives-fraction.result c.neg.result (pos c.unsigned_abs-size.result) (pos (10 ^ c.args.places)) c.neg.ensures value)
 
 pub returns : goal.returns
 returns c =
