@@ -8,3 +8,4 @@ pub mod Refusals
 pub mod SameValues
 pub mod Signs
 pub mod Sums
+pub mod TenPowers

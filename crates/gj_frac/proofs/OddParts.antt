@@ -1,7 +1,7 @@
 -- Greatest common divisors of odd numbers, and powers of 2 beside them.
-use Rattle.std.proofs.Common.{◌≡◌, ℕ, zero, suc, ◌*◌, ◌-◌, ◌+◌, ◌/◌, ◌%◌, ◌^◌, ◌<◌, min, max, ⊎_elim, refl, sym, ap, subst, subst₂, ◌∙◌, arith, w64}
+use Rattle.std.proofs.Common.{◌≡◌, ℕ, zero, suc, ◌*◌, ◌-◌, ◌+◌, ◌/◌, ◌%◌, ◌^◌, ◌<◌, ◌≤◌, min, max, ◌⊎◌, ⊎_elim, inl, inr, refl, sym, ap, subst, subst₂, ◌∙◌, arith, w64}
 use Rattle.std.specs.Int.{IsGcd, ◌∣◌, bit_at, trailing_zeros, abs_diff}
-use Rattle.std.proofs.Math.Nat.{mul_comm, mul_assoc, one-dvd, dvd-mul_right, pow-suc, div-div-eq-div-mul}
+use Rattle.std.proofs.Math.Nat.{mul_comm, mul_assoc, one-dvd, dvd-mul_right, pow-suc, pow-zero, div-div-eq-div-mul}
 use Rattle.std.proofs.lemmas.Bool.{cases_lt}
 use Rattle.std.proofs.lemmas.Nat.{pow-add}
 use Rattle.std.proofs.lemmas.Nat.Bits.{bit_at-trailing_zeros}
@@ -10,15 +10,18 @@ use Rattle.gj_tools.proofs.Divisors.{gauss, gcd_scaled, coprime_divisor, coprime
 
 -- ---- an odd number beside a power of 2
 
+-- what has only 1 in common with a number has only 1 in common with its powers
+pub coprime_power : (a p k : ℕ) → IsGcd a p 1 → IsGcd a (p ^ k) 1
+coprime_power a p zero h = subst (λ n. IsGcd a n 1) (sym (pow-zero p)) (one-dvd a, one-dvd 1, λ d u v. v)
+coprime_power a p (suc k) h = subst (λ n. IsGcd a n 1) (sym (pow-suc p k)) (coprime_product a (p ^ k) p (coprime_power a p k h) h)
+
 odd_two : (a : ℕ) → a % 2 ≡ 1 → IsGcd a 2 1
 odd_two a odd =
     IsGcd-from_mod a 2 1 (subst (λ n. IsGcd 2 n 1) (sym odd) (IsGcd-from_mod 2 1 1 (IsGcd-from_zero 1 (2 % 1) refl)))
 
 -- no number but 1 divides an odd number and a power of 2
-odd_power : (a k : ℕ) → a % 2 ≡ 1 → IsGcd a (2 ^ k) 1
-odd_power a zero odd = (one-dvd a, one-dvd 1, λ d p q. q)
-odd_power a (suc k) odd =
-    subst (λ n. IsGcd a n 1) (sym (pow-suc 2 k)) (coprime_product a (2 ^ k) 2 (odd_power a k odd) (odd_two a odd))
+pub odd_power : (a k : ℕ) → a % 2 ≡ 1 → IsGcd a (2 ^ k) 1
+odd_power a k odd = coprime_power a 2 k (odd_two a odd)
 
 -- a power of 2 beside an odd number does not matter
 odd_scaled : (a b g k : ℕ) → a % 2 ≡ 1 → IsGcd a b g → IsGcd a (b * 2 ^ k) g
@@ -67,6 +70,21 @@ low_zeros n (suc k) zeros =
 pub odd_part : (n : ℕ) → 0 < n → n < 2 ^ 64 →
     (n / 2 ^ trailing_zeros w64 n % 2 ≡ 1) × (n / 2 ^ trailing_zeros w64 n * 2 ^ trailing_zeros w64 n ≡ n)
 odd_part n some fits = let h = bit_at-trailing_zeros w64 n some fits in (h.1, low_zeros n (trailing_zeros w64 n) h.2)
+
+-- without so many twos, or fewer, it has the rest of its factors
+pub twos_part : (n k : ℕ) → 0 < n → n < 2 ^ 64 → k ≤ trailing_zeros w64 n → n / 2 ^ k * 2 ^ k ≡ n
+twos_part n k some fits fewer =
+    let h = bit_at-trailing_zeros w64 n some fits in
+    low_zeros n k (λ i low. h.2 i (omega arith))
+
+-- as many twos taken out as there are, but p at most: all p of them, or what is left is odd
+pub twos_left : (n k p : ℕ) → 0 < n → n < 2 ^ 64 → k ≡ min (trailing_zeros w64 n) p → (p - k ≡ 0) ⊎ (n / 2 ^ k % 2 ≡ 1)
+twos_left n k p some fits is = ⊎_elim
+    (λ below.
+    let all : trailing_zeros w64 n ≡ k = omega arith in
+    inr (subst (λ i. n / 2 ^ i % 2 ≡ 1) all (odd_part n some fits).0))
+    (λ above. inl (omega arith))
+    (cases_lt (trailing_zeros w64 n) p)
 
 -- ---- differences
 

@@ -79,6 +79,9 @@ pub fn lcm(a: u32, b: u32) -> u64
     requires { 0 < a }
     ensures { IsLcm a b result }
 {
+    if b != 0 && a % b == 0 {
+        return u64::from(a);
+    }
     let divisor = gcd_in_64_bits(u64::from(a), u64::from(b)) as u32;
     u64::from(a / divisor) * u64::from(b)
 }

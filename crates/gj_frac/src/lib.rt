@@ -16,6 +16,7 @@ ghost use Rattle.gj_frac.specs.Lowest.{IsLowest};
 
 mod checked;
 mod comparison;
+mod decimals;
 mod divisors;
 mod laws;
 mod negation;

@@ -1,6 +1,6 @@
 //! Steps on the parts of a fraction, each with a contract of its own.
-ghost use Rattle.std.specs.Prelude.{◌≡◌, ◌≢◌, ℕ, ◌/◌, ◌<◌, ◌^◌, ◌*ℤ◌, ◌+ℤ◌, ◌-ℤ◌, ◌<ℤ◌, pos, unsigned_abs};
-ghost use Rattle.std.specs.Int.{IsGcd, ◌∣◌};
+ghost use Rattle.std.specs.Prelude.{◌≡◌, ◌≢◌, ℕ, ◌/◌, ◌<◌, ◌^◌, ◌*ℤ◌, ◌+ℤ◌, ◌-ℤ◌, ◌<ℤ◌, ◌≤ℤ◌, pos, unsigned_abs};
+ghost use Rattle.std.specs.Int.{IsGcd, ◌∣◌, int_div_euclid, int_rem_euclid};
 
 use crate::divisors::gcd;
 
@@ -26,6 +26,30 @@ pub(crate) fn quotient(n: i128, divisor: i128) -> i128
     match (i64::try_from(n), i64::try_from(divisor)) {
         (Ok(n), Ok(divisor)) => i128::from(n / divisor),
         _ => n / divisor,
+    }
+}
+
+/// A whole number divided by a positive one, rounded down.
+pub(crate) fn floor_quotient(n: i128, d: i128) -> i128
+    requires { pos 0 <ℤ d }
+    ensures { result ≡ int_div_euclid n d }
+{
+    match (i64::try_from(n), i64::try_from(d)) {
+        (Ok(n), Ok(d)) => i128::from(n.div_euclid(d)),
+        _ => n.div_euclid(d),
+    }
+}
+
+/// What that quotient leaves of the number, from 0 up to but not including the divisor.
+pub(crate) fn floor_rest(n: i128, d: i128) -> i128
+    requires { pos 0 <ℤ d }
+    ensures value { result ≡ int_rem_euclid n d }
+    ensures not_negative { pos 0 ≤ℤ result }
+    ensures below { result <ℤ d }
+{
+    match (i64::try_from(n), i64::try_from(d)) {
+        (Ok(n), Ok(d)) => i128::from(n.rem_euclid(d)),
+        _ => n.rem_euclid(d),
     }
 }
 

@@ -2,6 +2,7 @@
 ghost use Rattle.std.specs.Prelude.{ℤ, pos, ◌-ℤ◌, ◌*ℤ◌, ◌≤ℤ◌, ◌<ℤ◌};
 
 use crate::Frac;
+use crate::parts::{floor_quotient, floor_rest};
 
 impl Frac {
     ghost use Rattle.gj_frac.specs.Fraction.{IsRatio, numerator, denominator};
@@ -11,7 +12,7 @@ impl Frac {
     pub fn floor(self) -> i128
         ensures { IsFloor self result }
     {
-        self.num.div_euclid(self.den)
+        floor_quotient(self.num, self.den)
     }
 
     /// This fraction minus its floor, from 0 up to but not including 1: 2/3 for -7/3.
@@ -22,7 +23,7 @@ impl Frac {
         ensures below_one { numerator result <ℤ denominator result }
     {
         Frac {
-            num: self.num.rem_euclid(self.den),
+            num: floor_rest(self.num, self.den),
             den: self.den,
         }
     }

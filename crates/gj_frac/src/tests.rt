@@ -41,6 +41,18 @@ fn a_fraction_is_in_lowest_terms(rt: HostRuntime) {
 }
 
 #[test]
+fn a_decimal_is_in_lowest_terms(rt: HostRuntime) {
+    assert_eq!(rt; Frac::decimal(-250, 2), fraction(-5, 2));
+    assert_eq!(rt; Frac::decimal(0, 3), fraction(0, 1));
+    assert_eq!(rt; Frac::decimal(125, 3), fraction(1, 8));
+    let least = Frac::decimal(1, 38);
+    assert_eq!(rt;
+        least.den(),
+        100_000_000_000_000_000_000_000_000_000_000_000_000
+    );
+}
+
+#[test]
 fn a_sum_reaches_the_limit(rt: HostRuntime) {
     let sum = fraction(i128::MAX - 1, 1) + fraction(1, 1);
     assert_eq!(rt; sum, fraction(i128::MAX, 1));

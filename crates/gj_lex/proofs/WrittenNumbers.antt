@@ -1,11 +1,12 @@
 -- A word that writes a number without a sign, cut at its first mark.
-use Rattle.std.proofs.Common.{◌≡◌, ◌≢◌, ℕ, zero, suc, ◌*◌, ◌^◌, ◌<◌, ◌≤◌, List, [], ◌∷◌, ◌++◌, length, get_or, take, drop, Option, None, Some, IfSome, Bool, true, false, ◌||◌, ◌==◌, refl, sym, ◌∙◌, ap, subst, arith, append-nil, take-append-drop, length-drop, get_or-drop, add-zero}
+use Rattle.std.proofs.Common.{◌≡◌, ◌≢◌, ℕ, ◌^◌, ◌<◌, ◌≤◌, List, [], ◌∷◌, ◌++◌, length, get_or, take, drop, Option, None, Some, IfSome, IsSome, IsSomeAnd, ◌↔◌, pos, Bool, true, false, ◌||◌, ◌==◌, refl, sym, ◌∙◌, ap, subst, subst₂, arith, append-nil, take-append-drop, length-drop, get_or-drop, add-zero}
 use Rattle.std.specs.List.{position_or_len}
-use Rattle.std.specs.Option.{SomeIff}
+use Rattle.gj_frac.specs.declared.Frac.{Frac}
+use Rattle.gj_frac.specs.Fraction.{IsRatio}
 use Rattle.std.specs.Str.Parse.{AllDigits, IsNumeral, digits_value, digits_value_after}
 use Rattle.std.proofs.lemmas.List.Sums.{passes_at_first}
 use Rattle.std.proofs.Math.Seq.{take-append_seam, drop-append_seam}
-use Rattle.std.proofs.Math.Nat.{mul_assoc, mul_comm, pow-suc, pow-le-pow_right}
+use Rattle.std.proofs.Math.Nat.{one-le-pow}
 use Rattle.std.proofs.lemmas.Bool.Decides.{nat_tests}
 use Rattle.std.proofs.lemmas.Str.Parse.{digit_from_value}
 use Rattle.gj_lex.specs.NumberText.{IsWritten}
@@ -85,28 +86,6 @@ module _ (word front back : List ℕ) (k : ℕ) (at : k ≡ position_or_len is_m
 
 -- ---- the parts that are read
 
--- powers of ten within the limit
-pub ten_small : (e : ℕ) → e ≤ 38 → 10 ^ e < 2 ^ 127
-ten_small e h =
-    let below : 10 ^ e ≤ 10 ^ 38 = pow-le-pow_right (omega arith) h in
-    omega arith
-
-pub ten_large : (e : ℕ) → 38 < e → ¬ (10 ^ e < 2 ^ 127)
-ten_large e h small =
-    let above : 10 ^ 39 ≤ 10 ^ e = pow-le-pow_right (omega arith) h in
-    omega arith
-
--- n numbers from p on, each ten times the one before it
-abbrev pub tens_from : ℕ → ℕ → List ℕ
-tens_from p zero = []
-tens_from p (suc n) = p ∷ tens_from (p * 10) n
-
-pub ten_at : (p n i d : ℕ) → i < n → get_or (tens_from p n) i d ≡ p * 10 ^ i
-ten_at p zero i d l = absurd (omega arith)
-ten_at p (suc n) zero d l = omega arith
-ten_at p (suc n) (suc i) d l =
-    ten_at (p * 10) n i d (omega arith) ∙ mul_assoc p 10 (10 ^ i) ∙ ap (λ k. p * k) (mul_comm 10 (10 ^ i) ∙ sym (pow-suc 10 i))
-
 -- the number of all the digits is within the limit only if that of the front is
 pub point_front : (front back : List ℕ) (e : ℕ) → ¬ (IsNumeral 10 front × (digits_value 10 front < 2 ^ 127)) →
     ¬ ((IsNumeral 10 front × IsNumeral 10 back) × ((digits_value 10 (front ++ back) < 2 ^ 127) × (10 ^ e < 2 ^ 127)))
@@ -155,69 +134,96 @@ dot_parts front back digits m n d is other (dot others e first second top bottom
 other_mark : (m : ℕ) → is_mark m ≡ true → m ≢ 47 → m ≡ 46
 other_mark m h other = grind (arith, nat_tests)
 
--- what was read of a word
-abbrev Found : List ℕ → Option (ℕ × ℕ) → Type 0
-Found word r = IfSome r (λ p. IsWritten word p.0 p.1 × (p.0 < 2 ^ 127) × (p.1 < 2 ^ 127))
+-- ---- what was read of a word
 
-abbrev Only : List ℕ → Option (ℕ × ℕ) → Type 0
-Only word r = (n d : ℕ) → IsWritten word n d → n < 2 ^ 127 → d < 2 ^ 127 → r ≡ Some (n, d)
+abbrev Found : List ℕ → Option Frac → Type 0
+Found word r = IfSome r (λ x. (n : ℕ) × (d : ℕ) ×
+    IsWritten word n d × (n < 2 ^ 127) × (d < 2 ^ 127) × (0 < d) × IsRatio x (pos n) (pos d))
+
+abbrev Only : List ℕ → Option Frac → Type 0
+Only word r = (n d : ℕ) → IsWritten word n d → n < 2 ^ 127 → d < 2 ^ 127 → 0 < d → IsSomeAnd r (λ x. IsRatio x (pos n) (pos d))
+
+-- n/d was read exactly if P holds
+abbrev Read : Option Frac → Type 0 → ℕ → ℕ → Type 0
+Read r P n d = (IsSome r ↔ P) × IfSome r (λ x. IsRatio x (pos n) (pos d))
+
+-- what was read is written, if P says so
+found_if : (word : List ℕ) (P : Type 0) (n d : ℕ) → (P → IsWritten word n d × (n < 2 ^ 127) × (d < 2 ^ 127) × (0 < d)) →
+    (r : Option Frac) → Read r P n d → Found word r
+found_if word P n d says None h = tt
+found_if word P n d says (Some x) h = let w = says (h.0.0 refl) in (n, d, w.0, w.1, w.2, w.3, h.1)
+
+-- what is written was read, if P follows, and nothing but n/d can be written
+only_if : (word : List ℕ) (P : Type 0) (n d : ℕ) →
+    ((m e : ℕ) → IsWritten word m e → m < 2 ^ 127 → e < 2 ^ 127 → 0 < e → P × (n ≡ m) × (d ≡ e)) → (r : Option Frac) → Read r P n d → Only word r
+only_if word P n d says None h = λ m e written small low some.
+    let read = h.0.1 (says m e written small low some).0 in cc
+only_if word P n d says (Some x) h = λ m e written small low some.
+    let w = says m e written small low some in
+    subst₂ (λ a b. IsRatio x (pos a) (pos b)) w.1 w.2 h.1
+
+-- nothing was read, if P does not hold
+pub nothing_read : (P : Type 0) → ¬ P → (false ≡ true → P) × (P → false ≡ true)
+nothing_read P refuted = (λ e. absurd (cc), λ p. absurd (refuted p))
+
+nothing : (bs : List ℕ) → length bs ≡ 0 → bs ≡ []
+nothing [] e = refl
+nothing (b ∷ bs) e = absurd (omega arith)
 
 module _ (word front back : List ℕ) (k : ℕ) (at : k ≡ position_or_len is_mark word) (front_is : front ≡ take k word)
     (back_is : back ≡ drop k word) where
-  pub whole_only : length back ≡ 0 → (r : Option (ℕ × ℕ)) →
-      SomeIff r (IsNumeral 10 front × (digits_value 10 front < 2 ^ 127)) (digits_value 10 front, 1) → Only word r
-  whole_only none None h = λ n d written small low.
+  pub whole_found : length back ≡ 0 → (r : Option Frac) →
+      Read r (IsNumeral 10 front × (digits_value 10 front < 2 ^ 127)) (digits_value 10 front) 1 → Found word r
+  whole_found none = found_if word _ _ _ (λ p. (
+    uncut word front back k at front_is back_is _ _ (one (nothing back none) p.0 refl refl),
+    p.1,
+    omega arith,
+    omega arith,
+  ))
+
+  pub whole_only : length back ≡ 0 → (r : Option Frac) →
+      Read r (IsNumeral 10 front × (digits_value 10 front < 2 ^ 127)) (digits_value 10 front) 1 → Only word r
+  whole_only none = only_if word _ _ _ (λ n d written small low some.
       let p = one_parts front back n d none (cut word front back k at front_is back_is n d written) in
-      absurd (h (p.0, omega (arith, p.1)))
-  whole_only none (Some q) h = λ n d written small low.
-      let p = one_parts front back n d none (cut word front back k at front_is back_is n d written) in
-      let top = p.1 in let bottom = p.2 in let is = h.1 in cc
+      ((p.0, omega (arith, p.1)), sym p.1, sym p.2))
 
-  pub ratio_found : (digits : List ℕ) (m : ℕ) → back ≡ m ∷ digits → m ≡ 47 → (r : Option (ℕ × ℕ)) →
-      SomeIff r ((IsNumeral 10 front × (digits_value 10 front < 2 ^ 127)) × (IsNumeral 10 digits × (digits_value 10 digits < 2 ^ 127)))
-      (digits_value 10 front, digits_value 10 digits) →
+  pub ratio_found : (digits : List ℕ) (m : ℕ) → back ≡ m ∷ digits → m ≡ 47 → (r : Option Frac) →
+      Read r ((IsNumeral 10 front × (digits_value 10 front < 2 ^ 127)) ×
+      (IsNumeral 10 digits × (digits_value 10 digits < 2 ^ 127) × (0 < digits_value 10 digits)))
+      (digits_value 10 front) (digits_value 10 digits) →
       Found word r
-  ratio_found digits m is mark None h = tt
-  ratio_found digits m is mark (Some q) h =
-      let top : q.0 ≡ digits_value 10 front = ap (λ (p : ℕ × ℕ). p.0) h.1 in
-      let bottom : q.1 ≡ digits_value 10 digits = ap (λ (p : ℕ × ℕ). p.1) h.1 in (
-        uncut word front back k at front_is back_is q.0 q.1 (slash digits (is ∙ ap (λ b. b ∷ digits) mark) h.0.0.0 h.0.1.0 top bottom),
-        omega (arith, h.0.0.1),
-        omega (arith, h.0.1.1),
-      )
+  ratio_found digits m is mark = found_if word _ _ _ (λ p. (
+    uncut word front back k at front_is back_is _ _ (slash digits (is ∙ ap (λ b. b ∷ digits) mark) p.0.0 p.1.0 refl refl),
+    p.0.1,
+    p.1.1,
+    p.1.2,
+  ))
 
-  pub ratio_only : (digits : List ℕ) (m : ℕ) → back ≡ m ∷ digits → m ≡ 47 → (r : Option (ℕ × ℕ)) →
-      SomeIff r ((IsNumeral 10 front × (digits_value 10 front < 2 ^ 127)) × (IsNumeral 10 digits × (digits_value 10 digits < 2 ^ 127)))
-      (digits_value 10 front, digits_value 10 digits) →
+  pub ratio_only : (digits : List ℕ) (m : ℕ) → back ≡ m ∷ digits → m ≡ 47 → (r : Option Frac) →
+      Read r ((IsNumeral 10 front × (digits_value 10 front < 2 ^ 127)) ×
+      (IsNumeral 10 digits × (digits_value 10 digits < 2 ^ 127) × (0 < digits_value 10 digits)))
+      (digits_value 10 front) (digits_value 10 digits) →
       Only word r
-  ratio_only digits m is mark None h = λ n d written small low.
+  ratio_only digits m is mark = only_if word _ _ _ (λ n d written small low some.
       let p = slash_parts front back digits n d (is ∙ ap (λ b. b ∷ digits) mark) (cut word front back k at front_is back_is n d written) in
-      absurd (h ((p.0, omega (arith, p.2)), (p.1, omega (arith, p.3))))
-  ratio_only digits m is mark (Some q) h = λ n d written small low.
-      let p = slash_parts front back digits n d (is ∙ ap (λ b. b ∷ digits) mark) (cut word front back k at front_is back_is n d written) in
-      let top = p.2 in let bottom = p.3 in let value = h.1 in cc
+      (((p.0, omega (arith, p.2)), (p.1, omega (arith, p.3), omega (arith, p.3))), sym p.2, sym p.3))
 
-  pub point_found : (digits : List ℕ) (m : ℕ) → back ≡ m ∷ digits → m ≢ 47 → (r : Option (ℕ × ℕ)) →
-      SomeIff r ((IsNumeral 10 front × IsNumeral 10 digits) ×
-      ((digits_value 10 (front ++ digits) < 2 ^ 127) × (10 ^ length digits < 2 ^ 127))) (digits_value 10 (front ++ digits), 10 ^ length digits) →
+  pub point_found : (digits : List ℕ) (m : ℕ) → back ≡ m ∷ digits → m ≢ 47 → (r : Option Frac) →
+      Read r ((IsNumeral 10 front × IsNumeral 10 digits) ×
+      ((digits_value 10 (front ++ digits) < 2 ^ 127) × (10 ^ length digits < 2 ^ 127))) (digits_value 10 (front ++ digits)) (10 ^ length digits) →
       Found word r
-  point_found digits m is other None h = tt
-  point_found digits m is other (Some q) h =
-      let mark = other_mark m (begins_with_mark word front back k at front_is back_is m digits is) other in
-      let top : q.0 ≡ digits_value 10 (front ++ digits) = ap (λ (p : ℕ × ℕ). p.0) h.1 in
-      let bottom : q.1 ≡ 10 ^ length digits = ap (λ (p : ℕ × ℕ). p.1) h.1 in (
-        uncut word front back k at front_is back_is q.0 q.1 (dot digits (is ∙ ap (λ b. b ∷ digits) mark) h.0.0.0 h.0.0.1 top bottom),
-        omega (arith, h.0.1.0),
-        omega (arith, h.0.1.1),
-      )
+  point_found digits m is other = found_if word _ _ _ (λ p.
+      let mark = other_mark m (begins_with_mark word front back k at front_is back_is m digits is) other in (
+        uncut word front back k at front_is back_is _ _ (dot digits (is ∙ ap (λ b. b ∷ digits) mark) p.0.0 p.0.1 refl refl),
+        p.1.0,
+        p.1.1,
+        one-le-pow (length digits) 10 (omega arith),
+      ))
 
-  pub point_only : (digits : List ℕ) (m : ℕ) → back ≡ m ∷ digits → m ≢ 47 → (r : Option (ℕ × ℕ)) →
-      SomeIff r ((IsNumeral 10 front × IsNumeral 10 digits) ×
-      ((digits_value 10 (front ++ digits) < 2 ^ 127) × (10 ^ length digits < 2 ^ 127))) (digits_value 10 (front ++ digits), 10 ^ length digits) →
+  pub point_only : (digits : List ℕ) (m : ℕ) → back ≡ m ∷ digits → m ≢ 47 → (r : Option Frac) →
+      Read r ((IsNumeral 10 front × IsNumeral 10 digits) ×
+      ((digits_value 10 (front ++ digits) < 2 ^ 127) × (10 ^ length digits < 2 ^ 127))) (digits_value 10 (front ++ digits)) (10 ^ length digits) →
       Only word r
-  point_only digits m is other None h = λ n d written small low.
+  point_only digits m is other = only_if word _ _ _ (λ n d written small low some.
       let p = dot_parts front back digits m n d is other (cut word front back k at front_is back_is n d written) in
-      absurd (h ((p.0, p.1), (omega (arith, p.2), omega (arith, p.3))))
-  point_only digits m is other (Some q) h = λ n d written small low.
-      let p = dot_parts front back digits m n d is other (cut word front back k at front_is back_is n d written) in
-      let top = p.2 in let bottom = p.3 in let value = h.1 in cc
+      (((p.0, p.1), (omega (arith, p.2), omega (arith, p.3))), sym p.2, sym p.3))

@@ -88,7 +88,7 @@ fn reads_and_prints_counts(rt: HostRuntime) -> Result<(), Fail> {
 #[test]
 fn reads_lenient_numbers(rt: HostRuntime) -> Result<(), Fail> {
     let largest = i128::MAX;
-    let words: [(&[u8], i128, i128); 10] = [
+    let words: [(&[u8], i128, i128); 12] = [
         (b"00012/00024", 1, 2),
         (b"+3", 3, 1),
         (b"-0", 0, 1),
@@ -96,6 +96,8 @@ fn reads_lenient_numbers(rt: HostRuntime) -> Result<(), Fail> {
         (b"0.5", 1, 2),
         (b"-7/3", -7, 3),
         (b"+0.125", 1, 8),
+        (b"-17.123456", -267_554, 15_625),
+        (b"123456789012345678901.25", 493_827_156_049_382_715_605, 4),
         (b"-170141183460469231731687303715884105727", -largest, 1),
         (b"1/0170141183460469231731687303715884105727", 1, largest),
         (b"0.00000000000000000000000000000000000000", 0, 1),

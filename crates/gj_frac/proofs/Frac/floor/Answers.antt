@@ -10,6 +10,6 @@ pub returns : goal.returns
 returns c =
     let num = read_part c.args.self.num c.args.self.lowest.num_fits in
     let den = read_part c.args.self.den c.args.self.lowest.den_fits in
-    let result = to_z-of_z w128 c.div_euclid.result (search rules) in
-    let is = simp (num, den) at c.div_euclid.ensures in
+    let result = to_z-of_z w128 c.floor_quotient.result (search rules) in
+    let is = simp (num, den) at c.floor_quotient.ensures in
     subst (IsFloor c.args.self) (sym (result ∙ is)) (quotient_is_floor c.args.self)
