@@ -1,6 +1,6 @@
 -- The least positive slack on a finer grid, from those at the corners in lanes.
-use Rattle.std.proofs.Math.Nat.{mul-le-mul_left, mul-lt-mul_of_pos_left}
-use Rattle.std.proofs.Common.{◌≡◌, ℕ, zero, suc, ◌⊎◌, inl, inr, ◌+◌, ◌*◌, ◌<◌, ◌≤◌, ◌^◌, ℤ, pos, ◌+ℤ◌, ◌*ℤ◌, ◌<ℤ◌, ◌≤ℤ◌, List, [], ◌∷◌, ◌++◌, length, get_or, map, All, refl, sym, ap, subst, ◌∙◌, mul-pos, below_more, arith}
+use Rattle.std.proofs.Math.Nat.{mul-le-mul_left, mul-lt-mul_of_pos_left, add-mod, mod-mod, mod-lt}
+use Rattle.std.proofs.Common.{◌≡◌, ℕ, zero, suc, ◌⊎◌, inl, inr, ◌+◌, ◌*◌, ◌<◌, ◌≤◌, ◌^◌, ℤ, pos, ◌+ℤ◌, ◌*ℤ◌, ◌<ℤ◌, ◌≤ℤ◌, List, [], ◌∷◌, ◌++◌, length, get_or, map, All, refl, sym, ap, ap₂, subst, ◌∙◌, ◌%◌, mul-pos, add_comm, below_more, arith}
 use Rattle.std.specs.List.{Contains}
 use Rattle.std.proofs.Math.ListN.{get_or-map, get_or-append}
 use Rattle.std.proofs.Math.Seq.{get_or-append_seam}
@@ -13,13 +13,14 @@ use Rattle.gj_shape.specs.Faces.{limits_of}
 use Rattle.gj_shape.specs.Perturbation.{slack_on_grid, IsLeastSlack}
 use Rattle.gj_shape.specs.Table.{table, IsMinimal}
 use Rattle.gj_shape.specs.declared.faces.FaceKind.TheVariants.{Lower}
-use Rattle.gj_shape.proofs.TableLemmas.{table_of_order, limits_are_slacks, slack_at}
+use Rattle.gj_shape.proofs.TableLemmas.{table_of_order, limits_are_slacks, slack_at, at_plus_order}
+use Rattle.gj_tools.proofs.Quotients.{same_at_remainder}
 use Rattle.gj_theory.specs.CornerSlacks.{IsBelowCorners}
 use Rattle.gj_theory.proofs.CornerSlacks.{grid_slacks_low, slack_at_multiples, reached_beside_zero}
 use Rattle.gj_theory.specs.Lanes.{AreNumbers}
 use Rattle.gj_theory.proofs.Lanes.{IsLane}
 use Rattle.gj_theory.proofs.SlacksAndSizes.{least_slack}
-use Rattle.gj_perturb.specs.Lanes.{lane_slack, triangle, AreSubadditive, no_slack, IsAtCorner, IsBesideZero, AreLeast, IsInRows}
+use Rattle.gj_perturb.specs.Lanes.{lane_slack, triangle, AreSubadditive, no_slack, IsAtCorner, IsBesideZero, AreLeast, IsLeastAt, IsInRows}
 use Rattle.gj_perturb.specs.Values.{AreTwoPeriods}
 use Rattle.gj_perturb.proofs.LaneSlacks.{slack_small}
 use Rattle.gj_theory.proofs.CarriedSteps.{all_three}
@@ -194,6 +195,23 @@ module _ (f : FunctionData) (m : ℕ) (l : IsWithinBounds f) (c : IsContinuous f
         (corner_met lanes x d (record { a = h.a; b = h.b; a_below = h.a_below; b_below = h.b_below; here = h.here }))
   ]
 
+  -- some slack is positive, and none of them is as great as what stands for none
+  some_corner : (any u : ℕ) → ((i j : ℕ) → pos 0 <ℤ slack_on_grid f m i j → pos u ≤ℤ slack_on_grid f m i j) →
+      any ≡ no_slack → u ≡ m * (any + 1) → ⊥
+  some_corner any u low none e = of_least (least_slack f m l minimal some)
+    where
+      of_least : (v : ℕ) × IsLeastSlack f m v → ⊥
+      of_least (v, least) =
+          let has = has_least_slack f m (pos v) v l minimal some refl least in
+          let small = has.small in
+          let v_is : pos v ≡ pos has.u = has.same in
+          let here : pos u ≤ℤ pos v = subst (λ z. pos u ≤ℤ z) least.reached
+          (low least.i least.j (subst (λ z. pos 0 <ℤ z) (sym least.reached) least.positive)) in
+          let scale : f.scale < 2 ^ 31 = l.scale_high in
+          let most : m * (2 * f.scale) < m * (any + 1) = mul-lt-mul_of_pos_left (omega arith) some in
+          let turned : 2 * (f.scale * m) ≡ m * (2 * f.scale) = omega arith in
+          omega (arith, ints)
+
   pub is_least : (lanes : List ℕ) (any beside u : ℕ) → AreTwoPeriods f lanes →
       AreLeast lanes f.order (IsInRows f.order f.order) any beside → u ≤ m * (any + 1) →
       (beside < no_slack → u ≤ beside + 1) → (u ≡ m * (any + 1)) ⊎ ((beside < no_slack) × (u ≡ beside + 1)) → IsLeastSlack f m u
@@ -204,26 +222,10 @@ module _ (f : FunctionData) (m : ℕ) (l : IsWithinBounds f) (c : IsContinuous f
           subst (IsBelowCorners m u) (sym (limits_are f lanes a b c minimal d (omega arith) below))
           (below_corners lanes f.order m u any beside a b h from below (are_subadditive f lanes minimal d) at_corners at_beside))
 
-      -- some slack is positive, and none of them is as great as what stands for none
-      some_corner : any ≡ no_slack → u ≡ m * (any + 1) → ⊥
-      some_corner none e = of_least (least_slack f m l minimal some)
-        where
-          of_least : (v : ℕ) × IsLeastSlack f m v → ⊥
-          of_least (v, least) =
-              let has = has_least_slack f m (pos v) v l minimal some refl least in
-              let small = has.small in
-              let v_is : pos v ≡ pos has.u = has.same in
-              let here : pos u ≤ℤ pos v = subst (λ z. pos u ≤ℤ z) least.reached
-              (low least.i least.j (subst (λ z. pos 0 <ℤ z) (sym least.reached) least.positive)) in
-              let scale : f.scale < 2 ^ 31 = l.scale_high in
-              let most : m * (2 * f.scale) < m * (any + 1) = mul-lt-mul_of_pos_left (omega arith) some in
-              let turned : 2 * (f.scale * m) ≡ m * (2 * f.scale) = omega arith in
-              omega (arith, ints)
-
       met_here : IsMet u × (0 < u)
       met_here = elim met [
         | inl e ↦ elim h.any_met [
-          | inl none ↦ absurd (some_corner none e)
+          | inl none ↦ absurd (some_corner any u low none e)
           | inr corner ↦ (
             subst IsMet (sym e) (corner_met lanes (any + 1) d corner),
             (let positive : 0 < m * (any + 1) = mul-pos some (omega arith) in omega arith),
@@ -241,3 +243,62 @@ module _ (f : FunctionData) (m : ℕ) (l : IsWithinBounds f) (c : IsContinuous f
       of_met : IsMet u × (0 < u) → IsLeastSlack f m u
       of_met ((i, j, e), positive) =
           record { positive = omega (arith, ints); i = i; j = j; reached = e; least = low }
+
+-- ---- on the grid of order q
+
+module _ (f : FunctionData) (lanes : List ℕ) (l : IsWithinBounds f) (c : IsContinuous f) (minimal : IsMinimal f)
+    (d : AreTwoPeriods f lanes) where
+  -- the slack at two indices is that at others with the same remainders
+  slack_at_remainders : (i j a b : ℕ) → a % f.order ≡ i % f.order → b % f.order ≡ j % f.order →
+      slack_on_grid f 1 i j ≡ slack_at f (a, b)
+  slack_at_remainders i j a b e g =
+      let value = table_of_order f in
+      let same = same_at_remainder (at f.value) f.order (λ k. at_plus_order f.value k f.order l.value_length) in
+      let both : (a + b) % f.order ≡ (i + j) % f.order =
+      add-mod a b f.order ∙ ap₂ (λ x y. (x + y) % f.order) e g ∙ sym (add-mod i j f.order) in
+      let first = value i ∙ sym (same a i e) in
+      let second = value j ∙ sym (same b j g) in
+      let sum = value (i + j) ∙ sym (same (a + b) (i + j) both) in
+      omega (arith, ints)
+
+  turned : (i j : ℕ) → slack_on_grid f 1 i j ≡ slack_on_grid f 1 j i
+  turned i j = let sum = ap (table f 1) (add_comm i j) in omega (arith, ints)
+
+  low_in_order : (least i j : ℕ) → IsLeastAt lanes f.order (IsInRows f.order f.order) least → i % f.order ≤ j % f.order →
+      pos 0 <ℤ slack_on_grid f 1 i j → pos (least + 1) ≤ℤ slack_on_grid f 1 i j
+  low_in_order least i j h from positive =
+      let a = i % f.order in
+      let b = j % f.order in
+      let some : 0 < f.order = omega (arith, l.order_low) in
+      let a_below : i % f.order < f.order = mod-lt i some in
+      let b_below : j % f.order < f.order = mod-lt j some in
+      let slack = slack_at_remainders i j a b (mod-mod i f.order) (mod-mod j f.order) in
+      let lane = lane_slack_is f lanes a b minimal d (omega arith) in
+      let here : slack_on_grid f 1 i j ≡ pos (lane_slack lanes (i % f.order) (j % f.order)) = slack ∙ sym lane in
+      let low = h.low a b (a_below, from, b_below) (omega (arith, ints)) in
+      omega (arith, ints)
+
+  low_at_corners : (least : ℕ) → IsLeastAt lanes f.order (IsInRows f.order f.order) least → (i j : ℕ) →
+      pos 0 <ℤ slack_on_grid f 1 i j → pos (least + 1) ≤ℤ slack_on_grid f 1 i j
+  low_at_corners least h i j positive = elim (cases_lt (j % f.order) (i % f.order)) [
+    | inl less ↦
+        subst (λ z. pos (least + 1) ≤ℤ z) (turned j i)
+        (low_in_order least j i h (omega arith) (subst (λ z. pos 0 <ℤ z) (turned i j) positive))
+    | inr more ↦ low_in_order least i j h more positive
+  ]
+
+  pub is_least_at_corners : (least : ℕ) → IsLeastAt lanes f.order (IsInRows f.order f.order) least → IsLeastSlack f 1 (least + 1)
+  is_least_at_corners least h = elim h.met [
+    | inl none ↦
+        absurd (some_corner f 1 l c minimal (omega arith) least (least + 1) (low_at_corners least h) none (omega arith))
+    | inr corner ↦ of_met (corner_met f 1 l c minimal (omega arith) lanes (least + 1) d corner)
+  ]
+    where
+      of_met : IsMet f 1 l c minimal (omega arith) (1 * (least + 1)) → IsLeastSlack f 1 (least + 1)
+      of_met (i, j, e) = record {
+        positive = omega (arith, ints);
+        i = i;
+        j = j;
+        reached = e ∙ ap pos (let one : 1 * (least + 1) ≡ least + 1 = omega arith in one);
+        least = low_at_corners least h;
+      }

@@ -3,7 +3,7 @@ use Rattle.std.proofs.Common.{◌≡◌, ◌≢◌, ℕ, zero, suc, ◌⊎◌, i
 use Rattle.std.specs.List.{Contains}
 use Rattle.std.proofs.lemmas.Bool.{cases_lt}
 use Rattle.gj_theory.proofs.CarriedSteps.{all_three}
-use Rattle.gj_perturb.specs.Lanes.{lane_slack, triangle, AreSubadditive, no_slack, IsAtCorner, IsBesideZero, AreLeast, IsInRow, IsInRows}
+use Rattle.gj_perturb.specs.Lanes.{lane_slack, triangle, AreSubadditive, no_slack, IsAtCorner, IsBesideZero, AreLeast, IsLeastAt, IsInRow, IsInRows}
 
 -- ---- the least of two choices of triangles
 
@@ -42,6 +42,20 @@ together lanes n Q R S x y x' y' split g h = record {
     | inr r ↦ λ k d below above. other_low y y' _ (h.beside_low a b r tight k d below above)
   ];
 }
+
+corners_together : (lanes : List ℕ) (n : ℕ) (Q R S : ℕ → ℕ → Type 0) (x x' : ℕ) → ((a b : ℕ) → S a b → Q a b ⊎ R a b) →
+    IsLeastAt lanes n Q x → IsLeastAt lanes n R x' → IsLeastAt lanes n S (min x x')
+corners_together lanes n Q R S x x' split g h = record {
+  met = lesser_met (IsAtCorner lanes n) x x' g.met h.met;
+  low = λ a b s. elim (split a b s) [
+    | inl q ↦ λ above. lesser_low x x' _ (g.low a b q above)
+    | inr r ↦ λ above. other_low x x' _ (h.low a b r above)
+  ];
+}
+
+-- where no corner is chosen
+pub no_corner : (lanes : List ℕ) (n : ℕ) (Q : ℕ → ℕ → Type 0) → ((a b : ℕ) → Q a b → ⊥) → IsLeastAt lanes n Q no_slack
+no_corner lanes n Q none = record { met = inl refl; low = λ a b q. absurd (none a b q) }
 
 -- where no triangle is chosen
 pub nothing : (lanes : List ℕ) (n : ℕ) (Q : ℕ → ℕ → Type 0) → ((a b : ℕ) → Q a b → ⊥) → AreLeast lanes n Q no_slack no_slack
@@ -230,15 +244,42 @@ one_triangle lanes n i j least greatest chosen h i_below j_below d = record {
     third : StandsFor (lane_slack lanes i (j + 1)) (lane_of (lane_slack lanes i (j + 1)))
     third = stands_for r (let small = r_small in omega arith)
 
+-- ---- one corner
+
+pub one_corner : (lanes : List ℕ) (n i j : ℕ) → AreSubadditive lanes n → i < n → j < n →
+    IsLeastAt lanes n (IsSquare i j) (lane_of (lane_slack lanes i j))
+one_corner lanes n i j h i_below j_below =
+    let s = lane_slack lanes i j in
+    let small : s < 2 ^ 32 - 1 = slack_small lanes n i j h (omega arith) (omega arith) in
+    let stands = stands_for s (omega arith) in
+    record {
+      met = elim (met_by (triangle lanes i j) s (lane_of s) (lane_of s) (0, omega arith, refl) stands refl) [
+        | inl none ↦ inl none
+        | inr here ↦ inr (record { a = i; b = j; a_below = i_below; b_below = j_below; here = here })
+      ];
+      low = λ a b e. at_square (λ a' b'. 0 < lane_slack lanes a' b' → lane_of s < lane_slack lanes a' b') i j a b e
+          (λ above. let some = stands.some above in omega arith);
+    }
+
 -- ---- the loops
+
+-- the last square of a row, and the last row
+in_row : (i j a b : ℕ) → IsInRow i (j + 1) a b → IsInRow i j a b ⊎ IsSquare i j a b
+in_row i j a b (e, from, below) = elim (cases_lt b j) [
+  | inl less ↦ inl (e, from, less)
+  | inr high ↦ inr (e, omega arith)
+]
+
+in_rows : (n i a b : ℕ) → IsInRows n (i + 1) a b → IsInRows n i a b ⊎ IsInRow i n a b
+in_rows n i a b (low, from, below) = elim (cases_lt a i) [
+  | inl less ↦ inl (less, from, below)
+  | inr high ↦ inr (let e : a ≡ i = omega arith in (e, omega arith, below))
+]
 
 pub one_square_more : (lanes : List ℕ) (n i j x y x' y' : ℕ) → AreLeast lanes n (IsInRow i j) x y → AreLeast lanes n (IsSquare i j) x' y' →
     AreLeast lanes n (IsInRow i (j + 1)) (min x x') (min y y')
 one_square_more lanes n i j x y x' y' =
-    together lanes n (IsInRow i j) (IsSquare i j) (IsInRow i (j + 1)) x y x' y' (λ a b (e, from, below). elim (cases_lt b j) [
-      | inl less ↦ inl (e, from, less)
-      | inr high ↦ inr (e, omega arith)
-    ])
+    together lanes n (IsInRow i j) (IsSquare i j) (IsInRow i (j + 1)) x y x' y' (in_row i j)
 
 pub no_row : (lanes : List ℕ) (n : ℕ) → AreLeast lanes n (IsInRows n 0) no_slack no_slack
 no_row lanes n = nothing lanes n (IsInRows n 0) (λ a b (low, from, below). omega arith)
@@ -246,7 +287,14 @@ no_row lanes n = nothing lanes n (IsInRows n 0) (λ a b (low, from, below). omeg
 pub one_row_more : (lanes : List ℕ) (n i x y x' y' : ℕ) → AreLeast lanes n (IsInRows n i) x y → AreLeast lanes n (IsInRow i n) x' y' →
     AreLeast lanes n (IsInRows n (i + 1)) (min x x') (min y y')
 one_row_more lanes n i x y x' y' =
-    together lanes n (IsInRows n i) (IsInRow i n) (IsInRows n (i + 1)) x y x' y' (λ a b (low, from, below). elim (cases_lt a i) [
-      | inl less ↦ inl (less, from, below)
-      | inr high ↦ inr (let e : a ≡ i = omega arith in (e, omega arith, below))
-    ])
+    together lanes n (IsInRows n i) (IsInRow i n) (IsInRows n (i + 1)) x y x' y' (in_rows n i)
+
+pub one_corner_more : (lanes : List ℕ) (n i j x x' : ℕ) → IsLeastAt lanes n (IsInRow i j) x → IsLeastAt lanes n (IsSquare i j) x' →
+    IsLeastAt lanes n (IsInRow i (j + 1)) (min x x')
+one_corner_more lanes n i j x x' =
+    corners_together lanes n (IsInRow i j) (IsSquare i j) (IsInRow i (j + 1)) x x' (in_row i j)
+
+pub one_row_of_corners_more : (lanes : List ℕ) (n i x x' : ℕ) → IsLeastAt lanes n (IsInRows n i) x → IsLeastAt lanes n (IsInRow i n) x' →
+    IsLeastAt lanes n (IsInRows n (i + 1)) (min x x')
+one_row_of_corners_more lanes n i x x' =
+    corners_together lanes n (IsInRows n i) (IsInRow i n) (IsInRows n (i + 1)) x x' (in_rows n i)

@@ -46,6 +46,11 @@ pub record AreLeast (lanes : List ℕ) (n : ℕ) (IsChosen : ℕ → ℕ → Typ
   pub beside_low : (a b : ℕ) → IsChosen a b → Contains (triangle lanes a b) 0 →
       All (λ x. 0 < x → beside_zero < x) (triangle lanes a b)
 
+-- the lane of the least positive slack at the chosen corners
+pub record IsLeastAt (lanes : List ℕ) (n : ℕ) (IsChosen : ℕ → ℕ → Type 0) (least : ℕ) : Type 0 where
+  pub met : (least ≡ no_slack) ⊎ IsAtCorner lanes n (least + 1)
+  pub low : (a b : ℕ) → IsChosen a b → 0 < lane_slack lanes a b → least < lane_slack lanes a b
+
 -- the squares (i, b) with b from i to below `end`
 abbrev pub IsInRow : ℕ → ℕ → ℕ → ℕ → Type 0
 IsInRow i end a b = (a ≡ i) × (i ≤ b) × (b < end)

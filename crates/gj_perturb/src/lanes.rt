@@ -1,6 +1,35 @@
 //! The slacks at the corners of the complex, over lanes of 32 bits, so that the processor finds several at once.
 ghost use Rattle.std.specs.Prelude.{ℕ, ◌≡◌, ◌≢◌, ◌⊎◌, ◌+◌, ◌*◌, ◌<◌, ◌≤◌, min};
-ghost use Rattle.gj_perturb.specs.Lanes.{AreSubadditive, AreLeast, IsInRow, IsInRows, no_slack};
+ghost use Rattle.gj_perturb.specs.Lanes.{AreSubadditive, AreLeast, IsLeastAt, IsInRow, IsInRows, no_slack};
+
+/// The least positive slack at the corners (i, j) with i and j below n, less 1, of a table over two periods of n lanes each;
+/// `u32::MAX` where none is positive.
+pub(crate) fn least_at_corners(lanes: &[u32], n: usize) -> u32
+    requires { AreSubadditive lanes.now n }
+    ensures { IsLeastAt lanes.now n (IsInRows n n) result }
+{
+    let mut least = u32::MAX;
+    for i in 0..n {
+        least = least.min(least_in_row_of_corners(lanes, n, i));
+    }
+    least
+}
+
+/// The same of the corners (i, j) with j from i to below n.
+fn least_in_row_of_corners(lanes: &[u32], n: usize, i: usize) -> u32
+    requires lanes { AreSubadditive lanes.now n }
+    requires below { i < n }
+    ensures { IsLeastAt lanes.now n (IsInRow i n) result }
+{
+    let first = lanes[i];
+    let mut least = u32::MAX;
+    for j in i..n {
+        let slack = first + lanes[j] - lanes[i + j];
+        // One below a slack of 0 is the greatest lane, so the least lane is that of a positive slack.
+        least = least.min(slack.wrapping_sub(1));
+    }
+    least
+}
 
 /// The least positive slacks at the corners of lower triangles, each less 1; `u32::MAX` where none is positive.
 #[derive(Clone, Copy)]

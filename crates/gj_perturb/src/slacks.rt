@@ -6,12 +6,12 @@ ghost use Rattle.gj_shape.specs.Table.{IsMinimal};
 ghost use Rattle.gj_perturb.specs.Values.{AreTwoPeriods};
 
 use crate::grid::value_at;
-use crate::lanes::{least_on_grid, least_slacks};
+use crate::lanes::{least_at_corners, least_on_grid, least_slacks};
 use gj_shape::Shape;
 use std::alloc::{AllocError, Global};
 
 /// The least positive slack of the function's table on the grid of order `times` q. The slack is affine on each face, so those at
-/// the corners give it.
+/// the corners give it; on the grid of order q the corners are all there is.
 pub(crate) fn least_slack(alloc: Global, shape: &Shape, times: u32) -> Result<u64, AllocError>
     requires minimal { IsMinimal shape.now }
     requires continuous { IsContinuous shape.now }
@@ -19,8 +19,14 @@ pub(crate) fn least_slack(alloc: Global, shape: &Shape, times: u32) -> Result<u6
     requires high { times ≤ 4 }
     ensures { IfOk result (IsLeastSlack shape.now times) }
 {
-    let lanes = two_periods(alloc, shape)?;
-    let least = least_slacks(lanes.as_slice(), shape.order() as usize);
+    let periods = two_periods(alloc, shape)?;
+    let lanes = periods.as_slice();
+    let order = shape.order() as usize;
+    if times == 1 {
+        let least = least_at_corners(lanes, order);
+        return Ok(u64::from(least) + 1);
+    }
+    let least = least_slacks(lanes, order);
     Ok(least_on_grid(least, times))
 }
 
