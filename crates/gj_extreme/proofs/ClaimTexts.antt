@@ -24,7 +24,7 @@ use Rattle.gj_theory.proofs.LineComponents.{line_of_component}
 use Rattle.gj_theory.proofs.LineIntervals.{lines_for_all}
 use Rattle.gj_proof.specs.PresentRows.{arithmetic_of}
 use Rattle.gj_proof.specs.ProofText.{IsCoverLineBelow, IsRowNameBelow, IsPivotRowBelow, AreExtremeLines}
-use Rattle.gj_proof.specs.Rules.{MeetsPivot, MeetsPivotBy}
+use Rattle.gj_proof.specs.Rules.{MeetsPivotBy}
 use Rattle.gj_proof.specs.declared.numbers.Numbers.{Numbers}
 use Rattle.gj_proof.specs.declared.numbers.Numbers.TheVariants.{Whole, Residues}
 use Rattle.gj_proof.specs.declared.pivot.PivotRow.{PivotRow}

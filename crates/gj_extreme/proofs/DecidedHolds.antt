@@ -1,5 +1,5 @@
 -- What the decision gives holds.
-use Rattle.std.proofs.Common.{◌≡◌, ℕ, inl, inr, ◌*◌, ◌<◌, ℤ, pos, List, length, map, sym, subst, lit<, arith}
+use Rattle.std.proofs.Common.{◌≡◌, ℕ, inl, inr, ◌*◌, ℤ, pos, List, length, map, sym, subst, lit<, arith}
 use Rattle.std.specs.Prelude.{All}
 use Rattle.std.proofs.lemmas.List.Elements.{All-nil, All-map}
 use Rattle.gj_shape.specs.Additive.{IsTight}

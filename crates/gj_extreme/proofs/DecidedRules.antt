@@ -15,7 +15,6 @@ use Rattle.gj_shape.specs.declared.extremality.CoverLine.{CoverLine}
 use Rattle.gj_shape.specs.declared.extremality.Halves.{Halves}
 use Rattle.gj_shape.specs.declared.violations.Violation.{Violation}
 use Rattle.gj_theory.proofs.SlacksAndSizes.{at_most_scale}
-use Rattle.gj_theory.specs.CoverRules.{MeetsCoverRule}
 use Rattle.gj_theory.specs.GridPoints.{IsAtGridPoints}
 use Rattle.gj_theory.specs.Halves.{AreDifferentHalves}
 use Rattle.gj_theory.proofs.CoverLines.{lines_meet_rules}

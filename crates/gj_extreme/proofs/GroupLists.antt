@@ -1,6 +1,6 @@
 -- The groups of rows that are kept, from their names and the log.
 use Rattle.std.proofs.Common.{◌≡◌, ℕ, ◌+◌, ◌<◌, List, [], ◌∷◌, ◌++◌, length, map, take, get_or, sym, ap, ap₂, ◌∙◌, arith}
-use Rattle.std.proofs.lemmas.List.{get_or-map, get_or_default, length-map, take_more, map-append}
+use Rattle.std.proofs.lemmas.List.{get_or-map, length-map, take_more, map-append}
 use Rattle.gj_shape.specs.Elimination.{KeptRow}
 use Rattle.gj_shape.specs.FunctionData.{FunctionData}
 use Rattle.gj_shape.specs.SlopeRows.{row_names}

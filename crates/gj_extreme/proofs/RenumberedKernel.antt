@@ -1,5 +1,5 @@
 -- The kernel does not look at the numbers of the kept rows.
-use Rattle.std.proofs.Common.{◌≡◌, ℕ, zero, suc, Option, None, Some, ℤ, List, [], ◌∷◌, map, eqb, refl, sym, ap, ap₂, ◌∙◌}
+use Rattle.std.proofs.Common.{◌≡◌, ℕ, zero, suc, Option, None, Some, ℤ, List, [], ◌∷◌, map, eqb, refl, ap, ◌∙◌}
 use Rattle.std.specs.Prelude.{not, ◌||◌}
 use Rattle.std.specs.List.{range_with_len, find, list_any}
 use Rattle.std.proofs.Math.Path.{fun_ext}

@@ -1,23 +1,26 @@
 -- Pairs that are seen.
-use Rattle.std.proofs.Common.{◌≡◌, ℕ, ◌+◌, ◌%◌, ◌*◌, ◌<◌, ◌≤◌, ℤ, pos, ◌+ℤ◌, ◌-ℤ◌, List, [], ◌∷◌, ◌++◌, length, map, get_or, set, refl, sym, ap, ap₂, subst, ◌∙◌, inl, inr, arith}
-use Rattle.std.specs.Prelude.{All, Contains}
+use Rattle.std.proofs.Common.{◌≡◌, ◌≢◌, ℕ, ◌+◌, ◌-◌, ◌%◌, ◌*◌, ◌<◌, ◌≤◌, ℤ, pos, ◌+ℤ◌, ◌-ℤ◌, List, [], length, map, get_or, set, refl, sym, ap, ap₂, subst, ◌∙◌, inl, inr, cond, eqb, arith}
+use Rattle.std.specs.Prelude.{All}
 use Rattle.std.specs.List.{range_with_len}
 use Rattle.std.proofs.Math.ListN.{length-set}
-use Rattle.std.proofs.Math.Nat.{mod-eq_of_lt}
+use Rattle.std.proofs.Math.Nat.{mod-eq_of_lt, mod-eq-sub-mod}
+use Rattle.std.proofs.lemmas.Bool.{cases_lt}
+use Rattle.std.proofs.lemmas.Int.{ints}
+use Rattle.std.proofs.Math.Path.{fun_ext}
 use Rattle.std.proofs.lemmas.List.Elements.{All-set}
 use Rattle.gj_tools.proofs.Lists.{All-made}
-use Rattle.gj_shape.specs.Elimination.{elimination, elimination_from, Passes}
+use Rattle.gj_theory.proofs.RiseCounts.{rises_more}
+use Rattle.gj_shape.specs.Elimination.{elimination_from, Passes}
 use Rattle.gj_shape.specs.FunctionData.{FunctionData}
-use Rattle.gj_shape.specs.SlopeRows.{row_entry, row_names, rises}
+use Rattle.gj_shape.specs.SlopeRows.{row_entry, row_names, row_of, rises}
 use Rattle.gj_shape.specs.declared.extremality.RowName.{RowName}
 use Rattle.gj_shape.specs.declared.extremality.RowName.TheVariants.{Pair}
-use Rattle.gj_proof.specs.PresentRows.{named_row}
-use Rattle.gj_extreme.specs.RowsToCome.{AreToCome, IsTaken, AreHandedOver, name_of}
+use Rattle.gj_extreme.specs.RowsToCome.{AreToCome, IsSeen, IsTaken, name_of}
 use Rattle.gj_extreme.specs.SeenPairs.{IsPairBelow, AreSeenBelow, IsSeenRow}
 use Rattle.gj_extreme.specs.declared.rows.Rows.{Rows}
 use Rattle.gj_extreme.specs.declared.seen.SeenPair.{SeenPair}
 use Rattle.gj_extreme.specs.declared.seen.SeenPairs.{SeenPairs}
-use Rattle.gj_theory.specs.HandedOver.{handed_numbers, renumbered}
+use Rattle.gj_theory.specs.HandedOver.{renumbered}
 
 -- the pair of zeros has a row of zeros
 zeros_at : (q : ℕ) → 0 < q → (0 + 0) % q ≡ 0
@@ -34,34 +37,83 @@ zero_pair f component n before p some is =
 pub pair_is_set : (f : FunctionData) (component : ℕ → ℕ) (n : ℕ) (rows : Rows) (seen : SeenPairs) (place : ℕ) (p : SeenPair)
     (rest : List RowName) → IsPairBelow f.order p → seen.codes ≡ rows.seen.codes → seen.pairs.items ≡ set rows.seen.pairs.items place p →
     IsTaken f component n (Pair p.a p.b) rows rest →
-    AreToCome f component n (record { basis = rows.basis; names = rows.names; row = rows.row; seen = seen }) rest
+    IsSeen f component n p.a p.b (record { basis = rows.basis; names = rows.names; row = rows.row; seen = seen }) rest
 pair_is_set f component n rows seen place p rest below codes pairs (h, has) =
-    let g = h.handed_over in
-    record {
-      columns = h.columns;
-      width = h.width;
-      seen_below = record {
-        some = subst (λ (m : ℕ). 0 < m) (sym (ap length pairs ∙ length-set rows.seen.pairs.items place p)) h.seen_below.some;
-        few = subst (λ (m : ℕ). m ≤ 4096) (sym (ap length pairs ∙ length-set rows.seen.pairs.items place p)) h.seen_below.few;
-        points = subst (All (IsPairBelow f.order)) (sym pairs)
-            (All-set (IsPairBelow f.order) rows.seen.pairs.items place p below h.seen_below.points);
-        codes = ap (λ c. length c.items) codes ∙ h.seen_below.codes;
-      };
-      handed_over = record {
-        handed = g.handed;
-        before = g.before;
-        number = g.number;
-        few = g.few;
-        next = g.next;
-        onward = g.onward;
-        inserted = g.inserted;
-        kept = g.kept;
-        marked = g.marked;
-        names = g.names;
-        seen = subst (All (IsSeenRow f component n g.before)) (sym pairs)
-            (All-set (IsSeenRow f component n g.before) rows.seen.pairs.items place p (inr has) g.seen);
-      };
-    }
+    let g = h.handed_over in (
+      record {
+        columns = h.columns;
+        width = h.width;
+        seen_below = record {
+          some = subst (λ (m : ℕ). 0 < m) (sym (ap length pairs ∙ length-set rows.seen.pairs.items place p)) h.seen_below.some;
+          few = subst (λ (m : ℕ). m ≤ 4096) (sym (ap length pairs ∙ length-set rows.seen.pairs.items place p)) h.seen_below.few;
+          points = subst (All (IsPairBelow f.order)) (sym pairs)
+              (All-set (IsPairBelow f.order) rows.seen.pairs.items place p below h.seen_below.points);
+          codes = ap (λ c. length c.items) codes ∙ h.seen_below.codes;
+        };
+        handed_over = record {
+          handed = g.handed;
+          before = g.before;
+          number = g.number;
+          few = g.few;
+          next = g.next;
+          onward = g.onward;
+          inserted = g.inserted;
+          kept = g.kept;
+          marked = g.marked;
+          names = g.names;
+          seen = subst (All (IsSeenRow f component n g.before)) (sym pairs)
+              (All-set (IsSeenRow f component n g.before) rows.seen.pairs.items place p (inr has) g.seen);
+        };
+      },
+      inr has,
+    )
+
+-- ---- the pair before
+
+-- the row of a pair from the counts of one interval less
+one_interval_less : (x y z u v c : ℕ) → y ≡ u + c → z ≡ v + c → pos x +ℤ pos u -ℤ pos v ≡ pos x +ℤ pos y -ℤ pos z
+one_interval_less x y z u v c first second = omega (arith, ints)
+
+next_sum : (x q : ℕ) → x + 1 ≢ q → x + 1 < 2 * q → x % q + 1 ≡ (x + 1) % q
+next_sum x q other small = elim (cases_lt (x + 1) q) [
+  | inl next ↦
+      let here : x % q ≡ x = mod-eq_of_lt (omega arith) in
+      let there : (x + 1) % q ≡ x + 1 = mod-eq_of_lt next in
+      omega arith
+  | inr high ↦ elim (cases_lt x q) [
+    | inl less ↦ absurd (other (omega arith))
+    | inr more ↦
+        let here : x % q ≡ x - q = mod-eq-sub-mod more ∙ mod-eq_of_lt (omega arith) in
+        let there : (x + 1) % q ≡ x + 1 - q = mod-eq-sub-mod (omega arith) ∙ mod-eq_of_lt (omega arith) in
+        omega arith
+  ]
+]
+
+-- if the intervals before b and before the sum are in one component, the pair has the row of the one before
+pub same_row_as_before : (component : ℕ → ℕ) (n q k a b s : ℕ) → 0 < b → a < q → b < q → a + b ≢ q →
+    s ≡ (a + (b - 1)) % q → component (b - 1) ≡ component s →
+    row_of component n q k (Pair a (b - 1)) ≡ row_of component n q k (Pair a b)
+same_row_as_before component n q k a b s positive a_below b_below other before same =
+    ap (λ g. map g (range_with_len 0 n)) (fun_ext (λ c. here c))
+  where
+    again : b - 1 + 1 ≡ b
+    again = omega arith
+
+    whole : a + (b - 1) + 1 ≡ a + b
+    whole = omega arith
+
+    sum : s + 1 ≡ (a + b) % q
+    sum =
+        ap (λ i. i + 1) before ∙ next_sum (a + (b - 1)) q (λ e. other (sym whole ∙ e)) (omega arith)
+        ∙ ap (λ i. i % q) whole
+
+    here : (c : ℕ) → row_entry component q k (Pair a (b - 1)) c ≡ row_entry component q k (Pair a b) c
+    here c =
+        ap (λ i. pos (rises component a c) +ℤ pos (rises component (b - 1) c) -ℤ pos (rises component i c)) (sym before)
+        ∙ one_interval_less (rises component a c) (rises component (b - 1 + 1) c) (rises component (s + 1) c)
+        (rises component (b - 1) c) (rises component s c) (cond (eqb (component s) c) 1 0)
+        (rises_more component (b - 1) c ∙ ap (λ i. rises component (b - 1) c + cond (eqb i c) 1 0) same) (rises_more component s c)
+        ∙ ap₂ (λ i j. pos (rises component a c) +ℤ pos (rises component i c) -ℤ pos (rises component j c)) again sum
 
 -- no rows, of which all are to come
 pub none_yet : (f : FunctionData) (component : ℕ → ℕ) (n : ℕ) (rows : Rows) → rows.basis.columns ≡ n → rows.basis.inserted ≡ 0 →

@@ -1,6 +1,6 @@
 -- Rows that are taken one after another from those to come.
 use Rattle.std.proofs.Common.{◌≡◌, ℕ, ◌+◌, ◌<◌, ◌≤◌, ◌^◌, ◌↔◌, ◌⊎◌, inl, inr, Bool, true, false, Option, None, Some, ℤ, List, [], ◌∷◌, ◌++◌, length, map, get_or, refl, sym, ap, ap₂, ◌∙◌, subst, append_assoc, arith}
-use Rattle.std.specs.Prelude.{All, Contains, nat_le, pos, unsigned_abs, zip, IsTrue}
+use Rattle.std.specs.Prelude.{All, Contains, nat_le, pos, zip, IsTrue}
 use Rattle.std.specs.List.{range_with_len}
 use Rattle.std.proofs.Math.Seq.{get_or-append_seam}
 use Rattle.std.proofs.lemmas.Bool.{lt-leb, le-leb, cases_lt}
@@ -22,7 +22,7 @@ use Rattle.gj_theory.proofs.Passing.{none_passes, front_passes, back_passes, eit
 use Rattle.gj_theory.proofs.RepeatedRows.{once_keeps, once_passes, all_handed_over}
 use Rattle.gj_proof.specs.PresentRows.{named_row}
 use Rattle.gj_extreme.specs.Decision.{slope_elimination}
-use Rattle.gj_extreme.specs.RowsToCome.{name_of, rows_named, AreNextNames, AreHandedOver, AreToCome, IsTaken, AreInserted, IsReady}
+use Rattle.gj_extreme.specs.RowsToCome.{name_of, rows_named, AreNextNames, AreHandedOver, AreToCome, IsSeen, IsTaken, AreInserted, IsReady}
 use Rattle.gj_extreme.specs.SeenPairs.{IsSeenRow, AreSeenBelow}
 use Rattle.gj_extreme.specs.declared.rows.Rows.{Rows}
 use Rattle.gj_extreme.specs.declared.seen.SeenPair.{SeenPair}
@@ -348,43 +348,48 @@ full_takes_all f component n rows (name ∷ rest) full h =
 
 -- ---- a row that was seen
 
--- the pair has a row that was handed over, or one of zeros
-pub row_is_seen : (f : FunctionData) (component : ℕ → ℕ) (n : ℕ) (rows : Rows) (name : RowName) (rest : List RowName) (p : SeenPair) →
-    (h : AreToCome f component n rows (name ∷ rest)) → IsSeenRow f component n h.handed_over.before p →
-    named_row f component n (Pair p.a p.b) ≡ named_row f component n name → AreToCome f component n rows rest
-row_is_seen f component n rows name rest p h seen same =
+-- the row of the name is that of a pair that was handed over, or one of zeros
+pub row_is_seen : (f : FunctionData) (component : ℕ → ℕ) (n : ℕ) (rows : Rows) (a b : ℕ) (rest : List RowName) (p : SeenPair) →
+    (h : AreToCome f component n rows (Pair a b ∷ rest)) → IsSeenRow f component n h.handed_over.before p →
+    named_row f component n (Pair p.a p.b) ≡ named_row f component n (Pair a b) → IsSeen f component n a b rows rest
+row_is_seen f component n rows a b rest p h seen same =
     let g = h.handed_over in
-    let row = named_row f component n name in
-    let behind = rows_named f component n rest in
-    record {
-      columns = h.columns;
-      width = h.width;
-      seen_below = h.seen_below;
-      handed_over = record {
-        handed = g.handed;
-        before = g.before;
-        number = g.number + 1;
-        few = let low = g.few in omega arith;
-        next = one_name_further f g.number name rest g.next;
-        onward = λ more given. g.onward more (left_out more given seen);
-        inserted = g.inserted;
-        kept = g.kept;
-        marked = g.marked;
-        names = g.names;
-        seen = g.seen;
-      };
-    }
+    let here = seen_again seen in (
+      record {
+        columns = h.columns;
+        width = h.width;
+        seen_below = h.seen_below;
+        handed_over = record {
+          handed = g.handed;
+          before = g.before;
+          number = g.number + 1;
+          few = let low = g.few in omega arith;
+          next = one_name_further f g.number (Pair a b) rest g.next;
+          onward = λ more given. g.onward more (left_out more given here);
+          inserted = g.inserted;
+          kept = g.kept;
+          marked = g.marked;
+          names = g.names;
+          seen = g.seen;
+        };
+      },
+      here,
+    )
   where
+    seen_again : IsSeenRow f component n h.handed_over.before p → IsSeenRow f component n h.handed_over.before (record { a = a; b = b })
+    seen_again (inl are) = inl (subst (All (λ x. x ≡ pos 0)) same are)
+    seen_again (inr has) = inr (subst (Contains h.handed_over.before) same has)
+
     left_out : (more : List (ℕ × List ℤ)) →
         IsHandedOver h.handed_over.before (h.handed_over.number + 1) (rows_named f component n rest) more →
-        IsSeenRow f component n h.handed_over.before p →
-        IsHandedOver h.handed_over.before h.handed_over.number (rows_named f component n (name ∷ rest)) more
+        IsSeenRow f component n h.handed_over.before (record { a = a; b = b }) →
+        IsHandedOver h.handed_over.before h.handed_over.number (rows_named f component n (Pair a b ∷ rest)) more
     left_out more given (inl are) =
-        zeros_handed h.handed_over.before h.handed_over.number (named_row f component n name) (rows_named f component n rest) more
-        (subst (All (λ x. x ≡ pos 0)) same are) given
+        zeros_handed h.handed_over.before h.handed_over.number (named_row f component n (Pair a b)) (rows_named f component n rest) more
+        are given
     left_out more given (inr has) =
-        again_handed h.handed_over.before h.handed_over.number (named_row f component n name) (rows_named f component n rest) more
-        (subst (Contains h.handed_over.before) same has) given
+        again_handed h.handed_over.before h.handed_over.number (named_row f component n (Pair a b)) (rows_named f component n rest) more
+        has given
 
 -- ---- all rows
 

@@ -1,5 +1,5 @@
 -- What the decision gives of a minimal function with two slopes.
-use Rattle.std.proofs.Common.{◌≡◌, ℕ, inl, inr, ◌*◌, ◌<◌, List, Result, Ok, Err, refl, sym, ap, arith}
+use Rattle.std.proofs.Common.{ℕ, inl, inr, ◌*◌, ◌<◌, List, Result, Ok, Err, refl, sym, ap, arith}
 use Rattle.std.specs.Prelude.{IsErr, IsErrOf, MatchResult}
 use Rattle.gj_shape.specs.Extreme.{IsExtreme}
 use Rattle.gj_shape.specs.FunctionData.{FunctionData, IsWithinBounds, IsContinuous, IsJump, at}

@@ -1,5 +1,5 @@
 -- Rows of the system that are inserted, and those that are still to come (own).
-use Rattle.std.specs.Prelude.{ℕ, ℤ, ◌≡◌, ◌↔◌, ◌*◌, ◌-◌, ◌<◌, ◌≤◌, ◌^◌, List, [], ◌++◌, Contains, All, length, map, filter, flat_map, get_or}
+use Rattle.std.specs.Prelude.{ℕ, ℤ, ◌≡◌, ◌↔◌, ◌-◌, ◌<◌, ◌≤◌, ◌^◌, List, [], ◌++◌, Contains, All, length, map, filter, flat_map, get_or}
 use Rattle.std.specs.List.{range_with_len}
 use Rattle.gj_shape.specs.Elimination.{KeptRow, elimination, elimination_from, Passes}
 use Rattle.gj_shape.specs.FunctionData.{FunctionData}
@@ -79,6 +79,11 @@ pub record AreToCome (f : FunctionData) (component : ℕ → ℕ) (n : ℕ) (row
 abbrev pub IsTaken : FunctionData → (ℕ → ℕ) → ℕ → RowName → Rows → List RowName → Type 0
 IsTaken f component n name rows rest =
     (h : AreToCome f component n rows rest) × Contains h.handed_over.before (named_row f component n name)
+
+-- so they are, and the row of this pair was one before, or has only zeros
+abbrev pub IsSeen : FunctionData → (ℕ → ℕ) → ℕ → ℕ → ℕ → Rows → List RowName → Type 0
+IsSeen f component n a b rows rest =
+    (h : AreToCome f component n rows rest) × IsSeenRow f component n h.handed_over.before (record { a = a; b = b })
 
 -- all rows are inserted, or as many are kept as there are components; the basis numbers those that were handed over
 pub record AreInserted (f : FunctionData) (component : ℕ → ℕ) (n : ℕ) (rows : Rows) : Type 0 where

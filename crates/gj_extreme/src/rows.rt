@@ -1,14 +1,14 @@
 //! The rows of the linear system for the slopes, inserted in their order until there is one for each component.
-ghost use Rattle.std.specs.Prelude.{ℕ, ◌≡◌, ◌<◌, ◌≤◌, ◌+◌, ◌^◌, ◌↔◌, ◌∷◌, List, length, IfOk, OnOk, IsErrOf, IsTrue};
+ghost use Rattle.std.specs.Prelude.{ℕ, ◌≡◌, ◌<◌, ◌≤◌, ◌+◌, ◌-◌, ◌%◌, ◌^◌, ◌↔◌, ◌∷◌, List, length, IfOk, OnOk, IsErrOf, IsTrue};
 ghost use Rattle.gj_faces.specs.TightPairs.{AreTightPairsOf};
 ghost use Rattle.gj_shape.specs.Elimination.{Passes};
 ghost use Rattle.gj_shape.specs.FunctionData.{FunctionData, IsWithinBounds};
-ghost use Rattle.gj_shape.specs.SlopeRows.{row_names, component_in};
+ghost use Rattle.gj_shape.specs.SlopeRows.{row_names, row_of as row_entries, component_in};
 ghost use Rattle.gj_shape.specs.declared.extremality.RowName.{RowName};
 ghost use Rattle.gj_shape.specs.declared.extremality.RowName.TheVariants.{Pair};
 ghost use Rattle.gj_system.specs.Components.{IsNameBelow};
 ghost use Rattle.gj_extreme.specs.Decision.{slope_elimination};
-ghost use Rattle.gj_extreme.specs.RowsToCome.{AreToCome, AreInserted, IsReady, IsTaken, rows_from};
+ghost use Rattle.gj_extreme.specs.RowsToCome.{AreToCome, AreInserted, IsReady, IsSeen, IsTaken, rows_from};
 
 use crate::seen::{SeenPair, SeenPairs};
 use gj_elim::{Basis, ElimFault, Inserted};
@@ -93,12 +93,48 @@ fn insert_pairs(
         Passes (slope_elimination shape.now (component_in system.now.component) system.now.columns).marked }
 {
     let row = pairs.row(a);
-    let mut from = a as usize;
+    let component = system.component();
+    let first = a as usize;
+    let mut from = first;
     'pairs: while let Some(b) = row.first_from(from) {
+        // If b is `from`, and not the first, the pair (a, b - 1) is the one before.
+        if b == from && b > first && has_row_of_pair_before(component, first, b) {
+            from = b + 1;
+            continue 'pairs;
+        }
         rows.insert_pair(shape, system, a, b as u32)?;
         from = b + 1;
     }
     Ok(())
+}
+
+/// Whether it is known that the pairs (a, b - 1) and (a, b) have the same row: a + b is not q, and the intervals that end at b/q
+/// and at (a + b)/q are in one component.
+fn has_row_of_pair_before(component: &[u32], a: usize, b: usize) -> bool
+    requires first { a < length component.now }
+    requires second { b < length component.now }
+    requires positive { 0 < b }
+    requires small { length component.now < 2 ^ 31 }
+    ensures { IsTrue result → (n place : ℕ) →
+        row_entries (component_in component.now) n (length component.now) place (Pair a (b - 1))
+        ≡ row_entries (component_in component.now) n (length component.now) place (Pair a b) }
+{
+    let order = component.len();
+    if a + b == order {
+        return false;
+    }
+    component[b - 1] == component[sum_below(a, b - 1, order)]
+}
+
+/// The sum of two numbers below the order, less the order where that is not below it.
+fn sum_below(a: usize, b: usize, order: usize) -> usize
+    requires first { a < order }
+    requires second { b < order }
+    requires small { order < 2 ^ 31 }
+    ensures { result ≡ (a + b) % order }
+{
+    let sum = a + b;
+    if sum < order { sum } else { sum - order }
 }
 
 impl Rows {
@@ -139,7 +175,7 @@ impl Rows {
         requires ready { IsReady self.old shape.now.order system.now.columns }
         ensures to_come { OnOk result ((rest : List RowName) →
             AreToCome shape.now (component_in system.now.component) system.now.columns self.old (Pair a b ∷ rest) →
-            AreToCome shape.now (component_in system.now.component) system.now.columns self.new rest) }
+            IsSeen shape.now (component_in system.now.component) system.now.columns a b self.new rest) }
         ensures wide { IsErrOf result ElimFault.Wide → (rest : List RowName) →
             AreToCome shape.now (component_in system.now.component) system.now.columns self.old (Pair a b ∷ rest) →
             Passes (slope_elimination shape.now (component_in system.now.component) system.now.columns).marked }

@@ -1,4 +1,4 @@
-use Rattle.std.proofs.Common.{◌≡◌, ◌<◌, length, map, sym, ap, subst₂, ◌∙◌, arith}
+use Rattle.std.proofs.Common.{◌≡◌, length, sym, ap, subst₂, ◌∙◌, arith}
 use Rattle.std.proofs.lemmas.List.{length-map}
 use Rattle.gj_shape.specs.SlopeRows.{row_names, component_in}
 use Rattle.gj_theory.specs.HandedOver.{renumbered}

@@ -1,4 +1,3 @@
-use Rattle.gj_elim.proofs.Keeping.{same_error}
 use Rattle.gj_extreme.proofs.NotTooWide.{decided_not_wide}
 use Rattle.gj_extreme.proofs.decision.decide_by_cover.Goals as goal
 

@@ -1,4 +1,4 @@
-use Rattle.std.proofs.Common.{◌≡◌, ◌<◌, length, take, map, ap, ◌∙◌, arith}
+use Rattle.std.proofs.Common.{◌≡◌, length, take, map, ap, ◌∙◌, arith}
 use Rattle.std.proofs.Math.Seq.{take-length}
 use Rattle.gj_extreme.specs.Decision.{group_of}
 use Rattle.gj_extreme.proofs.GroupLists.{one_group_more, lines_count}

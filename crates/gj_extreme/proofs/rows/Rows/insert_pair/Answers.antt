@@ -1,9 +1,9 @@
-use Rattle.std.proofs.Common.{◌≡◌, ◌<◌, ◌%◌, length, get_or, set, refl, sym, ap, ap₂, subst, ◌∙◌, arith}
+use Rattle.std.proofs.Common.{◌<◌, length, refl, sym, ap, subst, ◌∙◌}
 use Rattle.std.proofs.lemmas.List.Elements.{All-get_or}
 use Rattle.gj_shape.specs.SlopeRows.{row_of, component_in}
 use Rattle.gj_shape.specs.declared.extremality.RowName.TheVariants.{Pair}
 use Rattle.gj_elim.proofs.Keeping.{same_error}
-use Rattle.gj_extreme.specs.SeenPairs.{IsPairBelow, IsSeenRow}
+use Rattle.gj_extreme.specs.SeenPairs.{IsSeenRow}
 use Rattle.gj_extreme.proofs.TakenRows.{row_is_seen}
 use Rattle.gj_extreme.proofs.SeenRows.{pair_is_set}
 use Rattle.gj_extreme.proofs.rows.Rows.insert_pair.Goals as goal
@@ -18,7 +18,7 @@ returns-then-have_same_row-clause-to_come c = λ rest h.
     let seen = subst (IsSeenRow f comp n h.handed_over.before) (sym c.index-seen.ensures)
     (All-get_or (IsSeenRow f comp n h.handed_over.before) c.args.self.now.seen.pairs.items c.place-place.result p low h.handed_over.seen) in
     let same = (c.have_same_row.ensures f.place).0 c.if-have_same_row.true in
-    row_is_seen f comp n c.args.self.now (Pair c.args.a c.args.b) rest p h seen
+    row_is_seen f comp n c.args.self.now c.args.a c.args.b rest p h seen
     (ap (λ q. row_of comp n q f.place (Pair p.a p.b)) (sym c.requires.order) ∙ same
     ∙ ap (λ q. row_of comp n q f.place (Pair c.args.a c.args.b)) c.requires.order)
 

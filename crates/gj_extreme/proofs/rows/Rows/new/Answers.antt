@@ -1,4 +1,4 @@
-use Rattle.std.proofs.Common.{◌≡◌, ℕ, ◌<◌, length, sym, ap, subst, ◌∙◌, arith}
+use Rattle.std.proofs.Common.{length, sym, ap, subst, ◌∙◌, arith}
 use Rattle.gj_shape.specs.SlopeRows.{component_in}
 use Rattle.gj_extreme.specs.SeenPairs.{AreSeenBelow}
 use Rattle.gj_extreme.proofs.SeenRows.{none_yet}
