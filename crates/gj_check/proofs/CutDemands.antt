@@ -19,7 +19,7 @@ use Rattle.gj_check.specs.declared.rules.CheckRule.{CheckRule}
 use Rattle.gj_check.specs.declared.rules.CheckRule.TheVariants.{Minimal, Fraction, Limit, Name, Value}
 use Rattle.gj_check.specs.declared.rows.RowFailure.{RowFailure}
 use Rattle.gj_check.specs.FirstFailure.{IsFirstFailure}
-use Rattle.gj_check.specs.CutRows.{MeetsTerm, FailsTerm, MeetTerms, MeetsRow, FailsRow, GivesCut}
+use Rattle.gj_check.specs.CutRows.{MeetsTerm, FailsTerm, MeetTerms, MeetsCutRow, FailsRow, GivesCut}
 use Rattle.gj_check.specs.CutRows.FailsRow.{at_fraction, at_limit, at_term}
 use Rattle.gj_proof.proofs.AtPlaces.{at_index, split_there}
 use Rattle.gj_check.proofs.FirstDemand.{FirstFails, fails_here, fails_behind, fails_next, fails_in_front, failure_of}
@@ -149,7 +149,7 @@ terms_fail rule rows i basic right terms at j k front (u ∷ passed) t back plac
 
 -- ---- a row
 
-row_holds : (rule : CutRule) (rows : List CutLine) (i : ℕ) (l : CutLine) → IsRow rule rows i l → MeetsRow rule l →
+row_holds : (rule : CutRule) (rows : List CutLine) (i : ℕ) (l : CutLine) → IsRow rule rows i l → MeetsCutRow rule l →
     All (Holds (claims.Cut rule rows)) (row_demands i l)
 row_holds rule rows i (cuts.Cut basic right terms) at h =
     let P : Demand → Type 0 = Holds (claims.Cut rule rows) in
@@ -243,16 +243,16 @@ pub next_row : (front : List CutLine) (l : CutLine) (i : ℕ) → length front �
 next_row front l i index = let long = length-append front (l ∷ []) in omega arith
 
 rows_hold : (rule : CutRule) (rows : List CutLine) (i : ℕ) (front rest : List CutLine) → rows ≡ front ++ rest → length front ≡ i →
-    All (MeetsRow rule) rest → All (Holds (claims.Cut rule rows)) (cut_demands i rest)
+    All (MeetsCutRow rule) rest → All (Holds (claims.Cut rule rows)) (cut_demands i rest)
 rows_hold rule rows i front [] place index h = All-nil (Holds (claims.Cut rule rows))
 rows_hold rule rows i front (l ∷ rest) place index h =
     All-append (Holds (claims.Cut rule rows)) (row_demands i l) (cut_demands (i + 1) rest)
-    (row_holds rule rows i l (record { front = front; back = rest; place = place; index = index }) (All-head (MeetsRow rule) l rest h))
+    (row_holds rule rows i l (record { front = front; back = rest; place = place; index = index }) (All-head (MeetsCutRow rule) l rest h))
     (rows_hold rule rows (i + 1) (front ++ l ∷ []) rest (place ∙ sym (append_assoc front (l ∷ []) rest)) (next_row front l i index)
-    (All-tail (MeetsRow rule) l rest h))
+    (All-tail (MeetsCutRow rule) l rest h))
 
 rows_fail : (rule : CutRule) (rows : List CutLine) (i n : ℕ) (front passed : List CutLine) (l : CutLine) (back : List CutLine) →
-    rows ≡ front ++ (passed ++ l ∷ back) → length front ≡ i → n ≡ i + length passed → All (MeetsRow rule) passed →
+    rows ≡ front ++ (passed ++ l ∷ back) → length front ≡ i → n ≡ i + length passed → All (MeetsCutRow rule) passed →
     (k : ProofLine) (r : CheckRule) → FirstFails (claims.Cut rule rows) (row_demands n l) k r →
     FirstFails (claims.Cut rule rows) (cut_demands i (passed ++ l ∷ back)) k r
 rows_fail rule rows i n front [] l back place index count h k r fails =
@@ -262,9 +262,9 @@ rows_fail rule rows i n front [] l back place index count h k r fails =
 rows_fail rule rows i n front (m ∷ passed) l back place index count h k r fails =
     fails_behind (claims.Cut rule rows) (row_demands i m) (cut_demands (i + 1) (passed ++ l ∷ back)) k r
     (row_holds rule rows i m (record { front = front; back = passed ++ l ∷ back; place = place; index = index })
-    (All-head (MeetsRow rule) m passed h))
+    (All-head (MeetsCutRow rule) m passed h))
     (rows_fail rule rows (i + 1) n (front ++ m ∷ []) passed l back (place ∙ sym (append_assoc front (m ∷ []) (passed ++ l ∷ back)))
-    (next_row front m i index) (omega arith) (All-tail (MeetsRow rule) m passed h) k r fails)
+    (next_row front m i index) (omega arith) (All-tail (MeetsCutRow rule) m passed h) k r fails)
 
 -- ---- the claim
 
@@ -275,7 +275,7 @@ rule_holds (Table f) rows h =
     All-cons P minimal [] h (All-nil P)
 rule_holds Gmic rows h = All-nil (Holds (claims.Cut Gmic rows))
 
-pub cuts_meet : (rule : CutRule) (rows : List CutLine) → IfFunction (subject_of_rule rule) PassesAll → All (MeetsRow rule) rows →
+pub cuts_meet : (rule : CutRule) (rows : List CutLine) → IfFunction (subject_of_rule rule) PassesAll → All (MeetsCutRow rule) rows →
     MeetsRules (claims.Cut rule rows)
 cuts_meet rule rows h all =
     All-append (Holds (claims.Cut rule rows)) (rule_demands rule) (cut_demands 0 rows) (rule_holds rule rows h)
@@ -289,7 +289,7 @@ rule_fails (Table f) rows h =
 rule_fails Gmic rows h = absurd (h tt)
 
 pub cut_fails : (rule : CutRule) (rows front back : List CutLine) (l : CutLine) (f : RowFailure) (n : ℕ) →
-    IfFunction (subject_of_rule rule) PassesAll → rows ≡ front ++ l ∷ back → All (MeetsRow rule) front → FailsRow rule l f →
+    IfFunction (subject_of_rule rule) PassesAll → rows ≡ front ++ l ∷ back → All (MeetsCutRow rule) front → FailsRow rule l f →
     n ≡ first_of rule + count_of front + f.below → IsFirstFailure (claims.Cut rule rows) n f.rule
 cut_fails rule rows front back l f n h place all fails is =
     let row = row_fails rule rows front back l f place fails in

@@ -10,7 +10,8 @@ use Rattle.gj_tools.proofs.Divisors.{lcm_positive}
 use Rattle.gj_tools.proofs.Lists.{All-front, All-back}
 use Rattle.gj_shape.proofs.LeastDenominator.{Divides, denominator_some}
 use Rattle.gj_proof.specs.Rules.{MeetsLimit}
-use Rattle.gj_check.specs.RowLimits.{IsWithinLimits, IsRowDenominator, Extends, IsBeyond}
+use Rattle.gj_shape.specs.Limits.{IsRowNumber}
+use Rattle.gj_check.specs.RowLimits.{IsRowDenominator, Extends, IsBeyond}
 
 -- no numbers
 pub none_yet : IsRowDenominator [] 1
@@ -20,7 +21,7 @@ none_yet = record {
   least = record { common = All-nil (Divides 1); least = λ d h. one-dvd d };
 }
 
-pub extends : (c m : ℕ) (x : Frac) → IsWithinLimits x →
+pub extends : (c m : ℕ) (x : Frac) → IsRowNumber x →
     IsLcm c (unsigned_abs (denominator x)) m → m < 2 ^ 31 → Extends c x m
 extends c m x within lcm high xs h =
     let some = lcm_positive c (unsigned_abs (denominator x)) m lcm h.some (denominator_some x) in
@@ -41,7 +42,7 @@ extends c m x within lcm high xs h =
 last_divides : (xs : List Frac) (x : Frac) → (h : MeetsLimit xs x) → Divides h.common.0 x
 last_divides xs x h = let d = h.common.0 in All-head (Divides d) x [] (All-back (Divides d) xs (x ∷ []) h.common.3)
 
-pub limit_small : (xs : List Frac) (x : Frac) → MeetsLimit xs x → IsWithinLimits x
+pub limit_small : (xs : List Frac) (x : Frac) → MeetsLimit xs x → IsRowNumber x
 limit_small xs x h =
     let most = le_of_dvd h.common.1 (last_divides xs x h) in
     let high = h.common.2 in

@@ -65,7 +65,7 @@ GivesNoCut (Table f) right = (IsWhole right → ⊥) × (HasFractionalPart right
 GivesNoCut Gmic right = ⊥
 
 -- all rules hold
-pub record MeetsRow (rule : CutRule) (l : CutLine) : Type 0 where
+pub record MeetsCutRow (rule : CutRule) (l : CutLine) : Type 0 where
   pub fraction : MeetsFraction rule l
   pub cut : IfCut l (λ basic right terms. MeetsLimit [] right × MeetTerms rule basic right terms)
 
@@ -78,5 +78,5 @@ pub data FailsRow (rule : CutRule) (l : CutLine) (f : RowFailure) : Type 0 where
       MeetsFraction rule l → MeetsLimit [] right → FailTerms rule basic right terms f → FailsRow rule l f
 
 abbrev pub IsRowOutcome : CutRule → CutLine → Option RowFailure → Type 0
-IsRowOutcome rule l None = MeetsRow rule l
+IsRowOutcome rule l None = MeetsCutRow rule l
 IsRowOutcome rule l (Some f) = FailsRow rule l f

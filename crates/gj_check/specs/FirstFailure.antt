@@ -51,12 +51,12 @@ TakesMemory (claim.Extreme f lines rows) = Unit {0}
 TakesMemory (claim.ExtremeByResidues f lines rows) = Unit {0}
 TakesMemory (claim.NotExtreme f h) = Unit {0}
 
--- the fault is the first rule that fails, or, where the check takes memory, the want of it
+-- the fault is the first rule that fails, or, if the check takes memory, the want of it
 abbrev pub IsFaultOf : Claim → CheckFault → Type 0
 IsFaultOf c (Rejected n rule) = IsFirstFailure c n rule
 IsFaultOf c (Memory e) = TakesMemory c
 
--- the fault is want of memory, where the check takes some
+-- the fault is want of memory, if the check takes some
 abbrev pub IsWantOfMemory : Claim → CheckFault → Type 0
 IsWantOfMemory c (Rejected n rule) = ⊥
 IsWantOfMemory c (Memory e) = TakesMemory c

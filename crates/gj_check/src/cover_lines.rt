@@ -1,5 +1,6 @@
 //! The rule `cover`: each cover line opens a component, or puts an interval into the component of another.
 ghost use Rattle.std.specs.Prelude.{ℕ, ◌≡◌, ◌↔◌, ◌+◌, ◌<◌, ◌≤◌, ◌++◌, List, All, IsTrue, IfOk, length};
+ghost use Rattle.gj_shape.specs.Limits.{greatest_order};
 ghost use Rattle.gj_shape.specs.Additive.{IsAdditive, IsTight};
 ghost use Rattle.gj_shape.specs.Cover.{IsOneOf, links_of, triangle_projections};
 ghost use Rattle.gj_shape.specs.declared.extremality.CoverLine.{CoverLine};
@@ -84,8 +85,8 @@ fn meets_rule(shape: &Shape, has_line: &[bool], line: CoverLine) -> bool
 
 /// Whether each corner of the face is tight.
 fn is_additive(shape: &Shape, face: Face) -> bool
-    requires first { face.a < 1000 }
-    requires second { face.b < 1000 }
+    requires first { face.a < greatest_order }
+    requires second { face.b < greatest_order }
     ensures { IsTrue result ↔ IsAdditive (IsTight shape.now) face.kind face.a face.b }
 {
     let a = face.a as usize;
@@ -102,8 +103,8 @@ fn is_additive(shape: &Shape, face: Face) -> bool
 
 /// Whether both ends of the diagonal of the square (a, b) are tight.
 fn has_tight_diagonal(shape: &Shape, a: usize, b: usize) -> bool
-    requires first { a < 1000 }
-    requires second { b < 1000 }
+    requires first { a < greatest_order }
+    requires second { b < greatest_order }
     ensures { IsTrue result ↔ (IsTight shape.now (a + 1) b × IsTight shape.now a (b + 1)) }
 {
     is_tight(shape, a + 1, b) && is_tight(shape, a, b + 1)
@@ -111,8 +112,8 @@ fn has_tight_diagonal(shape: &Shape, a: usize, b: usize) -> bool
 
 /// Whether the values at a/q and b/q add up to the value at their sum.
 fn is_tight(shape: &Shape, a: usize, b: usize) -> bool
-    requires first { a ≤ 1000 }
-    requires second { b ≤ 1000 }
+    requires first { a ≤ greatest_order }
+    requires second { b ≤ greatest_order }
     ensures { IsTrue result ↔ IsTight shape.now a b }
 {
     let values = shape.value_numerators();
@@ -126,7 +127,7 @@ fn is_tight(shape: &Shape, a: usize, b: usize) -> bool
 
 /// Whether the face is a triangle that projects on the interval.
 fn covers(face: Face, interval: u32, order: u32) -> bool
-    requires order { order ≤ 1000 }
+    requires order { order ≤ greatest_order }
     requires first { face.a < order }
     requires second { face.b < order }
     ensures { IsTrue result ↔ IsOneOf order (triangle_projections face.kind face.a face.b) interval }
@@ -139,7 +140,7 @@ fn covers(face: Face, interval: u32, order: u32) -> bool
 
 /// Whether the face is an edge that links both intervals, or a triangle that projects on both.
 fn joins(face: Face, first: u32, second: u32, order: u32) -> bool
-    requires order { order ≤ 1000 }
+    requires order { order ≤ greatest_order }
     requires first { face.a < order }
     requires second { face.b < order }
     ensures { IsTrue result
@@ -151,7 +152,7 @@ fn joins(face: Face, first: u32, second: u32, order: u32) -> bool
 
 /// Whether the interval is one of those that the edge links, or on which the triangle projects.
 fn meets_interval(face: Face, interval: u32, order: u32) -> bool
-    requires order { order ≤ 1000 }
+    requires order { order ≤ greatest_order }
     requires first { face.a < order }
     requires second { face.b < order }
     ensures { IsTrue result

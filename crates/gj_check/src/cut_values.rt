@@ -2,10 +2,10 @@
 ghost use Rattle.std.specs.Prelude.{ℤ, ◌≡◌, ◌≢◌, ◌-ℤ◌, ◌*ℤ◌, ◌<◌, ◌^◌, ◌↔◌, pos, IsTrue, unsigned_abs};
 ghost use Rattle.gj_frac.specs.Floor.{IsFloor, HasFractionalPart};
 ghost use Rattle.gj_frac.specs.Fraction.{IsRatio, numerator, denominator, IsWhole};
+ghost use Rattle.gj_shape.specs.Limits.{IsRowNumber};
 ghost use Rattle.gj_proof.specs.ProofText.{IsBoundedRule};
 ghost use Rattle.gj_proof.specs.Rules.{IsGmicCoefficient, MeetsFraction, MeetsValue};
 ghost use Rattle.gj_check.specs.CutRows.{GivesCut, GivesNoCut};
-ghost use Rattle.gj_check.specs.RowLimits.{IsWithinLimits};
 
 use crate::row_denominators::denominator_of;
 use gj_frac::Frac;
@@ -61,8 +61,8 @@ fn has_place(shape: &Shape, x: Frac) -> bool
 pub(crate) fn has_value(rule: &CutRule, right: Frac, term: &CutTerm) -> bool
     requires bounded { IsBoundedRule rule.now }
     requires gives { GivesCut rule.now right }
-    requires right { IsWithinLimits right }
-    requires entry { IsWithinLimits term.now.entry }
+    requires right { IsRowNumber right }
+    requires entry { IsRowNumber term.now.entry }
     ensures { IsTrue result ↔ MeetsValue rule.now right term.now }
 {
     match rule {
@@ -75,8 +75,8 @@ pub(crate) fn has_value(rule: &CutRule, right: Frac, term: &CutTerm) -> bool
 /// entry it is r/f if r is at most f, and else (1 - r)/(1 - f).
 fn gmic_coefficient(right: Frac, entry: Frac) -> Frac
     requires gives { IsWhole right → ⊥ }
-    requires right { IsWithinLimits right }
-    requires entry { IsWithinLimits entry }
+    requires right { IsRowNumber right }
+    requires entry { IsRowNumber entry }
     ensures { IsGmicCoefficient right entry result }
 {
     let right_den = denominator_of(right);
@@ -92,7 +92,7 @@ fn gmic_coefficient(right: Frac, entry: Frac) -> Frac
 
 /// The numerator of the fractional part of a number, over the number's denominator.
 fn part_of(x: Frac) -> u64
-    requires { IsWithinLimits x }
+    requires { IsRowNumber x }
     ensures value { (w : ℤ) → IsFloor x w → pos result ≡ numerator x -ℤ w *ℤ denominator x }
     ensures below { result < unsigned_abs (denominator x) }
     ensures high { result < 2 ^ 31 }

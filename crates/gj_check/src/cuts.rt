@@ -32,7 +32,7 @@ pub(crate) fn check_cuts(alloc: Global, rule: &CutRule, rows: &[CutLine]) -> Res
     Ok(())
 }
 
-/// Whether the function of the rule, where it has one, is minimal.
+/// Whether the function of the rule, if it has one, is minimal.
 fn is_minimal_rule(rule: &CutRule) -> bool
     ensures { IsTrue result ↔ IfFunction (subject_of_rule rule.now) PassesAll }
 {

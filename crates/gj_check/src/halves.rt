@@ -67,7 +67,7 @@ pub(crate) fn check_halves(alloc: Global, shape: &Shape, halves: &Halves) -> Res
     Ok(())
 }
 
-/// How much finer the halves are; none where their order or their scale is no multiple.
+/// How much finer the halves are; none if their order or their scale is no multiple.
 fn refinement_of(shape: &Shape, halves: &Halves) -> Option<Refinement>
     requires { AreHalvesInBounds halves.now }
     ensures some { IfSome result (IsRefinement shape.now halves.now) }

@@ -29,7 +29,7 @@ pub(crate) trait Lane: Copy {
     fn greater(self, other: Self) -> Self
         ensures { number result ≡ max (number self) (number other) };
 
-    /// By how much this is above the other, and 0 where it is not.
+    /// By how much this is above the other, and 0 if it is not.
     fn excess_over(self, other: Self) -> Self
         ensures { number result ≡ number self - number other };
 

@@ -12,7 +12,7 @@ pub fn rules_give_meaning()
     ensures { (c : Claim) → IsBounded c → HasText c → MeetsRules c → ClaimHolds c }
 {}
 
-/// One rule at one line is the first that fails, and none where every rule holds.
+/// One rule at one line is the first that fails, and none if every rule holds.
 pub fn one_first_failure()
     ensures one { (c : Claim) (n m : ℕ) (rule other : CheckRule) →
         IsFirstFailure c n rule → IsFirstFailure c m other → (n ≡ m) × (rule ≡ other) }

@@ -1,5 +1,6 @@
 //! The rule `minimal`: all tests of minimality of a function.
-ghost use Rattle.std.specs.Prelude.{◌≡◌, ◌+◌, ◌<◌, ◌≤◌, ◌↔◌, IsTrue, length};
+ghost use Rattle.std.specs.Prelude.{◌≡◌, ◌+◌, ◌*◌, ◌<◌, ◌≤◌, ◌↔◌, IsTrue, length};
+ghost use Rattle.gj_shape.specs.Limits.{greatest_order};
 ghost use Rattle.gj_shape.specs.FunctionData.{IsWithinBounds};
 ghost use Rattle.gj_shape.specs.FirstViolation.{Passes, PassesAll};
 ghost use Rattle.gj_shape.specs.FirstViolation.Test.{zero_at_zero};
@@ -89,7 +90,7 @@ fn is_symmetric(shape: &Shape) -> bool
 /// Whether each of the numbers adds up to the total with that of the others at the place less its index, modulo their count.
 fn are_opposite(numbers: &[i64], others: &[i64], place: usize, total: i64) -> bool
     requires count { length others.now ≡ length numbers.now }
-    requires few { length numbers.now ≤ 1000 }
+    requires few { length numbers.now ≤ greatest_order }
     requires place { place < length numbers.now }
     requires numbers { AreSmall numbers.now }
     requires others { AreSmall others.now }
@@ -111,7 +112,7 @@ fn are_opposite_between(
     sum: usize,
     total: i64,
 ) -> bool
-    requires few { sum ≤ 2000 }
+    requires few { sum ≤ 2 * greatest_order }
     requires end { end ≤ length numbers.now }
     requires low { end ≤ sum + 1 }
     requires high { sum < from + length others.now }
@@ -167,7 +168,7 @@ fn is_subadditive_on_grid(shape: &Shape) -> bool
 /// The same over entries of one width, in which the common denominator fits: these are written over.
 fn is_subadditive_in<E: Entry>(shape: &Shape, entries: &mut [E]) -> bool
     requires symmetric { PassesSymmetry shape.now }
-    requires room { length entries.old ≡ 2000 }
+    requires room { length entries.old ≡ 2 * greatest_order }
     requires fits { shape.now.scale < E.bound }
     ensures { IsTrue result ↔ IsSubadditiveOnGrid shape.now }
 {
@@ -178,7 +179,7 @@ fn is_subadditive_in<E: Entry>(shape: &Shape, entries: &mut [E]) -> bool
 /// Writes the values of two periods.
 fn write_two_periods<E: Entry>(shape: &Shape, entries: &mut [E])
     requires symmetric { PassesSymmetry shape.now }
-    requires room { length entries.old ≡ 2000 }
+    requires room { length entries.old ≡ 2 * greatest_order }
     requires fits { shape.now.scale < E.bound }
     ensures { AreTwoPeriods E.number entries.new shape.now.value }
 {
@@ -199,9 +200,9 @@ fn is_subadditive_over<L: Lane>(
 ) -> bool
     requires symmetric { PassesSymmetry shape.now }
     requires fits { shape.now.scale < L.bound }
-    requires value { length value.old ≡ 2000 }
-    requires right { length right.old ≡ 2000 }
-    requires left { length left.old ≡ 2000 }
+    requires value { length value.old ≡ 2 * greatest_order }
+    requires right { length right.old ≡ 2 * greatest_order }
+    requires left { length left.old ≡ 2 * greatest_order }
     ensures { IsTrue result ↔ IsSubadditive shape.now }
 {
     write_pieces(shape, value, right, left);

@@ -1,12 +1,11 @@
 //! The rule `limit`: the numbers of a row are small and have a small common denominator.
 ghost use Rattle.std.specs.Prelude.{◌≡◌, ◌<◌, ◌^◌, ◌↔◌, IsTrue, IfSome, IfNone, unsigned_abs};
 ghost use Rattle.gj_frac.specs.Fraction.{denominator};
-ghost use Rattle.gj_check.specs.RowLimits.{IsWithinLimits, Extends, IsBeyond};
+ghost use Rattle.gj_shape.specs.Limits.{IsRowNumber};
+ghost use Rattle.gj_check.specs.RowLimits.{Extends, IsBeyond};
 
 use gj_frac::{Frac, lcm};
-
-/// The greatest common denominator that the numbers of a row may have.
-const GREATEST_DENOMINATOR: i128 = (1 << 31) - 1;
+use gj_shape::{GREATEST_DENOMINATOR, GREATEST_NUMBER};
 
 /// The least common denominator of the numbers of a row so far, `common`, with one more number; none if with it
 /// they are beyond the limits.
@@ -20,7 +19,7 @@ pub(crate) fn extended(common: u64, x: Frac) -> Option<u64>
         return None;
     }
     let multiple = lcm(common as u32, denominator_of(x) as u32);
-    if multiple >= 1 << 31 {
+    if multiple > u64::from(GREATEST_DENOMINATOR) {
         return None;
     }
     Some(multiple)
@@ -28,17 +27,17 @@ pub(crate) fn extended(common: u64, x: Frac) -> Option<u64>
 
 /// Whether the number is at most 2^31 in absolute value, and its denominator at most 2^31 - 1.
 fn is_within_limits(x: Frac) -> bool
-    ensures { IsTrue result ↔ IsWithinLimits x }
+    ensures { IsTrue result ↔ IsRowNumber x }
 {
-    if x.den() > GREATEST_DENOMINATOR {
+    if x.den() > i128::from(GREATEST_DENOMINATOR) {
         return false;
     }
-    x.num().unsigned_abs() <= x.den().unsigned_abs() * (1 << 31)
+    x.num().unsigned_abs() <= x.den().unsigned_abs() * GREATEST_NUMBER
 }
 
 /// The denominator of a number, from 1 to 2^31 - 1.
 pub(crate) fn denominator_of(x: Frac) -> u64
-    requires { IsWithinLimits x }
+    requires { IsRowNumber x }
     ensures value { result ≡ unsigned_abs (denominator x) }
     ensures high { result < 2 ^ 31 }
 {

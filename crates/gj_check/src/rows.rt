@@ -22,7 +22,7 @@ pub(crate) struct RowFailure {
     pub(crate) rule: CheckRule,
 }
 
-/// The first rule that fails in a row, on its line or on those of its terms; none where all hold.
+/// The first rule that fails in a row, on its line or on those of its terms; none if all hold.
 pub(crate) fn failure_in_row(
     alloc: Global,
     rule: &CutRule,
@@ -49,8 +49,8 @@ pub(crate) fn failure_in_row(
     }
 }
 
-/// The first rule that fails on the lines of the terms of a row, where its right side meets its rules and has the
-/// denominator `common`; none where all hold.
+/// The first rule that fails on the lines of the terms of a row, if its right side meets its rules and has the
+/// denominator `common`; none if all hold.
 fn failure_in_terms(
     alloc: Global,
     rule: &CutRule,

@@ -1,5 +1,6 @@
 //! Rows of squares, whose limits of the subadditivity slack are tested all at once over lanes of one width.
 ghost use Rattle.std.specs.Prelude.{◌≡◌, ◌*◌, ◌<◌, ◌≤◌, ◌↔◌, IsTrue, length};
+ghost use Rattle.gj_shape.specs.Limits.{greatest_order};
 ghost use Rattle.gj_theory.specs.EarlierTests.{PassesSymmetry};
 ghost use Rattle.gj_check.specs.Tests.{IsSubadditiveRow};
 ghost use Rattle.gj_check.specs.Lanes.{ArePiecesBelow, IsSmall, HasNoExcess};
@@ -67,9 +68,9 @@ impl<'a, L: Lane> Lanes<'a, L> {
 pub(crate) fn write_pieces<L: Lane>(shape: &Shape, value: &mut [L], right: &mut [L], left: &mut [L])
     requires symmetric { PassesSymmetry shape.now }
     requires fits { shape.now.scale < L.bound }
-    requires value { length value.old ≡ 2000 }
-    requires right { length right.old ≡ 2000 }
-    requires left { length left.old ≡ 2000 }
+    requires value { length value.old ≡ 2 * greatest_order }
+    requires right { length right.old ≡ 2 * greatest_order }
+    requires left { length left.old ≡ 2 * greatest_order }
     ensures { ArePiecesBelow L.number L.bound shape.now value.new right.new left.new (2 * shape.now.order) }
 {
     for i in 0..2 * shape.order() as usize {
@@ -80,7 +81,7 @@ pub(crate) fn write_pieces<L: Lane>(shape: &Shape, value: &mut [L], right: &mut 
     }
 }
 
-/// By how much a limit of the slack in a square is negative at most, and 0 where none is: by the pieces from a/q, from b/q, from
+/// By how much a limit of the slack in a square is negative at most, and 0 if none is: by the pieces from a/q, from b/q, from
 /// (a + b)/q and from (a + b + 1)/q on.
 fn excess_in_square<L: Lane>(first: Part<L>, second: Part<L>, sum: Part<L>, next: Part<L>) -> L
     requires first { IsSmall L.number L.bound first }
@@ -112,7 +113,7 @@ fn excess_in_square<L: Lane>(first: Part<L>, second: Part<L>, sum: Part<L>, next
         .greater(before_last)
 }
 
-/// By how much the sum is above the lesser of two totals, and 0 where it is not.
+/// By how much the sum is above the lesser of two totals, and 0 if it is not.
 fn excess_over_lesser<L: Lane>(sum: L, first: L, second: L) -> L
     ensures { (L.number result ≡ 0) ↔ ((L.number sum ≤ L.number first) × (L.number sum ≤ L.number second)) }
 {

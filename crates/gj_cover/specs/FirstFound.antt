@@ -28,7 +28,7 @@ pub record IsFirstOf (Square : ℕ → ℕ → Type 0) (P : FaceKind → ℕ →
 abbrev pub HasNone : (ℕ → ℕ → Type 0) → (FaceKind → ℕ → ℕ → Type 0) → Type 0
 HasNone Square P = (kind : FaceKind) (a b : ℕ) → Square a b → P kind a b → ⊥
 
--- the first such face, or None where there is none
+-- the first such face, or None if there is none
 abbrev pub FindsFirst : (ℕ → ℕ → Type 0) → (FaceKind → ℕ → ℕ → Type 0) → Option Face → Type 0
 FindsFirst Square P found = MatchOption found (HasNone Square P) (IsFirstOf Square P)
 

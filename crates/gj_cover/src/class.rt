@@ -2,6 +2,7 @@
 ghost use Rattle.std.specs.Prelude.{ℕ, ◌↔◌, ◌<◌, ◌≤◌, Contains, IfOk, IsTrue};
 ghost use Rattle.std.specs.List.Sorted.{IsStrictlyIncreasing};
 ghost use Rattle.gj_sets.specs.IndexSets.{has};
+ghost use Rattle.gj_shape.specs.Limits.{greatest_order};
 ghost use Rattle.gj_cover.specs.CoverOf.{IsLeastClass};
 ghost use Rattle.gj_cover.specs.Reached.{AreUncovered};
 ghost use Rattle.gj_cover.specs.Table.{IsTightIn};
@@ -30,7 +31,7 @@ pub(crate) fn least_class(
 
 /// The indices in the set, in ascending order.
 fn listed(alloc: Global, set: &IndexSet, order: u32) -> Result<Vec<u32>, AllocError>
-    requires few { order ≤ 1000 }
+    requires few { order ≤ greatest_order }
     requires within { (i : ℕ) → IsTrue (has set.now i) → i < order }
     ensures ascending { IfOk result (λ v. IsStrictlyIncreasing v.items) }
     ensures members { IfOk result (λ v. (i : ℕ) → Contains v.items i ↔ IsTrue (has set.now i)) }

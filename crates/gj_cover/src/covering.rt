@@ -21,9 +21,9 @@ use std::alloc::{AllocError, Global};
 /// The covered intervals of a continuous function, their components, the lines that show why they are covered, and the
 /// class of the least uncovered interval.
 ///
-/// An interval is directly covered where an additive triangle projects on it, and two are joined where an additive edge
+/// An interval is directly covered if an additive triangle projects on it, and two are joined if an additive edge
 /// links them or an additive triangle projects on both. Covered is what is directly covered or joined to a covered
-/// interval. The lines come in this order: where an interval without a line is joined to one with a line, the next line
+/// interval. The lines come in this order: if an interval without a line is joined to one with a line, the next line
 /// is for the least such, with the least interval to which it is joined and the first face in walk order that joins the
 /// two; otherwise it is for the least interval without a line that is directly covered, with the first triangle in walk
 /// order, and opens the next component.
@@ -64,7 +64,7 @@ pub fn cover_of_runs(alloc: Global, runs: &[Run], q: u32) -> Result<Cover, Alloc
     Ok(found)
 }
 
-/// The same where the tight pairs are those of the table.
+/// The same if the tight pairs are those of the table.
 fn cover_of_table(alloc: Global, table: &Table) -> Result<Cover, AllocError>
     ensures { IfOk result (IsCoverOf table.now.order (IsTightIn table.now)) }
 {

@@ -126,7 +126,7 @@ fn first_across(table: &Table, i: u32) -> Option<Face>
     earlier(found, covering_in_square(table, a, short, i))
 }
 
-/// The first of two faces in walk order, where two of one square are one face; a face is before None.
+/// The first of two faces in walk order, if two of one square are one face; a face is before None.
 fn earlier(first: Option<Face>, second: Option<Face>) -> Option<Face>
     ensures { MatchOption first (result ≡ second) (λ f. MatchOption second (result ≡ first)
         (λ g. ((result ≡ first) × (IsEarlier g f → ⊥)) ⊎ ((result ≡ second) × IsEarlier g f))) }

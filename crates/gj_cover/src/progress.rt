@@ -134,7 +134,7 @@ impl Progress {
         Some((interval as u32, from as u32, joined))
     }
 
-    /// The line that opens the next component, where no line joins.
+    /// The line that opens the next component, if no line joins.
     fn next_opening(&self, table: &Table) -> Option<CoverLine>
         requires progress { IsProgress table.now.order (IsTightIn table.now) self.now }
         requires none_joins { (i j : ℕ) →
@@ -157,7 +157,7 @@ impl Progress {
         None
     }
 
-    /// Adds the next line, where these intervals are joined to its own.
+    /// Adds the next line, if these intervals are joined to its own.
     fn add(&mut self, table: &Table, line: CoverLine, joined: &IndexSet) -> Result<(), AllocError>
         requires progress { IsProgress table.now.order (IsTightIn table.now) self.old }
         requires next { IsNextLine table.now.order (IsTightIn table.now) self.old.lines.items line }

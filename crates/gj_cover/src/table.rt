@@ -73,7 +73,7 @@ impl Table {
         })
     }
 
-    /// The table of the pairs in these rows, where (b, a) is tight with each tight (a, b), and the pairs with a sum are those in the
+    /// The table of the pairs in these rows, if (b, a) is tight with each tight (a, b), and the pairs with a sum are those in the
     /// row of the place less the sum. It takes no memory.
     pub(crate) fn with_own_sides(rows: Vec<IndexSet>, order: u32, place: u32) -> Table
         requires few { IsOrder order }
@@ -166,7 +166,7 @@ impl Table {
         self.row(wrapped(place + (self.order - sum), self.order))
     }
 
-    /// Whether the pair is tight, where no index is above the order.
+    /// Whether the pair is tight, if no index is above the order.
     pub(crate) fn is_tight(&self, i: u32, j: u32) -> bool
         requires first { i ≤ self.now.order }
         requires second { j ≤ self.now.order }

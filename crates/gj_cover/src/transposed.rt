@@ -1,14 +1,15 @@
 //! Rows of pairs in another order.
 ghost use Rattle.std.specs.Prelude.{ℕ, ◌≡◌, ◌+◌, ◌-◌, ◌<◌, ◌≤◌, ◌&&◌, ◌||◌, ◌==◌, false, nat_le, if◌then◌else◌, length, IfOk};
 ghost use Rattle.gj_sets.specs.IndexSets.{has};
+ghost use Rattle.gj_shape.specs.Limits.{greatest_order};
 ghost use Rattle.gj_cover.specs.SetRows.{in_row, AreColumns, AreFirsts};
 
 use gj_sets::IndexSet;
 use std::alloc::{AllocError, Global};
 
-/// The rows with the indices turned around, where there are as many indices as rows: a is in row b exactly if b was in row a.
+/// The rows with the indices turned around, if there are as many indices as rows: a is in row b exactly if b was in row a.
 pub(crate) fn transposed(alloc: Global, rows: &[IndexSet]) -> Result<Vec<IndexSet>, AllocError>
-    requires { length rows.now ≤ 1000 }
+    requires { length rows.now ≤ greatest_order }
     ensures length { IfOk result (λ v. length v.items ≡ length rows.now) }
     ensures columns { IfOk result (λ v. AreColumns (length rows.now) rows.now v.items) }
 {
@@ -33,7 +34,7 @@ pub(crate) fn no_pairs(alloc: Global, count: usize) -> Result<Vec<IndexSet>, All
 
 /// Puts the index a into each column whose index is in the row.
 fn add_to_columns(columns: &mut Vec<IndexSet>, row: &IndexSet, a: usize)
-    requires { a < 1000 }
+    requires { a < greatest_order }
     ensures length { length columns.new.items ≡ length columns.old.items }
     ensures added { (b i : ℕ) → b < length columns.old.items →
         in_row columns.new.items b i ≡ (in_row columns.old.items b i || (i == a && has row.now b)) }
@@ -51,7 +52,7 @@ fn add_to_columns(columns: &mut Vec<IndexSet>, row: &IndexSet, a: usize)
 /// For each sum, modulo the number of rows, the first indices of the pairs with it.
 pub(crate) fn first_indices(alloc: Global, rows: &[IndexSet]) -> Result<Vec<IndexSet>, AllocError>
     requires some { 1 ≤ length rows.now }
-    requires few { length rows.now ≤ 1000 }
+    requires few { length rows.now ≤ greatest_order }
     ensures length { IfOk result (λ v. length v.items ≡ length rows.now) }
     ensures firsts { IfOk result (λ v. AreFirsts (length rows.now) rows.now v.items) }
 {
@@ -62,7 +63,7 @@ pub(crate) fn first_indices(alloc: Global, rows: &[IndexSet]) -> Result<Vec<Inde
 
 /// Each row with its own index added to the indices in it, modulo the number of rows.
 fn turned_rows(alloc: Global, rows: &[IndexSet]) -> Result<Vec<IndexSet>, AllocError>
-    requires { length rows.now ≤ 1000 }
+    requires { length rows.now ≤ greatest_order }
     ensures length { IfOk result (λ v. length v.items ≡ length rows.now) }
     ensures turned { IfOk result (λ v. (a s : ℕ) → a < length rows.now → s < length rows.now →
         in_row v.items a s ≡ in_row rows.now a (if nat_le a s then s - a else s + (length rows.now - a))) }

@@ -15,7 +15,7 @@ kept_rows log rows = []
 abbrev pub log_row : KeptRow → LogRow
 log_row k = record { number = k.number; reduce = k.reduce; pivot = k.pivot }
 
--- the answer where a row is kept with this pivot and these entries, or nothing is left of it
+-- the answer if a row is kept with this pivot and these entries, or nothing is left of it
 abbrev pub answer_of : Option (ℕ × List ℤ) → Inserted
 answer_of None = Nothing
 answer_of (Some row) = Pivot row.0

@@ -78,7 +78,7 @@ impl Basis {
         })
     }
 
-    /// Inserts a row: it is reduced by the kept rows, and what is left of it is kept. `Wide` exactly where one of the numbers that
+    /// Inserts a row: it is reduced by the kept rows, and what is left of it is kept. `Wide` exactly if one of the numbers that
     /// the elimination marks passes 2^127 - 1 in absolute value. After an error the basis is as it was.
     pub fn insert(&mut self, row: &[i128]) -> Result<Inserted, ElimFault>
         requires columns { length row.now ≡ self.old.columns }
@@ -158,8 +158,8 @@ impl Basis {
         self.log
     }
 
-    /// Numbers that solve all kept rows and are not all 0; None exactly where there are as many kept rows as columns. `Wide`
-    /// exactly where one of the numbers that the definition marks passes 2^127 - 1 in absolute value.
+    /// Numbers that solve all kept rows and are not all 0; None exactly if there are as many kept rows as columns. `Wide`
+    /// exactly if one of the numbers that the definition marks passes 2^127 - 1 in absolute value.
     pub fn kernel(&self) -> Result<Option<Vec<i128>>, ElimFault>
         ensures none { IfOk result (λ o. IsNone o ↔ (length self.now.kept ≡ self.now.columns)) }
         ensures value { IfOk result (λ o. IfSome o (λ v.

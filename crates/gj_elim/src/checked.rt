@@ -7,7 +7,7 @@ ghost use Rattle.gj_frac.specs.Fraction.{Fits};
 #[derive(Clone, Copy)]
 pub(crate) struct TooWide;
 
-/// The number, where there is one and it is not -2^127.
+/// The number, if there is one and it is not -2^127.
 fn number(checked: Option<i128>) -> Result<i128, TooWide>
     ensures { MatchOption checked (IsErr result) (λ n. OkIff result (Fits n) n) }
 {

@@ -61,7 +61,7 @@ fn room(factors: Factors, row: Extent, kept: Extent) -> Option<Extent>
     })
 }
 
-/// Subtracts the kept row times its factor from the row, where both rows are 0 outside of these columns.
+/// Subtracts the kept row times its factor from the row, if both rows are 0 outside of these columns.
 fn subtract(factor: i64, row: &mut [i64], kept: &[i128], from: usize, to: usize)
     requires columns { length kept.now ≡ length row.old }
     requires within { to ≤ length row.old }
@@ -77,7 +77,7 @@ fn subtract(factor: i64, row: &mut [i64], kept: &[i128], from: usize, to: usize)
     }
 }
 
-/// Puts the row times its factor less the kept row times its own in the place of the row, where both rows are 0 outside of these columns.
+/// Puts the row times its factor less the kept row times its own in the place of the row, if both rows are 0 outside of these columns.
 fn scale_and_subtract(factors: Factors, row: &mut [i64], kept: &[i128], from: usize, to: usize)
     requires columns { length kept.now ≡ length row.old }
     requires within { to ≤ length row.old }
@@ -93,7 +93,7 @@ fn scale_and_subtract(factors: Factors, row: &mut [i64], kept: &[i128], from: us
     }
 }
 
-/// Puts the row times its factor less the kept row times its own in the place of the row, where both rows are 0 outside of these columns.
+/// Puts the row times its factor less the kept row times its own in the place of the row, if both rows are 0 outside of these columns.
 fn combine_within(factors: Factors, row: &mut [i64], kept: &[i128], from: usize, to: usize)
     requires columns { length kept.now ≡ length row.old }
     requires within { to ≤ length row.old }

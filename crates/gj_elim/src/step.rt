@@ -29,7 +29,7 @@ fn divisor_with(divisor: u128, x: i128) -> u128
     gcd(x.unsigned_abs(), divisor)
 }
 
-/// The greatest common divisor of all entries; 0 where all are 0.
+/// The greatest common divisor of all entries; 0 if all are 0.
 fn divisor_of_row(row: &[i128]) -> u128
     ensures { result ≡ gcd_of_row row.now }
 {
@@ -43,7 +43,7 @@ fn divisor_of_row(row: &[i128]) -> u128
     divisor
 }
 
-/// Divides a row by the greatest common divisor of its entries, where they are not all 0.
+/// Divides a row by the greatest common divisor of its entries, if they are not all 0.
 fn divide(row: &mut [i128])
     requires { All Fits row.old }
     ensures value { row.new ≡ divided row.old }

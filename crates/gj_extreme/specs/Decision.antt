@@ -99,7 +99,7 @@ IsExtremeClaim f c = (lines : List CoverLine) × (rows : List PivotRow) × (c �
 abbrev pub IsExtremeOnGrid4 : FunctionData → Type 0
 IsExtremeOnGrid4 f = IsExtremeTable (table f 4) (f.order * 4) (f.place * 4) (f.scale * 4)
 
--- it is where the function is claimed to be extreme, and is not where it is claimed not to be
+-- it is if the function is claimed to be extreme, and is not if it is claimed not to be
 abbrev pub IsByTable : FunctionData → Claim → Type 0
 IsByTable f (Minimal g) = Unit {0}
 IsByTable f (NotMinimal g v) = Unit {0}

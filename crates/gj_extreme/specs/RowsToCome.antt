@@ -94,7 +94,7 @@ pub record AreInserted (f : FunctionData) (component : ℕ → ℕ) (n : ℕ) (r
   pub fits : Passes (slope_elimination f component n).marked → ⊥
   pub names : rows.names.items ≡ map (name_of f) (slope_elimination f component n).kept
 
--- where fewer rows are kept than there are components, fewer than 2^32 are inserted, so that one more can be
+-- if fewer rows are kept than there are components, fewer than 2^32 are inserted, so that one more can be
 pub record IsReady (rows : Rows) (q n : ℕ) : Type 0 where
   pub columns : rows.basis.columns ≡ n
   pub width : length rows.row.items ≡ n

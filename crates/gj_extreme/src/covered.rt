@@ -23,7 +23,7 @@ use gj_shape::{List, Shape};
 use gj_system::SlopeRows;
 use std::alloc::{AllocError, Global};
 
-/// The claim that the function is extreme, where the rows leave no other slopes than 0, and that it is not, where they do.
+/// The claim that the function is extreme, if the rows leave no other slopes than 0, and that it is not, if they do.
 pub(crate) fn extreme_or_slopes(
     alloc: Global,
     shape: &Shape,
@@ -49,7 +49,7 @@ pub(crate) fn extreme_or_slopes(
     }
 }
 
-/// The claim that the function is extreme, where a row is kept for each component, and that it is not, where fewer are.
+/// The claim that the function is extreme, if a row is kept for each component, and that it is not, if fewer are.
 fn extreme_or_kernel(
     alloc: Global,
     shape: &Shape,
@@ -76,7 +76,7 @@ fn extreme_or_kernel(
     Ok(Claim::NotExtreme(shape.copy(alloc)?, halves))
 }
 
-/// The numbers of the components, where each interval has one.
+/// The numbers of the components, if each interval has one.
 fn numbers_of(alloc: Global, component: &[Option<u32>]) -> Result<Vec<u32>, AllocError>
     requires { All IsSome component.now }
     ensures { IfOk result (λ v. map Some v.items ≡ component.now) }

@@ -1,4 +1,4 @@
-//! The decision on a function whose intervals are all covered, where a number of the plain elimination passes.
+//! The decision on a function whose intervals are all covered, if a number of the plain elimination passes.
 ghost use Rattle.std.specs.Prelude.{ℕ, ◌≡◌, ◌<◌, ◌++◌, List, length, map, All, IfOk, OnOk, IsErrOf};
 ghost use Rattle.gj_faces.specs.TightPairs.{AreTightPairsOf};
 ghost use Rattle.gj_shape.specs.Elimination.{KeptRow, Passes};
@@ -23,7 +23,7 @@ use gj_shape::{List, RowName, Shape};
 use gj_system::SlopeRows;
 use std::alloc::{AllocError, Global};
 
-/// The claim that the function is extreme, where residues keep a row for each component. No function is known that comes here.
+/// The claim that the function is extreme, if residues keep a row for each component. No function is known that comes here.
 pub(crate) fn extreme_by_residues(
     alloc: Global,
     shape: &Shape,

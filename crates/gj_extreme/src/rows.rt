@@ -126,7 +126,7 @@ fn has_row_of_pair_before(component: &[u32], a: usize, b: usize) -> bool
     component[b - 1] == component[sum_below(a, b - 1, order)]
 }
 
-/// The sum of two numbers below the order, less the order where that is not below it.
+/// The sum of two numbers below the order, less the order if that is not below it.
 fn sum_below(a: usize, b: usize, order: usize) -> usize
     requires first { a < order }
     requires second { b < order }
@@ -190,7 +190,7 @@ impl Rows {
         Ok(())
     }
 
-    /// Inserts the row with this name, where there is not yet one for each component.
+    /// Inserts the row with this name, if there is not yet one for each component.
     fn insert(&mut self, shape: &Shape, system: &SlopeRows, name: RowName) -> Result<(), ElimFault>
         requires order { length system.now.component ≡ shape.now.order }
         requires limits { IsWithinBounds shape.now }

@@ -1,4 +1,4 @@
-//! The halves of a function whose intervals are all covered, where slopes solve the linear system.
+//! The halves of a function whose intervals are all covered, if slopes solve the linear system.
 ghost use Rattle.std.specs.Prelude.{ℕ, ◌≡◌, ◌<◌, List, length, IfOk, IsErrOf};
 ghost use Rattle.gj_shape.specs.Perturbation.{AreHalvesInBounds};
 ghost use Rattle.gj_shape.specs.SlopeRows.{component_in};

@@ -6,7 +6,7 @@ use gj_shape::{FaceKind, Shape, wrapped};
 /// For each kind the indices b below the order for which the face of the square (a, b) is a maximal additive face, and those
 /// for which any is.
 ///
-/// An additive face lies in the closure of one of higher dimension where one more pair around it is tight.
+/// An additive face lies in the closure of one of higher dimension if one more pair around it is tight.
 #[derive(Drop)]
 pub(crate) struct Alone {
     pub(crate) any: IndexSet,

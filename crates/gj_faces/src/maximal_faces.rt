@@ -16,8 +16,8 @@ use std::alloc::{AllocError, Global};
 
 /// The maximal additive faces of the continuous function, in walk order.
 ///
-/// A face is maximal where it is additive and lies in the closure of no additive face of higher dimension, indices modulo
-/// the order. So the closure of each additive face lies in the closures of the listed ones; and where the function is
+/// A face is maximal if it is additive and lies in the closure of no additive face of higher dimension, indices modulo
+/// the order. So the closure of each additive face lies in the closures of the listed ones; and if the function is
 /// minimal, these hold all pairs at which the slack is 0, and no others.
 pub fn maximal(alloc: Global, shape: &Shape) -> Result<Vec<Face>, AllocError>
     requires { IsContinuous shape.now }
@@ -101,7 +101,7 @@ fn push_square(faces: &mut Vec<Face>, alone: &Alone, shape: &Shape, a: u32, b: u
     }
 }
 
-/// Adds the face where it is maximal.
+/// Adds the face if it is maximal.
 #[inline]
 fn push_if(faces: &mut Vec<Face>, is_maximal: bool, shape: &Shape, kind: FaceKind, a: u32, b: u32)
     requires maximal { IsTrue is_maximal ↔ IsMaximalIn shape.now (record { kind = kind; a = a; b = b }) }

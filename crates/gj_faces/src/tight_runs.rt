@@ -15,7 +15,7 @@ use std::alloc::{AllocError, Global};
 
 /// The tight pairs of the continuous function as the longest runs: for a from 0, and then for b from 0.
 ///
-/// The pair (a, b) with a and b below the order q is tight exactly where one run of a holds b. No run goes on from q - 1
+/// The pair (a, b) with a and b below the order q is tight exactly if one run of a holds b. No run goes on from q - 1
 /// to 0.
 pub fn runs(alloc: Global, shape: &Shape) -> Result<Vec<Run>, AllocError>
     requires { IsContinuous shape.now }

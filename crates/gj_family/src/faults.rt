@@ -5,6 +5,7 @@ ghost use Rattle.gj_family.specs.declared.faults.FamilyFault.TheVariants.{Memory
 ghost use Rattle.gj_family.specs.Faults.{order_of, place_of, HasFamilyFault, HasNoFamilyFault};
 
 use gj_frac::Frac;
+use gj_shape::GREATEST_ORDER;
 use std::alloc::{AllocError, AllocFailed};
 use thiserror::Error;
 
@@ -58,7 +59,7 @@ pub(crate) fn order_and_place(f: Frac) -> Result<(u32, u32), FamilyFault>
     if f.num() <= 0 || f.num() >= f.den() {
         return Err(FamilyFault::BadF);
     }
-    if f.den() > 1000 {
+    if f.den() > i128::from(GREATEST_ORDER) {
         return Err(FamilyFault::TooManyPieces);
     }
     Ok((f.den() as u32, f.num() as u32))

@@ -1,5 +1,6 @@
 //! Continuous functions with two slopes.
 ghost use Rattle.std.specs.Prelude.{◌≡◌, ◌≤◌, ◌*◌, ◌-ℤ◌, pos, IfOk, IfErr, OnOk, length, unsigned_abs};
+ghost use Rattle.gj_shape.specs.Limits.{greatest_order};
 ghost use Rattle.gj_shape.specs.FunctionData.{IsWithinBounds};
 ghost use Rattle.gj_family.specs.Families.{IsTwoSlope};
 ghost use Rattle.gj_family.specs.Faults.{HasTwoSlopeFault, HasNoTwoSlopeFault};
@@ -8,7 +9,7 @@ ghost use Rattle.gj_family.specs.Signs.{rises, falls, sum_of_steps};
 
 use crate::faults::FamilyFault;
 use crate::numerators::shape_over;
-use gj_shape::Shape;
+use gj_shape::{GREATEST_ORDER, Shape};
 use std::alloc::{AllocError, Global};
 
 /// The continuous function that is 0 at 0, rises on the intervals whose sign is true and falls on the others, each
@@ -26,7 +27,7 @@ pub fn two_slope(alloc: Global, k: u32, signs: &[bool]) -> Result<Shape, FamilyF
     ensures ok { OnOk result (HasNoTwoSlopeFault k signs.now) }
     ensures fault { IfErr result (HasTwoSlopeFault k signs.now) }
 {
-    if signs.len() > 1000 {
+    if signs.len() > GREATEST_ORDER as usize {
         return Err(FamilyFault::TooManyPieces);
     }
     if signs.len() < 2 {
@@ -48,7 +49,7 @@ pub fn two_slope(alloc: Global, k: u32, signs: &[bool]) -> Result<Shape, FamilyF
 
 /// How many of the signs are rises.
 fn count_rises(signs: &[bool]) -> u32
-    requires { length signs.now ≤ 1000 }
+    requires { length signs.now ≤ greatest_order }
     ensures { result ≡ rises signs.now }
 {
     signs.iter().filter(|sign| **sign).count() as u32
@@ -56,7 +57,7 @@ fn count_rises(signs: &[bool]) -> u32
 
 /// How many of the signs are falls.
 fn count_falls(signs: &[bool]) -> u32
-    requires { length signs.now ≤ 1000 }
+    requires { length signs.now ≤ greatest_order }
     ensures { result ≡ falls signs.now }
 {
     signs.iter().filter(|sign| !**sign).count() as u32
@@ -64,9 +65,9 @@ fn count_falls(signs: &[bool]) -> u32
 
 /// The sum of all steps, if a rise goes up by `up` and a fall down by `down`.
 fn last_sum(signs: &[bool], up: u32, down: u32) -> i64
-    requires few { length signs.now ≤ 1000 }
-    requires up_small { up ≤ 1000 }
-    requires down_small { down ≤ 1000 }
+    requires few { length signs.now ≤ greatest_order }
+    requires up_small { up ≤ greatest_order }
+    requires down_small { down ≤ greatest_order }
     ensures sum { result ≡ pos (rises signs.now * up) -ℤ pos (falls signs.now * down) }
     ensures small { unsigned_abs result ≤ 1000000 }
 {
@@ -76,9 +77,9 @@ fn last_sum(signs: &[bool], up: u32, down: u32) -> i64
 /// The sums of the first 0, 1, .., q - 1 steps, if a rise goes up by `up`, a fall goes down by `down`, and q is the
 /// number of signs.
 fn sums_of_steps(alloc: Global, signs: &[bool], up: u32, down: u32) -> Result<Vec<i64>, AllocError>
-    requires few { length signs.now ≤ 1000 }
-    requires up_small { up ≤ 1000 }
-    requires down_small { down ≤ 1000 }
+    requires few { length signs.now ≤ greatest_order }
+    requires up_small { up ≤ greatest_order }
+    requires down_small { down ≤ greatest_order }
     ensures { IfOk result (λ v. HasEntries (sum_of_steps up down signs.now) (length signs.now) v.items) }
 {
     let mut sums = Vec::with_capacity(alloc, signs.len())?;

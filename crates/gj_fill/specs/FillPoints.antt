@@ -43,7 +43,7 @@ fill_points f s t = flat_map (points_from f s t) (range_with_len 0 f.order)
 abbrev pub IsOnLine : Fraction → GraphPoint → Fraction → Fraction → Type 0
 IsOnLine slope p x y = SameValue (difference_of y p.y) (product_of slope (difference_of x p.x))
 
--- x is at most y, where both bottoms are above 0
+-- x is at most y, if both bottoms are above 0
 abbrev pub IsAtMost : Fraction → Fraction → Type 0
 IsAtMost x y = (x.top *ℤ y.bottom) ≤ℤ (y.top *ℤ x.bottom)
 

@@ -2,7 +2,7 @@
 ghost use Rattle.std.specs.Prelude.{◌≡◌, ◌<◌, ◌≤◌, ◌^◌, ◌+◌, ◌+ℤ◌, ◌*ℤ◌, pos, length, unsigned_abs};
 ghost use Rattle.gj_frac.specs.Fraction.{numerator, denominator};
 ghost use Rattle.gj_shape.specs.FunctionData.{at};
-ghost use Rattle.gj_shape.specs.Limits.{IsRowNumber};
+ghost use Rattle.gj_shape.specs.Limits.{IsRowNumber, greatest_order};
 ghost use Rattle.gj_shape.specs.Values.{IsCongruent};
 ghost use Rattle.gj_fill.specs.FilledValue.{IsFilledValue, IsPlaceOf};
 ghost use Rattle.gj_fill.specs.Numerators.{AreNumerators};
@@ -75,7 +75,7 @@ fn lines_at(values: &[i64], steps: Steps, place: Place) -> Lines
 fn place_of(x: Frac, q: u32) -> Place
     requires range { IsRowNumber x }
     requires some { 1 ≤ q }
-    requires few { q ≤ 1000 }
+    requires few { q ≤ greatest_order }
     ensures { IsPlaceOf q x result }
 {
     let parts = x.den() as u64;

@@ -10,7 +10,7 @@ use Rattle.gj_shape.specs.FunctionData.{FunctionData}
 use Rattle.gj_lines.specs.FunctionGrammar.{function_part}
 use Rattle.gj_ftext.specs.BreaksText.{end_words}
 use Rattle.gj_ftext.specs.FunctionText.{title_words, breaks_title_words, family_part, body_part, points_text, breaks_text, function_text, whole_function_text, IsFunctionText, IsWholeFunctionText}
-use Rattle.gj_ftext.specs.FirstFault.{IsFirstFault, IsFirstFaultOfWhole}
+use Rattle.gj_ftext.specs.FirstFault.{IsFirstFaultOfFunction, IsFirstFaultOfWhole}
 use Rattle.gj_lines.proofs.ExactFunctions.{function_part_is_exact}
 use Rattle.gj_ftext.proofs.FamilyLines.{family_part_is_exact}
 use Rattle.gj_ftext.proofs.ExactBreaks.{breaks_text_is_exact}
@@ -39,7 +39,7 @@ pub one_whole_function : (text : List ℕ) (f g : FunctionData) → IsWholeFunct
 one_whole_function text f g (a, h) (b, k) = (whole_function_text_is_exact.one_thing text f g a b h k).0
 
 pub no_fault_of_text : (text rest : List ℕ) (f : FunctionData) (n : ℕ) (e : Reason) → IsFunctionText text f rest →
-    IsFirstFault text n e → ⊥
+    IsFirstFaultOfFunction text n e → ⊥
 no_fault_of_text text rest f n e h fault = numbers.no_first_fault function_text function_text_is_exact text f rest n e h fault
 
 pub no_fault_of_whole : (text : List ℕ) (f : FunctionData) (n : ℕ) (e : Reason) → IsWholeFunctionText text f →

@@ -9,6 +9,7 @@ use Rattle.gj_lex.specs.SpelledNumbers.{IsFractionWord}
 use Rattle.gj_lex.specs.declared.spelling.Spelling.TheVariants.{Lenient}
 use Rattle.gj_lex.specs.declared.reason.Reason.{Reason}
 use Rattle.gj_lex.specs.declared.reason.Reason.TheVariants as reason
+use Rattle.gj_shape.specs.Limits.{greatest_order}
 use Rattle.gj_shape.specs.FunctionData.{FunctionData}
 use Rattle.gj_shape.specs.Breaks.{BreakList, no_breaks, Follows, IsBreakFault, IsOfBreaks, AreTooFine}
 use Rattle.gj_shape.specs.declared.breaks.Break.{Break}
@@ -30,12 +31,12 @@ BreaksStart words e =
     ⊎ ((e ≡ reason.Place) × ((word : List ℕ) × (x : Frac) × (words ≡ place_words word) × IsFractionWord Lenient word x
     × (IsInside x → ⊥)))
     ⊎ ((e ≡ reason.Pieces) × ((word : List ℕ) × (x : Frac) × (words ≡ place_words word) × IsFractionWord Lenient word x × IsInside x
-    × (unsigned_abs (denominator x) ≤ 1000 → ⊥)))
+    × (unsigned_abs (denominator x) ≤ greatest_order → ⊥)))
 
 abbrev pub start_rule : LineRule BreakList
 start_rule = record {
   Spells = λ words s. (word : List ℕ) × (x : Frac) × (words ≡ place_words word) × IsFractionWord Lenient word x × IsInside x
-      × (unsigned_abs (denominator x) ≤ 1000) × (s ≡ no_breaks x);
+      × (unsigned_abs (denominator x) ≤ greatest_order) × (s ≡ no_breaks x);
   Breaks = BreaksStart;
 }
 

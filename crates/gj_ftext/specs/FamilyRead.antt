@@ -21,6 +21,6 @@ IsRefusedFor Q (Memory a) = Unit {0}
 abbrev pub IsSign : ℕ → Type 0
 IsSign b = (b ≡ 43) ⊎ (b ≡ 45)
 
--- the number where it is below 2^32, and else 2^32 - 1
+-- the number if it is below 2^32, and else 2^32 - 1
 abbrev pub IsCut : ℕ → ℕ → Type 0
 IsCut n k = ((k ≡ n) × (n < 2 ^ 32)) ⊎ ((k + 1 ≡ 2 ^ 32) × (2 ^ 32 ≤ n))

@@ -7,10 +7,10 @@ use Rattle.gj_ftext.specs.declared.faults.TextFault.{TextFault}
 use Rattle.gj_ftext.specs.declared.faults.TextFault.TheVariants.{Refused, Memory}
 
 -- the n-th line of the text is the first at fault, for this reason
-abbrev pub IsFirstFault : List ℕ → ℕ → Reason → Type 0
-IsFirstFault text n e = IsFirstFaultIn function_text text n e
+abbrev pub IsFirstFaultOfFunction : List ℕ → ℕ → Reason → Type 0
+IsFirstFaultOfFunction text n e = IsFirstFaultIn function_text text n e
 
--- the same where nothing may follow the function text
+-- the same if nothing may follow the function text
 abbrev pub IsFirstFaultOfWhole : List ℕ → ℕ → Reason → Type 0
 IsFirstFaultOfWhole text n e = IsFirstFaultIn whole_function_text text n e
 
@@ -21,7 +21,7 @@ IsMemoryFault (Memory a) = Unit {0}
 
 -- a refusal names the line and the reason of the first fault of the text
 abbrev pub NamesFirstFault : List ℕ → TextFault → Type 0
-NamesFirstFault text (Refused n e) = IsFirstFault text n e
+NamesFirstFault text (Refused n e) = IsFirstFaultOfFunction text n e
 NamesFirstFault text (Memory a) = Unit {0}
 
 abbrev pub NamesFirstFaultOfWhole : List ℕ → TextFault → Type 0

@@ -23,7 +23,7 @@ breaks_title_words = codes "gj-function" ∷ codes "2" ∷ []
 abbrev pub family_part : Part FunctionData
 family_part = line_part Lenient family_rule
 
--- what tells the function: such a line where the next one begins with `family`, and else its points
+-- what tells the function: such a line if the next one begins with `family`, and else its points
 abbrev pub body_part : Part FunctionData
 body_part = where_part (BeginsWithWord Lenient (codes "family")) family_part (function_part Lenient)
 
@@ -52,14 +52,14 @@ abbrev pub IsWholeFunctionText : List ℕ → FunctionData → Type 0
 IsWholeFunctionText text f = (rest : List ℕ) × whole_function_text.Reads text f rest
 
 -- the text is the canonical text of f: one space between words, each line ended by LF, canonical numbers, and one
--- fraction where the three are equal
+-- fraction if the three are equal
 pub record IsCanonicalText (text : List ℕ) (f : FunctionData) : Type 0 where
   pub lines : List ℕ
   pub are_lines : AreFunctionLines f lines
   pub spelled : text ≡ line (codes "gj-function 1") ++ lines ++ line (codes "end")
 
 -- the canonical text by breakpoints: that of f and of the breakpoints, each line ended by LF, with one space between words,
--- canonical numbers, and one fraction where the three are equal
+-- canonical numbers, and one fraction if the three are equal
 abbrev pub canonical_breaks_text : Frac → List Break → List ℕ
 canonical_breaks_text place breaks =
     line (codes "gj-function 2") ++ place_line place ++ flat_map break_line breaks ++ line (codes "end")

@@ -3,6 +3,7 @@ ghost use Rattle.std.specs.Prelude.{◌≡◌, ◌≢◌, ◌≤◌, ◌↔◌, 
 ghost use Rattle.gj_frac.specs.Fraction.{denominator, IsInside};
 ghost use Rattle.gj_lex.specs.Words.{word_texts};
 ghost use Rattle.gj_lex.specs.Parts.{line_part, loop_part, IsFaultOf};
+ghost use Rattle.gj_shape.specs.Limits.{greatest_order};
 ghost use Rattle.gj_shape.specs.Breaks.{no_breaks};
 ghost use Rattle.gj_ftext.specs.BreaksText.{BreaksStart, start_rule, break_rule, end_rule, EndsHere, next_break, breaks_part};
 ghost use Rattle.gj_ftext.specs.BreaksRead.{refusal_of, end_refusal};
@@ -12,7 +13,7 @@ use gj_lex::{
     PartFault, Reason, Spelling, begins_with_word, field_of, fraction_of, has_words, line_at,
 };
 use gj_lines::break_in;
-use gj_shape::{BreakFault, Breaks, Shape, ShapeFault};
+use gj_shape::{BreakFault, Breaks, GREATEST_ORDER, Shape, ShapeFault};
 use std::alloc::Global;
 
 /// The function that the next lines tell by its breakpoints, and what follows their line `end`: `f F`, and a line
@@ -41,7 +42,7 @@ fn start_at(alloc: Global, text: &[u8]) -> Result<(Breaks, &[u8]), PartFault>
 fn start_in(line: &[u8]) -> Result<Frac, Reason>
     ensures found { IfOk result (λ x. start_rule.Spells (word_texts line.now) (no_breaks x)) }
     ensures inside { IfOk result IsInside }
-    ensures few { IfOk result (λ x. unsigned_abs (denominator x) ≤ 1000) }
+    ensures few { IfOk result (λ x. unsigned_abs (denominator x) ≤ greatest_order) }
     ensures broken { IfErr result (BreaksStart (word_texts line.now)) }
 {
     let Some(word) = field_of(line, b"f") else {
@@ -68,9 +69,9 @@ fn is_inside(x: Frac) -> bool
 
 /// Whether the denominator is at most 1,000.
 fn is_coarse(x: Frac) -> bool
-    ensures { IsTrue result ↔ (unsigned_abs (denominator x) ≤ 1000) }
+    ensures { IsTrue result ↔ (unsigned_abs (denominator x) ≤ greatest_order) }
 {
-    x.den().unsigned_abs() <= 1000
+    x.den().unsigned_abs() <= u128::from(GREATEST_ORDER)
 }
 
 /// The function whose further breakpoints the next lines tell, up to their line `end`, and what follows that line.

@@ -60,7 +60,7 @@ fn family_in(alloc: Global, line: &[u8]) -> Result<Shape, LineFault>
     }
 }
 
-/// The words of the line, where they are of a line that names a function.
+/// The words of the line, if they are of a line that names a function.
 fn line_words(line: &[u8]) -> Option<LineWords<'_>>
     ensures found { IfSome result (λ w. word_texts line.now ≡ words_of_line (texts_of w)) }
     ensures none { IfNone result ((w : FamilyWords) → word_texts line.now ≡ words_of_line w → ⊥) }
@@ -137,7 +137,7 @@ fn two_slope_of(alloc: Global, count: &[u8], word: &[u8]) -> Result<Shape, LineF
     }
 }
 
-/// The count that the word spells, or 2^32 - 1 where it is higher: no function has a place so high.
+/// The count that the word spells, or 2^32 - 1 if it is higher: no function has a place so high.
 fn cut_count(word: &[u8]) -> u32
     requires { IsCountWord Spelling.Lenient word.now (digits_value 10 word.now) }
     ensures { IsCut (digits_value 10 word.now) result }

@@ -4,7 +4,7 @@ ghost use Rattle.gj_lex.specs.declared.reason.Reason.{Reason};
 ghost use Rattle.gj_shape.specs.Breaks.{BreakList, AreBreaks, IsOfBreaks};
 ghost use Rattle.gj_shape.specs.FunctionData.{FunctionData, IsWithinBounds};
 ghost use Rattle.gj_ftext.specs.FunctionText.{IsFunctionText, IsWholeFunctionText, IsCanonicalText, canonical_breaks_text};
-ghost use Rattle.gj_ftext.specs.FirstFault.{IsFirstFault, IsFirstFaultOfWhole};
+ghost use Rattle.gj_ftext.specs.FirstFault.{IsFirstFaultOfFunction, IsFirstFaultOfWhole};
 ghost use Rattle.gj_ftext.specs.RuleText.{IsRuleText, IsFirstFaultOfRule};
 ghost use Rattle.gj_ftext.specs.LinesOfFunction.{HasLinesOfFunction, HasLinesOfFamily, HasLinesOfBreaks};
 
@@ -35,7 +35,7 @@ pub fn one_canonical_text()
 /// A function text has no fault, so that a refused text is that of no function.
 pub fn no_fault_in_function_text()
     ensures front { (text rest : List ℕ) (f : FunctionData) (n : ℕ) (e : Reason) →
-        IsFunctionText text f rest → IsFirstFault text n e → ⊥ }
+        IsFunctionText text f rest → IsFirstFaultOfFunction text n e → ⊥ }
     ensures whole { (text : List ℕ) (f : FunctionData) (n : ℕ) (e : Reason) →
         IsWholeFunctionText text f → IsFirstFaultOfWhole text n e → ⊥ }
 {}

@@ -43,7 +43,7 @@ pub fn read_function(alloc: Global, bytes: &[u8]) -> Result<(Shape, usize), Text
     }
 }
 
-/// The function whose function text the bytes are, where only lines that are skipped follow its line `end`.
+/// The function whose function text the bytes are, if only lines that are skipped follow its line `end`.
 ///
 /// `Refused` has the line and the reason of the first fault; a line that is not skipped behind the line `end` is at
 /// fault as `tail`.
@@ -61,7 +61,7 @@ pub fn read_whole_function(alloc: Global, bytes: &[u8]) -> Result<Shape, TextFau
     }
 }
 
-/// The function whose function text is at the front, where only lines that are skipped follow.
+/// The function whose function text is at the front, if only lines that are skipped follow.
 fn whole_function_text_at(alloc: Global, text: &[u8]) -> Result<Shape, PartFault>
     ensures found { IfOk result (IsWholeFunctionText text.now) }
     ensures fault { IfErr result (IsFaultOf whole_function_text text.now) }

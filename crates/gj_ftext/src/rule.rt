@@ -16,8 +16,8 @@ pub fn begins_as_rule(bytes: &[u8]) -> bool
 /// The number of bytes up to and with the line `end` of the rule text at the front of the bytes: the lines `gj-rule 1`,
 /// `gmic` and `end`. It takes no memory.
 ///
-/// The error is the line and the reason of the first fault, and comes exactly where no first lines of the bytes are a rule
-/// text. Lines are numbered from 1; where the bytes end too early, the number is that of their LF and one.
+/// The error is the line and the reason of the first fault, and comes exactly if no first lines of the bytes are a rule
+/// text. Lines are numbered from 1; if the bytes end too early, the number is that of their LF and one.
 pub fn read_rule(bytes: &[u8]) -> Result<usize, (u64, Reason)>
     // What is read is spelled so.
     ensures found { IfOk result (λ n. (n ≤ length bytes.now) × IsRuleText bytes.now (drop n bytes.now)) }

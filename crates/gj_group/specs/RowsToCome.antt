@@ -1,6 +1,7 @@
 -- The rows of a table that are still to come (own).
 use Rattle.std.specs.Prelude.{ℕ, ℤ, ◌≡◌, ◌+◌, ◌-◌, ◌<◌, ◌≤◌, ◌^◌, List, [], ◌∷◌, ◌++◌, Option, None, Some, map, flat_map, filter, length}
 use Rattle.std.specs.List.{range_with_len}
+use Rattle.gj_shape.specs.Limits.{greatest_order}
 use Rattle.gj_shape.specs.FunctionData.{at}
 use Rattle.gj_residue.specs.Source.{RowsToCome}
 use Rattle.gj_group.specs.GroupRows.{entry_row, sum_row, is_tight_pair, sum_rows_with, group_rows}
@@ -48,5 +49,5 @@ IsWithin n (Pair a from) = (1 ≤ a) × (a ≤ from) × (a ≤ n) × (from ≤ n
 pub record AreGroupRows (s : Inside) : Type 0 where
   pub some : 2 ≤ length s.values.items
   pub place : s.place < length s.values.items
-  pub few : length s.values.items ≤ 1000
+  pub few : length s.values.items ≤ greatest_order
   pub upcoming : IsWithin (length s.values.items) s.upcoming

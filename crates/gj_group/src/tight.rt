@@ -1,5 +1,6 @@
 //! Pairs of places at which a table is additive.
 ghost use Rattle.std.specs.Prelude.{◌≡◌, ◌+◌, ◌<◌, ◌≤◌, ◌^◌, ◌∷◌, [], length, MatchOption};
+ghost use Rattle.gj_shape.specs.Limits.{greatest_order};
 ghost use Rattle.gj_shape.specs.FunctionData.{at};
 ghost use Rattle.gj_group.specs.GroupRows.{is_tight_pair};
 ghost use Rattle.gj_group.specs.RowsToCome.{tight_in_row, IsNextPair};
@@ -10,7 +11,7 @@ pub(crate) fn next_pair(values: &[i64], a: usize, from: usize) -> Option<(usize,
     requires ordered { a ≤ from }
     requires first { a ≤ length values.now }
     requires second { from ≤ length values.now }
-    requires few { length values.now ≤ 1000 }
+    requires few { length values.now ≤ greatest_order }
     ensures { IsNextPair (at values.now) (length values.now) a from result }
 {
     if let Some(b) = tight_from(values, a, from) {
@@ -28,7 +29,7 @@ pub(crate) fn next_pair(values: &[i64], a: usize, from: usize) -> Option<(usize,
 fn tight_from(values: &[i64], a: usize, from: usize) -> Option<usize>
     requires first { a ≤ from }
     requires second { from ≤ length values.now }
-    requires few { length values.now ≤ 1000 }
+    requires few { length values.now ≤ greatest_order }
     ensures { MatchOption result (tight_in_row (at values.now) (length values.now) a from ≡ [])
         (λ b. (from ≤ b) × (b < length values.now) × (tight_in_row (at values.now) (length values.now) a from
         ≡ b ∷ tight_in_row (at values.now) (length values.now) a (b + 1))) }
@@ -45,7 +46,7 @@ fn tight_from(values: &[i64], a: usize, from: usize) -> Option<usize>
 fn is_tight(values: &[i64], a: usize, b: usize) -> bool
     requires ordered { a ≤ b }
     requires below { b < length values.now }
-    requires few { length values.now ≤ 1000 }
+    requires few { length values.now ≤ greatest_order }
     ensures { result ≡ is_tight_pair (at values.now) a b }
 {
     let sum = i128::from(values[a]) + i128::from(values[b]);

@@ -80,7 +80,7 @@ fn long_value(front: u128, word: &[u8]) -> Option<u128>
     Some(value)
 }
 
-/// The same, where the number has at most 19 digits, so that it fits 64 bits.
+/// The same, if the number has at most 19 digits, so that it fits 64 bits.
 fn short_value(front: u64, word: &[u8]) -> Option<u128>
     requires { (front + 1) * 10 ^ length word.now ≤ 10 ^ 19 }
     ensures { let value = digits_value_after 10 front word.now in

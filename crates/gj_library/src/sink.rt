@@ -6,7 +6,7 @@ ghost use Rattle.gj_port.specs.Sink.{Writes};
 use gj_port::{Failed, Sink};
 use std::alloc::{AllocError, Global};
 
-/// A sink over memory that grows: it takes all that it is given, and fails only where there is no memory.
+/// A sink over memory that grows: it takes all that it is given, and fails only if there is no memory.
 #[derive(Drop)]
 pub(crate) struct Kept {
     bytes: Vec<u8>,

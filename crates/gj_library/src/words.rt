@@ -5,7 +5,7 @@ ghost use Rattle.gj_library.specs.Call.{AreWordsOf};
 
 use std::alloc::{AllocError, Global};
 
-/// The words that the bytes hold, with one blank between two; none where the bytes are not UTF-8.
+/// The words that the bytes hold, with one blank between two; none if the bytes are not UTF-8.
 pub(crate) fn words_of(alloc: Global, bytes: &[u8]) -> Result<Vec<String>, AllocError>
     ensures { IfOk result (λ words. AreWordsOf bytes.now words.items) }
 {

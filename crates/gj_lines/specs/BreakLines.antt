@@ -25,6 +25,6 @@ BreaksBreakForm words e =
     ((e ≡ reason.Form) × (AreBreakWords words → ⊥))
     ⊎ ((e ≡ reason.Number) × AreBreakWords words × ((b : Break) → SpellBreak words b → ⊥))
 
--- in its one spelling: canonical numbers, one space between words, and one fraction where the three are equal
+-- in its one spelling: canonical numbers, one space between words, and one fraction if the three are equal
 abbrev pub break_line : Break → List ℕ
 break_line b = line (codes "point " ++ fraction_text b.x ++ codes " " ++ point_text (point_at b))

@@ -33,7 +33,7 @@ pub(crate) fn failed_face(shape: &Shape, is_continuous: bool) -> Option<Failure>
     None
 }
 
-/// The first failed test in the squares of row a, which are searched one by one where one may fail.
+/// The first failed test in the squares of row a, which are searched one by one if one may fail.
 fn failed_in_row(shape: &Shape, lanes: &Lanes, a: u32) -> Option<Failure>
     requires within { a < shape.now.order }
     requires vertices { PassesVertices shape.now }

@@ -1,5 +1,6 @@
 //! Numbers twice over in lanes, so that no index below twice the order has to be reduced.
 ghost use Rattle.std.specs.Prelude.{◌<◌, ◌≤◌, ◌^◌, length, IsTrue};
+ghost use Rattle.gj_shape.specs.Limits.{greatest_order};
 ghost use Rattle.gj_minimal.specs.Lanes.{AreFrom0Below, AreTwice};
 
 use gj_shape::Shape;
@@ -20,7 +21,7 @@ pub(crate) fn is_short(shape: &Shape) -> bool
 /// The numbers in lanes of 16 bits, of which the sum of two fits.
 pub(crate) fn short_lanes(numbers: &[i64]) -> [u16; COUNT]
     requires some { 0 < length numbers.now }
-    requires few { length numbers.now ≤ 1000 }
+    requires few { length numbers.now ≤ greatest_order }
     requires small { AreFrom0Below (2 ^ 15) numbers.now }
     ensures { AreTwice (2 ^ 15) numbers.now result }
 {
@@ -39,7 +40,7 @@ pub(crate) fn short_lanes(numbers: &[i64]) -> [u16; COUNT]
 /// The numbers in lanes of 32 bits, of which the sum of two fits.
 pub(crate) fn narrow_lanes(numbers: &[i64]) -> [u32; COUNT]
     requires some { 0 < length numbers.now }
-    requires few { length numbers.now ≤ 1000 }
+    requires few { length numbers.now ≤ greatest_order }
     requires small { AreFrom0Below (2 ^ 31) numbers.now }
     ensures { AreTwice (2 ^ 31) numbers.now result }
 {

@@ -30,9 +30,9 @@ pub(crate) fn point_near(order: u32, h: u64, n: u32, coordinate: u32, sum: u32) 
     grid_point(index, order, h)
 }
 
-/// The least h, at least the number of corners n, at which (h - n) limit + total is negative, where the limit is.
+/// The least h, at least the number of corners n, at which (h - n) limit + total is negative, if the limit is.
 ///
-/// That is h times the number near the corner with this limit, where the total is the sum of the limits at all corners.
+/// That is h times the number near the corner with this limit, if the total is the sum of the limits at all corners.
 pub(crate) fn least_denominator(limit: i64, total: i64, n: u32) -> u64
     requires negative { limit <ℤ pos 0 }
     requires fits { unsigned_abs total < 2 ^ 62 }

@@ -52,7 +52,7 @@ pub(crate) fn short_squares_pass(
     excess == 0
 }
 
-/// By how much the sum is above the lesser of two others, and 0 where it is not.
+/// By how much the sum is above the lesser of two others, and 0 if it is not.
 fn above(sum: u16, first: u16, second: u16) -> u16
     ensures { result ≡ 0 → (sum ≤ first) × (sum ≤ second) }
 {

@@ -37,7 +37,7 @@ fn vertex(a: u32, b: u32) -> Face
     }
 }
 
-/// The first b at which the slack at (a/q, b/q) is negative. They are searched one by one where one may be.
+/// The first b at which the slack at (a/q, b/q) is negative. They are searched one by one if one may be.
 fn failed_in_row(shape: &Shape, lanes: &ValueLanes, a: u32) -> Option<u32>
     requires within { a < shape.now.order }
     requires symmetry { PassesSymmetry shape.now }

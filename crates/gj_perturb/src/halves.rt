@@ -20,7 +20,7 @@ const GREATEST_SCALE: u128 = 1 << 124;
 
 /// The halves of a perturbation of a minimal continuous function: with the least positive slack u of the function's table on the
 /// perturbation's grid and the greatest absolute value P of the perturbation, the table plus and minus u/(3 P) times the
-/// perturbation. `Wide` exactly where the scale 3 P D `times` passes 2^124, D being the common denominator of the function.
+/// perturbation. `Wide` exactly if the scale 3 P D `times` passes 2^124, D being the common denominator of the function.
 pub fn split(alloc: Global, shape: &Shape, p: &Perturbation) -> Result<Halves, SplitFault>
     requires minimal { IsMinimal shape.now }
     requires continuous { IsContinuous shape.now }
@@ -68,7 +68,7 @@ fn greatest_size(values: &[i128]) -> u128
     size
 }
 
-/// The scale of halves, where it does not pass 2^124.
+/// The scale of halves, if it does not pass 2^124.
 fn scale_of_halves(shape: &Shape, times: u32, size: u128) -> Option<i128>
     requires { times ≤ 4 }
     ensures { MatchOption result (2 ^ 124 < 3 * size * (shape.now.scale * times))

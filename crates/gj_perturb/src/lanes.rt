@@ -3,7 +3,7 @@ ghost use Rattle.std.specs.Prelude.{ℕ, ◌≡◌, ◌≢◌, ◌⊎◌, ◌+�
 ghost use Rattle.gj_perturb.specs.Lanes.{AreSubadditive, AreLeast, IsLeastAt, IsInRow, IsInRows, no_slack};
 
 /// The least positive slack at the corners (i, j) with i and j below n, less 1, of a table over two periods of n lanes each;
-/// `u32::MAX` where none is positive.
+/// `u32::MAX` if none is positive.
 pub(crate) fn least_at_corners(lanes: &[u32], n: usize) -> u32
     requires { AreSubadditive lanes.now n }
     ensures { IsLeastAt lanes.now n (IsInRows n n) result }
@@ -31,7 +31,7 @@ fn least_in_row_of_corners(lanes: &[u32], n: usize, i: usize) -> u32
     least
 }
 
-/// The least positive slacks at the corners of lower triangles, each less 1; `u32::MAX` where none is positive.
+/// The least positive slacks at the corners of lower triangles, each less 1; `u32::MAX` if none is positive.
 #[derive(Clone, Copy)]
 pub(crate) struct LeastSlacks {
     /// At any corner.

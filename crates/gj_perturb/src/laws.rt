@@ -22,7 +22,7 @@ pub fn zigzag_can_be_split()
         p.times ≡ 4 → p.values ≡ map (zigzag f.order class) (range_with_len 0 (f.order * 4)) → ¬ IsWide f p }
 {}
 
-/// The sums of slopes that solve the linear system can be split, where the slope of some interval is not 0.
+/// The sums of slopes that solve the linear system can be split, if the slope of some interval is not 0.
 pub fn slopes_can_be_split()
     ensures { (f : FunctionData) (component : List ℕ) (slopes : List ℤ) (p : Perturbation) (i : ℕ) → IsWithinBounds f →
         length component ≡ f.order → All (λ c. c < length slopes) component →

@@ -3,6 +3,7 @@ ghost use Rattle.std.specs.Prelude.{ℕ, ℤ, pos, ◌≡◌, ◌-ℤ◌, ◌+�
 ghost use Rattle.std.specs.List.{range_with_len, list_any};
 ghost use Rattle.std.specs.Result.{OkIff};
 ghost use Rattle.gj_frac.specs.Fraction.{Fits};
+ghost use Rattle.gj_shape.specs.Limits.{greatest_order};
 ghost use Rattle.gj_shape.specs.Perturbation.{zigzag as zigzag_at};
 ghost use Rattle.gj_perturb.specs.SlopeSums.{slope_sum, IsWideSum};
 
@@ -23,7 +24,7 @@ pub struct Perturbation {
 /// at the third, and 0 elsewhere.
 pub fn zigzag(alloc: Global, q: u32, class: &[u32]) -> Result<Perturbation, AllocError>
     requires low { 2 ≤ q }
-    requires high { q ≤ 1000 }
+    requires high { q ≤ greatest_order }
     requires within { All (λ a. a < q) class.now }
     ensures times { IfOk result (λ p. p.times ≡ 4) }
     ensures values { IfOk result (λ p. p.values ≡ map (zigzag_at q class.now) (range_with_len 0 (q * 4))) }
@@ -69,7 +70,7 @@ fn zigzag_value(chosen: bool, r: usize) -> i128
 }
 
 /// The perturbation at 0, 1/q, .., (q - 1)/q, with the slope of its component on each of the q intervals: the sums of the slopes
-/// of the intervals before. `Wide` exactly where one of these sums passes 2^127 - 1 in absolute value.
+/// of the intervals before. `Wide` exactly if one of these sums passes 2^127 - 1 in absolute value.
 pub fn from_slopes(
     alloc: Global,
     component: &[u32],
@@ -100,7 +101,7 @@ pub fn from_slopes(
     })
 }
 
-/// The sum of two numbers; `Wide` where it passes 2^127 - 1 in absolute value.
+/// The sum of two numbers; `Wide` if it passes 2^127 - 1 in absolute value.
 fn sum(n: i128, m: i128) -> Result<i128, SplitFault>
     ensures { OkIff result (Fits (n +ℤ m)) (n +ℤ m) }
 {

@@ -11,7 +11,7 @@ pub record MemorySink : Type 0 where
   pub calls : ℕ
   pub faults : ℕ
 
--- how many bytes are surely taken: as many as there is room for, or none where some call is to fail
+-- how many bytes are surely taken: as many as there is room for, or none if some call is to fail
 abbrev pub sure_room : List ℕ → ℕ → ℕ
 sure_room [] room = room
 sure_room (call ∷ calls) room = 0

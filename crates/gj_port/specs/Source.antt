@@ -2,8 +2,8 @@
 use Rattle.std.specs.Prelude.{ℕ, ◌≡◌, ◌≤◌, List, [], length, take, drop}
 use Rattle.std.specs.Prelude.{Option, None, Some, Result, Ok, Err}
 
--- what a read into this buffer did to the bytes to come, where the source tells them: with Ok n the
--- buffer begins with the first n of them, the rest is left, and n is 0 only where none were left;
+-- what a read into this buffer did to the bytes to come, if the source tells them: with Ok n the
+-- buffer begins with the first n of them, the rest is left, and n is 0 only if none were left;
 -- with Err all are left
 abbrev pub Reads : {E : Type 0} → Option (List ℕ) → Option (List ℕ) → List ℕ → Result ℕ E → Type 0
 Reads None after buf result = Unit {0}

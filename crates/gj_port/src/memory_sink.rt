@@ -39,7 +39,7 @@ impl Model for MemSink {
 
 impl MemSink {
     /// A sink with room for so many bytes, whose memory is taken here, as many a write as there is room for. A write fails exactly
-    /// where its number, counted from 1 and staying at 2^64 - 1 once that is reached, stands in `fail`, or where no room is left.
+    /// if its number, counted from 1 and staying at 2^64 - 1 once that is reached, stands in `fail`, or if no room is left.
     pub fn new(alloc: Global, room: usize, fail: &[u64]) -> Result<MemSink, AllocError>
         ensures { IfOk result (λ sink. sink ≡
             record { written = []; room = room; step = 2 ^ 64 - 1; fail = fail.now; calls = 0; faults = 0 }) }
@@ -93,7 +93,7 @@ impl Sink for MemSink {
         ensures cause { OnErr result (HasFailed self.old.faults self.new.faults) }
         ensures count { self.old.faults ≤ self.new.faults }
 
-        // It fails exactly where the number of the call stands among those that fail, or it is full.
+        // It fails exactly if the number of the call stands among those that fail, or it is full.
         ensures fails { IsErr result ↔
             (Contains self.old.fail (one_more self.old.calls) ⊎ (self.old.room ≡ 0)) }
         ensures failed { OnErr result (self.new ≡ record self.old {

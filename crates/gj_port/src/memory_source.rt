@@ -37,7 +37,7 @@ impl Model for MemSource {
 }
 
 impl MemSource {
-    /// A source that gives these bytes, as many a read as fit. A read fails exactly where its number, counted from 1 and
+    /// A source that gives these bytes, as many a read as fit. A read fails exactly if its number, counted from 1 and
     /// staying at 2^64 - 1 once that is reached, stands in `fail`.
     pub fn new(alloc: Global, bytes: &[u8], fail: &[u64]) -> Result<MemSource, AllocError>
         ensures { IfOk result (λ source. source ≡
@@ -91,7 +91,7 @@ impl Source for MemSource {
         ensures no_fault { IsTrue (never_fails self.old.fail) → IsOk result }
         ensures steady_stays { never_fails self.new.fail ≡ never_fails self.old.fail }
 
-        // It fails exactly where the number of the call stands among those that fail.
+        // It fails exactly if the number of the call stands among those that fail.
         ensures fails { IsErr result ↔ Contains self.old.fail (one_more self.old.calls) }
         ensures failed { OnErr result (self.new ≡ record self.old {
           calls = one_more self.old.calls;

@@ -7,7 +7,7 @@ use crate::Failed;
 
 /// A sink of bytes.
 pub trait Sink {
-    /// The bytes taken so far, where the sink tells them.
+    /// The bytes taken so far, if the sink tells them.
     ghost written: { Self → Option (List ℕ) };
 
     /// How often a write has failed. It never falls.
@@ -17,7 +17,7 @@ pub trait Sink {
     ghost sure: { Self → ℕ };
 
     /// Takes some bytes from the front of `piece`, at least one, and says how many. `Failed` comes
-    /// only where the count of faults rose, or stands at 2^64 - 1; no byte was taken then.
+    /// only if the count of faults rose, or stands at 2^64 - 1; no byte was taken then.
     fn write(&mut self, piece: &[u8]) -> Result<usize, Failed>
         requires { 0 < length piece.now }
         ensures some { IfOk result (λ n. (1 ≤ n) × (n ≤ length piece.now)) }

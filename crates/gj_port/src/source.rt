@@ -7,7 +7,7 @@ use crate::Failed;
 
 /// A source of bytes.
 pub trait Source {
-    /// The bytes still to come, where the source tells them.
+    /// The bytes still to come, if the source tells them.
     ghost left: { Self → Option (List ℕ) };
 
     /// How often a read has failed. It never falls.
@@ -17,7 +17,7 @@ pub trait Source {
     ghost steady: { Self → Bool };
 
     /// Puts the next bytes at the front of `buf`, and says how many they are: none only at the end.
-    /// `Failed` comes only where the count of faults rose, or stands at 2^64 - 1; no byte is lost.
+    /// `Failed` comes only if the count of faults rose, or stands at 2^64 - 1; no byte is lost.
     fn read(&mut self, buf: &mut [u8]) -> Result<usize, Failed>
         requires { 0 < length buf.old }
         ensures within { IfOk result (λ n. n ≤ length buf.old) }

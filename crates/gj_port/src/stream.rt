@@ -101,7 +101,7 @@ impl<W: Write> Sink for StdSink<W> {
         ensures cause { OnErr result (HasFailed self.old.faults self.new.faults) }
         ensures count { self.old.faults ≤ self.new.faults }
 
-        // The count rises by one at each error and where nothing is taken, and only then.
+        // The count rises by one at each error and if nothing is taken, and only then.
         ensures counted { OnErr result (self.new.faults ≡ one_more self.old.faults) }
         ensures not_counted { OnOk result (self.new.faults ≡ self.old.faults) }
     {

@@ -9,9 +9,9 @@ use std::alloc::Global;
 // How many bytes are asked for at once.
 const CHUNK: usize = 8192;
 
-/// Reads a source to its end; the limit is at most 2^62. `TooLong` comes exactly where it gave
-/// `limit` + 1 bytes, and no more are asked for; `ReadFault` only where it failed in this call, so
-/// never where it is steady; `Memory` where there was no memory for the bytes.
+/// Reads a source to its end; the limit is at most 2^62. `TooLong` comes exactly if it gave
+/// `limit` + 1 bytes, and no more are asked for; `ReadFault` only if it failed in this call, so
+/// never if it is steady; `Memory` if there was no memory for the bytes.
 pub fn read_all<S: Source>(
     alloc: Global,
     source: &mut S,
@@ -42,8 +42,8 @@ pub fn read_all<S: Source>(
     }
 }
 
-/// Writes all bytes to a sink. It takes no memory. `Failed` comes only where the sink failed in
-/// this call, so never where it is sure of so many bytes; some bytes from the front may be taken then.
+/// Writes all bytes to a sink. It takes no memory. `Failed` comes only if the sink failed in
+/// this call, so never if it is sure of so many bytes; some bytes from the front may be taken then.
 pub fn write_all<K: Sink>(sink: &mut K, bytes: &[u8]) -> Result<(), Failed>
     ensures told { IfSome (K.written sink.old) (λ before.
         WritesAll before (K.written sink.new) bytes.now result) }

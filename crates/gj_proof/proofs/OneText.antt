@@ -6,7 +6,7 @@ use Rattle.gj_lines.specs.FunctionLines.{line}
 use Rattle.gj_lines.proofs.OneTextOfLines.{one_text_of_lines}
 use Rattle.gj_proof.specs.ProofText.{IsBounded, subject_of, numbers_of, AreSubjectLines, title_text, claim_word, own_lines, IsProofText}
 use Rattle.gj_proof.specs.ProofGrammar.{proof_text}
-use Rattle.gj_proof.specs.FirstFault.{IsFirstFault}
+use Rattle.gj_proof.specs.FirstFault.{IsFirstFaultOfProof}
 use Rattle.gj_proof.specs.declared.claim.Claim.{Claim}
 use Rattle.gj_proof.specs.declared.claim.Claim.TheVariants.{Minimal, NotMinimal, Cut, Extreme, ExtremeByResidues, NotExtreme}
 use Rattle.gj_proof.specs.declared.cut.CutRule.TheVariants.{Gmic, Table}
@@ -35,8 +35,8 @@ one_text c s t b p q =
     ∙ sym q.spelled
 
 -- the text of a claim has no fault
-pub no_fault : (c : Claim) (text : List ℕ) (n : ℕ) (e : Reason) → IsBounded c → IsProofText c text → IsFirstFault text n e → ⊥
+pub no_fault : (c : Claim) (text : List ℕ) (n : ℕ) (e : Reason) → IsBounded c → IsProofText c text → IsFirstFaultOfProof text n e → ⊥
 no_fault c text n e b p h = numbers.no_first_fault proof_text proof_text_is_exact text c [] n e (text_is_read c text b p) h
 
-pub one_fault : (text : List ℕ) (n m : ℕ) (e d : Reason) → IsFirstFault text n e → IsFirstFault text m d → (n ≡ m) × (e ≡ d)
+pub one_fault : (text : List ℕ) (n m : ℕ) (e d : Reason) → IsFirstFaultOfProof text n e → IsFirstFaultOfProof text m d → (n ≡ m) × (e ≡ d)
 one_fault text n m e d h k = numbers.one_first_fault proof_text proof_text_is_exact text n m e d h k

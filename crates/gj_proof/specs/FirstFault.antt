@@ -7,12 +7,12 @@ use Rattle.gj_proof.specs.declared.faults.ProofFault.{ProofFault}
 use Rattle.gj_proof.specs.declared.faults.ProofFault.TheVariants.{Refused, Memory}
 
 -- the n-th line of the text is the first at fault, for this reason
-abbrev pub IsFirstFault : List ℕ → ℕ → Reason → Type 0
-IsFirstFault text n e = IsFirstFaultIn proof_text text n e
+abbrev pub IsFirstFaultOfProof : List ℕ → ℕ → Reason → Type 0
+IsFirstFaultOfProof text n e = IsFirstFaultIn proof_text text n e
 
 -- a refusal names the line and the reason of the first fault of the text
 abbrev pub NamesFirstFault : List ℕ → ProofFault → Type 0
-NamesFirstFault text (Refused n e) = IsFirstFault text n e
+NamesFirstFault text (Refused n e) = IsFirstFaultOfProof text n e
 NamesFirstFault text (Memory a) = Unit {0}
 
 -- the fault is want of memory

@@ -12,7 +12,7 @@ use Rattle.gj_proof.specs.declared.claim.Claim.TheVariants.{Minimal, NotMinimal,
 use Rattle.gj_proof.specs.declared.cut.CutLine.{CutLine}
 use Rattle.gj_proof.specs.declared.cut.CutLine.TheVariants as cuts
 
--- the cut of a row, where it has one, holds at every solution of the row that its right side and its terms spell
+-- the cut of a row, if it has one, holds at every solution of the row that its right side and its terms spell
 abbrev pub CutLineHolds : CutLine → Type 0
 CutLineHolds (cuts.Cut name right terms) = CutHolds (map (λ t. t.entry) terms) right (map (λ t. t.cut) terms)
 CutLineHolds (cuts.Skip name right reason) = Unit {0}

@@ -24,6 +24,7 @@ use Rattle.gj_lines.specs.FunctionGrammar.{function_part}
 use Rattle.gj_theory.specs.Modulus.{modulus}
 use Rattle.gj_proof.specs.ProofText.{reason_word, extreme_claim, IsCoverLineBelow, IsRowNameBelow}
 use Rattle.gj_lex.specs.Parts.{BeginsWithLine, BeginsWithWord, where_part}
+use Rattle.gj_shape.specs.Limits.{greatest_order}
 use Rattle.gj_proof.specs.declared.claim.Claim.{Claim}
 use Rattle.gj_proof.specs.declared.claim.Claim.TheVariants as claim
 use Rattle.gj_proof.specs.declared.claim.ClaimWord.{ClaimWord}
@@ -117,7 +118,7 @@ violation_rule = record { Spells = λ words v. words ≡ violation_words v; Brea
 
 -- ---- the rule of cuts
 
--- the line `rule gmic`, where the text begins with it, and else the lines of a function
+-- the line `rule gmic`, if the text begins with it, and else the lines of a function
 abbrev pub rule_part : Part CutRule
 rule_part =
     where_part (BeginsWithLine Strict (codes "rule" ∷ codes "gmic" ∷ []))
@@ -163,7 +164,7 @@ term_rule = record {
   Breaks = BreaksTerm;
 }
 
--- one term more behind these, where the next line begins with `term`; else these are all
+-- one term more behind these, if the next line begins with `term`; else these are all
 abbrev pub next_term : List CutTerm → Part (List CutTerm ⊎ List CutTerm)
 next_term terms =
     where_part (BeginsWithWord Strict (codes "term"))
@@ -175,7 +176,7 @@ terms_part = loop_part next_term
 
 -- ---- rows
 
--- what follows the first line of a row: the terms of its cut, where it has one
+-- what follows the first line of a row: the terms of its cut, if it has one
 abbrev pub behind_head : List ℕ → Frac → RowKind → Part CutLine
 behind_head name right WithCut = made_part (λ terms l. l ≡ cuts.Cut name right terms) (terms_part [])
 behind_head name right (Skipped reason) = empty_part (cuts.Skip name right reason)
@@ -268,12 +269,12 @@ row_name_rule q = record {
 -- a word and a column below 1,000: `reduce C` or `pivot C`
 abbrev pub column_rule : List ℕ → LineRule ℕ
 column_rule word = record {
-  Spells = λ words c. (words ≡ word ∷ decimal c ∷ []) × (c < 1000);
+  Spells = λ words c. (words ≡ word ∷ decimal c ∷ []) × (c < greatest_order);
   Breaks = λ words e. ((e ≡ reason.Form) × ((column : List ℕ) → words ≡ word ∷ column ∷ [] → ⊥))
-      ⊎ ((e ≡ reason.Number) × ((column : List ℕ) × (words ≡ word ∷ column ∷ []) × (IsCountIn (λ n. n < 1000) column → ⊥)));
+      ⊎ ((e ≡ reason.Number) × ((column : List ℕ) × (words ≡ word ∷ column ∷ []) × (IsCountIn (λ n. n < greatest_order) column → ⊥)));
 }
 
--- one step more behind these, where the next line begins with `reduce`; else these are all
+-- one step more behind these, if the next line begins with `reduce`; else these are all
 abbrev pub next_step : List ℕ → Part (List ℕ ⊎ List ℕ)
 next_step columns =
     where_part (BeginsWithWord Strict (codes "reduce"))

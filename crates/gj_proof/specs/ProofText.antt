@@ -5,6 +5,7 @@ use Rattle.std.specs.List.{range_with_len}
 use Rattle.gj_shape.specs.Perturbation.{AreHalvesInBounds}
 use Rattle.gj_lex.specs.Name.{IsName}
 use Rattle.gj_lex.specs.NumberText.{fraction_text}
+use Rattle.gj_shape.specs.Limits.{greatest_order}
 use Rattle.gj_shape.specs.FunctionData.{FunctionData, IsWithinBounds}
 use Rattle.gj_shape.specs.declared.extremality.CoverLine.{CoverLine}
 use Rattle.gj_shape.specs.declared.extremality.Halves.{Halves}
@@ -48,7 +49,7 @@ subject_of (Extreme f lines rows) = function f
 subject_of (ExtremeByResidues f lines rows) = function f
 subject_of (NotExtreme f halves) = function f
 
--- the subject, where it is a function, has a property of functions
+-- the subject, if it is a function, has a property of functions
 abbrev pub IfFunction : Subject → (FunctionData → Type 0) → Type 0
 IfFunction (function f) P = P f
 IfFunction gmic P = Unit {0}
@@ -58,7 +59,7 @@ abbrev pub HasNames : CutLine → Type 0
 HasNames (cuts.Cut name right terms) = IsName name × All (λ t. IsName t.name) terms
 HasNames (cuts.Skip name right reason) = IsName name
 
--- the function of the rule, where it has one, is within the limits
+-- the function of the rule, if it has one, is within the limits
 abbrev pub IsBoundedRule : CutRule → Type 0
 IsBoundedRule rule = IfFunction (subject_of_rule rule) IsWithinBounds
 
@@ -297,13 +298,13 @@ IsRowNameBelow q (Pair a b) = (1 ≤ a) × (a ≤ b) × (b < q)
 -- the columns of a row are below 1,000
 pub record IsPivotRowBelow (q : ℕ) (row : PivotRow) : Type 0 where
   pub name : IsRowNameBelow q row.name
-  pub reduce : All (λ c. c < 1000) row.reduce
-  pub pivot : row.pivot < 1000
+  pub reduce : All (λ c. c < greatest_order) row.reduce
+  pub pivot : row.pivot < greatest_order
 
 -- at most 1,000 groups, and at most 1,000 steps in each
 pub record HaveFewSteps (rows : List PivotRow) : Type 0 where
-  pub groups : length rows ≤ 1000
-  pub steps : All (λ row. length row.reduce ≤ 1000) rows
+  pub groups : length rows ≤ greatest_order
+  pub steps : All (λ row. length row.reduce ≤ greatest_order) rows
 
 -- each interval has a line, and the lines and the rows are within the ranges of the form
 abbrev pub AreExtremeLines : FunctionData → List CoverLine → List PivotRow → Type 0

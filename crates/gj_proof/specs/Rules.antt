@@ -9,6 +9,7 @@ use Rattle.gj_shape.specs.Cover.{components_in}
 use Rattle.gj_shape.specs.Additive.{IsTight}
 use Rattle.gj_shape.specs.Elimination.{KeptRow, at_column, entries_of, row_with_pivot, marked_in_step, Passes}
 use Rattle.gj_shape.specs.FunctionData.{FunctionData, at, IsContinuous}
+use Rattle.gj_shape.specs.Limits.{IsSmallNumber}
 use Rattle.gj_shape.specs.Given.{IsCommonDenominator, HasCommonDenominator}
 use Rattle.gj_shape.specs.FirstViolation.{PassesAll}
 use Rattle.gj_shape.specs.Table.{table, IsMinimalTable}
@@ -76,7 +77,7 @@ MeetsFraction Gmic (cuts.Skip name right Other) = ⊥
 -- the rule `limit`: x is at most 2^31 in absolute value, and has a common denominator of at most 2^31 - 1 with the fractions of
 -- its row that stand before it
 pub record MeetsLimit (before : List Frac) (x : Frac) : Type 0 where
-  pub small : unsigned_abs (numerator x) ≤ 2 ^ 31 * unsigned_abs (denominator x)
+  pub small : IsSmallNumber x
   pub common : HasCommonDenominator (before ++ x ∷ [])
 
 -- the rule `name`: the term's name is not that of the basic variable, nor of a term before it
@@ -273,7 +274,7 @@ line_of first = halves
 line_of second = halves
 line_of same = halves
 
--- the violation of the claim, where it has one, meets the rule `point`
+-- the violation of the claim, if it has one, meets the rule `point`
 abbrev pub IsShown : Claim → Type 0
 IsShown (Minimal f) = Unit {0}
 IsShown (NotMinimal f v) = MeetsPoint f v
@@ -282,11 +283,11 @@ IsShown (Extreme f lines rows) = Unit {0}
 IsShown (ExtremeByResidues f lines rows) = Unit {0}
 IsShown (NotExtreme f h) = Unit {0}
 
--- the i-th item of a list, where it has one, has a property behind those before it
+-- the i-th item of a list, if it has one, has a property behind those before it
 abbrev pub AtIndex : {A : Type 0} → List A → ℕ → (List A → A → Type 0) → Type 0
 AtIndex {A} items i P = (before : List A) (x : A) (after : List A) → items ≡ before ++ x ∷ after → length before ≡ i → P before x
 
--- the i-th row of a claim about cuts, where it has one, has a property by the claim's rule
+-- the i-th row of a claim about cuts, if it has one, has a property by the claim's rule
 abbrev pub IfRow : Claim → ℕ → (CutRule → CutLine → Type 0) → Type 0
 IfRow (Minimal f) i P = Unit {0}
 IfRow (NotMinimal f v) i P = Unit {0}

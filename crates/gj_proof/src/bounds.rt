@@ -6,7 +6,7 @@ ghost use Rattle.gj_proof.specs.ProofText.{IsCoverLineBelow, IsRowNameBelow, IsP
 ghost use Rattle.gj_proof.specs.ProofGrammar.{IsHeadInBounds};
 
 use crate::pivot::PivotRow;
-use gj_shape::{CoverLine, FaceKind, Halves, RowName};
+use gj_shape::{CoverLine, FaceKind, GREATEST_ORDER, Halves, RowName};
 
 /// Whether the intervals and the square of each line are below the order, and no face is a vertex.
 pub(crate) fn are_cover_lines_below(order: u32, lines: &[CoverLine]) -> bool
@@ -38,8 +38,12 @@ fn is_pivot_row_below(order: u32, row: &PivotRow) -> bool
     ensures { IsTrue result ↔ IsPivotRowBelow order row.now }
 {
     is_row_name_below(order, row.name)
-        && row.pivot < 1000
-        && row.reduce.as_slice().iter().all(|column| *column < 1000)
+        && row.pivot < GREATEST_ORDER
+        && row
+            .reduce
+            .as_slice()
+            .iter()
+            .all(|column| *column < GREATEST_ORDER)
 }
 
 /// Whether a pair that names the row ascends, from 1 to below the order.

@@ -78,7 +78,7 @@ fn cover_line_in(line: &[u8], order: u32) -> Result<CoverLine, Reason>
     })
 }
 
-/// The words of the line, where they are of a covered interval.
+/// The words of the line, if they are of a covered interval.
 fn cover_words(line: &[u8]) -> Option<CoverWords<'_>>
     ensures found { IfSome result (λ w. word_texts line.now ≡ cover_words w.kind w.interval.now w.from.now w.a.now w.b.now) }
     ensures kind { IfSome result (λ w. w.kind ≢ Vertex) }

@@ -121,7 +121,7 @@ fn head_at(alloc: Global, text: &[u8]) -> Result<(RowHead, &[u8]), PartFault>
     }
 }
 
-/// What the line tells, where it is the first of a row.
+/// What the line tells, if it is the first of a row.
 fn head_in(alloc: Global, line: &[u8]) -> Result<RowHead, LineFault>
     ensures found { IfOk result (head_rule.Spells (word_texts line.now)) }
     ensures fault { IfErr result (IsRefusedFor (BreaksHead (word_texts line.now))) }
@@ -140,7 +140,7 @@ fn head_in(alloc: Global, line: &[u8]) -> Result<RowHead, LineFault>
     }
 }
 
-/// The words of the line, where they are of the first line of a row.
+/// The words of the line, if they are of the first line of a row.
 fn head_words(line: &[u8]) -> Option<HeadWords<'_>>
     ensures found { IfSome result (λ w. word_texts line.now ≡ texts_of_head w) }
     ensures none { IfNone result ((kind : RowKind) (name right : List ℕ) →

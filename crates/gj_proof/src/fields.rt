@@ -10,7 +10,7 @@ ghost use Rattle.gj_proof.specs.ProofGrammar.{IsFraction, IsCountIn};
 use gj_frac::Frac;
 use gj_lex::{Reason, Spelling, behind_name, count_of, fraction_of, only_word, split_word};
 
-/// The three words behind the name, where the line has these four words.
+/// The three words behind the name, if the line has these four words.
 pub(crate) fn three_fields_of<'a>(
     line: &'a [u8],
     name: &[u8],
@@ -36,7 +36,7 @@ pub(crate) fn number_of(word: &[u8]) -> Result<Frac, Reason>
     }
 }
 
-/// The five words behind the name, where the line has these six words.
+/// The five words behind the name, if the line has these six words.
 pub(crate) fn five_fields_of<'a>(
     line: &'a [u8],
     name: &[u8],

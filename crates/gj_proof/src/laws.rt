@@ -10,7 +10,7 @@ ghost use Rattle.gj_proof.specs.declared.numbers.Numbers.{Numbers};
 ghost use Rattle.gj_proof.specs.declared.pivot.PivotRow.{PivotRow};
 ghost use Rattle.gj_proof.specs.ProofText.{ProofLine, extreme_claim, IsBounded, IsShort, HaveFewSteps, IsProofText, HasBytes, HasNumber};
 ghost use Rattle.gj_proof.specs.ProofGrammar.{proof_text};
-ghost use Rattle.gj_proof.specs.FirstFault.{IsFirstFault};
+ghost use Rattle.gj_proof.specs.FirstFault.{IsFirstFaultOfProof};
 
 /// The texts that read as a claim, from their title to their end, are the texts of that claim; its function is then
 /// within the limits.
@@ -30,13 +30,13 @@ pub fn one_spelling()
 /// The text of a claim has no fault, so that a refused text is that of no claim.
 pub fn no_fault_in_proof_text()
     ensures { (c : Claim) (text : List ℕ) (n : ℕ) (e : Reason) → IsBounded c → IsProofText c text →
-        IsFirstFault text n e → ⊥ }
+        IsFirstFaultOfProof text n e → ⊥ }
 {}
 
 /// A text has one first fault: a refusal says which.
 pub fn one_first_fault()
     ensures { (text : List ℕ) (n m : ℕ) (e d : Reason) →
-        IsFirstFault text n e → IsFirstFault text m d → (n ≡ m) × (e ≡ d) }
+        IsFirstFaultOfProof text n e → IsFirstFaultOfProof text m d → (n ≡ m) × (e ≡ d) }
 {}
 
 /// A line has one number at most, and in the text of a claim the line with that number is that line.

@@ -15,7 +15,7 @@ use gj_lex::{
     PartFault, Reason, Spelling, begins_with_line, begins_with_word, field_of, has_words, line_at,
     two_fields_of,
 };
-use gj_shape::{List, RowName};
+use gj_shape::{GREATEST_ORDER, List, RowName};
 use std::alloc::Global;
 
 /// The groups up to a line `end`, for a function of this order, and that line with what follows it.
@@ -91,7 +91,7 @@ fn column_in(line: &[u8], word: &[u8]) -> Result<u32, Reason>
     let Some(column) = field_of(line, word) else {
         return Err(Reason::Form);
     };
-    count_below(column, 1000)
+    count_below(column, GREATEST_ORDER)
 }
 
 /// The name of the row in the next line, and what follows the line. It takes no memory.

@@ -6,7 +6,7 @@ use Rattle.gj_shape.specs.Elimination.{KeptRow, at_column, row_with_pivot}
 use Rattle.gj_proof.specs.declared.numbers.Numbers.{Numbers}
 use Rattle.gj_rank.specs.RowNumbers.{AreNumbers, IsPivotEntry}
 
--- the entries of a kept row, where there is one
+-- the entries of a kept row, if there is one
 abbrev pub entries_kept : Option KeptRow → Option (List ℤ)
 entries_kept None = None
 entries_kept (Some k) = Some k.entries

@@ -5,7 +5,7 @@
 pub enum GroupRule {
     /// The pair that names its row is tight.
     Row,
-    /// A step is by a kept row with its pivot at the column, where the row is not 0.
+    /// A step is by a kept row with its pivot at the column, if the row is not 0.
     Reduce,
     /// No number of a step passes 2^127 - 1 in absolute value.
     Size,

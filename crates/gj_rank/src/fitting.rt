@@ -10,7 +10,7 @@ const NARROW_END: i128 = 1 << 63;
 #[derive(Clone, Copy)]
 pub(crate) struct TooWide;
 
-/// The number, where there is one and it is not -2^127.
+/// The number, if there is one and it is not -2^127.
 fn fitting(number: Option<i128>) -> Result<i128, TooWide>
     ensures { MatchOption number (IsErr result) (λ n. OkIff result (Fits n) n) }
 {

@@ -23,7 +23,7 @@ pub(crate) fn common_divisor(n: i128, m: i128) -> i128
     gcd(m.unsigned_abs(), n.unsigned_abs()) as i128
 }
 
-/// The greatest common divisor of all entries; 0 where all are 0.
+/// The greatest common divisor of all entries; 0 if all are 0.
 fn divisor_of_row(row: &[i128]) -> u128
     ensures { result ≡ gcd_of_row row.now }
 {
@@ -37,7 +37,7 @@ fn divisor_of_row(row: &[i128]) -> u128
     divisor
 }
 
-/// Divides a row by the greatest common divisor of its entries, where they are not all 0.
+/// Divides a row by the greatest common divisor of its entries, if they are not all 0.
 fn divide(row: &mut [i128])
     requires { All Fits row.old }
     ensures value { row.new ≡ divided row.old }

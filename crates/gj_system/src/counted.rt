@@ -144,7 +144,7 @@ impl SlopeRows {
     }
 }
 
-/// The sum of two numbers below the order, less the order where that is not below it.
+/// The sum of two numbers below the order, less the order if that is not below it.
 fn sum_below(a: u32, b: u32, order: usize) -> usize
     requires first { a < order }
     requires second { b < order }

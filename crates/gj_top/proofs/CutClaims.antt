@@ -20,7 +20,7 @@ use Rattle.gj_proof.specs.declared.cut.CutLine.{CutLine}
 use Rattle.gj_proof.specs.declared.cut.CutLine.TheVariants.{Cut, Skip}
 use Rattle.gj_proof.specs.declared.cut.CutRule.{CutRule}
 use Rattle.gj_proof.specs.declared.cut.CutTerm.{CutTerm}
-use Rattle.gj_check.specs.CutRows.{MeetTerms, MeetsRow}
+use Rattle.gj_check.specs.CutRows.{MeetTerms, MeetsCutRow}
 use Rattle.gj_check.proofs.CutDemands.{cuts_meet}
 use Rattle.gj_check.proofs.RulesGiveMeaning.{meaning_of_rules}
 use Rattle.gj_mtext.specs.CutLines.{IsLineFor, IsTermFor}
@@ -177,7 +177,7 @@ terms_meet r columns row terms differ basic limits h j before t after place inde
     }
 
 row_meets : (r : CutRule) (columns : List (List ℕ)) (row : Row) (line : CutLine) → Differ columns →
-    All (λ x. x ≢ row.basic) columns → IsRowWithinLimits (length columns) row → IsLineFor r columns row line → MeetsRow r line
+    All (λ x. x ≢ row.basic) columns → IsRowWithinLimits (length columns) row → IsLineFor r columns row line → MeetsCutRow r line
 row_meets r columns row (Cut name right terms) differ basic limits h = record {
   fraction = h.2;
   cut = (
@@ -191,13 +191,13 @@ row_meets r columns row (Skip name right reason) differ basic limits h = record 
 
 rows_meet : (r : CutRule) (columns : List (List ℕ)) (rows : List Row) (lines : List CutLine) → Differ columns →
     All (λ row. All (λ x. x ≢ row.basic) columns) rows → All (IsRowWithinLimits (length columns)) rows →
-    AllZip (IsLineFor r columns) rows lines → All (MeetsRow r) lines
-rows_meet r columns [] [] differ basics limits h = All-nil (MeetsRow r)
+    AllZip (IsLineFor r columns) rows lines → All (MeetsCutRow r) lines
+rows_meet r columns [] [] differ basics limits h = All-nil (MeetsCutRow r)
 rows_meet r columns [] (l ∷ lines) differ basics limits h = absurd h
 rows_meet r columns (row ∷ rows) [] differ basics limits h = absurd h
 rows_meet r columns (row ∷ rows) (l ∷ lines) differ basics limits h =
     let B : Row → Type 0 = λ row. All (λ x. x ≢ row.basic) columns in
-    All-cons (MeetsRow r) l lines
+    All-cons (MeetsCutRow r) l lines
     (row_meets r columns row l differ (All-head B row rows basics) (All-head (IsRowWithinLimits (length columns)) row rows limits) h.0)
     (rows_meet r columns rows lines differ (All-tail B row rows basics) (All-tail (IsRowWithinLimits (length columns)) row rows limits) h.1)
 

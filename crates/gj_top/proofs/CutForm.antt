@@ -3,7 +3,7 @@ use Rattle.std.proofs.Common.{◌≡◌, ℕ, List, subst}
 use Rattle.gj_proof.specs.ProofText.{IsBoundedRule}
 use Rattle.gj_lex.specs.declared.reason.Reason.{Reason}
 use Rattle.gj_ftext.specs.RuleText.{BeginsAsRule, IsFirstFaultOfRule}
-use Rattle.gj_ftext.specs.FirstFault.{IsFirstFault}
+use Rattle.gj_ftext.specs.FirstFault.{IsFirstFaultOfFunction}
 use Rattle.gj_ftext.proofs.OneText.{one_function_text, no_fault_of_text}
 use Rattle.gj_ftext.proofs.FunctionTexts.{function_is_within}
 use Rattle.gj_ftext.proofs.RuleTexts.{one_end, no_fault_of_rule}
@@ -44,7 +44,7 @@ no_rule_fault text Gmic rest n e h begins fault = no_fault_of_rule text rest n e
 no_rule_fault text (Table f) rest n e h begins fault = h.0 begins
 
 pub no_function_fault : (text : List ℕ) (r : CutRule) (rest : List ℕ) (n : ℕ) (e : Reason) → BeginsWithRule text r rest →
-    (BeginsAsRule text → ⊥) → IsFirstFault text n e → ⊥
+    (BeginsAsRule text → ⊥) → IsFirstFaultOfFunction text n e → ⊥
 no_function_fault text Gmic rest n e h begins fault = begins h.0
 no_function_fault text (Table f) rest n e h begins fault = no_fault_of_text text rest f n e h.1 fault
 
@@ -66,7 +66,7 @@ refusal_of_rule input n e (Refused text) begins first spelled =
     of_rule begins (record { at_line = n; reason = e; first = first; spelled = spelled })
 refusal_of_rule input n e (Memory a) begins first spelled = tt
 
-pub refusal_of_function : (input : List ℕ) (n : ℕ) (e : Reason) (u : Unanswered) → (BeginsAsRule input → ⊥) → IsFirstFault input n e →
+pub refusal_of_function : (input : List ℕ) (n : ℕ) (e : Reason) (u : Unanswered) → (BeginsAsRule input → ⊥) → IsFirstFaultOfFunction input n e →
     IsRefusalOf n e u → IsRefusal RefusesCutInput input u
 refusal_of_function input n e (Refused text) begins first spelled =
     of_function begins (record { at_line = n; reason = e; first = first; spelled = spelled })

@@ -12,7 +12,7 @@ use Rattle.gj_shape.specs.Table.{IsMinimal}
 use Rattle.gj_shape.specs.Values.{IsValueAt}
 use Rattle.gj_shape.proofs.LeastDenominator.{denominator_some}
 use Rattle.gj_theory.proofs.Violations.{violation_denies, first_shown}
-use Rattle.gj_ftext.specs.FirstFault.{IsFirstFault}
+use Rattle.gj_ftext.specs.FirstFault.{IsFirstFaultOfFunction}
 use Rattle.gj_ftext.specs.FunctionText.{function_text}
 use Rattle.gj_ftext.proofs.OneText.{one_function_text, function_text_is_exact}
 use Rattle.gj_ftext.proofs.RuleTexts.{one_fault_of_rule}
@@ -66,7 +66,7 @@ one_cut_spelled input a b h k =
     same_input a b (one_rule input a.rule b.rule h.rest k.rest first second)
     (one_tableau (records_of k.rest) a.tableau b.tableau (subst (λ (r : List ℕ). IsTableauText r a.tableau) rest h.tableau) k.tableau)
 
-one_front_fault : (text : List ℕ) (n m : ℕ) (e d : Reason) → IsFirstFault text n e → IsFirstFault text m d → (n ≡ m) × (e ≡ d)
+one_front_fault : (text : List ℕ) (n m : ℕ) (e d : Reason) → IsFirstFaultOfFunction text n e → IsFirstFaultOfFunction text m d → (n ≡ m) × (e ≡ d)
 one_front_fault text n m e d h k = numbers.one_first_fault function_text function_text_is_exact text n m e d h k
 
 one_record : (input x y : List ℕ) → NamesRecord input x → NamesRecord input y → x ≡ y

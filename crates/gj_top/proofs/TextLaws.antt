@@ -12,7 +12,7 @@ use Rattle.gj_ftext.proofs.LinesOfFunction.{lines_are_text}
 pub use Rattle.gj_ftext.proofs.OneCanonical.{one_canonical_text as one_canonical}
 use Rattle.gj_ftext.proofs.OneText.{one_whole_function, no_fault_of_whole}
 use Rattle.gj_proof.specs.ProofText.{IsProofText, IsShort}
-use Rattle.gj_proof.specs.FirstFault.{IsFirstFault}
+use Rattle.gj_proof.specs.FirstFault.{IsFirstFaultOfProof}
 use Rattle.gj_proof.specs.declared.claim.Claim.{Claim}
 use Rattle.gj_proof.specs.declared.claim.Claim.TheVariants.{Minimal, NotMinimal}
 use Rattle.gj_proof.proofs.OneText.{one_claim, no_fault}
@@ -51,7 +51,7 @@ not_minimal_proof f v text within spelled = record { bounded = within; spelled =
 pub one_proof : (text : List ℕ) (c d : Claim) → IsProofOf text c → IsProofOf text d → c ≡ d
 one_proof text c d p q = one_claim c d text p.bounded q.bounded p.spelled q.spelled
 
-pub proof_text_has_no_fault : (text : List ℕ) (c : Claim) (n : ℕ) (reason : Reason) → IsProofOf text c → IsFirstFault text n reason → ⊥
+pub proof_text_has_no_fault : (text : List ℕ) (c : Claim) (n : ℕ) (reason : Reason) → IsProofOf text c → IsFirstFaultOfProof text n reason → ⊥
 proof_text_has_no_fault text c n reason p fault = no_fault c text n reason p.bounded p.spelled fault
 
 pub proof_text_is_short : (text : List ℕ) (c : Claim) → IsShort c → IsProofOf text c → length text ≤ 1000000

@@ -19,7 +19,7 @@ use Rattle.gj_top.specs.Task.{Task, IsReply}
 abbrev pub input_limit : ℕ
 input_limit = 16777216
 
--- the lines that are written where no input was answered
+-- the lines that are written if no input was answered
 abbrev pub words_line : List ℕ
 words_line = line (codes "words refused")
 
@@ -29,7 +29,7 @@ fault_line = line (codes "read fault")
 abbrev pub long_line : List ℕ
 long_line = line (codes "refused long")
 
--- ---- the answer to an input, where nothing fails
+-- ---- the answer to an input, if nothing fails
 
 -- the input is longer than the limit
 pub record IsTooLong (task : Task) (input : List ℕ) (status : Status) (text : List ℕ) : Type 0 where
@@ -38,7 +38,7 @@ pub record IsTooLong (task : Task) (input : List ℕ) (status : Status) (text : 
   pub status_is : status ≡ Input
   pub spelled : text ≡ long_line
 
--- the input, where one is read, is within the limit
+-- the input, if one is read, is within the limit
 abbrev pub IsWithinLimit : Task → List ℕ → Type 0
 IsWithinLimit task input = IsTrue (reads task.promise.form) → length input ≤ input_limit
 
@@ -61,14 +61,14 @@ pub data IsAnswerTo (task : Task) (input : List ℕ) (status : Status) (text : L
   refused : IsRefused task input status text → IsAnswerTo task input status text
   replied : IsReplied task input status text → IsAnswerTo task input status text
 
--- ---- the answer to words, and what the source, where it tells its bytes, has left
+-- ---- the answer to words, and what the source, if it tells its bytes, has left
 
 -- the source failed: its count of faults rose, or stands at its last value, and it is not steady
 abbrev pub IsSourceFault : Bool → ℕ → ℕ → Type 0
 IsSourceFault steady before after = HasFailed before after × (IsTrue steady → ⊥)
 
 -- the input is all that the source had, of which it has left what stands behind the limit and one byte more; or the
--- source is as it was, where nothing is read
+-- source is as it was, if nothing is read
 abbrev pub IsReadWhole : Bool → List ℕ → Option (List ℕ) → Option (List ℕ) → Type 0
 IsReadWhole true input left after = IfSome left (λ told. (told ≡ input) × (after ≡ Some (drop (input_limit + 1) input)))
 IsReadWhole false input left after = after ≡ left
@@ -103,7 +103,7 @@ pub record IsRequestAnswer (words : List (String Global)) (left after : Option (
   pub whole : IsReadWhole (reads (promise_for request).form) input left after
   pub answer : IsAnswerTo (task_for request) input status text
 
--- the status and the text are the answer to the words, where `Fault` says that the source failed
+-- the status and the text are the answer to the words, if `Fault` says that the source failed
 pub data IsAnswer (words : List (String Global)) (Fault : Type 0) (left after : Option (List ℕ)) (status : Status) (text : List ℕ) : Type 0 where
   no_request : IsWordsAnswer words left after status text → IsAnswer words Fault left after status text
   read_fault : IsFaultAnswer words Fault left after status text → IsAnswer words Fault left after status text

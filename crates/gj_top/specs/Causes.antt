@@ -12,7 +12,7 @@ use Rattle.gj_top.specs.Promise.{reads, IsTrueReply}
 use Rattle.gj_top.specs.Task.{Task, IsInForm, IsReply, HasEnd}
 use Rattle.gj_top.specs.Answer.{IsAnswerTo, IsWithinLimit}
 
--- the input of a run: the source told it, where the words name a request that reads one
+-- the input of a run: the source told it, if the words name a request that reads one
 abbrev pub IsInput : List (String Global) → Option (List ℕ) → List ℕ → Type 0
 IsInput words left input = (r : Request) → IsNamed words r → IsTrue (reads (promise_for r).form) → left ≡ Some input
 
@@ -55,7 +55,7 @@ IsCause words input s =
     ⊎ ((s ≡ Words) × NameNone words)
     ⊎ ((r : Request) × IsNamed words r × (text : List ℕ) × IsAnswerTo (task_for r) input s text)
 
--- an input in the form of the task; where the task reads one, the source told it, and it is within the limit
+-- an input in the form of the task; if the task reads one, the source told it, and it is within the limit
 pub record IsGoodInput (task : Task) (left : Option (List ℕ)) (input : List ℕ) : Type 0 where
   pub told : IsTrue (reads task.promise.form) → left ≡ Some input
   pub within : IsWithinLimit task input

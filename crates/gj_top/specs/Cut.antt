@@ -10,7 +10,7 @@ use Rattle.gj_lex.specs.declared.spelling.Spelling.TheVariants.{Lenient}
 use Rattle.gj_lines.specs.FunctionLines.{line}
 use Rattle.gj_ftext.specs.BreaksText.{end_words}
 use Rattle.gj_ftext.specs.FunctionText.{IsFunctionText}
-use Rattle.gj_ftext.specs.FirstFault.{IsFirstFault}
+use Rattle.gj_ftext.specs.FirstFault.{IsFirstFaultOfFunction}
 use Rattle.gj_ftext.specs.RuleText.{rule_title_words, rule_name_words, BeginsAsRule, IsRuleText, IsFirstFaultOfRule}
 use Rattle.gj_row.specs.FirstFault.{IsFirstFaultOfTableau, reason_word}
 use Rattle.gj_row.specs.TableauText.{IsTableauText}
@@ -76,7 +76,7 @@ pub record NamesRecord (input text : List ℕ) : Type 0 where
 -- why an input is refused: its rule text, its function text, or its tableau is at fault
 pub data RefusesCutInput (input text : List ℕ) : Type 0 where
   of_rule : BeginsAsRule input → NamesFault (IsFirstFaultOfRule input) text → RefusesCutInput input text
-  of_function : (BeginsAsRule input → ⊥) → NamesFault (IsFirstFault input) text → RefusesCutInput input text
+  of_function : (BeginsAsRule input → ⊥) → NamesFault (IsFirstFaultOfFunction input) text → RefusesCutInput input text
   of_tableau : NamesRecord input text → RefusesCutInput input text
 
 -- ---- the cuts
@@ -105,7 +105,7 @@ abbrev pub NamesViolation : CutRule → List ℕ → Type 0
 NamesViolation Gmic text = ⊥
 NamesViolation (Table f) text = (v : Violation) × IsFirstViolation f v × (text ≡ codes "no function " ++ violation_line v)
 
--- the cuts of the rows, where the rule makes cuts; and else the first violation
+-- the cuts of the rows, if the rule makes cuts; and else the first violation
 abbrev pub IsCutReply : CutInput → End → List ℕ → Type 0
 IsCutReply input Done text = MakesCuts input.rule × AreCheckedCutsOf input text
 IsCutReply input NoFunction text = NamesViolation input.rule text

@@ -9,7 +9,7 @@ use Rattle.gj_lines.specs.FunctionLines.{line}
 use Rattle.gj_ftext.specs.FirstFault.{IsFirstFaultOfWhole}
 use Rattle.gj_ftext.specs.LinesOfFunction.{HasLinesOfFunction, HasLinesOfFamily, HasLinesOfBreaks}
 use Rattle.gj_proof.specs.ProofText.{IsBounded, IsProofText}
-use Rattle.gj_proof.specs.FirstFault.{IsFirstFault}
+use Rattle.gj_proof.specs.FirstFault.{IsFirstFaultOfProof}
 use Rattle.gj_proof.specs.declared.claim.Claim.{Claim}
 use Rattle.gj_json.specs.JsonFunction.{IsJsonFunction}
 use Rattle.gj_json.specs.FirstReason.{HasFirstReason, reason_word as json_reason_word}
@@ -70,7 +70,7 @@ RefusesFunctionText input text = NamesFault (IsFirstFaultOfWhole input) text
 
 -- the input is no proof text
 abbrev pub RefusesProofText : List ℕ → List ℕ → Type 0
-RefusesProofText input text = NamesFault (IsFirstFault input) text
+RefusesProofText input text = NamesFault (IsFirstFaultOfProof input) text
 
 -- the line that refuses a JSON text
 abbrev pub json_refused_line : JsonReason → List ℕ

@@ -24,14 +24,14 @@ IsMinimalText f text = IsProofText (Minimal f) text
 abbrev pub IsNotMinimalText : FunctionData → Violation → List ℕ → Type 0
 IsNotMinimalText f v text = IsProofText (NotMinimal f v) text
 
--- the text calls f minimal where it is, its table on every grid, and otherwise gives the first violation; every rule of the
+-- the text calls f minimal if it is, its table on every grid, and otherwise gives the first violation; every rule of the
 -- checker holds of the claim
 abbrev pub IsVerdict : FunctionData → List ℕ → Type 0
 IsVerdict f text =
     (IsMinimal f × MeetsRules (Minimal f) × IsMinimalText f text)
     ⊎ ((v : Violation) × IsFirstViolation f v × ShowsViolation f v × MeetsRules (NotMinimal f v) × IsNotMinimalText f v text)
 
--- the claim is that f is minimal, where it is, its table on every grid, and otherwise that it is not, with the first violation;
+-- the claim is that f is minimal, if it is, its table on every grid, and otherwise that it is not, with the first violation;
 -- every rule of the checker holds of it
 abbrev pub IsTrueClaim : FunctionData → Claim → Type 0
 IsTrueClaim f (Minimal g) = (g ≡ f) × IsMinimal f × MeetsRules (Minimal f)

@@ -1,4 +1,4 @@
--- What a run did: which answer it had, and what the sink, where it tells its bytes, has taken of it (own).
+-- What a run did: which answer it had, and what the sink, if it tells its bytes, has taken of it (own).
 use Rattle.std.specs.Prelude.{ℕ, ◌≡◌, ◌<◌, List, ◌++◌, length, take, IfSome, Option, Some, String}
 use Rattle.std.specs.declared.alloc.Global.{Global}
 use Rattle.gj_top.specs.declared.status.Status.{Status}
@@ -35,7 +35,7 @@ pub record IsCutOff (words : List (String Global)) (Fault : Type 0) (left left' 
   pub unsure : sure < length text
   pub gain : GainsFront written written' text
 
--- one of these, where `Fault` says that the source failed
+-- one of these, if `Fault` says that the source failed
 pub data IsOutcome (words : List (String Global)) (Fault : Type 0) (left left' written written' : Option (List ℕ)) (sure : ℕ)
     (result : Status) : Type 0 where
   silent : IsSilent words left left' written written' result → IsOutcome words Fault left left' written written' sure result

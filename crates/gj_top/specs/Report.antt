@@ -14,7 +14,7 @@ pub record IsReportOf (P : List ℕ → Type 0) (text : List ℕ) : Type 0 where
   pub spelled : IsProofText claim proof
   pub report : IsReport (claim_word claim) proof text
 
--- the reply to a thing, reported where it ends with Done
+-- the reply to a thing, reported if it ends with Done
 abbrev pub IsReportedReply : {Thing : Type 0} → (Thing → End → List ℕ → Type 0) → Thing → End → List ℕ → Type 0
 IsReportedReply replies thing Done text = IsReportOf (replies thing Done) text
 IsReportedReply replies thing end text = replies thing end text

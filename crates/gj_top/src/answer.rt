@@ -56,7 +56,7 @@ impl Answer {
     }
 }
 
-/// The answer to the words, over an input from the source where they name a request that reads one.
+/// The answer to the words, over an input from the source if they name a request that reads one.
 pub(crate) fn answer_to<S: Source>(
     alloc: Global,
     words: &[String],
@@ -82,7 +82,7 @@ pub(crate) fn answer_to<S: Source>(
     }
 }
 
-/// The answer to the request over an input within the limit, or over none where it reads none.
+/// The answer to the request over an input within the limit, or over none if it reads none.
 fn answer_of(alloc: Global, request: Request, input: &[u8]) -> Result<Answer, AllocError>
     requires in_bounds { IsInBounds request.command }
     requires within { length input.now ≤ input_limit }

@@ -42,7 +42,7 @@ pub(crate) fn reads_input(request: Request) -> bool
     }
 }
 
-/// The reply to the request over the input, or over none where it reads none.
+/// The reply to the request over the input, or over none if it reads none.
 pub(crate) fn reply_to(alloc: Global, request: Request, input: &[u8]) -> Result<Reply, Unanswered>
     requires { IsInBounds request.command }
     ensures { IsAnswering (task_for request) input.now result }

@@ -24,7 +24,7 @@ ghost use Rattle.gj_top.specs.Cut.{cut};
 ghost use Rattle.gj_top.specs.Extreme.{IsExtremeText, extreme};
 ghost use Rattle.gj_top.specs.Answer.{IsAnswerTo, input_limit};
 
-/// Every proof that `minimal` or `extreme` writes is one that `check` accepts, and so is every proof that `cut` writes, where its
+/// Every proof that `minimal` or `extreme` writes is one that `check` accepts, and so is every proof that `cut` writes, if its
 /// text is within the limit of length of an input.
 pub fn written_proofs_are_accepted()
     ensures answer { (input text answer : List ℕ) (s : Status) →
@@ -41,7 +41,7 @@ pub fn written_proofs_are_accepted()
         IsReply extreme input end.Done text → IsReply check text e answer → e ≡ end.Done }
 {}
 
-/// What `extreme` writes calls the function extreme exactly where it is continuous and its table of order 4 q is extreme.
+/// What `extreme` writes calls the function extreme exactly if it is continuous and its table of order 4 q is extreme.
 pub fn extreme_exactly_where_order_4q_is()
     ensures { (f : FunctionData) (input text : List ℕ) → IsWholeFunctionText input f → IsReply extreme input end.Done text →
         IsExtremeText f text

@@ -93,19 +93,19 @@ pub fn run<S: Source, K: Sink>(
         (result ≡ Status.WriteFault → HasFailed (S.faults source.old) (S.faults source.new) → ⊥) →
         S.left source.new ≡ Some []) }
 
-    // A fault of the source is answered only where there was one.
+    // A fault of the source is answered only if there was one.
     ensures read_fault { result ≡ Status.ReadFault → HasFailed (S.faults source.old) (S.faults source.new) }
     ensures steady { IsTrue (S.steady source.old) → result ≢ Status.ReadFault }
     ensures read_count { S.faults source.old ≤ S.faults source.new }
 
-    // So is a fault of the sink, and only where it was not sure of the whole answer.
+    // So is a fault of the sink, and only if it was not sure of the whole answer.
     ensures write_fault { result ≡ Status.WriteFault → HasFailed (K.faults sink.old) (K.faults sink.new) }
     ensures sure { result ≡ Status.WriteFault →
         IsUnsure words.now (IsSourceFault (S.steady source.old) (S.faults source.old) (S.faults source.new))
         (S.left source.old) (S.left source.new) (K.sure sink.old) }
     ensures write_count { K.faults sink.old ≤ K.faults sink.new }
 
-    // What is written where no input was answered.
+    // What is written if no input was answered.
     ensures memory { result ≡ Status.Memory → K.written sink.new ≡ K.written sink.old }
     ensures fault_told { result ≡ Status.ReadFault → Gains (K.written sink.old) (K.written sink.new) fault_line }
     ensures words_told { result ≡ Status.Words → Gains (K.written sink.old) (K.written sink.new) words_line }

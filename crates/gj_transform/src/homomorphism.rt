@@ -1,5 +1,6 @@
 //! The function of n x.
 ghost use Rattle.std.specs.Prelude.{pos, ◌≡◌, ◌≢◌, ◌<◌, ◌≤◌, ◌*◌, ◌↔◌, IfOk};
+ghost use Rattle.gj_shape.specs.Limits.{greatest_order};
 ghost use Rattle.gj_shape.specs.FunctionData.{IsWithinBounds};
 ghost use Rattle.gj_shape.specs.Table.{IsMinimal};
 ghost use Rattle.gj_transform.specs.Transforms.{IsTimesOf, HasValuesAtMultiples};
@@ -21,7 +22,7 @@ pub fn times(alloc: Global, shape: &Shape, n: u32, j: u32) -> Result<Shape, Tran
     ensures within { IfOk result IsWithinBounds }
     ensures values { IfOk result (HasValuesAtMultiples shape.now (pos n)) }
     ensures minimal { IfOk result (λ g. IsMinimal shape.now ↔ IsMinimal g) }
-    ensures limit { (result ≡ Err TransformFault.OrderLimit) ↔ (1000 < shape.now.order * n) }
+    ensures limit { (result ≡ Err TransformFault.OrderLimit) ↔ (greatest_order < shape.now.order * n) }
     ensures order { result ≢ Err TransformFault.BadOrder }
 {
     if n > GREATEST_ORDER / shape.order() {

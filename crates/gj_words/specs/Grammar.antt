@@ -39,7 +39,7 @@ takes_json _ = false
 abbrev pub json_word : List ℕ
 json_word = codes "--json"
 
--- the words are these with the flag once at any place, or where it is not given these alone
+-- the words are these with the flag once at any place, or if it is not given these alone
 abbrev pub HasFlag : Bool → List (List ℕ) → List (List ℕ) → Type 0
 HasFlag true bare words = (front : List (List ℕ)) × (back : List (List ℕ)) × (bare ≡ front ++ back) × (words ≡ front ++ json_word ∷ back)
 HasFlag false bare words = words ≡ bare

@@ -8,10 +8,10 @@ use std::process::ExitCode;
 use std::rt::Env;
 use std::{env, io};
 
-/// How the program ends where the system has no memory for the list of words.
+/// How the program ends if the system has no memory for the list of words.
 const NO_MEMORY_FOR_WORDS: u8 = 6;
 
-/// How the program ends where the system refuses the list of words otherwise. No status of a run has this code.
+/// How the program ends if the system refuses the list of words otherwise. No status of a run has this code.
 const NO_WORDS: u8 = 13;
 
 fn main(rt: HostRuntime) -> ExitCode {

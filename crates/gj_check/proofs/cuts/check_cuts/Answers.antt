@@ -2,7 +2,7 @@ use Rattle.std.proofs.Common.{suc, All, take, drop, [], ◌∷◌, ◌++◌, ref
 use Rattle.std.proofs.Math.Seq.{split_at}
 use Rattle.std.proofs.lemmas.List.{take_all}
 use Rattle.std.proofs.lemmas.List.Elements.{All-push}
-use Rattle.gj_check.specs.CutRows.{MeetsRow, IsRowOutcome}
+use Rattle.gj_check.specs.CutRows.{MeetsCutRow, IsRowOutcome}
 use Rattle.gj_proof.proofs.AtPlaces.{with_place}
 use Rattle.gj_check.proofs.CutLines.{count_of, count_of-append}
 use Rattle.gj_check.proofs.CutDemands.{rule_fails, cut_fails, cuts_meet}
@@ -35,11 +35,11 @@ loop-row-preserved c =
     let line = c.in_ok-line-2.ensures in
     let longer = ap count_of more ∙ count_of-append (take i rows) (l ∷ []) in (
       omega arith,
-      subst (All (MeetsRow c.args.rule.now)) (sym more) (All-push (MeetsRow c.args.rule.now) (take i rows) l c.loop-row.invariant.1
+      subst (All (MeetsCutRow c.args.rule.now)) (sym more) (All-push (MeetsCutRow c.args.rule.now) (take i rows) l c.loop-row.invariant.1
           (subst (IsRowOutcome c.args.rule.now l) c.in_default.is c.in_ok-failure.ensures)),
     )
 
 pub returns-clause-ok : goal.returns-clause-ok
 returns-clause-ok c =
     cuts_meet c.args.rule.now c.args.rows.now (c.if-not-is_minimal_rule.ensures.0 refl)
-    (subst (All (MeetsRow c.args.rule.now)) (take_all c.loop-row.row-index c.args.rows.now c.loop-row-test.false) c.loop-row.invariant.1)
+    (subst (All (MeetsCutRow c.args.rule.now)) (take_all c.loop-row.row-index c.args.rows.now c.loop-row-test.false) c.loop-row.invariant.1)
