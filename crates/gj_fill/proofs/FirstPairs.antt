@@ -1,5 +1,5 @@
 -- The first two places at which the values add up to less than that at their sum.
-use Rattle.std.proofs.Common.{◌≡◌, ℕ, inl, inr, ◌+◌, ◌%◌, ◌<◌, ◌≤◌, ◌+ℤ◌, ap, sym, subst, arith}
+use Rattle.std.proofs.Common.{◌≡◌, ℕ, ℤ, Bool, false, List, IsTrue, ◌⊎◌, inl, inr, ◌+◌, ◌%◌, ◌<◌, ◌≤◌, ◌+ℤ◌, ◌<ℤ◌, ap, sym, subst, rules, arith}
 use Rattle.std.proofs.Math.Nat.{mod-lt, mod-mod, add-mod}
 use Rattle.std.proofs.lemmas.Bool.{cases_lt}
 use Rattle.std.proofs.lemmas.Int.{ints, by_lt_z}
@@ -65,3 +65,23 @@ subadditive_from_none f n l high low none i j =
     by_lt_z (at f.value (i % q) +ℤ at f.value (j % q)) (at f.value (i % q + j % q))
     (λ above. absurd (none_before f n (i % q) (j % q) none (let h = mod-lt i some in omega arith) low (mod-lt j some) above))
     (λ fine. omega (arith, ints))
+
+-- ---- a row, read up to one place more
+
+abbrev IsLess : List ℤ → ℕ → ℕ → Type 0
+IsLess values a b = (at values a +ℤ at values b) <ℤ at values (a + b)
+
+false_is_not_true : IsTrue false → ⊥
+false_is_not_true h = search rules
+
+pub one_more : (values : List ℤ) (a start b : ℕ) (before after : Bool) →
+    (IsTrue before → (i : ℕ) → start ≤ i → i < b → (at values a +ℤ at values i) <ℤ at values (a + i) → ⊥) →
+    (after ≡ false) ⊎ ((after ≡ before) × ((at values a +ℤ at values b) <ℤ at values (a + b) → ⊥)) →
+    IsTrue after → (i : ℕ) → start ≤ i → i < b + 1 → (at values a +ℤ at values i) <ℤ at values (a + i) → ⊥
+one_more values a start b before after passed (inl none) passes i low high less = false_is_not_true (subst IsTrue none passes)
+one_more values a start b before after passed (inr step) passes i low high less = elim (cases_lt i b) [
+  | inl earlier ↦ passed (subst IsTrue step.0 passes) i low earlier less
+  | inr last ↦
+      let same : i ≡ b = omega arith in
+      step.1 (subst (IsLess values a) same less)
+]

@@ -130,7 +130,7 @@ fn terms_of<E: Evaluator, G: Evaluator>(
     ensures weights { IfOk result (λ made.
         AllZip (IsWeightTermOf G.answers slopes.now) (continuous_entries continuous.now entries.now) made.weights.items) }
 {
-    let mut terms = Vec::new(alloc);
+    let mut terms = Vec::with_capacity(alloc, entries.len())?;
     let mut weights = Vec::new(alloc);
     for entry in entries {
         let flag = continuous[entry.column as usize];

@@ -7,7 +7,7 @@ ghost use Rattle.gj_proof.specs.CutTexts.{row_text};
 use crate::cut::{CutLine, CutRule, CutTerm, SkipReason};
 use gj_frac::Frac;
 use gj_lex::{Name, print_frac};
-use gj_lines::{push_fraction_line, push_function_lines};
+use gj_lines::push_function_lines;
 use std::alloc::{AllocError, Global};
 
 /// Appends the lines of a rule: `rule gmic`, or those of its function. An error says that memory ran out; `out` may then have a
@@ -80,8 +80,14 @@ fn push_terms(alloc: Global, out: &mut Vec<u8>, terms: &[CutTerm]) -> Result<(),
 fn push_term(alloc: Global, out: &mut Vec<u8>, term: &CutTerm) -> Result<(), AllocError>
     ensures { OnOk result (out.new.items ≡ out.old.items ++ term_line term.now) }
 {
-    push_named(alloc, out, b"term ", &term.name, term.entry)?;
-    push_fraction_line(alloc, out, b" ", term.cut)
+    out.extend_from_slice(b"term ")?;
+    out.extend_from_slice(term.name.bytes())?;
+    out.push(b' ')?;
+    print_frac(alloc, out, term.entry)?;
+    out.push(b' ')?;
+    print_frac(alloc, out, term.cut)?;
+    out.push(b'\n')?;
+    Ok(())
 }
 
 /// Appends a word, a name, a space and a fraction. An error says that memory ran out; `out` may then have a part of it.

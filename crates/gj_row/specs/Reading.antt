@@ -1,10 +1,10 @@
 -- What the steps of the reader answer (own).
 use Rattle.std.specs.Prelude.{ℕ, ◌≡◌, ◌+◌, ◌<◌, ◌≤◌, false, List, [], ◌∷◌, ◌++◌, Option, Some, None, length, map, Vec}
 use Rattle.std.specs.Borrow.{Bor}
-use Rattle.csv.specs.Reading.{records, Reached, Ready, default_config, source_of, strip_bom, owned_rows_reader, owned_rows_left, reader_trim, reader_config, reader_state}
+use Rattle.csv.specs.Reading.{records, Reached, Ready, default_config, source_of, strip_bom, reader_trim, reader_config, reader_state}
 use Rattle.csv.specs.Records.{Row as FieldRow, fields_of}
-use Rattle.csv.specs.declared.iter.ByteRecordsIntoIter.{ByteRecordsIntoIter}
 use Rattle.csv.specs.declared.parser.State.TheVariants as state
+use Rattle.csv.specs.declared.reader.Reader.{Reader}
 use Rattle.csv.specs.declared.reader.Trim.TheVariants as trim
 use Rattle.gj_frac.specs.declared.Frac.{Frac}
 use Rattle.gj_shape.specs.Limits.{greatest_number, denominator_bound, IsSmallNumber}
@@ -124,22 +124,21 @@ pub record ReadsRow (columns used : ℕ) (words : List (List ℕ)) (row : Row) :
 abbrev pub bytes_left : Bor (List ℕ) → Option (List ℕ)
 bytes_left s = Some s.now
 
--- the next record of the iterator is the one behind these records of the text
-pub record StandsBehind (text : List ℕ) (before : List (List (List ℕ))) (it : ByteRecordsIntoIter (Bor (List ℕ))) : Type 0 where
-  pub no_trim : reader_trim (owned_rows_reader it) ≡ trim.None
-  pub ready : Ready (owned_rows_reader it)
-  pub left : 0 < owned_rows_left it
-  pub config : reader_config (owned_rows_reader it) ≡ default_config
+-- the next record that the reader gives is the one behind these records of the text
+pub record StandsBehind (text : List ℕ) (before : List (List (List ℕ))) (reader : Reader (Bor (List ℕ))) : Type 0 where
+  pub no_trim : reader_trim reader ≡ trim.None
+  pub ready : Ready reader
+  pub config : reader_config reader ≡ default_config
   pub rest : List ℕ
-  pub source : source_of bytes_left (owned_rows_reader it) ≡ Some rest
-  pub reached : Reached default_config state.StartRecord (strip_bom text) before (reader_state (owned_rows_reader it)) rest
+  pub source : source_of bytes_left reader ≡ Some rest
+  pub reached : Reached default_config state.StartRecord (strip_bom text) before (reader_state reader) rest
 
 -- the step gave the record that is the next one
-abbrev pub StepsOver : ByteRecordsIntoIter (Bor (List ℕ)) → FieldRow → ByteRecordsIntoIter (Bor (List ℕ)) → Type 0
+abbrev pub StepsOver : Reader (Bor (List ℕ)) → FieldRow → Reader (Bor (List ℕ)) → Type 0
 StepsOver old fields new =
     (text : List ℕ) (before : List (List (List ℕ))) → StandsBehind text before old → StandsBehind text (before ++ fields_of fields ∷ []) new
 
 -- there is no next record
-abbrev pub IsAtEnd : ByteRecordsIntoIter (Bor (List ℕ)) → Type 0
-IsAtEnd it = (text : List ℕ) (before : List (List (List ℕ))) → StandsBehind text before it →
+abbrev pub IsAtEnd : Reader (Bor (List ℕ)) → Type 0
+IsAtEnd reader = (text : List ℕ) (before : List (List (List ℕ))) → StandsBehind text before reader →
     records default_config (strip_bom text) ≡ before

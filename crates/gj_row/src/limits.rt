@@ -38,5 +38,9 @@ pub(crate) fn within(scale: u32, number: Option<Frac>) -> Result<(Frac, u32), Ro
 fn is_small(x: Frac) -> bool
     ensures { IsTrue result ↔ IsSmallNumber x }
 {
-    x.num().unsigned_abs() <= x.den().unsigned_abs().saturating_mul(GREATEST_NUMBER)
+    let size = x.num().unsigned_abs();
+    if size <= GREATEST_NUMBER {
+        return true;
+    }
+    size <= x.den().unsigned_abs().saturating_mul(GREATEST_NUMBER)
 }

@@ -52,7 +52,7 @@ pub(crate) fn numbers_in(
         Err(reason) => return Err(RecordFault::Refused(reason)),
     };
     let mut scale = right_scale;
-    let mut entries = Vec::new(alloc);
+    let mut entries = Vec::with_capacity(alloc, likely_entries(fields))?;
     for place in 2..fields.len() {
         let word = word_at(fields, place);
         match with_entry(&mut entries, scale, used, (place - 2) as u32, word) {
@@ -65,6 +65,14 @@ pub(crate) fn numbers_in(
         scale,
         entries,
     })
+}
+
+/// How many entries of a record to make room for: as many as there are columns, but no more than its bytes would spell by eight
+/// each, so that a row whose fields are mostly empty takes no room for all columns.
+fn likely_entries(fields: &ByteRecord) -> usize
+    requires { 2 ≤ length (fields_of fields.now) }
+{
+    (fields.len() - 2).min(fields.as_slice().len() / 8)
 }
 
 /// Adds the entry that the word spells for the column, unless it is 0, and gives the least common denominator with it.

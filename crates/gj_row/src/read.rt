@@ -1,6 +1,5 @@
 //! Tableaux, read.
-ghost use Rattle.std.specs.Prelude.{◌≡◌, ◌<◌, ◌≤◌, ◌++◌, ◌∷◌, [], IfOk, IfErr, IfNone, IfSome, OnOk, MatchResult, length};
-ghost use Rattle.csv.specs.Reading.{owned_rows_left};
+ghost use Rattle.std.specs.Prelude.{◌≡◌, ◌<◌, ◌≤◌, ◌++◌, ◌∷◌, [], IfOk, IfErr, OnOk, MatchResult, length, true, false};
 ghost use Rattle.gj_row.specs.TableauLimits.{most_columns, most_entries, most_rows, IsTableau, names_of, entry_count};
 ghost use Rattle.gj_row.specs.TableauText.{IsTableauText};
 ghost use Rattle.gj_row.specs.FirstFault.{HasRowFault, IsFirstFaultOfTableau, IsNewName};
@@ -12,7 +11,7 @@ use crate::fields::word_at;
 use crate::header::{Header, header_in, new_name};
 use crate::numbers::numbers_in;
 use crate::tableau::{Row, Tableau};
-use csv::{ByteRecord, ByteRecordsIntoIter, ReaderBuilder};
+use csv::{ByteRecord, Reader, ReaderBuilder};
 use gj_shape::List;
 use indexmap::IndexSet;
 use std::alloc::{AllocError, Global};
@@ -62,10 +61,11 @@ fn tableau_in(alloc: Global, bytes: &[u8]) -> Result<Tableau, RowFault>
     ensures refused { IfErr result (NamesRecord (IsFirstFaultOfTableau bytes.now)) }
 {
     let mut records = records_of(alloc, bytes);
-    let Some(first) = next_record(&mut records)? else {
+    let mut fields = ByteRecord::new(alloc);
+    if !next_record(&mut records, &mut fields)? {
         return Err(RowFault::Refused(1, RowReason::Header));
-    };
-    let header = match header_in(alloc, &first) {
+    }
+    let header = match header_in(alloc, &fields) {
         Ok(header) => header,
         Err(fault) => return Err(fault.in_record(1)),
     };
@@ -73,7 +73,7 @@ fn tableau_in(alloc: Global, bytes: &[u8]) -> Result<Tableau, RowFault>
     let mut names = header.names;
     let mut rows = Vec::new(alloc);
     let mut used = 0;
-    while let Some(fields) = next_record(&mut records)? {
+    while next_record(&mut records, &mut fields)? {
         match next_row(alloc, &fields, &mut names, columns.len(), rows.len(), used) {
             Ok(row) => {
                 used += row.entries.as_slice().len();
@@ -88,31 +88,28 @@ fn tableau_in(alloc: Global, bytes: &[u8]) -> Result<Tableau, RowFault>
     })
 }
 
-/// The records of the text.
-fn records_of(alloc: Global, bytes: &[u8]) -> ByteRecordsIntoIter<&[u8]>
+/// What reads the records of the text.
+fn records_of(alloc: Global, bytes: &[u8]) -> Reader<&[u8]>
     ensures { StandsBehind bytes.now [] result }
 {
     ReaderBuilder::new()
         .has_headers(false)
         .flexible(true)
         .from_reader(alloc, bytes)
-        .into_byte_records()
 }
 
-/// The next record of a text.
+/// Reads the next record of a text into the fields, and says whether there is one.
 ///
 /// The contract of `csv` leaves open that reading from memory fails as reading from a file may; such a failure, which never comes,
 /// is answered as want of memory.
-fn next_record(left: &mut ByteRecordsIntoIter<&[u8]>) -> Result<Option<ByteRecord>, AllocError>
-    ensures some { IfOk result (λ next. IfSome next (λ fields. StepsOver left.old fields left.new)) }
-    ensures end { IfOk result (λ next. IfNone next (IsAtEnd left.old)) }
-    ensures fewer { IfOk result (λ next. IfSome next (λ fields. owned_rows_left left.new < owned_rows_left left.old)) }
+fn next_record(records: &mut Reader<&[u8]>, fields: &mut ByteRecord) -> Result<bool, AllocError>
+    ensures some { IfOk result (λ found. found ≡ true → StepsOver records.old fields.new records.new) }
+    ensures end { IfOk result (λ found. found ≡ false → IsAtEnd records.old) }
 {
-    match left.next() {
-        None => Ok(None),
-        Some(Ok(fields)) => Ok(Some(fields)),
-        Some(Err(_)) => Err(AllocError),
-    }
+    let Ok(found) = records.read_byte_record(fields) else {
+        return Err(AllocError);
+    };
+    Ok(found)
 }
 
 /// The row in the record, behind so many rows, with `used` entries that are not 0, of a tableau with so many columns and these names.

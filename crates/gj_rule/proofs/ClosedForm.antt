@@ -47,6 +47,21 @@ pub complement_parts : (x c : Frac) → pos 0 ≤ℤ numerator x → numerator x
 complement_parts x c low high is =
     parts_from_is c (x.den -ℤ x.num) x.den x.lowest.positive (complement_lowest x.num x.den x.lowest low high).coprime is
 
+pub complement_small : (x c : Frac) → pos 0 ≤ℤ numerator x → numerator x ≤ℤ denominator x →
+    IsRatio c (denominator x -ℤ numerator x) (denominator x) → unsigned_abs x.den ≤ 2 ^ 62 →
+    (unsigned_abs c.num ≤ 2 ^ 62) × (unsigned_abs c.den ≤ 2 ^ 62)
+complement_small x c low high is fine =
+    let (top, bottom) = complement_parts x c low high is in
+    (rw top (omega (arith, ints)), rw bottom fine)
+
+-- a quotient of the parts as they are read is that of the fractions
+pub quotient_read : (q x y : Frac) (n d m e : ℤ) → n ≡ x.num → d ≡ x.den → m ≡ y.num → e ≡ y.den →
+    IsRatio q (read n *ℤ read e) (read d *ℤ read m) → SameValue (fraction_of q) (quotient_of (fraction_of x) (fraction_of y))
+quotient_read q x y n d m e n_is d_is m_is e_is h =
+    subst₂ (IsRatio q)
+    (ap₂ (λ a b. a *ℤ b) (reads_as n x.num n_is x.lowest.num_fits) (reads_as e y.den e_is y.lowest.den_fits))
+    (ap₂ (λ a b. a *ℤ b) (reads_as d x.den d_is x.lowest.den_fits) (reads_as m y.num m_is y.lowest.num_fits)) h
+
 -- ---- the two branches
 
 pub rising_value : (f x r y : Frac) → IsRestOf x r → (LessValue (fraction_of f) (fraction_of r) → ⊥) →

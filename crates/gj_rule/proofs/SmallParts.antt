@@ -1,10 +1,10 @@
--- Products and quotients of fractions with small parts.
+-- Products of fractions with small parts.
 use Rattle.std.proofs.Common.{inr, ◌≡◌, ◌*◌, ◌/◌, ◌<◌, ◌≤◌, ◌^◌, ℤ, pos, ◌*ℤ◌, ◌<ℤ◌, unsigned_abs, int_div, refl, sym, ap, subst, ◌∙◌, arith}
 use Rattle.std.proofs.Math.Nat.{div-mul_cancel, dvd-mul_right, le-mul_of_pos_right, mul-le-mul}
 use Rattle.std.proofs.lemmas.Int.{ints, unsigned_abs-mul}
 use Rattle.std.specs.Int.{◌∣◌}
 use Rattle.gj_frac.specs.declared.Frac.{Frac}
-use Rattle.gj_frac.specs.Fits.{FitsProduct, FitsQuotient}
+use Rattle.gj_frac.specs.Fits.{FitsProduct}
 use Rattle.gj_frac.specs.Fraction.{Fits, IsRatio}
 use Rattle.gj_frac.specs.Lowest.{IsLowest}
 use Rattle.gj_frac.proofs.Reduced.{quotient_of_divisor, coprime_signed_quotients, same_from_multiples, divisor_of_positive}
@@ -47,12 +47,3 @@ pub small_product : (x y : Frac) → unsigned_abs x.num ≤ 2 ^ 62 → unsigned_
 small_product x y x_num x_den y_num y_den =
     ratio_exists (x.num *ℤ y.num) (x.den *ℤ y.den) (mul_positive_z x.den y.den x.lowest.positive y.lowest.positive)
     (product_fits x.num y.num x_num y_num) (product_fits x.den y.den x_den y_den)
-
--- fractions with parts of at most 2^62 can be divided by those above 0
-pub small_quotient : (x y : Frac) → unsigned_abs x.num ≤ 2 ^ 62 → unsigned_abs x.den ≤ 2 ^ 62 → pos 0 <ℤ y.num →
-    unsigned_abs y.num ≤ 2 ^ 62 → unsigned_abs y.den ≤ 2 ^ 62 → FitsQuotient x y
-small_quotient x y x_num x_den some y_num y_den = record {
-  divisor = λ none. positive_some_z y.num some (ap unsigned_abs none);
-  fits = ratio_exists (x.num *ℤ y.den) (x.den *ℤ y.num) (mul_positive_z x.den y.num x.lowest.positive some)
-      (product_fits x.num y.den x_num y_den) (product_fits x.den y.num x_den y_num);
-}

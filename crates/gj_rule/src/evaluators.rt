@@ -1,6 +1,6 @@
 //! Evaluators.
 ghost use Rattle.std.specs.Prelude.{◌≡◌, ◌≢◌, ◌↔◌, IsTrue, ◌≤◌, ◌<◌, ◌^◌, ◌*ℤ◌, ◌≤ℤ◌, ◌<ℤ◌, pos, unsigned_abs};
-ghost use Rattle.gj_frac.specs.Fraction.{IsRatio, LessValue, IsInside, fraction_of, numerator, denominator};
+ghost use Rattle.gj_frac.specs.Fraction.{IsRatio, LessValue, SameValue, IsInside, fraction_of, quotient_of, numerator, denominator};
 ghost use Rattle.gj_theory.specs.Cuts.{IsGmicValue, IsValueOf};
 ghost use Rattle.gj_shape.specs.Limits.{IsRowNumber};
 
@@ -19,10 +19,22 @@ pub fn gmic_value(f: Frac, x: Frac) -> Frac
 {
     let rest = x.fract();
     if is_above(f, rest) {
-        rest.complement() / f.complement()
+        divided(rest.complement(), f.complement())
     } else {
-        rest / f
+        divided(rest, f)
     }
+}
+
+/// A fraction divided by one above 0, both with parts of at most 2^62: in lowest terms by one divisor.
+fn divided(x: Frac, y: Frac) -> Frac
+    requires x_num { unsigned_abs (numerator x) ≤ 2 ^ 62 }
+    requires x_den { unsigned_abs (denominator x) ≤ 2 ^ 62 }
+    requires y_some { pos 0 <ℤ numerator y }
+    requires y_num { unsigned_abs (numerator y) ≤ 2 ^ 62 }
+    requires y_den { unsigned_abs (denominator y) ≤ 2 ^ 62 }
+    ensures { SameValue (fraction_of result) (quotient_of (fraction_of x) (fraction_of y)) }
+{
+    quotient(x.num(), x.den(), y.num(), y.den())
 }
 
 /// Whether x can stand in a row: its denominator is at most 2^31 - 1, and it is at most 2^31 in absolute value.

@@ -19,7 +19,7 @@ loop-place-init c =
     let words = words_in c.args.fields.now in
     let w = c.word_at.result.now in
     let first : take 1 (drop 1 words) ≡ w ∷ [] = taken_with (drop 1 words) 0 w (get_behind 1 words 1 w c.word_at.ensures (omega arith)) in
-    rw (first, c.new-entries.ensures.items)
+    rw (first, c.in_ok-entries.ensures.items)
     (right_read c.args.used w c.in-Ok.right.0 c.in-Ok.right.1 c.requires.few c.in-Ok.ensures.found.0 c.in-Ok.ensures.found.1)
 
 pub with_entry-requires : goal.with_entry-requires

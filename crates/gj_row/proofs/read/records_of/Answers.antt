@@ -7,10 +7,9 @@ unfolding Reached
 returns c =
     let made = c.from_reader.ensures in
     let builder = c.flexible.ensures ∙ ap (λ b. with_flexible b true) c.has_headers.ensures in
-    rw c.into_byte_records.ensures.rdr record {
+    record {
       no_trim = made.trim ∙ ap builder_trim builder ∙ c.new.ensures.trim;
       ready = inr (inr (made.has_headers ∙ ap builder_names_headers builder, made.headers));
-      left = c.into_byte_records.ensures.left;
       config = made.config ∙ ap builder_config builder ∙ c.new.ensures.config;
       rest = strip_bom c.args.bytes.now;
       source = made.source;
