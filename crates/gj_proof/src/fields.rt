@@ -11,6 +11,9 @@ ghost use Rattle.gj_proof.specs.ProofGrammar.{IsFraction, IsCountIn};
 use gj_frac::Frac;
 use gj_lex::{Reason, Spelling, behind_name, fraction_of, only_word, read_count, split_word};
 
+/// Fewer digits than these spell a count below 2^32.
+const FEW_DIGITS: usize = 10;
+
 /// The three words behind the name, where the line has these four words.
 pub(crate) fn three_fields_of<'a>(
     line: &'a [u8],
@@ -91,11 +94,16 @@ pub(crate) fn count_below(word: &[u8], limit: u32) -> Result<u32, Reason>
     Ok(n)
 }
 
-/// The whole number, at most 2^127 - 1 in absolute value, that the word spells.
+/// The whole number, at most 2^127 - 1 in absolute value, that the word spells. A count of few digits is read as such.
 pub(crate) fn whole_of(word: &[u8]) -> Option<i128>
     ensures found { IfSome result (λ n. (word.now ≡ signed_decimal n) × Fits n) }
     ensures none { IfNone result ((n : ℤ) → word.now ≡ signed_decimal n → Fits n → ⊥) }
 {
+    if word.len() < FEW_DIGITS {
+        if let Some(count) = read_count(word) {
+            return Some(i128::from(count));
+        }
+    }
     let x = fraction_of(Spelling::Strict, word)?;
     if x.den() != 1 {
         return None;

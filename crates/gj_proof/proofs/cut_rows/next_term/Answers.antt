@@ -1,7 +1,3 @@
-use Rattle.std.proofs.Common.{codes}
-use Rattle.gj_lex.specs.Parts.{line_part, BeginsWithWord}
-use Rattle.gj_lex.specs.declared.spelling.Spelling.TheVariants.{Strict}
-use Rattle.gj_proof.specs.ProofGrammar.{term_rule}
 use Rattle.gj_proof.proofs.CutTexts.{term_reads, begins_term}
 use Rattle.gj_proof.proofs.cut_rows.next_term.Goals as goal
 
