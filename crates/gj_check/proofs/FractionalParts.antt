@@ -71,17 +71,15 @@ part_inside x f not_whole part =
         let positive = x.lowest.positive in
         omega (arith, ints)
 
--- a fraction y that is what each floor leaves of x is a fraction z of n/d exactly where x has that fractional part
-pub part_is_fraction : (x y z : Frac) (n d : ℤ) → unsigned_abs d ≢ 0 →
-    ((w : ℤ) → IsFloor x w → IsRatio y (numerator x -ℤ w *ℤ denominator x) (denominator x)) → IsRatio z n d →
-    (y ≡ z) ↔ HasFractionalPart x n d
-part_is_fraction x y z n d some y_is z_is = (
-  λ same w floor. ratio_along _ x.den y.num y.den n d (positive_some_z y.den y.lowest.positive) (sym (y_is w floor))
-      (subst (λ (u : Frac). IsRatio u n d) (sym same) z_is),
+-- a fraction y that is what each floor leaves of x is n/d exactly where x has that fractional part
+pub part_is_fraction : (x y : Frac) (n d : ℤ) →
+    ((w : ℤ) → IsFloor x w → IsRatio y (numerator x -ℤ w *ℤ denominator x) (denominator x)) →
+    IsRatio y n d ↔ HasFractionalPart x n d
+part_is_fraction x y n d y_is = (
+  λ is w floor. ratio_along _ x.den y.num y.den n d (positive_some_z y.den y.lowest.positive) (sym (y_is w floor)) is,
   λ part.
       let floor = quotient_is_floor x in
-      same_from_is y z n d some
-      (is_along y _ x.den n d (positive_some_z x.den x.lowest.positive) (y_is _ floor) (part _ floor)) z_is,
+      is_along y _ x.den n d (positive_some_z x.den x.lowest.positive) (y_is _ floor) (part _ floor),
 )
 
 -- ---- one value of the mixed-integer cut
@@ -168,16 +166,22 @@ index_z : (right entry : Frac) (p q r d : ℕ) → AreParts right entry p q r d 
 index_z right entry p q r d parts w floor = product_z r q _ _ (parts.index w floor) parts.right_over
 
 pub gmic_rising : (right entry x : Frac) (p q r d : ℕ) → AreParts right entry p q r d → r * q ≤ p * d →
-    IsRatio x (pos (r * q)) (pos (p * d)) → IsGmicCoefficient right entry x
-gmic_rising right entry x p q r d parts low is =
-    gmic_coefficient right (part_of right) entry x (is_part right) (record {
-      rises = λ w floor h. subst₂ (IsRatio x) (index_z right entry p q r d parts w floor)
-          (place_z right entry p q r d parts ∙ mul_comm_z (numerator (part_of right)) entry.den) is;
-      falls = λ w floor above.
-          let place = place_z right entry p q r d parts in
-          let index = index_z right entry p q r d parts w floor in
-          absurd (omega (arith, ints));
-    })
+    IsRatio x (pos (r * q)) (pos (p * d)) ↔ IsGmicCoefficient right entry x
+gmic_rising right entry x p q r d parts low =
+    let place = place_z right entry p q r d parts in
+    let over = place ∙ mul_comm_z (numerator (part_of right)) entry.den in
+    let index = index_z right entry p q r d parts in (
+      λ is. gmic_coefficient right (part_of right) entry x (is_part right) (record {
+        rises = λ w floor h. subst₂ (IsRatio x) (index w floor) over is;
+        falls = λ w floor above. let same = index w floor in absurd (omega (arith, ints));
+      }),
+      λ value.
+          let w = int_div_euclid entry.num entry.den in
+          let floor = quotient_is_floor entry in
+          let same = index w floor in
+          subst₂ (IsRatio x) (sym same) (sym over)
+          ((value (part_of right) (is_part right)).rises w floor (λ above. omega (arith, ints))),
+    )
 
 top_z : (q d r : ℤ) → q *ℤ d -ℤ r *ℤ q ≡ (pos 1 *ℤ d -ℤ r *ℤ pos 1) *ℤ (pos 1 *ℤ q)
 top_z q d r = by_ring (q ∷ d ∷ r ∷ []) (search ring depth 30) refl
@@ -189,18 +193,23 @@ difference_z : (a b : ℕ) (n m : ℤ) → b ≤ a → pos a ≡ n → pos b ≡
 difference_z a b n m low e f = omega (arith, ints)
 
 pub gmic_falling : (right entry x : Frac) (p q r d : ℕ) → AreParts right entry p q r d → p * d < r * q → r * q ≤ q * d → p * d ≤ q * d →
-    IsRatio x (pos (q * d - r * q)) (pos (q * d - p * d)) → IsGmicCoefficient right entry x
-gmic_falling right entry x p q r d parts high index_low place_low is =
-    gmic_coefficient right (part_of right) entry x (is_part right) (record {
-      rises = λ w floor low.
-          let place = place_z right entry p q r d parts in
-          let index = index_z right entry p q r d parts w floor in
-          absurd (low (omega (arith, ints)));
-      falls = λ w floor h.
-          let period = product_z q d _ _ parts.right_over parts.entry_over in
-          let place = place_z right entry p q r d parts in
-          let index = index_z right entry p q r d parts w floor in
-          subst₂ (IsRatio x)
-          (difference_z (q * d) (r * q) _ _ index_low period index ∙ top_z right.den entry.den (entry.num -ℤ w *ℤ entry.den))
-          (difference_z (q * d) (p * d) _ _ place_low period place ∙ bottom_z right.den entry.den (numerator (part_of right))) is;
-    })
+    IsRatio x (pos (q * d - r * q)) (pos (q * d - p * d)) ↔ IsGmicCoefficient right entry x
+gmic_falling right entry x p q r d parts high index_low place_low =
+    let period = product_z q d _ _ parts.right_over parts.entry_over in
+    let place = place_z right entry p q r d parts in
+    let index = index_z right entry p q r d parts in
+    let bottom =
+    difference_z (q * d) (p * d) _ _ place_low period place ∙ bottom_z right.den entry.den (numerator (part_of right)) in
+    let top = λ (w : ℤ) (floor : IsFloor entry w).
+    difference_z (q * d) (r * q) _ _ index_low period (index w floor) ∙ top_z right.den entry.den (entry.num -ℤ w *ℤ entry.den) in (
+      λ is. gmic_coefficient right (part_of right) entry x (is_part right) (record {
+        rises = λ w floor low. let same = index w floor in absurd (low (omega (arith, ints)));
+        falls = λ w floor h. subst₂ (IsRatio x) (top w floor) bottom is;
+      }),
+      λ value.
+          let w = int_div_euclid entry.num entry.den in
+          let floor = quotient_is_floor entry in
+          let same = index w floor in
+          subst₂ (IsRatio x) (sym (top w floor)) (sym bottom)
+          ((value (part_of right) (is_part right)).falls w floor (omega (arith, ints))),
+    )

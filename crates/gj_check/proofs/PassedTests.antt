@@ -62,3 +62,6 @@ symmetry_passes f zero signs symmetry = record {
   };
   between = λ i below. (symmetry i below).1;
 }
+
+pub all_to_symmetry : (f : FunctionData) → PassesAll f → PassesSymmetry f
+all_to_symmetry f all = let h = (all_tests f).1 all in symmetry_passes f h.0.0.0 h.0.0.1 h.0.1

@@ -1,11 +1,14 @@
 -- What fractions over one denominator say of their numerators.
-use Rattle.std.proofs.Common.{◌≡◌, ℕ, ◌<◌, ◌≤◌, ◌^◌, ◌↔◌, ℤ, pos, ◌+ℤ◌, ◌-ℤ◌, to_z, of_z, ◌*ℤ◌, ◌<ℤ◌, unsigned_abs, sym, ap, subst₂, ◌∙◌, arith}
-use Rattle.std.proofs.Math.Nat.{mul-pos}
+use Rattle.std.proofs.Common.{◌≡◌, ℕ, ◌*◌, ◌<◌, ◌≤◌, ◌^◌, ◌↔◌, ℤ, pos, ◌+ℤ◌, ◌-ℤ◌, to_z, of_z, ◌*ℤ◌, ◌<ℤ◌, ◌≤ℤ◌, unsigned_abs, sym, ap, subst, subst₂, ◌∙◌, arith}
+use Rattle.std.proofs.Math.Nat.{mul-pos, mul_comm, dvd-mul_left}
+use Rattle.std.proofs.lemmas.Nat.Gcd.{le_of_dvd}
+use Rattle.std.specs.Int.{◌∣◌}
 use Rattle.std.proofs.lemmas.Int.{ints, unsigned_abs-mul, to_z-of_z}
 use mir.Syntax.{w128}
 use Rattle.gj_frac.specs.declared.Frac.{Frac}
 use Rattle.gj_frac.specs.Fraction.{IsRatio, SameValue, LessValue, fraction_of, sum_of, numerator, denominator}
-use Rattle.gj_tools.proofs.Integers.{mul_assoc_z, mul_comm_z, swap_last_z, mul_cancel_right_z, mul_lt_mul_right_z, mul_lt_cancel_right_z, mul_positive_z}
+use Rattle.gj_tools.proofs.Integers.{mul_assoc_z, mul_comm_z, swap_last_z, mul_cancel_right_z, mul_lt_mul_right_z, mul_lt_cancel_right_z, mul_le_mul_left_z, mul_le_cancel_right_z, mul_positive_z, mul_nonnegative_z}
+use Rattle.gj_tools.proofs.Divisors.{denominator_divides}
 use Rattle.gj_tools.proofs.Ratios.{ratio_sum}
 use Rattle.gj_frac.proofs.SameValues.{is_along}
 use Rattle.gj_shape.proofs.LeastDenominator.{denominator_some}
@@ -13,6 +16,27 @@ use Rattle.gj_shape.proofs.LeastDenominator.{denominator_some}
 -- a denominator is a natural number
 pub denominator_is : (x : Frac) → denominator x ≡ pos (unsigned_abs (denominator x))
 denominator_is x = let positive = x.lowest.positive in omega (arith, ints)
+
+-- in lowest terms no part of n/d is greater
+pub least_parts : (x : Frac) (n d : ℕ) → 0 < d → IsRatio x (pos n) (pos d) →
+    (pos 0 ≤ℤ numerator x) × (numerator x ≤ℤ pos n) × (denominator x ≤ℤ pos d)
+least_parts x n d some is =
+    let positive : pos 0 <ℤ pos d = omega (arith, ints) in
+    let sizes : unsigned_abs x.num * d ≡ n * unsigned_abs x.den =
+    sym (unsigned_abs-mul x.num (pos d)) ∙ ap unsigned_abs is ∙ unsigned_abs-mul (pos n) x.den in
+    let divides : unsigned_abs x.den ∣ d =
+    denominator_divides x.num (unsigned_abs x.den) d x.lowest.coprime
+    (subst (λ m. unsigned_abs x.den ∣ m) (sym sizes ∙ mul_comm (unsigned_abs x.num) d) (dvd-mul_left (unsigned_abs x.den) n)) in
+    let fine = le_of_dvd some divides in
+    let den_some = x.lowest.positive in
+    let den_high : x.den ≤ℤ pos d = omega (arith, ints) in
+    let top_low : pos 0 ≤ℤ (pos n *ℤ x.den) = mul_nonnegative_z (pos n) x.den (omega (arith, ints)) (omega (arith, ints)) in
+    let top_high : (pos n *ℤ x.den) ≤ℤ (pos n *ℤ pos d) = mul_le_mul_left_z x.den (pos d) (pos n) (omega (arith, ints)) den_high in
+    let is_z : x.num *ℤ pos d ≡ pos n *ℤ x.den = is in (
+      mul_le_cancel_right_z (pos 0) x.num (pos d) positive (omega (arith, ints)),
+      mul_le_cancel_right_z x.num (pos n) (pos d) positive (omega (arith, ints)),
+      den_high,
+    )
 
 -- the sum of n/w and m/w
 pub sum_over : (x y s : Frac) (n m w : ℤ) → IsRatio x n w → IsRatio y m w →

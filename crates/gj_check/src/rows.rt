@@ -1,6 +1,7 @@
 //! The rules on the rows of a claim about cuts, in the order of its lines.
 ghost use Rattle.std.specs.Prelude.{[], ◌∷◌, IfOk};
-ghost use Rattle.gj_proof.specs.ProofText.{IsBoundedRule};
+ghost use Rattle.gj_shape.specs.FirstViolation.{PassesAll};
+ghost use Rattle.gj_proof.specs.ProofText.{IfFunction, subject_of_rule};
 ghost use Rattle.gj_proof.specs.Rules.{MeetsLimit};
 ghost use Rattle.gj_check.specs.RowLimits.{IsRowDenominator};
 ghost use Rattle.gj_check.specs.CutRows.{GivesCut, IsTermsOutcome, IsRowOutcome};
@@ -28,7 +29,7 @@ pub(crate) fn failure_in_row(
     rule: &CutRule,
     row: &CutLine,
 ) -> Result<Option<RowFailure>, AllocError>
-    requires { IsBoundedRule rule.now }
+    requires { IfFunction (subject_of_rule rule.now) PassesAll }
     ensures { IfOk result (IsRowOutcome rule.now row.now) }
 {
     if !meets_fraction(rule, row) {
@@ -59,7 +60,7 @@ fn failure_in_terms(
     common: u64,
     terms: &[CutTerm],
 ) -> Result<Option<RowFailure>, AllocError>
-    requires bounded { IsBoundedRule rule.now }
+    requires minimal { IfFunction (subject_of_rule rule.now) PassesAll }
     requires gives { GivesCut rule.now right }
     requires limit { MeetsLimit [] right }
     requires common { IsRowDenominator (right ∷ []) common }

@@ -35,7 +35,7 @@ use Rattle.gj_proof.proofs.ExtremeParts.{cover_part, name_part, head_part, pair_
 
 -- ---- covered intervals
 
-cover_reads : (q : ℕ) (l : CoverLine) (rest : List ℕ) → q ≤ 1000 → IsCoverLineBelow q l → (cover_part q).Reads (cover_line l ++ rest) l rest
+pub cover_reads : (q : ℕ) (l : CoverLine) (rest : List ℕ) → q ≤ 1000 → IsCoverLineBelow q l → (cover_part q).Reads (cover_line l ++ rest) l rest
 cover_reads q l rest small h =
     line_reads (cover_rule q) (cover_line l ++ rest) rest
     (cover_words l.face.kind (decimal l.interval) (decimal l.from) (decimal l.face.a) (decimal l.face.b)) l (λ e. cc)
@@ -326,7 +326,7 @@ groups_found q all rest before text (onward _ _ next middle (inr (apart, (row, g
 
 -- ---- halves
 
-pair_reads : (p : ℤ × ℤ) (rest : List ℕ) → Fits p.0 → Fits p.1 → pair_part.Reads (pair_line p ++ rest) p rest
+pub pair_reads : (p : ℤ × ℤ) (rest : List ℕ) → Fits p.0 → Fits p.1 → pair_part.Reads (pair_line p ++ rest) p rest
 pair_reads p rest x y =
     line_reads pair_rule (pair_line p ++ rest) rest (pair_words (signed_decimal p.0) (signed_decimal p.1)) p (λ e. cc)
     (pair_is_plain p x y) (refl, x, y) (ap (λ u. u ++ rest) (sym (bytes_of_pair p)))

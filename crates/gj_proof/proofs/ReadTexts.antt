@@ -22,7 +22,7 @@ use Rattle.gj_proof.specs.ProofText.{IfFunction, HasNames, IsBounded, subject_of
 use Rattle.gj_proof.specs.CutTexts.{row_text}
 use Rattle.gj_proof.specs.ExtremeTexts.{group_text, halves_text}
 use Rattle.gj_lex.specs.Parts.{BeginsWithLine}
-use Rattle.gj_proof.specs.ProofGrammar.{title_words, title_rule, claim_words, numbers_of_word, claim_rule, violation_words, violation_rule, rule_part, rows_part, covered_part, modulus_part, groups_part, halves_part, extreme_part, claim_part, proof_text}
+use Rattle.gj_proof.specs.ProofGrammar.{title_words, title_rule, claim_words, numbers_of_word, claim_rule, violation_words, violation_rule, rule_part, rows_part, covered_part, modulus_part, groups_part, halves_part, claim_part, proof_text}
 use Rattle.gj_proof.specs.declared.claim.Claim.{Claim}
 use Rattle.gj_proof.specs.declared.claim.Claim.TheVariants as claims
 use Rattle.gj_proof.specs.declared.claim.ClaimWord.{ClaimWord}

@@ -1,5 +1,5 @@
 -- What the checker demands of a claim, rule by rule (own).
-use Rattle.std.specs.Prelude.{ℕ, ℤ, pos, ◌≡◌, ◌≢◌, ◌+◌, ◌-◌, ◌*◌, ◌<◌, ◌≤◌, ◌^◌, ◌+ℤ◌, ◌*ℤ◌, ◌≤ℤ◌, ◌<ℤ◌, List, [], ◌∷◌, ◌++◌, All, Any, length, map, unsigned_abs}
+use Rattle.std.specs.Prelude.{ℕ, ℤ, pos, ◌≡◌, ◌≢◌, ◌+◌, ◌*◌, ◌<◌, ◌≤◌, ◌^◌, ◌+ℤ◌, ◌*ℤ◌, ◌≤ℤ◌, ◌<ℤ◌, List, [], ◌∷◌, ◌++◌, All, Any, length, map, unsigned_abs}
 use Rattle.std.specs.List.{range_with_len}
 use Rattle.gj_frac.specs.declared.Frac.{Frac}
 use Rattle.gj_frac.specs.Floor.{HasFractionalPart}
@@ -152,7 +152,7 @@ MeetsSame h = (i : ℕ) × (at h.first i ≢ at h.second i)
 
 -- ---- the demands of a claim
 
--- a rule, at the place of a claim where it is asked for
+-- a rule, at the place of a claim if it is asked for
 pub data Demand : Type 0 where
   -- the function of the claim is minimal
   minimal : Demand

@@ -1,14 +1,15 @@
 //! The lines of covered intervals, read.
-ghost use Rattle.std.specs.Prelude.{◌≡◌, ◌≢◌, [], ℕ, List, IfOk, IfErr, IfSome, IfNone};
+ghost use Rattle.std.specs.Prelude.{◌≡◌, ◌≢◌, ◌≤◌, ◌++◌, [], ℕ, List, IfOk, IfErr, IfSome, IfNone};
 ghost use Rattle.gj_lex.specs.Words.{word_texts};
 ghost use Rattle.gj_lex.specs.Parts.{line_part, IsFaultOf};
 ghost use Rattle.gj_lex.specs.declared.spelling.Spelling.TheVariants.{Strict};
 ghost use Rattle.gj_shape.specs.declared.faces.FaceKind.{FaceKind};
 ghost use Rattle.gj_shape.specs.declared.faces.FaceKind.TheVariants.{Vertex};
-ghost use Rattle.gj_lines.specs.FaceLines.{face_word};
+ghost use Rattle.gj_lines.specs.FaceLines.{face_word, cover_line};
+ghost use Rattle.gj_proof.specs.ProofText.{IsCoverLineBelow};
 ghost use Rattle.gj_proof.specs.ProofGrammar.{cover_words, BreaksCover, cover_rule, covered_part};
 
-use crate::fields::{count_below, five_fields_of};
+use crate::fields::{behind_text, count_below, five_fields_of, split_at_byte};
 use gj_lex::{PartFault, Reason, Spelling, line_at};
 use gj_shape::{CoverLine, Face, FaceKind};
 use std::alloc::Global;
@@ -29,6 +30,7 @@ pub(crate) fn cover_lines_at(
     text: &[u8],
     order: u32,
 ) -> Result<(Vec<CoverLine>, &[u8]), PartFault>
+    requires { order ≤ 1000 }
     ensures found { IfOk result (λ r. (covered_part order order []).Reads text.now r.0.items r.1.now) }
     ensures fault { IfErr result (IsFaultOf (covered_part order order []) text.now) }
 {
@@ -44,14 +46,44 @@ pub(crate) fn cover_lines_at(
 
 /// The line of a covered interval that comes next, and what follows it. It takes no memory.
 fn cover_line_at(text: &[u8], order: u32) -> Result<(CoverLine, &[u8]), PartFault>
+    requires { order ≤ 1000 }
     ensures found { IfOk result (λ r. (line_part Strict (cover_rule order)).Reads text.now r.0 r.1.now) }
     ensures fault { IfErr result (IsFaultOf (line_part Strict (cover_rule order)) text.now) }
 {
+    if let Some((line, rest)) = printed_cover_line(text, order) {
+        return Ok((line, rest));
+    }
     let line = line_at(Spelling::Strict, text)?;
     match cover_line_in(line.bytes, order) {
         Ok(cover) => Ok((cover, line.rest)),
         Err(reason) => Err(PartFault::at(line.start, reason)),
     }
+}
+
+/// The line of a covered interval that the text begins with as it is printed, and what follows it. It is read in one pass.
+fn printed_cover_line(text: &[u8], order: u32) -> Option<(CoverLine, &[u8])>
+    ensures { IfSome result (λ r. (text.now ≡ cover_line r.0 ++ r.1.now) × IsCoverLineBelow order r.0) }
+{
+    let words = behind_text(text, b"cover ")?;
+    let (interval, words) = split_at_byte(words, b' ')?;
+    let (from, words) = split_at_byte(words, b' ')?;
+    let (kind, words) = split_at_byte(words, b' ')?;
+    let (a, words) = split_at_byte(words, b' ')?;
+    let (b, rest) = split_at_byte(words, b'\n')?;
+    let interval = count_below(interval, order).ok()?;
+    let from = count_below(from, order).ok()?;
+    let kind = face_kind(kind)?;
+    let a = count_below(a, order).ok()?;
+    let b = count_below(b, order).ok()?;
+    let face = Face { kind, a, b };
+    Some((
+        CoverLine {
+            interval,
+            from,
+            face,
+        },
+        rest,
+    ))
 }
 
 /// What the line of a covered interval tells.

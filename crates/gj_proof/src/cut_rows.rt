@@ -1,21 +1,21 @@
 //! The lines of cuts, read.
-ghost use Rattle.std.specs.Prelude.{◌≡◌, ◌↔◌, [], ◌∷◌, ℕ, List, codes, IfOk, IfErr, IfSome, IfNone, IsTrue};
+ghost use Rattle.std.specs.Prelude.{◌≡◌, ◌↔◌, [], ◌∷◌, ◌++◌, ℕ, List, codes, IfOk, IfErr, IfSome, IfNone, OnSome, IsTrue};
 ghost use Rattle.gj_frac.specs.declared.Frac.{Frac};
 ghost use Rattle.gj_lex.specs.Name.{IsName};
 ghost use Rattle.gj_lex.specs.NumberText.{fraction_text};
 ghost use Rattle.gj_lex.specs.Words.{word_texts};
-ghost use Rattle.gj_lex.specs.Parts.{line_part, IsFaultOf};
+ghost use Rattle.gj_lex.specs.Parts.{line_part, BeginsWithWord, IsFaultOf};
 ghost use Rattle.gj_lex.specs.TextLines.{HasLine};
 ghost use Rattle.gj_lex.specs.declared.spelling.Spelling.TheVariants.{Strict};
 ghost use Rattle.gj_lex.specs.declared.reason.Reason.TheVariants.{Form, Number};
-ghost use Rattle.gj_proof.specs.ProofText.{reason_word};
+ghost use Rattle.gj_proof.specs.ProofText.{reason_word, term_line};
 ghost use Rattle.gj_proof.specs.ProofGrammar.{IsFraction, rule_part, head_words, BreaksHead, head_rule, term_words, BreaksTerm, term_rule, terms_part, row_part, rows_part};
 ghost use Rattle.gj_proof.specs.LineFaults.{IsRefusedFor, texts_of_head};
 ghost use Rattle.gj_proof.specs.declared.cut.SkipReason.{SkipReason};
 ghost use Rattle.gj_proof.specs.declared.cut_rows.RowKind.{RowKind};
 
 use crate::cut::{CutLine, CutRule, CutTerm, SkipReason};
-use crate::fields::{number_of, three_fields_of};
+use crate::fields::{behind_text, number_of, split_at_byte, three_fields_of};
 use gj_frac::Frac;
 use gj_lex::{
     Name, NameFault, PartFault, Reason, Spelling, TextLine, begins_with_line, line_at,
@@ -185,12 +185,43 @@ fn terms_at(alloc: Global, text: &[u8]) -> Result<(Vec<CutTerm>, &[u8]), PartFau
 {
     let mut terms = Vec::new(alloc);
     let mut rest = text;
-    while let Some(line) = line_with_word(Spelling::Strict, rest, b"term") {
-        let (term, behind) = term_at(alloc, rest, line)?;
+    while let Some((term, behind)) = next_term(alloc, rest)? {
         terms.push(term)?;
         rest = behind;
     }
     Ok((terms, rest))
+}
+
+/// The term in the next line, and what follows that line; none if it does not begin with `term`.
+fn next_term(alloc: Global, text: &[u8]) -> Result<Option<(CutTerm, &[u8])>, PartFault>
+    ensures found { IfOk result (λ next. IfSome next (λ r. (line_part Strict term_rule).Reads text.now r.0 r.1.now)) }
+    ensures begins { IfOk result (λ next. OnSome next (BeginsWithWord Strict (codes "term") text.now)) }
+    ensures none { IfOk result (λ next. IfNone next (BeginsWithWord Strict (codes "term") text.now → ⊥)) }
+    ensures fault { IfErr result (λ e. BeginsWithWord Strict (codes "term") text.now
+        × IsFaultOf (line_part Strict term_rule) text.now e) }
+{
+    if let Some((term, rest)) = printed_term(alloc, text) {
+        return Ok(Some((term, rest)));
+    }
+    match line_with_word(Spelling::Strict, text, b"term") {
+        Some(line) => Ok(Some(term_at(alloc, text, line)?)),
+        None => Ok(None),
+    }
+}
+
+/// The term that the text begins with as it is printed, and what follows its line. It is read in one pass; none also if there
+/// is no memory for its name.
+fn printed_term(alloc: Global, text: &[u8]) -> Option<(CutTerm, &[u8])>
+    ensures { IfSome result (λ r. (text.now ≡ term_line r.0 ++ r.1.now) × IsName r.0.name) }
+{
+    let words = behind_text(text, b"term ")?;
+    let (name, words) = split_at_byte(words, b' ')?;
+    let (entry, words) = split_at_byte(words, b' ')?;
+    let (cut, rest) = split_at_byte(words, b'\n')?;
+    let name = name_of(alloc, name).ok()?;
+    let entry = number_of(entry).ok()?;
+    let cut = number_of(cut).ok()?;
+    Some((CutTerm { name, entry, cut }, rest))
 }
 
 /// The term in the next line of the text, which is this line, and what follows the line.

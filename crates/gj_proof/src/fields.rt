@@ -1,5 +1,6 @@
 //! The words of a line of known length, and the numbers that they spell.
-ghost use Rattle.std.specs.Prelude.{◌≡◌, ◌<◌, [], ◌∷◌, ℕ, ℤ, List, decimal, IfOk, IfErr, IfSome, IfNone};
+ghost use Rattle.std.specs.Prelude.{◌≡◌, ◌==◌, ◌<◌, [], ◌∷◌, ◌++◌, ℕ, ℤ, List, decimal, IfOk, IfErr, IfSome, IfNone};
+ghost use Rattle.std.specs.List.{position};
 ghost use Rattle.std.specs.Fmt.{signed_decimal};
 ghost use Rattle.gj_frac.specs.Fraction.{Fits};
 ghost use Rattle.gj_lex.specs.NumberText.{fraction_text};
@@ -8,7 +9,10 @@ ghost use Rattle.gj_lex.specs.declared.reason.Reason.TheVariants.{Number};
 ghost use Rattle.gj_proof.specs.ProofGrammar.{IsFraction, IsCountIn};
 
 use gj_frac::Frac;
-use gj_lex::{Reason, Spelling, behind_name, count_of, fraction_of, only_word, split_word};
+use gj_lex::{Reason, Spelling, behind_name, fraction_of, only_word, read_count, split_word};
+
+/// Fewer digits than these spell a count below 2^32.
+const FEW_DIGITS: usize = 10;
 
 /// The three words behind the name, if the line has these four words.
 pub(crate) fn three_fields_of<'a>(
@@ -23,6 +27,28 @@ pub(crate) fn three_fields_of<'a>(
     let (second, rest) = split_word(rest)?;
     let third = only_word(rest)?;
     Some((first, second, third))
+}
+
+/// What stands behind this text, if the bytes begin with it.
+pub(crate) fn behind_text<'a>(bytes: &'a [u8], text: &[u8]) -> Option<&'a [u8]>
+    ensures { IfSome result (λ rest. bytes.now ≡ text.now ++ rest.now) }
+{
+    bytes.strip_prefix(text)
+}
+
+/// What stands before the first such byte, and what behind it.
+pub(crate) fn split_at_byte(bytes: &[u8], mark: u8) -> Option<(&[u8], &[u8])>
+    ensures { IfSome result (λ r. bytes.now ≡ r.0.now ++ mark ∷ r.1.now) }
+{
+    let end = first_such(bytes, mark)?;
+    Some((&bytes[..end], &bytes[end + 1..]))
+}
+
+/// Where the first such byte stands.
+fn first_such(bytes: &[u8], mark: u8) -> Option<usize>
+    ensures { result ≡ position (λ b. b == mark) bytes.now }
+{
+    bytes.iter().position(|byte| *byte == mark)
 }
 
 /// The fraction that the word spells.
@@ -59,17 +85,25 @@ pub(crate) fn count_below(word: &[u8], limit: u32) -> Result<u32, Reason>
     ensures found { IfOk result (λ n. (word.now ≡ decimal n) × (n < limit)) }
     ensures fault { IfErr result (λ e. (e ≡ Number) × (IsCountIn (λ n. n < limit) word.now → ⊥)) }
 {
-    match count_of(Spelling::Strict, word) {
-        Some(n) if n < limit => Ok(n),
-        _ => Err(Reason::Number),
+    let Some(n) = read_count(word) else {
+        return Err(Reason::Number);
+    };
+    if n >= limit {
+        return Err(Reason::Number);
     }
+    Ok(n)
 }
 
-/// The whole number, at most 2^127 - 1 in absolute value, that the word spells.
+/// The whole number, at most 2^127 - 1 in absolute value, that the word spells. A count of few digits is read as such.
 pub(crate) fn whole_of(word: &[u8]) -> Option<i128>
     ensures found { IfSome result (λ n. (word.now ≡ signed_decimal n) × Fits n) }
     ensures none { IfNone result ((n : ℤ) → word.now ≡ signed_decimal n → Fits n → ⊥) }
 {
+    if word.len() < FEW_DIGITS {
+        if let Some(count) = read_count(word) {
+            return Some(i128::from(count));
+        }
+    }
     let x = fraction_of(Spelling::Strict, word)?;
     if x.den() != 1 {
         return None;

@@ -1,15 +1,16 @@
 //! The lines of halves, read.
-ghost use Rattle.std.specs.Prelude.{◌≡◌, [], ℤ, decimal, IfOk, IfErr, IfSome, IfNone};
+ghost use Rattle.std.specs.Prelude.{◌≡◌, ◌++◌, [], ℤ, decimal, IfOk, IfErr, IfSome, IfNone};
 ghost use Rattle.std.specs.Fmt.{signed_decimal};
 ghost use Rattle.gj_frac.specs.Fraction.{Fits};
 ghost use Rattle.gj_lex.specs.Words.{word_texts};
 ghost use Rattle.gj_lex.specs.Parts.{line_part, IsFaultOf};
 ghost use Rattle.gj_lex.specs.declared.spelling.Spelling.TheVariants.{Strict};
+ghost use Rattle.gj_proof.specs.ProofText.{pair_line};
 ghost use Rattle.gj_proof.specs.ProofGrammar.{IsHeadInBounds, halves_rule, pair_rule, pairs_part, halves_part};
 ghost use Rattle.gj_proof.specs.declared.halves.HalvesHead.{HalvesHead};
 
 use crate::bounds::is_head_in_bounds;
-use crate::fields::whole_of;
+use crate::fields::{behind_text, split_at_byte, whole_of};
 use gj_lex::{PartFault, Reason, Spelling, count_of, line_at, two_fields_of};
 use gj_shape::{Halves, List};
 use std::alloc::Global;
@@ -103,11 +104,25 @@ fn pair_at(text: &[u8]) -> Result<((i128, i128), &[u8]), PartFault>
     ensures found { IfOk result (λ r. (line_part Strict pair_rule).Reads text.now r.0 r.1.now) }
     ensures fault { IfErr result (IsFaultOf (line_part Strict pair_rule) text.now) }
 {
+    if let Some((pair, rest)) = printed_pair(text) {
+        return Ok((pair, rest));
+    }
     let line = line_at(Spelling::Strict, text)?;
     match pair_in(line.bytes) {
         Ok(pair) => Ok((pair, line.rest)),
         Err(reason) => Err(PartFault::at(line.start, reason)),
     }
+}
+
+/// The pair of values that the text begins with as it is printed, and what follows its line. It is read in one pass.
+fn printed_pair(text: &[u8]) -> Option<((i128, i128), &[u8])>
+    ensures { IfSome result (λ r. (text.now ≡ pair_line r.0 ++ r.1.now) × Fits r.0.0 × Fits r.0.1) }
+{
+    let words = behind_text(text, b"pair ")?;
+    let (first, words) = split_at_byte(words, b' ')?;
+    let (second, rest) = split_at_byte(words, b'\n')?;
+    let pair = wholes_of(first, second)?;
+    Some((pair, rest))
 }
 
 /// The pair of values of the line.

@@ -8,19 +8,26 @@ use Rattle.gj_lex.proofs.WhereLaws.{shorter_behind_line}
 use Rattle.gj_proof.proofs.CutRead.{term_on, terms_end, term_at_fault}
 use Rattle.gj_proof.proofs.cut_rows.terms_at.Goals as goal
 
-pub loop-line-preserved : goal.loop-line-preserved
-loop-line-preserved c =
-    term_on _ _ _ _ _ _ c.loop-line.invariant c.in-Some.ensures.begins c.in_ok-term.ensures.found
+pub loop-terms-preserved : goal.loop-terms-preserved
+loop-terms-preserved c =
+    let begins = simp c.in-Some.is at c.in_ok-term.ensures.begins in
+    let found = simp c.in-Some.is at c.in_ok-term.ensures.found in
+    term_on _ _ _ _ _ c.in-Some.term c.loop-terms.invariant begins found
     c.in_ok-push.ensures.items
 
-pub loop-line-smaller : goal.loop-line-smaller
-loop-line-smaller c = shorter_behind_line Strict term_rule _ _ c.in_ok-term.term c.in_ok-term.ensures.found
+pub loop-terms-smaller : goal.loop-terms-smaller
+loop-terms-smaller c =
+    let found = simp c.in-Some.is at c.in_ok-term.ensures.found in
+    shorter_behind_line Strict term_rule _ _ c.in-Some.term found
 
 pub returns-clause-found : goal.returns-clause-found
-returns-clause-found c = terms_end _ _ _ c.loop-line.invariant c.in_default.ensures.none
+returns-clause-found c =
+    let none = simp c.in_default.is at c.in_ok-term.ensures.none in
+    terms_end _ _ _ c.loop-terms.invariant none
 
 pub returns-in_err-term-clause-fault : goal.returns-in_err-term-clause-fault
 returns-in_err-term-clause-fault c =
     let p = err_from_is_err_and c.from_residual.result c.from_residual.ensures.1 in
+    let fault = c.in_err-term.ensures.fault in
     passed_on (IsFaultOf (terms_part []) c.args.text.now) _ _ _ p.1 p.2
-    (term_at_fault _ _ _ _ c.loop-line.invariant c.in-Some.ensures.begins c.in_err-term.ensures.fault)
+    (term_at_fault _ _ _ _ c.loop-terms.invariant fault.0 fault.1)

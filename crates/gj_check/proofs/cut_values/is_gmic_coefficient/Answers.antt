@@ -1,22 +1,22 @@
 use Rattle.std.proofs.Common.{◌*◌, ◌≤◌, subst, arith}
 use Rattle.std.proofs.Math.Nat.{mul_comm, mul-le-mul_right}
+use Rattle.gj_check.proofs.TestsInTurn.{in_other_words}
 use Rattle.gj_check.proofs.FractionalParts.{are_parts, place_some, gmic_rising, gmic_falling}
-use Rattle.gj_check.proofs.cut_values.gmic_coefficient.Goals as goal
+use Rattle.gj_check.proofs.cut_values.is_gmic_coefficient.Goals as goal
 
-pub ratio-requires : goal.ratio-requires
-ratio-requires c =
+pub is_ratio-requires : goal.is_ratio-requires
+is_ratio-requires c =
     let parts = are_parts c.args.right c.args.entry c.part_of.result c.denominator_of-right_den.result c.part_of-2.result
     c.denominator_of-entry_den.result c.part_of.ensures.value c.denominator_of-right_den.ensures.value c.part_of-2.ensures.value
     c.denominator_of-entry_den.ensures.value in
-    let some = place_some c.args.right c.args.entry _ _ _ _ c.requires.gives parts in
-    λ none. absurd (omega arith)
+    place_some c.args.right c.args.entry _ _ _ _ c.requires.gives parts
 
 pub returns-then-index-place : goal.returns-then-index-place
 returns-then-index-place c =
     let parts = are_parts c.args.right c.args.entry c.part_of.result c.denominator_of-right_den.result c.part_of-2.result
     c.denominator_of-entry_den.result c.part_of.ensures.value c.denominator_of-right_den.ensures.value c.part_of-2.ensures.value
     c.denominator_of-entry_den.ensures.value in
-    gmic_rising c.args.right c.args.entry c.ratio.result _ _ _ _ parts c.if-index-place.true c.ratio.ensures
+    in_other_words _ _ _ c.is_ratio.ensures (gmic_rising c.args.right c.args.entry c.args.x _ _ _ _ parts c.if-index-place.true)
 
 pub returns : goal.returns
 returns c =
@@ -31,4 +31,5 @@ returns c =
     let index_below = c.part_of-2.ensures.below in
     let place_low : p * d ≤ q * d = mul-le-mul_right d (omega arith) in
     let index_low : r * q ≤ q * d = subst (λ n. r * q ≤ n) (mul_comm d q) (mul-le-mul_right q (omega arith)) in
-    gmic_falling c.args.right c.args.entry c.ratio-2.result p q r d parts c.if-index-place.false index_low place_low c.ratio-2.ensures
+    in_other_words _ _ _ c.is_ratio-2.ensures
+    (gmic_falling c.args.right c.args.entry c.args.x p q r d parts c.if-index-place.false index_low place_low)
