@@ -5,7 +5,7 @@ ghost use Rattle.gj_minimal.specs.Lanes.{AreFrom0Below, AreTwice};
 
 use gj_shape::Shape;
 
-/// How many lanes there are: one for each index from 0 to 2 q, if the order q is at most 1,000.
+/// How many lanes there are: one for each index from 0 to 2 q, where the order q is at most 1,000.
 pub(crate) const COUNT: usize = 2_001;
 
 /// If the common denominator is below this, the sum of two numbers from 0 to it fits 16 bits.

@@ -152,7 +152,7 @@ MeetsSame h = (i : ℕ) × (at h.first i ≢ at h.second i)
 
 -- ---- the demands of a claim
 
--- a rule, at the place of a claim if it is asked for
+-- a rule, at the place of a claim where it is asked for
 pub data Demand : Type 0 where
   -- the function of the claim is minimal
   minimal : Demand

@@ -3,6 +3,7 @@ ghost use Rattle.std.specs.Prelude.{◌≡◌, ◌≢◌, ◌≤◌, ◌++◌, [
 ghost use Rattle.gj_lex.specs.Words.{word_texts};
 ghost use Rattle.gj_lex.specs.Parts.{line_part, IsFaultOf};
 ghost use Rattle.gj_lex.specs.declared.spelling.Spelling.TheVariants.{Strict};
+ghost use Rattle.gj_shape.specs.Limits.{greatest_order};
 ghost use Rattle.gj_shape.specs.declared.faces.FaceKind.{FaceKind};
 ghost use Rattle.gj_shape.specs.declared.faces.FaceKind.TheVariants.{Vertex};
 ghost use Rattle.gj_lines.specs.FaceLines.{face_word, cover_line};
@@ -30,7 +31,7 @@ pub(crate) fn cover_lines_at(
     text: &[u8],
     order: u32,
 ) -> Result<(Vec<CoverLine>, &[u8]), PartFault>
-    requires { order ≤ 1000 }
+    requires { order ≤ greatest_order }
     ensures found { IfOk result (λ r. (covered_part order order []).Reads text.now r.0.items r.1.now) }
     ensures fault { IfErr result (IsFaultOf (covered_part order order []) text.now) }
 {
@@ -46,7 +47,7 @@ pub(crate) fn cover_lines_at(
 
 /// The line of a covered interval that comes next, and what follows it. It takes no memory.
 fn cover_line_at(text: &[u8], order: u32) -> Result<(CoverLine, &[u8]), PartFault>
-    requires { order ≤ 1000 }
+    requires { order ≤ greatest_order }
     ensures found { IfOk result (λ r. (line_part Strict (cover_rule order)).Reads text.now r.0 r.1.now) }
     ensures fault { IfErr result (IsFaultOf (line_part Strict (cover_rule order)) text.now) }
 {
