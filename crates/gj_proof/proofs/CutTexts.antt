@@ -26,22 +26,6 @@ use Rattle.gj_proof.proofs.CutParts.{term_part, head_part, end_words}
 
 -- ---- one line
 
-spelled_line : (a b c d rest : List ℕ) → a ++ (b ++ 32 ∷ (c ++ 32 ∷ (d ++ 10 ∷ rest))) ≡ line (a ++ b ++ codes " " ++ c ++ codes " " ++ d) ++ rest
-spelled_line a b c d rest = simp append_assoc
-
--- three words behind `term `, a space behind each of the first two and an LF behind the last, are the line of the term that they spell
-pub term_spelled : (text words more tail rest : List ℕ) (name entry cut : List ℕ) (t : CutTerm) → text ≡ codes "term " ++ words →
-    words ≡ name ++ 32 ∷ more → more ≡ entry ++ 32 ∷ tail → tail ≡ cut ++ 10 ∷ rest → t.name ≡ name → entry ≡ fraction_text t.entry →
-    cut ≡ fraction_text t.cut → text ≡ term_line t ++ rest
-term_spelled text words more tail rest name entry cut t text_is words_is more_is tail_is name_is entry_is cut_is =
-    text_is
-    ∙ ap (λ u. codes "term " ++ u)
-    (words_is ∙ ap (λ u. name ++ 32 ∷ u) (more_is ∙ ap (λ u. entry ++ 32 ∷ u) tail_is)
-    ∙ ap (λ n. n ++ 32 ∷ (entry ++ 32 ∷ (cut ++ 10 ∷ rest))) (sym name_is)
-    ∙ ap (λ x. t.name ++ 32 ∷ (x ++ 32 ∷ (cut ++ 10 ∷ rest))) entry_is
-    ∙ ap (λ x. t.name ++ 32 ∷ (fraction_text t.entry ++ 32 ∷ (x ++ 10 ∷ rest))) cut_is)
-    ∙ spelled_line (codes "term ") t.name (fraction_text t.entry) (fraction_text t.cut) rest
-
 pub term_reads : (t : CutTerm) (rest : List ℕ) → IsName t.name → term_part.Reads (term_line t ++ rest) t rest
 term_reads t rest named =
     line_reads term_rule (term_line t ++ rest) rest (term_words t.name (fraction_text t.entry) (fraction_text t.cut)) t (λ e. cc)

@@ -45,6 +45,9 @@ pub(crate) fn split_at_byte(bytes: &[u8], mark: u8) -> Option<(&[u8], &[u8])>
 }
 
 /// Where the first such byte stands.
+///
+/// It stands apart, so that its loop counts no more than the place.
+#[inline(never)]
 fn first_such(bytes: &[u8], mark: u8) -> Option<usize>
     ensures { result ≡ position (λ b. b == mark) bytes.now }
 {
