@@ -54,15 +54,15 @@ pub fn named_terms(
 {
     let mut named = Vec::with_capacity(alloc, terms.len())?;
     for term in terms {
-        named.push(named_term(alloc, columns, *term)?)?;
+        named.push(named_term(alloc, columns, term)?)?;
     }
     Ok(named)
 }
 
 /// The term with the name of its column.
-fn named_term(alloc: Global, columns: &[Name], term: Term) -> Result<CutTerm, AllocError>
-    requires { term.column < length columns.now }
-    ensures { IfOk result (IsNamedTerm columns.now term) }
+fn named_term(alloc: Global, columns: &[Name], term: &Term) -> Result<CutTerm, AllocError>
+    requires { term.now.column < length columns.now }
+    ensures { IfOk result (IsNamedTerm columns.now term.now) }
 {
     let name = columns[term.column as usize].copy(alloc)?;
     Ok(CutTerm {
