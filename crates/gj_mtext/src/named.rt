@@ -1,5 +1,5 @@
 //! Terms with the names of their columns.
-ghost use Rattle.std.specs.Prelude.{◌<◌, All, IfOk, length};
+ghost use Rattle.std.specs.Prelude.{◌≡◌, ◌<◌, [], All, IfOk, get_or, length};
 ghost use Rattle.std.specs.List.{AllZip};
 ghost use Rattle.gj_mtext.specs.MixedLines.{AreInColumns, IsNamedTerm, NamesMixedCut};
 
@@ -64,10 +64,18 @@ fn named_term(alloc: Global, columns: &[Name], term: &Term) -> Result<CutTerm, A
     requires { term.now.column < length columns.now }
     ensures { IfOk result (IsNamedTerm columns.now term.now) }
 {
-    let name = columns[term.column as usize].copy(alloc)?;
+    let name = name_of(alloc, columns, term.column)?;
     Ok(CutTerm {
         name,
         entry: term.entry,
         cut: term.cut,
     })
+}
+
+/// The name of a column.
+pub(crate) fn name_of(alloc: Global, columns: &[Name], column: u32) -> Result<Name, AllocError>
+    requires { column < length columns.now }
+    ensures { IfOk result (λ name. name ≡ get_or columns.now column []) }
+{
+    columns[column as usize].copy(alloc)
 }
