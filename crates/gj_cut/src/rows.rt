@@ -110,7 +110,11 @@ fn terms<E: Evaluator>(
 {
     let mut terms = Vec::with_capacity(alloc, entries.len())?;
     for entry in entries {
-        terms.push(term(rule, *entry))?;
+        terms.push(Term {
+            column: entry.column,
+            entry: entry.value,
+            cut: rule.at(entry.value),
+        })?;
     }
     Ok(terms)
 }

@@ -1,5 +1,5 @@
 -- The line of a row of whole columns, from its cut.
-use Rattle.std.proofs.Common.{◌≡◌, ℕ, List, [], ◌∷◌, get_or, sym, ap, subst, ◌∙◌, arith}
+use Rattle.std.proofs.Common.{◌≡◌, ℕ, ◌+◌, ◌<◌, List, [], ◌∷◌, ◌++◌, get_or, length, take, refl, sym, ap, subst, ◌∙◌, arith}
 use Rattle.std.specs.List.{AllZip}
 use Rattle.std.proofs.lemmas.Int.{ints}
 use Rattle.gj_frac.specs.declared.Frac.{Frac}
@@ -9,18 +9,16 @@ use Rattle.gj_frac.proofs.Floors.{quotient_is_floor}
 use Rattle.gj_frac.proofs.SameValues.{same_from_is}
 use Rattle.gj_shape.specs.FunctionData.{FunctionData}
 use Rattle.gj_theory.specs.Cuts.{IsGmicValue}
-use Rattle.gj_rule.specs.Kept.{KeptRule}
 use Rattle.gj_rule.specs.Kind.{IsKindValue}
 use Rattle.gj_rule.specs.declared.kind.RuleKind.{RuleKind}
 use Rattle.gj_rule.specs.declared.kind.RuleKind.TheVariants as kind
-use Rattle.gj_row.specs.TableauLimits.{IsRowWithinLimits}
 use Rattle.gj_row.specs.declared.tableau.Entry.{Entry}
 use Rattle.gj_row.specs.declared.tableau.Row.{Row}
-use Rattle.gj_cut.specs.RowCuts.{HasPart, IsTermOfKind, IsCutOf, IsCutOfKind, IsGmicCutOf}
+use Rattle.gj_cut.specs.RowCuts.{HasPart, IsTermOfKind, IsCutOfKind, IsGmicCutOf}
 use Rattle.gj_cut.specs.declared.cut.RowCut.{RowCut}
 use Rattle.gj_cut.specs.declared.cut.RowCut.TheVariants as row_cut
 use Rattle.gj_cut.specs.declared.cut.Term.{Term}
-use Rattle.gj_cut.proofs.RowTerms.{cut_of_kind}
+use Rattle.gj_cut.proofs.RowTerms.{gmic_cut_of, zip_longer, zip_next}
 use Rattle.gj_proof.specs.Rules.{MeetsValue}
 use Rattle.gj_proof.specs.declared.cut.CutLine.{CutLine}
 use Rattle.gj_proof.specs.declared.cut.CutLine.TheVariants.{Cut, Skip}
@@ -28,26 +26,8 @@ use Rattle.gj_proof.specs.declared.cut.CutRule.{CutRule}
 use Rattle.gj_proof.specs.declared.cut.CutRule.TheVariants.{Gmic, Table}
 use Rattle.gj_proof.specs.declared.cut.CutTerm.{CutTerm}
 use Rattle.gj_proof.specs.declared.cut.SkipReason.TheVariants.{Integral, Other}
-use Rattle.gj_mtext.specs.CutLines.{IsInColumns, IsLineFor, IsLineOf, IsTermFor}
+use Rattle.gj_mtext.specs.CutLines.{IsLineFor, IsLineOf, IsTermFor, NamesCut, NamesTerms}
 use Rattle.gj_mtext.specs.MixedLines.{IsNamedTerm}
-use Rattle.gj_mtext.proofs.RowLines.{terms_in_columns}
-
--- ---- the columns of terms
-
-cut_in_columns : (k : RuleKind) (n : ℕ) (row : Row) (cut : RowCut) → IsRowWithinLimits n row → IsCutOfKind k row cut → IsInColumns n cut
-cut_in_columns k n row (row_cut.Cut terms) limits h =
-    terms_in_columns (IsTermOfKind k) n row.entries terms (λ e t p. p.column_is) limits.below h.2
-cut_in_columns k n row row_cut.Integral limits h = tt
-cut_in_columns k n row row_cut.OtherFraction limits h = tt
-
-pub gmic_in_columns : (n : ℕ) (row : Row) (cut : RowCut) → IsRowWithinLimits n row → IsGmicCutOf row cut → IsInColumns n cut
-gmic_in_columns n row (row_cut.Cut terms) limits (f, h) = cut_in_columns (kind.Gmic f) n row (row_cut.Cut terms) limits h
-gmic_in_columns n row row_cut.Integral limits h = tt
-gmic_in_columns n row row_cut.OtherFraction limits h = tt
-
-pub rule_in_columns : {E : Type 0} (answers : E → Frac → Frac → Type 0) (rule : KeptRule E) (n : ℕ) (row : Row) (cut : RowCut) →
-    IsRowWithinLimits n row → IsCutOf answers rule row cut → IsInColumns n cut
-rule_in_columns answers rule n row cut limits h = cut_in_columns rule.kind n row cut limits (cut_of_kind answers rule row cut h)
 
 -- ---- the terms
 
@@ -119,8 +99,38 @@ function_line f columns row row_cut.OtherFraction (Skip name right Other) h l = 
 function_line f columns row row_cut.OtherFraction (Skip name right Integral) h l = absurd l
 function_line f columns row row_cut.OtherFraction (Cut name right named) h l = absurd l
 
-pub function_line_for : {E : Type 0} (answers : E → Frac → Frac → Type 0) (rule : KeptRule E) (f : FunctionData) (columns : List (List ℕ))
-    (row : Row) (cut : RowCut) (line : CutLine) → rule.kind ≡ kind.Table f → IsCutOf answers rule row cut →
-    IsLineOf columns row cut line → IsLineFor (Table f) columns row line
-function_line_for answers rule f columns row cut line is h l =
-    function_line f columns row cut line (subst (λ k. IsCutOfKind k row cut) is (cut_of_kind answers rule row cut h)) l
+-- ---- lines that name a cut
+
+pub gmic_line_named : (f : Frac) (columns : List (List ℕ)) (row : Row) (line : CutLine) → HasPart (kind.Gmic f) row.rhs →
+    NamesCut (kind.Gmic f) columns row line → IsLineFor Gmic columns row line
+gmic_line_named f columns row line part (cut, made, named) =
+    gmic_line_for columns row cut line (gmic_cut_of f row cut part made) named
+
+pub function_line_named : (f : FunctionData) (k : RuleKind) (columns : List (List ℕ)) (row : Row) (line : CutLine) →
+    k ≡ kind.Table f → NamesCut k columns row line → IsLineFor (Table f) columns row line
+function_line_named f k columns row line is (cut, made, named) =
+    function_line f columns row cut line (subst (λ k. IsCutOfKind k row cut) is made) named
+
+-- one more entry, with its term
+pub one_term_more : (k : RuleKind) (columns : List (List ℕ)) (entries : List Entry) (i : ℕ) (e : Entry) (before after : List CutTerm) (t : CutTerm) →
+    i < length entries → e ≡ get_or entries i e → after ≡ before ++ t ∷ [] → NamesTerms k columns (take i entries) before →
+    t.name ≡ get_or columns e.column [] → t.entry ≡ e.value → IsKindValue k e.value t.cut →
+    NamesTerms k columns (take (i + 1) entries) after
+one_term_more k columns entries i e before after t below here next (terms, made, named) name entry value =
+    let term : Term = record { column = e.column; entry = e.value; cut = t.cut } in
+    let is_term : IsTermOfKind k e term = record { column_is = refl; entry_is = refl; value_is = value } in
+    let is_named : IsNamedTerm columns term t = record { name = name; entry = entry; cut = refl } in (
+      terms ++ term ∷ [],
+      zip_next (IsTermOfKind k) entries i e terms (terms ++ term ∷ []) term below here refl made is_term,
+      subst (AllZip (IsNamedTerm columns) (terms ++ term ∷ [])) (sym next) (zip_longer (IsNamedTerm columns) terms before term t named is_named),
+    )
+
+-- the cut of a row that has one
+pub cut_named : (k : RuleKind) (columns : List (List ℕ)) (row : Row) (entries : List Entry) (name : List ℕ) (named kept : List CutTerm) →
+    (IsWhole row.rhs → ⊥) → HasPart k row.rhs → name ≡ row.basic → entries ≡ row.entries → kept ≡ named →
+    NamesTerms k columns entries named → NamesCut k columns row (Cut name row.rhs kept)
+cut_named k columns row entries name named kept not_whole part basic all is (terms, made, names) = (
+  row_cut.Cut terms,
+  (not_whole, part, subst (λ (es : List Entry). AllZip (IsTermOfKind k) es terms) all made),
+  (basic, refl, subst (AllZip (IsNamedTerm columns) terms) (sym is) names),
+)

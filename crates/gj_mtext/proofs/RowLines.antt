@@ -1,5 +1,5 @@
 -- The columns of terms; the line of a row with a mixed cut: its columns, and that its cut holds.
-use Rattle.std.proofs.Common.{◌≡◌, ℕ, ◌+◌, ◌<◌, Bool, not, List, [], ◌∷◌, All, flat_map, get_or, length, map, filter, take, refl, sym, ap, ap₂, subst, subst₂, ◌∙◌, ◌++◌}
+use Rattle.std.proofs.Common.{◌≡◌, ℕ, ◌+◌, ◌<◌, Bool, not, List, [], ◌∷◌, All, get_or, length, map, filter, take, refl, sym, ap, ap₂, subst, subst₂, ◌∙◌, ◌++◌}
 use Rattle.std.specs.List.{AllZip}
 use Rattle.std.proofs.lemmas.List.{flat_map_more}
 use Rattle.std.proofs.lemmas.List.Elements.{All-nil, All-cons, All-head, All-tail, All-filter}

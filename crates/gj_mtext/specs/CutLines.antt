@@ -1,10 +1,13 @@
 -- The lines of rows whose columns are all whole (Gomory and Johnson 1972; the form is own).
-use Rattle.std.specs.Prelude.{ℕ, ◌≡◌, ◌<◌, List, [], All, get_or}
+use Rattle.std.specs.Prelude.{ℕ, ◌≡◌, List, [], get_or}
 use Rattle.std.specs.List.{AllZip}
 use Rattle.gj_row.specs.declared.tableau.Entry.{Entry}
 use Rattle.gj_row.specs.declared.tableau.Row.{Row}
+use Rattle.gj_rule.specs.declared.kind.RuleKind.{RuleKind}
+use Rattle.gj_cut.specs.RowCuts.{IsCutOfKind, IsTermOfKind}
 use Rattle.gj_cut.specs.declared.cut.RowCut.{RowCut}
 use Rattle.gj_cut.specs.declared.cut.RowCut.TheVariants as row_cut
+use Rattle.gj_cut.specs.declared.cut.Term.{Term}
 use Rattle.gj_proof.specs.Rules.{MeetsFraction, MeetsValue}
 use Rattle.gj_proof.specs.declared.cut.CutLine.{CutLine}
 use Rattle.gj_proof.specs.declared.cut.CutLine.TheVariants.{Cut, Skip}
@@ -38,8 +41,11 @@ IsLineOf columns row row_cut.Integral (Skip name right Integral) = (name ≡ row
 IsLineOf columns row row_cut.OtherFraction (Skip name right Other) = (name ≡ row.basic) × (right ≡ row.rhs)
 IsLineOf columns row cut line = ⊥
 
--- the columns of the terms of a cut are among so many
-abbrev pub IsInColumns : ℕ → RowCut → Type 0
-IsInColumns n (row_cut.Cut terms) = All (λ t. t.column < n) terms
-IsInColumns n row_cut.Integral = Unit {0}
-IsInColumns n row_cut.OtherFraction = Unit {0}
+-- the line of a row with a cut of it by the kind
+abbrev pub NamesCut : RuleKind → List (List ℕ) → Row → CutLine → Type 0
+NamesCut kind columns row line = (cut : RowCut) × IsCutOfKind kind row cut × IsLineOf columns row cut line
+
+-- the terms of entries by the kind, with the names of their columns
+abbrev pub NamesTerms : RuleKind → List (List ℕ) → List Entry → List CutTerm → Type 0
+NamesTerms kind columns entries named =
+    (terms : List Term) × AllZip (IsTermOfKind kind) entries terms × AllZip (IsNamedTerm columns) terms named

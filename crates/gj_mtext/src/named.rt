@@ -1,5 +1,5 @@
 //! Terms with the names of their columns.
-ghost use Rattle.std.specs.Prelude.{◌<◌, All, IfOk, length};
+ghost use Rattle.std.specs.Prelude.{◌≡◌, ◌<◌, [], All, IfOk, get_or, length};
 ghost use Rattle.std.specs.List.{AllZip};
 ghost use Rattle.gj_mtext.specs.MixedLines.{AreInColumns, IsNamedTerm, NamesMixedCut};
 
@@ -54,20 +54,28 @@ pub fn named_terms(
 {
     let mut named = Vec::with_capacity(alloc, terms.len())?;
     for term in terms {
-        named.push(named_term(alloc, columns, *term)?)?;
+        named.push(named_term(alloc, columns, term)?)?;
     }
     Ok(named)
 }
 
 /// The term with the name of its column.
-fn named_term(alloc: Global, columns: &[Name], term: Term) -> Result<CutTerm, AllocError>
-    requires { term.column < length columns.now }
-    ensures { IfOk result (IsNamedTerm columns.now term) }
+fn named_term(alloc: Global, columns: &[Name], term: &Term) -> Result<CutTerm, AllocError>
+    requires { term.now.column < length columns.now }
+    ensures { IfOk result (IsNamedTerm columns.now term.now) }
 {
-    let name = columns[term.column as usize].copy(alloc)?;
+    let name = name_of(alloc, columns, term.column)?;
     Ok(CutTerm {
         name,
         entry: term.entry,
         cut: term.cut,
     })
+}
+
+/// The name of a column.
+pub(crate) fn name_of(alloc: Global, columns: &[Name], column: u32) -> Result<Name, AllocError>
+    requires { column < length columns.now }
+    ensures { IfOk result (λ name. name ≡ get_or columns.now column []) }
+{
+    columns[column as usize].copy(alloc)
 }

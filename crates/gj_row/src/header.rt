@@ -41,7 +41,7 @@ pub(crate) fn header_in(alloc: Global, fields: &ByteRecord) -> Result<Header, Re
         return Err(RecordFault::Refused(RowReason::Columns));
     }
     let mut columns = Vec::new(alloc);
-    let mut names = IndexSet::new(alloc);
+    let mut names = IndexSet::with_capacity(alloc, fields.len())?;
     for place in 2..fields.len() {
         match new_name(alloc, &mut names, word_at(fields, place)) {
             Ok(name) => columns.push(name)?,

@@ -85,7 +85,7 @@ fn product(n: i128, m: i128) -> i128
     ensures value { result ≡ n *ℤ m }
     ensures fits { unsigned_abs result ≤ 2 ^ 124 }
 {
-    n * m
+    i128::from(n as i64) * i128::from(m as i64)
 }
 
 /// The fraction with this numerator and denominator.

@@ -1,10 +1,17 @@
-use Rattle.std.proofs.Common.{length}
-use Rattle.gj_mtext.proofs.CutLines.{gmic_in_columns, gmic_line_for}
+use Rattle.gj_rule.specs.declared.kind.RuleKind.TheVariants as kind
+use Rattle.gj_cut.proofs.RowTerms.{right_fine, if_ok_along}
+use Rattle.gj_proof.specs.declared.cut.CutRule.TheVariants.{Gmic}
+use Rattle.gj_mtext.specs.CutLines.{IsLineFor, NamesCut}
+use Rattle.gj_mtext.proofs.CutLines.{gmic_line_named}
 use Rattle.gj_mtext.proofs.cuts.gmic_line.Goals as goal
 
-pub line_of-requires : goal.line_of-requires
-line_of-requires c = gmic_in_columns (length c.args.columns.now) c.args.row.now c.in_ok-cut.cut c.requires c.in_ok-cut.ensures.cut
+pub part_of-f-requires-clause-fine : goal.part_of-f-requires-clause-fine
+part_of-f-requires-clause-fine c = right_fine c.args.row.now c.requires.numbers
 
 pub returns : goal.returns
 returns c =
-    gmic_line_for c.args.columns.now c.args.row.now c.in_ok-cut.cut c.in_ok-line.line c.in_ok-cut.ensures.cut c.in_ok-line.ensures
+    let f = c.part_of-f.result in
+    let columns = c.args.columns.now in
+    let row = c.args.row.now in
+    if_ok_along {P = NamesCut (kind.Gmic f) columns row} {Q = IsLineFor Gmic columns row} c.line_of_kind.result c.line_of_kind.ensures
+    (λ line h. gmic_line_named f columns row line c.part_of-f.ensures.part h)

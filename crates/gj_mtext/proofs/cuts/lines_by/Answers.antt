@@ -3,13 +3,16 @@ use Rattle.gj_row.specs.TableauLimits.{IsRowWithinLimits}
 use Rattle.gj_cut.proofs.RowTerms.{zip_next}
 use Rattle.gj_proof.specs.declared.cut.CutRule.TheVariants.{Table}
 use Rattle.gj_mtext.specs.CutLines.{IsLineFor}
+use Rattle.gj_mtext.proofs.CutLines.{function_line_named}
 use Rattle.gj_mtext.proofs.cuts.lines_by.Goals as goal
 
 pub loop-row-preserved : goal.loop-row-preserved
 loop-row-preserved g c =
     zip_next (IsLineFor (Table c.args.shape) c.args.columns.now) c.args.rows.now c.loop-row.row-index c.row-item.result
     c.loop-row.lines.items c.push.new.self.items c.in_ok-line_by.field-0 c.loop-row-test.true c.row-item.is c.in_ok-push.ensures.items
-    c.loop-row.invariant (c.in_ok-line_by.ensures c.args.shape c.new-rule.ensures.kind)
+    c.loop-row.invariant
+    (function_line_named c.args.shape c.new-rule.result.kind c.args.columns.now c.row-item.result c.in_ok-line_by.field-0
+    c.new-rule.ensures.kind c.in_ok-line_by.ensures)
 
 pub line_by-requires : goal.line_by-requires
 line_by-requires g c =

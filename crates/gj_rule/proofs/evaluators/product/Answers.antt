@@ -1,4 +1,4 @@
-use Rattle.std.proofs.Common.{◌^◌, ◌*ℤ◌, arith}
+use Rattle.std.proofs.Common.{◌≡◌, ◌^◌, ◌*ℤ◌, to_z, of_z, rules, arith}
 use Rattle.std.proofs.lemmas.Int.{to_z-of_z, fits_signed_mul, unsigned_abs-mul}
 use Rattle.std.proofs.Math.Nat.{mul-le-mul}
 use Rattle.gj_rule.proofs.evaluators.product.Goals as goal
@@ -7,8 +7,8 @@ use mir.Syntax.{w128}
 -- the product as it is computed
 product_is : goal.returns-clause-value
 product_is c =
-    let n = to_z-of_z w128 c.args.n c.ranges.n in
-    let m = to_z-of_z w128 c.args.m c.ranges.m in
+    let n : to_z w128 (of_z w128 c.from.result) ≡ c.args.n = search rules in
+    let m : to_z w128 (of_z w128 c.from-2.result) ≡ c.args.m = search rules in
     let fits = fits_signed_mul w128 c.args.n c.args.m (2 ^ 62) (2 ^ 62) c.requires.n_small c.requires.m_small (omega arith) in
     simp (n, m) (to_z-of_z w128 (c.args.n *ℤ c.args.m) fits)
 
