@@ -1,5 +1,5 @@
 -- Values of functions at entries, as they are computed.
-use Rattle.std.proofs.Common.{◌≡◌, ℕ, zero, suc, ℤ, ◌+◌, ◌*◌, ◌/◌, ◌%◌, ◌-◌, ◌<◌, ◌↔◌, pos, neg_ℤ, ◌+ℤ◌, ◌*ℤ◌, ◌^◌, [], ◌∷◌, unsigned_abs, refl, sym, ap, ap₂, subst₂, ◌∙◌, arith}
+use Rattle.std.proofs.Common.{◌≡◌, ℕ, zero, suc, ℤ, ◌+◌, ◌*◌, ◌/◌, ◌%◌, ◌-◌, ◌<◌, ◌↔◌, pos, ◌+ℤ◌, ◌*ℤ◌, ◌^◌, [], ◌∷◌, unsigned_abs, refl, sym, ap, ap₂, subst₂, ◌∙◌, arith}
 use Rattle.std.proofs.Math.Nat.{mul-pos}
 use Rattle.std.proofs.lemmas.Int.{ints}
 use Rattle.std.specs.Int.{int_div_euclid}
@@ -14,7 +14,7 @@ use Rattle.gj_shape.specs.FirstViolation.{PassesAll}
 use Rattle.gj_shape.specs.Table.{table, entry}
 use Rattle.gj_shape.specs.Values.{IsCongruent, IsValueAt}
 use Rattle.gj_shape.proofs.LeastDenominator.{denominator_some}
-use Rattle.gj_shape.proofs.ValueLemmas.{natural_index, value_from_place}
+use Rattle.gj_shape.proofs.ValueLemmas.{natural_index, congruent_back, value_from_place}
 use Rattle.gj_theory.proofs.Lanes.{are_bounded}
 use Rattle.gj_check.specs.declared.pieces.Piece.{Piece}
 use Rattle.gj_check.specs.Pieces.{IsPieceAt, HasNumbersBelow}
@@ -36,9 +36,6 @@ one_value f n d x y l some x_is y_is =
 place_z : (r w d q : ℤ) → (r +ℤ w *ℤ d) *ℤ q ≡ r *ℤ q +ℤ w *ℤ (q *ℤ d)
 place_z r w d q = by_ring (r ∷ w ∷ d ∷ q ∷ []) (search ring depth 30) refl
 
-back_z : (j k p : ℤ) → j ≡ (j +ℤ k *ℤ p) +ℤ neg_ℤ k *ℤ p
-back_z j k p = by_ring (j ∷ k ∷ p ∷ []) (search ring depth 30) refl
-
 -- an entry x is r/d and a whole number, so in steps of 1/(q d) it is at the place r q, but for a multiple of the period
 place_of : (x : Frac) (r q : ℕ) → IsRestOf r x →
     IsCongruent (numerator x *ℤ pos q) (pos (r * q)) (q * unsigned_abs (denominator x))
@@ -51,9 +48,6 @@ place_of x r q is =
       ap (λ z. z *ℤ pos q) whole ∙ place_z (pos r) w x.den (pos q)
           ∙ ap₂ (λ y z. y +ℤ w *ℤ z) (pos-*ℤ-pos r q) (ap (λ z. pos q *ℤ z) (denominator_is x) ∙ pos-*ℤ-pos q d),
     )
-
-congruent_back : (i j : ℤ) (p : ℕ) → IsCongruent i j p → IsCongruent j i p
-congruent_back i j p (k, e) = (neg_ℤ k, back_z j k (pos p) ∙ ap (λ z. z +ℤ neg_ℤ k *ℤ pos p) (sym e))
 
 -- what the table has there is the value at the entry
 value_at_place : (f : FunctionData) (x y : Frac) (r : ℕ) → IsWithinBounds f → IsRestOf r x →

@@ -3,6 +3,7 @@ use Rattle.std.proofs.Common.{◌≡◌, ℕ, zero, suc, ◌+◌, ◌-◌, ◌*�
 use Rattle.std.proofs.Math.Nat.{div-add-mod', mod-lt}
 use Rattle.std.proofs.lemmas.Int.{ints}
 use Rattle.std.specs.Int.{int_rem_euclid}
+use Rattle.std.specs.Prelude.{neg_ℤ}
 use Rattle.gj_frac.specs.declared.Frac.{Frac}
 use Rattle.gj_frac.specs.Fraction.{IsRatio, numerator, denominator}
 use Rattle.gj_tools.proofs.Integers.{add_mul_z}
@@ -30,6 +31,13 @@ pub congruent_join : (i n j : ℤ) (p : ℕ) → IsCongruent i n p → IsCongrue
 congruent_join i n j p (k, e) (l, g) =
     let both = add_mul_z k l (pos p) in
     (k +ℤ l, omega (arith, ints))
+
+pub congruent_back : (i j : ℤ) (p : ℕ) → IsCongruent i j p → IsCongruent j i p
+congruent_back i j p (k, e) = (neg_ℤ k, turned_z i j k (pos p) e)
+  where
+    turned_z : (i j k n : ℤ) → i ≡ j +ℤ k *ℤ n → j ≡ i +ℤ neg_ℤ k *ℤ n
+    turned_z i j k n e =
+        by_ring (j ∷ k ∷ n ∷ []) (search ring depth 20) refl ∙ ap (λ z. z +ℤ neg_ℤ k *ℤ n) (sym e)
 
 -- each whole number is congruent to a natural one
 pub natural_index : (a : ℤ) (p : ℕ) → 0 < p → (i : ℕ) × IsCongruent (pos i) a p

@@ -1,7 +1,6 @@
 -- The values of the functions of n x and of -x, and of restrictions, at fractions.
 use Rattle.std.proofs.Common.{◌≡◌, ℕ, ◌+◌, ◌*◌, ◌%◌, ◌<◌, ℤ, pos, negsuc, ◌+ℤ◌, ◌*ℤ◌, [], ◌∷◌, refl, sym, ap, subst, ◌∙◌, mul-pos, arith}
 use Rattle.std.proofs.lemmas.Int.{ints}
-use Rattle.std.specs.Prelude.{neg_ℤ}
 use Rattle.gj_frac.specs.declared.Frac.{Frac}
 use Rattle.gj_frac.specs.Fraction.{IsRatio, numerator, denominator}
 use Rattle.gj_tools.proofs.Integers.{mul_cancel_right_z, swap_last_z, add_mul_z}
@@ -10,7 +9,7 @@ use Rattle.gj_shape.specs.FunctionData.{FunctionData, IsWithinBounds, at}
 use Rattle.gj_shape.specs.Table.{table}
 use Rattle.gj_shape.specs.Values.{IsCongruent, IsValueAt}
 use Rattle.gj_shape.proofs.TableLemmas.{table_at, table_of_order}
-use Rattle.gj_shape.proofs.ValueLemmas.{natural_index, congruent_rests, value_from_place}
+use Rattle.gj_shape.proofs.ValueLemmas.{natural_index, congruent_back, congruent_rests, value_from_place}
 use Rattle.gj_transform.specs.Transforms.{IsTimesOf, IsMirrorOf, IsRestrictionOf, HasValuesAtMultiples, AgreeAtMultiples}
 use Rattle.gj_transform.proofs.TimesTables.{times_entries}
 use Rattle.gj_transform.proofs.MirrorTables.{mirror_back}
@@ -24,14 +23,6 @@ over_scale x t u s r some same is =
     (omega arith)
 
 -- ---- congruent numbers
-
-congruent_back : (i j : ℤ) (n : ℕ) → IsCongruent i j n → IsCongruent j i n
-congruent_back i j n (k, e) =
-    (neg_ℤ k, turned_z i j k (pos n) e)
-  where
-    turned_z : (i j k n : ℤ) → i ≡ j +ℤ k *ℤ n → j ≡ i +ℤ neg_ℤ k *ℤ n
-    turned_z i j k n e =
-        by_ring (j ∷ k ∷ n ∷ []) (search ring depth 20) refl ∙ ap (λ z. z +ℤ neg_ℤ k *ℤ n) (sym e)
 
 -- modulo a multiple of n, and so modulo n
 congruent_coarser : (i j : ℤ) (n m : ℕ) → IsCongruent i j (n * m) → IsCongruent i j n
