@@ -31,6 +31,3 @@ pub use checker::check;
 pub use faults::CheckFault;
 pub use laws::{one_first_failure, rules_give_meaning};
 pub use rules::CheckRule;
-
-#[cfg(test)]
-mod tests;

@@ -17,8 +17,6 @@ mod progress;
 mod reached;
 mod squares;
 mod table;
-#[cfg(test)]
-mod tests;
 mod transposed;
 mod triangles;
 

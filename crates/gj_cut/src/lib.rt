@@ -8,8 +8,6 @@
 
 mod cut;
 mod rows;
-#[cfg(test)]
-mod tests;
 
 pub use cut::{RowCut, Term};
 pub use rows::{cut_row, gmic_cut_row, has_part, part_of, term};

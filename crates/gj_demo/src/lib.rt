@@ -22,6 +22,3 @@ pub use laws::{
     demo_has_few_components, demo_is_average, demo_is_minimal, demo_is_not_extreme, demo_scale,
 };
 pub use summary_text::summary;
-
-#[cfg(test)]
-mod tests;

@@ -22,6 +22,3 @@ pub use basis::Basis;
 pub use faults::ElimFault;
 pub use log::{Inserted, LogRow};
 pub use reduce::place_of;
-
-#[cfg(test)]
-mod tests;

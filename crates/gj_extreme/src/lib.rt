@@ -20,6 +20,3 @@ pub use laws::{
     decided_claims, decided_texts_are_short, few_components_are_not_wide,
     two_slopes_are_decided_extreme,
 };
-
-#[cfg(test)]
-mod tests;

@@ -13,8 +13,6 @@ mod laws;
 mod maximal_faces;
 mod run;
 mod search;
-#[cfg(test)]
-mod tests;
 mod tight_pairs;
 mod tight_runs;
 mod triangles;

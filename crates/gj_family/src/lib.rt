@@ -22,6 +22,3 @@ pub use halves::half;
 pub use laws::{gmic_is_gmic_table, one_function_of_a_family};
 pub use mixed_integer::gmic;
 pub use slopes::two_slope;
-
-#[cfg(test)]
-mod tests;

@@ -27,6 +27,3 @@ pub use laws::{
     fill_in_is_one_function, fill_in_is_subadditive,
 };
 pub use steps::two_slopes;
-
-#[cfg(test)]
-mod tests;

@@ -26,6 +26,3 @@ pub use print_breaks::write_breaks;
 pub use read::{read_function, read_whole_function};
 pub use rule::{begins_as_rule, read_rule};
 pub use write::write_function;
-
-#[cfg(test)]
-mod tests;

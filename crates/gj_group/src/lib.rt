@@ -15,6 +15,3 @@ mod tight;
 pub use decision::{GREATEST_GROUP_ORDER, GroupAnswer, decide_group};
 pub use faults::GroupFault;
 pub use rows::GroupRows;
-
-#[cfg(test)]
-mod tests;

@@ -22,6 +22,3 @@ pub use laws::{no_reason_in_json_function, one_first_reason, one_function_in_jso
 pub use read::read_json;
 pub use reports::report;
 pub use show::show_json;
-
-#[cfg(test)]
-mod tests;

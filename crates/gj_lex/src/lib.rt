@@ -42,6 +42,3 @@ pub use words::{
     behind_name, field_of, has_first_word, has_no_word, has_words, only_word, split_word,
     two_fields_of, words_of,
 };
-
-#[cfg(test)]
-mod tests;

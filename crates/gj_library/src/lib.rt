@@ -14,8 +14,6 @@ use std::alloc::Global;
 
 mod answer;
 mod sink;
-#[cfg(test)]
-mod tests;
 mod words;
 
 use answer::answer_to;

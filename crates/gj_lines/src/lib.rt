@@ -15,8 +15,6 @@ mod place;
 mod points;
 mod print;
 mod printed;
-#[cfg(test)]
-mod tests;
 
 pub use breaks::break_in;
 pub use faces::{face_word, push_cover_lines};

@@ -17,8 +17,6 @@ mod short_squares;
 mod shown;
 mod signs;
 mod symmetry;
-#[cfg(test)]
-mod tests;
 mod value_lanes;
 mod vertices;
 

@@ -14,8 +14,6 @@
 mod cut;
 mod rows;
 mod slopes;
-#[cfg(test)]
-mod tests;
 pub mod theorems;
 mod weights;
 

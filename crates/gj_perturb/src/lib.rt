@@ -12,8 +12,6 @@ mod lanes;
 mod laws;
 mod slacks;
 mod tables;
-#[cfg(test)]
-mod tests;
 
 pub use faults::SplitFault;
 pub use halves::split;

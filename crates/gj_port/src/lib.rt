@@ -21,6 +21,3 @@ pub use sink::Sink;
 pub use source::Source;
 pub use stream::{StdSink, StdSource};
 pub use whole::{read_all, write_all};
-
-#[cfg(test)]
-mod tests;

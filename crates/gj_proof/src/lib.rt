@@ -39,6 +39,3 @@ pub use read::read_proof;
 pub use write::{push_violation_line, write_proof};
 pub use write_cuts::{push_named, push_row, push_rule_lines};
 pub use write_extreme::{push_halves, push_halves_line};
-
-#[cfg(test)]
-mod tests;

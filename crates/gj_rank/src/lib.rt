@@ -21,6 +21,3 @@ mod step;
 
 pub use failure::{GroupFailure, GroupRule};
 pub use groups::failure_in_groups;
-
-#[cfg(test)]
-mod tests;

@@ -19,6 +19,3 @@ pub use listed::ListedRows;
 pub use residue::MODULUS;
 pub use settling::{SettleFault, Settled, settle};
 pub use source::RowSource;
-
-#[cfg(test)]
-mod tests;

@@ -22,6 +22,3 @@ pub use laws::{
     no_fault_in_a_tableau_text, one_first_fault_of_a_tableau_text, one_tableau_for_a_text,
 };
 pub use tableau::{Entry, Row, Tableau};
-
-#[cfg(test)]
-mod tests;

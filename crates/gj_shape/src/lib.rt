@@ -40,6 +40,3 @@ pub use list::List;
 pub use points::{Point, PointFault, Points};
 pub use shape::Shape;
 pub use violations::Violation;
-
-#[cfg(test)]
-mod tests;

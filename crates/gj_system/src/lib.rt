@@ -8,6 +8,3 @@ mod rows;
 
 pub use counted::SlopeRows;
 pub use rows::row_of;
-
-#[cfg(test)]
-mod tests;

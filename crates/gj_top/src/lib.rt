@@ -33,8 +33,6 @@ mod reply;
 mod report;
 mod show;
 mod status;
-#[cfg(test)]
-mod tests;
 mod transform;
 
 use answer::answer_to;

@@ -21,6 +21,3 @@ pub use automorphism::mirror;
 pub use faults::TransformFault;
 pub use homomorphism::times;
 pub use restriction::restrict;
-
-#[cfg(test)]
-mod tests;

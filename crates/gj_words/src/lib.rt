@@ -21,6 +21,3 @@ mod requests;
 pub use laws::one_request;
 pub use reading::read_words;
 pub use requests::{Command, Request, WordFault};
-
-#[cfg(test)]
-mod tests;

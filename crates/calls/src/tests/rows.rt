@@ -1,14 +1,32 @@
-//! Examples with values by hand: modulo 2^61 - 1 the rows (2^70, 1) and (2^70 - 1, 2^70) are (512, 1) and (511, 512).
+//! Elimination: modulo 2^61 - 1 the rows (2^70, 1) and (2^70 - 1, 2^70) are (512, 1) and (511, 512).
 ghost use Rattle.std.specs.Prelude.{◌≡◌, length, All, IfOk};
 ghost use Rattle.gj_frac.specs.Fraction.{Fits};
 
-use crate::basis::ResidueBasis;
-use crate::listed::ListedRows;
-use crate::settling::{SettleFault, Settled, settle};
-use gj_elim::Inserted;
+use gj_elim::{Basis, ElimFault, Inserted};
+use gj_residue::{ListedRows, ResidueBasis, Settled, settle};
 use gj_shape::List;
 use std::alloc::{AllocError, Global};
 use std::test::Fail;
+
+/// Rows whose steps stay small, and one whose step passes 2^127 - 1.
+#[test]
+fn wide_steps(rt: HostRuntime) -> Result<(), Fail> {
+    let mut basis = Basis::new(rt.alloc(), 2)?;
+    assert_eq!(rt; basis.insert(&[1 << 70, 1])?, Inserted::Pivot(0));
+    assert!(rt;
+        matches!(
+            basis.insert(&[(1 << 70) - 1, 1 << 70]),
+            Err(ElimFault::Wide)
+        )
+    );
+    assert_eq!(rt; basis.inserted(), 1);
+    assert_eq!(rt; basis.insert(&[1 << 71, 2])?, Inserted::Nothing);
+    assert_eq!(rt; basis.inserted(), 2);
+    assert_eq!(rt; basis.rank(), 1);
+    let numbers = basis.kernel()?.ok_or("no kernel")?;
+    assert_eq!(rt; numbers.as_slice(), [-1, 1 << 70].as_slice());
+    Ok(())
+}
 
 /// A source of two rows.
 fn listed(
@@ -60,27 +78,6 @@ fn by_residues(rt: HostRuntime) -> Result<(), Fail> {
     assert_eq!(rt; log[1].number, 1);
     assert_eq!(rt; log[1].reduce.as_slice(), [0].as_slice());
     assert_eq!(rt; log[1].pivot, 1);
-    Ok(())
-}
-
-/// The same rows with a third column of 0.
-#[test]
-fn too_wide(rt: HostRuntime) -> Result<(), Fail> {
-    let mut rows = listed(
-        rt.alloc(),
-        3,
-        &[1 << 70, 1, 0],
-        &[(1 << 70) - 1, 1 << 70, 0],
-    )?;
-    assert!(rt; matches!(settle(rt.alloc(), 3, &mut rows), Err(SettleFault::Wide)));
-    Ok(())
-}
-
-/// Rows that stay small.
-#[test]
-fn plain(rt: HostRuntime) -> Result<(), Fail> {
-    let mut rows = listed(rt.alloc(), 2, &[3, 2], &[3, 0])?;
-    assert!(rt; matches!(settle(rt.alloc(), 2, &mut rows)?, Settled::Plain(_)));
     Ok(())
 }
 

@@ -1,15 +1,36 @@
-//! Claims that hold by hand, one that takes a set of names and one that takes kept rows. What is rejected, and by which rule, are
-//! examples of the program.
-use crate::{CheckFault, check};
-use gj_frac::Frac;
+//! Decisions and their proofs. Other verdicts, and what is rejected and by which rule, are examples of the program.
+use crate::tests::{fraction, tent};
+use gj_check::{CheckFault, check};
+use gj_demo::summary;
+use gj_extreme::decide;
+use gj_group::{GREATEST_GROUP_ORDER, GroupAnswer, decide_group};
 use gj_lex::Name;
 use gj_proof::{Claim, CutLine, CutRule, CutTerm, PivotRow, Proof};
-use gj_shape::{CoverLine, Face, FaceKind, List, RowName, Shape};
+use gj_shape::{CoverLine, Face, FaceKind, List, RowName};
 use std::test::Fail;
 
-/// The fraction n/d.
-fn fraction(n: i128, d: i128) -> Result<Frac, &'static str> {
-    Frac::new(n, d).ok_or("no fraction")
+/// Order 2 with f = 1/2: two components, and the rows of the period and of f leave only the slopes 0.
+#[test]
+fn two_pieces(rt: HostRuntime) -> Result<(), Fail> {
+    let shape = tent(&rt)?;
+    let proof = decide(rt.alloc(), &shape)?;
+    let Claim::Extreme(_, lines, rows) = proof.claim() else {
+        return Err("not extreme".into());
+    };
+    assert_eq!(rt; lines.as_slice().len(), 2);
+    assert_eq!(rt; rows.as_slice().len(), 2);
+    Ok(())
+}
+
+/// The only minimal table of order 2.
+#[test]
+fn extreme_of_order_2(rt: HostRuntime) -> Result<(), Fail> {
+    let shape = tent(&rt)?;
+    if !shape.is_continuous() || shape.order() > GREATEST_GROUP_ORDER {
+        return Err("no table for this call".into());
+    }
+    assert!(rt; matches!(decide_group(rt.alloc(), &shape)?, GroupAnswer::Extreme));
+    Ok(())
 }
 
 /// What the check says of a claim.
@@ -54,8 +75,7 @@ fn row(name: RowName, reduce: Vec<u32>, pivot: u32) -> PivotRow {
 /// The function of order 2 with f = 1/2 that is 0 at 0 and 1 at 1/2: the rows (1, 1) and (1, 0).
 #[test]
 fn extreme(rt: HostRuntime) -> Result<(), Fail> {
-    let values = [fraction(0, 1)?, fraction(1, 1)?];
-    let shape = Shape::new(rt.alloc(), 2, 1, &values, &values, &values)?;
+    let shape = tent(&rt)?;
     let lines = vec![in rt.alloc();
         line(0, FaceKind::Lower, 0, 0),
         line(1, FaceKind::Upper, 1, 1),
@@ -65,5 +85,15 @@ fn extreme(rt: HostRuntime) -> Result<(), Fail> {
     let rows = vec![in rt.alloc(); period, at_f]?;
     let claim = Claim::Extreme(shape, List::of(lines), List::of(rows));
     assert_eq!(rt; checked(&rt, claim)?, Ok(()));
+    Ok(())
+}
+
+/// The summary of the function with the fewest pieces.
+#[test]
+fn summary_of_one(rt: HostRuntime) -> Result<(), Fail> {
+    let text = summary(rt.alloc(), 1)?;
+    let expected =
+        b"demo 1\norder 6\nf 1/2\ntriangles 6\ncovered 4\nuncovered 2\ncomponents 2\nverdict not-extreme\nhalves 24 36\n";
+    assert_eq!(rt; text.as_slice(), expected.as_slice());
     Ok(())
 }

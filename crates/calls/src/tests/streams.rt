@@ -1,5 +1,6 @@
-// Whole streams, over memory and over readers and writers of std.
-use crate::{Failed, MemSink, MemSource, ReadError, StdSink, StdSource, read_all, write_all};
+//! Whole streams, over memory and over readers and writers of std, and a run over streams in steps.
+use gj_port::{Failed, MemSink, MemSource, ReadError, StdSink, StdSource, read_all, write_all};
+use gj_top::{Status, run};
 use std::test::Fail;
 
 #[test]
@@ -9,15 +10,6 @@ fn all_is_read(rt: HostRuntime) -> Result<(), Fail> {
     let bytes = read_all(alloc, &mut source, 3)?;
     assert_eq!(rt; bytes.as_slice(), b"abc".as_slice());
     assert_eq!(rt; source.rest(), b"".as_slice());
-    Ok(())
-}
-
-#[test]
-fn no_more_is_asked_for_than_one_byte_past_the_limit(rt: HostRuntime) -> Result<(), Fail> {
-    let alloc = rt.alloc();
-    let mut source = MemSource::new(alloc, b"abcd", &[])?;
-    assert!(rt; matches!(read_all(alloc, &mut source, 2), Err(ReadError::TooLong)));
-    assert_eq!(rt; source.rest(), b"d".as_slice());
     Ok(())
 }
 
@@ -39,39 +31,13 @@ fn a_read_fails_in_mid_stream(rt: HostRuntime) -> Result<(), Fail> {
 }
 
 #[test]
-fn all_is_written(rt: HostRuntime) -> Result<(), Fail> {
-    let alloc = rt.alloc();
-    let mut sink = MemSink::new(alloc, 5, &[])?;
-    assert_eq!(rt; write_all(&mut sink, b"hello"), Ok(()));
-    assert_eq!(rt; sink.taken(), b"hello".as_slice());
-    Ok(())
-}
-
-#[test]
 fn a_write_fails_in_mid_stream(rt: HostRuntime) -> Result<(), Fail> {
     let alloc = rt.alloc();
-    let mut full = MemSink::new(alloc, 3, &[])?;
-    assert_eq!(rt; write_all(&mut full, b"hello"), Err(Failed));
-    assert_eq!(rt; full.taken(), b"hel".as_slice());
-
     let mut sink = MemSink::new(alloc, 8, &[2])?;
     assert_eq!(rt; write_all(&mut sink, b"he"), Ok(()));
     assert_eq!(rt; write_all(&mut sink, b"llo"), Err(Failed));
     assert_eq!(rt; write_all(&mut sink, b"y"), Ok(()));
     assert_eq!(rt; sink.taken(), b"hey".as_slice());
-    Ok(())
-}
-
-#[test]
-fn steps_are_kept(rt: HostRuntime) -> Result<(), Fail> {
-    let alloc = rt.alloc();
-    let mut source = MemSource::with_step(alloc, b"abc", 1, &[])?;
-    let bytes = read_all(alloc, &mut source, 3)?;
-    assert_eq!(rt; bytes.as_slice(), b"abc".as_slice());
-
-    let mut sink = MemSink::with_step(alloc, 20, 3, &[2])?;
-    assert_eq!(rt; write_all(&mut sink, b"hello"), Err(Failed));
-    assert_eq!(rt; sink.taken(), b"hel".as_slice());
     Ok(())
 }
 
@@ -86,10 +52,30 @@ fn std_reads_and_writes(rt: HostRuntime) -> Result<(), Fail> {
     let mut sink = StdSink::new(&mut written);
     assert_eq!(rt; write_all(&mut sink, b"abc"), Ok(()));
     assert_eq!(rt; written.as_slice(), b"abc".as_slice());
+    Ok(())
+}
 
-    let mut room = [0; 2];
-    let mut full = StdSink::new(room.as_mut_slice());
-    assert_eq!(rt; write_all(&mut full, b"abc"), Err(Failed));
-    assert_eq!(rt; room, *b"ab");
+/// A function by its breakpoints.
+const TWO_PIECES: &[u8] = b"gj-function 2\nf 1/2\npoint 0 0\npoint 1/2 1\nend\n";
+
+/// What `mirror` writes of it.
+const MIRRORED: &[u8] = b"gj-function 1\norder 2\nf 1/2\npoint 0\npoint 1\nend\n";
+
+#[test]
+fn steps_and_faults(rt: HostRuntime) -> Result<(), Fail> {
+    let alloc = rt.alloc();
+    let words = vec![in alloc; String::from_str(alloc, "mirror")?]?;
+    for (failing_read, failing_write, ended, written) in [
+        (0, 0, Status::Done, MIRRORED),
+        (5, 1, Status::WriteFault, b"".as_slice()),
+        (5, 0, Status::ReadFault, b"read fault\n".as_slice()),
+        (0, 3, Status::WriteFault, b"gj-function 1\n".as_slice()),
+    ] {
+        let mut source = MemSource::with_step(alloc, TWO_PIECES, 1, &[failing_read])?;
+        let mut sink = MemSink::with_step(alloc, 100, 7, &[failing_write])?;
+        let status = run(alloc, words.as_slice(), &mut source, &mut sink);
+        assert_eq!(rt; status, ended);
+        assert_eq!(rt; sink.taken(), written);
+    }
     Ok(())
 }
