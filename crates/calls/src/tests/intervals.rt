@@ -1,6 +1,6 @@
 //! Additive faces, covered intervals and rows for their slopes.
 use crate::tests::tent;
-use gj_cover::cover;
+use gj_cover::{cover, cover_of_runs};
 use gj_faces::{Run, maximal, runs};
 use gj_perturb::{from_slopes, zigzag};
 use gj_shape::{Face, FaceKind, RowName};
@@ -54,6 +54,15 @@ fn cover_of_the_tent(rt: HostRuntime) -> Result<(), Fail> {
     let found = cover(rt.alloc(), &shape)?;
     assert_eq!(rt; found.count, 2);
     assert_eq!(rt; found.component.as_slice(), [Some(0), Some(1)].as_slice());
+    Ok(())
+}
+
+/// With no tight pair nothing is covered or joined, so the class of the interval 0 is that interval alone.
+#[test]
+fn cover_of_no_runs(rt: HostRuntime) -> Result<(), Fail> {
+    let found = cover_of_runs(rt.alloc(), &[], 2)?;
+    assert_eq!(rt; found.count, 0);
+    assert_eq!(rt; found.class.as_slice(), [0].as_slice());
     Ok(())
 }
 
