@@ -15,7 +15,7 @@ use crate::faults::{JsonFault, JsonReason};
 use crate::form::{Form, form_of};
 use gj_frac::Frac;
 use gj_lines::place_of;
-use gj_shape::{Shape, ShapeFault};
+use gj_shape::{GREATEST_ORDER, Shape, ShapeFault};
 use serde_json::Value;
 use std::alloc::{AllocError, Global};
 
@@ -164,5 +164,5 @@ fn shape_given(
 fn is_order(order: usize) -> bool
     ensures { IsTrue result ↔ IsOrder order }
 {
-    (2..=1000).contains(&order)
+    (2..=GREATEST_ORDER as usize).contains(&order)
 }
