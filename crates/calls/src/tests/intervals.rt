@@ -57,12 +57,24 @@ fn cover_of_the_tent(rt: HostRuntime) -> Result<(), Fail> {
     Ok(())
 }
 
-/// With no tight pair nothing is covered or joined, so the class of the interval 0 is that interval alone.
+/// The same from the runs of its tight pairs.
 #[test]
-fn cover_of_no_runs(rt: HostRuntime) -> Result<(), Fail> {
-    let found = cover_of_runs(rt.alloc(), &[], 2)?;
-    assert_eq!(rt; found.count, 0);
-    assert_eq!(rt; found.class.as_slice(), [0].as_slice());
+fn cover_of_two_runs(rt: HostRuntime) -> Result<(), Fail> {
+    let runs = [
+        Run {
+            a: 0,
+            from: 0,
+            to: 1,
+        },
+        Run {
+            a: 1,
+            from: 0,
+            to: 0,
+        },
+    ];
+    let found = cover_of_runs(rt.alloc(), &runs, 2)?;
+    assert_eq!(rt; found.count, 2);
+    assert_eq!(rt; found.component.as_slice(), [Some(0), Some(1)].as_slice());
     Ok(())
 }
 
