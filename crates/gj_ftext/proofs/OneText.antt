@@ -50,3 +50,7 @@ no_fault_of_whole text f n e (rest, h) fault =
 pub one_first_fault : (text : List ℕ) (n m : ℕ) (e d : Reason) → IsFirstFaultOfWhole text n e → IsFirstFaultOfWhole text m d →
     (n ≡ m) × (e ≡ d)
 one_first_fault text n m e d h k = numbers.one_first_fault whole_function_text whole_function_text_is_exact text n m e d h k
+
+pub one_first_fault_at_front : (text : List ℕ) (n m : ℕ) (e d : Reason) → IsFirstFaultOfFunction text n e → IsFirstFaultOfFunction text m d →
+    (n ≡ m) × (e ≡ d)
+one_first_fault_at_front text n m e d h k = numbers.one_first_fault function_text function_text_is_exact text n m e d h k

@@ -40,9 +40,11 @@ pub fn no_fault_in_function_text()
         IsWholeFunctionText text f → IsFirstFaultOfWhole text n e → ⊥ }
 {}
 
-/// A text has one first fault: a refusal says which.
+/// A text has one first fault, as a function text with something behind it and as one with nothing behind it: a refusal says which.
 pub fn one_first_fault()
-    ensures { (text : List ℕ) (n m : ℕ) (e d : Reason) →
+    ensures front { (text : List ℕ) (n m : ℕ) (e d : Reason) →
+        IsFirstFaultOfFunction text n e → IsFirstFaultOfFunction text m d → (n ≡ m) × (e ≡ d) }
+    ensures whole { (text : List ℕ) (n m : ℕ) (e d : Reason) →
         IsFirstFaultOfWhole text n e → IsFirstFaultOfWhole text m d → (n ≡ m) × (e ≡ d) }
 {}
 

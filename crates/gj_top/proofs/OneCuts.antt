@@ -14,7 +14,7 @@ use Rattle.gj_shape.proofs.LeastDenominator.{denominator_some}
 use Rattle.gj_theory.proofs.Violations.{violation_denies, first_shown}
 use Rattle.gj_ftext.specs.FirstFault.{IsFirstFaultOfFunction}
 use Rattle.gj_ftext.specs.FunctionText.{function_text}
-use Rattle.gj_ftext.proofs.OneText.{one_function_text, function_text_is_exact}
+use Rattle.gj_ftext.proofs.OneText.{one_function_text, one_first_fault_at_front}
 use Rattle.gj_ftext.proofs.RuleTexts.{one_fault_of_rule}
 use Rattle.gj_row.specs.TableauText.{records_of, IsTableauText}
 use Rattle.gj_row.specs.FirstFault.{IsFirstFaultOfTableau}
@@ -66,9 +66,6 @@ one_cut_spelled input a b h k =
     same_input a b (one_rule input a.rule b.rule h.rest k.rest first second)
     (one_tableau (records_of k.rest) a.tableau b.tableau (subst (λ (r : List ℕ). IsTableauText r a.tableau) rest h.tableau) k.tableau)
 
-one_front_fault : (text : List ℕ) (n m : ℕ) (e d : Reason) → IsFirstFaultOfFunction text n e → IsFirstFaultOfFunction text m d → (n ≡ m) × (e ≡ d)
-one_front_fault text n m e d h k = numbers.one_first_fault function_text function_text_is_exact text n m e d h k
-
 one_record : (input x y : List ℕ) → NamesRecord input x → NamesRecord input y → x ≡ y
 one_record input x y h k =
     let rest : k.rest ≡ h.rest = one_rest input k.rule h.rule k.rest h.rest k.begins h.begins in
@@ -82,7 +79,7 @@ one_cut_refusal input x y (of_rule begins h) (of_function none k) = absurd (none
 one_cut_refusal input x y (of_rule begins h) (of_tableau k) =
     absurd (no_rule_fault input k.rule k.rest h.at_line h.reason k.begins begins h.first)
 one_cut_refusal input x y (of_function none h) (of_rule begins k) = absurd (none begins)
-one_cut_refusal input x y (of_function none h) (of_function none' k) = one_named_fault _ (λ n m e d. one_front_fault input n m e d) x y h k
+one_cut_refusal input x y (of_function none h) (of_function none' k) = one_named_fault _ (λ n m e d. one_first_fault_at_front input n m e d) x y h k
 one_cut_refusal input x y (of_function none h) (of_tableau k) =
     absurd (no_function_fault input k.rule k.rest h.at_line h.reason k.begins none h.first)
 one_cut_refusal input x y (of_tableau h) (of_rule begins k) =
