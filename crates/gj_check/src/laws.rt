@@ -7,7 +7,7 @@ ghost use Rattle.gj_proof.specs.Meaning.{ClaimHolds};
 ghost use Rattle.gj_check.specs.declared.rules.CheckRule.{CheckRule};
 ghost use Rattle.gj_check.specs.FirstFailure.{IsFirstFailure};
 
-/// Where every rule holds of a claim that has a text, what the claim says of its subject is true.
+/// If every rule holds of a claim that has a text, what the claim says of its subject is true.
 pub fn rules_give_meaning()
     ensures { (c : Claim) → IsBounded c → HasText c → MeetsRules c → ClaimHolds c }
 {}

@@ -20,7 +20,7 @@ pub(crate) struct Piece {
 impl Piece {
     ghost use Rattle.gj_check.specs.Pieces.{IsPieceAt};
 
-    /// The piece from i/q on, where i is below twice the order.
+    /// The piece from i/q on, for an i below twice the order.
     pub(crate) fn at(shape: &Shape, i: usize) -> Piece
         requires { i < 2 * shape.now.order }
         ensures { IsPieceAt shape.now i result }
@@ -45,7 +45,7 @@ pub(crate) fn adds_up(x: i64, y: i64, total: i64) -> bool
     x + y == total
 }
 
-/// The index modulo the order, where it is below twice the order.
+/// The index modulo the order, for one below twice the order.
 pub(crate) fn wrapped(i: usize, order: usize) -> usize
     requires { i < 2 * order }
     ensures { result ≡ i % order }

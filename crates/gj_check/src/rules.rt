@@ -49,29 +49,29 @@ impl CheckRule {
     ghost use Rattle.gj_check.specs.RuleWords.{rule_word};
 
     /// The word of the rule.
-    pub fn word(self) -> &'static [u8]
+    pub fn word(self) -> &'static str
         ensures { result.now ≡ rule_word self }
     {
         match self {
-            CheckRule::Minimal => b"minimal",
-            CheckRule::Continuous => b"continuous",
-            CheckRule::Point => b"point",
-            CheckRule::Cover => b"cover",
-            CheckRule::Row => b"row",
-            CheckRule::Reduce => b"reduce",
-            CheckRule::Size => b"size",
-            CheckRule::Pivot => b"pivot",
-            CheckRule::Rank => b"rank",
-            CheckRule::Scale => b"scale",
-            CheckRule::Range => b"range",
-            CheckRule::Average => b"average",
-            CheckRule::First => b"first",
-            CheckRule::Second => b"second",
-            CheckRule::Same => b"same",
-            CheckRule::Fraction => b"fraction",
-            CheckRule::Limit => b"limit",
-            CheckRule::Name => b"name",
-            CheckRule::Value => b"value",
+            CheckRule::Minimal => "minimal",
+            CheckRule::Continuous => "continuous",
+            CheckRule::Point => "point",
+            CheckRule::Cover => "cover",
+            CheckRule::Row => "row",
+            CheckRule::Reduce => "reduce",
+            CheckRule::Size => "size",
+            CheckRule::Pivot => "pivot",
+            CheckRule::Rank => "rank",
+            CheckRule::Scale => "scale",
+            CheckRule::Range => "range",
+            CheckRule::Average => "average",
+            CheckRule::First => "first",
+            CheckRule::Second => "second",
+            CheckRule::Same => "same",
+            CheckRule::Fraction => "fraction",
+            CheckRule::Limit => "limit",
+            CheckRule::Name => "name",
+            CheckRule::Value => "value",
         }
     }
 }

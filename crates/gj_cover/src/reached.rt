@@ -18,7 +18,7 @@ pub(crate) struct Reached {
 impl Reached {
     ghost use Rattle.gj_cover.specs.Reached.{AreUncovered, AreReached, IsReachedFrom};
 
-    /// The class of an interval that is not covered, where the free intervals are the uncovered ones.
+    /// The class of an interval that is not covered, if the free intervals are the uncovered ones.
     pub(crate) fn from(table: &Table, free: &IndexSet, start: u32) -> IndexSet
         requires uncovered { AreUncovered table.now.order (IsTightIn table.now) free.now }
         requires start { IsTrue (has free.now start) }

@@ -20,7 +20,7 @@ pub trait ExactNumber: Add<Self, Output = Self> + Mul<Self, Output = Self> + Ord
     // Equal numbers are one: they have equal parts.
     ghost equal_is_same: { (x y : Self) → IsTrue (Self.eq x y) → x ≡ y };
 
-    // Where x + y can be formed, y + x can, and the two are equal.
+    // If x + y can be formed, y + x can, and the two are equal.
     ghost can_add_swapped: { (x y : Self) → Self.can_add x y → Self.can_add y x };
 
     ghost add_swapped: { (x y s t : Self) → Self.add_gives x y s → Self.add_gives y x t → s ≡ t };
@@ -30,7 +30,7 @@ pub trait ExactNumber: Add<Self, Output = Self> + Mul<Self, Output = Self> + Ord
         Self.add_gives x y s → Self.add_gives s z t →
         Self.add_gives y z u → Self.add_gives x u v → t ≡ v };
 
-    // Where x y can be formed, y x can, and the two are equal.
+    // If x y can be formed, y x can, and the two are equal.
     ghost can_mul_swapped: { (x y : Self) → Self.can_mul x y → Self.can_mul y x };
 
     ghost mul_swapped: { (x y s t : Self) → Self.mul_gives x y s → Self.mul_gives y x t → s ≡ t };

@@ -24,7 +24,7 @@ use std::alloc::{AllocError, Global};
 /// are absent equal `value`. Each list has as many entries as `order` says, and there is no other key.
 ///
 /// A number word is in lenient form, as `1/2`, `+0.5` or `-3`, with no blanks. A whole number is one of 64 bits: `2.0`
-/// and `-0` are none. Where a key stands twice, the last value counts.
+/// and `-0` are none. If a key stands twice, its value is the one that `serde_json` keeps.
 ///
 /// A refusal names the first test that fails: `syntax`, the bytes are no JSON in UTF-8; `form`, the value is not of the
 /// form; `number`, a string is not in lenient form; `order`, the order is not from 2 to 1,000; `place`, f is not k/order

@@ -15,7 +15,6 @@ use std::alloc::{AllocError, Global};
 /// {"proof":["gj-proof 1","claim minimal","order 2","f 1/2","point 0","point 1","end"],"verdict":"minimal"}
 /// ```
 pub fn report(alloc: Global, verdict: &str, proof: &[u8]) -> Result<Vec<u8>, AllocError>
-    requires verdict { All IsPrintable verdict.now }
     requires bytes { All IsProofByte proof.now }
     requires ended { IsEnded proof.now }
     ensures { IfOk result (λ text. IsReport verdict.now proof.now text.items) }

@@ -34,22 +34,22 @@ pub enum Reason {
 
 impl Reason {
     /// The word that names the reason.
-    pub fn word(self) -> &'static [u8]
+    pub fn word(self) -> &'static str
         ensures { result.now ≡ reason_word self }
     {
         match self {
-            Reason::Form => b"form",
-            Reason::Number => b"number",
-            Reason::Order => b"order",
-            Reason::Place => b"place",
-            Reason::Large => b"large",
-            Reason::Fine => b"fine",
-            Reason::Break => b"break",
-            Reason::BadF => b"bad-f",
-            Reason::Pieces => b"pieces",
-            Reason::Signs => b"signs",
-            Reason::Slopes => b"slopes",
-            Reason::Tail => b"tail",
+            Reason::Form => "form",
+            Reason::Number => "number",
+            Reason::Order => "order",
+            Reason::Place => "place",
+            Reason::Large => "large",
+            Reason::Fine => "fine",
+            Reason::Break => "break",
+            Reason::BadF => "bad-f",
+            Reason::Pieces => "pieces",
+            Reason::Signs => "signs",
+            Reason::Slopes => "slopes",
+            Reason::Tail => "tail",
         }
     }
 }

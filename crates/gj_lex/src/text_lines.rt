@@ -25,7 +25,7 @@ pub struct TextLine<'a> {
     pub rest: &'a [u8],
 }
 
-/// The next line of the text. Where there is none, the fault is `Form`: in lenient spelling at the end of the text, and
+/// The next line of the text. If there is none, the fault is `Form`: in lenient spelling at the end of the text, and
 /// in strict spelling at the bytes that are no line. It takes no memory.
 pub fn line_at(spelling: Spelling, text: &[u8]) -> Result<TextLine<'_>, PartFault>
     ensures found { IfOk result (λ l. HasLine spelling text.now l.start.now (word_texts l.bytes.now) l.rest.now) }
@@ -50,7 +50,7 @@ pub fn words_at<'a>(spelling: Spelling, text: &'a [u8], words: &[u8]) -> Result<
     Ok(line.rest)
 }
 
-/// Nothing follows: no byte, or in lenient spelling only lines that are skipped. Where something follows, the fault is
+/// Nothing follows: no byte, or in lenient spelling only lines that are skipped. If something follows, the fault is
 /// `Tail`. It takes no memory.
 pub fn end_at(spelling: Spelling, text: &[u8]) -> Result<(), PartFault>
     ensures ended { OnOk result (HasNothing spelling text.now) }

@@ -25,7 +25,7 @@ use gj_shape::{Shape, Violation};
 ///
 /// A continuous function is minimal, and so gives None, if its table on its own grid is.
 ///
-/// Where a limit fails, the violation is shown at a point near the end or the corner, at the multiples of 1/(q h) with
+/// If a limit fails, the violation is shown at a point near the end or the corner, at the multiples of 1/(q h) with
 /// the least h. All points shown are from 0 to below 1, and q h is at most 2^62. It takes no memory.
 ///
 /// ```text

@@ -14,7 +14,7 @@ impl Shape {
     /// The value of the function at z/q, for the order q.
     ///
     /// z has a denominator of at most 2^62. It may be negative and of any size, since the function has period 1.
-    /// Each point x of a shown violation has a denominator of at most 2^62, and so have q x and k - q x.
+    /// If a point x of a violation has a denominator of at most 2^62, so have q x and k - q x.
     pub fn value_scaled(&self, z: Frac) -> Frac
         requires { unsigned_abs (denominator z) ≤ 2 ^ 62 }
         ensures { IsValueAt self.now (numerator z) (unsigned_abs (denominator z)) result }

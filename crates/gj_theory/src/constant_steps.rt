@@ -37,7 +37,7 @@ pub fn triangle_gives_step()
         (t : ℤ) × ((i : ℕ) → IsOneOf f.order (triangle_projections kind a b) i → HasStepOn p m i t) }
 {}
 
-/// Where two minimal tables average to a minimal table, the first less its part of it is additive at each tight pair, and
+/// If two minimal tables average to a minimal table, the first less its part of it is additive at each tight pair, and
 /// 0 at 0 and at f.
 pub fn difference_is_additive()
     ensures additive { (t a b : ℕ → ℤ) (n k s c : ℕ) → IsMinimalTable t n k s → IsMinimalTable a n k (c * s) →

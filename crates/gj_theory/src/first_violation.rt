@@ -5,7 +5,7 @@ ghost use Rattle.gj_shape.specs.FirstViolation.{Test, Passes, PassesAll, Shows, 
 ghost use Rattle.gj_shape.specs.declared.violations.Violation.{Violation};
 ghost use Rattle.gj_theory.specs.EarlierTests.{IsTestOf, PassesBefore, PassesVertices, PassesSquare};
 
-/// Where all tests before a test pass and it fails, what it shows is the first violation.
+/// If all tests before a test pass and it fails, what it shows is the first violation.
 pub fn first_failed_test()
     ensures { (f : FunctionData) (t : Test) (v : Violation) → IsTestOf f t → PassesBefore f t →
         (Passes f t → ⊥) → Shows f t v → IsFirstViolation f v }

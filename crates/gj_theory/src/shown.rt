@@ -17,7 +17,7 @@ pub fn shown_violation_denies_minimality()
     ensures { (f : FunctionData) (v : Violation) → IsWithinBounds f → ShowsViolation f v → IsMinimal f → ⊥ }
 {}
 
-/// Where a violation is shown, the table on no grid that holds its points is minimal.
+/// If a violation is shown, the table on no grid that holds its points is minimal.
 pub fn shown_violation_denies_tables()
     ensures { (f : FunctionData) (v : Violation) (m : ℕ) → IsWithinBounds f → ShowsViolation f v →
         0 < m → HoldsPoints f m v → IsMinimalOnGrid f m → ⊥ }

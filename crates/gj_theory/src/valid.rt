@@ -64,7 +64,7 @@ pub fn functions_among_valid()
         ((m : ℕ) → 0 < m → IsExtremeAmongValid (table f m) (f.order * m) (f.place * m) (f.scale * m)) → IsExtreme f }
 {}
 
-/// Where a violation is shown, the function's table on each grid that holds its points is not valid, or is dominated; and some
+/// If a violation is shown, the function's table on each grid that holds its points is not valid, or is dominated; and some
 /// grid holds them.
 pub fn shown_violations_are_dominated()
     ensures each { (f : FunctionData) (v : Violation) (m : ℕ) → IsWithinBounds f → ShowsViolation f v → 0 < m → HoldsPoints f m v →

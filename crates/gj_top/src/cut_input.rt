@@ -81,7 +81,7 @@ fn tableau_of(alloc: Global, text: &[u8]) -> Result<Tableau, Unanswered>
 fn record_refusal(alloc: Global, number: u64, reason: RowReason) -> Unanswered
     ensures { IsRecordRefusalOf number reason result }
 {
-    match numbered_line(alloc, b"refused record ", number, reason.word().as_bytes()) {
+    match numbered_line(alloc, b"refused record ", number, reason.word()) {
         Ok(line) => Unanswered::Refused(line),
         Err(error) => Unanswered::Memory(error),
     }

@@ -9,7 +9,7 @@ pub(crate) fn numbered_line(
     alloc: Global,
     front: &[u8],
     at_line: u64,
-    word: &[u8],
+    word: &str,
 ) -> Result<Vec<u8>, AllocError>
     ensures { IfOk result (λ text. text.items ≡ line (front.now ++ decimal at_line ++ codes " " ++ word.now)) }
 {
@@ -17,7 +17,7 @@ pub(crate) fn numbered_line(
     let mut text = Vec::from_slice(alloc, front)?;
     text.extend_from_slice(number.as_bytes())?;
     text.push(b' ')?;
-    text.extend_from_slice(word)?;
+    text.extend_from_slice(word.as_bytes())?;
     text.push(b'\n')?;
     Ok(text)
 }

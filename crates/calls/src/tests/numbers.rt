@@ -123,7 +123,7 @@ fn finds_words(rt: HostRuntime) -> Result<(), Fail> {
     Ok(())
 }
 
-/// What the words of the line are read as, and none where they are refused.
+/// What the words of the line are read as, and none if they are refused.
 fn read(alloc: Global, line: &str) -> Result<Option<Request>, AllocError> {
     let mut words = Vec::new(alloc);
     for word in line.split_whitespace() {
