@@ -6,7 +6,7 @@ mod faults;
 mod verdict;
 
 pub use faults::UseFault;
-pub use verdict::{checked_proof, is_proved_extreme};
+pub use verdict::{checked_proof, is_extreme};
 
 #[cfg(test)]
 mod tests;

@@ -1,5 +1,5 @@
 //! A function with a verdict by hand.
-use crate::verdict::{checked_proof, is_proved_extreme};
+use crate::verdict::{checked_proof, is_extreme};
 use gj_frac::Frac;
 use gj_shape::Shape;
 use std::test::Fail;
@@ -15,7 +15,7 @@ fn mixed_integer_cut(rt: HostRuntime) -> Result<(), Fail> {
         Frac::ratio(1, 2),
     ];
     let shape = Shape::new(rt.alloc(), 5, 3, &values, &values, &values)?;
-    assert!(rt; is_proved_extreme(rt.alloc(), &shape)?);
+    assert!(rt; is_extreme(rt.alloc(), &shape)?);
     let text = checked_proof(rt.alloc(), &shape)?;
     assert_eq!(rt;
         &text.as_slice()[..24],
