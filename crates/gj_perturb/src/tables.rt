@@ -3,8 +3,13 @@ ghost use Rattle.std.specs.Prelude.{ℕ, ℤ, pos, ◌≡◌, ◌-ℤ◌, ◌+�
 ghost use Rattle.std.specs.List.{range_with_len, list_any};
 ghost use Rattle.std.specs.Result.{OkIff};
 ghost use Rattle.gj_frac.specs.Fraction.{Fits};
+ghost use Rattle.gj_shape.specs.Additive.{IsTight};
+ghost use Rattle.gj_shape.specs.FunctionData.{FunctionData, IsWithinBounds, IsContinuous, at};
 ghost use Rattle.gj_shape.specs.Limits.{greatest_order};
 ghost use Rattle.gj_shape.specs.Perturbation.{zigzag as zigzag_at};
+ghost use Rattle.gj_shape.specs.Table.{table, IsMinimal};
+ghost use Rattle.gj_theory.specs.Halves.{IsPerturbation};
+ghost use Rattle.gj_theory.specs.Uncovered.{AreUncoveredClasses};
 ghost use Rattle.gj_perturb.specs.SlopeSums.{slope_sum, IsWideSum};
 
 use crate::faults::SplitFault;
@@ -21,13 +26,20 @@ pub struct Perturbation {
 }
 
 /// The zigzag of a class of intervals on the grid of order 4 `q`: 1 at the first quarter point of each interval of the class, -1
-/// at the third, and 0 elsewhere.
+/// at the third, and 0 elsewhere. It is 0 at the multiples of 1/`q`. If no interval of the class is covered for a minimal
+/// continuous function of order `q`, and each that is joined to one of them is in it, it is a perturbation of that function's
+/// table of order 4 `q`.
 pub fn zigzag(alloc: Global, q: u32, class: &[u32]) -> Result<Perturbation, AllocError>
     requires low { 2 ≤ q }
     requires high { q ≤ greatest_order }
     requires within { All (λ a. a < q) class.now }
     ensures times { IfOk result (λ p. p.times ≡ 4) }
     ensures values { IfOk result (λ p. p.values ≡ map (zigzag_at q class.now) (range_with_len 0 (q * 4))) }
+
+    ensures perturbation { (f : FunctionData) → f.order ≡ q → IsWithinBounds f → IsContinuous f → IsMinimal f →
+        AreUncoveredClasses q (IsTight f) class.now →
+        IfOk result (λ p. IsPerturbation (table f 4) (q * 4) (f.place * 4) (at p.values)) }
+    ensures zero { IfOk result (λ p. (a : ℕ) → at p.values (a * 4) ≡ pos 0) }
 {
     let chosen = chosen_intervals(alloc, q, class)?;
     let count = q as usize * 4;
