@@ -82,15 +82,13 @@ fn zigzag_value(chosen: bool, r: usize) -> i128
 }
 
 /// The perturbation at 0, 1/q, .., (q - 1)/q, with the slope of its component on each of the q intervals: the sums of the slopes
-/// of the intervals before. `Wide` exactly if one of these sums passes 2^127 - 1 in absolute value.
+/// of the intervals before. No intervals give no values. `Wide` exactly if one of these sums passes 2^127 - 1 in absolute value.
 pub fn from_slopes(
     alloc: Global,
     component: &[u32],
     slopes: &[i128],
 ) -> Result<Perturbation, SplitFault>
-    requires some { 1 ≤ length component.now }
     requires components { All (λ c. c < length slopes.now) component.now }
-    requires small { All Fits slopes.now }
 
     ensures times { IfOk result (λ p. p.times ≡ 1) }
     ensures values { IfOk result (λ p.
@@ -100,12 +98,13 @@ pub fn from_slopes(
     ensures wide { IsErrOf result SplitFault.Wide → IsWideSum component.now slopes.now }
 {
     let mut values = Vec::with_capacity(alloc, component.len())?;
-    let mut value = 0;
-    values.push(value)?;
-    let before_last = &component[..component.len() - 1];
-    for c in before_last {
-        value = sum(value, slopes[*c as usize])?;
+    if let Some((_, before_last)) = component.split_last() {
+        let mut value = 0;
         values.push(value)?;
+        for c in before_last {
+            value = sum(value, slopes[*c as usize])?;
+            values.push(value)?;
+        }
     }
     Ok(Perturbation {
         times: 1,
