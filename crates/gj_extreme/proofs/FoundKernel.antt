@@ -8,11 +8,9 @@ use Rattle.gj_shape.specs.SlopeRows.{row_names, component_in}
 use Rattle.gj_shape.specs.declared.extremality.CoverLine.{CoverLine}
 use Rattle.gj_theory.proofs.Eliminations.{elimination_has}
 use Rattle.gj_theory.proofs.Kernels.{kernel_none}
-use Rattle.gj_frac.specs.Fraction.{Fits}
 use Rattle.gj_elim.specs.KeptRows.{marked_in}
 use Rattle.gj_extreme.specs.Decision.{AreAllCovered, slope_elimination}
 use Rattle.gj_extreme.proofs.DecidedHalves.{begun_columns, solution_solves, components_below}
-use Rattle.gj_elim.proofs.KernelFits.{kernel_fits}
 use Rattle.gj_extreme.proofs.RenumberedKernel.{kernel_renumbered}
 use Rattle.gj_extreme.specs.RowsToCome.{AreInserted}
 use Rattle.gj_extreme.specs.declared.rows.Rows.{Rows}
@@ -49,7 +47,7 @@ kernel_found f component n rows numbers h fewer value narrow =
         absurd (omega arith)
     by_solution (Some s) e is fits = record { solution = s; solves = kernel_same f component n rows h ∙ e; fits = fits; same = is }
 
--- they have a number for each component, and are within the bound
+-- they have a number for each component
 pub kernel_covers : (f : FunctionData) (lines : List CoverLine) (component : List ℕ) (n : ℕ) (numbers : List ℤ) →
     length component ≡ f.order → AreAllCovered f lines (component_in component) n → IsKernel f (component_in component) n numbers →
     All (λ c. c < length numbers) component
@@ -60,6 +58,3 @@ kernel_covers f lines component n numbers len covered h = λ k d below.
     let here = components_below f lines (component_in component) n covered k low in
     let read = get_or_default component k d 0 below in
     omega arith
-
-pub kernel_is_small : (f : FunctionData) (component : ℕ → ℕ) (n : ℕ) (numbers : List ℤ) → IsKernel f component n numbers → All Fits numbers
-kernel_is_small f component n numbers h = subst (All Fits) (sym h.same) (kernel_fits n _ h.solution h.solves h.fits)

@@ -1,8 +1,9 @@
 -- Sums of slopes, one after another.
-use Rattle.std.proofs.Common.{◌≡◌, ℕ, ◌+◌, ◌<◌, ℤ, pos, ◌+ℤ◌, List, [], ◌∷◌, ◌++◌, length, map, All, sym, ap, ap₂, subst, ◌∙◌, arith}
+use Rattle.std.proofs.Common.{◌≡◌, ℕ, ◌+◌, ◌<◌, ℤ, pos, ◌+ℤ◌, List, [], ◌∷◌, ◌++◌, length, get_or, map, All, sym, ap, ap₂, subst, ◌∙◌, arith}
 use Rattle.std.specs.List.{range_with_len}
 use Rattle.std.proofs.Math.Nat.{mod-eq_of_lt, zero-add}
-use Rattle.std.proofs.lemmas.List.Elements.{All-nil, All-push}
+use Rattle.std.proofs.lemmas.List.{get_or_append_left}
+use Rattle.std.proofs.lemmas.List.Elements.{All-push}
 use Rattle.std.proofs.lemmas.List.FromFn.{map-range_with_len_more}
 use Rattle.gj_frac.specs.Fraction.{Fits}
 use Rattle.gj_theory.proofs.SlopePerturbations.{total_push}
@@ -31,20 +32,6 @@ next_sum component slopes n value below e =
     ap (λ z. z +ℤ slope_at component slopes n) e
     ∙ sym (sum_more (length component) (slope_at component slopes) n below)
 
--- the sum before the first interval is 0
-at_zero : (component : List ℕ) (slopes : List ℤ) → 0 < length component → pos 0 ≡ slope_sum component slopes 0
-at_zero component slopes some =
-    ap (λ r. total (map (slope_at component slopes) (range_with_len 0 r))) (sym (mod-eq_of_lt some))
-
-pub first_sum : (component : List ℕ) (slopes values : List ℤ) → 0 < length component → values ≡ pos 0 ∷ [] →
-    AreSums component slopes values 0 (pos 0)
-first_sum component slopes values some e = record {
-  below = some;
-  listed = e ∙ ap (λ x. x ∷ []) (at_zero component slopes some);
-  last = at_zero component slopes some;
-  narrow = subst (All Fits) (sym e) (All-push Fits [] (pos 0) (All-nil Fits) (omega arith));
-}
-
 pub one_sum_more : (component : List ℕ) (slopes values more : List ℤ) (n : ℕ) (value x next : ℤ) → n + 1 < length component →
     AreSums component slopes values n value → x ≡ slope_at component slopes n → Fits (value +ℤ x) → next ≡ value +ℤ x →
     more ≡ values ++ next ∷ [] → AreSums component slopes more (n + 1) next
@@ -67,3 +54,10 @@ wide_sum component slopes values n value x below h x_is wide =
     let here : value +ℤ x ≡ slope_sum component slopes (n + 1) =
     ap (λ y. value +ℤ y) x_is ∙ next_sum component slopes n value below h.last in
     record { index = n + 1; below = below; wide = λ fits. wide (subst Fits (sym here) fits) }
+
+-- an interval before the last one has the slope of its component in the whole list
+pub slope_before_last : (component before_last : List ℕ) (slopes : List ℤ) (last n : ℕ) → component ≡ before_last ++ last ∷ [] →
+    n < length before_last → get_or slopes (get_or before_last n 0) (pos 0) ≡ slope_at component slopes n
+slope_before_last component before_last slopes last n e below =
+    ap (λ c. get_or slopes c (pos 0))
+    (sym (ap (λ cs. get_or cs n 0) e ∙ get_or_append_left before_last (last ∷ []) 0 n below))

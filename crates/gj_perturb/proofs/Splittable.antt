@@ -1,6 +1,7 @@
 -- The perturbations that are made here can be split.
 use Rattle.std.proofs.Common.{◌≡◌, ◌≢◌, ℕ, ◌+◌, ◌*◌, ◌/◌, ◌%◌, ◌<◌, ◌≤◌, ◌==◌, ◌^◌, Bool, true, false, if◌then◌else◌, ℤ, pos, ◌-ℤ◌, ◌+ℤ◌, List, length, get_or, map, All, Contains, unsigned_abs, refl, sym, ap, ap₂, subst, ◌∙◌, mul-pos, mul-le-mul_right, arith}
 use Rattle.std.specs.List.{range_with_len, list_any}
+use Rattle.std.proofs.Math.Nat.{add-mod_right}
 use Rattle.std.proofs.lemmas.List.FromFn.{length-map-range_with_len}
 use Rattle.gj_frac.specs.Fraction.{Fits}
 use Rattle.gj_tools.proofs.Lists.{All-made}
@@ -11,6 +12,7 @@ use Rattle.gj_shape.specs.Perturbation.{zigzag, perturbation_of}
 use Rattle.gj_shape.specs.SlopeRows.{SolveRows}
 use Rattle.gj_shape.specs.Table.{table, IsMinimal}
 use Rattle.gj_shape.proofs.AtLemmas.{all_at}
+use Rattle.gj_shape.proofs.TableLemmas.{period_of_parts}
 use Rattle.gj_theory.specs.Halves.{IsPerturbation}
 use Rattle.gj_theory.specs.Uncovered.{AreUncoveredClasses}
 use Rattle.gj_theory.proofs.CoverPaths.{all_contained}
@@ -20,6 +22,7 @@ use Rattle.gj_theory.proofs.Zigzags.{zigzag_perturbs, zigzag_at_quarter}
 use Rattle.gj_perturb.specs.SlopeSums.{slope_at, slope_sum}
 use Rattle.gj_perturb.specs.Split.{CanSplit, IsWide}
 use Rattle.gj_perturb.specs.declared.tables.Perturbation.{Perturbation}
+use Rattle.gj_perturb.proofs.ChosenIntervals.{is_among, quarter_value}
 use Rattle.gj_perturb.proofs.TableParts.{scale_small}
 
 same_perturbation : (t g h : ℕ → ℤ) (n k : ℕ) → ((i : ℕ) → h i ≡ g i) → IsPerturbation t n k g → IsPerturbation t n k h
@@ -50,6 +53,27 @@ listed_can_split f p m g i l low high perturbs some times values fits =
     }
 
 -- ---- the zigzag
+
+zigzag_period : (q : ℕ) (class : List ℕ) (i : ℕ) → zigzag q class (i + q * 4) ≡ zigzag q class i
+zigzag_period q class i =
+    period_of_parts (λ k r. quarter_value (is_among class (k % q)) r) q 4 i (omega arith)
+    (λ a r. ap (λ k. quarter_value (is_among class k) r) (add-mod_right a q))
+
+-- the list of the zigzag has its values
+pub zigzag_at_list : (q : ℕ) (class : List ℕ) (xs : List ℤ) → 0 < q →
+    xs ≡ map (zigzag q class) (range_with_len 0 (q * 4)) → (i : ℕ) → at xs i ≡ zigzag q class i
+zigzag_at_list q class xs some values i =
+    ap (λ ys. at ys i) values ∙ at_made (zigzag q class) (q * 4) (omega arith) (zigzag_period q class) i
+
+-- and is the perturbation that the zigzag is
+pub zigzag_list_perturbs : (f : FunctionData) (q : ℕ) (class : List ℕ) (xs : List ℤ) → 0 < q →
+    xs ≡ map (zigzag q class) (range_with_len 0 (q * 4)) → f.order ≡ q → IsWithinBounds f → IsContinuous f → IsMinimal f →
+    AreUncoveredClasses q (IsTight f) class → IsPerturbation (table f 4) (q * 4) (f.place * 4) (at xs)
+zigzag_list_perturbs f q class xs some values order l continuous minimal uncovered =
+    let classes = subst (λ n. AreUncoveredClasses n (IsTight f) class) (sym order) uncovered in
+    same_perturbation (table f 4) (zigzag q class) (at xs) (q * 4) (f.place * 4) (zigzag_at_list q class xs some values)
+    (subst (λ n. IsPerturbation (table f 4) (n * 4) (f.place * 4) (zigzag n class)) order
+    (zigzag_perturbs f class l continuous minimal classes))
 
 picked : (b c d : Bool) →
     unsigned_abs (if b then (if c then pos 1 else if d then pos 0 -ℤ pos 1 else pos 0) else pos 0) ≤ 1

@@ -3,8 +3,13 @@ ghost use Rattle.std.specs.Prelude.{ℕ, ℤ, pos, ◌≡◌, ◌-ℤ◌, ◌+�
 ghost use Rattle.std.specs.List.{range_with_len, list_any};
 ghost use Rattle.std.specs.Result.{OkIff};
 ghost use Rattle.gj_frac.specs.Fraction.{Fits};
+ghost use Rattle.gj_shape.specs.Additive.{IsTight};
+ghost use Rattle.gj_shape.specs.FunctionData.{FunctionData, IsWithinBounds, IsContinuous, at};
 ghost use Rattle.gj_shape.specs.Limits.{greatest_order};
 ghost use Rattle.gj_shape.specs.Perturbation.{zigzag as zigzag_at};
+ghost use Rattle.gj_shape.specs.Table.{table, IsMinimal};
+ghost use Rattle.gj_theory.specs.Halves.{IsPerturbation};
+ghost use Rattle.gj_theory.specs.Uncovered.{AreUncoveredClasses};
 ghost use Rattle.gj_perturb.specs.SlopeSums.{slope_sum, IsWideSum};
 
 use crate::faults::SplitFault;
@@ -21,13 +26,20 @@ pub struct Perturbation {
 }
 
 /// The zigzag of a class of intervals on the grid of order 4 `q`: 1 at the first quarter point of each interval of the class, -1
-/// at the third, and 0 elsewhere.
+/// at the third, and 0 elsewhere. It is 0 at the multiples of 1/`q`. If no interval of the class is covered for a minimal
+/// continuous function of order `q`, and each that is joined to one of them is in it, it is a perturbation of that function's
+/// table of order 4 `q`.
 pub fn zigzag(alloc: Global, q: u32, class: &[u32]) -> Result<Perturbation, AllocError>
     requires low { 2 ≤ q }
     requires high { q ≤ greatest_order }
     requires within { All (λ a. a < q) class.now }
     ensures times { IfOk result (λ p. p.times ≡ 4) }
     ensures values { IfOk result (λ p. p.values ≡ map (zigzag_at q class.now) (range_with_len 0 (q * 4))) }
+
+    ensures perturbation { (f : FunctionData) → f.order ≡ q → IsWithinBounds f → IsContinuous f → IsMinimal f →
+        AreUncoveredClasses q (IsTight f) class.now →
+        IfOk result (λ p. IsPerturbation (table f 4) (q * 4) (f.place * 4) (at p.values)) }
+    ensures zero { IfOk result (λ p. (a : ℕ) → at p.values (a * 4) ≡ pos 0) }
 {
     let chosen = chosen_intervals(alloc, q, class)?;
     let count = q as usize * 4;
@@ -70,15 +82,13 @@ fn zigzag_value(chosen: bool, r: usize) -> i128
 }
 
 /// The perturbation at 0, 1/q, .., (q - 1)/q, with the slope of its component on each of the q intervals: the sums of the slopes
-/// of the intervals before. `Wide` exactly if one of these sums passes 2^127 - 1 in absolute value.
+/// of the intervals before. No intervals give no values. `Wide` exactly if one of these sums passes 2^127 - 1 in absolute value.
 pub fn from_slopes(
     alloc: Global,
     component: &[u32],
     slopes: &[i128],
 ) -> Result<Perturbation, SplitFault>
-    requires some { 1 ≤ length component.now }
     requires components { All (λ c. c < length slopes.now) component.now }
-    requires small { All Fits slopes.now }
 
     ensures times { IfOk result (λ p. p.times ≡ 1) }
     ensures values { IfOk result (λ p.
@@ -88,12 +98,13 @@ pub fn from_slopes(
     ensures wide { IsErrOf result SplitFault.Wide → IsWideSum component.now slopes.now }
 {
     let mut values = Vec::with_capacity(alloc, component.len())?;
-    let mut value = 0;
-    values.push(value)?;
-    let before_last = &component[..component.len() - 1];
-    for c in before_last {
-        value = sum(value, slopes[*c as usize])?;
+    if let Some((_, before_last)) = component.split_last() {
+        let mut value = 0;
         values.push(value)?;
+        for c in before_last {
+            value = sum(value, slopes[*c as usize])?;
+            values.push(value)?;
+        }
     }
     Ok(Perturbation {
         times: 1,

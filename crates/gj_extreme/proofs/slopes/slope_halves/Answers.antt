@@ -1,12 +1,11 @@
 use Rattle.std.proofs.Common.{◌≡◌, ◌<◌, length, map, sym, ap, subst, ◌∙◌}
 use Rattle.std.specs.Prelude.{All, IfSome}
 use Rattle.std.specs.List.{range_with_len}
-use Rattle.gj_frac.specs.Fraction.{Fits}
 use Rattle.gj_shape.specs.SlopeRows.{component_in}
 use Rattle.gj_shape.specs.Elimination.{kernel}
 use Rattle.gj_perturb.specs.SlopeSums.{slope_sum, IsWideSum}
 use Rattle.gj_extreme.proofs.FaultCases.{wide_elimination, wide_split, no_jump_elimination, no_jump_split}
-use Rattle.gj_extreme.proofs.FoundKernel.{kernel_same, kernel_found, kernel_covers, kernel_is_small}
+use Rattle.gj_extreme.proofs.FoundKernel.{kernel_same, kernel_found, kernel_covers}
 use Rattle.gj_extreme.proofs.ListedHalves.{sums_are, sums_can_split, slope_halves_are}
 use Rattle.gj_extreme.proofs.WideParts.{kernel_wide, sum_wide, scale_wide}
 use Rattle.gj_extreme.proofs.slopes.slope_halves.Goals as goal
@@ -20,28 +19,19 @@ returns-in_err-kernel-clause-wide c = λ e.
     (c.in_err-kernel.ensures.wide (wide_elimination c.from_residual.result c.in_err-kernel.field-0.0 c.from_residual.ensures.0
     c.from_residual.ensures.1 e))
 
-pub from_slopes-requires-clause-components : goal.from_slopes-requires-clause-components
-from_slopes-requires-clause-components c =
+pub from_slopes-requires : goal.from_slopes-requires
+from_slopes-requires c =
     let n = length c.args.rows.now.row.items in
     let found = kernel_found c.args.shape.now (component_in c.args.component.now) n c.args.rows.now
     c.unwrap-numbers.result.items c.requires.inserted c.requires.fewer
     (subst (λ o. IfSome o (λ v. IfSome (kernel c.args.rows.now.basis.columns c.args.rows.now.basis.kept) (λ s. v.items ≡ s.numbers)))
     c.unwrap-numbers.ensures c.in_ok-kernel.ensures.value)
     c.in_ok-kernel.ensures.narrow in
-    subst (λ xs. All (λ k. k < length xs) c.args.component.now) (sym c.as_slice.ensures.value)
-    (kernel_covers c.args.shape.now c.requires.covered.0 c.args.component.now n c.unwrap-numbers.result.items c.requires.order
-    c.requires.covered.1 found)
-
-pub from_slopes-requires-clause-small : goal.from_slopes-requires-clause-small
-from_slopes-requires-clause-small c =
-    let n = length c.args.rows.now.row.items in
-    let found = kernel_found c.args.shape.now (component_in c.args.component.now) n c.args.rows.now
-    c.unwrap-numbers.result.items c.requires.inserted c.requires.fewer
-    (subst (λ o. IfSome o (λ v. IfSome (kernel c.args.rows.now.basis.columns c.args.rows.now.basis.kept) (λ s. v.items ≡ s.numbers)))
-    c.unwrap-numbers.ensures c.in_ok-kernel.ensures.value)
-    c.in_ok-kernel.ensures.narrow in
-    subst (All Fits) (sym c.as_slice.ensures.value)
-    (kernel_is_small c.args.shape.now (component_in c.args.component.now) n c.unwrap-numbers.result.items found)
+    record {
+      components = subst (λ xs. All (λ k. k < length xs) c.args.component.now) (sym c.as_slice.ensures.value)
+          (kernel_covers c.args.shape.now c.requires.covered.0 c.args.component.now n c.unwrap-numbers.result.items c.requires.order
+          c.requires.covered.1 found);
+    }
 
 pub returns-in_err-perturbation-clause-wide : goal.returns-in_err-perturbation-clause-wide
 returns-in_err-perturbation-clause-wide c = λ e.

@@ -4,7 +4,9 @@ use Rattle.std.proofs.Math.Nat.{zero-add}
 use Rattle.std.proofs.lemmas.Int.{to_z-of_z}
 use Rattle.std.proofs.lemmas.List.FromFn.{map-range_with_len_more, length-map-range_with_len}
 use Rattle.gj_shape.specs.Perturbation.{zigzag}
+use Rattle.gj_theory.proofs.Zigzags.{zigzag_at_multiple}
 use Rattle.gj_perturb.proofs.ChosenIntervals.{is_among, zigzag_from_marks}
+use Rattle.gj_perturb.proofs.Splittable.{zigzag_at_list, zigzag_list_perturbs}
 use Rattle.gj_perturb.proofs.tables.zigzag.Goals as goal
 use mir.Syntax.{w128}
 
@@ -34,3 +36,12 @@ returns-clause-values c =
     let t = zigzag c.args.q c.args.class.now in
     let all : c.loop-i.i ≡ c.args.q * 4 = omega arith in
     c.of.ensures ∙ c.loop-i.invariant ∙ ap (λ n. map t (range_with_len 0 n)) all
+
+pub returns-clause-perturbation : goal.returns-clause-perturbation
+returns-clause-perturbation c = λ f.
+    zigzag_list_perturbs f c.args.q c.args.class.now c.of.result (omega arith) (returns-clause-values c)
+
+pub returns-clause-zero : goal.returns-clause-zero
+returns-clause-zero c = λ a.
+    zigzag_at_list c.args.q c.args.class.now c.of.result (omega arith) (returns-clause-values c) (a * 4)
+    ∙ zigzag_at_multiple c.args.q c.args.class.now a
