@@ -59,7 +59,7 @@ pub fn decide(alloc: Global, shape: &Shape) -> Result<Proof, DecideFault>
     let order = shape.order();
     prove!(order >= 2);
     let claim = claim_of(alloc, shape)?;
-    Ok(proof_of(claim))
+    Ok(Proof::of(claim))
 }
 
 /// The same decision on a minimal continuous function whose tight pairs and cover are made already.
@@ -85,15 +85,7 @@ pub fn decide_by_cover(
     let order = shape.order();
     prove!(order >= 2);
     let claim = claim_by_cover(alloc, shape, pairs, cover)?;
-    Ok(proof_of(claim))
-}
-
-/// The proof of a claim that has a text.
-fn proof_of(claim: Claim) -> Proof
-    requires { HasText claim }
-    ensures { result ≡ claim }
-{
-    Proof::new(claim).unwrap()
+    Ok(Proof::of(claim))
 }
 
 /// What is claimed of the function.

@@ -315,7 +315,8 @@ IfExtreme (ExtremeByResidues f lines rows) P = P f lines rows
 IfExtreme (NotExtreme f h) P = Unit {0}
 
 -- the g-th group has a property: of the number of components, the rows that the groups before it keep, and the row that it begins
--- with, by any numbers of the components of all intervals
+-- with, by any numbers of the components of all intervals. If there are no such numbers it demands nothing; but there are, if the
+-- claim has a text and its lines meet the rule `cover`, since then each interval has a line
 abbrev pub IfGroup : Claim → ℕ → (ℕ → List KeptRow → List ℤ → PivotRow → Type 0) → Type 0
 IfGroup c g P = IfExtreme c (λ f lines rows. AtIndex rows g (λ before one.
     (component : ℕ → ℕ) → AreNumbersOf f lines component →

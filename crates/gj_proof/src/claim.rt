@@ -27,6 +27,23 @@ pub enum Claim {
     NotExtreme(Shape, Halves),
 }
 
+impl Claim {
+    ghost use Rattle.gj_proof.specs.ProofText.{claim_word};
+
+    /// The word of the claim, as its proof text and its report tell it. It takes no memory.
+    pub fn word(&self) -> &'static str
+        ensures { result.now ≡ claim_word self.now }
+    {
+        match self {
+            Claim::Minimal(_) => "minimal",
+            Claim::NotMinimal(_, _) => "not-minimal",
+            Claim::Cut(_, _) => "cut",
+            Claim::Extreme(_, _, _) | Claim::ExtremeByResidues(_, _, _) => "extreme",
+            Claim::NotExtreme(_, _) => "not-extreme",
+        }
+    }
+}
+
 /// The word of a claim.
 #[derive(Clone, Copy, Debug, PartialEq, Eq)]
 pub(crate) enum ClaimWord {
@@ -68,7 +85,15 @@ impl Proof {
         if !has_text(&claim) {
             return None;
         }
-        Some(Proof { claim })
+        Some(Proof::of(claim))
+    }
+
+    /// The proof of a claim that is known to have a text. It takes no memory and tests nothing.
+    pub fn of(claim: Claim) -> Proof
+        requires text { HasText claim }
+        ensures claim { result ≡ claim }
+    {
+        Proof { claim }
     }
 
     /// The claim. It takes no memory.

@@ -66,7 +66,7 @@ fn proof_at(alloc: Global, text: &[u8]) -> Result<Proof, PartFault>
     let (claim, rest) = claim_at(alloc, rest, word)?;
     let rest = words_at(Spelling::Strict, rest, b"end")?;
     end_at(Spelling::Strict, rest)?;
-    Ok(Proof::new(claim).unwrap())
+    Ok(Proof::of(claim))
 }
 
 /// The numbers that the first line of the text tells, and what follows the line.

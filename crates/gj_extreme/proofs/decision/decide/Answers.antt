@@ -27,16 +27,16 @@ returns-clause-not_wide c = λ minimal wide.
     c.in_ok-claim.ensures.decided wide
 
 pub returns-clause-rules : goal.returns-clause-rules
-returns-clause-rules c = subst MeetsRules (sym c.proof_of.ensures) c.in_ok-claim.ensures.rules
+returns-clause-rules c = subst MeetsRules (sym c.of.ensures.claim) c.in_ok-claim.ensures.rules
 
 pub returns-clause-holds : goal.returns-clause-holds
 returns-clause-holds c =
-    subst ClaimHolds (sym c.proof_of.ensures)
+    subst ClaimHolds (sym c.of.ensures.claim)
     (decided_holds c.args.shape.now c.in_ok-claim.claim c.order-order.ensures.limits c.in_ok-claim.ensures.decided)
 
 pub returns-clause-by_table : goal.returns-clause-by_table
 returns-clause-by_table c =
-    subst (IsByTable c.args.shape.now) (sym c.proof_of.ensures)
+    subst (IsByTable c.args.shape.now) (sym c.of.ensures.claim)
     (decided_by_table c.args.shape.now c.in_ok-claim.claim c.order-order.ensures.limits c.in_ok-claim.ensures.decided)
 
 pub returns-in_err-claim-clause-few_components : goal.returns-in_err-claim-clause-few_components
@@ -65,5 +65,5 @@ returns-in_err-claim-clause-two_slopes c = λ minimal two.
 
 pub returns-clause-two_slopes : goal.returns-clause-two_slopes
 returns-clause-two_slopes c = λ minimal two.
-    subst (IsExtremeClaim c.args.shape.now) (sym c.proof_of.ensures)
+    subst (IsExtremeClaim c.args.shape.now) (sym c.of.ensures.claim)
     (two_slopes_decided c.args.shape.now c.in_ok-claim.claim c.order-order.ensures.limits minimal two c.in_ok-claim.ensures.decided)

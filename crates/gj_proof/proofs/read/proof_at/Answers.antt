@@ -1,4 +1,4 @@
-use Rattle.std.proofs.Common.{◌≡◌, [], sym, subst, rules}
+use Rattle.std.proofs.Common.{[], sym, subst}
 use Rattle.std.proofs.lemmas.Result.{err_from_is_err_and}
 use Rattle.gj_lex.specs.Parts.{IsFaultOf}
 use Rattle.gj_proof.specs.ProofGrammar.{proof_text}
@@ -33,15 +33,14 @@ returns-in_err-end_at-clause-fault c =
     (fault_behind_last _ _ _ _ c.in_ok-numbers.ensures.found _ _ c.in_ok-word.ensures.found _ _ c.in_ok-claim.ensures.found
     _ c.in_ok-rest.ensures.found c.in_err-end_at.ensures.fault)
 
-pub unwrap-requires : goal.unwrap-requires
-unwrap-requires c =
+pub of-requires : goal.of-requires
+of-requires c =
     let whole = lines_read _ _ _ _ _ _ _ _ c.in_ok-numbers.ensures.found c.in_ok-word.ensures.found c.in_ok-claim.ensures.found
     c.in_ok-rest.ensures.found c.in_ok-end_at.ensures.ended in
-    c.new.ensures.some.1 (read_is_text _ _ whole).1.has_text
+    record { text = (read_is_text _ _ whole).1.has_text; }
 
 pub returns-clause-found : goal.returns-clause-found
 returns-clause-found c =
     let whole = lines_read _ _ _ _ _ _ _ _ c.in_ok-numbers.ensures.found c.in_ok-word.ensures.found c.in_ok-claim.ensures.found
     c.in_ok-rest.ensures.found c.in_ok-end_at.ensures.ended in
-    let is : c.unwrap.result ≡ c.in_ok-claim.claim = search rules in
-    subst (λ (d : Claim). proof_text.Reads c.args.text.now d []) (sym is) whole
+    subst (λ (d : Claim). proof_text.Reads c.args.text.now d []) (sym c.of.ensures.claim) whole
