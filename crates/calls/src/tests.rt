@@ -1,4 +1,5 @@
 //! Values by hand.
+mod callers;
 mod cuts;
 mod functions;
 mod intervals;

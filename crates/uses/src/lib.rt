@@ -7,6 +7,3 @@ mod verdict;
 
 pub use faults::UseFault;
 pub use verdict::{checked_proof, is_extreme};
-
-#[cfg(test)]
-mod tests;

@@ -1,18 +1,18 @@
-//! A function with a verdict by hand.
-use crate::verdict::{checked_proof, is_extreme};
-use gj_frac::Frac;
+//! The calls of `uses` on a function with a verdict by hand.
+use crate::tests::fraction;
 use gj_shape::Shape;
 use std::test::Fail;
+use uses::{checked_proof, is_extreme};
 
 /// The mixed-integer cut for f = 3/5.
 #[test]
 fn mixed_integer_cut(rt: HostRuntime) -> Result<(), Fail> {
     let values = [
-        Frac::ratio(0, 1),
-        Frac::ratio(1, 3),
-        Frac::ratio(2, 3),
-        Frac::ratio(1, 1),
-        Frac::ratio(1, 2),
+        fraction(0, 1)?,
+        fraction(1, 3)?,
+        fraction(2, 3)?,
+        fraction(1, 1)?,
+        fraction(1, 2)?,
     ];
     let shape = Shape::new(rt.alloc(), 5, 3, &values, &values, &values)?;
     assert!(rt; is_extreme(rt.alloc(), &shape)?);
