@@ -17,7 +17,7 @@ use Rattle.gj_proof.specs.Rules.Demand.{minimal, fraction, limit, term_limit, te
 use Rattle.gj_proof.proofs.LineNumbers.{number_of_claim}
 use Rattle.gj_check.specs.declared.rules.CheckRule.{CheckRule}
 use Rattle.gj_check.specs.declared.rules.CheckRule.TheVariants.{Minimal, Fraction, Limit, Name, Value}
-use Rattle.gj_check.specs.declared.rows.RowFailure.{RowFailure}
+use Rattle.gj_check.specs.declared.cut_rows.RowFailure.{RowFailure}
 use Rattle.gj_check.specs.FirstFailure.{IsFirstFailure}
 use Rattle.gj_check.specs.CutRows.{MeetsTerm, FailsTerm, MeetTerms, MeetsCutRow, FailsRow, GivesCut}
 use Rattle.gj_check.specs.CutRows.FailsRow.{at_fraction, at_limit, at_term}

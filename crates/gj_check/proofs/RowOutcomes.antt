@@ -8,7 +8,7 @@ use Rattle.gj_proof.specs.declared.cut.CutLine.TheVariants as cuts
 use Rattle.gj_proof.specs.declared.cut.CutTerm.{CutTerm}
 use Rattle.gj_proof.specs.Rules.{AtIndex, IfCut, MeetsFraction, MeetsLimit}
 use Rattle.gj_check.specs.declared.rules.CheckRule.{CheckRule}
-use Rattle.gj_check.specs.declared.rows.RowFailure.{RowFailure}
+use Rattle.gj_check.specs.declared.cut_rows.RowFailure.{RowFailure}
 use Rattle.gj_check.specs.CutRows.{MeetsTerm, FailsTerm, MeetTerms, FailTerms, IsTermsOutcome, IsRowOutcome}
 use Rattle.gj_check.specs.CutRows.FailsRow.{at_term}
 use Rattle.gj_proof.proofs.AtPlaces.{at_place, with_place}

@@ -13,7 +13,7 @@ use Rattle.gj_proof.specs.declared.cut.CutTerm.{CutTerm}
 use Rattle.gj_proof.specs.Rules.{AtIndex, IfCut, MeetsFraction, MeetsLimit, MeetsName, MeetsValue}
 use Rattle.gj_check.specs.declared.rules.CheckRule.{CheckRule}
 use Rattle.gj_check.specs.declared.rules.CheckRule.TheVariants.{Fraction, Limit, Name, Value}
-use Rattle.gj_check.specs.declared.rows.RowFailure.{RowFailure}
+use Rattle.gj_check.specs.declared.cut_rows.RowFailure.{RowFailure}
 
 -- ---- a term
 

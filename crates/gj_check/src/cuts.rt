@@ -6,9 +6,9 @@ ghost use Rattle.gj_proof.specs.ProofText.{IfFunction, subject_of_rule, terms_of
 ghost use Rattle.gj_proof.specs.Rules.{MeetsRules};
 ghost use Rattle.gj_check.specs.FirstFailure.{IsFaultOf};
 
+use crate::cut_rows::failure_in_row;
 use crate::faults::CheckFault;
 use crate::minimality::is_minimal;
-use crate::rows::failure_in_row;
 use crate::rules::CheckRule;
 use gj_proof::{CLAIM_LINE, CutLine, CutRule, line_behind_rule};
 use std::alloc::{AllocError, Global};

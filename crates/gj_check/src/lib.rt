@@ -8,6 +8,7 @@
 
 mod checker;
 mod cover_lines;
+mod cut_rows;
 mod cut_values;
 mod cuts;
 mod denominators;
@@ -22,7 +23,6 @@ mod names;
 mod pieces;
 mod points;
 mod row_denominators;
-mod rows;
 mod rules;
 mod squares;
 mod tables;

@@ -7,7 +7,7 @@
 #![tactic(auto)]
 
 mod cut;
-mod rows;
+mod row_cuts;
 
 pub use cut::{RowCut, Term};
-pub use rows::{cut_row, gmic_cut_row, has_part, part_of, term};
+pub use row_cuts::{cut_row, gmic_cut_row, has_part, part_of, term};

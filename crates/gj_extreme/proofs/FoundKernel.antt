@@ -13,7 +13,7 @@ use Rattle.gj_extreme.specs.Decision.{AreAllCovered, slope_elimination}
 use Rattle.gj_extreme.proofs.DecidedHalves.{begun_columns, solution_solves, components_below}
 use Rattle.gj_extreme.proofs.RenumberedKernel.{kernel_renumbered}
 use Rattle.gj_extreme.specs.RowsToCome.{AreInserted}
-use Rattle.gj_extreme.specs.declared.rows.Rows.{Rows}
+use Rattle.gj_extreme.specs.declared.inserted_rows.Rows.{Rows}
 use Rattle.gj_theory.specs.HandedOver.{renumbered}
 
 -- the numbers are those of the kernel, none of whose marked numbers passes

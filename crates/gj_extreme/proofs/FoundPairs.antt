@@ -12,7 +12,7 @@ use Rattle.gj_faces.specs.declared.tight_pairs.TightPairs.{TightPairs}
 use Rattle.gj_proof.specs.PresentRows.{named_row}
 use Rattle.gj_extreme.specs.RowsToCome.{AreToCome, IsSeen, pairs_from}
 use Rattle.gj_extreme.specs.SeenPairs.{IsSeenRow}
-use Rattle.gj_extreme.specs.declared.rows.Rows.{Rows}
+use Rattle.gj_extreme.specs.declared.inserted_rows.Rows.{Rows}
 use Rattle.gj_extreme.proofs.TakenRows.{row_is_seen}
 use Rattle.gj_extreme.proofs.RowOrder.{no_pairs, next_pair, skipped_pairs}
 

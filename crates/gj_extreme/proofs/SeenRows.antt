@@ -17,7 +17,7 @@ use Rattle.gj_shape.specs.declared.extremality.RowName.{RowName}
 use Rattle.gj_shape.specs.declared.extremality.RowName.TheVariants.{Pair}
 use Rattle.gj_extreme.specs.RowsToCome.{AreToCome, IsSeen, IsTaken, name_of}
 use Rattle.gj_extreme.specs.SeenPairs.{IsPairBelow, AreSeenBelow, IsSeenRow}
-use Rattle.gj_extreme.specs.declared.rows.Rows.{Rows}
+use Rattle.gj_extreme.specs.declared.inserted_rows.Rows.{Rows}
 use Rattle.gj_extreme.specs.declared.seen.SeenPair.{SeenPair}
 use Rattle.gj_extreme.specs.declared.seen.SeenPairs.{SeenPairs}
 use Rattle.gj_theory.specs.HandedOver.{renumbered}

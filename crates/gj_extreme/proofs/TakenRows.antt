@@ -24,7 +24,7 @@ use Rattle.gj_proof.specs.PresentRows.{named_row}
 use Rattle.gj_extreme.specs.Decision.{slope_elimination}
 use Rattle.gj_extreme.specs.RowsToCome.{name_of, rows_named, AreNextNames, AreHandedOver, AreToCome, IsSeen, IsTaken, AreInserted, IsReady}
 use Rattle.gj_extreme.specs.SeenPairs.{IsSeenRow, AreSeenBelow}
-use Rattle.gj_extreme.specs.declared.rows.Rows.{Rows}
+use Rattle.gj_extreme.specs.declared.inserted_rows.Rows.{Rows}
 use Rattle.gj_extreme.specs.declared.seen.SeenPair.{SeenPair}
 use Rattle.gj_extreme.proofs.RowOrder.{rows_short}
 

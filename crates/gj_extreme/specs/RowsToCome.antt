@@ -11,7 +11,7 @@ use Rattle.gj_elim.specs.declared.log.LogRow.{LogRow}
 use Rattle.gj_proof.specs.PresentRows.{named_row}
 use Rattle.gj_extreme.specs.Decision.{slope_elimination}
 use Rattle.gj_extreme.specs.SeenPairs.{IsSeenRow, AreSeenBelow}
-use Rattle.gj_extreme.specs.declared.rows.Rows.{Rows}
+use Rattle.gj_extreme.specs.declared.inserted_rows.Rows.{Rows}
 
 -- ---- the order of rows
 

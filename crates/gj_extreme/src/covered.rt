@@ -12,8 +12,8 @@ ghost use Rattle.gj_extreme.specs.RowsToCome.{AreInserted};
 
 use crate::faults::DecideFault;
 use crate::groups::groups_of;
+use crate::inserted_rows::{Rows, rows_of};
 use crate::residues::extreme_by_residues;
-use crate::rows::{Rows, rows_of};
 use crate::slopes::slope_halves;
 use gj_cover::Cover;
 use gj_elim::ElimFault;

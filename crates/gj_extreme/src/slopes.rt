@@ -9,7 +9,7 @@ ghost use Rattle.gj_extreme.specs.Decision.{AreAllCovered, AreSlopeHalves, IsToo
 ghost use Rattle.gj_extreme.specs.RowsToCome.{AreInserted};
 
 use crate::faults::DecideFault;
-use crate::rows::Rows;
+use crate::inserted_rows::Rows;
 use gj_perturb::{from_slopes, split};
 use gj_shape::{Halves, Shape};
 use std::alloc::Global;

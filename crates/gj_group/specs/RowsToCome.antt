@@ -5,9 +5,9 @@ use Rattle.gj_shape.specs.Limits.{greatest_order}
 use Rattle.gj_shape.specs.FunctionData.{at}
 use Rattle.gj_residue.specs.Source.{RowsToCome}
 use Rattle.gj_group.specs.GroupRows.{entry_row, sum_row, is_tight_pair, sum_rows_with, group_rows}
-use Rattle.gj_group.specs.declared.rows.Upcoming.{Upcoming}
-use Rattle.gj_group.specs.declared.rows.Upcoming.TheVariants.{Start, Place, Pair}
-use Rattle.gj_group.specs.declared.rows.GroupRows.TheInside.{Inside}
+use Rattle.gj_group.specs.declared.table_rows.Upcoming.{Upcoming}
+use Rattle.gj_group.specs.declared.table_rows.Upcoming.TheVariants.{Start, Place, Pair}
+use Rattle.gj_group.specs.declared.table_rows.GroupRows.TheInside.{Inside}
 
 -- the tight pairs (a, b) with b from `from` to below n
 abbrev pub tight_in_row : (ℕ → ℤ) → ℕ → ℕ → ℕ → List ℕ

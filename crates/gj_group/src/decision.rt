@@ -5,7 +5,7 @@ ghost use Rattle.gj_shape.specs.Table.{IsMinimalOnGrid};
 ghost use Rattle.gj_group.specs.Decision.{greatest_group_order, SaysOfTable, IsFound, IsExtremeOnOwnGrid, IsTooWideGroup};
 
 use crate::faults::GroupFault;
-use crate::rows::GroupRows;
+use crate::table_rows::GroupRows;
 use gj_minimal::find_violation;
 use gj_perturb::{Perturbation, split};
 use gj_residue::{Settled, settle};

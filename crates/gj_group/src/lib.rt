@@ -8,10 +8,10 @@
 
 mod decision;
 mod faults;
-mod rows;
+mod table_rows;
 pub mod tables;
 mod tight;
 
 pub use decision::{GREATEST_GROUP_ORDER, GroupAnswer, decide_group};
 pub use faults::GroupFault;
-pub use rows::GroupRows;
+pub use table_rows::GroupRows;

@@ -12,12 +12,12 @@
 #![tactic(auto)]
 
 mod cut;
-mod rows;
+mod row_cuts;
 mod slopes;
 pub mod theorems;
 mod weights;
 
 pub use cut::MixedCut;
-pub use rows::{cut_mixed, gmic_cut_mixed, mixed_term};
+pub use row_cuts::{cut_mixed, gmic_cut_mixed, mixed_term};
 pub use slopes::SlopesAtZero;
 pub use weights::Slopes;

@@ -17,7 +17,7 @@ pub mod ExtremeLines
 pub mod ExtremeClaims
 pub mod ExtremeWords
 pub mod ExtremeParts
-pub mod ExtremeReads
+pub mod ExtremeSpelled
 pub mod OwnLines
 pub mod ExtremeRead
 pub mod HalvesWords

@@ -42,7 +42,7 @@ use Rattle.gj_proof.proofs.ExtremeLines.{extreme_bytes, halves_bytes}
 use Rattle.gj_proof.proofs.ExtremeClaims.{IsExtremeText, extreme_text, of_extreme_text, extreme_is_bounded}
 use Rattle.gj_proof.proofs.LineLists.{bytes}
 use Rattle.gj_proof.proofs.ExtremeParts.{covered_part_is_exact, modulus_part_is_exact, groups_part_is_exact, halves_part_is_exact}
-use Rattle.gj_proof.proofs.ExtremeReads.{covered_read, covered_found, modulus_read, modulus_found, groups_read, groups_found, halves_read, halves_found}
+use Rattle.gj_proof.proofs.ExtremeSpelled.{covered_read, covered_found, modulus_read, modulus_found, groups_read, groups_found, halves_read, halves_found}
 use Rattle.gj_proof.proofs.OwnLines.{row_bytes}
 use Rattle.gj_proof.proofs.ViolationRule.{bytes_of_words, some_words, violation_is_plain, violation_rule_is_exact}
 

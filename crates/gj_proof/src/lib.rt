@@ -7,7 +7,7 @@
 
 mod bounds;
 mod claim;
-mod cover_rows;
+mod cover_lines;
 mod cut;
 mod cut_rows;
 mod faults;

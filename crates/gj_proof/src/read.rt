@@ -14,7 +14,7 @@ ghost use Rattle.gj_proof.specs.declared.numbers.Numbers.{Numbers};
 ghost use Rattle.gj_proof.specs.declared.numbers.Numbers.TheVariants.{Whole};
 
 use crate::claim::{Claim, ClaimWord, Proof};
-use crate::cover_rows::cover_lines_at;
+use crate::cover_lines::cover_lines_at;
 use crate::cut_rows::{rows_at, rule_at};
 use crate::faults::ProofFault;
 use crate::halves::halves_at;

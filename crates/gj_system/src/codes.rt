@@ -15,13 +15,13 @@ const BASE: u64 = 1 << DIGIT_BITS;
 const MOST_COLUMNS: u32 = u64::BITS / DIGIT_BITS;
 
 /// The greatest order of which three counts have a sum below the base.
-const GREATEST_ORDER: usize = (BASE as usize - 1) / 3;
+const GREATEST_CODED_ORDER: usize = (BASE as usize - 1) / 3;
 
 /// Whether a sum of three codes carries no digit, for so many columns and counts up to the order.
 fn are_packable(columns: u32, order: usize) -> bool
     ensures { IsTrue result ↔ ArePackable columns order }
 {
-    columns <= MOST_COLUMNS && order <= GREATEST_ORDER
+    columns <= MOST_COLUMNS && order <= GREATEST_CODED_ORDER
 }
 
 /// The code of the counts.

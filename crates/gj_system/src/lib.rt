@@ -4,7 +4,7 @@
 mod codes;
 mod counted;
 mod rises;
-mod rows;
+mod system_row;
 
 pub use counted::SlopeRows;
-pub use rows::row_of;
+pub use system_row::row_of;

@@ -1,4 +1,4 @@
-use Rattle.gj_proof.proofs.ExtremeReads.{pair_reads}
+use Rattle.gj_proof.proofs.ExtremeSpelled.{pair_reads}
 use Rattle.gj_proof.proofs.halves.pair_at.Goals as goal
 
 pub returns-in-Some-clause-found : goal.returns-in-Some-clause-found

@@ -37,7 +37,7 @@ pub of-requires : goal.of-requires
 of-requires c =
     let whole = lines_read _ _ _ _ _ _ _ _ c.in_ok-numbers.ensures.found c.in_ok-word.ensures.found c.in_ok-claim.ensures.found
     c.in_ok-rest.ensures.found c.in_ok-end_at.ensures.ended in
-    record { text = (read_is_text _ _ whole).1.has_text; }
+    record { text = (read_is_text _ _ whole).1.has_text }
 
 pub returns-clause-found : goal.returns-clause-found
 returns-clause-found c =

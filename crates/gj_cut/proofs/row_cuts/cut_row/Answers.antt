@@ -1,0 +1,25 @@
+use Rattle.std.proofs.Common.{All, List, refl, sym, subst}
+use Rattle.std.specs.List.{AllZip}
+use Rattle.gj_shape.specs.Limits.{IsRowNumber}
+use Rattle.gj_row.specs.declared.tableau.Entry.{Entry}
+use Rattle.gj_cut.specs.RowCuts.{IsTermOf, HoldsFor}
+use Rattle.gj_cut.specs.declared.cut.Term.{Term}
+use Rattle.gj_cut.specs.declared.cut.RowCut.TheVariants.{Cut}
+use Rattle.gj_cut.proofs.RowTerms.{entries_in_range, holds_at}
+use Rattle.gj_cut.proofs.row_cuts.cut_row.Goals as goal
+
+pub terms-requires : goal.terms-requires
+terms-requires g c =
+    subst (λ (entries : List Entry). All (λ e. IsRowNumber e.value) entries) (sym c.as_slice.ensures)
+    (entries_in_range c.args.row.now c.requires)
+
+pub returns-clause-holds : goal.returns-clause-holds
+returns-clause-holds g c minimal =
+    let rule = c.args.rule.now in
+    let row = c.args.row.now in
+    let answers = g.E.Evaluator.answers in
+    let items = c.in_ok-terms.terms.items in
+    subst (λ (terms : List Term). HoldsFor row (Cut terms)) (sym c.of.ensures)
+    (holds_at answers rule rule.kind row items refl c.has_part.ensures.limits minimal
+    (c.has_part.ensures.part.0 c.if-not-has_part.false)
+    (subst (λ (entries : List Entry). AllZip (IsTermOf answers rule) entries items) c.as_slice.ensures c.in_ok-terms.ensures))

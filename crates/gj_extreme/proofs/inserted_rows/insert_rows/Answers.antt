@@ -1,0 +1,56 @@
+use Rattle.std.proofs.Common.{◌∷◌, sym, subst, arith}
+use Rattle.gj_shape.specs.SlopeRows.{component_in}
+use Rattle.gj_shape.specs.declared.extremality.RowName.TheVariants.{F}
+use Rattle.gj_elim.proofs.Keeping.{same_error}
+use Rattle.gj_extreme.specs.RowsToCome.{AreToCome, rows_from}
+use Rattle.gj_extreme.proofs.RowOrder.{no_rows}
+use Rattle.gj_extreme.proofs.TakenRows.{rows_are_ready, full_takes_all, all_inserted}
+use Rattle.gj_extreme.proofs.inserted_rows.insert_rows.Goals as goal
+
+pub insert-requires-clause-ready : goal.insert-requires-clause-ready
+insert-requires-clause-ready c =
+    rows_are_ready c.args.shape.now (component_in c.args.system.now.component) c.args.system.now.columns c.in_ok-rows.rows _
+    c.requires.limits (c.in_ok-rows.ensures c.args.shape.now (sym c.requires.components))
+
+pub returns-in_err-insert-clause-wide : goal.returns-in_err-insert-clause-wide
+returns-in_err-insert-clause-wide c = λ e.
+    c.in_err-insert.ensures.wide
+    (same_error c.from_residual-in_err-insert.result c.in_err-insert.field-0.0 _ c.from_residual-in_err-insert.ensures.0
+    c.from_residual-in_err-insert.ensures.1 e)
+    (F ∷ rows_from c.args.shape.now 1) (c.in_ok-rows.ensures c.args.shape.now (sym c.requires.components))
+
+pub insert-requires-2-clause-ready : goal.insert-requires-2-clause-ready
+insert-requires-2-clause-ready c =
+    rows_are_ready c.args.shape.now (component_in c.args.system.now.component) c.args.system.now.columns c.insert.new.self
+    (F ∷ rows_from c.args.shape.now 1) c.requires.limits
+    (c.in_ok-insert.ensures.to_come (F ∷ rows_from c.args.shape.now 1) (c.in_ok-rows.ensures c.args.shape.now (sym c.requires.components))).0
+
+pub returns-in_err-insert-2-clause-wide : goal.returns-in_err-insert-2-clause-wide
+returns-in_err-insert-2-clause-wide c = λ e.
+    c.in_err-insert-2.ensures.wide
+    (same_error c.from_residual-in_err-insert-2.result c.in_err-insert-2.field-0.0 _ c.from_residual-in_err-insert-2.ensures.0
+    c.from_residual-in_err-insert-2.ensures.1 e)
+    (rows_from c.args.shape.now 1)
+    (c.in_ok-insert.ensures.to_come (F ∷ rows_from c.args.shape.now 1) (c.in_ok-rows.ensures c.args.shape.now (sym c.requires.components))).0
+
+pub loop-a-init : goal.loop-a-init
+loop-a-init c =
+    (c.in_ok-insert-2.ensures.to_come (rows_from c.args.shape.now 1)
+    (c.in_ok-insert.ensures.to_come (F ∷ rows_from c.args.shape.now 1) (c.in_ok-rows.ensures c.args.shape.now (sym c.requires.components))).0).0
+
+pub returns-then-is_full-clause-rows : goal.returns-then-is_full-clause-rows
+returns-then-is_full-clause-rows c =
+    let f = c.args.shape.now in
+    let comp = component_in c.args.system.now.component in
+    let n = c.args.system.now.columns in
+    let full = c.is_full.ensures.0 c.if-is_full.true in
+    all_inserted f comp n c.loop-a.rows c.requires.limits
+    (full_takes_all f comp n c.loop-a.rows _ (omega (arith, c.loop-a.invariant.width)) c.loop-a.invariant)
+
+pub returns-clause-rows : goal.returns-clause-rows
+returns-clause-rows c =
+    let f = c.args.shape.now in
+    let comp = component_in c.args.system.now.component in
+    let n = c.args.system.now.columns in
+    all_inserted f comp n c.loop-a.rows c.requires.limits
+    (subst (AreToCome f comp n c.loop-a.rows) (no_rows f c.loop-a.a (omega (arith, c.requires.order))) c.loop-a.invariant)

@@ -1,6 +1,0 @@
-use Rattle.gj_extreme.specs.RowsToCome.{AreToCome, rows_from}
-use Rattle.gj_shape.specs.SlopeRows.{component_in}
-use Rattle.gj_extreme.proofs.rows.insert_rows.Given as goal
-
-abbrev pub invariant-loop-a : goal.invariant-loop-a
-invariant-loop-a l = AreToCome l.shape (component_in l.system.component) l.system.columns l.rows (rows_from l.shape l.a)

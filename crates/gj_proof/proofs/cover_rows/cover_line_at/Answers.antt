@@ -1,6 +1,0 @@
-use Rattle.gj_proof.proofs.ExtremeReads.{cover_reads}
-use Rattle.gj_proof.proofs.cover_rows.cover_line_at.Goals as goal
-
-pub returns-in-Some-clause-found : goal.returns-in-Some-clause-found
-returns-in-Some-clause-found c =
-    let printed = c.in-Some.ensures in rw printed.0 (cover_reads c.args.order c.in-Some.line _ c.requires printed.1)
