@@ -1,14 +1,14 @@
 //! The command `check`: what the checker says of a proof text.
-ghost use Rattle.std.specs.Prelude.{◌≡◌, IfOk};
+ghost use Rattle.std.specs.Prelude.{IfOk};
 ghost use Rattle.gj_proof.specs.ProofText.{IsBounded};
 ghost use Rattle.gj_top.specs.Task.{IsAnswering};
-ghost use Rattle.gj_top.specs.Check.{IsJudgement, accepted_line, check};
+ghost use Rattle.gj_top.specs.Check.{IsJudgement, check};
 
 use crate::forms::proof_of;
-use crate::lines::numbered_line;
+use crate::lines::{numbered_line, worded_line};
 use crate::reply::{End, Reply, Unanswered};
 use gj_check::{CheckFault, check};
-use gj_proof::{Claim, Proof};
+use gj_proof::Proof;
 use std::alloc::{AllocError, Global};
 
 /// What the checker says of the proof that the input spells.
@@ -27,26 +27,12 @@ fn judgement(alloc: Global, proof: &Proof) -> Result<Reply, AllocError>
     match check(alloc, proof) {
         Ok(()) => Ok(Reply {
             end: End::Done,
-            text: accepted(alloc, proof.claim())?,
+            text: worded_line(alloc, b"accepted ", proof.claim().word())?,
         }),
         Err(CheckFault::Rejected(at_line, rule)) => Ok(Reply {
             end: End::Rejected,
             text: numbered_line(alloc, b"rejected line ", at_line, rule.word())?,
         }),
         Err(CheckFault::Memory(error)) => Err(error),
-    }
-}
-
-/// The line that calls a claim accepted.
-fn accepted(alloc: Global, claim: &Claim) -> Result<Vec<u8>, AllocError>
-    ensures { IfOk result (λ text. text.items ≡ accepted_line claim.now) }
-{
-    match claim {
-        Claim::Minimal(_) => Vec::from_slice(alloc, b"accepted minimal\n"),
-        Claim::NotMinimal(_, _) => Vec::from_slice(alloc, b"accepted not-minimal\n"),
-        Claim::Cut(_, _) => Vec::from_slice(alloc, b"accepted cut\n"),
-        Claim::Extreme(_, _, _) => Vec::from_slice(alloc, b"accepted extreme\n"),
-        Claim::ExtremeByResidues(_, _, _) => Vec::from_slice(alloc, b"accepted extreme\n"),
-        Claim::NotExtreme(_, _) => Vec::from_slice(alloc, b"accepted not-extreme\n"),
     }
 }

@@ -62,7 +62,7 @@ fn cuts_text(alloc: Global, rule: CutRule, tableau: &Tableau) -> Result<Vec<u8>,
     ensures { IfOk result (λ text. AreCheckedCutsOf (record { «rule» = rule; tableau = tableau.now }) text.items) }
 {
     let lines = cut_lines(alloc, &rule, tableau)?;
-    let proof = Proof::new(Claim::Cut(rule, List::of(lines))).unwrap();
+    let proof = Proof::of(Claim::Cut(rule, List::of(lines)));
     let text = write_proof(alloc, &proof)?;
     Ok(text)
 }

@@ -40,7 +40,7 @@ fn proof_on(shape: Shape) -> Proof
     ensures claim { IsTrueClaim shape result }
     ensures bounded { IsBounded result }
 {
-    Proof::new(claim_on(shape)).unwrap()
+    Proof::of(claim_on(shape))
 }
 
 /// The claim that the function is minimal, or that it is not, with the first violation.

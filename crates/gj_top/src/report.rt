@@ -1,10 +1,10 @@
 //! Reports of proofs in JSON.
-ghost use Rattle.std.specs.Prelude.{◌≡◌, List, ℕ, IfOk};
+ghost use Rattle.std.specs.Prelude.{List, ℕ, IfOk};
 ghost use Rattle.gj_proof.specs.ProofText.{claim_word, IsBounded, IsProofText};
 ghost use Rattle.gj_json.specs.JsonText.{IsReport};
 
 use gj_json::report;
-use gj_proof::{Claim, Proof, write_proof};
+use gj_proof::{Proof, write_proof};
 use std::alloc::{AllocError, Global};
 
 /// The report of the proof: the word of its claim, and the lines of its text.
@@ -14,19 +14,5 @@ pub(crate) fn report_of(alloc: Global, proof: &Proof) -> Result<Vec<u8>, AllocEr
         × IsReport (claim_word proof.now) written text.items) }
 {
     let written = write_proof(alloc, proof)?;
-    report(alloc, claim_word(proof.claim()), written.as_slice())
-}
-
-/// The word of the claim.
-fn claim_word(claim: &Claim) -> &'static str
-    ensures { result.now ≡ claim_word claim.now }
-{
-    match claim {
-        Claim::Minimal(_) => "minimal",
-        Claim::NotMinimal(_, _) => "not-minimal",
-        Claim::Cut(_, _) => "cut",
-        Claim::Extreme(_, _, _) => "extreme",
-        Claim::ExtremeByResidues(_, _, _) => "extreme",
-        Claim::NotExtreme(_, _) => "not-extreme",
-    }
+    report(alloc, proof.claim().word(), written.as_slice())
 }

@@ -1,7 +1,6 @@
-use Rattle.std.proofs.Common.{◌≡◌, Option, IfSome, List, sym, subst}
+use Rattle.std.proofs.Common.{List, sym, subst}
 use Rattle.std.specs.List.{AllZip}
 use Rattle.gj_proof.specs.declared.claim.Claim.{Claim}
-use Rattle.gj_proof.specs.declared.claim.Claim.TheVariants as claim
 use Rattle.gj_proof.specs.declared.cut.CutLine.{CutLine}
 use Rattle.gj_proof.specs.ProofText.{IsProofText}
 use Rattle.gj_mtext.specs.CutLines.{IsLineFor}
@@ -12,8 +11,6 @@ pub returns : goal.returns
 returns c =
     let rule = c.args.rule in
     let lines = c.of.result in
-    let claim_is : c.unwrap-proof.result ≡ claim.Cut rule lines =
-    subst (λ (o : Option Claim). IfSome o (λ p. p ≡ claim.Cut rule lines)) c.unwrap-proof.ensures c.new.ensures.claim in
     cuts_of_lines rule c.args.tableau.now lines c.in_ok-text.text.items c.requires.rule c.requires.tests c.requires.tableau
     (subst (λ (ls : List CutLine). AllZip (IsLineFor rule c.args.tableau.now.columns) c.args.tableau.now.rows ls) (sym c.of.ensures) c.in_ok-lines.ensures)
-    (subst (λ (p : Claim). IsProofText p c.in_ok-text.text.items) claim_is c.in_ok-text.ensures)
+    (subst (λ (p : Claim). IsProofText p c.in_ok-text.text.items) c.of-proof.ensures.claim c.in_ok-text.ensures)
