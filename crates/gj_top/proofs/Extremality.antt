@@ -19,6 +19,8 @@ use Rattle.gj_extreme.proofs.DecidedTexts.{decided_is_bounded}
 use Rattle.gj_extreme.proofs.TwoSlopeDecisions.{shown_halves_deny}
 use Rattle.gj_top.specs.Minimal.{IsNotMinimalText}
 use Rattle.gj_top.specs.Extreme.{IsDecisionText, IsExtremeText, IsNotExtremeText, IsTrueExtremality, IsUndecided, extreme}
+use Rattle.gj_top.specs.Report.{IsReportOf}
+use Rattle.gj_top.proofs.OneReport.{reported_exactly}
 
 -- ---- what is promised
 
@@ -100,6 +102,12 @@ extreme_at_four f text within d = (
   to_four f text within d,
   λ h. from_four f text within (extremality_true f text within d) h.0 h.1,
 )
+
+-- the same of the proof text in a report
+pub report_at_four : (f : FunctionData) (text : List ℕ) → IsWithinBounds f → IsReportOf (IsDecisionText f) text →
+    IsReportOf (IsExtremeText f) text ↔ (IsContinuous f × IsExtremeAtFour f)
+report_at_four f text within r =
+    reported_exactly (IsDecisionText f) (IsExtremeText f) (IsContinuous f × IsExtremeAtFour f) (λ proof. extreme_at_four f proof within) text r
 
 -- ---- faults of the decision
 

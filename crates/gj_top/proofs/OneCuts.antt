@@ -1,12 +1,11 @@
 -- The command `cut` has one answer, and what `mixed` shares with it.
-use Rattle.std.proofs.Common.{◌≡◌, ℕ, ℤ, pos, ◌*ℤ◌, unsigned_abs, List, ◌++◌, codes, refl, sym, ap, ap₂, subst, subst₂, ◌∙◌, arith}
+use Rattle.std.proofs.Common.{◌≡◌, ℕ, pos, ◌*ℤ◌, unsigned_abs, List, ◌++◌, codes, refl, sym, ap, ap₂, subst, subst₂, ◌∙◌, arith}
 use Rattle.std.proofs.lemmas.Int.{ints}
 use Rattle.gj_frac.specs.declared.Frac.{Frac}
 use Rattle.gj_frac.specs.Floor.{HasFractionalPart}
 use Rattle.gj_frac.specs.Fraction.{IsWhole, numerator, denominator}
 use Rattle.gj_lex.specs.declared.reason.Reason.{Reason}
 use Rattle.gj_lex.proofs.LineNumbers as numbers
-use Rattle.gj_lines.specs.FunctionLines.{line}
 use Rattle.gj_shape.specs.FunctionData.{FunctionData, IsWithinBounds}
 use Rattle.gj_shape.specs.Table.{IsMinimal}
 use Rattle.gj_shape.specs.Values.{IsValueAt}
@@ -41,7 +40,6 @@ use Rattle.gj_top.specs.declared.reply.End.{End}
 use Rattle.gj_top.specs.declared.reply.End.TheVariants as end
 use Rattle.gj_top.specs.Cut.{CutInput, cut_input, BeginsWithRule, SpellsCutInput, RefusesCutInput, NamesRecord, refused_record_line, AreCutsOf, MakesCuts, NamesViolation, IsCutReply, cut}
 use Rattle.gj_top.specs.Cut.RefusesCutInput.{of_rule, of_function, of_tableau}
-use Rattle.gj_top.specs.Mixed.{mixed}
 use Rattle.gj_top.proofs.CutClaims.{lines_are_bounded}
 use Rattle.gj_top.proofs.CutForm.{one_rest, rule_is_bounded, no_rule_fault, no_function_fault}
 use Rattle.gj_top.proofs.Determined.{SpellsOne, RefusesOne, RepliesOne, IsDetermined, one_named_fault}

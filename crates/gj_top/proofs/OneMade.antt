@@ -1,10 +1,10 @@
 -- The commands `times`, `mirror` and `restrict` have one answer.
-use Rattle.std.proofs.Common.{◌≡◌, inl, inr, ℕ, zero, suc, ◌*◌, ◌<◌, ◌≤◌, List, refl, sym, ap, subst, ◌∙◌, arith}
+use Rattle.std.proofs.Common.{◌≡◌, inl, inr, ℕ, zero, suc, ◌*◌, ◌<◌, List, refl, sym, ap, subst, ◌∙◌, arith}
 use Rattle.std.specs.Int.{◌∣◌}
 use Rattle.std.proofs.Math.Nat.{mul_comm, mul_assoc, dvd-mul_left, dvd-mul_right}
 use Rattle.gj_shape.specs.FunctionData.{FunctionData, IsWithinBounds}
 use Rattle.gj_ftext.specs.FunctionText.{IsCanonicalText}
-use Rattle.gj_transform.specs.Transforms.{IsTimesOf, IsRestrictionOf, HasNoRestriction}
+use Rattle.gj_transform.specs.Transforms.{HasNoRestriction}
 use Rattle.gj_transform.proofs.OneTransform.{one_times, one_mirror, one_restriction}
 use Rattle.gj_top.specs.declared.reply.End.{End}
 use Rattle.gj_top.specs.declared.reply.End.TheVariants as end

@@ -1,5 +1,5 @@
 -- A report has one verdict and one proof text.
-use Rattle.std.proofs.Common.{◌≡◌, ℕ, List, [], ◌∷◌, ◌++◌, flat_map, codes, Some, refl, sym, ap, ap₂, subst, ◌∙◌, arith}
+use Rattle.std.proofs.Common.{◌≡◌, ◌↔◌, ℕ, List, [], ◌∷◌, ◌++◌, flat_map, codes, Some, refl, sym, ap, ap₂, subst, ◌∙◌, arith}
 use Rattle.std.proofs.lemmas.List.{append_cancel_right}
 use Rattle.json.specs.Json as json
 use Rattle.json.specs.Tree.{items_depth, ItemsHaveNumbers}
@@ -8,9 +8,10 @@ use Rattle.serde_json.specs.Written.{outline, items_outline, compact_text}
 use Rattle.serde_json.proofs.Texts.{print-outline}
 use Rattle.gj_tools.proofs.Choices.{same_some}
 use Rattle.gj_json.specs.JsonText.{strings, report_value, IsReport}
-use Rattle.gj_proof.specs.ProofText.{IsBounded, IsProofText}
+use Rattle.gj_proof.specs.ProofText.{IsBounded, IsProofText, claim_word}
 use Rattle.gj_proof.specs.declared.claim.Claim.{Claim}
 use Rattle.gj_proof.proofs.OneText.{one_claim}
+use Rattle.gj_top.specs.Report.{IsReportOf}
 
 -- ---- the lines as strings
 
@@ -69,3 +70,29 @@ pub one_claim_reported : (c d : Claim) (verdict word first second text : List �
 one_claim_reported c d verdict word first second text b e p q r s =
     let same : second ≡ first = sym (one_report verdict word first second text r s).1 in
     one_claim c d first b e p (subst (IsProofText d) same q)
+
+-- ---- what holds of the proof text of a report
+
+-- what follows of it
+pub reported : (P Q : List ℕ → Type 0) → ((proof : List ℕ) → P proof → Q proof) → (text : List ℕ) → IsReportOf P text → IsReportOf Q text
+reported P Q keeps text r = record {
+  proof = r.proof;
+  holds = keeps r.proof r.holds;
+  claim = r.claim;
+  spelled = r.spelled;
+  report = r.report;
+}
+
+-- two properties of it hold of one proof text
+pub also_reported : (P Q : List ℕ → Type 0) (text : List ℕ) (r : IsReportOf P text) → IsReportOf Q text → Q r.proof
+also_reported P Q text r s =
+    let same = one_report (claim_word s.claim) (claim_word r.claim) s.proof r.proof text s.report r.report in
+    subst Q same.1 s.holds
+
+-- it has a property exactly if A holds, if that follows from another of its properties
+pub reported_exactly : (P Q : List ℕ → Type 0) (A : Type 0) → ((proof : List ℕ) → P proof → Q proof ↔ A) → (text : List ℕ) →
+    IsReportOf P text → IsReportOf Q text ↔ A
+reported_exactly P Q A exactly text r = (
+  λ s. (exactly r.proof r.holds).0 (also_reported P Q text r s),
+  λ a. reported P Q (λ proof p. (exactly proof p).1 a) text r,
+)

@@ -1,16 +1,16 @@
 -- The command `group` has one answer.
-use Rattle.std.proofs.Common.{◌≡◌, ℕ, pos, ◌<◌, ◌≤◌, ◌++◌, List, Some, codes, refl, sym, ap, ap₂, subst, ◌∙◌, arith}
+use Rattle.std.proofs.Common.{◌≡◌, ℕ, pos, ◌<◌, ◌≤◌, ◌++◌, List, codes, refl, sym, ap, ap₂, subst, ◌∙◌, arith}
 use Rattle.std.proofs.lemmas.Int.{ints}
 use Rattle.gj_tools.proofs.Choices.{same_some}
 use Rattle.gj_frac.proofs.SameValues.{same_from_is}
 use Rattle.gj_lines.specs.FunctionLines.{line, order_line, place_line}
-use Rattle.gj_shape.specs.Elimination.{Solution, elimination, kernel}
+use Rattle.gj_shape.specs.Elimination.{Solution}
 use Rattle.gj_shape.specs.FunctionData.{FunctionData, IsWithinBounds, at}
 use Rattle.gj_shape.specs.Perturbation.{AreHalvesOf}
 use Rattle.gj_shape.specs.declared.extremality.Halves.{Halves}
 use Rattle.gj_extreme.proofs.OneDecision.{one_pair}
 use Rattle.gj_extreme.proofs.OneViolation.{one_violation}
-use Rattle.gj_group.specs.Decision.{greatest_group_order, own_rows, SaysOfTable, AreGroupHalves, IsFound}
+use Rattle.gj_group.specs.Decision.{greatest_group_order, SaysOfTable, AreGroupHalves, IsFound}
 use Rattle.gj_group.specs.declared.decision.GroupAnswer.{GroupAnswer}
 use Rattle.gj_group.specs.declared.decision.GroupAnswer.TheVariants.{NotMinimal, Extreme, NotExtreme}
 use Rattle.gj_gtext.specs.GroupText.{verdict_lines}

@@ -11,7 +11,6 @@ use Rattle.gj_top.specs.Task.{Task}
 use Rattle.gj_json.specs.JsonFunction.{IsJsonFunction}
 use Rattle.gj_json.proofs.OneFunction.{no_reason}
 use Rattle.gj_top.specs.Forms.{IsFunctionInput, IsProofOf, RefusesFunctionText, RefusesJson, RefusesProofText}
-use Rattle.gj_top.specs.Report.{IsReportOf}
 use Rattle.gj_top.specs.Minimal.{IsDecision, IsVerdict, IsTrueVerdict, minimal, minimal_json}
 use Rattle.gj_top.specs.Extreme.{IsExtremality, IsTrueExtremality, extreme, extreme_json}
 use Rattle.gj_top.specs.Show.{show, show_json}
@@ -31,6 +30,7 @@ use Rattle.gj_shape.specs.declared.extremality.Halves.{Halves}
 use Rattle.gj_top.proofs.CutForm.{cut_input_refuses_only_others}
 use Rattle.gj_top.specs.Command.{task_with, task_for}
 use Rattle.gj_top.proofs.Extremality.{extremality_true}
+use Rattle.gj_top.proofs.OneReport.{reported}
 use Rattle.gj_theory.proofs.Violations.{violation_denies}
 use Rattle.gj_top.proofs.TextLaws.{function_is_bounded, json_is_bounded, function_text_has_no_fault, proof_text_has_no_fault}
 
@@ -53,16 +53,6 @@ proof_text_sound input text c spelled refused = proof_text_has_no_fault input c 
 json_function_sound : RefusesOnlyOthers IsJsonFunction RefusesJson
 json_function_sound input text f spelled refused = no_reason input f refused.reason spelled refused.first
 
--- what follows of the proof text in a report
-reported : (P Q : List ℕ → Type 0) → ((proof : List ℕ) → P proof → Q proof) → (text : List ℕ) → IsReportOf P text → IsReportOf Q text
-reported P Q keeps text r = record {
-  proof = r.proof;
-  holds = keeps r.proof r.holds;
-  claim = r.claim;
-  spelled = r.spelled;
-  report = r.report;
-}
-
 verdict_true : (f : FunctionData) (text : List ℕ) → IsWithinBounds f → IsVerdict f text → IsTrueVerdict f text
 verdict_true f text within (inl m) = inl (m.2, m.0)
 verdict_true f text within (inr v) = inr (v.0, v.4, v.2, violation_denies f v.0 within v.2)
@@ -83,7 +73,7 @@ minimal_json_sound = record {
   work = λ input f text spelled. reported (IsDecision f Done) (IsTrueVerdict f) (λ proof. verdict_true f proof (json_is_bounded input f spelled)) text;
 }
 
-extreme_json_sound : IsSound extreme_json
+pub extreme_json_sound : IsSound extreme_json
 extreme_json_sound = record {
   form = json_function_sound;
   refusals = λ input text refused. refl;

@@ -20,4 +20,5 @@ pub mod Reply
 pub mod Answer
 pub mod Outcome
 pub mod Causes
+pub mod Narrow
 pub mod Code

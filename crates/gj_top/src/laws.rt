@@ -13,15 +13,17 @@ ghost use Rattle.gj_shape.specs.Extreme.{IsExtremeTable};
 ghost use Rattle.gj_ftext.specs.FunctionText.{IsWholeFunctionText};
 ghost use Rattle.gj_proof.specs.declared.claim.Claim.{Claim};
 ghost use Rattle.gj_proof.specs.ProofText.{IsBounded, IsProofText};
+ghost use Rattle.gj_json.specs.JsonFunction.{IsJsonFunction};
 ghost use Rattle.gj_json.specs.JsonText.{IsReport};
 ghost use Rattle.gj_words.specs.declared.requests.Request.{Request};
 ghost use Rattle.gj_top.specs.Task.{IsReply};
+ghost use Rattle.gj_top.specs.Report.{IsReportOf};
 ghost use Rattle.gj_top.specs.Command.{IsNamed, task_for};
 ghost use Rattle.gj_top.specs.Minimal.{minimal};
 ghost use Rattle.gj_top.specs.Show.{show};
 ghost use Rattle.gj_top.specs.Check.{check};
 ghost use Rattle.gj_top.specs.Cut.{cut};
-ghost use Rattle.gj_top.specs.Extreme.{IsExtremeText, extreme};
+ghost use Rattle.gj_top.specs.Extreme.{IsExtremeText, extreme, extreme_json};
 ghost use Rattle.gj_top.specs.Answer.{IsAnswerTo, input_limit};
 
 /// Every proof that `minimal` or `extreme` writes is one that `check` accepts, and so is every proof that `cut` writes, if its
@@ -41,20 +43,28 @@ pub fn written_proofs_are_accepted()
         IsReply extreme input end.Done text → IsReply check text e answer → e ≡ end.Done }
 {}
 
-/// What `extreme` writes calls the function extreme exactly if it is continuous and its table of order 4 q is extreme.
+/// What `extreme` writes calls the function extreme exactly if it is continuous and its table of order 4 q is extreme; with `--json`
+/// the proof text of the report does.
 pub fn extreme_exactly_where_order_4q_is()
-    ensures { (f : FunctionData) (input text : List ℕ) → IsWholeFunctionText input f → IsReply extreme input end.Done text →
+    ensures reply { (f : FunctionData) (input text : List ℕ) → IsWholeFunctionText input f → IsReply extreme input end.Done text →
         IsExtremeText f text
+        ↔ (IsContinuous f × IsExtremeTable (table f 4) (f.order * 4) (f.place * 4) (f.scale * 4)) }
+    ensures json_reply { (f : FunctionData) (input text : List ℕ) → IsJsonFunction input f → IsReply extreme_json input end.Done text →
+        IsReportOf (IsExtremeText f) text
         ↔ (IsContinuous f × IsExtremeTable (table f 4) (f.order * 4) (f.place * 4) (f.scale * 4)) }
 {}
 
 /// A minimal continuous function with two slopes is always called extreme: `extreme` tells of it neither that
-/// a number is too wide nor that it jumps (Gomory and Johnson 1972).
+/// a number is too wide nor that it jumps (Gomory and Johnson 1972); with `--json` the proof text of the report calls it so.
 pub fn two_slopes_are_called_extreme()
     ensures answer { (f : FunctionData) (input text : List ℕ) (s : Status) → IsWholeFunctionText input f → IsMinimal f → HasTwoSlopes f →
         length input ≤ input_limit → IsAnswerTo extreme input s text → (s ≡ Done) × IsExtremeText f text }
     ensures reply { (f : FunctionData) (input text : List ℕ) (e : End) → IsWholeFunctionText input f → IsMinimal f → HasTwoSlopes f →
         IsReply extreme input e text → (e ≡ end.Done) × IsExtremeText f text }
+    ensures json_answer { (f : FunctionData) (input text : List ℕ) (s : Status) → IsJsonFunction input f → IsMinimal f → HasTwoSlopes f →
+        length input ≤ input_limit → IsAnswerTo extreme_json input s text → (s ≡ Done) × IsReportOf (IsExtremeText f) text }
+    ensures json_reply { (f : FunctionData) (input text : List ℕ) (e : End) → IsJsonFunction input f → IsMinimal f → HasTwoSlopes f →
+        IsReply extreme_json input e text → (e ≡ end.Done) × IsReportOf (IsExtremeText f) text }
 {}
 
 /// What `show` writes is a function text of the function that it read, and `show` writes it again as it stands.

@@ -3,11 +3,13 @@
 
 ghost use Rattle.std.specs.Prelude.{◌≡◌, ◌≢◌, ◌⊎◌, ◌≤◌, ℕ, List, [], length, Some, IfSome, IsTrue};
 ghost use Rattle.gj_port.specs.Faults.{HasFailed};
+ghost use Rattle.gj_shape.specs.FunctionData.{FunctionData};
 ghost use Rattle.gj_words.specs.declared.requests.Request.{Request};
 ghost use Rattle.gj_top.specs.Command.{IsNamed, NameNone, promise_for, task_for};
 ghost use Rattle.gj_top.specs.Promise.{reads};
 ghost use Rattle.gj_top.specs.Answer.{IsSourceFault, input_limit, words_line, fault_line};
 ghost use Rattle.gj_top.specs.Outcome.{IsOutcome, IsUnsure, Gains};
+ghost use Rattle.gj_top.specs.Narrow.{AskIfExtreme, HasUncoveredInterval, HasAtMostComponents};
 ghost use Rattle.gj_top.specs.Causes.{IsInput, IsGoodInput, IsTrueRun, IsDoneRun, ReadNothing, IsStatusOf, IsCause, IsStatusOfReply};
 
 use gj_port::{Sink, Source, write_all};
@@ -90,6 +92,10 @@ pub fn run<S: Source, K: Sink>(
         length input ≤ input_limit → result ≢ Status.Memory → result ≢ Status.ReadFault →
         (result ≡ Status.WriteFault → HasFailed (S.faults source.old) (S.faults source.new) → ⊥) →
         S.left source.new ≡ Some []) }
+
+    // `extreme` never ends with Wide on a function that has an uncovered interval, or at most four components.
+    ensures narrow { (input : List ℕ) (f : FunctionData) → IsInput words.now (S.left source.old) input → AskIfExtreme words.now input f →
+        HasUncoveredInterval f ⊎ HasAtMostComponents 4 f → result ≢ Status.Wide }
 
     // A fault of the source is answered only if there was one.
     ensures read_fault { result ≡ Status.ReadFault → HasFailed (S.faults source.old) (S.faults source.new) }
