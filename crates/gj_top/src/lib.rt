@@ -85,7 +85,7 @@ pub fn run<S: Source, K: Sink>(
     ensures ends { (r : Request) → IsNamed words.now r → IsStatusOf (task_for r) result }
     ensures unread { ReadNothing words.now → S.left source.new ≡ S.left source.old }
 
-    // Where the source tells its bytes, each status has its cause in them, and an input within the limit is read to its
+    // If the source tells its bytes, each status has its cause in them, and an input within the limit is read to its
     // end, whether or not the sink took the answer, unless there was no memory or the source failed.
     ensures cause { (input : List ℕ) → IsInput words.now (S.left source.old) input → IsCause words.now input result }
     ensures input { IfSome (S.left source.old) (λ input. (r : Request) → IsNamed words.now r → IsTrue (reads (promise_for r).form) →
