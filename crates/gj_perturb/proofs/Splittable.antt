@@ -1,7 +1,6 @@
 -- The perturbations that are made here can be split.
 use Rattle.std.proofs.Common.{◌≡◌, ◌≢◌, ℕ, ◌+◌, ◌*◌, ◌/◌, ◌%◌, ◌<◌, ◌≤◌, ◌==◌, ◌^◌, Bool, true, false, if◌then◌else◌, ℤ, pos, ◌-ℤ◌, ◌+ℤ◌, List, length, get_or, map, All, Contains, unsigned_abs, refl, sym, ap, ap₂, subst, ◌∙◌, mul-pos, mul-le-mul_right, arith}
 use Rattle.std.specs.List.{range_with_len, list_any}
-use Rattle.std.proofs.Math.Nat.{add-mod_right}
 use Rattle.std.proofs.lemmas.List.FromFn.{length-map-range_with_len}
 use Rattle.gj_frac.specs.Fraction.{Fits}
 use Rattle.gj_tools.proofs.Lists.{All-made}
@@ -12,17 +11,15 @@ use Rattle.gj_shape.specs.Perturbation.{zigzag, perturbation_of}
 use Rattle.gj_shape.specs.SlopeRows.{SolveRows}
 use Rattle.gj_shape.specs.Table.{table, IsMinimal}
 use Rattle.gj_shape.proofs.AtLemmas.{all_at}
-use Rattle.gj_shape.proofs.TableLemmas.{period_of_parts}
 use Rattle.gj_theory.specs.Halves.{IsPerturbation}
 use Rattle.gj_theory.specs.Uncovered.{AreUncoveredClasses}
 use Rattle.gj_theory.proofs.CoverPaths.{all_contained}
 use Rattle.gj_theory.proofs.HalvesAsLists.{at_made}
 use Rattle.gj_theory.proofs.SlopePerturbations.{slopes_perturb, slopes_not_zero}
-use Rattle.gj_theory.proofs.Zigzags.{zigzag_perturbs, zigzag_at_quarter}
+use Rattle.gj_theory.proofs.Zigzags.{zigzag_perturbs, zigzag_period, zigzag_at_quarter}
 use Rattle.gj_perturb.specs.SlopeSums.{slope_at, slope_sum}
 use Rattle.gj_perturb.specs.Split.{CanSplit, IsWide}
 use Rattle.gj_perturb.specs.declared.tables.Perturbation.{Perturbation}
-use Rattle.gj_perturb.proofs.ChosenIntervals.{is_among, quarter_value}
 use Rattle.gj_perturb.proofs.TableParts.{scale_small}
 
 same_perturbation : (t g h : ℕ → ℤ) (n k : ℕ) → ((i : ℕ) → h i ≡ g i) → IsPerturbation t n k g → IsPerturbation t n k h
@@ -53,11 +50,6 @@ listed_can_split f p m g i l low high perturbs some times values fits =
     }
 
 -- ---- the zigzag
-
-zigzag_period : (q : ℕ) (class : List ℕ) (i : ℕ) → zigzag q class (i + q * 4) ≡ zigzag q class i
-zigzag_period q class i =
-    period_of_parts (λ k r. quarter_value (is_among class (k % q)) r) q 4 i (omega arith)
-    (λ a r. ap (λ k. quarter_value (is_among class k) r) (add-mod_right a q))
 
 -- the list of the zigzag has its values
 pub zigzag_at_list : (q : ℕ) (class : List ℕ) (xs : List ℤ) → 0 < q →

@@ -213,7 +213,7 @@ apart_from_cover q Tight class some h = record {
 
 -- ---- the zigzag
 
-zigzag_period : (q : ℕ) (class : List ℕ) (i : ℕ) → zigzag q class (i + q * 4) ≡ zigzag q class i
+pub zigzag_period : (q : ℕ) (class : List ℕ) (i : ℕ) → zigzag q class (i + q * 4) ≡ zigzag q class i
 zigzag_period q class i =
     period_of_parts (λ k r. bump_where (chosen_by q class k) r) q 4 i (omega arith)
     (λ a r. ap (λ k. bump_where (list_any (λ c. c == k) class) r) (add-mod_right a q))
