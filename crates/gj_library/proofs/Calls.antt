@@ -6,6 +6,7 @@ use Rattle.std.specs.Str.{IsUtf8}
 use Rattle.std.specs.declared.alloc.Global.{Global}
 use Rattle.gj_port.specs.Faults.{HasFailed}
 use Rattle.gj_port.specs.MemorySource.{MemorySource, never_fails}
+use Rattle.gj_shape.specs.FunctionData.{FunctionData}
 use Rattle.gj_words.specs.Grammar.{HasFlag, command_words, json_word}
 use Rattle.gj_words.specs.declared.requests.Command.{Command}
 use Rattle.gj_words.specs.declared.requests.Command.TheVariants.{Minimal, Extreme, Cut, Check, Show, Faces, Demo, Mixed, Fill, Group, Times, Mirror, Restrict}
@@ -17,10 +18,12 @@ use Rattle.gj_top.specs.Answer.IsAnswer.{no_request, read_fault, of_request}
 use Rattle.gj_top.specs.Causes.{IsTrueRun, IsDoneRun, IsCause, IsGoodInput, IsStatusOfReply}
 use Rattle.gj_top.specs.Code.{code_of}
 use Rattle.gj_top.specs.Command.{IsNamed, task_for}
+use Rattle.gj_top.specs.Narrow.{AskIfExtreme, HasUncoveredInterval, HasAtMostComponents}
 use Rattle.gj_top.specs.Outcome.{IsOutcome, IsTold}
 use Rattle.gj_top.specs.Outcome.IsOutcome.{silent, told, cut_off}
 use Rattle.gj_top.proofs.Clauses.{no_write_fault, failed_source, headline_clause, reply_clause, cause_clause, complete_clause}
 use Rattle.gj_top.proofs.Ends.{not_answered}
+use Rattle.gj_top.proofs.NeverWide.{narrow_clause}
 use Rattle.gj_library.specs.Call.{AreWordsOf, OfWords, IsAnswered, IsCall, IsTooSmall}
 use Rattle.gj_library.proofs.Codes.{status_is}
 
@@ -206,6 +209,14 @@ module _ (bytes input : List ℕ) (room : ℕ) (text : List ℕ) (code : ℕ) (c
       c.code_is,
       cause_clause c.words ⊥ (Some input) c.left (Some []) (Some text) room c.status c.outcome input (λ r named reads. refl),
     ),
+  )
+
+  pub narrow_of : code ≡ 7 → OfWords bytes (λ given. (f : FunctionData) → AskIfExtreme given input f → HasUncoveredInterval f ⊎ HasAtMostComponents 4 f → ⊥)
+  narrow_of e = (
+    c.words,
+    c.are_words,
+    λ f asked few. narrow_clause c.words ⊥ (Some input) c.left (Some []) (Some text) room c.status c.outcome input f (λ r named reads. refl) asked few
+        (status_is c.status 7 (sym c.code_is ∙ e)),
   )
 
   pub no_read_fault_of : code ≢ 4

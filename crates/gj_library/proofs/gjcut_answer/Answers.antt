@@ -1,6 +1,6 @@
-use Rattle.std.proofs.Common.{◌≡◌, ℕ, List, length, take, drop, ◌++◌, subst, sym, arith}
+use Rattle.std.proofs.Common.{ℕ, List, length, take, drop, ◌++◌, subst, sym, arith}
 use Rattle.gj_library.specs.Call.{IsAnswered, IsCall}
-use Rattle.gj_library.proofs.Calls.{front_call, whole_call, headline_of, reply_of, cause_of, no_read_fault_of, room_of, complete_of, no_text_of}
+use Rattle.gj_library.proofs.Calls.{front_call, whole_call, headline_of, reply_of, cause_of, narrow_of, no_read_fault_of, room_of, complete_of, no_text_of}
 use Rattle.gj_library.proofs.gjcut_answer.Goals as goal
 
 -- there is no room for all of the answer
@@ -39,6 +39,9 @@ returns-clause-outcome c = λ memory. whole c
 
 pub returns-clause-cause : goal.returns-clause-cause
 returns-clause-cause c = λ memory. cause_of _ _ _ _ _ (whole c)
+
+pub returns-clause-narrow : goal.returns-clause-narrow
+returns-clause-narrow c = narrow_of _ _ _ _ _ (whole c)
 
 pub returns-clause-no_text : goal.returns-clause-no_text
 returns-clause-no_text c = no_text_of _ _ _ _ _ (whole c)
