@@ -32,9 +32,9 @@ enum gjcut_status {
  *
  * What a caller owes, since nothing tests it:
  * - `words`, `input` and `output` point to as many bytes as their lengths say, less than 2^63, and `written` to a number. No pointer
- *   is NULL, not even where a length is 0.
+ *   is NULL, not even if a length is 0.
  * - `output` and `*written` overlap nothing else that is handed over, and during the call nobody else reads or writes them, nor writes
- *   `words` or `input`. Calls at one time from several threads are fine where each has an output and a number of its own.
+ *   `words` or `input`. Calls at one time from several threads are fine if each has an output and a number of its own.
  * - malloc, realloc and free of the program belong together, and malloc and realloc align a block to each power of two up to 16 that
  *   divides its size, as those of the C library do.
  * - The call is not made in a signal handler, nor in the child of a fork in a process with threads.
