@@ -1,14 +1,15 @@
 -- Tables by the values of one period: what is asked of these (own).
-use Rattle.std.specs.Prelude.{ℕ, ℤ, pos, ◌≡◌, ◌+◌, ◌-◌, ◌*◌, ◌<◌, ◌≤◌, ◌^◌, ◌+ℤ◌, ◌≤ℤ◌, List, length, slice_index_or}
+use Rattle.std.specs.Prelude.{ℕ, ℤ, pos, ◌≡◌, ◌+◌, ◌-◌, ◌*◌, ◌<◌, ◌≤◌, ◌+ℤ◌, ◌≤ℤ◌, List, length, slice_index_or}
 use Rattle.gj_shape.specs.FunctionData.{at}
+use Rattle.gj_shape.specs.Limits.{greatest_halves_order, greatest_halves_scale}
 
 -- the values lie from 0 to the scale, which is at most 2^124; there are at most 4,000, and the place is one of theirs
 pub record IsTableInRange (values : List ℤ) (place : ℕ) (scale : ℤ) : Type 0 where
   pub place_below : place < length values
-  pub few : length values ≤ 4000
+  pub few : length values ≤ greatest_halves_order
   pub low : (i : ℕ) → pos 0 ≤ℤ at values i
   pub high : (i : ℕ) → at values i ≤ℤ scale
-  pub scale_high : scale ≤ℤ pos (2 ^ 124)
+  pub scale_high : scale ≤ℤ pos greatest_halves_scale
 
 -- the value at i and that at the place opposite to it add up to the scale
 abbrev pub IsSymmetricIn : List ℤ → ℕ → ℤ → ℕ → Type 0

@@ -1,7 +1,8 @@
 //! The rules on halves: two different minimal tables that average to that of the function.
-ghost use Rattle.std.specs.Prelude.{ℕ, pos, ◌≡◌, ◌↔◌, ◌+ℤ◌, ◌*ℤ◌, ◌*◌, ◌<◌, ◌≤◌, ◌^◌, ◌≤ℤ◌, IsTrue, OnOk, IfOk, IfErr, IfSome, IfNone, length, unsigned_abs};
+ghost use Rattle.std.specs.Prelude.{ℕ, pos, ◌≡◌, ◌↔◌, ◌+ℤ◌, ◌*ℤ◌, ◌*◌, ◌<◌, ◌≤◌, ◌≤ℤ◌, IsTrue, OnOk, IfOk, IfErr, IfSome, IfNone, length, unsigned_abs};
 ghost use Rattle.gj_shape.specs.Perturbation.{AreHalvesInBounds};
 ghost use Rattle.gj_shape.specs.FunctionData.{IsWithinBounds, IsContinuous, at};
+ghost use Rattle.gj_shape.specs.Limits.{greatest_halves_scale};
 ghost use Rattle.gj_shape.specs.Table.{table};
 ghost use Rattle.gj_proof.specs.Rules.{MeetsRules, MeetsScale, MeetsRange, MeetsAverage, IsMinimalHalf};
 ghost use Rattle.gj_proof.specs.declared.claim.Claim.TheVariants as claim;
@@ -151,7 +152,7 @@ fn meets_average(shape: &Shape, halves: &Halves, refinement: Refinement, index: 
 fn is_twice_the_value(shape: &Shape, refinement: Refinement, index: usize, sum: i128) -> bool
     requires continuous { IsContinuous shape.now }
     requires some { 0 < refinement.times }
-    requires factor { refinement.factor ≤ 2 ^ 124 }
+    requires factor { refinement.factor ≤ greatest_halves_scale }
     requires within { index < shape.now.order * refinement.times }
     ensures { IsTrue result
         ↔ (sum ≡ pos (2 * refinement.factor) *ℤ table shape.now refinement.times index) }

@@ -1,6 +1,7 @@
 //! Minimal tables: the tests of the values of one period.
-ghost use Rattle.std.specs.Prelude.{ℤ, List, pos, ◌≡◌, ◌↔◌, ◌+◌, ◌*◌, ◌<◌, ◌≤◌, ◌^◌, ◌<ℤ◌, IsTrue, IfOk, length, unsigned_abs};
+ghost use Rattle.std.specs.Prelude.{ℤ, List, pos, ◌≡◌, ◌↔◌, ◌+◌, ◌*◌, ◌<◌, ◌≤◌, ◌<ℤ◌, IsTrue, IfOk, length, unsigned_abs};
 ghost use Rattle.gj_shape.specs.FunctionData.{at};
+ghost use Rattle.gj_shape.specs.Limits.{greatest_halves_order};
 ghost use Rattle.gj_shape.specs.Table.{IsMinimalTable};
 ghost use Rattle.gj_check.specs.Tables.{IsTableInRange, IsSymmetricList, IsSubadditiveUpTo, IsSubadditiveList, HasSubadditiveTotal, HasSubadditiveTotals, HaveTwoPeriods, AreTwoPeriods};
 
@@ -105,7 +106,7 @@ fn two_periods<E: Entry>(
 /// modulo their number the pairs of any two pass or fail together, if the values are symmetric: only that of the two least is tried.
 pub(crate) fn has_subadditive_totals<E: Entry>(entries: &[E], count: usize, place: usize) -> bool
     requires periods { HaveTwoPeriods E.number entries.now count }
-    requires few { count ≤ 4000 }
+    requires few { count ≤ greatest_halves_order }
     requires place { place < count }
     ensures { (values : List ℤ) → length values ≡ count → AreTwoPeriods E.number entries.now values
         → IsTrue result ↔ HasSubadditiveTotals values place }
@@ -122,7 +123,7 @@ pub(crate) fn has_subadditive_totals<E: Entry>(entries: &[E], count: usize, plac
 /// The same for three indices with this total. The least of them, i, is at most a third of it, and the others are below the count.
 fn has_subadditive_total<E: Entry>(entries: &[E], count: usize, total: usize) -> bool
     requires periods { HaveTwoPeriods E.number entries.now count }
-    requires few { count ≤ 4000 }
+    requires few { count ≤ greatest_halves_order }
     requires total { total < 12000 }
     ensures { (values : List ℤ) → length values ≡ count → AreTwoPeriods E.number entries.now values
         → IsTrue result ↔ HasSubadditiveTotal values total }
@@ -140,7 +141,7 @@ fn has_subadditive_total<E: Entry>(entries: &[E], count: usize, total: usize) ->
 /// The same for one i as the least of the three: no rise from a value to that at the sum is above the value at i.
 fn is_subadditive_part<E: Entry>(entries: &[E], count: usize, total: usize, i: usize) -> bool
     requires periods { HaveTwoPeriods E.number entries.now count }
-    requires few { count ≤ 4000 }
+    requires few { count ≤ greatest_halves_order }
     requires total { total < 12000 }
     requires within { i < count }
     requires least { 3 * i ≤ total }

@@ -15,8 +15,6 @@ mod intervals;
 mod limits;
 mod projecting;
 mod square;
-#[cfg(test)]
-mod tests;
 
 pub use all_faces::walk;
 pub use face_walk::FaceWalk;

@@ -7,6 +7,7 @@ use Rattle.gj_shape.specs.Elimination.{KeptRow, Elimination, Solution, Passes, a
 use Rattle.gj_shape.specs.Extreme.{IsExtremeTable}
 use Rattle.gj_shape.specs.FirstViolation.{IsFirstViolation}
 use Rattle.gj_shape.specs.FunctionData.{FunctionData, IsContinuous}
+use Rattle.gj_shape.specs.Limits.{greatest_halves_scale}
 use Rattle.gj_shape.specs.Perturbation.{AreHalvesOf, perturbation_of, zigzag}
 use Rattle.gj_shape.specs.SlopeRows.{row_names}
 use Rattle.gj_shape.specs.Table.{table, IsMinimal}
@@ -114,7 +115,7 @@ IsByTable f (NotExtreme g h) = IsExtremeOnGrid4 f → ⊥
 pub data IsWideBehind (f : FunctionData) (component : ℕ → ℕ) (s : Solution) : Type 0 where
   kernel_passes : Passes s.marked → IsWideBehind f component s
   perturbation_passes : (i : ℕ) → i < f.order → 2 ^ 127 ≤ unsigned_abs (slope_perturbation f component s.numbers i) → IsWideBehind f component s
-  scale_passes : (h : Halves) → AreHalvesOf f 1 (slope_perturbation f component s.numbers) h → pos (2 ^ 124) <ℤ h.scale → IsWideBehind f component s
+  scale_passes : (h : Halves) → AreHalvesOf f 1 (slope_perturbation f component s.numbers) h → pos greatest_halves_scale <ℤ h.scale → IsWideBehind f component s
 
 -- all intervals are covered, and a number of the elimination is above 2^127 - 1 in absolute value and residues keep fewer rows than
 -- there are components, or none is, and one of those behind it is too wide

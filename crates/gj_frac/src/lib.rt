@@ -24,8 +24,6 @@ mod operators;
 mod parts;
 mod products;
 mod rounding;
-#[cfg(test)]
-mod tests;
 
 pub use checked::{DivFault, Wide};
 pub use divisors::{gcd, lcm};

@@ -1,6 +1,7 @@
 -- What can be split into halves, and what the halves are to be (own).
-use Rattle.std.specs.Prelude.{ℕ, pos, ◌≡◌, ◌≢◌, ◌*◌, ◌<◌, ◌≤◌, ◌^◌, length, All}
+use Rattle.std.specs.Prelude.{ℕ, pos, ◌≡◌, ◌≢◌, ◌*◌, ◌<◌, ◌≤◌, length, All}
 use Rattle.gj_shape.specs.FunctionData.{FunctionData, at}
+use Rattle.gj_shape.specs.Limits.{greatest_halves_scale}
 use Rattle.gj_shape.specs.Perturbation.{IsGreatestSize}
 use Rattle.gj_shape.specs.Table.{table}
 use Rattle.gj_theory.specs.Halves.{IsPerturbation}
@@ -22,4 +23,4 @@ pub record CanSplit (f : FunctionData) (p : Perturbation) : Type 0 where
 pub record IsWide (f : FunctionData) (p : Perturbation) : Type 0 where
   pub size : ℕ
   pub greatest : IsGreatestSize (at p.values) size
-  pub above : 2 ^ 124 < 3 * size * (f.scale * p.times)
+  pub above : greatest_halves_scale < 3 * size * (f.scale * p.times)

@@ -2,6 +2,7 @@
 ghost use Rattle.std.specs.Prelude.{ℕ, ℤ, pos, ◌≡◌, ◌+◌, ◌*◌, ◌<◌, ◌≤◌, ◌^◌, length, map, All, IfOk, unsigned_abs};
 ghost use Rattle.std.specs.List.{range_with_len};
 ghost use Rattle.gj_shape.specs.FunctionData.{IsWithinBounds, IsContinuous, at};
+ghost use Rattle.gj_shape.specs.Limits.{greatest_halves_order};
 ghost use Rattle.gj_shape.specs.Table.{table};
 ghost use Rattle.gj_perturb.specs.Moves.{IsNumerator};
 
@@ -33,7 +34,7 @@ fn table_entry(shape: &Shape, times: u32, i: u32) -> i64
     requires continuous { IsContinuous shape.now }
     requires low { 1 ≤ times }
     requires high { times ≤ 4 }
-    requires below { i < 4000 }
+    requires below { i < greatest_halves_order }
     ensures { result ≡ table shape.now times i }
 {
     let start = i / times;

@@ -2,6 +2,7 @@
 ghost use Rattle.std.specs.Prelude.{ℕ, ℤ, pos, ◌≡◌, ◌+◌, ◌*◌, ◌+ℤ◌, ◌*ℤ◌, ◌<◌, ◌≤◌, ◌^◌, length, map, get_or, All, IfOk, OnOk, IsErrOf, MatchOption, unsigned_abs};
 ghost use Rattle.std.specs.List.{range_with_len};
 ghost use Rattle.gj_shape.specs.FunctionData.{IsWithinBounds, IsContinuous, at};
+ghost use Rattle.gj_shape.specs.Limits.{greatest_halves_scale};
 ghost use Rattle.gj_shape.specs.Perturbation.{IsGreatestSize, AreHalvesOf, AreHalvesInBounds};
 ghost use Rattle.gj_shape.specs.Table.{table, IsMinimal};
 ghost use Rattle.gj_theory.specs.Halves.{AreDifferentHalves};
@@ -12,11 +13,8 @@ use crate::faults::SplitFault;
 use crate::grid::table_on_grid;
 use crate::slacks::least_slack;
 use crate::tables::Perturbation;
-use gj_shape::{Halves, List, Shape};
+use gj_shape::{GREATEST_HALVES_SCALE, Halves, List, Shape};
 use std::alloc::{AllocError, Global};
-
-/// The greatest scale of halves, which a proof text can have.
-const GREATEST_SCALE: u128 = 1 << 124;
 
 /// The halves of a perturbation of a minimal continuous function: with the least positive slack u of the function's table on the
 /// perturbation's grid and the greatest absolute value P of the perturbation, the table plus and minus u/(3 P) times the
@@ -71,12 +69,12 @@ fn greatest_size(values: &[i128]) -> u128
 /// The scale of halves, if it does not pass 2^124.
 fn scale_of_halves(shape: &Shape, times: u32, size: u128) -> Option<i128>
     requires { times ≤ 4 }
-    ensures { MatchOption result (2 ^ 124 < 3 * size * (shape.now.scale * times))
-        (λ s. (s ≡ pos (3 * size * (shape.now.scale * times))) × (3 * size * (shape.now.scale * times) ≤ 2 ^ 124)) }
+    ensures { MatchOption result (greatest_halves_scale < 3 * size * (shape.now.scale * times))
+        (λ s. (s ≡ pos (3 * size * (shape.now.scale * times))) × (3 * size * (shape.now.scale * times) ≤ greatest_halves_scale)) }
 {
     let unit = 3 * (shape.common_denominator() as u128 * u128::from(times));
     match size.checked_mul(unit) {
-        Some(scale) if scale <= GREATEST_SCALE => Some(scale as i128),
+        Some(scale) if scale <= GREATEST_HALVES_SCALE as u128 => Some(scale as i128),
         _ => None,
     }
 }

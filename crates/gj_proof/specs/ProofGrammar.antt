@@ -1,5 +1,5 @@
 -- Proof texts as a part of a text: what each line says, and which rule it breaks first (own).
-use Rattle.std.specs.Prelude.{ℕ, zero, suc, ℤ, pos, ◌≡◌, ◌≢◌, ◌⊎◌, ◌<◌, ◌≤◌, ◌^◌, ◌≤ℤ◌, List, [], ◌∷◌, ◌++◌, All, codes, decimal}
+use Rattle.std.specs.Prelude.{ℕ, zero, suc, ℤ, pos, ◌≡◌, ◌≢◌, ◌⊎◌, ◌<◌, ◌≤◌, ◌≤ℤ◌, List, [], ◌∷◌, ◌++◌, All, codes, decimal}
 use Rattle.std.specs.Fmt.{signed_decimal}
 use Rattle.std.proofs.Common.{inl, inr}
 use Rattle.gj_frac.specs.Fraction.{Fits}
@@ -24,7 +24,7 @@ use Rattle.gj_lines.specs.FunctionGrammar.{function_part}
 use Rattle.gj_theory.specs.Modulus.{modulus}
 use Rattle.gj_proof.specs.ProofText.{reason_word, extreme_claim, IsCoverLineBelow, IsRowNameBelow}
 use Rattle.gj_lex.specs.Parts.{BeginsWithLine, BeginsWithWord, where_part}
-use Rattle.gj_shape.specs.Limits.{greatest_order}
+use Rattle.gj_shape.specs.Limits.{greatest_order, greatest_halves_order, greatest_halves_scale}
 use Rattle.gj_proof.specs.declared.claim.Claim.{Claim}
 use Rattle.gj_proof.specs.declared.claim.Claim.TheVariants as claim
 use Rattle.gj_proof.specs.declared.claim.ClaimWord.{ClaimWord}
@@ -302,9 +302,9 @@ groups_part q = loop_part (next_group q)
 -- the order and the scale are within the limits
 pub record IsHeadInBounds (h : HalvesHead) : Type 0 where
   pub order_low : 2 ≤ h.order
-  pub order_high : h.order ≤ 4000
+  pub order_high : h.order ≤ greatest_halves_order
   pub scale_low : pos 1 ≤ℤ h.scale
-  pub scale_high : h.scale ≤ℤ pos (2 ^ 124)
+  pub scale_high : h.scale ≤ℤ pos greatest_halves_scale
 
 -- `halves N S`
 abbrev pub halves_words : List ℕ → List ℕ → List (List ℕ)

@@ -6,7 +6,10 @@ ghost use Rattle.gj_proof.specs.ProofText.{IsCoverLineBelow, IsRowNameBelow, IsP
 ghost use Rattle.gj_proof.specs.ProofGrammar.{IsHeadInBounds};
 
 use crate::pivot::PivotRow;
-use gj_shape::{CoverLine, FaceKind, GREATEST_ORDER, Halves, RowName};
+use gj_shape::{
+    CoverLine, FaceKind, GREATEST_HALVES_ORDER, GREATEST_HALVES_SCALE, GREATEST_ORDER, Halves,
+    RowName,
+};
 
 /// Whether the intervals and the square of each line are below the order, and no face is a vertex.
 pub(crate) fn are_cover_lines_below(order: u32, lines: &[CoverLine]) -> bool
@@ -72,7 +75,7 @@ pub(crate) fn are_halves_in_bounds(halves: &Halves) -> bool
 pub(crate) fn is_head_in_bounds(order: u32, scale: i128) -> bool
     ensures { IsTrue result ↔ IsHeadInBounds (record { order = order; scale = scale }) }
 {
-    2 <= order && order <= 4000 && 1 <= scale && scale <= 1 << 124
+    2 <= order && order <= GREATEST_HALVES_ORDER && 1 <= scale && scale <= GREATEST_HALVES_SCALE
 }
 
 /// Whether all numbers are at most 2^127 - 1 in absolute value.

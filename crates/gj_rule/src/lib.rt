@@ -12,8 +12,6 @@ mod evaluator;
 mod evaluators;
 mod kind;
 mod rule;
-#[cfg(test)]
-mod tests;
 
 pub use evaluator::Evaluator;
 pub use evaluators::{gmic_value, is_in_range, quotient, table_value};

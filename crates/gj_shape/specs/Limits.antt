@@ -1,4 +1,4 @@
--- The limits of functions and of the numbers in rows (own).
+-- The limits of functions, of halves and of the numbers in rows (own).
 use Rattle.std.specs.Prelude.{ℕ, ◌*◌, ◌^◌}
 use Rattle.gj_frac.specs.declared.Frac.{Frac}
 use Rattle.gj_frac.specs.Fraction.{IsAtMost, HasDenominatorBelow}

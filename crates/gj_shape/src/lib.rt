@@ -35,7 +35,10 @@ pub use faces::{Face, FaceKind};
 pub use faults::ShapeFault;
 pub use index::wrapped;
 pub use laws::{one_function_has_breaks, one_function_is_given};
-pub use limits::{GREATEST_DENOMINATOR, GREATEST_NUMBER, GREATEST_ORDER, GREATEST_VALUE};
+pub use limits::{
+    GREATEST_DENOMINATOR, GREATEST_HALVES_ORDER, GREATEST_HALVES_SCALE, GREATEST_NUMBER,
+    GREATEST_ORDER, GREATEST_VALUE,
+};
 pub use list::List;
 pub use points::{Point, PointFault, Points};
 pub use shape::Shape;
