@@ -5,9 +5,9 @@ use Rattle.std.proofs.lemmas.Int.{ints, to_z-of_z}
 use Rattle.gj_shape.specs.FunctionData.{FunctionData, IsWithinBounds, at}
 use Rattle.gj_shape.specs.Faces.{slack_from}
 use Rattle.gj_shape.proofs.NumeratorReadings.{value_below, small_read}
-use Rattle.gj_theory.specs.EarlierTests.{PassesSymmetry}
+use Rattle.gj_theory.specs.EarlierTests.{PassesVertex, PassesSymmetry}
 use Rattle.gj_theory.proofs.Lanes.{are_bounded}
-use Rattle.gj_check.specs.Tests.{IsSubadditiveVertex, IsSubadditiveOnGrid}
+use Rattle.gj_check.specs.Tests.{IsSubadditiveOnGrid}
 use Rattle.gj_check.specs.Tables.{IsTableInRange, IsSymmetricList, IsSubadditivePair, IsSubadditiveList, HasSubadditiveTotals}
 use Rattle.gj_check.proofs.TableTests.{totals_decide}
 
@@ -37,7 +37,7 @@ symmetric_values f l h =
 slack_of_pair : (x y s : ℤ) → s ≤ℤ (x +ℤ y) ↔ (pos 0 ≤ℤ slack_from x y s)
 slack_of_pair x y s = (λ h. omega (arith, ints), λ h. omega (arith, ints))
 
-pair_is_vertex : (f : FunctionData) (a b : ℕ) → IsSubadditivePair f.value a b ↔ IsSubadditiveVertex f a b
+pair_is_vertex : (f : FunctionData) (a b : ℕ) → IsSubadditivePair f.value a b ↔ PassesVertex f a b
 pair_is_vertex f a b = slack_of_pair (at f.value a) (at f.value b) (at f.value (a + b))
 
 pairs_are_vertices : (f : FunctionData) → IsWithinBounds f → IsSubadditiveList f.value ↔ IsSubadditiveOnGrid f

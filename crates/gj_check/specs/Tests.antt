@@ -5,7 +5,7 @@ use Rattle.gj_shape.specs.Faces.{corners_of}
 use Rattle.gj_shape.specs.FirstViolation.{Passes}
 use Rattle.gj_shape.specs.FirstViolation.Test.{nonnegative_at, nonnegative_after, nonnegative_before, symmetric_at, symmetric_between, subadditive_at}
 use Rattle.gj_shape.specs.declared.faces.FaceKind.{FaceKind}
-use Rattle.gj_shape.specs.declared.faces.FaceKind.TheVariants.{Vertex}
+use Rattle.gj_theory.specs.EarlierTests.{PassesVertex}
 
 -- no value at i/q, and none from there to (i + 1)/q, is negative
 abbrev pub IsNonnegativeAt : FunctionData → ℕ → Type 0
@@ -36,10 +36,6 @@ IsSubadditiveRow f a = (b : ℕ) → a ≤ b → b < f.order → IsSubadditiveAt
 abbrev pub IsSubadditive : FunctionData → Type 0
 IsSubadditive f = (a b : ℕ) → a < f.order → b < f.order → IsSubadditiveAt f a b
 
--- the slack at (a/q, b/q) is not negative
-abbrev pub IsSubadditiveVertex : FunctionData → ℕ → ℕ → Type 0
-IsSubadditiveVertex f a b = Passes f (subadditive_at Vertex a b 0)
-
--- for all a and b
+-- the slack at (a/q, b/q) is not negative, for all a and b
 abbrev pub IsSubadditiveOnGrid : FunctionData → Type 0
-IsSubadditiveOnGrid f = (a b : ℕ) → a < f.order → b < f.order → IsSubadditiveVertex f a b
+IsSubadditiveOnGrid f = (a b : ℕ) → a < f.order → b < f.order → PassesVertex f a b

@@ -15,10 +15,10 @@ use crate::lane::Lane;
 use crate::pieces::{adds_up, wrapped};
 use crate::squares::{Lanes, write_pieces};
 use crate::tables::has_subadditive_totals;
-use gj_shape::Shape;
+use gj_shape::{GREATEST_ORDER, Shape};
 
-/// How many entries or lanes there are: those of two periods, since the order is at most 1,000.
-const COUNT: usize = 2_000;
+/// How many entries or lanes there are: those of two periods of the greatest order.
+const COUNT: usize = 2 * GREATEST_ORDER as usize;
 
 /// Whether all tests of minimality pass. It takes no memory.
 pub(crate) fn is_minimal(shape: &Shape) -> bool

@@ -2,7 +2,8 @@
 ghost use Rattle.std.specs.Prelude.{◌≡◌, ◌<◌, ◌^◌, length, get_or, pos, unsigned_abs};
 ghost use Rattle.gj_shape.specs.FunctionData.{at};
 ghost use Rattle.gj_shape.specs.Faces.{corners_of, slack_from};
-ghost use Rattle.gj_complex.specs.Bounds.{IsNumerator, AreNumerators};
+ghost use Rattle.gj_shape.specs.Limits.{IsNumerator};
+ghost use Rattle.gj_complex.specs.Bounds.{AreNumerators};
 
 use gj_shape::{FaceKind, Shape, wrapped};
 

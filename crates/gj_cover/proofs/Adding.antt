@@ -3,7 +3,8 @@ use Rattle.std.proofs.Common.{◌≡◌, ℕ, ◌≤◌, ◌⊎◌, Option, Some
 use Rattle.std.proofs.lemmas.Bool.{cases_order}
 use Rattle.gj_shape.specs.declared.faces.Face.{Face}
 use Rattle.gj_shape.specs.declared.faces.FaceKind.{FaceKind}
-use Rattle.gj_cover.specs.FirstFound.{rank, IsNotBefore, IsThis, IsReached, AddsFirst}
+use Rattle.gj_shape.specs.WalkOrder.{position_of_kind}
+use Rattle.gj_cover.specs.FirstFound.{IsNotBefore, IsThis, IsReached, AddsFirst}
 use Rattle.gj_cover.proofs.Merging.{not_before}
 
 -- faces of two sorts
@@ -13,7 +14,7 @@ EitherOf S T kind a b = S kind a b ⊎ T kind a b
 -- ---- walk order
 
 -- a face that is not behind another is not behind one of the same square with a rank that is not lower
-pub ranked_behind : (f : Face) (kind other : FaceKind) (a b : ℕ) → rank kind ≤ rank other → IsNotBefore f kind a b →
+pub ranked_behind : (f : Face) (kind other : FaceKind) (a b : ℕ) → position_of_kind kind ≤ position_of_kind other → IsNotBefore f kind a b →
     IsNotBefore f other a b
 ranked_behind f kind other a b r (inl x) = inl x
 ranked_behind f kind other a b r (inr (x, inl y)) = inr (x, inl y)
@@ -27,7 +28,7 @@ beyond : (f : Face) (kind : FaceKind) (a b : ℕ) → (IsNotBefore f kind a b �
     IsNotBefore (record { kind = kind; a = a; b = b }) f.kind f.a f.b
 beyond f kind a b not = elim (cases_order f.a a) [
   | inl row ↦ elim (cases_order f.b b) [
-    | inl column ↦ elim (cases_order (rank f.kind) (rank kind)) [
+    | inl column ↦ elim (cases_order (position_of_kind f.kind) (position_of_kind kind)) [
       | inl same ↦ absurd (not (inr (row, inr (column, omega arith))))
       | inr k ↦ elim k [
         | inl low ↦ absurd (not (inr (row, inr (column, omega arith))))

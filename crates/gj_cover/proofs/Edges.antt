@@ -6,7 +6,7 @@ use Rattle.gj_shape.specs.Additive.{IsAdditive}
 use Rattle.gj_shape.specs.Cover.{Joins, AreJoined}
 use Rattle.gj_shape.specs.declared.faces.FaceKind.{FaceKind}
 use Rattle.gj_shape.specs.declared.faces.FaceKind.TheVariants.{Vertex, Horizontal, Vertical, Diagonal, Lower, Upper}
-use Rattle.gj_cover.specs.FirstFound.{rank}
+use Rattle.gj_shape.specs.WalkOrder.{position_of_kind}
 use Rattle.gj_cover.specs.Links.{Links, diagonal, horizontal, vertical, LeadsBy}
 use Rattle.gj_faces.proofs.Periods.{same_sum}
 use Rattle.gj_cover.proofs.Parts.{Corners, corners, additive, corners_same, Intervals, intervals, one_of, HasPeriod}
@@ -194,9 +194,9 @@ pub record IsLed (q : ℕ) (T : ℕ → ℕ → Type 0) (kind : FaceKind) (a b i
   pub by : FaceKind
   pub leads : LeadsBy q i j by a b ⊎ LeadsBy q j i by a b
   pub additive : IsAdditive T by a b
-  pub low : rank by ≤ rank kind
+  pub low : position_of_kind by ≤ position_of_kind kind
 
-led_horizontal : (q : ℕ) (T : ℕ → ℕ → Type 0) (kind : FaceKind) (a b i j : ℕ) → 1 ≤ rank kind → AreTwo q i j → IsSquare q a b →
+led_horizontal : (q : ℕ) (T : ℕ → ℕ → Type 0) (kind : FaceKind) (a b i j : ℕ) → 1 ≤ position_of_kind kind → AreTwo q i j → IsSquare q a b →
     Corners T Horizontal a b → Intervals q Horizontal a b i → Intervals q Horizontal a b j → IsLed q T kind a b i j
 led_horizontal q T kind a b i j r t s h (inl x) (inl y) = clash q a i j t.first t.second t.different x y
 led_horizontal q T kind a b i j r t s h (inl x) (inr y) = record {
@@ -213,7 +213,7 @@ led_horizontal q T kind a b i j r t s h (inr x) (inl y) = record {
 }
 led_horizontal q T kind a b i j r t s h (inr x) (inr y) = clash q (a + b) i j t.first t.second t.different x y
 
-led_vertical : (q : ℕ) (T : ℕ → ℕ → Type 0) (kind : FaceKind) (a b i j : ℕ) → 2 ≤ rank kind → AreTwo q i j → IsSquare q a b →
+led_vertical : (q : ℕ) (T : ℕ → ℕ → Type 0) (kind : FaceKind) (a b i j : ℕ) → 2 ≤ position_of_kind kind → AreTwo q i j → IsSquare q a b →
     Corners T Vertical a b → Intervals q Vertical a b i → Intervals q Vertical a b j → IsLed q T kind a b i j
 led_vertical q T kind a b i j r t s h (inl x) (inl y) = clash q b i j t.first t.second t.different x y
 led_vertical q T kind a b i j r t s h (inl x) (inr y) = record {
@@ -230,7 +230,7 @@ led_vertical q T kind a b i j r t s h (inr x) (inl y) = record {
 }
 led_vertical q T kind a b i j r t s h (inr x) (inr y) = clash q (a + b) i j t.first t.second t.different x y
 
-led_diagonal : (q : ℕ) (T : ℕ → ℕ → Type 0) (kind : FaceKind) (a b i j : ℕ) → 3 ≤ rank kind → AreTwo q i j → IsSquare q a b →
+led_diagonal : (q : ℕ) (T : ℕ → ℕ → Type 0) (kind : FaceKind) (a b i j : ℕ) → 3 ≤ position_of_kind kind → AreTwo q i j → IsSquare q a b →
     Corners T Diagonal a b → Intervals q Diagonal a b i → Intervals q Diagonal a b j → IsLed q T kind a b i j
 led_diagonal q T kind a b i j r t s h (inl x) (inl y) = clash q a i j t.first t.second t.different x y
 led_diagonal q T kind a b i j r t s h (inl x) (inr y) = record {

@@ -3,7 +3,8 @@ use Rattle.std.proofs.Common.{ℕ, ◌<◌, refl, sym, subst, inl, inr, arith}
 use Rattle.std.proofs.lemmas.Bool.{cases_lt}
 use Rattle.gj_shape.specs.declared.faces.FaceKind.{FaceKind}
 use Rattle.gj_shape.specs.declared.faces.FaceKind.TheVariants.{Vertex, Horizontal, Vertical, Diagonal, Lower, Upper}
-use Rattle.gj_cover.specs.FirstFound.{rank, HasNone, IsFirstOf}
+use Rattle.gj_shape.specs.WalkOrder.{position_of_kind}
+use Rattle.gj_cover.specs.FirstFound.{HasNone, IsFirstOf}
 use Rattle.gj_cover.specs.Table.{CoversBy}
 use Rattle.gj_cover.specs.declared.table.Table.{Table}
 use Rattle.gj_cover.proofs.FirstFaces.{Square}
@@ -11,11 +12,11 @@ use Rattle.gj_cover.proofs.Parts.{covered_one}
 
 -- a kind that has the property, where none before it has it
 pub first_there : (P : FaceKind → ℕ → ℕ → Type 0) (k : FaceKind) (a b : ℕ) → P k a b →
-    ((kind : FaceKind) → rank kind < rank k → P kind a b → ⊥) → IsFirstOf (Square a b) P (record { kind = k; a = a; b = b })
+    ((kind : FaceKind) → position_of_kind kind < position_of_kind k → P kind a b → ⊥) → IsFirstOf (Square a b) P (record { kind = k; a = a; b = b })
 first_there P k a b holds none = record {
   square = (refl, refl);
   holds = holds;
-  first = λ kind c d (x, y) p. elim (cases_lt (rank kind) (rank k)) [
+  first = λ kind c d (x, y) p. elim (cases_lt (position_of_kind kind) (position_of_kind k)) [
     | inl low ↦ absurd (none kind low (subst (λ n. P kind a n) y (subst (λ n. P kind n d) x p)))
     | inr high ↦ inr (sym x, inr (sym y, high))
   ];
@@ -27,7 +28,7 @@ none_there P a b none kind c d (x, y) p = none kind (subst (λ n. P kind a n) y 
 
 -- kinds up to a rank that have no property each
 pub ranked : (Q : FaceKind → Type 0) (n : ℕ) → (Q Vertex → ⊥) → (1 < n → Q Horizontal → ⊥) → (2 < n → Q Vertical → ⊥) →
-    (3 < n → Q Diagonal → ⊥) → (4 < n → Q Lower → ⊥) → (5 < n → Q Upper → ⊥) → (kind : FaceKind) → rank kind < n → Q kind → ⊥
+    (3 < n → Q Diagonal → ⊥) → (4 < n → Q Lower → ⊥) → (5 < n → Q Upper → ⊥) → (kind : FaceKind) → position_of_kind kind < n → Q kind → ⊥
 ranked Q n p h v d l u Vertex low q = p q
 ranked Q n p h v d l u Horizontal low q = h low q
 ranked Q n p h v d l u Vertical low q = v low q
@@ -35,7 +36,7 @@ ranked Q n p h v d l u Diagonal low q = d low q
 ranked Q n p h v d l u Lower low q = l low q
 ranked Q n p h v d l u Upper low q = u low q
 
-all_low : (kind : FaceKind) → rank kind < 6
+all_low : (kind : FaceKind) → position_of_kind kind < 6
 all_low Vertex = omega arith
 all_low Horizontal = omega arith
 all_low Vertical = omega arith

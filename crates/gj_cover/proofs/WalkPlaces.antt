@@ -6,11 +6,11 @@ use Rattle.gj_tools.specs.FirstThatFails.{IsFirstFailing}
 use Rattle.gj_tools.proofs.FirstThatFails.{first_failing, first_failing_in_range, first_failing_in_joined}
 use Rattle.gj_tools.proofs.Lists.{All-joined, joined_has}
 use Rattle.gj_shape.specs.Cover.{IsFirstFace}
-use Rattle.gj_shape.specs.WalkOrder.{faces_in, faces_of_square}
+use Rattle.gj_shape.specs.WalkOrder.{faces_in, faces_of_square, position_of_kind}
 use Rattle.gj_shape.specs.declared.faces.Face.{Face}
 use Rattle.gj_shape.specs.declared.faces.FaceKind.{FaceKind}
 use Rattle.gj_shape.specs.declared.faces.FaceKind.TheVariants.{Vertex, Horizontal, Vertical, Diagonal, Lower, Upper}
-use Rattle.gj_cover.specs.FirstFound.{rank, IsNotBefore}
+use Rattle.gj_cover.specs.FirstFound.{IsNotBefore}
 
 abbrev face_at : FaceKind → ℕ → ℕ → Face
 face_at kind a b = record { kind = kind; a = a; b = b }
@@ -48,7 +48,7 @@ first_two : (Q : FaceKind → Type 0) → Q Vertex → Q Horizontal → All Q (b
 first_two Q h k = All-push Q (before Horizontal) Horizontal (first_one Q h) k
 
 -- what holds of each kind of lower rank holds of the kinds before
-ranks_before : (Q : FaceKind → Type 0) (kind : FaceKind) → ((other : FaceKind) → rank other < rank kind → Q other) →
+ranks_before : (Q : FaceKind → Type 0) (kind : FaceKind) → ((other : FaceKind) → position_of_kind other < position_of_kind kind → Q other) →
     All Q (before kind)
 ranks_before Q Vertex h = All-nil Q
 ranks_before Q Horizontal h = first_one Q (h Vertex (omega arith))
@@ -71,7 +71,7 @@ ranks_before Q Upper h =
 
 -- in one square
 in_square : (Q : Face → Type 0) (kind : FaceKind) (a b : ℕ) →
-    ((other : FaceKind) → rank other < rank kind → Q (face_at other a b)) → (Q (face_at kind a b) → ⊥) →
+    ((other : FaceKind) → position_of_kind other < position_of_kind kind → Q (face_at other a b)) → (Q (face_at kind a b) → ⊥) →
     IsFirstFailing (All Q) (faces_of_square a b) (faces_in (before kind) a b) (face_at kind a b)
 in_square Q kind a b passed fails =
     first_failing Q (faces_of_square a b) (faces_in (before kind) a b) (faces_in (behind kind) a b) (face_at kind a b)
@@ -108,7 +108,7 @@ no_earlier_square face kind b e (inl h) = omega arith
 no_earlier_square face kind b e (inr (h, inl k)) = omega arith
 no_earlier_square face kind b e (inr (h, inr k)) = omega arith
 
-no_lower_rank : (face : Face) (kind : FaceKind) → rank kind < rank face.kind →
+no_lower_rank : (face : Face) (kind : FaceKind) → position_of_kind kind < position_of_kind face.kind →
     IsNotBefore face kind face.a face.b → ⊥
 no_lower_rank face kind e (inl h) = omega arith
 no_lower_rank face kind e (inr (h, inl k)) = omega arith

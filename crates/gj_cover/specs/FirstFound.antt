@@ -2,21 +2,12 @@
 use Rattle.std.specs.Prelude.{ℕ, ◌≡◌, ◌⊎◌, ◌<◌, ◌≤◌, Option, Some, IfSome, MatchOption}
 use Rattle.gj_shape.specs.declared.faces.Face.{Face}
 use Rattle.gj_shape.specs.declared.faces.FaceKind.{FaceKind}
-use Rattle.gj_shape.specs.declared.faces.FaceKind.TheVariants.{Vertex, Horizontal, Vertical, Diagonal, Lower, Upper}
-
--- the place of a kind among the faces of one square
-abbrev pub rank : FaceKind → ℕ
-rank Vertex = 0
-rank Horizontal = 1
-rank Vertical = 2
-rank Diagonal = 3
-rank Lower = 4
-rank Upper = 5
+use Rattle.gj_shape.specs.WalkOrder.{position_of_kind}
 
 -- the face of this kind of the square (a, b) is not before the other in walk order
 abbrev pub IsNotBefore : Face → FaceKind → ℕ → ℕ → Type 0
 IsNotBefore face kind a b =
-    (face.a < a) ⊎ ((face.a ≡ a) × ((face.b < b) ⊎ ((face.b ≡ b) × (rank face.kind ≤ rank kind))))
+    (face.a < a) ⊎ ((face.a ≡ a) × ((face.b < b) ⊎ ((face.b ≡ b) × (position_of_kind face.kind ≤ position_of_kind kind))))
 
 -- the face is one of these squares and has the property, and none of these squares that has it is before it
 pub record IsFirstOf (Square : ℕ → ℕ → Type 0) (P : FaceKind → ℕ → ℕ → Type 0) (face : Face) : Type 0 where

@@ -3,7 +3,7 @@ ghost use Rattle.std.specs.Prelude.{◌≡◌, ◌≢◌, ◌⊎◌, ◌↔◌, 
 ghost use Rattle.gj_shape.specs.Additive.{IsAdditive};
 ghost use Rattle.gj_shape.specs.Cover.{IsFirstFace, IsDirectlyCovered};
 ghost use Rattle.gj_cover.specs.Table.{IsTightIn, JoinsBy, AreJoinedBy, CoversBy};
-ghost use Rattle.gj_cover.specs.FirstFound.{rank, FindsFirst, IsThis, IsReached, AddsFirst, IsEarlier};
+ghost use Rattle.gj_cover.specs.FirstFound.{FindsFirst, IsThis, IsReached, AddsFirst, IsEarlier};
 ghost use Rattle.gj_cover.specs.Links.{LeadsBy, IsInRow, IsAcross};
 
 use crate::squares::covering_in_square;
@@ -71,21 +71,7 @@ fn is_reached(found: Option<Face>, kind: FaceKind, a: u32, b: u32) -> bool
     if face.b != b {
         return face.b < b;
     }
-    place_in_square(face.kind) <= place_in_square(kind)
-}
-
-/// The place of a kind among the faces of one square, from 0 to 5.
-fn place_in_square(kind: FaceKind) -> u32
-    ensures { result ≡ rank kind }
-{
-    match kind {
-        FaceKind::Vertex => 0,
-        FaceKind::Horizontal => 1,
-        FaceKind::Vertical => 2,
-        FaceKind::Diagonal => 3,
-        FaceKind::Lower => 4,
-        FaceKind::Upper => 5,
-    }
+    face.kind.position() <= kind.position()
 }
 
 /// The first triangle in walk order that covers the interval.

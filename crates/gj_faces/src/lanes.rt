@@ -5,17 +5,17 @@ ghost use Rattle.gj_faces.specs.Lanes.{AreLaid};
 ghost use Rattle.gj_faces.specs.Rows.{AreRows};
 
 use gj_sets::IndexSet;
-use gj_shape::Shape;
+use gj_shape::{GREATEST_ORDER, Shape};
 use std::alloc::{AllocError, Global};
 
-/// How many lanes serve each order: one for each index below 2 q, where the order q is at most 1,000, and 64 behind the last.
-const COUNT: usize = 2_064;
+/// How many lanes serve each order: one for each index below 2 q, q being the greatest order, and 64 behind the last.
+const COUNT: usize = 2 * GREATEST_ORDER as usize + 64;
 
 /// The orders up to it are small.
 const SMALL_ORDER: u32 = 120;
 
 /// How many lanes serve a small order.
-const SMALL_COUNT: usize = 304;
+const SMALL_COUNT: usize = 2 * SMALL_ORDER as usize + 64;
 
 /// For each a below the order, the indices b below it for which the pair (a, b) is tight.
 ///

@@ -2,7 +2,7 @@
 use Rattle.std.specs.Prelude.{ℕ, ◌≡◌, ◌<◌, List, ◌++◌, codes, decimal, length, take, get_or}
 use Rattle.gj_shape.specs.declared.faces.Face.{Face}
 use Rattle.gj_shape.specs.declared.faces.FaceKind.{FaceKind}
-use Rattle.gj_shape.specs.declared.faces.FaceKind.TheVariants.{Vertex, Horizontal, Vertical, Diagonal, Lower, Upper}
+use Rattle.gj_shape.specs.WalkOrder.{position_of_kind}
 use Rattle.gj_lines.specs.FunctionLines.{line}
 use Rattle.gj_lines.specs.FaceLines.{face_word}
 use Rattle.gj_facetext.specs.declared.face_lines.Piece.{Piece}
@@ -12,20 +12,11 @@ use Rattle.gj_facetext.specs.declared.face_lines.Starts.{Starts}
 abbrev pub text_of : Piece → List ℕ
 text_of piece = take piece.length piece.bytes
 
--- the place of the piece of a kind
-abbrev pub place_of : FaceKind → ℕ
-place_of Vertex = 0
-place_of Horizontal = 1
-place_of Vertical = 2
-place_of Diagonal = 3
-place_of Lower = 4
-place_of Upper = 5
-
 -- the lines of the row's faces begin with these pieces
 pub record AreStarts (starts : Starts) : Type 0 where
   pub count : length starts.pieces ≡ 6
   pub texts : (kind : FaceKind) (none : Piece) →
-      text_of (get_or starts.pieces (place_of kind) none) ≡ face_word kind ++ codes " " ++ decimal starts.row
+      text_of (get_or starts.pieces (position_of_kind kind) none) ≡ face_word kind ++ codes " " ++ decimal starts.row
 
 -- the lines of the faces of each column end with its piece
 abbrev pub AreEnds : List Piece → Type 0

@@ -5,7 +5,7 @@
 ghost use Rattle.std.specs.Prelude.{◌≡◌, ◌+◌, ◌<◌, ◌≤◌, [], ◌++◌, All, codes, decimal, flat_map, length, IfOk, OnOk};
 ghost use Rattle.gj_lines.specs.FunctionLines.{line};
 ghost use Rattle.gj_lines.specs.FaceLines.{face_text, face_word};
-ghost use Rattle.gj_facetext.specs.FacePieces.{text_of, place_of, AreStarts, AreEnds, HasPieces};
+ghost use Rattle.gj_facetext.specs.FacePieces.{text_of, AreStarts, AreEnds, HasPieces};
 
 use gj_lines::face_word;
 use gj_shape::{Face, FaceKind};
@@ -94,23 +94,8 @@ fn push_face_line(
     requires face { HasPieces starts.now ends.now face }
     ensures { OnOk result (out.new.items ≡ out.old.items ++ line (face_text face)) }
 {
-    push_piece(out, &starts.pieces[place_of(face.kind)])?;
+    push_piece(out, &starts.pieces[face.kind.position() as usize])?;
     push_piece(out, &ends[face.b as usize])
-}
-
-/// The place of the beginning for a kind.
-fn place_of(kind: FaceKind) -> usize
-    ensures value { result ≡ place_of kind }
-    ensures below { result < 6 }
-{
-    match kind {
-        FaceKind::Vertex => 0,
-        FaceKind::Horizontal => 1,
-        FaceKind::Vertical => 2,
-        FaceKind::Diagonal => 3,
-        FaceKind::Lower => 4,
-        FaceKind::Upper => 5,
-    }
 }
 
 /// Appends the text of a piece.

@@ -8,7 +8,8 @@ use Rattle.gj_tools.proofs.Ring.{by_ring, ring}
 use Rattle.gj_shape.specs.FunctionData.{FunctionData, at}
 use Rattle.gj_shape.specs.TwoSlopes.{rise}
 use Rattle.gj_fill.specs.FillIn.{AreGreatestSteps, filled}
-use Rattle.gj_fill.specs.FillPoints.{GraphPoint, value_point, crossing_point, points_from, fill_points, IsAtMost, HasFillSlope}
+use Rattle.gj_frac.specs.Fraction.{AtMostValue}
+use Rattle.gj_fill.specs.FillPoints.{GraphPoint, value_point, crossing_point, points_from, fill_points, HasFillSlope}
 use Rattle.gj_fill.proofs.FillIns.{rises_to, falls_from, less_part}
 use Rattle.gj_fill.proofs.FillLines.{value_line, next_line, crossing_line, behind_line, last_line}
 
@@ -20,21 +21,21 @@ without_order q x y x' y' some e g low =
     mul_le_cancel_right_z x' y' (pos q) (omega (arith, ints)) (omega (arith, ints))
 
 behind_value : (q m a i : ℕ) → 0 < q →
-    IsAtMost (record { top = pos a; bottom = pos q }) (record { top = pos i; bottom = pos (q * m) }) → a * m ≤ i
+    AtMostValue (record { top = pos a; bottom = pos q }) (record { top = pos i; bottom = pos (q * m) }) → a * m ≤ i
 behind_value q m a i some low =
     let h : pos (a * m) ≤ℤ pos i = without_order q (pos a *ℤ pos (q * m)) (pos i *ℤ pos q) (pos (a * m)) (pos i) some
     (by_ring (pos a ∷ pos q ∷ pos m ∷ []) (search ring depth 20) refl) refl low in
     omega (arith, ints)
 
 before_value : (q m a i : ℕ) → 0 < q →
-    IsAtMost (record { top = pos i; bottom = pos (q * m) }) (record { top = pos a; bottom = pos q }) → i ≤ a * m
+    AtMostValue (record { top = pos i; bottom = pos (q * m) }) (record { top = pos a; bottom = pos q }) → i ≤ a * m
 before_value q m a i some low =
     let h : pos i ≤ℤ pos (a * m) = without_order q (pos i *ℤ pos q) (pos a *ℤ pos (q * m)) (pos i) (pos (a * m)) some
     refl (by_ring (pos a ∷ pos q ∷ pos m ∷ []) (search ring depth 20) refl) low in
     omega (arith, ints)
 
 before_crossing : (q m a i : ℕ) (w c : ℤ) → 0 < q →
-    IsAtMost (record { top = pos i; bottom = pos (q * m) }) (record { top = pos a *ℤ w +ℤ c; bottom = pos q *ℤ w }) →
+    AtMostValue (record { top = pos i; bottom = pos (q * m) }) (record { top = pos a *ℤ w +ℤ c; bottom = pos q *ℤ w }) →
     (pos i *ℤ w) ≤ℤ (pos (a * m) *ℤ w +ℤ pos m *ℤ c)
 before_crossing q m a i w c some low =
     without_order q (pos i *ℤ (pos q *ℤ w)) ((pos a *ℤ w +ℤ c) *ℤ pos (q * m)) (pos i *ℤ w) (pos (a * m) *ℤ w +ℤ pos m *ℤ c) some
@@ -42,7 +43,7 @@ before_crossing q m a i w c some low =
     (by_ring (pos a ∷ pos q ∷ pos m ∷ w ∷ c ∷ []) (search ring depth 30) refl) low
 
 behind_crossing : (q m a i : ℕ) (w c : ℤ) → 0 < q →
-    IsAtMost (record { top = pos a *ℤ w +ℤ c; bottom = pos q *ℤ w }) (record { top = pos i; bottom = pos (q * m) }) →
+    AtMostValue (record { top = pos a *ℤ w +ℤ c; bottom = pos q *ℤ w }) (record { top = pos i; bottom = pos (q * m) }) →
     (pos (a * m) *ℤ w +ℤ pos m *ℤ c) ≤ℤ (pos i *ℤ w)
 behind_crossing q m a i w c some low =
     without_order q ((pos a *ℤ w +ℤ c) *ℤ pos (q * m)) (pos i *ℤ (pos q *ℤ w)) (pos (a * m) *ℤ w +ℤ pos m *ℤ c) (pos i *ℤ w) some

@@ -1,7 +1,7 @@
 -- The points between which the fill-in of a continuous function is affine (Gomory and Johnson 1972).
 use Rattle.std.specs.Prelude.{ℕ, ℤ, pos, ◌≡◌, ◌⊎◌, ◌*◌, ◌<◌, ◌≤ℤ◌, ◌+ℤ◌, ◌*ℤ◌, neg_ℤ, int_lt, ◌&&◌, if◌then◌else◌, List, [], ◌∷◌, flat_map}
 use Rattle.std.specs.List.{range_with_len, AllZip}
-use Rattle.gj_frac.specs.Fraction.{Fraction, SameValue, difference_of, product_of, fraction_of}
+use Rattle.gj_frac.specs.Fraction.{Fraction, SameValue, difference_of, product_of, fraction_of, AtMostValue}
 use Rattle.gj_shape.specs.FunctionData.{FunctionData, at}
 use Rattle.gj_shape.specs.TwoSlopes.{rise}
 use Rattle.gj_shape.specs.declared.breaks.Break.{Break}
@@ -43,15 +43,11 @@ fill_points f s t = flat_map (points_from f s t) (range_with_len 0 f.order)
 abbrev pub IsOnLine : Fraction → GraphPoint → Fraction → Fraction → Type 0
 IsOnLine slope p x y = SameValue (difference_of y p.y) (product_of slope (difference_of x p.x))
 
--- x is at most y, if both bottoms are above 0
-abbrev pub IsAtMost : Fraction → Fraction → Type 0
-IsAtMost x y = (x.top *ℤ y.bottom) ≤ℤ (y.top *ℤ x.bottom)
-
 -- from p to q the fill-in goes along the line of this slope: on it lie q and, at each i/(order m) between the two, the filled value
 pub record GoesAlong (f : FunctionData) (s t : ℤ) (slope : Fraction) (p q : GraphPoint) : Type 0 where
   pub end : IsOnLine slope p q.x q.y
-  pub between : (m i : ℕ) → 0 < m → IsAtMost p.x (record { top = pos i; bottom = pos (f.order * m) }) →
-      IsAtMost (record { top = pos i; bottom = pos (f.order * m) }) q.x →
+  pub between : (m i : ℕ) → 0 < m → AtMostValue p.x (record { top = pos i; bottom = pos (f.order * m) }) →
+      AtMostValue (record { top = pos i; bottom = pos (f.order * m) }) q.x →
       IsOnLine slope p (record { top = pos i; bottom = pos (f.order * m) })
       (record { top = filled (at f.value) s t m i; bottom = pos (f.scale * m) })
 

@@ -1,5 +1,5 @@
 -- The value of a fraction, and what a `Frac` is (own; the usual cross products over whole numbers without bound).
-use Rattle.std.specs.Prelude.{ℕ, ℤ, pos, ◌≡◌, ◌*ℤ◌, ◌+ℤ◌, ◌-ℤ◌, neg_ℤ, ◌<ℤ◌, ◌^◌, ◌<◌, ◌≤◌, ◌*◌, unsigned_abs}
+use Rattle.std.specs.Prelude.{ℕ, ℤ, pos, ◌≡◌, ◌*ℤ◌, ◌+ℤ◌, ◌-ℤ◌, neg_ℤ, ◌<ℤ◌, ◌≤ℤ◌, ◌^◌, ◌<◌, ◌≤◌, ◌*◌, unsigned_abs}
 use Rattle.gj_frac.specs.declared.Frac.{Frac}
 
 -- a fraction of whole numbers without bound; its bottom is not 0
@@ -14,6 +14,10 @@ SameValue x y = x.top *ℤ y.bottom ≡ y.top *ℤ x.bottom
 -- x is less than y, if both bottoms are above 0
 abbrev pub LessValue : Fraction → Fraction → Type 0
 LessValue x y = (x.top *ℤ y.bottom) <ℤ (y.top *ℤ x.bottom)
+
+-- x is at most y, if both bottoms are above 0
+abbrev pub AtMostValue : Fraction → Fraction → Type 0
+AtMostValue x y = (x.top *ℤ y.bottom) ≤ℤ (y.top *ℤ x.bottom)
 
 abbrev pub sum_of : Fraction → Fraction → Fraction
 sum_of x y = record { top = x.top *ℤ y.bottom +ℤ y.top *ℤ x.bottom; bottom = x.bottom *ℤ y.bottom }

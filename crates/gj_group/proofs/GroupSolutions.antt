@@ -23,7 +23,8 @@ use Rattle.gj_theory.proofs.HalvesAsLists.{at_made}
 use Rattle.gj_theory.proofs.PerturbedTables.{perturbation_at_zero}
 use Rattle.gj_theory.proofs.SameVerdicts.{HasSameEntries, minimal_over, extreme_over}
 use Rattle.gj_theory.proofs.OrderedPairs.{made_of_pairs, pair_of_all, all_pairs}
-use Rattle.gj_group.specs.GroupRows.{entry_row, sum_row, is_tight_pair, SolveGroupRows, OnlyZeroSolves}
+use Rattle.gj_group.specs.GroupRows.{entry_row, sum_row, is_tight_pair, SolveGroupRows, group_rows}
+use Rattle.gj_residue.specs.Settled.{OnlyZeroSolves}
 use Rattle.gj_group.proofs.RowSums.{entry_row_sum, sum_row_sum}
 
 -- ---- one row
@@ -130,13 +131,13 @@ pub rows_from_minimal : (t : ℕ → ℤ) (n k s : ℕ) (w : List ℤ) → 0 < n
 rows_from_minimal t n k s w some k_low minimal len h =
     rows_from_perturbation t n k w some k_low len (perturbation_at_zero t n k s (at w) minimal h) h
 
-pub zero_from_extreme : (t : ℕ → ℤ) (n k s : ℕ) → 0 < n → k < n → IsExtremeTable t n k s → OnlyZeroSolves t n k
+pub zero_from_extreme : (t : ℕ → ℤ) (n k s : ℕ) → 0 < n → k < n → IsExtremeTable t n k s → OnlyZeroSolves n (group_rows t n k)
 zero_from_extreme t n k s some k_low extreme w len solved i d below =
     get_or_default w i d (pos 0) below ∙ sym (at_below w i below)
     ∙ none_from_extreme t n k s some extreme (at w) (perturbation_from_rows t n k w some k_low extreme.minimal.has_period len solved).1 i
 
 -- a perturbation as a list
-pub extreme_from_zero : (t : ℕ → ℤ) (n k s : ℕ) → 0 < n → k < n → IsMinimalTable t n k s → OnlyZeroSolves t n k → IsExtremeTable t n k s
+pub extreme_from_zero : (t : ℕ → ℤ) (n k s : ℕ) → 0 < n → k < n → IsMinimalTable t n k s → OnlyZeroSolves n (group_rows t n k) → IsExtremeTable t n k s
 extreme_from_zero t n k s some k_low minimal only = extreme_from_none t n k s minimal (λ p h i. none p h i)
   where
     none : (p : ℕ → ℤ) → IsPerturbation t n k p → (i : ℕ) → p i ≡ pos 0
@@ -183,7 +184,7 @@ entries_back : (f : FunctionData) → HasSameEntries (at f.value) (f.scale * 1) 
 entries_back f i = ap (λ z. z *ℤ pos (f.scale * 1)) (table_of_order f i)
 
 pub function_zero : (f : FunctionData) → IsWithinBounds f →
-    IsExtremeTable (table f 1) (f.order * 1) (f.place * 1) (f.scale * 1) → OnlyZeroSolves (at f.value) f.order f.place
+    IsExtremeTable (table f 1) (f.order * 1) (f.place * 1) (f.scale * 1) → OnlyZeroSolves f.order (group_rows (at f.value) f.order f.place)
 function_zero f l extreme =
     let low = l.order_low in
     let s_low = l.scale_low in
@@ -193,7 +194,7 @@ function_zero f l extreme =
     zero_from_extreme (at f.value) f.order f.place (f.scale * 1) (omega arith) l.place_high
     (subst₂ (λ (q k : ℕ). IsExtremeTable (at f.value) q k (f.scale * 1)) (mul-one f.order) (mul-one f.place) values)
 
-pub function_extreme : (f : FunctionData) → IsWithinBounds f → IsMinimalOnGrid f 1 → OnlyZeroSolves (at f.value) f.order f.place →
+pub function_extreme : (f : FunctionData) → IsWithinBounds f → IsMinimalOnGrid f 1 → OnlyZeroSolves f.order (group_rows (at f.value) f.order f.place) →
     IsExtremeTable (table f 1) (f.order * 1) (f.place * 1) (f.scale * 1)
 function_extreme f l minimal only =
     let low = l.order_low in

@@ -22,7 +22,7 @@ use Rattle.gj_theory.specs.Halves.{AreDifferentHalves}
 use Rattle.gj_theory.specs.TriangularRows.{Solves}
 use Rattle.gj_elim.proofs.KernelFits.{kernel_fits}
 use Rattle.gj_elim.specs.declared.log.LogRow.{LogRow}
-use Rattle.gj_residue.specs.Settled.{OnlyZeroSolves as OnlyZeroSolvesRows, AnswersRows, IsSettled, IsPlain, IsByResidues, IsKernel, IsTooWide, insertion_passes, kernel_passes}
+use Rattle.gj_residue.specs.Settled.{OnlyZeroSolves, AnswersRows, IsSettled, IsPlain, IsByResidues, IsKernel, IsTooWide, insertion_passes, kernel_passes}
 use Rattle.gj_residue.specs.declared.settling.Settled.{Settled}
 use Rattle.gj_residue.specs.declared.settling.Settled.TheVariants.{Plain, Residues, Kernel}
 use Rattle.gj_residue.specs.declared.settling.SettleFault.{SettleFault}
@@ -42,7 +42,7 @@ use Rattle.gj_group.proofs.GroupSolutions.{function_extreme, own_perturbation}
 
 -- ---- an extreme table
 
-pub extreme_by_rows : (f : FunctionData) → IsWithinBounds f → IsMinimalOnGrid f 1 → OnlyZeroSolvesRows f.order (own_rows f) → IsExtremeOnOwnGrid f
+pub extreme_by_rows : (f : FunctionData) → IsWithinBounds f → IsMinimalOnGrid f 1 → OnlyZeroSolves f.order (own_rows f) → IsExtremeOnOwnGrid f
 extreme_by_rows f l minimal only = function_extreme f l minimal (λ w len solved. only w len solved)
 
 -- ---- one that is not

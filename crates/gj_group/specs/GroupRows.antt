@@ -32,7 +32,3 @@ group_rows t n k = entry_row n 0 ∷ entry_row n k ∷ flat_map (sum_rows_with t
 -- the numbers solve all rows
 abbrev pub SolveGroupRows : (ℕ → ℤ) → ℕ → ℕ → List ℤ → Type 0
 SolveGroupRows t n k w = All (Solves w) (group_rows t n k)
-
--- only zeros solve all rows
-abbrev pub OnlyZeroSolves : (ℕ → ℤ) → ℕ → ℕ → Type 0
-OnlyZeroSolves t n k = (w : List ℤ) → length w ≡ n → SolveGroupRows t n k w → All (λ x. x ≡ pos 0) w

@@ -39,6 +39,5 @@ pub use spelled::{count_of, fraction_of, is_count};
 pub use spelling::Spelling;
 pub use text_lines::{TextLine, end_at, line_at, line_number, words_at};
 pub use words::{
-    behind_name, field_of, has_first_word, has_no_word, has_words, only_word, split_word,
-    two_fields_of, words_of,
+    behind_name, field_of, has_no_word, has_words, only_word, split_word, two_fields_of, words_of,
 };

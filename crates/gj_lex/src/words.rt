@@ -88,7 +88,7 @@ pub fn behind_name<'a>(line: &'a [u8], name: &[u8]) -> Option<&'a [u8]>
 }
 
 /// Whether the first word of the line is this word. It takes no memory.
-pub fn has_first_word(line: &[u8], word: &[u8]) -> bool
+pub(crate) fn has_first_word(line: &[u8], word: &[u8]) -> bool
     ensures { IsTrue result ↔ ((words : List (List ℕ)) × (word_texts line.now ≡ word.now ∷ words)) }
 {
     behind_name(line, word).is_some()

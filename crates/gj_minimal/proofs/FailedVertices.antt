@@ -6,13 +6,13 @@ use Rattle.std.proofs.lemmas.Bool.{cases_lt}
 use Rattle.gj_shape.specs.FunctionData.{FunctionData, IsWithinBounds, at}
 use Rattle.gj_shape.specs.declared.faces.Face.{Face}
 use Rattle.gj_shape.specs.declared.faces.FaceKind.TheVariants.{Vertex}
-use Rattle.gj_theory.specs.EarlierTests.{PassesSymmetry}
+use Rattle.gj_theory.specs.EarlierTests.{PassesVertex, PassesSymmetry}
 use Rattle.gj_shape.specs.Faces.{slack_from}
 use Rattle.gj_theory.proofs.Everywhere.{symmetric_everywhere}
 use Rattle.gj_theory.proofs.Lanes.{mirrored_vertex}
 use Rattle.gj_minimal.specs.declared.failures.Failure.TheVariants as failure
 use Rattle.gj_minimal.specs.FirstFailure.{IsFirstFailure, HoldsBelow}
-use Rattle.gj_minimal.specs.Failures.{FailsFirst, AddUpToPlace, PassesAhead, PassesWithSum, PassesVertex, PassesVertexRow}
+use Rattle.gj_minimal.specs.Failures.{FailsFirst, AddUpToPlace, PassesAhead, PassesWithSum, PassesVertexRow}
 
 -- ---- of three indices that add up to the place the two least
 

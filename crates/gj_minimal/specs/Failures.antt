@@ -4,11 +4,10 @@ use Rattle.gj_shape.specs.FunctionData.{FunctionData}
 use Rattle.gj_shape.specs.FirstViolation.{Test, Passes}
 use Rattle.gj_shape.specs.FirstViolation.Test.{zero_at_zero, nonnegative_at, nonnegative_after, nonnegative_before, symmetric_at, symmetric_between, subadditive_at}
 use Rattle.gj_shape.specs.declared.faces.FaceKind.{FaceKind}
-use Rattle.gj_shape.specs.declared.faces.FaceKind.TheVariants.{Vertex}
 use Rattle.gj_shape.specs.declared.violations.Violation.{Violation}
 use Rattle.gj_complex.specs.declared.square.Square.{Square}
 use Rattle.gj_complex.specs.Squares.{limits_in}
-use Rattle.gj_theory.specs.EarlierTests.{IsTestOf, PassesBefore, PassesSquare}
+use Rattle.gj_theory.specs.EarlierTests.{IsTestOf, PassesBefore, PassesVertex, PassesSquare}
 use Rattle.gj_theory.specs.GridPoints.{IsAtGridPoints}
 use Rattle.gj_minimal.specs.declared.failures.Failure.{Failure}
 use Rattle.gj_minimal.specs.declared.failures.Failure.TheVariants as failure
@@ -30,11 +29,7 @@ pub record FailsFirst (f : FunctionData) (x : Failure) : Type 0 where
   pub before : PassesBefore f (test_of x)
   pub fails : Passes f (test_of x) → ⊥
 
--- the slack at (a/q, b/q) is not negative
-abbrev pub PassesVertex : FunctionData → ℕ → ℕ → Type 0
-PassesVertex f a b = Passes f (subadditive_at Vertex a b 0)
-
--- for each b
+-- the slack at (a/q, b/q) is not negative, for each b
 abbrev pub PassesVertexRow : FunctionData → ℕ → Type 0
 PassesVertexRow f a = HoldsBelow (PassesVertex f a) f.order
 

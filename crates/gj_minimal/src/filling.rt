@@ -3,10 +3,10 @@ ghost use Rattle.std.specs.Prelude.{◌<◌, ◌≤◌, ◌^◌, length, IsTrue}
 ghost use Rattle.gj_shape.specs.Limits.{greatest_order};
 ghost use Rattle.gj_minimal.specs.Lanes.{AreFrom0Below, AreTwice};
 
-use gj_shape::Shape;
+use gj_shape::{GREATEST_ORDER, Shape};
 
-/// How many lanes there are: one for each index from 0 to 2 q, where the order q is at most 1,000.
-pub(crate) const COUNT: usize = 2_001;
+/// How many lanes there are: one for each index from 0 to 2 q, q being the greatest order.
+pub(crate) const COUNT: usize = 2 * GREATEST_ORDER as usize + 1;
 
 /// If the common denominator is below this, the sum of two numbers from 0 to it fits 16 bits.
 const SHORT_BOUND: i128 = 1 << 15;

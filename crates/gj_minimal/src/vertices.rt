@@ -1,9 +1,9 @@
 //! The tests of the slack at grid points.
 ghost use Rattle.std.specs.Prelude.{◌≡◌, ◌<◌, IfSome, IfNone};
 ghost use Rattle.gj_shape.specs.FunctionData.{IsWithinBounds};
-ghost use Rattle.gj_theory.specs.EarlierTests.{PassesSymmetry, PassesVertices};
+ghost use Rattle.gj_theory.specs.EarlierTests.{PassesVertex, PassesSymmetry, PassesVertices};
 ghost use Rattle.gj_minimal.specs.FirstFailure.{IsFirstFailure, HoldsBelow};
-ghost use Rattle.gj_minimal.specs.Failures.{FailsFirst, PassesVertex, PassesVertexRow};
+ghost use Rattle.gj_minimal.specs.Failures.{FailsFirst, PassesVertexRow};
 ghost use Rattle.gj_minimal.specs.Lanes.{AreValuesOf};
 
 use crate::entries::value_at;

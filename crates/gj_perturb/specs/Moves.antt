@@ -9,7 +9,3 @@ moved_at table factor values step i = factor *ℤ get_or table i (pos 0) +ℤ st
 pub record IsSmallMove (table : List ℤ) (factor : ℤ) (values : List ℤ) (step : ℤ) (i : ℕ) : Type 0 where
   pub entry : unsigned_abs (factor *ℤ get_or table i (pos 0)) < 2 ^ 126
   pub move : unsigned_abs (step *ℤ get_or values i (pos 0)) < 2 ^ 126
-
--- a numerator of a value
-abbrev pub IsNumerator : ℤ → Type 0
-IsNumerator x = unsigned_abs x < 2 ^ 51

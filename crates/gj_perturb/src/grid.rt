@@ -2,9 +2,8 @@
 ghost use Rattle.std.specs.Prelude.{ℕ, ℤ, pos, ◌≡◌, ◌+◌, ◌*◌, ◌<◌, ◌≤◌, ◌^◌, length, map, All, IfOk, unsigned_abs};
 ghost use Rattle.std.specs.List.{range_with_len};
 ghost use Rattle.gj_shape.specs.FunctionData.{IsWithinBounds, IsContinuous, at};
-ghost use Rattle.gj_shape.specs.Limits.{greatest_halves_order};
+ghost use Rattle.gj_shape.specs.Limits.{IsNumerator, greatest_halves_order};
 ghost use Rattle.gj_shape.specs.Table.{table};
-ghost use Rattle.gj_perturb.specs.Moves.{IsNumerator};
 
 use gj_shape::Shape;
 use std::alloc::{AllocError, Global};

@@ -16,6 +16,5 @@ mod step;
 
 pub use basis::ResidueBasis;
 pub use listed::ListedRows;
-pub use residue::MODULUS;
 pub use settling::{SettleFault, Settled, settle};
 pub use source::RowSource;

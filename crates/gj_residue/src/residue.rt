@@ -4,7 +4,7 @@ ghost use Rattle.gj_shape.specs.Residues.{residue, inverse};
 ghost use Rattle.gj_theory.specs.Modulus.{modulus};
 
 /// The modulus, 2^61 - 1.
-pub const MODULUS: u64 = 2_305_843_009_213_693_951;
+pub(crate) const MODULUS: u64 = 2_305_843_009_213_693_951;
 
 /// The residue of a whole number.
 pub(crate) fn residue_of(x: i128) -> u64

@@ -100,12 +100,12 @@ line_bottom u w n r some =
 -- the points from a breakpoint up to the next
 pub one_piece : (b : Break) (w : Frac) (n : ℕ) (ps rs : List Point) → IsPiece b w n ps → IsPiece b w n rs → ps ≡ rs
 one_piece b w n ps rs h k =
-    let count : length h.between ≡ length k.between = omega (arith, h.count, k.count) in
-    let some : 0 < n = omega (arith, h.count) in
+    let count : length h.between ≡ length k.between = omega (arith, h.line.count, k.line.count) in
+    let some : 0 < n = omega (arith, h.line.count) in
     let entries : (i : ℕ) (x : Frac) → i < length h.between → get_or h.between i x ≡ get_or k.between i x = λ i x l.
     let line = on_line b.right w n (i + 1) in
     same_from_is (get_or h.between i x) (get_or k.between i x) line.top line.bottom (line_bottom b.right w n (i + 1) some)
-    (h.on i x l) (k.on i x (omega (arith, count, l))) in
+    (h.line.on i x l) (k.line.on i x (omega (arith, count, l))) in
     let same : h.between ≡ k.between = same_lists h.between k.between count entries in
     h.points_are ∙ ap (λ xs. point_at b ∷ map even xs) same ∙ sym k.points_are
 

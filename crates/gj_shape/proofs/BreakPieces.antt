@@ -62,7 +62,7 @@ pub piece_pushed : (b : Break) (w : Frac) (n : ℕ) (front pushed items : List P
     (more : List Point) × IsPiece b w n more × (items ≡ front ++ more)
 piece_pushed b w n front pushed items (between, line, items_are) pushed_is = (
   point_at b ∷ map even between,
-  record { between = between; count = line.count; on = line.on; points_are = refl },
+  record { between = between; line = line; points_are = refl },
   items_are ∙ ap (λ ps. ps ++ map even between) pushed_is ∙ append_assoc front (point_at b ∷ []) (map even between),
 )
 
@@ -70,7 +70,7 @@ piece_pushed b w n front pushed items (between, line, items_are) pushed_is = (
 pub piece_length : (b : Break) (w : Frac) (n : ℕ) (points : List Point) → IsPiece b w n points → length points ≡ n
 piece_length b w n points h =
     let mapped = length-map h.between even in
-    let count = h.count in
+    let count = h.line.count in
     let long : length (point_at b ∷ map even h.between) ≡ n = omega arith in
     ap length h.points_are ∙ long
 
@@ -102,9 +102,9 @@ all_at_points P (p ∷ points) h =
 piece_small : (b : Break) (w : Frac) (n : ℕ) (points : List Point) → IsSmallPoint (point_at b) → IsSmall w → IsPiece b w n points →
     All IsSmallPoint points
 piece_small b w n points small w_small h =
-    let count = h.count in
+    let count = h.line.count in
     let one : All (λ x. IsSmallPoint (even x)) h.between = λ j x below.
-    let s = on_line_small b.right w (get_or h.between j x) n (j + 1) small.right w_small (omega arith) (h.on j x below) in
+    let s = on_line_small b.right w (get_or h.between j x) n (j + 1) small.right w_small (omega arith) (h.line.on j x below) in
     record { left = s; value = s; right = s } in
     subst (All IsSmallPoint) (sym h.points_are)
     (All-cons IsSmallPoint (point_at b) (map even h.between) small (All-map IsSmallPoint even h.between one))

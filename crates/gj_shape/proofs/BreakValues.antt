@@ -165,14 +165,14 @@ piece_even : (b : Break) (w : Frac) (n : ℕ) (points : List Point) (j : ℕ) (d
     IsEvenOnLine b w n (suc j) (get_or points (suc j) d)
 piece_even b w n points j d piece below =
     let xs = piece.between in
-    let count = piece.count in
+    let count = piece.line.count in
     let inside : j < length xs = omega arith in
     let x = get_or xs j b.right in
     let next : j + 1 ≡ suc j = omega arith in
     record {
       x = x;
       point_is = ap (λ ps. get_or ps (suc j) d) piece.points_are ∙ get_or-map even xs j b.right d inside;
-      on = subst (λ k. SameValue (fraction_of x) (on_line b.right w n k)) next (piece.on j b.right inside);
+      on = subst (λ k. SameValue (fraction_of x) (on_line b.right w n k)) next (piece.line.on j b.right inside);
     }
 
 -- what stands at an even point is on the line

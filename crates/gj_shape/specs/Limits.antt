@@ -1,5 +1,5 @@
 -- The limits of functions, of halves and of the numbers in rows (own).
-use Rattle.std.specs.Prelude.{ℕ, ◌*◌, ◌^◌}
+use Rattle.std.specs.Prelude.{ℕ, ℤ, ◌<◌, ◌*◌, ◌^◌, unsigned_abs}
 use Rattle.gj_frac.specs.declared.Frac.{Frac}
 use Rattle.gj_frac.specs.Fraction.{IsAtMost, HasDenominatorBelow}
 
@@ -18,6 +18,10 @@ greatest_number = 2 ^ 31
 -- what each common denominator is below, of the values and limits of a function and of the numbers in a row
 abbrev pub denominator_bound : ℕ
 denominator_bound = 2 ^ 31
+
+-- a value or limit of a function times the common denominator: at most 2^20 times one below 2^31 in absolute value
+abbrev pub IsNumerator : ℤ → Type 0
+IsNumerator n = unsigned_abs n < 2 ^ 51
 
 -- the greatest order of halves, and their greatest scale
 abbrev pub greatest_halves_order : ℕ

@@ -1,4 +1,5 @@
 //! The faces of the complex of a function.
+ghost use Rattle.std.specs.Prelude.{◌≡◌, ◌<◌};
 
 /// A kind of face of a square of the complex: one point, three kinds of edges, two kinds of triangles.
 #[derive(Clone, Copy, Debug, PartialEq, Eq)]
@@ -15,6 +16,25 @@ pub enum FaceKind {
     Lower,
     /// The triangle with the corners ((a + 1)/q, (b + 1)/q), ((a + 1)/q, b/q) and (a/q, (b + 1)/q).
     Upper,
+}
+
+impl FaceKind {
+    ghost use Rattle.gj_shape.specs.WalkOrder.{position_of_kind};
+
+    /// The position of the kind among the faces of one square in walk order, from 0 to 5.
+    pub fn position(self) -> u32
+        ensures value { result ≡ position_of_kind self }
+        ensures below { result < 6 }
+    {
+        match self {
+            FaceKind::Vertex => 0,
+            FaceKind::Horizontal => 1,
+            FaceKind::Vertical => 2,
+            FaceKind::Diagonal => 3,
+            FaceKind::Lower => 4,
+            FaceKind::Upper => 5,
+        }
+    }
 }
 
 /// A face of the square whose lower left corner is (a/q, b/q).

@@ -37,7 +37,7 @@ pub use index::wrapped;
 pub use laws::{one_function_has_breaks, one_function_is_given};
 pub use limits::{
     GREATEST_DENOMINATOR, GREATEST_HALVES_ORDER, GREATEST_HALVES_SCALE, GREATEST_NUMBER,
-    GREATEST_ORDER, GREATEST_VALUE,
+    GREATEST_ORDER,
 };
 pub use list::List;
 pub use points::{Point, PointFault, Points};

@@ -4,7 +4,7 @@
 pub const GREATEST_ORDER: u32 = 1_000;
 
 /// The greatest value or limit of a function, in absolute value: 2^20.
-pub const GREATEST_VALUE: u128 = 1 << 20;
+pub(crate) const GREATEST_VALUE: u128 = 1 << 20;
 
 /// The greatest number in a row, in absolute value: 2^31.
 pub const GREATEST_NUMBER: u128 = 1 << 31;

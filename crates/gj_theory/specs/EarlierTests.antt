@@ -28,10 +28,14 @@ pub record PassesSymmetry (f : FunctionData) : Type 0 where
   pub mirrors : PassesMirrors f
   pub between : (i : ℕ) → i < f.order → Passes f (symmetric_between i)
 
+-- the slack at (a/q, b/q) is not negative
+abbrev pub PassesVertex : FunctionData → ℕ → ℕ → Type 0
+PassesVertex f a b = Passes f (subadditive_at Vertex a b 0)
+
 -- and the slack at each vertex is not negative
 pub record PassesVertices (f : FunctionData) : Type 0 where
   pub symmetry : PassesSymmetry f
-  pub vertices : (a b : ℕ) → a < f.order → b < f.order → Passes f (subadditive_at Vertex a b 0)
+  pub vertices : (a b : ℕ) → a < f.order → b < f.order → PassesVertex f a b
 
 -- the limits at the corners of the face pass
 abbrev pub PassesFace : FunctionData → FaceKind → ℕ → ℕ → Type 0

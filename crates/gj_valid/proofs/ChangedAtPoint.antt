@@ -5,10 +5,9 @@ use Rattle.std.proofs.Math.Nat.{mul-pos, mul_comm}
 use Rattle.std.proofs.lemmas.Bool.{cond-true, cond-false}
 use Rattle.std.proofs.lemmas.Bool.Decides.{eqb_tells}
 use Rattle.std.proofs.lemmas.Int.{ints}
-use Rattle.gj_frac.specs.Fraction.{Fraction, SameValue, LessValue}
+use Rattle.gj_frac.specs.Fraction.{Fraction, SameValue, LessValue, AtMostValue}
 use Rattle.gj_shape.specs.Valid.{weight}
 use Rattle.gj_theory.proofs.Weights.{sum_cons, sum_append, weight_append, same_sums, weight_nonnegative, StandFor}
-use Rattle.gj_valid.specs.ValidFunctions.{AtMost}
 use Rattle.gj_valid.proofs.PartFunctions.{SamePlace, nothing, one, sum_of_values, IsPartFunction, IsValidPart, IsMinimalPart}
 use Rattle.gj_valid.proofs.OverOneBottom.{Is, is_along, most_from_numbers, most_to_numbers, nothing_is, one_is, values_positive, values_are}
 use Rattle.gj_valid.proofs.FunctionTables.{HasTable, has_table, at_place, scaled_rest, cancel_rest, sum_scaled, weight_of_map}
@@ -20,7 +19,7 @@ pub record HasLower (v : ℕ → ℕ → Fraction) (k q : ℕ) : Type 0 where
   pub d : ℕ
   pub some : 0 < d
   pub valid : IsValidPart u k q
-  pub at_most : (i e : ℕ) → 0 < e → AtMost (u i e) (v i e)
+  pub at_most : (i e : ℕ) → 0 < e → AtMostValue (u i e) (v i e)
   pub below : LessValue (u n d) (v n d)
 
 pub not_lower : (v : ℕ → ℕ → Fraction) (k q : ℕ) → IsMinimalPart v k q → HasLower v k q → ⊥
@@ -167,12 +166,12 @@ changed_valid v k q a g xs q_some g_some h place =
       function = function;
       nonnegative = λ n e some.
           ⊎_elim
-          (λ at. subst (λ (z : Fraction). AtMost nothing z) (sym at.1)
+          (λ at. subst (λ (z : Fraction). AtMostValue nothing z) (sym at.1)
           (let b = both v k q g e q_some g_some some h in
           most_from_numbers nothing x (pos 0) (weight (λ n. b.table.t (n * (q * e))) xs) b.table.c (omega (arith, ints)) x_some b.table.some
           (nothing_is b.table.c) (x_is e b)
           (weight_nonnegative (λ n. b.table.t (n * (q * e))) xs (λ n. b.table.valid.nonnegative (n * (q * e))))))
-          (λ off. subst (λ (z : Fraction). AtMost nothing z) (sym off.1) (h.nonnegative n e some))
+          (λ off. subst (λ (z : Fraction). AtMostValue nothing z) (sym off.1) (h.nonnegative n e some))
           (changed_tells v a g x n e);
       at_solutions = λ e ys some solution.
           let b = both v k q g e q_some g_some some h in
@@ -204,7 +203,7 @@ lighter_points v k q a g xs q_some g_some h place less =
       valid = changed_valid v k q a g xs q_some g_some h place;
       at_most = λ n e some.
           ⊎_elim
-          (λ at. subst (λ (z : Fraction). AtMost z (v n e)) (sym at.1)
+          (λ at. subst (λ (z : Fraction). AtMostValue z (v n e)) (sym at.1)
           (let b = both v k q g e q_some g_some some h in
           let c = b.table.c in
           let w = weight (λ n. b.table.t (n * (q * e))) xs in
@@ -214,7 +213,7 @@ lighter_points v k q a g xs q_some g_some h place less =
           (is_along (v n e) (v a g) z c (h.function.positive a g g_some) (h.function.at_points n e a g some g_some at.0) (b.over_g a))
           (most_to_numbers x (v a g) w z c x_some (h.function.positive a g g_some) b.table.some x_is (b.over_g a)
           (omega (arith, ints, less)))))
-          (λ off. subst (λ (z : Fraction). AtMost z (v n e)) (sym off.1) (omega (arith, ints)))
+          (λ off. subst (λ (z : Fraction). AtMostValue z (v n e)) (sym off.1) (omega (arith, ints)))
           (changed_tells v a g x n e);
       below = ⊎_elim (λ at. subst (λ (z : Fraction). LessValue z (v a g)) (sym at.1) less) (λ off. absurd (off.0 refl))
           (changed_tells v a g x a g);

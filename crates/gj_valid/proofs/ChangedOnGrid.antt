@@ -8,13 +8,12 @@ use Rattle.std.proofs.lemmas.Int.{ints, by_lt_z}
 use Rattle.gj_tools.proofs.Integers.{mul_add_z, mul_le_mul_left_z}
 use Rattle.gj_tools.proofs.Quotients.{same_at_remainder, same_remainder, from_same_remainder}
 use Rattle.gj_tools.proofs.Ring.{by_ring, ring}
-use Rattle.gj_frac.specs.Fraction.{Fraction, SameValue, LessValue}
+use Rattle.gj_frac.specs.Fraction.{Fraction, SameValue, LessValue, AtMostValue}
 use Rattle.gj_shape.specs.Table.{IsMinimalTable}
 use Rattle.gj_shape.specs.Valid.{weight, IsDominated}
 use Rattle.gj_theory.proofs.ValidTables.{asymmetry_dominated}
 use Rattle.gj_theory.proofs.Weights.{sum_cons}
 use Rattle.gj_tools.proofs.Integers.{same_or_apart_z}
-use Rattle.gj_valid.specs.ValidFunctions.{AtMost}
 use Rattle.gj_valid.proofs.PartFunctions.{SamePlace, nothing, one, sum_of_values, IsPartFunction, IsMinimalPart}
 use Rattle.gj_valid.proofs.OverOneBottom.{Is, is_scaled, is_over, one_number, most_from_numbers, less_from_numbers, nothing_is, one_is, values_positive, values_are}
 use Rattle.gj_valid.proofs.FunctionTables.{HasTable, has_table, at_place, scaled_rest, cancel_rest}
@@ -251,7 +250,7 @@ one_place_more w places n k place = ap (λ i. i % n) (sum_cons w places) ∙ pla
 
 spread_at_solutions : (v : ℕ → ℕ → Fraction) (k q m : ℕ) → 0 < q → 0 < m → IsMinimalPart v k q → (h : HasTable v k q m) →
     (l : IsDominated h.t (q * m) (k * m) h.c) → (e : ℕ) (ys : List ℕ) → 0 < e → SamePlace (sum ys) e k q →
-    AtMost one (sum_of_values (spread v (q * m) l.1 (l.0 * h.c)) e ys)
+    AtMostValue one (sum_of_values (spread v (q * m) l.1 (l.0 * h.c)) e ys)
 spread_at_solutions v k q m q_some m_some minimal h l e ys some solution =
     let n = q * m in
     let n_some : 0 < n = mul-pos q_some m_some in
@@ -294,20 +293,20 @@ dominated_is_lower v k q m q_some m_some minimal h l =
         nonnegative = λ x e some.
             ⊎_elim
             (λ at. let (i, place, is) = at in
-            subst (λ (z : Fraction). AtMost nothing z) (sym is) (let low = l.3.valid.nonnegative i in omega (arith, ints)))
-            (λ off. subst (λ (z : Fraction). AtMost nothing z) (sym off.1) (valid.nonnegative x e some))
+            subst (λ (z : Fraction). AtMostValue nothing z) (sym is) (let low = l.3.valid.nonnegative i in omega (arith, ints)))
+            (λ off. subst (λ (z : Fraction). AtMostValue nothing z) (sym off.1) (valid.nonnegative x e some))
             (spread_tells v n l.1 s x e);
         at_solutions = spread_at_solutions v k q m q_some m_some minimal h l;
       };
       at_most = λ x e some.
           ⊎_elim
           (λ at. let (i, place, is) = at in
-          subst (λ (z : Fraction). AtMost z (v x e)) (sym is)
+          subst (λ (z : Fraction). AtMostValue z (v x e)) (sym is)
           (most_from_numbers (record { top = l.1 i; bottom = pos s }) (v x e) (l.1 i) (pos l.0 *ℤ h.t i) s (omega (arith, ints))
           (valid.function.positive x e some) s_some refl
           (is_scaled (v x e) (h.t i) h.c l.0 (at_place v x e i n h.c (h.t i) some n_some valid.function place (h.is i)))
           (l.3.at_most i)))
-          (λ off. subst (λ (z : Fraction). AtMost z (v x e)) (sym off.1) (omega (arith, ints)))
+          (λ off. subst (λ (z : Fraction). AtMostValue z (v x e)) (sym off.1) (omega (arith, ints)))
           (spread_tells v n l.1 s x e);
       below = ⊎_elim
           (λ at. let (i, place, is) = at in

@@ -2,11 +2,11 @@
 use Rattle.std.proofs.Common.{ℕ, ◌<◌, List, map, unsigned_abs, subst, arith}
 use Rattle.std.specs.Prelude.{sum}
 use Rattle.gj_tools.proofs.Integers.{abs_positive_z}
-use Rattle.gj_frac.specs.Fraction.{Fraction}
+use Rattle.gj_frac.specs.Fraction.{Fraction, AtMostValue}
 use Rattle.gj_shape.specs.Extreme.{IsExtreme}
 use Rattle.gj_shape.specs.FunctionData.{FunctionData, IsWithinBounds, IsContinuous}
 use Rattle.gj_shape.specs.Table.{IsMinimal}
-use Rattle.gj_valid.specs.ValidFunctions.{over, AtMost, IsNonnegative, IsSamePoint, total_of, IsFunction, IsValidFunction, IsMinimalAmongFunctions, IsExtremeAmongFunctions, function_of}
+use Rattle.gj_valid.specs.ValidFunctions.{over, IsNonnegative, IsSamePoint, total_of, IsFunction, IsValidFunction, IsMinimalAmongFunctions, IsExtremeAmongFunctions, function_of}
 use Rattle.gj_valid.proofs.PartFunctions.{IsValidPart, part_of}
 use Rattle.gj_valid.proofs.MinimalFunctions.{minimal_among_functions, extreme_among_functions}
 use Rattle.gj_valid.proofs.OnlyMinimal.{only_minimal}
@@ -38,7 +38,7 @@ pub model_only_extreme : (f : FunctionData) → IsWithinBounds f → IsContinuou
 model_only_extreme f l continuous h = only_extreme f l continuous (extreme_at_parts (function_of f) f.place f.order (order_some f l) h)
 
 pub valid_over_one_bottom : (v : Fraction → Fraction) (f : Fraction) → IsNonnegative f → IsFunction v →
-    ((d : ℕ) (tops : List ℕ) → 0 < d → IsSamePoint (over (sum tops) d) f → AtMost (over 1 1) (total_of (map (λ n. v (over n d)) tops))) →
+    ((d : ℕ) (tops : List ℕ) → 0 < d → IsSamePoint (over (sum tops) d) f → AtMostValue (over 1 1) (total_of (map (λ n. v (over n d)) tops))) →
     IsValidFunction v f
 valid_over_one_bottom v f low h each =
     let k = unsigned_abs f.top in

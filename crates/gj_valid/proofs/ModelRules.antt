@@ -3,8 +3,8 @@ use Rattle.std.proofs.Common.{◌≡◌, ℕ, ◌+◌, ◌*◌, ◌%◌, ◌<◌
 use Rattle.std.proofs.Math.Nat.{mul-pos}
 use Rattle.std.proofs.lemmas.Int.{ints}
 use Rattle.gj_tools.proofs.Integers.{abs_positive_z, mul_positive_z}
-use Rattle.gj_frac.specs.Fraction.{Fraction, SameValue, sum_of}
-use Rattle.gj_valid.specs.ValidFunctions.{over, AtMost, IsNonnegative, IsSamePoint, IsFunction, IsMinimalAmongFunctions}
+use Rattle.gj_frac.specs.Fraction.{Fraction, SameValue, sum_of, AtMostValue}
+use Rattle.gj_valid.specs.ValidFunctions.{over, IsNonnegative, IsSamePoint, IsFunction, IsMinimalAmongFunctions}
 use Rattle.gj_valid.proofs.PartFunctions.{one, HasRules, at_parts}
 use Rattle.gj_valid.proofs.OverOneBottom.{over_one, is_along, most_along, most_from_numbers, most_to_numbers, same_sums_of, same_trans}
 use Rattle.gj_valid.proofs.FunctionRules.{rules_among, rules_only}
@@ -12,7 +12,7 @@ use Rattle.gj_valid.proofs.SamePoints.{parts_are, over_nonnegative, sum_nonnegat
 use Rattle.gj_valid.proofs.OnFractions.{function_at_parts, low_at_parts, minimal_at_parts, minimal_from_parts}
 
 -- what has the value of a lower fraction is lower
-most_before : (x y z : Fraction) → pos 0 <ℤ x.bottom → pos 0 <ℤ y.bottom → pos 0 <ℤ z.bottom → SameValue z x → AtMost x y → AtMost z y
+most_before : (x y z : Fraction) → pos 0 <ℤ x.bottom → pos 0 <ℤ y.bottom → pos 0 <ℤ z.bottom → SameValue z x → AtMostValue x y → AtMostValue z y
 most_before x y z x_some y_some z_some same most =
     let o = over_one x y x_some y_some in
     most_from_numbers z y o.n o.m o.c z_some y_some o.some (is_along z x o.n o.c x_some same o.x_is) o.y_is
@@ -24,7 +24,7 @@ sum_over : (n m d : ℕ) → SameValue (over (n + m) d) (sum_of (over n d) (over
 sum_over n m d = let whole : (n + m) * (d * d) ≡ (n * d + m * d) * d = omega arith in ap pos whole
 
 rules_at_parts : (v : Fraction → Fraction) (k q : ℕ) → 0 < q → IsFunction v → SameValue (v (over 0 1)) (over 0 1) →
-    ((x y : Fraction) → IsNonnegative x → IsNonnegative y → AtMost (v (sum_of x y)) (sum_of (v x) (v y))) →
+    ((x y : Fraction) → IsNonnegative x → IsNonnegative y → AtMostValue (v (sum_of x y)) (sum_of (v x) (v y))) →
     ((x y : Fraction) → IsNonnegative x → IsNonnegative y → IsSamePoint (sum_of x y) (over k q) →
     SameValue (sum_of (v x) (v y)) (over 1 1)) →
     HasRules (at_parts v) k q
@@ -56,7 +56,7 @@ rules_at_parts v k q q_some h zero below opposite = record {
 }
 
 pub model_rules : (v : Fraction → Fraction) (f : Fraction) → IsNonnegative f → IsFunction v → SameValue (v (over 0 1)) (over 0 1) →
-    ((x y : Fraction) → IsNonnegative x → IsNonnegative y → AtMost (v (sum_of x y)) (sum_of (v x) (v y))) →
+    ((x y : Fraction) → IsNonnegative x → IsNonnegative y → AtMostValue (v (sum_of x y)) (sum_of (v x) (v y))) →
     ((x y : Fraction) → IsNonnegative x → IsNonnegative y → IsSamePoint (sum_of x y) f → SameValue (sum_of (v x) (v y)) (over 1 1)) →
     IsMinimalAmongFunctions v f
 model_rules v f low h zero below opposite =
@@ -99,7 +99,7 @@ sum_positive v n d m e d_some e_some h =
     (h.nonnegative (over m e) (over_nonnegative m e e_some)).1
 
 pub model_subadditive : (v : Fraction → Fraction) (f x y : Fraction) → IsNonnegative f → IsMinimalAmongFunctions v f →
-    IsNonnegative x → IsNonnegative y → AtMost (v (sum_of x y)) (sum_of (v x) (v y))
+    IsNonnegative x → IsNonnegative y → AtMostValue (v (sum_of x y)) (sum_of (v x) (v y))
 model_subadditive v f x y low h x_low y_low =
     let n = unsigned_abs x.top in
     let d = unsigned_abs x.bottom in
@@ -109,7 +109,7 @@ model_subadditive v f x y low h x_low y_low =
     let e_some = abs_positive_z y.bottom y_low.1 in
     let some : 0 < d * e = mul-pos d_some e_some in
     let function = h.valid.function in
-    subst₂ (λ s t. AtMost (v (sum_of s t)) (sum_of (v s) (v t))) (parts_are x x_low) (parts_are y y_low)
+    subst₂ (λ s t. AtMostValue (v (sum_of s t)) (sum_of (v s) (v t))) (parts_are x x_low) (parts_are y y_low)
     (most_along (v (over (n * e + m * d) (d * e))) (sum_of (v (over (n * e) (d * e))) (v (over (m * d) (d * e))))
     (sum_of (v (over n d)) (v (over m e))) (function.nonnegative (over (n * e + m * d) (d * e)) (over_nonnegative (n * e + m * d) (d * e) some)).1
     (sum_positive v (n * e) (d * e) (m * d) (d * e) some some function) (sum_positive v n d m e d_some e_some function)

@@ -5,9 +5,9 @@ use Rattle.std.specs.List.{All}
 use Rattle.std.proofs.lemmas.Int.{ints}
 use Rattle.std.proofs.lemmas.List.Elements.{All-nil, All-cons}
 use Rattle.gj_tools.proofs.Integers.{abs_positive_z}
-use Rattle.gj_frac.specs.Fraction.{Fraction, SameValue, sum_of}
+use Rattle.gj_frac.specs.Fraction.{Fraction, SameValue, sum_of, AtMostValue}
 use Rattle.gj_theory.proofs.Weights.{sum_cons}
-use Rattle.gj_valid.specs.ValidFunctions.{over, AtMost, IsNonnegative, IsSamePoint, total_of, IsFunction, IsValidFunction, IsMinimalAmongFunctions, IsExtremeAmongFunctions}
+use Rattle.gj_valid.specs.ValidFunctions.{over, IsNonnegative, IsSamePoint, total_of, IsFunction, IsValidFunction, IsMinimalAmongFunctions, IsExtremeAmongFunctions}
 use Rattle.gj_valid.proofs.PartFunctions.{SamePlace, nothing, one, sum_of_values, IsPartFunction, IsValidPart, IsMinimalPart, IsExtremePart, at_parts, from_parts}
 use Rattle.gj_valid.proofs.OverOneBottom.{Is, sum_is, most_along, values_positive}
 use Rattle.gj_valid.proofs.SamePoints.{parts_are, over_nonnegative, same_point, same_place, same_point_along}
@@ -22,10 +22,10 @@ function_at_parts v h = record {
       h.has_period (over n d) (over m e) (over_nonnegative n d d_some) (over_nonnegative m e e_some) (same_point n d m e same);
 }
 
-pub low_at_parts : (v : Fraction → Fraction) (n d : ℕ) → IsFunction v → 0 < d → AtMost nothing (at_parts v n d)
+pub low_at_parts : (v : Fraction → Fraction) (n d : ℕ) → IsFunction v → 0 < d → AtMostValue nothing (at_parts v n d)
 low_at_parts v n d h some = let low = (h.nonnegative (over n d) (over_nonnegative n d some)).0 in omega (arith, ints)
 
-pub function_from_parts : (v : ℕ → ℕ → Fraction) → IsPartFunction v → ((n d : ℕ) → 0 < d → AtMost nothing (v n d)) →
+pub function_from_parts : (v : ℕ → ℕ → Fraction) → IsPartFunction v → ((n d : ℕ) → 0 < d → AtMostValue nothing (v n d)) →
     IsFunction (from_parts v)
 function_from_parts v h low = record {
   nonnegative = λ x x_low.
@@ -43,7 +43,7 @@ function_from_parts v h low = record {
 
 -- a function is valid if it is so over each bottom
 pub valid_by_bottoms : (v : Fraction → Fraction) (k q : ℕ) → 0 < q → IsFunction v →
-    ((d : ℕ) (tops : List ℕ) → 0 < d → SamePlace (sum tops) d k q → AtMost one (sum_of_values (at_parts v) d tops)) →
+    ((d : ℕ) (tops : List ℕ) → 0 < d → SamePlace (sum tops) d k q → AtMostValue one (sum_of_values (at_parts v) d tops)) →
     IsValidFunction v (over k q)
 valid_by_bottoms v k q q_some h each = record {
   function = h;
@@ -76,10 +76,10 @@ values_over v d [] = refl
 values_over v d (n ∷ tops) = ap (λ l. v (over n d) ∷ l) (values_over v d tops)
 
 pub values_at_solution : (v : Fraction → Fraction) (f : Fraction) (d : ℕ) (tops : List ℕ) → pos 0 <ℤ f.bottom → 0 < d →
-    IsValidFunction v f → IsSamePoint (over (sum tops) d) f → AtMost one (sum_of_values (at_parts v) d tops)
+    IsValidFunction v f → IsSamePoint (over (sum tops) d) f → AtMostValue one (sum_of_values (at_parts v) d tops)
 values_at_solution v f d tops f_some some h solution =
     let points = map (λ n. over n d) tops in
-    subst (λ (l : List Fraction). AtMost one (total_of l)) (values_over v d tops)
+    subst (λ (l : List Fraction). AtMostValue one (total_of l)) (values_over v d tops)
     (h.at_solutions points (all_over d tops some)
     (same_point_along (total_of points) (over (sum tops) d) f
     (values_positive (λ n d. over n d) d tops (λ n. omega (arith, ints))) (omega (arith, ints)) f_some (total_over d tops) solution))
@@ -99,7 +99,7 @@ minimal_at_parts v k q q_some h = record {
   valid = valid_at_parts v k q q_some h.valid;
   none_below = λ u valid below n d some.
       h.none_below (from_parts u) (valid_from_parts u k q q_some valid)
-      (λ x low. subst (λ (y : Fraction). AtMost (from_parts u x) (v y)) (parts_are x low)
+      (λ x low. subst (λ (y : Fraction). AtMostValue (from_parts u x) (v y)) (parts_are x low)
       (below (unsigned_abs x.top) (unsigned_abs x.bottom) (abs_positive_z x.bottom low.1)))
       (over n d) (over_nonnegative n d some);
 }

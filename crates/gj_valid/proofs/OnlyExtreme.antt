@@ -6,7 +6,7 @@ use Rattle.std.proofs.lemmas.Int.{ints}
 use Rattle.gj_tools.proofs.Integers.{mul_positive_z, same_or_apart_z, mul_cancel_left_z, mul_cancel_right_z}
 use Rattle.gj_tools.proofs.Ratios.{ratio_difference}
 use Rattle.gj_tools.proofs.Ring.{by_ring, ring}
-use Rattle.gj_frac.specs.Fraction.{Fraction, sum_of, difference_of}
+use Rattle.gj_frac.specs.Fraction.{Fraction, sum_of, difference_of, AtMostValue}
 use Rattle.gj_shape.specs.Extreme.{IsExtreme}
 use Rattle.gj_shape.specs.FunctionData.{FunctionData, IsWithinBounds, IsContinuous}
 use Rattle.gj_shape.specs.Table.{table, IsMinimalTable}
@@ -18,7 +18,6 @@ use Rattle.gj_theory.specs.Halves.{AreDifferentHalves}
 use Rattle.gj_theory.proofs.Fillings.{filling_at, filling_at_multiple, filling_period, parts_at, filling_minimal, function_finer_halves}
 use Rattle.gj_theory.proofs.ValidTables.{minimal_is_valid}
 use Rattle.gj_theory.proofs.Weights.{weight_le}
-use Rattle.gj_valid.specs.ValidFunctions.{AtMost}
 use Rattle.gj_valid.proofs.PartFunctions.{nothing, one, sum_of_values, IsPartFunction, IsValidPart, IsMinimalPart, IsExtremePart, part_of}
 use Rattle.gj_valid.proofs.OverOneBottom.{Is, over_one, is_over, is_along, same_over, same_numbers, sum_is, most_from_numbers, most_to_numbers, nothing_is, one_is, values_positive, values_are}
 use Rattle.gj_valid.proofs.FunctionTables.{has_table, on_grid, scaled_rest, by_tables, Agree, tables_valid}
@@ -44,7 +43,7 @@ left_over_positive v u n d some v_function u_function =
     (u_function.positive n d some)
 
 left_over_valid : (v u : ℕ → ℕ → Fraction) (k q : ℕ) → 0 < q → IsValidPart v k q → IsValidPart u k q →
-    ((n d : ℕ) → 0 < d → AtMost (u n d) (v n d)) → IsValidPart (left_over v u) k q
+    ((n d : ℕ) → 0 < d → AtMostValue (u n d) (v n d)) → IsValidPart (left_over v u) k q
 left_over_valid v u k q q_some v_valid u_valid below =
     let v_some = λ (n d : ℕ). v_valid.function.positive n d in
     let u_some = λ (n d : ℕ). u_valid.function.positive n d in

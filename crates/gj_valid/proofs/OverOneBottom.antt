@@ -7,9 +7,8 @@ use Rattle.std.proofs.lemmas.Int.{ints, by_lt_z}
 use Rattle.gj_tools.proofs.Integers.{mul_cancel_right_z, mul_positive_z, positive_some_z, abs_positive_z, pos_abs_z, mul_assoc_z}
 use Rattle.gj_tools.proofs.Ratios.{ratio_along, ratio_sum, ratio_less}
 use Rattle.gj_tools.proofs.Ring.{by_ring, ring}
-use Rattle.gj_frac.specs.Fraction.{Fraction, SameValue, LessValue, sum_of}
+use Rattle.gj_frac.specs.Fraction.{Fraction, SameValue, LessValue, sum_of, AtMostValue}
 use Rattle.gj_shape.specs.Valid.{weight}
-use Rattle.gj_valid.specs.ValidFunctions.{AtMost}
 use Rattle.gj_valid.proofs.PartFunctions.{nothing, one, sum_of_values}
 
 -- x is n/c
@@ -43,7 +42,7 @@ sum_is x y n m c is is' = ratio_sum x.top x.bottom y.top y.bottom n m (pos c) is
 -- ---- order
 
 pub most_to_numbers : (x y : Fraction) (n m : ℤ) (c : ℕ) → pos 0 <ℤ x.bottom → pos 0 <ℤ y.bottom → 0 < c → Is x n c → Is y m c →
-    AtMost x y → n ≤ℤ m
+    AtMostValue x y → n ≤ℤ m
 most_to_numbers x y n m c x_some y_some some is is' most =
     by_lt_z m n
     (λ l. absurd (let less = (ratio_less y.top y.bottom x.top x.bottom m n (pos c) y_some x_some (omega (arith, ints)) is' is).1 l in
@@ -51,7 +50,7 @@ most_to_numbers x y n m c x_some y_some some is is' most =
     (λ l. l)
 
 pub most_from_numbers : (x y : Fraction) (n m : ℤ) (c : ℕ) → pos 0 <ℤ x.bottom → pos 0 <ℤ y.bottom → 0 < c → Is x n c → Is y m c →
-    n ≤ℤ m → AtMost x y
+    n ≤ℤ m → AtMostValue x y
 most_from_numbers x y n m c x_some y_some some is is' most =
     by_lt_z (y.top *ℤ x.bottom) (x.top *ℤ y.bottom)
     (λ l. absurd (let less = (ratio_less y.top y.bottom x.top x.bottom m n (pos c) y_some x_some (omega (arith, ints)) is' is).0 l in
@@ -157,7 +156,7 @@ same_trans x y z y_some z_some first second =
     let o = over_one y z y_some z_some in
     same_over x z o.m o.c o.some (is_along x y o.m o.c y_some first (is_along y z o.m o.c z_some second o.y_is)) o.y_is
 
-pub most_along : (x y z : Fraction) → pos 0 <ℤ x.bottom → pos 0 <ℤ y.bottom → pos 0 <ℤ z.bottom → AtMost x y → SameValue z y → AtMost x z
+pub most_along : (x y z : Fraction) → pos 0 <ℤ x.bottom → pos 0 <ℤ y.bottom → pos 0 <ℤ z.bottom → AtMostValue x y → SameValue z y → AtMostValue x z
 most_along x y z x_some y_some z_some most same =
     let o = over_one x y x_some y_some in
     most_from_numbers x z o.n o.m o.c x_some z_some o.some o.x_is (is_along z y o.m o.c y_some same o.y_is)

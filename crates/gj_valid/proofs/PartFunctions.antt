@@ -1,9 +1,9 @@
 -- Functions of the top and the bottom of a point, with solutions over one bottom: valid, minimal and extreme ones.
 use Rattle.std.specs.Prelude.{ℕ, pos, ◌≡◌, ◌+◌, ◌*◌, ◌%◌, ◌<◌, ◌<ℤ◌, List, map, sum, unsigned_abs}
-use Rattle.gj_frac.specs.Fraction.{Fraction, SameValue, sum_of}
+use Rattle.gj_frac.specs.Fraction.{Fraction, SameValue, sum_of, AtMostValue}
 use Rattle.gj_shape.specs.FunctionData.{FunctionData}
 use Rattle.gj_shape.specs.Violation.{value_of}
-use Rattle.gj_valid.specs.ValidFunctions.{over, AtMost, total_of}
+use Rattle.gj_valid.specs.ValidFunctions.{over, total_of}
 
 -- n/d and m/e differ by a whole number
 abbrev pub SamePlace : ℕ → ℕ → ℕ → ℕ → Type 0
@@ -26,12 +26,12 @@ pub record IsPartFunction (v : ℕ → ℕ → Fraction) : Type 0 where
 
 pub record IsValidPart (v : ℕ → ℕ → Fraction) (k q : ℕ) : Type 0 where
   pub function : IsPartFunction v
-  pub nonnegative : (n d : ℕ) → 0 < d → AtMost nothing (v n d)
-  pub at_solutions : (d : ℕ) (tops : List ℕ) → 0 < d → SamePlace (sum tops) d k q → AtMost one (sum_of_values v d tops)
+  pub nonnegative : (n d : ℕ) → 0 < d → AtMostValue nothing (v n d)
+  pub at_solutions : (d : ℕ) (tops : List ℕ) → 0 < d → SamePlace (sum tops) d k q → AtMostValue one (sum_of_values v d tops)
 
 pub record IsMinimalPart (v : ℕ → ℕ → Fraction) (k q : ℕ) : Type 0 where
   pub valid : IsValidPart v k q
-  pub none_below : (u : ℕ → ℕ → Fraction) → IsValidPart u k q → ((n d : ℕ) → 0 < d → AtMost (u n d) (v n d)) →
+  pub none_below : (u : ℕ → ℕ → Fraction) → IsValidPart u k q → ((n d : ℕ) → 0 < d → AtMostValue (u n d) (v n d)) →
       (n d : ℕ) → 0 < d → SameValue (u n d) (v n d)
 
 pub record IsExtremePart (v : ℕ → ℕ → Fraction) (k q : ℕ) : Type 0 where
@@ -44,8 +44,8 @@ pub record IsExtremePart (v : ℕ → ℕ → Fraction) (k q : ℕ) : Type 0 whe
 pub record HasRules (v : ℕ → ℕ → Fraction) (k q : ℕ) : Type 0 where
   pub function : IsPartFunction v
   pub zero_at_zero : SameValue (v 0 1) nothing
-  pub nonnegative : (n d : ℕ) → 0 < d → AtMost nothing (v n d)
-  pub subadditive : (n m d : ℕ) → 0 < d → AtMost (v (n + m) d) (sum_of (v n d) (v m d))
+  pub nonnegative : (n d : ℕ) → 0 < d → AtMostValue nothing (v n d)
+  pub subadditive : (n m d : ℕ) → 0 < d → AtMostValue (v (n + m) d) (sum_of (v n d) (v m d))
   pub symmetric : (n m d : ℕ) → 0 < d → SamePlace (n + m) d k q → SameValue (sum_of (v n d) (v m d)) one
 
 -- the function that the data tell, by parts

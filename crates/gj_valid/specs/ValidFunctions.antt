@@ -1,16 +1,12 @@
 -- Functions from fractions to fractions: what valid, minimal and extreme mean (Gomory and Johnson 1972).
 use Rattle.std.specs.Prelude.{ℕ, pos, ◌*◌, ◌*ℤ◌, ◌<ℤ◌, ◌≤ℤ◌, List, [], ◌∷◌, map, All, unsigned_abs}
-use Rattle.gj_frac.specs.Fraction.{Fraction, SameValue, sum_of}
+use Rattle.gj_frac.specs.Fraction.{Fraction, SameValue, AtMostValue, sum_of}
 use Rattle.gj_shape.specs.FunctionData.{FunctionData}
 use Rattle.gj_shape.specs.Violation.{value_of}
 
 -- n/d
 abbrev pub over : ℕ → ℕ → Fraction
 over n d = record { top = pos n; bottom = pos d }
-
--- x is at most y, if both bottoms are above 0
-abbrev pub AtMost : Fraction → Fraction → Type 0
-AtMost x y = (x.top *ℤ y.bottom) ≤ℤ (y.top *ℤ x.bottom)
 
 -- x is at least 0, and its bottom is above 0
 abbrev pub IsNonnegative : Fraction → Type 0
@@ -33,12 +29,12 @@ pub record IsFunction (v : Fraction → Fraction) : Type 0 where
 -- a valid function for f: if points, each as often as it is used, add up to f modulo 1, its values at them add up to 1 or more
 pub record IsValidFunction (v : Fraction → Fraction) (f : Fraction) : Type 0 where
   pub function : IsFunction v
-  pub at_solutions : (points : List Fraction) → All IsNonnegative points → IsSamePoint (total_of points) f → AtMost (over 1 1) (total_of (map v points))
+  pub at_solutions : (points : List Fraction) → All IsNonnegative points → IsSamePoint (total_of points) f → AtMostValue (over 1 1) (total_of (map v points))
 
 -- a valid function such that each valid function that is nowhere above it equals it
 pub record IsMinimalAmongFunctions (v : Fraction → Fraction) (f : Fraction) : Type 0 where
   pub valid : IsValidFunction v f
-  pub none_below : (u : Fraction → Fraction) → IsValidFunction u f → ((x : Fraction) → IsNonnegative x → AtMost (u x) (v x)) →
+  pub none_below : (u : Fraction → Fraction) → IsValidFunction u f → ((x : Fraction) → IsNonnegative x → AtMostValue (u x) (v x)) →
       (x : Fraction) → IsNonnegative x → SameValue (u x) (v x)
 
 -- a valid function that is not half the sum of two different valid functions

@@ -1,10 +1,10 @@
 //! Minimal and extreme functions among the valid functions on all fractions.
 ghost use Rattle.std.specs.Prelude.{ℕ, ◌<◌, List, map, sum};
-ghost use Rattle.gj_frac.specs.Fraction.{Fraction, SameValue, sum_of};
+ghost use Rattle.gj_frac.specs.Fraction.{Fraction, SameValue, sum_of, AtMostValue};
 ghost use Rattle.gj_shape.specs.Extreme.{IsExtreme};
 ghost use Rattle.gj_shape.specs.FunctionData.{FunctionData, IsWithinBounds, IsContinuous};
 ghost use Rattle.gj_shape.specs.Table.{IsMinimal};
-ghost use Rattle.gj_valid.specs.ValidFunctions.{over, AtMost, IsNonnegative, IsSamePoint, total_of, IsFunction, IsValidFunction, IsMinimalAmongFunctions, IsExtremeAmongFunctions, function_of};
+ghost use Rattle.gj_valid.specs.ValidFunctions.{over, IsNonnegative, IsSamePoint, total_of, IsFunction, IsValidFunction, IsMinimalAmongFunctions, IsExtremeAmongFunctions, function_of};
 
 /// The minimal functions are those that, taken on all fractions, are minimal among the valid functions: no other lies below.
 pub fn minimal_functions_are_minimal_among_valid()
@@ -24,13 +24,13 @@ pub fn extreme_functions_are_extreme_among_valid()
 /// that are 0 at 0, subadditive and symmetric: their values at two points that add up to f add up to 1.
 pub fn rules_of_minimal_functions()
     ensures among { (v : Fraction → Fraction) (f : Fraction) → IsNonnegative f → IsFunction v → SameValue (v (over 0 1)) (over 0 1) →
-        ((x y : Fraction) → IsNonnegative x → IsNonnegative y → AtMost (v (sum_of x y)) (sum_of (v x) (v y))) →
+        ((x y : Fraction) → IsNonnegative x → IsNonnegative y → AtMostValue (v (sum_of x y)) (sum_of (v x) (v y))) →
         ((x y : Fraction) → IsNonnegative x → IsNonnegative y → IsSamePoint (sum_of x y) f → SameValue (sum_of (v x) (v y)) (over 1 1)) →
         IsMinimalAmongFunctions v f }
     ensures zero { (v : Fraction → Fraction) (f : Fraction) → IsNonnegative f → IsMinimalAmongFunctions v f →
         SameValue (v (over 0 1)) (over 0 1) }
     ensures subadditive { (v : Fraction → Fraction) (f x y : Fraction) → IsNonnegative f → IsMinimalAmongFunctions v f →
-        IsNonnegative x → IsNonnegative y → AtMost (v (sum_of x y)) (sum_of (v x) (v y)) }
+        IsNonnegative x → IsNonnegative y → AtMostValue (v (sum_of x y)) (sum_of (v x) (v y)) }
     ensures symmetric { (v : Fraction → Fraction) (f x y : Fraction) → IsNonnegative f → IsMinimalAmongFunctions v f →
         IsNonnegative x → IsNonnegative y → IsSamePoint (sum_of x y) f → SameValue (sum_of (v x) (v y)) (over 1 1) }
 {}
@@ -39,6 +39,6 @@ pub fn rules_of_minimal_functions()
 /// finitely many fractions have a common bottom.
 pub fn solutions_over_one_bottom()
     ensures { (v : Fraction → Fraction) (f : Fraction) → IsNonnegative f → IsFunction v →
-        ((d : ℕ) (tops : List ℕ) → 0 < d → IsSamePoint (over (sum tops) d) f → AtMost (over 1 1) (total_of (map (λ n. v (over n d)) tops))) →
+        ((d : ℕ) (tops : List ℕ) → 0 < d → IsSamePoint (over (sum tops) d) f → AtMostValue (over 1 1) (total_of (map (λ n. v (over n d)) tops))) →
         IsValidFunction v f }
 {}

@@ -1,7 +1,7 @@
 use Rattle.std.proofs.Common.{◌≡◌, get_or, pos, w64, to_z, of_z, subst, sym, rules, arith}
 use Rattle.gj_shape.specs.FunctionData.{at}
 use Rattle.gj_shape.proofs.NumeratorReadings.{entry_read, value_below}
-use Rattle.gj_complex.specs.Bounds.{IsNumerator}
+use Rattle.gj_shape.specs.Limits.{IsNumerator}
 use Rattle.gj_complex.proofs.square.value_at.Goals as goal
 
 pub returns : goal.returns

@@ -1,5 +1,5 @@
 use Rattle.std.proofs.Common.{◌≡◌, ℕ, ◌<◌, ◌≤◌}
-use Rattle.gj_minimal.specs.Failures.{PassesVertex}
+use Rattle.gj_theory.specs.EarlierTests.{PassesVertex}
 use Rattle.gj_minimal.proofs.value_lanes.short_part_passes.Given as goal
 
 abbrev pub invariant-loop-b : goal.invariant-loop-b

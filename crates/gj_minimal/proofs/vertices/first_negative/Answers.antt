@@ -1,5 +1,5 @@
 use Rattle.std.proofs.Common.{below_more, rules}
-use Rattle.gj_minimal.specs.Failures.{PassesVertex}
+use Rattle.gj_theory.specs.EarlierTests.{PassesVertex}
 use Rattle.gj_minimal.proofs.vertices.first_negative.Goals as goal
 
 pub loop-b-preserved : goal.loop-b-preserved
