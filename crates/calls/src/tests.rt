@@ -1,10 +1,13 @@
 //! Values by hand.
 mod callers;
 mod cuts;
+mod faces;
+mod fractions;
 mod functions;
 mod intervals;
 mod numbers;
 mod rows;
+mod rules;
 mod streams;
 mod texts;
 mod verdicts;

@@ -26,3 +26,8 @@ pub returns-in_err-proof-clause-not_continuous : goal.returns-in_err-proof-claus
 returns-in_err-proof-clause-not_continuous c = λ i e.
     c.in_err-proof.ensures.not_continuous i
     (same_fault c.from_residual.result c.in_err-proof.field-0.0 _ c.from_residual.ensures.0 c.from_residual.ensures.1 e)
+
+pub returns-in_err-proof-clause-wide : goal.returns-in_err-proof-clause-wide
+returns-in_err-proof-clause-wide c = λ e.
+    c.in_err-proof.ensures.wide
+    (same_fault c.from_residual.result c.in_err-proof.field-0.0 _ c.from_residual.ensures.0 c.from_residual.ensures.1 e)
