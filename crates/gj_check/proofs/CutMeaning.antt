@@ -97,7 +97,7 @@ rows_meaning rule rows i front (l ∷ rest) place index of_rule h =
     (rows_meaning rule rows (i + 1) (front ++ l ∷ []) rest (place ∙ sym (append_assoc front (l ∷ []) rest)) (next_row front l i index)
     of_rule (All-back P (row_demands i l) (cut_demands (i + 1) rest) h))
 
--- the rule, where it is a function, is a minimal one
+-- the rule, if it is a function, is a minimal one
 rule_minimal : (rule : CutRule) (rows : List CutLine) → IfFunction (subject_of_rule rule) IsWithinBounds →
     All (Holds (claims.Cut rule rows)) (rule_demands rule) → IsMinimalRule rule
 rule_minimal (Table f) rows bounds h =

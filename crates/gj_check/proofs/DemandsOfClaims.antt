@@ -28,11 +28,11 @@ one_failure c n m rule other h k =
       h.rule_is ∙ ap rule_of same ∙ sym k.rule_is,
     )
 
--- where every rule holds, none fails
+-- if every rule holds, none fails
 pub no_failure : (c : Claim) (n : ℕ) (rule : CheckRule) → IsFirstFailure c n rule → MeetsRules c → ⊥
 no_failure c n rule h rules = first_failing_denies_all (Holds c) (demands_of c) h.before h.demand h.first rules
 
--- where every rule holds, a check that names the first that fails accepts, unless there is no memory
+-- if every rule holds, a check that names the first that fails accepts, unless there is no memory
 pub accepted_unless : {X : Type 0} (c : Claim) (r : Result X CheckFault) → IfErr r (IsFaultOf c) → MeetsRules c →
     MatchResult r (λ _. Unit {0}) (IsWantOfMemory c)
 accepted_unless c (Ok x) h rules = tt

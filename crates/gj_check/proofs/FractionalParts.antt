@@ -71,7 +71,7 @@ part_inside x f not_whole part =
         let positive = x.lowest.positive in
         omega (arith, ints)
 
--- a fraction y that is what each floor leaves of x is n/d exactly where x has that fractional part
+-- a fraction y that is what each floor leaves of x is n/d exactly if x has that fractional part
 pub part_is_fraction : (x y : Frac) (n d : ℤ) →
     ((w : ℤ) → IsFloor x w → IsRatio y (numerator x -ℤ w *ℤ denominator x) (denominator x)) →
     IsRatio y n d ↔ HasFractionalPart x n d

@@ -81,7 +81,7 @@ two_coordinates x y = (
       ),
 )
 
--- the same where the denominators were read
+-- the same if the denominators were read
 pub one_read : (x : Frac) (d : ℕ) → d ≡ unsigned_abs (denominator x) →
     (IsCoordinate x × HasFineMultiple d 1) ↔ AreCoordinates (x ∷ [])
 one_read x d e = rw e (one_coordinate x)

@@ -1,4 +1,4 @@
--- All tests pass exactly where those at 0, those of signs, those of symmetry and those of each square do.
+-- All tests pass exactly if those at 0, those of signs, those of symmetry and those of each square do.
 use Rattle.std.proofs.Common.{◌↔◌}
 use Rattle.gj_shape.specs.FunctionData.{FunctionData}
 use Rattle.gj_shape.specs.FirstViolation.{Test, Passes, PassesAll}
@@ -42,7 +42,7 @@ all_tests f = (
       (((zero, passed_signs f all), passed_symmetry f all), passed_squares f all),
 )
 
--- so where the tests at 0, of signs and of symmetry pass, those of the squares decide
+-- so if the tests at 0, of signs and of symmetry pass, those of the squares decide
 pub squares_decide : (f : FunctionData) → Passes f zero_at_zero → IsNonnegative f → IsSymmetric f →
     IsSubadditive f ↔ PassesAll f
 squares_decide f zero signs symmetry =

@@ -47,7 +47,7 @@ sum_over x y s n m w x_is y_is h =
     is_along s (x.num *ℤ y.den +ℤ y.num *ℤ x.den) (x.den *ℤ y.den) (n +ℤ m) w (omega arith) h
     (ratio_sum x.num x.den y.num y.den n m w x_is y_is)
 
--- n/w is less than m/w exactly where n is less than m
+-- n/w is less than m/w exactly if n is less than m
 pub less_over : (x y : Frac) (n m : ℤ) (w : ℕ) → 0 < w → IsRatio x n (pos w) → IsRatio y m (pos w) →
     LessValue (fraction_of x) (fraction_of y) ↔ (n <ℤ m)
 less_over x y n m w some x_is y_is =
@@ -64,7 +64,7 @@ less_over x y n m w some x_is y_is =
           (subst₂ (λ a b. a <ℤ b) (sym left) (sym right) (mul_lt_mul_right_z n m (x.den *ℤ y.den) both h)),
     )
 
--- n/w is negative exactly where n is
+-- n/w is negative exactly if n is
 pub negative_over : (x : Frac) (n : ℤ) (w : ℕ) → 0 < w → IsRatio x n (pos w) → (numerator x <ℤ pos 0) ↔ (n <ℤ pos 0)
 negative_over x n w some x_is =
     let positive : pos 0 <ℤ pos w = omega (arith, ints) in
@@ -75,7 +75,7 @@ negative_over x n w some x_is =
           mul_lt_cancel_right_z x.num (pos 0) (pos w) positive (omega (arith, ints)),
     )
 
--- n/w is 1 exactly where n is w
+-- n/w is 1 exactly if n is w
 pub one_over : (x : Frac) (n : ℤ) (w : ℕ) → 0 < w → IsRatio x n (pos w) → (numerator x ≡ denominator x) ↔ (n ≡ pos w)
 one_over x n w some x_is =
     let den = denominator_some x in (

@@ -42,7 +42,7 @@ places_congruent q i j d e a t same (h, i_is) (k, j_is) = (
 scaled_left_z : (s d : ℕ) (x : ℤ) → x *ℤ pos (s * d) ≡ pos s *ℤ (pos d *ℤ x)
 scaled_left_z s d x = by_ring (pos s ∷ pos d ∷ x ∷ []) (search ring depth 30) refl
 
--- the value at a/e is the value at t/d where the two are one number
+-- the value at a/e is the value at t/d if the two are one number
 pub value_over : (f : FunctionData) (a t : ℤ) (e d : ℕ) (y : Frac) → IsWithinBounds f → 0 < e → 0 < d →
     a *ℤ pos d ≡ t *ℤ pos e → IsValueAt f a e y → IsValueAt f t d y
 value_over f a t e d y l e_some d_some same is j at_t =

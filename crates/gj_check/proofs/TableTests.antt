@@ -1,4 +1,4 @@
--- A table is minimal exactly where the values of one period pass their tests.
+-- A table is minimal exactly if the values of one period pass their tests.
 use Rattle.std.proofs.lemmas.Bool.{cases_lt}
 use Rattle.std.proofs.Common.{◌≡◌, ◌≢◌, ◌↔◌, ◌⊎◌, inl, inr, max, min, ◌/◌, ℕ, ◌+◌, ◌-◌, ◌*◌, ◌%◌, ◌<◌, ◌≤◌, ℤ, pos, ◌+ℤ◌, ◌-ℤ◌, ◌<ℤ◌, ◌≤ℤ◌, List, [], ◌∷◌, ◌++◌, length, get_or, set, get_or-set_other, get_or-set_same, subst, below_more, unsigned_abs, to_z, of_z, FitsSigned, refl, sym, ap, ap₂, ◌∙◌, arith}
 use mir.Syntax.{w128}
@@ -24,7 +24,7 @@ mirrored_pair values i j h =
 
 -- ---- one row over the entries of two periods
 
--- the greatest of the value at i and of the rises over the pairs from `from` on and before j is that value exactly where these
+-- the greatest of the value at i and of the rises over the pairs from `from` on and before j is that value exactly if these
 -- pairs pass
 abbrev pub BoundsRises : List ℤ → ℕ → ℕ → ℕ → ℤ → Type 0
 BoundsRises values i from j rise = (rise ≤ℤ at values i) ↔ ((k : ℕ) → k < j → from ≤ k → IsSubadditivePair values i k)
@@ -309,7 +309,7 @@ one_more_entry {E} number entries more values n entry is pushed h =
 
 -- ---- the tests in turn
 
--- where those before pass, the pairs decide
+-- if those before pass, the pairs decide
 pub list_decides : (values : List ℤ) (place : ℕ) (scale : ℤ) → IsTableInRange values place scale → at values 0 ≡ pos 0 →
     IsSymmetricList values place scale →
     IsSubadditiveList values ↔ IsMinimalTable (at values) (length values) place (unsigned_abs scale)

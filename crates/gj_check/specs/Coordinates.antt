@@ -19,6 +19,6 @@ pub record AreCoordinates (xs : List Frac) : Type 0 where
   pub each : All IsCoordinate xs
   pub common : HasFineDenominator xs
 
--- z is q (f - x), where q is the order
+-- z is q (f - x), q being the order
 abbrev pub IsScaledOpposite : FunctionData → Frac → Frac → Type 0
 IsScaledOpposite f x z = IsRatio z (denominator x *ℤ pos f.place -ℤ numerator x *ℤ pos f.order) (denominator x)

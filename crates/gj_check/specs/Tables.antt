@@ -22,7 +22,7 @@ IsSymmetricList values place scale = (i : ℕ) → i < length values → IsSymme
 abbrev pub IsSubadditivePair : List ℤ → ℕ → ℕ → Type 0
 IsSubadditivePair values i j = at values (i + j) ≤ℤ (at values i +ℤ at values j)
 
--- for each j from i on where the third index with this total is no less than j
+-- for each j from i on at which the third index with this total is no less than j
 abbrev pub IsSubadditiveUpTo : List ℤ → ℕ → ℕ → Type 0
 IsSubadditiveUpTo values total i =
     (j k : ℕ) → i ≤ j → j ≤ k → k < length values → i + j + k ≡ total → IsSubadditivePair values i j

@@ -67,7 +67,7 @@ fn is_not_one(x: Frac) -> bool
     x.num() != x.den()
 }
 
-/// The number q (f - x), where q is the order.
+/// The number q (f - x), q being the order.
 fn scaled_opposite(shape: &Shape, x: Frac) -> Frac
     requires { AreCoordinates (x ∷ []) }
     ensures { IsScaledOpposite shape.now x result }

@@ -124,7 +124,7 @@ reached_on q T free start interval old new h begin' r waits next =
       ];
     }
 
--- where none waits, all that are joined to one that was reached were reached
+-- if none waits, all that are joined to one that was reached were reached
 shut : (q : ℕ) (T : ℕ → ℕ → Type 0) (start : ℕ) (r : Reached) → AreReached q T start r → ((i : ℕ) → has r.waiting i ≡ false) →
     (i j : ℕ) → IsTrue (has r.reached i) → j < q → AreJoined q T j i → IsTrue (has r.reached j)
 shut q T start r h empty i j e below a = elim (h.closed i e) [

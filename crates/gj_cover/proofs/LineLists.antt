@@ -136,7 +136,7 @@ none_from c x m i within e = elim (eqb_tells i x) [
   | inr (t, other) ↦ (other, sym (number_other c x m i other) ∙ e)
 ]
 
--- a number stays where another gets one
+-- a number stays if another gets one
 pub number_stays : (c : List (Option ℕ)) (x m i n : ℕ) → number_at c x ≡ None → number_at c i ≡ Some n →
     number_at (set c x (Some m)) i ≡ Some n
 number_stays c x m i n free e =

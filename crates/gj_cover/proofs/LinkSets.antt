@@ -62,7 +62,7 @@ again true h = refl
 again false true = refl
 again false false = refl
 
--- where the test does not see the order of two indices, the vertical edges are the horizontal ones
+-- if the test does not see the order of two indices, the vertical edges are the horizontal ones
 pub linked_from_symmetric : (t : Table) (i j k : ℕ) (r d h : Bool) → i < t.order → j < t.order → k < t.order →
     (i + k) % t.order ≡ j → ((a b : ℕ) → is_tight_in t a b ≡ is_tight_in t b a) → r ≡ (d || h) →
     d ≡ (is_tight_in t (i + 1) j && is_tight_in t i ((j + 1) % t.order)) →
@@ -122,7 +122,7 @@ linked_to t i j k r d h v i_below j_below k_below leads r_is d_is h_is v_is =
       ]),
     )
 
--- where the test does not see the order of two indices, the horizontal edges are all but those diagonal ones that link both ways
+-- if the test does not see the order of two indices, the horizontal edges are all but those diagonal ones that link both ways
 pub linked_to_symmetric : (t : Table) (i j k : ℕ) (h : Bool) → i < t.order → j < t.order → k < t.order →
     (j + k) % t.order ≡ i → ((a b : ℕ) → is_tight_in t a b ≡ is_tight_in t b a) →
     h ≡ (is_tight_in t j k && is_tight_in t ((j + 1) % t.order) k) →

@@ -10,7 +10,7 @@ use Rattle.gj_cover.specs.declared.table.Table.{Table}
 use Rattle.gj_cover.proofs.FirstFaces.{Square}
 use Rattle.gj_cover.proofs.Parts.{covered_one}
 
--- a kind that has the property, where none before it has it
+-- a kind that has the property, if none before it has it
 pub first_there : (P : FaceKind → ℕ → ℕ → Type 0) (k : FaceKind) (a b : ℕ) → P k a b →
     ((kind : FaceKind) → position_of_kind kind < position_of_kind k → P kind a b → ⊥) → IsFirstOf (Square a b) P (record { kind = k; a = a; b = b })
 first_there P k a b holds none = record {

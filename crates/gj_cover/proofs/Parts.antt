@@ -42,7 +42,7 @@ additive T Upper a b h = All-three (λ c. T c.0 c.1) (a + 1, b) (a, b + 1) (a + 
 abbrev pub HasPeriod : ℕ → (ℕ → ℕ → Type 0) → Type 0
 HasPeriod q T = (i j k l : ℕ) → i % q ≡ k % q → j % q ≡ l % q → T i j → T k l
 
--- equal rests stay equal where the same is added
+-- equal rests stay equal if the same is added
 pub add_same : (q x a b : ℕ) → a % q ≡ b % q → (a + x) % q ≡ (b + x) % q
 add_same q x a b e = add-mod a x q ∙ ap (λ n. (n + x % q) % q) e ∙ sym (add-mod b x q)
 

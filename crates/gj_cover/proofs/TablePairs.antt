@@ -32,7 +32,7 @@ pub told : (t : Table) (i j : ℕ) → IsTightIn t i j → is_tight_in t i j ≡
 unfolding IsTightIn
 told t i j h = h
 
--- where the pairs turned around are tight too, the test does not see the order of the two
+-- if the pairs turned around are tight too, the test does not see the order of the two
 pub symmetric_tight : (t : Table) → AreColumns t.order t.rows.items t.rows.items → (i j : ℕ) →
     is_tight_in t i j ≡ is_tight_in t j i
 unfolding is_tight_in

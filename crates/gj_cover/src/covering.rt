@@ -51,7 +51,7 @@ pub fn cover_of_pairs(alloc: Global, shape: &Shape, pairs: &TightPairs) -> Resul
     Ok(found)
 }
 
-/// The same for the complex of order q, from 2 to 1,000, where the tight pairs are those in the runs.
+/// The same for the complex of order q, from 2 to 1,000, in which the tight pairs are those in the runs.
 ///
 /// The runs are in order: each is of indices below q, and they ascend by a and then by b, with no b in two runs of one a.
 pub fn cover_of_runs(alloc: Global, runs: &[Run], q: u32) -> Result<Cover, AllocError>

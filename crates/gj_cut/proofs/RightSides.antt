@@ -33,7 +33,7 @@ is_part x r n d part has =
     let floor = quotient_is_floor x in
     is_along r _ x.den n d (positive_some_z x.den x.lowest.positive) (part _ floor) (has _ floor)
 
--- the part is n/d exactly where it is the fraction p
+-- the part is n/d exactly if it is the fraction p
 part_is_place : (x r p : Frac) (n d : ℤ) → unsigned_abs d ≢ 0 → IsPartOf r x → IsRatio p n d →
     (r ≡ p → HasFractionalPart x n d) × (HasFractionalPart x n d → r ≡ p)
 part_is_place x r p n d some part is = (

@@ -26,7 +26,7 @@ out_of_parts : (y z : ℤ) (a b c k : ℕ) →
     (pos c *ℤ (y *ℤ pos k) +ℤ pos b *ℤ (z *ℤ pos k)) *ℤ pos a ≡ (pos c *ℤ y +ℤ pos b *ℤ z) *ℤ pos a *ℤ pos k
 out_of_parts y z a b c k = by_ring (y ∷ z ∷ pos a ∷ pos b ∷ pos c ∷ pos k ∷ []) (search ring depth 40) refl
 
--- x over a is half the sum of y over b and z over c, where they are t/k + p, t/k and p
+-- x over a is half the sum of y over b and z over c, if they are t/k + p, t/k and p
 half_of_sum : (x y z : ℤ) (a b c t p k : ℕ) → 0 < k → x *ℤ pos (2 * k) ≡ pos (a * (t + k * p)) → y *ℤ pos k ≡ pos (t * b) →
     z ≡ pos (c * p) → x *ℤ pos (2 * (b * c)) ≡ (pos c *ℤ y +ℤ pos b *ℤ z) *ℤ pos a
 half_of_sum x y z a b c t p k some x_is y_is z_is =
@@ -71,7 +71,7 @@ alternating_at n g i h bounds =
 
 -- ---- the average
 
--- it is where the values are, since all three are continuous
+-- it is if the values are, since all three are continuous
 pub demo_average : (n : ℕ) (f g h : FunctionData) → IsDemo n f → IsWithinBounds f → IsGmic (2 * (2 * n + 1)) (2 * n + 1) g →
     IsWithinBounds g → IsAlternating n h → IsWithinBounds h → IsAverageOf g h f
 demo_average n f g h demo f_bounds gmic g_bounds alternating h_bounds =

@@ -37,7 +37,7 @@ some_unless_none : (o : Option ℕ) → (o ≡ None → ⊥) → is_some o ≡ t
 some_unless_none None h = absurd (h refl)
 some_unless_none (Some n) h = refl
 
--- an interval has a number exactly where it is covered
+-- an interval has a number exactly if it is covered
 number_where_covered : (q : ℕ) (Tight : ℕ → ℕ → Type 0) (lines : List CoverLine) (component : List (Option ℕ)) (i : ℕ) →
     AreComponents q Tight lines component → i < q → (is_some (number_at component i) ≡ true) ↔ IsCovered q Tight i
 number_where_covered q Tight lines component i h below = (

@@ -34,7 +34,7 @@ value_at n f i h bounds =
 pub demo_continuous : (n : ℕ) (f : FunctionData) → IsDemo n f → IsContinuous f
 demo_continuous n f h = (h.left, h.right)
 
--- where the numbers add up, the pair is tight
+-- if the numbers add up, the pair is tight
 pub tight_by_numbers : (n : ℕ) (f : FunctionData) (a b : ℕ) → IsDemo n f → IsWithinBounds f →
     number_at (2 * n + 1) a + number_at (2 * n + 1) b ≡ number_at (2 * n + 1) (a + b) → IsTight f a b
 tight_by_numbers n f a b h bounds e =
@@ -114,7 +114,7 @@ demo_not_extreme n f some h bounds extreme =
 
 -- ---- the scale
 
--- s/g divides v where v q is s w, and g is the greatest common divisor of s and q
+-- s/g divides v if v q is s w, and g is the greatest common divisor of s and q
 quotient_divides : (v : ℤ) (q s w g a b : ℕ) → IsGcd s q g → 0 < g → s ≡ a * g → q ≡ b * g → v *ℤ pos q ≡ pos (s * w) →
     a ∣ unsigned_abs v
 quotient_divides v q s w g a b gcd some s_is q_is e =

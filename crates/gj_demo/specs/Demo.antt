@@ -7,7 +7,7 @@ use Rattle.gj_shape.specs.FunctionData.{FunctionData, IsContinuous, at}
 abbrev pub demo_number : ℕ → ℕ → ℕ
 demo_number k i = min i (2 * k - i) + k * (i % 2)
 
--- the continuous function of order 2 k with f = 1/2 that has these values, where k = 2 n + 1
+-- the continuous function of order 2 k with f = 1/2 that has these values, k being 2 n + 1
 pub record IsDemo (n : ℕ) (f : FunctionData) : Type 0 where
   pub order : f.order ≡ 2 * (2 * n + 1)
   pub place : f.place ≡ 2 * n + 1

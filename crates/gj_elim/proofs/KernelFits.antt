@@ -1,4 +1,4 @@
--- The numbers of the kernel are at most 2^127 - 1 in absolute value, where none of the marked ones is above.
+-- The numbers of the kernel are at most 2^127 - 1 in absolute value, if none of the marked ones is above.
 use Rattle.std.proofs.Common.{mul-le-mul_left, ◌≡◌, ℕ, zero, suc, ◌<◌, ◌≤◌, ◌^◌, ◌*◌, ◌==◌, ◌⊎◌, inl, inr, Bool, true, false, if◌then◌else◌, Option, None, Some, ℤ, pos, ◌+ℤ◌, ◌*ℤ◌, neg_ℤ, int_div, List, [], ◌∷◌, ◌++◌, unsigned_abs, refl, sym, ap, subst, ◌∙◌, arith}
 use Rattle.std.specs.Prelude.{All}
 use Rattle.std.proofs.lemmas.Bool.{cases_lt}

@@ -121,7 +121,7 @@ solved_end b kept n free j w kept_is n_is h free_is solved zero =
           (subst (λ (o : Option Solution). IfSome o (λ s. Any (λ x. pos 0 <ℤ x) s.numbers)) is (kernel_positive n kept h));
     }
 
--- where there is no free column
+-- if there is no free column
 pub record HasNoKernel (b : BasisData) : Type 0 where
   pub full : length b.kept ≡ b.columns
   pub narrow : Passes (marked_in (kernel b.columns b.kept)) → ⊥

@@ -28,7 +28,7 @@ products_next : (row w : List ℤ) (i : ℕ) → i < length row → i < length w
 products_next row w i in_row in_w =
     ap₂ (λ xs ys. map (λ p. p.0 *ℤ p.1) (zip xs ys)) (drop_more row i (pos 0) in_row) (drop_more w i (pos 0) in_w)
 
--- the numbers that are marked where so much is summed up
+-- the numbers that are marked if so much is summed up
 abbrev pub marked_from : ℤ → List ℤ → List ℤ
 marked_from t ps = ps ++ partial_sums t ps
 

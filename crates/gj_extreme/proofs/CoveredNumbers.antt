@@ -1,4 +1,4 @@
--- The numbers of components where all intervals are covered.
+-- The numbers of components if all intervals are covered.
 use Rattle.std.proofs.Common.{◌≡◌, ℕ, ◌<◌, Option, None, Some, List, [], length, map, get_or, refl, sym, ap, subst, ◌∙◌, arith}
 use Rattle.std.specs.Prelude.{All, IsSome}
 use Rattle.std.proofs.lemmas.List.{get_or-map, get_or_default, length-map}

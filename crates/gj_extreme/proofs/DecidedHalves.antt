@@ -78,7 +78,7 @@ not_not_all P (suc n) h none =
 abbrev pub IsLeastUncovered : ℕ → (ℕ → ℕ → Type 0) → ℕ → Type 0
 IsLeastUncovered q Tight least = IsLeastFrom 0 (λ i. (i < q) × (IsCovered q Tight i → ⊥)) least
 
--- where none is the least that is uncovered, each is not not covered
+-- if none is the least that is uncovered, each is not not covered
 none_uncovered : (q : ℕ) (Tight : ℕ → ℕ → Type 0) → ((least : ℕ) → IsLeastUncovered q Tight least → ⊥) →
     (n i : ℕ) → i < n → i < q → (IsCovered q Tight i → ⊥) → ⊥
 none_uncovered q Tight none zero i low within out = absurd (omega arith)
@@ -146,7 +146,7 @@ begun_columns f component n (name ∷ names) =
     All-cons (λ row. length row ≡ n) (named_row f component n name) (map (named_row f component n) names)
     (length-map-range_with_len (row_entry component f.order f.place name) 0 n) (begun_columns f component n names)
 
--- what is so of a solution, where there is one, is so of this one
+-- what is so of a solution, if there is one, is so of this one
 of_some : (o : Option Solution) (s : Solution) (P : Solution → Type 0) → o ≡ Some s → IfSome o P → P s
 of_some o s P e h = subst (λ (r : Option Solution). IfSome r P) e h
 

@@ -12,7 +12,7 @@ use Rattle.gj_extreme.specs.Faults.{of_elimination, of_split, of_settling}
 use Rattle.gj_extreme.specs.declared.faults.DecideFault.{DecideFault}
 use Rattle.gj_extreme.specs.declared.faults.DecideFault.TheVariants.{NotContinuous, Wide}
 
--- Wide comes from a part only where the part is too wide
+-- Wide comes from a part only if the part is too wide
 pub wide_elimination : {T U : Type 0} (r : Result T DecideFault) (x : ElimFault) → IsErr r → IsErrAnd r (λ e. e ≡ of_elimination x) →
     IsErrOf r Wide → IsErrOf {T = U} (Err x) elimination.Wide
 wide_elimination (Ok v) x is_err h e = absurd cc

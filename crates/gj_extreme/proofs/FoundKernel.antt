@@ -29,7 +29,7 @@ pub kernel_same : (f : FunctionData) (component : ℕ → ℕ) (n : ℕ) (rows :
 kernel_same f component n rows h =
     ap (kernel n) h.kept ∙ kernel_renumbered h.numbers n rows.basis.kept ∙ ap (λ m. kernel m rows.basis.kept) (sym h.columns)
 
--- where fewer rows are kept than there are components, there is one
+-- if fewer rows are kept than there are components, there is one
 pub kernel_found : (f : FunctionData) (component : ℕ → ℕ) (n : ℕ) (rows : Rows) (numbers : List ℤ) →
     AreInserted f component n rows → length rows.basis.kept < n →
     IfSome (kernel rows.basis.columns rows.basis.kept) (λ s. numbers ≡ s.numbers) →

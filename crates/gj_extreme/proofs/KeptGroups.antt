@@ -312,7 +312,7 @@ grows_behind numbers f component n number kept name reduce (Some p) after named 
 abbrev inserted_name : Numbers → FunctionData → (ℕ → ℕ) → ℕ → List KeptRow → RowName → Insertion
 inserted_name numbers f component n kept name = inserted_by (arithmetic_of numbers) n kept (named_row f component n name)
 
--- one row and those behind it, where not all columns have a pivot
+-- one row and those behind it, if not all columns have a pivot
 row_grows : (numbers : Numbers) (f : FunctionData) (component : ℕ → ℕ) (n number : ℕ) (kept : List KeptRow) (name : RowName)
     (later : Elimination) → get_or (row_names f) number Period ≡ name → MeetsRow f name → AreTriangularOver numbers n kept →
     length (named_row f component n name) ≡ n →

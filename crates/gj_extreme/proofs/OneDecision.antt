@@ -207,7 +207,7 @@ one_rows numbers f lines others rows more l h k = (
       ∙ sym k.rows_are,
 )
 
--- rows over residues come only where those of whole numbers do not
+-- rows over residues come only if those of whole numbers do not
 not_both : (f : FunctionData) (lines others : List CoverLine) (rows more : List PivotRow) → IsWithinBounds f →
     AreExtremeRows Whole f lines rows → AreExtremeRows Residues f others more → ⊥
 not_both f lines others rows more l h k =

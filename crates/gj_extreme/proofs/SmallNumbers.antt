@@ -156,7 +156,7 @@ bound_up b i j some up =
 
 -- ---- the pivots before a column
 
--- 1 where there is a row
+-- 1 if there is a row
 unfoldable pub has_row : Option KeptRow → ℕ
 has_row None = 0
 has_row (Some k) = 1

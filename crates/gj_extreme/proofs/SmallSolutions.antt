@@ -1,4 +1,4 @@
--- How large the numbers of a solution are, where there are at most so many columns.
+-- How large the numbers of a solution are, if there are at most so many columns.
 use Rattle.std.proofs.Common.{◌≡◌, ℕ, zero, suc, inr, ◌+◌, ◌-◌, ◌*◌, ◌<◌, ◌≤◌, Bool, true, false, if◌then◌else◌, Option, None, Some, ℤ, pos, ◌+ℤ◌, ◌*ℤ◌, neg_ℤ, ◌<ℤ◌, int_div, List, [], ◌∷◌, ◌++◌, length, map, drop, eqb, unsigned_abs, refl, sym, ap, subst, mul-le-mul_left, ◌∙◌, arith}
 use Rattle.std.specs.List.{zip}
 use Rattle.std.proofs.Math.Nat.{mul-le-mul_right, one-le-mul}
@@ -102,7 +102,7 @@ solving_small m k v row j w m_some row_small w_small short some =
 
 -- ---- the columns below
 
--- numbers grow by at most this factor where the j columns below are solved by rows of the bound, with at most m products summed
+-- numbers grow by at most this factor if the j columns below are solved by rows of the bound, with at most m products summed
 unfoldable pub grown : ℕ → ℕ → ℕ → ℕ
 grown b m zero = 1
 grown b m (suc j) = m * bound b j * grown b m j

@@ -110,7 +110,7 @@ seen_further f component n before row p (inl are) = inl are
 seen_further f component n before row p (inr has) =
     inr (Contains-append_right (row ∷ []) before (named_row f component n (Pair p.a p.b)) has)
 
--- what the basis is behind the insertion of the row, or where it is full
+-- what the basis is behind the insertion of the row, or if it is full
 record HasRow (f : FunctionData) (n : ℕ) (row : List ℤ) (handed : List (ℕ × List ℤ)) (number : ℕ) (old new : Rows) : Type 0 where
   inserted : length new.basis.kept < n → new.basis.inserted ≡ length handed + 1
   kept : (more : List (List ℤ)) →
@@ -162,7 +162,7 @@ is_handed f component n old new name rest h has =
 
 -- ---- it is inserted
 
--- what stays where a row is inserted, but for the names
+-- what stays if a row is inserted, but for the names
 pub record IsInserted (n : ℕ) (row : List ℤ) (old new : Rows) : Type 0 where
   pub basis : new.basis ≡ behind old.basis row
   pub width : length new.row.items ≡ n
@@ -310,9 +310,9 @@ row_is_wide f component n old name rest l h short wide =
     (subst (λ (e : Elimination). Passes e.marked)
     (sym (elimination_next n old.basis.kept old.basis.inserted row (handed_rows tail) short)) (front_passes _ _ here))))
 
--- ---- where there are as many rows as components
+-- ---- if there are as many rows as components
 
--- there are not, where the test gives false
+-- there are not, if the test gives false
 pub not_full : (b : Bool) (m n : ℕ) → (m ≤ n → IsTrue b) → b ≡ false → n < m
 not_full b m n test e = by_order (cases_lt n m)
   where

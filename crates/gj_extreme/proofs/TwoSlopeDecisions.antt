@@ -63,7 +63,7 @@ pub continuous_no_jump : (f : FunctionData) (i : ℕ) → IsContinuous f → IsJ
 continuous_no_jump f i h (inl differs) = differs (ap (λ xs. at xs i) h.0)
 continuous_no_jump f i h (inr differs) = differs (ap (λ xs. at xs i) (sym h.1))
 
--- where the function does not jump and no number is too wide, only memory can be wanting
+-- if the function does not jump and no number is too wide, only memory can be wanting
 pub only_memory : {T : Type 0} (r : Result T DecideFault) (P : T → Type 0) → IsErr r → ((i : ℕ) → IsErrOf r (NotContinuous i) → ⊥) →
     (IsErrOf r Wide → ⊥) → MatchResult r P IsMemoryFault
 only_memory (Ok v) P is jumps wide = absurd cc

@@ -109,7 +109,7 @@ IsByTable f (Extreme g lines rows) = IsExtremeOnGrid4 f
 IsByTable f (ExtremeByResidues g lines rows) = IsExtremeOnGrid4 f
 IsByTable f (NotExtreme g h) = IsExtremeOnGrid4 f → ⊥
 
--- ---- where it gives none
+-- ---- when it gives none
 
 -- a number of the kernel, of the perturbation or of the halves is too wide
 pub data IsWideBehind (f : FunctionData) (component : ℕ → ℕ) (s : Solution) : Type 0 where

@@ -17,7 +17,7 @@ use Rattle.gj_faces.specs.Triangles.{is_triangle}
 use Rattle.gj_faces.specs.Picked.{ArePicked, none, kept, dropped}
 use Rattle.gj_faces.proofs.PickedFaces.{picked_joined, joined_more}
 
--- one face, where it is maximal, and where it is not
+-- one face, if it is maximal, and if it is not
 pub adds_one : (f : FunctionData) (face : Face) (old new : List Face) → IsMaximalIn f face → new ≡ old ++ face ∷ [] →
     AddsMaximal f (face ∷ []) old new
 adds_one f face old new h e = record { added = face ∷ []; picked = kept h none; items = e }

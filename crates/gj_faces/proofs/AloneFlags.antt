@@ -183,7 +183,7 @@ edge_of Diagonal t plain e = or_right _ (flag Diagonal t) e
 edge_of Lower t plain e = absurd (true≢false plain)
 edge_of Upper t plain e = absurd (true≢false plain)
 
--- where a kind that is no triangle has its flag, and no other before, the diagonal has it
+-- if a kind that is no triangle has its flag, and no other before, the diagonal has it
 rest_of : (t : Around) → edge_flag t ≡ true → flag Vertex t ≡ false → flag Horizontal t ≡ false → flag Vertical t ≡ false →
     flag Diagonal t ≡ true
 rest_of t some vertex horizontal vertical =
@@ -221,7 +221,7 @@ all_flags f a alone around limits flags tells none = record {
   within = λ b past. (flags b).any ∙ none b past;
 }
 
--- no flag where neither the middle nor the east is tight
+-- no flag if neither the middle nor the east is tight
 pub no_flag : (t : Around) → t.middle ≡ false → t.east ≡ false → any_flag t ≡ false
 no_flag t middle east =
     or_from ((((flag Vertex t || flag Horizontal t) || flag Vertical t) || flag Diagonal t) || flag Lower t) (flag Upper t)

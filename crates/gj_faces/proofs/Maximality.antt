@@ -309,7 +309,7 @@ module _ (q : ℕ) (Tight : ℕ → ℕ → Type 0) (some : 0 < q) (periodic : I
   grown Lower a b h extended = absurd extended
   grown Upper a b h extended = absurd extended
 
-  -- ---- so an additive face is maximal exactly where it is not extended
+  -- ---- so an additive face is maximal exactly if it is not extended
 
   pub maximal_unless_extended : (kind : FaceKind) (a b : ℕ) → IsAdditive Tight kind a b →
       (IsExtended q Tight kind a b → ⊥) → IsMaximalFace q Tight kind a b

@@ -91,7 +91,7 @@ behind q runs h k m d order below =
       | inr differ ↦ inl (each_later q runs h m k d (omega arith) below)
     ]
 
--- where the run at m ends before the pair, the search goes on behind it
+-- if the run at m ends before the pair, the search goes on behind it
 pub narrowed_up : (q : ℕ) (runs : List Run) (i j low high m : ℕ) (e : Run) → AreInOrder q runs → m < length runs →
     ((get_or runs m e).a < i % q) ⊎ (((get_or runs m e).a ≡ i % q) × ((get_or runs m e).to < j % q)) →
     IsBetween q runs i j low high → IsBetween q runs i j (m + 1) high
@@ -105,7 +105,7 @@ narrowed_up q runs i j low high m e h below early between k d within holds =
           found)
     ]
 
--- where it begins behind the pair, the search goes on before it
+-- if it begins behind the pair, the search goes on before it
 pub narrowed_down : (q : ℕ) (runs : List Run) (i j low high m : ℕ) (e : Run) → AreInOrder q runs → m < length runs →
     (i % q < (get_or runs m e).a) ⊎ (((get_or runs m e).a ≡ i % q) × (j % q < (get_or runs m e).from)) →
     IsBetween q runs i j low high → IsBetween q runs i j low m

@@ -168,7 +168,7 @@ AreStarts row starts = (i : ℕ) → i < 1024 → starts i ≡ (row i && not (na
 abbrev pub AreEnds : (ℕ → Bool) → (ℕ → Bool) → Type 0
 AreEnds row ends = (i : ℕ) → ends i ≡ (row i && not (row (i + 1)))
 
--- where no run ends the row goes on
+-- if no run ends the row goes on
 goes_on : (row ends : ℕ → Bool) (from n : ℕ) → AreEnds row ends → row from ≡ true →
     ((j : ℕ) → from ≤ j → j < from + n → ends j ≡ false) → row (from + n) ≡ true
 goes_on row ends from zero are h none = let e : from ≡ from + zero = omega arith in ap row (sym e) ∙ h
@@ -178,7 +178,7 @@ goes_on row ends from (suc n) are h none =
     let silent : (row (from + n) && not (row (from + n + 1))) ≡ false = sym (are (from + n)) ∙ none (from + n) (omega arith) (omega arith) in
     ap row (sym e) ∙ not-false (row (from + n + 1)) (sym (ap (λ b. b && not (row (from + n + 1))) here) ∙ silent)
 
--- where none starts it has nothing
+-- if none starts it has nothing
 stays_out : (row starts : ℕ → Bool) (c j : ℕ) → AreStarts row starts → (c ≡ 0) ⊎ (row c ≡ false) → c ≤ j → j < 1024 →
     ((k : ℕ) → c ≤ k → k ≤ j → starts k ≡ false) → row j ≡ false
 stays_out row starts c zero are (inr out) order below none = let e : c ≡ 0 = omega arith in ap row (sym e) ∙ out
@@ -239,7 +239,7 @@ run_ends q P from row starts ends few tells are_starts are_ends below starts_her
     let inside = ((tells (from + q)).0 beyond).0 in
     omega arith
 
--- the row is done where no run starts any more
+-- the row is done if no run starts any more
 pub row_done : (q : ℕ) (Tight : ℕ → ℕ → Type 0) (a c : ℕ) (row starts : ℕ → Bool) (runs : List Run) → AreRunsBefore q Tight a c runs →
     q ≤ 1000 → Tells (Tight a) row q → AreStarts row starts → (c ≡ 0) ⊎ (row c ≡ false) → c ≤ q →
     ((j : ℕ) → c ≤ j → starts j ≡ false) → AreRunsBefore q Tight (a + 1) 0 runs

@@ -34,7 +34,7 @@ next_line q n a u w s slope slope_is is =
     ap (λ z. (z *ℤ pos n -ℤ u *ℤ pos n) *ℤ (pos n *ℤ (pos q *ℤ pos q))) is ∙ next_cross q n a u s
     ∙ ap (λ z. (z *ℤ (pos (a + 1) *ℤ pos q -ℤ pos a *ℤ pos q)) *ℤ (pos n *ℤ pos n)) (sym slope_is)
 
--- to the crossing, where c is the rise plus t
+-- to the crossing, if c is the rise plus t
 pub crossing_line : (q n a : ℕ) (u s t c : ℤ) →
     IsOnLine (record { top = pos q *ℤ s; bottom = pos n })
     (record { x = record { top = pos a; bottom = pos q }; y = record { top = u; bottom = pos n } })

@@ -52,7 +52,7 @@ behind_crossing q m a i w c some low =
 
 -- ---- the four stretches
 
--- from a value to the next, where the function rises by s
+-- from a value to the next, if the function rises by s
 whole_rise : (f : FunctionData) (s t : ℤ) (a : ℕ) → 0 < f.order → AreGreatestSteps (at f.value) s t → rise f a ≡ s →
     HasFillSlope f s t (value_point f a) (value_point f (a + 1))
 whole_rise f s t a some h same = inl (record {
@@ -70,7 +70,7 @@ whole_rise f s t a some h same = inl (record {
       (ap (filled (at f.value) s t m) place ∙ rises_to (at f.value) s t m a r h m_some r_low (omega (arith, ints)));
 })
 
--- the same where it falls by t
+-- the same if it falls by t
 whole_fall : (f : FunctionData) (s t : ℤ) (a : ℕ) → 0 < f.order → AreGreatestSteps (at f.value) s t → rise f a ≡ neg_ℤ t →
     HasFillSlope f s t (value_point f a) (value_point f (a + 1))
 whole_fall f s t a some h same = inr (record {

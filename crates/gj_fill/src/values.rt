@@ -5,7 +5,7 @@ ghost use Rattle.gj_fill.specs.Numerators.{AreNumerators};
 
 use gj_shape::wrapped;
 
-/// The value at i/q, where q is the number of values.
+/// The value at i/q, q being the number of values.
 pub(crate) fn value_at(values: &[i64], i: u32) -> i64
     requires numerators { AreNumerators values.now }
     requires within { i < 2 * length values.now }

@@ -120,7 +120,7 @@ one_of_family (gmic x) f g h k in_f in_g = one_gmic _ _ f g h.1 k.1 in_f in_g
 one_of_family (half x) f g h k in_f in_g = one_half_function _ _ f g h.1 k.1 in_f in_g
 one_of_family (two_slope n s) f g h k in_f in_g = one_two_slope n s f g h.0.3.2 h.1 k.1 in_f in_g
 
--- no test fails where there is a function
+-- no test fails if there is a function
 no_family_fault : (f : Frac) (x : FamilyFault) (e : Reason) → HasNoFamilyFault f → HasFamilyFault f x → IsReasonOf x e → ⊥
 no_family_fault f fault.TooManyPieces e none h is = let low = none.1 in let high = h.1 in omega arith
 no_family_fault f fault.BadSigns e none h is = h

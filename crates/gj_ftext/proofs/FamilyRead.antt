@@ -49,7 +49,7 @@ family_refused w a x e spelled h is = refused_for (IsReasonOf x) (NamesNone w) e
 
 -- ---- a place that was cut
 
--- no function with two slopes has a place so high: where the cut place has a fault, so has the place
+-- no function with two slopes has a place so high: if the cut place has a fault, so has the place
 pub cut_fault : (n k : ℕ) (signs : List Bool) (x : FamilyFault) → IsCut n k → HasTwoSlopeFault k signs x → HasTwoSlopeFault n signs x
 cut_fault n k signs x (inl is) h = subst (λ m. HasTwoSlopeFault m signs x) is.0 h
 cut_fault n k signs fault.TooManyPieces (inr is) h = h
@@ -62,7 +62,7 @@ cut_fault n k signs fault.NoSlopes (inr is) h =
     absurd (omega arith)
 cut_fault n k signs (fault.Memory a) (inr is) h = tt
 
--- and where it has none it was not cut
+-- and if it has none it was not cut
 pub not_cut : (n k : ℕ) (signs : List Bool) → IsCut n k → HasNoTwoSlopeFault k signs → k ≡ n
 not_cut n k signs (inl is) h = is.0
 not_cut n k signs (inr is) h =

@@ -81,7 +81,7 @@ pub split_denies : (f : FunctionData) (h : Halves) → SplitTable f h → IsExtr
 split_denies f h split =
     halves_deny (table f 1) (f.order * 1) (f.place * 1) (f.scale * 1) split.factor (at h.first) (at h.second) split.halves
 
--- ---- each answer exactly where it holds
+-- ---- each answer exactly if it holds
 
 pub extreme_exactly : (f : FunctionData) (answer : GroupAnswer) → SaysOfTable f answer → (answer ≡ Extreme) ↔ IsExtremeOnOwnGrid f
 extreme_exactly f (NotMinimal v) says = (λ e. absurd cc, λ extreme. absurd (says.0 extreme.minimal))

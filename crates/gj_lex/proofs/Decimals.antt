@@ -154,7 +154,7 @@ read_digits_only word None h n small e =
     absurd (h (subst (AllDigits 10) (sym e) spelled.0.1, omega arith))
 read_digits_only word (Some m) h n small e = ap Some (h.1 ∙ ap (digits_value 10) e ∙ value_of_decimal n (omega arith))
 
--- where a byte is no digit the word is no number
+-- if a byte is no digit the word is no number
 pub no_digit_there : (start : ℕ) (word : List ℕ) (i limit : ℕ) → i < length word → ¬ (digit_value (get_or word i 0) < 10) →
     ¬ (AllDigits 10 word × (digits_value_after 10 start word < limit))
 no_digit_there start word i limit l none (d, small) =

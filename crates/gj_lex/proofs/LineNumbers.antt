@@ -56,7 +56,7 @@ module _ {A : Type 0} (p : Part A) (exact : IsExactPart p.Reads p.Faults) where
       let feeds = ap line_feeds same.0 in
       (omega arith, same.1)
 
-  -- and none where it reads
+  -- and none if it reads
   pub no_first_fault : (text : List ℕ) (a : A) (rest : List ℕ) (n : ℕ) (e : Reason) → p.Reads text a rest →
       IsFirstFaultIn p text n e → ⊥
   no_first_fault text a rest n e reads (start, fault, number) = exact.not_both text a rest start e reads fault

@@ -18,11 +18,14 @@ use Rattle.gj_top.specs.Answer.IsAnswer.{no_request, read_fault, of_request}
 use Rattle.gj_top.specs.Causes.{IsTrueRun, IsDoneRun, IsCause, IsGoodInput, IsStatusOfReply}
 use Rattle.gj_top.specs.Code.{code_of}
 use Rattle.gj_top.specs.Command.{IsNamed, task_for}
-use Rattle.gj_top.specs.Narrow.{AskIfExtreme, HasUncoveredInterval, HasAtMostComponents}
+use Rattle.gj_top.specs.Asked.{AskIfExtreme}
+use Rattle.gj_top.specs.Narrow.{HasUncoveredInterval, HasAtMostComponents}
+use Rattle.gj_top.specs.Decisive.{IsDecisive}
 use Rattle.gj_top.specs.Outcome.{IsOutcome, IsTold}
 use Rattle.gj_top.specs.Outcome.IsOutcome.{silent, told, cut_off}
 use Rattle.gj_top.proofs.Clauses.{no_write_fault, failed_source, headline_clause, reply_clause, cause_clause, complete_clause}
 use Rattle.gj_top.proofs.Ends.{not_answered}
+use Rattle.gj_top.proofs.ByOrder4q.{order_4q_clause}
 use Rattle.gj_top.proofs.NeverWide.{narrow_clause}
 use Rattle.gj_library.specs.Call.{AreWordsOf, OfWords, IsAnswered, IsCall, IsTooSmall}
 use Rattle.gj_library.proofs.Codes.{status_is}
@@ -211,12 +214,22 @@ module _ (bytes input : List ℕ) (room : ℕ) (text : List ℕ) (code : ℕ) (c
     ),
   )
 
-  pub narrow_of : code ≡ 7 → OfWords bytes (λ given. (f : FunctionData) → AskIfExtreme given input f → HasUncoveredInterval f ⊎ HasAtMostComponents 4 f → ⊥)
+  pub narrow_of : code ≡ 7 → OfWords bytes (λ given. (json : Bool) (f : FunctionData) → AskIfExtreme json given input f →
+      HasUncoveredInterval f ⊎ HasAtMostComponents 4 f → ⊥)
   narrow_of e = (
     c.words,
     c.are_words,
-    λ f asked few. narrow_clause c.words ⊥ (Some input) c.left (Some []) (Some text) room c.status c.outcome input f (λ r named reads. refl) asked few
-        (status_is c.status 7 (sym c.code_is ∙ e)),
+    λ json f asked few. narrow_clause c.words ⊥ (Some input) c.left (Some []) (Some text) room c.status c.outcome input json f
+        (λ r named reads. refl) asked few (status_is c.status 7 (sym c.code_is ∙ e)),
+  )
+
+  pub order_4q_of : code ≡ 0 → OfWords bytes (λ given. (json : Bool) (f : FunctionData) → AskIfExtreme json given input f →
+      IsDecisive json f [] (Some text))
+  order_4q_of e = (
+    c.words,
+    c.are_words,
+    λ json f asked. order_4q_clause c.words ⊥ (Some input) c.left (Some []) (Some text) room c.status c.outcome
+        (status_is c.status 0 (sym c.code_is ∙ e)) input json f (λ r named reads. refl) asked,
   )
 
   pub no_read_fault_of : code ≢ 4

@@ -1,13 +1,15 @@
 //! The top call for programs in C and in other languages: words and an input in memory, the answer and its status in memory.
 #![tactic(auto)]
 
-ghost use Rattle.std.specs.Prelude.{◌≡◌, ◌≢◌, ◌⊎◌, ◌≤◌, [], length, take, drop, Some};
+ghost use Rattle.std.specs.Prelude.{◌≡◌, ◌≢◌, ◌⊎◌, ◌≤◌, Bool, [], length, take, drop, Some};
 ghost use Rattle.std.specs.Str.{IsUtf8};
 ghost use Rattle.gj_shape.specs.FunctionData.{FunctionData};
 ghost use Rattle.gj_words.specs.declared.requests.Request.{Request};
 ghost use Rattle.gj_top.specs.Command.{IsNamed, task_for};
 ghost use Rattle.gj_top.specs.Code.{code_of};
-ghost use Rattle.gj_top.specs.Narrow.{AskIfExtreme, HasUncoveredInterval, HasAtMostComponents};
+ghost use Rattle.gj_top.specs.Asked.{AskIfExtreme};
+ghost use Rattle.gj_top.specs.Narrow.{HasUncoveredInterval, HasAtMostComponents};
+ghost use Rattle.gj_top.specs.Decisive.{IsDecisive};
 ghost use Rattle.gj_top.specs.Causes.{IsTrueRun, IsDoneRun, IsCause, IsGoodInput, IsStatusOfReply};
 ghost use Rattle.gj_library.specs.Call.{OfWords, IsCall, IsTooSmall};
 
@@ -49,8 +51,10 @@ pub extern "C" fn gjcut_answer(
     ensures cause { result ≢ 6 → OfWords words.now (λ given. (status : Status) × (result ≡ code_of status) × IsCause given input.now status) }
     ensures no_text { (IsUtf8 words.now → ⊥) → (result ≡ 2) ⊎ (result ≡ 5) ⊎ (result ≡ 6) }
     ensures no_read_fault { result ≢ 4 }
-    ensures narrow { result ≡ 7 → OfWords words.now (λ given. (f : FunctionData) → AskIfExtreme given input.now f →
+    ensures narrow { result ≡ 7 → OfWords words.now (λ given. (json : Bool) (f : FunctionData) → AskIfExtreme json given input.now f →
         HasUncoveredInterval f ⊎ HasAtMostComponents 4 f → ⊥) }
+    ensures order_4q { result ≡ 0 → OfWords words.now (λ given. (json : Bool) (f : FunctionData) → AskIfExtreme json given input.now f →
+        IsDecisive json f [] (Some (take written.new output.new))) }
     ensures full { result ≡ 5 → written.new ≡ length output.old }
     ensures room { result ≡ 5 → IsTooSmall words.now input.now (length output.old) }
 

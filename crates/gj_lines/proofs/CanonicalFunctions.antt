@@ -28,7 +28,7 @@ use Rattle.gj_lines.proofs.PointLines.{text_of_one, text_of_three, same_where_no
 
 -- ---- the words of a point
 
--- one fraction, or three where they are not all the same
+-- one fraction, or three if they are not all the same
 abbrev pub texts_by : Bool → Point → List (List ℕ)
 texts_by true p = fraction_text p.value ∷ []
 texts_by false p = fraction_text p.left ∷ fraction_text p.value ∷ fraction_text p.right ∷ []

@@ -46,7 +46,7 @@ is_same_itself x =
     let d = (Decides-int_eq (denominator x) (denominator x)).1 refl in
     rw (n, d)
 
--- where a point has no jump, its value is both limits
+-- if a point has no jump, its value is both limits
 pub same_where_no_jump : (p : Point) → has_no_jump p ≡ true → (p.left ≡ p.value) × (p.value ≡ p.right)
 same_where_no_jump p h =
     let parts = and_parts (is_same p.left p.value) (is_same p.value p.right) h in

@@ -90,7 +90,7 @@ goes_on s text count i points new rest next some h (p, new_is, line) =
     } in
     subst (λ ps. GoesOn s text count (count - (i + 1)) ps next) (sym new_is) after
 
--- where the next point is at fault
+-- if the next point is at fault
 pub faults_on : (s : Spelling) (text : List ℕ) (count i : ℕ) (points : List Point) (rest : List ℕ) (e : PartFault) →
     i < count → GoesOn s text count (count - i) points rest → IsFaultOf (line_part s (point_rule s points)) rest e →
     IsFaultOf (points_part s count []) text e

@@ -38,7 +38,7 @@ pub passes_limit : (f : FunctionData) (s : Square) (kind : FaceKind) (a b c : �
     Passes f (subadditive_at kind a b c) → IsNonnegativeIn s kind c
 passes_limit f s kind a b c has h = subst (λ ns. pos 0 ≤ℤ get_or ns c (pos 0)) (sym (has kind)) h
 
--- the tests of a face pass where those at each corner do
+-- the tests of a face pass if those at each corner do
 tests_of_two : (P : Test → Type 0) (s t : Test) → P s → P t → All P (s ∷ t ∷ [])
 tests_of_two P s t p q = All-cons P s (t ∷ []) p (All-cons P t [] q (All-nil P))
 
@@ -61,7 +61,7 @@ face_passes f Upper a b h = tests_of_three (Passes f) (subadditive_at Upper a b 
 
 -- ---- rows of squares
 
--- the square passes where all limits in it do
+-- the square passes if all limits in it do
 pub square_passes_at : (f : FunctionData) (a b : ℕ) → PassesAt f a b → PassesSquare f a b
 square_passes_at f a b h = record {
   horizontal = face_passes f Horizontal a b (h Horizontal);
@@ -71,7 +71,7 @@ square_passes_at f a b h = record {
   upper = face_passes f Upper a b (h Upper);
 }
 
--- and all limits in it pass where it and the vertex do
+-- and all limits in it pass if it and the vertex do
 passes_at : (f : FunctionData) (a b : ℕ) → PassesVertices f → a < f.order → b < f.order → PassesSquare f a b →
     PassesAt f a b
 passes_at f a b v a_below b_below h Vertex = below_more (λ c. Passes f (subadditive_at Vertex a b c)) 0
@@ -96,7 +96,7 @@ squares_from_diagonal f a v below rows h b b_below =
     (mirrored_square f b a (passes_at f b a v b_below below (rows b before a below))))
     (λ after. h b after b_below) (cases_lt b a)
 
--- the squares of a continuous function pass where the vertices do
+-- the squares of a continuous function pass if the vertices do
 pub continuous_passes : (f : FunctionData) (a b : ℕ) → IsWithinBounds f → IsContinuous f → PassesVertices f →
     PassesSquare f a b
 continuous_passes f a b l continuous v = square_passes_at f a b (continuous_square f l continuous v.vertices a b)
@@ -132,7 +132,7 @@ short_sum x y h k = omega arith
 pub lesser_below : (bound x y m : ℕ) → m ≡ min x y → x < bound → m < bound
 lesser_below bound x y m e h = omega arith
 
--- a square passes where no limit in it is negative over lanes
+-- a square passes if no limit in it is negative over lanes
 pub square_from_lanes : (bound : ℕ) (f : FunctionData) (left value right : List ℕ) (a b : ℕ) →
     FitSquares bound f left value right → PassesVertices f → a < f.order → b < f.order →
     FitAtSums (λ i. get_or left (i + 1) 0) (λ i. get_or value i 0) (λ i. get_or right i 0) a b → PassesSquare f a b
@@ -166,7 +166,7 @@ face_in_square {f} {s} {a} {b} r kind h =
     let same = same_corners kind a b in
     face_passes f kind a b (λ c below. limit_passes f s kind a b c r.limits (h c (omega arith)))
 
--- the first negative limit in a face is the first failed test, where the faces before it pass
+-- the first negative limit in a face is the first failed test, if the faces before it pass
 record FailsAt (f : FunctionData) (kind : FaceKind) (a b c : ℕ) : Type 0 where
   pub test : (a < f.order) × (b < f.order) × (c < length (corners_of kind a b))
   pub before : PassesFacesBefore f kind a b c

@@ -1,4 +1,4 @@
--- The least h at which (h - n) limit + total is negative, where the limit is.
+-- The least h at which (h - n) limit + total is negative, if the limit is.
 use Rattle.std.proofs.Common.{◌≡◌, ℕ, ◌+◌, ◌-◌, ◌*◌, ◌/◌, ◌<◌, ◌≤◌, ℤ, pos, negsuc, ◌+ℤ◌, ◌-ℤ◌, ◌*ℤ◌, ◌<ℤ◌, ◌≤ℤ◌, unsigned_abs, sym, subst, arith}
 use Rattle.std.proofs.Math.Nat.{mul_comm, lt-mul-div-succ, le-div_iff_mul-le}
 use Rattle.std.proofs.lemmas.Int.{ints}
@@ -10,7 +10,7 @@ sum_is : (k : ℕ) (limit total : ℤ) → limit <ℤ pos 0 → pos 0 ≤ℤ tot
 sum_is k (pos m) total negative positive = absurd (omega (arith, ints))
 sum_is k (negsuc m) total negative positive = omega (arith, ints)
 
--- it is negative where the product is greater than the total
+-- it is negative if the product is greater than the total
 negative_beyond : (k : ℕ) (limit total : ℤ) → limit <ℤ pos 0 → pos 0 ≤ℤ total →
     unsigned_abs total < k * unsigned_abs limit → (pos k *ℤ limit +ℤ total) <ℤ pos 0
 negative_beyond k limit total negative positive h =

@@ -122,7 +122,7 @@ below_by_slack s t u v e negative = omega (arith, ints)
 slack_by_below : (s t u v : ℤ) → s +ℤ t ≡ u +ℤ v → (s +ℤ t) <ℤ u → v <ℤ pos 0
 slack_by_below s t u v e below = omega (arith, ints)
 
--- the slack near a corner is negative where k times it is
+-- the slack near a corner is negative if k times it is
 superadditive_near : (f : FunctionData) (kind : FaceKind) (a b c k : ℕ) → IsWithinBounds f →
     c < length (corners_of kind a b) → length (corners_of kind a b) ≤ k →
     near_value k c (limits_of f kind a b) <ℤ pos 0 →

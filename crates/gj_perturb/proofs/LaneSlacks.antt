@@ -53,11 +53,11 @@ corners_together lanes n Q R S x x' split g h = record {
   ];
 }
 
--- where no corner is chosen
+-- if no corner is chosen
 pub no_corner : (lanes : List ℕ) (n : ℕ) (Q : ℕ → ℕ → Type 0) → ((a b : ℕ) → Q a b → ⊥) → IsLeastAt lanes n Q no_slack
 no_corner lanes n Q none = record { met = inl refl; low = λ a b q. absurd (none a b q) }
 
--- where no triangle is chosen
+-- if no triangle is chosen
 pub nothing : (lanes : List ℕ) (n : ℕ) (Q : ℕ → ℕ → Type 0) → ((a b : ℕ) → Q a b → ⊥) → AreLeast lanes n Q no_slack no_slack
 nothing lanes n Q none = record {
   any_met = inl refl;
@@ -136,7 +136,7 @@ module _ (s t r x y z least greatest chosen : ℕ)
       all_three (λ v. 0 < v → least < v) s t r (λ above. let e = first.some above in omega arith)
       (λ above. let e = second.some above in omega arith) (λ above. let e = third.some above in omega arith)
 
-  -- where a slack is 0 the greatest lane is that of none
+  -- if a slack is 0 the greatest lane is that of none
   greatest_none : Contains (s ∷ t ∷ r ∷ []) 0 → greatest ≡ no_slack
   greatest_none (zero, below, e) =
       let here = first.none e in

@@ -236,7 +236,7 @@ fit_proof_text f p size x values xs made h d =
           (small_move f p size x values xs h (neg_ℤ x) (omega (arith, ints))) d.second;
     }
 
--- where one size is not too great, no size is
+-- if one size is not too great, no size is
 pub not_wide : (f : FunctionData) (p : Perturbation) (size : ℕ) → IsGreatestSize (at p.values) size →
     3 * size * (f.scale * p.times) ≤ 2 ^ 124 → IsWide f p → ⊥
 not_wide f p size h narrow wide =

@@ -2,7 +2,7 @@
 use Rattle.std.specs.Prelude.{ℕ, ◌≡◌, ◌⊎◌, ◌+◌, ◌-◌, ◌*◌, ◌<◌, ◌≤◌, ◌^◌, List, [], ◌∷◌, length, get_or, All}
 use Rattle.std.specs.List.{Contains}
 
--- the slack at a pair of indices, where it is not negative
+-- the slack at a pair of indices, if it is not negative
 abbrev pub lane_slack : List ℕ → ℕ → ℕ → ℕ
 lane_slack lanes a b = get_or lanes a 0 + get_or lanes b 0 - get_or lanes (a + b) 0
 

@@ -82,7 +82,7 @@ fn least_in_row(lanes: &[u32], n: usize, i: usize) -> LeastSlacks
     LeastSlacks { any, beside_zero }
 }
 
-/// The least of lanes where one of them stands for none, which is then the greatest.
+/// The least of lanes, if one of them stands for none, which is then the greatest.
 fn where_greatest_is_none(least: u32, greatest: u32) -> u32
     ensures none { greatest ≡ no_slack → result ≡ least }
     ensures some { greatest ≢ no_slack → result ≡ no_slack }

@@ -175,7 +175,7 @@ OnStep numbers f component n P before one steps c =
 abbrev OnStepAt : Numbers → FunctionData → (ℕ → ℕ) → ℕ → ℕ → (List KeptRow → List ℤ → ℕ → Type 0) → List PivotRow → PivotRow → Type 0
 OnStepAt numbers f component n r P before one = AtIndex one.reduce r (OnStep numbers f component n P before one)
 
--- the demand on the size of a step's numbers, where there is one
+-- the demand on the size of a step's numbers, if there is one
 sizes_of : (numbers : Numbers) (f : FunctionData) (component : ℕ → ℕ) (n : ℕ) (rows : List PivotRow) (g r : ℕ) →
     AtIndex rows g (OnStepAt numbers f component n r (HasSize numbers)) → SizeHolds numbers (GroupHolds numbers f component n rows) g r
 sizes_of Whole f component n rows g r h = h

@@ -11,7 +11,7 @@ use Rattle.csv.specs.declared.parser.State.TheVariants as st
 
 -- ---- a record takes at least a byte
 
--- the state of a pair, where its action ends a record, is that before the first byte of a record
+-- the state of a pair, if its action ends a record, is that before the first byte of a record
 record IsDone (p : State × Action) : Type 0 where
   start : is_end p.1 ≡ true → ends_at_end p.0 ≡ false
 
@@ -132,7 +132,7 @@ unfolding records_from
 no_more zero t ys none = refl
 no_more (suc n) t ys none = ap (records_next (records_from default_config n)) none
 
--- and are those, where no record follows
+-- and are those, if no record follows
 pub records_end : (xs : List ℕ) (rows : List (List (List ℕ))) (t : State) (ys : List ℕ) →
     Reached default_config st.StartRecord xs rows t ys → next_record default_config t [] [] ys ≡ None →
     records default_config xs ≡ rows

@@ -162,7 +162,7 @@ one_row_fault t ws e d (number follows w more at new fault) (number follows' w' 
 
 -- ---- texts
 
--- where records spell a tableau and others follow, record 1 has no fault
+-- if records spell a tableau and others follow, record 1 has no fault
 front_header : (front rest : List (List (List ℕ))) (t : Tableau) (ws : List (List (List ℕ))) (e : RowReason) → SpellsTableau front t →
     ws ≡ front ++ rest → HasHeaderFault ws e → ⊥
 front_header front rest t ws e spelled is fault = no_first_fault front t 1 e spelled (in_header refl (at_front fault))

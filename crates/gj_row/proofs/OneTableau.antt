@@ -1,4 +1,4 @@
--- A text spells one tableau, and none where it has a fault.
+-- A text spells one tableau, and none if it has a fault.
 use Rattle.std.proofs.Common.{◌≡◌, ℕ, pos, ◌+◌, ◌<◌, ◌≤◌, true, List, [], ◌∷◌, ◌++◌, All, length, map, unsigned_abs, sum_by, refl, sym, ap, subst, ◌∙◌, append_assoc, inl, inr, arith}
 use Rattle.std.specs.List.{AllZip}
 use Rattle.std.specs.Int.{◌∣◌}
@@ -56,7 +56,7 @@ pub one_next : (xs : List Frac) (w : List ℕ) (x y : Frac) → SpellsNext xs w 
 one_next [] w x y h k = one_fraction Lenient w x y h k
 one_next (r ∷ xs) w x y h k = one_entry w x y h k
 
--- where each element has one partner, lists of partners are one
+-- if each element has one partner, lists of partners are one
 pub one_each : {A B : Type 0} (R : A → B → Type 0) → ((a : A) (x y : B) → R a x → R a y → x ≡ y) → (us : List A) (xs ys : List B) →
     AllZip R us xs → AllZip R us ys → xs ≡ ys
 one_each R one [] [] [] h k = refl

@@ -34,7 +34,7 @@ row_read columns used words w row scale items wide first is read entries =
       few = let e = ap length entries_are in omega (arith, read.begins.few);
     }
 
--- a record of a row's length, where there is room, follows a tableau of so many columns and rows
+-- a record of a row's length, if there is room, follows a tableau of so many columns and rows
 follows : (columns rows : ℕ) (words : List (List ℕ)) (t : Tableau) → length words ≡ columns + 2 → rows < 10000 →
     length t.columns ≡ columns → length t.rows ≡ rows → MayFollow t words
 follows columns rows words t wide room cols many = record { count = omega arith; room = omega arith }

@@ -71,7 +71,7 @@ pub counted_more : (p : ℕ → Bool) (n : ℕ) → count_below p (n + 1) ≡ co
 unfolding count_below
 counted_more p n = let e : n + 1 ≡ suc n = omega arith in ap (count_below p) e
 
--- where the test fails from a number on, no more are counted
+-- if the test fails from a number on, no more are counted
 pub counted_past : (p : ℕ → Bool) (n m : ℕ) → ((i : ℕ) → n ≤ i → p i ≡ false) → count_below p (n + m) ≡ count_below p n
 unfolding count_below
 counted_past p n zero none = let e : n + zero ≡ n = omega arith in ap (count_below p) e

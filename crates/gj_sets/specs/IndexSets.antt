@@ -11,7 +11,7 @@ bit_of words i = bit_at (slice_index words (i / 64)) (i % 64) == 1
 unfoldable pub has : IndexSet → ℕ → Bool
 has set i = bit_of set.words i
 
--- a set without words, where none is meant
+-- a set without words, if none is meant
 abbrev pub no_set : IndexSet
 no_set = record { words = [] }
 

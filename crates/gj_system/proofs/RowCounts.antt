@@ -121,7 +121,7 @@ entries_small f n q k (Pair a b) small place within =
     let second = within.1 in
     slack_small (rises f a c) (rises f b c) (rises f ((a + b) % q) c) q (omega arith) (omega arith) (omega arith) small)
 
--- two pairs have the same row where the counts of their points differ by the same
+-- two pairs have the same row if the counts of their points differ by the same
 pub record AreCounts (f : ℕ → ℕ) (n a b s : ℕ) (first second third : List ℕ) : Type 0 where
   pub first_is : first ≡ rises_at f n a
   pub second_is : second ≡ rises_at f n b

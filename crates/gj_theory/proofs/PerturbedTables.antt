@@ -8,7 +8,7 @@ use Rattle.gj_shape.specs.Table.{IsMinimalTable}
 use Rattle.gj_theory.specs.Halves.{IsPerturbation, IsBelowSlacks, raised, lowered, AreDifferentHalves}
 use Rattle.gj_theory.proofs.Continuous.{same_minimal_table}
 
--- ---- over plain numbers: w t + v p, where w is at least the slack of p and v at most that of t
+-- ---- over plain numbers: w t + v p, if w is at least the slack of p and v at most that of t
 
 loose_step : (w v x y z p q r : ℤ) → pos 0 ≤ℤ w → pos 0 ≤ℤ v → v ≤ℤ (x +ℤ y -ℤ z) → (r -ℤ p -ℤ q) ≤ℤ w →
     (w *ℤ z +ℤ v *ℤ r) ≤ℤ ((w *ℤ x +ℤ v *ℤ p) +ℤ (w *ℤ y +ℤ v *ℤ q))

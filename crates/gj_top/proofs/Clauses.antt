@@ -32,7 +32,7 @@ unread_spells (reading_nothing given) a b thing e h = h
 not_both : (b : Bool) → b ≡ false → IsTrue b → ⊥
 not_both b e h = cc
 
--- where nothing is read, the input does not matter
+-- if nothing is read, the input does not matter
 unread_answer : (c : Request) (a b : List ℕ) (s : Status) (text : List ℕ) → reads (promise_for c).form ≡ false →
     IsAnswerTo (task_for c) a s text → IsAnswerTo (task_for c) b s text
 unread_answer c a b s text e (too_long x) = absurd (not_both (reads (promise_for c).form) e x.read)
@@ -48,7 +48,7 @@ unread_answer c a b s text e (replied x) = replied (record {
   };
 })
 
--- where an input is read, the answer is one to the input that the source told
+-- if an input is read, the answer is one to the input that the source told
 moved : (c : Request) (b : Bool) (own input : List ℕ) (left after : Option (List ℕ)) (s : Status) (text : List ℕ) →
     reads (promise_for c).form ≡ b → (IsTrue b → left ≡ Some input) → IsReadWhole b own left after → IsAnswerTo (task_for c) own s text →
     IsAnswerTo (task_for c) input s text
@@ -90,7 +90,7 @@ no_write_fault words Fault left after s text (no_request a) e = let is = a.statu
 no_write_fault words Fault left after s text (read_fault a) e = let is = a.status_is in cc
 no_write_fault words Fault left after s text (of_request a) e = not_answered (task_for a.request) a.input s WriteFault text e refl a.answer
 
--- and it is a failure of the source only where the source failed
+-- and it is a failure of the source only if the source failed
 pub failed_source : (words : List (String Global)) (Fault : Type 0) (left after : Option (List ℕ)) (s : Status) (text : List ℕ) →
     IsAnswer words Fault left after s text → s ≡ ReadFault → Fault
 failed_source words Fault left after s text (no_request a) e = absurd (let is = a.status_is in cc)
@@ -137,7 +137,7 @@ unread_unanswered words left left' (so_far u) nothing =
 -- ---- the clauses over an input
 
 -- what holds of a value follows from a stronger fact
-weaker : {A : Type 0} (o : Option A) (P Q : A → Type 0) → ((x : A) → P x → Q x) → IfSome o P → IfSome o Q
+pub weaker : {A : Type 0} (o : Option A) (P Q : A → Type 0) → ((x : A) → P x → Q x) → IfSome o P → IfSome o Q
 weaker None P Q f h = tt
 weaker (Some x) P Q f h = f x h
 

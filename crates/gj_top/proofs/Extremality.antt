@@ -1,4 +1,4 @@
--- The proof text of a decision keeps what is promised of it, and calls f extreme exactly where the table of order 4 q is.
+-- The proof text of a decision keeps what is promised of it, and calls f extreme exactly if the table of order 4 q is.
 use Rattle.std.proofs.Common.{◌≡◌, ◌↔◌, ◌*◌, ℕ, inl, inr, List, Result, Err, subst, arith}
 use Rattle.gj_shape.specs.FunctionData.{FunctionData, IsWithinBounds, IsContinuous, IsFirstJump}
 use Rattle.gj_shape.specs.Table.{table, IsMinimal}
@@ -72,7 +72,7 @@ extremality_true f text within d = by_claim f d.claim text within d.decided d.ho
 abbrev IsExtremeAtFour : FunctionData → Type 0
 IsExtremeAtFour f = IsExtremeTable (table f 4) (f.order * 4) (f.place * 4) (f.scale * 4)
 
--- where the text does not call f extreme, it denies that the table of order 4 q is
+-- if the text does not call f extreme, it denies that the table of order 4 q is
 from_four : (f : FunctionData) (text : List ℕ) → IsWithinBounds f → IsTrueExtremality f text → IsContinuous f → IsExtremeAtFour f →
     IsExtremeText f text
 from_four f text within (inl e) continuous four = e.0
@@ -82,7 +82,7 @@ from_four f text within (inr (inr (v, spelled, shown, denied))) continuous four 
     let extreme : IsExtreme f = (four_times_decides f within continuous).1 four in
     absurd (denied (λ m some. (extreme m some).minimal))
 
--- where it calls f extreme, that table is
+-- if it calls f extreme, that table is
 to_four : (f : FunctionData) (text : List ℕ) → IsWithinBounds f → IsDecisionText f text → IsExtremeText f text →
     IsContinuous f × IsExtremeAtFour f
 to_four f text within d (Whole, lines, rows, p) =

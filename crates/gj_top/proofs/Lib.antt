@@ -1,4 +1,5 @@
 pub mod Accepted
+pub mod ByOrder4q
 pub mod Clauses
 pub mod Commands
 pub mod CutClaims

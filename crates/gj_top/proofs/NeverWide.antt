@@ -1,5 +1,5 @@
 -- `extreme` never ends with Wide on a function that has an uncovered interval, or at most four components.
-use Rattle.std.proofs.Common.{◌≡◌, ◌≢◌, ◌⊎◌, inl, inr, ℕ, List, String, Option, ap, subst, ◌∙◌, arith}
+use Rattle.std.proofs.Common.{◌≡◌, ◌≢◌, ◌⊎◌, inl, inr, ℕ, Bool, true, false, List, String, Option, ap, subst, ◌∙◌, arith}
 use Rattle.std.specs.declared.alloc.Global.{Global}
 use Rattle.gj_words.specs.declared.requests.Request.{Request}
 use Rattle.gj_shape.specs.Additive.{IsTight}
@@ -21,7 +21,8 @@ use Rattle.gj_top.specs.Causes.{IsInput, IsCause}
 use Rattle.gj_top.specs.Command.{task_for}
 use Rattle.gj_top.specs.Extreme.{extreme, extreme_json}
 use Rattle.gj_top.specs.Forms.{IsFunctionInput}
-use Rattle.gj_top.specs.Narrow.{AskIfExtreme, HasUncoveredInterval, HasAtMostComponents}
+use Rattle.gj_top.specs.Asked.{AskIfExtreme}
+use Rattle.gj_top.specs.Narrow.{HasUncoveredInterval, HasAtMostComponents}
 use Rattle.gj_top.specs.Outcome.{IsOutcome}
 use Rattle.gj_top.specs.Reply.{status_of}
 use Rattle.gj_top.specs.Task.{Task, IsReply}
@@ -71,27 +72,28 @@ module _ (words : List (String Global)) (input : List ℕ) (f : FunctionData) wh
       subst (λ (d : Request). IsAnswerTo (task_for d) input Wide text) same (subst (λ (t : Status). IsAnswerTo (task_for r) input t text) wide a)
 
   -- if the words ask for `extreme`, the answer Wide says that a number is too wide
-  asked_wide : AskIfExtreme words input f → (s : Status) → s ≡ Wide → IsCause words input s → IsWithinBounds f × IsTooWide f
-  asked_wide asked s wide (inl is) = absurd (cc)
-  asked_wide asked s wide (inr (inl is)) = absurd (cc)
-  asked_wide asked s wide (inr (inr (inl is))) = absurd (cc)
-  asked_wide asked s wide (inr (inr (inr (inl none)))) = absurd (let is = none.0 in cc)
-  asked_wide (inl (named, spelled)) s wide (inr (inr (inr (inr (r, of_words, text, a))))) = (
-    function_is_bounded input f spelled,
-    wide_text f input text spelled (answer_moved r _ s text (one_named words r _ of_words named) wide a),
+  asked_wide : (json : Bool) → AskIfExtreme json words input f → (s : Status) → s ≡ Wide → IsCause words input s → IsWithinBounds f × IsTooWide f
+  asked_wide json asked s wide (inl is) = absurd (cc)
+  asked_wide json asked s wide (inr (inl is)) = absurd (cc)
+  asked_wide json asked s wide (inr (inr (inl is))) = absurd (cc)
+  asked_wide json asked s wide (inr (inr (inr (inl none)))) = absurd (let is = none.0 in cc)
+  asked_wide false asked s wide (inr (inr (inr (inr (r, of_words, text, a))))) = (
+    function_is_bounded input f asked.spelled,
+    wide_text f input text asked.spelled (answer_moved r _ s text (one_named words r _ of_words asked.named) wide a),
   )
-  asked_wide (inr (named, spelled)) s wide (inr (inr (inr (inr (r, of_words, text, a))))) = (
-    json_is_bounded input f spelled,
-    wide_json f input text spelled (answer_moved r _ s text (one_named words r _ of_words named) wide a),
+  asked_wide true asked s wide (inr (inr (inr (inr (r, of_words, text, a))))) = (
+    json_is_bounded input f asked.spelled,
+    wide_json f input text asked.spelled (answer_moved r _ s text (one_named words r _ of_words asked.named) wide a),
   )
 
-  pub never_wide : (s : Status) → IsCause words input s → AskIfExtreme words input f → HasUncoveredInterval f ⊎ HasAtMostComponents 4 f → s ≢ Wide
-  never_wide s cause asked few is =
-      let (within, wide) = asked_wide asked s is cause in
+  pub never_wide : (json : Bool) (s : Status) → IsCause words input s → AskIfExtreme json words input f →
+      HasUncoveredInterval f ⊎ HasAtMostComponents 4 f → s ≢ Wide
+  never_wide json s cause asked few is =
+      let (within, wide) = asked_wide json asked s is cause in
       narrow f within few wide
 
 pub narrow_clause : (words : List (String Global)) (Fault : Type 0) (left left' written written' : Option (List ℕ)) (sure : ℕ) (r : Status) →
-    IsOutcome words Fault left left' written written' sure r → (input : List ℕ) (f : FunctionData) → IsInput words left input →
-    AskIfExtreme words input f → HasUncoveredInterval f ⊎ HasAtMostComponents 4 f → r ≢ Wide
-narrow_clause words Fault left left' written written' sure r o input f given =
-    never_wide words input f r (cause_clause words Fault left left' written written' sure r o input given)
+    IsOutcome words Fault left left' written written' sure r → (input : List ℕ) (json : Bool) (f : FunctionData) → IsInput words left input →
+    AskIfExtreme json words input f → HasUncoveredInterval f ⊎ HasAtMostComponents 4 f → r ≢ Wide
+narrow_clause words Fault left left' written written' sure r o input json f given =
+    never_wide words input f json r (cause_clause words Fault left left' written written' sure r o input given)

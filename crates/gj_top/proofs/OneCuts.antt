@@ -86,7 +86,7 @@ one_cut_refusal input x y (of_tableau h) (of_function none k) =
     absurd (no_function_fault input h.rule h.rest k.at_line k.reason h.begins none k.first)
 one_cut_refusal input x y (of_tableau h) (of_tableau k) = one_record input x y h k
 
--- the replies to such an input, where those to a rule within the limits are one
+-- the replies to such an input, if those to a rule within the limits are one
 pub by_rule_bounds : (replies : CutInput → End → List ℕ → Type 0) →
     ((input : List ℕ) (thing : CutInput) → SpellsCutInput input thing → IsBoundedRule thing.rule → (e d : End) (x y : List ℕ) →
     replies thing e x → replies thing d y → (e ≡ d) × (x ≡ y)) → RepliesOne cut_input replies

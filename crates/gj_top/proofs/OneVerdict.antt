@@ -47,7 +47,7 @@ one_proof_spelled input c d h k = one_proof input c d h k
 one_proof_refusal : RefusesOne RefusesProofText
 one_proof_refusal input x y h k = one_named_fault _ (λ n m e d. one_proof_fault input n m e d) x y h k
 
--- the replies to function texts, where those to a function within the limits are one
+-- the replies to function texts, if those to a function within the limits are one
 pub by_bounds : (replies : FunctionData → End → List ℕ → Type 0) →
     ((f : FunctionData) → IsWithinBounds f → (e d : End) (x y : List ℕ) → replies f e x → replies f d y → (e ≡ d) × (x ≡ y)) →
     RepliesOne function_text replies

@@ -1,4 +1,4 @@
--- What holds of every task: no input in its form is refused, and none where it reads none; and a reply that ends with Done keeps the
+-- What holds of every task: no input in its form is refused, and none if it reads none; and a reply that ends with Done keeps the
 -- promise.
 use Rattle.std.proofs.Common.{inl, inr, ℕ, Bool, true, false, List, IsTrue, refl}
 use Rattle.gj_shape.specs.FunctionData.{FunctionData, IsWithinBounds}

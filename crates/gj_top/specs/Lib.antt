@@ -20,5 +20,7 @@ pub mod Reply
 pub mod Answer
 pub mod Outcome
 pub mod Causes
+pub mod Asked
 pub mod Narrow
+pub mod Decisive
 pub mod Code

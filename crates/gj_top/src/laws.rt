@@ -1,15 +1,14 @@
 //! Laws of the answers of commands, the limit of length included, of their replies, whatever the length, and of reports.
 
-ghost use Rattle.std.specs.Prelude.{◌≡◌, ◌↔◌, ◌*◌, ◌≤◌, ℕ, List, length, String};
+ghost use Rattle.std.specs.Prelude.{◌≡◌, ◌↔◌, ◌≤◌, ℕ, List, length, String};
 ghost use Rattle.std.specs.declared.alloc.Global.{Global};
 ghost use Rattle.gj_top.specs.declared.reply.End.{End};
 ghost use Rattle.gj_top.specs.declared.reply.End.TheVariants as end;
 ghost use Rattle.gj_top.specs.declared.status.Status.{Status};
 ghost use Rattle.gj_top.specs.declared.status.Status.TheVariants.{Done};
-ghost use Rattle.gj_shape.specs.FunctionData.{FunctionData, IsContinuous};
-ghost use Rattle.gj_shape.specs.Table.{table, IsMinimal};
+ghost use Rattle.gj_shape.specs.FunctionData.{FunctionData};
+ghost use Rattle.gj_shape.specs.Table.{IsMinimal};
 ghost use Rattle.gj_shape.specs.TwoSlopes.{HasTwoSlopes};
-ghost use Rattle.gj_shape.specs.Extreme.{IsExtremeTable};
 ghost use Rattle.gj_ftext.specs.FunctionText.{IsWholeFunctionText};
 ghost use Rattle.gj_proof.specs.declared.claim.Claim.{Claim};
 ghost use Rattle.gj_proof.specs.ProofText.{IsBounded, IsProofText};
@@ -23,6 +22,7 @@ ghost use Rattle.gj_top.specs.Minimal.{minimal};
 ghost use Rattle.gj_top.specs.Show.{show};
 ghost use Rattle.gj_top.specs.Check.{check};
 ghost use Rattle.gj_top.specs.Cut.{cut};
+ghost use Rattle.gj_top.specs.Decisive.{IsExtremeByOrder4q};
 ghost use Rattle.gj_top.specs.Extreme.{IsExtremeText, extreme, extreme_json};
 ghost use Rattle.gj_top.specs.Answer.{IsAnswerTo, input_limit};
 
@@ -45,13 +45,11 @@ pub fn written_proofs_are_accepted()
 
 /// What `extreme` writes calls the function extreme exactly if it is continuous and its table of order 4 q is extreme; with `--json`
 /// the proof text of the report does.
-pub fn extreme_exactly_where_order_4q_is()
+pub fn extreme_exactly_if_order_4q_is()
     ensures reply { (f : FunctionData) (input text : List ℕ) → IsWholeFunctionText input f → IsReply extreme input end.Done text →
-        IsExtremeText f text
-        ↔ (IsContinuous f × IsExtremeTable (table f 4) (f.order * 4) (f.place * 4) (f.scale * 4)) }
+        IsExtremeText f text ↔ IsExtremeByOrder4q f }
     ensures json_reply { (f : FunctionData) (input text : List ℕ) → IsJsonFunction input f → IsReply extreme_json input end.Done text →
-        IsReportOf (IsExtremeText f) text
-        ↔ (IsContinuous f × IsExtremeTable (table f 4) (f.order * 4) (f.place * 4) (f.scale * 4)) }
+        IsReportOf (IsExtremeText f) text ↔ IsExtremeByOrder4q f }
 {}
 
 /// A minimal continuous function with two slopes is always called extreme: `extreme` tells of it neither that

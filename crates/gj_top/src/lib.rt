@@ -1,7 +1,7 @@
 //! The top call: words and an input in, an answer and a status out.
 #![tactic(auto)]
 
-ghost use Rattle.std.specs.Prelude.{◌≡◌, ◌≢◌, ◌⊎◌, ◌≤◌, ℕ, List, [], length, Some, IfSome, IsTrue};
+ghost use Rattle.std.specs.Prelude.{◌≡◌, ◌≢◌, ◌⊎◌, ◌≤◌, ℕ, Bool, List, [], length, Some, IfSome, IsTrue};
 ghost use Rattle.gj_port.specs.Faults.{HasFailed};
 ghost use Rattle.gj_shape.specs.FunctionData.{FunctionData};
 ghost use Rattle.gj_words.specs.declared.requests.Request.{Request};
@@ -9,7 +9,9 @@ ghost use Rattle.gj_top.specs.Command.{IsNamed, NameNone, promise_for, task_for}
 ghost use Rattle.gj_top.specs.Promise.{reads};
 ghost use Rattle.gj_top.specs.Answer.{IsSourceFault, input_limit, words_line, fault_line};
 ghost use Rattle.gj_top.specs.Outcome.{IsOutcome, IsUnsure, Gains};
-ghost use Rattle.gj_top.specs.Narrow.{AskIfExtreme, HasUncoveredInterval, HasAtMostComponents};
+ghost use Rattle.gj_top.specs.Asked.{AskIfExtreme};
+ghost use Rattle.gj_top.specs.Narrow.{HasUncoveredInterval, HasAtMostComponents};
+ghost use Rattle.gj_top.specs.Decisive.{IsDecisive};
 ghost use Rattle.gj_top.specs.Causes.{IsInput, IsGoodInput, IsTrueRun, IsDoneRun, ReadNothing, IsStatusOf, IsCause, IsStatusOfReply};
 
 use gj_port::{Sink, Source, write_all};
@@ -40,7 +42,7 @@ mod transform;
 use answer::answer_to;
 pub use group::group_reply;
 pub use laws::{
-    extreme_exactly_where_order_4q_is, one_answer, one_proof_in_a_report, shown_text_is_read,
+    extreme_exactly_if_order_4q_is, one_answer, one_proof_in_a_report, shown_text_is_read,
     two_slopes_are_called_extreme, written_proofs_are_accepted,
 };
 pub use mixed::mixed_reply;
@@ -94,8 +96,13 @@ pub fn run<S: Source, K: Sink>(
         S.left source.new ≡ Some []) }
 
     // `extreme` never ends with Wide on a function that has an uncovered interval, or at most four components.
-    ensures narrow { (input : List ℕ) (f : FunctionData) → IsInput words.now (S.left source.old) input → AskIfExtreme words.now input f →
-        HasUncoveredInterval f ⊎ HasAtMostComponents 4 f → result ≢ Status.Wide }
+    ensures narrow { (input : List ℕ) (json : Bool) (f : FunctionData) → IsInput words.now (S.left source.old) input →
+        AskIfExtreme json words.now input f → HasUncoveredInterval f ⊎ HasAtMostComponents 4 f → result ≢ Status.Wide }
+
+    // And it calls a function extreme exactly if it is continuous and its table of order 4 q is extreme.
+    ensures order_4q { result ≡ Status.Done → (input : List ℕ) (json : Bool) (f : FunctionData) →
+        IsInput words.now (S.left source.old) input → AskIfExtreme json words.now input f →
+        IfSome (K.written sink.old) (λ before. IsDecisive json f before (K.written sink.new)) }
 
     // A fault of the source is answered only if there was one.
     ensures read_fault { result ≡ Status.ReadFault → HasFailed (S.faults source.old) (S.faults source.new) }

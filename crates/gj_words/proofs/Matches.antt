@@ -55,7 +55,7 @@ holds app words m same plain once none rows = go (parsed_words words plain once)
     }
     go (left fails unnamed) = absurd (fails (sym (ap (λ a. fault_of a words) same) ∙ none))
 
--- where it refuses the words, they are not one, two or three and the flag
+-- if it refuses the words, they are not one, two or three and the flag
 pub refuses : (app : App) (words : List Text) (error : Error) → app ≡ our_app → list_all is_plain words ≡ true → flag_count words ≤ 1
     → HasKind (fault_of app words) error → kind_of error ≢ OutOfMemory
     → (name : Text) (rest : List Text) → length rest ≤ 2 → bare_words words ≢ name ∷ rest

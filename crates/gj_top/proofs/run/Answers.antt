@@ -5,6 +5,7 @@ use Rattle.gj_top.specs.Outcome.{IsOutcome, Gains}
 use Rattle.gj_top.specs.Outcome.IsOutcome.{told}
 use Rattle.gj_top.proofs.Clauses.{no_write_fault, failed_source, input_clause, unread_by_answer, unread_unanswered, headline_clause, reply_clause}
 use Rattle.gj_top.proofs.Clauses.{ends_clause, cause_clause, complete_clause}
+use Rattle.gj_top.proofs.ByOrder4q.{order_4q_clause}
 use Rattle.gj_top.proofs.NeverWide.{narrow_clause}
 use Rattle.gj_top.proofs.run.Given.{Over}
 use Rattle.gj_top.proofs.run.Goals as goal
@@ -56,6 +57,9 @@ returns-in-Ok-write_all-clause-cause g c = cause_clause _ _ _ _ _ _ _ _ (outcome
 
 pub returns-in-Ok-write_all-clause-narrow : goal.returns-in-Ok-write_all-clause-narrow
 returns-in-Ok-write_all-clause-narrow g c = narrow_clause _ _ _ _ _ _ _ _ (outcome g c)
+
+pub returns-in-Ok-write_all-clause-order_4q : goal.returns-in-Ok-write_all-clause-order_4q
+returns-in-Ok-write_all-clause-order_4q g c = order_4q_clause _ _ _ _ _ _ _ _ (outcome g c)
 
 pub returns-in-Ok-write_all-clause-complete : goal.returns-in-Ok-write_all-clause-complete
 returns-in-Ok-write_all-clause-complete g c = complete_clause _ _ _ _ _ _ _ _ _ _ (outcome g c)

@@ -1,0 +1,52 @@
+-- What `extreme` writes with Done calls a function extreme exactly if it is continuous and its table of order 4 q is extreme.
+use Rattle.std.proofs.Common.{◌≡◌, ◌↔◌, ℕ, Bool, true, false, List, String, Option, subst}
+use Rattle.std.specs.Prelude.{IfSome}
+use Rattle.std.specs.declared.alloc.Global.{Global}
+use Rattle.gj_words.specs.declared.requests.Command.TheVariants.{Extreme}
+use Rattle.gj_words.specs.declared.requests.Request.{Request}
+use Rattle.gj_shape.specs.FunctionData.{FunctionData}
+use Rattle.gj_json.proofs.OneFunction.{one_function as one_json_function}
+use Rattle.gj_top.specs.declared.reply.End.TheVariants as end
+use Rattle.gj_top.specs.declared.status.Status.{Status}
+use Rattle.gj_top.specs.declared.status.Status.TheVariants.{Done}
+use Rattle.gj_top.specs.Asked.{SpellsFunction, AskIfExtreme}
+use Rattle.gj_top.specs.Causes.{IsInput, IsDoneRun}
+use Rattle.gj_top.specs.Command.{task_for}
+use Rattle.gj_top.specs.Decisive.{CallsExtreme, IsExtremeByOrder4q, IsDecisive}
+use Rattle.gj_top.specs.Extreme.{IsDecisionText}
+use Rattle.gj_top.specs.Outcome.{IsOutcome}
+use Rattle.gj_top.specs.Report.{IsReportOf}
+use Rattle.gj_top.specs.Task.{IsReply}
+use Rattle.gj_top.proofs.Clauses.{reply_clause, weaker}
+use Rattle.gj_top.proofs.Commands.{one_named}
+use Rattle.gj_top.proofs.Extremality.{extreme_at_four, report_at_four}
+use Rattle.gj_top.proofs.TextLaws.{function_is_bounded, json_is_bounded, one_function}
+
+-- a reply
+pub by_order_4q : (json : Bool) (f : FunctionData) (input text : List ℕ) → SpellsFunction json input f →
+    IsReply (task_for (record { command = Extreme; json = json })) input end.Done text → (CallsExtreme json f text ↔ IsExtremeByOrder4q f)
+by_order_4q false f input text spelled r =
+    let same : r.thing ≡ f = one_function input r.thing f r.spelled spelled in
+    extreme_at_four f text (function_is_bounded input f spelled) (subst (λ (g : FunctionData). IsDecisionText g text) same r.replied)
+by_order_4q true f input text spelled r =
+    let same : r.thing ≡ f = one_json_function input r.thing f r.spelled spelled in
+    report_at_four f text (json_is_bounded input f spelled)
+    (subst (λ (g : FunctionData). IsReportOf (IsDecisionText g) text) same r.replied)
+
+-- a run
+decisive : (json : Bool) (words : List (String Global)) (input before : List ℕ) (written : Option (List ℕ)) (f : FunctionData) →
+    AskIfExtreme json words input f → IsDoneRun words input before written → IsDecisive json f before written
+decisive json words input before written f asked d = record {
+  text = d.text;
+  gain = d.gain;
+  called = by_order_4q json f input d.text asked.spelled
+      (subst (λ (r : Request). IsReply (task_for r) input end.Done d.text) (one_named words d.request _ d.named asked.named) d.reply);
+}
+
+pub order_4q_clause : (words : List (String Global)) (Fault : Type 0) (left left' written written' : Option (List ℕ)) (sure : ℕ) (r : Status) →
+    IsOutcome words Fault left left' written written' sure r → r ≡ Done → (input : List ℕ) (json : Bool) (f : FunctionData) →
+    IsInput words left input → AskIfExtreme json words input f → IfSome written (λ before. IsDecisive json f before written')
+order_4q_clause words Fault left left' written written' sure r o done input json f given asked =
+    weaker written (λ before. IsDoneRun words input before written') (λ before. IsDecisive json f before written')
+    (λ before. decisive json words input before written' f asked)
+    (reply_clause words Fault left left' written written' sure r o done input given)
