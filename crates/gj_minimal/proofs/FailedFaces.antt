@@ -1,5 +1,5 @@
 -- From the limits of one square to the tests of its faces.
-use Rattle.std.proofs.Common.{◌≡◌, ℕ, ◌+◌, ◌*◌, ◌<◌, ◌≤◌, ◌^◌, pos, ◌≤ℤ◌, min, Fits, w16, List, [], ◌∷◌, length, get_or, All, lit<, sym, subst, refl, ⊎_elim, below_none, below_more, arith}
+use Rattle.std.proofs.Common.{◌≡◌, ℕ, zero, suc, ◌+◌, ◌*◌, ◌<◌, ◌≤◌, ◌^◌, pos, ◌≤ℤ◌, min, Fits, w16, List, [], ◌∷◌, length, get_or, All, lit<, sym, subst, refl, ⊎_elim, below_none, below_more, arith}
 use Rattle.std.proofs.lemmas.Bool.{cases_lt}
 use Rattle.std.proofs.lemmas.List.Elements.{All-nil, All-cons}
 use Rattle.gj_shape.specs.FunctionData.{FunctionData, IsWithinBounds, IsContinuous}
@@ -15,7 +15,6 @@ use Rattle.gj_theory.proofs.FirstFailed.{IsNoVertex}
 use Rattle.gj_tools.proofs.Lists.{made_has}
 use Rattle.gj_theory.proofs.Lanes.{PassesAt, HasLanes, FitAtSums, mirrored_square, continuous_square, square_passes, fit_from_sums}
 use Rattle.gj_minimal.specs.FirstFailure.{IsFirstFailure, HoldsBelow}
-use Rattle.gj_minimal.specs.declared.failures.Failure.{Failure}
 use Rattle.gj_minimal.specs.declared.failures.Failure.TheVariants as failure
 use Rattle.gj_minimal.specs.Failures.{FailsFirst, PassesRow, IsNonnegativeIn}
 use Rattle.gj_minimal.specs.Lanes.{AreLimits}
@@ -199,10 +198,40 @@ first_at f Diagonal a b c none h = record { test = h.test; before = h.before; fa
 first_at f Lower a b c none h = record { test = h.test; before = h.before; fails = h.fails }
 first_at f Upper a b c none h = record { test = h.test; before = h.before; fails = h.fails }
 
--- as the code finds it
-pub corner_fails : {f : FunctionData} {s : Square} {a b : ℕ} → IsReached f s a b → (kind : FaceKind) (c : ℕ)
-    (x : Failure) → IsNoVertex kind → PassesKindsBefore f a b kind →
-    IsFirstFailure (IsNonnegativeIn s kind) (length (corners_of kind 0 0)) c →
-    x ≡ failure.Corner (record { kind = kind; a = a; b = b }) c → FailsFirst f x
-corner_fails {f} {s} {a} {b} reached kind c x none kinds found x_is =
-    subst (FailsFirst f) (sym x_is) (first_at f kind a b c none (fails_at f s kind a b c reached kinds found))
+-- ---- the kinds of faces that are no vertices, by their indices in walk order
+
+abbrev kind_at : ℕ → FaceKind
+kind_at i = get_or (Horizontal ∷ Vertical ∷ Diagonal ∷ Lower ∷ Upper ∷ []) i Vertex
+
+abbrev pub PassesKind : FunctionData → ℕ → ℕ → ℕ → Type 0
+PassesKind f a b i = PassesFace f (kind_at i) a b
+
+-- what passes before the kind at an index
+kinds_before : (f : FunctionData) (a b i : ℕ) → i < 5 → HoldsBelow (PassesKind f a b) i →
+    IsNoVertex (kind_at i) × PassesKindsBefore f a b (kind_at i)
+kinds_before f a b zero below h = (tt, tt)
+kinds_before f a b (suc zero) below h = (tt, h 0 (lit< tt))
+kinds_before f a b (suc (suc zero)) below h = (tt, (h 0 (lit< tt), h 1 (lit< tt)))
+kinds_before f a b (suc (suc (suc zero))) below h = (tt, (h 0 (lit< tt), h 1 (lit< tt), h 2 (lit< tt)))
+kinds_before f a b (suc (suc (suc (suc zero)))) below h =
+    (tt, (h 0 (lit< tt), h 1 (lit< tt), h 2 (lit< tt), h 3 (lit< tt)))
+kinds_before f a b (suc (suc (suc (suc (suc i))))) below h = absurd (omega arith)
+
+-- the first negative limit in the face of this kind fails first, where those of the kinds before it pass
+pub corner_fails : {f : FunctionData} {s : Square} {a b : ℕ} → IsReached f s a b → (i c : ℕ) → i < 5 →
+    HoldsBelow (PassesKind f a b) i →
+    IsFirstFailure (IsNonnegativeIn s (kind_at i)) (length (corners_of (kind_at i) 0 0)) c →
+    FailsFirst f (failure.Corner (record { kind = kind_at i; a = a; b = b }) c)
+corner_fails {f} {s} {a} {b} reached i c below passed found =
+    let kinds = kinds_before f a b i below passed in
+    first_at f (kind_at i) a b c kinds.0 (fails_at f s (kind_at i) a b c reached kinds.1 found)
+
+-- the square passes where the faces of all five kinds do
+pub kinds_pass : {f : FunctionData} {a b : ℕ} → HoldsBelow (PassesKind f a b) 5 → PassesSquare f a b
+kinds_pass h = record {
+  horizontal = h 0 (lit< tt);
+  vertical = h 1 (lit< tt);
+  diagonal = h 2 (lit< tt);
+  lower = h 3 (lit< tt);
+  upper = h 4 (lit< tt);
+}

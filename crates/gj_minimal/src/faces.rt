@@ -12,6 +12,15 @@ use crate::lanes::Lanes;
 use gj_complex::{Square, corners};
 use gj_shape::{Face, FaceKind, Shape};
 
+/// The kinds of faces that are no vertices, in walk order.
+const EDGES_AND_TRIANGLES: [FaceKind; 5] = [
+    FaceKind::Horizontal,
+    FaceKind::Vertical,
+    FaceKind::Diagonal,
+    FaceKind::Lower,
+    FaceKind::Upper,
+];
+
 /// The first failed test of the slack on the faces that are no vertices, square by square. The limits of a continuous
 /// function are slacks at grid points, and need no test.
 pub(crate) fn failed_face(shape: &Shape, is_continuous: bool) -> Option<Failure>
@@ -63,29 +72,12 @@ fn failed_in_square(shape: &Shape, a: u32, b: u32) -> Option<Failure>
     ensures none { IfNone result (PassesSquare shape.now a b) }
 {
     let square = Square::of(shape, a, b);
-    if let Some(corner) = first_negative(&square, FaceKind::Horizontal) {
-        return Some(corner_of(FaceKind::Horizontal, a, b, corner));
-    }
-    if let Some(corner) = first_negative(&square, FaceKind::Vertical) {
-        return Some(corner_of(FaceKind::Vertical, a, b, corner));
-    }
-    if let Some(corner) = first_negative(&square, FaceKind::Diagonal) {
-        return Some(corner_of(FaceKind::Diagonal, a, b, corner));
-    }
-    if let Some(corner) = first_negative(&square, FaceKind::Lower) {
-        return Some(corner_of(FaceKind::Lower, a, b, corner));
-    }
-    if let Some(corner) = first_negative(&square, FaceKind::Upper) {
-        return Some(corner_of(FaceKind::Upper, a, b, corner));
+    for kind in EDGES_AND_TRIANGLES {
+        if let Some(corner) = first_negative(&square, kind) {
+            return Some(Failure::Corner(Face { kind, a, b }, corner));
+        }
     }
     None
-}
-
-/// The failed test of the slack at a corner of a face of the square (a, b).
-fn corner_of(kind: FaceKind, a: u32, b: u32, corner: u32) -> Failure
-    ensures { result ≡ Failure.Corner (record { kind = kind; a = a; b = b }) corner }
-{
-    Failure::Corner(Face { kind, a, b }, corner)
 }
 
 /// The first corner of the square's face of this kind at which the limit of the slack is negative.
