@@ -203,6 +203,7 @@ first_at f Upper a b c none h = record { test = h.test; before = h.before; fails
 abbrev kind_at : ℕ → FaceKind
 kind_at i = get_or (Horizontal ∷ Vertical ∷ Diagonal ∷ Lower ∷ Upper ∷ []) i Vertex
 
+-- the square's face of the kind at this index passes
 abbrev pub PassesKind : FunctionData → ℕ → ℕ → ℕ → Type 0
 PassesKind f a b i = PassesFace f (kind_at i) a b
 
