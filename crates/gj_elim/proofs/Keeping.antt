@@ -5,7 +5,8 @@ use Rattle.std.proofs.lemmas.List.{length-map, length_push}
 use Rattle.std.proofs.lemmas.List.Elements.{All-push}
 use Rattle.gj_shape.specs.Elimination.{KeptRow, Insertion, Arithmetic, whole_numbers, with_pivot, inserted, inserted_by, kept_behind}
 use Rattle.gj_theory.specs.TriangularRows.{Solves, SolvesKept, AreTriangular}
-use Rattle.gj_theory.proofs.Insertions.{inserted_leaves, triangular_behind, solutions_behind}
+use Rattle.gj_theory.proofs.Insertions.{inserted_leaves}
+use Rattle.gj_theory.proofs.SoundArithmetic.{whole_sound, both_ways}
 use Rattle.gj_elim.specs.declared.log.LogRow.{LogRow}
 use Rattle.gj_frac.specs.Fraction.{Fits}
 use Rattle.gj_elim.specs.Data.{BasisData, behind_by}
@@ -89,16 +90,14 @@ behind_from by b d row kept same h =
 pub triangular_from : (b : BasisData) (row : List ℤ) (kept : List KeptRow) → AreTriangular b.columns b.kept →
     length row ≡ b.columns → AreBehind whole_numbers b row kept → AreTriangular b.columns kept
 triangular_from b row kept h columns is =
-    let i : Insertion = inserted b.columns b.kept row in
     subst (AreTriangular b.columns) (sym is.kept_is)
-    (triangular_behind b.columns b.inserted b.kept row i.reduce i.kept h (inserted_leaves b.columns b.kept row h columns))
+    ((inserted_leaves whole_sound b.columns b.kept row h columns).triangular b.inserted (inserted b.columns b.kept row).reduce)
 
 pub solutions_from : (b d : BasisData) (row w : List ℤ) (kept : List KeptRow) → b ≡ d → AreTriangular b.columns b.kept →
     length row ≡ d.columns → AreBehind whole_numbers b row kept → (SolvesKept w kept ↔ (SolvesKept w d.kept × Solves w row))
 solutions_from b d row w kept same h columns is =
-    let i : Insertion = inserted b.columns b.kept row in
-    let both = solutions_behind b.columns b.inserted b.kept row w i.reduce i.kept
-    (inserted_leaves b.columns b.kept row h (columns ∙ sym (ap (λ x. x.columns) same))) in
+    let left = inserted_leaves whole_sound b.columns b.kept row h (columns ∙ sym (ap (λ x. x.columns) same)) in
+    let both = both_ways (left.solutions b.inserted (inserted b.columns b.kept row).reduce w) in
     let at : (SolvesKept w kept ↔ (SolvesKept w b.kept × Solves w row)) =
     subst (λ (ks : List KeptRow). (SolvesKept w ks ↔ (SolvesKept w b.kept × Solves w row))) (sym is.kept_is) both in
     subst (λ (x : BasisData). (SolvesKept w kept ↔ (SolvesKept w x.kept × Solves w row))) same at

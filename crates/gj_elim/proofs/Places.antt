@@ -6,7 +6,7 @@ use Rattle.std.proofs.lemmas.Bool.{cases_lt, ltb-true, ltb-false}
 use Rattle.std.proofs.lemmas.List.{get_or_default}
 use Rattle.gj_shape.specs.Elimination.{KeptRow, at_column, row_with_pivot, free_column}
 use Rattle.gj_theory.specs.TriangularRows.{AreTriangular}
-use Rattle.gj_theory.proofs.Insertions.{kept_row_at}
+use Rattle.gj_theory.proofs.Triangular.{kept_row_at}
 use Rattle.gj_theory.proofs.Kernels.{has_pivot, none_found, some_found}
 use Rattle.gj_elim.specs.declared.log.LogRow.{LogRow}
 use Rattle.gj_elim.specs.KeptRows.{kept_rows}
@@ -88,7 +88,7 @@ pivot_row n kept c e h (k, found, is) =
     let (row, at) = kept_row_at n kept c k h found in record {
       columns = ap length (sym is) ∙ row.columns;
       zero_before = λ j before. subst (λ (xs : List ℤ). at_column xs j ≡ pos 0) is (row.zero_before j (subst (λ (i : ℕ). j < i) (sym at) before));
-      positive = subst₂ (λ (xs : List ℤ) (i : ℕ). pos 0 <ℤ at_column xs i) is at row.positive;
+      positive = subst₂ (λ (xs : List ℤ) (i : ℕ). pos 0 <ℤ at_column xs i) is at row.at_pivot;
     }
 
 -- ---- the columns without a pivot

@@ -7,7 +7,7 @@ use Rattle.gj_shape.specs.Residues.{residue, residues, reduced_modulo}
 use Rattle.gj_theory.specs.Modulus.{modulus}
 use Rattle.gj_theory.proofs.Entries.{at_scaled}
 use Rattle.gj_theory.proofs.Modulo.{at_residues}
-use Rattle.gj_theory.proofs.ResidueInsertions.{at_reduced_modulo, length-reduced_modulo}
+use Rattle.gj_theory.proofs.ResidueSteps.{at_reduced_modulo, length-reduced_modulo}
 use Rattle.gj_residue.specs.Rows.{numbers_of, AreResidues}
 
 -- ---- the entries of a row of residues

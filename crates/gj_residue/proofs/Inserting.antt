@@ -10,7 +10,9 @@ use Rattle.gj_shape.specs.Residues.{residues, inverse, times_inverse, modulo, So
 use Rattle.gj_theory.specs.Modulus.{modulus}
 use Rattle.gj_theory.specs.TriangularResidues.{AreTriangularResidues, SolvesKeptModulo}
 use Rattle.gj_theory.proofs.Passing.{none_passes}
-use Rattle.gj_theory.proofs.ResidueInsertions.{kept_residues_at, inserted_leaves_modulo, triangular_behind_modulo, solved_behind_modulo}
+use Rattle.gj_theory.proofs.Insertions.{inserted_leaves}
+use Rattle.gj_theory.proofs.ResidueSteps.{modulo_sound}
+use Rattle.gj_theory.proofs.Triangular.{kept_row_at}
 use Rattle.gj_elim.specs.Data.{BasisData}
 use Rattle.gj_elim.specs.KeptRows.{log_row}
 use Rattle.gj_elim.specs.Progress.{IsLeft, kept_at}
@@ -60,7 +62,7 @@ residues_free log rows c lines none = place_none log (map numbers_of rows) c (li
 pub residues_columns : (n : ℕ) (kept : List KeptRow) (c : ℕ) (e : List ℕ) → AreTriangularResidues n kept →
     IsRowAt kept c (numbers_of e) → length e ≡ n
 residues_columns n kept c e h (k, found, is) =
-    sym (length-numbers e) ∙ ap length (sym is) ∙ (kept_residues_at n kept c k h found).0.columns
+    sym (length-numbers e) ∙ ap length (sym is) ∙ (kept_row_at n kept c k h found).0.columns
 
 -- ---- the insertion as the code has it
 
@@ -105,20 +107,18 @@ pub triangular_from_modulo : (b : BasisData) (row : List ℤ) (kept : List KeptR
     AreTriangularResidues b.columns b.kept → length row ≡ b.columns → AreBehind (modulo modulus) b row kept →
     AreTriangularResidues b.columns kept
 triangular_from_modulo b row kept some h columns is =
-    let i : Insertion = inserted_by (modulo modulus) b.columns b.kept row in
     subst (AreTriangularResidues b.columns) (sym is.kept_is)
-    (triangular_behind_modulo modulus b.columns b.inserted b.kept row i.reduce i.kept h
-    (inserted_leaves_modulo modulus b.columns b.kept row some h columns))
+    ((inserted_leaves (modulo_sound modulus some) b.columns b.kept row h columns).triangular b.inserted
+    (inserted_by (modulo modulus) b.columns b.kept row).reduce)
 
 pub solved_from_modulo : (b d : BasisData) (row w : List ℤ) (kept : List KeptRow) → 0 < modulus → b ≡ d →
     AreTriangularResidues b.columns b.kept → length row ≡ b.columns → AreBehind (modulo modulus) b row kept →
     SolvesKeptModulo modulus w d.kept → SolvesModulo modulus w row → SolvesKeptModulo modulus w kept
 solved_from_modulo b d row w kept some same h columns is all solved =
-    let i : Insertion = inserted_by (modulo modulus) b.columns b.kept row in
+    let left = inserted_leaves (modulo_sound modulus some) b.columns b.kept row h columns in
+    let behind = left.solutions b.inserted (inserted_by (modulo modulus) b.columns b.kept row).reduce w in
     subst (SolvesKeptModulo modulus w) (sym is.kept_is)
-    (solved_behind_modulo modulus b.columns b.inserted b.kept row w i.reduce i.kept
-    (inserted_leaves_modulo modulus b.columns b.kept row some h columns)
-    (subst (λ (x : BasisData). SolvesKeptModulo modulus w x.kept) (sym same) all) solved)
+    (behind.onward (subst (λ (x : BasisData). SolvesKeptModulo modulus w x.kept) (sym same) all, solved))
 
 -- the log and the rows stay of one length
 pub lines_after : (log log' : List LogRow) (rows rows' : List (List ℕ)) (l : LogRow) (r : List ℤ) → length log ≡ length rows →

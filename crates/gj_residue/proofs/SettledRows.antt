@@ -7,11 +7,12 @@ use Rattle.gj_shape.specs.Elimination.{KeptRow, Solution, elimination, eliminati
 use Rattle.gj_shape.specs.Residues.{modulo}
 use Rattle.gj_theory.specs.Modulus.{modulus}
 use Rattle.gj_theory.specs.TriangularRows.{Solves, SolvesKept, AreTriangular}
-use Rattle.gj_theory.proofs.Eliminations.{elimination_has, zeros_of}
+use Rattle.gj_theory.proofs.Eliminations.{elimination_has}
+use Rattle.gj_theory.proofs.SoundArithmetic.{whole_sound}
 use Rattle.gj_theory.proofs.Kernels.{kernel_none, kernel_columns, kernel_solves, kernel_positive}
 use Rattle.gj_theory.proofs.Passing.{none_passes}
 use Rattle.gj_theory.proofs.ResidueElimination.{elimination_modulo_zero}
-use Rattle.gj_theory.proofs.Triangular.{rank_at_most}
+use Rattle.gj_theory.proofs.Triangular.{rank_at_most, zeros_of}
 use Rattle.gj_residue.specs.Settled.{AnswersRows, IsSettled, IsTooWide, insertion_passes, kernel_passes, IsKernelOf, IsSettledBy, IsSettledByResidues, fault_of}
 use Rattle.gj_elim.specs.declared.faults.ElimFault.{ElimFault}
 use Rattle.gj_elim.specs.declared.faults.ElimFault.TheVariants.{Wide as ElimWide, Memory as ElimMemory}
@@ -30,20 +31,20 @@ pub settled_answers : (n : ℕ) (rows : List (List ℤ)) (s : Settled) → All (
     AnswersRows n rows s
 settled_answers n rows (Plain log) lengths h =
     λ w len solved.
-    let has = elimination_has n rows lengths in
+    let has = elimination_has whole_sound n rows lengths in
     zeros_of n (elimination n rows).kept w has.triangular h.full len
-    ((has.same w len).1 (All-nil (λ k. Solves w k.entries), solved))
+    ((has.same w).onward (All-nil (λ k. Solves w k.entries), solved))
 settled_answers n rows (Residues log) lengths h =
     λ w len solved. elimination_modulo_zero modulus n rows w (lit< tt) lengths h.full len solved
 settled_answers n rows (Kernel numbers) lengths h =
-    let has = elimination_has n rows lengths in
+    let has = elimination_has whole_sound n rows lengths in
     let kept = (elimination n rows).kept in
     let columns = some_of (λ s. length s.numbers ≡ n) (kernel n kept) h.solution h.solves (kernel_columns n kept) in
     let solves = some_of (λ s. SolvesKept s.numbers kept) (kernel n kept) h.solution h.solves (kernel_solves n kept has.triangular) in
     let some = some_of (λ s. Any (λ x. pos 0 <ℤ x) s.numbers) (kernel n kept) h.solution h.solves
     (kernel_positive n kept has.triangular) in (
       ap length h.numbers_are ∙ columns,
-      subst (λ (w : List ℤ). All (Solves w) rows) (sym h.numbers_are) ((has.same h.solution.numbers columns).0 solves).1,
+      subst (λ (w : List ℤ). All (Solves w) rows) (sym h.numbers_are) ((has.same h.solution.numbers).before (tt, columns) solves).1,
       subst (Any (λ x. pos 0 <ℤ x)) (sym h.numbers_are) some,
     )
 
@@ -69,7 +70,7 @@ settled_by_all n rows kept (Residues log) lengths same narrow h = absurd h
 settled_by_all n rows kept (Kernel numbers) lengths same narrow h = record {
   narrow = narrow;
   fewer = subst (λ (k : List KeptRow). length k < n) same
-      (fewer n kept h.solution (subst (AreTriangular n) (sym same) (elimination_has n rows lengths).triangular) h.solves);
+      (fewer n kept h.solution (subst (AreTriangular n) (sym same) (elimination_has whole_sound n rows lengths).triangular) h.solves);
   solution = h.solution;
   solves = ap (kernel n) (sym same) ∙ h.solves;
   solution_narrow = h.narrow;

@@ -1,142 +1,138 @@
--- The elimination of all rows, and rows after several steps.
-use Rattle.std.proofs.Common.{◌≡◌, ℕ, ◌+◌, ◌≤◌, ◌⊎◌, inl, inr, ◌↔◌, Bool, true, false, if◌then◌else◌, Option, None, Some, ℤ, pos, List, [], ◌∷◌, length, eqb, refl, sym, ap, subst, ◌∙◌}
+-- The elimination of all rows over an arithmetic, and rows after several steps.
+use Rattle.std.proofs.Common.{◌≡◌, ℕ, ◌+◌, ◌≤◌, ◌⊎◌, inl, inr, Bool, true, false, if◌then◌else◌, Option, None, Some, ℤ, List, [], ◌∷◌, length, eqb, refl, sym, ap, subst, ◌∙◌}
 use Rattle.std.specs.Prelude.{All, nat_le}
-use Rattle.std.specs.List.{IsDistinct}
 use Rattle.std.proofs.lemmas.Bool.{leb-true}
-use Rattle.std.proofs.lemmas.List.Elements.{All-nil, All-cons, All-head, All-tail, All-from_get_or}
+use Rattle.std.proofs.lemmas.List.Elements.{All-nil, All-cons, All-head, All-tail}
 use Rattle.std.proofs.Math.Nat.{le_antisymm}
-use Rattle.gj_shape.specs.Elimination.{KeptRow, Arithmetic, inserted_by, reduced, eliminated, entries_of, row_with_pivot, inserted, kept_behind, elimination, elimination_from, elimination_from_by, behind_insertion}
-use Rattle.gj_theory.specs.TriangularRows.{Solves, SolvesKept, IsKeptRow, AreTriangular, present_row}
-use Rattle.gj_theory.proofs.RowSums.{divided_zero}
-use Rattle.gj_theory.proofs.Steps.{solves_reduced, length-reduced}
-use Rattle.gj_theory.proofs.Insertions.{find_has, inserted_leaves, triangular_behind, solutions_behind}
-use Rattle.gj_theory.proofs.Triangular.{rank_at_most, all_zero, sum_at_zeros}
+use Rattle.gj_shape.specs.Elimination.{KeptRow, Arithmetic, inserted_by, entries_of, row_with_pivot, kept_behind, elimination_by, elimination_from_by, behind_insertion}
+use Rattle.gj_theory.specs.TriangularRows.{AreTriangularBy, present_row_by}
+use Rattle.gj_theory.proofs.Insertions.{inserted_leaves}
+use Rattle.gj_theory.proofs.SoundArithmetic.{Carries, SoundArithmetic, SolvesKeptBy}
+use Rattle.gj_theory.proofs.Triangular.{find_has, rank_at_most, no_rows_triangular}
 
 -- ---- rows after several steps
 
--- a step by no row leaves no entries
-pub reduced_by_none : (row : List ℤ) (c : ℕ) → reduced [] row c ≡ []
-unfolding reduced eliminated
-reduced_by_none [] c = divided_zero [] refl
-reduced_by_none (x ∷ row) c = divided_zero [] refl
-
-pub reduced_of_none : (kept : List ℤ) (c : ℕ) → reduced kept [] c ≡ []
-unfolding reduced eliminated
-reduced_of_none kept c = divided_zero [] refl
-
 -- the row has n entries, or none
-abbrev HasColumns : ℕ → List ℤ → Type 0
+abbrev pub HasColumns : ℕ → List ℤ → Type 0
 HasColumns n row = (row ≡ []) ⊎ (length row ≡ n)
 
-step_solved : (n : ℕ) (kept : List KeptRow) (row w : List ℤ) (c : ℕ) → All (λ k. length k.entries ≡ n) kept →
-    HasColumns n row → SolvesKept w kept → Solves w row → (o : Option KeptRow) → row_with_pivot kept c ≡ o →
-    HasColumns n (reduced (entries_of o) row c) × Solves w (reduced (entries_of o) row c)
+step_columns : (law : SoundArithmetic) (n : ℕ) (kept : List KeptRow) (row : List ℤ) (c : ℕ) → All (λ k. length k.entries ≡ n) kept →
+    HasColumns n row → (o : Option KeptRow) → row_with_pivot kept c ≡ o → HasColumns n (law.by.step (entries_of o) row c)
 unfolding entries_of
-step_solved n kept row w c columns has all solved None e =
-    let none = reduced_by_none row c in (inl none, subst (Solves w) (sym none) refl)
-step_solved n kept row w c columns (inl is) all solved (Some k) e =
-    let none : reduced k.entries row c ≡ [] = ap (λ r. reduced k.entries r c) is ∙ reduced_of_none k.entries c in
-    (inl none, subst (Solves w) (sym none) refl)
-step_solved n kept row w c columns (inr len) all solved (Some k) e =
+step_columns law n kept row c columns has None e = inl (law.by_none row c)
+step_columns law n kept row c columns (inl is) (Some k) e =
+    inl (ap (λ r. law.by.step k.entries r c) is ∙ law.of_none k.entries c)
+step_columns law n kept row c columns (inr len) (Some k) e =
     let same : length k.entries ≡ length row =
     (find_has (λ r. length r.entries ≡ n) (λ r. eqb r.pivot c) kept k columns e).0 ∙ sym len in
-    let by : Solves w k.entries = (find_has (λ r. Solves w r.entries) (λ r. eqb r.pivot c) kept k all e).0 in
-    (inr (length-reduced k.entries row c same ∙ len), solves_reduced k.entries row w c same by solved)
+    inr (law.step_columns k.entries row c same ∙ len)
 
-present_solved : (n : ℕ) (kept : List KeptRow) (row w : List ℤ) (columns : List ℕ) → All (λ k. length k.entries ≡ n) kept →
-    HasColumns n row → SolvesKept w kept → Solves w row → Solves w (present_row kept row columns)
-present_solved n kept row w [] all has k solved = solved
-present_solved n kept row w (c ∷ columns) all has k solved =
-    let next = step_solved n kept row w c all has k solved (row_with_pivot kept c) refl in
-    present_solved n kept (reduced (entries_of (row_with_pivot kept c)) row c) w columns all next.0 k next.1
+pub columns_after_steps : (law : SoundArithmetic) (n : ℕ) (kept : List KeptRow) (row : List ℤ) (columns : List ℕ) →
+    All (λ k. length k.entries ≡ n) kept → HasColumns n row → HasColumns n (present_row_by law.by kept row columns)
+columns_after_steps law n kept row [] all has = has
+columns_after_steps law n kept row (c ∷ columns) all has =
+    columns_after_steps law n kept (law.by.step (entries_of (row_with_pivot kept c)) row c) columns all
+    (step_columns law n kept row c all has (row_with_pivot kept c) refl)
 
-pub present_row_solved : (n : ℕ) (kept : List KeptRow) (row w : List ℤ) (columns : List ℕ) →
-    All (λ k. length k.entries ≡ n) kept → length row ≡ n → SolvesKept w kept → Solves w row →
-    Solves w (present_row kept row columns)
-present_row_solved n kept row w columns all len k solved = present_solved n kept row w columns all (inr len) k solved
+step_solved : (law : SoundArithmetic) (n : ℕ) (kept : List KeptRow) (row w : List ℤ) (c : ℕ) → All (λ k. length k.entries ≡ n) kept →
+    HasColumns n row → SolvesKeptBy law w kept → law.solves w row → (o : Option KeptRow) → row_with_pivot kept c ≡ o →
+    law.solves w (law.by.step (entries_of o) row c)
+unfolding entries_of
+step_solved law n kept row w c columns has all solved None e =
+    subst (law.solves w) (sym (law.by_none row c)) (law.none_solved w)
+step_solved law n kept row w c columns (inl is) all solved (Some k) e =
+    subst (law.solves w) (sym (ap (λ r. law.by.step k.entries r c) is ∙ law.of_none k.entries c)) (law.none_solved w)
+step_solved law n kept row w c columns (inr len) all solved (Some k) e =
+    let same : length k.entries ≡ length row =
+    (find_has (λ r. length r.entries ≡ n) (λ r. eqb r.pivot c) kept k columns e).0 ∙ sym len in
+    let by : law.solves w k.entries = (find_has (λ r. law.solves w r.entries) (λ r. eqb r.pivot c) kept k all e).0 in
+    law.step_onward k.entries row w c same by solved
+
+present_solved : (law : SoundArithmetic) (n : ℕ) (kept : List KeptRow) (row w : List ℤ) (columns : List ℕ) →
+    All (λ k. length k.entries ≡ n) kept → HasColumns n row → SolvesKeptBy law w kept → law.solves w row →
+    law.solves w (present_row_by law.by kept row columns)
+present_solved law n kept row w [] all has k solved = solved
+present_solved law n kept row w (c ∷ columns) all has k solved =
+    present_solved law n kept (law.by.step (entries_of (row_with_pivot kept c)) row c) w columns all
+    (step_columns law n kept row c all has (row_with_pivot kept c) refl) k
+    (step_solved law n kept row w c all has k solved (row_with_pivot kept c) refl)
+
+pub present_row_solved : (law : SoundArithmetic) (n : ℕ) (kept : List KeptRow) (row w : List ℤ) (columns : List ℕ) →
+    All (λ k. length k.entries ≡ n) kept → length row ≡ n → SolvesKeptBy law w kept → law.solves w row →
+    law.solves w (present_row_by law.by kept row columns)
+present_row_solved law n kept row w columns all len k solved = present_solved law n kept row w columns all (inr len) k solved
 
 -- ---- all rows
 
-pub zeros_of : (n : ℕ) (kept : List KeptRow) (w : List ℤ) → AreTriangular n kept → length kept ≡ n → length w ≡ n →
-    SolvesKept w kept → All (λ x. x ≡ pos 0) w
-zeros_of n kept w h len columns solved =
-    All-from_get_or (λ x. x ≡ pos 0) w (pos 0) (λ i below. all_zero n kept w h len columns solved i)
-
-solve_any : (n : ℕ) (kept : List KeptRow) (w : List ℤ) (rows : List (List ℤ)) → AreTriangular n kept → length kept ≡ n →
-    length w ≡ n → SolvesKept w kept → All (Solves w) rows
-solve_any n kept w [] h len columns solved = All-nil (Solves w)
-solve_any n kept w (row ∷ rows) h len columns solved =
-    All-cons (Solves w) row rows (sum_at_zeros row w (λ i below. all_zero n kept w h len columns solved i))
-    (solve_any n kept w rows h len columns solved)
-
 -- the kept rows at the end are triangular, and have the solutions of the kept rows before and of all rows
-pub record HasSolutions (n : ℕ) (before after : List KeptRow) (rows : List (List ℤ)) : Type 0 where
-  pub triangular : AreTriangular n after
-  pub same : (w : List ℤ) → length w ≡ n → (SolvesKept w after ↔ (SolvesKept w before × All (Solves w) rows))
+pub record HasSolutions (law : SoundArithmetic) (n : ℕ) (before after : List KeptRow) (rows : List (List ℤ)) : Type 0 where
+  pub triangular : AreTriangularBy law.is_pivot n after
+  pub same : (w : List ℤ) → Carries (law.back × (length w ≡ n)) (SolvesKeptBy law w before × All (law.solves w) rows) (SolvesKeptBy law w after)
 
-all_pivots : (n : ℕ) (kept : List KeptRow) (rows : List (List ℤ)) → AreTriangular n kept → n ≤ length kept →
-    HasSolutions n kept kept rows
-all_pivots n kept rows h full =
-    let len : length kept ≡ n = le_antisymm (rank_at_most n kept h) full in record {
-      triangular = h;
-      same = λ w columns. (λ all. (all, solve_any n kept w rows h len columns all), λ both. both.0);
-    }
+all_solved : (law : SoundArithmetic) (w : List ℤ) (rows : List (List ℤ)) → ((row : List ℤ) → law.solves w row) → All (law.solves w) rows
+all_solved law w [] each = All-nil (law.solves w)
+all_solved law w (row ∷ rows) each = All-cons (law.solves w) row rows (each row) (all_solved law w rows each)
 
-one_more : (n : ℕ) (kept next after : List KeptRow) (row : List ℤ) (rows : List (List ℤ)) →
-    ((w : List ℤ) → (SolvesKept w next ↔ (SolvesKept w kept × Solves w row))) → HasSolutions n next after rows →
-    HasSolutions n kept after (row ∷ rows)
-one_more n kept next after row rows step h = record {
-  triangular = h.triangular;
-  same = λ w columns.
-      let now = h.same w columns in
-      let here = step w in (
-        λ all.
-            let both = now.0 all in
-            let first = here.0 both.0 in
-            (first.0, All-cons (Solves w) row rows first.1 both.1),
-        λ both.
-            now.1 (here.1 (both.0, All-head (Solves w) row rows both.1), All-tail (Solves w) row rows both.1),
-      );
-}
-
-elimination_from_has : (n : ℕ) (kept : List KeptRow) (number : ℕ) (rows : List (List ℤ)) → AreTriangular n kept →
-    All (λ row. length row ≡ n) rows → HasSolutions n kept (elimination_from n kept number rows).kept rows
-unfolding elimination_from_by
-elimination_from_has n kept number [] h columns = record {
+all_pivots : (law : SoundArithmetic) (n : ℕ) (kept : List KeptRow) (rows : List (List ℤ)) → AreTriangularBy law.is_pivot n kept →
+    n ≤ length kept → HasSolutions law n kept kept rows
+all_pivots law n kept rows h full = record {
   triangular = h;
-  same = λ w len. (λ all. (all, All-nil (Solves w)), λ both. both.0);
+  same = λ w. record {
+    onward = λ both. both.0;
+    before = λ back all.
+        (all, all_solved law w rows (law.all_pivots back.0 n kept w h (le_antisymm (rank_at_most n kept h) full) back.1 all));
+  };
 }
-elimination_from_has n kept number (row ∷ rows) h columns =
+
+one_more : (law : SoundArithmetic) (n : ℕ) (kept next after : List KeptRow) (row : List ℤ) (rows : List (List ℤ)) →
+    ((w : List ℤ) → Carries law.back (SolvesKeptBy law w kept × law.solves w row) (SolvesKeptBy law w next)) →
+    HasSolutions law n next after rows → HasSolutions law n kept after (row ∷ rows)
+one_more law n kept next after row rows step h = record {
+  triangular = h.triangular;
+  same = λ w. record {
+    onward = λ both.
+        let first = (step w).onward (both.0, All-head (law.solves w) row rows both.1) in
+        (h.same w).onward (first, All-tail (law.solves w) row rows both.1);
+    before = λ back all.
+        let both = (h.same w).before back all in
+        let first = (step w).before back.0 both.0 in
+        (first.0, All-cons (law.solves w) row rows first.1 both.1);
+  };
+}
+
+elimination_from_has : (law : SoundArithmetic) (n : ℕ) (kept : List KeptRow) (number : ℕ) (rows : List (List ℤ)) →
+    AreTriangularBy law.is_pivot n kept → All (λ row. length row ≡ n) rows →
+    HasSolutions law n kept (elimination_from_by law.by n kept number rows).kept rows
+unfolding elimination_from_by
+elimination_from_has law n kept number [] h columns = record {
+  triangular = h;
+  same = λ w. record { onward = λ both. both.0; before = λ back all. (all, All-nil (law.solves w)) };
+}
+elimination_from_has law n kept number (row ∷ rows) h columns =
+    let i = inserted_by law.by n kept row in
+    let left = inserted_leaves law n kept row h (All-head (λ r. length r ≡ n) row rows columns) in
+    let next = kept_behind kept number i.reduce i.kept in
     by_rank (nat_le n (length kept)) refl
-    (one_more n kept (kept_behind kept number (inserted n kept row).reduce (inserted n kept row).kept)
-    (elimination_from n (kept_behind kept number (inserted n kept row).reduce (inserted n kept row).kept) (number + 1) rows).kept
-    row rows
-    (λ w. solutions_behind n number kept row w (inserted n kept row).reduce (inserted n kept row).kept
-    (inserted_leaves n kept row h (All-head (λ r. length r ≡ n) row rows columns)))
-    (elimination_from_has n (kept_behind kept number (inserted n kept row).reduce (inserted n kept row).kept) (number + 1) rows
-    (triangular_behind n number kept row (inserted n kept row).reduce (inserted n kept row).kept h
-    (inserted_leaves n kept row h (All-head (λ r. length r ≡ n) row rows columns)))
-    (All-tail (λ r. length r ≡ n) row rows columns)))
+    (one_more law n kept next (elimination_from_by law.by n next (number + 1) rows).kept row rows (left.solutions number i.reduce)
+    (elimination_from_has law n next (number + 1) rows (left.triangular number i.reduce) (All-tail (λ r. length r ≡ n) row rows columns)))
   where
     by_rank : (b : Bool) → nat_le n (length kept) ≡ b →
-        HasSolutions n kept
-        (elimination_from n (kept_behind kept number (inserted n kept row).reduce (inserted n kept row).kept) (number + 1) rows).kept
+        HasSolutions law n kept
+        (elimination_from_by law.by n (kept_behind kept number (inserted_by law.by n kept row).reduce (inserted_by law.by n kept row).kept)
+        (number + 1) rows).kept
         (row ∷ rows) →
-        HasSolutions n kept
+        HasSolutions law n kept
         (if b then record { kept = kept; marked = [] }
-        else behind_insertion (inserted n kept row).marked
-        (elimination_from n (kept_behind kept number (inserted n kept row).reduce (inserted n kept row).kept) (number + 1) rows)).kept
+        else behind_insertion (inserted_by law.by n kept row).marked
+        (elimination_from_by law.by n (kept_behind kept number (inserted_by law.by n kept row).reduce (inserted_by law.by n kept row).kept)
+        (number + 1) rows)).kept
         (row ∷ rows)
-    by_rank true e later = all_pivots n kept (row ∷ rows) h (leb-true n (length kept) e)
+    by_rank true e later = all_pivots law n kept (row ∷ rows) h (leb-true n (length kept) e)
     by_rank false e later = later
 
-pub no_rows_triangular : (n : ℕ) → AreTriangular n []
-unfolding IsDistinct
-no_rows_triangular n = record { rows = All-nil (IsKeptRow n); pivots = tt }
-
-pub elimination_has : (n : ℕ) (rows : List (List ℤ)) → All (λ row. length row ≡ n) rows →
-    HasSolutions n [] (elimination n rows).kept rows
-elimination_has n rows columns = elimination_from_has n [] 0 rows (no_rows_triangular n) columns
+pub elimination_has : (law : SoundArithmetic) (n : ℕ) (rows : List (List ℤ)) → All (λ row. length row ≡ n) rows →
+    HasSolutions law n [] (elimination_by law.by n rows).kept rows
+elimination_has law n rows columns = elimination_from_has law n [] 0 rows (no_rows_triangular n) columns
 
 -- ---- the elimination over any arithmetic, one row further
 

@@ -29,7 +29,7 @@ use Rattle.gj_theory.proofs.CoverSteps.{number_below, one_step_a_component}
 use Rattle.gj_theory.proofs.SlopeSums.{sum_before, slopes_of, period_row, place_row, pair_row}
 use Rattle.gj_theory.proofs.TightFaces.{tight_in_face}
 use Rattle.gj_theory.proofs.OrderedPairs.{made_of_pairs, all_pairs}
-use Rattle.gj_theory.proofs.PivotsLeaveZero.{only_zero}
+use Rattle.gj_theory.proofs.PivotsLeaveZero.{whole_cancels, only_zero}
 
 -- ---- values from slopes
 
@@ -179,4 +179,4 @@ pub extreme_by_rows : (f : FunctionData) (lines : List CoverLine) (component : �
     IsExtreme f
 extreme_by_rows f lines component n row pivot l continuous minimal rules has counted rows solved =
     extreme_by_cover f lines component n l continuous minimal rules has counted
-    (λ slopes long solve. only_zero n row pivot slopes rows long (solved slopes long solve))
+    (λ slopes long solve. only_zero whole_cancels n row pivot slopes rows long (solved slopes long solve))

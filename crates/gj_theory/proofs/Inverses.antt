@@ -16,7 +16,7 @@ use Rattle.gj_tools.proofs.Lists.{All-range}
 use Rattle.gj_tools.proofs.Ring.{by_ring, ring}
 use Rattle.gj_tools.specs.Divisors.{gcd_of, gcd_within}
 use Rattle.gj_shape.specs.Residues.{residue, inverse, IsZeroModulo}
-use Rattle.gj_theory.proofs.Insertions.{find_has}
+use Rattle.gj_theory.proofs.Triangular.{find_has}
 use Rattle.gj_theory.proofs.Modulo.{zero_is, zero_difference, zero_times, residue_same, residue_below, residue_only, same_below}
 
 -- ---- the greatest common divisor is a sum of multiples

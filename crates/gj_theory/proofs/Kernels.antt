@@ -18,10 +18,10 @@ use Rattle.gj_tools.proofs.Choices.{not_true, not_false}
 use Rattle.gj_frac.proofs.Reduced.{quotient_of_divisor}
 use Rattle.gj_shape.specs.SlopeRows.{total, sum_of_products}
 use Rattle.gj_shape.specs.Elimination.{KeptRow, at_column, scaled, row_with_pivot, entries_of, products_behind, solving_gcd, solving_products, solved_at, solution_below, solution_from, free_column, unit_row, kernel}
-use Rattle.gj_theory.specs.TriangularRows.{Solves, SolvesKept, IsKeptRow, AreTriangular}
+use Rattle.gj_theory.specs.TriangularRows.{Solves, SolvesKept, IsKeptRowBy, AreTriangular}
 use Rattle.gj_theory.proofs.Entries.{at_scaled}
-use Rattle.gj_theory.proofs.Insertions.{kept_row_at}
-use Rattle.gj_theory.proofs.Triangular.{rank_at_most, fewer_rows, only_term}
+use Rattle.gj_theory.proofs.PivotsLeaveZero.{only_term}
+use Rattle.gj_theory.proofs.Triangular.{kept_row_at, rank_at_most, fewer_rows}
 
 -- ---- the free column
 
@@ -302,11 +302,11 @@ any_with_pivot (r ∷ kept) c k e = by_test (eqb r.pivot c) refl e (any_with_piv
         (suc i, x, omega arith, is, at)
 
 -- at the start the rows with a pivot behind the free column are solved
-unit_solves : (n c : ℕ) (kept : List KeptRow) → All (IsKeptRow n) kept → All (λ k. k.pivot ≢ c) kept →
+unit_solves : (n c : ℕ) (kept : List KeptRow) → All (IsKeptRowBy (λ x. pos 0 <ℤ x) n) kept → All (λ k. k.pivot ≢ c) kept →
     All (λ k. c ≤ k.pivot → Solves (unit_row n c) k.entries) kept
 unit_solves n c [] rows apart = All-nil (λ k. c ≤ k.pivot → Solves (unit_row n c) k.entries)
 unit_solves n c (k ∷ kept) rows apart =
-    let is = All-head (IsKeptRow n) k kept rows in
+    let is = All-head (IsKeptRowBy (λ x. pos 0 <ℤ x) n) k kept rows in
     let other = All-head (λ r. r.pivot ≢ c) k kept apart in
     All-cons (λ r. c ≤ r.pivot → Solves (unit_row n c) r.entries) k kept
     (λ from.
@@ -314,7 +314,7 @@ unit_solves n c (k ∷ kept) rows apart =
     only_term k.entries (unit_row n c) c (λ j below. is.zero_before j (omega arith))
     (λ j above. unit_elsewhere n c j (omega arith))
     ∙ ap (λ z. z *ℤ at_column (unit_row n c) c) (is.zero_before c before) ∙ zero_times (at_column (unit_row n c) c))
-    (unit_solves n c kept (All-tail (IsKeptRow n) k kept rows) (All-tail (λ r. r.pivot ≢ c) k kept apart))
+    (unit_solves n c kept (All-tail (IsKeptRowBy (λ x. pos 0 <ℤ x) n) k kept rows) (All-tail (λ r. r.pivot ≢ c) k kept apart))
   where
     zero_times : (v : ℤ) → pos 0 *ℤ v ≡ pos 0
     zero_times v = omega (arith, ints)
@@ -354,7 +354,7 @@ only_row (x ∷ kept) j k h e =
         All-cons (λ r. r.pivot ≡ j → r ≡ k) x kept (λ at. let u = eq-eqb x.pivot j at in absurd cc) (later e)
 
 -- the rows stay solved, and the row with its pivot at the column is
-all_solved : (n j : ℕ) (kept : List KeptRow) (k : KeptRow) (w : List ℤ) → All (IsKeptRow n) kept →
+all_solved : (n j : ℕ) (kept : List KeptRow) (k : KeptRow) (w : List ℤ) → All (IsKeptRowBy (λ x. pos 0 <ℤ x) n) kept →
     All (λ r. r.pivot ≡ j → r ≡ k) kept → Solves (solved_at k.entries j w) k.entries →
     All (λ r. suc j ≤ r.pivot → Solves w r.entries) kept →
     All (λ r. j ≤ r.pivot → Solves (solved_at k.entries j w) r.entries) kept
@@ -362,12 +362,12 @@ all_solved n j [] k w rows only own solved = All-nil (λ r. j ≤ r.pivot → So
 all_solved n j (x ∷ kept) k w rows only own solved =
     All-cons (λ r. j ≤ r.pivot → Solves (solved_at k.entries j w) r.entries) x kept
     (λ from. by_place from (cases_lt j x.pivot))
-    (all_solved n j kept k w (All-tail (IsKeptRow n) x kept rows) (All-tail (λ r. r.pivot ≡ j → r ≡ k) x kept only) own
+    (all_solved n j kept k w (All-tail (IsKeptRowBy (λ x. pos 0 <ℤ x) n) x kept rows) (All-tail (λ r. r.pivot ≡ j → r ≡ k) x kept only) own
     (All-tail (λ r. suc j ≤ r.pivot → Solves w r.entries) x kept solved))
   where
     by_place : j ≤ x.pivot → (j < x.pivot) ⊎ (x.pivot ≤ j) → Solves (solved_at k.entries j w) x.entries
     by_place from (inl behind) =
-        solved_others k.entries x.entries j w ((All-head (IsKeptRow n) x kept rows).zero_before j behind)
+        solved_others k.entries x.entries j w ((All-head (IsKeptRowBy (λ x. pos 0 <ℤ x) n) x kept rows).zero_before j behind)
         (All-head (λ r. suc j ≤ r.pivot → Solves w r.entries) x kept solved (omega arith))
     by_place from (inr l) =
         let same : x ≡ k = All-head (λ r. r.pivot ≡ j → r ≡ k) x kept only (le_antisymm l from) in
@@ -380,7 +380,7 @@ unfolding entries_of
 one_solved n c j kept w h below some solved None e = absurd (some e)
 one_solved n c j kept w h below some solved (Some k) e =
     let (is, at) = kept_row_at n kept j k h e in
-    let positive : pos 0 <ℤ at_column k.entries j = subst (λ (i : ℕ). pos 0 <ℤ at_column k.entries i) at is.positive in
+    let positive : pos 0 <ℤ at_column k.entries j = subst (λ (i : ℕ). pos 0 <ℤ at_column k.entries i) at is.at_pivot in
     let up = factor_positive k.entries j w positive in record {
       columns = length-solved k.entries j w ∙ solved.columns;
       behind = λ i above. solved_elsewhere k.entries j i w (omega arith) ∙ ap (λ z. factor k.entries j w *ℤ z) (solved.behind i above)

@@ -9,6 +9,7 @@ pub mod FirstFailed
 pub mod RowSums
 pub mod Steps
 pub mod Entries
+pub mod SoundArithmetic
 pub mod Insertions
 pub mod Triangular
 pub mod Eliminations
@@ -62,7 +63,7 @@ pub mod TwoSlopesAreExtreme
 pub mod TwoSlopeRows
 pub mod Modulo
 pub mod ResiduePivots
-pub mod ResidueInsertions
+pub mod ResidueSteps
 pub mod ResidueElimination
 pub mod Inverses
 pub mod Euclid

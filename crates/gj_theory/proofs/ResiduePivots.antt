@@ -1,75 +1,31 @@
 -- As many rows with different pivots modulo m as columns leave only 0 modulo m; and what this leaves of whole numbers.
-use Rattle.std.proofs.Common.{◌≡◌, ℕ, zero, suc, ◌+◌, ◌*◌, ◌<◌, ◌≤◌, inl, inr, ℤ, pos, ◌+ℤ◌, ◌-ℤ◌, ◌*ℤ◌, List, [], ◌∷◌, length, unsigned_abs, refl, sym, ap, ap₂, subst, ◌∙◌, arith}
+use Rattle.std.proofs.Common.{◌≡◌, ℕ, zero, suc, ◌+◌, ◌*◌, ◌<◌, ◌≤◌, ℤ, pos, ◌*ℤ◌, List, [], ◌∷◌, length, unsigned_abs, refl, sym, ap, ap₂, subst, ◌∙◌, arith}
 use Rattle.std.specs.Prelude.{All}
-use Rattle.std.proofs.lemmas.Bool.{cases_lt}
 use Rattle.std.proofs.lemmas.Int.{ints, unsigned_abs-mul}
-use Rattle.std.proofs.lemmas.List.{get_or_past, length-map}
+use Rattle.std.proofs.lemmas.List.{length-map}
 use Rattle.std.proofs.lemmas.List.Elements.{All-nil, All-cons, All-head, All-tail, All-from_get_or, All-get_or}
 use Rattle.std.proofs.Math.Nat.{mul-le-mul_right}
 use Rattle.gj_tools.proofs.Integers.{mul_comm_z, abs_zero_z, zero_factor_z}
-use Rattle.gj_shape.specs.Elimination.{at_column, scaled}
+use Rattle.gj_shape.specs.Elimination.{scaled}
 use Rattle.gj_shape.specs.Residues.{IsZeroModulo, IsInvertible, SolvesModulo}
 use Rattle.gj_shape.specs.SlopeRows.{sum_of_products}
 use Rattle.gj_theory.specs.TriangularRows.{Solves}
 use Rattle.gj_theory.specs.TriangularResidues.{HavePivotsModulo}
 use Rattle.gj_theory.proofs.Kernels.{sum_scaled_numbers}
-use Rattle.gj_theory.proofs.Modulo.{zero_is, zero_none, zero_sum, zero_times, zero_second, cancel_invertible}
-use Rattle.gj_theory.proofs.PivotsLeaveZero.{find_pivot_below}
+use Rattle.gj_theory.proofs.Modulo.{zero_none, zero_difference, zero_times, cancel_invertible}
+use Rattle.gj_theory.proofs.PivotsLeaveZero.{CancelsZero, only_zero}
 
--- ---- the sum of products, if all but one are 0 modulo m
-
-no_products : (m : ℕ) (row numbers : List ℤ) → ((d : ℕ) → IsZeroModulo m (at_column numbers d)) →
-    IsZeroModulo m (sum_of_products row numbers)
-no_products m [] numbers zeros = zero_none m
-no_products m (x ∷ row) [] zeros = zero_none m
-no_products m (x ∷ row) (y ∷ numbers) zeros =
-    zero_sum m (x *ℤ y) (sum_of_products row numbers) (zero_times m x y (zeros 0))
-    (no_products m row numbers (λ d. zeros (suc d)))
-
-one_product : (m : ℕ) (row numbers : List ℤ) (c : ℕ) → ((d : ℕ) → d < c → IsZeroModulo m (at_column row d)) →
-    ((d : ℕ) → c < d → IsZeroModulo m (at_column numbers d)) →
-    IsZeroModulo m (sum_of_products row numbers -ℤ at_column row c *ℤ at_column numbers c)
-one_product m [] numbers c before behind = (pos 0, omega (arith, ints))
-one_product m (x ∷ row) [] c before behind = (pos 0, omega (arith, ints))
-one_product m (x ∷ row) (y ∷ numbers) zero before behind =
-    zero_is m ((x *ℤ y +ℤ sum_of_products row numbers) -ℤ x *ℤ y) (sum_of_products row numbers) (omega (arith, ints))
-    (no_products m row numbers (λ d. behind (suc d) (omega arith)))
-one_product m (x ∷ row) (y ∷ numbers) (suc c) before behind =
-    let s = sum_of_products row numbers in
-    let p = at_column row c *ℤ at_column numbers c in
-    let turned = mul_comm_z x y in
-    zero_is m ((x *ℤ y +ℤ s) -ℤ p) (y *ℤ x +ℤ (s -ℤ p)) (omega (arith, ints))
-    (zero_sum m (y *ℤ x) (s -ℤ p) (zero_times m y x (before 0 (omega arith)))
-    (one_product m row numbers c (λ d low. before (suc d) (omega arith)) (λ d high. behind (suc d) (omega arith))))
-
--- ---- from the last column down
-
-zero_past : (m : ℕ) (numbers : List ℤ) (c : ℕ) → length numbers ≤ c → IsZeroModulo m (at_column numbers c)
-zero_past m numbers c past = zero_is m (at_column numbers c) (pos 0) (get_or_past numbers c (pos 0) past) (zero_none m)
-
-zero_from : (m n : ℕ) (row : ℕ → List ℤ) (pivot : ℕ → ℕ) (numbers : List ℤ) → HavePivotsModulo m n row pivot →
-    length numbers ≡ n → ((g : ℕ) → g < n → SolvesModulo m numbers (row g)) →
-    (k c : ℕ) → n ≤ c + k → IsZeroModulo m (at_column numbers c)
-zero_from m n row pivot numbers rows long solved zero c high = zero_past m numbers c (omega arith)
-zero_from m n row pivot numbers rows long solved (suc k) c high =
-    let behind = λ (d : ℕ) (later : c < d). zero_from m n row pivot numbers rows long solved k d (omega arith) in
-    elim (cases_lt c n) [
-      | inr past ↦ zero_past m numbers c (omega arith)
-      | inl within ↦
-          let found = find_pivot_below n pivot c rows.within rows.different within in
-          let own = row found.0 in
-          let before = λ (d : ℕ) (low : d < c). rows.zero_before found.0 d found.1 (subst (λ (x : ℕ). d < x) (sym found.2) low) in
-          let sum = one_product m own numbers c before behind in
-          cancel_invertible m (at_column own c) (at_column numbers c)
-          (subst (λ (x : ℕ). IsInvertible m (at_column own x)) found.2 (rows.invertible found.0 found.1))
-          (zero_second m (sum_of_products own numbers) (at_column own c *ℤ at_column numbers c) sum (solved found.0 found.1))
-    ]
+pub modulo_cancels : (m : ℕ) → CancelsZero (IsZeroModulo m) (IsInvertible m)
+modulo_cancels m = record {
+  none = zero_none m;
+  difference = zero_difference m;
+  times = zero_times m;
+  cancel = cancel_invertible m;
+}
 
 pub only_zero_modulo : (m n : ℕ) (row : ℕ → List ℤ) (pivot : ℕ → ℕ) (numbers : List ℤ) → HavePivotsModulo m n row pivot →
     length numbers ≡ n → ((g : ℕ) → g < n → SolvesModulo m numbers (row g)) → All (IsZeroModulo m) numbers
-only_zero_modulo m n row pivot numbers rows long solved =
-    All-from_get_or (IsZeroModulo m) numbers (pos 0)
-    (λ c low. zero_from m n row pivot numbers rows long solved n c (omega arith))
+only_zero_modulo m = only_zero (modulo_cancels m)
 
 -- ---- the descent
 

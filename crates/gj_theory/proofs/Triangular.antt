@@ -1,22 +1,64 @@
 -- Triangular rows: their pivots, and what only 0 solves.
-use Rattle.std.proofs.Common.{◌≡◌, ◌≢◌, ℕ, zero, suc, ◌+◌, ◌<◌, ◌≤◌, ◌⊎◌, inl, inr, Bool, true, false, ◌||◌, Option, None, Some, ℤ, pos, ◌+ℤ◌, ◌*ℤ◌, ◌<ℤ◌, List, [], ◌∷◌, ◌++◌, length, map, eqb, unsigned_abs, refl, sym, ap, ap₂, subst, ◌∙◌, arith}
-use Rattle.std.specs.Prelude.{All}
-use Rattle.std.specs.List.{list_any}
-use Rattle.std.proofs.Math.ListN.{get_or-eq_default}
-use Rattle.std.proofs.Math.Nat.{le_antisymm}
+use Rattle.std.proofs.Common.{◌≡◌, ℕ, ◌<◌, ◌≤◌, inl, inr, Bool, true, false, ◌||◌, cond, Option, None, Some, ℤ, pos, List, [], ◌∷◌, ◌++◌, length, map, eqb, refl, sym, ap₂, subst, ◌∙◌, arith}
+use Rattle.std.specs.Prelude.{All, get_or}
+use Rattle.std.specs.List.{find, list_any, AllByRecursion, IsDistinct}
 use Rattle.std.proofs.lemmas.Bool.{cases_lt}
-use Rattle.std.proofs.lemmas.Bool.Decides.{Decides-eqb}
+use Rattle.std.proofs.lemmas.Bool.Decides.{Decides-eqb, not_from_Decides}
 use Rattle.std.proofs.lemmas.Int.{ints}
-use Rattle.std.proofs.lemmas.List.{length-map, length_push}
-use Rattle.std.proofs.lemmas.List.Elements.{All-nil, All-cons, All-head, All-tail, All-push}
+use Rattle.std.proofs.lemmas.List.{length-map, length_push, get_or-map, get_or_past}
+use Rattle.std.proofs.lemmas.List.Elements.{All-nil, All-cons, All-head, All-tail, All-push, All-get_or}
+use Rattle.std.proofs.lemmas.Map.Keys.{IsDistinct-head, IsDistinct-tail, IsDistinct-cons, apart_from_distinct}
 use Rattle.std.proofs.lemmas.Map.Steps.{length-le_from_distinct_below}
-use Rattle.gj_tools.proofs.Integers.{mul_cancel_left_z}
 use Rattle.gj_shape.specs.Elimination.{KeptRow, at_column, row_with_pivot}
 use Rattle.gj_shape.specs.SlopeRows.{sum_of_products}
-use Rattle.gj_theory.specs.TriangularRows.{Solves, SolvesKept, IsKeptRow, AreTriangular}
-use Rattle.gj_theory.proofs.Insertions.{find_has, kept_row_at, pivots_push}
+use Rattle.gj_theory.specs.PivotRows.{HavePivotsBy}
+use Rattle.gj_theory.specs.TriangularRows.{Solves, SolvesKept, IsKeptRowBy, AreTriangularBy, AreTriangular}
+use Rattle.gj_theory.proofs.PivotsLeaveZero.{CancelsZero, whole_cancels, no_products, only_zero}
+
+-- ---- the kept row with its pivot at a column
+
+-- what all elements have, the one found has
+pub find_has : {X : Type 0} (P : X → Type 0) (p : X → Bool) (xs : List X) (x : X) → All P xs → find p xs ≡ Some x →
+    P x × (p x ≡ true)
+find_has P p [] x all e = absurd cc
+find_has P p (y ∷ ys) x all e = by_test (p y) refl e (find_has P p ys x (All-tail P y ys all))
+  where
+    by_test : (b : Bool) → p y ≡ b → cond b (Some y) (find p ys) ≡ Some x →
+        (find p ys ≡ Some x → P x × (p x ≡ true)) → P x × (p x ≡ true)
+    by_test true t e later =
+        let same : y ≡ x = cc in
+        (subst P same (All-head P y ys all), subst (λ z. p z ≡ true) same t)
+    by_test false t e later = later e
+
+pub kept_row_at : {P : ℤ → Type 0} (n : ℕ) (kept : List KeptRow) (c : ℕ) (k : KeptRow) → AreTriangularBy P n kept →
+    row_with_pivot kept c ≡ Some k → IsKeptRowBy P n k × (k.pivot ≡ c)
+kept_row_at {P = P} n kept c k h e =
+    let both = find_has (IsKeptRowBy P n) (λ r. eqb r.pivot c) kept k h.rows e in
+    (both.0, (Decides-eqb k.pivot c).0 both.1)
 
 -- ---- the pivots
+
+pub no_rows_triangular : {P : ℤ → Type 0} (n : ℕ) → AreTriangularBy P n []
+unfolding IsDistinct
+no_rows_triangular {P = P} n = record { rows = All-nil (IsKeptRowBy P n); pivots = tt }
+
+cond_none : {X : Type 0} (b : Bool) (x : X) (o : Option X) → cond b (Some x) o ≡ None → (b ≡ false) × (o ≡ None)
+cond_none true x o e = absurd cc
+cond_none false x o e = (refl, e)
+
+all_push : (P : ℕ → Type 0) (xs : List ℕ) (y : ℕ) → AllByRecursion P xs → P y → AllByRecursion P (xs ++ y ∷ [])
+all_push P [] y all last = (last, tt)
+all_push P (x ∷ xs) y all last = (all.0, all_push P xs y all.1 last)
+
+pub pivots_push : (kept : List KeptRow) (k : KeptRow) → IsDistinct (λ a b. eqb a b) (map (λ r. r.pivot) kept) →
+    row_with_pivot kept k.pivot ≡ None → IsDistinct (λ a b. eqb a b) (map (λ r. r.pivot) kept ++ k.pivot ∷ [])
+pivots_push [] k h free = IsDistinct-cons (λ a b. eqb a b) k.pivot [] tt h
+pivots_push (x ∷ kept) k h free =
+    let (apart, rest) = cond_none (eqb x.pivot k.pivot) x (row_with_pivot kept k.pivot) free in
+    IsDistinct-cons (λ a b. eqb a b) x.pivot (map (λ r. r.pivot) kept ++ k.pivot ∷ [])
+    (all_push (λ y. eqb x.pivot y ≡ false) (map (λ r. r.pivot) kept) k.pivot
+    (IsDistinct-head (λ a b. eqb a b) x.pivot (map (λ r. r.pivot) kept) h) apart)
+    (pivots_push kept k (IsDistinct-tail (λ a b. eqb a b) x.pivot (map (λ r. r.pivot) kept) h) rest)
 
 pub below_from_any : (n : ℕ) (xs : List ℕ) (q : ℕ) → All (λ x. x < n) xs → list_any (eqb q) xs ≡ true → q < n
 below_from_any n [] q all e = absurd cc
@@ -28,13 +70,13 @@ below_from_any n (x ∷ xs) q all e =
         subst (λ (i : ℕ). i < n) (sym ((Decides-eqb q x).0 t)) (All-head (λ y. y < n) x xs all)
     by_test false t e later = later e
 
-pivots_below : (n : ℕ) (kept : List KeptRow) → All (IsKeptRow n) kept → All (λ x. x < n) (map (λ k. k.pivot) kept)
+pivots_below : {P : ℤ → Type 0} (n : ℕ) (kept : List KeptRow) → All (IsKeptRowBy P n) kept → All (λ x. x < n) (map (λ k. k.pivot) kept)
 pivots_below n [] h = All-nil (λ x. x < n)
-pivots_below n (k ∷ kept) h =
-    All-cons (λ x. x < n) k.pivot (map (λ r. r.pivot) kept) (All-head (IsKeptRow n) k kept h).below
-    (pivots_below n kept (All-tail (IsKeptRow n) k kept h))
+pivots_below {P = P} n (k ∷ kept) h =
+    All-cons (λ x. x < n) k.pivot (map (λ r. r.pivot) kept) (All-head (IsKeptRowBy P n) k kept h).below
+    (pivots_below n kept (All-tail (IsKeptRowBy P n) k kept h))
 
-pub rank_at_most : (n : ℕ) (kept : List KeptRow) → AreTriangular n kept → length kept ≤ n
+pub rank_at_most : {P : ℤ → Type 0} (n : ℕ) (kept : List KeptRow) → AreTriangularBy P n kept → length kept ≤ n
 rank_at_most n kept h =
     let count = length-le_from_distinct_below (map (λ k. k.pivot) kept) n h.pivots
     (λ q has. below_from_any n (map (λ k. k.pivot) kept) q (pivots_below n kept h.rows) has) in
@@ -42,7 +84,7 @@ rank_at_most n kept h =
     omega arith
 
 -- a column without a pivot means fewer rows
-pub fewer_rows : (n : ℕ) (kept : List KeptRow) (c : ℕ) → AreTriangular n kept → c < n → row_with_pivot kept c ≡ None →
+pub fewer_rows : {P : ℤ → Type 0} (n : ℕ) (kept : List KeptRow) (c : ℕ) → AreTriangularBy P n kept → c < n → row_with_pivot kept c ≡ None →
     length kept < n
 fewer_rows n kept c h below free =
     let k : KeptRow = record { number = 0; reduce = []; pivot = c; entries = [] } in
@@ -53,73 +95,51 @@ fewer_rows n kept c h below free =
     let len = length-map kept (λ r. r.pivot) in
     omega arith
 
--- ---- sums with few terms
-
-pub sum_at_zeros : (row w : List ℤ) → ((i : ℕ) → i < length w → at_column w i ≡ pos 0) → Solves w row
-sum_at_zeros [] w h = refl
-sum_at_zeros (x ∷ row) [] h = refl
-sum_at_zeros (x ∷ row) (v ∷ w) h =
-    let here : v ≡ pos 0 = h 0 (omega arith) in
-    ap₂ (λ a b. x *ℤ a +ℤ b) here (sum_at_zeros row w (λ i below. h (suc i) (omega arith))) ∙ zero_times x
-  where
-    zero_times : (x : ℤ) → x *ℤ pos 0 +ℤ pos 0 ≡ pos 0
-    zero_times x = omega (arith, ints)
-
--- if the row is 0 before a column and the numbers are behind it
-pub only_term : (row w : List ℤ) (c : ℕ) → ((j : ℕ) → j < c → at_column row j ≡ pos 0) →
-    ((j : ℕ) → c < j → at_column w j ≡ pos 0) → sum_of_products row w ≡ at_column row c *ℤ at_column w c
-only_term [] w c h k = omega (arith, ints)
-only_term (x ∷ row) [] c h k = omega (arith, ints)
-only_term (x ∷ row) (v ∷ w) zero h k =
-    ap (λ z. x *ℤ v +ℤ z) (sum_at_zeros row w (λ i below. k (suc i) (omega arith))) ∙ plus_zero (x *ℤ v)
-  where
-    plus_zero : (z : ℤ) → z +ℤ pos 0 ≡ z
-    plus_zero z = omega (arith, ints)
-only_term (x ∷ row) (v ∷ w) (suc c) h k =
-    let here : x ≡ pos 0 = h 0 (omega arith) in
-    ap₂ (λ a b. a *ℤ v +ℤ b) here
-    (only_term row w c (λ j below. h (suc j) (omega arith)) (λ j above. k (suc j) (omega arith)))
-    ∙ zero_plus v (at_column row c *ℤ at_column w c)
-  where
-    zero_plus : (v z : ℤ) → pos 0 *ℤ v +ℤ z ≡ z
-    zero_plus v z = omega (arith, ints)
-
 -- ---- as many rows as columns
 
-zero_at : (n : ℕ) (kept : List KeptRow) (w : List ℤ) (c : ℕ) → AreTriangular n kept → length kept ≡ n → c < n →
-    SolvesKept w kept → ((j : ℕ) → c < j → at_column w j ≡ pos 0) → (o : Option KeptRow) → row_with_pivot kept c ≡ o →
-    at_column w c ≡ pos 0
-zero_at n kept w c h len below solved none None free = absurd (omega (arith, fewer_rows n kept c h below free))
-zero_at n kept w c h len below solved none (Some k) found =
-    let (is, at) = kept_row_at n kept c k h found in
-    let zero_before : (j : ℕ) → j < c → at_column k.entries j ≡ pos 0 =
-    λ j before. is.zero_before j (subst (λ (i : ℕ). j < i) (sym at) before) in
-    let positive : pos 0 <ℤ at_column k.entries c = subst (λ (i : ℕ). pos 0 <ℤ at_column k.entries i) at is.positive in
-    let sum : sum_of_products k.entries w ≡ pos 0 =
-    (find_has (λ r. Solves w r.entries) (λ r. eqb r.pivot c) kept k solved found).0 in
-    cancel (at_column k.entries c) (at_column w c) positive (sym (only_term k.entries w c zero_before none) ∙ sum)
-  where
-    cancel : (x v : ℤ) → pos 0 <ℤ x → x *ℤ v ≡ pos 0 → v ≡ pos 0
-    cancel x v some e =
-        let zero_times : x *ℤ pos 0 ≡ pos 0 = omega (arith, ints) in
-        let apart : unsigned_abs x ≢ 0 = omega (arith, ints) in
-        mul_cancel_left_z v (pos 0) x (e ∙ sym zero_times) apart
+no_row : KeptRow
+no_row = record { number = 0; reduce = []; pivot = 0; entries = [] }
 
--- from the greatest column down
-zeros_from : (n : ℕ) (kept : List KeptRow) (w : List ℤ) (m c : ℕ) → AreTriangular n kept → length kept ≡ n →
-    length w ≡ n → SolvesKept w kept → c + m ≡ n → (j : ℕ) → c ≤ j → at_column w j ≡ pos 0
-zeros_from n kept w zero c h len columns solved whole j above =
-    get_or-eq_default w (pos 0) (omega arith)
-zeros_from n kept w (suc m) c h len columns solved whole j above =
-    let later : (i : ℕ) → c < i → at_column w i ≡ pos 0 =
-    λ i above. zeros_from n kept w m (c + 1) h len columns solved (omega arith) i (omega arith) in
-    by_place (zero_at n kept w c h len (omega arith) solved later (row_with_pivot kept c) refl) later
-    (cases_lt c j)
-  where
-    by_place : at_column w c ≡ pos 0 → ((i : ℕ) → c < i → at_column w i ≡ pos 0) → (c < j) ⊎ (j ≤ c) → at_column w j ≡ pos 0
-    by_place here later (inl l) = later j l
-    by_place here later (inr l) = subst (λ (i : ℕ). at_column w i ≡ pos 0) (le_antisymm above l) here
+-- they have their pivots in the sense of what counts as 0, if those of their kind are cancelled
+triangular_pivots : {P Z C : ℤ → Type 0} (h : CancelsZero Z C) (n : ℕ) (kept : List KeptRow) → ((x : ℤ) → P x → C x) →
+    AreTriangularBy P n kept → length kept ≡ n →
+    HavePivotsBy Z C n (λ g. (get_or kept g no_row).entries) (λ g. (get_or kept g no_row).pivot)
+triangular_pivots {P = P} {Z = Z} {C = C} h n kept cancelled all full =
+    let row = λ (g : ℕ) (low : g < n). All-get_or (IsKeptRowBy P n) kept g no_row (omega arith) all.rows in record {
+      within = λ g low. (row g low).below;
+      different = λ g i before low.
+          let pivots = map (λ k. k.pivot) kept in
+          let len = length-map kept (λ k. k.pivot) in
+          let apart : eqb (get_or pivots g 0) (get_or pivots i 0) ≡ false =
+          apart_from_distinct eqb pivots g i 0 all.pivots before (omega arith) in
+          let first : get_or pivots g 0 ≡ (get_or kept g no_row).pivot = get_or-map (λ k. k.pivot) kept g no_row 0 (omega arith) in
+          let second : get_or pivots i 0 ≡ (get_or kept i no_row).pivot = get_or-map (λ k. k.pivot) kept i no_row 0 (omega arith) in
+          not_from_Decides _ (Decides-eqb (get_or kept g no_row).pivot (get_or kept i no_row).pivot)
+          (ap₂ eqb (sym first) (sym second) ∙ apart);
+      zero_before = λ g c low before. subst Z (sym ((row g low).zero_before c before)) h.none;
+      at_pivot = λ g low. cancelled (at_column (get_or kept g no_row).entries (get_or kept g no_row).pivot) (row g low).at_pivot;
+    }
 
-pub all_zero : (n : ℕ) (kept : List KeptRow) (w : List ℤ) → AreTriangular n kept → length kept ≡ n → length w ≡ n →
-    SolvesKept w kept → (j : ℕ) → at_column w j ≡ pos 0
-all_zero n kept w h len columns solved j = zeros_from n kept w n 0 h len columns solved (omega arith) j (omega arith)
+pub full_leaves_zero : {P Z C : ℤ → Type 0} (h : CancelsZero Z C) (n : ℕ) (kept : List KeptRow) (w : List ℤ) →
+    ((x : ℤ) → P x → C x) → AreTriangularBy P n kept → length kept ≡ n → length w ≡ n →
+    All (λ k. Z (sum_of_products k.entries w)) kept → All Z w
+full_leaves_zero {Z = Z} h n kept w cancelled all full long solved =
+    only_zero h n (λ g. (get_or kept g no_row).entries) (λ g. (get_or kept g no_row).pivot) w
+    (triangular_pivots h n kept cancelled all full) long
+    (λ g low. All-get_or (λ k. Z (sum_of_products k.entries w)) kept g no_row (omega arith) solved)
+
+-- of whole numbers
+pub zeros_of : (n : ℕ) (kept : List KeptRow) (w : List ℤ) → AreTriangular n kept → length kept ≡ n → length w ≡ n →
+    SolvesKept w kept → All (λ x. x ≡ pos 0) w
+zeros_of n kept w = full_leaves_zero whole_cancels n kept w (λ x some e. absurd (omega (arith, ints)))
+
+-- so what solves them solves each row
+pub all_pivots_solve : (n : ℕ) (kept : List KeptRow) (w : List ℤ) → AreTriangular n kept → length kept ≡ n → length w ≡ n →
+    SolvesKept w kept → (row : List ℤ) → Solves w row
+all_pivots_solve n kept w h full long solved row =
+    no_products whole_cancels row w
+    (λ d.
+    elim (cases_lt d (length w)) [
+      | inl low ↦ All-get_or (λ x. x ≡ pos 0) w d (pos 0) low (zeros_of n kept w h full long solved)
+      | inr past ↦ get_or_past w d (pos 0) past
+    ])

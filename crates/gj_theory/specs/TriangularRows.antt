@@ -12,17 +12,21 @@ Solves w row = sum_of_products row w ≡ pos 0
 abbrev pub SolvesKept : List ℤ → List KeptRow → Type 0
 SolvesKept w kept = All (λ k. Solves w k.entries) kept
 
--- a kept row of n columns: 0 before its pivot, and positive there
-pub record IsKeptRow (n : ℕ) (k : KeptRow) : Type 0 where
+-- a kept row of n columns: 0 before its pivot, and of this kind there
+pub record IsKeptRowBy (is_pivot : ℤ → Type 0) (n : ℕ) (k : KeptRow) : Type 0 where
   pub columns : length k.entries ≡ n
   pub below : k.pivot < n
   pub zero_before : (j : ℕ) → j < k.pivot → at_column k.entries j ≡ pos 0
-  pub positive : pos 0 <ℤ at_column k.entries k.pivot
+  pub at_pivot : is_pivot (at_column k.entries k.pivot)
 
 -- kept rows of n columns, no two with one pivot
-pub record AreTriangular (n : ℕ) (kept : List KeptRow) : Type 0 where
-  pub rows : All (IsKeptRow n) kept
+pub record AreTriangularBy (is_pivot : ℤ → Type 0) (n : ℕ) (kept : List KeptRow) : Type 0 where
+  pub rows : All (IsKeptRowBy is_pivot n) kept
   pub pivots : IsDistinct (λ a b. a == b) (map (λ k. k.pivot) kept)
+
+-- of whole numbers: positive at their pivots
+abbrev pub AreTriangular : ℕ → List KeptRow → Type 0
+AreTriangular n kept = AreTriangularBy (λ x. pos 0 <ℤ x) n kept
 
 -- the row after the steps at these columns, each by the kept row with its pivot there
 abbrev pub present_row_by : Arithmetic → List KeptRow → List ℤ → List ℕ → List ℤ

@@ -1,5 +1,4 @@
-use Rattle.gj_theory.proofs.Triangular.{rank_at_most}
-use Rattle.gj_theory.proofs.Eliminations.{zeros_of}
+use Rattle.gj_theory.proofs.Triangular.{rank_at_most, zeros_of}
 use Rattle.gj_theory.proofs.elimination.all_pivots_leave_zero.Goals as goal
 
 pub returns-clause-rank : goal.returns-clause-rank

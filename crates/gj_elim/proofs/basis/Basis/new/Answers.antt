@@ -2,7 +2,7 @@ use Rattle.std.proofs.Common.{List, length, ap, ap₂, sym, subst, ◌∙◌}
 use Rattle.std.specs.Prelude.{All}
 use Rattle.std.proofs.lemmas.List.Elements.{All-nil}
 use Rattle.gj_theory.specs.TriangularRows.{AreTriangular}
-use Rattle.gj_theory.proofs.Eliminations.{no_rows_triangular}
+use Rattle.gj_theory.proofs.Triangular.{no_rows_triangular}
 use Rattle.gj_frac.specs.Fraction.{Fits}
 use Rattle.gj_elim.specs.KeptRows.{kept_rows}
 use Rattle.gj_elim.specs.declared.log.LogRow.{LogRow}

@@ -1,12 +1,12 @@
 use Rattle.std.proofs.Common.{ap, length, sym, ◌∙◌, arith}
-use Rattle.gj_theory.proofs.ResidueElimination.{residue_rank_at_most}
+use Rattle.gj_theory.proofs.Triangular.{rank_at_most}
 use Rattle.gj_residue.specs.Rows.{kept_residues}
 use Rattle.gj_residue.proofs.Inserting.{length-kept_residues}
 use Rattle.gj_residue.proofs.basis.ResidueBasis.rank.Goals as goal
 
 pub overflow_cast-result : goal.overflow_cast-result
 overflow_cast-result c =
-    let most = residue_rank_at_most c.self.inside.columns (kept_residues c.self.inside.log.items c.self.inside.rows.items)
+    let most = rank_at_most c.self.inside.columns (kept_residues c.self.inside.log.items c.self.inside.rows.items)
     c.self.invariant.triangular in
     let same = length-kept_residues c.self.inside.log.items c.self.inside.rows.items c.self.invariant.lines in
     let len = c.self.inside.log.ok.0 in
