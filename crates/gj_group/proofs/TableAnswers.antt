@@ -16,6 +16,7 @@ use Rattle.gj_shape.specs.Table.{table, IsMinimal, IsMinimalOnGrid}
 use Rattle.gj_shape.specs.declared.violations.Violation.{Violation}
 use Rattle.gj_shape.specs.declared.extremality.Halves.{Halves}
 use Rattle.gj_theory.proofs.Eliminations.{elimination_has}
+use Rattle.gj_theory.proofs.SoundArithmetic.{whole_sound}
 use Rattle.gj_theory.proofs.Fillings.{halves_deny}
 use Rattle.gj_theory.proofs.Kernels.{kernel_none}
 use Rattle.gj_theory.specs.Halves.{AreDifferentHalves}
@@ -96,7 +97,7 @@ pub plain_narrow : (n : ℕ) (rows : List (List ℤ)) → All (λ row. length ro
 plain_narrow n rows lengths narrow full (insertion_passes passes fewer) = narrow passes
 plain_narrow n rows lengths narrow full (kernel_passes short s is passes) =
     none_some (kernel n (elimination n rows).kept) s
-    ((kernel_none n (elimination n rows).kept (elimination_has n rows lengths).triangular).1 full) is
+    ((kernel_none n (elimination n rows).kept (elimination_has whole_sound n rows lengths).triangular).1 full) is
   where
     none_some : (o : Option Solution) (s : Solution) → o ≡ None → o ≡ Some s → ⊥
     none_some o s none some = absurd cc
