@@ -1,5 +1,5 @@
 -- How many lines there are of some things.
-use Rattle.std.proofs.Common.{◌≡◌, ℕ, suc, ◌+◌, List, [], ◌∷◌, ◌++◌, length, refl, ap, arith}
+use Rattle.std.proofs.Common.{◌≡◌, ℕ, suc, ◌+◌, List, [], ◌∷◌, length, refl, ap, arith}
 use Rattle.std.proofs.lemmas.List.{length-append}
 use Rattle.gj_shape.specs.declared.extremality.CoverLine.{CoverLine}
 use Rattle.gj_proof.specs.ProofText.{ProofLine, OwnLine, group_line, pivot_line, row_line, terms_of, term_lines, row_lines, covered_lines, reduction_lines, group_lines}
