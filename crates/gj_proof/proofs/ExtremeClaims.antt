@@ -3,7 +3,7 @@ use Rattle.std.proofs.Common.{◌≡◌, ℕ, List, ◌++◌, codes}
 use Rattle.gj_shape.specs.FunctionData.{FunctionData, IsWithinBounds}
 use Rattle.gj_shape.specs.declared.extremality.CoverLine.{CoverLine}
 use Rattle.gj_lines.specs.FunctionLines.{line, AreFunctionLines}
-use Rattle.gj_proof.specs.ProofText.{extreme_claim, title_text, extreme_lines, AreExtremeLines, IsBounded, HasText, IsProofText}
+use Rattle.gj_proof.specs.ProofText.{extreme_claim, title_text, extreme_lines, AreExtremeLines, IsBounded, IsProofText}
 use Rattle.gj_proof.specs.declared.numbers.Numbers.{Numbers}
 use Rattle.gj_proof.specs.declared.numbers.Numbers.TheVariants.{Whole, Residues}
 use Rattle.gj_proof.specs.declared.pivot.PivotRow.{PivotRow}
@@ -33,7 +33,3 @@ module _ (f : FunctionData) (lines : List CoverLine) (rows : List PivotRow) wher
   pub extreme_is_bounded : (n : Numbers) → IsWithinBounds f → IsBounded (extreme_claim n f lines rows)
   extreme_is_bounded Whole b = b
   extreme_is_bounded Residues b = b
-
-  pub extreme_has_text : (n : Numbers) → HasText (extreme_claim n f lines rows) → AreExtremeLines f lines rows
-  extreme_has_text Whole h = h
-  extreme_has_text Residues h = h

@@ -1,5 +1,5 @@
--- The text of claims of extremality, written one part after another.
-use Rattle.std.proofs.Common.{◌≡◌, ℕ, ◌+◌, ◌<◌, min, ℤ, pos, Option, Some, Result, OnOk, IfSome, List, [], ◌∷◌, ◌++◌, length, take, flat_map, zip, codes, get_or, sym, ap, subst, ◌∙◌, arith}
+-- The lines of claims of extremality, written one part after another.
+use Rattle.std.proofs.Common.{◌≡◌, ℕ, ◌+◌, ◌<◌, min, ℤ, pos, Option, Some, Result, OnOk, IfSome, List, [], ◌∷◌, ◌++◌, length, take, flat_map, zip, get_or, sym, ap, subst, ◌∙◌, arith}
 use Rattle.std.specs.Fmt.{signed_decimal}
 use Rattle.std.proofs.Math.Seq.{take-length}
 use Rattle.std.proofs.lemmas.Grind.{flat_map-append}
@@ -9,19 +9,13 @@ use Rattle.std.proofs.lemmas.Slice.Zip.{length-zip, get_or-zip}
 use Rattle.gj_frac.specs.Fraction.{IsRatio, Fits}
 use Rattle.gj_frac.specs.declared.Frac.{Frac}
 use Rattle.gj_lex.specs.NumberText.{fraction_text}
-use Rattle.gj_shape.specs.FunctionData.{FunctionData}
 use Rattle.gj_shape.specs.declared.extremality.CoverLine.{CoverLine}
-use Rattle.gj_shape.specs.declared.extremality.Halves.{Halves}
 use Rattle.gj_lines.specs.FaceLines.{cover_line}
-use Rattle.gj_lines.specs.FunctionLines.{line, AreFunctionLines}
-use Rattle.gj_proof.specs.ProofText.{extreme_claim, title_text, modulus_lines, pair_line, HasText, IsProofText}
-use Rattle.gj_proof.specs.ExtremeTexts.{group_text, halves_text}
-use Rattle.gj_proof.specs.declared.claim.Claim.TheVariants.{NotExtreme}
+use Rattle.gj_proof.specs.ProofText.{modulus_lines, extreme_lines, pair_line}
+use Rattle.gj_proof.specs.ExtremeTexts.{group_text}
 use Rattle.gj_proof.specs.declared.numbers.Numbers.{Numbers}
-use Rattle.gj_proof.specs.declared.numbers.Numbers.TheVariants.{Whole}
 use Rattle.gj_proof.specs.declared.pivot.PivotRow.{PivotRow}
-use Rattle.gj_proof.proofs.ExtremeClaims.{extreme_text, extreme_has_text}
-use Rattle.gj_proof.proofs.ExtremeLines.{extreme_bytes, halves_bytes}
+use Rattle.gj_proof.proofs.ExtremeLines.{extreme_bytes}
 use Rattle.gj_proof.proofs.LineLists.{bytes}
 use Rattle.gj_proof.proofs.WholeNumbers.{text_of_ratio}
 
@@ -57,40 +51,16 @@ pairs_pushed first second n start new n_is new_is =
     new_is ∙ ap (λ ps. start ++ flat_map pair_line ps)
     (ap (λ k. take k (zip first second)) (n_is ∙ sym (length-zip first second)) ∙ take-length (zip first second))
 
--- what a text of some function begins with
-abbrev StartsText : Numbers → FunctionData → List ℕ → List ℕ → Type 0
-StartsText n f word text =
-    (lines : List ℕ) × AreFunctionLines f lines × (text ≡ line (title_text n) ++ line (codes "claim " ++ word) ++ lines)
-
-pub extreme_written : (n : Numbers) (f : FunctionData) (cover : List CoverLine) (rows : List PivotRow)
-    (first second third fourth text : List ℕ) → HasText (extreme_claim n f cover rows) → StartsText n f (codes "extreme") first →
-    second ≡ first ++ flat_map cover_line cover → third ≡ second ++ bytes (modulus_lines n) → fourth ≡ third ++ flat_map group_text rows →
-    text ≡ fourth ++ codes "end\n" → IsProofText (extreme_claim n f cover rows) text
-extreme_written n f cover rows first second third fourth text has (lines, are, first_is) second_is third_is fourth_is text_is =
-    let front = line (title_text n) ++ line (codes "claim extreme") ++ lines in
+-- the lines of an extreme function, one part after another
+pub extreme_pushed : {E : Type 0} (r : Result (Unit {0}) E) (n : Numbers) (cover : List CoverLine) (rows : List PivotRow)
+    (start first second new : List ℕ) → first ≡ start ++ flat_map cover_line cover → second ≡ first ++ bytes (modulus_lines n) →
+    OnOk r (new ≡ second ++ flat_map group_text rows) → OnOk r (new ≡ start ++ bytes (extreme_lines n cover rows))
+extreme_pushed r n cover rows start first second new first_is second_is =
     let modulus = bytes (modulus_lines n) in
-    extreme_text f cover rows n text (record {
-      has_text = extreme_has_text f cover rows n has;
-      subject = lines;
-      are_subject_lines = are;
-      spelled = text_is
-          ∙ ap (λ t. t ++ line (codes "end"))
-          (fourth_is ∙ ap (λ t. t ++ flat_map group_text rows)
-          (third_is ∙ ap (λ t. t ++ modulus) (second_is ∙ ap (λ t. t ++ flat_map cover_line cover) first_is))
-          ∙ regroup front (flat_map cover_line cover) modulus (flat_map group_text rows))
-          ∙ ap (λ t. front ++ t ++ line (codes "end")) (sym (extreme_bytes n cover rows));
-    })
+    on_ok_weaker r (λ e. e
+    ∙ ap (λ t. t ++ flat_map group_text rows) (second_is ∙ ap (λ t. t ++ modulus) first_is)
+    ∙ regroup start (flat_map cover_line cover) modulus (flat_map group_text rows)
+    ∙ ap (λ t. start ++ t) (sym (extreme_bytes n cover rows)))
   where
     regroup : (a b c d : List ℕ) → a ++ b ++ c ++ d ≡ a ++ (b ++ (c ++ d))
     regroup a b c d = simp append_assoc
-
-pub not_extreme_written : (f : FunctionData) (h : Halves) (first second text : List ℕ) → HasText (NotExtreme f h) →
-    StartsText Whole f (codes "not-extreme") first → second ≡ first ++ halves_text h → text ≡ second ++ codes "end\n" →
-    IsProofText (NotExtreme f h) text
-not_extreme_written f h first second text has (lines, are, first_is) second_is text_is = record {
-  has_text = has;
-  subject = lines;
-  are_subject_lines = are;
-  spelled = text_is ∙ ap (λ t. t ++ line (codes "end")) (second_is ∙ ap (λ t. t ++ halves_text h) first_is)
-      ∙ ap (λ t. line (codes "gj-proof 1") ++ line (codes "claim not-extreme") ++ lines ++ t ++ line (codes "end")) (sym (halves_bytes h));
-}

@@ -22,6 +22,7 @@ pub mod OwnLines
 pub mod ExtremeRead
 pub mod HalvesWords
 pub mod ExtremeWritten
-pub mod CutWritten
+pub mod ProofWritten
 pub mod GridCoordinates
 pub mod AtPlaces
+pub mod LineCounts

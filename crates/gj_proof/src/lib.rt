@@ -32,7 +32,11 @@ pub use laws::{
     extreme_proof_text_is_short, no_fault_in_proof_text, numbers_of_lines, one_first_fault,
     one_spelling, proof_text_is_short, proof_texts_are_read,
 };
-pub use layout::{CLAIM_LINE, first_group_line, line_behind_function, line_behind_rule};
+pub use layout::{
+    CLAIM_LINE, first_group_line, line_behind_covers, line_behind_function, line_behind_group,
+    line_behind_row, line_behind_rule, line_below, line_of_pair, lines_with_steps,
+    lines_with_terms,
+};
 pub use numbers::{MODULUS, Numbers};
 pub use pivot::PivotRow;
 pub use read::read_proof;

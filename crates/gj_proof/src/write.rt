@@ -1,131 +1,92 @@
 //! Proof texts, printed.
 
 ghost use Rattle.std.specs.Prelude.{◌≡◌, ◌++◌, ℕ, List, codes, flat_map, IfOk, OnOk};
-ghost use Rattle.gj_proof.specs.declared.claim.Claim.TheVariants.{Minimal, NotMinimal, Cut, NotExtreme};
-ghost use Rattle.gj_lines.specs.FunctionLines.{line, AreFunctionLines};
-ghost use Rattle.gj_proof.specs.ProofText.{violation_line, title_text, extreme_claim, modulus_lines, HasText, IsProofText};
+ghost use Rattle.gj_lines.specs.FunctionLines.{line};
+ghost use Rattle.gj_proof.specs.ProofText.{subject_of, numbers_of as claim_numbers, AreSubjectLines, title_text, claim_word, violation_line, own_lines, HasText, IsProofText};
 
 use crate::claim::{Claim, Proof};
-use crate::cut::{CutLine, CutRule};
-use crate::numbers::{MODULUS, Numbers};
-use crate::pivot::PivotRow;
+use crate::numbers::Numbers;
 use crate::write_cuts::{push_rows, push_rule_lines};
-use crate::write_extreme::{push_groups, push_halves, push_whole_line};
+use crate::write_extreme::{push_extreme_lines, push_halves};
 use gj_lex::print_frac;
-use gj_lines::{push_cover_lines, push_fraction_line, push_function_lines};
-use gj_shape::{CoverLine, Halves, Shape, Violation};
+use gj_lines::{push_fraction_line, push_function_lines};
+use gj_shape::Violation;
 use std::alloc::{AllocError, Global};
 
 /// The one text of the proof.
 pub fn write_proof(alloc: Global, proof: &Proof) -> Result<Vec<u8>, AllocError>
     ensures { IfOk result (λ text. IsProofText proof.now text.items) }
 {
-    match proof.claim() {
-        Claim::Minimal(shape) => write_minimal(alloc, shape),
-        Claim::NotMinimal(shape, violation) => write_not_minimal(alloc, shape, *violation),
-        Claim::Cut(rule, rows) => write_cut(alloc, rule, rows.as_slice()),
-        Claim::Extreme(shape, lines, rows) => {
-            write_extreme(
-                alloc,
-                Numbers::Whole,
-                shape,
-                lines.as_slice(),
-                rows.as_slice(),
-            )
-        }
-        Claim::ExtremeByResidues(shape, lines, rows) => write_extreme(
-            alloc,
-            Numbers::Residues,
-            shape,
-            lines.as_slice(),
-            rows.as_slice(),
-        ),
-        Claim::NotExtreme(shape, halves) => write_not_extreme(alloc, shape, halves),
+    let claim = proof.claim();
+    let mut text = start_text(alloc, claim)?;
+    push_subject(alloc, &mut text, claim)?;
+    push_own_lines(alloc, &mut text, claim)?;
+    text.extend_from_slice(b"end\n")?;
+    Ok(text)
+}
+
+/// The first two lines of a proof text: its title and the word of its claim.
+fn start_text(alloc: Global, claim: &Claim) -> Result<Vec<u8>, AllocError>
+    ensures { IfOk result (λ text. text.items ≡ line (title_text (claim_numbers claim.now)) ++ line (codes "claim " ++ claim_word claim.now)) }
+{
+    let mut text = Vec::new(alloc);
+    text.extend_from_slice(title(numbers_of(claim)))?;
+    text.extend_from_slice(b"\nclaim ")?;
+    text.extend_from_slice(claim.word().as_bytes())?;
+    text.push(b'\n')?;
+    Ok(text)
+}
+
+/// The numbers of the rows of a claim.
+fn numbers_of(claim: &Claim) -> Numbers
+    ensures { result ≡ claim_numbers claim.now }
+{
+    match claim {
+        Claim::ExtremeByResidues(_, _, _) => Numbers::Residues,
+        _ => Numbers::Whole,
     }
 }
 
-/// The proof text of the claim that the function is minimal.
-fn write_minimal(alloc: Global, shape: &Shape) -> Result<Vec<u8>, AllocError>
-    ensures { IfOk result (λ text. IsProofText (Minimal shape.now) text.items) }
+/// Appends the lines of the subject of a claim: those of its function, or of its rule.
+fn push_subject(alloc: Global, out: &mut Vec<u8>, claim: &Claim) -> Result<(), AllocError>
+    ensures { OnOk result ((lines : List ℕ) × AreSubjectLines (subject_of claim.now) lines
+        × (out.new.items ≡ out.old.items ++ lines)) }
 {
-    let mut text = start_text(alloc, Numbers::Whole, b"minimal", shape)?;
-    text.extend_from_slice(b"end\n")?;
-    Ok(text)
+    match claim {
+        Claim::Minimal(shape)
+        | Claim::NotMinimal(shape, _)
+        | Claim::Extreme(shape, _, _)
+        | Claim::ExtremeByResidues(shape, _, _)
+        | Claim::NotExtreme(shape, _) => push_function_lines(alloc, out, shape),
+        Claim::Cut(rule, _) => push_rule_lines(alloc, out, rule),
+    }
 }
 
-/// The proof text of the claim that the function is not minimal, as the violation shows.
-fn write_not_minimal(
-    alloc: Global,
-    shape: &Shape,
-    violation: Violation,
-) -> Result<Vec<u8>, AllocError>
-    ensures { IfOk result (λ text. IsProofText (NotMinimal shape.now violation) text.items) }
+/// Appends the lines of a claim's own, between those of its subject and the last.
+fn push_own_lines(alloc: Global, out: &mut Vec<u8>, claim: &Claim) -> Result<(), AllocError>
+    requires { HasText claim.now }
+    ensures { OnOk result (out.new.items ≡ out.old.items ++ flat_map (λ l. l.bytes) (own_lines claim.now)) }
 {
-    let mut text = start_text(alloc, Numbers::Whole, b"not-minimal", shape)?;
-    push_violation_line(alloc, &mut text, violation)?;
-    text.extend_from_slice(b"end\n")?;
-    Ok(text)
-}
-
-/// The proof text of the claim about these cuts by this rule.
-fn write_cut(alloc: Global, rule: &CutRule, rows: &[CutLine]) -> Result<Vec<u8>, AllocError>
-    ensures { IfOk result (λ text. IsProofText (Cut rule.now rows.now) text.items) }
-{
-    let mut text = Vec::new(alloc);
-    text.extend_from_slice(b"gj-proof 1\nclaim cut\n")?;
-    push_rule_lines(alloc, &mut text, rule)?;
-    push_rows(alloc, &mut text, rows)?;
-    text.extend_from_slice(b"end\n")?;
-    Ok(text)
-}
-
-/// The proof text of the claim that the function is extreme, as the lines and the rows of these numbers show.
-fn write_extreme(
-    alloc: Global,
-    numbers: Numbers,
-    shape: &Shape,
-    lines: &[CoverLine],
-    rows: &[PivotRow],
-) -> Result<Vec<u8>, AllocError>
-    requires { HasText (extreme_claim numbers shape.now lines.now rows.now) }
-    ensures { IfOk result (λ text. IsProofText (extreme_claim numbers shape.now lines.now rows.now) text.items) }
-{
-    let mut text = start_text(alloc, numbers, b"extreme", shape)?;
-    push_cover_lines(&mut text, lines)?;
-    push_modulus(alloc, &mut text, numbers)?;
-    push_groups(&mut text, rows)?;
-    text.extend_from_slice(b"end\n")?;
-    Ok(text)
-}
-
-/// The proof text of the claim that the function is not extreme, as the halves show.
-fn write_not_extreme(alloc: Global, shape: &Shape, halves: &Halves) -> Result<Vec<u8>, AllocError>
-    requires { HasText (NotExtreme shape.now halves.now) }
-    ensures { IfOk result (λ text. IsProofText (NotExtreme shape.now halves.now) text.items) }
-{
-    let mut text = start_text(alloc, Numbers::Whole, b"not-extreme", shape)?;
-    push_halves(alloc, &mut text, halves)?;
-    text.extend_from_slice(b"end\n")?;
-    Ok(text)
-}
-
-/// The first lines of a proof text: its form, its claim and the lines of the function.
-fn start_text(
-    alloc: Global,
-    numbers: Numbers,
-    claim: &[u8],
-    shape: &Shape,
-) -> Result<Vec<u8>, AllocError>
-    ensures { IfOk result (λ text. (lines : List ℕ) × AreFunctionLines shape.now lines
-        × (text.items ≡ line (title_text numbers) ++ line (codes "claim " ++ claim.now) ++ lines)) }
-{
-    let mut text = Vec::new(alloc);
-    text.extend_from_slice(title(numbers))?;
-    text.extend_from_slice(b"\nclaim ")?;
-    text.extend_from_slice(claim)?;
-    text.push(b'\n')?;
-    push_function_lines(alloc, &mut text, shape)?;
-    Ok(text)
+    match claim {
+        Claim::Minimal(_) => Ok(()),
+        Claim::NotMinimal(_, violation) => push_violation_line(alloc, out, *violation),
+        Claim::Cut(_, rows) => push_rows(alloc, out, rows.as_slice()),
+        Claim::Extreme(_, lines, rows) => push_extreme_lines(
+            alloc,
+            out,
+            Numbers::Whole,
+            lines.as_slice(),
+            rows.as_slice(),
+        ),
+        Claim::ExtremeByResidues(_, lines, rows) => push_extreme_lines(
+            alloc,
+            out,
+            Numbers::Residues,
+            lines.as_slice(),
+            rows.as_slice(),
+        ),
+        Claim::NotExtreme(_, halves) => push_halves(alloc, out, halves),
+    }
 }
 
 /// The words of the first line of a proof text.
@@ -135,19 +96,6 @@ fn title(numbers: Numbers) -> &'static [u8]
     match numbers {
         Numbers::Whole => b"gj-proof 1",
         Numbers::Residues => b"gj-proof 2",
-    }
-}
-
-/// Appends the line of the modulus, by residues.
-fn push_modulus(alloc: Global, out: &mut Vec<u8>, numbers: Numbers) -> Result<(), AllocError>
-    ensures { OnOk result (out.new.items ≡ out.old.items ++ flat_map (λ l. l.bytes) (modulus_lines numbers)) }
-{
-    match numbers {
-        Numbers::Whole => Ok(()),
-        Numbers::Residues => {
-            out.extend_from_slice(b"modulus")?;
-            push_whole_line(alloc, out, MODULUS)
-        }
     }
 }
 

@@ -4,17 +4,48 @@ ghost use Rattle.std.specs.Fmt.{signed_decimal};
 ghost use Rattle.gj_frac.specs.Fraction.{Fits};
 ghost use Rattle.gj_shape.specs.Perturbation.{AreHalvesInBounds};
 ghost use Rattle.gj_lines.specs.FunctionLines.{line};
-ghost use Rattle.gj_proof.specs.ProofText.{group_line, reduction_line, halves_line, pair_line};
+ghost use Rattle.gj_proof.specs.ProofText.{group_line, reduction_line, modulus_lines, extreme_lines, halves_line, pair_line};
 ghost use Rattle.gj_proof.specs.ExtremeTexts.{group_text, halves_text};
 
+use crate::numbers::{MODULUS, Numbers};
 use crate::pivot::PivotRow;
 use gj_frac::Frac;
 use gj_lex::{print_count, print_frac};
-use gj_shape::{Halves, RowName};
+use gj_lines::push_cover_lines;
+use gj_shape::{CoverLine, Halves, RowName};
 use std::alloc::{AllocError, Global};
 
+/// Appends the lines of a proof that a function is extreme by rows of these numbers: those of the covered intervals, that of
+/// the modulus, and those of the groups.
+pub(crate) fn push_extreme_lines(
+    alloc: Global,
+    out: &mut Vec<u8>,
+    numbers: Numbers,
+    lines: &[CoverLine],
+    rows: &[PivotRow],
+) -> Result<(), AllocError>
+    ensures { OnOk result (out.new.items ≡ out.old.items ++ flat_map (λ l. l.bytes) (extreme_lines numbers lines.now rows.now)) }
+{
+    push_cover_lines(out, lines)?;
+    push_modulus(alloc, out, numbers)?;
+    push_groups(out, rows)
+}
+
+/// Appends the line of the modulus, by residues.
+fn push_modulus(alloc: Global, out: &mut Vec<u8>, numbers: Numbers) -> Result<(), AllocError>
+    ensures { OnOk result (out.new.items ≡ out.old.items ++ flat_map (λ l. l.bytes) (modulus_lines numbers)) }
+{
+    match numbers {
+        Numbers::Whole => Ok(()),
+        Numbers::Residues => {
+            out.extend_from_slice(b"modulus")?;
+            push_whole_line(alloc, out, MODULUS)
+        }
+    }
+}
+
 /// Appends the lines of groups.
-pub(crate) fn push_groups(out: &mut Vec<u8>, rows: &[PivotRow]) -> Result<(), AllocError>
+fn push_groups(out: &mut Vec<u8>, rows: &[PivotRow]) -> Result<(), AllocError>
     ensures { OnOk result (out.new.items ≡ out.old.items ++ flat_map group_text rows.now) }
 {
     for row in rows {
@@ -122,7 +153,7 @@ fn push_pair(alloc: Global, out: &mut Vec<u8>, x: i128, y: i128) -> Result<(), A
 }
 
 /// Appends a space, a whole number and the end of the line.
-pub(crate) fn push_whole_line(alloc: Global, out: &mut Vec<u8>, n: i128) -> Result<(), AllocError>
+fn push_whole_line(alloc: Global, out: &mut Vec<u8>, n: i128) -> Result<(), AllocError>
     requires { Fits n }
     ensures { OnOk result (out.new.items ≡ out.old.items ++ line (codes " " ++ signed_decimal n)) }
 {

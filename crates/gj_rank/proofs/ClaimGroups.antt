@@ -24,6 +24,7 @@ use Rattle.gj_proof.specs.ProofText.Subject.{function}
 use Rattle.gj_proof.specs.ProofText.ProofLine.{point}
 use Rattle.gj_proof.specs.Rules.{Demand, AtIndex, MeetsRow, MeetsReduce, MeetsSize, MeetsPivotBy, size_demands, step_demands_by, group_demands_by, line_of, Holds}
 use Rattle.gj_proof.specs.Rules.Demand.{row, reduce, size, pivot}
+use Rattle.gj_proof.proofs.LineCounts.{length-covered}
 use Rattle.gj_proof.proofs.LineNumbers.{number_of_own}
 use Rattle.gj_theory.proofs.RiseCounts.{rises_more}
 use Rattle.gj_rank.specs.declared.failure.GroupFailure.{GroupFailure}
@@ -219,10 +220,6 @@ pub record FirstGroupFails (numbers : Numbers) (f : FunctionData) (lines : List 
   pub rule_is : IsRuleOf failure.rule demand
   pub number : HasNumber (extreme_claim numbers f lines rows) (line_of demand)
       (f.order + length lines + 5 + length (modulus_lines numbers) + failure.below)
-
-pub length-covered : (i : ℕ) (lines : List CoverLine) → length (covered_lines i lines) ≡ length lines
-length-covered i [] = refl
-length-covered i (l ∷ lines) = ap suc (length-covered (i + 1) lines)
 
 -- the number of a line of the claim's own
 pub number_in_extreme : (numbers : Numbers) (f : FunctionData) (lines : List CoverLine) (rows : List PivotRow) (a b : List OwnLine)

@@ -23,6 +23,7 @@ use Rattle.gj_rank.specs.Groups.{GroupHolds, IsRuleOf, IsFirstGroupFailure}
 use Rattle.gj_rank.specs.GroupOutcomes.{stepped, HasSize, FailsStep, MeetsStepBehind, FailsGroup}
 use Rattle.gj_rank.specs.GroupOutcomes.FailsGroup.{at_row, at_step, at_pivot}
 use Rattle.gj_proof.proofs.AtPlaces.{at_index, split_there}
+use Rattle.gj_proof.proofs.LineCounts.{length-reductions}
 use Rattle.gj_rank.proofs.GroupsInTurn.{MeetsBehind, count_of}
 
 -- ---- the first of some demands that fails
@@ -200,10 +201,6 @@ all_groups_hold numbers f component n rows h =
     groups_hold numbers (GroupHolds numbers f component n rows) 0 rows (λ g. all_hold_at numbers f component n rows g (h g))
 
 -- ---- the lines of groups
-
-pub length-reductions : (g r : ℕ) (columns : List ℕ) → length (reduction_lines g r columns) ≡ length columns
-length-reductions g r [] = refl
-length-reductions g r (c ∷ columns) = ap suc (length-reductions g (r + 1) columns)
 
 reductions_split : (g r m : ℕ) (front : List ℕ) (c : ℕ) (back : List ℕ) → m ≡ r + length front →
     reduction_lines g r (front ++ c ∷ back)

@@ -17,7 +17,7 @@ pub enum GroupRule {
 #[derive(Clone, Copy, Debug, PartialEq, Eq)]
 pub struct GroupFailure {
     /// How many lines below the first line of the groups it fails.
-    pub below: usize,
+    pub below: u64,
     /// The rule.
     pub rule: GroupRule,
 }

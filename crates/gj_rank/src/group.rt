@@ -12,7 +12,7 @@ ghost use Rattle.gj_rank.specs.GroupOutcomes.{IsStepOutcome, IsStepsOutcome, IsG
 use crate::failure::{GroupFailure, GroupRule};
 use crate::modulo::inverse_modulo;
 use crate::step::reduce;
-use gj_proof::{Numbers, PivotRow};
+use gj_proof::{Numbers, PivotRow, lines_with_steps};
 use gj_shape::{List, RowName, Shape};
 
 /// The first rule that fails in a group, if the row is that of its name; none if all hold, and then the row is as its steps
@@ -43,7 +43,7 @@ pub(crate) fn failure_in_group(
     }
     if !meets_pivot_by(numbers, table, row, group.pivot) {
         return Some(GroupFailure {
-            below: columns.len() + 1,
+            below: lines_with_steps(columns),
             rule: GroupRule::Pivot,
         });
     }
@@ -97,7 +97,7 @@ fn failure_in_steps(
     for (place, column) in columns.iter().enumerate() {
         if let Some(rule) = failure_in_step(numbers, table, row, *column) {
             return Some(GroupFailure {
-                below: place + 1,
+                below: lines_with_steps(&columns[..place]),
                 rule,
             });
         }

@@ -1,5 +1,5 @@
 //! The rules on all groups, in the order of their lines.
-ghost use Rattle.std.specs.Prelude.{◌≡◌, ◌+◌, ◌<◌, length, map, All, IfOk};
+ghost use Rattle.std.specs.Prelude.{◌≡◌, ◌<◌, length, map, All, IfOk};
 ghost use Rattle.std.specs.List.{range_with_len};
 ghost use Rattle.std.specs.declared.option.Option.TheVariants.{None};
 ghost use Rattle.gj_shape.specs.SlopeRows.{component_in};
@@ -10,7 +10,7 @@ use crate::begin::begin_row;
 use crate::failure::GroupFailure;
 use crate::group::failure_in_group;
 use crate::keep::keep;
-use gj_proof::{Numbers, PivotRow};
+use gj_proof::{Numbers, PivotRow, line_behind_group, line_below};
 use gj_shape::{List, Shape};
 use std::alloc::{AllocError, Global};
 
@@ -63,12 +63,12 @@ fn failure_in_turn(
         begin_row(numbers, row, component, shape.place(), group.name);
         if let Some(failure) = failure_in_group(numbers, shape, table, row, group) {
             return Ok(Some(GroupFailure {
-                below: lines_behind(above, failure.below)?,
+                below: line_below(above, failure.below)?,
                 rule: failure.rule,
             }));
         }
         keep(alloc, numbers, table, row, group.pivot)?;
-        above = lines_behind(above, group.reduce.as_slice().len() + 2)?;
+        above = line_behind_group(above, group)?;
     }
     Ok(None)
 }
@@ -78,11 +78,4 @@ fn no_rows(alloc: Global, columns: u32) -> Result<Vec<Option<List<i128>>>, Alloc
     ensures { IfOk result (λ v. v.items ≡ map (λ i. None) (range_with_len 0 columns)) }
 {
     (0..columns).map(|_| None).collect(alloc)
-}
-
-/// So many lines and others behind them. A text with more lines than 2^64 - 1 does not fit any memory.
-fn lines_behind(lines: usize, others: usize) -> Result<usize, AllocError>
-    ensures { IfOk result (λ n. n ≡ lines + others) }
-{
-    lines.checked_add(others).ok_or(AllocError)
 }

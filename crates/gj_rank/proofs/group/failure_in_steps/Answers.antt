@@ -1,5 +1,6 @@
-use Rattle.std.proofs.Common.{refl, get_or, arith}
-use Rattle.std.proofs.lemmas.List.{get_or_default}
+use Rattle.std.proofs.Common.{get_or, take, arith}
+use Rattle.std.proofs.lemmas.List.{get_or_default, length-take-le}
+use Rattle.gj_proof.proofs.LineCounts.{length-reductions}
 use Rattle.gj_rank.proofs.StepsInTurn.{stepped_fails, stepped_more, stepped_all}
 use Rattle.gj_rank.proofs.group.failure_in_steps.Goals as goal
 
@@ -9,7 +10,7 @@ returns-in-Some-clause-outcome c kept rows =
     let r = c.loop-place.place in
     record {
       index = r;
-      below = refl;
+      below = let above = length-reductions 0 0 (take r columns) in let long = length-take-le r columns (omega arith) in let is = c.lines_with_steps.ensures in omega arith;
       fails = stepped_fails c.args.numbers kept c.args.row.now columns r (get_or columns r 0) c.loop-place.row c.in-Some.rule
           (c.loop-place.invariant.stepped kept rows) (omega arith) (get_or_default columns r 0 (get_or columns r 0) (omega arith))
           (c.in-Some.ensures.outcome kept rows);

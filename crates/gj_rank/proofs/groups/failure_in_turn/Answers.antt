@@ -4,6 +4,7 @@ use Rattle.gj_shape.specs.FunctionData.{FunctionData}
 use Rattle.gj_shape.specs.declared.extremality.RowName.{RowName}
 use Rattle.gj_rank.specs.GroupOutcomes.{FailsGroup, IsGroupOutcome}
 use Rattle.gj_proof.specs.declared.pivot.PivotRow.{PivotRow}
+use Rattle.gj_proof.proofs.LineCounts.{length-group}
 use Rattle.gj_rank.proofs.GroupDemands.{first_group_failure, all_groups_hold}
 use Rattle.gj_shape.specs.SlopeRows.{row_of, component_in}
 use Rattle.gj_proof.specs.PresentRows.{arithmetic_of, begun_row, rows_before_by}
@@ -58,13 +59,13 @@ returns-in-Some c =
     let rows = c.args.rows.now in
     let g = c.loop-group.group-index in
     let same : length c.begin_row.new.row ≡ n = c.begin_row.auto.row ∙ c.loop-group.auto.row in
-    first_group_failure c.args.numbers f component n rows g c.loop-group.above c.in_ok-lines_behind.field-0 c.group-item.result c.begin_row.new.row
+    first_group_failure c.args.numbers f component n rows g c.loop-group.above c.in_ok-line_below.field-0 c.group-item.result c.begin_row.new.row
     c.in-Some.failure c.loop-group.invariant.meet c.loop-group.invariant.above_is c.loop-group-test.true c.group-item.is
     (begun c.args.numbers f component n _ _ _ c.group-item.result.name c.begin_row.new.row c.begin_row.ensures c.loop-group.auto.row
     c.requires.order c.place.ensures.value)
     (subst (λ (m : ℕ). FailsGroup c.args.numbers f m (rows_before_by (arithmetic_of c.args.numbers) f component n (take g rows)) c.begin_row.new.row c.group-item.result c.in-Some.failure) same
     (c.in-Some.ensures.outcome (rows_before_by (arithmetic_of c.args.numbers) f component n (take g rows)) c.loop-group.invariant.rows_are))
-    c.in_ok-lines_behind.ensures
+    c.in_ok-line_below.ensures
 
 pub returns : goal.returns
 returns c =
@@ -91,4 +92,4 @@ loop-group-preserved c =
     (subst (λ (m : ℕ). IsGroupOutcome c.args.numbers f m kept c.begin_row.new.row c.group-item.result c.failure_in_group.new.row None) same
     (c.in_default.ensures.outcome kept c.loop-group.invariant.rows_are))
     c.in_ok-keep.ensures.table
-    (c.in_ok-above.ensures ∙ ap (λ xs. c.loop-group.above + (length xs + 2)) c.as_slice.ensures)
+    (c.in_ok-above.ensures ∙ ap (λ m. c.loop-group.above + m) (length-group 0 c.group-item.result))
