@@ -57,12 +57,17 @@ title_rule = record {
 
 -- ---- `claim W`
 
+-- the word behind `claim`
+abbrev pub word_text : ClaimWord → List ℕ
+word_text Minimal = codes "minimal"
+word_text NotMinimal = codes "not-minimal"
+word_text Cut = codes "cut"
+word_text (Extreme numbers) = codes "extreme"
+word_text NotExtreme = codes "not-extreme"
+
+-- the words of its line
 abbrev pub claim_words : ClaimWord → List (List ℕ)
-claim_words Minimal = codes "claim" ∷ codes "minimal" ∷ []
-claim_words NotMinimal = codes "claim" ∷ codes "not-minimal" ∷ []
-claim_words Cut = codes "claim" ∷ codes "cut" ∷ []
-claim_words (Extreme numbers) = codes "claim" ∷ codes "extreme" ∷ []
-claim_words NotExtreme = codes "claim" ∷ codes "not-extreme" ∷ []
+claim_words w = codes "claim" ∷ word_text w ∷ []
 
 -- the numbers of the texts in which a claim of the word stands
 abbrev pub numbers_of_word : ClaimWord → Numbers
@@ -71,14 +76,6 @@ numbers_of_word NotMinimal = Whole
 numbers_of_word Cut = Whole
 numbers_of_word (Extreme numbers) = numbers
 numbers_of_word NotExtreme = Whole
-
--- it is that of a claim that a function is extreme
-abbrev pub IsExtremeWord : ClaimWord → Type 0
-IsExtremeWord Minimal = ⊥
-IsExtremeWord NotMinimal = ⊥
-IsExtremeWord Cut = ⊥
-IsExtremeWord (Extreme numbers) = Unit {0}
-IsExtremeWord NotExtreme = ⊥
 
 -- in a text of these numbers
 abbrev pub claim_rule : Numbers → LineRule ClaimWord

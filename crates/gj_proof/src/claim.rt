@@ -34,13 +34,15 @@ impl Claim {
     pub fn word(&self) -> &'static str
         ensures { result.now ≡ claim_word self.now }
     {
-        match self {
-            Claim::Minimal(_) => "minimal",
-            Claim::NotMinimal(_, _) => "not-minimal",
-            Claim::Cut(_, _) => "cut",
-            Claim::Extreme(_, _, _) | Claim::ExtremeByResidues(_, _, _) => "extreme",
-            Claim::NotExtreme(_, _) => "not-extreme",
-        }
+        let word = match self {
+            Claim::Minimal(_) => ClaimWord::Minimal,
+            Claim::NotMinimal(_, _) => ClaimWord::NotMinimal,
+            Claim::Cut(_, _) => ClaimWord::Cut,
+            Claim::Extreme(_, _, _) => ClaimWord::Extreme(Numbers::Whole),
+            Claim::ExtremeByResidues(_, _, _) => ClaimWord::Extreme(Numbers::Residues),
+            Claim::NotExtreme(_, _) => ClaimWord::NotExtreme,
+        };
+        word.word()
     }
 }
 
@@ -53,6 +55,44 @@ pub(crate) enum ClaimWord {
     /// By rows of these numbers.
     Extreme(Numbers),
     NotExtreme,
+}
+
+impl ClaimWord {
+    ghost use Rattle.gj_proof.specs.ProofGrammar.{numbers_of_word, word_text};
+
+    /// The words of all claims.
+    pub const ALL: [ClaimWord; 6] = [
+        ClaimWord::Minimal,
+        ClaimWord::NotMinimal,
+        ClaimWord::Cut,
+        ClaimWord::Extreme(Numbers::Whole),
+        ClaimWord::Extreme(Numbers::Residues),
+        ClaimWord::NotExtreme,
+    ];
+
+    /// The word itself, as it stands behind `claim`.
+    pub fn word(self) -> &'static str
+        ensures { result.now ≡ word_text self }
+    {
+        match self {
+            ClaimWord::Minimal => "minimal",
+            ClaimWord::NotMinimal => "not-minimal",
+            ClaimWord::Cut => "cut",
+            ClaimWord::Extreme(_) => "extreme",
+            ClaimWord::NotExtreme => "not-extreme",
+        }
+    }
+
+    /// The numbers of the texts in which the word stands.
+    pub fn numbers(self) -> Numbers
+        ensures { result ≡ numbers_of_word self }
+    {
+        match self {
+            ClaimWord::Extreme(numbers) => numbers,
+            ClaimWord::Minimal | ClaimWord::NotMinimal | ClaimWord::Cut | ClaimWord::NotExtreme =>
+                Numbers::Whole,
+        }
+    }
 }
 
 /// A claim that has a proof text. Contracts see it as the claim.

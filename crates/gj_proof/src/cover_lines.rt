@@ -12,8 +12,18 @@ ghost use Rattle.gj_proof.specs.ProofGrammar.{cover_words, BreaksCover, cover_ru
 
 use crate::fields::{behind_text, count_below, five_fields_of, split_at_byte};
 use gj_lex::{PartFault, Reason, Spelling, line_at};
+use gj_lines::face_word;
 use gj_shape::{CoverLine, Face, FaceKind};
 use std::alloc::Global;
+
+/// The kinds of faces that are no vertices.
+const EDGES_AND_TRIANGLES: [FaceKind; 5] = [
+    FaceKind::Horizontal,
+    FaceKind::Vertical,
+    FaceKind::Diagonal,
+    FaceKind::Lower,
+    FaceKind::Upper,
+];
 
 /// The words of the line of a covered interval that differ from line to line.
 #[derive(Clone, Copy, Debug)]
@@ -134,20 +144,10 @@ fn face_kind(word: &[u8]) -> Option<FaceKind>
     ensures found { IfSome result (λ kind. (word.now ≡ face_word kind) × (kind ≢ Vertex)) }
     ensures none { IfNone result ((kind : FaceKind) → word.now ≡ face_word kind → kind ≢ Vertex → ⊥) }
 {
-    if word == b"horizontal".as_slice() {
-        return Some(FaceKind::Horizontal);
-    }
-    if word == b"vertical".as_slice() {
-        return Some(FaceKind::Vertical);
-    }
-    if word == b"diagonal".as_slice() {
-        return Some(FaceKind::Diagonal);
-    }
-    if word == b"lower".as_slice() {
-        return Some(FaceKind::Lower);
-    }
-    if word == b"upper".as_slice() {
-        return Some(FaceKind::Upper);
+    for kind in EDGES_AND_TRIANGLES {
+        if word == face_word(kind) {
+            return Some(kind);
+        }
     }
     None
 }

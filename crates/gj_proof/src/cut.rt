@@ -1,5 +1,8 @@
 //! Cuts of the rows of a tableau, as a claim has them.
 
+ghost use Rattle.std.specs.Prelude.{◌≡◌};
+ghost use Rattle.gj_proof.specs.ProofText.{reason_word};
+
 use gj_frac::Frac;
 use gj_lex::Name;
 use gj_shape::{List, Shape};
@@ -40,4 +43,16 @@ pub enum SkipReason {
     Integral,
     /// The fractional part of its right side is not the function's f.
     Other,
+}
+
+impl SkipReason {
+    /// The word that names the reason.
+    pub(crate) fn word(self) -> &'static str
+        ensures { result.now ≡ reason_word self }
+    {
+        match self {
+            SkipReason::Integral => "integral",
+            SkipReason::Other => "other",
+        }
+    }
 }

@@ -167,11 +167,10 @@ fn skip_reason(word: &[u8]) -> Option<SkipReason>
     ensures found { IfSome result (λ r. word.now ≡ reason_word r) }
     ensures none { IfNone result ((r : SkipReason) → word.now ≡ reason_word r → ⊥) }
 {
-    if word == b"integral".as_slice() {
-        return Some(SkipReason::Integral);
-    }
-    if word == b"other".as_slice() {
-        return Some(SkipReason::Other);
+    for reason in [SkipReason::Integral, SkipReason::Other] {
+        if word == reason.word().as_bytes() {
+            return Some(reason);
+        }
     }
     None
 }

@@ -5,13 +5,12 @@ ghost use Rattle.gj_lex.specs.Words.{word_texts};
 ghost use Rattle.gj_lex.specs.Parts.{line_part, IsFaultOf};
 ghost use Rattle.gj_lex.specs.declared.spelling.Spelling.TheVariants.{Strict};
 ghost use Rattle.gj_proof.specs.ProofText.{IsBounded, IsProofText, extreme_claim};
-ghost use Rattle.gj_proof.specs.ProofGrammar.{title_words, title_rule, claim_words, numbers_of_word, IsExtremeWord, claim_rule, claim_part, extreme_part, proof_text};
+ghost use Rattle.gj_proof.specs.ProofGrammar.{title_words, title_rule, claim_words, numbers_of_word, claim_rule, claim_part, extreme_part, proof_text};
 ghost use Rattle.gj_proof.specs.FirstFault.{NamesFirstFault, IsMemoryFault};
 ghost use Rattle.gj_proof.specs.declared.claim.Claim.{Claim};
 ghost use Rattle.gj_proof.specs.declared.claim.ClaimWord.{ClaimWord};
 ghost use Rattle.gj_proof.specs.declared.claim.ClaimWord.TheVariants.{Minimal, NotMinimal, Cut, NotExtreme};
 ghost use Rattle.gj_proof.specs.declared.numbers.Numbers.{Numbers};
-ghost use Rattle.gj_proof.specs.declared.numbers.Numbers.TheVariants.{Whole};
 
 use crate::claim::{Claim, ClaimWord, Proof};
 use crate::cover_lines::cover_lines_at;
@@ -23,7 +22,9 @@ use crate::numbers::Numbers;
 use crate::pivot::PivotRow;
 use crate::pivot_rows::groups_at;
 use crate::violations::violation_at;
-use gj_lex::{PartFault, Reason, Spelling, end_at, has_words, line_at, line_number, words_at};
+use gj_lex::{
+    PartFault, Reason, Spelling, end_at, field_of, has_words, line_at, line_number, words_at,
+};
 use gj_lines::function_at;
 use gj_shape::{CoverLine, List, Shape};
 use std::alloc::Global;
@@ -112,31 +113,11 @@ fn claim_word_of(line: &[u8], numbers: Numbers) -> Option<ClaimWord>
     ensures found { IfSome result ((claim_rule numbers).Spells (word_texts line.now)) }
     ensures none { IfNone result ((w : ClaimWord) → word_texts line.now ≡ claim_words w → numbers_of_word w ≡ numbers → ⊥) }
 {
-    if has_words(line, b"claim extreme") {
-        return Some(ClaimWord::Extreme(numbers));
-    }
-    match numbers {
-        Numbers::Whole => other_word_of(line),
-        Numbers::Residues => None,
-    }
-}
-
-/// The word of the claim in the line, if it is one that stands in texts of whole numbers alone.
-fn other_word_of(line: &[u8]) -> Option<ClaimWord>
-    ensures found { IfSome result ((claim_rule Whole).Spells (word_texts line.now)) }
-    ensures none { IfNone result ((w : ClaimWord) → word_texts line.now ≡ claim_words w → IsExtremeWord w) }
-{
-    if has_words(line, b"claim minimal") {
-        return Some(ClaimWord::Minimal);
-    }
-    if has_words(line, b"claim not-minimal") {
-        return Some(ClaimWord::NotMinimal);
-    }
-    if has_words(line, b"claim cut") {
-        return Some(ClaimWord::Cut);
-    }
-    if has_words(line, b"claim not-extreme") {
-        return Some(ClaimWord::NotExtreme);
+    let field = field_of(line, b"claim")?;
+    for word in ClaimWord::ALL {
+        if field == word.word().as_bytes() && word.numbers() == numbers {
+            return Some(word);
+        }
     }
     None
 }

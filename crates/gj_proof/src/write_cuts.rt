@@ -1,10 +1,10 @@
 //! The lines of cuts, printed.
 ghost use Rattle.std.specs.Prelude.{◌≡◌, ◌++◌, ℕ, List, codes, flat_map, OnOk};
 ghost use Rattle.gj_lex.specs.NumberText.{fraction_text};
-ghost use Rattle.gj_proof.specs.ProofText.{AreSubjectLines, subject_of_rule, reason_word, row_line, term_line, terms_of};
+ghost use Rattle.gj_proof.specs.ProofText.{AreSubjectLines, subject_of_rule, row_line, term_line, terms_of};
 ghost use Rattle.gj_proof.specs.CutTexts.{row_text};
 
-use crate::cut::{CutLine, CutRule, CutTerm, SkipReason};
+use crate::cut::{CutLine, CutRule, CutTerm};
 use gj_frac::Frac;
 use gj_lex::{Name, print_frac};
 use gj_lines::push_function_lines;
@@ -49,20 +49,10 @@ pub fn push_row(alloc: Global, out: &mut Vec<u8>, row: &CutLine) -> Result<(), A
         CutLine::Skip(name, right, reason) => {
             push_named(alloc, out, b"skip ", name, *right)?;
             out.extend_from_slice(b" ")?;
-            out.extend_from_slice(reason_word(*reason))?;
+            out.extend_from_slice(reason.word().as_bytes())?;
             out.push(b'\n')?;
             Ok(())
         }
-    }
-}
-
-/// The word for why a row has no cut.
-fn reason_word(reason: SkipReason) -> &'static [u8]
-    ensures { result.now ≡ reason_word reason }
-{
-    match reason {
-        SkipReason::Integral => b"integral",
-        SkipReason::Other => b"other",
     }
 }
 
