@@ -11,7 +11,7 @@ use Rattle.gj_shape.specs.Residues.{residue, residues, inverse, reduced_modulo, 
 use Rattle.gj_theory.specs.Modulus.{modulus}
 use Rattle.gj_theory.proofs.Inverses.{inverse_found, inverse_none}
 use Rattle.gj_theory.proofs.Modulo.{residue_below}
-use Rattle.gj_theory.proofs.ResidueInsertions.{at_reduced_modulo}
+use Rattle.gj_theory.proofs.ResidueSteps.{at_reduced_modulo}
 use Rattle.gj_rank.specs.RowNumbers.{IsResidue}
 
 -- ---- residues

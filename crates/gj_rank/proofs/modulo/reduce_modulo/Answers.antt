@@ -5,7 +5,7 @@ use mir.Syntax.{w128}
 use Rattle.gj_shape.specs.Elimination.{at_column}
 use Rattle.gj_shape.specs.Residues.{residue}
 use Rattle.gj_theory.specs.Modulus.{modulus}
-use Rattle.gj_theory.proofs.ResidueInsertions.{length-reduced_modulo}
+use Rattle.gj_theory.proofs.ResidueSteps.{length-reduced_modulo}
 use Rattle.gj_rank.specs.RowNumbers.{IsResidue}
 use Rattle.gj_rank.proofs.ResidueRows.{done_more, done_all, reduced_entry, reduced_at}
 use Rattle.gj_rank.proofs.modulo.reduce_modulo.Goals as goal
