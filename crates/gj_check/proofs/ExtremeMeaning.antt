@@ -24,12 +24,14 @@ use Rattle.gj_theory.specs.CoverRules.{MeetsCoverRules}
 use Rattle.gj_theory.specs.Modulus.{modulus}
 use Rattle.gj_theory.specs.TriangularResidues.{SolvesKeptModulo, AreTriangularResidues}
 use Rattle.gj_theory.specs.TriangularRows.{Solves, SolvesKept, AreTriangular, present_row_by, present_row}
-use Rattle.gj_theory.proofs.Eliminations.{reduced_by_none, reduced_of_none, present_row_solved, zeros_of, no_rows_triangular}
+use Rattle.gj_theory.proofs.Eliminations.{HasColumns, columns_after_steps, present_row_solved}
 use Rattle.gj_theory.proofs.ExtremeByCover.{extreme_by_cover}
-use Rattle.gj_theory.proofs.Insertions.{find_has, IsKept, kept_here, triangular_behind, solutions_behind}
+use Rattle.gj_theory.proofs.Insertions.{leaves_kept}
 use Rattle.gj_theory.proofs.Inverses.{inverse_none}
-use Rattle.gj_theory.proofs.ResidueElimination.{no_residues_triangular, to_modulo, columns_after_steps, present_row_solved_modulo, kept_residues_leave_zero}
-use Rattle.gj_theory.proofs.ResidueInsertions.{solves_residues, LeavesModulo, kept_here_modulo, triangular_behind_modulo, solved_behind_modulo}
+use Rattle.gj_theory.proofs.ResidueElimination.{to_modulo, kept_residues_leave_zero}
+use Rattle.gj_theory.proofs.ResidueSteps.{solves_residues, inverse_keeps, modulo_sound}
+use Rattle.gj_theory.proofs.SoundArithmetic.{whole_sound, whole_kept}
+use Rattle.gj_theory.proofs.Triangular.{no_rows_triangular, zeros_of}
 use Rattle.gj_theory.proofs.LineComponents.{component_of_line}
 use Rattle.gj_theory.proofs.LineIntervals.{line_for_each}
 use Rattle.gj_theory.proofs.MinimalFromTests.{minimal_from_tests}
@@ -56,28 +58,6 @@ number_is lines q has i (inl below) low = (has i below).1
 number_is lines q has i (inr high) low = absurd (omega arith)
 
 -- ---- present rows
-
--- the row has n entries, or none
-abbrev HasColumns : ℕ → List ℤ → Type 0
-HasColumns n row = (row ≡ []) ⊎ (length row ≡ n)
-
-step_columns : (n : ℕ) (kept : List KeptRow) (row : List ℤ) (c : ℕ) → All (λ k. length k.entries ≡ n) kept →
-    HasColumns n row → (o : Option KeptRow) → row_with_pivot kept c ≡ o → HasColumns n (reduced (entries_of o) row c)
-unfolding entries_of
-step_columns n kept row c columns has None e = inl (reduced_by_none row c)
-step_columns n kept row c columns (inl is) (Some k) e =
-    inl (ap (λ r. reduced k.entries r c) is ∙ reduced_of_none k.entries c)
-step_columns n kept row c columns (inr len) (Some k) e =
-    let same : length k.entries ≡ length row =
-    (find_has (λ r. length r.entries ≡ n) (λ r. eqb r.pivot c) kept k columns e).0 ∙ sym len in
-    inr (length-reduced k.entries row c same ∙ len)
-
-present_columns : (n : ℕ) (kept : List KeptRow) (row : List ℤ) (columns : List ℕ) → All (λ k. length k.entries ≡ n) kept →
-    HasColumns n row → HasColumns n (present_row kept row columns)
-present_columns n kept row [] all has = has
-present_columns n kept row (c ∷ columns) all has =
-    present_columns n kept (reduced (entries_of (row_with_pivot kept c)) row c) columns all
-    (step_columns n kept row c all has (row_with_pivot kept c) refl)
 
 -- a row that is not 0 somewhere has entries
 some_columns : (n : ℕ) (row : List ℤ) (c : ℕ) → HasColumns n row → at_column row c ≢ pos 0 → length row ≡ n
@@ -129,14 +109,14 @@ group_keeps f component n w kept group all h solved meets =
     let present = present_row kept begun group.reduce in
     let c = group.pivot in
     let long : length present ≡ n =
-    some_columns n present c (present_columns n kept begun group.reduce columns (inr len)) meets.pivot.not_zero in
-    let is : IsKept n kept present c (kept_entries present c) =
-    kept_here n kept present c long meets.pivot.column (pivot_free kept c meets.pivot.new) meets.pivot.zero_before
-    meets.pivot.not_zero in
-    let here = present_row_solved n kept begun w group.reduce columns len solved
+    some_columns n present c (columns_after_steps whole_sound n kept begun group.reduce columns (inr len)) meets.pivot.not_zero in
+    let left =
+    leaves_kept whole_sound n kept present c (kept_entries present c) h long meets.pivot.column (pivot_free kept c meets.pivot.new)
+    meets.pivot.zero_before (whole_kept present c (kept_entries present c) meets.pivot.not_zero refl) in
+    let here = present_row_solved whole_sound n kept begun w group.reduce columns len solved
     (named_solved f component n w group.name all meets.below meets.row) in (
-      triangular_behind n (length kept) kept present group.reduce (Some (c, kept_entries present c)) h is,
-      (solutions_behind n (length kept) kept present w group.reduce (Some (c, kept_entries present c)) is).1 (solved, here),
+      left.triangular (length kept) group.reduce,
+      (left.solutions (length kept) group.reduce w).onward (solved, here),
     )
 
 -- the rows behind groups: triangular, solved, and as many more as groups
@@ -190,12 +170,12 @@ keeps_by_inverse f component n kept group present h meets long solves (Some u) e
     let c = group.pivot in
     let entries = residues modulus (scaled (pos u) present) in
     let pivot = meets.0 in
-    let left : LeavesModulo modulus n kept present (Some (c, entries)) =
-    kept_here_modulo modulus n kept present c (lit< tt) long pivot.column (pivot_free kept c pivot.new) pivot.zero_before (Some u) e in
+    let left =
+    leaves_kept (modulo_sound modulus (lit< tt)) n kept present c entries h long pivot.column (pivot_free kept c pivot.new)
+    pivot.zero_before (inverse_keeps modulus present c u (lit< tt) e) in
     record {
-      triangular = triangular_behind_modulo modulus n (length kept) kept present group.reduce (Some (c, entries)) h left;
-      solved = λ w all row.
-          solved_behind_modulo modulus n (length kept) kept present w group.reduce (Some (c, entries)) left all (solves w all row);
+      triangular = left.triangular (length kept) group.reduce;
+      solved = λ w all row. (left.solutions (length kept) group.reduce w).onward (all, solves w all row);
     }
 
 group_keeps_modulo : (f : FunctionData) (component : ℕ → ℕ) (n : ℕ) (kept : List KeptRow) (group : PivotRow) → AreTriangularResidues n kept →
@@ -209,10 +189,11 @@ group_keeps_modulo f component n kept group h meets =
     let len : length begun ≡ n =
     length-map named (residue modulus) ∙ length-map-range_with_len (row_entry component f.order f.place group.name) 0 n in
     let long : length present ≡ n =
-    some_columns n present c (columns_after_steps modulus n kept begun group.reduce columns (inr len)) meets.pivot.0.not_zero in
+    some_columns n present c (columns_after_steps (modulo_sound modulus (lit< tt)) n kept begun group.reduce columns (inr len)) meets.pivot.0.not_zero in
     keeps_by_inverse f component n kept group present h meets.pivot long
     (λ w all row.
-    present_row_solved_modulo modulus n kept begun w group.reduce (lit< tt) columns len all (solves_residues modulus named w (lit< tt) row))
+    present_row_solved (modulo_sound modulus (lit< tt)) n kept begun w group.reduce columns len all
+    (solves_residues modulus named w (lit< tt) row))
     (inverse modulus (at_column present c)) refl
 
 -- the rows behind groups, which what solves all their rows modulo the modulus solves, and as many more as groups
@@ -253,7 +234,7 @@ groups_leave_residues_zero : (f : FunctionData) (component : ℕ → ℕ) (n : �
     MeetGroups Residues f component n [] rows → length rows ≡ n → length slopes ≡ n → All (Solves slopes) (rows_of f component n rows) →
     All (λ x. x ≡ pos 0) slopes
 groups_leave_residues_zero f component n rows slopes meets full long solved =
-    let kept = groups_keep_modulo f component n [] rows (no_residues_triangular n) meets in
+    let kept = groups_keep_modulo f component n [] rows (no_rows_triangular n) meets in
     kept_residues_leave_zero modulus n (rows_behind_by (modulo modulus) f component n [] rows) (rows_of f component n rows) slopes (lit< tt)
     kept.triangular (let many = kept.many in omega arith)
     (λ v len all. kept.solved v (All-nil (λ k. SolvesModulo modulus v k.entries)) (to_modulo modulus v (rows_of f component n rows) all))

@@ -28,6 +28,7 @@ use Rattle.gj_theory.proofs.CoverLines.{lines_meet_rules}
 use Rattle.gj_theory.proofs.CoverPaths.{all_contained, class_uncovered}
 use Rattle.gj_theory.proofs.CoverSteps.{number_below}
 use Rattle.gj_theory.proofs.Eliminations.{elimination_has}
+use Rattle.gj_theory.proofs.SoundArithmetic.{whole_sound}
 use Rattle.gj_theory.proofs.HalvesAsLists.{lists_are_halves}
 use Rattle.gj_theory.proofs.Kernels.{kernel_columns, kernel_solves, kernel_positive}
 use Rattle.gj_theory.proofs.LineComponents.{one_component}
@@ -161,12 +162,12 @@ pub solution_solves : (f : FunctionData) (component : ℕ → ℕ) (n : ℕ) (s 
 solution_solves f component n s e =
     let rows = map (named_row f component n) (row_names f) in
     let kept = (slope_elimination f component n).kept in
-    let has = elimination_has n rows (begun_columns f component n (row_names f)) in
+    let has = elimination_has whole_sound n rows (begun_columns f component n (row_names f)) in
     let columns = of_some (kernel n kept) s (λ t. length t.numbers ≡ n) e (kernel_columns n kept) in
     let solves = of_some (kernel n kept) s (λ t. SolvesKept t.numbers kept) e (kernel_solves n kept has.triangular) in
     record {
       columns = columns;
-      rows = all_made_of (Solves s.numbers) (named_row f component n) (row_names f) ((has.same s.numbers columns).0 solves).1;
+      rows = all_made_of (Solves s.numbers) (named_row f component n) (row_names f) ((has.same s.numbers).before (tt, columns) solves).1;
       positive = of_some (kernel n kept) s (λ t. Any (λ x. pos 0 <ℤ x) t.numbers) e (kernel_positive n kept has.triangular);
     }
 

@@ -11,10 +11,12 @@ use Rattle.gj_shape.specs.Table.{IsMinimal}
 use Rattle.gj_shape.specs.declared.extremality.CoverLine.{CoverLine}
 use Rattle.gj_theory.specs.TriangularRows.{Solves}
 use Rattle.gj_theory.proofs.CoverLines.{lines_meet_rules}
-use Rattle.gj_theory.proofs.Eliminations.{elimination_has, zeros_of}
+use Rattle.gj_theory.proofs.Eliminations.{elimination_has}
 use Rattle.gj_theory.proofs.ExtremeByCover.{extreme_by_cover}
 use Rattle.gj_theory.specs.Modulus.{modulus}
 use Rattle.gj_theory.proofs.ResidueElimination.{elimination_modulo_zero}
+use Rattle.gj_theory.proofs.SoundArithmetic.{whole_sound}
+use Rattle.gj_theory.proofs.Triangular.{zeros_of}
 use Rattle.gj_theory.proofs.Violations.{first_shown}
 use Rattle.gj_proof.specs.declared.claim.Claim.{Claim}
 use Rattle.gj_proof.specs.declared.claim.Claim.TheVariants.{Minimal, NotMinimal, Cut, Extreme, ExtremeByResidues, NotExtreme}
@@ -32,9 +34,9 @@ only_zero : (numbers : Numbers) (f : FunctionData) (component : ℕ → ℕ) (n 
     All (Solves slopes) (map (named_row f component n) (row_names f)) → All (λ x. x ≡ pos 0) slopes
 only_zero Whole f component n slopes full long solve =
     let begun = map (named_row f component n) (row_names f) in
-    let has = elimination_has n begun (begun_columns f component n (row_names f)) in
+    let has = elimination_has whole_sound n begun (begun_columns f component n (row_names f)) in
     zeros_of n (elimination_over Whole f component n).kept slopes has.triangular full long
-    ((has.same slopes long).1 (All-nil (λ (k : KeptRow). Solves slopes k.entries), solve))
+    ((has.same slopes).onward (All-nil (λ (k : KeptRow). Solves slopes k.entries), solve))
 only_zero Residues f component n slopes full long solve =
     elimination_modulo_zero modulus n (map (named_row f component n) (row_names f)) slopes (lit< tt)
     (begun_columns f component n (row_names f)) full long solve

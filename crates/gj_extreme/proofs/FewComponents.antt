@@ -19,6 +19,7 @@ use Rattle.gj_shape.specs.declared.extremality.RowName.{RowName}
 use Rattle.gj_shape.specs.declared.extremality.RowName.TheVariants.{Period, F, Pair}
 use Rattle.gj_theory.proofs.CarriedSteps.{all_of_any}
 use Rattle.gj_theory.proofs.Eliminations.{elimination_has}
+use Rattle.gj_theory.proofs.SoundArithmetic.{whole_sound}
 use Rattle.gj_theory.proofs.ExtremeByCover.{each_row}
 use Rattle.gj_theory.proofs.RiseCounts.{rises_at_most}
 use Rattle.gj_proof.specs.PresentRows.{named_row}
@@ -96,7 +97,7 @@ solution_is_small : (f : FunctionData) (component : ℕ → ℕ) (n t : ℕ) (s 
     kernel n (slope_elimination f component n).kept ≡ Some s → SolutionIsSmall (grown 1000 t t) s
 solution_is_small f component n t s l some few e =
     kernel_small 1000 t n (slope_elimination f component n).kept s (omega arith) some few
-    (elimination_has n (map (named_row f component n) (row_names f)) (begun_columns f component n (row_names f))).triangular
+    (elimination_has whole_sound n (map (named_row f component n) (row_names f)) (begun_columns f component n (row_names f))).triangular
     (elimination_is_small f component n t l few).kept e
 
 perturbation_small : (f : FunctionData) (component : ℕ → ℕ) (numbers : List ℤ) (b i : ℕ) → IsWithinBounds f → IsSmall b numbers →

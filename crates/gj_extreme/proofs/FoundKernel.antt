@@ -7,6 +7,7 @@ use Rattle.gj_shape.specs.FunctionData.{FunctionData}
 use Rattle.gj_shape.specs.SlopeRows.{row_names, component_in}
 use Rattle.gj_shape.specs.declared.extremality.CoverLine.{CoverLine}
 use Rattle.gj_theory.proofs.Eliminations.{elimination_has}
+use Rattle.gj_theory.proofs.SoundArithmetic.{whole_sound}
 use Rattle.gj_theory.proofs.Kernels.{kernel_none}
 use Rattle.gj_elim.specs.KeptRows.{marked_in}
 use Rattle.gj_extreme.specs.Decision.{AreAllCovered, slope_elimination}
@@ -40,7 +41,7 @@ kernel_found f component n rows numbers h fewer value narrow =
     by_solution : (o : Option Solution) → kernel rows.basis.columns rows.basis.kept ≡ o → IfSome o (λ s. numbers ≡ s.numbers) →
         (Passes (marked_in o) → ⊥) → IsKernel f component n numbers
     by_solution None e is fits =
-        let triangular = (elimination_has n _ (begun_columns f component n (row_names f))).triangular in
+        let triangular = (elimination_has whole_sound n _ (begun_columns f component n (row_names f))).triangular in
         let full = (kernel_none n (slope_elimination f component n).kept triangular).0 (kernel_same f component n rows h ∙ e) in
         let len = ap length h.kept in
         let same = length-map rows.basis.kept (renumbered h.numbers) in

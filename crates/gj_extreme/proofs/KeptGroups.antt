@@ -20,18 +20,15 @@ use Rattle.gj_shape.specs.declared.extremality.CoverLine.{CoverLine}
 use Rattle.gj_shape.specs.declared.extremality.RowName.{RowName}
 use Rattle.gj_shape.specs.declared.extremality.RowName.TheVariants.{Period}
 use Rattle.gj_theory.specs.Modulus.{modulus}
-use Rattle.gj_theory.specs.TriangularRows.{AreTriangular, present_row_by}
-use Rattle.gj_theory.specs.TriangularResidues.{AreTriangularResidues}
-use Rattle.gj_theory.proofs.Eliminations.{no_rows_triangular}
+use Rattle.gj_theory.specs.TriangularRows.{AreTriangularBy, present_row_by}
 use Rattle.gj_theory.proofs.ExtremeByCover.{each_row}
-use Rattle.gj_theory.proofs.Insertions.{kept_row_at, inserted_leaves, triangular_behind, IsZeroBefore, zero_before_next, step_zero}
+use Rattle.gj_theory.proofs.Insertions.{inserted_leaves, IsZeroBefore, zero_before_next, step_leaves_columns, step_leaves_zero}
 use Rattle.gj_theory.proofs.Inverses.{inverse_none}
 use Rattle.gj_theory.proofs.Kernels.{any_with_pivot, no_pivot_at}
-use Rattle.gj_theory.proofs.Modulo.{residue_of_zero}
 use Rattle.gj_theory.proofs.Passing.{none_passes}
-use Rattle.gj_theory.proofs.ResidueElimination.{no_residues_triangular}
-use Rattle.gj_theory.proofs.ResidueInsertions.{at_reduced_modulo, length-reduced_modulo, kept_residues_at, inserted_leaves_modulo, triangular_behind_modulo}
-use Rattle.gj_theory.proofs.Steps.{length-reduced}
+use Rattle.gj_theory.proofs.ResidueSteps.{modulo_sound}
+use Rattle.gj_theory.proofs.SoundArithmetic.{SoundArithmetic, whole_sound}
+use Rattle.gj_theory.proofs.Triangular.{no_rows_triangular}
 use Rattle.gj_residue.proofs.Inserting.{no_marks}
 use Rattle.gj_proof.specs.PresentRows.{arithmetic_of, begun_row, entries_or_none, named_row}
 use Rattle.gj_proof.specs.Rules.{MeetsRow, MeetsReduce, MeetsPivot, MeetsPivotBy}
@@ -58,14 +55,13 @@ IsWide x = 2 ^ 127 ≤ unsigned_abs x
 
 -- ---- the two arithmetics
 
+abbrev sound_of : Numbers → SoundArithmetic
+sound_of Whole = whole_sound
+sound_of Residues = modulo_sound modulus (lit< tt)
+
 -- kept rows of n columns with different pivots
 abbrev AreTriangularOver : Numbers → ℕ → List KeptRow → Type 0
-AreTriangularOver Whole n kept = AreTriangular n kept
-AreTriangularOver Residues n kept = AreTriangularResidues n kept
-
-no_rows_over : (numbers : Numbers) (n : ℕ) → AreTriangularOver numbers n []
-no_rows_over Whole n = no_rows_triangular n
-no_rows_over Residues n = no_residues_triangular n
+AreTriangularOver numbers n kept = AreTriangularBy (sound_of numbers).is_pivot n kept
 
 length_read : (numbers : Numbers) (n : ℕ) (row : List ℤ) → length row ≡ n → length ((arithmetic_of numbers).read row) ≡ n
 length_read Whole n row len = len
@@ -76,39 +72,19 @@ step_over : (numbers : Numbers) (n : ℕ) (kept : List KeptRow) (row : List ℤ)
     length row ≡ n → row_with_pivot kept a ≡ Some k → IsZeroBefore row a →
     (length ((arithmetic_of numbers).step k.entries row a) ≡ n) × IsZeroBefore ((arithmetic_of numbers).step k.entries row a) (a + 1)
 step_over Whole n kept row a k h len e none =
-    (length-reduced k.entries row a ((kept_row_at n kept a k h e).0.columns ∙ sym len) ∙ len, step_zero n kept row a k h len e none)
+    (step_leaves_columns whole_sound n kept row a k h len e, step_leaves_zero whole_sound n kept row a k h len e none)
 step_over Residues n kept row a k h len e none =
-    let (is, at) = kept_residues_at n kept a k h e in
-    let same : length k.entries ≡ length row = is.columns ∙ sym len in
-    let one : at_column k.entries a ≡ pos 1 = ap (at_column k.entries) (sym at) ∙ is.one in (
-      length-reduced_modulo modulus k.entries row a same ∙ len,
-      zero_before_next (reduced_modulo modulus k.entries row a) a
-          (λ j below.
-          at_reduced_modulo modulus k.entries row a j same
-          ∙ ap₂ (λ x y. residue modulus (x -ℤ at_column row a *ℤ y)) (none j below)
-          (is.zero_before j (subst (λ (i : ℕ). j < i) (sym at) below))
-          ∙ ap (residue modulus) (zeros (at_column row a)) ∙ residue_of_zero modulus)
-          (at_reduced_modulo modulus k.entries row a a same
-          ∙ ap (λ y. residue modulus (at_column row a -ℤ at_column row a *ℤ y)) one
-          ∙ ap (residue modulus) (ones (at_column row a)) ∙ residue_of_zero modulus),
-    )
-  where
-    zeros : (v : ℤ) → pos 0 -ℤ v *ℤ pos 0 ≡ pos 0
-    zeros v = omega (arith, ints)
-
-    ones : (v : ℤ) → v -ℤ v *ℤ pos 1 ≡ pos 0
-    ones v = omega (arith, ints)
+    let law = sound_of Residues in
+    (step_leaves_columns law n kept row a k h len e, step_leaves_zero law n kept row a k h len e none)
 
 triangular_over : (numbers : Numbers) (n number : ℕ) (kept : List KeptRow) (row : List ℤ) → AreTriangularOver numbers n kept →
     length row ≡ n →
     AreTriangularOver numbers n
     (kept_behind kept number (inserted_by (arithmetic_of numbers) n kept row).reduce (inserted_by (arithmetic_of numbers) n kept row).kept)
 triangular_over Whole n number kept row h len =
-    let i = inserted_by (arithmetic_of Whole) n kept row in
-    triangular_behind n number kept row i.reduce i.kept h (inserted_leaves n kept row h len)
+    (inserted_leaves whole_sound n kept row h len).triangular number (inserted_by (arithmetic_of Whole) n kept row).reduce
 triangular_over Residues n number kept row h len =
-    let i = inserted_by (arithmetic_of Residues) n kept row in
-    triangular_behind_modulo modulus n number kept row i.reduce i.kept h (inserted_leaves_modulo modulus n kept row (lit< tt) h len)
+    (inserted_leaves (sound_of Residues) n kept row h len).triangular number (inserted_by (arithmetic_of Residues) n kept row).reduce
 
 -- a row that can be kept at a column meets the rule for its pivot
 pivot_over : (numbers : Numbers) (n : ℕ) (kept : List KeptRow) (row : List ℤ) (c : ℕ) (entries : List ℤ) → MeetsPivot n kept row c →
@@ -366,7 +342,7 @@ pub all_kept_meet : (numbers : Numbers) (f : FunctionData) (component : ℕ → 
     AllMeet numbers f component n [] (elimination_over numbers f component n).kept
 all_kept_meet numbers f component n fits =
     let h = elimination_grows numbers f component n [] [] (row_names f) 0 refl refl
-    (each_row (MeetsRow f) f tt tt (λ a b a_low b_low tight. tight)) (no_rows_over numbers n) fits in
+    (each_row (MeetsRow f) f tt tt (λ a b a_low b_low tight. tight)) (no_rows_triangular n) fits in
     subst (AllMeet numbers f component n []) (sym h.is) h.meet
 
 pub residues_are_narrow : (f : FunctionData) (component : ℕ → ℕ) (n : ℕ) → IsNarrow Residues f component n

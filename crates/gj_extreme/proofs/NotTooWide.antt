@@ -10,6 +10,7 @@ use Rattle.gj_shape.specs.Table.{IsMinimal}
 use Rattle.gj_shape.specs.declared.extremality.CoverLine.{CoverLine}
 use Rattle.gj_shape.specs.declared.extremality.Halves.{Halves}
 use Rattle.gj_theory.proofs.Eliminations.{elimination_has}
+use Rattle.gj_theory.proofs.SoundArithmetic.{whole_sound}
 use Rattle.gj_theory.proofs.FirstFailed.{first_denies}
 use Rattle.gj_theory.proofs.Kernels.{kernel_none}
 use Rattle.gj_theory.proofs.TestsFromMinimal.{tests_from_minimal}
@@ -33,7 +34,7 @@ extreme_not_wide f lines rows l h wide =
       | inl passes ↦ h.needed (subst (λ (e : Elimination). Passes e.marked) same passes.0)
       | inr (narrow, behind) ↦
           let kept = (slope_elimination f h.component h.n).kept in
-          let has = elimination_has h.n (map (named_row f h.component h.n) (row_names f)) (begun_columns f h.component h.n (row_names f)) in
+          let has = elimination_has whole_sound h.n (map (named_row f h.component h.n) (row_names f)) (begun_columns f h.component h.n (row_names f)) in
           let some : kernel h.n kept ≡ Some behind.0 =
           sym (ap₂ (λ i e. kernel i e.kept) one.count_same same) ∙ behind.1 in
           let none : kernel h.n kept ≡ None = (kernel_none h.n kept has.triangular).1 h.all in

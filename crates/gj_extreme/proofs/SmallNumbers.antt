@@ -11,7 +11,7 @@ use Rattle.gj_tools.specs.Divisors.{gcd_of}
 use Rattle.gj_tools.proofs.Divisors.{gcd_of_is, gcd_positive}
 use Rattle.gj_tools.proofs.Integers.{unsigned_abs-mul, abs_sub_z, abs_zero_z}
 use Rattle.gj_shape.specs.Elimination.{KeptRow, Insertion, Elimination, at_column, divided, scaled, differences, row_factor, kept_factor, eliminated, reduced, marked_in_step, row_with_pivot, kept_entries, insertion, insertion_by, inserted, inserted_at, inserted_at_by, kept_behind, elimination_from, elimination_from_by, behind_insertion}
-use Rattle.gj_theory.proofs.Insertions.{find_has}
+use Rattle.gj_theory.proofs.Triangular.{find_has}
 use Rattle.gj_theory.proofs.RowSums.{divided_times}
 use Rattle.gj_theory.proofs.Steps.{row_factor_times, kept_factor_times}
 use Rattle.gj_elim.proofs.KernelFits.{factor_small, small_negated}

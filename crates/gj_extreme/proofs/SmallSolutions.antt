@@ -13,7 +13,7 @@ use Rattle.gj_tools.proofs.Lists.{All-made}
 use Rattle.gj_shape.specs.Elimination.{KeptRow, Solution, at_column, scaled, partial_sums, products_behind, solving_gcd, solved_at, marked_in_solving, entries_of, row_with_pivot, solution_below, solution_from, free_column, unit_row, kernel}
 use Rattle.gj_shape.specs.SlopeRows.{total}
 use Rattle.gj_theory.specs.TriangularRows.{AreTriangular}
-use Rattle.gj_theory.proofs.Insertions.{kept_row_at}
+use Rattle.gj_theory.proofs.Triangular.{kept_row_at}
 use Rattle.gj_theory.proofs.Kernels.{free_has_no_row, length-solved}
 use Rattle.gj_elim.proofs.KernelFits.{factor_small, small_negated}
 use Rattle.gj_extreme.proofs.SmallNumbers.{IsSmall, small_up, small_at, small_scaled, bound, bound_some, bound_up, pivots_before, pivots_by_column, bound_at, AreSmall, kept_small_at}
@@ -206,7 +206,7 @@ kernel_small b m n kept s some m_some few h small e = by_free (free_column n kep
         let (is, at) = kept_row_at n kept j r h found in
         let up = bound_up b (pivots_before kept j) j some (pivots_by_column kept j) in (
           small_up (bound_at b kept j) (bound b j) r.entries up (kept_small_at b kept j r small found),
-          subst (λ (i : ℕ). pos 0 <ℤ at_column r.entries i) at is.positive,
+          subst (λ (i : ℕ). pos 0 <ℤ at_column r.entries i) at is.at_pivot,
         )
 
     by_free : (o : Option ℕ) → free_column n kept ≡ o → solution_from n kept o ≡ Some s → SolutionIsSmall (grown b m m) s

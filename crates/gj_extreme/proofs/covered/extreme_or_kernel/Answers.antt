@@ -3,6 +3,7 @@ use Rattle.std.proofs.lemmas.List.{length-map}
 use Rattle.gj_shape.specs.SlopeRows.{row_names, component_in}
 use Rattle.gj_theory.specs.HandedOver.{renumbered}
 use Rattle.gj_theory.proofs.Eliminations.{elimination_has}
+use Rattle.gj_theory.proofs.SoundArithmetic.{whole_sound}
 use Rattle.gj_theory.proofs.Triangular.{rank_at_most}
 use Rattle.gj_elim.specs.KeptRows.{log_row}
 use Rattle.gj_elim.proofs.Keeping.{same_error}
@@ -31,7 +32,7 @@ returns-then-is_full-clause-decided c =
     let rows = c.requires.inserted in
     let slope = slope_elimination f comp n in
     let full = c.is_full.ensures.0 c.if-is_full.true in
-    let most = rank_at_most n slope.kept (elimination_has n _ (begun_columns f comp n (row_names f))).triangular in
+    let most = rank_at_most n slope.kept (elimination_has whole_sound n _ (begun_columns f comp n (row_names f))).triangular in
     let len = ap length rows.kept in
     let same = length-map c.args.rows.now.basis.kept (renumbered rows.numbers) in
     let all : length (slope_elimination f comp n).kept ≡ length c.args.rows.now.row.items = omega arith in
