@@ -1,7 +1,6 @@
 pub mod Accepted
 pub mod Clauses
 pub mod Commands
-pub mod CutClaims
 pub mod CutForm
 pub mod Determined
 pub mod Ends
