@@ -19,7 +19,7 @@ use Rattle.gj_top.specs.Answer.{IsAnswerTo, input_limit}
 use Rattle.gj_top.specs.Answer.IsAnswerTo.{too_long, refused, replied}
 use Rattle.gj_top.proofs.Clauses.{done_reply}
 use Rattle.gj_check.proofs.DemandsOfClaims.{no_failure}
-use Rattle.gj_top.proofs.CutClaims.{lines_are_bounded}
+use Rattle.gj_top.proofs.CutForm.{lines_are_bounded}
 use Rattle.gj_top.proofs.Sound.{check_sound}
 use Rattle.gj_top.proofs.TextLaws.{function_is_bounded, minimal_proof, not_minimal_proof, one_proof, proof_text_is_short}
 

@@ -1,6 +1,7 @@
--- What follows a rule, and why no input of `cut` is both in its form and refused.
+-- What follows a rule, the claims about the cuts of an input, and why no input of `cut` is both in its form and refused.
 use Rattle.std.proofs.Common.{◌≡◌, ℕ, List, subst}
-use Rattle.gj_proof.specs.ProofText.{IsBoundedRule}
+use Rattle.std.specs.List.{AllZip}
+use Rattle.gj_proof.specs.ProofText.{IsBounded, IsBoundedRule}
 use Rattle.gj_lex.specs.declared.reason.Reason.{Reason}
 use Rattle.gj_ftext.specs.RuleText.{BeginsAsRule, IsFirstFaultOfRule}
 use Rattle.gj_ftext.specs.FirstFault.{IsFirstFaultOfFunction}
@@ -10,8 +11,12 @@ use Rattle.gj_ftext.proofs.RuleTexts.{one_end, no_fault_of_rule}
 use Rattle.gj_row.specs.TableauText.{records_of, IsTableauText}
 use Rattle.gj_row.proofs.OneTableau.{no_first_fault}
 use Rattle.gj_row.specs.declared.tableau.Tableau.{Tableau}
+use Rattle.gj_proof.specs.declared.claim.Claim.TheVariants as claim
+use Rattle.gj_proof.specs.declared.cut.CutLine.{CutLine}
 use Rattle.gj_proof.specs.declared.cut.CutRule.{CutRule}
 use Rattle.gj_proof.specs.declared.cut.CutRule.TheVariants.{Gmic, Table}
+use Rattle.gj_mtext.specs.CutLines.{IsLineFor}
+use Rattle.gj_claims.proofs.CutClaims.{cuts_are_bounded}
 use Rattle.gj_top.specs.declared.reply.End.{End}
 use Rattle.gj_top.specs.declared.reply.Unanswered.{Unanswered}
 use Rattle.gj_top.specs.declared.reply.Unanswered.TheVariants.{Refused, Memory}
@@ -35,6 +40,13 @@ one_rest text (Table f) (Table g) a b h k = (one_function_text text f g a b h.1 
 pub rule_is_bounded : (text : List ℕ) (r : CutRule) (rest : List ℕ) → BeginsWithRule text r rest → IsBoundedRule r
 rule_is_bounded text Gmic rest h = tt
 rule_is_bounded text (Table f) rest h = function_is_within text f rest h.1
+
+-- the lines of an input are those of a claim
+pub lines_are_bounded : (input : List ℕ) (thing : CutInput) (lines : List CutLine) → SpellsCutInput input thing →
+    AllZip (IsLineFor thing.rule thing.tableau.columns) thing.tableau.rows lines → IsBounded (claim.Cut thing.rule lines)
+lines_are_bounded input thing lines spelled h =
+    let begins = rule_of_lines input thing.rule spelled.rest spelled.rule in
+    cuts_are_bounded thing.rule thing.tableau lines (rule_is_bounded input thing.rule spelled.rest begins) spelled.tableau.is_tableau h
 
 -- ---- refusals
 

@@ -2,7 +2,6 @@ pub mod Accepted
 pub mod ByOrder4q
 pub mod Clauses
 pub mod Commands
-pub mod CutClaims
 pub mod CutForm
 pub mod Determined
 pub mod Ends

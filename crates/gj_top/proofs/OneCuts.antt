@@ -36,12 +36,12 @@ use Rattle.gj_proof.specs.declared.cut.CutTerm.{CutTerm}
 use Rattle.gj_proof.specs.declared.cut.SkipReason.{SkipReason}
 use Rattle.gj_proof.specs.declared.cut.SkipReason.TheVariants.{Integral, Other}
 use Rattle.gj_mtext.specs.CutLines.{IsLineFor, IsTermFor}
+use Rattle.gj_claims.specs.CutRules.{MakesCuts}
 use Rattle.gj_top.specs.declared.reply.End.{End}
 use Rattle.gj_top.specs.declared.reply.End.TheVariants as end
-use Rattle.gj_top.specs.Cut.{CutInput, cut_input, BeginsWithRule, SpellsCutInput, RefusesCutInput, NamesRecord, refused_record_line, AreCutsOf, MakesCuts, NamesViolation, IsCutReply, cut}
+use Rattle.gj_top.specs.Cut.{CutInput, cut_input, BeginsWithRule, SpellsCutInput, RefusesCutInput, NamesRecord, refused_record_line, AreCutsOf, NamesViolation, IsCutReply, cut}
 use Rattle.gj_top.specs.Cut.RefusesCutInput.{of_rule, of_function, of_tableau}
-use Rattle.gj_top.proofs.CutClaims.{lines_are_bounded}
-use Rattle.gj_top.proofs.CutForm.{one_rest, rule_is_bounded, no_rule_fault, no_function_fault}
+use Rattle.gj_top.proofs.CutForm.{one_rest, rule_is_bounded, lines_are_bounded, no_rule_fault, no_function_fault}
 use Rattle.gj_top.proofs.Determined.{SpellsOne, RefusesOne, RepliesOne, IsDetermined, one_named_fault}
 use Rattle.gj_top.proofs.InputLines.{rule_of_lines}
 

@@ -3,7 +3,6 @@
 use Rattle.std.specs.Prelude.{ℕ, ◌≡◌, List, [], ◌∷◌, ◌++◌, All, codes, decimal}
 use Rattle.std.specs.List.{AllZip}
 use Rattle.gj_shape.specs.FirstViolation.{IsFirstViolation}
-use Rattle.gj_shape.specs.Table.{IsMinimal}
 use Rattle.gj_shape.specs.declared.violations.Violation.{Violation}
 use Rattle.gj_lex.specs.TextLines.{HasLines}
 use Rattle.gj_lex.specs.declared.spelling.Spelling.TheVariants.{Lenient}
@@ -24,6 +23,7 @@ use Rattle.gj_proof.specs.declared.cut.CutLine.{CutLine}
 use Rattle.gj_proof.specs.declared.cut.CutRule.{CutRule}
 use Rattle.gj_proof.specs.declared.cut.CutRule.TheVariants.{Gmic, Table}
 use Rattle.gj_mtext.specs.CutLines.{IsLineFor}
+use Rattle.gj_claims.specs.CutRules.{MakesCuts}
 use Rattle.gj_top.specs.declared.reply.End.{End}
 use Rattle.gj_top.specs.declared.reply.End.TheVariants.{Done, NoFunction}
 use Rattle.gj_top.specs.Promise.{Form, Promise}
@@ -89,11 +89,6 @@ pub record AreCutsOf (input : CutInput) (text : List ℕ) : Type 0 where
   pub spelled : IsProofText (claim.Cut input.rule lines) text
 
 -- ---- the answer
-
--- the rule makes cuts: a function is minimal
-abbrev pub MakesCuts : CutRule → Type 0
-MakesCuts Gmic = Unit {0}
-MakesCuts (Table f) = IsMinimal f
 
 -- the text is the proof text of the cuts, and every rule of the checker holds of their claim
 pub record AreCheckedCutsOf (input : CutInput) (text : List ℕ) : Type 0 where

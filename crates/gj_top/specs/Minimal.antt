@@ -1,11 +1,10 @@
 -- The command `minimal`: a function text is answered with the proof text of a verdict on minimality (own).
-use Rattle.std.specs.Prelude.{ℕ, ◌≡◌, ◌⊎◌, List}
+use Rattle.std.specs.Prelude.{ℕ, ◌⊎◌, List}
 use Rattle.gj_shape.specs.FunctionData.{FunctionData}
 use Rattle.gj_shape.specs.Table.{IsMinimal}
 use Rattle.gj_shape.specs.Violation.{ShowsViolation}
 use Rattle.gj_shape.specs.FirstViolation.{IsFirstViolation}
 use Rattle.gj_shape.specs.declared.violations.Violation.{Violation}
-use Rattle.gj_proof.specs.declared.claim.Claim.{Claim}
 use Rattle.gj_proof.specs.declared.claim.Claim.TheVariants.{Minimal, NotMinimal}
 use Rattle.gj_proof.specs.ProofText.{IsProofText}
 use Rattle.gj_proof.specs.Rules.{MeetsRules}
@@ -30,13 +29,6 @@ abbrev pub IsVerdict : FunctionData → List ℕ → Type 0
 IsVerdict f text =
     (IsMinimal f × MeetsRules (Minimal f) × IsMinimalText f text)
     ⊎ ((v : Violation) × IsFirstViolation f v × ShowsViolation f v × MeetsRules (NotMinimal f v) × IsNotMinimalText f v text)
-
--- the claim is that f is minimal, if it is, its table on every grid, and otherwise that it is not, with the first violation;
--- every rule of the checker holds of it
-abbrev pub IsTrueClaim : FunctionData → Claim → Type 0
-IsTrueClaim f (Minimal g) = (g ≡ f) × IsMinimal f × MeetsRules (Minimal f)
-IsTrueClaim f (NotMinimal g v) = (g ≡ f) × IsFirstViolation f v × ShowsViolation f v × MeetsRules (NotMinimal f v)
-IsTrueClaim f c = ⊥
 
 -- the reply to a function is the verdict on it, and ends with Done
 abbrev pub IsDecision : FunctionData → End → List ℕ → Type 0

@@ -1,18 +1,17 @@
 //! The command `cut`: the cuts of the rows of a tableau, by a function or by the mixed-integer cut.
-ghost use Rattle.std.specs.Prelude.{◌≡◌, ◌++◌, codes, IfOk, IfSome, IfNone};
+ghost use Rattle.std.specs.Prelude.{◌≡◌, ◌++◌, codes, IfOk};
 ghost use Rattle.gj_row.specs.TableauLimits.{IsTableau};
-ghost use Rattle.gj_proof.specs.ProofText.{violation_line, IsBoundedRule};
+ghost use Rattle.gj_proof.specs.ProofText.{violation_line};
+ghost use Rattle.gj_claims.specs.CutRules.{PassesTests};
 ghost use Rattle.gj_top.specs.Task.{IsAnswering};
 ghost use Rattle.gj_top.specs.Cut.{AreCheckedCutsOf, IsCutReply, cut};
-ghost use Rattle.gj_top.specs.CutSteps.{IsViolationOf, PassesTests};
 
 use crate::cut_input::{rule_of, tableau_behind};
 use crate::reply::{End, Reply, Unanswered};
-use gj_minimal::find_violation;
-use gj_mtext::cut_lines;
-use gj_proof::{Claim, CutRule, Proof, push_violation_line, write_proof};
+use gj_claims::{cuts_proof, violation_of_rule};
+use gj_proof::{CutRule, push_violation_line, write_proof};
 use gj_row::Tableau;
-use gj_shape::{List, Violation};
+use gj_shape::Violation;
 use std::alloc::{AllocError, Global};
 
 /// The cuts of the rows of the tableau behind the function or the rule that the input begins with, or the first violation of the
@@ -27,11 +26,10 @@ pub(crate) fn reply(alloc: Global, input: &[u8]) -> Result<Reply, Unanswered>
 
 /// The cuts of the rows of the tableau, or the first violation of the function of the rule.
 fn cuts_or_violation(alloc: Global, rule: CutRule, tableau: &Tableau) -> Result<Reply, AllocError>
-    requires rule { IsBoundedRule rule }
-    requires tableau { IsTableau tableau.now }
+    requires { IsTableau tableau.now }
     ensures { IfOk result (λ reply. IsCutReply (record { «rule» = rule; tableau = tableau.now }) reply.end reply.text.items) }
 {
-    match violation_of(&rule) {
+    match violation_of_rule(&rule) {
         Some(violation) => Ok(Reply {
             end: End::NoFunction,
             text: violation_text(alloc, violation)?,
@@ -43,26 +41,13 @@ fn cuts_or_violation(alloc: Global, rule: CutRule, tableau: &Tableau) -> Result<
     }
 }
 
-/// The first violation of the function of the rule, if it has one.
-pub(crate) fn violation_of(rule: &CutRule) -> Option<Violation>
-    ensures some { IfSome result (IsViolationOf rule.now) }
-    ensures none { IfNone result (PassesTests rule.now) }
-{
-    match rule {
-        CutRule::Gmic => None,
-        CutRule::Table(shape) => find_violation(shape),
-    }
-}
-
 /// The proof text of the cuts of the rows of the tableau.
 fn cuts_text(alloc: Global, rule: CutRule, tableau: &Tableau) -> Result<Vec<u8>, AllocError>
-    requires rule { IsBoundedRule rule }
     requires tests { PassesTests rule }
     requires tableau { IsTableau tableau.now }
     ensures { IfOk result (λ text. AreCheckedCutsOf (record { «rule» = rule; tableau = tableau.now }) text.items) }
 {
-    let lines = cut_lines(alloc, &rule, tableau)?;
-    let proof = Proof::of(Claim::Cut(rule, List::of(lines)));
+    let proof = cuts_proof(alloc, rule, tableau)?;
     let text = write_proof(alloc, &proof)?;
     Ok(text)
 }

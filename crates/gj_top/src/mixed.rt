@@ -1,16 +1,16 @@
 //! The command `mixed`: the mixed cuts of the rows of a tableau, by a function or by the mixed-integer cut.
 ghost use Rattle.std.specs.Prelude.{IfOk, IfSome, IfNone};
 ghost use Rattle.gj_row.specs.TableauLimits.{IsTableau};
-ghost use Rattle.gj_proof.specs.ProofText.{IsBoundedRule};
 ghost use Rattle.gj_mtext.specs.MixedLines.{MakesMixedCuts};
+ghost use Rattle.gj_claims.specs.CutRules.{PassesTests};
 ghost use Rattle.gj_top.specs.Task.{IsAnswering};
-ghost use Rattle.gj_top.specs.CutSteps.{PassesTests};
 ghost use Rattle.gj_top.specs.Mixed.{IsMixedReply, NamesJump, mixed};
 
 use crate::continuity::jump_line;
-use crate::cut::{violation_of, violation_text};
+use crate::cut::violation_text;
 use crate::cut_input::{rule_of, tableau_behind};
 use crate::reply::{End, Reply, Unanswered};
+use gj_claims::violation_of_rule;
 use gj_mtext::mixed_text;
 use gj_proof::CutRule;
 use gj_row::Tableau;
@@ -29,11 +29,10 @@ pub(crate) fn reply(alloc: Global, input: &[u8]) -> Result<Reply, Unanswered>
 /// The mixed cuts of the rows of the tableau by the rule, as the command `mixed` gives them, or the first violation or the first jump of the
 /// function of the rule.
 pub fn mixed_reply(alloc: Global, rule: &CutRule, tableau: &Tableau) -> Result<Reply, AllocError>
-    requires rule { IsBoundedRule rule.now }
-    requires tableau { IsTableau tableau.now }
+    requires { IsTableau tableau.now }
     ensures { IfOk result (λ reply. IsMixedReply (record { «rule» = rule.now; tableau = tableau.now }) reply.end reply.text.items) }
 {
-    if let Some(violation) = violation_of(rule) {
+    if let Some(violation) = violation_of_rule(rule) {
         return Ok(Reply {
             end: End::NoFunction,
             text: violation_text(alloc, violation)?,

@@ -1,16 +1,12 @@
 use Rattle.std.proofs.Common.{drop}
-use Rattle.gj_top.proofs.CutForm.{reply_of, rule_is_bounded}
+use Rattle.gj_top.proofs.CutForm.{reply_of}
 use Rattle.gj_top.proofs.cut.reply.Goals as goal
 
 pub tableau_behind-requires-clause-rule : goal.tableau_behind-requires-clause-rule
 tableau_behind-requires-clause-rule c = (c.in_ok-rule.rule, c.in_ok-rule.ensures.found.1)
 
-pub cuts_or_violation-requires-clause-rule : goal.cuts_or_violation-requires-clause-rule
-cuts_or_violation-requires-clause-rule c =
-    rule_is_bounded c.args.input.now c.in_ok-rule.rule (drop c.in_ok-rule.len c.args.input.now) c.in_ok-rule.ensures.found.1
-
-pub cuts_or_violation-requires-clause-tableau : goal.cuts_or_violation-requires-clause-tableau
-cuts_or_violation-requires-clause-tableau c = c.in_ok-tableau.ensures.found.is_tableau
+pub cuts_or_violation-requires : goal.cuts_or_violation-requires
+cuts_or_violation-requires c = c.in_ok-tableau.ensures.found.is_tableau
 
 pub returns : goal.returns
 returns c =

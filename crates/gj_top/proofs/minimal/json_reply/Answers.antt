@@ -9,8 +9,8 @@ returns c =
       spelled = c.in_ok-json_function_of.ensures;
       replied = record {
         proof = told.0;
-        holds = verdict_of_claim c.in_ok-json_function_of.field-0 c.proof_on-proof.result told.0 c.proof_on-proof.ensures.claim told.1;
-        claim = c.proof_on-proof.result;
+        holds = verdict_of_claim c.in_ok-json_function_of.field-0 c.minimality_proof-proof.result told.0 c.minimality_proof-proof.ensures.claim told.1;
+        claim = c.minimality_proof-proof.result;
         spelled = told.1;
         report = told.2;
       };

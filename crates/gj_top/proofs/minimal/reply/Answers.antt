@@ -5,6 +5,6 @@ pub returns : goal.returns
 returns c = record {
   thing = c.in_ok-function_of.field-0;
   spelled = c.in_ok-function_of.ensures;
-  replied = verdict_of_claim c.in_ok-function_of.field-0 c.proof_on-proof.result c.in_ok-write_proof.field-0.items c.proof_on-proof.ensures.claim
+  replied = verdict_of_claim c.in_ok-function_of.field-0 c.minimality_proof-proof.result c.in_ok-write_proof.field-0.items c.minimality_proof-proof.ensures.claim
       c.in_ok-write_proof.ensures;
 }

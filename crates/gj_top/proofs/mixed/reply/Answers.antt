@@ -1,16 +1,12 @@
 use Rattle.std.proofs.Common.{drop}
-use Rattle.gj_top.proofs.CutForm.{mixed_reply_of, rule_is_bounded}
+use Rattle.gj_top.proofs.CutForm.{mixed_reply_of}
 use Rattle.gj_top.proofs.mixed.reply.Goals as goal
 
 pub tableau_behind-requires-clause-rule : goal.tableau_behind-requires-clause-rule
 tableau_behind-requires-clause-rule c = (c.in_ok-rule.rule, c.in_ok-rule.ensures.found.1)
 
-pub mixed_reply-requires-clause-rule : goal.mixed_reply-requires-clause-rule
-mixed_reply-requires-clause-rule c =
-    rule_is_bounded c.args.input.now c.in_ok-rule.rule (drop c.in_ok-rule.len c.args.input.now) c.in_ok-rule.ensures.found.1
-
-pub mixed_reply-requires-clause-tableau : goal.mixed_reply-requires-clause-tableau
-mixed_reply-requires-clause-tableau c = c.in_ok-tableau.ensures.found.is_tableau
+pub mixed_reply-requires : goal.mixed_reply-requires
+mixed_reply-requires c = c.in_ok-tableau.ensures.found.is_tableau
 
 pub returns : goal.returns
 returns c =

@@ -13,7 +13,7 @@ use Rattle.gj_shape.specs.Limits.{IsSmallNumber}
 use Rattle.gj_row.specs.declared.tableau.Entry.{Entry}
 use Rattle.gj_row.specs.declared.tableau.Row.{Row}
 use Rattle.gj_row.specs.declared.tableau.Tableau.{Tableau}
-use Rattle.gj_proof.specs.ProofText.{HasNames, IsBounded, IsProofText, IsBoundedRule}
+use Rattle.gj_proof.specs.ProofText.{HasNames, IsBounded, IsBoundedRule}
 use Rattle.gj_proof.specs.Rules.{MeetsLimit, MeetsValue}
 use Rattle.gj_proof.specs.declared.claim.Claim.TheVariants as claim
 use Rattle.gj_proof.specs.declared.cut.CutLine.{CutLine}
@@ -24,10 +24,8 @@ use Rattle.gj_check.specs.CutRows.{MeetTerms, MeetsCutRow}
 use Rattle.gj_check.proofs.CutDemands.{cuts_meet}
 use Rattle.gj_check.proofs.RulesGiveMeaning.{meaning_of_rules}
 use Rattle.gj_mtext.specs.CutLines.{IsLineFor, IsTermFor}
-use Rattle.gj_top.specs.Cut.{CutInput, SpellsCutInput, AreCheckedCutsOf}
-use Rattle.gj_top.specs.CutSteps.{PassesTests}
-use Rattle.gj_top.proofs.CutForm.{rule_is_bounded}
-use Rattle.gj_top.proofs.InputLines.{rule_of_lines}
+use Rattle.gj_claims.specs.CutClaim.{IsCutClaim}
+use Rattle.gj_claims.specs.CutRules.{PassesTests}
 
 -- ---- names that all differ
 
@@ -223,33 +221,25 @@ rows_have_names r columns (row ∷ rows) (l ∷ lines) names basics limits h =
 
 -- ---- the claim
 
-claim_is_bounded : (r : CutRule) (t : Tableau) (lines : List CutLine) → IsBoundedRule r → IsTableau t →
+pub cuts_are_bounded : (r : CutRule) (t : Tableau) (lines : List CutLine) → IsBoundedRule r → IsTableau t →
     AllZip (IsLineFor r t.columns) t.rows lines → IsBounded (claim.Cut r lines)
-claim_is_bounded r t lines bounded is h = (
+cuts_are_bounded r t lines bounded is h = (
   bounded,
   rows_have_names r t.columns t.rows lines (All-front IsName t.columns (map (λ row. row.basic) t.rows) is.names.valid)
       (All-back IsName t.columns (map (λ row. row.basic) t.rows) is.names.valid) is.each_row h,
 )
 
--- the lines of an input are those of a claim
-pub lines_are_bounded : (input : List ℕ) (thing : CutInput) (lines : List CutLine) → SpellsCutInput input thing →
-    AllZip (IsLineFor thing.rule thing.tableau.columns) thing.tableau.rows lines → IsBounded (claim.Cut thing.rule lines)
-lines_are_bounded input thing lines spelled h =
-    let begins = rule_of_lines input thing.rule spelled.rest spelled.rule in
-    claim_is_bounded thing.rule thing.tableau lines (rule_is_bounded input thing.rule spelled.rest begins) spelled.tableau.is_tableau h
-
-pub cuts_of_lines : (r : CutRule) (t : Tableau) (lines : List CutLine) (text : List ℕ) → IsBoundedRule r → PassesTests r → IsTableau t →
-    AllZip (IsLineFor r t.columns) t.rows lines → IsProofText (claim.Cut r lines) text → AreCheckedCutsOf (record { «rule» = r; tableau = t }) text
-cuts_of_lines r t lines text bounded passes is h spelled =
+-- a line for each row makes the claim
+pub claim_of_lines : (r : CutRule) (t : Tableau) (lines : List CutLine) → PassesTests r → IsTableau t → AllZip (IsLineFor r t.columns) t.rows lines →
+    IsCutClaim r t (claim.Cut r lines)
+claim_of_lines r t lines passes is h =
     let bs = map (λ (row : Row). row.basic) t.rows in
     let rules = cuts_meet r lines passes.tests
     (rows_meet r t.columns t.rows lines (front_differ t.columns bs is.names.differ) (basics_differ t.columns t.rows is.names.differ) is.each_row h) in
     record {
-      cuts = record {
-        lines = lines;
-        lines_are = h;
-        hold = meaning_of_rules (claim.Cut r lines) (claim_is_bounded r t lines bounded is h) tt rules;
-        spelled = spelled;
-      };
+      lines = lines;
+      claim_is = refl;
+      lines_are = h;
+      hold = meaning_of_rules (claim.Cut r lines) (cuts_are_bounded r t lines passes.bounded is h) tt rules;
       rules = rules;
     }

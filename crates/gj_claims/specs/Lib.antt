@@ -1,0 +1,3 @@
+pub mod CutClaim
+pub mod CutRules
+pub mod MinimalityClaim
