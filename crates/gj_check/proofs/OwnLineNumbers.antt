@@ -20,8 +20,8 @@ use Rattle.gj_proof.specs.ProofText.ProofLine.{title, claim, order, place, point
 use Rattle.gj_proof.proofs.LineLists.{names}
 use Rattle.gj_proof.proofs.LineNumbers.{number_of_own}
 use Rattle.gj_proof.proofs.OwnLines.{IsOwn, own_lines_are_own}
-use Rattle.gj_rank.proofs.ClaimGroups.{length-covered, number_in_extreme}
-use Rattle.gj_rank.proofs.GroupDemands.{length-reductions}
+use Rattle.gj_rank.proofs.ClaimGroups.{number_in_extreme}
+use Rattle.gj_proof.proofs.LineCounts.{length-covered, length-reductions}
 use Rattle.gj_proof.proofs.AtPlaces.{split_there}
 
 abbrev own_line : ProofLine → List ℕ → OwnLine

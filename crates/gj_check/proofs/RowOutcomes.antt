@@ -1,17 +1,19 @@
 -- The first failure in a row, from those of its terms.
-use Rattle.std.proofs.Common.{◌≡◌, ℕ, ◌+◌, ◌<◌, List, [], ◌∷◌, ◌++◌, length, take, get_or, map, Option, Some, None, refl, sym, ap, subst, ◌∙◌}
-use Rattle.std.proofs.lemmas.List.{map-append}
+use Rattle.std.proofs.Common.{◌≡◌, ℕ, ◌+◌, ◌<◌, List, [], ◌∷◌, ◌++◌, length, take, get_or, map, Option, Some, None, sym, ap, subst, ◌∙◌, arith}
+use Rattle.std.proofs.lemmas.List.{map-append, length-take-le}
 use Rattle.gj_frac.specs.declared.Frac.{Frac}
 use Rattle.gj_proof.specs.declared.cut.CutRule.{CutRule}
 use Rattle.gj_proof.specs.declared.cut.CutLine.{CutLine}
 use Rattle.gj_proof.specs.declared.cut.CutLine.TheVariants as cuts
 use Rattle.gj_proof.specs.declared.cut.CutTerm.{CutTerm}
+use Rattle.gj_proof.specs.ProofText.{term_lines}
 use Rattle.gj_proof.specs.Rules.{AtIndex, IfCut, MeetsFraction, MeetsLimit}
 use Rattle.gj_check.specs.declared.rules.CheckRule.{CheckRule}
 use Rattle.gj_check.specs.declared.cut_rows.RowFailure.{RowFailure}
 use Rattle.gj_check.specs.CutRows.{MeetsTerm, FailsTerm, MeetTerms, FailTerms, IsTermsOutcome, IsRowOutcome}
 use Rattle.gj_check.specs.CutRows.FailsRow.{at_term}
 use Rattle.gj_proof.proofs.AtPlaces.{at_place, with_place}
+use Rattle.gj_proof.proofs.LineCounts.{length-terms}
 
 -- the numbers of a row up to the n-th term
 abbrev pub numbers : Frac → ℕ → List CutTerm → List Frac
@@ -25,12 +27,12 @@ next_number right n terms t below is =
     ∙ ap (λ xs. right ∷ xs) (map-append (λ u. u.entry) (take n terms) (t ∷ []))
 
 -- the n-th term is the first that fails
-pub fails_at : (rule : CutRule) (basic : List ℕ) (right : Frac) (terms : List CutTerm) (n : ℕ) (t : CutTerm) (r : CheckRule) →
-    n < length terms → t ≡ get_or terms n t → ((i : ℕ) → i < n → AtIndex terms i (MeetsTerm rule basic right)) →
-    FailsTerm rule basic right r (take n terms) t → FailTerms rule basic right terms (record { below = n + 1; rule = r })
-fails_at rule basic right terms n t r below is h fails = record {
+pub fails_at : (rule : CutRule) (basic : List ℕ) (right : Frac) (terms : List CutTerm) (n line : ℕ) (t : CutTerm) (r : CheckRule) →
+    line ≡ 1 + length (term_lines 0 0 (take n terms)) → n < length terms → t ≡ get_or terms n t → ((i : ℕ) → i < n → AtIndex terms i (MeetsTerm rule basic right)) →
+    FailsTerm rule basic right r (take n terms) t → FailTerms rule basic right terms (record { below = line; rule = r })
+fails_at rule basic right terms n line t r line_is below is h fails = record {
   index = n;
-  below = refl;
+  below = let long = length-take-le n terms (omega arith) in let lines = length-terms 0 0 (take n terms) in omega arith;
   fails = record { within = below; before = h; here = at_place terms (FailsTerm rule basic right r) n t below is fails };
 }
 

@@ -12,14 +12,14 @@ use crate::row_denominators::extended;
 use crate::rules::CheckRule;
 use gj_frac::Frac;
 use gj_lex::Name;
-use gj_proof::{CutLine, CutRule, CutTerm};
+use gj_proof::{CutLine, CutRule, CutTerm, lines_with_terms};
 use std::alloc::{AllocError, Global};
 
 /// The first rule that fails in a row.
 #[derive(Clone, Copy)]
 pub(crate) struct RowFailure {
     /// How many lines below that of the row it fails.
-    pub(crate) below: usize,
+    pub(crate) below: u64,
     pub(crate) rule: CheckRule,
 }
 
@@ -69,7 +69,7 @@ fn failure_in_terms(
     let repeated = first_repeated(alloc, basic, terms)?;
     let mut denominator = common;
     for (index, term) in terms.iter().enumerate() {
-        let below = index + 1;
+        let below = lines_with_terms(&terms[..index]);
         let Some(multiple) = extended(denominator, term.entry) else {
             return Ok(Some(RowFailure {
                 below,

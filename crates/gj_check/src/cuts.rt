@@ -1,8 +1,8 @@
 //! The check of claims about cuts.
-ghost use Rattle.std.specs.Prelude.{◌≡◌, ◌+◌, ◌↔◌, IsTrue, OnOk, IfOk, IfErr, length};
+ghost use Rattle.std.specs.Prelude.{◌↔◌, IsTrue, OnOk, IfErr};
 ghost use Rattle.gj_shape.specs.FirstViolation.{PassesAll};
 ghost use Rattle.gj_proof.specs.declared.claim.Claim.TheVariants as claim;
-ghost use Rattle.gj_proof.specs.ProofText.{IfFunction, subject_of_rule, terms_of};
+ghost use Rattle.gj_proof.specs.ProofText.{IfFunction, subject_of_rule};
 ghost use Rattle.gj_proof.specs.Rules.{MeetsRules};
 ghost use Rattle.gj_check.specs.FirstFailure.{IsFaultOf};
 
@@ -10,8 +10,8 @@ use crate::cut_rows::failure_in_row;
 use crate::faults::CheckFault;
 use crate::minimality::is_minimal;
 use crate::rules::CheckRule;
-use gj_proof::{CLAIM_LINE, CutLine, CutRule, line_behind_rule};
-use std::alloc::{AllocError, Global};
+use gj_proof::{CLAIM_LINE, CutLine, CutRule, line_behind_row, line_behind_rule, line_below};
+use std::alloc::Global;
 
 /// Checks every rule on the cuts of rows by this rule, in the order of the lines of their proof.
 pub(crate) fn check_cuts(alloc: Global, rule: &CutRule, rows: &[CutLine]) -> Result<(), CheckFault>
@@ -27,7 +27,7 @@ pub(crate) fn check_cuts(alloc: Global, rule: &CutRule, rows: &[CutLine]) -> Res
             let line = line_below(line, failure.below)?;
             return Err(CheckFault::Rejected(line, failure.rule));
         }
-        line = line_behind(line, row)?;
+        line = line_behind_row(line, row)?;
     }
     Ok(())
 }
@@ -40,22 +40,4 @@ fn is_minimal_rule(rule: &CutRule) -> bool
         CutRule::Gmic => true,
         CutRule::Table(shape) => is_minimal(shape),
     }
-}
-
-/// The number of the first line behind a row and its terms.
-fn line_behind(line: u64, row: &CutLine) -> Result<u64, AllocError>
-    ensures { IfOk result (λ n. n ≡ line + length (terms_of row.now) + 1) }
-{
-    match row {
-        CutLine::Cut(_, _, terms) => line_below(line_below(line, terms.as_slice().len())?, 1),
-        CutLine::Skip(_, _, _) => line_below(line, 1),
-    }
-}
-
-/// The number of the line that stands so many lines below. A text with a line whose number is not below 2^64 does not
-/// fit any memory.
-pub(crate) fn line_below(line: u64, count: usize) -> Result<u64, AllocError>
-    ensures { IfOk result (λ n. n ≡ line + count) }
-{
-    line.checked_add(count as u64).ok_or(AllocError)
 }

@@ -6,11 +6,13 @@ ghost use Rattle.gj_check.specs.FirstFailure.{IsFaultOf};
 ghost use Rattle.gj_check.specs.GroupRules.{rule_on_groups as checked_rule};
 
 use crate::cover_lines::{Covered, components_by};
-use crate::cuts::line_below;
 use crate::faults::CheckFault;
 use crate::minimality::is_minimal;
 use crate::rules::CheckRule;
-use gj_proof::{CLAIM_LINE, Numbers, PivotRow, first_group_line, line_behind_function};
+use gj_proof::{
+    CLAIM_LINE, Numbers, PivotRow, first_group_line, line_behind_covers, line_behind_group,
+    line_below,
+};
 use gj_rank::{GroupRule, failure_in_groups};
 use gj_shape::{CoverLine, Shape};
 use std::alloc::{AllocError, Global};
@@ -38,7 +40,7 @@ pub(crate) fn check_extreme(
     let components = match components_by(alloc, shape, lines)? {
         Covered::Whole(components) => components,
         Covered::BrokenAt(index) => {
-            let line = line_behind_function(shape) + index as u64;
+            let line = line_behind_covers(shape, &lines[..index]);
             return Err(CheckFault::Rejected(line, CheckRule::Cover));
         }
     };
@@ -80,8 +82,7 @@ fn line_behind_groups(first: u64, rows: &[PivotRow]) -> Result<u64, AllocError>
 {
     let mut line = first;
     for row in rows {
-        line = line_below(line, row.reduce.as_slice().len())?;
-        line = line_below(line, 2)?;
+        line = line_behind_group(line, row)?;
     }
     Ok(line)
 }

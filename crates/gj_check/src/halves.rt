@@ -14,7 +14,7 @@ use crate::minimality::is_minimal;
 use crate::points::times;
 use crate::rules::CheckRule;
 use crate::tables::is_minimal_table;
-use gj_proof::{CLAIM_LINE, line_behind_function};
+use gj_proof::{CLAIM_LINE, line_behind_function, line_of_pair};
 use gj_shape::{Halves, Shape};
 use std::alloc::{AllocError, Global};
 
@@ -30,7 +30,7 @@ pub(crate) struct Refinement {
 /// The first pair of values that breaks a rule, and the rule.
 #[derive(Clone, Copy)]
 pub(crate) struct PairFailure {
-    pub(crate) index: usize,
+    pub(crate) index: u32,
     pub(crate) rule: CheckRule,
 }
 
@@ -51,8 +51,8 @@ pub(crate) fn check_halves(alloc: Global, shape: &Shape, halves: &Halves) -> Res
         return Err(CheckFault::Rejected(line, CheckRule::Scale));
     };
     if let Some(failure) = failure_in_pairs(shape, halves, refinement) {
-        let below = failure.index as u64 + 1;
-        return Err(CheckFault::Rejected(line + below, failure.rule));
+        let line = line_of_pair(shape, failure.index);
+        return Err(CheckFault::Rejected(line, failure.rule));
     }
     let first = halves.first.as_slice();
     if !is_minimal_half(alloc, shape, halves, refinement, first)? {
@@ -98,14 +98,14 @@ fn failure_in_pairs(shape: &Shape, halves: &Halves, refinement: Refinement) -> O
     requires refinement { IsRefinement shape.now halves.now refinement }
     ensures { IsPairsOutcome shape.now halves.now result }
 {
-    for index in 0..halves.order as usize {
-        if !meets_range(halves, index) {
+    for index in 0..halves.order {
+        if !meets_range(halves, index as usize) {
             return Some(PairFailure {
                 index,
                 rule: CheckRule::Range,
             });
         }
-        if !meets_average(shape, halves, refinement, index) {
+        if !meets_average(shape, halves, refinement, index as usize) {
             return Some(PairFailure {
                 index,
                 rule: CheckRule::Average,

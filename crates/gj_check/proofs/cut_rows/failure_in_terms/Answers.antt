@@ -12,7 +12,7 @@ pub returns-in_default : goal.returns-in_default
 returns-in_default c =
     let terms = c.args.terms.now in
     let n = c.loop-index.index in
-    fails_at c.args.rule.now c.args.basic.now c.args.right terms n c.index-terms-index.result Limit c.loop-index-test.true
+    fails_at c.args.rule.now c.args.basic.now c.args.right terms n c.lines_with_terms-below.result c.index-terms-index.result Limit c.lines_with_terms-below.ensures c.loop-index-test.true
     c.index-terms-index.is c.loop-index.invariant.1
     (c.in_default.ensures.beyond (numbers c.args.right n terms) c.loop-index.invariant.0)
 
@@ -25,7 +25,7 @@ returns-then-index-repeated c =
     let limit = (c.in-Some.ensures.within (numbers c.args.right n terms) c.loop-index.invariant.0).0 in
     let same : c.in_ok-repeated.repeated ≡ n = sym c.if-index-repeated.true in
     let repeated = c.in_ok-repeated.ensures.repeated (omega arith) in
-    fails_at c.args.rule.now c.args.basic.now c.args.right terms n t Name below c.index-terms-index.is c.loop-index.invariant.1 (
+    fails_at c.args.rule.now c.args.basic.now c.args.right terms n c.lines_with_terms-below.result t Name c.lines_with_terms-below.ensures below c.index-terms-index.is c.loop-index.invariant.1 (
       limit,
       place_has terms (λ before u. MeetsName c.args.basic.now before u → ⊥) n t below c.index-terms-index.is
           (subst (λ (m : ℕ). AtIndex terms m (λ before u. MeetsName c.args.basic.now before u → ⊥)) same repeated),
@@ -49,7 +49,7 @@ returns-then-not-has_value c =
     let apart = c.if-index-repeated.false in
     let name = place_has terms (MeetsName c.args.basic.now) n t below c.index-terms-index.is
     (c.in_ok-repeated.ensures.new n (omega arith)) in
-    fails_at c.args.rule.now c.args.basic.now c.args.right terms n t Value below c.index-terms-index.is c.loop-index.invariant.1 (
+    fails_at c.args.rule.now c.args.basic.now c.args.right terms n c.lines_with_terms-below.result t Value c.lines_with_terms-below.ensures below c.index-terms-index.is c.loop-index.invariant.1 (
       (c.in-Some.ensures.within (numbers c.args.right n terms) c.loop-index.invariant.0).0,
       name,
       λ h. let yes = c.has_value.ensures.1 h in let no = c.if-not-has_value.true in (cc),

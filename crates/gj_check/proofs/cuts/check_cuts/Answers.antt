@@ -4,6 +4,7 @@ use Rattle.std.proofs.lemmas.List.{take_all}
 use Rattle.std.proofs.lemmas.List.Elements.{All-push}
 use Rattle.gj_check.specs.CutRows.{MeetsCutRow, IsRowOutcome}
 use Rattle.gj_proof.proofs.AtPlaces.{with_place}
+use Rattle.gj_proof.proofs.LineCounts.{length-row}
 use Rattle.gj_check.proofs.CutLines.{count_of, count_of-append}
 use Rattle.gj_check.proofs.CutDemands.{rule_fails, cut_fails, cuts_meet}
 use Rattle.gj_check.proofs.cuts.check_cuts.Goals as goal
@@ -33,6 +34,7 @@ loop-row-preserved c =
     let more = with_place rows i l c.loop-row-test.true c.row-item.is in
     let counted = c.loop-row.invariant.0 in
     let line = c.in_ok-line-2.ensures in
+    let one = length-row 0 l in
     let longer = ap count_of more ∙ count_of-append (take i rows) (l ∷ []) in (
       omega arith,
       subst (All (MeetsCutRow c.args.rule.now)) (sym more) (All-push (MeetsCutRow c.args.rule.now) (take i rows) l c.loop-row.invariant.1

@@ -1,4 +1,5 @@
-use Rattle.std.proofs.Common.{◌≡◌, ◌+◌, ℕ, List, length, get_or, sym, subst, subst₂, arith}
+use Rattle.std.proofs.Common.{◌≡◌, ◌+◌, ℕ, List, length, take, get_or, sym, subst, subst₂, arith}
+use Rattle.std.proofs.lemmas.List.{length-take-le}
 use Rattle.gj_proof.specs.ProofText.{extreme_claim, modulus_lines, group_lines}
 use Rattle.gj_rank.specs.Groups.{IsGroupsOutcome}
 use Rattle.gj_check.specs.declared.rules.CheckRule.TheVariants.{Cover, Rank}
@@ -6,7 +7,8 @@ use Rattle.gj_check.specs.CoverLines.{IsCoverOutcome}
 use Rattle.gj_check.specs.FirstFailure.{IsFirstFailure}
 use Rattle.gj_check.proofs.TestsInTurn.{denied}
 use Rattle.gj_check.proofs.ExtremeDemands.{extreme_not_minimal, extreme_not_continuous, extreme_cover_broken, extreme_group_fails, extreme_rank_fails, extreme_meets}
-use Rattle.gj_check.proofs.OwnLineNumbers.{function_lines, behind_function}
+use Rattle.gj_proof.proofs.LineCounts.{length-covered}
+use Rattle.gj_check.proofs.OwnLineNumbers.{function_lines}
 use Rattle.gj_check.proofs.extremality.check_extreme.Goals as goal
 
 pub returns-then-not-is_minimal-clause-fault : goal.returns-then-not-is_minimal-clause-fault
@@ -23,11 +25,16 @@ returns-in-BrokenAt-clause-fault c =
     let f = c.args.shape.now in
     let lines = c.args.lines.now in
     let rows = c.args.rows.now in
-    subst (λ (n : ℕ). IsFirstFailure (extreme_claim c.args.numbers f lines rows) (n + c.in-BrokenAt.index) Cover)
-    (behind_function f _ c.line_behind_function.ensures.value)
-    (extreme_cover_broken c.args.numbers f lines rows c.in-BrokenAt.index (c.is_minimal.ensures.0 c.if-not-is_minimal.false)
-    (c.is_continuous.ensures.0 c.if-not-is_continuous.false)
-    (subst (IsCoverOutcome f lines) c.in-BrokenAt.is c.in_ok-components.ensures))
+    let i = c.in-BrokenAt.index in
+    let broken = subst (IsCoverOutcome f lines) c.in-BrokenAt.is c.in_ok-components.ensures in
+    let points = function_lines f in
+    let long = length-take-le i lines (omega (arith, broken.within)) in
+    let covered = length-covered 0 (take i lines) in
+    let line = c.line_behind_covers-line.ensures in
+    let number : f.order + 5 + i ≡ c.line_behind_covers-line.result = omega arith in
+    subst (λ (n : ℕ). IsFirstFailure (extreme_claim c.args.numbers f lines rows) n Cover) number
+    (extreme_cover_broken c.args.numbers f lines rows i (c.is_minimal.ensures.0 c.if-not-is_minimal.false)
+    (c.is_continuous.ensures.0 c.if-not-is_continuous.false) broken)
 
 pub returns-in-Some-clause-fault : goal.returns-in-Some-clause-fault
 returns-in-Some-clause-fault c =

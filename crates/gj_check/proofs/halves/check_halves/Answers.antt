@@ -1,4 +1,4 @@
-use Rattle.std.proofs.Common.{◌↔◌, ◌+◌, ℕ, IsTrue, List, ℤ, subst, subst₂}
+use Rattle.std.proofs.Common.{◌≡◌, ◌↔◌, ◌+◌, ℕ, IsTrue, List, ℤ, subst, subst₂, arith}
 use Rattle.gj_proof.specs.declared.claim.Claim.TheVariants.{NotExtreme}
 use Rattle.gj_proof.specs.Rules.{IsMinimalHalf}
 use Rattle.gj_check.specs.declared.rules.CheckRule.TheVariants.{Scale, First, Second, Same}
@@ -7,7 +7,7 @@ use Rattle.gj_check.specs.HalvesRules.{AreDifferent}
 use Rattle.gj_check.proofs.TestsInTurn.{denied}
 use Rattle.gj_check.proofs.HalvesTests.{scale_met}
 use Rattle.gj_check.proofs.HalvesDemands.{halves_not_minimal, halves_not_continuous, halves_scale_fails, halves_pair_fails, halves_first_fails, halves_second_fails, halves_same_fails, halves_meet}
-use Rattle.gj_check.proofs.OwnLineNumbers.{behind_function}
+use Rattle.gj_check.proofs.OwnLineNumbers.{function_lines, behind_function}
 use Rattle.gj_check.proofs.halves.check_halves.Goals as goal
 
 pub returns-then-not-is_minimal-clause-fault : goal.returns-then-not-is_minimal-clause-fault
@@ -33,8 +33,10 @@ returns-in-Some-failure_in_pairs-clause-fault c =
     let f = c.args.shape.now in
     let h = c.args.halves.now in
     let failure = c.in-Some-failure_in_pairs.failure in
-    let line = behind_function f _ c.line_behind_function-line.ensures.value in
-    subst (λ (n : ℕ). IsFirstFailure (NotExtreme f h) (n + (failure.index + 1)) failure.rule) line
+    let points = function_lines f in
+    let line = c.line_of_pair-line.ensures in
+    let number : f.order + 5 + (failure.index + 1) ≡ c.line_of_pair-line.result = omega arith in
+    subst (λ (n : ℕ). IsFirstFailure (NotExtreme f h) n failure.rule) number
     (halves_pair_fails f h failure (c.is_minimal.ensures.0 c.if-not-is_minimal.false) (c.is_continuous.ensures.0 c.if-not-is_continuous.false)
     c.requires (scale_met f h c.in-Some.refinement c.in-Some.ensures.some) c.in-Some-failure_in_pairs.ensures)
 
