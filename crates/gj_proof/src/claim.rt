@@ -28,7 +28,7 @@ pub enum Claim {
 }
 
 impl Claim {
-    ghost use Rattle.gj_proof.specs.ProofText.{claim_word};
+    ghost use Rattle.gj_proof.specs.ProofText.{claim_word, numbers_of};
 
     /// The word of the claim, as its proof text and its report tell it. It takes no memory.
     pub fn word(&self) -> &'static str
@@ -43,6 +43,16 @@ impl Claim {
             Claim::NotExtreme(_, _) => ClaimWord::NotExtreme,
         };
         word.word()
+    }
+
+    /// The numbers of the rows of the claim: residues, if it says so, and else whole numbers. It takes no memory.
+    pub fn numbers(&self) -> Numbers
+        ensures { result ≡ numbers_of self.now }
+    {
+        match self {
+            Claim::ExtremeByResidues(_, _, _) => Numbers::Residues,
+            _ => Numbers::Whole,
+        }
     }
 }
 

@@ -2,7 +2,7 @@
 
 ghost use Rattle.std.specs.Prelude.{◌≡◌, ◌++◌, ℕ, List, codes, flat_map, IfOk, OnOk};
 ghost use Rattle.gj_lines.specs.FunctionLines.{line};
-ghost use Rattle.gj_proof.specs.ProofText.{subject_of, numbers_of as claim_numbers, AreSubjectLines, title_text, claim_word, violation_line, own_lines, HasText, IsProofText};
+ghost use Rattle.gj_proof.specs.ProofText.{subject_of, numbers_of, AreSubjectLines, title_text, claim_word, violation_line, own_lines, HasText, IsProofText};
 
 use crate::claim::{Claim, Proof};
 use crate::numbers::Numbers;
@@ -27,24 +27,14 @@ pub fn write_proof(alloc: Global, proof: &Proof) -> Result<Vec<u8>, AllocError>
 
 /// The first two lines of a proof text: its title and the word of its claim.
 fn start_text(alloc: Global, claim: &Claim) -> Result<Vec<u8>, AllocError>
-    ensures { IfOk result (λ text. text.items ≡ line (title_text (claim_numbers claim.now)) ++ line (codes "claim " ++ claim_word claim.now)) }
+    ensures { IfOk result (λ text. text.items ≡ line (title_text (numbers_of claim.now)) ++ line (codes "claim " ++ claim_word claim.now)) }
 {
     let mut text = Vec::new(alloc);
-    text.extend_from_slice(title(numbers_of(claim)))?;
+    text.extend_from_slice(title(claim.numbers()))?;
     text.extend_from_slice(b"\nclaim ")?;
     text.extend_from_slice(claim.word().as_bytes())?;
     text.push(b'\n')?;
     Ok(text)
-}
-
-/// The numbers of the rows of a claim.
-fn numbers_of(claim: &Claim) -> Numbers
-    ensures { result ≡ claim_numbers claim.now }
-{
-    match claim {
-        Claim::ExtremeByResidues(_, _, _) => Numbers::Residues,
-        _ => Numbers::Whole,
-    }
 }
 
 /// Appends the lines of the subject of a claim: those of its function, or of its rule.
