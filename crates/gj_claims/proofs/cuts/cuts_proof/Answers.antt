@@ -1,8 +1,5 @@
 use Rattle.std.proofs.Common.{sym, subst}
 use Rattle.std.specs.List.{AllZip}
-use Rattle.gj_proof.specs.declared.claim.Claim.{Claim}
-use Rattle.gj_proof.specs.declared.claim.Claim.TheVariants.{Cut}
-use Rattle.gj_proof.specs.declared.cut.CutLine.{CutLine}
 use Rattle.gj_proof.specs.ProofText.{IsBounded}
 use Rattle.gj_mtext.specs.CutLines.{IsLineFor}
 use Rattle.gj_claims.specs.CutClaim.{IsCutClaim}
