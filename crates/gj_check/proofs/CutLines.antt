@@ -3,7 +3,7 @@ use Rattle.std.proofs.Common.{◌≡◌, ◌≢◌, ℕ, ◌+◌, ◌<◌, List,
 use Rattle.std.specs.List.{range_with_len}
 use Rattle.std.proofs.lemmas.List.{length-append, map-append}
 use Rattle.std.proofs.lemmas.List.Elements.{All-nil, All-cons, All-append, All-map}
-use Rattle.gj_tools.proofs.Lists.{All-range}
+use Rattle.gj_lemmas.proofs.Lists.{All-range}
 use Rattle.gj_proof.specs.declared.claim.Claim.TheVariants as claims
 use Rattle.gj_proof.specs.declared.cut.CutRule.{CutRule}
 use Rattle.gj_proof.specs.declared.cut.CutLine.{CutLine}

@@ -4,8 +4,8 @@ use Rattle.std.proofs.lemmas.List.Elements.{All-nil, All-cons, All-head}
 use Rattle.gj_shape.specs.FunctionData.{FunctionData}
 use Rattle.gj_shape.specs.FirstViolation.{PassesAll}
 use Rattle.gj_shape.specs.declared.violations.Violation.{Violation}
-use Rattle.gj_tools.proofs.Lists.{All-front}
-use Rattle.gj_tools.proofs.FirstThatFails.{first_failing, one_first_failing, first_failing_denies_all}
+use Rattle.gj_lemmas.proofs.Lists.{All-front}
+use Rattle.gj_lemmas.proofs.FirstThatFails.{first_failing, one_first_failing, first_failing_denies_all}
 use Rattle.gj_proof.specs.declared.claim.Claim.{Claim}
 use Rattle.gj_proof.specs.declared.claim.Claim.TheVariants as claim
 use Rattle.gj_proof.specs.ProofText.{HasNumber}

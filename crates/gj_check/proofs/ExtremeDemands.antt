@@ -2,8 +2,8 @@
 use Rattle.std.proofs.Common.{◌≡◌, ◌≢◌, ◌↔◌, ℕ, ◌+◌, List, [], ◌∷◌, ◌++◌, All, length, map, get_or, refl, sym, ap, subst, ◌∙◌}
 use Rattle.std.specs.List.{range_with_len}
 use Rattle.std.proofs.lemmas.List.Elements.{All-nil, All-cons, All-append}
-use Rattle.gj_tools.proofs.FirstThatFails.{first_failing_in_map, first_failing_in_range}
-use Rattle.gj_tools.proofs.Lists.{All-made}
+use Rattle.gj_lemmas.proofs.FirstThatFails.{first_failing_in_map, first_failing_in_range}
+use Rattle.gj_lemmas.proofs.Lists.{All-made}
 use Rattle.gj_shape.specs.Additive.{IsTight}
 use Rattle.gj_shape.specs.Cover.{components_in}
 use Rattle.gj_shape.specs.FunctionData.{FunctionData, IsWithinBounds, IsContinuous}
@@ -19,10 +19,10 @@ use Rattle.gj_proof.specs.ProofText.{ProofLine, extreme_claim, modulus_lines, Is
 use Rattle.gj_proof.specs.Rules.{Demand, group_demands_by, extreme_demands, demands_of, line_of, Holds, MeetsRules}
 use Rattle.gj_proof.specs.Rules.Demand.{minimal, continuous, cover, row, reduce, size, pivot, rank}
 use Rattle.gj_proof.proofs.LineNumbers.{number_of_claim}
-use Rattle.gj_rank.specs.declared.failure.GroupRule.{GroupRule}
-use Rattle.gj_rank.specs.declared.failure.GroupFailure.{GroupFailure}
-use Rattle.gj_rank.specs.Groups.{GroupHolds, IsRuleOf, IsFirstGroupFailure}
-use Rattle.gj_rank.proofs.ClaimGroups.{IsNumbering, groups_hold, groups_fail}
+use Rattle.gj_check_groups.specs.declared.failure.GroupRule.{GroupRule}
+use Rattle.gj_check_groups.specs.declared.failure.GroupFailure.{GroupFailure}
+use Rattle.gj_check_groups.specs.Groups.{GroupHolds, IsRuleOf, IsFirstGroupFailure}
+use Rattle.gj_check_groups.proofs.ClaimGroups.{IsNumbering, groups_hold, groups_fail}
 use Rattle.gj_check.specs.declared.rules.CheckRule.{CheckRule}
 use Rattle.gj_check.specs.declared.rules.CheckRule.TheVariants as rules
 use Rattle.gj_check.specs.declared.cover_lines.Components.{Components}

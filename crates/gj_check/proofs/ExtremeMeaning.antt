@@ -7,9 +7,9 @@ use Rattle.std.proofs.lemmas.Bool.Decides.{Decides-eqb}
 use Rattle.std.proofs.lemmas.List.{length-append, length_push, length-map}
 use Rattle.std.proofs.lemmas.List.FromFn.{length-map-range_with_len}
 use Rattle.std.proofs.lemmas.List.Elements.{All-nil, All-cons, All-head, All-tail}
-use Rattle.gj_rank.proofs.ClaimGroups.{says as groups_say}
-use Rattle.gj_rank.proofs.GroupsInTurn.{rows_behind_push}
-use Rattle.gj_tools.proofs.Lists.{All-front, All-back, made_has}
+use Rattle.gj_check_groups.proofs.ClaimGroups.{says as groups_say}
+use Rattle.gj_check_groups.proofs.GroupsInTurn.{rows_behind_push}
+use Rattle.gj_lemmas.proofs.Lists.{All-front, All-back, made_has}
 use Rattle.gj_shape.specs.Additive.{IsTight}
 use Rattle.gj_shape.specs.Cover.{HasComponent, components_in}
 use Rattle.gj_shape.specs.Elimination.{KeptRow, at_column, scaled, reduced, entries_of, row_with_pivot, kept_entries, kept_behind}

@@ -1,8 +1,8 @@
 -- The first demand on a claim that fails.
 use Rattle.std.proofs.Common.{◌≡◌, ℕ, List, [], ◌∷◌, ◌++◌, All, refl, sym, subst}
 use Rattle.std.proofs.lemmas.List.Elements.{All-nil, All-cons}
-use Rattle.gj_tools.specs.FirstThatFails.{IsFirstFailing}
-use Rattle.gj_tools.proofs.FirstThatFails.{first_failing, first_failing_in_front, first_failing_in_back}
+use Rattle.gj_lemmas.specs.FirstThatFails.{IsFirstFailing}
+use Rattle.gj_lemmas.proofs.FirstThatFails.{first_failing, first_failing_in_front, first_failing_in_back}
 use Rattle.gj_proof.specs.declared.claim.Claim.{Claim}
 use Rattle.gj_proof.specs.ProofText.{ProofLine, HasNumber}
 use Rattle.gj_proof.specs.Rules.{Demand, demands_of, line_of, Holds}

@@ -10,9 +10,9 @@ use Rattle.gj_frac.specs.Lowest.{IsLowest}
 use Rattle.gj_frac.specs.Fraction.{IsRatio, IsWhole, IsInside, numerator, denominator, fraction_of, quotient_of}
 use Rattle.gj_frac.proofs.Floors.{quotient_at_most, next_quotient_above, quotient_is_floor, rest_is, rest_from_floor, rest_lowest}
 use Rattle.gj_frac.proofs.SameValues.{is_along, same_from_is}
-use Rattle.gj_tools.proofs.Integers.{add_mul_z, mul_comm_z, pos-*ℤ-pos, mul_some_z, positive_some_z}
-use Rattle.gj_tools.proofs.Ratios.{ratio_along}
-use Rattle.gj_tools.proofs.Ring.{by_ring, ring}
+use Rattle.gj_lemmas.proofs.Integers.{add_mul_z, mul_comm_z, pos-*ℤ-pos, mul_some_z, positive_some_z}
+use Rattle.gj_lemmas.proofs.Ratios.{ratio_along}
+use Rattle.gj_lemmas.proofs.Ring.{by_ring, ring}
 use Rattle.gj_theory.specs.Cuts.{IsGmicValue, one_minus}
 use Rattle.gj_proof.specs.Rules.{IsGmicCoefficient}
 use Rattle.gj_check.proofs.Ratios.{denominator_is}

@@ -3,7 +3,7 @@ use Rattle.std.proofs.Common.{◌≡◌, ℕ, zero, ◌+◌, ◌-◌, ◌<◌, L
 use Rattle.std.specs.List.{range_with_len}
 use Rattle.std.proofs.lemmas.List.Elements.{All-nil, All-cons, All-append}
 use Rattle.gj_shape.specs.Perturbation.{AreHalvesInBounds}
-use Rattle.gj_tools.proofs.Lists.{range_at}
+use Rattle.gj_lemmas.proofs.Lists.{range_at}
 use Rattle.gj_shape.specs.FunctionData.{FunctionData, IsContinuous}
 use Rattle.gj_shape.specs.FirstViolation.{PassesAll}
 use Rattle.gj_shape.specs.declared.extremality.Halves.{Halves}

@@ -6,8 +6,8 @@ use Rattle.std.proofs.Math.Nat.{mod-lt, mod-mod}
 use Rattle.std.proofs.lemmas.Bool.{cases_eq}
 use Rattle.std.proofs.lemmas.Int.{ints}
 use Rattle.std.proofs.lemmas.List.Elements.{All-head, All-tail}
-use Rattle.gj_tools.proofs.Lists.{All-front, All-back}
-use Rattle.gj_tools.proofs.Quotients.{same_at_remainder}
+use Rattle.gj_lemmas.proofs.Lists.{All-front, All-back}
+use Rattle.gj_lemmas.proofs.Quotients.{same_at_remainder}
 use Rattle.gj_shape.specs.FunctionData.{FunctionData, IsWithinBounds, at}
 use Rattle.gj_shape.specs.Table.{table, IsMinimalTable, IsMinimal}
 use Rattle.gj_shape.specs.declared.extremality.Halves.{Halves}

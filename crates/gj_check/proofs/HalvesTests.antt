@@ -5,7 +5,7 @@ use Rattle.std.proofs.Math.Nat.{mul_comm, mul-mod_left, mul-div_left, mod-lt, mo
 use Rattle.std.proofs.lemmas.Int.{ints, to_z-of_z}
 use Rattle.gj_frac.specs.Fraction.{Fits}
 use Rattle.gj_shape.specs.Perturbation.{AreHalvesInBounds}
-use Rattle.gj_tools.proofs.Ring.{by_ring, ring}
+use Rattle.gj_lemmas.proofs.Ring.{by_ring, ring}
 use Rattle.gj_shape.specs.FunctionData.{FunctionData, IsWithinBounds, IsContinuous, at}
 use Rattle.gj_shape.specs.Table.{table, entry, IsMinimalTable}
 use Rattle.gj_shape.specs.declared.extremality.Halves.{Halves}

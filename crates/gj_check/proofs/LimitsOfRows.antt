@@ -5,9 +5,9 @@ use Rattle.std.proofs.lemmas.List.Elements.{All-nil, All-head, All-push}
 use Rattle.std.proofs.lemmas.Nat.Gcd.{dvd_trans, le_of_dvd}
 use Rattle.gj_frac.specs.declared.Frac.{Frac}
 use Rattle.gj_frac.specs.Fraction.{denominator}
-use Rattle.gj_tools.specs.Divisors.{IsLcm}
-use Rattle.gj_tools.proofs.Divisors.{lcm_positive}
-use Rattle.gj_tools.proofs.Lists.{All-front, All-back}
+use Rattle.gj_lemmas.specs.Divisors.{IsLcm}
+use Rattle.gj_lemmas.proofs.Divisors.{lcm_positive}
+use Rattle.gj_lemmas.proofs.Lists.{All-front, All-back}
 use Rattle.gj_shape.proofs.LeastDenominator.{Divides, denominator_some}
 use Rattle.gj_proof.specs.Rules.{MeetsLimit}
 use Rattle.gj_shape.specs.Limits.{IsRowNumber}

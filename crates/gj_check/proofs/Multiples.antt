@@ -6,7 +6,7 @@ use Rattle.std.proofs.lemmas.Nat.Gcd.{le_of_dvd}
 use Rattle.std.proofs.lemmas.List.Elements.{All-nil, All-cons, All-head, All-tail}
 use Rattle.gj_frac.specs.declared.Frac.{Frac}
 use Rattle.gj_frac.specs.Fraction.{denominator}
-use Rattle.gj_tools.proofs.Divisors.{gcd_positive, lcm_from_gcd, lcm_positive}
+use Rattle.gj_lemmas.proofs.Divisors.{gcd_positive, lcm_from_gcd, lcm_positive}
 use Rattle.gj_shape.proofs.LeastDenominator.{Divides}
 use Rattle.gj_proof.specs.Rules.{IsCoordinate}
 use Rattle.gj_check.specs.Coordinates.{HasFineMultiple, AreCoordinates}

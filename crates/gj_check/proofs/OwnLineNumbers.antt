@@ -6,7 +6,7 @@ use Rattle.std.proofs.lemmas.Slice.Zip.{length-zip}
 use Rattle.std.proofs.lemmas.List.Elements.{All-nil, All-cons, All-append, All-map, All-weaker}
 use Rattle.std.proofs.lemmas.List.FromFn.{length-map-range_with_len}
 use Rattle.gj_shape.specs.Perturbation.{AreHalvesInBounds}
-use Rattle.gj_tools.proofs.Lists.{All-range}
+use Rattle.gj_lemmas.proofs.Lists.{All-range}
 use Rattle.gj_shape.specs.FunctionData.{FunctionData}
 use Rattle.gj_shape.specs.declared.extremality.CoverLine.{CoverLine}
 use Rattle.gj_shape.specs.declared.extremality.Halves.{Halves}
@@ -20,7 +20,7 @@ use Rattle.gj_proof.specs.ProofText.ProofLine.{title, claim, order, place, point
 use Rattle.gj_proof.proofs.LineLists.{names}
 use Rattle.gj_proof.proofs.LineNumbers.{number_of_own}
 use Rattle.gj_proof.proofs.OwnLines.{IsOwn, own_lines_are_own}
-use Rattle.gj_rank.proofs.ClaimGroups.{number_in_extreme}
+use Rattle.gj_check_groups.proofs.ClaimGroups.{number_in_extreme}
 use Rattle.gj_proof.proofs.LineCounts.{length-covered, length-reductions}
 use Rattle.gj_proof.proofs.AtPlaces.{split_there}
 

@@ -7,9 +7,9 @@ use Rattle.std.proofs.lemmas.Int.{ints, unsigned_abs-mul, to_z-of_z}
 use mir.Syntax.{w128}
 use Rattle.gj_frac.specs.declared.Frac.{Frac}
 use Rattle.gj_frac.specs.Fraction.{IsRatio, SameValue, LessValue, fraction_of, sum_of, numerator, denominator}
-use Rattle.gj_tools.proofs.Integers.{mul_assoc_z, mul_comm_z, swap_last_z, mul_cancel_right_z, mul_lt_mul_right_z, mul_lt_cancel_right_z, mul_le_mul_left_z, mul_le_cancel_right_z, mul_positive_z, mul_nonnegative_z}
-use Rattle.gj_tools.proofs.Divisors.{denominator_divides}
-use Rattle.gj_tools.proofs.Ratios.{ratio_sum}
+use Rattle.gj_lemmas.proofs.Integers.{mul_assoc_z, mul_comm_z, swap_last_z, mul_cancel_right_z, mul_lt_mul_right_z, mul_lt_cancel_right_z, mul_le_mul_left_z, mul_le_cancel_right_z, mul_positive_z, mul_nonnegative_z}
+use Rattle.gj_lemmas.proofs.Divisors.{denominator_divides}
+use Rattle.gj_lemmas.proofs.Ratios.{ratio_sum}
 use Rattle.gj_frac.proofs.SameValues.{is_along}
 use Rattle.gj_shape.proofs.LeastDenominator.{denominator_some}
 

@@ -8,9 +8,9 @@ use Rattle.std.proofs.lemmas.List.Elements.{All-nil, All-head, All-tail}
 use Rattle.gj_frac.specs.declared.Frac.{Frac}
 use Rattle.gj_frac.specs.Fraction.{IsRatio, SameValue, LessValue, fraction_of, sum_of, numerator, denominator}
 use Rattle.gj_frac.specs.Fits.{FitsSum}
-use Rattle.gj_tools.proofs.Integers.{sub_mul_z}
+use Rattle.gj_lemmas.proofs.Integers.{sub_mul_z}
 use Rattle.gj_frac.proofs.OneDenominator.{denominator_divides_each, over_one_denominator}
-use Rattle.gj_tools.proofs.Quotients.{from_same_remainder}
+use Rattle.gj_lemmas.proofs.Quotients.{from_same_remainder}
 use Rattle.gj_shape.specs.FunctionData.{FunctionData, IsWithinBounds, at}
 use Rattle.gj_shape.specs.Table.{table}
 use Rattle.gj_shape.specs.Values.{IsValueAt}

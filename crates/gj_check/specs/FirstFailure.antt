@@ -1,6 +1,6 @@
 -- The first rule that fails, and its line in the proof text (own).
 use Rattle.std.specs.Prelude.{ℕ, ◌≡◌, List, All}
-use Rattle.gj_tools.specs.FirstThatFails.{IsFirstFailing}
+use Rattle.gj_lemmas.specs.FirstThatFails.{IsFirstFailing}
 use Rattle.gj_proof.specs.declared.claim.Claim.{Claim}
 use Rattle.gj_proof.specs.declared.claim.Claim.TheVariants as claim
 use Rattle.gj_proof.specs.ProofText.{HasNumber}

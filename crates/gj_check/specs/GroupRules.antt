@@ -1,6 +1,6 @@
 -- The rules on groups among the checker's rules (own).
-use Rattle.gj_rank.specs.declared.failure.GroupRule.{GroupRule}
-use Rattle.gj_rank.specs.declared.failure.GroupRule.TheVariants as groups
+use Rattle.gj_check_groups.specs.declared.failure.GroupRule.{GroupRule}
+use Rattle.gj_check_groups.specs.declared.failure.GroupRule.TheVariants as groups
 use Rattle.gj_check.specs.declared.rules.CheckRule.{CheckRule}
 use Rattle.gj_check.specs.declared.rules.CheckRule.TheVariants.{Row, Reduce, Size, Pivot}
 

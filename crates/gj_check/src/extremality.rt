@@ -13,7 +13,7 @@ use gj_proof::{
     CLAIM_LINE, Numbers, PivotRow, first_group_line, line_behind_covers, line_behind_group,
     line_below,
 };
-use gj_rank::{GroupRule, failure_in_groups};
+use gj_check_groups::{GroupRule, failure_in_groups};
 use gj_shape::{CoverLine, Shape};
 use std::alloc::{AllocError, Global};
 

@@ -5,7 +5,7 @@ use Rattle.std.proofs.lemmas.List.{map-append}
 use Rattle.std.proofs.lemmas.List.Elements.{All-nil, All-cons, All-head, All-tail, All-append, All-map}
 use Rattle.std.proofs.lemmas.List.Kept.{AllPairs-cons, AllPairs-from_increasing}
 use Rattle.gj_frac.specs.declared.Frac.{Frac}
-use Rattle.gj_tools.proofs.Lists.{All-front, All-back}
+use Rattle.gj_lemmas.proofs.Lists.{All-front, All-back}
 use Rattle.gj_shape.proofs.LeastDenominator.{Divides}
 use Rattle.gj_lex.specs.Name.{IsName}
 use Rattle.gj_row.specs.TableauLimits.{AreWithinLimits, IsRowWithinLimits, IsTableau}

@@ -1,7 +1,7 @@
 -- The walk over the faces, square by square and row by row.
 use Rattle.std.proofs.Common.{◌≡◌, ℕ, ◌+◌, ◌-◌, ◌<◌, ◌≤◌, List, [], ◌++◌, Some, ap, sym, ◌∙◌, arith}
 use Rattle.std.specs.List.{range_with_len, flat_map}
-use Rattle.gj_tools.proofs.Lists.{range_step, range_end}
+use Rattle.gj_lemmas.proofs.Lists.{range_step, range_end}
 use Rattle.gj_shape.specs.declared.faces.Face.{Face}
 use Rattle.gj_shape.specs.declared.faces.FaceKind.TheVariants.{Vertex}
 use Rattle.gj_complex.specs.Walk.{faces_of, faces_of_square, faces_in, row_from, rows_from}

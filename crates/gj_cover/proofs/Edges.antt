@@ -1,7 +1,7 @@
 -- Joined intervals are linked by additive edges, and where a face that joins or covers can stand.
 use Rattle.std.proofs.Common.{◌≡◌, ◌≢◌, ℕ, ◌⊎◌, ◌+◌, ◌/◌, ◌%◌, ◌<◌, ◌≤◌, refl, sym, ap, ◌∙◌, inl, inr, arith}
 use Rattle.std.proofs.Math.Nat.{mod-mod, mod-lt, mod-eq_of_lt}
-use Rattle.gj_tools.proofs.Quotients.{same_remainder, from_same_remainder}
+use Rattle.gj_lemmas.proofs.Quotients.{same_remainder, from_same_remainder}
 use Rattle.gj_shape.specs.Additive.{IsAdditive}
 use Rattle.gj_shape.specs.Cover.{Joins, AreJoined}
 use Rattle.gj_shape.specs.declared.faces.FaceKind.{FaceKind}

@@ -2,7 +2,7 @@
 use Rattle.std.proofs.Common.{◌≡◌, ℕ, zero, suc, ◌⊎◌, ◌+◌, ◌%◌, List, [], ◌∷◌, ◌++◌, refl, sym, ap, ◌∙◌, subst, inl, inr, arith}
 use Rattle.std.specs.List.{Any}
 use Rattle.std.proofs.Math.Nat.{add-mod}
-use Rattle.gj_tools.proofs.Lists.{All-one, All-two, All-three}
+use Rattle.gj_lemmas.proofs.Lists.{All-one, All-two, All-three}
 use Rattle.gj_shape.specs.Additive.{IsAdditive}
 use Rattle.gj_shape.specs.Cover.{IsOneOf, links_of, triangle_projections}
 use Rattle.gj_shape.specs.declared.faces.FaceKind.{FaceKind}

@@ -6,7 +6,7 @@ use Rattle.std.proofs.lemmas.List.{append-nil}
 use Rattle.std.proofs.lemmas.List.Elements.{filter-append, filter_passes, All-contains, Contains-append_right}
 use Rattle.std.proofs.lemmas.List.FromFn.{length-range_with_len, get_or-range_with_len}
 use Rattle.std.proofs.lemmas.List.Kept.{IsStrictlyIncreasing-filter}
-use Rattle.gj_tools.proofs.Lists.{range_split, range_at}
+use Rattle.gj_lemmas.proofs.Lists.{range_split, range_at}
 
 -- the places below n
 abbrev pub places : (ℕ → Bool) → ℕ → List ℕ

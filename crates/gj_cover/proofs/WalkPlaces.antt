@@ -2,9 +2,9 @@
 use Rattle.std.proofs.Common.{◌≡◌, ℕ, ◌<◌, List, [], ◌∷◌, ◌++◌, refl, inl, inr, get_or, arith}
 use Rattle.std.specs.List.{All, range_with_len, flat_map}
 use Rattle.std.proofs.lemmas.List.Elements.{All-map, All-nil, All-push}
-use Rattle.gj_tools.specs.FirstThatFails.{IsFirstFailing}
-use Rattle.gj_tools.proofs.FirstThatFails.{first_failing, first_failing_in_range, first_failing_in_joined}
-use Rattle.gj_tools.proofs.Lists.{All-joined, joined_has}
+use Rattle.gj_lemmas.specs.FirstThatFails.{IsFirstFailing}
+use Rattle.gj_lemmas.proofs.FirstThatFails.{first_failing, first_failing_in_range, first_failing_in_joined}
+use Rattle.gj_lemmas.proofs.Lists.{All-joined, joined_has}
 use Rattle.gj_shape.specs.Cover.{IsFirstFace}
 use Rattle.gj_shape.specs.WalkOrder.{faces_in, faces_of_square, position_of_kind}
 use Rattle.gj_shape.specs.declared.faces.Face.{Face}

@@ -9,9 +9,9 @@ use Rattle.gj_frac.specs.Floor.{IsFloor, HasFractionalPart}
 use Rattle.gj_frac.specs.Fraction.{IsRatio, numerator, denominator, IsWhole}
 use Rattle.gj_frac.proofs.Floors.{quotient_is_floor}
 use Rattle.gj_frac.proofs.SameValues.{is_along, same_from_is}
-use Rattle.gj_tools.proofs.Divisors.{whole_multiple}
-use Rattle.gj_tools.proofs.Integers.{positive_some_z, mul_cancel_right_z, pos_abs_z, one_mul_z}
-use Rattle.gj_tools.proofs.Ratios.{ratio_along}
+use Rattle.gj_lemmas.proofs.Divisors.{whole_multiple}
+use Rattle.gj_lemmas.proofs.Integers.{positive_some_z, mul_cancel_right_z, pos_abs_z, one_mul_z}
+use Rattle.gj_lemmas.proofs.Ratios.{ratio_along}
 use Rattle.gj_shape.proofs.OverScale.{all_divide}
 use Rattle.gj_rule.specs.Kind.{IsKind, IsBounded, HasPlace}
 use Rattle.gj_rule.specs.declared.kind.RuleKind.{RuleKind}

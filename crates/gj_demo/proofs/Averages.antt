@@ -2,8 +2,8 @@
 use Rattle.std.proofs.Common.{◌≡◌, ℕ, ◌+◌, ◌-◌, ◌*◌, ◌%◌, ◌<◌, ◌≤◌, ⊎_elim, ℤ, pos, ◌+ℤ◌, ◌*ℤ◌, [], ◌∷◌, min, refl, sym, ap, ap₂, ◌∙◌, arith}
 use Rattle.std.proofs.Math.Nat.{mod-lt, mod-mod}
 use Rattle.std.proofs.lemmas.Bool.{cases_lt}
-use Rattle.gj_tools.proofs.Integers.{mul_cancel_right_z}
-use Rattle.gj_tools.proofs.Ring.{by_ring, ring}
+use Rattle.gj_lemmas.proofs.Integers.{mul_cancel_right_z}
+use Rattle.gj_lemmas.proofs.Ring.{by_ring, ring}
 use Rattle.gj_shape.specs.Average.{IsAverageOf, half_sum}
 use Rattle.gj_shape.specs.FunctionData.{FunctionData, IsWithinBounds, at}
 use Rattle.gj_shape.proofs.AtLemmas.{at_wrapped}

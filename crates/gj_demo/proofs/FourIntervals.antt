@@ -2,7 +2,7 @@
 use Rattle.std.proofs.Common.{◌≡◌, ℕ, ◌+◌, ◌-◌, ◌*◌, ◌%◌, ◌<◌, ◌≤◌, ◌⊎◌, ⊎_elim, inl, inr, leb, eqb, if◌then◌else◌, refl, sym, ap, subst, ◌∙◌, arith}
 use Rattle.std.proofs.Math.Nat.{add-mod_right}
 use Rattle.std.proofs.lemmas.Bool.{le-leb, lt-leb, cases_lt}
-use Rattle.gj_tools.proofs.Lists.{All-two, All-three}
+use Rattle.gj_lemmas.proofs.Lists.{All-two, All-three}
 use Rattle.gj_shape.specs.Additive.{IsAdditive}
 use Rattle.gj_shape.specs.Cover.{AreJoined, LeadsTo}
 use Rattle.gj_shape.specs.Cover.LeadsTo.{here, onward}

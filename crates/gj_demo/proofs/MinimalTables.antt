@@ -1,7 +1,7 @@
 -- Multiples and sums of minimal tables.
 use Rattle.std.proofs.Common.{◌≡◌, ◌≢◌, ℕ, ◌+◌, ◌<◌, ℤ, pos, ◌+ℤ◌, ◌*ℤ◌, ◌<ℤ◌, ◌≤ℤ◌, unsigned_abs, sym, ap, ap₂, ◌∙◌, subst, subst₂, arith}
 use Rattle.std.proofs.lemmas.Int.{ints}
-use Rattle.gj_tools.proofs.Integers.{add_mul_z, mul_cancel_right_z, mul_le_mul_right_z, mul_le_cancel_right_z}
+use Rattle.gj_lemmas.proofs.Integers.{add_mul_z, mul_cancel_right_z, mul_le_mul_right_z, mul_le_cancel_right_z}
 use Rattle.gj_shape.specs.Table.{IsMinimalTable}
 
 -- c times the one table is d times the other

@@ -2,7 +2,7 @@
 use Rattle.std.proofs.Common.{◌≡◌, ℕ, ◌+◌, ◌-◌, ◌*◌, ◌/◌, ◌%◌, ◌<◌, ◌≤◌, min, ⊎_elim, ap, ◌∙◌, arith}
 use Rattle.std.proofs.Math.Nat.{mod-eq_of_lt, mod_self, add-mod_right, div-add-mod'}
 use Rattle.std.proofs.lemmas.Bool.{cases_lt}
-use Rattle.gj_tools.proofs.Quotients.{same_remainder}
+use Rattle.gj_lemmas.proofs.Quotients.{same_remainder}
 use Rattle.gj_demo.specs.Demo.{demo_number}
 
 -- k times the mixed-integer cut with f = 1/2 at i/(2 k)

@@ -5,8 +5,8 @@ use Rattle.std.specs.Int.{IsGcd, ◌∣◌}
 use Rattle.std.proofs.lemmas.Int.{ints, unsigned_abs-mul}
 use Rattle.std.proofs.lemmas.List.{get_or_default}
 use Rattle.std.proofs.lemmas.List.Elements.{All-same, All-append}
-use Rattle.gj_tools.proofs.Divisors.{cofactor, divides_product, gcd_exists, gcd_positive, gcd_quotients, gauss}
-use Rattle.gj_tools.proofs.Integers.{mul_cancel_right_z, add_mul_z, mul_comm_z}
+use Rattle.gj_lemmas.proofs.Divisors.{cofactor, divides_product, gcd_exists, gcd_positive, gcd_quotients, gauss}
+use Rattle.gj_lemmas.proofs.Integers.{mul_cancel_right_z, add_mul_z, mul_comm_z}
 use Rattle.gj_shape.specs.Additive.{IsTight}
 use Rattle.gj_shape.specs.Extreme.{IsExtreme, AverageTo}
 use Rattle.gj_shape.specs.FunctionData.{FunctionData, IsWithinBounds, IsContinuous, at}

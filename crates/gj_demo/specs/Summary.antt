@@ -9,7 +9,7 @@ use Rattle.gj_shape.specs.declared.extremality.Halves.{Halves}
 use Rattle.gj_shape.specs.declared.faces.Face.{Face}
 use Rattle.gj_faces.specs.Picked.{ArePicked}
 use Rattle.gj_faces.specs.Triangles.{AreAdditiveTriangles}
-use Rattle.gj_lines.specs.FunctionLines.{line, order_line}
+use Rattle.gj_function_lines.specs.FunctionLines.{line, order_line}
 use Rattle.gj_proof.specs.ProofText.{halves_line}
 use Rattle.gj_proof.specs.declared.claim.Claim.TheVariants.{NotExtreme}
 use Rattle.gj_extreme.specs.Decision.{IsDecided}

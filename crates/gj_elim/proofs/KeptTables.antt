@@ -5,7 +5,7 @@ use Rattle.std.specs.List.{position, position_or_len}
 use Rattle.std.proofs.lemmas.Bool.{cases_lt, lt-ltb, ltb-true, eq-eqb, ne_eqb}
 use Rattle.std.proofs.lemmas.List.{length_push, length-set, get_or_default, get_or-set_same, get_or-set_other}
 use Rattle.std.proofs.lemmas.List.Folds.{position_or_len_push}
-use Rattle.gj_tools.proofs.Choices.{never_true}
+use Rattle.gj_lemmas.proofs.Choices.{never_true}
 use Rattle.gj_elim.specs.declared.log.LogRow.{LogRow}
 use Rattle.gj_elim.specs.Progress.{IsFreeColumn}
 use Rattle.gj_elim.specs.Tables.{ArePlaces, AreExtents}

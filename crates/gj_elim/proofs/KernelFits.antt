@@ -4,11 +4,11 @@ use Rattle.std.specs.Prelude.{All}
 use Rattle.std.proofs.lemmas.Bool.{cases_lt}
 use Rattle.std.proofs.lemmas.Int.{ints}
 use Rattle.std.proofs.lemmas.List.Elements.{All-set}
-use Rattle.gj_tools.specs.Divisors.{gcd_of}
-use Rattle.gj_tools.proofs.Choices.{same_some}
-use Rattle.gj_tools.proofs.Divisors.{gcd_of_is}
-use Rattle.gj_tools.proofs.Lists.{All-made}
-use Rattle.gj_tools.proofs.Integers.{unsigned_abs-mul}
+use Rattle.gj_lemmas.specs.Divisors.{gcd_of}
+use Rattle.gj_lemmas.proofs.Choices.{same_some}
+use Rattle.gj_lemmas.proofs.Divisors.{gcd_of_is}
+use Rattle.gj_lemmas.proofs.Lists.{All-made}
+use Rattle.gj_lemmas.proofs.Integers.{unsigned_abs-mul}
 use Rattle.gj_frac.proofs.Reduced.{quotient_of_divisor}
 use Rattle.gj_shape.specs.SlopeRows.{total}
 use Rattle.gj_shape.specs.Elimination.{KeptRow, Solution, at_column, row_with_pivot, entries_of, products_behind, partial_sums, solving_gcd, solving_products, solved_at, marked_in_solving, solution_below, solution_from, free_column, unit_row, kernel, Passes}

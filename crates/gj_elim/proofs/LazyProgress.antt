@@ -5,7 +5,7 @@ use Rattle.std.proofs.lemmas.Int.{ints, to_z-of_z}
 use mir.Syntax.{w64}
 use Rattle.std.proofs.lemmas.List.{length-map}
 use Rattle.std.proofs.lemmas.List.Elements.{All-from_get_or}
-use Rattle.gj_tools.proofs.Integers.{zero_factor_z}
+use Rattle.gj_lemmas.proofs.Integers.{zero_factor_z}
 use Rattle.gj_shape.specs.Elimination.{KeptRow, Insertion, whole_numbers, inserted, at_column, divided, eliminated, reduced, row_with_pivot, with_pivot, kept_entries}
 use Rattle.gj_frac.specs.Fraction.{Fits}
 use Rattle.gj_theory.proofs.DividedRows.{scaled_one}

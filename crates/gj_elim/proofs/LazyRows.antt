@@ -4,7 +4,7 @@ use Rattle.std.proofs.lemmas.Bool.{cases_lt}
 use Rattle.std.proofs.lemmas.Int.{ints, quot-rem, rem_is, quot_fits, fits_signed_from_abs, to_z-of_z}
 use mir.Syntax.{w64, w128}
 use Rattle.std.proofs.lemmas.List.{same_lists, get_or_default, get_or_past, length-map}
-use Rattle.gj_tools.proofs.Integers.{unsigned_abs-mul, abs_sub_z, abs_positive_z, pos_abs_z, one_mul_z}
+use Rattle.gj_lemmas.proofs.Integers.{unsigned_abs-mul, abs_sub_z, abs_positive_z, pos_abs_z, one_mul_z}
 use Rattle.gj_shape.specs.Elimination.{at_column, divided, scaled, differences}
 use Rattle.gj_theory.specs.Fitting.{FitsCombined}
 use Rattle.gj_theory.proofs.CombinedRows.{AreCombined, combined_value}

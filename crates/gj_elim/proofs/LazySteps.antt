@@ -5,10 +5,10 @@ use Rattle.std.proofs.lemmas.Int.{ints}
 use Rattle.std.proofs.lemmas.List.{same_lists, get_or_default, length-map}
 use Rattle.std.proofs.lemmas.Nat.Gcd.{dvd_trans, dvd_refl}
 use Rattle.std.proofs.Math.Nat.{dvd-mul_right, mul-le-mul_right}
-use Rattle.gj_tools.specs.Divisors.{gcd_of}
-use Rattle.gj_tools.proofs.Divisors.{cofactor, divides_product, gcd_of_is, gcd_is_gcd_of, gcd_positive, gcd_scaled}
-use Rattle.gj_tools.proofs.Integers.{unsigned_abs-mul, mul_cancel_left_z, mul_sub_z, mul_lt_cancel_left_z, mul_lt_mul_left_z, abs_zero_z, abs_positive_z}
-use Rattle.gj_tools.proofs.Ring.{by_ring, ring}
+use Rattle.gj_lemmas.specs.Divisors.{gcd_of}
+use Rattle.gj_lemmas.proofs.Divisors.{cofactor, divides_product, gcd_of_is, gcd_is_gcd_of, gcd_positive, gcd_scaled}
+use Rattle.gj_lemmas.proofs.Integers.{unsigned_abs-mul, mul_cancel_left_z, mul_sub_z, mul_lt_cancel_left_z, mul_lt_mul_left_z, abs_zero_z, abs_positive_z}
+use Rattle.gj_lemmas.proofs.Ring.{by_ring, ring}
 use Rattle.gj_shape.specs.Elimination.{at_column, gcd_of_row, divided, scaled, differences, eliminated, reduced, marked_in_step, row_factor, kept_factor, kept_entries, Passes}
 use Rattle.gj_frac.specs.Fraction.{Fits}
 use Rattle.gj_theory.proofs.Entries.{at_scaled, at_differences, at_eliminated}

@@ -4,8 +4,8 @@ use Rattle.std.specs.List.{range_with_len}
 use Rattle.std.specs.Ordering.{int_eq}
 use Rattle.std.proofs.lemmas.Bool.Decides.{Decides-int_eq}
 use Rattle.std.proofs.lemmas.List.{append-nil}
-use Rattle.gj_tools.proofs.Choices.{never_true}
-use Rattle.gj_tools.proofs.Lists.{range_step}
+use Rattle.gj_lemmas.proofs.Choices.{never_true}
+use Rattle.gj_lemmas.proofs.Lists.{range_step}
 use Rattle.gj_shape.specs.Elimination.{KeptRow, Insertion, Arithmetic, with_pivot, at_column, insertion_by, inserted_at_by, row_with_pivot, Passes}
 pub use Rattle.gj_elim.specs.Progress.{IsLeft, rest, IsBehind, IsDone}
 use Rattle.gj_elim.proofs.Places.{IsRowAt}

@@ -7,8 +7,8 @@ use Rattle.std.proofs.lemmas.List.{same_lists, get_or_default, get_or-drop, get_
 use Rattle.std.proofs.lemmas.Nat.Gcd.{IsGcd-swap, le_of_dvd}
 use mir.Syntax.{w64}
 use mir.Val.{Fits}
-use Rattle.gj_tools.specs.Divisors.{gcd_of}
-use Rattle.gj_tools.proofs.Divisors.{gcd_is_gcd_of}
+use Rattle.gj_lemmas.specs.Divisors.{gcd_of}
+use Rattle.gj_lemmas.proofs.Divisors.{gcd_is_gcd_of}
 use Rattle.gj_shape.specs.Elimination.{at_column, gcd_of_row, divided}
 use Rattle.gj_theory.proofs.RowGcds.{gcd_zero_of, gcd_of_zero, gcd_one_of, gcd_next}
 use Rattle.gj_theory.proofs.RowSums.{divided_some}

@@ -2,7 +2,7 @@
 use Rattle.std.proofs.Common.{◌≡◌, ◌<◌, ◌≤◌, ◌*◌, ◌^◌, ℤ, ◌*ℤ◌, unsigned_abs, FitsSigned, to_z, of_z, mul-le-mul_left, sym, ap, ap₂, subst, ◌∙◌, arith}
 use Rattle.std.proofs.lemmas.Int.{to_z-of_z}
 use mir.Syntax.{w128}
-use Rattle.gj_tools.proofs.Integers.{unsigned_abs-mul}
+use Rattle.gj_lemmas.proofs.Integers.{unsigned_abs-mul}
 use Rattle.gj_frac.specs.Fraction.{Fits}
 use Rattle.gj_theory.proofs.WideNumbers.{fits_width, read_fitting}
 

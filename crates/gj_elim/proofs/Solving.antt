@@ -5,13 +5,13 @@ use Rattle.std.proofs.lemmas.Bool.{cases_lt}
 use Rattle.std.proofs.lemmas.Int.{ints, to_z-of_z}
 use Rattle.std.proofs.lemmas.List.{drop_more, length-map}
 use mir.Syntax.{w128}
-use Rattle.gj_tools.specs.Divisors.{gcd_of}
+use Rattle.gj_lemmas.specs.Divisors.{gcd_of}
 use Rattle.gj_shape.specs.SlopeRows.{total}
 use Rattle.gj_shape.specs.Elimination.{at_column, scaled, products_behind, partial_sums, solving_gcd, solving_products, solved_at, marked_in_solving, Passes}
 use Rattle.gj_theory.proofs.Entries.{at_scaled}
 use Rattle.gj_frac.specs.Fraction.{Fits}
-use Rattle.gj_tools.proofs.Integers.{mul_comm_z}
-use Rattle.gj_tools.proofs.Divisors.{gcd_of_is}
+use Rattle.gj_lemmas.proofs.Integers.{mul_comm_z}
+use Rattle.gj_lemmas.proofs.Divisors.{gcd_of_is}
 use Rattle.gj_frac.proofs.Reduced.{quotient_of_divisor}
 use Rattle.gj_theory.proofs.WideNumbers.{fits_width, read_fitting}
 use Rattle.gj_theory.proofs.DividedRows.{smaller, negated_fits, read_negated, read_signed_quotient}

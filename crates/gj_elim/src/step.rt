@@ -2,7 +2,7 @@
 ghost use Rattle.std.specs.Prelude.{ℤ, pos, ◌<ℤ◌, ◌≡◌, ◌≢◌, ◌<◌, ◌↔◌, ◌^◌, ◌*ℤ◌, ◌-ℤ◌, ◌++◌, length, map, All, IfOk, OnOk, OnErr, unsigned_abs, neg_ℤ};
 ghost use Rattle.gj_shape.specs.Elimination.{at_column, divided, scaled, differences, reduced, marked_in_step, kept_entries, gcd_of_row, Passes};
 ghost use Rattle.std.specs.Int.{IsGcd};
-ghost use Rattle.gj_tools.specs.Divisors.{gcd_of};
+ghost use Rattle.gj_lemmas.specs.Divisors.{gcd_of};
 ghost use Rattle.gj_frac.specs.Fraction.{Fits};
 ghost use Rattle.gj_theory.specs.Fitting.{FitsCombined};
 

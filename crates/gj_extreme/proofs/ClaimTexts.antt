@@ -6,7 +6,7 @@ use Rattle.std.proofs.lemmas.Bool.{cases_lt}
 use Rattle.std.proofs.lemmas.List.{get_or_past}
 use Rattle.std.proofs.lemmas.List.Elements.{All-nil, All-cons, All-head, All-append, All-map, All-get_or, All-filter}
 use Rattle.std.proofs.lemmas.List.Sums.{count_by-le-length}
-use Rattle.gj_tools.proofs.Lists.{All-back, All-joined, All-flat_map}
+use Rattle.gj_lemmas.proofs.Lists.{All-back, All-joined, All-flat_map}
 use Rattle.gj_cover.proofs.Parts.{any_none}
 use Rattle.gj_shape.specs.Additive.{IsTight}
 use Rattle.gj_shape.specs.Cover.{Joins, Covers, IsFirstFace, IsNextLine, AreCoverLines}

@@ -9,7 +9,7 @@ use Rattle.std.proofs.lemmas.Int.{ints}
 use Rattle.std.proofs.lemmas.List.FromFn.{length-range_with_len, length-map-range_with_len}
 use Rattle.std.proofs.lemmas.List.Elements.{All-nil, All-map}
 use Rattle.gj_shape.specs.Cover.{components_in}
-use Rattle.gj_tools.proofs.Lists.{All-made, range_split}
+use Rattle.gj_lemmas.proofs.Lists.{All-made, range_split}
 use Rattle.gj_shape.specs.Additive.{IsTight}
 use Rattle.gj_shape.specs.Elimination.{KeptRow, Solution, at_column, kernel, Passes}
 use Rattle.gj_shape.specs.FunctionData.{FunctionData, IsWithinBounds}

@@ -10,7 +10,7 @@ use Rattle.std.proofs.lemmas.Int.{ints}
 use Rattle.std.proofs.lemmas.List.{append-nil, length_push, length-map}
 use Rattle.std.proofs.lemmas.List.FromFn.{length-map-range_with_len}
 use Rattle.std.proofs.lemmas.List.Elements.{All-head, All-tail}
-use Rattle.gj_tools.specs.Divisors.{gcd_of}
+use Rattle.gj_lemmas.specs.Divisors.{gcd_of}
 use Rattle.gj_cover.proofs.Parts.{any_none, any_cases, any_here, any_there}
 use Rattle.gj_shape.specs.Elimination.{KeptRow, Insertion, at_column, entries_of, row_with_pivot, insertion_by, inserted_by, inserted_at_by, kept_behind, Elimination, elimination_from_by, behind_insertion, with_pivot, Passes}
 use Rattle.gj_shape.specs.FunctionData.{FunctionData}

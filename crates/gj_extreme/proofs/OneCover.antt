@@ -3,8 +3,8 @@ use Rattle.std.proofs.Common.{◌≡◌, ℕ, inl, inr, List, [], ◌∷◌, ◌
 use Rattle.std.specs.Prelude.{All}
 use Rattle.std.proofs.lemmas.List.{append-nil}
 use Rattle.gj_cover.proofs.Classes.{one_least}
-use Rattle.gj_tools.proofs.FirstThatFails.{one_first_failing}
-use Rattle.gj_tools.proofs.Lists.{All-front}
+use Rattle.gj_lemmas.proofs.FirstThatFails.{one_first_failing}
+use Rattle.gj_lemmas.proofs.Lists.{All-front}
 use Rattle.gj_shape.specs.Cover.{Joins, Covers, JoinsLines, IsOpen, IsFirstFace, IsNextLine, AreCoverLines}
 use Rattle.gj_shape.specs.FirstViolation.{IsLeastFrom}
 use Rattle.gj_shape.specs.WalkOrder.{faces_of}

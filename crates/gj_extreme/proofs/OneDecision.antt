@@ -8,9 +8,9 @@ use Rattle.std.proofs.lemmas.Bool.Decides.{Decides-eqb}
 use Rattle.std.proofs.lemmas.Bool.{eq-eqb}
 use Rattle.std.proofs.lemmas.Int.{ints}
 use Rattle.std.proofs.lemmas.List.Folds.{Any-from_list_any, list_any-from_Any}
-use Rattle.gj_tools.proofs.Choices.{same_some}
-use Rattle.gj_tools.proofs.Integers.{same_or_apart_z}
-use Rattle.gj_tools.proofs.Lists.{All-range}
+use Rattle.gj_lemmas.proofs.Choices.{same_some}
+use Rattle.gj_lemmas.proofs.Integers.{same_or_apart_z}
+use Rattle.gj_lemmas.proofs.Lists.{All-range}
 use Rattle.gj_shape.specs.Additive.{IsTight}
 use Rattle.gj_shape.specs.Cover.{IsCovered, HasComponent, components_in}
 use Rattle.gj_shape.specs.Cover.HasComponent.{opened, joined}

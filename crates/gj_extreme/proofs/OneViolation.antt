@@ -4,8 +4,8 @@ use Rattle.std.specs.Prelude.{All}
 use Rattle.std.proofs.lemmas.Bool.{cases_lt}
 use Rattle.gj_frac.specs.declared.Frac.{Frac}
 use Rattle.gj_frac.proofs.SameValues.{same_from_is}
-use Rattle.gj_tools.proofs.FirstThatFails.{one_first_failing}
-use Rattle.gj_tools.proofs.Lists.{All-front}
+use Rattle.gj_lemmas.proofs.FirstThatFails.{one_first_failing}
+use Rattle.gj_lemmas.proofs.Lists.{All-front}
 use Rattle.gj_shape.specs.Faces.{corners_of}
 use Rattle.gj_shape.specs.FirstViolation.{Test, Passes, tests_of, IsLeastFrom, IsOnGrid, IsNegativeOnGrid, IsSuperadditiveOnGrid, near, first_coordinates, second_coordinates, Shows, IsFirstViolation}
 use Rattle.gj_shape.specs.FirstViolation.Test.{zero_at_zero, nonnegative_at, nonnegative_after, nonnegative_before, symmetric_at, symmetric_between, subadditive_at}

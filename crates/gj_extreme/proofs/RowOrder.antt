@@ -6,8 +6,8 @@ use Rattle.std.proofs.lemmas.List.{length-append, length-map}
 use Rattle.std.proofs.lemmas.List.FromFn.{length-range_with_len}
 use Rattle.std.proofs.lemmas.List.Sums.{length-filter, count_by-le-length}
 use Rattle.std.proofs.lemmas.Bool.Decides.{Decides-int_eq}
-use Rattle.gj_tools.proofs.Choices.{never_true}
-use Rattle.gj_tools.proofs.Lists.{range_step, range_end}
+use Rattle.gj_lemmas.proofs.Choices.{never_true}
+use Rattle.gj_lemmas.proofs.Lists.{range_step, range_end}
 use Rattle.gj_shape.specs.Additive.{IsTight}
 use Rattle.gj_shape.specs.FunctionData.{FunctionData, IsWithinBounds, at}
 use Rattle.gj_shape.specs.SlopeRows.{is_tight, row_names}

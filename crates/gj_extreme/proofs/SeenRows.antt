@@ -8,7 +8,7 @@ use Rattle.std.proofs.lemmas.Bool.{cases_lt}
 use Rattle.std.proofs.lemmas.Int.{ints}
 use Rattle.std.proofs.Math.Path.{fun_ext}
 use Rattle.std.proofs.lemmas.List.Elements.{All-set}
-use Rattle.gj_tools.proofs.Lists.{All-made}
+use Rattle.gj_lemmas.proofs.Lists.{All-made}
 use Rattle.gj_theory.proofs.RiseCounts.{rises_more}
 use Rattle.gj_shape.specs.Elimination.{elimination_from, Passes}
 use Rattle.gj_shape.specs.FunctionData.{FunctionData}

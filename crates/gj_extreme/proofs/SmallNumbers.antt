@@ -7,9 +7,9 @@ use Rattle.std.proofs.lemmas.Bool.{cases_eq, ne_eqb, leb-false}
 use Rattle.std.proofs.lemmas.Bool.Decides.{Decides-eqb, Decides-int_eq, not_from_Decides}
 use Rattle.std.proofs.lemmas.List.Elements.{All-nil, All-cons, All-head, All-tail, All-append, All-push, All-map}
 use Rattle.gj_perturb.proofs.SplitParts.{product_at_most}
-use Rattle.gj_tools.specs.Divisors.{gcd_of}
-use Rattle.gj_tools.proofs.Divisors.{gcd_of_is, gcd_positive}
-use Rattle.gj_tools.proofs.Integers.{unsigned_abs-mul, abs_sub_z, abs_zero_z}
+use Rattle.gj_lemmas.specs.Divisors.{gcd_of}
+use Rattle.gj_lemmas.proofs.Divisors.{gcd_of_is, gcd_positive}
+use Rattle.gj_lemmas.proofs.Integers.{unsigned_abs-mul, abs_sub_z, abs_zero_z}
 use Rattle.gj_shape.specs.Elimination.{KeptRow, Insertion, Elimination, at_column, divided, scaled, differences, row_factor, kept_factor, eliminated, reduced, marked_in_step, row_with_pivot, kept_entries, insertion, insertion_by, inserted, inserted_at, inserted_at_by, kept_behind, elimination_from, elimination_from_by, behind_insertion}
 use Rattle.gj_theory.proofs.Triangular.{find_has}
 use Rattle.gj_theory.proofs.RowSums.{divided_times}

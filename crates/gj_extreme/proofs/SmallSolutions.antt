@@ -7,9 +7,9 @@ use Rattle.std.proofs.lemmas.List.FromFn.{length-map-range_with_len}
 use Rattle.std.proofs.lemmas.List.Elements.{All-nil, All-cons, All-head, All-tail, All-append, All-drop, All-set}
 use Rattle.gj_frac.proofs.Reduced.{quotient_of_divisor}
 use Rattle.gj_perturb.proofs.SplitParts.{product_at_most}
-use Rattle.gj_tools.proofs.Divisors.{gcd_of_is, gcd_positive}
-use Rattle.gj_tools.proofs.Integers.{abs_add_z, abs_positive_z}
-use Rattle.gj_tools.proofs.Lists.{All-made}
+use Rattle.gj_lemmas.proofs.Divisors.{gcd_of_is, gcd_positive}
+use Rattle.gj_lemmas.proofs.Integers.{abs_add_z, abs_positive_z}
+use Rattle.gj_lemmas.proofs.Lists.{All-made}
 use Rattle.gj_shape.specs.Elimination.{KeptRow, Solution, at_column, scaled, partial_sums, products_behind, solving_gcd, solved_at, marked_in_solving, entries_of, row_with_pivot, solution_below, solution_from, free_column, unit_row, kernel}
 use Rattle.gj_shape.specs.SlopeRows.{total}
 use Rattle.gj_theory.specs.TriangularRows.{AreTriangular}

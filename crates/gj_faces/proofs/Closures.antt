@@ -2,7 +2,7 @@
 use Rattle.std.proofs.Common.{◌≡◌, ℕ, ◌+◌, ◌-◌, ◌*◌, ◌/◌, ◌%◌, ◌≤◌, List, [], ◌∷◌, All, sym, ap, subst, ◌∙◌, arith}
 use Rattle.std.proofs.Math.Nat.{add-mul-mod_self_left}
 use Rattle.std.proofs.lemmas.List.Elements.{All-nil, All-cons}
-use Rattle.gj_tools.proofs.Quotients.{from_same_remainder}
+use Rattle.gj_lemmas.proofs.Quotients.{from_same_remainder}
 use Rattle.gj_shape.specs.Additive.{IsInFace, IsInClosure, border_of}
 use Rattle.gj_shape.specs.FunctionData.{FunctionData}
 use Rattle.gj_shape.specs.declared.faces.FaceKind.{FaceKind}

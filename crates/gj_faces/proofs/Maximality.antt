@@ -3,7 +3,7 @@ use Rattle.std.proofs.Common.{◌≡◌, ◌⊎◌, inl, inr, ℕ, ◌+◌, ◌-
 use Rattle.std.proofs.Math.Nat.{add-mod_right}
 use Rattle.std.proofs.lemmas.Bool.{true≢false}
 use Rattle.std.proofs.lemmas.List.Elements.{All-nil, All-cons, All-weaker}
-use Rattle.gj_tools.proofs.Lists.{All-one, All-two, All-three}
+use Rattle.gj_lemmas.proofs.Lists.{All-one, All-two, All-three}
 use Rattle.gj_shape.specs.Additive.{IsAdditive, IsSameFace, IsMaximalFace, border_of, edges_of}
 use Rattle.gj_shape.specs.Faces.{corners_of}
 use Rattle.gj_shape.specs.declared.faces.FaceKind.{FaceKind}

@@ -5,15 +5,15 @@ use Rattle.std.proofs.lemmas.List.{append-nil, flat_map_more}
 use Rattle.std.proofs.lemmas.List.Concat.{flat_map-append}
 use Rattle.std.proofs.lemmas.List.Elements.{All-nil, All-cons, All-head, All-tail, All-map}
 use Rattle.std.proofs.Math.Nat.{zero-add}
-use Rattle.gj_tools.proofs.Lists.{All-range, All-joined}
+use Rattle.gj_lemmas.proofs.Lists.{All-range, All-joined}
 use Rattle.gj_shape.specs.FunctionData.{FunctionData}
 use Rattle.gj_shape.specs.Additive.{IsTight}
 use Rattle.gj_shape.specs.Cover.{IsCovered}
 use Rattle.gj_shape.specs.WalkOrder.{faces_of_square}
 use Rattle.gj_shape.specs.declared.faces.Face.{Face}
 use Rattle.gj_shape.specs.declared.faces.FaceKind.TheVariants.{Vertex, Horizontal, Vertical, Diagonal, Lower, Upper}
-use Rattle.gj_lines.specs.FunctionLines.{line, order_line}
-use Rattle.gj_lines.specs.FaceLines.{face_text, cover_line}
+use Rattle.gj_function_lines.specs.FunctionLines.{line, order_line}
+use Rattle.gj_function_lines.specs.FaceLines.{face_text, cover_line}
 use Rattle.gj_faces.specs.Added.{AddsMaximal, faces_of_row}
 use Rattle.gj_faces.specs.Listed.{IsMaximalIn}
 use Rattle.gj_faces.proofs.AddedFaces.{picked_row, all_rows_picked}

@@ -3,8 +3,8 @@ use Rattle.std.specs.Prelude.{ℕ, ◌≡◌, ◌<◌, List, ◌++◌, codes, de
 use Rattle.gj_shape.specs.declared.faces.Face.{Face}
 use Rattle.gj_shape.specs.declared.faces.FaceKind.{FaceKind}
 use Rattle.gj_shape.specs.WalkOrder.{position_of_kind}
-use Rattle.gj_lines.specs.FunctionLines.{line}
-use Rattle.gj_lines.specs.FaceLines.{face_word}
+use Rattle.gj_function_lines.specs.FunctionLines.{line}
+use Rattle.gj_function_lines.specs.FaceLines.{face_word}
 use Rattle.gj_facetext.specs.declared.face_lines.Piece.{Piece}
 use Rattle.gj_facetext.specs.declared.face_lines.Starts.{Starts}
 

@@ -11,8 +11,8 @@ use Rattle.gj_faces.specs.Picked.{ArePicked}
 use Rattle.gj_faces.specs.Added.{faces_of_row}
 use Rattle.gj_faces.specs.Listed.{AreMaximalFaces, IsMaximalIn}
 use Rattle.gj_cover.specs.CoverOf.{number_at}
-use Rattle.gj_lines.specs.FunctionLines.{line, order_line}
-use Rattle.gj_lines.specs.FaceLines.{face_text, cover_line}
+use Rattle.gj_function_lines.specs.FunctionLines.{line, order_line}
+use Rattle.gj_function_lines.specs.FaceLines.{face_text, cover_line}
 
 -- the line of an uncovered interval
 abbrev pub uncovered_line : ℕ → List ℕ

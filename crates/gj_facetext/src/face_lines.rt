@@ -3,11 +3,11 @@
 //! There may be hundreds of thousands of lines, so the piece up to the row is put together once a row, and the piece
 //! behind it once a column.
 ghost use Rattle.std.specs.Prelude.{◌≡◌, ◌+◌, ◌<◌, ◌≤◌, [], ◌++◌, All, codes, decimal, flat_map, length, IfOk, OnOk};
-ghost use Rattle.gj_lines.specs.FunctionLines.{line};
-ghost use Rattle.gj_lines.specs.FaceLines.{face_text, face_word};
+ghost use Rattle.gj_function_lines.specs.FunctionLines.{line};
+ghost use Rattle.gj_function_lines.specs.FaceLines.{face_text, face_word};
 ghost use Rattle.gj_facetext.specs.FacePieces.{text_of, AreStarts, AreEnds, HasPieces};
 
-use gj_lines::face_word;
+use gj_function_lines::face_word;
 use gj_shape::{Face, FaceKind};
 use itoa::Buffer;
 use std::alloc::{AllocError, Global};

@@ -2,9 +2,9 @@
 use Rattle.std.proofs.Common.{◌≡◌, ℕ, ◌%◌, ◌<◌, ◌^◌, ℤ, pos, ◌*ℤ◌, List, length, get_or, All, unsigned_abs, refl, sym, ap, ◌∙◌, arith}
 use Rattle.gj_frac.specs.declared.Frac.{Frac}
 use Rattle.gj_frac.specs.Fraction.{IsRatio, numerator, denominator}
-use Rattle.gj_tools.proofs.Divisors.{whole_multiple}
-use Rattle.gj_tools.proofs.Integers.{mul_comm_z, pos_abs_z}
-use Rattle.gj_tools.proofs.FirstThatFails.{first_failing_denies}
+use Rattle.gj_lemmas.proofs.Divisors.{whole_multiple}
+use Rattle.gj_lemmas.proofs.Integers.{mul_comm_z, pos_abs_z}
+use Rattle.gj_lemmas.proofs.FirstThatFails.{first_failing_denies}
 use Rattle.std.proofs.lemmas.Int.{ints}
 use Rattle.gj_shape.specs.FunctionData.{FunctionData, IsSmallOver, at}
 use Rattle.gj_shape.specs.Given.{in_order, IsSmall, IsCommonDenominator, AreWithinBounds, IsOrder, IsPlace, HaveLength, HasFault, IsGivenBy, AreOver, IsMemory}

@@ -2,8 +2,8 @@
 use Rattle.std.proofs.Common.{◌≡◌, ℕ, zero, suc, ◌+◌, ◌-◌, ◌*◌, ◌/◌, ◌%◌, ◌<◌, ◌≤◌, ⊎_elim, ℤ, pos, ◌+ℤ◌, ◌*ℤ◌, [], ◌∷◌, refl, sym, ap, ap₂, subst₂, ◌∙◌, arith}
 use Rattle.std.proofs.Math.Nat.{div-add-mod', mod-lt, mod-mod, lt_of_mul-lt-mul_right, mul-le-mul_right, mul-pos}
 use Rattle.std.proofs.lemmas.Bool.{cases_lt}
-use Rattle.gj_tools.proofs.Quotients.{same_at_remainder}
-use Rattle.gj_tools.proofs.Ring.{by_ring, ring}
+use Rattle.gj_lemmas.proofs.Quotients.{same_at_remainder}
+use Rattle.gj_lemmas.proofs.Ring.{by_ring, ring}
 use Rattle.gj_shape.specs.FunctionData.{FunctionData, IsWithinBounds, IsContinuous, at}
 use Rattle.gj_shape.specs.Gmic.{gmic_table, gmic_scale}
 use Rattle.gj_shape.specs.Table.{table, entry}

@@ -2,8 +2,8 @@
 use Rattle.std.proofs.Common.{◌≡◌, ◌≢◌, ◌⊎◌, ⊎_elim, inl, inr, ℕ, ◌-◌, ◌<◌, ◌≤◌, ℤ, pos, ◌*ℤ◌, ◌<ℤ◌, List, Bool, length, unsigned_abs, sym, ap, ◌∙◌, arith}
 use Rattle.std.proofs.lemmas.Int.{ints}
 use Rattle.std.proofs.lemmas.Bool.{cases_lt, cases_eq}
-use Rattle.gj_tools.proofs.Integers.{positive_some_z, mul_comm_z, one_mul_z}
-use Rattle.gj_tools.proofs.Ratios.{ratio_along}
+use Rattle.gj_lemmas.proofs.Integers.{positive_some_z, mul_comm_z, one_mul_z}
+use Rattle.gj_lemmas.proofs.Ratios.{ratio_along}
 use Rattle.gj_shape.specs.FunctionData.{FunctionData, IsWithinBounds, at}
 use Rattle.gj_shape.proofs.AlikeFunctions.{alike_are_same, continuous_alike}
 use Rattle.gj_family.specs.Families.{IsGmic, IsHalf, IsTwoSlope}

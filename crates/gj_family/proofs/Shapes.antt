@@ -3,8 +3,8 @@ use Rattle.std.proofs.Common.{◌≡◌, ◌≢◌, ℕ, ◌-◌, ◌*◌, ◌%�
 use Rattle.std.proofs.Math.Nat.{mul-pos, mod_self}
 use Rattle.std.proofs.lemmas.Bool.{eq-eqb, ne_eqb}
 use Rattle.std.proofs.lemmas.Int.{ints}
-use Rattle.gj_tools.proofs.Integers.{mul_cancel_right_z}
-use Rattle.gj_tools.proofs.Ring.{by_ring, ring}
+use Rattle.gj_lemmas.proofs.Integers.{mul_cancel_right_z}
+use Rattle.gj_lemmas.proofs.Ring.{by_ring, ring}
 use Rattle.gj_shape.specs.FunctionData.{FunctionData, IsContinuous, at}
 use Rattle.gj_shape.specs.Gmic.{gmic_table, gmic_scale}
 use Rattle.gj_shape.proofs.AtLemmas.{at_wrapped}

@@ -2,9 +2,9 @@
 use Rattle.std.proofs.Common.{◌≡◌, ℕ, zero, suc, ◌+◌, ◌<◌, Bool, true, false, ◌&&◌, cond, ℤ, pos, ◌+ℤ◌, ◌*ℤ◌, ◌<ℤ◌, neg_ℤ, int_lt, List, [], ◌∷◌, ◌++◌, flat_map, refl, ap, subst, ◌∙◌, append_assoc, arith}
 use Rattle.std.specs.List.{range_with_len, AllZip}
 use Rattle.std.proofs.lemmas.Int.{ints}
-use Rattle.gj_tools.proofs.Integers.{mul_positive_z, mul_le_mul_right_z, zero_factor_z, mul_comm_z}
-use Rattle.gj_tools.proofs.Ratios.{ratio_less}
-use Rattle.gj_tools.proofs.Ring.{by_ring, ring}
+use Rattle.gj_lemmas.proofs.Integers.{mul_positive_z, mul_le_mul_right_z, zero_factor_z, mul_comm_z}
+use Rattle.gj_lemmas.proofs.Ratios.{ratio_less}
+use Rattle.gj_lemmas.proofs.Ring.{by_ring, ring}
 use Rattle.gj_frac.specs.declared.Frac.{Frac}
 use Rattle.gj_frac.specs.Fraction.{LessValue, IsRatio, IsInside, fraction_of}
 use Rattle.gj_shape.specs.Breaks.{AreAscending}

@@ -5,7 +5,7 @@ use Rattle.std.proofs.Math.Nat.{zero-add}
 use Rattle.std.proofs.lemmas.Int.{ints}
 use Rattle.std.proofs.lemmas.Grind.{flat_map-append}
 use mir.Syntax.{w64}
-use Rattle.gj_tools.proofs.Lists.{range_split}
+use Rattle.gj_lemmas.proofs.Lists.{range_split}
 use Rattle.gj_frac.specs.declared.Frac.{Frac}
 use Rattle.gj_frac.specs.Fraction.{IsRatio}
 use Rattle.gj_shape.specs.FunctionData.{FunctionData}

@@ -4,10 +4,10 @@ use Rattle.std.specs.Int.{int_min}
 use Rattle.std.proofs.Math.Nat.{div-add-mod', mod-lt, mul-le-mul_right, mul-lt-mul_of_pos_right}
 use Rattle.std.proofs.lemmas.Bool.{cases_lt}
 use Rattle.std.proofs.lemmas.Int.{ints, by_lt_z}
-use Rattle.gj_tools.proofs.Integers.{add_comm_z, mul_le_mul_left_z, mul_nonnegative_z, mul_add_z, add_mul_z}
-use Rattle.gj_tools.proofs.Lesser.{min_below, min_first, min_second}
-use Rattle.gj_tools.proofs.Quotients.{parts_of_place}
-use Rattle.gj_tools.proofs.Ring.{by_ring, ring}
+use Rattle.gj_lemmas.proofs.Integers.{add_comm_z, mul_le_mul_left_z, mul_nonnegative_z, mul_add_z, add_mul_z}
+use Rattle.gj_lemmas.proofs.Lesser.{min_below, min_first, min_second}
+use Rattle.gj_lemmas.proofs.Quotients.{parts_of_place}
+use Rattle.gj_lemmas.proofs.Ring.{by_ring, ring}
 use Rattle.gj_shape.proofs.TableLemmas.{period_of_parts}
 use Rattle.gj_fill.specs.FillIn.{IsSubadditiveTable, AreGreatestSteps, filled_between, filled}
 

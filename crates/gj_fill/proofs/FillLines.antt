@@ -1,6 +1,6 @@
 -- Lines through the points of a fill-in, by cross products.
 use Rattle.std.proofs.Common.{◌≡◌, ℕ, ◌+◌, ◌*◌, ℤ, pos, ◌+ℤ◌, ◌-ℤ◌, ◌*ℤ◌, neg_ℤ, [], ◌∷◌, refl, ap, sym, ◌∙◌}
-use Rattle.gj_tools.proofs.Ring.{by_ring, ring}
+use Rattle.gj_lemmas.proofs.Ring.{by_ring, ring}
 use Rattle.gj_fill.specs.FillPoints.{IsOnLine}
 
 -- the line through the value u/n at a/q, with u and the filled value over n

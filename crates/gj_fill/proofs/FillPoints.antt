@@ -3,8 +3,8 @@ use Rattle.std.proofs.Common.{◌≡◌, ℕ, zero, suc, inl, inr, ◌+◌, ◌-
 use Rattle.std.specs.List.{range_with_len}
 use Rattle.std.proofs.Math.Nat.{zero-add}
 use Rattle.std.proofs.lemmas.Int.{ints}
-use Rattle.gj_tools.proofs.Integers.{mul_le_mul_left_z, mul_le_mul_right_z, mul_le_cancel_right_z, mul_nonnegative_z, mul_neg_z, mul_add_z, add_mul_z}
-use Rattle.gj_tools.proofs.Ring.{by_ring, ring}
+use Rattle.gj_lemmas.proofs.Integers.{mul_le_mul_left_z, mul_le_mul_right_z, mul_le_cancel_right_z, mul_nonnegative_z, mul_neg_z, mul_add_z, add_mul_z}
+use Rattle.gj_lemmas.proofs.Ring.{by_ring, ring}
 use Rattle.gj_shape.specs.FunctionData.{FunctionData, at}
 use Rattle.gj_shape.specs.TwoSlopes.{rise}
 use Rattle.gj_fill.specs.FillIn.{AreGreatestSteps, filled}

@@ -7,9 +7,9 @@ use Rattle.std.specs.Int.{IsGcd, ◌∣◌}
 use Rattle.gj_frac.specs.declared.Frac.{Frac}
 use Rattle.gj_frac.specs.Fraction.{Fits, IsRatio, SameValue, fraction_of, product_of}
 use Rattle.gj_frac.specs.Fits.{FitsProduct}
-use Rattle.gj_tools.proofs.Divisors.{gauss, coprime_product, coprime_divisor}
-use Rattle.gj_tools.proofs.Integers.{mul_comm_z, mul_positive_z, mul_some_z, positive_some_z}
-use Rattle.gj_tools.proofs.Ratios.{ratio_product}
+use Rattle.gj_lemmas.proofs.Divisors.{gauss, coprime_product, coprime_divisor}
+use Rattle.gj_lemmas.proofs.Integers.{mul_comm_z, mul_positive_z, mul_some_z, positive_some_z}
+use Rattle.gj_lemmas.proofs.Ratios.{ratio_product}
 use Rattle.gj_frac.proofs.OneDenominator.{denominator_divides_each}
 use Rattle.gj_frac.proofs.SameValues.{is_along, parts_from_is}
 

@@ -9,7 +9,7 @@ use Rattle.std.specs.Int.{IsGcd, ◌∣◌, int_div_euclid, int_rem_euclid}
 use Rattle.gj_frac.specs.declared.Frac.{Frac}
 use Rattle.gj_frac.specs.Floor.{IsFloor}
 use Rattle.gj_frac.specs.Lowest.{IsLowest}
-use Rattle.gj_tools.proofs.Integers.{neg_mul_z, mul_lt_cancel_right_z}
+use Rattle.gj_lemmas.proofs.Integers.{neg_mul_z, mul_lt_cancel_right_z}
 
 -- ---- the quotient that is rounded down
 

@@ -6,7 +6,7 @@ use Rattle.std.proofs.lemmas.Bool.{cases_lt}
 use Rattle.std.proofs.lemmas.Nat.{pow-add}
 use Rattle.std.proofs.lemmas.Nat.Bits.{bit_at-trailing_zeros}
 use Rattle.std.proofs.lemmas.Nat.Gcd.{IsGcd-from_zero, IsGcd-from_mod, IsGcd-from_sub, IsGcd-swap, dvd_trans}
-use Rattle.gj_tools.proofs.Divisors.{gauss, gcd_scaled, coprime_divisor, coprime_product}
+use Rattle.gj_lemmas.proofs.Divisors.{gauss, gcd_scaled, coprime_divisor, coprime_product}
 
 -- ---- an odd number beside a power of 2
 

@@ -7,8 +7,8 @@ use Rattle.std.specs.Int.{◌∣◌}
 use Rattle.gj_frac.specs.declared.Frac.{Frac}
 use Rattle.gj_frac.specs.Fraction.{IsRatio, Fits}
 use Rattle.gj_frac.specs.Fits.{IsDenominatorGcd, scaled_numerator, common_denominator, FitsSum, FitsDifference, FitsOverOneDenominator}
-use Rattle.gj_tools.proofs.Integers.{mul_assoc_z, mul_left_comm_z, mul_add_z, mul_sub_z, mul_cancel_right_z, abs_add_z, abs_sub_z, abs_positive_z}
-use Rattle.gj_tools.proofs.Divisors.{gauss, gcd_positive, lcm_from_gcd}
+use Rattle.gj_lemmas.proofs.Integers.{mul_assoc_z, mul_left_comm_z, mul_add_z, mul_sub_z, mul_cancel_right_z, abs_add_z, abs_sub_z, abs_positive_z}
+use Rattle.gj_lemmas.proofs.Divisors.{gauss, gcd_positive, lcm_from_gcd}
 use Rattle.gj_frac.proofs.Reduced.{quotient_of_divisor}
 use Rattle.gj_frac.proofs.Sums.{factor_some, first_is, second_is}
 

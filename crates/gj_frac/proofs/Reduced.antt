@@ -8,8 +8,8 @@ use Rattle.std.proofs.lemmas.Int.{quot-rem, unsigned_abs-mul, fits_signed_from_a
 use Rattle.std.proofs.lemmas.Nat.Gcd.{mod-eq-zero_of_dvd, le_of_dvd}
 use Rattle.std.proofs.Math.Nat.{eq-zero_of_zero-dvd}
 use mir.Syntax.{w128}
-use Rattle.gj_tools.proofs.Integers.{mul_assoc_z, mul_comm_z}
-use Rattle.gj_tools.proofs.Divisors.{gcd_quotients}
+use Rattle.gj_lemmas.proofs.Integers.{mul_assoc_z, mul_comm_z}
+use Rattle.gj_lemmas.proofs.Divisors.{gcd_quotients}
 
 -- the rest of a division by a divisor is 0
 rest_of_divisor : (n d : ℤ) → unsigned_abs d ∣ unsigned_abs n → int_rem n d ≡ pos 0

@@ -5,9 +5,9 @@ use Rattle.std.specs.Int.{IsGcd}
 use Rattle.gj_frac.specs.declared.Frac.{Frac}
 use Rattle.gj_frac.specs.Fraction.{IsRatio}
 pub use Rattle.gj_frac.specs.SameParts.{ratio, same_parts_same, same_value_same_parts, same_value_same}
-use Rattle.gj_tools.proofs.Divisors.{same_ratio}
-use Rattle.gj_tools.proofs.Integers.{mul_cancel_right_z, abs_positive_z, neg_mul_z, positive_some_z}
-use Rattle.gj_tools.proofs.Ratios.{ratio_along}
+use Rattle.gj_lemmas.proofs.Divisors.{same_ratio}
+use Rattle.gj_lemmas.proofs.Integers.{mul_cancel_right_z, abs_positive_z, neg_mul_z, positive_some_z}
+use Rattle.gj_lemmas.proofs.Ratios.{ratio_along}
 
 -- n/d has no other value than m/e, so what is n/d is m/e
 pub is_along : (x : Frac) (n d m e : ℤ) → unsigned_abs d ≢ 0 → IsRatio x n d → n *ℤ e ≡ m *ℤ d → IsRatio x m e

@@ -5,7 +5,7 @@ use Rattle.std.specs.Cmp.{int_cmp_is, ranks}
 use Rattle.std.specs.declared.cmp.Ordering.{Ordering}
 use Rattle.std.specs.declared.cmp.Ordering.TheVariants.{Less, Equal, Greater}
 use Rattle.std.specs.Ordering.{MatchOrdering, nat_cmp, int_cmp}
-use Rattle.gj_tools.proofs.Integers.{pos_abs_z, neg_mul_z, mul_lt_mul_right_z, mul_nonnegative_z}
+use Rattle.gj_lemmas.proofs.Integers.{pos_abs_z, neg_mul_z, mul_lt_mul_right_z, mul_nonnegative_z}
 
 rank_positive : (x y : ℕ) (r : Ordering) → MatchOrdering r (x < y) (x ≡ y) (y < x) →
     MatchOrdering r (pos x <ℤ pos y) (pos x ≡ pos y) (pos y <ℤ pos x)

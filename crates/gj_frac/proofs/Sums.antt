@@ -7,11 +7,11 @@ use Rattle.std.specs.Int.{IsGcd}
 use Rattle.gj_frac.specs.declared.Frac.{Frac}
 use Rattle.gj_frac.specs.Fraction.{IsRatio}
 use Rattle.gj_frac.specs.Fits.{IsDenominatorGcd, scaled_numerator, common_denominator}
-use Rattle.gj_tools.proofs.Integers.{mul_assoc_z, mul_lt_cancel_right_z, mul_some_z, abs_positive_z, positive_some_z, pos_abs_z}
-use Rattle.gj_tools.proofs.Divisors.{quotient_times, crossed_quotients}
+use Rattle.gj_lemmas.proofs.Integers.{mul_assoc_z, mul_lt_cancel_right_z, mul_some_z, abs_positive_z, positive_some_z, pos_abs_z}
+use Rattle.gj_lemmas.proofs.Divisors.{quotient_times, crossed_quotients}
 use Rattle.gj_frac.proofs.Reduced.{read_part}
 use mir.Syntax.{w128}
-use Rattle.gj_tools.proofs.Ratios.{ratio_along, ratio_sum, ratio_difference}
+use Rattle.gj_lemmas.proofs.Ratios.{ratio_along, ratio_sum, ratio_difference}
 
 -- ---- the common denominator
 

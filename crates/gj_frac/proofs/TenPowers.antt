@@ -6,7 +6,7 @@ use Rattle.std.proofs.lemmas.Nat.{pow-add, mul-pow, pow_pos}
 use Rattle.std.proofs.lemmas.Nat.Gcd.{IsGcd-from_zero, IsGcd-from_mod}
 use Rattle.std.proofs.lemmas.Int.{ints, to_z_pos}
 use Rattle.gj_frac.specs.Lowest.{IsLowest}
-use Rattle.gj_tools.proofs.Divisors.{coprime_product}
+use Rattle.gj_lemmas.proofs.Divisors.{coprime_product}
 use mir.Syntax.{w128}
 use Rattle.gj_frac.proofs.OddParts.{coprime_power, odd_power, twos_part}
 use Rattle.gj_frac.proofs.Reduced.{same_from_multiples}

@@ -11,9 +11,9 @@ use Rattle.gj_frac.specs.Fits.{IsDenominatorGcd, FitsSum, FitsProduct, scaled_nu
 use Rattle.gj_frac.specs.CompareValues.{compare_values}
 use Rattle.gj_frac.specs.SameParts.{ratio, same_value_same}
 use Rattle.gj_frac.specs.TotalOrder.{IsLess, compare_values_ranks}
-use Rattle.gj_tools.proofs.Integers.{mul_comm_z, add_comm_z}
-use Rattle.gj_tools.proofs.Divisors.{crossed_quotients}
-use Rattle.gj_tools.proofs.Ratios.{sums_swapped, sums_regrouped, products_swapped, products_regrouped, products_over_sums, sums_below}
+use Rattle.gj_lemmas.proofs.Integers.{mul_comm_z, add_comm_z}
+use Rattle.gj_lemmas.proofs.Divisors.{crossed_quotients}
+use Rattle.gj_lemmas.proofs.Ratios.{sums_swapped, sums_regrouped, products_swapped, products_regrouped, products_over_sums, sums_below}
 
 -- s is the sum of x and y, or their product
 abbrev IsSum : Frac → Frac → Frac → Type 0

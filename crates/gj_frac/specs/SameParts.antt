@@ -3,8 +3,8 @@ use Rattle.std.proofs.Common.{◌≡◌, ℤ}
 use Rattle.gj_frac.specs.declared.Frac.{Frac}
 use Rattle.gj_frac.specs.Lowest.{IsLowest}
 use Rattle.gj_frac.specs.Fraction.{SameValue, fraction_of}
-use Rattle.gj_tools.proofs.Divisors.{same_ratio}
-use Rattle.gj_tools.proofs.Ratios.{Ratio}
+use Rattle.gj_lemmas.proofs.Divisors.{same_ratio}
+use Rattle.gj_lemmas.proofs.Ratios.{Ratio}
 use denote.Struct.Props.{props}
 use mathlib.Core.HLevel.{is_prop→PathP}
 

@@ -9,7 +9,7 @@ use Rattle.std.specs.Ordering.{MatchOrdering, is_eq, int_eq, eq_by_cmp, as_parti
 use Rattle.gj_frac.specs.declared.Frac.{Frac}
 use Rattle.gj_frac.specs.Fraction.{LessValue, fraction_of}
 use Rattle.gj_frac.specs.CompareValues.{compare_values}
-use Rattle.gj_tools.proofs.Ratios.{not_below_itself, below_chain}
+use Rattle.gj_lemmas.proofs.Ratios.{not_below_itself, below_chain}
 use Rattle.gj_frac.specs.SameParts.{ratio, same_value_same, same_parts_same}
 
 -- x is less than y

@@ -1,7 +1,7 @@
 //! The greatest common divisor and the least common multiple.
 ghost use Rattle.std.specs.Prelude.{◌<◌, ◌≡◌, ◌%◌};
 ghost use Rattle.std.specs.Int.{IsGcd};
-ghost use Rattle.gj_tools.specs.Divisors.{IsLcm};
+ghost use Rattle.gj_lemmas.specs.Divisors.{IsLcm};
 
 /// The greatest common divisor of two whole numbers, by Euclid's algorithm; that of 0 and 0 is 0.
 ///

@@ -7,7 +7,7 @@ use Rattle.std.proofs.lemmas.List.Elements.{All-cons}
 use Rattle.std.proofs.lemmas.List.FromFn.{length-range_with_len, length-map-range_with_len}
 use Rattle.std.proofs.lemmas.List.Sums.{length-filter, count_by-le-length}
 use Rattle.gj_frac.specs.Fraction.{Fits}
-use Rattle.gj_tools.proofs.Lists.{All-made}
+use Rattle.gj_lemmas.proofs.Lists.{All-made}
 use Rattle.gj_theory.proofs.OrderedPairs.{made_of_pairs, all_pairs}
 use Rattle.gj_group.specs.GroupRows.{one_at, entry_row, sum_row, is_tight_pair, sum_rows_with, group_rows}
 

@@ -3,7 +3,7 @@ use Rattle.std.specs.Prelude.{ℕ, pos, ◌≡◌, List, ◌++◌, codes}
 use Rattle.gj_frac.specs.declared.Frac.{Frac}
 use Rattle.gj_frac.specs.Fraction.{IsRatio}
 use Rattle.gj_shape.specs.FunctionData.{FunctionData}
-use Rattle.gj_lines.specs.FunctionLines.{line, order_line, place_line}
+use Rattle.gj_function_lines.specs.FunctionLines.{line, order_line, place_line}
 use Rattle.gj_proof.specs.ProofText.{violation_line}
 use Rattle.gj_proof.specs.ExtremeTexts.{halves_text}
 use Rattle.gj_group.specs.declared.decision.GroupAnswer.{GroupAnswer}

@@ -6,7 +6,7 @@ ghost use Rattle.gj_gtext.specs.GroupText.{IsGroupText, verdict_lines};
 
 use gj_frac::Frac;
 use gj_group::GroupAnswer;
-use gj_lines::{push_fraction_line, push_order_line};
+use gj_function_lines::{push_fraction_line, push_order_line};
 use gj_proof::{push_halves, push_violation_line};
 use gj_shape::Shape;
 use std::alloc::{AllocError, Global};

@@ -8,8 +8,8 @@ use Rattle.gj_lex.specs.SpelledNumbers.{IsFractionWord}
 use Rattle.gj_lex.specs.declared.spelling.Spelling.TheVariants.{Lenient}
 use Rattle.gj_lex.proofs.SpelledWords.{one_fraction}
 use Rattle.gj_frac.proofs.SameValues.{one_place}
-use Rattle.gj_tools.proofs.FirstThatFails.{first_failing_denies}
-use Rattle.gj_tools.proofs.Choices.{same_some}
+use Rattle.gj_lemmas.proofs.FirstThatFails.{first_failing_denies}
+use Rattle.gj_lemmas.proofs.Choices.{same_some}
 use Rattle.gj_shape.specs.FunctionData.{FunctionData}
 use Rattle.gj_shape.specs.Given.{AreWithinBounds, IsGivenBy}
 use Rattle.gj_shape.proofs.GivenLists.{within_given}

@@ -1,8 +1,8 @@
 -- A text has one first reason.
 use Rattle.std.proofs.Common.{◌≡◌, inl, inr, ℕ, List, length, refl, sym, subst, ◌∙◌}
 use Rattle.gj_frac.specs.declared.Frac.{Frac}
-use Rattle.gj_tools.proofs.FirstThatFails.{one_first_failing}
-use Rattle.gj_lines.specs.PlaceFraction.{IsPlaceFraction}
+use Rattle.gj_lemmas.proofs.FirstThatFails.{one_first_failing}
+use Rattle.gj_function_lines.specs.PlaceFraction.{IsPlaceFraction}
 use Rattle.gj_shape.specs.Given.{AreWithinBounds, IsSmall, IsOrder, IsTooLarge, IsTooFine, in_order}
 use Rattle.gj_shape.proofs.LeastDenominator.{within_bounds_closed}
 use Rattle.serde_json.specs.Data.{Data}

@@ -1,7 +1,7 @@
 -- Why a text is no JSON function: the first test that fails; and what the reader answers (own).
 use Rattle.std.specs.Prelude.{ℕ, ◌≡◌, ◌⊎◌, List, length, codes}
 use Rattle.gj_frac.specs.declared.Frac.{Frac}
-use Rattle.gj_lines.specs.PlaceFraction.{IsPlaceFraction}
+use Rattle.gj_function_lines.specs.PlaceFraction.{IsPlaceFraction}
 use Rattle.gj_shape.specs.Given.{IsOrder, IsTooLarge, IsTooFine}
 use Rattle.serde_json.specs.Data.{Data}
 use Rattle.gj_json.specs.JsonFunction.{HasForm, HasFractions, HasValue}

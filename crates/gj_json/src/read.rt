@@ -14,7 +14,7 @@ use crate::entries::{fraction, fractions};
 use crate::faults::{JsonFault, JsonReason};
 use crate::form::{Form, form_of};
 use gj_frac::Frac;
-use gj_lines::place_of;
+use gj_function_lines::place_of;
 use gj_shape::{GREATEST_ORDER, Shape, ShapeFault};
 use serde_json::Value;
 use std::alloc::{AllocError, Global};

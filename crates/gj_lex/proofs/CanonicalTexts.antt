@@ -18,7 +18,7 @@ use Rattle.gj_frac.specs.declared.Frac.{Frac}
 use Rattle.gj_frac.specs.Fraction.{IsRatio}
 use Rattle.gj_frac.specs.Lowest.{IsLowest}
 use Rattle.gj_frac.specs.SameParts.{same_parts_same}
-use Rattle.gj_tools.proofs.Divisors.{same_ratio}
+use Rattle.gj_lemmas.proofs.Divisors.{same_ratio}
 use Rattle.gj_lex.specs.NumberText.{denominator_text, ratio_text, fraction_text}
 use Rattle.gj_lex.proofs.Decimals.{same_from_decimal}
 

@@ -5,7 +5,7 @@ use Rattle.std.proofs.lemmas.Bool.{eqb-true, eq-eqb}
 use Rattle.std.proofs.lemmas.List.{drop_more}
 use Rattle.std.proofs.lemmas.List.Elements.{All-weaker, All-from_get_or}
 use Rattle.std.proofs.lemmas.List.Sums.{fails_before_first, passes_at_first}
-use Rattle.gj_tools.proofs.Choices.{not_true, not_false}
+use Rattle.gj_lemmas.proofs.Choices.{not_true, not_false}
 use Rattle.gj_lex.specs.Words.{HasAtFront, is_blank, word_texts}
 use Rattle.gj_lex.specs.TextLines.{IsSkipped}
 use Rattle.gj_lex.proofs.FirstPlaces.{first_place, no_place}

@@ -10,7 +10,7 @@ use Rattle.std.proofs.lemmas.Fmt.{decimal_is_IsNumeral_wide, length-decimal-le_w
 use Rattle.std.proofs.lemmas.Int.{ints}
 use Rattle.std.proofs.lemmas.List.Elements.{All-head}
 use Rattle.std.proofs.lemmas.Str.Parse.{digit_from_value, without_leading_plus_none}
-use Rattle.gj_tools.proofs.Integers.{pos_abs_z}
+use Rattle.gj_lemmas.proofs.Integers.{pos_abs_z}
 use Rattle.gj_frac.specs.declared.Frac.{Frac}
 use Rattle.gj_frac.specs.Fraction.{IsRatio, denominator}
 use Rattle.gj_frac.proofs.SameValues.{same_from_is}

@@ -1,7 +1,7 @@
 -- The words of a line, one after another.
 use Rattle.std.proofs.Common.{◌≡◌, ℕ, zero, suc, ◌+◌, ◌<◌, Bool, true, false, not, List, [], ◌++◌, length, get_or, drop, refl, sym, ◌∙◌, ap, subst, arith, append-nil, true≢false}
 use Rattle.std.specs.List.{position_or_len}
-use Rattle.gj_tools.proofs.Choices.{not_true, not_false}
+use Rattle.gj_lemmas.proofs.Choices.{not_true, not_false}
 use Rattle.gj_lex.specs.Words.{is_blank, AllBlank, IsNextWord, AreWords}
 use Rattle.gj_lex.proofs.Places.{fails_until, passes_there, place_within}
 

@@ -2,7 +2,7 @@
 use Rattle.std.proofs.Common.{◌≡◌, ℕ, ◌+◌, ◌*◌, ◌≤◌, ◌^◌, ℤ, pos, ◌≤ℤ◌, length, All, sym, subst, arith}
 use Rattle.std.proofs.Math.Nat.{mul-le-mul_right}
 use Rattle.std.proofs.lemmas.Int.{ints}
-use Rattle.gj_tools.proofs.Lists.{All-one, All-two, All-three}
+use Rattle.gj_lemmas.proofs.Lists.{All-one, All-two, All-three}
 use Rattle.gj_shape.specs.FunctionData.{FunctionData, IsWithinBounds}
 use Rattle.gj_shape.specs.Faces.{corners_of, limits_of, slack_from}
 use Rattle.gj_shape.specs.declared.faces.FaceKind.{FaceKind}

@@ -12,7 +12,7 @@ use Rattle.gj_complex.specs.declared.square.Square.{Square}
 use Rattle.gj_complex.specs.Squares.{HasLimits}
 use Rattle.gj_theory.specs.EarlierTests.{PassesVertices, PassesFace, PassesSquare, HoldsBefore, PassesKindsBefore, PassesFacesBefore}
 use Rattle.gj_theory.proofs.FirstFailed.{IsNoVertex}
-use Rattle.gj_tools.proofs.Lists.{made_has}
+use Rattle.gj_lemmas.proofs.Lists.{made_has}
 use Rattle.gj_theory.proofs.Lanes.{PassesAt, HasLanes, FitAtSums, mirrored_square, continuous_square, square_passes, fit_from_sums}
 use Rattle.gj_minimal.specs.FirstFailure.{IsFirstFailure, HoldsBelow}
 use Rattle.gj_minimal.specs.declared.failures.Failure.TheVariants as failure

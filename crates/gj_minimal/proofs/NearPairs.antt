@@ -5,7 +5,7 @@ use Rattle.std.proofs.Math.ListN.{get_or-map}
 use Rattle.std.proofs.lemmas.List.Elements.{All-get_or, All-head, All-tail}
 use Rattle.gj_frac.specs.declared.Frac.{Frac}
 use Rattle.gj_frac.specs.Fraction.{IsRatio}
-use Rattle.gj_tools.proofs.Lists.{All-one, All-two, All-three}
+use Rattle.gj_lemmas.proofs.Lists.{All-one, All-two, All-three}
 use Rattle.gj_shape.specs.FunctionData.{FunctionData, IsWithinBounds}
 use Rattle.gj_shape.specs.Faces.{corners_of, limits_of}
 use Rattle.gj_shape.specs.Table.{table}

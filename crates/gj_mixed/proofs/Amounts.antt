@@ -4,8 +4,8 @@ use Rattle.std.proofs.Math.Nat.{mul-pos}
 use Rattle.std.proofs.lemmas.Int.{ints}
 use Rattle.std.proofs.lemmas.List.Elements.{All-head, All-tail}
 use Rattle.gj_frac.specs.Fraction.{Fraction}
-use Rattle.gj_tools.proofs.Integers.{abs_positive_z, mul_assoc_z, mul_left_comm_z, pos_abs_z}
-use Rattle.gj_tools.proofs.Ring.{by_ring, ring}
+use Rattle.gj_lemmas.proofs.Integers.{abs_positive_z, mul_assoc_z, mul_left_comm_z, pos_abs_z}
+use Rattle.gj_lemmas.proofs.Ring.{by_ring, ring}
 use Rattle.gj_mixed.specs.MixedRows.{IsNonnegative, AreAmountsOver}
 
 first_amount : (n d e : ℤ) → n *ℤ (d *ℤ e) ≡ (n *ℤ e) *ℤ d

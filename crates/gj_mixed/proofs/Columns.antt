@@ -5,9 +5,9 @@ use Rattle.std.proofs.lemmas.Int.{ints}
 use Rattle.std.proofs.lemmas.List.Elements.{All-head, All-tail}
 use Rattle.gj_frac.specs.declared.Frac.{Frac}
 use Rattle.gj_frac.specs.Fraction.{IsRatio, numerator, denominator}
-use Rattle.gj_tools.proofs.Divisors.{cofactor}
-use Rattle.gj_tools.proofs.Integers.{add_assoc_z, mul_cancel_right_z, mul_some_z, pos_abs_z, positive_some_z}
-use Rattle.gj_tools.proofs.Ring.{by_ring, ring}
+use Rattle.gj_lemmas.proofs.Divisors.{cofactor}
+use Rattle.gj_lemmas.proofs.Integers.{add_assoc_z, mul_cancel_right_z, mul_some_z, pos_abs_z, positive_some_z}
+use Rattle.gj_lemmas.proofs.Ring.{by_ring, ring}
 use Rattle.gj_shape.specs.Given.{IsCommonDenominator, numerator_over}
 use Rattle.gj_shape.specs.SlopeRows.{sum_of_products}
 use Rattle.gj_shape.specs.Values.{IsCongruent}

@@ -10,10 +10,10 @@ use Rattle.std.proofs.lemmas.Nat.Gcd.{dvd_trans}
 use Rattle.gj_frac.specs.declared.Frac.{Frac}
 use Rattle.gj_frac.specs.Fraction.{IsRatio, numerator, denominator, IsInside}
 use Rattle.gj_frac.proofs.Floors.{quotient_is_floor}
-use Rattle.gj_tools.proofs.Integers.{add_comm_z, mul_assoc_z, mul_comm_z, one_mul_z, pos_abs_z, positive_some_z, swap_last_z}
-use Rattle.gj_tools.proofs.Lists.{All-front, All-back}
-use Rattle.gj_tools.proofs.Ratios.{ratio_along}
-use Rattle.gj_tools.proofs.Ring.{by_ring, ring}
+use Rattle.gj_lemmas.proofs.Integers.{add_comm_z, mul_assoc_z, mul_comm_z, one_mul_z, pos_abs_z, positive_some_z, swap_last_z}
+use Rattle.gj_lemmas.proofs.Lists.{All-front, All-back}
+use Rattle.gj_lemmas.proofs.Ratios.{ratio_along}
+use Rattle.gj_lemmas.proofs.Ring.{by_ring, ring}
 use Rattle.gj_shape.specs.FunctionData.{FunctionData, IsWithinBounds, IsContinuous, at}
 use Rattle.gj_shape.specs.Given.{IsCommonDenominator, numerator_over}
 use Rattle.gj_shape.specs.Gmic.{gmic_table, gmic_scale}

@@ -10,7 +10,7 @@ use Rattle.gj_frac.proofs.OneDenominator.{denominator_divides_each}
 use Rattle.gj_frac.proofs.SameValues.{parts_from_is}
 use Rattle.gj_shape.specs.Limits.{IsRowNumber}
 use Rattle.gj_rule.proofs.SmallParts.{small_product}
-use Rattle.gj_tools.proofs.Integers.{abs_positive_z, mul_le_cancel_right_z, mul_le_mul_left_z, mul_le_mul_right_z, mul_nonnegative_z}
+use Rattle.gj_lemmas.proofs.Integers.{abs_positive_z, mul_le_cancel_right_z, mul_le_mul_left_z, mul_le_mul_right_z, mul_nonnegative_z}
 use Rattle.gj_mixed.specs.Slopes.{IsSlope, IsWeight}
 
 -- a fraction a/b with small a and b, a at least 0 and b above 0, is a slope

@@ -2,7 +2,7 @@
 use Rattle.std.proofs.Common.{◌≡◌, ℕ, ◌<◌, ◌↔◌, List, [], ◌∷◌, map, ℤ, pos, ◌+ℤ◌, ◌*ℤ◌, ◌≤ℤ◌, refl, sym, subst, arith, append-nil}
 use Rattle.std.proofs.lemmas.Int.{ints}
 use Rattle.gj_frac.specs.declared.Frac.{Frac}
-use Rattle.gj_tools.proofs.Integers.{mul_cancel_left_z, mul_le_mul_left_z, one_mul_z}
+use Rattle.gj_lemmas.proofs.Integers.{mul_cancel_left_z, mul_le_mul_left_z, one_mul_z}
 use Rattle.gj_shape.specs.Given.{numerator_over}
 use Rattle.gj_shape.specs.RowCut.{CutHolds}
 use Rattle.gj_shape.specs.Given.{IsLeastCommonDenominator}

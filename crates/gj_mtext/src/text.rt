@@ -5,7 +5,7 @@ ghost use Rattle.gj_proof.specs.ProofText.{IsBoundedRule};
 ghost use Rattle.gj_mtext.specs.MixedLines.{AreMixedCutsOf, MakesMixedCuts, mixed_row_text, weight_line};
 
 use crate::lines::{MixedLine, push_mixed_lines};
-use gj_lines::push_fraction_line;
+use gj_function_lines::push_fraction_line;
 use gj_proof::{CutRule, CutTerm, push_named, push_row, push_rule_lines};
 use gj_row::Tableau;
 use std::alloc::{AllocError, Global};

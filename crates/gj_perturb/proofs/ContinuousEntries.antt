@@ -1,7 +1,7 @@
 -- The table of a continuous function as sums of two products, and what the code reads of these.
 use Rattle.std.proofs.Common.{◌≡◌, ℕ, zero, suc, ◌+◌, ◌-◌, ◌*◌, ◌/◌, ◌%◌, ◌<◌, ◌≤◌, ◌^◌, ℤ, pos, ◌+ℤ◌, ◌*ℤ◌, unsigned_abs, w64, to_z, of_z, FitsSigned, sym, ap, ap₂, ◌∙◌, mul-le-mul_right, arith}
 use Rattle.std.proofs.lemmas.Int.{ints, to_z-of_z, unsigned_abs-mul, fits_signed_from_abs}
-use Rattle.gj_tools.proofs.Integers.{abs_add_z}
+use Rattle.gj_lemmas.proofs.Integers.{abs_add_z}
 use Rattle.gj_shape.specs.FunctionData.{FunctionData, IsContinuous, at}
 use Rattle.gj_shape.specs.Table.{table, entry}
 use Rattle.gj_shape.proofs.TableLemmas.{left_is_value, right_is_value}

@@ -14,7 +14,7 @@ use Rattle.gj_shape.specs.Perturbation.{slack_on_grid, IsLeastSlack}
 use Rattle.gj_shape.specs.Table.{table, IsMinimal}
 use Rattle.gj_shape.specs.declared.faces.FaceKind.TheVariants.{Lower}
 use Rattle.gj_shape.proofs.TableLemmas.{table_of_order, limits_are_slacks, slack_at, at_plus_order}
-use Rattle.gj_tools.proofs.Quotients.{same_at_remainder}
+use Rattle.gj_lemmas.proofs.Quotients.{same_at_remainder}
 use Rattle.gj_theory.specs.CornerSlacks.{IsBelowCorners}
 use Rattle.gj_theory.proofs.CornerSlacks.{grid_slacks_low, slack_at_multiples, reached_beside_zero}
 use Rattle.gj_theory.specs.Lanes.{AreNumbers}

@@ -1,7 +1,7 @@
 -- What the code reads of an entry that is moved.
 use Rattle.std.proofs.Common.{◌≡◌, ◌<◌, ◌^◌, ℤ, ◌+ℤ◌, ◌*ℤ◌, unsigned_abs, FitsSigned, to_z, of_z, ap₂, ◌∙◌, arith}
 use Rattle.std.proofs.lemmas.Int.{to_z-of_z, fits_signed_from_abs}
-use Rattle.gj_tools.proofs.Integers.{abs_add_z}
+use Rattle.gj_lemmas.proofs.Integers.{abs_add_z}
 use mir.Syntax.{w128}
 
 abbrev pub wide : ℤ → ℤ

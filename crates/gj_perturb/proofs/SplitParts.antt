@@ -4,8 +4,8 @@ use Rattle.std.specs.List.{range_with_len}
 use Rattle.std.proofs.Math.Nat.{mul-le-mul_left}
 use Rattle.std.proofs.lemmas.Int.{ints, unsigned_abs-mul, to_z-of_z, to_z_pos, fits_signed_from_abs}
 use Rattle.std.proofs.lemmas.List.FromFn.{fill_by_all, get_or-map-range_with_len, length-map-range_with_len}
-use Rattle.gj_tools.proofs.Integers.{abs_add_z, abs_zero_z, neg_mul_z}
-use Rattle.gj_tools.proofs.Lists.{All-made}
+use Rattle.gj_lemmas.proofs.Integers.{abs_add_z, abs_zero_z, neg_mul_z}
+use Rattle.gj_lemmas.proofs.Lists.{All-made}
 use Rattle.gj_shape.specs.FunctionData.{FunctionData, IsWithinBounds, at}
 use Rattle.gj_shape.specs.Perturbation.{IsLeastSlack, IsGreatestSize, AreHalvesOf, AreHalvesInBounds}
 use Rattle.gj_shape.specs.Table.{table, IsMinimal}

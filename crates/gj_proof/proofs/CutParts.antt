@@ -6,8 +6,8 @@ use Rattle.gj_lex.specs.Parts.{words_rule, Part, line_part, empty_part, made_par
 use Rattle.gj_lex.proofs.PartLaws.{words_rule_is_exact, line_part_is_exact, empty_part_is_exact, then_part_is_exact, made_part_is_exact}
 use Rattle.gj_lex.proofs.LoopLaws.{loop_part_is_exact}
 use Rattle.gj_shape.specs.FunctionData.{FunctionData}
-use Rattle.gj_lines.specs.FunctionGrammar.{function_part}
-use Rattle.gj_lines.proofs.ExactFunctions.{function_part_is_exact}
+use Rattle.gj_function_lines.specs.FunctionGrammar.{function_part}
+use Rattle.gj_function_lines.proofs.ExactFunctions.{function_part_is_exact}
 use Rattle.gj_lex.specs.Parts.{BeginsWithLine, BeginsWithWord}
 use Rattle.gj_proof.specs.ProofGrammar.{rule_part, head_rule, term_rule, next_term, terms_part, behind_head, row_part, next_row, rows_part}
 use Rattle.gj_proof.specs.declared.cut.CutRule.{CutRule}

@@ -8,7 +8,7 @@ use Rattle.gj_lex.specs.declared.spelling.Spelling.TheVariants.{Strict}
 use Rattle.gj_lex.specs.Name.{IsName}
 use Rattle.gj_lex.specs.NumberText.{fraction_text}
 use Rattle.gj_lex.specs.Parts.ReadsInTurn.{last, onward}
-use Rattle.gj_lines.specs.FunctionLines.{line}
+use Rattle.gj_function_lines.specs.FunctionLines.{line}
 use Rattle.gj_proof.specs.ProofText.{HasNames, reason_word, row_line, term_line, terms_of}
 use Rattle.gj_proof.specs.CutTexts.{row_text}
 use Rattle.gj_lex.specs.Parts.{BeginsWithLine, BeginsWithWord}

@@ -12,7 +12,7 @@ use Rattle.gj_lex.proofs.CanonicalLines.{plain_by_test}
 use Rattle.gj_lex.proofs.CanonicalTexts.{same_from_fraction_text}
 use Rattle.gj_lex.proofs.StrictLines.{IsPlain}
 use Rattle.gj_lex.proofs.SpelledWords.{fraction_is_plain}
-use Rattle.gj_lines.specs.FunctionLines.{line}
+use Rattle.gj_function_lines.specs.FunctionLines.{line}
 use Rattle.gj_proof.specs.ProofText.{reason_word, row_line, term_line}
 use Rattle.gj_proof.specs.ProofGrammar.{head_words, BreaksHead, head_rule, term_words, BreaksTerm, term_rule}
 use Rattle.gj_proof.specs.declared.cut.CutLine.TheVariants as cuts

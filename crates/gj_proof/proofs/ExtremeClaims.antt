@@ -2,7 +2,7 @@
 use Rattle.std.proofs.Common.{◌≡◌, ℕ, List, ◌++◌, codes}
 use Rattle.gj_shape.specs.FunctionData.{FunctionData, IsWithinBounds}
 use Rattle.gj_shape.specs.declared.extremality.CoverLine.{CoverLine}
-use Rattle.gj_lines.specs.FunctionLines.{line, AreFunctionLines}
+use Rattle.gj_function_lines.specs.FunctionLines.{line, AreFunctionLines}
 use Rattle.gj_proof.specs.ProofText.{extreme_claim, title_text, extreme_lines, AreExtremeLines, IsBounded, IsProofText}
 use Rattle.gj_proof.specs.declared.numbers.Numbers.{Numbers}
 use Rattle.gj_proof.specs.declared.numbers.Numbers.TheVariants.{Whole, Residues}

@@ -15,8 +15,8 @@ use Rattle.gj_shape.specs.declared.extremality.RowName.TheVariants.{Period, F, P
 use Rattle.gj_shape.specs.declared.faces.FaceKind.{FaceKind}
 use Rattle.gj_shape.specs.declared.faces.FaceKind.TheVariants.{Vertex, Horizontal, Vertical, Diagonal, Lower, Upper}
 use Rattle.gj_theory.specs.Modulus.{modulus}
-use Rattle.gj_lines.specs.FaceLines.{face_word, face_text, cover_line}
-use Rattle.gj_lines.specs.FunctionLines.{line}
+use Rattle.gj_function_lines.specs.FaceLines.{face_word, face_text, cover_line}
+use Rattle.gj_function_lines.specs.FunctionLines.{line}
 use Rattle.gj_proof.specs.ProofText.{ProofLine, OwnLine, group_line, reduction_line, pivot_line, covered_lines, reduction_lines, group_lines, modulus_line, modulus_lines, extreme_lines, halves_line, pair_line, pair_lines, IsCoverLineBelow, IsRowNameBelow, IsPivotRowBelow}
 use Rattle.gj_proof.specs.ExtremeTexts.{group_text, halves_text}
 use Rattle.gj_proof.specs.declared.numbers.Numbers.{Numbers}

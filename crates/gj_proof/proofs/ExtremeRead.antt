@@ -7,7 +7,7 @@ use Rattle.gj_lex.proofs.PartLaws.{fault_in_first, fault_in_next, fault_in_made}
 use Rattle.gj_shape.specs.FunctionData.{FunctionData}
 use Rattle.gj_shape.specs.declared.extremality.CoverLine.{CoverLine}
 use Rattle.gj_shape.specs.declared.extremality.RowName.{RowName}
-use Rattle.gj_lines.specs.FunctionGrammar.{function_part}
+use Rattle.gj_function_lines.specs.FunctionGrammar.{function_part}
 use Rattle.gj_lex.specs.Parts.{BeginsWithLine, BeginsWithWord}
 use Rattle.gj_proof.specs.ProofText.{extreme_claim}
 use Rattle.gj_proof.specs.ProofGrammar.{covered_part, modulus_part, next_step, group_part, next_group, groups_part, pairs_part, halves_part, extreme_part, claim_part}

@@ -15,8 +15,8 @@ use Rattle.gj_shape.specs.declared.extremality.CoverLine.{CoverLine}
 use Rattle.gj_shape.specs.declared.extremality.Halves.{Halves}
 use Rattle.gj_shape.specs.declared.extremality.RowName.{RowName}
 use Rattle.gj_shape.specs.declared.extremality.RowName.TheVariants.{Period, F, Pair}
-use Rattle.gj_lines.specs.FaceLines.{cover_line}
-use Rattle.gj_lines.specs.FunctionLines.{line}
+use Rattle.gj_function_lines.specs.FaceLines.{cover_line}
+use Rattle.gj_function_lines.specs.FunctionLines.{line}
 use Rattle.gj_theory.specs.Modulus.{modulus}
 use Rattle.gj_proof.specs.ProofText.{modulus_line, modulus_lines, group_line, reduction_line, pivot_line, halves_line, pair_line, IsCoverLineBelow, IsRowNameBelow, IsPivotRowBelow}
 use Rattle.gj_proof.specs.ExtremeTexts.{group_text, halves_text}

@@ -10,7 +10,7 @@ use Rattle.gj_frac.specs.Fraction.{IsRatio, Fits}
 use Rattle.gj_frac.specs.declared.Frac.{Frac}
 use Rattle.gj_lex.specs.NumberText.{fraction_text}
 use Rattle.gj_shape.specs.declared.extremality.CoverLine.{CoverLine}
-use Rattle.gj_lines.specs.FaceLines.{cover_line}
+use Rattle.gj_function_lines.specs.FaceLines.{cover_line}
 use Rattle.gj_proof.specs.ProofText.{modulus_lines, extreme_lines, pair_line}
 use Rattle.gj_proof.specs.ExtremeTexts.{group_text}
 use Rattle.gj_proof.specs.declared.numbers.Numbers.{Numbers}

@@ -5,8 +5,8 @@ use Rattle.std.proofs.lemmas.Int.{ints}
 use Rattle.std.proofs.lemmas.List.Elements.{All-nil, All-cons}
 use Rattle.gj_frac.specs.declared.Frac.{Frac}
 use Rattle.gj_frac.specs.Fraction.{IsRatio, numerator, denominator}
-use Rattle.gj_tools.proofs.Divisors.{whole_multiple}
-use Rattle.gj_tools.proofs.Integers.{mul_le_cancel_right_z, mul_lt_cancel_right_z, mul_lt_mul_right_z, mul_nonnegative_z, mul_comm_z, pos_abs_z}
+use Rattle.gj_lemmas.proofs.Divisors.{whole_multiple}
+use Rattle.gj_lemmas.proofs.Integers.{mul_le_cancel_right_z, mul_lt_cancel_right_z, mul_lt_mul_right_z, mul_nonnegative_z, mul_comm_z, pos_abs_z}
 use Rattle.gj_shape.specs.FunctionData.{FunctionData}
 use Rattle.gj_shape.specs.Violation.{ShowsViolation}
 use Rattle.gj_shape.specs.declared.violations.Violation.{Violation}

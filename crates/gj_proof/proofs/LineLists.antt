@@ -4,12 +4,12 @@ use Rattle.std.proofs.lemmas.Bool.{ne_eqb}
 use Rattle.std.proofs.lemmas.List.{append_assoc}
 use Rattle.std.proofs.lemmas.List.Elements.{All-nil, All-cons, All-head, All-tail, All-append, All-weaker}
 use Rattle.gj_frac.specs.declared.Frac.{Frac}
-use Rattle.gj_tools.proofs.Lists.{All-back}
+use Rattle.gj_lemmas.proofs.Lists.{All-back}
 use Rattle.gj_lex.specs.NumberText.{fraction_text, IsWordByte}
 use Rattle.gj_lex.specs.TextLines.{line_feeds}
 use Rattle.gj_lex.proofs.LineNumbers.{line_feeds_append}
 use Rattle.gj_lex.proofs.WordBytes.{fraction_is_word}
-use Rattle.gj_lines.specs.FunctionLines.{line}
+use Rattle.gj_function_lines.specs.FunctionLines.{line}
 use Rattle.gj_proof.specs.ProofText.{ProofLine, OwnLine}
 
 abbrev pub names : List OwnLine → List ProofLine

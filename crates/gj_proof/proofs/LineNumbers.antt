@@ -10,13 +10,13 @@ use Rattle.gj_lex.proofs.LineNumbers.{line_feeds_append}
 use Rattle.gj_lex.proofs.WordBytes.{decimal_is_word}
 use Rattle.gj_shape.specs.FunctionData.{FunctionData, IsWithinBounds}
 use Rattle.gj_shape.specs.declared.violations.Violation.{Violation}
-use Rattle.gj_lines.specs.FunctionLines.{line, order_line, place_line, has_no_jump, point_text, point_line, AreFunctionLines}
+use Rattle.gj_function_lines.specs.FunctionLines.{line, order_line, place_line, has_no_jump, point_text, point_line, AreFunctionLines}
 use Rattle.gj_shape.specs.declared.points.Point.{Point}
 use Rattle.gj_shape.proofs.GivenPoints.{count_of_points}
-use Rattle.gj_lines.proofs.PointLines.{text_of_one, text_of_three}
-use Rattle.gj_tools.specs.FirstThatFails.{IsFirstFailing}
-use Rattle.gj_tools.proofs.FirstThatFails.{first_failing, one_first_failing}
-use Rattle.gj_tools.proofs.Lists.{All-front, All-back, All-range}
+use Rattle.gj_function_lines.proofs.PointLines.{text_of_one, text_of_three}
+use Rattle.gj_lemmas.specs.FirstThatFails.{IsFirstFailing}
+use Rattle.gj_lemmas.proofs.FirstThatFails.{first_failing, one_first_failing}
+use Rattle.gj_lemmas.proofs.Lists.{All-front, All-back, All-range}
 use Rattle.gj_proof.specs.ProofText.{ProofLine, OwnLine, Subject, function, gmic, IfFunction, IsBounded, title_text, claim_word, subject_of, numbers_of, subject_lines, AreSubjectLines, own_lines, lines_of, HasBytes, HasNumber, violation_line, IsProofText}
 use Rattle.gj_proof.specs.ProofText.ProofLine.{title, claim, order, place, point, rule_named, violation_shown, last}
 use Rattle.gj_proof.specs.declared.claim.Claim.{Claim}

@@ -2,8 +2,8 @@
 use Rattle.std.proofs.Common.{◌≡◌, ℕ, List, [], ◌++◌, flat_map, codes, sym, ap, ◌∙◌}
 use Rattle.gj_lex.specs.declared.reason.Reason.{Reason}
 use Rattle.gj_lex.proofs.LineNumbers as numbers
-use Rattle.gj_lines.specs.FunctionLines.{line}
-use Rattle.gj_lines.proofs.OneTextOfLines.{one_text_of_lines}
+use Rattle.gj_function_lines.specs.FunctionLines.{line}
+use Rattle.gj_function_lines.proofs.OneTextOfLines.{one_text_of_lines}
 use Rattle.gj_proof.specs.ProofText.{IsBounded, subject_of, numbers_of, AreSubjectLines, title_text, claim_word, own_lines, IsProofText}
 use Rattle.gj_proof.specs.ProofGrammar.{proof_text}
 use Rattle.gj_proof.specs.FirstFault.{IsFirstFaultOfProof}

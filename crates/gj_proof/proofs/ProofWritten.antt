@@ -3,7 +3,7 @@ use Rattle.std.proofs.Common.{◌≡◌, ℕ, Result, OnOk, List, ◌++◌, flat
 use Rattle.std.proofs.lemmas.Result.{on_ok_weaker}
 use Rattle.gj_shape.specs.FunctionData.{FunctionData}
 use Rattle.gj_shape.specs.declared.extremality.Halves.{Halves}
-use Rattle.gj_lines.specs.FunctionLines.{line}
+use Rattle.gj_function_lines.specs.FunctionLines.{line}
 use Rattle.gj_proof.specs.ProofText.{subject_of, numbers_of, title_text, claim_word, own_lines, AreSubjectLines, HasText, IsProofText}
 use Rattle.gj_proof.specs.CutTexts.{row_text}
 use Rattle.gj_proof.specs.ExtremeTexts.{halves_text}

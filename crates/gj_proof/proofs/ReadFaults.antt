@@ -6,7 +6,7 @@ use Rattle.gj_lex.specs.Parts.{made_part, end_part, IsFaultOf, IsTail}
 use Rattle.gj_lex.proofs.PartLaws.{fault_in_first, fault_in_next, fault_in_made, tail_refused}
 use Rattle.gj_shape.specs.FunctionData.{FunctionData}
 use Rattle.gj_shape.specs.declared.violations.Violation.{Violation}
-use Rattle.gj_lines.specs.FunctionGrammar.{function_part}
+use Rattle.gj_function_lines.specs.FunctionGrammar.{function_part}
 use Rattle.gj_proof.specs.ProofGrammar.{claim_part, proof_text}
 use Rattle.gj_proof.specs.declared.claim.Claim.{Claim}
 use Rattle.gj_proof.specs.declared.claim.Claim.TheVariants as claims

@@ -11,13 +11,13 @@ use Rattle.gj_shape.specs.FunctionData.{FunctionData, IsWithinBounds}
 use Rattle.gj_shape.specs.declared.extremality.CoverLine.{CoverLine}
 use Rattle.gj_shape.specs.declared.extremality.Halves.{Halves}
 use Rattle.gj_shape.specs.declared.violations.Violation.{Violation}
-use Rattle.gj_lines.specs.FaceLines.{cover_line}
-use Rattle.gj_lines.specs.FunctionLines.{line, AreFunctionLines}
-use Rattle.gj_lines.specs.FunctionGrammar.{order_words, function_part}
-use Rattle.gj_lines.proofs.CanonicalFunctions.{canonical_lines_are_read}
-use Rattle.gj_lines.proofs.ExactFunctions.{function_part_is_exact}
-use Rattle.gj_lines.proofs.FunctionRead.{within_bounds}
-use Rattle.gj_lines.proofs.StrictFunctions.{strict_lines_are_canonical}
+use Rattle.gj_function_lines.specs.FaceLines.{cover_line}
+use Rattle.gj_function_lines.specs.FunctionLines.{line, AreFunctionLines}
+use Rattle.gj_function_lines.specs.FunctionGrammar.{order_words, function_part}
+use Rattle.gj_function_lines.proofs.CanonicalFunctions.{canonical_lines_are_read}
+use Rattle.gj_function_lines.proofs.ExactFunctions.{function_part_is_exact}
+use Rattle.gj_function_lines.proofs.FunctionRead.{within_bounds}
+use Rattle.gj_function_lines.proofs.StrictFunctions.{strict_lines_are_canonical}
 use Rattle.gj_proof.specs.ProofText.{IfFunction, HasNames, IsBounded, subject_of_rule, extreme_claim, title_text, modulus_lines, AreSubjectLines, violation_line, IsCoverLineBelow, IsPivotRowBelow, IsProofText}
 use Rattle.gj_proof.specs.CutTexts.{row_text}
 use Rattle.gj_proof.specs.ExtremeTexts.{group_text, halves_text}

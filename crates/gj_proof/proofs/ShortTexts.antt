@@ -19,9 +19,9 @@ use Rattle.gj_shape.specs.declared.faces.FaceKind.TheVariants.{Vertex, Horizonta
 use Rattle.gj_shape.specs.declared.violations.Violation.{Violation}
 use Rattle.gj_shape.specs.declared.violations.Violation.TheVariants as violation
 use Rattle.gj_theory.specs.Modulus.{modulus}
-use Rattle.gj_lines.specs.FaceLines.{face_word, face_text, cover_line}
-use Rattle.gj_lines.specs.FunctionLines.{line}
-use Rattle.gj_lines.proofs.StrictFunctions.{function_lines_are_short}
+use Rattle.gj_function_lines.specs.FaceLines.{face_word, face_text, cover_line}
+use Rattle.gj_function_lines.specs.FunctionLines.{line}
+use Rattle.gj_function_lines.proofs.StrictFunctions.{function_lines_are_short}
 use Rattle.gj_proof.specs.ProofText.{IsBounded, IsShort, own_lines, title_text, modulus_line, modulus_lines, extreme_lines, violation_line, group_line, reduction_line, pivot_line, halves_line, pair_line, IsCoverLineBelow, IsRowNameBelow, IsPivotRowBelow, HaveFewSteps, IsProofText}
 use Rattle.gj_proof.specs.ExtremeTexts.{group_text, halves_text}
 use Rattle.gj_proof.specs.declared.claim.Claim.{Claim}

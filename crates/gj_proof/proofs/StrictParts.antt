@@ -6,7 +6,7 @@ use Rattle.gj_lex.specs.declared.spelling.Spelling.TheVariants.{Strict}
 use Rattle.gj_lex.specs.TextLines.{HasStrictLine}
 use Rattle.gj_lex.specs.Parts.{LineRule, line_part}
 use Rattle.gj_lex.proofs.StrictLines.{IsPlain, plain_line}
-use Rattle.gj_lines.specs.FunctionLines.{line}
+use Rattle.gj_function_lines.specs.FunctionLines.{line}
 
 -- ---- lines and their words
 

@@ -5,7 +5,7 @@ use Rattle.gj_frac.specs.declared.Frac.{Frac}
 use Rattle.gj_lex.specs.NumberText.{fraction_text}
 use Rattle.gj_shape.specs.declared.violations.Violation.{Violation}
 use Rattle.gj_shape.specs.declared.violations.Violation.TheVariants as violation
-use Rattle.gj_lines.specs.FunctionLines.{fraction_line}
+use Rattle.gj_function_lines.specs.FunctionLines.{fraction_line}
 use Rattle.gj_proof.specs.ProofText.{violation_line}
 
 regroup : (old word x blank y end : List ℕ) →

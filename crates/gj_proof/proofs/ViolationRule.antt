@@ -14,7 +14,7 @@ use Rattle.gj_lex.proofs.StrictLines.{IsPlain}
 use Rattle.gj_lex.proofs.SpelledWords.{fraction_is_plain}
 use Rattle.gj_shape.specs.declared.violations.Violation.{Violation}
 use Rattle.gj_shape.specs.declared.violations.Violation.TheVariants as v
-use Rattle.gj_lines.specs.FunctionLines.{line}
+use Rattle.gj_function_lines.specs.FunctionLines.{line}
 use Rattle.gj_proof.specs.ProofText.{violation_line}
 use Rattle.gj_proof.specs.ProofGrammar.{violation_words, HavePoints, IsFraction, BreaksViolation, violation_rule}
 

@@ -19,8 +19,8 @@ use Rattle.gj_shape.specs.declared.faces.FaceKind.{FaceKind}
 use Rattle.gj_shape.specs.declared.faces.FaceKind.TheVariants.{Vertex}
 use Rattle.gj_shape.specs.declared.violations.Violation.{Violation}
 use Rattle.gj_shape.specs.declared.violations.Violation.TheVariants as violation
-use Rattle.gj_lines.specs.FaceLines.{face_word}
-use Rattle.gj_lines.specs.FunctionGrammar.{function_part}
+use Rattle.gj_function_lines.specs.FaceLines.{face_word}
+use Rattle.gj_function_lines.specs.FunctionGrammar.{function_part}
 use Rattle.gj_theory.specs.Modulus.{modulus}
 use Rattle.gj_proof.specs.ProofText.{reason_word, extreme_claim, IsCoverLineBelow, IsRowNameBelow}
 use Rattle.gj_lex.specs.Parts.{BeginsWithLine, BeginsWithWord, where_part}

@@ -14,8 +14,8 @@ use Rattle.gj_shape.specs.declared.extremality.RowName.TheVariants.{Period, F, P
 use Rattle.gj_shape.specs.declared.faces.FaceKind.TheVariants.{Vertex}
 use Rattle.gj_shape.specs.declared.violations.Violation.{Violation}
 use Rattle.gj_shape.specs.declared.violations.Violation.TheVariants as violation
-use Rattle.gj_lines.specs.FaceLines.{cover_line}
-use Rattle.gj_lines.specs.FunctionLines.{line, fraction_line, AreFunctionLines}
+use Rattle.gj_function_lines.specs.FaceLines.{cover_line}
+use Rattle.gj_function_lines.specs.FunctionLines.{line, fraction_line, AreFunctionLines}
 use Rattle.gj_proof.specs.declared.claim.Claim.{Claim}
 use Rattle.gj_theory.specs.Modulus.{modulus}
 use Rattle.gj_proof.specs.declared.claim.Claim.TheVariants.{Minimal, NotMinimal, Cut, Extreme, ExtremeByResidues, NotExtreme}

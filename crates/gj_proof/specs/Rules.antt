@@ -4,7 +4,7 @@ use Rattle.std.specs.List.{range_with_len}
 use Rattle.gj_frac.specs.declared.Frac.{Frac}
 use Rattle.gj_frac.specs.Floor.{HasFractionalPart}
 use Rattle.gj_frac.specs.Fraction.{numerator, denominator, IsWhole}
-use Rattle.gj_tools.specs.Divisors.{gcd_of}
+use Rattle.gj_lemmas.specs.Divisors.{gcd_of}
 use Rattle.gj_shape.specs.Cover.{components_in}
 use Rattle.gj_shape.specs.Additive.{IsTight}
 use Rattle.gj_shape.specs.Elimination.{KeptRow, at_column, entries_of, row_with_pivot, marked_in_step, Passes}

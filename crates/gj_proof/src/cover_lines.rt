@@ -6,13 +6,13 @@ ghost use Rattle.gj_lex.specs.declared.spelling.Spelling.TheVariants.{Strict};
 ghost use Rattle.gj_shape.specs.Limits.{greatest_order};
 ghost use Rattle.gj_shape.specs.declared.faces.FaceKind.{FaceKind};
 ghost use Rattle.gj_shape.specs.declared.faces.FaceKind.TheVariants.{Vertex};
-ghost use Rattle.gj_lines.specs.FaceLines.{face_word, cover_line};
+ghost use Rattle.gj_function_lines.specs.FaceLines.{face_word, cover_line};
 ghost use Rattle.gj_proof.specs.ProofText.{IsCoverLineBelow};
 ghost use Rattle.gj_proof.specs.ProofGrammar.{cover_words, BreaksCover, cover_rule, covered_part};
 
 use crate::fields::{behind_text, count_below, five_fields_of, split_at_byte};
 use gj_lex::{PartFault, Reason, Spelling, line_at};
-use gj_lines::face_word;
+use gj_function_lines::face_word;
 use gj_shape::{CoverLine, Face, FaceKind};
 use std::alloc::Global;
 

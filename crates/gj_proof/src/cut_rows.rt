@@ -21,7 +21,7 @@ use gj_lex::{
     Name, NameFault, PartFault, Reason, Spelling, TextLine, begins_with_line, line_at,
     line_with_word, two_fields_of, words_at,
 };
-use gj_lines::function_at;
+use gj_function_lines::function_at;
 use gj_shape::List;
 use std::alloc::{AllocError, Global};
 

@@ -1,7 +1,7 @@
 //! Proof texts, printed.
 
 ghost use Rattle.std.specs.Prelude.{◌≡◌, ◌++◌, ℕ, List, codes, flat_map, IfOk, OnOk};
-ghost use Rattle.gj_lines.specs.FunctionLines.{line};
+ghost use Rattle.gj_function_lines.specs.FunctionLines.{line};
 ghost use Rattle.gj_proof.specs.ProofText.{subject_of, numbers_of, AreSubjectLines, title_text, claim_word, violation_line, own_lines, HasText, IsProofText};
 
 use crate::claim::{Claim, Proof};
@@ -9,7 +9,7 @@ use crate::numbers::Numbers;
 use crate::write_cuts::{push_rows, push_rule_lines};
 use crate::write_extreme::{push_extreme_lines, push_halves};
 use gj_lex::print_frac;
-use gj_lines::{push_fraction_line, push_function_lines};
+use gj_function_lines::{push_fraction_line, push_function_lines};
 use gj_shape::Violation;
 use std::alloc::{AllocError, Global};
 

@@ -3,7 +3,7 @@ ghost use Rattle.std.specs.Prelude.{◌≡◌, ◌++◌, All, codes, decimal, fl
 ghost use Rattle.std.specs.Fmt.{signed_decimal};
 ghost use Rattle.gj_frac.specs.Fraction.{Fits};
 ghost use Rattle.gj_shape.specs.Perturbation.{AreHalvesInBounds};
-ghost use Rattle.gj_lines.specs.FunctionLines.{line};
+ghost use Rattle.gj_function_lines.specs.FunctionLines.{line};
 ghost use Rattle.gj_proof.specs.ProofText.{group_line, reduction_line, modulus_lines, extreme_lines, halves_line, pair_line};
 ghost use Rattle.gj_proof.specs.ExtremeTexts.{group_text, halves_text};
 
@@ -11,7 +11,7 @@ use crate::numbers::{MODULUS, Numbers};
 use crate::pivot::PivotRow;
 use gj_frac::Frac;
 use gj_lex::{print_count, print_frac};
-use gj_lines::push_cover_lines;
+use gj_function_lines::push_cover_lines;
 use gj_shape::{CoverLine, Halves, RowName};
 use std::alloc::{AllocError, Global};
 

@@ -1,7 +1,7 @@
 -- The records that `csv` reads one after the other are the records of the text.
 use Rattle.std.proofs.Common.{◌≡◌, ℕ, ◌+◌, ◌-◌, ◌<◌, ◌≤◌, zero, suc, ◌==◌, ◌⊎◌, Bool, true, false, if◌then◌else◌, List, [], ◌∷◌, ◌++◌, length, Option, Some, None, refl, sym, ap, ◌∙◌, subst, inl, inr, arith}
 use Rattle.std.proofs.lemmas.List.{append-nil}
-use Rattle.gj_tools.proofs.Choices.{same_some}
+use Rattle.gj_lemmas.proofs.Choices.{same_some}
 use Rattle.csv.specs.Machine.{Read, step, in_field, start_field, start_record, is_end, ends_at_end, next_record}
 use Rattle.csv.specs.Reading.{Reached, records, records_from, records_next, default_config}
 use Rattle.csv.specs.declared.parser.Action.{Action}

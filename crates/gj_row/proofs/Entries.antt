@@ -6,7 +6,7 @@ use Rattle.std.proofs.lemmas.List.Elements.{All-nil, All-head, All-append, All-p
 use Rattle.gj_frac.specs.declared.Frac.{Frac}
 use Rattle.gj_frac.specs.Fraction.{numerator}
 use Rattle.gj_shape.proofs.LeastDenominator.{Divides}
-use Rattle.gj_tools.proofs.Lists.{All-back}
+use Rattle.gj_lemmas.proofs.Lists.{All-back}
 use Rattle.gj_row.specs.TableauLimits.{AreWithinLimits, IsRowWithinLimits}
 use Rattle.gj_shape.specs.Limits.{IsSmallNumber}
 use Rattle.gj_row.specs.TableauText.{is_zero, entry_at, entries_from}

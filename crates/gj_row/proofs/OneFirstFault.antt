@@ -1,7 +1,7 @@
 -- A text has one first fault.
 use Rattle.std.proofs.Common.{◌≡◌, ℕ, ◌+◌, ◌<◌, ◌≤◌, List, [], ◌∷◌, ◌++◌, length, refl, sym, ap, ap₂, subst, ◌∙◌, arith}
 use Rattle.std.proofs.lemmas.List.Elements.{All-head}
-use Rattle.gj_tools.proofs.Lists.{All-back}
+use Rattle.gj_lemmas.proofs.Lists.{All-back}
 use Rattle.gj_frac.specs.declared.Frac.{Frac}
 use Rattle.gj_shape.specs.Limits.{IsSmallNumber}
 use Rattle.gj_shape.specs.Given.{HasCommonDenominator}

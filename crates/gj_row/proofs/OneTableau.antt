@@ -20,7 +20,7 @@ use Rattle.gj_lex.specs.declared.spelling.Spelling.TheVariants.{Lenient}
 use Rattle.gj_lex.proofs.SpelledWords.{one_fraction}
 use Rattle.gj_shape.specs.Given.{HasCommonDenominator}
 use Rattle.gj_shape.proofs.LeastDenominator.{Divides}
-use Rattle.gj_tools.proofs.Lists.{All-front, All-back}
+use Rattle.gj_lemmas.proofs.Lists.{All-front, All-back}
 use Rattle.gj_row.specs.TableauLimits.{AreWithinLimits, IsRowWithinLimits, AreNames, IsTableau, entry_count}
 use Rattle.gj_shape.specs.Limits.{IsSmallNumber}
 use Rattle.gj_row.specs.TableauText.{SpellsEntry, SpellsNext, SpellNumbers, is_zero, entry_at, entries_from, records_of, SpellsRow, SpellsTableau, IsTableauText}

@@ -4,7 +4,7 @@ use Rattle.gj_frac.specs.declared.Frac.{Frac}
 use Rattle.std.proofs.Math.Nat.{one-dvd}
 use Rattle.std.proofs.lemmas.Int.{ints}
 use Rattle.std.proofs.lemmas.Nat.Gcd.{dvd_refl, IsGcd-from_zero, IsGcd-swap}
-use Rattle.gj_tools.proofs.Choices.{same_some}
+use Rattle.gj_lemmas.proofs.Choices.{same_some}
 use Rattle.gj_lex.proofs.CanonicalTexts.{empty_word}
 use Rattle.gj_shape.specs.Denominators.{Extends}
 use Rattle.gj_shape.specs.Limits.{denominator_bound, greatest_number}

@@ -8,7 +8,7 @@ use Rattle.gj_frac.specs.Lowest.{IsLowest}
 use Rattle.gj_frac.proofs.Floors.{quotient_is_floor, rest_from_floor, rest_lowest, complement_lowest}
 use Rattle.gj_frac.proofs.Reduced.{read_part}
 use Rattle.gj_frac.proofs.SameValues.{parts_from_is}
-use Rattle.gj_tools.proofs.Integers.{one_mul_z, add_mul_z}
+use Rattle.gj_lemmas.proofs.Integers.{one_mul_z, add_mul_z}
 use Rattle.gj_theory.specs.Cuts.{IsGmicValue}
 use mir.Syntax.{w128}
 

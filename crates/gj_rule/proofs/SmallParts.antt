@@ -8,8 +8,8 @@ use Rattle.gj_frac.specs.Fits.{FitsProduct}
 use Rattle.gj_frac.specs.Fraction.{Fits, IsRatio}
 use Rattle.gj_frac.specs.Lowest.{IsLowest}
 use Rattle.gj_frac.proofs.Reduced.{quotient_of_divisor, coprime_signed_quotients, same_from_multiples, divisor_of_positive}
-use Rattle.gj_tools.proofs.Divisors.{gcd_exists, gcd_positive, quotient_times}
-use Rattle.gj_tools.proofs.Integers.{abs_positive_z, positive_some_z, mul_positive_z}
+use Rattle.gj_lemmas.proofs.Divisors.{gcd_exists, gcd_positive, quotient_times}
+use Rattle.gj_lemmas.proofs.Integers.{abs_positive_z, positive_some_z, mul_positive_z}
 
 -- each ratio of parts that fit is a fraction
 ratio_exists : (n d : ℤ) → pos 0 <ℤ d → Fits n → Fits d → (z : Frac) × IsRatio z n d

@@ -11,7 +11,7 @@ use Rattle.std.proofs.lemmas.Int.{to_z-of_z, of_z-to_z, wrapping_add_onto, int_w
 use Rattle.std.proofs.lemmas.List.{get_or-map, length-map}
 use Rattle.std.proofs.lemmas.Nat.{pow_pos}
 use Rattle.std.proofs.lemmas.Simd.{tops_compared, mask_l-mod, bit_mask_l, length-zip2, length-replicate, length-chunk, get_or-zip2, get_or-replicate, get_or-chunk}
-use Rattle.gj_tools.proofs.Integers.{abs_add_z}
+use Rattle.gj_lemmas.proofs.Integers.{abs_add_z}
 use Rattle.gj_sets.specs.Sums.{AreSmall}
 use Rattle.gj_sets.proofs.Bits.{bit}
 

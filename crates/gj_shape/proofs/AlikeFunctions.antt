@@ -6,8 +6,8 @@ use Rattle.std.proofs.lemmas.Int.{unsigned_abs-mul}
 use Rattle.std.proofs.lemmas.List.{get_or_default, same_lists}
 use Rattle.std.proofs.lemmas.List.Elements.{All-append}
 use Rattle.std.specs.Int.{IsGcd, ◌∣◌}
-use Rattle.gj_tools.proofs.Divisors.{cofactor, divides_product, gauss, gcd_exists, gcd_positive, gcd_quotients}
-use Rattle.gj_tools.proofs.Integers.{mul_cancel_right_z}
+use Rattle.gj_lemmas.proofs.Divisors.{cofactor, divides_product, gauss, gcd_exists, gcd_positive, gcd_quotients}
+use Rattle.gj_lemmas.proofs.Integers.{mul_cancel_right_z}
 use Rattle.gj_shape.specs.FunctionData.{FunctionData, IsWithinBounds, at}
 use Rattle.gj_shape.proofs.AtLemmas.{at_below}
 

@@ -6,9 +6,9 @@ use Rattle.std.proofs.lemmas.Nat.Gcd.{dvd_antisymm, le_of_dvd}
 use Rattle.std.proofs.lemmas.List.{map-append}
 use Rattle.std.proofs.lemmas.List.Concat.{flat_map-append}
 use Rattle.std.proofs.lemmas.List.Elements.{All-head}
-use Rattle.gj_tools.specs.Divisors.{IsLcm}
-use Rattle.gj_tools.proofs.Divisors.{cofactor, gcd_exists, gcd_positive, lcm_from_gcd}
-use Rattle.gj_tools.proofs.Lists.{All-front, All-back}
+use Rattle.gj_lemmas.specs.Divisors.{IsLcm}
+use Rattle.gj_lemmas.proofs.Divisors.{cofactor, gcd_exists, gcd_positive, lcm_from_gcd}
+use Rattle.gj_lemmas.proofs.Lists.{All-front, All-back}
 use Rattle.gj_frac.specs.declared.Frac.{Frac}
 use Rattle.gj_frac.specs.Fraction.{denominator}
 use Rattle.gj_shape.specs.Given.{IsCommonDenominator, AreWithinBounds, IsLeastCommonDenominator}

@@ -5,8 +5,8 @@ use Rattle.std.proofs.lemmas.List.{map-append, same_lists}
 use Rattle.std.proofs.lemmas.Nat.Gcd.{dvd_antisymm}
 use Rattle.gj_frac.specs.declared.Frac.{Frac}
 use Rattle.gj_frac.proofs.SameValues.{same_from_is, one_place}
-use Rattle.gj_tools.proofs.FirstThatFails.{first_failing_denies}
-use Rattle.gj_tools.proofs.Integers.{mul_positive_z, positive_some_z}
+use Rattle.gj_lemmas.proofs.FirstThatFails.{first_failing_denies}
+use Rattle.gj_lemmas.proofs.Integers.{mul_positive_z, positive_some_z}
 use Rattle.gj_shape.specs.FunctionData.{FunctionData}
 use Rattle.gj_shape.specs.Given.{in_order, AreWithinBounds, IsGivenBy, IsTooFine}
 use Rattle.gj_shape.specs.Points.{lefts, values, rights, all_fractions}

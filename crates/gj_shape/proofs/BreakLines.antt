@@ -7,11 +7,11 @@ use Rattle.std.proofs.lemmas.Nat.Gcd.{le_of_dvd}
 use Rattle.gj_frac.specs.declared.Frac.{Frac}
 use Rattle.gj_frac.specs.Fraction.{SameValue, LessValue, IsRatio, fraction_of, numerator, denominator}
 use Rattle.gj_frac.proofs.SameValues.{is_along}
-use Rattle.gj_tools.specs.Divisors.{IsLcm}
-use Rattle.gj_tools.proofs.Divisors.{lcm_positive}
-use Rattle.gj_tools.proofs.Integers.{abs_add_z}
-use Rattle.gj_tools.proofs.Ratios.{ratio_less}
-use Rattle.gj_tools.proofs.Ring.{by_ring, ring}
+use Rattle.gj_lemmas.specs.Divisors.{IsLcm}
+use Rattle.gj_lemmas.proofs.Divisors.{lcm_positive}
+use Rattle.gj_lemmas.proofs.Integers.{abs_add_z}
+use Rattle.gj_lemmas.proofs.Ratios.{ratio_less}
+use Rattle.gj_lemmas.proofs.Ring.{by_ring, ring}
 use Rattle.gj_shape.specs.Breaks.{on_line}
 use Rattle.gj_shape.specs.Given.{IsSmall, AreWithinBounds, numerator_over}
 use Rattle.gj_shape.proofs.GivenFractions.{is_small}

@@ -7,10 +7,10 @@ use Rattle.std.proofs.lemmas.Nat.Gcd.{le_of_dvd}
 use Rattle.std.proofs.lemmas.List.{map-append, get_or_default}
 use Rattle.std.proofs.lemmas.List.Concat.{flat_map-append}
 use Rattle.std.proofs.lemmas.List.Elements.{All-head, All-tail}
-use Rattle.gj_tools.specs.Divisors.{IsLcm}
-use Rattle.gj_tools.proofs.Divisors.{lcm_positive}
-use Rattle.gj_tools.proofs.Integers.{mul_lt_cancel_right_z, mul_lt_mul_right_z, mul_nonnegative_z, mul_positive_z, pos_abs_z}
-use Rattle.gj_tools.proofs.Lists.{All-back, All-one}
+use Rattle.gj_lemmas.specs.Divisors.{IsLcm}
+use Rattle.gj_lemmas.proofs.Divisors.{lcm_positive}
+use Rattle.gj_lemmas.proofs.Integers.{mul_lt_cancel_right_z, mul_lt_mul_right_z, mul_nonnegative_z, mul_positive_z, pos_abs_z}
+use Rattle.gj_lemmas.proofs.Lists.{All-back, All-one}
 use Rattle.gj_frac.specs.declared.Frac.{Frac}
 use Rattle.gj_frac.specs.Fraction.{LessValue, fraction_of, numerator, denominator, IsInside, IsRatio}
 use Rattle.gj_frac.proofs.SameValues.{same_from_is}

@@ -6,9 +6,9 @@ use Rattle.std.proofs.lemmas.List.{append-nil, length_push, length-append, lengt
 use Rattle.std.proofs.lemmas.List.Elements.{All-nil, All-cons, All-head, All-tail, All-append, All-map, All-get_or}
 use Rattle.gj_frac.specs.declared.Frac.{Frac}
 use Rattle.gj_frac.specs.Fraction.{SameValue, LessValue, IsRatio, fraction_of, numerator, denominator}
-use Rattle.gj_tools.proofs.Integers.{mul_comm_z}
-use Rattle.gj_tools.proofs.Lists.{All-two}
-use Rattle.gj_tools.proofs.Ratios.{ratio_less}
+use Rattle.gj_lemmas.proofs.Integers.{mul_comm_z}
+use Rattle.gj_lemmas.proofs.Lists.{All-two}
+use Rattle.gj_lemmas.proofs.Ratios.{ratio_less}
 use Rattle.gj_frac.proofs.SameValues.{one_place}
 use Rattle.gj_shape.specs.Breaks.{point_at, points_at, even, on_line, IsLine, IsPiece, AreLaid, AreGridPoints, AreAscending, AreOnGrid, AreListsOfBreaks}
 use Rattle.gj_shape.specs.Breaks.AreLaid.{last, onward}

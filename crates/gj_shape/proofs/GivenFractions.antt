@@ -8,9 +8,9 @@ use Rattle.std.proofs.lemmas.List.Elements.{All-head}
 use Rattle.std.specs.Int.{◌∣◌}
 use Rattle.gj_frac.specs.declared.Frac.{Frac}
 use Rattle.gj_frac.specs.Fraction.{IsRatio, numerator, denominator}
-use Rattle.gj_tools.proofs.Integers.{mul_assoc_z, pos_abs_z}
-use Rattle.gj_tools.proofs.Lists.{All-back}
-use Rattle.gj_tools.proofs.Ring.{by_ring, ring}
+use Rattle.gj_lemmas.proofs.Integers.{mul_assoc_z, pos_abs_z}
+use Rattle.gj_lemmas.proofs.Lists.{All-back}
+use Rattle.gj_lemmas.proofs.Ring.{by_ring, ring}
 use Rattle.gj_shape.specs.FunctionData.{FunctionData, at}
 use Rattle.gj_shape.specs.Given.{in_order, IsSmall, IsCommonDenominator, IsOrder, IsPlace, HaveLength, IsTooLarge, HasFault, IsGivenBy, numerator_over, AreOver, IsTooFineOf}
 use Rattle.gj_shape.specs.declared.faults.ShapeFault.{ShapeFault}

@@ -8,7 +8,7 @@ use Rattle.std.proofs.lemmas.Int.{unsigned_abs-mul}
 use Rattle.std.specs.Int.{◌∣◌, IsGcd}
 use Rattle.gj_frac.specs.declared.Frac.{Frac}
 use Rattle.gj_frac.specs.Fraction.{numerator, denominator}
-use Rattle.gj_tools.proofs.Divisors.{cofactor, gauss}
+use Rattle.gj_lemmas.proofs.Divisors.{cofactor, gauss}
 use Rattle.gj_shape.specs.FunctionData.{FunctionData, IsSmallOver}
 use Rattle.gj_shape.specs.Given.{in_order, IsSmall, IsCommonDenominator, IsOrder, IsPlace, HaveLength, IsGivenBy, numerator_over}
 use Rattle.gj_shape.specs.Denominators.{AreWithinBoundsOver}

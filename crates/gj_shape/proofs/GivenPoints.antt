@@ -6,7 +6,7 @@ use Rattle.std.proofs.lemmas.List.Concat.{flat_map-append}
 use Rattle.std.proofs.lemmas.Slice.Zip.{AllZip-long}
 use Rattle.gj_frac.specs.declared.Frac.{Frac}
 use Rattle.gj_frac.proofs.SameValues.{same_from_is}
-use Rattle.gj_tools.proofs.FirstThatFails.{IsPrefixClosed, first_failing_denies, one_first_failing}
+use Rattle.gj_lemmas.proofs.FirstThatFails.{IsPrefixClosed, first_failing_denies, one_first_failing}
 use Rattle.gj_shape.specs.FunctionData.{FunctionData, IsWithinBounds}
 use Rattle.gj_shape.specs.Given.{IsSmall, AreWithinBounds, IsGivenBy}
 use Rattle.gj_shape.specs.Denominators.{IsRefusal}

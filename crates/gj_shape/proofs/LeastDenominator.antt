@@ -7,11 +7,11 @@ use Rattle.std.proofs.lemmas.List.{append-nil, length-append}
 use Rattle.std.specs.Int.{◌∣◌}
 use Rattle.gj_frac.specs.declared.Frac.{Frac}
 use Rattle.gj_frac.specs.Fraction.{denominator, IsAtMost}
-use Rattle.gj_tools.specs.Divisors.{IsLcm}
-use Rattle.gj_tools.proofs.Integers.{abs_positive_z}
-use Rattle.gj_tools.proofs.Divisors.{cofactor, lcm_positive}
-use Rattle.gj_tools.proofs.FirstThatFails.{IsPrefixClosed}
-use Rattle.gj_tools.proofs.Lists.{All-front, All-back}
+use Rattle.gj_lemmas.specs.Divisors.{IsLcm}
+use Rattle.gj_lemmas.proofs.Integers.{abs_positive_z}
+use Rattle.gj_lemmas.proofs.Divisors.{cofactor, lcm_positive}
+use Rattle.gj_lemmas.proofs.FirstThatFails.{IsPrefixClosed}
+use Rattle.gj_lemmas.proofs.Lists.{All-front, All-back}
 use Rattle.gj_shape.specs.Limits.{greatest_value}
 use Rattle.gj_shape.specs.Given.{in_order, IsSmall, IsCommonDenominator, IsLeastCommonDenominator, HasCommonDenominator, AreWithin, AreWithinBounds, IsFirstFractionAtFault}
 use Rattle.gj_shape.specs.Denominators.{Extends, ExtendsBy, AreWithinOver, AreWithinBoundsOver, HasNoCommonWith, IsRefused, IsFirstRefused, IsRefusal, IsRefusedBehind, IsFaultIn, fault_at}

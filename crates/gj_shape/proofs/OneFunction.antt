@@ -8,7 +8,7 @@ use Rattle.std.proofs.lemmas.Int.{unsigned_abs-mul}
 use Rattle.std.specs.Int.{◌∣◌}
 use Rattle.gj_frac.specs.declared.Frac.{Frac}
 use Rattle.gj_frac.specs.Fraction.{numerator, denominator}
-use Rattle.gj_tools.proofs.Divisors.{cofactor, gcd_exists}
+use Rattle.gj_lemmas.proofs.Divisors.{cofactor, gcd_exists}
 use Rattle.gj_shape.specs.FunctionData.{FunctionData}
 use Rattle.gj_shape.specs.Given.{in_order, IsCommonDenominator, IsGivenBy, numerator_over}
 use Rattle.gj_shape.proofs.InOrder.{all_from_in_order}

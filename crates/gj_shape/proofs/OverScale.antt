@@ -6,8 +6,8 @@ use Rattle.std.proofs.lemmas.Int.{ints, unsigned_abs-mul}
 use Rattle.std.proofs.lemmas.List.Elements.{All-nil, All-cons, All-head, All-tail}
 use Rattle.gj_frac.specs.declared.Frac.{Frac}
 use Rattle.gj_frac.specs.Fraction.{IsRatio, numerator, denominator}
-use Rattle.gj_tools.proofs.Divisors.{whole_multiple}
-use Rattle.gj_tools.proofs.Integers.{mul_assoc_z, mul_comm_z, mul_cancel_right_z, abs_positive_z, pos_abs_z}
+use Rattle.gj_lemmas.proofs.Divisors.{whole_multiple}
+use Rattle.gj_lemmas.proofs.Integers.{mul_assoc_z, mul_comm_z, mul_cancel_right_z, abs_positive_z, pos_abs_z}
 use Rattle.gj_shape.specs.FunctionData.{IsSmallOver}
 use Rattle.gj_shape.specs.Given.{IsSmall, numerator_over}
 use Rattle.gj_shape.proofs.LeastDenominator.{Divides}

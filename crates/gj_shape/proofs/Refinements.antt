@@ -3,9 +3,9 @@ use Rattle.std.proofs.Common.{◌≡◌, ℕ, zero, suc, ◌+◌, ◌-◌, ◌*�
 use Rattle.std.proofs.Math.Nat.{mul-le-mul_right, mul-le-mul_left, mul-lt-mul_of_pos_right, mul-pos, mod-lt, mod-mod, div-add-mod'}
 use Rattle.std.proofs.lemmas.Int.{unsigned_abs-mul}
 use Rattle.gj_frac.specs.declared.Frac.{Frac}
-use Rattle.gj_tools.proofs.Integers.{abs_add_z, first_only_z, second_only_z}
-use Rattle.gj_tools.proofs.Quotients.{same_at_remainder, next_place_low, next_place_high}
-use Rattle.gj_tools.proofs.Ring.{by_ring, ring}
+use Rattle.gj_lemmas.proofs.Integers.{abs_add_z, first_only_z, second_only_z}
+use Rattle.gj_lemmas.proofs.Quotients.{same_at_remainder, next_place_low, next_place_high}
+use Rattle.gj_lemmas.proofs.Ring.{by_ring, ring}
 use Rattle.gj_shape.specs.FunctionData.{FunctionData, IsWithinBounds, at}
 use Rattle.gj_shape.specs.Table.{table}
 use Rattle.gj_shape.specs.Given.{IsSmall, IsOrder, IsPlace, IsGivenBy}

@@ -3,9 +3,9 @@ use Rattle.std.proofs.Common.{◌≡◌, ℕ, ◌+◌, ◌-◌, ◌*◌, ◌/◌
 use Rattle.std.proofs.Math.Nat.{mod-lt, div-add-mod', lt_of_mul-lt-mul_right, eq-zero-or-pos}
 use Rattle.gj_frac.specs.declared.Frac.{Frac}
 use Rattle.gj_frac.specs.Fraction.{SameValue, fraction_of, numerator, denominator, IsRatio}
-use Rattle.gj_tools.proofs.Integers.{positive_some_z}
-use Rattle.gj_tools.proofs.Ratios.{ratio_along}
-use Rattle.gj_tools.proofs.Ring.{by_ring, ring}
+use Rattle.gj_lemmas.proofs.Integers.{positive_some_z}
+use Rattle.gj_lemmas.proofs.Ratios.{ratio_along}
+use Rattle.gj_lemmas.proofs.Ring.{by_ring, ring}
 use Rattle.gj_shape.specs.FunctionData.{FunctionData, at}
 use Rattle.gj_shape.specs.Table.{table}
 use Rattle.gj_shape.specs.Breaks.{on_line, IsAffineBetween}

@@ -2,9 +2,9 @@
 use Rattle.std.proofs.Common.{◌≡◌, ℕ, zero, suc, ◌+◌, ◌-◌, ◌*◌, ◌/◌, ◌%◌, ◌<◌, ℤ, pos, ◌+ℤ◌, ◌*ℤ◌, List, [], ◌∷◌, length, map, sym, ap, ap₂, subst, ◌∙◌, refl, arith}
 use Rattle.std.proofs.lemmas.Nat.{div-mul-add, mod-mul-add}
 use Rattle.std.proofs.Math.Nat.{div-one, mod-one, mul-div_left, mul-mod_left, div-add-mod', mod-lt, zero-mul, mul-lt-mul_of_pos_right}
-use Rattle.gj_tools.proofs.Integers.{one_mul_z}
-use Rattle.gj_tools.proofs.Quotients.{parts_of_place}
-use Rattle.gj_tools.proofs.Ring.{by_ring, ring}
+use Rattle.gj_lemmas.proofs.Integers.{one_mul_z}
+use Rattle.gj_lemmas.proofs.Quotients.{parts_of_place}
+use Rattle.gj_lemmas.proofs.Ring.{by_ring, ring}
 use Rattle.gj_shape.proofs.AtLemmas.{at_plus_length}
 use Rattle.gj_shape.specs.FunctionData.{FunctionData, IsWithinBounds, IsContinuous, at}
 use Rattle.gj_shape.specs.Table.{table, entry}

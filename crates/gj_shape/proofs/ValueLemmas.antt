@@ -6,9 +6,9 @@ use Rattle.std.specs.Int.{int_rem_euclid}
 use Rattle.std.specs.Prelude.{neg_ℤ}
 use Rattle.gj_frac.specs.declared.Frac.{Frac}
 use Rattle.gj_frac.specs.Fraction.{IsRatio, numerator, denominator}
-use Rattle.gj_tools.proofs.Integers.{add_mul_z}
-use Rattle.gj_tools.proofs.Quotients.{same_remainder, same_at_remainder}
-use Rattle.gj_tools.proofs.Ring.{by_ring, ring}
+use Rattle.gj_lemmas.proofs.Integers.{add_mul_z}
+use Rattle.gj_lemmas.proofs.Quotients.{same_remainder, same_at_remainder}
+use Rattle.gj_lemmas.proofs.Ring.{by_ring, ring}
 use Rattle.gj_shape.specs.FunctionData.{FunctionData, IsWithinBounds, at}
 use Rattle.gj_shape.specs.Refinement.{entry_or_value}
 use Rattle.gj_shape.specs.Table.{table, entry}

@@ -1,6 +1,6 @@
 -- Functions by their breakpoints, at any fractions (Light on the Infinite Group Relaxation I; the limits are own).
 use Rattle.std.specs.Prelude.{ℕ, pos, ◌≡◌, ◌+◌, ◌-◌, ◌*◌, ◌<◌, ◌≤◌, ◌+ℤ◌, ◌*ℤ◌, List, [], ◌∷◌, ◌++◌, length, map, slice_index_or, unsigned_abs}
-use Rattle.gj_tools.specs.Divisors.{IsLcm}
+use Rattle.gj_lemmas.specs.Divisors.{IsLcm}
 use Rattle.gj_frac.specs.declared.Frac.{Frac}
 use Rattle.gj_frac.specs.Fraction.{Fraction, SameValue, LessValue, fraction_of, numerator, denominator, IsRatio, IsInside}
 use Rattle.gj_shape.specs.Limits.{greatest_order}

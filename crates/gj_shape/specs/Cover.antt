@@ -1,7 +1,7 @@
 -- Covered intervals and their components (Light on the Infinite Group Relaxation I and II; the order of the lines is own).
 -- The interval a is that from a/q to (a + 1)/q. Nothing here looks at a function but by the order q and its tight pairs.
 use Rattle.std.specs.Prelude.{ℕ, ◌≡◌, ◌≢◌, ◌⊎◌, ◌+◌, ◌%◌, ◌<◌, ◌==◌, List, [], ◌∷◌, ◌++◌, All, Any, count_by}
-use Rattle.gj_tools.specs.FirstThatFails.{IsFirstFailing}
+use Rattle.gj_lemmas.specs.FirstThatFails.{IsFirstFailing}
 use Rattle.gj_shape.specs.Additive.{IsAdditive}
 use Rattle.gj_shape.specs.FirstViolation.{IsLeastFrom}
 use Rattle.gj_shape.specs.declared.faces.FaceKind.{FaceKind}

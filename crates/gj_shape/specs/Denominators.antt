@@ -3,8 +3,8 @@ use Rattle.std.specs.Prelude.{ℕ, ◌<◌, ◌≤◌, List, ◌++◌, All, unsi
 use Rattle.std.specs.Int.{◌∣◌}
 use Rattle.gj_frac.specs.declared.Frac.{Frac}
 use Rattle.gj_frac.specs.Fraction.{denominator, IsAtMost}
-use Rattle.gj_tools.specs.Divisors.{IsLcm}
-use Rattle.gj_tools.specs.FirstThatFails.{IsFirstFailing}
+use Rattle.gj_lemmas.specs.Divisors.{IsLcm}
+use Rattle.gj_lemmas.specs.FirstThatFails.{IsFirstFailing}
 use Rattle.gj_shape.specs.Limits.{greatest_value, denominator_bound}
 use Rattle.gj_shape.specs.Given.{IsSmall, IsLeastCommonDenominator, AreWithinBounds, IsTooLarge, IsTooFine}
 use Rattle.gj_shape.specs.declared.faults.ShapeFault.{ShapeFault}

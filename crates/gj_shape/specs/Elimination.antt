@@ -3,7 +3,7 @@
 use Rattle.std.specs.Prelude.{ℕ, zero, suc, ℤ, pos, neg_ℤ, ◌+◌, ◌==◌, ◌≤◌, nat_le, ◌^◌, ◌+ℤ◌, ◌-ℤ◌, ◌*ℤ◌, int_div, int_lt, not, if◌then◌else◌, Option, None, Some, List, [], ◌∷◌, ◌++◌, Any, map, zip, drop, length, get_or, slice_set, unsigned_abs}
 use Rattle.std.specs.List.{range_with_len, find, list_any}
 use Rattle.std.specs.Ordering.{int_eq}
-use Rattle.gj_tools.specs.Divisors.{gcd_of}
+use Rattle.gj_lemmas.specs.Divisors.{gcd_of}
 use Rattle.gj_shape.specs.SlopeRows.{total}
 
 -- the entry at a column, 0 past the end

@@ -3,7 +3,7 @@ use Rattle.std.specs.Prelude.{ℕ, ℤ, pos, ◌≡◌, ◌<◌, ◌≤◌, ◌/
 use Rattle.std.specs.Int.{◌∣◌}
 use Rattle.gj_frac.specs.declared.Frac.{Frac}
 use Rattle.gj_frac.specs.Fraction.{numerator, denominator, IsRatio, IsAtMost}
-use Rattle.gj_tools.specs.FirstThatFails.{IsFirstFailing}
+use Rattle.gj_lemmas.specs.FirstThatFails.{IsFirstFailing}
 use Rattle.gj_shape.specs.Limits.{greatest_order, greatest_value, denominator_bound}
 use Rattle.gj_shape.specs.FunctionData.{FunctionData, IsWithinBounds}
 use Rattle.gj_shape.specs.declared.faults.ShapeFault.{ShapeFault}

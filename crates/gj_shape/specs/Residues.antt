@@ -1,4 +1,4 @@
--- Elimination modulo a number (own): insertion over residues, as `gj_residue` and `gj_rank` compute it. Rows stay lists of
+-- Elimination modulo a number (own): insertion over residues, as `gj_residue` and `gj_check_groups` compute it. Rows stay lists of
 -- whole numbers, and those that it keeps have 1 at their pivots.
 use Rattle.std.specs.Prelude.{ℕ, ℤ, pos, ◌≡◌, ◌-ℤ◌, ◌*ℤ◌, Option, None, Some, List, [], map}
 use Rattle.std.specs.Int.{int_rem_euclid}

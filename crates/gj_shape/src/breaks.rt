@@ -1,6 +1,6 @@
 //! Functions by their breakpoints, at any fractions.
 ghost use Rattle.std.specs.Prelude.{◌≡◌, ◌≢◌, ◌<◌, ◌≤◌, ◌↔◌, ◌++◌, ◌∷◌, [], ℕ, pos, List, length, IfSome, IfNone, IfOk, IfErr, OnOk, OnErr, IsTrue, unsigned_abs, alloc_error};
-ghost use Rattle.gj_tools.specs.Divisors.{IsLcm};
+ghost use Rattle.gj_lemmas.specs.Divisors.{IsLcm};
 ghost use Rattle.gj_frac.specs.Fraction.{LessValue, fraction_of, denominator, IsInside};
 ghost use Rattle.gj_shape.specs.declared.faults.FractionFault.{FractionFault};
 ghost use Rattle.gj_shape.specs.Limits.{greatest_order};

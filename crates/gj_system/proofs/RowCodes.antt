@@ -11,7 +11,7 @@ use Rattle.gj_shape.specs.declared.extremality.RowName.TheVariants.{Pair}
 use Rattle.gj_system.specs.Codes.{packed, codes_twice, ArePackable}
 use Rattle.gj_system.specs.Components.{rises_at}
 use Rattle.gj_system.proofs.PackedCounts.{packed_four, packed_sum, same_digits}
-use Rattle.gj_tools.proofs.Lists.{All-made}
+use Rattle.gj_lemmas.proofs.Lists.{All-made}
 use Rattle.gj_theory.proofs.RiseCounts.{rises_at_most}
 
 -- the codes of the counts of n columns before each of the first q grid points, twice over

@@ -11,7 +11,7 @@ use Rattle.gj_shape.specs.SlopeRows.{rises, row_entry, row_of}
 use Rattle.gj_shape.specs.declared.extremality.RowName.{RowName}
 use Rattle.gj_shape.specs.declared.extremality.RowName.TheVariants.{Period, F, Pair}
 use Rattle.gj_system.specs.Components.{rises_at, IsNameBelow}
-use Rattle.gj_tools.proofs.Lists.{All-made}
+use Rattle.gj_lemmas.proofs.Lists.{All-made}
 use Rattle.gj_theory.proofs.RiseCounts.{rises_here, rises_elsewhere, rises_at_most}
 
 -- ---- counts

@@ -2,7 +2,7 @@
 use Rattle.std.proofs.Common.{◌≡◌, ℕ, ◌+◌, ◌*◌, ◌%◌, ℤ, pos, ◌+ℤ◌, ◌-ℤ◌, ◌*ℤ◌, ap, ap₂, sym, ◌∙◌, arith}
 use Rattle.std.proofs.Math.Nat.{add-zero, mul-zero}
 use Rattle.std.proofs.lemmas.Int.{ints}
-use Rattle.gj_tools.proofs.Integers.{weighted_sum_z}
+use Rattle.gj_lemmas.proofs.Integers.{weighted_sum_z}
 use Rattle.gj_shape.specs.Extreme.{AverageTo}
 use Rattle.gj_shape.specs.Table.{IsMinimalTable}
 use Rattle.gj_theory.specs.Steps.{IsAdditiveAtTight}

@@ -2,8 +2,8 @@
 use Rattle.std.proofs.Common.{◌≡◌, ℕ, ◌+◌, ◌-◌, ◌*◌, ◌/◌, ◌%◌, ◌<◌, ◌≤◌, ℤ, pos, ◌+ℤ◌, List, [], ◌∷◌, All, Any, ap, sym, subst, ◌∙◌, arith}
 use Rattle.std.proofs.lemmas.Int.{ints}
 use Rattle.std.proofs.lemmas.List.Elements.{All-nil, All-cons}
-use Rattle.gj_tools.proofs.Integers.{add_comm_z}
-use Rattle.gj_tools.proofs.Quotients.{same_remainder, from_same_remainder, same_at_remainder}
+use Rattle.gj_lemmas.proofs.Integers.{add_comm_z}
+use Rattle.gj_lemmas.proofs.Quotients.{same_remainder, from_same_remainder, same_at_remainder}
 use Rattle.gj_shape.specs.Additive.{IsTight, IsAdditive, IsInFace}
 use Rattle.gj_shape.specs.Cover.{IsOneOf, links_of, triangle_projections}
 use Rattle.gj_shape.specs.FunctionData.{FunctionData, IsContinuous}

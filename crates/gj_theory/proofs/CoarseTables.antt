@@ -2,7 +2,7 @@
 use Rattle.std.proofs.Common.{◌≡◌, ℕ, ◌+◌, ◌*◌, ◌%◌, ◌<◌, ℤ, pos, ◌+ℤ◌, ◌*ℤ◌, sym, subst, ap, ◌∙◌, arith}
 use Rattle.std.proofs.lemmas.Int.{ints}
 use Rattle.std.proofs.Math.Nat.{one-mul}
-use Rattle.gj_tools.proofs.Integers.{add_mul_z, mul_cancel_right_z, mul_le_cancel_right_z}
+use Rattle.gj_lemmas.proofs.Integers.{add_mul_z, mul_cancel_right_z, mul_le_cancel_right_z}
 use Rattle.gj_shape.specs.FunctionData.{FunctionData, IsWithinBounds, IsContinuous}
 use Rattle.gj_shape.specs.Table.{table, IsMinimalOnGrid, IsMinimal}
 use Rattle.gj_shape.proofs.TableLemmas.{table_finer, table_period}

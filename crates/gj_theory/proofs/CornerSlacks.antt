@@ -5,9 +5,9 @@ use Rattle.std.proofs.Math.Nat.{add_comm, add-mod, mod-lt, mod-mod}
 use Rattle.std.proofs.lemmas.Bool.{cases_order, cases_lt}
 use Rattle.std.proofs.lemmas.Int.{ints, by_lt_z}
 use Rattle.std.proofs.lemmas.List.Elements.{All-nil, All-cons, All-head, All-tail, All-map, All-contains}
-use Rattle.gj_tools.proofs.Integers.{mul_nonnegative_z, mul_le_mul_left_z, mul_le_mul_right_z, mul_le_cancel_right_z, mul_comm_z}
-use Rattle.gj_tools.proofs.Quotients.{same_at_remainder}
-use Rattle.gj_tools.proofs.Ring.{by_ring, ring}
+use Rattle.gj_lemmas.proofs.Integers.{mul_nonnegative_z, mul_le_mul_left_z, mul_le_mul_right_z, mul_le_cancel_right_z, mul_comm_z}
+use Rattle.gj_lemmas.proofs.Quotients.{same_at_remainder}
+use Rattle.gj_lemmas.proofs.Ring.{by_ring, ring}
 use Rattle.gj_shape.specs.FunctionData.{FunctionData, IsWithinBounds, IsContinuous, at}
 use Rattle.gj_shape.specs.Faces.{corners_of, limits_of, slack_from}
 use Rattle.gj_shape.specs.Perturbation.{slack_on_grid}

@@ -6,8 +6,8 @@ use Rattle.std.proofs.Math.Nat.{mod-lt, mod-mod}
 use Rattle.std.proofs.lemmas.Bool.{cases_eq, cond-true, cond-false}
 use Rattle.std.proofs.lemmas.Bool.Decides.{eqb_tells}
 use Rattle.std.proofs.lemmas.Int.{ints}
-use Rattle.gj_tools.proofs.Integers.{mul_add_z}
-use Rattle.gj_tools.proofs.Quotients.{same_at_remainder}
+use Rattle.gj_lemmas.proofs.Integers.{mul_add_z}
+use Rattle.gj_lemmas.proofs.Quotients.{same_at_remainder}
 use Rattle.gj_shape.specs.SlopeRows.{total}
 use Rattle.gj_shape.specs.Valid.{IsSolution, weight, IsValidTable}
 use Rattle.gj_theory.proofs.Weights.{HasList, sum_cons, same_sums, with_copies}

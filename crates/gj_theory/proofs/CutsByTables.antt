@@ -9,9 +9,9 @@ use Rattle.gj_frac.specs.declared.Frac.{Frac}
 use Rattle.gj_frac.specs.Floor.{IsFloor, HasFractionalPart}
 use Rattle.gj_frac.specs.Fraction.{IsRatio, numerator, denominator}
 use Rattle.gj_frac.proofs.Floors.{quotient_is_floor}
-use Rattle.gj_tools.proofs.Integers.{positive_some_z, swap_last_z}
-use Rattle.gj_tools.proofs.Ratios.{ratio_along}
-use Rattle.gj_tools.proofs.Ring.{by_ring, ring}
+use Rattle.gj_lemmas.proofs.Integers.{positive_some_z, swap_last_z}
+use Rattle.gj_lemmas.proofs.Ratios.{ratio_along}
+use Rattle.gj_lemmas.proofs.Ring.{by_ring, ring}
 use Rattle.gj_shape.specs.Given.{IsCommonDenominator, numerator_over}
 use Rattle.gj_shape.specs.RowCut.{CutHolds}
 use Rattle.gj_shape.specs.SlopeRows.{sum_of_products}

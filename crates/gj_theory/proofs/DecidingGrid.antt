@@ -5,9 +5,9 @@ use Rattle.std.proofs.Math.Nat.{mod-lt, mod-mod}
 use Rattle.std.proofs.lemmas.Bool.{cases_lt}
 use Rattle.std.proofs.lemmas.Int.{ints}
 use Rattle.std.proofs.lemmas.List.Elements.{All-nil, All-cons}
-use Rattle.gj_tools.proofs.Integers.{same_or_apart_z, zero_factor_z, weighted_sum_z}
-use Rattle.gj_tools.proofs.Quotients.{same_at_remainder, parts_of_remainder}
-use Rattle.gj_tools.proofs.Ring.{by_ring, ring}
+use Rattle.gj_lemmas.proofs.Integers.{same_or_apart_z, zero_factor_z, weighted_sum_z}
+use Rattle.gj_lemmas.proofs.Quotients.{same_at_remainder, parts_of_remainder}
+use Rattle.gj_lemmas.proofs.Ring.{by_ring, ring}
 use Rattle.gj_shape.specs.Additive.{IsTight, IsAdditive, IsInFace}
 use Rattle.gj_shape.specs.Cover.{Joins, Covers, IsCovered, LeadsTo}
 use Rattle.gj_shape.specs.Cover.LeadsTo.{here, onward}

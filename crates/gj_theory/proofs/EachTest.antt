@@ -8,7 +8,7 @@ use Rattle.gj_shape.specs.FirstViolation.{Test, tests_of, tests_of_face, over_sq
 use Rattle.gj_shape.specs.FirstViolation.Test.{zero_at_zero, nonnegative_at, nonnegative_after, nonnegative_before, symmetric_at, symmetric_between, subadditive_at}
 use Rattle.gj_shape.specs.declared.faces.FaceKind.{FaceKind}
 use Rattle.gj_shape.specs.declared.faces.FaceKind.TheVariants.{Vertex, Horizontal, Vertical, Diagonal, Lower, Upper}
-use Rattle.gj_tools.proofs.Lists.{All-front, All-back, All-made, All-joined, made_has, joined_has}
+use Rattle.gj_lemmas.proofs.Lists.{All-front, All-back, All-made, All-joined, made_has, joined_has}
 use Rattle.gj_theory.specs.EarlierTests.{IsTestOf}
 
 -- ---- the parts of the list

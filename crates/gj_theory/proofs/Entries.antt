@@ -2,8 +2,8 @@
 use Rattle.std.proofs.Common.{◌≡◌, ◌≢◌, ℕ, zero, suc, ◌<◌, Bool, true, false, if◌then◌else◌, ℤ, pos, ◌+ℤ◌, ◌-ℤ◌, ◌*ℤ◌, neg_ℤ, ◌<ℤ◌, int_lt, List, [], ◌∷◌, length, map, unsigned_abs, refl, sym, ap, ap₂, ◌∙◌, arith}
 use Rattle.std.proofs.lemmas.Int.{ints}
 use Rattle.std.proofs.lemmas.List.{length-map}
-use Rattle.gj_tools.specs.Divisors.{gcd_of}
-use Rattle.gj_tools.proofs.Integers.{mul_cancel_left_z, mul_lt_cancel_left_z, mul_left_comm_z, abs_zero_z}
+use Rattle.gj_lemmas.specs.Divisors.{gcd_of}
+use Rattle.gj_lemmas.proofs.Integers.{mul_cancel_left_z, mul_lt_cancel_left_z, mul_left_comm_z, abs_zero_z}
 use Rattle.gj_shape.specs.SlopeRows.{sum_of_products}
 use Rattle.gj_shape.specs.Elimination.{at_column, scaled, differences, divided, eliminated, reduced, kept_entries, row_factor, kept_factor}
 use Rattle.gj_theory.specs.TriangularRows.{Solves}

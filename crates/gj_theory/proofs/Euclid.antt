@@ -4,8 +4,8 @@ use Rattle.std.specs.Int.{IsGcd}
 use Rattle.std.proofs.lemmas.Int.{ints}
 use Rattle.std.proofs.lemmas.Nat.{div-add-mod'}
 use Rattle.std.proofs.lemmas.Nat.Gcd.{IsGcd-from_mod, IsGcd-from_zero, IsGcd-swap}
-use Rattle.gj_tools.proofs.Divisors.{gcd_is_gcd_of}
-use Rattle.gj_tools.proofs.Ring.{by_ring, ring}
+use Rattle.gj_lemmas.proofs.Divisors.{gcd_is_gcd_of}
+use Rattle.gj_lemmas.proofs.Ring.{by_ring, ring}
 use Rattle.gj_shape.specs.Residues.{residue, inverse, IsZeroModulo}
 use Rattle.gj_theory.proofs.Inverses.{inverse_only, inverse_none}
 use Rattle.gj_theory.proofs.Modulo.{zero_is, zero_none, zero_sum, zero_difference, zero_times, residue_same}

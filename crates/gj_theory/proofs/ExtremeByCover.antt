@@ -6,10 +6,10 @@ use Rattle.std.proofs.lemmas.Int.{ints}
 use Rattle.std.proofs.lemmas.List.FromFn.{length-map-range_with_len}
 use Rattle.std.proofs.lemmas.List.Elements.{All-cons, All-nil}
 use Rattle.std.proofs.lemmas.Nat.{div_below}
-use Rattle.gj_tools.proofs.Integers.{mul_add_z, mul_sub_z, zero_factor_z}
-use Rattle.gj_tools.proofs.Lists.{made_has}
-use Rattle.gj_tools.proofs.Quotients.{same_at_remainder}
-use Rattle.gj_tools.proofs.Ring.{by_ring, ring}
+use Rattle.gj_lemmas.proofs.Integers.{mul_add_z, mul_sub_z, zero_factor_z}
+use Rattle.gj_lemmas.proofs.Lists.{made_has}
+use Rattle.gj_lemmas.proofs.Quotients.{same_at_remainder}
+use Rattle.gj_lemmas.proofs.Ring.{by_ring, ring}
 use Rattle.gj_shape.specs.Additive.{IsTight, IsAdditive}
 use Rattle.gj_shape.specs.Cover.{HasComponent}
 use Rattle.gj_shape.specs.Extreme.{IsExtreme}

@@ -3,9 +3,9 @@ use Rattle.std.proofs.Common.{◌≡◌, ℕ, inl, inr, ◌+◌, ◌-◌, ◌*�
 use Rattle.std.proofs.Math.Nat.{mod-lt, div-add-mod', mul-div_left, mul-mod_left, add-mod_right}
 use Rattle.std.proofs.lemmas.Bool.{cases_lt}
 use Rattle.std.proofs.lemmas.Int.{ints}
-use Rattle.gj_tools.proofs.Integers.{mul_le_mul_left_z, mul_nonnegative_z, mul_cancel_left_z}
-use Rattle.gj_tools.proofs.Quotients.{parts_of_place, parts_of_remainder}
-use Rattle.gj_tools.proofs.Ring.{by_ring, ring}
+use Rattle.gj_lemmas.proofs.Integers.{mul_le_mul_left_z, mul_nonnegative_z, mul_cancel_left_z}
+use Rattle.gj_lemmas.proofs.Quotients.{parts_of_place, parts_of_remainder}
+use Rattle.gj_lemmas.proofs.Ring.{by_ring, ring}
 use Rattle.gj_shape.specs.Extreme.{IsExtremeTable}
 use Rattle.gj_shape.specs.FunctionData.{FunctionData, IsWithinBounds, IsContinuous, at}
 use Rattle.gj_shape.specs.Table.{table, IsMinimalTable}

@@ -10,9 +10,9 @@ use Rattle.gj_shape.specs.declared.faces.FaceKind.{FaceKind}
 use Rattle.gj_shape.specs.declared.faces.FaceKind.TheVariants.{Vertex, Horizontal, Vertical, Diagonal, Lower, Upper}
 use Rattle.gj_shape.specs.declared.violations.Violation.{Violation}
 use Rattle.gj_theory.specs.EarlierTests.{IsTestOf, PassesBefore, PassesValues, PassesSigns, PassesMirrors, PassesSymmetry, PassesVertices, PassesFace, PassesSquare, PassesKindsBefore, HoldsBefore, PassesFacesBefore}
-use Rattle.gj_tools.specs.FirstThatFails.{IsFirstFailing}
-use Rattle.gj_tools.proofs.Lists.{All-made, All-joined}
-use Rattle.gj_tools.proofs.FirstThatFails.{first_failing, first_failing_denies_all, first_failing_in_front, first_failing_in_back, first_failing_in_map, first_failing_in_joined, first_failing_in_range}
+use Rattle.gj_lemmas.specs.FirstThatFails.{IsFirstFailing}
+use Rattle.gj_lemmas.proofs.Lists.{All-made, All-joined}
+use Rattle.gj_lemmas.proofs.FirstThatFails.{first_failing, first_failing_denies_all, first_failing_in_front, first_failing_in_back, first_failing_in_map, first_failing_in_joined, first_failing_in_range}
 use Rattle.gj_theory.proofs.EachTest.{indices, sign_tests, signs_around, sign_tests_between, symmetry_tests, symmetry_tests_between, vertex_tests, from_vertical, from_diagonal, from_lower, from_upper, square_tests, other_tests, to_signs, to_signs_between, to_symmetry, to_symmetry_between, to_vertices, signs_around_have, squares_have, square_has}
 
 -- ---- what passes of each part

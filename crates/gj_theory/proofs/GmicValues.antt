@@ -8,9 +8,9 @@ use Rattle.gj_frac.specs.declared.Frac.{Frac}
 use Rattle.gj_frac.specs.Floor.{IsFloor}
 use Rattle.gj_frac.specs.Fraction.{IsRatio}
 use Rattle.gj_frac.proofs.Floors.{quotient_is_floor}
-use Rattle.gj_tools.proofs.Integers.{mul_cancel_right_z, sub_mul_z, swap_last_z, mul_le_mul_right_z, mul_lt_mul_right_z, mul_le_cancel_right_z, mul_lt_cancel_right_z, mul_some_z, pos_abs_z, positive_some_z, add_mul_z}
-use Rattle.gj_tools.proofs.Ratios.{ratio_along, ratio_less}
-use Rattle.gj_tools.proofs.Ring.{by_ring, ring}
+use Rattle.gj_lemmas.proofs.Integers.{mul_cancel_right_z, sub_mul_z, swap_last_z, mul_le_mul_right_z, mul_lt_mul_right_z, mul_le_cancel_right_z, mul_lt_cancel_right_z, mul_some_z, pos_abs_z, positive_some_z, add_mul_z}
+use Rattle.gj_lemmas.proofs.Ratios.{ratio_along, ratio_less}
+use Rattle.gj_lemmas.proofs.Ring.{by_ring, ring}
 use Rattle.gj_shape.specs.Gmic.{gmic_table, gmic_scale}
 use Rattle.gj_shape.specs.Values.{IsCongruent}
 use Rattle.gj_shape.proofs.ValueLemmas.{congruent_rests}

@@ -4,7 +4,7 @@ use Rattle.std.specs.List.{range_with_len}
 use Rattle.std.proofs.Math.Nat.{mod-lt, mod-mod}
 use Rattle.std.proofs.lemmas.Int.{ints}
 use Rattle.std.proofs.lemmas.List.FromFn.{get_or-map-range_with_len, length-map-range_with_len}
-use Rattle.gj_tools.proofs.Quotients.{same_at_remainder}
+use Rattle.gj_lemmas.proofs.Quotients.{same_at_remainder}
 use Rattle.gj_shape.specs.FunctionData.{FunctionData, IsWithinBounds, at}
 use Rattle.gj_shape.specs.Perturbation.{AreHalvesOf}
 use Rattle.gj_shape.specs.Table.{table, IsMinimal}

@@ -5,7 +5,7 @@ use Rattle.std.specs.Ordering.{int_eq}
 use Rattle.std.proofs.lemmas.Bool.Decides.{Decides-int_eq, not_from_Decides}
 use Rattle.std.proofs.lemmas.List.{map_push}
 use Rattle.std.proofs.lemmas.List.Elements.{All-head, All-push}
-use Rattle.gj_tools.proofs.Lists.{All-front, All-back}
+use Rattle.gj_lemmas.proofs.Lists.{All-front, All-back}
 use Rattle.gj_shape.specs.Elimination.{KeptRow, Insertion, at_column, with_pivot, insertion_by, inserted_by, inserted_at_by, kept_behind, row_with_pivot}
 use Rattle.gj_theory.specs.TriangularRows.{IsKeptRowBy, AreTriangularBy}
 use Rattle.gj_theory.proofs.SoundArithmetic.{Carries, KeepsRow, SoundArithmetic, SolvesKeptBy}

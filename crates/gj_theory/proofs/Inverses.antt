@@ -10,11 +10,11 @@ use Rattle.std.proofs.lemmas.Int.{ints, unsigned_abs-mul}
 use Rattle.std.proofs.lemmas.List.Elements.{All-nil, All-cons, All-get_or}
 use Rattle.std.proofs.lemmas.List.FromFn.{length-range_with_len, get_or-range_with_len}
 use Rattle.std.proofs.lemmas.Nat.{div-add-mod'}
-use Rattle.gj_tools.proofs.Divisors.{cofactor, divides_product, gcd_is_gcd_of}
-use Rattle.gj_tools.proofs.Integers.{neg_mul_z}
-use Rattle.gj_tools.proofs.Lists.{All-range}
-use Rattle.gj_tools.proofs.Ring.{by_ring, ring}
-use Rattle.gj_tools.specs.Divisors.{gcd_of, gcd_within}
+use Rattle.gj_lemmas.proofs.Divisors.{cofactor, divides_product, gcd_is_gcd_of}
+use Rattle.gj_lemmas.proofs.Integers.{neg_mul_z}
+use Rattle.gj_lemmas.proofs.Lists.{All-range}
+use Rattle.gj_lemmas.proofs.Ring.{by_ring, ring}
+use Rattle.gj_lemmas.specs.Divisors.{gcd_of, gcd_within}
 use Rattle.gj_shape.specs.Residues.{residue, inverse, IsZeroModulo}
 use Rattle.gj_theory.proofs.Triangular.{find_has}
 use Rattle.gj_theory.proofs.Modulo.{zero_is, zero_difference, zero_times, residue_same, residue_below, residue_only, same_below}

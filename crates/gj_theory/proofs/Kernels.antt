@@ -12,9 +12,9 @@ use Rattle.std.proofs.lemmas.Map.Keys.{IsDistinct-head, IsDistinct-tail}
 use Rattle.std.proofs.lemmas.Map.Steps.{le-length_from_below}
 use Rattle.std.proofs.Math.ListN.{get_or-eq_default}
 use Rattle.std.proofs.Math.Nat.{le_antisymm}
-use Rattle.gj_tools.proofs.Integers.{mul_add_z, mul_left_comm_z, mul_assoc_z, mul_comm_z, mul_neg_z, mul_positive_z, mul_lt_cancel_right_z}
-use Rattle.gj_tools.proofs.Divisors.{gcd_of_is}
-use Rattle.gj_tools.proofs.Choices.{not_true, not_false}
+use Rattle.gj_lemmas.proofs.Integers.{mul_add_z, mul_left_comm_z, mul_assoc_z, mul_comm_z, mul_neg_z, mul_positive_z, mul_lt_cancel_right_z}
+use Rattle.gj_lemmas.proofs.Divisors.{gcd_of_is}
+use Rattle.gj_lemmas.proofs.Choices.{not_true, not_false}
 use Rattle.gj_frac.proofs.Reduced.{quotient_of_divisor}
 use Rattle.gj_shape.specs.SlopeRows.{total, sum_of_products}
 use Rattle.gj_shape.specs.Elimination.{KeptRow, at_column, scaled, row_with_pivot, entries_of, products_behind, solving_gcd, solving_products, solved_at, solution_below, solution_from, free_column, unit_row, kernel}

@@ -3,8 +3,8 @@ use Rattle.std.proofs.Common.{◌≡◌, ◌≢◌, ℕ, zero, suc, ◌+◌, ◌
 use Rattle.std.proofs.Math.Seq.{drop-cons, get_or-append_seam}
 use Rattle.std.proofs.lemmas.Bool.{cases_eq}
 use Rattle.std.proofs.lemmas.List.{get_or_default, length-append, take-append-drop}
-use Rattle.gj_tools.proofs.FirstThatFails.{first_failing, one_first_failing}
-use Rattle.gj_tools.proofs.Lists.{All-front}
+use Rattle.gj_lemmas.proofs.FirstThatFails.{first_failing, one_first_failing}
+use Rattle.gj_lemmas.proofs.Lists.{All-front}
 use Rattle.gj_shape.specs.Cover.{HasLine, HasComponent}
 use Rattle.gj_shape.specs.Cover.HasComponent.{opened, joined}
 use Rattle.gj_shape.specs.declared.extremality.CoverLine.{CoverLine}

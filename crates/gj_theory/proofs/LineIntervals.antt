@@ -10,7 +10,7 @@ use Rattle.std.proofs.lemmas.List.{append-nil, length-map, length_push, map_push
 use Rattle.std.proofs.lemmas.List.Elements.{All-push, All-map}
 use Rattle.std.proofs.lemmas.Map.Keys.{IsDistinct-push}
 use Rattle.std.proofs.lemmas.Map.Steps.{length-le_from_distinct_below, le-length_from_below}
-use Rattle.gj_tools.proofs.Choices.{never_true}
+use Rattle.gj_lemmas.proofs.Choices.{never_true}
 use Rattle.gj_shape.specs.Cover.{HasLine}
 use Rattle.gj_shape.specs.declared.extremality.CoverLine.{CoverLine}
 use Rattle.gj_theory.specs.CoverRules.{MeetsCoverRules}

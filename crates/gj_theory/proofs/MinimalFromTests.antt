@@ -3,9 +3,9 @@ use Rattle.std.proofs.Common.{◌≡◌, ℕ, zero, suc, inl, inr, ◌+◌, ◌-
 use Rattle.std.proofs.Math.Nat.{mod-lt, mod-mod, mul-mod_left, mul-div_left, div-add-mod', mod-add-mod, add-mod-mod}
 use Rattle.std.proofs.lemmas.Bool.{cases_lt, cases_order}
 use Rattle.std.proofs.lemmas.Int.{ints}
-use Rattle.gj_tools.proofs.Integers.{mul_nonnegative_z}
-use Rattle.gj_tools.proofs.Quotients.{same_at_remainder, parts_of_remainder, place_sum_low, place_sum_high}
-use Rattle.gj_tools.proofs.Ring.{by_ring, ring}
+use Rattle.gj_lemmas.proofs.Integers.{mul_nonnegative_z}
+use Rattle.gj_lemmas.proofs.Quotients.{same_at_remainder, parts_of_remainder, place_sum_low, place_sum_high}
+use Rattle.gj_lemmas.proofs.Ring.{by_ring, ring}
 use Rattle.gj_shape.specs.FunctionData.{FunctionData, IsWithinBounds, at}
 use Rattle.gj_shape.specs.Faces.{limits_of}
 use Rattle.gj_shape.specs.Table.{table, IsMinimalOnGrid, IsMinimal}

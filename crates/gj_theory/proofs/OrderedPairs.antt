@@ -3,7 +3,7 @@ use Rattle.std.proofs.Common.{◌≡◌, ℕ, zero, suc, inl, inr, ◌+◌, ◌-
 use Rattle.std.specs.List.{range_with_len}
 use Rattle.std.proofs.lemmas.Bool.{cases_eq}
 use Rattle.std.proofs.lemmas.List.Elements.{All-head, All-tail, All-map, All-filter, filter_passes}
-use Rattle.gj_tools.proofs.Lists.{All-front, All-back, All-range, All-joined}
+use Rattle.gj_lemmas.proofs.Lists.{All-front, All-back, All-range, All-joined}
 
 -- those with a
 abbrev pub made_with : {X : Type 0} → (ℕ → ℕ → X) → (ℕ → ℕ → Bool) → ℕ → ℕ → List X

@@ -1,9 +1,9 @@
 -- A minimal table plus and minus a small multiple of a perturbation is two minimal tables.
 use Rattle.std.proofs.Common.{◌≡◌, ◌≢◌, ℕ, zero, suc, ◌+◌, ◌*◌, ◌%◌, ◌<◌, ◌≤◌, ℤ, pos, ◌+ℤ◌, ◌-ℤ◌, ◌*ℤ◌, neg_ℤ, ◌≤ℤ◌, [], ◌∷◌, unsigned_abs, refl, sym, ap, ap₂, ◌∙◌, arith}
 use Rattle.std.proofs.lemmas.Int.{ints, by_lt_z}
-use Rattle.gj_tools.proofs.Integers.{mul_le_mul_left_z, mul_le_cancel_right_z, mul_cancel_left_z, mul_neg_z, mul_comm_z}
-use Rattle.gj_tools.proofs.Quotients.{periods, same_at_remainder}
-use Rattle.gj_tools.proofs.Ring.{by_ring, ring}
+use Rattle.gj_lemmas.proofs.Integers.{mul_le_mul_left_z, mul_le_cancel_right_z, mul_cancel_left_z, mul_neg_z, mul_comm_z}
+use Rattle.gj_lemmas.proofs.Quotients.{periods, same_at_remainder}
+use Rattle.gj_lemmas.proofs.Ring.{by_ring, ring}
 use Rattle.gj_shape.specs.Table.{IsMinimalTable}
 use Rattle.gj_theory.specs.Halves.{IsPerturbation, IsBelowSlacks, raised, lowered, AreDifferentHalves}
 use Rattle.gj_theory.proofs.Continuous.{same_minimal_table}

@@ -8,7 +8,7 @@ use Rattle.std.proofs.lemmas.List.Elements.{All-from_recursion, All-from_get_or}
 use Rattle.std.proofs.lemmas.List.Folds.{Any-from_list_any}
 use Rattle.std.proofs.lemmas.Map.Keys.{IsDistinct-cons}
 use Rattle.std.proofs.lemmas.Map.Steps.{length-le_from_distinct_below}
-use Rattle.gj_tools.proofs.Integers.{mul_cancel_left_z, mul_comm_z, abs_zero_z}
+use Rattle.gj_lemmas.proofs.Integers.{mul_cancel_left_z, mul_comm_z, abs_zero_z}
 use Rattle.gj_shape.specs.Elimination.{at_column}
 use Rattle.gj_shape.specs.SlopeRows.{sum_of_products}
 use Rattle.gj_theory.specs.PivotRows.{HavePivotsBy}

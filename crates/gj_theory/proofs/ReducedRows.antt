@@ -1,7 +1,7 @@
 -- A step by a kept row.
 use Rattle.std.proofs.Common.{◌≡◌, ℕ, ℤ, pos, ◌<ℤ◌, int_div, FitsSigned, to_z, of_z, List, ◌++◌, unsigned_abs, sym, ap, ap₂, subst, ◌∙◌}
 use Rattle.std.specs.Prelude.{All}
-use Rattle.gj_tools.specs.Divisors.{gcd_of}
+use Rattle.gj_lemmas.specs.Divisors.{gcd_of}
 use Rattle.gj_shape.specs.Elimination.{at_column, scaled, differences, divided, eliminated, reduced, marked_in_step, row_factor, kept_factor, Passes}
 use Rattle.gj_frac.specs.Fraction.{Fits}
 use mir.Syntax.{w128}

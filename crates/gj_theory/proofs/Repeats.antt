@@ -12,10 +12,10 @@ use Rattle.std.proofs.lemmas.Int.{ints, unsigned_abs-mul}
 use Rattle.std.proofs.lemmas.List.Elements.{All-nil, All-cons, All-get_or}
 use Rattle.std.proofs.lemmas.List.Folds.{find-append}
 use Rattle.std.proofs.lemmas.Nat.Gcd.{dvd_refl}
-use Rattle.gj_tools.proofs.Divisors.{gcd_is_gcd_of}
-use Rattle.gj_tools.proofs.Integers.{mul_cancel_right_z, neg_mul_z, mul_neg_z, positive_some_z, pos_abs_z, one_mul_z}
-use Rattle.gj_tools.proofs.Lists.{All-back}
-use Rattle.gj_tools.specs.Divisors.{gcd_of}
+use Rattle.gj_lemmas.proofs.Divisors.{gcd_is_gcd_of}
+use Rattle.gj_lemmas.proofs.Integers.{mul_cancel_right_z, neg_mul_z, mul_neg_z, positive_some_z, pos_abs_z, one_mul_z}
+use Rattle.gj_lemmas.proofs.Lists.{All-back}
+use Rattle.gj_lemmas.specs.Divisors.{gcd_of}
 use Rattle.gj_frac.specs.Fraction.{Fits}
 use Rattle.gj_shape.specs.Elimination.{KeptRow, Insertion, Arithmetic, whole_numbers, at_column, scaled, differences, divided, row_factor, kept_factor, eliminated, reduced, marked_in_step, kept_entries, insertion, insertion_by, inserted, inserted_at, inserted_at_by, kept_behind, row_with_pivot, Passes}
 use Rattle.gj_theory.specs.HandedOver.{kept_after}

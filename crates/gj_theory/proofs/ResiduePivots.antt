@@ -5,7 +5,7 @@ use Rattle.std.proofs.lemmas.Int.{ints, unsigned_abs-mul}
 use Rattle.std.proofs.lemmas.List.{length-map}
 use Rattle.std.proofs.lemmas.List.Elements.{All-nil, All-cons, All-head, All-tail, All-from_get_or, All-get_or}
 use Rattle.std.proofs.Math.Nat.{mul-le-mul_right}
-use Rattle.gj_tools.proofs.Integers.{mul_comm_z, abs_zero_z, zero_factor_z}
+use Rattle.gj_lemmas.proofs.Integers.{mul_comm_z, abs_zero_z, zero_factor_z}
 use Rattle.gj_shape.specs.Elimination.{scaled}
 use Rattle.gj_shape.specs.Residues.{IsZeroModulo, IsInvertible, SolvesModulo}
 use Rattle.gj_shape.specs.SlopeRows.{sum_of_products}

@@ -6,7 +6,7 @@ use Rattle.std.specs.Ordering.{int_eq}
 use Rattle.std.proofs.lemmas.Bool.Decides.{Decides-int_eq}
 use Rattle.std.proofs.lemmas.Int.{ints}
 use Rattle.std.proofs.lemmas.List.{length-map}
-use Rattle.gj_tools.proofs.Ring.{by_ring, ring}
+use Rattle.gj_lemmas.proofs.Ring.{by_ring, ring}
 use Rattle.gj_shape.specs.Elimination.{at_column, scaled, differences}
 use Rattle.gj_shape.specs.Residues.{residue, residues, inverse, reduced_modulo, times_inverse, modulo, IsZeroModulo, SolvesModulo}
 use Rattle.gj_shape.specs.SlopeRows.{sum_of_products}

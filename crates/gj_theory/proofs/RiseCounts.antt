@@ -9,7 +9,7 @@ use Rattle.std.proofs.lemmas.List.{get_or-set_same, get_or-set_other}
 use Rattle.std.proofs.lemmas.List.Elements.{All-get_or, All-from_get_or}
 use Rattle.std.proofs.lemmas.List.Sums.{sum_by_push, count_by-le-length}
 use Rattle.std.proofs.lemmas.List.FromFn.{length-range_with_len, fill_by_all}
-use Rattle.gj_tools.proofs.Lists.{range_split}
+use Rattle.gj_lemmas.proofs.Lists.{range_split}
 use Rattle.gj_shape.specs.SlopeRows.{rises}
 
 -- ---- one more interval

@@ -6,8 +6,8 @@ use Rattle.std.proofs.lemmas.Nat.Gcd.{IsGcd-swap, IsGcd-from_zero, dvd_trans, dv
 use Rattle.std.proofs.lemmas.List.Elements.{All-head, All-tail}
 use Rattle.std.proofs.Math.Nat.{one-dvd}
 use Rattle.std.proofs.Math.ListN.{drop_of_length-le}
-use Rattle.gj_tools.specs.Divisors.{gcd_of}
-use Rattle.gj_tools.proofs.Divisors.{gcd_of_is, gcd_is_gcd_of}
+use Rattle.gj_lemmas.specs.Divisors.{gcd_of}
+use Rattle.gj_lemmas.proofs.Divisors.{gcd_of_is, gcd_is_gcd_of}
 use Rattle.gj_shape.specs.Elimination.{gcd_of_row}
 use Rattle.gj_frac.specs.Fraction.{Fits}
 

@@ -6,9 +6,9 @@ use Rattle.std.proofs.lemmas.Int.{ints}
 use Rattle.std.proofs.lemmas.List.Elements.{All-head, All-tail}
 use Rattle.gj_frac.specs.declared.Frac.{Frac}
 use Rattle.gj_frac.specs.Fraction.{IsRatio, numerator, denominator, IsInside}
-use Rattle.gj_tools.proofs.Divisors.{cofactor}
-use Rattle.gj_tools.proofs.Integers.{pos_abs_z, mul_assoc_z, swap_last_z}
-use Rattle.gj_tools.proofs.Ring.{by_ring, ring}
+use Rattle.gj_lemmas.proofs.Divisors.{cofactor}
+use Rattle.gj_lemmas.proofs.Integers.{pos_abs_z, mul_assoc_z, swap_last_z}
+use Rattle.gj_lemmas.proofs.Ring.{by_ring, ring}
 use Rattle.gj_shape.specs.FunctionData.{FunctionData, IsWithinBounds}
 use Rattle.gj_shape.specs.Given.{IsCommonDenominator}
 use Rattle.gj_shape.specs.Gmic.{gmic_table, gmic_scale}

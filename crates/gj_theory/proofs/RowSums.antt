@@ -4,8 +4,8 @@ use Rattle.std.specs.Int.{◌∣◌}
 use Rattle.std.proofs.lemmas.Bool.{eq-eqb, ne_eqb}
 use Rattle.std.proofs.lemmas.Int.{ints}
 use Rattle.std.proofs.lemmas.Nat.Gcd.{dvd_trans, dvd_refl}
-use Rattle.gj_tools.proofs.Integers.{mul_assoc_z, mul_comm_z, mul_add_z, sub_mul_z, neg_mul_z, mul_cancel_left_z}
-use Rattle.gj_tools.proofs.Divisors.{gcd_of_is}
+use Rattle.gj_lemmas.proofs.Integers.{mul_assoc_z, mul_comm_z, mul_add_z, sub_mul_z, neg_mul_z, mul_cancel_left_z}
+use Rattle.gj_lemmas.proofs.Divisors.{gcd_of_is}
 use Rattle.gj_frac.proofs.Reduced.{quotient_of_divisor}
 use Rattle.gj_shape.specs.SlopeRows.{sum_of_products}
 use Rattle.gj_shape.specs.Elimination.{at_column, divided, scaled, differences, gcd_of_row, kept_entries}

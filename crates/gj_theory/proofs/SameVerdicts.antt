@@ -2,8 +2,8 @@
 use Rattle.std.proofs.Common.{◌≡◌, ℕ, zero, suc, ◌+◌, ◌*◌, ◌<◌, ⊎_elim, ℤ, pos, ◌+ℤ◌, ◌*ℤ◌, ◌∷◌, [], refl, sym, subst, ap, ap₂, ◌∙◌, mul-pos, arith}
 use Rattle.std.proofs.Math.Nat.{mul_assoc, mul_comm}
 use Rattle.std.proofs.lemmas.Int.{ints}
-use Rattle.gj_tools.proofs.Integers.{add_mul_z, mul_assoc_z, mul_cancel_right_z, mul_le_cancel_right_z, mul_le_mul_right_z, same_or_apart_z}
-use Rattle.gj_tools.proofs.Ring.{by_ring, ring}
+use Rattle.gj_lemmas.proofs.Integers.{add_mul_z, mul_assoc_z, mul_cancel_right_z, mul_le_cancel_right_z, mul_le_mul_right_z, same_or_apart_z}
+use Rattle.gj_lemmas.proofs.Ring.{by_ring, ring}
 use Rattle.gj_shape.specs.Extreme.{IsExtremeTable, IsExtreme}
 use Rattle.gj_shape.specs.FunctionData.{FunctionData, IsWithinBounds, IsContinuous}
 use Rattle.gj_shape.specs.Refinement.{IsRefinement}

@@ -4,8 +4,8 @@ use Rattle.std.proofs.Math.Nat.{mul_assoc, mul_comm, mul_right_comm, mul-pos, ad
 use Rattle.std.proofs.lemmas.Int.{ints}
 use Rattle.gj_frac.specs.declared.Frac.{Frac}
 use Rattle.gj_frac.specs.Fraction.{IsRatio}
-use Rattle.gj_tools.proofs.Integers.{mul_add_z, mul_cancel_left_z, mul_lt_mul_left_z, mul_lt_cancel_left_z}
-use Rattle.gj_tools.proofs.Ring.{by_ring, ring}
+use Rattle.gj_lemmas.proofs.Integers.{mul_add_z, mul_cancel_left_z, mul_lt_mul_left_z, mul_lt_cancel_left_z}
+use Rattle.gj_lemmas.proofs.Ring.{by_ring, ring}
 use Rattle.gj_shape.specs.FunctionData.{FunctionData, at}
 use Rattle.gj_shape.specs.Table.{table}
 use Rattle.gj_shape.specs.FirstViolation.{IsOnGrid, IsNegativeOnGrid, IsSuperadditiveOnGrid}

@@ -3,8 +3,8 @@ use Rattle.std.proofs.Common.{◌≡◌, ℕ, zero, suc, ◌⊎◌, inl, inr, �
 use Rattle.std.proofs.Math.Nat.{mod-lt, mod-mod, add-mul-mod_self_right, mod-add-mod, add-mod-mod}
 use Rattle.std.proofs.lemmas.Bool.{cases_lt}
 use Rattle.std.proofs.lemmas.Int.{ints, by_lt_z}
-use Rattle.gj_tools.proofs.Integers.{pos_abs_z}
-use Rattle.gj_tools.proofs.Quotients.{same_at_remainder, parts_of_place}
+use Rattle.gj_lemmas.proofs.Integers.{pos_abs_z}
+use Rattle.gj_lemmas.proofs.Quotients.{same_at_remainder, parts_of_place}
 use Rattle.gj_shape.specs.FunctionData.{FunctionData, IsWithinBounds}
 use Rattle.gj_shape.specs.Perturbation.{IsLeastSlack, IsGreatestSize}
 use Rattle.gj_shape.specs.Table.{table, IsMinimalTable, IsMinimal}

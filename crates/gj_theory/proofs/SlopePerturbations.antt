@@ -7,7 +7,7 @@ use Rattle.std.proofs.lemmas.Bool.Decides.{Decides-int_eq}
 use Rattle.std.proofs.lemmas.Int.{ints}
 use Rattle.std.proofs.lemmas.List.Elements.{All-head, All-tail}
 use Rattle.std.proofs.lemmas.List.FromFn.{map-range_with_len_more, fill_by_all}
-use Rattle.gj_tools.proofs.Integers.{add_comm_z, same_or_apart_z}
+use Rattle.gj_lemmas.proofs.Integers.{add_comm_z, same_or_apart_z}
 use Rattle.gj_shape.specs.Additive.{IsTight}
 use Rattle.gj_shape.specs.Elimination.{at_column}
 use Rattle.gj_shape.specs.FunctionData.{FunctionData, IsWithinBounds, at}

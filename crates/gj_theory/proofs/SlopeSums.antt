@@ -5,8 +5,8 @@ use Rattle.std.proofs.Math.Nat.{zero-add}
 use Rattle.std.proofs.lemmas.Bool.{cases_eq, eq-eqb, ne_eqb}
 use Rattle.std.proofs.lemmas.Int.{ints}
 use Rattle.std.proofs.lemmas.List.Sums.{sum_by-append}
-use Rattle.gj_tools.proofs.Integers.{add_mul_z, sub_mul_z}
-use Rattle.gj_tools.proofs.Lists.{range_split}
+use Rattle.gj_lemmas.proofs.Integers.{add_mul_z, sub_mul_z}
+use Rattle.gj_lemmas.proofs.Lists.{range_split}
 use Rattle.gj_shape.specs.SlopeRows.{rises, row_entry, row_of, sum_of_products}
 use Rattle.gj_shape.specs.declared.extremality.RowName.TheVariants.{Period, F, Pair}
 

@@ -2,9 +2,9 @@
 use Rattle.std.proofs.Common.{◌≡◌, ℕ, suc, ◌≢◌, ⊎_elim, Bool, true, false, if◌then◌else◌, int_lt, neg_ℤ, ℤ, pos, ◌-ℤ◌, ◌*ℤ◌, ◌<ℤ◌, List, [], ◌∷◌, length, map, unsigned_abs, refl, sym, ap, ap₂, subst, ◌∙◌, arith}
 use Rattle.std.proofs.lemmas.Int.{ints}
 use Rattle.std.proofs.lemmas.List.{length-map}
-use Rattle.gj_tools.proofs.Integers.{mul_cancel_left_z}
-use Rattle.gj_tools.proofs.Divisors.{gcd_of_is}
-use Rattle.gj_tools.specs.Divisors.{gcd_of}
+use Rattle.gj_lemmas.proofs.Integers.{mul_cancel_left_z}
+use Rattle.gj_lemmas.proofs.Divisors.{gcd_of_is}
+use Rattle.gj_lemmas.specs.Divisors.{gcd_of}
 use Rattle.gj_frac.proofs.Reduced.{quotient_of_divisor}
 use Rattle.gj_shape.specs.SlopeRows.{sum_of_products}
 use Rattle.gj_shape.specs.Elimination.{at_column, divided, scaled, differences, row_factor, kept_factor, eliminated, reduced, kept_entries, gcd_of_row}

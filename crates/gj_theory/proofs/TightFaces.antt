@@ -1,9 +1,9 @@
 -- An additive face of a continuous function is tight on its closure, on every grid.
 use Rattle.std.proofs.Common.{◌≡◌, ℕ, zero, suc, ◌+◌, ◌-◌, ◌*◌, ◌%◌, ◌<◌, ℤ, pos, ◌+ℤ◌, ◌*ℤ◌, [], ◌∷◌, refl, ap, ap₂, sym, ◌∙◌, arith}
 use Rattle.std.proofs.Math.Nat.{add-zero, add-mod}
-use Rattle.gj_tools.proofs.Quotients.{same_at_remainder}
-use Rattle.gj_tools.proofs.Ring.{by_ring, ring}
-use Rattle.gj_tools.proofs.Integers.{weighted_sum_z, first_only_z, second_only_z}
+use Rattle.gj_lemmas.proofs.Quotients.{same_at_remainder}
+use Rattle.gj_lemmas.proofs.Ring.{by_ring, ring}
+use Rattle.gj_lemmas.proofs.Integers.{weighted_sum_z, first_only_z, second_only_z}
 use Rattle.gj_shape.specs.Additive.{IsTight, IsTightOnGrid, IsAdditive, IsInFace, IsInClosure}
 use Rattle.gj_shape.specs.FunctionData.{FunctionData, IsWithinBounds, IsContinuous, at}
 use Rattle.gj_shape.specs.Table.{table}

@@ -4,8 +4,8 @@ use Rattle.std.proofs.Math.Nat.{add-mod}
 use Rattle.std.proofs.lemmas.Bool.{cases_order}
 use Rattle.std.proofs.lemmas.Int.{ints}
 use Rattle.std.proofs.lemmas.List.Elements.{All-nil, All-cons, All-head, All-tail, All-map}
-use Rattle.gj_tools.proofs.Integers.{mul_nonnegative_z, zero_factor_z}
-use Rattle.gj_tools.proofs.Quotients.{same_at_remainder}
+use Rattle.gj_lemmas.proofs.Integers.{mul_nonnegative_z, zero_factor_z}
+use Rattle.gj_lemmas.proofs.Quotients.{same_at_remainder}
 use Rattle.gj_shape.specs.FunctionData.{FunctionData, IsWithinBounds, IsContinuous}
 use Rattle.gj_shape.specs.Additive.{IsTight, IsTightOnGrid, IsAdditive, IsInFace, IsInClosure}
 use Rattle.gj_shape.specs.Faces.{corners_of, limits_of}

@@ -5,8 +5,8 @@ use Rattle.std.proofs.Math.Nat.{add-mod_right, add-mul-mod_self_right, le-mul_of
 use Rattle.std.proofs.lemmas.Bool.{cases_lt, cond-true, cond-false}
 use Rattle.std.proofs.lemmas.Bool.Decides.{eqb_tells}
 use Rattle.std.proofs.lemmas.Int.{ints, by_lt_z}
-use Rattle.gj_tools.proofs.Integers.{mul_add_z, mul_assoc_z, mul_le_mul_left_z, mul_nonnegative_z, same_or_apart_z}
-use Rattle.gj_tools.proofs.Quotients.{same_at_remainder}
+use Rattle.gj_lemmas.proofs.Integers.{mul_add_z, mul_assoc_z, mul_le_mul_left_z, mul_nonnegative_z, same_or_apart_z}
+use Rattle.gj_lemmas.proofs.Quotients.{same_at_remainder}
 use Rattle.gj_shape.specs.Extreme.{IsExtremeTable, IsExtreme, AverageTo}
 use Rattle.gj_shape.specs.FunctionData.{FunctionData, IsWithinBounds}
 use Rattle.gj_shape.specs.Table.{table, IsMinimalTable, IsMinimal}

@@ -3,8 +3,8 @@ use Rattle.std.proofs.Common.{◌≡◌, ◌≢◌, ℕ, inl, inr, ◌+◌, ◌-
 use Rattle.std.specs.List.{All}
 use Rattle.std.proofs.Math.Nat.{mul-pos, mul_comm, le-mul_of_pos_right, add-mul-mod_self_right}
 use Rattle.std.proofs.lemmas.Int.{ints, unsigned_abs-mul}
-use Rattle.gj_tools.proofs.Integers.{mul_add_z, mul_cancel_left_z}
-use Rattle.gj_tools.proofs.Quotients.{from_same_remainder, periods}
+use Rattle.gj_lemmas.proofs.Integers.{mul_add_z, mul_cancel_left_z}
+use Rattle.gj_lemmas.proofs.Quotients.{from_same_remainder, periods}
 use Rattle.std.proofs.lemmas.List.Elements.{All-head}
 use Rattle.gj_frac.specs.declared.Frac.{Frac}
 use Rattle.gj_shape.specs.FunctionData.{FunctionData, IsWithinBounds, at}
@@ -18,8 +18,8 @@ use Rattle.gj_shape.proofs.TableLemmas.{table_of_order, table_period}
 use Rattle.gj_theory.specs.EarlierTests.{IsTestOf}
 use Rattle.gj_theory.specs.GridPoints.{IsMultiple, HoldsPoints}
 use Rattle.gj_theory.proofs.Affine.{table_inside, some_corners}
-use Rattle.gj_tools.proofs.Lists.{All-back}
-use Rattle.gj_tools.proofs.FirstThatFails.{first_failing_fails}
+use Rattle.gj_lemmas.proofs.Lists.{All-back}
+use Rattle.gj_lemmas.proofs.FirstThatFails.{first_failing_fails}
 use Rattle.gj_theory.proofs.EachTest.{each_test}
 use Rattle.gj_theory.proofs.ShownPoints.{value_at_place, same_on_both, below_scaled, pair_at_places, scales_swapped, shows_zero, shows_negative, shows_asymmetric, shows_superadditive}
 

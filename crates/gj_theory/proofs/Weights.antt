@@ -3,8 +3,8 @@ use Rattle.std.proofs.Common.{◌≡◌, ℕ, zero, suc, ◌+◌, ◌*◌, ◌/�
 use Rattle.std.specs.Prelude.{sum}
 use Rattle.std.proofs.lemmas.Int.{ints}
 use Rattle.std.proofs.lemmas.List.Sums.{sum_by-cons, sum_by-append}
-use Rattle.gj_tools.proofs.Integers.{mul_add_z}
-use Rattle.gj_tools.proofs.Quotients.{same_remainder, from_same_remainder}
+use Rattle.gj_lemmas.proofs.Integers.{mul_add_z}
+use Rattle.gj_lemmas.proofs.Quotients.{same_remainder, from_same_remainder}
 use Rattle.gj_shape.specs.Valid.{weight}
 
 -- ---- rests of sums

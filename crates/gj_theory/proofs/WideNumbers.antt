@@ -4,9 +4,9 @@ use Rattle.std.specs.Int.{IsGcd}
 use Rattle.std.proofs.lemmas.Int.{fits_signed_from_abs, to_z-of_z, to_z_pos}
 use Rattle.std.proofs.lemmas.Nat.Gcd.{le_of_dvd}
 use mir.Syntax.{w128}
-use Rattle.gj_tools.specs.Divisors.{gcd_of}
-use Rattle.gj_tools.proofs.Divisors.{gcd_is_gcd_of, gcd_positive}
-use Rattle.gj_tools.proofs.Integers.{abs_zero_z}
+use Rattle.gj_lemmas.specs.Divisors.{gcd_of}
+use Rattle.gj_lemmas.proofs.Divisors.{gcd_is_gcd_of, gcd_positive}
+use Rattle.gj_lemmas.proofs.Integers.{abs_zero_z}
 use Rattle.gj_frac.specs.Fraction.{Fits}
 
 pub fits_width : (z : ℤ) → Fits z → FitsSigned w128 z

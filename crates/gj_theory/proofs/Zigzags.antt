@@ -5,8 +5,8 @@ use Rattle.std.proofs.Math.Nat.{mod-mod, add-mod_right, mod-lt, mod-eq_of_lt}
 use Rattle.std.proofs.lemmas.Bool.{eqb-true, eq-eqb, cases_lt}
 use Rattle.std.proofs.lemmas.Int.{ints}
 use Rattle.std.proofs.lemmas.List.Folds.{Any-from_list_any, list_any-from_Any}
-use Rattle.gj_tools.proofs.Quotients.{parts_of_place}
-use Rattle.gj_tools.proofs.Choices.{never_true}
+use Rattle.gj_lemmas.proofs.Quotients.{parts_of_place}
+use Rattle.gj_lemmas.proofs.Choices.{never_true}
 use Rattle.gj_shape.specs.Additive.{IsTight, IsAdditive, IsInFace}
 use Rattle.gj_shape.specs.Cover.{IsOneOf, AreJoined, IsDirectlyCovered, IsCovered}
 use Rattle.gj_shape.specs.Cover.LeadsTo.{here}

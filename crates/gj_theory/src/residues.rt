@@ -1,6 +1,6 @@
 //! Elimination over residues: its rows and their solutions.
 ghost use Rattle.std.specs.Prelude.{ℕ, ℤ, pos, ◌≡◌, ◌≢◌, ◌<◌, ◌≤◌, ◌-ℤ◌, ◌*ℤ◌, ◌↔◌, None, Some, List, length, unsigned_abs, All, IfSome};
-ghost use Rattle.gj_tools.specs.Divisors.{gcd_of};
+ghost use Rattle.gj_lemmas.specs.Divisors.{gcd_of};
 ghost use Rattle.gj_shape.specs.Elimination.{KeptRow, elimination_by};
 ghost use Rattle.gj_shape.specs.Residues.{inverse, modulo, IsZeroModulo, SolvesModulo};
 ghost use Rattle.gj_theory.specs.TriangularRows.{Solves, present_row_by};

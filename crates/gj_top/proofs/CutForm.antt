@@ -3,11 +3,11 @@ use Rattle.std.proofs.Common.{◌≡◌, ℕ, List, subst}
 use Rattle.std.specs.List.{AllZip}
 use Rattle.gj_proof.specs.ProofText.{IsBounded, IsBoundedRule}
 use Rattle.gj_lex.specs.declared.reason.Reason.{Reason}
-use Rattle.gj_ftext.specs.RuleText.{BeginsAsRule, IsFirstFaultOfRule}
-use Rattle.gj_ftext.specs.FirstFault.{IsFirstFaultOfFunction}
-use Rattle.gj_ftext.proofs.OneText.{one_function_text, no_fault_of_text}
-use Rattle.gj_ftext.proofs.FunctionTexts.{function_is_within}
-use Rattle.gj_ftext.proofs.RuleTexts.{one_end, no_fault_of_rule}
+use Rattle.gj_function_text.specs.RuleText.{BeginsAsRule, IsFirstFaultOfRule}
+use Rattle.gj_function_text.specs.FirstFault.{IsFirstFaultOfFunction}
+use Rattle.gj_function_text.proofs.OneText.{one_function_text, no_fault_of_text}
+use Rattle.gj_function_text.proofs.FunctionTexts.{function_is_within}
+use Rattle.gj_function_text.proofs.RuleTexts.{one_end, no_fault_of_rule}
 use Rattle.gj_row.specs.TableauText.{records_of, IsTableauText}
 use Rattle.gj_row.proofs.OneTableau.{no_first_fault}
 use Rattle.gj_row.specs.declared.tableau.Tableau.{Tableau}

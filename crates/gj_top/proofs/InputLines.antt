@@ -4,11 +4,11 @@ use Rattle.gj_lex.specs.TextLines.{HasLines, HasNextLine}
 use Rattle.gj_lex.specs.declared.spelling.Spelling.TheVariants.{Lenient}
 use Rattle.gj_lex.proofs.WhereLaws.{other_word}
 use Rattle.gj_shape.specs.FunctionData.{FunctionData}
-use Rattle.gj_ftext.specs.BreaksText.{end_words}
-use Rattle.gj_ftext.specs.FamilyLine.{words_of_line}
-use Rattle.gj_ftext.specs.FunctionText.{title_words, breaks_title_words, IsWholeFunctionText}
-use Rattle.gj_ftext.specs.RuleText.{rule_title_words, rule_name_words, BeginsAsRule}
-use Rattle.gj_ftext.proofs.LinesOfFunction.{text_has_lines, lines_are_text}
+use Rattle.gj_function_text.specs.BreaksText.{end_words}
+use Rattle.gj_function_text.specs.FamilyLine.{words_of_line}
+use Rattle.gj_function_text.specs.FunctionText.{title_words, breaks_title_words, IsWholeFunctionText}
+use Rattle.gj_function_text.specs.RuleText.{rule_title_words, rule_name_words, BeginsAsRule}
+use Rattle.gj_function_text.proofs.LinesOfFunction.{text_has_lines, lines_are_text}
 use Rattle.gj_proof.specs.declared.cut.CutRule.{CutRule}
 use Rattle.gj_proof.specs.declared.cut.CutRule.TheVariants.{Gmic, Table}
 use Rattle.gj_top.specs.Forms.{BeginsWithFunction, IsFunctionInput}

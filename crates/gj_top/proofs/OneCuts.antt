@@ -11,10 +11,10 @@ use Rattle.gj_shape.specs.Table.{IsMinimal}
 use Rattle.gj_shape.specs.Values.{IsValueAt}
 use Rattle.gj_shape.proofs.LeastDenominator.{denominator_some}
 use Rattle.gj_theory.proofs.Violations.{violation_denies, first_shown}
-use Rattle.gj_ftext.specs.FirstFault.{IsFirstFaultOfFunction}
-use Rattle.gj_ftext.specs.FunctionText.{function_text}
-use Rattle.gj_ftext.proofs.OneText.{one_function_text, one_first_fault_at_front}
-use Rattle.gj_ftext.proofs.RuleTexts.{one_fault_of_rule}
+use Rattle.gj_function_text.specs.FirstFault.{IsFirstFaultOfFunction}
+use Rattle.gj_function_text.specs.FunctionText.{function_text}
+use Rattle.gj_function_text.proofs.OneText.{one_function_text, one_first_fault_at_front}
+use Rattle.gj_function_text.proofs.RuleTexts.{one_fault_of_rule}
 use Rattle.gj_row.specs.TableauText.{records_of, IsTableauText}
 use Rattle.gj_row.specs.FirstFault.{IsFirstFaultOfTableau}
 use Rattle.gj_row.specs.declared.tableau.Entry.{Entry}

@@ -3,14 +3,14 @@ use Rattle.std.proofs.Common.{◌≡◌, ◌≢◌, ℕ, ◌+◌, ◌*◌, ◌<�
 use Rattle.std.specs.List.{AllZip}
 use Rattle.std.proofs.lemmas.Int.{ints}
 use Rattle.std.proofs.lemmas.List.Elements.{All-head, All-tail}
-use Rattle.gj_tools.proofs.Integers.{one_mul_z, mul_some_z}
-use Rattle.gj_tools.proofs.Lists.{All-one, All-two, All-joined}
-use Rattle.gj_tools.proofs.Ring.{by_ring, ring}
+use Rattle.gj_lemmas.proofs.Integers.{one_mul_z, mul_some_z}
+use Rattle.gj_lemmas.proofs.Lists.{All-one, All-two, All-joined}
+use Rattle.gj_lemmas.proofs.Ring.{by_ring, ring}
 use Rattle.gj_frac.specs.Fraction.{IsRatio}
 use Rattle.gj_frac.proofs.SameValues.{same_from_is}
 use Rattle.gj_lex.specs.NumberText.{fraction_text}
-use Rattle.gj_lines.specs.FunctionLines.{line, order_line}
-use Rattle.gj_lines.specs.FaceLines.{face_text, cover_line}
+use Rattle.gj_function_lines.specs.FunctionLines.{line, order_line}
+use Rattle.gj_function_lines.specs.FaceLines.{face_text, cover_line}
 use Rattle.gj_shape.specs.Additive.{IsTight}
 use Rattle.gj_shape.specs.Cover.{components_in}
 use Rattle.gj_shape.specs.FirstViolation.{IsLeastFrom}
@@ -21,7 +21,7 @@ use Rattle.gj_shape.specs.declared.extremality.Halves.{Halves}
 use Rattle.gj_shape.specs.declared.faces.Face.{Face}
 use Rattle.gj_shape.specs.TwoSlopes.{rise}
 use Rattle.gj_shape.proofs.AlikeFunctions.{alike_are_same, continuous_alike}
-use Rattle.gj_ftext.specs.FunctionText.{canonical_breaks_text}
+use Rattle.gj_function_text.specs.FunctionText.{canonical_breaks_text}
 use Rattle.gj_faces.specs.Picked.{ArePicked, none, kept, dropped}
 use Rattle.gj_cover.proofs.Classes.{one_least}
 use Rattle.gj_extreme.specs.Decision.{IsDecided}

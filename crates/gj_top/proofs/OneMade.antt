@@ -3,7 +3,7 @@ use Rattle.std.proofs.Common.{◌≡◌, inl, inr, ℕ, zero, suc, ◌*◌, ◌<
 use Rattle.std.specs.Int.{◌∣◌}
 use Rattle.std.proofs.Math.Nat.{mul_comm, mul_assoc, dvd-mul_left, dvd-mul_right}
 use Rattle.gj_shape.specs.FunctionData.{FunctionData, IsWithinBounds}
-use Rattle.gj_ftext.specs.FunctionText.{IsCanonicalText}
+use Rattle.gj_function_text.specs.FunctionText.{IsCanonicalText}
 use Rattle.gj_transform.specs.Transforms.{HasNoRestriction}
 use Rattle.gj_transform.proofs.OneTransform.{one_times, one_mirror, one_restriction}
 use Rattle.gj_top.specs.declared.reply.End.{End}

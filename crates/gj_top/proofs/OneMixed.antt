@@ -1,12 +1,12 @@
 -- The command `mixed` has one answer.
 use Rattle.std.proofs.Common.{◌≡◌, ◌≢◌, ℕ, ◌-◌, Bool, true, false, pos, int_lt, neg_ℤ, ◌-ℤ◌, ◌*ℤ◌, ◌<ℤ◌, ◌≤ℤ◌, unsigned_abs, List, ◌++◌, codes, flat_map, refl, sym, ap₂, subst, ◌∙◌, arith}
 use Rattle.std.proofs.lemmas.Int.{ints}
-use Rattle.gj_tools.proofs.Integers.{mul_some_z, positive_some_z}
+use Rattle.gj_lemmas.proofs.Integers.{mul_some_z, positive_some_z}
 use Rattle.gj_frac.specs.declared.Frac.{Frac}
 use Rattle.gj_frac.specs.Fraction.{IsInside, numerator, denominator, fraction_of, quotient_of}
 use Rattle.gj_frac.proofs.SameValues.{same_from_is}
-use Rattle.gj_lines.specs.FunctionLines.{line}
-use Rattle.gj_lines.proofs.OneTextOfLines.{one_text_of_lines}
+use Rattle.gj_function_lines.specs.FunctionLines.{line}
+use Rattle.gj_function_lines.proofs.OneTextOfLines.{one_text_of_lines}
 use Rattle.gj_shape.specs.FunctionData.{FunctionData, IsWithinBounds, at}
 use Rattle.gj_shape.proofs.LeastDenominator.{denominator_some}
 use Rattle.gj_theory.specs.Cuts.{one_minus}

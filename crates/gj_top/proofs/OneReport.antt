@@ -6,7 +6,7 @@ use Rattle.json.specs.Tree.{items_depth, ItemsHaveNumbers}
 use Rattle.json.proofs.Printed.Trees.{document-print}
 use Rattle.serde_json.specs.Written.{outline, items_outline, compact_text}
 use Rattle.serde_json.proofs.Texts.{print-outline}
-use Rattle.gj_tools.proofs.Choices.{same_some}
+use Rattle.gj_lemmas.proofs.Choices.{same_some}
 use Rattle.gj_json.specs.JsonText.{strings, report_value, IsReport}
 use Rattle.gj_proof.specs.ProofText.{IsBounded, IsProofText, claim_word}
 use Rattle.gj_proof.specs.declared.claim.Claim.{Claim}

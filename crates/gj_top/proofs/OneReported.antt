@@ -6,7 +6,7 @@ use Rattle.gj_frac.specs.declared.Frac.{Frac}
 use Rattle.gj_frac.specs.Fraction.{IsRatio}
 use Rattle.gj_frac.proofs.SameValues.{same_from_is}
 use Rattle.gj_lex.proofs.LenientLines.{one_cut}
-use Rattle.gj_lines.specs.FunctionLines.{line}
+use Rattle.gj_function_lines.specs.FunctionLines.{line}
 use Rattle.gj_shape.specs.FunctionData.{FunctionData, IsWithinBounds}
 use Rattle.gj_json.specs.JsonText.{IsPrintable, AreRatios, IsJsonText, IsReport, function_value, json_line, report_value}
 use Rattle.gj_json.proofs.OneFunction.{one_function as one_json_function}

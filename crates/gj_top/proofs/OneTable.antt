@@ -1,9 +1,9 @@
 -- The command `group` has one answer.
 use Rattle.std.proofs.Common.{◌≡◌, ℕ, pos, ◌<◌, ◌≤◌, ◌++◌, List, codes, refl, sym, ap, ap₂, subst, ◌∙◌, arith}
 use Rattle.std.proofs.lemmas.Int.{ints}
-use Rattle.gj_tools.proofs.Choices.{same_some}
+use Rattle.gj_lemmas.proofs.Choices.{same_some}
 use Rattle.gj_frac.proofs.SameValues.{same_from_is}
-use Rattle.gj_lines.specs.FunctionLines.{line, order_line, place_line}
+use Rattle.gj_function_lines.specs.FunctionLines.{line, order_line, place_line}
 use Rattle.gj_shape.specs.Elimination.{Solution}
 use Rattle.gj_shape.specs.FunctionData.{FunctionData, IsWithinBounds, at}
 use Rattle.gj_shape.specs.Perturbation.{AreHalvesOf}

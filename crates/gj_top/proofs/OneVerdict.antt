@@ -4,12 +4,12 @@ use Rattle.std.proofs.lemmas.Bool.{cases_lt}
 use Rattle.std.proofs.lemmas.Int.{ints}
 use Rattle.gj_frac.specs.Fraction.{IsRatio}
 use Rattle.gj_frac.proofs.SameValues.{same_from_is}
-use Rattle.gj_lines.specs.FunctionLines.{line, fraction_line}
+use Rattle.gj_function_lines.specs.FunctionLines.{line, fraction_line}
 use Rattle.gj_shape.specs.FunctionData.{FunctionData, IsWithinBounds, IsContinuous, IsFirstJump}
 use Rattle.gj_shape.specs.Table.{IsMinimal}
 use Rattle.gj_shape.specs.declared.violations.Violation.{Violation}
 use Rattle.gj_theory.proofs.Violations.{violation_denies, first_shown}
-use Rattle.gj_ftext.proofs.OneText.{one_first_fault as one_function_fault}
+use Rattle.gj_function_text.proofs.OneText.{one_first_fault as one_function_fault}
 use Rattle.gj_proof.specs.declared.claim.Claim.{Claim}
 use Rattle.gj_proof.specs.declared.claim.Claim.TheVariants.{Minimal, NotMinimal, Cut, Extreme, ExtremeByResidues, NotExtreme}
 use Rattle.gj_proof.specs.ProofText.{IsProofText}

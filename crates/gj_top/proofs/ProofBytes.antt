@@ -8,16 +8,16 @@ use Rattle.std.proofs.lemmas.Int.{ints}
 use Rattle.std.proofs.lemmas.Bool.{and_parts}
 use Rattle.std.proofs.lemmas.Bool.Decides.{nat_tests}
 use Rattle.std.proofs.lemmas.List.Elements.{All-nil, All-cons, All-head, All-tail, All-append, All-weaker}
-use Rattle.gj_tools.proofs.Lists.{All-flat_map}
+use Rattle.gj_lemmas.proofs.Lists.{All-flat_map}
 use Rattle.std.proofs.lemmas.List.Sums.{AllPass-from_list_all}
 use Rattle.gj_frac.specs.Fraction.{Fits}
 use Rattle.gj_frac.specs.declared.Frac.{Frac}
 use Rattle.gj_shape.specs.Perturbation.{AreHalvesInBounds}
 use Rattle.gj_lex.specs.NumberText.{fraction_text, IsNumberByte}
 use Rattle.gj_lex.proofs.WordBytes.{decimal_bytes, fraction_bytes}
-use Rattle.gj_lines.specs.FunctionLines.{line, fraction_line, order_line, place_line, point_text, point_line, has_no_jump, AreFunctionLines}
-use Rattle.gj_lines.specs.FaceLines.{face_word, face_text, cover_line}
-use Rattle.gj_lines.proofs.PointLines.{text_of_one, text_of_three}
+use Rattle.gj_function_lines.specs.FunctionLines.{line, fraction_line, order_line, place_line, point_text, point_line, has_no_jump, AreFunctionLines}
+use Rattle.gj_function_lines.specs.FaceLines.{face_word, face_text, cover_line}
+use Rattle.gj_function_lines.proofs.PointLines.{text_of_one, text_of_three}
 use Rattle.gj_shape.specs.FunctionData.{FunctionData, IsWithinBounds}
 use Rattle.gj_shape.specs.declared.extremality.CoverLine.{CoverLine}
 use Rattle.gj_shape.specs.declared.extremality.Halves.{Halves}

@@ -1,7 +1,7 @@
 -- What `show` writes is a function text of the function that it read, and `show` writes it again as it stands.
 use Rattle.std.proofs.Common.{◌≡◌, ℕ, List, refl, subst, arith}
 use Rattle.gj_shape.specs.FunctionData.{FunctionData}
-use Rattle.gj_ftext.specs.FunctionText.{IsWholeFunctionText, IsCanonicalText}
+use Rattle.gj_function_text.specs.FunctionText.{IsWholeFunctionText, IsCanonicalText}
 use Rattle.gj_top.specs.declared.reply.End.{End}
 use Rattle.gj_top.specs.declared.reply.End.TheVariants as end
 use Rattle.gj_top.specs.declared.status.Status.{Status}

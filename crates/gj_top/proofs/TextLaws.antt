@@ -3,14 +3,14 @@ use Rattle.std.proofs.Common.{◌≡◌, ℕ, ◌≤◌, List, length}
 use Rattle.gj_lex.specs.declared.reason.Reason.{Reason}
 use Rattle.gj_shape.specs.FunctionData.{FunctionData, IsWithinBounds}
 use Rattle.gj_shape.specs.declared.violations.Violation.{Violation}
-use Rattle.gj_ftext.specs.FunctionText.{IsCanonicalText}
-use Rattle.gj_ftext.specs.FirstFault.{IsFirstFaultOfWhole}
-use Rattle.gj_ftext.proofs.Canonical.{canonical_text_is_whole}
-pub use Rattle.gj_ftext.proofs.Canonical.{canonical_text_is_short as shown_text_is_short}
-use Rattle.gj_ftext.proofs.FunctionTexts.{function_is_within}
-use Rattle.gj_ftext.proofs.LinesOfFunction.{lines_are_text}
-pub use Rattle.gj_ftext.proofs.OneCanonical.{one_canonical_text as one_canonical}
-use Rattle.gj_ftext.proofs.OneText.{one_whole_function, no_fault_of_whole}
+use Rattle.gj_function_text.specs.FunctionText.{IsCanonicalText}
+use Rattle.gj_function_text.specs.FirstFault.{IsFirstFaultOfWhole}
+use Rattle.gj_function_text.proofs.Canonical.{canonical_text_is_whole}
+pub use Rattle.gj_function_text.proofs.Canonical.{canonical_text_is_short as shown_text_is_short}
+use Rattle.gj_function_text.proofs.FunctionTexts.{function_is_within}
+use Rattle.gj_function_text.proofs.LinesOfFunction.{lines_are_text}
+pub use Rattle.gj_function_text.proofs.OneCanonical.{one_canonical_text as one_canonical}
+use Rattle.gj_function_text.proofs.OneText.{one_whole_function, no_fault_of_whole}
 use Rattle.gj_proof.specs.ProofText.{IsProofText, IsShort}
 use Rattle.gj_proof.specs.FirstFault.{IsFirstFaultOfProof}
 use Rattle.gj_proof.specs.declared.claim.Claim.{Claim}

@@ -3,7 +3,7 @@ use Rattle.std.specs.Prelude.{ℕ, ◌≡◌, ◌+◌, ◌<◌, ◌≤◌, Bool,
 use Rattle.std.specs.declared.alloc.Global.{Global}
 use Rattle.gj_port.specs.Faults.{HasFailed}
 use Rattle.gj_port.specs.Whole.{TakesUpTo}
-use Rattle.gj_lines.specs.FunctionLines.{line}
+use Rattle.gj_function_lines.specs.FunctionLines.{line}
 use Rattle.gj_words.specs.declared.requests.Request.{Request}
 use Rattle.gj_top.specs.declared.answer.Answer.{Answer}
 use Rattle.gj_top.specs.declared.answer.Answer.TheVariants as answer

@@ -1,6 +1,6 @@
 -- The command `check`: a proof text is answered with what the checker says of its claim (own).
 use Rattle.std.specs.Prelude.{ℕ, ◌≡◌, List, ◌++◌, codes, decimal}
-use Rattle.gj_lines.specs.FunctionLines.{line}
+use Rattle.gj_function_lines.specs.FunctionLines.{line}
 use Rattle.gj_proof.specs.declared.claim.Claim.{Claim}
 use Rattle.gj_proof.specs.ProofText.{claim_word}
 use Rattle.gj_proof.specs.Rules.{MeetsRules}

@@ -3,7 +3,7 @@ use Rattle.std.specs.Prelude.{ℕ, pos, ◌≡◌, List, codes}
 use Rattle.gj_frac.specs.declared.Frac.{Frac}
 use Rattle.gj_frac.specs.Fraction.{IsRatio}
 use Rattle.gj_shape.specs.FunctionData.{FunctionData, IsFirstJump}
-use Rattle.gj_lines.specs.FunctionLines.{fraction_line}
+use Rattle.gj_function_lines.specs.FunctionLines.{fraction_line}
 
 -- the text names the first jump
 pub record NamesFirstJump (f : FunctionData) (text : List ℕ) : Type 0 where

@@ -6,11 +6,11 @@ use Rattle.gj_shape.specs.FirstViolation.{IsFirstViolation}
 use Rattle.gj_shape.specs.declared.violations.Violation.{Violation}
 use Rattle.gj_lex.specs.TextLines.{HasLines}
 use Rattle.gj_lex.specs.declared.spelling.Spelling.TheVariants.{Lenient}
-use Rattle.gj_lines.specs.FunctionLines.{line}
-use Rattle.gj_ftext.specs.BreaksText.{end_words}
-use Rattle.gj_ftext.specs.FunctionText.{IsFunctionText}
-use Rattle.gj_ftext.specs.FirstFault.{IsFirstFaultOfFunction}
-use Rattle.gj_ftext.specs.RuleText.{rule_title_words, rule_name_words, BeginsAsRule, IsRuleText, IsFirstFaultOfRule}
+use Rattle.gj_function_lines.specs.FunctionLines.{line}
+use Rattle.gj_function_text.specs.BreaksText.{end_words}
+use Rattle.gj_function_text.specs.FunctionText.{IsFunctionText}
+use Rattle.gj_function_text.specs.FirstFault.{IsFirstFaultOfFunction}
+use Rattle.gj_function_text.specs.RuleText.{rule_title_words, rule_name_words, BeginsAsRule, IsRuleText, IsFirstFaultOfRule}
 use Rattle.gj_row.specs.FirstFault.{IsFirstFaultOfTableau, reason_word}
 use Rattle.gj_row.specs.TableauText.{IsTableauText}
 use Rattle.gj_row.specs.declared.faults.RowReason.{RowReason}

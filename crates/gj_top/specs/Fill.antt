@@ -6,8 +6,8 @@ use Rattle.gj_frac.specs.Fraction.{IsRatio}
 use Rattle.gj_lex.specs.NumberText.{fraction_text}
 use Rattle.gj_shape.specs.FunctionData.{FunctionData, IsContinuous, at}
 use Rattle.gj_shape.specs.declared.breaks.Break.{Break}
-use Rattle.gj_lines.specs.FunctionLines.{line}
-use Rattle.gj_ftext.specs.FunctionText.{canonical_breaks_text}
+use Rattle.gj_function_lines.specs.FunctionLines.{line}
+use Rattle.gj_function_text.specs.FunctionText.{canonical_breaks_text}
 use Rattle.gj_fill.specs.FillIn.{IsSubadditiveTable, filled}
 use Rattle.gj_fill.specs.FillPoints.{AreFillBreaks}
 use Rattle.gj_fill.specs.FirstPair.{IsFirstPair}

@@ -5,9 +5,9 @@ use Rattle.gj_lex.specs.declared.spelling.Spelling.TheVariants.{Lenient}
 use Rattle.gj_lex.specs.Reason.{reason_word}
 use Rattle.gj_lex.specs.TextLines.{HasNothing}
 use Rattle.gj_shape.specs.FunctionData.{FunctionData}
-use Rattle.gj_lines.specs.FunctionLines.{line}
-use Rattle.gj_ftext.specs.FirstFault.{IsFirstFaultOfWhole}
-use Rattle.gj_ftext.specs.LinesOfFunction.{HasLinesOfFunction, HasLinesOfFamily, HasLinesOfBreaks}
+use Rattle.gj_function_lines.specs.FunctionLines.{line}
+use Rattle.gj_function_text.specs.FirstFault.{IsFirstFaultOfWhole}
+use Rattle.gj_function_text.specs.LinesOfFunction.{HasLinesOfFunction, HasLinesOfFamily, HasLinesOfBreaks}
 use Rattle.gj_proof.specs.ProofText.{IsBounded, IsProofText}
 use Rattle.gj_proof.specs.FirstFault.{IsFirstFaultOfProof}
 use Rattle.gj_proof.specs.declared.claim.Claim.{Claim}

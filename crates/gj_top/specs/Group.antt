@@ -3,7 +3,7 @@
 use Rattle.std.specs.Prelude.{ℕ, ◌≡◌, ◌<◌, ◌≤◌, List, codes}
 use Rattle.gj_shape.specs.FunctionData.{FunctionData, IsContinuous}
 use Rattle.gj_shape.specs.Table.{IsMinimalOnGrid}
-use Rattle.gj_lines.specs.FunctionLines.{line}
+use Rattle.gj_function_lines.specs.FunctionLines.{line}
 use Rattle.gj_group.specs.Decision.{greatest_group_order, SaysOfTable, IsFound, IsTooWideGroup}
 use Rattle.gj_group.specs.declared.decision.GroupAnswer.{GroupAnswer}
 use Rattle.gj_gtext.specs.GroupText.{IsGroupText}

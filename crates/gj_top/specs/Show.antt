@@ -1,7 +1,7 @@
 -- The command `show`: a function text is answered with the canonical text of its function (own).
 use Rattle.std.specs.Prelude.{ℕ, List}
 use Rattle.gj_shape.specs.FunctionData.{FunctionData}
-use Rattle.gj_ftext.specs.FunctionText.{IsCanonicalText}
+use Rattle.gj_function_text.specs.FunctionText.{IsCanonicalText}
 use Rattle.gj_json.specs.JsonText.{IsJsonText}
 use Rattle.gj_top.specs.declared.reply.End.{End}
 use Rattle.gj_top.specs.declared.reply.End.TheVariants.{Done}

@@ -5,8 +5,8 @@ use Rattle.gj_shape.specs.Limits.{greatest_order}
 use Rattle.gj_shape.specs.Extreme.{IsExtreme}
 use Rattle.gj_shape.specs.FunctionData.{FunctionData, IsWithinBounds, IsContinuous}
 use Rattle.gj_shape.specs.Table.{IsMinimal}
-use Rattle.gj_lines.specs.FunctionLines.{line}
-use Rattle.gj_ftext.specs.FunctionText.{IsCanonicalText}
+use Rattle.gj_function_lines.specs.FunctionLines.{line}
+use Rattle.gj_function_text.specs.FunctionText.{IsCanonicalText}
 use Rattle.gj_transform.specs.Transforms.{IsTimesOf, IsMirrorOf, IsRestrictionOf, HasNoRestriction}
 use Rattle.gj_top.specs.declared.reply.End.{End}
 use Rattle.gj_top.specs.declared.reply.End.TheVariants.{Done, NotContinuous, OrderLimit, BadOrder}

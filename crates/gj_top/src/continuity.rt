@@ -4,7 +4,7 @@ ghost use Rattle.gj_shape.specs.FunctionData.{IsFirstJump};
 ghost use Rattle.gj_top.specs.Continuity.{NamesFirstJump};
 
 use gj_frac::Frac;
-use gj_lines::push_fraction_line;
+use gj_function_lines::push_fraction_line;
 use gj_shape::Shape;
 use std::alloc::{AllocError, Global};
 

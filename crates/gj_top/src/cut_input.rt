@@ -1,6 +1,6 @@
 //! The input of the command `cut`: a function or a rule, and a tableau behind it.
 ghost use Rattle.std.specs.Prelude.{◌≤◌, drop, length, IfOk, IfErr};
-ghost use Rattle.gj_ftext.specs.RuleText.{BeginsAsRule};
+ghost use Rattle.gj_function_text.specs.RuleText.{BeginsAsRule};
 ghost use Rattle.gj_row.specs.TableauText.{IsTableauText};
 ghost use Rattle.gj_proof.specs.declared.cut.CutRule.{CutRule};
 ghost use Rattle.gj_top.specs.Task.{IsRefusal};
@@ -10,7 +10,7 @@ ghost use Rattle.gj_top.specs.CutSteps.{IsRecordRefusalOf, IsTableauRefusal};
 use crate::forms::refusal;
 use crate::lines::numbered_line;
 use crate::reply::Unanswered;
-use gj_ftext::{TextFault, begins_as_rule, read_function, read_rule};
+use gj_function_text::{TextFault, begins_as_rule, read_function, read_rule};
 use gj_proof::CutRule;
 use gj_row::{RowFault, RowReason, Tableau};
 use std::alloc::Global;

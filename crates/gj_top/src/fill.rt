@@ -10,7 +10,7 @@ use crate::forms::function_of;
 use crate::reply::{End, Reply, Unanswered};
 use gj_fill::{FillFault, fill};
 use gj_frac::Frac;
-use gj_ftext::write_breaks;
+use gj_function_text::write_breaks;
 use gj_lex::print_frac;
 use gj_shape::Shape;
 use std::alloc::{AllocError, Global};

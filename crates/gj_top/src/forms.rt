@@ -1,5 +1,5 @@
 //! The forms of input: each is read whole, or refused with the line that says why.
-ghost use Rattle.gj_lines.specs.FunctionLines.{line};
+ghost use Rattle.gj_function_lines.specs.FunctionLines.{line};
 ghost use Rattle.gj_top.specs.Task.{IsReadingOf};
 ghost use Rattle.gj_json.specs.JsonFunction.{IsJsonFunction};
 ghost use Rattle.gj_top.specs.Forms.{IsFunctionInput, IsProofOf, IsRefusalOf, IsJsonRefusalOf};
@@ -7,7 +7,7 @@ ghost use Rattle.gj_top.specs.Forms.{RefusesFunctionText, RefusesJson, RefusesPr
 
 use crate::lines::{numbered_line, worded_line};
 use crate::reply::Unanswered;
-use gj_ftext::{TextFault, read_whole_function};
+use gj_function_text::{TextFault, read_whole_function};
 use gj_json::{JsonFault, JsonReason, read_json};
 use gj_lex::Reason;
 use gj_proof::{Proof, ProofFault, read_proof};

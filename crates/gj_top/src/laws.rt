@@ -9,7 +9,7 @@ ghost use Rattle.gj_top.specs.declared.status.Status.TheVariants.{Done};
 ghost use Rattle.gj_shape.specs.FunctionData.{FunctionData};
 ghost use Rattle.gj_shape.specs.Table.{IsMinimal};
 ghost use Rattle.gj_shape.specs.TwoSlopes.{HasTwoSlopes};
-ghost use Rattle.gj_ftext.specs.FunctionText.{IsWholeFunctionText};
+ghost use Rattle.gj_function_text.specs.FunctionText.{IsWholeFunctionText};
 ghost use Rattle.gj_proof.specs.declared.claim.Claim.{Claim};
 ghost use Rattle.gj_proof.specs.ProofText.{IsBounded, IsProofText};
 ghost use Rattle.gj_json.specs.JsonFunction.{IsJsonFunction};

@@ -1,6 +1,6 @@
 //! Lines of an answer.
 ghost use Rattle.std.specs.Prelude.{◌≡◌, ◌++◌, codes, decimal, IfOk};
-ghost use Rattle.gj_lines.specs.FunctionLines.{line};
+ghost use Rattle.gj_function_lines.specs.FunctionLines.{line};
 
 use std::alloc::{AllocError, Global};
 

@@ -4,7 +4,7 @@ ghost use Rattle.gj_top.specs.Show.{show, show_json};
 
 use crate::forms::{function_of, json_function_of};
 use crate::reply::{End, Reply, Unanswered};
-use gj_ftext::write_function;
+use gj_function_text::write_function;
 use gj_json::show_json;
 use std::alloc::Global;
 

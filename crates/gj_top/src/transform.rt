@@ -7,7 +7,7 @@ ghost use Rattle.gj_top.specs.Transform.{IsMirrorText, IsRestrictionReply, IsTim
 use crate::continuity::jump_line;
 use crate::forms::function_of;
 use crate::reply::{End, Reply, Unanswered};
-use gj_ftext::write_function;
+use gj_function_text::write_function;
 use gj_shape::Shape;
 use gj_transform::{TransformFault, mirror, restrict, times};
 use std::alloc::{AllocError, Global};

@@ -4,8 +4,8 @@ use Rattle.std.proofs.Math.Nat.{div-add-mod'}
 use Rattle.std.proofs.lemmas.List.{get_or_default}
 use Rattle.std.proofs.lemmas.List.Elements.{All-append}
 use Rattle.std.specs.Int.{◌∣◌}
-use Rattle.gj_tools.proofs.Lists.{All-front, All-back}
-use Rattle.gj_tools.proofs.Quotients.{same_remainder}
+use Rattle.gj_lemmas.proofs.Lists.{All-front, All-back}
+use Rattle.gj_lemmas.proofs.Quotients.{same_remainder}
 use Rattle.gj_shape.specs.Entries.{HasEntries}
 use Rattle.gj_shape.specs.FunctionData.{FunctionData, IsWithinBounds, IsSmallOver, at, function_over}
 use Rattle.gj_shape.specs.Given.{IsOrder, IsPlace}

@@ -5,9 +5,9 @@ use Rattle.std.proofs.lemmas.Bool.{cases_eq}
 use Rattle.std.proofs.lemmas.List.Elements.{All-append}
 use Rattle.std.specs.Int.{◌∣◌}
 use Rattle.std.specs.Prelude.{unsigned_abs}
-use Rattle.gj_tools.proofs.Integers.{add_comm_z}
-use Rattle.gj_tools.proofs.Lists.{All-front, All-back}
-use Rattle.gj_tools.proofs.Quotients.{same_remainder, same_at_remainder}
+use Rattle.gj_lemmas.proofs.Integers.{add_comm_z}
+use Rattle.gj_lemmas.proofs.Lists.{All-front, All-back}
+use Rattle.gj_lemmas.proofs.Quotients.{same_remainder, same_at_remainder}
 use Rattle.gj_shape.specs.FunctionData.{FunctionData, IsWithinBounds, at, function_over}
 use Rattle.gj_shape.specs.Table.{table}
 use Rattle.gj_shape.proofs.TableLemmas.{table_at, table_between, table_period, at_plus_order}

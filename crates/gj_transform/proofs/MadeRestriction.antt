@@ -5,9 +5,9 @@ use Rattle.std.proofs.Math.Nat.{div-mul_cancel, mul-le-mul_left, dvd-mul_left, d
 use Rattle.std.proofs.lemmas.Int.{unsigned_abs-mul}
 use Rattle.std.proofs.lemmas.List.{get_or_default}
 use Rattle.std.proofs.lemmas.Nat.Gcd.{mod-eq-zero_of_dvd}
-use Rattle.gj_tools.proofs.Divisors.{cofactor}
-use Rattle.gj_tools.proofs.Lists.{All-back}
-use Rattle.gj_tools.proofs.Ring.{by_ring, ring}
+use Rattle.gj_lemmas.proofs.Divisors.{cofactor}
+use Rattle.gj_lemmas.proofs.Lists.{All-back}
+use Rattle.gj_lemmas.proofs.Ring.{by_ring, ring}
 use Rattle.gj_shape.specs.Entries.{HasEntries}
 use Rattle.gj_shape.specs.FunctionData.{FunctionData, IsWithinBounds, IsSmallOver, at, function_over}
 use Rattle.gj_frac.proofs.Reduced.{quotient_of_divisor}

@@ -1,7 +1,7 @@
 -- The function of n x from lists of entries.
 use Rattle.std.proofs.Common.{◌≡◌, ℕ, ◌+◌, ◌*◌, ◌%◌, ◌<◌, ◌≤◌, ℤ, pos, ◌*ℤ◌, List, [], ◌∷◌, refl, sym, ap, ap₂, ◌∙◌, arith}
 use Rattle.std.proofs.Math.Nat.{mul_comm, mul-pos, mul-le-mul_right, mul-le-mul_left, mod-lt, mod-mod}
-use Rattle.gj_tools.proofs.Ring.{by_ring, ring}
+use Rattle.gj_lemmas.proofs.Ring.{by_ring, ring}
 use Rattle.gj_shape.specs.FunctionData.{FunctionData, IsWithinBounds, at, function_over}
 use Rattle.gj_shape.specs.Table.{table}
 use Rattle.gj_shape.proofs.TableLemmas.{table_finer}

@@ -1,6 +1,6 @@
 -- A table that is read at the multiples of a number: it is minimal if the table is, and extreme.
 use Rattle.std.proofs.Common.{◌≡◌, ℕ, ◌+◌, ◌*◌, ◌/◌, ◌%◌, ℤ, pos, ◌+ℤ◌, ◌*ℤ◌, ◌≤ℤ◌, sym, ap, subst, ◌∙◌, arith}
-use Rattle.gj_tools.proofs.Quotients.{same_remainder, from_same_remainder, periods}
+use Rattle.gj_lemmas.proofs.Quotients.{same_remainder, from_same_remainder, periods}
 use Rattle.gj_shape.specs.Extreme.{IsExtremeTable}
 use Rattle.gj_shape.specs.Table.{IsMinimalTable}
 

@@ -1,9 +1,9 @@
 -- The tables of a function and of that of n x: on each grid the entries are the same, and both are minimal or neither is.
 use Rattle.std.proofs.Common.{◌≡◌, ℕ, ◌+◌, ◌-◌, ◌*◌, ◌%◌, ◌<◌, ℤ, pos, ◌*ℤ◌, [], ◌∷◌, refl, sym, ap, ap₂, ◌∙◌, mul-pos, arith}
 use Rattle.std.proofs.Math.Nat.{mul_comm}
-use Rattle.gj_tools.proofs.Integers.{mul_cancel_right_z}
-use Rattle.gj_tools.proofs.Quotients.{same_remainder}
-use Rattle.gj_tools.proofs.Ring.{by_ring, ring}
+use Rattle.gj_lemmas.proofs.Integers.{mul_cancel_right_z}
+use Rattle.gj_lemmas.proofs.Quotients.{same_remainder}
+use Rattle.gj_lemmas.proofs.Ring.{by_ring, ring}
 use Rattle.gj_shape.specs.FunctionData.{FunctionData, IsWithinBounds}
 use Rattle.gj_shape.specs.Table.{table, IsMinimalTable, IsMinimal}
 use Rattle.gj_shape.proofs.TableLemmas.{table_finer, table_period}

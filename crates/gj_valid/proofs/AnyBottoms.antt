@@ -5,7 +5,7 @@ use Rattle.std.specs.List.{All}
 use Rattle.std.proofs.Math.Nat.{mul-pos}
 use Rattle.std.proofs.lemmas.Int.{ints}
 use Rattle.std.proofs.lemmas.List.Elements.{All-head, All-tail}
-use Rattle.gj_tools.proofs.Integers.{mul_positive_z, abs_positive_z}
+use Rattle.gj_lemmas.proofs.Integers.{mul_positive_z, abs_positive_z}
 use Rattle.gj_frac.specs.Fraction.{Fraction, SameValue, sum_of}
 use Rattle.gj_theory.proofs.Weights.{sum_cons}
 use Rattle.gj_valid.specs.ValidFunctions.{over, IsNonnegative, total_of}

@@ -5,15 +5,15 @@ use Rattle.std.proofs.Math.Nat.{mul-pos, mul_comm, div-add-mod', mul-mod_left, e
 use Rattle.std.proofs.lemmas.Bool.{cond-true, cond-false}
 use Rattle.std.proofs.lemmas.Bool.Decides.{eqb_tells}
 use Rattle.std.proofs.lemmas.Int.{ints, by_lt_z}
-use Rattle.gj_tools.proofs.Integers.{mul_add_z, mul_le_mul_left_z}
-use Rattle.gj_tools.proofs.Quotients.{same_at_remainder, same_remainder, from_same_remainder}
-use Rattle.gj_tools.proofs.Ring.{by_ring, ring}
+use Rattle.gj_lemmas.proofs.Integers.{mul_add_z, mul_le_mul_left_z}
+use Rattle.gj_lemmas.proofs.Quotients.{same_at_remainder, same_remainder, from_same_remainder}
+use Rattle.gj_lemmas.proofs.Ring.{by_ring, ring}
 use Rattle.gj_frac.specs.Fraction.{Fraction, SameValue, LessValue, AtMostValue}
 use Rattle.gj_shape.specs.Table.{IsMinimalTable}
 use Rattle.gj_shape.specs.Valid.{weight, IsDominated}
 use Rattle.gj_theory.proofs.ValidTables.{asymmetry_dominated}
 use Rattle.gj_theory.proofs.Weights.{sum_cons}
-use Rattle.gj_tools.proofs.Integers.{same_or_apart_z}
+use Rattle.gj_lemmas.proofs.Integers.{same_or_apart_z}
 use Rattle.gj_valid.proofs.PartFunctions.{SamePlace, nothing, one, sum_of_values, IsPartFunction, IsMinimalPart}
 use Rattle.gj_valid.proofs.OverOneBottom.{Is, is_scaled, is_over, one_number, most_from_numbers, less_from_numbers, nothing_is, one_is, values_positive, values_are}
 use Rattle.gj_valid.proofs.FunctionTables.{HasTable, has_table, at_place, scaled_rest, cancel_rest}

@@ -3,7 +3,7 @@ use Rattle.std.proofs.Common.{◌≡◌, ℕ, ◌+◌, ◌*◌, ◌%◌, ◌<◌
 use Rattle.std.specs.Prelude.{sum}
 use Rattle.std.proofs.Math.Nat.{mul-pos, mul_comm, zero-mul}
 use Rattle.std.proofs.lemmas.Int.{ints}
-use Rattle.gj_tools.proofs.Integers.{mul_positive_z}
+use Rattle.gj_lemmas.proofs.Integers.{mul_positive_z}
 use Rattle.gj_frac.specs.Fraction.{Fraction, sum_of}
 use Rattle.gj_shape.specs.Table.{IsMinimalTable}
 use Rattle.gj_shape.specs.Valid.{weight}

@@ -3,8 +3,8 @@ use Rattle.std.proofs.Common.{◌≡◌, ℕ, ◌+◌, ◌*◌, ◌/◌, ◌%◌
 use Rattle.std.specs.Prelude.{sum}
 use Rattle.std.proofs.Math.Nat.{add-mod_right, eq_of_mul-eq-mul_right, mod-lt, mod-mod, mul-pos, mul_comm, zero-mul}
 use Rattle.std.proofs.lemmas.Int.{ints}
-use Rattle.gj_tools.proofs.Quotients.{same_at_remainder, same_remainder, from_same_remainder}
-use Rattle.gj_tools.proofs.Ring.{by_ring, ring}
+use Rattle.gj_lemmas.proofs.Quotients.{same_at_remainder, same_remainder, from_same_remainder}
+use Rattle.gj_lemmas.proofs.Ring.{by_ring, ring}
 use Rattle.gj_frac.specs.Fraction.{Fraction}
 use Rattle.gj_shape.specs.FunctionData.{FunctionData, IsWithinBounds}
 use Rattle.gj_shape.specs.Table.{table}

@@ -4,9 +4,9 @@ use Rattle.std.proofs.Math.Nat.{mul-pos}
 use Rattle.std.proofs.lemmas.Int.{ints}
 use Rattle.gj_frac.specs.declared.Frac.{Frac}
 use Rattle.gj_frac.specs.Fraction.{LessValue, fraction_of, denominator}
-use Rattle.gj_tools.proofs.Integers.{mul_assoc_z, mul_cancel_right_z, mul_le_mul_right_z, mul_lt_mul_right_z, mul_positive_z, positive_some_z, sub_mul_z, swap_last_z}
-use Rattle.gj_tools.proofs.Quotients.{same_at_remainder}
-use Rattle.gj_tools.proofs.Ring.{by_ring, ring}
+use Rattle.gj_lemmas.proofs.Integers.{mul_assoc_z, mul_cancel_right_z, mul_le_mul_right_z, mul_lt_mul_right_z, mul_positive_z, positive_some_z, sub_mul_z, swap_last_z}
+use Rattle.gj_lemmas.proofs.Quotients.{same_at_remainder}
+use Rattle.gj_lemmas.proofs.Ring.{by_ring, ring}
 use Rattle.gj_shape.specs.Table.{IsMinimalTable}
 use Rattle.gj_shape.specs.Valid.{IsValidTable}
 use Rattle.gj_shape.proofs.ValueLemmas.{congruent_rests}

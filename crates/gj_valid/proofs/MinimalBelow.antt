@@ -4,8 +4,8 @@ use Rattle.std.specs.Prelude.{sum}
 use Rattle.std.proofs.Math.Nat.{div-add-mod', mod-lt, mod-mod, mul-le-mul_right, mul-pos, one-mul}
 use Rattle.std.proofs.lemmas.Bool.{cases_lt}
 use Rattle.std.proofs.lemmas.Int.{ints, by_lt_z}
-use Rattle.gj_tools.proofs.Integers.{mul_add_z, mul_assoc_z, mul_left_comm_z, mul_le_mul_left_z, mul_le_cancel_right_z, mul_lt_cancel_left_z, mul_nonnegative_z, pos_abs_z, same_or_apart_z}
-use Rattle.gj_tools.proofs.Quotients.{same_remainder, same_at_remainder}
+use Rattle.gj_lemmas.proofs.Integers.{mul_add_z, mul_assoc_z, mul_left_comm_z, mul_le_mul_left_z, mul_le_cancel_right_z, mul_lt_cancel_left_z, mul_nonnegative_z, pos_abs_z, same_or_apart_z}
+use Rattle.gj_lemmas.proofs.Quotients.{same_remainder, same_at_remainder}
 use Rattle.gj_shape.specs.Table.{IsMinimalTable}
 use Rattle.gj_shape.specs.Valid.{weight, IsValidTable}
 use Rattle.gj_theory.proofs.ValidTables.{dented, dented_tells, dented_here, dented_period, dented_le, Lighter, lighter, all_or_some, opposite_of, opposite_is, only_minimal}

@@ -1,7 +1,7 @@
 -- What is said of minimal and extreme functions by parts, said of functions of fractions.
 use Rattle.std.proofs.Common.{ℕ, ◌<◌, List, map, unsigned_abs, subst, arith}
 use Rattle.std.specs.Prelude.{sum}
-use Rattle.gj_tools.proofs.Integers.{abs_positive_z}
+use Rattle.gj_lemmas.proofs.Integers.{abs_positive_z}
 use Rattle.gj_frac.specs.Fraction.{Fraction, AtMostValue}
 use Rattle.gj_shape.specs.Extreme.{IsExtreme}
 use Rattle.gj_shape.specs.FunctionData.{FunctionData, IsWithinBounds, IsContinuous}

@@ -2,7 +2,7 @@
 use Rattle.std.proofs.Common.{◌≡◌, ℕ, ◌+◌, ◌*◌, ◌%◌, ◌<◌, pos, unsigned_abs, ◌<ℤ◌, refl, sym, subst, subst₂, ap, arith}
 use Rattle.std.proofs.Math.Nat.{mul-pos}
 use Rattle.std.proofs.lemmas.Int.{ints}
-use Rattle.gj_tools.proofs.Integers.{abs_positive_z, mul_positive_z}
+use Rattle.gj_lemmas.proofs.Integers.{abs_positive_z, mul_positive_z}
 use Rattle.gj_frac.specs.Fraction.{Fraction, SameValue, sum_of, AtMostValue}
 use Rattle.gj_valid.specs.ValidFunctions.{over, IsNonnegative, IsSamePoint, IsFunction, IsMinimalAmongFunctions}
 use Rattle.gj_valid.proofs.PartFunctions.{one, HasRules, at_parts}

@@ -4,7 +4,7 @@ use Rattle.std.specs.Prelude.{sum}
 use Rattle.std.specs.List.{All}
 use Rattle.std.proofs.lemmas.Int.{ints}
 use Rattle.std.proofs.lemmas.List.Elements.{All-nil, All-cons}
-use Rattle.gj_tools.proofs.Integers.{abs_positive_z}
+use Rattle.gj_lemmas.proofs.Integers.{abs_positive_z}
 use Rattle.gj_frac.specs.Fraction.{Fraction, SameValue, sum_of, AtMostValue}
 use Rattle.gj_theory.proofs.Weights.{sum_cons}
 use Rattle.gj_valid.specs.ValidFunctions.{over, IsNonnegative, IsSamePoint, total_of, IsFunction, IsValidFunction, IsMinimalAmongFunctions, IsExtremeAmongFunctions}

@@ -3,9 +3,9 @@ use Rattle.std.proofs.Common.{◌≡◌, ℕ, ◌+◌, ◌-◌, ◌*◌, ◌/◌
 use Rattle.std.specs.Prelude.{sum}
 use Rattle.std.proofs.Math.Nat.{mul-pos, mul_comm, mod-lt}
 use Rattle.std.proofs.lemmas.Int.{ints}
-use Rattle.gj_tools.proofs.Integers.{mul_positive_z, same_or_apart_z, mul_cancel_left_z, mul_cancel_right_z}
-use Rattle.gj_tools.proofs.Ratios.{ratio_difference}
-use Rattle.gj_tools.proofs.Ring.{by_ring, ring}
+use Rattle.gj_lemmas.proofs.Integers.{mul_positive_z, same_or_apart_z, mul_cancel_left_z, mul_cancel_right_z}
+use Rattle.gj_lemmas.proofs.Ratios.{ratio_difference}
+use Rattle.gj_lemmas.proofs.Ring.{by_ring, ring}
 use Rattle.gj_frac.specs.Fraction.{Fraction, sum_of, difference_of, AtMostValue}
 use Rattle.gj_shape.specs.Extreme.{IsExtreme}
 use Rattle.gj_shape.specs.FunctionData.{FunctionData, IsWithinBounds, IsContinuous}

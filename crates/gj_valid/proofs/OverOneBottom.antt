@@ -4,9 +4,9 @@ use Rattle.std.proofs.Math.Nat.{mul-pos, mul_comm}
 use Rattle.std.proofs.lemmas.Bool.{cases_lt, cond-true, cond-false}
 use Rattle.std.proofs.lemmas.Bool.Decides.{eqb_tells}
 use Rattle.std.proofs.lemmas.Int.{ints, by_lt_z}
-use Rattle.gj_tools.proofs.Integers.{mul_cancel_right_z, mul_positive_z, positive_some_z, abs_positive_z, pos_abs_z, mul_assoc_z}
-use Rattle.gj_tools.proofs.Ratios.{ratio_along, ratio_sum, ratio_less}
-use Rattle.gj_tools.proofs.Ring.{by_ring, ring}
+use Rattle.gj_lemmas.proofs.Integers.{mul_cancel_right_z, mul_positive_z, positive_some_z, abs_positive_z, pos_abs_z, mul_assoc_z}
+use Rattle.gj_lemmas.proofs.Ratios.{ratio_along, ratio_sum, ratio_less}
+use Rattle.gj_lemmas.proofs.Ring.{by_ring, ring}
 use Rattle.gj_frac.specs.Fraction.{Fraction, SameValue, LessValue, sum_of, AtMostValue}
 use Rattle.gj_shape.specs.Valid.{weight}
 use Rattle.gj_valid.proofs.PartFunctions.{nothing, one, sum_of_values}

@@ -1,8 +1,8 @@
 -- Fractions by their parts, and points that differ by a whole number.
 use Rattle.std.proofs.Common.{◌≡◌, ℕ, ◌+◌, ◌*◌, ◌/◌, ◌<◌, ℤ, pos, unsigned_abs, ◌*ℤ◌, ◌<ℤ◌, refl, sym, subst, ap, ap₂, arith}
 use Rattle.std.proofs.lemmas.Int.{ints}
-use Rattle.gj_tools.proofs.Integers.{mul_positive_z, pos_abs_z}
-use Rattle.gj_tools.proofs.Quotients.{same_remainder, from_same_remainder}
+use Rattle.gj_lemmas.proofs.Integers.{mul_positive_z, pos_abs_z}
+use Rattle.gj_lemmas.proofs.Quotients.{same_remainder, from_same_remainder}
 use Rattle.gj_frac.specs.Fraction.{Fraction, SameValue, sum_of}
 use Rattle.gj_valid.specs.ValidFunctions.{over, IsNonnegative, IsSamePoint}
 use Rattle.gj_valid.proofs.PartFunctions.{SamePlace}

@@ -5,9 +5,9 @@ use Rattle.std.proofs.Math.Nat.{mul-pos}
 use Rattle.std.proofs.lemmas.Bool.{cases_lt}
 use Rattle.std.proofs.lemmas.Int.{ints}
 use Rattle.std.proofs.lemmas.Nat.Gcd.{le_of_dvd}
-use Rattle.gj_tools.proofs.Divisors.{whole_multiple}
-use Rattle.gj_tools.proofs.Integers.{mul_comm_z, add_mul_z, sub_mul_z, mul_sub_z, mul_nonnegative_z, mul_positive_z, mul_le_mul_right_z, mul_le_cancel_right_z, pos_abs_z, unsigned_abs-mul}
-use Rattle.gj_tools.proofs.Ring.{by_ring, ring}
+use Rattle.gj_lemmas.proofs.Divisors.{whole_multiple}
+use Rattle.gj_lemmas.proofs.Integers.{mul_comm_z, add_mul_z, sub_mul_z, mul_sub_z, mul_nonnegative_z, mul_positive_z, mul_le_mul_right_z, mul_le_cancel_right_z, pos_abs_z, unsigned_abs-mul}
+use Rattle.gj_lemmas.proofs.Ring.{by_ring, ring}
 use Rattle.gj_frac.specs.declared.Frac.{Frac}
 use Rattle.gj_frac.specs.Floor.{IsFloor}
 use Rattle.gj_frac.specs.Fraction.{IsRatio, IsInside, numerator, denominator}

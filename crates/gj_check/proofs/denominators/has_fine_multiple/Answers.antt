@@ -1,6 +1,6 @@
 use Rattle.std.proofs.Common.{◌^◌, inl, arith}
 use Rattle.std.proofs.lemmas.Bool.{leb-true, le-leb}
-use Rattle.gj_tools.proofs.Divisors.{gcd_positive}
+use Rattle.gj_lemmas.proofs.Divisors.{gcd_positive}
 use Rattle.gj_check.proofs.Multiples.{fine_product}
 use Rattle.gj_check.proofs.denominators.has_fine_multiple.Goals as goal
 

@@ -1,7 +1,7 @@
 use Rattle.std.proofs.Common.{◌≡◌, ◌+◌, ℕ, List, length, take, get_or, sym, subst, subst₂, arith}
 use Rattle.std.proofs.lemmas.List.{length-take-le}
 use Rattle.gj_proof.specs.ProofText.{extreme_claim, modulus_lines, group_lines}
-use Rattle.gj_rank.specs.Groups.{IsGroupsOutcome}
+use Rattle.gj_check_groups.specs.Groups.{IsGroupsOutcome}
 use Rattle.gj_check.specs.declared.rules.CheckRule.TheVariants.{Cover, Rank}
 use Rattle.gj_check.specs.CoverLines.{IsCoverOutcome}
 use Rattle.gj_check.specs.FirstFailure.{IsFirstFailure}

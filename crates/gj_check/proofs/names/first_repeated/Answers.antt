@@ -1,5 +1,5 @@
 use Rattle.std.proofs.Common.{◌<◌, length, take, [], ◌∷◌, ◌++◌, below_more, sym, ap, subst, ◌∙◌, arith}
-use Rattle.gj_tools.proofs.Choices.{not_true, not_false}
+use Rattle.gj_lemmas.proofs.Choices.{not_true, not_false}
 use Rattle.gj_proof.specs.Rules.{AtIndex, MeetsName}
 use Rattle.gj_proof.proofs.AtPlaces.{at_place, with_place}
 use Rattle.gj_check.proofs.SeenNames.{HasNames, same_bytes, basic_seen, name_seen, is_among, is_new, is_repeated}

@@ -1,5 +1,5 @@
 use Rattle.std.proofs.Common.{ℕ, refl, subst, arith}
-use Rattle.gj_tools.specs.Divisors.{IsLcm}
+use Rattle.gj_lemmas.specs.Divisors.{IsLcm}
 use Rattle.gj_check.proofs.LimitsOfRows.{extends, limit_small, beyond_multiple}
 use Rattle.gj_check.proofs.row_denominators.extended.Goals as goal
 

@@ -1,5 +1,5 @@
 use Rattle.std.proofs.Common.{◌++◌, ◌-◌, ap, ◌∙◌, codes}
-use Rattle.gj_lines.specs.FunctionLines.{line, order_line}
+use Rattle.gj_function_lines.specs.FunctionLines.{line, order_line}
 use Rattle.gj_proof.specs.ProofText.{halves_line}
 use Rattle.gj_demo.specs.Summary.{count_line}
 use Rattle.gj_demo.proofs.SummaryTexts.{nine_in_turn}

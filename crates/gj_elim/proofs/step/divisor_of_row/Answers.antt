@@ -2,7 +2,7 @@ use Rattle.std.proofs.Common.{rules, ℤ, refl, subst, sym, ap, ◌∙◌, drop,
 use Rattle.std.specs.Int.{IsGcd}
 use Rattle.std.proofs.lemmas.Int.{to_z-of_z}
 use mir.Syntax.{w128}
-use Rattle.gj_tools.specs.Divisors.{gcd_of}
+use Rattle.gj_lemmas.specs.Divisors.{gcd_of}
 use Rattle.gj_shape.specs.Elimination.{gcd_of_row}
 use Rattle.gj_theory.proofs.RowGcds.{gcd_zero_of, gcd_one_of, gcd_next, gcd_last}
 use Rattle.gj_elim.proofs.step.divisor_of_row.Goals as goal

@@ -1,6 +1,6 @@
 use Rattle.std.proofs.Common.{◌≡◌, ◌++◌, flat_map, take}
-use Rattle.gj_lines.specs.FunctionLines.{line}
-use Rattle.gj_lines.specs.FaceLines.{face_text}
+use Rattle.gj_function_lines.specs.FunctionLines.{line}
+use Rattle.gj_function_lines.specs.FaceLines.{face_text}
 use Rattle.gj_facetext.proofs.face_lines.push_face_lines.Given as goal
 
 abbrev pub invariant-loop-face : goal.invariant-loop-face

@@ -1,5 +1,5 @@
 use Rattle.std.proofs.Common.{◌++◌, flat_map, ap, subst, ◌∙◌}
-use Rattle.gj_lines.specs.FaceLines.{cover_line}
+use Rattle.gj_function_lines.specs.FaceLines.{cover_line}
 use Rattle.gj_facetext.specs.FacesText.{ArePushed}
 use Rattle.gj_facetext.proofs.FacesTexts.{text_of_faces}
 use Rattle.gj_facetext.proofs.text.faces_text.Goals as goal

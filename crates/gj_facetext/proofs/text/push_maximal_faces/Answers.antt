@@ -1,6 +1,6 @@
 use Rattle.std.proofs.Common.{◌++◌, All, length, flat_map, ap, subst, sym, ◌∙◌}
-use Rattle.gj_lines.specs.FunctionLines.{line}
-use Rattle.gj_lines.specs.FaceLines.{face_text}
+use Rattle.gj_function_lines.specs.FunctionLines.{line}
+use Rattle.gj_function_lines.specs.FaceLines.{face_text}
 use Rattle.gj_facetext.specs.FacePieces.{HasPieces}
 use Rattle.gj_facetext.proofs.FacesTexts.{no_rows_pushed, one_row_pushed, row_has_pieces}
 use Rattle.gj_facetext.proofs.text.push_maximal_faces.Goals as goal

@@ -1,7 +1,7 @@
 use Rattle.std.proofs.Common.{◌≡◌, ◌<◌, ◌^◌, ◌≤ℤ◌, unsigned_abs, to_z, of_z, sym, ◌∙◌, arith}
 use Rattle.std.proofs.lemmas.Int.{ints}
 use Rattle.gj_frac.specs.Fraction.{denominator}
-use Rattle.gj_tools.proofs.Lesser.{min_first, min_second}
+use Rattle.gj_lemmas.proofs.Lesser.{min_first, min_second}
 use Rattle.gj_fill.proofs.FilledValues.{value_by_lines}
 use Rattle.gj_fill.proofs.at_fractions.filled_value.Goals as goal
 use mir.Syntax.{w64, w128}

@@ -1,6 +1,6 @@
 use Rattle.std.proofs.Common.{◌≡◌, inl, inr, Option, None, Some, IsNone, IsSome, ℤ, pos, ◌<ℤ◌, ◌*ℤ◌, to_z, of_z, refl, sym, subst, ap₂, ◌∙◌, arith}
 use Rattle.std.proofs.lemmas.Int.{ints}
-use Rattle.gj_tools.proofs.Integers.{mul_positive_z}
+use Rattle.gj_lemmas.proofs.Integers.{mul_positive_z}
 use Rattle.gj_fill.proofs.fill_in.over_width.Goals as goal
 use mir.Syntax.{w64}
 

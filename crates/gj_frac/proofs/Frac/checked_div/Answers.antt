@@ -1,7 +1,7 @@
 use Rattle.std.proofs.Common.{pos, ◌≢◌, of_z, ap, arith}
 use Rattle.std.proofs.lemmas.Nat.Gcd.{IsGcd-swap}
 use Rattle.gj_frac.proofs.Crosswise.{crosswise_coprime, product_is_along, product_fits}
-use Rattle.gj_tools.proofs.Integers.{abs_positive_z, abs_zero_z}
+use Rattle.gj_lemmas.proofs.Integers.{abs_positive_z, abs_zero_z}
 use Rattle.gj_frac.proofs.Reduced.{num_over_num, den_over_den}
 use Rattle.gj_frac.proofs.Frac.checked_div.Goals as goal
 use mir.Syntax.{w128}

@@ -1,7 +1,7 @@
 use Rattle.std.proofs.Common.{rules, unsigned_abs, ◌∙◌}
 use Rattle.std.proofs.lemmas.Int.{to_z-of_z}
 use Rattle.gj_frac.specs.Fits.{FitsDifference}
-use Rattle.gj_tools.proofs.Divisors.{gcd_exists}
+use Rattle.gj_lemmas.proofs.Divisors.{gcd_exists}
 use Rattle.gj_frac.proofs.Refusals.{on_err, difference_from, difference_together}
 use Rattle.gj_frac.proofs.Sums.{common_some, difference_is}
 use Rattle.gj_frac.proofs.Frac.checked_sub.Goals as goal

@@ -2,7 +2,7 @@ use Rattle.std.proofs.Common.{inl, ◌≡◌, ◌*◌, ◌/◌, ◌≤◌, sym, 
 use Rattle.std.specs.Int.{IsGcd}
 use Rattle.std.proofs.Math.Nat.{div-mul_cancel}
 use Rattle.std.proofs.lemmas.Nat.Gcd.{le_of_dvd, dvd_refl, dvd_of_mod-eq-zero}
-use Rattle.gj_tools.proofs.Divisors.{gcd_positive, lcm_from_gcd}
+use Rattle.gj_lemmas.proofs.Divisors.{gcd_positive, lcm_from_gcd}
 use Rattle.gj_frac.proofs.divisors.lcm.Goals as goal
 
 pub returns-then-a-b-eq0 : goal.returns-then-a-b-eq0

@@ -1,6 +1,6 @@
 use Rattle.std.proofs.Common.{rules, unsigned_abs, ◌∙◌}
 use Rattle.std.proofs.lemmas.Int.{to_z-of_z}
-use Rattle.gj_tools.proofs.Divisors.{gcd_exists}
+use Rattle.gj_lemmas.proofs.Divisors.{gcd_exists}
 use Rattle.gj_frac.proofs.Reduced.{read_part}
 use Rattle.gj_frac.proofs.Sums.{first_quotient, second_quotient}
 use Rattle.gj_frac.proofs.operators.over_common_denominator.Goals as goal

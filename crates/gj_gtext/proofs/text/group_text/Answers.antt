@@ -1,7 +1,7 @@
 use Rattle.std.proofs.Common.{◌≡◌, ◌++◌, pos, w64, to_z, of_z, codes, ap, ap₂, subst₂, ◌∙◌, rules}
 use Rattle.std.proofs.lemmas.Int.{to_z-of_z}
 use Rattle.gj_frac.specs.Fraction.{IsRatio}
-use Rattle.gj_lines.specs.FunctionLines.{line, order_line, place_line}
+use Rattle.gj_function_lines.specs.FunctionLines.{line, order_line, place_line}
 use Rattle.gj_gtext.specs.GroupText.{verdict_lines}
 use Rattle.gj_gtext.proofs.text.group_text.Goals as goal
 

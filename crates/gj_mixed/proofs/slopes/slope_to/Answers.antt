@@ -1,7 +1,7 @@
 use Rattle.std.proofs.Common.{pos, ◌*ℤ◌, ap, ap₂, subst₂, ◌∙◌, refl, arith}
 use Rattle.std.proofs.lemmas.Int.{ints}
 use Rattle.gj_frac.specs.Fraction.{IsRatio}
-use Rattle.gj_tools.proofs.Integers.{one_mul_z}
+use Rattle.gj_lemmas.proofs.Integers.{one_mul_z}
 use Rattle.gj_rule.proofs.ClosedForm.{reads_as}
 use Rattle.gj_mixed.proofs.SlopeParts.{slope_times}
 use Rattle.gj_mixed.proofs.slopes.slope_to.Goals as goal

@@ -1,5 +1,5 @@
 use Rattle.std.proofs.Common.{codes, flat_map}
-use Rattle.gj_lines.specs.FunctionLines.{line}
+use Rattle.gj_function_lines.specs.FunctionLines.{line}
 use Rattle.gj_mtext.specs.MixedLines.{mixed_row_text}
 use Rattle.gj_mtext.proofs.RowLines.{lines_of_made, made_hold, text_written}
 use Rattle.gj_mtext.proofs.text.mixed_text.Goals as goal

@@ -1,7 +1,7 @@
 use Rattle.std.proofs.Common.{◌≡◌, ◌≢◌, ℕ, ◌<◌, [], ◌∷◌, get_or, lit<, refl, arith}
 use Rattle.gj_shape.specs.declared.faces.FaceKind.{FaceKind}
 use Rattle.gj_shape.specs.declared.faces.FaceKind.TheVariants.{Vertex, Horizontal, Vertical, Diagonal, Lower, Upper}
-use Rattle.gj_lines.specs.FaceLines.{face_word}
+use Rattle.gj_function_lines.specs.FaceLines.{face_word}
 use Rattle.gj_proof.proofs.cover_lines.face_kind.Goals as goal
 
 abbrev kind_at : ℕ → FaceKind

@@ -1,6 +1,6 @@
 use Rattle.std.proofs.Common.{◌≡◌, ℕ, ◌<◌, get_or}
 use Rattle.gj_shape.specs.declared.faces.FaceKind.TheVariants.{Vertex}
-use Rattle.gj_lines.specs.FaceLines.{face_word}
+use Rattle.gj_function_lines.specs.FaceLines.{face_word}
 use Rattle.gj_proof.proofs.cover_lines.face_kind.Given as goal
 
 -- the word is of none of the kinds before this one

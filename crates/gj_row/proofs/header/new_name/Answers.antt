@@ -1,5 +1,5 @@
 use Rattle.std.proofs.Common.{◌∙◌, sym, ap, ◌++◌, ◌∷◌, [], Contains, subst}
-use Rattle.gj_tools.proofs.Choices.{not_true, not_false}
+use Rattle.gj_lemmas.proofs.Choices.{not_true, not_false}
 use Rattle.gj_row.specs.Reading.{bytes_of}
 use Rattle.gj_row.proofs.Names.{stands_already, stands_not, name_kept}
 use Rattle.gj_row.proofs.header.new_name.Goals as goal

@@ -1,6 +1,6 @@
 use Rattle.std.proofs.Common.{rules, ◌≡◌, ◌*ℤ◌, unsigned_abs, ap, ◌∙◌, sym}
 use Rattle.std.proofs.lemmas.Int.{to_z-of_z}
-use Rattle.gj_tools.proofs.Integers.{mul_some_z}
+use Rattle.gj_lemmas.proofs.Integers.{mul_some_z}
 use Rattle.gj_rule.proofs.evaluators.quotient.Goals as goal
 use mir.Syntax.{w128}
 

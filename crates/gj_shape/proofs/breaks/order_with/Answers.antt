@@ -1,5 +1,5 @@
 use Rattle.std.proofs.Common.{◌<◌, unsigned_abs, subst, arith}
-use Rattle.gj_tools.specs.Divisors.{IsLcm}
+use Rattle.gj_lemmas.specs.Divisors.{IsLcm}
 use Rattle.gj_frac.specs.Fraction.{denominator}
 use Rattle.gj_shape.proofs.LeastDenominator.{denominator_some}
 use Rattle.gj_shape.proofs.BreakLists.{no_order_above, lcm_at_most}

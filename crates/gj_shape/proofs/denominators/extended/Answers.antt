@@ -1,7 +1,7 @@
 use Rattle.std.proofs.Common.{refl, sym, subst, arith}
 use Rattle.std.proofs.lemmas.Nat.Gcd.{le_of_dvd}
 use Rattle.std.specs.Int.{◌∣◌}
-use Rattle.gj_tools.specs.Divisors.{IsLcm}
+use Rattle.gj_lemmas.specs.Divisors.{IsLcm}
 use Rattle.gj_shape.proofs.denominators.extended.Goals as goal
 
 pub returns-in_default-clause-fault : goal.returns-in_default-clause-fault

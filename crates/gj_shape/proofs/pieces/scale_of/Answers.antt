@@ -1,7 +1,7 @@
 use Rattle.std.proofs.Common.{◌≡◌, unsigned_abs, to_z, of_z, ap, subst₂, ◌∙◌, rules, arith}
 use Rattle.std.proofs.lemmas.Int.{ints, to_z-of_z}
 use Rattle.gj_frac.specs.Fraction.{denominator}
-use Rattle.gj_tools.specs.Divisors.{IsLcm}
+use Rattle.gj_lemmas.specs.Divisors.{IsLcm}
 use Rattle.gj_shape.proofs.BreakLines.{IsScaleOf, denominators_below, scale_from_lcm}
 use Rattle.gj_shape.proofs.pieces.scale_of.Goals as goal
 use mir.Syntax.{w128}

@@ -1,5 +1,5 @@
 use Rattle.std.proofs.Common.{◌++◌, codes, ap, ◌∙◌}
-use Rattle.gj_lines.specs.FunctionLines.{line}
+use Rattle.gj_function_lines.specs.FunctionLines.{line}
 use Rattle.gj_proof.specs.ProofText.{claim_word}
 use Rattle.gj_proof.specs.Rules.{MeetsRules}
 use Rattle.gj_check.proofs.RulesGiveMeaning.{meaning_of_rules}

@@ -1,7 +1,7 @@
 use Rattle.std.proofs.Common.{◌≡◌, pos, codes, ◌++◌, w64, to_z, of_z, ap, subst₂, ◌∙◌, rules}
 use Rattle.std.proofs.lemmas.Int.{to_z-of_z}
 use Rattle.gj_frac.specs.Fraction.{IsRatio}
-use Rattle.gj_lines.specs.FunctionLines.{fraction_line}
+use Rattle.gj_function_lines.specs.FunctionLines.{fraction_line}
 use Rattle.gj_top.proofs.continuity.jump_line.Goals as goal
 
 pub returns : goal.returns

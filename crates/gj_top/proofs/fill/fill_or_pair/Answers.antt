@@ -1,6 +1,6 @@
 use Rattle.std.proofs.Common.{◌∙◌, ap}
 use Rattle.gj_shape.specs.FunctionData.{at}
-use Rattle.gj_ftext.specs.FunctionText.{canonical_breaks_text}
+use Rattle.gj_function_text.specs.FunctionText.{canonical_breaks_text}
 use Rattle.gj_fill.proofs.FillIns.{filled_subadditive}
 use Rattle.gj_top.proofs.fill.fill_or_pair.Goals as goal
 

@@ -1,4 +1,4 @@
-use Rattle.gj_ftext.specs.FirstFault.{IsFirstFaultOfWhole}
+use Rattle.gj_function_text.specs.FirstFault.{IsFirstFaultOfWhole}
 use Rattle.gj_top.proofs.InputLines.{input_of_whole}
 use Rattle.gj_top.proofs.Refusals.{refusal_of_fault}
 use Rattle.gj_top.proofs.forms.function_of.Goals as goal

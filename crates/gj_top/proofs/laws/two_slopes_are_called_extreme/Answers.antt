@@ -2,7 +2,7 @@ use Rattle.std.proofs.Common.{◌≡◌, ℕ, ◌≤◌, List, length, refl, ap,
 use Rattle.gj_shape.specs.FunctionData.{FunctionData, IsWithinBounds}
 use Rattle.gj_shape.specs.Table.{IsMinimal}
 use Rattle.gj_shape.specs.TwoSlopes.{HasTwoSlopes}
-use Rattle.gj_ftext.specs.FunctionText.{IsWholeFunctionText}
+use Rattle.gj_function_text.specs.FunctionText.{IsWholeFunctionText}
 use Rattle.gj_json.specs.JsonFunction.{IsJsonFunction}
 use Rattle.gj_json.proofs.OneFunction.{one_function as one_json_function}
 use Rattle.gj_proof.specs.declared.claim.Claim.{Claim}

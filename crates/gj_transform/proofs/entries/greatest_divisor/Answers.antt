@@ -2,7 +2,7 @@ use Rattle.std.proofs.Common.{◌≡◌, ◌≤◌, inl, get_or, pos, unsigned_a
 use Rattle.std.specs.Int.{IsGcd}
 use Rattle.std.proofs.lemmas.Int.{to_z-of_z}
 use Rattle.std.proofs.lemmas.Nat.Gcd.{le_of_dvd}
-use Rattle.gj_tools.proofs.Divisors.{gcd_positive}
+use Rattle.gj_lemmas.proofs.Divisors.{gcd_positive}
 use Rattle.gj_transform.proofs.GreatestDivisors.{divisor_next}
 use Rattle.gj_transform.proofs.entries.greatest_divisor.Goals as goal
 use mir.Syntax.{w64}

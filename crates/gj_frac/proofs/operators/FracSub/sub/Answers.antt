@@ -1,6 +1,6 @@
 use Rattle.std.proofs.Common.{rules, unsigned_abs, ◌∙◌}
 use Rattle.std.proofs.lemmas.Int.{to_z-of_z}
-use Rattle.gj_tools.proofs.Divisors.{gcd_exists}
+use Rattle.gj_lemmas.proofs.Divisors.{gcd_exists}
 use Rattle.gj_frac.proofs.Sums.{common_some, difference_is}
 use Rattle.gj_frac.proofs.operators.FracSub.sub.Goals as goal
 use mir.Syntax.{w128}

@@ -2,7 +2,7 @@ use Rattle.std.proofs.Common.{arith}
 use Rattle.std.proofs.lemmas.Nat.Gcd.{IsGcd-swap}
 use Rattle.gj_frac.specs.Fraction.{IsRatio}
 use Rattle.gj_frac.proofs.Crosswise.{crosswise_coprime, product_is_along, product_fits}
-use Rattle.gj_tools.proofs.Integers.{abs_positive_z, abs_zero_z}
+use Rattle.gj_lemmas.proofs.Integers.{abs_positive_z, abs_zero_z}
 use Rattle.gj_frac.proofs.Reduced.{num_over_num, den_over_den, read_part}
 use Rattle.gj_frac.proofs.products.FracDiv.div.Goals as goal
 

@@ -1,7 +1,7 @@
 use Rattle.std.proofs.Common.{arith}
 use Rattle.gj_frac.specs.Fraction.{IsRatio}
 use Rattle.gj_frac.proofs.Crosswise.{crosswise_coprime, product_is_along, product_fits}
-use Rattle.gj_tools.proofs.Integers.{abs_positive_z}
+use Rattle.gj_lemmas.proofs.Integers.{abs_positive_z}
 use Rattle.gj_frac.proofs.Reduced.{num_over_den}
 use Rattle.gj_frac.proofs.products.FracMul.mul.Goals as goal
 

@@ -1,7 +1,7 @@
 use Rattle.std.proofs.Common.{◌≡◌, ◌-ℤ◌, ◌*ℤ◌, pos, ap, ap₂, subst₂, ◌∙◌, arith}
 use Rattle.std.proofs.lemmas.Int.{ints}
 use Rattle.gj_frac.specs.Fraction.{IsRatio}
-use Rattle.gj_tools.proofs.Integers.{one_mul_z}
+use Rattle.gj_lemmas.proofs.Integers.{one_mul_z}
 use Rattle.gj_rule.proofs.ClosedForm.{read, reads_as}
 use Rattle.gj_mixed.proofs.SlopeParts.{slope_over}
 use Rattle.gj_mixed.proofs.slopes.SlopesAtZero.of_gmic.Goals as goal

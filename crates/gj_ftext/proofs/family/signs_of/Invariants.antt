@@ -1,6 +1,0 @@
-use Rattle.std.proofs.Common.{take}
-use Rattle.gj_ftext.specs.FamilyLine.{AreSigns}
-use Rattle.gj_ftext.proofs.family.signs_of.Given as goal
-
-abbrev pub invariant-loop-byte : goal.invariant-loop-byte
-invariant-loop-byte l = AreSigns (take l.byte-index l.word) l.signs.items

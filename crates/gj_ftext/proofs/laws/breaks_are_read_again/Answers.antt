@@ -1,5 +1,0 @@
-use Rattle.gj_ftext.proofs.CanonicalBreaks.{breaks_read_again}
-use Rattle.gj_ftext.proofs.laws.breaks_are_read_again.Goals as goal
-
-pub returns : goal.returns
-returns c = breaks_read_again

@@ -1,5 +1,0 @@
-use Rattle.gj_ftext.proofs.Canonical.{canonical_text_is_function_text}
-use Rattle.gj_ftext.proofs.laws.canonical_text_is_function_text.Goals as goal
-
-pub returns : goal.returns
-returns c = canonical_text_is_function_text

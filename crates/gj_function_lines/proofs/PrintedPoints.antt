@@ -1,0 +1,53 @@
+-- Texts that begin with what is printed.
+use Rattle.std.proofs.Common.{◌≡◌, ℕ, ◌<◌, ◌≤◌, ◌^◌, false, List, [], ◌∷◌, ◌++◌, length, get_or, take, drop, codes, decimal, refl, sym, ap, subst, ◌∙◌, append_assoc, take-append-drop, arith}
+use Rattle.std.specs.Str.Parse.{AllDigits, digits_value}
+use Rattle.gj_frac.specs.declared.Frac.{Frac}
+use Rattle.gj_lex.specs.NumberText.{denominator_text, fraction_text}
+use Rattle.gj_lex.proofs.CanonicalTexts.{denominator_more}
+use Rattle.gj_lex.proofs.Decimals.{decimal_of_value}
+use Rattle.gj_shape.specs.declared.points.Point.{Point}
+use Rattle.gj_function_lines.specs.FunctionLines.{has_no_jump, point_line}
+use Rattle.gj_function_lines.proofs.CanonicalFunctions.{line_has_texts}
+use Rattle.gj_function_lines.proofs.PointLines.{text_of_one, no_jump_where_same}
+
+-- digits that begin with no zero, or with one alone, are printed for their number
+pub number_printed : (text front rest : List ℕ) (len number : ℕ) → front ≡ take len text → rest ≡ drop len text → AllDigits 10 (take len text) →
+    number ≡ digits_value 10 (take len text) → number < 10 ^ 18 → 0 < length front → (get_or front 0 0 ≡ 48 → length front ≡ 1) →
+    text ≡ decimal number ++ rest
+number_printed text front rest len number front_is rest_is digits value small some lead =
+    let digits_of : AllDigits 10 front = subst (AllDigits 10) (sym front_is) digits in
+    let value_of : digits_value 10 front ≡ number = ap (digits_value 10) front_is ∙ sym value in
+    let printed : decimal number ≡ front =
+    ap decimal (sym value_of) ∙ decimal_of_value front digits_of some lead (omega (arith, value_of, small)) in
+    sym (take-append-drop len text) ∙ ap (λ t. t ++ drop len text) (sym front_is ∙ sym printed) ∙ ap (λ t. decimal number ++ t) (sym rest_is)
+
+-- a `/` and a number from 2 on are printed for that denominator
+pub denominator_printed : (text digits rest : List ℕ) (d : ℕ) → text ≡ 47 ∷ digits → digits ≡ decimal d ++ rest → 2 ≤ d →
+    text ≡ denominator_text d ++ rest
+denominator_printed text digits rest d text_is digits_is two =
+    text_is ∙ ap (λ t. 47 ∷ t) digits_is ∙ ap (λ t. t ++ rest) (sym (denominator_more d two))
+
+-- one fraction is printed for a point without a jump
+pub even_printed : (text behind more rest : List ℕ) (x : Frac) → text ≡ codes "point " ++ behind → behind ≡ fraction_text x ++ more →
+    more ≡ 10 ∷ rest → text ≡ point_line (record { left = x; value = x; right = x }) ++ rest
+even_printed text behind more rest x text_is behind_is more_is =
+    let p : Point = record { left = x; value = x; right = x } in
+    text_is ∙ ap (λ t. codes "point " ++ t) (behind_is ∙ ap (λ t. fraction_text x ++ t) more_is)
+    ∙ sym (append_assoc (codes "point " ++ fraction_text x) (10 ∷ []) rest)
+    ∙ ap (λ t. (codes "point " ++ t ++ 10 ∷ []) ++ rest) (sym (text_of_one p (no_jump_where_same p refl refl)))
+
+-- and three for one with a jump
+pub jump_printed : (p : Point) (first second third fourth fifth rest : List ℕ) → has_no_jump p ≡ false → first ≡ 32 ∷ second →
+    second ≡ fraction_text p.value ++ third → third ≡ 32 ∷ fourth → fourth ≡ fraction_text p.right ++ fifth → fifth ≡ 10 ∷ rest →
+    codes "point " ++ (fraction_text p.left ++ first) ≡ point_line p ++ rest
+jump_printed p first second third fourth fifth rest e first_is second_is third_is fourth_is fifth_is =
+    let l = fraction_text p.left in
+    let v = fraction_text p.value in
+    let r = fraction_text p.right in
+    let all : first ≡ (32 ∷ (v ++ 32 ∷ r)) ++ 10 ∷ rest =
+    first_is
+    ∙ ap (λ t. 32 ∷ t)
+    (second_is ∙ ap (λ t. v ++ t) (third_is ∙ ap (λ t. 32 ∷ t) (fourth_is ∙ ap (λ t. r ++ t) fifth_is))
+    ∙ sym (append_assoc v (32 ∷ r) (10 ∷ rest))) in
+    ap (λ t. codes "point " ++ (l ++ t)) all ∙ ap (λ t. codes "point " ++ t) (sym (append_assoc l (32 ∷ (v ++ 32 ∷ r)) (10 ∷ rest)))
+    ∙ sym (line_has_texts false p rest e)

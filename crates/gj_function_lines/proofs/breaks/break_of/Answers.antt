@@ -1,0 +1,4 @@
+use Rattle.gj_function_lines.proofs.breaks.break_of.Goals as goal
+
+pub returns-in_err-x-clause-none : goal.returns-in_err-x-clause-none
+returns-in_err-x-clause-none c = rw c.from_residual.ensures (λ b is point. c.in_err-x.ensures.none b.x is)

@@ -1,0 +1,64 @@
+//! The lines of faces and of covered intervals, printed.
+ghost use Rattle.std.specs.Prelude.{◌≡◌, ◌++◌, flat_map, OnOk};
+ghost use Rattle.gj_function_lines.specs.FunctionLines.{line};
+ghost use Rattle.gj_function_lines.specs.FaceLines.{face_word, face_text, cover_line};
+
+use gj_lex::print_count;
+use gj_shape::{CoverLine, Face, FaceKind};
+use std::alloc::AllocError;
+
+/// Appends the lines of covered intervals. An error says that memory ran out; `out` may then have a part of them.
+pub fn push_cover_lines(out: &mut Vec<u8>, lines: &[CoverLine]) -> Result<(), AllocError>
+    ensures { OnOk result (out.new.items ≡ out.old.items ++ flat_map cover_line lines.now) }
+{
+    for line in lines {
+        push_cover_line(out, *line)?;
+    }
+    Ok(())
+}
+
+/// Appends the line `cover I J KIND A B` of a covered interval.
+fn push_cover_line(out: &mut Vec<u8>, line: CoverLine) -> Result<(), AllocError>
+    ensures { OnOk result (out.new.items ≡ out.old.items ++ cover_line line) }
+{
+    out.extend_from_slice(b"cover ")?;
+    print_count(out, line.interval)?;
+    out.push(b' ')?;
+    print_count(out, line.from)?;
+    out.push(b' ')?;
+    push_face_line(out, line.face)
+}
+
+/// Appends the line of a face: the word of its kind and its square.
+fn push_face_line(out: &mut Vec<u8>, face: Face) -> Result<(), AllocError>
+    ensures { OnOk result (out.new.items ≡ out.old.items ++ line (face_text face)) }
+{
+    push_face(out, face)?;
+    out.push(b'\n')?;
+    Ok(())
+}
+
+/// Appends a face: the word of its kind and its square.
+fn push_face(out: &mut Vec<u8>, face: Face) -> Result<(), AllocError>
+    ensures { OnOk result (out.new.items ≡ out.old.items ++ face_text face) }
+{
+    out.extend_from_slice(face_word(face.kind))?;
+    out.push(b' ')?;
+    print_count(out, face.a)?;
+    out.push(b' ')?;
+    print_count(out, face.b)
+}
+
+/// The word of a kind of face.
+pub fn face_word(kind: FaceKind) -> &'static [u8]
+    ensures { result.now ≡ face_word kind }
+{
+    match kind {
+        FaceKind::Vertex => b"vertex",
+        FaceKind::Horizontal => b"horizontal",
+        FaceKind::Vertical => b"vertical",
+        FaceKind::Diagonal => b"diagonal",
+        FaceKind::Lower => b"lower",
+        FaceKind::Upper => b"upper",
+    }
+}

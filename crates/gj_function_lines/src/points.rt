@@ -1,0 +1,207 @@
+//! The points of a function, read.
+ghost use Rattle.std.specs.Prelude.{◌≡◌, ◌↔◌, ◌++◌, [], ◌∷◌, ℕ, List, length, IsTrue, IfSome, IfNone, IfOk, IfErr};
+ghost use Rattle.gj_lex.specs.Words.{word_texts};
+ghost use Rattle.gj_lex.specs.Parts.{line_part, IsFaultOf};
+ghost use Rattle.gj_shape.specs.declared.points.Point.{Point};
+ghost use Rattle.gj_function_lines.specs.FunctionGrammar.{point_words, ArePointWords, SpellPoint, point_rule, points_part};
+ghost use Rattle.gj_function_lines.specs.Reading.{words_of_point, IsOneOrThree, SpellsPoint, IsPointLine, BreaksPointForm, refusal_of};
+ghost use Rattle.gj_function_lines.specs.declared.points.PointWords.{PointWords};
+
+use crate::printed::printed_point;
+use gj_lex::{
+    PartFault, Reason, Spelling, behind_name, fraction_of, has_no_word, line_at, split_word,
+};
+use gj_shape::{Point, PointFault, Points};
+use std::alloc::Global;
+
+/// The words of a point.
+#[derive(Clone, Copy, Debug)]
+pub(crate) enum PointWords<'a> {
+    /// One fraction for the value and both limits.
+    One(&'a [u8]),
+    /// The limit from the left, the value and the limit from the right.
+    Three(&'a [u8], &'a [u8], &'a [u8]),
+}
+
+/// The line of a point in a text.
+#[derive(Clone, Copy, Debug)]
+struct PointLine<'a> {
+    /// The text from the line on.
+    start: &'a [u8],
+    /// The point that the line spells.
+    point: Point,
+    /// What follows the line.
+    rest: &'a [u8],
+}
+
+/// The points of the next lines, as many as `count`, and what follows them.
+pub(crate) fn points_at(
+    alloc: Global,
+    spelling: Spelling,
+    text: &[u8],
+    count: u32,
+) -> Result<(Points, &[u8]), PartFault>
+    ensures found { IfOk result (λ r. (points_part spelling count []).Reads text.now r.0 r.1.now) }
+    ensures fault { IfErr result (IsFaultOf (points_part spelling count []) text.now) }
+{
+    let mut points = Points::new(alloc);
+    let mut rest = text;
+    for _ in 0..count {
+        rest = point_at(spelling, rest, &mut points)?;
+    }
+    Ok((points, rest))
+}
+
+/// Reads the point of the next line to the points, and gives what follows the line.
+fn point_at<'a>(
+    spelling: Spelling,
+    text: &'a [u8],
+    points: &mut Points,
+) -> Result<&'a [u8], PartFault>
+    ensures found { IfOk result (λ rest. (p : Point) × (points.new ≡ points.old ++ p ∷ [])
+        × (line_part spelling (point_rule spelling points.old)).Reads text.now p rest.now) }
+    ensures fault { IfErr result (IsFaultOf (line_part spelling (point_rule spelling points.old)) text.now) }
+{
+    let line = point_line_at(spelling, text)?;
+    match points.push(line.point) {
+        Ok(()) => Ok(line.rest),
+        Err(fault) => Err(refusal_of(fault, line.start)),
+    }
+}
+
+/// The point of the next line. A line in the form in which it is printed is read in one pass, without the search for words.
+fn point_line_at(spelling: Spelling, text: &[u8]) -> Result<PointLine<'_>, PartFault>
+    ensures found { IfOk result (λ l. IsPointLine spelling text.now l.start.now l.rest.now l.point) }
+    ensures fault { IfErr result (λ e. (points : List Point) →
+        IsFaultOf (line_part spelling (point_rule spelling points)) text.now e) }
+{
+    if let Some((point, rest)) = printed_point(text) {
+        return Ok(PointLine {
+            start: text,
+            point,
+            rest,
+        });
+    }
+    let line = line_at(spelling, text)?;
+    match point_in(spelling, line.bytes) {
+        Ok(point) => Ok(PointLine {
+            start: line.start,
+            point,
+            rest: line.rest,
+        }),
+        Err(reason) => Err(PartFault::at(line.start, reason)),
+    }
+}
+
+/// The fault of the line with which the text begins, if its point cannot follow.
+fn refusal_of(fault: PointFault, text: &[u8]) -> PartFault
+    ensures { result ≡ refusal_of fault (length text.now) }
+{
+    match fault {
+        PointFault::Large => PartFault::at(text, Reason::Large),
+        PointFault::Fine => PartFault::at(text, Reason::Fine),
+        PointFault::Memory(error) => PartFault::Memory(error),
+    }
+}
+
+/// The point that the line gives, or the rule on its form and its numbers that it breaks first.
+fn point_in(spelling: Spelling, line: &[u8]) -> Result<Point, Reason>
+    ensures found { IfOk result (SpellsPoint spelling (word_texts line.now)) }
+    ensures broken { IfErr result (BreaksPointForm spelling (word_texts line.now)) }
+{
+    let Some(words) = point_words(spelling, line) else {
+        return Err(Reason::Form);
+    };
+    match point_of(spelling, words) {
+        Some(point) => Ok(point),
+        None => Err(Reason::Number),
+    }
+}
+
+/// The words behind `point` in the line, if they are one or three, in strict spelling not three that are the same.
+fn point_words(spelling: Spelling, line: &[u8]) -> Option<PointWords<'_>>
+    ensures found { IfSome result (λ p. word_texts line.now ≡ point_words (words_of_point p)) }
+    ensures words { IfSome result (λ p. ArePointWords spelling (words_of_point p)) }
+    ensures none { IfNone result ((words : List (List ℕ)) →
+        word_texts line.now ≡ point_words words → ArePointWords spelling words → ⊥) }
+{
+    let words = one_or_three(line)?;
+    if !are_point_words(spelling, words) {
+        return None;
+    }
+    Some(words)
+}
+
+/// The words behind `point` in the line, if they are one or three.
+fn one_or_three(line: &[u8]) -> Option<PointWords<'_>>
+    ensures found { IfSome result (λ p. word_texts line.now ≡ point_words (words_of_point p)) }
+    ensures none { IfNone result ((words : List (List ℕ)) →
+        word_texts line.now ≡ point_words words → IsOneOrThree words → ⊥) }
+{
+    fractions_in(behind_name(line, b"point")?)
+}
+
+/// The words, if they are one or three.
+pub(crate) fn fractions_in(words: &[u8]) -> Option<PointWords<'_>>
+    ensures found { IfSome result (λ p. word_texts words.now ≡ words_of_point p) }
+    ensures none { IfNone result (IsOneOrThree (word_texts words.now) → ⊥) }
+{
+    let (first, rest) = split_word(words)?;
+    let Some((second, rest)) = split_word(rest) else {
+        return Some(PointWords::One(first));
+    };
+    let (third, rest) = split_word(rest)?;
+    if !has_no_word(rest) {
+        return None;
+    }
+    Some(PointWords::Three(first, second, third))
+}
+
+/// Whether the words may stand for a point: in strict spelling no three that are all the same.
+fn are_point_words(spelling: Spelling, words: PointWords<'_>) -> bool
+    ensures { IsTrue result ↔ ArePointWords spelling (words_of_point words.entry) }
+{
+    match (spelling, words) {
+        (Spelling::Strict, PointWords::Three(first, second, third)) => {
+            first != second || second != third
+        }
+        _ => true,
+    }
+}
+
+/// The point that the words spell.
+pub(crate) fn point_of(spelling: Spelling, words: PointWords<'_>) -> Option<Point>
+    ensures found { IfSome result (SpellPoint spelling (words_of_point words.entry)) }
+    ensures none { IfNone result ((p : Point) → SpellPoint spelling (words_of_point words.entry) p → ⊥) }
+{
+    match words {
+        PointWords::One(word) => even_point(spelling, word),
+        PointWords::Three(first, second, third) => jump_point(spelling, first, second, third),
+    }
+}
+
+/// The point whose value and limits are the fraction that the word spells.
+fn even_point(spelling: Spelling, word: &[u8]) -> Option<Point>
+    ensures found { IfSome result (SpellPoint spelling (word.now ∷ [])) }
+    ensures none { IfNone result ((p : Point) → SpellPoint spelling (word.now ∷ []) p → ⊥) }
+{
+    let value = fraction_of(spelling, word)?;
+    Some(Point {
+        left: value,
+        value,
+        right: value,
+    })
+}
+
+/// The point whose limit from the left, value and limit from the right are the fractions that the words spell.
+fn jump_point(spelling: Spelling, first: &[u8], second: &[u8], third: &[u8]) -> Option<Point>
+    ensures found { IfSome result (SpellPoint spelling (first.now ∷ second.now ∷ third.now ∷ [])) }
+    ensures none { IfNone result ((p : Point) →
+        SpellPoint spelling (first.now ∷ second.now ∷ third.now ∷ []) p → ⊥) }
+{
+    Some(Point {
+        left: fraction_of(spelling, first)?,
+        value: fraction_of(spelling, second)?,
+        right: fraction_of(spelling, third)?,
+    })
+}

@@ -1,0 +1,26 @@
+-- What the readers of the parts of a family line find (own).
+use Rattle.std.specs.Prelude.{ℕ, ◌≡◌, ◌⊎◌, ◌+◌, ◌<◌, ◌≤◌, ◌^◌}
+use Rattle.gj_lex.specs.declared.reason.Reason.{Reason}
+use Rattle.gj_function_text.specs.FamilyLine.{FamilyWords, gmic_words, half_words, two_slope_words}
+use Rattle.gj_function_text.specs.declared.family.LineWords.{LineWords}
+use Rattle.gj_function_text.specs.declared.family.LineWords.TheVariants.{Gmic, Half, TwoSlope}
+use Rattle.gj_function_text.specs.declared.family.LineFault.{LineFault}
+use Rattle.gj_function_text.specs.declared.family.LineFault.TheVariants.{Broken, Memory}
+
+abbrev pub texts_of : LineWords → FamilyWords
+texts_of (Gmic word) = gmic_words word.now
+texts_of (Half word) = half_words word.now
+texts_of (TwoSlope count signs) = two_slope_words count.now signs.now
+
+-- a line is refused for a reason of which Q holds, or there was no memory
+abbrev pub IsRefusedFor : (Reason → Type 0) → LineFault → Type 0
+IsRefusedFor Q (Broken e) = Q e
+IsRefusedFor Q (Memory a) = Unit {0}
+
+-- `+` or `-`
+abbrev pub IsSign : ℕ → Type 0
+IsSign b = (b ≡ 43) ⊎ (b ≡ 45)
+
+-- the number if it is below 2^32, and else 2^32 - 1
+abbrev pub IsCut : ℕ → ℕ → Type 0
+IsCut n k = ((k ≡ n) × (n < 2 ^ 32)) ⊎ ((k + 1 ≡ 2 ^ 32) × (2 ^ 32 ≤ n))

@@ -1,5 +1,0 @@
-use Rattle.gj_lines.proofs.ExactFunctions.{function_part_is_exact}
-use Rattle.gj_lines.proofs.laws.function_lines_are_exact.Goals as goal
-
-pub returns : goal.returns
-returns c = function_part_is_exact

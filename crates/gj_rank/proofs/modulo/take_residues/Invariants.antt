@@ -1,7 +1,0 @@
-use Rattle.std.proofs.Common.{◌≡◌, ◌++◌, map, take, drop}
-use Rattle.gj_shape.specs.Residues.{residue}
-use Rattle.gj_theory.specs.Modulus.{modulus}
-use Rattle.gj_rank.proofs.modulo.take_residues.Given as goal
-
-abbrev pub invariant-loop-x : goal.invariant-loop-x
-invariant-loop-x l = l.row ≡ map (residue modulus) (take l.x-index l.initial.row) ++ drop l.x-index l.initial.row

@@ -1,6 +1,0 @@
-use Rattle.gj_rank.proofs.RiseRanges.{HasMoved}
-use Rattle.gj_shape.specs.SlopeRows.{component_in}
-use Rattle.gj_rank.proofs.rises.subtract_between.Given as goal
-
-abbrev pub invariant-loop-i : goal.invariant-loop-i
-invariant-loop-i l = HasMoved (component_in l.component) l.i l.from l.initial.row l.row
