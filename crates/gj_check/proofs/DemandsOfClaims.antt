@@ -9,12 +9,12 @@ use Rattle.gj_lemmas.proofs.FirstThatFails.{first_failing, one_first_failing, fi
 use Rattle.gj_proof.specs.declared.claim.Claim.{Claim}
 use Rattle.gj_proof.specs.declared.claim.Claim.TheVariants as claim
 use Rattle.gj_proof.specs.ProofText.{HasNumber}
-use Rattle.gj_proof.specs.Rules.{Demand, MeetsPoint, demands_of, line_of, Holds, MeetsRules}
+use Rattle.gj_proof.specs.Rules.{Demand, MeetsPoint, demands_of, line_of_demand, Holds, MeetsRules}
 use Rattle.gj_proof.specs.Rules.Demand.{minimal, point}
 use Rattle.gj_proof.proofs.LineNumbers.{one_number, number_of_claim, number_of_violation}
 use Rattle.gj_check.specs.declared.rules.CheckRule.{CheckRule}
 use Rattle.gj_check.specs.declared.rules.CheckRule.TheVariants.{Minimal, Point}
-use Rattle.gj_check.specs.FirstFailure.{rule_of, IsFirstFailure, IsFaultOf, IsWantOfMemory}
+use Rattle.gj_check.specs.FirstFailure.{rule_of, IsFirstFailure, IsCheckFaultOf, IsWantOfMemory}
 use Rattle.gj_check.specs.declared.faults.CheckFault.{CheckFault}
 use Rattle.gj_check.specs.declared.faults.CheckFault.TheVariants.{Rejected, Memory}
 
@@ -24,7 +24,7 @@ pub one_failure : (c : Claim) (n m : ℕ) (rule other : CheckRule) → IsFirstFa
     (n ≡ m) × (rule ≡ other)
 one_failure c n m rule other h k =
     let same = (one_first_failing (All (Holds c)) (All-front (Holds c)) (demands_of c) h.before k.before h.demand k.demand h.first k.first).1 in (
-      one_number c (line_of k.demand) n m (subst (λ d. HasNumber c (line_of d) n) same h.number) k.number,
+      one_number c (line_of_demand k.demand) n m (subst (λ d. HasNumber c (line_of_demand d) n) same h.number) k.number,
       h.rule_is ∙ ap rule_of same ∙ sym k.rule_is,
     )
 
@@ -33,7 +33,7 @@ pub no_failure : (c : Claim) (n : ℕ) (rule : CheckRule) → IsFirstFailure c n
 no_failure c n rule h rules = first_failing_denies_all (Holds c) (demands_of c) h.before h.demand h.first rules
 
 -- if every rule holds, a check that names the first that fails accepts, unless there is no memory
-pub accepted_unless : {X : Type 0} (c : Claim) (r : Result X CheckFault) → IfErr r (IsFaultOf c) → MeetsRules c →
+pub accepted_unless : {X : Type 0} (c : Claim) (r : Result X CheckFault) → IfErr r (IsCheckFaultOf c) → MeetsRules c →
     MatchResult r (λ _. Unit {0}) (IsWantOfMemory c)
 accepted_unless c (Ok x) h rules = tt
 accepted_unless c (Err (Rejected n rule)) h rules = absurd (no_failure c n rule h rules)

@@ -16,7 +16,7 @@ use Rattle.gj_proof.specs.declared.numbers.Numbers.{Numbers}
 use Rattle.gj_proof.specs.declared.numbers.Numbers.TheVariants.{Whole, Residues}
 use Rattle.gj_proof.specs.declared.pivot.PivotRow.{PivotRow}
 use Rattle.gj_proof.specs.ProofText.{ProofLine, extreme_claim, modulus_lines, IsPivotRowBelow, group_lines, HasNumber}
-use Rattle.gj_proof.specs.Rules.{Demand, group_demands_by, extreme_demands, demands_of, line_of, Holds, MeetsRules}
+use Rattle.gj_proof.specs.Rules.{Demand, group_demands_by, extreme_demands, demands_of, line_of_demand, Holds, MeetsRules}
 use Rattle.gj_proof.specs.Rules.Demand.{minimal, continuous, cover, row, reduce, size, pivot, rank}
 use Rattle.gj_proof.proofs.LineNumbers.{number_of_claim}
 use Rattle.gj_check_groups.specs.declared.failure.GroupRule.{GroupRule}
@@ -160,17 +160,17 @@ extreme_group_fails n f lines rows components failure l passes is_continuous bel
     let r = rule_on_groups failure.rule in
     let group = groups_fail n f lines (λ i. get_or components.number.items i 0) components.count rows failure
     (numbering f lines components meet are) l below h in
-    let here : FirstFails c (group_demands_by n 0 rows) (line_of group.demand) r = record {
+    let here : FirstFails c (group_demands_by n 0 rows) (line_of_demand group.demand) r = record {
       before = group.before;
       demand = group.demand;
       first = group.first;
       line_is = refl;
       rule_is = rule_named failure.rule group.demand group.rule_is;
     } in
-    fails_first n f lines rows (line_of group.demand) r (f.order + length lines + 5 + length (modulus_lines n) + failure.below)
-    (behind_two c (extreme_rest n lines rows) (line_of group.demand) r ((says n f lines rows).is_minimal.0 passes) ((says n f lines rows).continuity.0 is_continuous)
-    (fails_in_front c (cover_demands lines ++ group_demands_by n 0 rows) (rank ∷ []) (line_of group.demand) r
-    (fails_behind c (cover_demands lines) (group_demands_by n 0 rows) (line_of group.demand) r (covers_hold n f lines rows meet) here)))
+    fails_first n f lines rows (line_of_demand group.demand) r (f.order + length lines + 5 + length (modulus_lines n) + failure.below)
+    (behind_two c (extreme_rest n lines rows) (line_of_demand group.demand) r ((says n f lines rows).is_minimal.0 passes) ((says n f lines rows).continuity.0 is_continuous)
+    (fails_in_front c (cover_demands lines ++ group_demands_by n 0 rows) (rank ∷ []) (line_of_demand group.demand) r
+    (fails_behind c (cover_demands lines) (group_demands_by n 0 rows) (line_of_demand group.demand) r (covers_hold n f lines rows meet) here)))
     group.number
 
 -- all demands before the last

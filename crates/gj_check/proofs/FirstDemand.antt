@@ -5,7 +5,7 @@ use Rattle.gj_lemmas.specs.FirstThatFails.{IsFirstFailing}
 use Rattle.gj_lemmas.proofs.FirstThatFails.{first_failing, first_failing_in_front, first_failing_in_back}
 use Rattle.gj_proof.specs.declared.claim.Claim.{Claim}
 use Rattle.gj_proof.specs.ProofText.{ProofLine, HasNumber}
-use Rattle.gj_proof.specs.Rules.{Demand, demands_of, line_of, Holds}
+use Rattle.gj_proof.specs.Rules.{Demand, demands_of, line_of_demand, Holds}
 use Rattle.gj_check.specs.declared.rules.CheckRule.{CheckRule}
 use Rattle.gj_check.specs.FirstFailure.{rule_of, IsFirstFailure}
 
@@ -14,10 +14,10 @@ pub record FirstFails (c : Claim) (demands : List Demand) (l : ProofLine) (r : C
   pub before : List Demand
   pub demand : Demand
   pub first : IsFirstFailing (All (Holds c)) demands before demand
-  pub line_is : line_of demand ≡ l
+  pub line_is : line_of_demand demand ≡ l
   pub rule_is : r ≡ rule_of demand
 
-pub fails_here : (c : Claim) (d : Demand) (more : List Demand) → (Holds c d → ⊥) → FirstFails c (d ∷ more) (line_of d) (rule_of d)
+pub fails_here : (c : Claim) (d : Demand) (more : List Demand) → (Holds c d → ⊥) → FirstFails c (d ∷ more) (line_of_demand d) (rule_of d)
 fails_here c d more fails = record {
   before = [];
   demand = d;

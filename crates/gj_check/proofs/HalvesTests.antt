@@ -14,7 +14,7 @@ use Rattle.gj_shape.proofs.TableLemmas.{left_is_value, right_is_value}
 use Rattle.gj_theory.proofs.Everywhere.{everywhere, at_same}
 use Rattle.gj_proof.specs.Rules.{MeetsScale, MeetsRange, MeetsAverage, IsMinimalHalf}
 use Rattle.gj_check.specs.Tables.{IsTableInRange}
-use Rattle.gj_check.specs.HalvesRules.{IsRefinement, IsBetween}
+use Rattle.gj_check.specs.HalvesRules.{IsHalvesRefinement, IsBetween}
 use Rattle.gj_check.specs.declared.halves.Refinement.{Refinement}
 
 -- ---- multiples
@@ -33,13 +33,13 @@ no_rest_by x u t n s m e f g = ap₂ (λ a b. a % b) e (ap₂ (λ a b. a * b) f 
 same_factor : (a b n : ℕ) → 0 < n → n * a ≡ n * b → a ≡ b
 same_factor a b n some e = eq_of_mul-eq-mul_right n some a b (mul_comm a n ∙ e ∙ mul_comm n b)
 
-pub same_times : (f : FunctionData) (h : Halves) (r : Refinement) (m : ℕ) → IsWithinBounds f → IsRefinement f h r →
+pub same_times : (f : FunctionData) (h : Halves) (r : Refinement) (m : ℕ) → IsWithinBounds f → IsHalvesRefinement f h r →
     h.order ≡ f.order * m → r.times ≡ m
 same_times f h r m l is e =
     let low = l.order_low in
     same_factor r.times m f.order (omega arith) (sym is.order ∙ e)
 
-pub some_times : (f : FunctionData) (h : Halves) (r : Refinement) → AreHalvesInBounds h → IsRefinement f h r → 0 < r.times
+pub some_times : (f : FunctionData) (h : Halves) (r : Refinement) → AreHalvesInBounds h → IsHalvesRefinement f h r → 0 < r.times
 some_times f h r b is = some r.times is.order
   where
     some : (t : ℕ) → h.order ≡ f.order * t → 0 < t
@@ -48,7 +48,7 @@ some_times f h r b is = some r.times is.order
 
 -- ---- averages
 
-same_scale : (f : FunctionData) (h : Halves) (r : Refinement) (c : ℕ) → IsWithinBounds f → AreHalvesInBounds h → IsRefinement f h r →
+same_scale : (f : FunctionData) (h : Halves) (r : Refinement) (c : ℕ) → IsWithinBounds f → AreHalvesInBounds h → IsHalvesRefinement f h r →
     h.scale ≡ pos (c * (f.scale * r.times)) → r.factor ≡ c
 same_scale f h r c l b is e =
     let scale = is.scale in
@@ -56,7 +56,7 @@ same_scale f h r c l b is e =
     eq_of_mul-eq-mul_right (f.scale * r.times) (mul-pos l.scale_low (some_times f h r b is)) r.factor c both
 
 -- the rule `average` by the refinement
-pub average_by : (f : FunctionData) (h : Halves) (r : Refinement) (i : ℕ) → IsWithinBounds f → AreHalvesInBounds h → IsRefinement f h r →
+pub average_by : (f : FunctionData) (h : Halves) (r : Refinement) (i : ℕ) → IsWithinBounds f → AreHalvesInBounds h → IsHalvesRefinement f h r →
     (at h.first i +ℤ at h.second i ≡ pos (2 * r.factor) *ℤ table f r.times i) ↔ MeetsAverage f h i
 average_by f h r i l b is = (
   λ e m c order scale.
@@ -92,7 +92,7 @@ table_by_values f m i h = entry_by_values f m (i / m) (i % m) h
 
 -- the values of a half are in range
 pub half_in_range : (f : FunctionData) (h : Halves) (r : Refinement) (values : List ℤ) → IsWithinBounds f → AreHalvesInBounds h →
-    IsRefinement f h r → length values ≡ h.order → ((i : ℕ) → i < h.order → IsBetween (at values i) h.scale) →
+    IsHalvesRefinement f h r → length values ≡ h.order → ((i : ℕ) → i < h.order → IsBetween (at values i) h.scale) →
     IsTableInRange values (f.place * r.times) h.scale
 half_in_range f h r values l b is len range =
     let low = b.order_low in
@@ -109,7 +109,7 @@ half_in_range f h r values l b is len range =
     }
 
 -- the rule on a half by the refinement
-pub half_by : (f : FunctionData) (h : Halves) (r : Refinement) (values : List ℤ) → IsWithinBounds f → IsRefinement f h r →
+pub half_by : (f : FunctionData) (h : Halves) (r : Refinement) (values : List ℤ) → IsWithinBounds f → IsHalvesRefinement f h r →
     length values ≡ h.order →
     IsMinimalTable (at values) (length values) (f.place * r.times) (unsigned_abs h.scale) ↔ IsMinimalHalf f h values
 half_by f h r values l is len = (
@@ -170,5 +170,5 @@ sum_of_halves h i x y b m x_is y_is =
     to_z-of_z w128 (x +ℤ y) (omega (arith, ints)) ∙ ap₂ (λ a b. a +ℤ b) x_is y_is
 
 -- the rule `scale`
-pub scale_met : (f : FunctionData) (h : Halves) (r : Refinement) → IsRefinement f h r → MeetsScale f h
+pub scale_met : (f : FunctionData) (h : Halves) (r : Refinement) → IsHalvesRefinement f h r → MeetsScale f h
 scale_met f h r is = (r.times, r.factor, is.order, is.scale)

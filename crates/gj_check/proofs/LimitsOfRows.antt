@@ -11,7 +11,7 @@ use Rattle.gj_lemmas.proofs.Lists.{All-front, All-back}
 use Rattle.gj_shape.proofs.LeastDenominator.{Divides, denominator_some}
 use Rattle.gj_proof.specs.Rules.{MeetsLimit}
 use Rattle.gj_shape.specs.Limits.{IsRowNumber}
-use Rattle.gj_check.specs.RowLimits.{IsRowDenominator, Extends, IsBeyond}
+use Rattle.gj_check.specs.RowLimits.{IsRowDenominator, ExtendsRowDenominator, IsBeyond}
 
 -- no numbers
 pub none_yet : IsRowDenominator [] 1
@@ -22,7 +22,7 @@ none_yet = record {
 }
 
 pub extends : (c m : ℕ) (x : Frac) → IsRowNumber x →
-    IsLcm c (unsigned_abs (denominator x)) m → m < 2 ^ 31 → Extends c x m
+    IsLcm c (unsigned_abs (denominator x)) m → m < 2 ^ 31 → ExtendsRowDenominator c x m
 extends c m x within lcm high xs h =
     let some = lcm_positive c (unsigned_abs (denominator x)) m lcm h.some (denominator_some x) in
     let common = All-push (Divides m) xs x (λ k y l. dvd_trans _ (h.least.common k y l) lcm.0) lcm.1 in (

@@ -6,7 +6,7 @@ use Rattle.std.proofs.lemmas.Bool.{cases_eq, ne_eqb}
 use Rattle.std.proofs.lemmas.List.{length-append, get_or_default, take_all}
 use Rattle.std.proofs.lemmas.List.Sums.{count_by_more_yes, count_by_more_no}
 use Rattle.gj_shape.specs.Additive.{IsTight}
-use Rattle.gj_shape.specs.Cover.{HasLine, HasComponent}
+use Rattle.gj_shape.specs.Cover.{HasCoverLine, HasComponent}
 use Rattle.gj_shape.specs.Cover.HasComponent.{opened, joined}
 use Rattle.gj_shape.specs.FunctionData.{FunctionData}
 use Rattle.gj_shape.specs.declared.extremality.CoverLine.{CoverLine}
@@ -74,14 +74,14 @@ numbered_more f lines k has_line number count n more l h below is within meets c
       meet = below_more (MeetsCover f lines) k h.meet (at_place lines (MeetsCoverRule f.order (IsTight f)) k l below is meets);
       have = λ j low. elim (cases_eq j i) [
         | inl e ↦ (
-          λ _. subst (λ ls. HasLine ls j) (sym longer) (any_last (P j) (take k lines) l (sym e)),
+          λ _. subst (λ ls. HasCoverLine ls j) (sym longer) (any_last (P j) (take k lines) l (sym e)),
           λ _. ap (λ (m : ℕ). get_or (set has_line i true) m false) e ∙ get_or-set_same has_line i true false has_within,
         )
         | inr ne ↦
             let other : get_or (set has_line i true) j false ≡ get_or has_line j false = get_or-set_other has_line i j true false ne in
             let old = h.have j (let len = length-set has_line i true in omega arith) in (
-              λ t. subst (λ ls. HasLine ls j) (sym longer) (any_before (P j) (take k lines) l (old.0 (sym other ∙ t))),
-              λ line. other ∙ old.1 (any_other (P j) (take k lines) l (λ e. ne (sym e)) (subst (λ ls. HasLine ls j) longer line)),
+              λ t. subst (λ ls. HasCoverLine ls j) (sym longer) (any_before (P j) (take k lines) l (old.0 (sym other ∙ t))),
+              λ line. other ∙ old.1 (any_other (P j) (take k lines) l (λ e. ne (sym e)) (subst (λ ls. HasCoverLine ls j) longer line)),
             )
       ];
       shown = λ j low t. elim (cases_eq j i) [
@@ -173,7 +173,7 @@ all_numbered f lines k all has_line c count below h =
     let rules : MeetsCoverRules f.order (IsTight f) lines = λ before l after place. meet (length before) before l after place refl in
     let has = λ (i : ℕ) (low : i < f.order).
     let line = line_for_each f.order (IsTight f) lines rules (λ j d j_low. (below j d j_low).interval) count i low in
-    (h.have i (omega arith)).1 (subst (λ ls. HasLine ls i) (sym whole) line) in (
+    (h.have i (omega arith)).1 (subst (λ ls. HasCoverLine ls i) (sym whole) line) in (
       meet,
       record {
         length = number_length;

@@ -8,14 +8,14 @@ use Rattle.gj_shape.proofs.AtLemmas.{at_below, at_wrapped, at_plus_length}
 use Rattle.gj_shape.proofs.NumeratorReadings.{small_read, left_below, value_below, right_below}
 use Rattle.gj_theory.proofs.Everywhere.{at_same, everywhere, opposite_index}
 use Rattle.gj_theory.proofs.Lanes.{each_below}
-use Rattle.gj_check.specs.Tests.{IsNonnegative, IsSymmetric}
+use Rattle.gj_check.specs.Tests.{HasNonnegativeValues, IsSymmetric}
 use Rattle.gj_check.specs.Numerators.{HasNoNegative, AreSmall, AreOpposite, AreOppositeBetween}
 
 -- ---- signs
 
 -- no value and no limit is negative if no entry of the lists is
 pub signs_of_lists : (f : FunctionData) → IsWithinBounds f →
-    (HasNoNegative f.value × HasNoNegative f.right × HasNoNegative f.left) ↔ IsNonnegative f
+    (HasNoNegative f.value × HasNoNegative f.right × HasNoNegative f.left) ↔ HasNonnegativeValues f
 signs_of_lists f l =
     let low = l.order_low in
     let value_length = l.value_length in

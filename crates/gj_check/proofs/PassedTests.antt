@@ -5,11 +5,11 @@ use Rattle.gj_shape.specs.FirstViolation.{Test, Passes, PassesAll}
 use Rattle.gj_shape.specs.FirstViolation.Test.{zero_at_zero, nonnegative_at, nonnegative_after, nonnegative_before, symmetric_at, symmetric_between, subadditive_at}
 use Rattle.gj_theory.specs.EarlierTests.{IsTestOf, PassesSymmetry}
 use Rattle.gj_theory.proofs.EachTest.{each_test, test_has}
-use Rattle.gj_check.specs.Tests.{IsNonnegative, IsSymmetric, IsSubadditive}
+use Rattle.gj_check.specs.Tests.{HasNonnegativeValues, IsSymmetric, IsSubadditive}
 
 -- those, in the order in which they are tried
 abbrev pub MeetsTests : FunctionData → Type 0
-MeetsTests f = ((Passes f zero_at_zero × IsNonnegative f) × IsSymmetric f) × IsSubadditive f
+MeetsTests f = ((Passes f zero_at_zero × HasNonnegativeValues f) × IsSymmetric f) × IsSubadditive f
 
 test_passes : (f : FunctionData) → MeetsTests f → (t : Test) → IsTestOf f t → Passes f t
 test_passes f h zero_at_zero is = h.0.0.0
@@ -20,7 +20,7 @@ test_passes f h (symmetric_at i) is = (h.0.1 i is).0
 test_passes f h (symmetric_between i) is = (h.0.1 i is).1
 test_passes f h (subadditive_at kind a b c) is = h.1 a b is.0 is.1 kind c is.2
 
-passed_signs : (f : FunctionData) → PassesAll f → IsNonnegative f
+passed_signs : (f : FunctionData) → PassesAll f → HasNonnegativeValues f
 passed_signs f all i below =
     let has = test_has f (Passes f) all in
     (has (nonnegative_at i) below, has (nonnegative_after i) below, has (nonnegative_before i) below)
@@ -43,14 +43,14 @@ all_tests f = (
 )
 
 -- so if the tests at 0, of signs and of symmetry pass, those of the squares decide
-pub squares_decide : (f : FunctionData) → Passes f zero_at_zero → IsNonnegative f → IsSymmetric f →
+pub squares_decide : (f : FunctionData) → Passes f zero_at_zero → HasNonnegativeValues f → IsSymmetric f →
     IsSubadditive f ↔ PassesAll f
 squares_decide f zero signs symmetry =
     let all = all_tests f in
     (λ h. all.0 (((zero, signs), symmetry), h), λ h. (all.1 h).1)
 
 -- as the theory has these tests
-pub symmetry_passes : (f : FunctionData) → Passes f zero_at_zero → IsNonnegative f → IsSymmetric f → PassesSymmetry f
+pub symmetry_passes : (f : FunctionData) → Passes f zero_at_zero → HasNonnegativeValues f → IsSymmetric f → PassesSymmetry f
 symmetry_passes f zero signs symmetry = record {
   mirrors = record {
     signs = record {

@@ -1,7 +1,7 @@
 -- The rule `cover` over cover lines in turn: whether all meet it, and which is the first that does not (own).
 use Rattle.std.specs.Prelude.{ℕ, ◌≡◌, ◌↔◌, ◌<◌, Bool, false, List, All, IsTrue, length, get_or}
 use Rattle.gj_shape.specs.Additive.{IsTight}
-use Rattle.gj_shape.specs.Cover.{HasLine, components_in}
+use Rattle.gj_shape.specs.Cover.{HasCoverLine, components_in}
 use Rattle.gj_shape.specs.FunctionData.{FunctionData}
 use Rattle.gj_shape.specs.declared.extremality.CoverLine.{CoverLine}
 use Rattle.gj_theory.specs.CoverRules.{MeetsCoverRule}
@@ -13,7 +13,7 @@ use Rattle.gj_check.specs.declared.cover_lines.Covered.TheVariants.{Whole, Broke
 
 -- the intervals that have one of the lines
 abbrev pub HaveLines : List CoverLine → List Bool → Type 0
-HaveLines lines has_line = (i : ℕ) → i < length has_line → IsTrue (get_or has_line i false) ↔ HasLine lines i
+HaveLines lines has_line = (i : ℕ) → i < length has_line → IsTrue (get_or has_line i false) ↔ HasCoverLine lines i
 
 -- the rule `cover` on the i-th line
 abbrev pub MeetsCover : FunctionData → List CoverLine → ℕ → Type 0

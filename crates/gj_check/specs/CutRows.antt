@@ -37,7 +37,7 @@ abbrev pub MeetTerms : CutRule → List ℕ → Frac → List CutTerm → Type 0
 MeetTerms rule basic right terms = (j : ℕ) → AtIndex terms j (MeetsTerm rule basic right)
 
 -- those of the terms before the j-th hold, and the first rule of the j-th that fails is this one
-pub record FailAt (rule : CutRule) (basic : List ℕ) (right : Frac) (terms : List CutTerm) (j : ℕ) (failed : CheckRule) : Type 0 where
+pub record FailsInCutRow (rule : CutRule) (basic : List ℕ) (right : Frac) (terms : List CutTerm) (j : ℕ) (failed : CheckRule) : Type 0 where
   pub within : j < length terms
   pub before : (i : ℕ) → i < j → AtIndex terms i (MeetsTerm rule basic right)
   pub here : AtIndex terms j (FailsTerm rule basic right failed)
@@ -46,7 +46,7 @@ pub record FailAt (rule : CutRule) (basic : List ℕ) (right : Frac) (terms : Li
 pub record FailTerms (rule : CutRule) (basic : List ℕ) (right : Frac) (terms : List CutTerm) (f : RowFailure) : Type 0 where
   pub index : ℕ
   pub below : f.below ≡ index + 1
-  pub fails : FailAt rule basic right terms index f.rule
+  pub fails : FailsInCutRow rule basic right terms index f.rule
 
 abbrev pub IsTermsOutcome : CutRule → List ℕ → Frac → List CutTerm → Option RowFailure → Type 0
 IsTermsOutcome rule basic right terms None = MeetTerms rule basic right terms

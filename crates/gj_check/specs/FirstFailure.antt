@@ -4,7 +4,7 @@ use Rattle.gj_lemmas.specs.FirstThatFails.{IsFirstFailing}
 use Rattle.gj_proof.specs.declared.claim.Claim.{Claim}
 use Rattle.gj_proof.specs.declared.claim.Claim.TheVariants as claim
 use Rattle.gj_proof.specs.ProofText.{HasNumber}
-use Rattle.gj_proof.specs.Rules.{Demand, demands_of, line_of, Holds}
+use Rattle.gj_proof.specs.Rules.{Demand, demands_of, line_of_demand, Holds}
 use Rattle.gj_proof.specs.Rules.Demand.{minimal, point, fraction, limit, term_limit, term_name, term_value, continuous, cover, row, reduce, size, pivot, rank, scale, range, average, first, second, same}
 use Rattle.gj_check.specs.declared.rules.CheckRule.{CheckRule}
 use Rattle.gj_check.specs.declared.rules.CheckRule.TheVariants.{Minimal, Continuous, Point, Cover, Row, Reduce, Size, Pivot, Rank, Scale, Range, Average, First, Second, Same, Fraction, Limit, Name, Value}
@@ -40,7 +40,7 @@ pub record IsFirstFailure (c : Claim) (n : ℕ) (rule : CheckRule) : Type 0 wher
   pub demand : Demand
   pub first : IsFirstFailing (All (Holds c)) (demands_of c) before demand
   pub rule_is : rule ≡ rule_of demand
-  pub number : HasNumber c (line_of demand) n
+  pub number : HasNumber c (line_of_demand demand) n
 
 -- the check of a claim about cuts, or that a function is extreme or not extreme, takes memory, and that of another claim none
 abbrev pub TakesMemory : Claim → Type 0
@@ -52,9 +52,9 @@ TakesMemory (claim.ExtremeByResidues f lines rows) = Unit {0}
 TakesMemory (claim.NotExtreme f h) = Unit {0}
 
 -- the fault is the first rule that fails, or, if the check takes memory, the want of it
-abbrev pub IsFaultOf : Claim → CheckFault → Type 0
-IsFaultOf c (Rejected n rule) = IsFirstFailure c n rule
-IsFaultOf c (Memory e) = TakesMemory c
+abbrev pub IsCheckFaultOf : Claim → CheckFault → Type 0
+IsCheckFaultOf c (Rejected n rule) = IsFirstFailure c n rule
+IsCheckFaultOf c (Memory e) = TakesMemory c
 
 -- the fault is want of memory, if the check takes some
 abbrev pub IsWantOfMemory : Claim → CheckFault → Type 0

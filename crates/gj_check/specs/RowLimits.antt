@@ -12,8 +12,8 @@ pub record IsRowDenominator (xs : List Frac) (c : ℕ) : Type 0 where
   pub least : IsLeastCommonDenominator xs c
 
 -- behind numbers with the least common denominator c the number x is within the limits, and with it they have that of m
-abbrev pub Extends : ℕ → Frac → ℕ → Type 0
-Extends c x m = (xs : List Frac) → IsRowDenominator xs c → MeetsLimit xs x × IsRowDenominator (xs ++ x ∷ []) m
+abbrev pub ExtendsRowDenominator : ℕ → Frac → ℕ → Type 0
+ExtendsRowDenominator c x m = (xs : List Frac) → IsRowDenominator xs c → MeetsLimit xs x × IsRowDenominator (xs ++ x ∷ []) m
 
 -- behind such numbers it is not within the limits
 abbrev pub IsBeyond : ℕ → Frac → Type 0

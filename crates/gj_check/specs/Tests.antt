@@ -12,8 +12,8 @@ abbrev pub IsNonnegativeAt : FunctionData → ℕ → Type 0
 IsNonnegativeAt f i = Passes f (nonnegative_at i) × Passes f (nonnegative_after i) × Passes f (nonnegative_before i)
 
 -- for each i
-abbrev pub IsNonnegative : FunctionData → Type 0
-IsNonnegative f = (i : ℕ) → i < f.order → IsNonnegativeAt f i
+abbrev pub HasNonnegativeValues : FunctionData → Type 0
+HasNonnegativeValues f = (i : ℕ) → i < f.order → IsNonnegativeAt f i
 
 -- the values at x and f - x add up to 1 at i/q, and from there to (i + 1)/q
 abbrev pub IsSymmetricAt : FunctionData → ℕ → Type 0

@@ -3,7 +3,7 @@ ghost use Rattle.std.specs.Prelude.{◌≡◌, OnOk, IfErr, MatchResult};
 ghost use Rattle.gj_proof.specs.Meaning.{ClaimHolds};
 ghost use Rattle.gj_proof.specs.ProofText.{IsBounded};
 ghost use Rattle.gj_proof.specs.Rules.{MeetsRules};
-ghost use Rattle.gj_check.specs.FirstFailure.{IsFaultOf, IsWantOfMemory};
+ghost use Rattle.gj_check.specs.FirstFailure.{IsCheckFaultOf, IsWantOfMemory};
 
 use crate::cuts::check_cuts;
 use crate::extremality::check_extreme;
@@ -33,7 +33,7 @@ pub fn check(alloc: Global, proof: &Proof) -> Result<(), CheckFault>
     // If every rule holds, it answers Ok, unless there is no memory.
     ensures only { MeetsRules proof.now → MatchResult result (λ _. Unit {0}) (IsWantOfMemory proof.now) }
     // If it rejects, this is the first rule that fails.
-    ensures fault { IfErr result (IsFaultOf proof.now) }
+    ensures fault { IfErr result (IsCheckFaultOf proof.now) }
 {
     match proof.claim() {
         Claim::Minimal(shape) => {

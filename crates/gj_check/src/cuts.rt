@@ -4,7 +4,7 @@ ghost use Rattle.gj_shape.specs.FirstViolation.{PassesAll};
 ghost use Rattle.gj_proof.specs.declared.claim.Claim.TheVariants as claim;
 ghost use Rattle.gj_proof.specs.ProofText.{IfFunction, subject_of_rule};
 ghost use Rattle.gj_proof.specs.Rules.{MeetsRules};
-ghost use Rattle.gj_check.specs.FirstFailure.{IsFaultOf};
+ghost use Rattle.gj_check.specs.FirstFailure.{IsCheckFaultOf};
 
 use crate::cut_rows::failure_in_row;
 use crate::faults::CheckFault;
@@ -16,7 +16,7 @@ use std::alloc::Global;
 /// Checks every rule on the cuts of rows by this rule, in the order of the lines of their proof.
 pub(crate) fn check_cuts(alloc: Global, rule: &CutRule, rows: &[CutLine]) -> Result<(), CheckFault>
     ensures ok { OnOk result (MeetsRules (claim.Cut rule.now rows.now)) }
-    ensures fault { IfErr result (IsFaultOf (claim.Cut rule.now rows.now)) }
+    ensures fault { IfErr result (IsCheckFaultOf (claim.Cut rule.now rows.now)) }
 {
     if !is_minimal_rule(rule) {
         return Err(CheckFault::Rejected(CLAIM_LINE, CheckRule::Minimal));

@@ -2,7 +2,7 @@
 ghost use Rattle.std.specs.Prelude.{◌≡◌, ◌+◌, OnOk, IfOk, IfErr, All, length};
 ghost use Rattle.gj_proof.specs.ProofText.{extreme_claim, IsCoverLineBelow, IsPivotRowBelow, group_lines};
 ghost use Rattle.gj_proof.specs.Rules.{MeetsRules};
-ghost use Rattle.gj_check.specs.FirstFailure.{IsFaultOf};
+ghost use Rattle.gj_check.specs.FirstFailure.{IsCheckFaultOf};
 ghost use Rattle.gj_check.specs.GroupRules.{rule_on_groups as checked_rule};
 
 use crate::cover_lines::{Covered, components_by};
@@ -29,7 +29,7 @@ pub(crate) fn check_extreme(
     requires lines { All (IsCoverLineBelow shape.now.order) lines.now }
     requires rows { All (IsPivotRowBelow shape.now.order) rows.now }
     ensures ok { OnOk result (MeetsRules (extreme_claim numbers shape.now lines.now rows.now)) }
-    ensures fault { IfErr result (IsFaultOf (extreme_claim numbers shape.now lines.now rows.now)) }
+    ensures fault { IfErr result (IsCheckFaultOf (extreme_claim numbers shape.now lines.now rows.now)) }
 {
     if !is_minimal(shape) {
         return Err(CheckFault::Rejected(CLAIM_LINE, CheckRule::Minimal));

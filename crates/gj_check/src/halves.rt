@@ -6,8 +6,8 @@ ghost use Rattle.gj_shape.specs.Limits.{greatest_halves_scale};
 ghost use Rattle.gj_shape.specs.Table.{table};
 ghost use Rattle.gj_proof.specs.Rules.{MeetsRules, MeetsScale, MeetsRange, MeetsAverage, IsMinimalHalf};
 ghost use Rattle.gj_proof.specs.declared.claim.Claim.TheVariants as claim;
-ghost use Rattle.gj_check.specs.FirstFailure.{IsFaultOf};
-ghost use Rattle.gj_check.specs.HalvesRules.{IsRefinement, IsPairsOutcome, AreDifferent, IsBetween};
+ghost use Rattle.gj_check.specs.FirstFailure.{IsCheckFaultOf};
+ghost use Rattle.gj_check.specs.HalvesRules.{IsHalvesRefinement, IsPairsOutcome, AreDifferent, IsBetween};
 
 use crate::faults::CheckFault;
 use crate::minimality::is_minimal;
@@ -38,7 +38,7 @@ pub(crate) struct PairFailure {
 pub(crate) fn check_halves(alloc: Global, shape: &Shape, halves: &Halves) -> Result<(), CheckFault>
     requires { AreHalvesInBounds halves.now }
     ensures ok { OnOk result (MeetsRules (claim.NotExtreme shape.now halves.now)) }
-    ensures fault { IfErr result (IsFaultOf (claim.NotExtreme shape.now halves.now)) }
+    ensures fault { IfErr result (IsCheckFaultOf (claim.NotExtreme shape.now halves.now)) }
 {
     if !is_minimal(shape) {
         return Err(CheckFault::Rejected(CLAIM_LINE, CheckRule::Minimal));
@@ -71,7 +71,7 @@ pub(crate) fn check_halves(alloc: Global, shape: &Shape, halves: &Halves) -> Res
 /// How much finer the halves are; none if their order or their scale is no multiple.
 fn refinement_of(shape: &Shape, halves: &Halves) -> Option<Refinement>
     requires { AreHalvesInBounds halves.now }
-    ensures some { IfSome result (IsRefinement shape.now halves.now) }
+    ensures some { IfSome result (IsHalvesRefinement shape.now halves.now) }
     ensures none { IfNone result (MeetsScale shape.now halves.now → ⊥) }
 {
     let order = shape.order();
@@ -95,7 +95,7 @@ fn failure_in_pairs(shape: &Shape, halves: &Halves, refinement: Refinement) -> O
     requires halves { AreHalvesInBounds halves.now }
     requires limits { IsWithinBounds shape.now }
     requires continuous { IsContinuous shape.now }
-    requires refinement { IsRefinement shape.now halves.now refinement }
+    requires refinement { IsHalvesRefinement shape.now halves.now refinement }
     ensures { IsPairsOutcome shape.now halves.now result }
 {
     for index in 0..halves.order {
@@ -139,7 +139,7 @@ fn meets_average(shape: &Shape, halves: &Halves, refinement: Refinement, index: 
     requires halves { AreHalvesInBounds halves.now }
     requires limits { IsWithinBounds shape.now }
     requires continuous { IsContinuous shape.now }
-    requires refinement { IsRefinement shape.now halves.now refinement }
+    requires refinement { IsHalvesRefinement shape.now halves.now refinement }
     requires within { index < halves.now.order }
     requires range { MeetsRange halves.now index }
     ensures { IsTrue result ↔ MeetsAverage shape.now halves.now index }
@@ -187,7 +187,7 @@ fn is_minimal_half(
     values: &[i128],
 ) -> Result<bool, AllocError>
     requires halves { AreHalvesInBounds halves.now }
-    requires refinement { IsRefinement shape.now halves.now refinement }
+    requires refinement { IsHalvesRefinement shape.now halves.now refinement }
     requires length { length values.now ≡ halves.now.order }
     requires range { (i : ℕ) → i < halves.now.order → IsBetween (at values.now i) halves.now.scale }
     ensures { IfOk result (λ minimal. IsTrue minimal ↔ IsMinimalHalf shape.now halves.now values.now) }

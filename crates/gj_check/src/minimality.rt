@@ -5,7 +5,7 @@ ghost use Rattle.gj_shape.specs.FunctionData.{IsWithinBounds};
 ghost use Rattle.gj_shape.specs.FirstViolation.{Passes, PassesAll};
 ghost use Rattle.gj_shape.specs.FirstViolation.Test.{zero_at_zero};
 ghost use Rattle.gj_theory.specs.EarlierTests.{PassesSymmetry};
-ghost use Rattle.gj_check.specs.Tests.{IsNonnegative, IsSymmetric, IsSubadditiveOnGrid, IsSubadditive};
+ghost use Rattle.gj_check.specs.Tests.{HasNonnegativeValues, IsSymmetric, IsSubadditiveOnGrid, IsSubadditive};
 ghost use Rattle.gj_check.specs.Numerators.{HasNoNegative, AreSmall, AreOpposite, AreOppositeBetween};
 ghost use Rattle.gj_check.specs.Lanes.{AreLanesOf};
 ghost use Rattle.gj_check.specs.Tables.{AreTwoPeriods};
@@ -45,7 +45,7 @@ fn is_zero_at_zero(shape: &Shape) -> bool
 
 /// Whether no value and no limit is negative.
 fn is_nonnegative(shape: &Shape) -> bool
-    ensures { IsTrue result ↔ IsNonnegative shape.now }
+    ensures { IsTrue result ↔ HasNonnegativeValues shape.now }
 {
     if !has_no_negative(shape.value_numerators()) {
         return false;

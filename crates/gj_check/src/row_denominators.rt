@@ -2,7 +2,7 @@
 ghost use Rattle.std.specs.Prelude.{◌≡◌, ◌<◌, ◌^◌, ◌↔◌, IsTrue, IfSome, IfNone, unsigned_abs};
 ghost use Rattle.gj_frac.specs.Fraction.{denominator};
 ghost use Rattle.gj_shape.specs.Limits.{IsRowNumber};
-ghost use Rattle.gj_check.specs.RowLimits.{Extends, IsBeyond};
+ghost use Rattle.gj_check.specs.RowLimits.{ExtendsRowDenominator, IsBeyond};
 
 use gj_frac::{Frac, lcm};
 use gj_shape::{GREATEST_DENOMINATOR, GREATEST_NUMBER};
@@ -12,7 +12,7 @@ use gj_shape::{GREATEST_DENOMINATOR, GREATEST_NUMBER};
 pub(crate) fn extended(common: u64, x: Frac) -> Option<u64>
     requires some { 0 < common }
     requires high { common < 2 ^ 31 }
-    ensures within { IfSome result (Extends common x) }
+    ensures within { IfSome result (ExtendsRowDenominator common x) }
     ensures beyond { IfNone result (IsBeyond common x) }
 {
     if !is_within_limits(x) {

@@ -22,7 +22,7 @@ use Rattle.gj_proof.specs.PresentRows.{arithmetic_of, AreNumbersOf, begun_row, e
 use Rattle.gj_proof.specs.ProofText.{IsRowNameBelow, IsPivotRowBelow, OwnLine, extreme_claim, covered_lines, modulus_lines, extreme_lines, subject_lines, HasNumber}
 use Rattle.gj_proof.specs.ProofText.Subject.{function}
 use Rattle.gj_proof.specs.ProofText.ProofLine.{point}
-use Rattle.gj_proof.specs.Rules.{Demand, AtIndex, MeetsRow, MeetsReduce, MeetsSize, MeetsPivotBy, size_demands, step_demands_by, group_demands_by, line_of, Holds}
+use Rattle.gj_proof.specs.Rules.{Demand, AtIndex, MeetsRow, MeetsReduce, MeetsSize, MeetsPivotBy, size_demands, step_demands_by, group_demands_by, line_of_demand, Holds}
 use Rattle.gj_proof.specs.Rules.Demand.{row, reduce, size, pivot}
 use Rattle.gj_proof.proofs.LineCounts.{length-covered}
 use Rattle.gj_proof.proofs.LineNumbers.{number_of_own}
@@ -218,7 +218,7 @@ pub record FirstGroupFails (numbers : Numbers) (f : FunctionData) (lines : List 
   pub demand : Demand
   pub first : IsFirstFailing (All (Holds (extreme_claim numbers f lines rows))) (group_demands_by numbers 0 rows) before demand
   pub rule_is : IsRuleOf failure.rule demand
-  pub number : HasNumber (extreme_claim numbers f lines rows) (line_of demand)
+  pub number : HasNumber (extreme_claim numbers f lines rows) (line_of_demand demand)
       (f.order + length lines + 5 + length (modulus_lines numbers) + failure.below)
 
 -- the number of a line of the claim's own

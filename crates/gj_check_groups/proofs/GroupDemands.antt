@@ -14,7 +14,7 @@ use Rattle.gj_proof.specs.declared.pivot.PivotRow.{PivotRow}
 use Rattle.gj_proof.specs.PresentRows.{arithmetic_of, begun_row, rows_before_by}
 use Rattle.gj_proof.specs.ProofText.{OwnLine, group_line, reduction_line, pivot_line, reduction_lines, group_lines}
 use Rattle.gj_proof.specs.ProofText.ProofLine.{group, reduction, group_pivot}
-use Rattle.gj_proof.specs.Rules.{Demand, AtIndex, MeetsRow, MeetsReduce, size_demands, step_demands_by, group_demands_by, line_of}
+use Rattle.gj_proof.specs.Rules.{Demand, AtIndex, MeetsRow, MeetsReduce, size_demands, step_demands_by, group_demands_by, line_of_demand}
 use Rattle.gj_proof.specs.Rules.Demand.{row, reduce, size, pivot}
 use Rattle.gj_check_groups.specs.declared.failure.GroupRule.{GroupRule}
 use Rattle.gj_check_groups.specs.declared.failure.GroupRule.TheVariants.{Reduce, Size}
@@ -267,7 +267,7 @@ record StepFailsAs (numbers : Numbers) (H : Demand → Type 0) (g r : ℕ) (rule
   pub demand : Demand
   pub fails : StepFails numbers H g r demand
   pub rule_is : IsRuleOf rule demand
-  pub line_is : line_of demand ≡ reduction g r
+  pub line_is : line_of_demand demand ≡ reduction g r
 
 step_fails_as : (numbers : Numbers) (f : FunctionData) (component : ℕ → ℕ) (n : ℕ) (rows : List PivotRow) (g : ℕ) (front : List PivotRow) (one : PivotRow)
     (back : List PivotRow) → IsGroup rows g front one back → (r : ℕ) (rule : GroupRule) (steps : List ℕ) (c : ℕ) (more : List ℕ) →
@@ -307,7 +307,7 @@ record GroupFailsAs (numbers : Numbers) (H : Demand → Type 0) (g : ℕ) (one :
   pub line : OwnLine
   pub under : List OwnLine
   pub place : group_lines g (one ∷ back) ≡ above ++ line ∷ under
-  pub line_is : line.name ≡ line_of demand
+  pub line_is : line.name ≡ line_of_demand demand
   pub below : failure.below ≡ length above
 
 group_fails_as : (numbers : Numbers) (f : FunctionData) (component : ℕ → ℕ) (n : ℕ) (rows : List PivotRow) (g : ℕ) (front : List PivotRow) (one : PivotRow)

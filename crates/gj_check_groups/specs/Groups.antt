@@ -11,7 +11,7 @@ use Rattle.gj_proof.specs.declared.numbers.Numbers.{Numbers}
 use Rattle.gj_proof.specs.declared.pivot.PivotRow.{PivotRow}
 use Rattle.gj_proof.specs.PresentRows.{arithmetic_of, begun_row, rows_before_by}
 use Rattle.gj_proof.specs.ProofText.{OwnLine, group_lines}
-use Rattle.gj_proof.specs.Rules.{Demand, AtIndex, MeetsRow, MeetsReduce, MeetsSize, MeetsPivotBy, group_demands_by, line_of}
+use Rattle.gj_proof.specs.Rules.{Demand, AtIndex, MeetsRow, MeetsReduce, MeetsSize, MeetsPivotBy, group_demands_by, line_of_demand}
 use Rattle.gj_proof.specs.Rules.Demand.{row, reduce, size, pivot}
 use Rattle.gj_check_groups.specs.declared.failure.GroupRule.{GroupRule}
 use Rattle.gj_check_groups.specs.declared.failure.GroupRule.TheVariants.{Row, Reduce, Size, Pivot}
@@ -62,7 +62,7 @@ pub record IsFirstGroupFailure (numbers : Numbers) (f : FunctionData) (component
   pub line : OwnLine
   pub under : List OwnLine
   pub place : group_lines 0 rows ≡ above ++ line ∷ under
-  pub line_is : line.name ≡ line_of demand
+  pub line_is : line.name ≡ line_of_demand demand
   pub below : failure.below ≡ length above
 
 -- all demands on the groups hold; or this is the first that fails

@@ -4,7 +4,7 @@ use Rattle.std.specs.declared.option.Option.{Option}
 use Rattle.std.specs.declared.option.Option.TheVariants.{Some, None}
 use Rattle.gj_shape.specs.Elimination.{KeptRow, at_column, row_with_pivot}
 use Rattle.gj_proof.specs.declared.numbers.Numbers.{Numbers}
-use Rattle.gj_check_groups.specs.RowNumbers.{AreNumbers, IsPivotEntry}
+use Rattle.gj_check_groups.specs.RowNumbers.{AreRowNumbers, IsPivotEntry}
 
 -- the entries of a kept row, if there is one
 abbrev pub entries_kept : Option KeptRow → Option (List ℤ)
@@ -19,7 +19,7 @@ AreRowsAt kept table = (c : ℕ) → get_or table c None ≡ entries_kept (row_w
 pub record IsKeptAt (numbers : Numbers) (n c : ℕ) (entries : List ℤ) : Type 0 where
   pub columns : length entries ≡ n
   pub pivot : IsPivotEntry numbers (at_column entries c)
-  pub fits : AreNumbers numbers entries
+  pub fits : AreRowNumbers numbers entries
 
 -- a table of rows of n columns of these numbers
 pub record IsTable (numbers : Numbers) (n : ℕ) (table : List (Option (List ℤ))) : Type 0 where

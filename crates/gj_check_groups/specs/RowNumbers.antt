@@ -11,9 +11,9 @@ pub record IsResidue (x : ℤ) : Type 0 where
   pub below : x <ℤ pos modulus
 
 -- whole numbers are at most 2^127 - 1 in absolute value
-abbrev pub AreNumbers : Numbers → List ℤ → Type 0
-AreNumbers Whole row = All Fits row
-AreNumbers Residues row = All IsResidue row
+abbrev pub AreRowNumbers : Numbers → List ℤ → Type 0
+AreRowNumbers Whole row = All Fits row
+AreRowNumbers Residues row = All IsResidue row
 
 -- of whole numbers, a row that is kept is positive at its pivot
 abbrev pub IsPivotEntry : Numbers → ℤ → Type 0

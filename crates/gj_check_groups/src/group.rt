@@ -3,7 +3,7 @@ ghost use Rattle.std.specs.Prelude.{ℤ, pos, ◌≡◌, ◌<◌, ◌^◌, ◌�
 ghost use Rattle.std.specs.declared.option.Option.TheVariants.{Some, None};
 ghost use Rattle.gj_shape.specs.Additive.{IsTight};
 ghost use Rattle.gj_shape.specs.Elimination.{KeptRow};
-ghost use Rattle.gj_check_groups.specs.RowNumbers.{AreNumbers};
+ghost use Rattle.gj_check_groups.specs.RowNumbers.{AreRowNumbers};
 ghost use Rattle.gj_check_groups.specs.KeptTable.{IsTable, AreRowsAt};
 ghost use Rattle.gj_proof.specs.ProofText.{IsRowNameBelow};
 ghost use Rattle.gj_proof.specs.Rules.{MeetsRow, MeetsPivot, MeetsPivotBy};
@@ -26,10 +26,10 @@ pub(crate) fn failure_in_group(
 ) -> Option<GroupFailure>
     requires name { IsRowNameBelow shape.now.order group.now.name }
     requires table { IsTable numbers (length row.old) table.now }
-    requires fits { AreNumbers numbers row.old }
+    requires fits { AreRowNumbers numbers row.old }
     ensures outcome { (kept : List KeptRow) → AreRowsAt kept table.now →
         IsGroupOutcome numbers shape.now (length row.old) kept row.old group.now row.new result }
-    ensures fits { IfNone result (AreNumbers numbers row.new) }
+    ensures fits { IfNone result (AreRowNumbers numbers row.new) }
 {
     if !meets_row(shape, group.name) {
         return Some(GroupFailure {
@@ -89,10 +89,10 @@ fn failure_in_steps(
     columns: &[u32],
 ) -> Option<GroupFailure>
     requires table { IsTable numbers (length row.old) table.now }
-    requires fits { AreNumbers numbers row.old }
+    requires fits { AreRowNumbers numbers row.old }
     ensures outcome { (kept : List KeptRow) → AreRowsAt kept table.now →
         IsStepsOutcome numbers kept row.old columns.now row.new result }
-    ensures fits { IfNone result (AreNumbers numbers row.new) }
+    ensures fits { IfNone result (AreRowNumbers numbers row.new) }
 {
     for (place, column) in columns.iter().enumerate() {
         if let Some(rule) = failure_in_step(numbers, table, row, *column) {
@@ -113,10 +113,10 @@ fn failure_in_step(
     column: u32,
 ) -> Option<GroupRule>
     requires table { IsTable numbers (length row.old) table.now }
-    requires fits { AreNumbers numbers row.old }
+    requires fits { AreRowNumbers numbers row.old }
     ensures outcome { (kept : List KeptRow) → AreRowsAt kept table.now →
         IsStepOutcome numbers kept row.old column row.new result }
-    ensures fits { IfNone result (AreNumbers numbers row.new) }
+    ensures fits { IfNone result (AreRowNumbers numbers row.new) }
 {
     let column = column as usize;
     let kept = match row_at(table, column) {
@@ -149,7 +149,7 @@ fn row_at(table: &[Option<List<i128>>], column: usize) -> Option<&[i128]>
 /// Whether a row of these numbers can be kept with its pivot at the column.
 fn meets_pivot_by(numbers: Numbers, table: &[Option<List<i128>>], row: &[i128], column: u32) -> bool
     requires table { IsTable numbers (length row.now) table.now }
-    requires fits { AreNumbers numbers row.now }
+    requires fits { AreRowNumbers numbers row.now }
     ensures { (kept : List KeptRow) → AreRowsAt kept table.now →
         (IsTrue result ↔ MeetsPivotBy numbers (length row.now) kept row.now column) }
 {

@@ -5,7 +5,7 @@ ghost use Rattle.gj_shape.specs.Elimination.{KeptRow};
 ghost use Rattle.gj_proof.specs.PresentRows.{arithmetic_of, entries_or_none};
 ghost use Rattle.gj_proof.specs.Rules.{MeetsPivotBy};
 ghost use Rattle.gj_check_groups.specs.KeptTable.{IsKeptAt};
-ghost use Rattle.gj_check_groups.specs.RowNumbers.{AreNumbers};
+ghost use Rattle.gj_check_groups.specs.RowNumbers.{AreRowNumbers};
 
 use crate::modulo::make_kept_modulo;
 use crate::step::make_kept;
@@ -23,7 +23,7 @@ pub(crate) fn keep(
 ) -> Result<(), AllocError>
     requires columns { length table.old ≡ length row.now }
     requires pivot { (kept : List KeptRow) × MeetsPivotBy numbers (length row.now) kept row.now pivot }
-    requires fits { AreNumbers numbers row.now }
+    requires fits { AreRowNumbers numbers row.now }
     ensures table { OnOk result (table.new ≡ set table.old pivot
         (Some (entries_or_none ((arithmetic_of numbers).keep row.now pivot)))) }
     ensures kept { OnOk result (IsKeptAt numbers (length row.now) pivot
@@ -38,7 +38,7 @@ pub(crate) fn keep(
 /// Makes of a row of these numbers what is kept of it, with its pivot at the column.
 fn make_kept_by(numbers: Numbers, row: &mut [i128], column: usize)
     requires pivot { (kept : List KeptRow) × MeetsPivotBy numbers (length row.old) kept row.old column }
-    requires fits { AreNumbers numbers row.old }
+    requires fits { AreRowNumbers numbers row.old }
     ensures value { row.new ≡ entries_or_none ((arithmetic_of numbers).keep row.old column) }
     ensures kept { IsKeptAt numbers (length row.old) column row.new }
 {

@@ -6,7 +6,7 @@ ghost use Rattle.gj_frac.specs.Fraction.{Fits};
 ghost use Rattle.gj_theory.specs.Fitting.{FitsCombined};
 ghost use Rattle.gj_proof.specs.PresentRows.{arithmetic_of};
 ghost use Rattle.gj_check_groups.specs.KeptTable.{IsKeptAt};
-ghost use Rattle.gj_check_groups.specs.RowNumbers.{AreNumbers};
+ghost use Rattle.gj_check_groups.specs.RowNumbers.{AreRowNumbers};
 
 use crate::fitting::{TooWide, difference, product, quotient};
 use crate::modulo::reduce_modulo;
@@ -105,9 +105,9 @@ pub(crate) fn reduce(
 ) -> Result<(), TooWide>
     requires within { column < length row.old }
     requires kept { IsKeptAt numbers (length row.old) column kept.now }
-    requires row { AreNumbers numbers row.old }
+    requires row { AreRowNumbers numbers row.old }
     ensures value { OnOk result (row.new ≡ (arithmetic_of numbers).step kept.now row.old column) }
-    ensures fits { OnOk result (AreNumbers numbers row.new) }
+    ensures fits { OnOk result (AreRowNumbers numbers row.new) }
     ensures narrow { OnOk result (¬ Passes ((arithmetic_of numbers).marked kept.now row.old column)) }
     ensures wide { OnErr result (Passes ((arithmetic_of numbers).marked kept.now row.old column)) }
 {

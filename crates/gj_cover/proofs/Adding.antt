@@ -4,7 +4,7 @@ use Rattle.std.proofs.lemmas.Bool.{cases_order}
 use Rattle.gj_shape.specs.declared.faces.Face.{Face}
 use Rattle.gj_shape.specs.declared.faces.FaceKind.{FaceKind}
 use Rattle.gj_shape.specs.WalkOrder.{position_of_kind}
-use Rattle.gj_cover.specs.FirstFound.{IsNotBefore, IsThis, IsReached, AddsFirst}
+use Rattle.gj_cover.specs.FirstFound.{IsNotBefore, IsThis, IsFaceReached, AddsFirst}
 use Rattle.gj_cover.proofs.Merging.{not_before}
 
 -- faces of two sorts
@@ -49,33 +49,33 @@ found_before These P (Some f) = inl refl
 
 -- nothing is added by a face that is reached if it has the property
 pub passed : (P : FaceKind → ℕ → ℕ → Type 0) (kind : FaceKind) (a b : ℕ) (found : Option Face) →
-    (P kind a b → IsReached found kind a b) → AddsFirst (IsThis kind a b) P found found
+    (P kind a b → IsFaceReached found kind a b) → AddsFirst (IsThis kind a b) P found found
 passed P kind a b found h = record {
   from = found_before (IsThis kind a b) P found;
   behind = λ k c d r. r;
   first = λ k c d (e, x, y) p.
-      subst (λ n. IsReached found n c d) (sym e) (subst (λ n. IsReached found kind n d) (sym x)
-      (subst (λ n. IsReached found kind a n) (sym y)
+      subst (λ n. IsFaceReached found n c d) (sym e) (subst (λ n. IsFaceReached found kind n d) (sym x)
+      (subst (λ n. IsFaceReached found kind a n) (sym y)
       (h (subst (λ n. P kind a n) y (subst (λ n. P kind n d) x (subst (λ n. P n c d) e p))))));
 }
 
-before : (kind : FaceKind) (a b : ℕ) (found : Option Face) → (IsReached found kind a b → ⊥) → (other : FaceKind) (c d : ℕ) →
-    IsReached found other c d → IsReached (Some (record { kind = kind; a = a; b = b })) other c d
+before : (kind : FaceKind) (a b : ℕ) (found : Option Face) → (IsFaceReached found kind a b → ⊥) → (other : FaceKind) (c d : ℕ) →
+    IsFaceReached found other c d → IsFaceReached (Some (record { kind = kind; a = a; b = b })) other c d
 before kind a b None not other c d r = absurd r
 before kind a b (Some f) not other c d r =
     not_before (record { kind = kind; a = a; b = b }) f other c d (beyond f kind a b not) r
 
 -- a face with the property that is not reached comes before what was found
 pub put : (P : FaceKind → ℕ → ℕ → Type 0) (kind : FaceKind) (a b : ℕ) (found : Option Face) →
-    (IsReached found kind a b → ⊥) → P kind a b →
+    (IsFaceReached found kind a b → ⊥) → P kind a b →
     AddsFirst (IsThis kind a b) P found (Some (record { kind = kind; a = a; b = b }))
 put P kind a b found not p =
     let it : Option Face = Some (record { kind = kind; a = a; b = b }) in record {
       from = inr ((refl, refl, refl), p);
       behind = before kind a b found not;
       first = λ k c d (e, x, y) _.
-          subst (λ n. IsReached it n c d) (sym e) (subst (λ n. IsReached it kind n d) (sym x)
-          (subst (λ n. IsReached it kind a n) (sym y) (itself kind a b)));
+          subst (λ n. IsFaceReached it n c d) (sym e) (subst (λ n. IsFaceReached it kind n d) (sym x)
+          (subst (λ n. IsFaceReached it kind a n) (sym y) (itself kind a b)));
     }
 
 -- ---- faces of two sorts

@@ -5,7 +5,7 @@ use Rattle.std.proofs.lemmas.Bool.{and_parts, and_from, or_cases, or_left, or_ri
 use Rattle.gj_faces.proofs.Periods.{same_sum}
 use Rattle.gj_shape.specs.declared.faces.FaceKind.{FaceKind}
 use Rattle.gj_shape.specs.declared.faces.FaceKind.TheVariants.{Vertex, Horizontal, Vertical, Diagonal, Lower, Upper}
-use Rattle.gj_cover.specs.Table.{is_tight_in, IsTightIn, CoversBy}
+use Rattle.gj_cover.specs.Table.{is_tight_in, IsTightInTable, CoversBy}
 use Rattle.gj_cover.specs.declared.table.Table.{Table}
 use Rattle.gj_cover.proofs.Edges.{one_step}
 use Rattle.gj_cover.proofs.Parts.{Corners, corners, additive, covered_one, one_covered, IsTriangle, Intervals}
@@ -16,15 +16,15 @@ abbrev pub has_triangle : Table → ℕ → ℕ → Bool
 has_triangle t a b =
     (is_tight_in t (a + 1) b && is_tight_in t a (b + 1)) && (is_tight_in t a b || is_tight_in t (a + 1) (b + 1))
 
-lower : (t : Table) (a b i : ℕ) → Corners (IsTightIn t) Lower a b → Intervals t.order Lower a b i → CoversBy t i Lower a b
+lower : (t : Table) (a b i : ℕ) → Corners (IsTightInTable t) Lower a b → Intervals t.order Lower a b i → CoversBy t i Lower a b
 lower t a b i h at = record {
-  additive = additive (IsTightIn t) Lower a b h;
+  additive = additive (IsTightInTable t) Lower a b h;
   projection = one_covered t.order Lower a b i tt at;
 }
 
-upper : (t : Table) (a b i : ℕ) → Corners (IsTightIn t) Upper a b → Intervals t.order Upper a b i → CoversBy t i Upper a b
+upper : (t : Table) (a b i : ℕ) → Corners (IsTightInTable t) Upper a b → Intervals t.order Upper a b i → CoversBy t i Upper a b
 upper t a b i h at = record {
-  additive = additive (IsTightIn t) Upper a b h;
+  additive = additive (IsTightInTable t) Upper a b h;
   projection = one_covered t.order Upper a b i tt at;
 }
 
@@ -41,19 +41,19 @@ by_triangle t a b i at e =
       | inr x ↦ (Upper, upper t a b i (east, north, tight t (a + 1) (b + 1) x) (elim at [ inl y ↦ inl y | inr y ↦ inr (inl y) ]))
     ]
 
-lower_told : (t : Table) (a b : ℕ) → Corners (IsTightIn t) Lower a b → has_triangle t a b ≡ true
+lower_told : (t : Table) (a b : ℕ) → Corners (IsTightInTable t) Lower a b → has_triangle t a b ≡ true
 lower_told t a b h =
     and_from (is_tight_in t (a + 1) b && is_tight_in t a (b + 1)) (is_tight_in t a b || is_tight_in t (a + 1) (b + 1))
     (and_from (is_tight_in t (a + 1) b) (is_tight_in t a (b + 1)) (told t (a + 1) b h.1) (told t a (b + 1) h.2))
     (or_left (is_tight_in t a b) (is_tight_in t (a + 1) (b + 1)) (told t a b h.0))
 
-upper_told : (t : Table) (a b : ℕ) → Corners (IsTightIn t) Upper a b → has_triangle t a b ≡ true
+upper_told : (t : Table) (a b : ℕ) → Corners (IsTightInTable t) Upper a b → has_triangle t a b ≡ true
 upper_told t a b h =
     and_from (is_tight_in t (a + 1) b && is_tight_in t a (b + 1)) (is_tight_in t a b || is_tight_in t (a + 1) (b + 1))
     (and_from (is_tight_in t (a + 1) b) (is_tight_in t a (b + 1)) (told t (a + 1) b h.0) (told t a (b + 1) h.1))
     (or_right (is_tight_in t a b) (is_tight_in t (a + 1) (b + 1)) (told t (a + 1) (b + 1) h.2))
 
-told_by : (t : Table) (kind : FaceKind) (a b : ℕ) → IsTriangle kind → Corners (IsTightIn t) kind a b → has_triangle t a b ≡ true
+told_by : (t : Table) (kind : FaceKind) (a b : ℕ) → IsTriangle kind → Corners (IsTightInTable t) kind a b → has_triangle t a b ≡ true
 told_by t Vertex a b s h = absurd s
 told_by t Horizontal a b s h = absurd s
 told_by t Vertical a b s h = absurd s
@@ -66,7 +66,7 @@ pub in_row : (t : Table) (i b : ℕ) (r : Bool) → r ≡ has_triangle t i b →
     (r ≡ true) ↔ ((kind : FaceKind) × CoversBy t i kind i b)
 in_row t i b r is = (
   λ e. by_triangle t i b i (inl refl) (sym is ∙ e),
-  λ (kind, h). is ∙ told_by t kind i b (covered_one t.order kind i b i h.projection).0 (corners (IsTightIn t) kind i b h.additive),
+  λ (kind, h). is ∙ told_by t kind i b (covered_one t.order kind i b i h.projection).0 (corners (IsTightInTable t) kind i b h.additive),
 )
 
 -- ---- another row: b leads from a to i, and short from the index behind a
@@ -118,7 +118,7 @@ from_sum t a b short i a_below b_below short_below e g i_below h =
 
 -- what a triangle of the row that covers the interval shows
 shows : (t : Table) (a b short i d : ℕ) (kind : FaceKind) → a < t.order → b < t.order → short < t.order → (a + b) % t.order ≡ i →
-    (a + 1 + short) % t.order ≡ i → i < t.order → a ≢ i → d < t.order → IsTriangle kind → Corners (IsTightIn t) kind a d →
+    (a + 1 + short) % t.order ≡ i → i < t.order → a ≢ i → d < t.order → IsTriangle kind → Corners (IsTightInTable t) kind a d →
     Intervals t.order kind a d i → (has_triangle t a i || by_sum t a b short) ≡ true
 shows t a b short i d Vertex a_below b_below short_below e g i_below other d_below s h at = absurd s
 shows t a b short i d Horizontal a_below b_below short_below e g i_below other d_below s h at = absurd s
@@ -166,5 +166,5 @@ in_another t a b short i r a_below b_below short_below e g i_below other is = (
   λ (kind, d, d_below, h).
       let at = covered_one t.order kind a d i h.projection in
       is ∙ shows t a b short i d kind a_below b_below short_below e g i_below other d_below at.0
-      (corners (IsTightIn t) kind a d h.additive) at.1,
+      (corners (IsTightInTable t) kind a d h.additive) at.1,
 )

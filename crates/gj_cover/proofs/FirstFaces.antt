@@ -10,7 +10,7 @@ use Rattle.gj_shape.specs.declared.faces.Face.{Face}
 use Rattle.gj_shape.specs.declared.faces.FaceKind.{FaceKind}
 use Rattle.gj_shape.specs.declared.faces.FaceKind.TheVariants.{Vertex, Horizontal, Vertical, Diagonal, Lower, Upper}
 use Rattle.gj_cover.specs.FirstFound.{FindsFirst, IsThis, AddsFirst}
-use Rattle.gj_cover.specs.Links.{LeadsBy, IsInRow, IsAcross}
+use Rattle.gj_cover.specs.Links.{LeadsBy, IsPairInRow, IsAcross}
 use Rattle.gj_cover.proofs.Adding.{EitherOf, ranked_behind}
 use Rattle.gj_cover.proofs.Edges.{one_step, joins_by, joins_led}
 use Rattle.gj_cover.proofs.Joining.{joins_within, covers_within}
@@ -168,7 +168,7 @@ covering_none q T p i i_below None h = λ (kind, a, b, k).
 
 pub in_row_none : (q : ℕ) (T : ℕ → ℕ → Type 0) (i : ℕ) (set : IndexSet) → ((b : ℕ) → has set b ≡ false) →
     ((b : ℕ) → b < q → IsTrue (has set b) ↔ ((kind : FaceKind) × Covers q T kind i b i)) →
-    FindsFirst (IsInRow q i) (λ kind a b. Covers q T kind a b i) None
+    FindsFirst (IsPairInRow q i) (λ kind a b. Covers q T kind a b i) None
 in_row_none q T i set none told kind a b (same, below) p =
     let yes' = (told b below).1 (kind, subst (λ n. Covers q T kind n b i) same p) in
     let not = none b in cc (yes', not)
@@ -177,7 +177,7 @@ pub in_row_found : (q : ℕ) (T : ℕ → ℕ → Type 0) (i k : ℕ) (set : Ind
     ((b : ℕ) → IsTrue (has set b) → b < q) →
     ((b : ℕ) → b < q → IsTrue (has set b) ↔ ((kind : FaceKind) × Covers q T kind i b i)) →
     FindsFirst (Square i k) (λ kind a b. Covers q T kind a b i) found →
-    FindsFirst (IsInRow q i) (λ kind a b. Covers q T kind a b i) found
+    FindsFirst (IsPairInRow q i) (λ kind a b. Covers q T kind a b i) found
 in_row_found q T i k set None first within told h =
     let at = (told k (within k first.found)).0 first.found in absurd (h at.0 i k (refl, refl) at.1)
 in_row_found q T i k set (Some f) first within told h = record {
@@ -261,9 +261,9 @@ across_found q T i k step short set (Some f) s other first told h =
     }
 
 -- both
-pub all_on : (q i a b : ℕ) → i < q → Either (IsInRow q i) (IsAcross q i) a b → IsSquare q a b
+pub all_on : (q i a b : ℕ) → i < q → Either (IsPairInRow q i) (IsAcross q i) a b → IsSquare q a b
 all_on q i a b below (inl (x, y)) = (subst (λ n. n < q) (sym x) below, y)
 all_on q i a b below (inr (x, y, z)) = (x, z)
 
-pub all_back : (q i a b : ℕ) → IsSquare q a b → Either (IsInRow q i) (IsAcross q i) a b
+pub all_back : (q i a b : ℕ) → IsSquare q a b → Either (IsPairInRow q i) (IsAcross q i) a b
 all_back q i a b (x, y) = elim (cases_eq a i) [ inl same ↦ inl (same, y) | inr other ↦ inr (x, other, y) ]

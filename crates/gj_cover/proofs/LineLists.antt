@@ -5,7 +5,7 @@ use Rattle.std.proofs.Common.{get_or-set_same, get_or-set_other}
 use Rattle.std.proofs.lemmas.Bool.Decides.{eqb_tells}
 use Rattle.std.proofs.lemmas.Bool.{cases_lt}
 use Rattle.std.proofs.lemmas.List.{get_or_past}
-use Rattle.gj_shape.specs.Cover.{HasLine, HasComponent, opened, joined, components_in}
+use Rattle.gj_shape.specs.Cover.{HasCoverLine, HasComponent, opened, joined, components_in}
 use Rattle.gj_shape.specs.declared.extremality.CoverLine.{CoverLine}
 use Rattle.gj_theory.proofs.LineComponents.{line_of_component}
 use Rattle.gj_cover.specs.CoverOf.{number_at}
@@ -41,12 +41,12 @@ one_more xs before l after x e = ap (λ ys. ys ++ x ∷ []) e ∙ append_assoc b
 -- ---- intervals with a line
 
 pub line_here : (before : List CoverLine) (l : CoverLine) (after : List CoverLine) →
-    HasLine (before ++ l ∷ after) l.interval
+    HasCoverLine (before ++ l ∷ after) l.interval
 line_here [] l after = any_here (λ m. m.interval ≡ l.interval) l after refl
 line_here (b ∷ before) l after =
     any_there (λ m. m.interval ≡ l.interval) b (before ++ l ∷ after) (line_here before l after)
 
-pub line_place : (lines : List CoverLine) (i : ℕ) → HasLine lines i →
+pub line_place : (lines : List CoverLine) (i : ℕ) → HasCoverLine lines i →
     (before : List CoverLine) × (l : CoverLine) × (after : List CoverLine) × (lines ≡ before ++ l ∷ after)
     × (l.interval ≡ i)
 line_place [] i h = absurd (any_none (λ m. m.interval ≡ i) h)
@@ -72,7 +72,7 @@ number_cases None = inl refl
 number_cases (Some n) = inr (n, refl)
 
 pub line_number : (lines : List CoverLine) (component : List (Option ℕ)) (i : ℕ) → AreNumbered lines component →
-    HasLine lines i → (n : ℕ) × (number_at component i ≡ Some n)
+    HasCoverLine lines i → (n : ℕ) × (number_at component i ≡ Some n)
 line_number lines component i h line =
     let at = line_place lines i line in
     let same = ap (number_at component) (sym at.4) in
@@ -82,18 +82,18 @@ line_number lines component i h line =
     ]
 
 pub number_line : (lines : List CoverLine) (component : List (Option ℕ)) (i n : ℕ) → AreNumbered lines component →
-    number_at component i ≡ Some n → HasLine lines i
+    number_at component i ≡ Some n → HasCoverLine lines i
 number_line lines component i n h e = line_of_component lines n i (h.shown i n e)
 
 pub no_number : (lines : List CoverLine) (component : List (Option ℕ)) (i : ℕ) → AreNumbered lines component →
-    (HasLine lines i → ⊥) → number_at component i ≡ None
+    (HasCoverLine lines i → ⊥) → number_at component i ≡ None
 no_number lines component i h none = elim (number_cases (number_at component i)) [
   | inl e ↦ e
   | inr (n, e) ↦ absurd (none (number_line lines component i n h e))
 ]
 
 pub no_line : (lines : List CoverLine) (component : List (Option ℕ)) (i : ℕ) → AreNumbered lines component →
-    number_at component i ≡ None → HasLine lines i → ⊥
+    number_at component i ≡ None → HasCoverLine lines i → ⊥
 no_line lines component i h e line = let at = line_number lines component i h line in let is = at.1 in cc (e, is)
 
 -- the component of the lines is the number

@@ -4,7 +4,7 @@ use Rattle.std.proofs.Math.Nat.{mod-mod}
 use Rattle.std.proofs.lemmas.Bool.{and_parts, and_from, or_cases, or_left, or_right}
 use Rattle.gj_shape.specs.declared.faces.FaceKind.TheVariants.{Horizontal, Vertical, Diagonal}
 use Rattle.gj_cover.specs.Links.{Links, diagonal, horizontal, vertical}
-use Rattle.gj_cover.specs.Table.{is_tight_in, IsTightIn}
+use Rattle.gj_cover.specs.Table.{is_tight_in, IsTightInTable}
 use Rattle.gj_cover.specs.declared.table.Table.{Table}
 use Rattle.gj_cover.proofs.Edges.{one_step}
 use Rattle.gj_cover.proofs.Parts.{corners, additive}
@@ -16,10 +16,10 @@ pub linked_from : (t : Table) (i j k : ℕ) (r d h v : Bool) → i < t.order →
     d ≡ (is_tight_in t (i + 1) j && is_tight_in t i ((j + 1) % t.order)) →
     h ≡ (is_tight_in t i k && is_tight_in t (i + 1) k) →
     v ≡ (is_tight_in t k i && is_tight_in t k (i + 1)) →
-    (r ≡ true) ↔ Links t.order (IsTightIn t) i j
+    (r ≡ true) ↔ Links t.order (IsTightInTable t) i j
 linked_from t i j k r d h v i_below j_below k_below leads r_is d_is h_is v_is =
     let q = t.order in
-    let T = IsTightIn t in
+    let T = IsTightInTable t in
     let back : k + i ≡ i + k = omega arith in
     let next : is_tight_in t i ((j + 1) % q) ≡ is_tight_in t i (j + 1) = same_tight t i ((j + 1) % q) i (j + 1) refl (mod-mod (j + 1) q) in (
       λ e. elim (or_cases (d || h) v (sym r_is ∙ e)) [
@@ -67,7 +67,7 @@ pub linked_from_symmetric : (t : Table) (i j k : ℕ) (r d h : Bool) → i < t.o
     (i + k) % t.order ≡ j → ((a b : ℕ) → is_tight_in t a b ≡ is_tight_in t b a) → r ≡ (d || h) →
     d ≡ (is_tight_in t (i + 1) j && is_tight_in t i ((j + 1) % t.order)) →
     h ≡ (is_tight_in t i k && is_tight_in t (i + 1) k) →
-    (r ≡ true) ↔ Links t.order (IsTightIn t) i j
+    (r ≡ true) ↔ Links t.order (IsTightInTable t) i j
 linked_from_symmetric t i j k r d h i_below j_below k_below leads about r_is d_is h_is =
     linked_from t i j k r d h h i_below j_below k_below leads (r_is ∙ again d h) d_is h_is
     (h_is ∙ ap₂ (λ (x y : Bool). x && y) (about i k) (about (i + 1) k))
@@ -78,10 +78,10 @@ pub linked_to : (t : Table) (i j k : ℕ) (r d h v : Bool) → i < t.order → j
     d ≡ (is_tight_in t j (i + 1) && is_tight_in t ((j + 1) % t.order) i) →
     h ≡ (is_tight_in t j k && is_tight_in t ((j + 1) % t.order) k) →
     v ≡ (is_tight_in t k j && is_tight_in t k ((j + 1) % t.order)) →
-    (r ≡ true) ↔ Links t.order (IsTightIn t) j i
+    (r ≡ true) ↔ Links t.order (IsTightInTable t) j i
 linked_to t i j k r d h v i_below j_below k_below leads r_is d_is h_is v_is =
     let q = t.order in
-    let T = IsTightIn t in
+    let T = IsTightInTable t in
     let back : k + j ≡ j + k = omega arith in
     let next : (b : ℕ) → is_tight_in t ((j + 1) % q) b ≡ is_tight_in t (j + 1) b = λ b.
     same_tight t ((j + 1) % q) b (j + 1) b (mod-mod (j + 1) q) refl in
@@ -126,11 +126,11 @@ linked_to t i j k r d h v i_below j_below k_below leads r_is d_is h_is v_is =
 pub linked_to_symmetric : (t : Table) (i j k : ℕ) (h : Bool) → i < t.order → j < t.order → k < t.order →
     (j + k) % t.order ≡ i → ((a b : ℕ) → is_tight_in t a b ≡ is_tight_in t b a) →
     h ≡ (is_tight_in t j k && is_tight_in t ((j + 1) % t.order) k) →
-    ((h ≡ true) → Links t.order (IsTightIn t) j i)
-    × (Links t.order (IsTightIn t) j i → (h ≡ true) ⊎ Links t.order (IsTightIn t) i j)
+    ((h ≡ true) → Links t.order (IsTightInTable t) j i)
+    × (Links t.order (IsTightInTable t) j i → (h ≡ true) ⊎ Links t.order (IsTightInTable t) i j)
 linked_to_symmetric t i j k h i_below j_below k_below leads about h_is =
     let q = t.order in
-    let T = IsTightIn t in
+    let T = IsTightInTable t in
     let d = is_tight_in t j (i + 1) && is_tight_in t ((j + 1) % q) i in
     let told = linked_to t i j k ((d || h) || h) d h h i_below j_below k_below leads refl refl h_is
     (h_is ∙ ap₂ (λ (x y : Bool). x && y) (about j k) (about ((j + 1) % q) k)) in (

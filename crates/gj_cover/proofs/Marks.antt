@@ -7,10 +7,10 @@ use Rattle.std.proofs.lemmas.Bool.Decides.{eqb_tells}
 use Rattle.std.proofs.lemmas.List.{get_or_default}
 use Rattle.gj_sets.specs.IndexSets.{has}
 use Rattle.gj_sets.specs.declared.index_set.IndexSet.{IndexSet}
-use Rattle.gj_faces.specs.Runs.{Holds, InRuns}
+use Rattle.gj_faces.specs.Runs.{RunHolds, InRuns}
 use Rattle.gj_faces.specs.declared.run.Run.{Run}
 use Rattle.gj_cover.specs.SetRows.{in_row}
-use Rattle.gj_cover.specs.Table.{is_tight_in, IsTightIn, TellsTight}
+use Rattle.gj_cover.specs.Table.{is_tight_in, IsTightInTable, TellsTight}
 use Rattle.gj_cover.specs.declared.table.Table.{Table}
 use Rattle.gj_cover.proofs.SetRows.{row_has, row_written, row_stays}
 
@@ -22,7 +22,7 @@ IsMarked rows i j = IsTrue (in_row rows i j)
 pub marked_run : (q : ℕ) (run : Run) (old : List IndexSet) (row places new : IndexSet) → length old ≡ q → run.a < q →
     row ≡ get_or old run.a row → ((j : ℕ) → has places j ≡ (leb run.from j && ltb j (run.to + 1))) →
     ((j : ℕ) → has new j ≡ (has row j || has places j)) → (i j : ℕ) → i < q → j < q →
-    IsMarked (set old run.a new) i j ↔ (IsMarked old i j ⊎ Holds q i j run)
+    IsMarked (set old run.a new) i j ↔ (IsMarked old i j ⊎ RunHolds q i j run)
 marked_run q run old row places new len a_below row_is places_are new_is i j i_below j_below =
     let within : run.a < length old = omega arith in
     let j_is = mod-eq_of_lt j_below in
@@ -62,7 +62,7 @@ marked_run q run old row places new len a_below row_is places_are new_is i j i_b
 
 -- the marked pairs are those in the first n runs
 abbrev pub InFirst : ℕ → List Run → ℕ → ℕ → ℕ → Type 0
-InFirst q runs n i j = (k : ℕ) × (x : Run) × (k < n) × (get_or runs k x ≡ x) × Holds q i j x
+InFirst q runs n i j = (k : ℕ) × (x : Run) × (k < n) × (get_or runs k x ≡ x) × RunHolds q i j x
 
 abbrev pub HoldRuns : ℕ → List Run → ℕ → List IndexSet → Type 0
 HoldRuns q runs n rows = (i j : ℕ) → i < q → j < q → IsMarked rows i j ↔ InFirst q runs n i j
@@ -74,7 +74,7 @@ no_runs q runs rows none i j i_below j_below = (
 )
 
 pub one_run_more : (q n : ℕ) (runs : List Run) (run : Run) (old new : List IndexSet) → n < length runs → get_or runs n run ≡ run →
-    HoldRuns q runs n old → ((i j : ℕ) → i < q → j < q → IsMarked new i j ↔ (IsMarked old i j ⊎ Holds q i j run)) →
+    HoldRuns q runs n old → ((i j : ℕ) → i < q → j < q → IsMarked new i j ↔ (IsMarked old i j ⊎ RunHolds q i j run)) →
     HoldRuns q runs (n + 1) new
 one_run_more q n runs run old new within is h next i j i_below j_below = (
   λ m. elim ((next i j i_below j_below).0 m) [
@@ -85,19 +85,19 @@ one_run_more q n runs run old new within is h next i j i_below j_below = (
     | inl (_, same) ↦
         let one : x ≡ run =
         sym e ∙ ap (λ p. get_or runs p x) same ∙ get_or_default runs n x run within ∙ is in
-        inr (subst (Holds q i j) one r)
+        inr (subst (RunHolds q i j) one r)
     | inr (_, other) ↦ inl ((h i j i_below j_below).1 (k, x, (let low : k < n = omega arith in low), e, r))
   ]),
 )
 
-holds_rests : (q i j : ℕ) (r : Run) → Holds q (i % q) (j % q) r → Holds q i j r
+holds_rests : (q i j : ℕ) (r : Run) → RunHolds q (i % q) (j % q) r → RunHolds q i j r
 holds_rests q i j r h = record {
   row = h.row ∙ mod-mod i q;
   start = subst (λ n. r.from ≤ n) (mod-mod j q) h.start;
   stop = subst (λ n. n ≤ r.to) (mod-mod j q) h.stop;
 }
 
-rests_hold : (q i j : ℕ) (r : Run) → Holds q i j r → Holds q (i % q) (j % q) r
+rests_hold : (q i j : ℕ) (r : Run) → RunHolds q i j r → RunHolds q (i % q) (j % q) r
 rests_hold q i j r h = record {
   row = h.row ∙ sym (mod-mod i q);
   start = subst (λ n. r.from ≤ n) (sym (mod-mod j q)) h.start;
@@ -107,7 +107,7 @@ rests_hold q i j r h = record {
 -- the table of all runs
 pub tells_runs : (q : ℕ) (runs : List Run) (n : ℕ) (t : Table) → 0 < q → t.order ≡ q → n ≡ length runs →
     HoldRuns q runs n t.rows.items → TellsTight t (InRuns q runs)
-unfolding IsTightIn is_tight_in
+unfolding IsTightInTable is_tight_in
 tells_runs q runs n t some order all h i j =
     let at = h (i % q) (j % q) (mod-lt i some) (mod-lt j some) in
     let read : in_row t.rows.items (i % t.order) (j % t.order) ≡ in_row t.rows.items (i % q) (j % q) =

@@ -13,7 +13,7 @@ use Rattle.gj_theory.proofs.Zigzags.{same_tests}
 use Rattle.gj_cover.specs.Mirrored.{AreMirrored}
 use Rattle.gj_cover.specs.SetRows.{in_row, AreColumns}
 use Rattle.gj_cover.specs.Sides.{AreOwnSides}
-use Rattle.gj_cover.specs.Table.{is_tight_in, IsTightIn, TellsTight}
+use Rattle.gj_cover.specs.Table.{is_tight_in, IsTightInTable, TellsTight}
 use Rattle.gj_cover.specs.declared.table.Table.{Table}
 use Rattle.gj_cover.proofs.SetRows.{row_before, row_pushed}
 
@@ -113,7 +113,7 @@ own_sides f rows w m r = record {
 -- the table of the rows
 pub tells_pairs : (f : FunctionData) (t : Table) (rows : List IndexSet) → IsWithinBounds f → t.order ≡ f.order →
     t.rows.items ≡ rows → HavePairs f rows → TellsTight t (IsTight f)
-unfolding IsTightIn is_tight_in
+unfolding IsTightInTable is_tight_in
 tells_pairs f t rows w order items h i j =
     let q = f.order in
     let some : 0 < q = let two = w.order_low in omega arith in

@@ -2,7 +2,7 @@
 use Rattle.std.proofs.Common.{◌≡◌, ℕ, ◌%◌, ◌<◌, true, sym, ap, ◌∙◌, arith}
 use Rattle.std.proofs.Math.Nat.{mod-lt, mod-eq_of_lt}
 use Rattle.gj_cover.specs.SetRows.{in_row, AreColumns}
-use Rattle.gj_cover.specs.Table.{is_tight_in, IsTightIn}
+use Rattle.gj_cover.specs.Table.{is_tight_in, IsTightInTable}
 use Rattle.gj_cover.specs.declared.table.Table.{Table}
 use Rattle.gj_cover.proofs.Parts.{HasPeriod}
 
@@ -13,8 +13,8 @@ unfolding is_tight_in
 same_tight t i j k l e g =
     ap (λ n. in_row t.rows.items n (j % t.order)) e ∙ ap (λ n. in_row t.rows.items (k % t.order) n) g
 
-pub table_period : (t : Table) → HasPeriod t.order (IsTightIn t)
-unfolding IsTightIn
+pub table_period : (t : Table) → HasPeriod t.order (IsTightInTable t)
+unfolding IsTightInTable
 table_period t i j k l e g h = sym (same_tight t i j k l e g) ∙ h
 
 -- the test of indices that are their own rests
@@ -24,12 +24,12 @@ read_tight t a b a_below b_below =
     ap (λ n. in_row t.rows.items n b) (sym (mod-eq_of_lt a_below)) ∙ ap (in_row t.rows.items (a % t.order)) (sym (mod-eq_of_lt b_below))
 
 -- between the test and the fact
-pub tight : (t : Table) (i j : ℕ) → is_tight_in t i j ≡ true → IsTightIn t i j
-unfolding IsTightIn
+pub tight : (t : Table) (i j : ℕ) → is_tight_in t i j ≡ true → IsTightInTable t i j
+unfolding IsTightInTable
 tight t i j h = h
 
-pub told : (t : Table) (i j : ℕ) → IsTightIn t i j → is_tight_in t i j ≡ true
-unfolding IsTightIn
+pub told : (t : Table) (i j : ℕ) → IsTightInTable t i j → is_tight_in t i j ≡ true
+unfolding IsTightInTable
 told t i j h = h
 
 -- if the pairs turned around are tight too, the test does not see the order of the two

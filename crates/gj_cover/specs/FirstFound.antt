@@ -32,11 +32,11 @@ abbrev pub IsThis : FaceKind → ℕ → ℕ → FaceKind → ℕ → ℕ → Ty
 IsThis kind a b other c d = (other ≡ kind) × (c ≡ a) × (d ≡ b)
 
 -- a face was found that is not behind the face of this kind of the square (a, b)
-abbrev pub IsReached : Option Face → FaceKind → ℕ → ℕ → Type 0
-IsReached found kind a b = MatchOption found ⊥ (λ f. IsNotBefore f kind a b)
+abbrev pub IsFaceReached : Option Face → FaceKind → ℕ → ℕ → Type 0
+IsFaceReached found kind a b = MatchOption found ⊥ (λ f. IsNotBefore f kind a b)
 
 -- the first of a face that may have been found before and of those of these faces that have the property
 pub record AddsFirst (These P : FaceKind → ℕ → ℕ → Type 0) (found result : Option Face) : Type 0 where
   pub from : IfSome result (λ f. (found ≡ Some f) ⊎ (These f.kind f.a f.b × P f.kind f.a f.b))
-  pub behind : (kind : FaceKind) (a b : ℕ) → IsReached found kind a b → IsReached result kind a b
-  pub first : (kind : FaceKind) (a b : ℕ) → These kind a b → P kind a b → IsReached result kind a b
+  pub behind : (kind : FaceKind) (a b : ℕ) → IsFaceReached found kind a b → IsFaceReached result kind a b
+  pub first : (kind : FaceKind) (a b : ℕ) → These kind a b → P kind a b → IsFaceReached result kind a b

@@ -21,8 +21,8 @@ pub data Links (q : ℕ) (Tight : ℕ → ℕ → Type 0) (i j : ℕ) : Type 0 w
   vertical : (a : ℕ) → a < q → (a + i) % q ≡ j → IsAdditive Tight Vertical a i → Links q Tight i j
 
 -- the square is one (i, b) of the complex of order q
-abbrev pub IsInRow : ℕ → ℕ → ℕ → ℕ → Type 0
-IsInRow q i a b = (a ≡ i) × (b < q)
+abbrev pub IsPairInRow : ℕ → ℕ → ℕ → ℕ → Type 0
+IsPairInRow q i a b = (a ≡ i) × (b < q)
 
 -- the square is another one of it
 abbrev pub IsAcross : ℕ → ℕ → ℕ → ℕ → Type 0

@@ -5,7 +5,7 @@ ghost use Rattle.gj_sets.specs.IndexSets.{has};
 ghost use Rattle.gj_shape.specs.Limits.{greatest_order};
 ghost use Rattle.gj_cover.specs.CoverOf.{IsLeastClass};
 ghost use Rattle.gj_cover.specs.Reached.{AreUncovered};
-ghost use Rattle.gj_cover.specs.Table.{IsTightIn};
+ghost use Rattle.gj_cover.specs.Table.{IsTightInTable};
 
 use crate::reached::Reached;
 use crate::table::Table;
@@ -18,8 +18,8 @@ pub(crate) fn least_class(
     table: &Table,
     free: &IndexSet,
 ) -> Result<Vec<u32>, AllocError>
-    requires { AreUncovered table.now.order (IsTightIn table.now) free.now }
-    ensures { IfOk result (λ v. IsLeastClass table.now.order (IsTightIn table.now) v.items) }
+    requires { AreUncovered table.now.order (IsTightInTable table.now) free.now }
+    ensures { IfOk result (λ v. IsLeastClass table.now.order (IsTightInTable table.now) v.items) }
 {
     let Some(least) = free.first() else {
         return Ok(Vec::new(alloc));

@@ -6,7 +6,7 @@ ghost use Rattle.gj_shape.specs.Given.{IsOrder};
 ghost use Rattle.gj_faces.specs.Runs.{InRuns, AreInOrder};
 ghost use Rattle.gj_faces.specs.TightPairs.{AreTightPairsOf};
 ghost use Rattle.gj_cover.specs.CoverOf.{IsCoverOf};
-ghost use Rattle.gj_cover.specs.Table.{IsTightIn};
+ghost use Rattle.gj_cover.specs.Table.{IsTightInTable};
 
 use crate::class::least_class;
 use crate::covered::Cover;
@@ -66,7 +66,7 @@ pub fn cover_of_runs(alloc: Global, runs: &[Run], q: u32) -> Result<Cover, Alloc
 
 /// The same if the tight pairs are those of the table.
 fn cover_of_table(alloc: Global, table: &Table) -> Result<Cover, AllocError>
-    ensures { IfOk result (IsCoverOf table.now.order (IsTightIn table.now)) }
+    ensures { IfOk result (IsCoverOf table.now.order (IsTightInTable table.now)) }
 {
     let found = Progress::of(alloc, table)?;
     let class = least_class(alloc, table, found.free())?;

@@ -1,7 +1,7 @@
 //! The table of the pairs in runs.
 ghost use Rattle.std.specs.Prelude.{ℕ, ◌≡◌, ◌⊎◌, ◌↔◌, ◌+◌, ◌<◌, length, IfOk, IsTrue};
 ghost use Rattle.gj_shape.specs.Given.{IsOrder};
-ghost use Rattle.gj_faces.specs.Runs.{AreInOrder, InRuns, Holds, IsRunOf};
+ghost use Rattle.gj_faces.specs.Runs.{AreInOrder, InRuns, RunHolds, IsRunOf};
 ghost use Rattle.gj_cover.specs.SetRows.{in_row};
 ghost use Rattle.gj_cover.specs.Table.{TellsTight};
 
@@ -33,7 +33,7 @@ fn mark(rows: &mut Vec<IndexSet>, run: Run, q: u32)
     requires length { length rows.old.items ≡ q }
     ensures length { length rows.new.items ≡ q }
     ensures marked { (i j : ℕ) → i < q → j < q →
-        IsTrue (in_row rows.new.items i j) ↔ (IsTrue (in_row rows.old.items i j) ⊎ Holds q i j run) }
+        IsTrue (in_row rows.new.items i j) ↔ (IsTrue (in_row rows.old.items i j) ⊎ RunHolds q i j run) }
 {
     let places = IndexSet::between(run.from as usize, run.to as usize + 1);
     let row = run.a as usize;

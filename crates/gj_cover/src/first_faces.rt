@@ -2,9 +2,9 @@
 ghost use Rattle.std.specs.Prelude.{◌≡◌, ◌≢◌, ◌⊎◌, ◌↔◌, ◌+◌, ◌%◌, ◌<◌, ◌^◌, IsTrue, IfSome, IfNone, MatchOption};
 ghost use Rattle.gj_shape.specs.Additive.{IsAdditive};
 ghost use Rattle.gj_shape.specs.Cover.{IsFirstFace, IsDirectlyCovered};
-ghost use Rattle.gj_cover.specs.Table.{IsTightIn, JoinsBy, AreJoinedBy, CoversBy};
-ghost use Rattle.gj_cover.specs.FirstFound.{FindsFirst, IsThis, IsReached, AddsFirst, IsEarlier};
-ghost use Rattle.gj_cover.specs.Links.{LeadsBy, IsInRow, IsAcross};
+ghost use Rattle.gj_cover.specs.Table.{IsTightInTable, JoinsBy, AreJoinedBy, CoversBy};
+ghost use Rattle.gj_cover.specs.FirstFound.{FindsFirst, IsThis, IsFaceReached, AddsFirst, IsEarlier};
+ghost use Rattle.gj_cover.specs.Links.{LeadsBy, IsPairInRow, IsAcross};
 
 use crate::squares::covering_in_square;
 use crate::table::Table;
@@ -31,7 +31,7 @@ pub(crate) fn first_joining(table: &Table, i: u32, j: u32) -> Option<Face>
 fn joining_from(table: &Table, found: Option<Face>, from: u32, to: u32) -> Option<Face>
     requires start { from < table.now.order }
     requires end { to < table.now.order }
-    ensures { AddsFirst (LeadsBy table.now.order from to) (IsAdditive (IsTightIn table.now)) found result }
+    ensures { AddsFirst (LeadsBy table.now.order from to) (IsAdditive (IsTightInTable table.now)) found result }
 {
     let q = table.order();
     let step = difference(to, from, q);
@@ -47,7 +47,7 @@ fn joining_from(table: &Table, found: Option<Face>, from: u32, to: u32) -> Optio
 fn with_face(table: &Table, found: Option<Face>, kind: FaceKind, a: u32, b: u32) -> Option<Face>
     requires first { a < table.now.order }
     requires second { b < table.now.order }
-    ensures { AddsFirst (IsThis kind a b) (IsAdditive (IsTightIn table.now)) found result }
+    ensures { AddsFirst (IsThis kind a b) (IsAdditive (IsTightInTable table.now)) found result }
 {
     if is_reached(found, kind, a, b) {
         return found;
@@ -60,7 +60,7 @@ fn with_face(table: &Table, found: Option<Face>, kind: FaceKind, a: u32, b: u32)
 
 /// Whether a face was found that is not behind the face of this kind of the square (a, b) in walk order.
 fn is_reached(found: Option<Face>, kind: FaceKind, a: u32, b: u32) -> bool
-    ensures { IsTrue result ↔ IsReached found kind a b }
+    ensures { IsTrue result ↔ IsFaceReached found kind a b }
 {
     let Some(face) = found else {
         return false;
@@ -78,7 +78,7 @@ fn is_reached(found: Option<Face>, kind: FaceKind, a: u32, b: u32) -> bool
 pub(crate) fn first_covering(table: &Table, i: u32) -> Option<Face>
     requires { i < table.now.order }
     ensures found { IfSome result (IsFirstFace table.now.order (CoversBy table.now i)) }
-    ensures none { IfNone result (IsDirectlyCovered table.now.order (IsTightIn table.now) i → ⊥) }
+    ensures none { IfNone result (IsDirectlyCovered table.now.order (IsTightInTable table.now) i → ⊥) }
 {
     earlier(first_in_row(table, i), first_across(table, i))
 }
@@ -86,7 +86,7 @@ pub(crate) fn first_covering(table: &Table, i: u32) -> Option<Face>
 /// The first triangle that covers the interval i in the squares (i, b).
 fn first_in_row(table: &Table, i: u32) -> Option<Face>
     requires { i < table.now.order }
-    ensures { FindsFirst (IsInRow table.now.order i) (CoversBy table.now i) result }
+    ensures { FindsFirst (IsPairInRow table.now.order i) (CoversBy table.now i) result }
 {
     let Some(b) = covering_row(table, i).first() else {
         return None;

@@ -1,7 +1,7 @@
 //! The intervals that are joined to one.
 ghost use Rattle.std.specs.Prelude.{ℕ, ◌⊎◌, ◌↔◌, ◌<◌, IsTrue};
 ghost use Rattle.gj_sets.specs.IndexSets.{has};
-ghost use Rattle.gj_cover.specs.Table.{IsTightIn, IsJoinedSet};
+ghost use Rattle.gj_cover.specs.Table.{IsTightInTable, IsJoinedSet};
 ghost use Rattle.gj_cover.specs.Links.{Links};
 
 use crate::table::Table;
@@ -21,7 +21,7 @@ pub(crate) fn joined(table: &Table, i: u32) -> IndexSet
 fn linked_from(table: &Table, i: u32) -> IndexSet
     requires { i < table.now.order }
     ensures within { (j : ℕ) → IsTrue (has result j) → j < table.now.order }
-    ensures links { (j : ℕ) → j < table.now.order → IsTrue (has result j) ↔ Links table.now.order (IsTightIn table.now) i j }
+    ensures links { (j : ℕ) → j < table.now.order → IsTrue (has result j) ↔ Links table.now.order (IsTightInTable table.now) i j }
 {
     let order = table.order() as usize;
     let (row, next_row) = (table.row(i), table.row(i + 1));
@@ -41,9 +41,9 @@ fn linked_from(table: &Table, i: u32) -> IndexSet
 fn linked_to(table: &Table, i: u32) -> IndexSet
     requires { i < table.now.order }
     ensures within { (j : ℕ) → IsTrue (has result j) → j < table.now.order }
-    ensures links { (j : ℕ) → j < table.now.order → IsTrue (has result j) → Links table.now.order (IsTightIn table.now) j i }
-    ensures all { (j : ℕ) → j < table.now.order → Links table.now.order (IsTightIn table.now) j i →
-        IsTrue (has result j) ⊎ Links table.now.order (IsTightIn table.now) i j }
+    ensures links { (j : ℕ) → j < table.now.order → IsTrue (has result j) → Links table.now.order (IsTightInTable table.now) j i }
+    ensures all { (j : ℕ) → j < table.now.order → Links table.now.order (IsTightInTable table.now) j i →
+        IsTrue (has result j) ⊎ Links table.now.order (IsTightInTable table.now) i j }
 {
     let horizontal = table.firsts(i).and(&table.turned_back(table.firsts(i + 1)));
     if table.is_symmetric() {

@@ -2,7 +2,7 @@
 ghost use Rattle.std.specs.Prelude.{ℕ, ◌≡◌, ◌<◌, length, replicate, OnOk, IfOk, IfSome, IfNone};
 ghost use Rattle.gj_shape.specs.Cover.{JoinsLines, IsOpen, IsOpeningLine, IsNextLine};
 ghost use Rattle.gj_shape.specs.FirstViolation.{IsLeastFrom};
-ghost use Rattle.gj_cover.specs.Table.{IsTightIn, IsJoinedSet};
+ghost use Rattle.gj_cover.specs.Table.{IsTightInTable, IsJoinedSet};
 ghost use Rattle.gj_cover.specs.Progress.{IsComplete};
 
 use crate::covered::Cover;
@@ -42,7 +42,7 @@ impl Progress {
 
     /// No lines.
     fn new(alloc: Global, table: &Table) -> Result<Progress, AllocError>
-        ensures { IfOk result (IsProgress table.now.order (IsTightIn table.now)) }
+        ensures { IfOk result (IsProgress table.now.order (IsTightInTable table.now)) }
     {
         let order = table.order() as usize;
         Ok(Progress {
@@ -57,8 +57,8 @@ impl Progress {
 
     /// All lines.
     pub(crate) fn of(alloc: Global, table: &Table) -> Result<Progress, AllocError>
-        ensures progress { IfOk result (IsProgress table.now.order (IsTightIn table.now)) }
-        ensures complete { IfOk result (λ p. IsComplete table.now.order (IsTightIn table.now) p.lines.items) }
+        ensures progress { IfOk result (IsProgress table.now.order (IsTightInTable table.now)) }
+        ensures complete { IfOk result (λ p. IsComplete table.now.order (IsTightInTable table.now) p.lines.items) }
     {
         let mut progress = Progress::new(alloc, table)?;
         while let Some(next) = progress.next_line(table) {
@@ -93,11 +93,11 @@ impl Progress {
 
     /// The next line.
     fn next_line(&self, table: &Table) -> Option<Next>
-        requires { IsProgress table.now.order (IsTightIn table.now) self.now }
+        requires { IsProgress table.now.order (IsTightInTable table.now) self.now }
         ensures found { IfSome result (λ next.
-            IsNextLine table.now.order (IsTightIn table.now) self.now.lines.items next.line) }
+            IsNextLine table.now.order (IsTightInTable table.now) self.now.lines.items next.line) }
         ensures joined { IfSome result (λ next. IsJoinedSet table.now next.line.interval next.joined) }
-        ensures none { IfNone result (IsComplete table.now.order (IsTightIn table.now) self.now.lines.items) }
+        ensures none { IfNone result (IsComplete table.now.order (IsTightInTable table.now) self.now.lines.items) }
     {
         let Some((interval, from, joined)) = self.next_joined(table) else {
             let line = self.next_opening(table)?;
@@ -115,14 +115,14 @@ impl Progress {
 
     /// The least interval without a line that is joined to one with a line, the least such, and all that are joined to it.
     fn next_joined(&self, table: &Table) -> Option<(u32, u32, IndexSet)>
-        requires { IsProgress table.now.order (IsTightIn table.now) self.now }
+        requires { IsProgress table.now.order (IsTightInTable table.now) self.now }
         ensures interval { IfSome result (λ p. IsLeastFrom 0
-            (λ i. (j : ℕ) × JoinsLines table.now.order (IsTightIn table.now) self.now.lines.items i j) p.0) }
+            (λ i. (j : ℕ) × JoinsLines table.now.order (IsTightInTable table.now) self.now.lines.items i j) p.0) }
         ensures from { IfSome result (λ p. IsLeastFrom 0
-            (JoinsLines table.now.order (IsTightIn table.now) self.now.lines.items p.0) p.1) }
+            (JoinsLines table.now.order (IsTightInTable table.now) self.now.lines.items p.0) p.1) }
         ensures joined { IfSome result (λ p. IsJoinedSet table.now p.0 p.2) }
         ensures none { IfNone result ((i j : ℕ) →
-            JoinsLines table.now.order (IsTightIn table.now) self.now.lines.items i j → ⊥) }
+            JoinsLines table.now.order (IsTightInTable table.now) self.now.lines.items i j → ⊥) }
     {
         let Some(interval) = self.near.and(&self.free).first() else {
             return None;
@@ -136,12 +136,12 @@ impl Progress {
 
     /// The line that opens the next component, if no line joins.
     fn next_opening(&self, table: &Table) -> Option<CoverLine>
-        requires progress { IsProgress table.now.order (IsTightIn table.now) self.now }
+        requires progress { IsProgress table.now.order (IsTightInTable table.now) self.now }
         requires none_joins { (i j : ℕ) →
-            JoinsLines table.now.order (IsTightIn table.now) self.now.lines.items i j → ⊥ }
-        ensures found { IfSome result (IsOpeningLine table.now.order (IsTightIn table.now) self.now.lines.items) }
+            JoinsLines table.now.order (IsTightInTable table.now) self.now.lines.items i j → ⊥ }
+        ensures found { IfSome result (IsOpeningLine table.now.order (IsTightInTable table.now) self.now.lines.items) }
         ensures none { IfNone result ((i : ℕ) →
-            IsOpen table.now.order (IsTightIn table.now) self.now.lines.items i → ⊥) }
+            IsOpen table.now.order (IsTightInTable table.now) self.now.lines.items i → ⊥) }
     {
         for interval in self.searched..table.order() {
             if self.component[interval as usize].is_none() {
@@ -159,10 +159,10 @@ impl Progress {
 
     /// Adds the next line, if these intervals are joined to its own.
     fn add(&mut self, table: &Table, line: CoverLine, joined: &IndexSet) -> Result<(), AllocError>
-        requires progress { IsProgress table.now.order (IsTightIn table.now) self.old }
-        requires next { IsNextLine table.now.order (IsTightIn table.now) self.old.lines.items line }
+        requires progress { IsProgress table.now.order (IsTightInTable table.now) self.old }
+        requires next { IsNextLine table.now.order (IsTightInTable table.now) self.old.lines.items line }
         requires joined { IsJoinedSet table.now line.interval joined.now }
-        ensures progress { OnOk result (IsProgress table.now.order (IsTightIn table.now) self.new) }
+        ensures progress { OnOk result (IsProgress table.now.order (IsTightInTable table.now) self.new) }
         ensures fewer { OnOk result (unnumbered self.new.component.items < unnumbered self.old.component.items) }
     {
         self.lines.push(line)?;

@@ -2,7 +2,7 @@
 ghost use Rattle.std.specs.Prelude.{ℕ, ◌↔◌, ◌<◌, IsTrue};
 ghost use Rattle.gj_sets.specs.IndexSets.{has};
 ghost use Rattle.gj_shape.specs.Cover.{IsInClassOf};
-ghost use Rattle.gj_cover.specs.Table.{IsTightIn};
+ghost use Rattle.gj_cover.specs.Table.{IsTightInTable};
 
 use crate::joined::joined;
 use crate::table::Table;
@@ -20,10 +20,10 @@ impl Reached {
 
     /// The class of an interval that is not covered, if the free intervals are the uncovered ones.
     pub(crate) fn from(table: &Table, free: &IndexSet, start: u32) -> IndexSet
-        requires uncovered { AreUncovered table.now.order (IsTightIn table.now) free.now }
+        requires uncovered { AreUncovered table.now.order (IsTightInTable table.now) free.now }
         requires start { IsTrue (has free.now start) }
         ensures { (i : ℕ) →
-            IsTrue (has result i) ↔ ((i < table.now.order) × IsInClassOf table.now.order (IsTightIn table.now) start i) }
+            IsTrue (has result i) ↔ ((i < table.now.order) × IsInClassOf table.now.order (IsTightInTable table.now) start i) }
     {
         let mut found = Reached::new(table, start);
         while let Some(interval) = found.waiting.first() {
@@ -35,7 +35,7 @@ impl Reached {
     /// The start alone.
     fn new(table: &Table, start: u32) -> Reached
         requires { start < table.now.order }
-        ensures { AreReached table.now.order (IsTightIn table.now) start result }
+        ensures { AreReached table.now.order (IsTightInTable table.now) start result }
     {
         let mut reached = IndexSet::empty();
         reached.insert(start as usize);
@@ -50,7 +50,7 @@ impl Reached {
         requires within { interval < table.now.order }
         requires reached { IsTrue (has self.old.reached interval) }
         requires waits { IsTrue (has self.old.waiting interval) }
-        ensures { IsReachedFrom table.now.order (IsTightIn table.now) interval free.now self.old self.new }
+        ensures { IsReachedFrom table.now.order (IsTightInTable table.now) interval free.now self.old self.new }
     {
         let more = joined(table, interval).and(free).and_not(&self.reached);
         self.reached = self.reached.or(&more);

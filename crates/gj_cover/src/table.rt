@@ -49,7 +49,7 @@ impl Table {
     ghost use Rattle.std.specs.Prelude.{ℕ, ◌%◌, ◌&&◌, nat_lt};
     ghost use Rattle.gj_sets.specs.IndexSets.{has};
     ghost use Rattle.gj_cover.specs.Sides.{AreOwnSides};
-    ghost use Rattle.gj_cover.specs.Table.{IsTightIn, is_tight_in};
+    ghost use Rattle.gj_cover.specs.Table.{IsTightInTable, is_tight_in};
 
     /// The table of the pairs in these rows.
     pub(crate) fn of(alloc: Global, rows: Vec<IndexSet>, order: u32) -> Result<Table, AllocError>
@@ -170,7 +170,7 @@ impl Table {
     pub(crate) fn is_tight(&self, i: u32, j: u32) -> bool
         requires first { i ≤ self.now.order }
         requires second { j ≤ self.now.order }
-        ensures { IsTrue result ↔ IsTightIn self.now i j }
+        ensures { IsTrue result ↔ IsTightInTable self.now i j }
     {
         self.row(i).contains(wrapped(j, self.order) as usize)
     }
@@ -179,7 +179,7 @@ impl Table {
     pub(crate) fn is_additive(&self, kind: FaceKind, a: u32, b: u32) -> bool
         requires first { a < self.now.order }
         requires second { b < self.now.order }
-        ensures { IsTrue result ↔ IsAdditive (IsTightIn self.now) kind a b }
+        ensures { IsTrue result ↔ IsAdditive (IsTightInTable self.now) kind a b }
     {
         match kind {
             FaceKind::Vertex => self.is_tight(a, b),
@@ -195,7 +195,7 @@ impl Table {
     fn has_diagonal(&self, a: u32, b: u32) -> bool
         requires first { a < self.now.order }
         requires second { b < self.now.order }
-        ensures { IsTrue result ↔ (IsTightIn self.now (a + 1) b × IsTightIn self.now a (b + 1)) }
+        ensures { IsTrue result ↔ (IsTightInTable self.now (a + 1) b × IsTightInTable self.now a (b + 1)) }
     {
         self.is_tight(a + 1, b) && self.is_tight(a, b + 1)
     }

@@ -13,7 +13,7 @@ use Rattle.gj_lemmas.proofs.Divisors.{whole_multiple}
 use Rattle.gj_lemmas.proofs.Integers.{positive_some_z, mul_cancel_right_z, pos_abs_z, one_mul_z}
 use Rattle.gj_lemmas.proofs.Ratios.{ratio_along}
 use Rattle.gj_shape.proofs.OverScale.{all_divide}
-use Rattle.gj_rule.specs.Kind.{IsKind, IsBounded, HasPlace}
+use Rattle.gj_rule.specs.Kind.{IsKind, IsKindWithinBounds, HasPlace}
 use Rattle.gj_rule.specs.declared.kind.RuleKind.{RuleKind}
 use Rattle.gj_rule.specs.declared.kind.RuleKind.TheVariants.{Gmic, Table}
 use Rattle.gj_cut.specs.RowCuts.{HasPart}
@@ -41,7 +41,7 @@ part_is_place x r p n d some part is = (
   λ has. same_from_is r p n d some (is_part x r n d part has) is,
 )
 
-pub part_at_place : (kind : RuleKind) (x r p : Frac) → IsBounded kind → IsPartOf r x → HasPlace kind p →
+pub part_at_place : (kind : RuleKind) (x r p : Frac) → IsKindWithinBounds kind → IsPartOf r x → HasPlace kind p →
     (r ≡ p → HasPart kind x) × (HasPart kind x → r ≡ p)
 part_at_place (Gmic f) x r p bounded part is =
     part_is_place x r p f.num f.den (positive_some_z f.den f.lowest.positive) part is

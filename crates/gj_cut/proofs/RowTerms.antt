@@ -11,7 +11,7 @@ use Rattle.gj_shape.specs.Given.{IsCommonDenominator}
 use Rattle.gj_theory.specs.Cuts.{IsGmicValue, IsValueOf}
 use Rattle.gj_theory.proofs.RowGrids.{cut_by_function, cut_by_gmic}
 use Rattle.gj_rule.specs.Kept.{KeptRule}
-use Rattle.gj_rule.specs.Kind.{IsBounded, IsKindValue, IsMinimalKind}
+use Rattle.gj_rule.specs.Kind.{IsKindWithinBounds, IsKindValue, IsMinimalKind}
 use Rattle.gj_rule.specs.declared.kind.RuleKind.{RuleKind}
 use Rattle.gj_rule.specs.declared.kind.RuleKind.TheVariants.{Gmic, Table}
 use Rattle.gj_row.specs.TableauLimits.{AreWithinLimits, numbers_of}
@@ -85,7 +85,7 @@ term_values answers rule V (e ∷ entries) (t ∷ terms) value h = (
 )
 
 pub holds_at : {E : Type 0} (answers : E → Frac → Frac → Type 0) (rule : KeptRule E) (kind : RuleKind) (row : Row) (terms : List Term) →
-    rule.kind ≡ kind → IsBounded kind → IsMinimalKind kind → HasPart kind row.rhs →
+    rule.kind ≡ kind → IsKindWithinBounds kind → IsMinimalKind kind → HasPart kind row.rhs →
     AllZip (IsTermOf answers rule) row.entries terms → HoldsFor row (Cut terms)
 holds_at answers rule (Gmic f) row terms e bounded minimal part h =
     cut_by_gmic f (map (λ t. t.entry) terms) row.rhs (map (λ t. t.cut) terms) bounded.0 part

@@ -4,7 +4,7 @@ ghost use Rattle.std.specs.List.{AllZip};
 ghost use Rattle.gj_frac.specs.Fraction.{numerator, denominator, IsWhole, HasDenominatorBelow};
 ghost use Rattle.gj_frac.specs.Floor.{HasFractionalPart};
 ghost use Rattle.gj_row.specs.TableauLimits.{AreWithinLimits, numbers_of};
-ghost use Rattle.gj_rule.specs.Kind.{IsKind, IsBounded, IsMinimalKind};
+ghost use Rattle.gj_rule.specs.Kind.{IsKind, IsKindWithinBounds, IsMinimalKind};
 ghost use Rattle.gj_shape.specs.Limits.{denominator_bound, IsRowNumber};
 ghost use Rattle.gj_rule.specs.Kept.{Evaluates};
 ghost use Rattle.gj_rule.specs.declared.kind.RuleKind.TheVariants.{Gmic};
@@ -94,7 +94,7 @@ pub(crate) fn cut_by<E: Evaluator>(
 /// Whether the fractional part of x is the rule's f.
 pub fn has_part<E: Evaluator>(rule: &Rule<E>, x: Frac) -> bool
     ensures part { IsTrue result ↔ HasPart rule.now.kind x }
-    ensures limits { IsBounded rule.now.kind }
+    ensures limits { IsKindWithinBounds rule.now.kind }
 {
     x.fract() == rule.place()
 }

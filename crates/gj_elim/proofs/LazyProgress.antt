@@ -11,7 +11,7 @@ use Rattle.gj_frac.specs.Fraction.{Fits}
 use Rattle.gj_theory.proofs.DividedRows.{scaled_one}
 use Rattle.gj_theory.proofs.Entries.{at_scaled, reduced_at_zero, reduced_at_column}
 use Rattle.gj_theory.proofs.Steps.{length-reduced}
-use Rattle.gj_elim.specs.Lazy.{IsMultiple, IsLazyStep, IsExactly, IsExtent}
+use Rattle.gj_elim.specs.Lazy.{IsMultipleRow, IsLazyStep, IsExactly, IsExtent}
 use Rattle.gj_elim.specs.Progress.{IsBehind, IsDone, IsReached, rest}
 use Rattle.gj_elim.specs.declared.lazy.Reached.{Reached}
 use Rattle.gj_elim.specs.declared.lazy.Reached.TheVariants.{Column}
@@ -22,7 +22,7 @@ use Rattle.gj_elim.proofs.Progressing.{behind_start, behind_zero, behind_step, b
 -- at this column the row is a multiple of that of the definition
 pub record IsLazy (i : Insertion) (kept : List KeptRow) (n c : ℕ) (row : List ℤ) (reduce : List ℕ) (is_stepped : Bool) (bound end : ℕ) : Type 0 where
   pub other : List ℤ
-  pub multiple : IsMultiple other row
+  pub multiple : IsMultipleRow other row
   pub exactly : IsExactly is_stepped other row
   pub behind : IsBehind i reduce (rest whole_numbers kept n c other)
   pub columns : length row ≡ n
@@ -44,19 +44,19 @@ lazy_start kept n row reduce bound end len empty extent bounded = record {
 }
 
 -- the entries of a multiple
-at_multiple : (other row : List ℤ) (k : ℕ) → (h : IsMultiple other row) → at_column row k ≡ pos h.factor *ℤ at_column other k
+at_multiple : (other row : List ℤ) (k : ℕ) → (h : IsMultipleRow other row) → at_column row k ≡ pos h.factor *ℤ at_column other k
 at_multiple other row k h = ap (λ xs. at_column xs k) h.is ∙ at_scaled (pos h.factor) other k
 
-zero_of_multiple : (other row : List ℤ) (k : ℕ) → IsMultiple other row → at_column row k ≡ pos 0 → at_column other k ≡ pos 0
+zero_of_multiple : (other row : List ℤ) (k : ℕ) → IsMultipleRow other row → at_column row k ≡ pos 0 → at_column other k ≡ pos 0
 zero_of_multiple other row k h e = zero_factor_z h.factor (at_column other k) h.some (sym (at_multiple other row k h) ∙ e)
 
 times_zero : (l : ℕ) → pos l *ℤ pos 0 ≡ pos 0
 times_zero l = omega (arith, ints)
 
-zero_in_multiple : (other row : List ℤ) (k : ℕ) → IsMultiple other row → at_column other k ≡ pos 0 → at_column row k ≡ pos 0
+zero_in_multiple : (other row : List ℤ) (k : ℕ) → IsMultipleRow other row → at_column other k ≡ pos 0 → at_column row k ≡ pos 0
 zero_in_multiple other row k h e = at_multiple other row k h ∙ ap (λ z. pos h.factor *ℤ z) e ∙ times_zero h.factor
 
-length-multiple : (other row : List ℤ) → IsMultiple other row → length row ≡ length other
+length-multiple : (other row : List ℤ) → IsMultipleRow other row → length row ≡ length other
 length-multiple other row h = ap length h.is ∙ length-map other (λ x. pos h.factor *ℤ x)
 
 pub lazy_zero : (i : Insertion) (kept : List KeptRow) (n c : ℕ) (row : List ℤ) (reduce : List ℕ) (is_stepped : Bool) (bound end : ℕ) →
@@ -80,7 +80,7 @@ reduced_is_divided e other c = sym (divided_twice (eliminated e other c))
 pub lazy_more : (i : Insertion) (kept : List KeptRow) (n c : ℕ) (row next e : List ℤ) (reduce reduce' : List ℕ) (is_stepped : Bool)
     (bound end bound' end' : ℕ) → IsLazy i kept n c row reduce is_stepped bound end → c < n → at_column row c ≢ pos 0 →
     IsRowAt kept c e → IsPivotRow n c e →
-    ((other : List ℤ) → IsMultiple other row → IsExactly is_stepped other row → IsLazyStep e other next c) →
+    ((other : List ℤ) → IsMultipleRow other row → IsExactly is_stepped other row → IsLazyStep e other next c) →
     reduce' ≡ reduce ++ c ∷ [] → IsExtent bound' end' next → bound' < 2 ^ 63 →
     IsLazy i kept n (c + 1) next reduce' true bound' end'
 lazy_more i kept n c row next e reduce reduce' is_stepped bound end bound' end' h below some at pivot step reduce_is extent bounded =
@@ -130,7 +130,7 @@ lazy_end i kept n c row reduce is_stepped bound end h past =
 -- the row of the definition goes on
 pub lazy_exact : (i : Insertion) (kept : List KeptRow) (n c : ℕ) (row exact : List ℤ) (reduce : List ℕ) (is_stepped : Bool) (bound end : ℕ) →
     IsLazy i kept n c row reduce is_stepped bound end →
-    ((other : List ℤ) → IsMultiple other row → IsExactly is_stepped other row → exact ≡ other) →
+    ((other : List ℤ) → IsMultipleRow other row → IsExactly is_stepped other row → exact ≡ other) →
     IsBehind i reduce (rest whole_numbers kept (length exact) c exact)
 lazy_exact i kept n c row exact reduce is_stepped bound end h written =
     let same = written h.other h.multiple h.exactly in

@@ -12,7 +12,7 @@ use Rattle.gj_theory.proofs.DividedRows.{scaled_one}
 use Rattle.gj_theory.proofs.Entries.{at_scaled, at_differences, at_divided}
 use Rattle.gj_theory.proofs.Steps.{length-differences}
 use Rattle.gj_elim.proofs.LazySteps.{AreNarrow, divided_multiple}
-use Rattle.gj_elim.specs.Lazy.{IsMultiple, IsExactly, AreLazyFactors, IsExtent, HasRoom, IsZeroOutside}
+use Rattle.gj_elim.specs.Lazy.{IsMultipleRow, IsExactly, AreLazyFactors, IsExtent, HasRoom, IsZeroOutside}
 
 -- ---- extents
 
@@ -262,7 +262,7 @@ divided_some_at row c some e =
     times_zero g = omega (arith, ints)
 
 -- a multiple of a divided row is that row when it is divided
-pub multiple_divided : (other row next : List ℤ) → IsMultiple other row → other ≡ divided other → next ≡ divided row → IsMultiple other next
+pub multiple_divided : (other row next : List ℤ) → IsMultipleRow other row → other ≡ divided other → next ≡ divided row → IsMultipleRow other next
 multiple_divided other row next multiple is next_is = record {
   factor = 1;
   some = omega arith;
@@ -273,6 +273,6 @@ pub divided_if : (is_stepped : Bool) (other row : List ℤ) → is_stepped ≡ t
 divided_if true other row e h = h
 divided_if false other row e h = absurd cc
 
-pub exact_divided : (other row exact : List ℤ) → IsMultiple other row → other ≡ divided other → exact ≡ divided row → exact ≡ other
+pub exact_divided : (other row exact : List ℤ) → IsMultipleRow other row → other ≡ divided other → exact ≡ divided row → exact ≡ other
 exact_divided other row exact multiple is exact_is =
     exact_is ∙ ap divided multiple.is ∙ divided_multiple multiple.factor other multiple.some ∙ sym is

@@ -15,7 +15,7 @@ use Rattle.gj_theory.proofs.Entries.{at_scaled, at_differences, at_eliminated}
 use Rattle.gj_theory.proofs.RowSums.{scaled_quotients, divided_some, divided_times, zero_or_not}
 use Rattle.gj_theory.proofs.Steps.{row_factor_times, kept_factor_times, length-differences, length-eliminated}
 use Rattle.gj_theory.proofs.Passing.{either_passes, none_pass}
-use Rattle.gj_elim.specs.Lazy.{IsMultiple, IsLazyStep, AreLazyFactors}
+use Rattle.gj_elim.specs.Lazy.{IsMultipleRow, IsLazyStep, AreLazyFactors}
 
 -- ---- multiples of a row
 
@@ -197,7 +197,7 @@ below_multiple m x y some e fits =
     let more : 1 * unsigned_abs x ≤ m * unsigned_abs x = mul-le-mul_right (unsigned_abs x) some in
     omega arith
 
-pub lazy_step : (kept other row next : List ℤ) (c : ℕ) (u w : ℤ) → IsMultiple other row → length kept ≡ length row →
+pub lazy_step : (kept other row next : List ℤ) (c : ℕ) (u w : ℤ) → IsMultipleRow other row → length kept ≡ length row →
     pos 0 <ℤ at_column kept c → AreLazyFactors (at_column kept c) (at_column row c) u w → AreNarrow u w row kept →
     next ≡ differences (scaled u row) (scaled w kept) → IsLazyStep kept other next c
 unfolding reduced marked_in_step
@@ -276,7 +276,7 @@ lazy_step kept other row next c u w multiple len positive factors narrow next_is
         joined : (a b : ℕ) → pos a *ℤ pos b ≡ pos (a * b)
         joined a b = by_ring (pos a ∷ pos b ∷ []) (search ring depth 40) refl
 
-        next_multiple : IsMultiple (reduced kept other c) next
+        next_multiple : IsMultipleRow (reduced kept other c) next
         next_multiple =
             let (d, some, is) = divided_times (eliminated kept other c) in
             let more_some = more.some in

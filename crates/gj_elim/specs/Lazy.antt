@@ -3,14 +3,14 @@ use Rattle.std.specs.Prelude.{Bool, true, false, ℕ, ℤ, pos, ◌≡◌, ◌<�
 use Rattle.gj_shape.specs.Elimination.{at_column, divided, scaled, reduced, marked_in_step, Passes}
 
 -- the row is another one times a positive factor
-pub record IsMultiple (other row : List ℤ) : Type 0 where
+pub record IsMultipleRow (other row : List ℤ) : Type 0 where
   pub factor : ℕ
   pub some : 0 < factor
   pub is : row ≡ scaled (pos factor) other
 
 -- a step by the kept row at the column leaves this row in the place of another or of a multiple of it, and marks nothing that passes
 pub record IsLazyStep (kept other row : List ℤ) (c : ℕ) : Type 0 where
-  pub multiple : IsMultiple (reduced kept other c) row
+  pub multiple : IsMultipleRow (reduced kept other c) row
   pub narrow : Passes (marked_in_step kept other c) → ⊥
 
 -- the factors of the row and of a kept row with these entries at the column of a step: both entries have one divisor

@@ -7,7 +7,7 @@ ghost use Rattle.gj_theory.specs.TriangularRows.{AreTriangular};
 ghost use Rattle.gj_elim.specs.KeptRows.{kept_rows};
 ghost use Rattle.gj_elim.specs.Progress.{IsReached, IsReachedWithin};
 ghost use Rattle.gj_elim.specs.Tables.{ArePlaces, AreExtents};
-ghost use Rattle.gj_elim.specs.Lazy.{IsMultiple, IsLazyStep, AreLazyFactors, IsExtent, HasRoom, IsZeroOutside, IsExactly};
+ghost use Rattle.gj_elim.specs.Lazy.{IsMultipleRow, IsLazyStep, AreLazyFactors, IsExtent, HasRoom, IsZeroOutside, IsExactly};
 
 use crate::extent::Extent;
 use crate::log::LogRow;
@@ -128,7 +128,7 @@ fn step_once(
     requires row_zero { (k : ℕ) → k < column → at_column row.old k ≡ pos 0 }
     requires positive { pos 0 <ℤ at_column kept.now column }
     requires some { at_column row.old column ≢ pos 0 }
-    ensures step { IfSome result (λ _. (other : List ℤ) → IsMultiple other row.old → IsLazyStep kept.now other row.new column) }
+    ensures step { IfSome result (λ _. (other : List ℤ) → IsMultipleRow other row.old → IsLazyStep kept.now other row.new column) }
     ensures extent { IfSome result (λ e. IsExtent e.bound e.end row.new) }
     ensures bound { IfSome result (λ e. e.bound < 2 ^ 63) }
     ensures same { IsNone result → row.new ≡ row.old }
@@ -277,11 +277,11 @@ pub(crate) fn step(
     requires row_zero { (k : ℕ) → k < column → at_column row.old k ≡ pos 0 }
     requires positive { pos 0 <ℤ at_column kept.now column }
     requires some { at_column row.old column ≢ pos 0 }
-    ensures step { IfSome result (λ _. (other : List ℤ) → IsMultiple other row.old → IsExactly is_stepped other row.old →
+    ensures step { IfSome result (λ _. (other : List ℤ) → IsMultipleRow other row.old → IsExactly is_stepped other row.old →
         IsLazyStep kept.now other row.new column) }
     ensures extent { IfSome result (λ e. IsExtent e.bound e.end row.new) }
     ensures bound { IfSome result (λ e. e.bound < 2 ^ 63) }
-    ensures exact { IsNone result → (other : List ℤ) → IsMultiple other row.old → IsExactly is_stepped other row.old →
+    ensures exact { IsNone result → (other : List ℤ) → IsMultipleRow other row.old → IsExactly is_stepped other row.old →
         exact.new ≡ other }
     ensures fits { IsNone result → All Fits exact.new }
 {

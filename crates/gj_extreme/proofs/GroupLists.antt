@@ -10,7 +10,7 @@ use Rattle.gj_elim.specs.KeptRows.{log_row}
 use Rattle.gj_elim.specs.declared.log.LogRow.{LogRow}
 use Rattle.gj_proof.specs.declared.pivot.PivotRow.{PivotRow}
 use Rattle.gj_extreme.specs.Decision.{group_of}
-use Rattle.gj_extreme.specs.RowsToCome.{name_of, line_parts, row_parts, AreLinesOf}
+use Rattle.gj_extreme.specs.RowsToCome.{name_of, line_parts, row_parts, AreLoggedRows}
 
 abbrev no_row : KeptRow
 no_row = record { number = 0; reduce = []; pivot = 0; entries = [] }
@@ -19,11 +19,11 @@ abbrev record_of : RowName → List ℕ → ℕ → PivotRow
 record_of n r p = record { name = n; reduce = r; pivot = p }
 
 -- there is a line for each kept row
-pub lines_count : (kept : List KeptRow) (log : List LogRow) → AreLinesOf kept log → length log ≡ length kept
+pub lines_count : (kept : List KeptRow) (log : List LogRow) → AreLoggedRows kept log → length log ≡ length kept
 lines_count kept log lines = sym (length-map log line_parts) ∙ ap length lines ∙ length-map kept row_parts
 
 pub one_group_more : (f : FunctionData) (kept : List KeptRow) (names : List RowName) (log : List LogRow) (groups pushed : List PivotRow)
-    (i : ℕ) (name : RowName) (line : LogRow) (reduce : List ℕ) → i < length kept → names ≡ map (name_of f) kept → AreLinesOf kept log →
+    (i : ℕ) (name : RowName) (line : LogRow) (reduce : List ℕ) → i < length kept → names ≡ map (name_of f) kept → AreLoggedRows kept log →
     name ≡ get_or names i Period → line ≡ get_or log i line → reduce ≡ line.reduce → groups ≡ map (group_of f) (take i kept) →
     pushed ≡ groups ++ record { name = name; reduce = reduce; pivot = line.pivot } ∷ [] →
     pushed ≡ map (group_of f) (take (i + 1) kept)

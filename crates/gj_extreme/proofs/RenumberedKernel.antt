@@ -6,7 +6,7 @@ use Rattle.std.proofs.Math.Path.{fun_ext}
 use Rattle.gj_shape.specs.Elimination.{KeptRow, entries_of, row_with_pivot, marked_in_solving, solved_at, behind_numbers, solution_below, unit_row, free_column, solution_from, kernel}
 use Rattle.gj_theory.specs.HandedOver.{renumbered}
 use Rattle.gj_elim.specs.KeptRows.{log_row}
-use Rattle.gj_extreme.specs.RowsToCome.{row_parts, AreLinesOf}
+use Rattle.gj_extreme.specs.RowsToCome.{row_parts, AreLoggedRows}
 use Rattle.gj_extreme.proofs.DecidedGroups.{plain, alike_entries}
 
 same_plain : (numbers : List ℕ) (kept : List KeptRow) → map plain (map (renumbered numbers) kept) ≡ map plain kept
@@ -43,10 +43,10 @@ kernel_renumbered numbers n kept =
     ap (solution_from n (map (renumbered numbers) kept)) (same_free numbers n kept) ∙ same_from numbers n kept (free_column n kept)
 
 -- nor does the log tell them
-pub lines_renumbered : (numbers : List ℕ) (kept : List KeptRow) → AreLinesOf (map (renumbered numbers) kept) (map log_row kept)
+pub lines_renumbered : (numbers : List ℕ) (kept : List KeptRow) → AreLoggedRows (map (renumbered numbers) kept) (map log_row kept)
 lines_renumbered numbers [] = refl
 lines_renumbered numbers (k ∷ kept) = ap (λ ls. row_parts k ∷ ls) (lines_renumbered numbers kept)
 
-pub lines_of_log : (kept : List KeptRow) → AreLinesOf kept (map log_row kept)
+pub lines_of_log : (kept : List KeptRow) → AreLoggedRows kept (map log_row kept)
 lines_of_log [] = refl
 lines_of_log (k ∷ kept) = ap (λ ls. row_parts k ∷ ls) (lines_of_log kept)

@@ -10,7 +10,7 @@ use Rattle.gj_shape.specs.declared.extremality.CoverLine.{CoverLine}
 use Rattle.gj_shape.specs.declared.extremality.RowName.{RowName}
 use Rattle.gj_elim.specs.KeptRows.{log_row}
 use Rattle.gj_elim.specs.declared.log.LogRow.{LogRow}
-use Rattle.gj_residue.specs.Settled.{IsByResidues, IsTooWide as IsTooWideOf, insertion_passes, kernel_passes}
+use Rattle.gj_residue.specs.Settled.{IsByResidues, AreRowsTooWide, insertion_passes, kernel_passes}
 use Rattle.gj_system.specs.Components.{IsNameBelow}
 use Rattle.gj_theory.proofs.ExtremeByCover.{each_row}
 use Rattle.gj_proof.specs.PresentRows.{named_row}
@@ -63,11 +63,11 @@ rows_by_residues f lines component n rows log groups covered passes are h groups
 
 pub wide_by_residues : (f : FunctionData) (lines : List CoverLine) (component : ℕ → ℕ) (n : ℕ) (rows : List (List ℤ)) →
     AreAllCovered f lines component n → Passes (slope_elimination f component n).marked → rows ≡ rows_named f component n (row_names f) →
-    IsTooWideOf n rows → IsTooWide f
+    AreRowsTooWide n rows → IsTooWide f
 wide_by_residues f lines component n rows covered passes are wide =
-    by_cause (subst (IsTooWideOf n) are wide)
+    by_cause (subst (AreRowsTooWide n) are wide)
   where
-    by_cause : IsTooWideOf n (rows_named f component n (row_names f)) → IsTooWide f
+    by_cause : AreRowsTooWide n (rows_named f component n (row_names f)) → IsTooWide f
     by_cause (insertion_passes p fewer) = elimination_wide f lines component n covered p fewer
     by_cause (kernel_passes narrow s e p) = absurd (narrow passes)
 

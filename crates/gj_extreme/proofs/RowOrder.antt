@@ -13,7 +13,7 @@ use Rattle.gj_shape.specs.FunctionData.{FunctionData, IsWithinBounds, at}
 use Rattle.gj_shape.specs.SlopeRows.{is_tight, row_names}
 use Rattle.gj_shape.specs.declared.extremality.RowName.{RowName}
 use Rattle.gj_shape.specs.declared.extremality.RowName.TheVariants.{Pair}
-use Rattle.gj_extreme.specs.RowsToCome.{pairs_from, rows_from}
+use Rattle.gj_extreme.specs.RowsToCome.{pairs_from, row_names_from}
 
 -- ---- pairs
 
@@ -41,10 +41,10 @@ no_pairs f a b above = ap (λ l. map (Pair a) (filter (is_tight f a) l)) (range_
 
 -- ---- rows
 
-pub next_rows : (f : FunctionData) (a : ℕ) → a < f.order → rows_from f a ≡ pairs_from f a a ++ rows_from f (a + 1)
+pub next_rows : (f : FunctionData) (a : ℕ) → a < f.order → row_names_from f a ≡ pairs_from f a a ++ row_names_from f (a + 1)
 next_rows f a below = ap (flat_map (λ c. pairs_from f c c)) (range_step a f.order below)
 
-pub no_rows : (f : FunctionData) (a : ℕ) → f.order ≤ a → rows_from f a ≡ []
+pub no_rows : (f : FunctionData) (a : ℕ) → f.order ≤ a → row_names_from f a ≡ []
 no_rows f a above = ap (flat_map (λ c. pairs_from f c c)) (range_end a f.order above)
 
 -- ---- how many there are

@@ -20,8 +20,8 @@ abbrev pub pairs_from : FunctionData → ℕ → ℕ → List RowName
 pairs_from f a b = map (Pair a) (filter (is_tight f a) (range_with_len b (f.order - b)))
 
 -- the names of the tight pairs (c, d) with c from a on, and d from c on
-abbrev pub rows_from : FunctionData → ℕ → List RowName
-rows_from f a = flat_map (λ c. pairs_from f c c) (range_with_len a (f.order - a))
+abbrev pub row_names_from : FunctionData → ℕ → List RowName
+row_names_from f a = flat_map (λ c. pairs_from f c c) (range_with_len a (f.order - a))
 
 -- the name of the row that is kept
 abbrev pub name_of : FunctionData → KeptRow → RowName
@@ -43,8 +43,8 @@ abbrev pub row_parts : KeptRow → List ℕ × ℕ
 row_parts k = (k.reduce, k.pivot)
 
 -- the lines of a log tell the steps and the pivots of the kept rows
-abbrev pub AreLinesOf : List KeptRow → List LogRow → Type 0
-AreLinesOf kept log = map line_parts log ≡ map row_parts kept
+abbrev pub AreLoggedRows : List KeptRow → List LogRow → Type 0
+AreLoggedRows kept log = map line_parts log ≡ map row_parts kept
 
 -- ---- the rows to come
 

@@ -4,7 +4,7 @@ ghost use Rattle.gj_shape.specs.Elimination.{KeptRow};
 ghost use Rattle.gj_shape.specs.FunctionData.{FunctionData};
 ghost use Rattle.gj_shape.specs.declared.extremality.RowName.TheVariants.{Period};
 ghost use Rattle.gj_extreme.specs.Decision.{group_of};
-ghost use Rattle.gj_extreme.specs.RowsToCome.{name_of, AreLinesOf};
+ghost use Rattle.gj_extreme.specs.RowsToCome.{name_of, AreLoggedRows};
 
 use gj_elim::LogRow;
 use gj_proof::PivotRow;
@@ -19,7 +19,7 @@ pub(crate) fn groups_of(
 ) -> Result<Vec<PivotRow>, AllocError>
     requires { length names.now ≡ length log.now }
     ensures { IfOk result (λ v. (f : FunctionData) (kept : List KeptRow) → names.now ≡ map (name_of f) kept →
-        AreLinesOf kept log.now → v.items ≡ map (group_of f) kept) }
+        AreLoggedRows kept log.now → v.items ≡ map (group_of f) kept) }
 {
     let mut groups = Vec::with_capacity(alloc, log.len())?;
     for g in 0..log.len() {

@@ -8,7 +8,7 @@ ghost use Rattle.gj_shape.specs.declared.extremality.RowName.{RowName};
 ghost use Rattle.gj_shape.specs.declared.extremality.RowName.TheVariants.{Pair};
 ghost use Rattle.gj_system.specs.Components.{IsNameBelow};
 ghost use Rattle.gj_extreme.specs.Decision.{slope_elimination};
-ghost use Rattle.gj_extreme.specs.RowsToCome.{AreToCome, AreInserted, IsReady, IsSeen, IsTaken, rows_from};
+ghost use Rattle.gj_extreme.specs.RowsToCome.{AreToCome, AreInserted, IsReady, IsSeen, IsTaken, row_names_from};
 
 use crate::seen::{SeenPair, SeenPairs};
 use gj_elim::{Basis, ElimFault, Inserted};
@@ -86,9 +86,9 @@ fn insert_pairs(
     requires pairs { AreTightPairsOf shape.now pairs.now }
     requires order { length system.now.component ≡ shape.now.order }
     requires below { a < shape.now.order }
-    requires to_come { AreToCome shape.now (component_in system.now.component) system.now.columns rows.old (rows_from shape.now a) }
+    requires to_come { AreToCome shape.now (component_in system.now.component) system.now.columns rows.old (row_names_from shape.now a) }
     ensures to_come { OnOk result
-        (AreToCome shape.now (component_in system.now.component) system.now.columns rows.new (rows_from shape.now (a + 1))) }
+        (AreToCome shape.now (component_in system.now.component) system.now.columns rows.new (row_names_from shape.now (a + 1))) }
     ensures wide { IsErrOf result ElimFault.Wide →
         Passes (slope_elimination shape.now (component_in system.now.component) system.now.columns).marked }
 {

@@ -9,7 +9,7 @@ use Rattle.gj_sets.specs.declared.index_set.IndexSet.{IndexSet}
 use Rattle.gj_sets.proofs.Bits.{none_in_no_set}
 use Rattle.gj_shape.specs.Additive.{IsTight}
 use Rattle.gj_shape.specs.FunctionData.{FunctionData, IsWithinBounds}
-use Rattle.gj_faces.specs.Rows.{AreWithin, TellsRow, AreRows}
+use Rattle.gj_faces.specs.Rows.{AreSetsWithin, TellsRow, AreRows}
 use Rattle.gj_faces.specs.TightPairs.{IsTightIn, AreTightPairsOf}
 use Rattle.gj_faces.specs.declared.tight_pairs.TightPairs.{TightPairs}
 use Rattle.gj_faces.proofs.Periods.{tight_is_periodic}
@@ -29,7 +29,7 @@ row_more f rows n row h here =
       ];
     }
 
-pub rows_within : (f : FunctionData) (rows : List IndexSet) (n : ℕ) → AreRows f n rows → AreWithin rows f.order
+pub rows_within : (f : FunctionData) (rows : List IndexSet) (n : ℕ) → AreRows f n rows → AreSetsWithin rows f.order
 rows_within f rows n h a b past =
     elim (cases_lt a n) [
       | inl inside ↦ false_from_ne_true (has (get_or rows a no_set) b) (λ yes. let both = (h.tell a inside b).0 yes in

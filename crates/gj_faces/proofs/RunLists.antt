@@ -3,7 +3,7 @@ use Rattle.std.proofs.Common.{◌≡◌, ◌⊎◌, inl, inr, ℕ, zero, suc, �
 use Rattle.std.proofs.lemmas.Bool.{cases_eq, cases_lt}
 use Rattle.std.proofs.lemmas.List.{drop_more, take-append-drop, get_or_at, get_or_default, get_or-append-add}
 use Rattle.gj_faces.specs.declared.run.Run.{Run}
-use Rattle.gj_faces.specs.Runs.{Holds, IsRunOf, EndsBefore, AreInOrder}
+use Rattle.gj_faces.specs.Runs.{RunHolds, IsRunOf, EndsBefore, AreInOrder}
 
 -- a list is what comes before two neighbours, the two, and what comes behind
 split : (xs : List Run) (k : ℕ) (d : Run) → k + 1 < length xs →
@@ -52,11 +52,11 @@ each_later q runs h k l d order below =
 -- no run below low or from high on holds the pair
 abbrev pub IsBetween : ℕ → List Run → ℕ → ℕ → ℕ → ℕ → Type 0
 IsBetween q runs i j low high =
-    (k : ℕ) (d : Run) → k < length runs → Holds q i j (get_or runs k d) → (low ≤ k) × (k < high)
+    (k : ℕ) (d : Run) → k < length runs → RunHolds q i j (get_or runs k d) → (low ≤ k) × (k < high)
 
 -- a run that ends before the pair does not hold it, nor does one before
 ends_early : (q i j : ℕ) (r s : Run) → (s.a < i % q) ⊎ ((s.a ≡ i % q) × (s.to < j % q)) → IsRunOf q s →
-    (EndsBefore r s) ⊎ (r ≡ s) → Holds q i j r → ⊥
+    (EndsBefore r s) ⊎ (r ≡ s) → RunHolds q i j r → ⊥
 ends_early q i j r s (inl early) run (inl (inl h)) holds = omega (arith, holds.row)
 ends_early q i j r s (inl early) run (inl (inr h)) holds = omega (arith, holds.row)
 ends_early q i j r s (inr early) run (inl (inl h)) holds = omega (arith, holds.row)
@@ -66,7 +66,7 @@ ends_early q i j r s (inr early) run (inr e) holds = omega (arith, holds.stop, a
 
 -- nor does one that begins behind it, or one behind that
 starts_late : (q i j : ℕ) (r s : Run) → (i % q < s.a) ⊎ ((s.a ≡ i % q) × (j % q < s.from)) → IsRunOf q s →
-    (EndsBefore s r) ⊎ (r ≡ s) → Holds q i j r → ⊥
+    (EndsBefore s r) ⊎ (r ≡ s) → RunHolds q i j r → ⊥
 starts_late q i j r s (inl late) run (inl (inl h)) holds = omega (arith, holds.row)
 starts_late q i j r s (inl late) run (inl (inr h)) holds = omega (arith, holds.row)
 starts_late q i j r s (inr late) run (inl (inl h)) holds = omega (arith, holds.row)
@@ -97,7 +97,7 @@ pub narrowed_up : (q : ℕ) (runs : List Run) (i j low high m : ℕ) (e : Run) �
     IsBetween q runs i j low high → IsBetween q runs i j (m + 1) high
 narrowed_up q runs i j low high m e h below early between k d within holds =
     let here = h.each m e below in
-    let found = subst (Holds q i j) (get_or_default runs k d e within) holds in
+    let found = subst (RunHolds q i j) (get_or_default runs k d e within) holds in
     let upper = (between k d within holds).1 in
     elim (cases_lt m k) [
       | inl beyond ↦ (omega arith, upper)
@@ -111,7 +111,7 @@ pub narrowed_down : (q : ℕ) (runs : List Run) (i j low high m : ℕ) (e : Run)
     IsBetween q runs i j low high → IsBetween q runs i j low m
 narrowed_down q runs i j low high m e h below late between k d within holds =
     let here = h.each m e below in
-    let found = subst (Holds q i j) (get_or_default runs k d e within) holds in
+    let found = subst (RunHolds q i j) (get_or_default runs k d e within) holds in
     let lower = (between k d within holds).0 in
     elim (cases_lt k m) [
       | inl before ↦ (lower, before)

@@ -5,7 +5,7 @@ use Rattle.std.proofs.lemmas.Bool.{cases_eq, cases_lt, and_parts, and_right, not
 use Rattle.std.proofs.lemmas.List.{get_or_append_left, get_or_push, length_push}
 use Rattle.std.proofs.lemmas.List.Elements.{All-push, All-weaker}
 use Rattle.gj_faces.specs.declared.run.Run.{Run}
-use Rattle.gj_faces.specs.Runs.{InRuns, IsRunOf, EndsBefore, IsWhole, AreRunsOf}
+use Rattle.gj_faces.specs.Runs.{InRuns, IsRunOf, EndsBefore, IsWholeRun, AreRunsOf}
 use Rattle.gj_faces.specs.RunsBefore.{ComesBefore, IsTightRun, AreRunsBefore}
 use Rattle.gj_faces.proofs.RunLists.{AreAscending, ascending_by_index, in_order_by_index}
 
@@ -47,7 +47,7 @@ pushed q Tight a b c runs h row some within tight start stop =
       in_order = in_order_by_index q (runs ++ run ∷ [])
           (All-push (IsRunOf q) runs run h.in_order.each (record { row = row; some = omega arith; within = omega arith }))
           (ascending run refl refl (ascending_by_index q runs h.in_order));
-      whole = All-push (IsWhole q Tight) runs run h.whole (record {
+      whole = All-push (IsWholeRun q Tight) runs run h.whole (record {
         start = start;
         stop = λ below next. stop (omega arith) (subst (Tight a) (let e : c - 1 + 1 ≡ c = omega arith in e) next);
       });

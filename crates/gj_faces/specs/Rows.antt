@@ -6,8 +6,8 @@ use Rattle.gj_shape.specs.Additive.{IsTight}
 use Rattle.gj_shape.specs.FunctionData.{FunctionData}
 
 -- no row has an index from the order on
-abbrev pub AreWithin : List IndexSet → ℕ → Type 0
-AreWithin rows q = (a b : ℕ) → q ≤ b → has (get_or rows a no_set) b ≡ false
+abbrev pub AreSetsWithin : List IndexSet → ℕ → Type 0
+AreSetsWithin rows q = (a b : ℕ) → q ≤ b → has (get_or rows a no_set) b ≡ false
 
 -- the set has the indices below the order that are tight with i, and no others
 abbrev pub TellsRow : FunctionData → ℕ → IndexSet → Type 0

@@ -3,14 +3,14 @@ use Rattle.std.specs.Prelude.{ℕ, ◌≡◌, ◌⊎◌, ◌↔◌, ◌+◌, ◌
 use Rattle.gj_faces.specs.declared.run.Run.{Run}
 
 -- the run holds the pair, indices modulo the order
-pub record Holds (q : ℕ) (i j : ℕ) (r : Run) : Type 0 where
+pub record RunHolds (q : ℕ) (i j : ℕ) (r : Run) : Type 0 where
   pub row : r.a ≡ i % q
   pub start : r.from ≤ j % q
   pub stop : j % q ≤ r.to
 
 -- some run holds it
 abbrev pub InRuns : ℕ → List Run → ℕ → ℕ → Type 0
-InRuns q runs i j = Any (Holds q i j) runs
+InRuns q runs i j = Any (RunHolds q i j) runs
 
 -- the run is of pairs of indices below the order
 pub record IsRunOf (q : ℕ) (r : Run) : Type 0 where
@@ -32,7 +32,7 @@ abbrev pub TellTight : ℕ → List Run → (ℕ → ℕ → Type 0) → Type 0
 TellTight q runs Tight = (i j : ℕ) → Tight i j ↔ InRuns q runs i j
 
 -- no tight pair stands just before the run or just behind it
-pub record IsWhole (q : ℕ) (Tight : ℕ → ℕ → Type 0) (r : Run) : Type 0 where
+pub record IsWholeRun (q : ℕ) (Tight : ℕ → ℕ → Type 0) (r : Run) : Type 0 where
   pub start : 0 < r.from → Tight r.a (r.from - 1) → ⊥
   pub stop : r.to + 1 < q → Tight r.a (r.to + 1) → ⊥
 
@@ -40,4 +40,4 @@ pub record IsWhole (q : ℕ) (Tight : ℕ → ℕ → Type 0) (r : Run) : Type 0
 pub record AreRunsOf (q : ℕ) (Tight : ℕ → ℕ → Type 0) (runs : List Run) : Type 0 where
   pub in_order : AreInOrder q runs
   pub tell : TellTight q runs Tight
-  pub whole : All (IsWhole q Tight) runs
+  pub whole : All (IsWholeRun q Tight) runs

@@ -1,7 +1,7 @@
 //! The tight pairs of a continuous function, made once for all who ask.
 ghost use Rattle.std.specs.Prelude.{◌≡◌, length};
 ghost use Rattle.gj_shape.specs.Given.{IsOrder};
-ghost use Rattle.gj_faces.specs.Rows.{AreWithin};
+ghost use Rattle.gj_faces.specs.Rows.{AreSetsWithin};
 
 use crate::lanes::tight_rows;
 use gj_sets::IndexSet;
@@ -15,7 +15,7 @@ pub struct TightPairs {
     rows: Vec<IndexSet>,
     ghost few: { IsOrder order },
     ghost whole: { length rows.items ≡ order },
-    ghost within: { AreWithin rows.items order },
+    ghost within: { AreSetsWithin rows.items order },
 }
 
 impl TightPairs {

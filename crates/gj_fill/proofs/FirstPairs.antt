@@ -7,26 +7,26 @@ use Rattle.gj_shape.specs.FirstViolation.{IsLeastFrom}
 use Rattle.gj_shape.specs.FunctionData.{FunctionData, IsWithinBounds, at}
 use Rattle.gj_theory.proofs.Everywhere.{at_same}
 use Rattle.gj_fill.specs.FillIn.{IsSubadditiveTable}
-use Rattle.gj_fill.specs.FirstPair.{IsSuperadditiveAt, IsFirstPair}
+use Rattle.gj_fill.specs.FirstPair.{IsSuperadditivePair, IsFirstPair}
 
 -- no pair of the rows before a has the property
 abbrev pub NonePairs : FunctionData → ℕ → Type 0
-NonePairs f a = (i j : ℕ) → i < a → i ≤ j → j < f.order → IsSuperadditiveAt f i j → ⊥
+NonePairs f a = (i j : ℕ) → i < a → i ≤ j → j < f.order → IsSuperadditivePair f i j → ⊥
 
-turned : (f : FunctionData) (i j : ℕ) → IsSuperadditiveAt f i j → IsSuperadditiveAt f j i
+turned : (f : FunctionData) (i j : ℕ) → IsSuperadditivePair f i j → IsSuperadditivePair f j i
 turned f i j h =
     let sum : at f.value (j + i) ≡ at f.value (i + j) = ap (at f.value) (omega arith) in
     omega (arith, ints)
 
 -- nor has one with a lesser second place
-none_before : (f : FunctionData) (a i j : ℕ) → NonePairs f a → i < a → a ≤ f.order → j < f.order → IsSuperadditiveAt f i j → ⊥
+none_before : (f : FunctionData) (a i j : ℕ) → NonePairs f a → i < a → a ≤ f.order → j < f.order → IsSuperadditivePair f i j → ⊥
 none_before f a i j none i_low within j_low h = elim (cases_lt j i) [
   | inl less ↦ none j i (omega arith) (omega arith) (omega arith) (turned f i j h)
   | inr more ↦ none i j i_low more j_low h
 ]
 
 pub first_pair_is : (f : FunctionData) (a b : ℕ) → a < f.order → b < f.order → NonePairs f a →
-    IsLeastFrom a (IsSuperadditiveAt f a) b → IsFirstPair f a b
+    IsLeastFrom a (IsSuperadditivePair f a) b → IsFirstPair f a b
 first_pair_is f a b a_low b_low none least = record {
   first = record {
     from = omega arith;
@@ -45,12 +45,12 @@ first_pair_is f a b a_low b_low none least = record {
 }
 
 pub none_more : (f : FunctionData) (a : ℕ) → NonePairs f a →
-    ((b : ℕ) → a ≤ b → b < f.order → IsSuperadditiveAt f a b → ⊥) → NonePairs f (a + 1)
+    ((b : ℕ) → a ≤ b → b < f.order → IsSuperadditivePair f a b → ⊥) → NonePairs f (a + 1)
 none_more f a none here i j i_low up j_low h = elim (cases_lt i a) [
   | inl before ↦ none i j before up j_low h
   | inr behind ↦
       let same : i ≡ a = omega arith in
-      here j (omega arith) j_low (subst (λ (k : ℕ). IsSuperadditiveAt f k j) same h)
+      here j (omega arith) j_low (subst (λ (k : ℕ). IsSuperadditivePair f k j) same h)
 ]
 
 pub subadditive_from_none : (f : FunctionData) (n : ℕ) → IsWithinBounds f → f.order ≤ n → n ≤ f.order → NonePairs f n →

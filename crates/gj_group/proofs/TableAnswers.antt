@@ -23,7 +23,7 @@ use Rattle.gj_theory.specs.Halves.{AreDifferentHalves}
 use Rattle.gj_theory.specs.TriangularRows.{Solves}
 use Rattle.gj_elim.proofs.KernelFits.{kernel_fits}
 use Rattle.gj_elim.specs.declared.log.LogRow.{LogRow}
-use Rattle.gj_residue.specs.Settled.{OnlyZeroSolves, AnswersRows, IsSettled, IsPlain, IsByResidues, IsKernel, IsTooWide, insertion_passes, kernel_passes}
+use Rattle.gj_residue.specs.Settled.{OnlyZeroSolves, AnswersRows, IsSettled, IsPlain, IsByResidues, IsKernel, AreRowsTooWide, insertion_passes, kernel_passes}
 use Rattle.gj_residue.specs.declared.settling.Settled.{Settled}
 use Rattle.gj_residue.specs.declared.settling.Settled.TheVariants.{Plain, Residues, Kernel}
 use Rattle.gj_residue.specs.declared.settling.SettleFault.{SettleFault}
@@ -93,7 +93,7 @@ extreme_exactly f (NotExtreme h) says = (λ e. absurd cc, λ extreme. absurd (sa
 
 -- the rows that are settled are not too wide
 pub plain_narrow : (n : ℕ) (rows : List (List ℤ)) → All (λ row. length row ≡ n) rows → (Passes (elimination n rows).marked → ⊥) →
-    length (elimination n rows).kept ≡ n → IsTooWide n rows → ⊥
+    length (elimination n rows).kept ≡ n → AreRowsTooWide n rows → ⊥
 plain_narrow n rows lengths narrow full (insertion_passes passes fewer) = narrow passes
 plain_narrow n rows lengths narrow full (kernel_passes short s is passes) =
     none_some (kernel n (elimination n rows).kept) s
@@ -105,7 +105,7 @@ plain_narrow n rows lengths narrow full (kernel_passes short s is passes) =
 same_solution : (o : Option Solution) (s t : Solution) → o ≡ Some s → o ≡ Some t → s ≡ t
 same_solution o s t e f = cc
 
-pub kernel_narrow : (n : ℕ) (rows : List (List ℤ)) (numbers : List ℤ) → IsKernel n rows numbers → IsTooWide n rows → ⊥
+pub kernel_narrow : (n : ℕ) (rows : List (List ℤ)) (numbers : List ℤ) → IsKernel n rows numbers → AreRowsTooWide n rows → ⊥
 kernel_narrow n rows numbers h (insertion_passes passes fewer) = h.narrow passes
 kernel_narrow n rows numbers h (kernel_passes short s is passes) =
     h.solution_narrow (subst (λ (t : Solution). Passes t.marked) (same_solution (kernel n (elimination n rows).kept) s h.solution is h.solves) passes)
@@ -227,9 +227,9 @@ pub no_wide : {T : Type 0} (r : Result T GroupFault) (x : AllocError) → IsErr 
 no_wide (Ok v) x is_err h e = absurd cc
 no_wide (Err z) x is_err h e = absurd cc
 
-pub wide_asked : (f : FunctionData) (columns : ℕ) (all : List (List ℤ)) → IsAsked f columns all → IsTooWide columns all → IsTooWideGroup f
+pub wide_asked : (f : FunctionData) (columns : ℕ) (all : List (List ℤ)) → IsAsked f columns all → AreRowsTooWide columns all → IsTooWideGroup f
 wide_asked f columns all asked wide =
-    rows_too_wide (subst₂ (λ (n : ℕ) (rows : List (List ℤ)). IsTooWide n rows) asked.columns_is asked.all_is wide)
+    rows_too_wide (subst₂ (λ (n : ℕ) (rows : List (List ℤ)). AreRowsTooWide n rows) asked.columns_is asked.all_is wide)
 
 pub some_is_not_none : (v : Violation) → Some v ≡ None → ⊥
 some_is_not_none v e = cc

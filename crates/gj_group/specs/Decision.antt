@@ -11,7 +11,7 @@ use Rattle.gj_shape.specs.Violation.{ShowsViolation}
 use Rattle.gj_shape.specs.declared.extremality.Halves.{Halves}
 use Rattle.gj_theory.specs.Halves.{AreDifferentHalves}
 use Rattle.gj_perturb.specs.Split.{IsWide}
-use Rattle.gj_residue.specs.Settled.{IsKernel, IsTooWide}
+use Rattle.gj_residue.specs.Settled.{IsKernel, AreRowsTooWide}
 use Rattle.gj_group.specs.GroupRows.{group_rows}
 use Rattle.gj_group.specs.declared.decision.GroupAnswer.{GroupAnswer}
 use Rattle.gj_group.specs.declared.decision.GroupAnswer.TheVariants.{NotMinimal, Extreme, NotExtreme}
@@ -62,6 +62,6 @@ IsFound f (NotExtreme h) = AreGroupHalves f h
 
 -- the rows are too wide, or the halves of their kernel are
 pub data IsTooWideGroup (f : FunctionData) : Type 0 where
-  rows_too_wide : IsTooWide f.order (own_rows f) → IsTooWideGroup f
+  rows_too_wide : AreRowsTooWide f.order (own_rows f) → IsTooWideGroup f
   halves_too_wide : (numbers : List ℤ) → IsKernel f.order (own_rows f) numbers → IsWide f (record { times = 1; values = numbers }) →
       IsTooWideGroup f

@@ -28,26 +28,26 @@ IsNextPair t n a from (Some p) =
     (1 ≤ p.0) × (p.0 ≤ p.1) × (p.1 < n) × (pair_rows t n a from ≡ sum_row n p.0 p.1 ∷ pair_rows t n p.0 (p.1 + 1))
 
 -- the rows from the next one on
-abbrev pub rows_behind : (ℕ → ℤ) → ℕ → ℕ → Upcoming → List (List ℤ)
-rows_behind t n k Start = group_rows t n k
-rows_behind t n k Place = entry_row n k ∷ rows_from t n 1
-rows_behind t n k (Pair a from) = pair_rows t n a from
+abbrev pub upcoming_rows : (ℕ → ℤ) → ℕ → ℕ → Upcoming → List (List ℤ)
+upcoming_rows t n k Start = group_rows t n k
+upcoming_rows t n k Place = entry_row n k ∷ rows_from t n 1
+upcoming_rows t n k (Pair a from) = pair_rows t n a from
 
 abbrev pub to_come : Inside → RowsToCome
 to_come s = record {
   all = group_rows (at s.values.items) (length s.values.items) s.place;
-  left = rows_behind (at s.values.items) (length s.values.items) s.place s.upcoming;
+  left = upcoming_rows (at s.values.items) (length s.values.items) s.place s.upcoming;
 }
 
 -- the next pair is one with 1 ≤ a, or past the last
-abbrev pub IsWithin : ℕ → Upcoming → Type 0
-IsWithin n Start = Unit {0}
-IsWithin n Place = Unit {0}
-IsWithin n (Pair a from) = (1 ≤ a) × (a ≤ from) × (a ≤ n) × (from ≤ n)
+abbrev pub IsUpcomingWithin : ℕ → Upcoming → Type 0
+IsUpcomingWithin n Start = Unit {0}
+IsUpcomingWithin n Place = Unit {0}
+IsUpcomingWithin n (Pair a from) = (1 ≤ a) × (a ≤ from) × (a ≤ n) × (from ≤ n)
 
 -- there are two entries or more, the place is an index, and the next pair within the table
 pub record AreGroupRows (s : Inside) : Type 0 where
   pub some : 2 ≤ length s.values.items
   pub place : s.place < length s.values.items
   pub few : length s.values.items ≤ greatest_order
-  pub upcoming : IsWithin (length s.values.items) s.upcoming
+  pub upcoming : IsUpcomingWithin (length s.values.items) s.upcoming

@@ -16,8 +16,8 @@ use Rattle.gj_shape.proofs.GivenLists.{within_given}
 use Rattle.gj_shape.proofs.LeastDenominator.{within_bounds_closed}
 use Rattle.gj_shape.proofs.OneFunction.{same_from_given}
 use Rattle.serde_json.specs.Data.{Data}
-use Rattle.gj_json.specs.JsonFunction.{Spells, HasFractions, GivesFunction, SaysFunction, HasValue, IsJsonFunction}
-use Rattle.gj_json.specs.FirstReason.{RefusesFractions, HasRefusedFractions, RefusesValue, HasFirstReason, IsMemoryFault, NamesReason}
+use Rattle.gj_json.specs.JsonFunction.{SpellsNumber, HasFractions, GivesFunction, SaysFunction, HasValue, IsJsonFunction}
+use Rattle.gj_json.specs.FirstReason.{RefusesFractions, HasRefusedFractions, RefusesValue, HasFirstReason, IsMemoryFault, NamesJsonReason}
 use Rattle.gj_json.specs.declared.faults.JsonReason.{JsonReason}
 use Rattle.gj_json.specs.declared.faults.JsonReason.TheVariants.{Syntax, Form, Number, Order, Place, Large, Fine}
 use Rattle.gj_json.specs.declared.faults.JsonFault.{JsonFault}
@@ -27,7 +27,7 @@ use Rattle.gj_json.proofs.Refusals.{string_or_integer, with_form, left_long, rig
 
 -- ---- the fractions
 
-one_spelled : (d : Data) (x y : Frac) → Spells d x → Spells d y → x ≡ y
+one_spelled : (d : Data) (x y : Frac) → SpellsNumber d x → SpellsNumber d y → x ≡ y
 one_spelled d x y (inl (v, e, h)) (inl (w, g, k)) =
     one_fraction Lenient w x y (subst (λ u. IsFractionWord Lenient u x) (same_some v w (sym e ∙ g)) h) k
 one_spelled d x y (inl (v, e, h)) (inr (z, g, k)) = absurd (not_none z (sym (string_or_integer d v e) ∙ g))
@@ -36,7 +36,7 @@ one_spelled d x y (inr (z, e, h)) (inr (t, g, k)) =
     let some : 1 ≢ 0 = omega arith in
     same_from_is x y t (pos 1) some (subst (λ u. IsRatio x u (pos 1)) (same_some z t (sym e ∙ g)) h) k
 
-all_spelled : (ds : List Data) (xs ys : List Frac) → AllZip Spells ds xs → AllZip Spells ds ys → xs ≡ ys
+all_spelled : (ds : List Data) (xs ys : List Frac) → AllZip SpellsNumber ds xs → AllZip SpellsNumber ds ys → xs ≡ ys
 all_spelled [] [] [] h k = refl
 all_spelled [] [] (y ∷ ys) h k = absurd k
 all_spelled [] (x ∷ xs) ys h k = absurd h
@@ -124,7 +124,7 @@ no_reason text f e (d, h, s) (inl (is, none)) = none d h
 no_reason text f e (d, h, s) (inr (x, j, r)) = no_refusal_said d f e s (subst (λ y. RefusesValue y e) (one_value text x d j h) r)
 
 -- a fault that names a reason is want of memory if the text spells a function
-pub only_memory : (text : List ℕ) (f : FunctionData) (e : JsonFault) → IsJsonFunction text f → NamesReason (HasFirstReason text) e →
+pub only_memory : (text : List ℕ) (f : FunctionData) (e : JsonFault) → IsJsonFunction text f → NamesJsonReason (HasFirstReason text) e →
     IsMemoryFault e
 only_memory text f (Refused e) h r = absurd (no_reason text f e h r)
 only_memory text f (Memory a) h r = tt

@@ -12,7 +12,7 @@ use Rattle.serde_json.specs.Data.{string}
 use Rattle.serde_json.specs.View.{view, items_of, items_view}
 use Rattle.serde_json.specs.Written.{has_float}
 use Rattle.serde_json.specs.declared.value.Value.{Value}
-use Rattle.gj_json.specs.JsonText.{strings, IsPrintable, IsProofByte, IsEnded, HasLines, report_value}
+use Rattle.gj_json.specs.JsonText.{strings, IsPrintable, IsProofByte, IsEnded, HasJsonLines, report_value}
 use Rattle.gj_json.proofs.Shown.{strings_more, strings_have_no_float}
 
 pub printable_is_utf8 : (bs : List ℕ) → All IsPrintable bs → IsUtf8 bs
@@ -93,7 +93,7 @@ nothing_left text front line (inr (before, is)) e h = none_left front line befor
 
 pub all_lines : (text : List ℕ) (n : ℕ) (vs : List Value) (line : List ℕ) → length text ≤ n → IsEnded text →
     LinesSoFar text n vs line →
-    (lines : List (List ℕ)) × HasLines text lines × (items_view vs ≡ strings lines)
+    (lines : List (List ℕ)) × HasJsonLines text lines × (items_view vs ≡ strings lines)
 all_lines text n vs line most end h =
     let whole : text ≡ flat_map ended h.lines ++ line = sym (take_all n text most) ∙ h.joined in
     let none = nothing_left text (flat_map ended h.lines) line end whole h.line_printable in (

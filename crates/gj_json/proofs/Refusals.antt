@@ -10,8 +10,8 @@ use Rattle.gj_shape.specs.FunctionData.{FunctionData}
 use Rattle.serde_json.specs.Data.{Data, null, boolean, number, string, array, object}
 use Rattle.serde_json.specs.Find.{get, as_str, as_array}
 use Rattle.gj_json.proofs.Options.{not_none}
-use Rattle.gj_json.specs.JsonFunction.{integer, list_of, list_at, HasLimits, HasForm, Spells, SpellsForm, HasFractions, GivesFunction, SaysFunction}
-use Rattle.gj_json.specs.FirstReason.{RefusesFractions, RefusesValue, NamesReason}
+use Rattle.gj_json.specs.JsonFunction.{integer, list_of, list_at, HasSideLimits, HasForm, SpellsNumber, SpellsForm, HasFractions, GivesFunction, SaysFunction}
+use Rattle.gj_json.specs.FirstReason.{RefusesFractions, RefusesValue, NamesJsonReason}
 use Rattle.gj_json.specs.Reading.{SpellsNone, SpellsNoForm}
 use Rattle.gj_json.specs.declared.faults.JsonReason.{JsonReason}
 use Rattle.gj_json.specs.declared.faults.JsonReason.TheVariants.{Syntax, Form, Number, Order, Place, Large, Fine}
@@ -20,8 +20,8 @@ use Rattle.gj_json.specs.declared.faults.JsonFault.TheVariants.{Refused, Memory}
 
 -- ---- one value
 
-pub names_weaker : (P Q : JsonReason → Type 0) (fault : JsonFault) → ((e : JsonReason) → P e → Q e) → NamesReason P fault →
-    NamesReason Q fault
+pub names_weaker : (P Q : JsonReason → Type 0) (fault : JsonFault) → ((e : JsonReason) → P e → Q e) → NamesJsonReason P fault →
+    NamesJsonReason Q fault
 names_weaker P Q (Refused e) f p = f e p
 names_weaker P Q (Memory a) f p = tt
 
@@ -35,20 +35,20 @@ string_or_integer (array ds) w e = refl
 string_or_integer (object ms) w e = refl
 
 pub no_word : (d : Data) (w : List ℕ) → as_str d ≡ Some w → ((x : Frac) → IsFractionWord Lenient w x → ⊥) →
-    (x : Frac) → Spells d x → ⊥
+    (x : Frac) → SpellsNumber d x → ⊥
 no_word d w is none x (inl (v, e, h)) = none x (subst (λ u. IsFractionWord Lenient u x) (same_some v w (sym e ∙ is)) h)
 no_word d w is none x (inr (z, e, h)) = not_none z (sym (string_or_integer d w is) ∙ e)
 
 -- ---- the form
 
 pub no_limits : (d : Data) (values : List Data) → Some values ≡ list_at (codes "value") d →
-    ((ls rs : List Data) → HasLimits d ls values rs → ⊥) → (p : Data) (ls vs rs : List Data) → HasForm d p ls vs rs → ⊥
+    ((ls rs : List Data) → HasSideLimits d ls values rs → ⊥) → (p : Data) (ls vs rs : List Data) → HasForm d p ls vs rs → ⊥
 no_limits d values is none p ls vs rs h =
-    none ls rs (subst (λ v. HasLimits d ls v rs) (same_some vs values (sym h.value_is ∙ sym is)) h.limits)
+    none ls rs (subst (λ v. HasSideLimits d ls v rs) (same_some vs values (sym h.value_is ∙ sym is)) h.limits)
 
 -- ---- the fractions
 
-pub place_none : (p : Data) (ls vs rs : List Data) → ((x : Frac) → Spells p x → ⊥) →
+pub place_none : (p : Data) (ls vs rs : List Data) → ((x : Frac) → SpellsNumber p x → ⊥) →
     (place : Frac) (left value right : List Frac) → SpellsForm p ls vs rs place left value right → ⊥
 place_none p ls vs rs none place left value right h = none place h.place_spelled
 
@@ -74,7 +74,7 @@ pub record SameForm (p q : Data) (ls ms vs ws rs ts : List Data) : Type 0 where
 no_list : (key : List ℕ) (d : Data) → get key d ≡ None → list_at key d ≡ None
 no_list key d e = ap (λ o. option_map list_of (option_and_then as_array o)) e
 
-same_limits : (d : Data) (ls ms vs rs ts : List Data) → HasLimits d ls vs rs → HasLimits d ms vs ts → (ls ≡ ms) × (rs ≡ ts)
+same_limits : (d : Data) (ls ms vs rs ts : List Data) → HasSideLimits d ls vs rs → HasSideLimits d ms vs ts → (ls ≡ ms) × (rs ≡ ts)
 same_limits d ls ms vs rs ts (inl (a, b)) (inl (f, g)) =
     (same_some ls ms (sym a ∙ f), same_some rs ts (sym b ∙ g))
 same_limits d ls ms vs rs ts (inl (a, b)) (inr (f, g, i, j)) = absurd (not_none ls (sym (no_list (codes "left") d f) ∙ a))
@@ -85,7 +85,7 @@ pub one_form : (d p q : Data) (ls ms vs ws rs ts : List Data) → HasForm d p ls
     SameForm p q ls ms vs ws rs ts
 one_form d p q ls ms vs ws rs ts h j =
     let value = same_some vs ws (sym h.value_is ∙ j.value_is) in
-    let limits = same_limits d ls ms ws rs ts (subst (λ v. HasLimits d ls v rs) value h.limits) j.limits in
+    let limits = same_limits d ls ms ws rs ts (subst (λ v. HasSideLimits d ls v rs) value h.limits) j.limits in
     record {
       place = same_some p q (sym h.place_is ∙ j.place_is);
       left = limits.0;
@@ -100,10 +100,10 @@ pub with_form : (d p q : Data) (ls ms vs ws rs ts : List Data) (place : Frac) (l
 with_form d p q ls ms vs ws rs ts place left value right h j s =
     let same = one_form d p q ls ms vs ws rs ts h j in
     record {
-      place_spelled = subst (λ x. Spells x place) (sym same.place) s.place_spelled;
-      left_spelled = subst (λ xs. AllZip Spells xs left) (sym same.left) s.left_spelled;
-      value_spelled = subst (λ xs. AllZip Spells xs value) (sym same.value) s.value_spelled;
-      right_spelled = subst (λ xs. AllZip Spells xs right) (sym same.right) s.right_spelled;
+      place_spelled = subst (λ x. SpellsNumber x place) (sym same.place) s.place_spelled;
+      left_spelled = subst (λ xs. AllZip SpellsNumber xs left) (sym same.left) s.left_spelled;
+      value_spelled = subst (λ xs. AllZip SpellsNumber xs value) (sym same.value) s.value_spelled;
+      right_spelled = subst (λ xs. AllZip SpellsNumber xs right) (sym same.right) s.right_spelled;
     }
 
 -- ---- the value
@@ -128,14 +128,14 @@ fractions_read d p ls vs rs place left l value v right r form s a b c =
 pub left_long : (d : Data) (place : Frac) (left value right : List Frac) → HasFractions d place left value right →
     length left ≡ length value
 left_long d place left value right h =
-    AllZip-long Spells h.ls left h.spelled.left_spelled ∙ h.form.left_entries.0
-    ∙ sym (AllZip-long Spells h.vs value h.spelled.value_spelled)
+    AllZip-long SpellsNumber h.ls left h.spelled.left_spelled ∙ h.form.left_entries.0
+    ∙ sym (AllZip-long SpellsNumber h.vs value h.spelled.value_spelled)
 
 pub right_long : (d : Data) (place : Frac) (left value right : List Frac) → HasFractions d place left value right →
     length right ≡ length value
 right_long d place left value right h =
-    AllZip-long Spells h.rs right h.spelled.right_spelled ∙ h.form.right_entries.0
-    ∙ sym (AllZip-long Spells h.vs value h.spelled.value_spelled)
+    AllZip-long SpellsNumber h.rs right h.spelled.right_spelled ∙ h.form.right_entries.0
+    ∙ sym (AllZip-long SpellsNumber h.vs value h.spelled.value_spelled)
 
 pub function_said : (d : Data) (place : Frac) (left value right : List Frac) → HasFractions d place left value right →
     (f : FunctionData) → GivesFunction place left value right f → SaysFunction d f

@@ -15,7 +15,7 @@ use Rattle.serde_json.specs.View.{view, items_of, items_view}
 use Rattle.serde_json.specs.Written.{has_float, items_have_float}
 use Rattle.serde_json.specs.declared.value.Value.{Value}
 use Rattle.gj_shape.specs.FunctionData.{FunctionData}
-use Rattle.gj_json.specs.JsonText.{strings, fraction_strings, AreRatios, function_value, IsValueOf}
+use Rattle.gj_json.specs.JsonText.{strings, fraction_strings, AreRatios, function_value, IsJsonOf}
 
 -- ---- the text of a fraction is text
 
@@ -87,8 +87,8 @@ shallow : (order : ℕ) (p : Frac) (l v r : List Frac) → depth (function_value
 shallow order p l v r =
     rw (strings_are_shallow (map fraction_text l), strings_are_shallow (map fraction_text v), strings_are_shallow (map fraction_text r)) refl
 
-pub value_has_no_float : (f : FunctionData) (d : Data) → IsValueOf f d → has_float d ≡ false
+pub value_has_no_float : (f : FunctionData) (d : Data) → IsJsonOf f d → has_float d ≡ false
 value_has_no_float f d h = ap has_float h.is ∙ no_float f.order h.place h.left h.value h.right
 
-pub value_is_shallow : (f : FunctionData) (d : Data) → IsValueOf f d → depth d ≤ max_depth
+pub value_is_shallow : (f : FunctionData) (d : Data) → IsJsonOf f d → depth d ≤ max_depth
 value_is_shallow f d h = omega (arith, ap depth h.is ∙ shallow f.order h.place h.left h.value h.right)

@@ -17,8 +17,8 @@ use Rattle.gj_shape.proofs.GivenFractions.{given_as}
 use Rattle.gj_shape.proofs.GivenPoints.{given_by_points}
 use Rattle.gj_shape.proofs.PointLists.{HaveLists, have_lists}
 use Rattle.serde_json.specs.Data.{Data, string, array, object, number, unsigned, member, no_members}
-use Rattle.gj_json.specs.JsonFunction.{list_of, IsKey, IsEntry, AreEntries, HasForm, Spells, HasFractions, SaysFunction}
-use Rattle.gj_json.specs.JsonText.{fraction_strings, AreRatios, function_value, IsValueOf}
+use Rattle.gj_json.specs.JsonFunction.{list_of, IsKey, IsEntry, AreEntries, HasForm, SpellsNumber, HasFractions, SaysFunction}
+use Rattle.gj_json.specs.JsonText.{fraction_strings, AreRatios, function_value, IsJsonOf}
 
 -- ---- the strings
 
@@ -29,7 +29,7 @@ list_of_strings : (xs : List Frac) → list_of (fraction_strings xs) ≡ shown x
 list_of_strings [] = refl
 list_of_strings (x ∷ xs) = ap (λ ds. string (fraction_text x) ∷ ds) (list_of_strings xs)
 
-shown_spell : (xs : List Frac) → AllZip Spells (shown xs) xs
+shown_spell : (xs : List Frac) → AllZip SpellsNumber (shown xs) xs
 shown_spell [] = tt
 shown_spell (x ∷ xs) = (inl (fraction_text x, refl, canonical_fraction Lenient x), shown_spell xs)
 
@@ -98,7 +98,7 @@ given_by_ratios f l v r within a b c left value right =
     given_as f.order (length v) f.place f.place (lefts points) l (values points) v (rights points) r f (sym b) refl
     lists.left_are lists.value_are lists.right_are (given_by_points points f within are)
 
-pub value_says : (f : FunctionData) (d : Data) → IsWithinBounds f → IsValueOf f d → SaysFunction d f
+pub value_says : (f : FunctionData) (d : Data) → IsWithinBounds f → IsJsonOf f d → SaysFunction d f
 value_says f d within h =
     let long = λ (xs : List Frac) (ns : List ℤ) (are : AreRatios f.scale xs ns). sym (AllZip-long (λ x n. IsRatio x n (pos f.scale)) xs ns are) in
     let a : length h.left ≡ f.order = long h.left f.left h.left_are ∙ within.left_length in
@@ -131,7 +131,7 @@ pub value_from_parts : (f : FunctionData) (q s : ℕ) (ls vs rs : List ℤ) (p :
     ls ≡ f.left → vs ≡ f.value → rs ≡ f.right → IsRatio p (pos f.place) (pos f.order) → place ≡ string (fraction_text p) →
     AreShown s ls l → AreShown s vs v → AreShown s rs r →
     d ≡ object (member (codes "f") place (member (codes "left") l (member (codes "order") (number (unsigned q))
-    (member (codes "right") r (member (codes "value") v no_members))))) → IsValueOf f d
+    (member (codes "right") r (member (codes "value") v no_members))))) → IsJsonOf f d
 value_from_parts f q s ls vs rs p place l v r d q_is s_is ls_is vs_is rs_is p_is place_is (xs, are_l, l_is) (ys, are_v, v_is) (zs, are_r, r_is) is =
     record {
       place = p;

@@ -63,6 +63,6 @@ IsMemoryFault (Refused e) = ⊥
 IsMemoryFault (Memory a) = Unit {0}
 
 -- a refusal names a reason of which this holds
-abbrev pub NamesReason : (JsonReason → Type 0) → JsonFault → Type 0
-NamesReason P (Refused e) = P e
-NamesReason P (Memory a) = Unit {0}
+abbrev pub NamesJsonReason : (JsonReason → Type 0) → JsonFault → Type 0
+NamesJsonReason P (Refused e) = P e
+NamesJsonReason P (Memory a) = Unit {0}

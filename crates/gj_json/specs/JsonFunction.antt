@@ -44,8 +44,8 @@ abbrev pub HasOnlyKeys : Data → Type 0
 HasOnlyKeys d = (ms : Members) × (as_object d ≡ Some ms) × All IsKey (keys_of ms)
 
 -- both lists of limits stand in it, or neither, and then they are the values
-abbrev pub HasLimits : Data → List Data → List Data → List Data → Type 0
-HasLimits d left value right =
+abbrev pub HasSideLimits : Data → List Data → List Data → List Data → Type 0
+HasSideLimits d left value right =
     ((list_at (codes "left") d ≡ Some left) × (list_at (codes "right") d ≡ Some right))
     ⊎ ((get (codes "left") d ≡ None) × (get (codes "right") d ≡ None) × (left ≡ value) × (right ≡ value))
 
@@ -59,7 +59,7 @@ pub record HasForm (d : Data) (place : Data) (left value right : List Data) : Ty
   pub order_is : option_and_then integer (get (codes "order") d) ≡ Some (pos (length value))
   pub place_is : get (codes "f") d ≡ Some place
   pub value_is : list_at (codes "value") d ≡ Some value
-  pub limits : HasLimits d left value right
+  pub limits : HasSideLimits d left value right
   pub place_entry : IsEntry place
   pub left_entries : AreEntries (length value) left
   pub value_entries : AreEntries (length value) value
@@ -68,17 +68,17 @@ pub record HasForm (d : Data) (place : Data) (left value right : List Data) : Ty
 -- ---- the fractions
 
 -- the fraction that the entry spells: that of the word in the string, or the whole number
-abbrev pub Spells : Data → Frac → Type 0
-Spells d x =
+abbrev pub SpellsNumber : Data → Frac → Type 0
+SpellsNumber d x =
     ((word : List ℕ) × (as_str d ≡ Some word) × IsFractionWord Lenient word x)
     ⊎ ((z : ℤ) × (integer d ≡ Some z) × IsRatio x z (pos 1))
 
 -- the entries of the form spell these fractions
 pub record SpellsForm (p : Data) (ls vs rs : List Data) (place : Frac) (left value right : List Frac) : Type 0 where
-  pub place_spelled : Spells p place
-  pub left_spelled : AllZip Spells ls left
-  pub value_spelled : AllZip Spells vs value
-  pub right_spelled : AllZip Spells rs right
+  pub place_spelled : SpellsNumber p place
+  pub left_spelled : AllZip SpellsNumber ls left
+  pub value_spelled : AllZip SpellsNumber vs value
+  pub right_spelled : AllZip SpellsNumber rs right
 
 -- the value is of the form, with these fractions
 pub record HasFractions (d : Data) (place : Frac) (left value right : List Frac) : Type 0 where

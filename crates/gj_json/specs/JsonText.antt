@@ -36,7 +36,7 @@ function_value order place left value right =
     (member (codes "value") (array (fraction_strings value)) no_members)))))
 
 -- the value is that of the function f
-pub record IsValueOf (f : FunctionData) (d : Data) : Type 0 where
+pub record IsJsonOf (f : FunctionData) (d : Data) : Type 0 where
   pub place : Frac
   pub left : List Frac
   pub value : List Frac
@@ -49,7 +49,7 @@ pub record IsValueOf (f : FunctionData) (d : Data) : Type 0 where
 
 -- the text is the one JSON text that is written for the function f
 abbrev pub IsJsonText : List ℕ → FunctionData → Type 0
-IsJsonText text f = (d : Data) × IsValueOf f d × (text ≡ json_line d)
+IsJsonText text f = (d : Data) × IsJsonOf f d × (text ≡ json_line d)
 
 -- ---- reports
 
@@ -66,7 +66,7 @@ abbrev pub IsEnded : List ℕ → Type 0
 IsEnded text = (text ≡ []) ⊎ ((front : List ℕ) × (text ≡ front ++ 10 ∷ []))
 
 -- the text is these lines of printable bytes, each with a line feed behind it
-pub record HasLines (text : List ℕ) (lines : List (List ℕ)) : Type 0 where
+pub record HasJsonLines (text : List ℕ) (lines : List (List ℕ)) : Type 0 where
   pub joined : text ≡ flat_map (λ line. line ++ 10 ∷ []) lines
   pub printable : All (All IsPrintable) lines
 
@@ -77,4 +77,4 @@ report_value lines verdict =
 
 -- the text is the report of the verdict and of the proof text
 abbrev pub IsReport : List ℕ → List ℕ → List ℕ → Type 0
-IsReport verdict proof text = (lines : List (List ℕ)) × HasLines proof lines × (text ≡ json_line (report_value lines verdict))
+IsReport verdict proof text = (lines : List (List ℕ)) × HasJsonLines proof lines × (text ≡ json_line (report_value lines verdict))

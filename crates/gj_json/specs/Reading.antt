@@ -3,7 +3,7 @@ use Rattle.std.specs.Prelude.{List, Bool, ◌≡◌, if◌then◌else◌, alloc_
 use Rattle.std.specs.List.{AllZip}
 use Rattle.gj_frac.specs.declared.Frac.{Frac}
 use Rattle.serde_json.specs.Data.{Data}
-use Rattle.gj_json.specs.JsonFunction.{Spells, SpellsForm}
+use Rattle.gj_json.specs.JsonFunction.{SpellsNumber, SpellsForm}
 use Rattle.gj_json.specs.declared.faults.JsonReason.{JsonReason}
 use Rattle.gj_json.specs.declared.faults.JsonReason.TheVariants.{Number, Syntax}
 use Rattle.gj_json.specs.declared.faults.JsonFault.{JsonFault}
@@ -11,7 +11,7 @@ use Rattle.gj_json.specs.declared.faults.JsonFault.TheVariants.{Refused, Memory}
 
 -- the entries do not all spell fractions
 abbrev pub SpellsNone : List Data → JsonReason → Type 0
-SpellsNone ds e = (e ≡ Number) × ((xs : List Frac) → AllZip Spells ds xs → ⊥)
+SpellsNone ds e = (e ≡ Number) × ((xs : List Frac) → AllZip SpellsNumber ds xs → ⊥)
 
 -- the same of all entries of the form
 abbrev pub SpellsNoForm : Data → List Data → List Data → List Data → JsonReason → Type 0

@@ -4,8 +4,8 @@ ghost use Rattle.std.specs.List.{AllZip};
 ghost use Rattle.gj_frac.specs.declared.Frac.{Frac};
 ghost use Rattle.gj_frac.specs.Fraction.{IsRatio};
 ghost use Rattle.serde_json.specs.View.{view};
-ghost use Rattle.gj_json.specs.JsonFunction.{integer, IsEntry, AreEntries, Spells};
-ghost use Rattle.gj_json.specs.FirstReason.{NamesReason};
+ghost use Rattle.gj_json.specs.JsonFunction.{integer, IsEntry, AreEntries, SpellsNumber};
+ghost use Rattle.gj_json.specs.FirstReason.{NamesJsonReason};
 ghost use Rattle.gj_json.specs.Reading.{SpellsNone};
 
 use crate::faults::{JsonFault, JsonReason};
@@ -44,8 +44,8 @@ fn all_entries(values: &[Value]) -> bool
 
 /// The fraction that the entry spells.
 pub(crate) fn fraction(value: &Value) -> Option<Frac>
-    ensures found { IfSome result (Spells (view value.now)) }
-    ensures none { IfNone result ((x : Frac) → Spells (view value.now) x → ⊥) }
+    ensures found { IfSome result (SpellsNumber (view value.now)) }
+    ensures none { IfNone result ((x : Frac) → SpellsNumber (view value.now) x → ⊥) }
 {
     match value.as_str() {
         Some(word) => fraction_of(Spelling::Lenient, word.as_bytes()),
@@ -63,8 +63,8 @@ fn whole(n: i128) -> Option<Frac>
 
 /// The fractions that the entries spell.
 pub(crate) fn fractions(alloc: Global, values: &[Value]) -> Result<Vec<Frac>, JsonFault>
-    ensures found { IfOk result (λ xs. AllZip Spells (map view values.now) xs.items) }
-    ensures refused { IfErr result (NamesReason (SpellsNone (map view values.now))) }
+    ensures found { IfOk result (λ xs. AllZip SpellsNumber (map view values.now) xs.items) }
+    ensures refused { IfErr result (NamesJsonReason (SpellsNone (map view values.now))) }
 {
     let mut fractions = Vec::new(alloc);
     for value in values {

@@ -4,7 +4,7 @@ ghost use Rattle.std.specs.BTreeMap.{keys};
 ghost use Rattle.serde_json.specs.Data.{Data};
 ghost use Rattle.serde_json.specs.Find.{get, as_array};
 ghost use Rattle.serde_json.specs.View.{view};
-ghost use Rattle.gj_json.specs.JsonFunction.{integer, list_of, list_at, IsKey, HasOnlyKeys, HasLimits, HasForm};
+ghost use Rattle.gj_json.specs.JsonFunction.{integer, list_of, list_at, IsKey, HasOnlyKeys, HasSideLimits, HasForm};
 
 use crate::entries::{are_entries, integer, is_entry};
 use serde_json::{Map, Value};
@@ -51,8 +51,8 @@ pub(crate) fn form_of(value: &Value) -> Option<Form<'_>>
 
 /// Both lists of limits, or the values if it has neither.
 fn limits_of<'a>(value: &'a Value, values: &'a [Value]) -> Option<(&'a [Value], &'a [Value])>
-    ensures found { IfSome result (λ r. HasLimits (view value.now) (map view r.0.now) (map view values.now) (map view r.1.now)) }
-    ensures none { IfNone result ((ls rs : List Data) → HasLimits (view value.now) ls (map view values.now) rs → ⊥) }
+    ensures found { IfSome result (λ r. HasSideLimits (view value.now) (map view r.0.now) (map view values.now) (map view r.1.now)) }
+    ensures none { IfNone result ((ls rs : List Data) → HasSideLimits (view value.now) ls (map view values.now) rs → ⊥) }
 {
     match (value.get("left"), value.get("right")) {
         (None, None) => Some((values, values)),

@@ -6,7 +6,7 @@ ghost use Rattle.gj_shape.specs.Given.{IsOrder};
 ghost use Rattle.serde_json.specs.Data.{Data};
 ghost use Rattle.serde_json.specs.View.{view};
 ghost use Rattle.gj_json.specs.JsonFunction.{SpellsForm, GivesFunction, SaysFunction, HasValue, IsJsonFunction};
-ghost use Rattle.gj_json.specs.FirstReason.{RefusesFractions, RefusesValue, HasFirstReason, IsMemoryFault, NamesReason};
+ghost use Rattle.gj_json.specs.FirstReason.{RefusesFractions, RefusesValue, HasFirstReason, IsMemoryFault, NamesJsonReason};
 ghost use Rattle.gj_json.specs.Reading.{SpellsNoForm, fault_of_text};
 ghost use Rattle.gj_json.specs.declared.faults.JsonReason.TheVariants.{Syntax};
 
@@ -44,7 +44,7 @@ pub fn read_json(alloc: Global, bytes: &[u8]) -> Result<Shape, JsonFault>
     // What is spelled so is read, unless there is no memory.
     ensures only { (f : FunctionData) → IsJsonFunction bytes.now f → MatchResult result (λ shape. shape ≡ f) IsMemoryFault }
     // A refusal names the first reason.
-    ensures refused { IfErr result (NamesReason (HasFirstReason bytes.now)) }
+    ensures refused { IfErr result (NamesJsonReason (HasFirstReason bytes.now)) }
 {
     match function_of(alloc, bytes) {
         Ok(shape) => Ok(shape),
@@ -55,7 +55,7 @@ pub fn read_json(alloc: Global, bytes: &[u8]) -> Result<Shape, JsonFault>
 /// The function that the text spells, or why it spells none.
 fn function_of(alloc: Global, bytes: &[u8]) -> Result<Shape, JsonFault>
     ensures found { IfOk result (IsJsonFunction bytes.now) }
-    ensures refused { IfErr result (NamesReason (HasFirstReason bytes.now)) }
+    ensures refused { IfErr result (NamesJsonReason (HasFirstReason bytes.now)) }
 {
     let value = value_of(alloc, bytes)?;
     shape_of(alloc, &value)
@@ -64,7 +64,7 @@ fn function_of(alloc: Global, bytes: &[u8]) -> Result<Shape, JsonFault>
 /// The value of the JSON text.
 fn value_of(alloc: Global, bytes: &[u8]) -> Result<Value, JsonFault>
     ensures found { IfOk result (λ value. HasValue bytes.now (view value)) }
-    ensures refused { IfErr result (NamesReason (λ e. (e ≡ Syntax) × ((d : Data) → HasValue bytes.now d → ⊥))) }
+    ensures refused { IfErr result (NamesJsonReason (λ e. (e ≡ Syntax) × ((d : Data) → HasValue bytes.now d → ⊥))) }
 {
     match Value::from_slice(alloc, bytes) {
         Ok(value) => Ok(value),
@@ -86,7 +86,7 @@ fn fault_of(is_memory: bool) -> JsonFault
 /// The function that the value says.
 fn shape_of(alloc: Global, value: &Value) -> Result<Shape, JsonFault>
     ensures found { IfOk result (SaysFunction (view value.now)) }
-    ensures refused { IfErr result (NamesReason (RefusesValue (view value.now))) }
+    ensures refused { IfErr result (NamesJsonReason (RefusesValue (view value.now))) }
 {
     let Some(form) = form_of(value) else {
         return Err(JsonFault::Refused(JsonReason::Form));
@@ -114,7 +114,7 @@ struct Given {
 fn fractions_of(alloc: Global, form: Form<'_>) -> Result<Given, JsonFault>
     ensures found { IfOk result (λ g. SpellsForm (view form.entry.place.now) (map view form.entry.left.now)
         (map view form.entry.value.now) (map view form.entry.right.now) g.place g.left.items g.value.items g.right.items) }
-    ensures refused { IfErr result (NamesReason (SpellsNoForm (view form.entry.place.now) (map view form.entry.left.now)
+    ensures refused { IfErr result (NamesJsonReason (SpellsNoForm (view form.entry.place.now) (map view form.entry.left.now)
         (map view form.entry.value.now) (map view form.entry.right.now))) }
 {
     let Some(place) = fraction(form.place) else {
@@ -142,7 +142,7 @@ fn shape_given(
     requires left_length { length left.now ≡ length value.now }
     requires right_length { length right.now ≡ length value.now }
     ensures found { IfOk result (GivesFunction place left.now value.now right.now) }
-    ensures refused { IfErr result (NamesReason (RefusesFractions place left.now value.now right.now)) }
+    ensures refused { IfErr result (NamesJsonReason (RefusesFractions place left.now value.now right.now)) }
 {
     if !is_order(value.len()) {
         return Err(JsonFault::Refused(JsonReason::Order));

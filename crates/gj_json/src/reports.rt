@@ -2,7 +2,7 @@
 ghost use Rattle.std.specs.Prelude.{◌≡◌, List, ℕ, All, codes, IfOk};
 ghost use Rattle.serde_json.specs.Data.{string, array, object, no_members, member};
 ghost use Rattle.serde_json.specs.View.{view, items_view};
-ghost use Rattle.gj_json.specs.JsonText.{strings, IsPrintable, IsProofByte, IsEnded, HasLines, IsReport};
+ghost use Rattle.gj_json.specs.JsonText.{strings, IsPrintable, IsProofByte, IsEnded, HasJsonLines, IsReport};
 
 use crate::show::line_of;
 use serde_json::{Value, json};
@@ -37,7 +37,7 @@ fn object_of(alloc: Global, lines: Value, verdict: Value) -> Result<Value, Alloc
 fn line_values(alloc: Global, text: &[u8]) -> Result<Value, AllocError>
     requires bytes { All IsProofByte text.now }
     requires ended { IsEnded text.now }
-    ensures { IfOk result (λ v. (lines : List (List ℕ)) × HasLines text.now lines × (view v ≡ array (strings lines))) }
+    ensures { IfOk result (λ v. (lines : List (List ℕ)) × HasJsonLines text.now lines × (view v ≡ array (strings lines))) }
 {
     let mut values = Vec::new(alloc);
     let mut line = Vec::new(alloc);

@@ -9,7 +9,7 @@ ghost use Rattle.serde_json.specs.Read.{max_depth};
 ghost use Rattle.serde_json.specs.View.{view};
 ghost use Rattle.serde_json.specs.Written.{has_float};
 ghost use Rattle.gj_json.specs.JsonFunction.{HasValue, IsJsonFunction};
-ghost use Rattle.gj_json.specs.JsonText.{json_line, fraction_strings, AreRatios, IsValueOf, IsJsonText};
+ghost use Rattle.gj_json.specs.JsonText.{json_line, fraction_strings, AreRatios, IsJsonOf, IsJsonText};
 
 use gj_frac::Frac;
 use gj_lex::print_frac;
@@ -34,7 +34,7 @@ pub fn show_json(alloc: Global, shape: &Shape) -> Result<Vec<u8>, AllocError>
 
 /// The value of the function.
 fn function_value(alloc: Global, shape: &Shape) -> Result<Value, AllocError>
-    ensures value { IfOk result (λ value. IsValueOf shape.now (view value)) }
+    ensures value { IfOk result (λ value. IsJsonOf shape.now (view value)) }
     ensures within { IsWithinBounds shape.now }
 {
     let order = shape.order();

@@ -14,7 +14,7 @@ use Rattle.gj_theory.specs.EarlierTests.{PassesVertices, PassesFace, PassesSquar
 use Rattle.gj_theory.proofs.FirstFailed.{IsNoVertex}
 use Rattle.gj_lemmas.proofs.Lists.{made_has}
 use Rattle.gj_theory.proofs.Lanes.{PassesAt, HasLanes, FitAtSums, mirrored_square, continuous_square, square_passes, fit_from_sums}
-use Rattle.gj_minimal.specs.FirstFailure.{IsFirstFailure, HoldsBelow}
+use Rattle.gj_minimal.specs.FirstFailure.{IsFirstFailingIndex, HoldsBelow}
 use Rattle.gj_minimal.specs.declared.failures.Failure.TheVariants as failure
 use Rattle.gj_minimal.specs.Failures.{FailsFirst, PassesRow, IsNonnegativeIn}
 use Rattle.gj_minimal.specs.Lanes.{AreLimits}
@@ -173,7 +173,7 @@ record FailsAt (f : FunctionData) (kind : FaceKind) (a b c : ℕ) : Type 0 where
 
 fails_at : (f : FunctionData) (s : Square) (kind : FaceKind) (a b c : ℕ) → IsReached f s a b →
     PassesKindsBefore f a b kind →
-    IsFirstFailure (IsNonnegativeIn s kind) (length (corners_of kind 0 0)) c → FailsAt f kind a b c
+    IsFirstFailingIndex (IsNonnegativeIn s kind) (length (corners_of kind 0 0)) c → FailsAt f kind a b c
 fails_at f s kind a b c reached kinds found =
     let same = same_corners kind a b in
     let within = found.within in
@@ -221,7 +221,7 @@ kinds_before f a b (suc (suc (suc (suc (suc i))))) below h = absurd (omega arith
 -- the first negative limit in the face of this kind fails first, where those of the kinds before it pass
 pub corner_fails : {f : FunctionData} {s : Square} {a b : ℕ} → IsReached f s a b → (i c : ℕ) → i < 5 →
     HoldsBelow (PassesKind f a b) i →
-    IsFirstFailure (IsNonnegativeIn s (kind_at i)) (length (corners_of (kind_at i) 0 0)) c →
+    IsFirstFailingIndex (IsNonnegativeIn s (kind_at i)) (length (corners_of (kind_at i) 0 0)) c →
     FailsFirst f (failure.Corner (record { kind = kind_at i; a = a; b = b }) c)
 corner_fails {f} {s} {a} {b} reached i c below passed found =
     let kinds = kinds_before f a b i below passed in

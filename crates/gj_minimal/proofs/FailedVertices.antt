@@ -11,7 +11,7 @@ use Rattle.gj_shape.specs.Faces.{slack_from}
 use Rattle.gj_theory.proofs.Everywhere.{symmetric_everywhere}
 use Rattle.gj_theory.proofs.Lanes.{mirrored_vertex}
 use Rattle.gj_minimal.specs.declared.failures.Failure.TheVariants as failure
-use Rattle.gj_minimal.specs.FirstFailure.{IsFirstFailure, HoldsBelow}
+use Rattle.gj_minimal.specs.FirstFailure.{IsFirstFailingIndex, HoldsBelow}
 use Rattle.gj_minimal.specs.Failures.{FailsFirst, AddUpToPlace, PassesAhead, PassesWithSum, PassesVertexRow}
 
 -- ---- of three indices that add up to the place the two least
@@ -106,7 +106,7 @@ ahead_by_sums f a rest below rest_is once again b c ab bc c_below total =
 -- the first negative slack, row by row, is the first failed test
 pub vertex_fails : (f : FunctionData) (a b : ℕ) (face : Face) → PassesSymmetry f →
     face ≡ record { kind = Vertex; a = a; b = b } → a < f.order → HoldsBelow (PassesVertexRow f) a →
-    IsFirstFailure (PassesVertex f a) f.order b → FailsFirst f (failure.Corner face 0)
+    IsFirstFailingIndex (PassesVertex f a) f.order b → FailsFirst f (failure.Corner face 0)
 vertex_fails f a b face symmetry is below rows found =
     subst (λ (g : Face). FailsFirst f (failure.Corner g 0)) (sym is) (record {
       test = (below, found.within, lit< tt);

@@ -2,7 +2,7 @@
 use Rattle.std.specs.Prelude.{ℕ, ◌<◌}
 
 -- i is the first index below n at which the property fails
-pub record IsFirstFailure (P : ℕ → Type 0) (n i : ℕ) : Type 0 where
+pub record IsFirstFailingIndex (P : ℕ → Type 0) (n i : ℕ) : Type 0 where
   pub within : i < n
   pub fails : P i → ⊥
   pub before : (j : ℕ) → j < i → P j

@@ -3,7 +3,7 @@ ghost use Rattle.std.specs.Prelude.{ℕ, ◌≡◌, ◌<◌, length, IsTrue, IfS
 ghost use Rattle.gj_shape.specs.Faces.{corners_of};
 ghost use Rattle.gj_shape.specs.FunctionData.{IsContinuous};
 ghost use Rattle.gj_theory.specs.EarlierTests.{PassesVertices, PassesSquare, HoldsBefore};
-ghost use Rattle.gj_minimal.specs.FirstFailure.{IsFirstFailure, HoldsBelow};
+ghost use Rattle.gj_minimal.specs.FirstFailure.{IsFirstFailingIndex, HoldsBelow};
 ghost use Rattle.gj_minimal.specs.Failures.{FailsFirst, PassesRow, IsNonnegativeIn};
 ghost use Rattle.gj_minimal.specs.Lanes.{AreLanesOf};
 
@@ -82,7 +82,7 @@ fn failed_in_square(shape: &Shape, a: u32, b: u32) -> Option<Failure>
 
 /// The first corner of the square's face of this kind at which the limit of the slack is negative.
 fn first_negative(square: &Square, kind: FaceKind) -> Option<u32>
-    ensures found { IfSome result (IsFirstFailure (IsNonnegativeIn square.now kind) (length (corners_of kind 0 0))) }
+    ensures found { IfSome result (IsFirstFailingIndex (IsNonnegativeIn square.now kind) (length (corners_of kind 0 0))) }
     ensures none { IfNone result (HoldsBelow (IsNonnegativeIn square.now kind) (length (corners_of kind 0 0))) }
 {
     for corner in 0..corners(kind) {

@@ -2,7 +2,7 @@
 ghost use Rattle.std.specs.Prelude.{◌≡◌, ◌<◌, IfSome, IfNone};
 ghost use Rattle.gj_shape.specs.FunctionData.{IsWithinBounds};
 ghost use Rattle.gj_theory.specs.EarlierTests.{PassesVertex, PassesSymmetry, PassesVertices};
-ghost use Rattle.gj_minimal.specs.FirstFailure.{IsFirstFailure, HoldsBelow};
+ghost use Rattle.gj_minimal.specs.FirstFailure.{IsFirstFailingIndex, HoldsBelow};
 ghost use Rattle.gj_minimal.specs.Failures.{FailsFirst, PassesVertexRow};
 ghost use Rattle.gj_minimal.specs.Lanes.{AreValuesOf};
 
@@ -44,7 +44,7 @@ fn failed_in_row(shape: &Shape, lanes: &ValueLanes, a: u32) -> Option<u32>
     requires lanes { AreValuesOf shape.now lanes.now }
     requires rows { HoldsBelow (PassesVertexRow shape.now) a }
     requires limits { IsWithinBounds shape.now }
-    ensures found { IfSome result (IsFirstFailure (PassesVertex shape.now a) shape.now.order) }
+    ensures found { IfSome result (IsFirstFailingIndex (PassesVertex shape.now a) shape.now.order) }
     ensures none { IfNone result (PassesVertexRow shape.now a) }
 {
     if lanes.row_passes(shape, a as usize) {
@@ -56,7 +56,7 @@ fn failed_in_row(shape: &Shape, lanes: &ValueLanes, a: u32) -> Option<u32>
 /// The first b at which the slack at (a/q, b/q) is negative, searched one by one.
 fn first_negative(shape: &Shape, a: u32) -> Option<u32>
     requires { a < shape.now.order }
-    ensures found { IfSome result (IsFirstFailure (PassesVertex shape.now a) shape.now.order) }
+    ensures found { IfSome result (IsFirstFailingIndex (PassesVertex shape.now a) shape.now.order) }
     ensures none { IfNone result (PassesVertexRow shape.now a) }
 {
     for b in 0..shape.order() {

@@ -6,7 +6,7 @@ use Rattle.std.proofs.lemmas.List.Elements.{All-head, All-tail}
 use Rattle.gj_frac.specs.Fraction.{Fraction}
 use Rattle.gj_lemmas.proofs.Integers.{abs_positive_z, mul_assoc_z, mul_left_comm_z, pos_abs_z}
 use Rattle.gj_lemmas.proofs.Ring.{by_ring, ring}
-use Rattle.gj_mixed.specs.MixedRows.{IsNonnegative, AreAmountsOver}
+use Rattle.gj_mixed.specs.MixedRows.{IsNonnegativeAmount, AreAmountsOver}
 
 first_amount : (n d e : ℤ) → n *ℤ (d *ℤ e) ≡ (n *ℤ e) *ℤ d
 first_amount n d e = by_ring (n ∷ d ∷ e ∷ []) (search ring depth 30) refl
@@ -22,11 +22,11 @@ over_more d e (z ∷ zs) (a ∷ amounts) h = (
   over_more d e zs amounts h.1,
 )
 
-pub amounts_over_one : (zs : List Fraction) → All IsNonnegative zs → (e : ℕ) × (amounts : List ℕ) × (0 < e) × AreAmountsOver e zs amounts
+pub amounts_over_one : (zs : List Fraction) → All IsNonnegativeAmount zs → (e : ℕ) × (amounts : List ℕ) × (0 < e) × AreAmountsOver e zs amounts
 amounts_over_one [] h = (1, [], omega arith, tt)
 amounts_over_one (z ∷ zs) h =
-    let is = All-head IsNonnegative z zs h in
-    let (e, amounts, some, are) = amounts_over_one zs (All-tail IsNonnegative z zs h) in
+    let is = All-head IsNonnegativeAmount z zs h in
+    let (e, amounts, some, are) = amounts_over_one zs (All-tail IsNonnegativeAmount z zs h) in
     let n = unsigned_abs z.top in
     let d = unsigned_abs z.bottom in
     let n_is : pos n ≡ z.top = pos_abs_z z.top is.top_low in

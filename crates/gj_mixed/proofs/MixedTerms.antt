@@ -6,7 +6,7 @@ use Rattle.std.proofs.lemmas.List.Elements.{filter-append}
 use Rattle.gj_frac.specs.declared.Frac.{Frac}
 use Rattle.gj_theory.specs.Cuts.{IsGmicValue, IsValueOf}
 use Rattle.gj_rule.specs.Kept.{KeptRule}
-use Rattle.gj_rule.specs.Kind.{IsBounded, IsKindValue, IsMinimalKind}
+use Rattle.gj_rule.specs.Kind.{IsKindWithinBounds, IsKindValue, IsMinimalKind}
 use Rattle.gj_rule.specs.declared.kind.RuleKind.{RuleKind}
 use Rattle.gj_rule.specs.declared.kind.RuleKind.TheVariants.{Gmic, Table}
 use Rattle.gj_row.specs.declared.tableau.Entry.{Entry}
@@ -63,7 +63,7 @@ weight_values weighs slopes (e ∷ entries) (t ∷ terms) h = (
 
 pub mixed_holds_at : {E G : Type 0} (answers : E → Frac → Frac → Type 0) (weighs : G → Frac → Frac → Type 0) (rule : KeptRule E)
     (slopes : KeptSlopes G) (kind : RuleKind) (row : Row) (whole columns : List Entry) (terms weights : List Term) →
-    rule.kind ≡ kind → IsBounded kind → IsMinimalKind kind → HasPart kind row.rhs → AreSlopesOfKind kind slopes.up slopes.down →
+    rule.kind ≡ kind → IsKindWithinBounds kind → IsMinimalKind kind → HasPart kind row.rhs → AreSlopesOfKind kind slopes.up slopes.down →
     AllZip (IsTermOf answers rule) whole terms → AllZip (IsWeightTermOf weighs slopes) columns weights →
     MixedHoldsFor row (Cut terms weights)
 mixed_holds_at answers weighs rule slopes (Gmic f) row whole columns terms weights e bounded minimal part are_slopes h k =

@@ -8,7 +8,7 @@ ghost use Rattle.gj_shape.specs.RowCut.{CutHolds};
 ghost use Rattle.gj_shape.specs.Table.{IsMinimal};
 ghost use Rattle.gj_theory.specs.Cuts.{IsValueOf, IsGmicValue};
 ghost use Rattle.gj_frac.specs.Floor.{HasFractionalPart};
-ghost use Rattle.gj_mixed.specs.MixedRows.{MixedCutHolds, IsNonnegative, AreAmountsOver};
+ghost use Rattle.gj_mixed.specs.MixedRows.{MixedCutHolds, IsNonnegativeAmount, AreAmountsOver};
 ghost use Rattle.gj_mixed.specs.Slopes.{IsWeight, AreSlopesAtZero, AreGmicSlopes};
 
 /// The mixed cut of a row holds whose right side has the fractional part f: by a continuous minimal function with its slopes at 0,
@@ -28,5 +28,5 @@ pub fn mixed_cut()
 
 /// Fractions that are at least 0 are amounts over one denominator, so solutions with such amounts are all solutions.
 pub fn fractions_over_one_denominator()
-    ensures { (zs : List Fraction) → All IsNonnegative zs → (e : ℕ) × (amounts : List ℕ) × (0 < e) × AreAmountsOver e zs amounts }
+    ensures { (zs : List Fraction) → All IsNonnegativeAmount zs → (e : ℕ) × (amounts : List ℕ) × (0 < e) × AreAmountsOver e zs amounts }
 {}

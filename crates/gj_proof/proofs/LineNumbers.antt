@@ -17,7 +17,7 @@ use Rattle.gj_function_lines.proofs.PointLines.{text_of_one, text_of_three}
 use Rattle.gj_lemmas.specs.FirstThatFails.{IsFirstFailing}
 use Rattle.gj_lemmas.proofs.FirstThatFails.{first_failing, one_first_failing}
 use Rattle.gj_lemmas.proofs.Lists.{All-front, All-back, All-range}
-use Rattle.gj_proof.specs.ProofText.{ProofLine, OwnLine, Subject, function, gmic, IfFunction, IsBounded, title_text, claim_word, subject_of, numbers_of, subject_lines, AreSubjectLines, own_lines, lines_of, HasBytes, HasNumber, violation_line, IsProofText}
+use Rattle.gj_proof.specs.ProofText.{ProofLine, OwnLine, Subject, function, gmic, IfFunction, IsBounded, title_text, claim_word, subject_of, numbers_of, subject_lines, AreSubjectLines, own_lines, proof_lines_of, HasBytes, HasNumber, violation_line, IsProofText}
 use Rattle.gj_proof.specs.ProofText.ProofLine.{title, claim, order, place, point, rule_named, violation_shown, last}
 use Rattle.gj_proof.specs.declared.claim.Claim.{Claim}
 use Rattle.gj_proof.specs.declared.claim.Claim.TheVariants.{Minimal, NotMinimal, Cut, Extreme, ExtremeByResidues, NotExtreme}
@@ -29,13 +29,13 @@ use Rattle.gj_proof.proofs.OwnLines.{own_lines_differ, IsOwn, own_lines_are_own,
 -- ---- one number
 
 -- the lines before the first that is this one are others
-first_of : (c : Claim) (l : ProofLine) (n : ℕ) → (h : HasNumber c l n) → IsFirstFailing (All (λ k. k ≢ l)) (lines_of c) h.before l
-first_of c l n h = first_failing (λ k. k ≢ l) (lines_of c) h.before h.after l h.place h.first (λ other. other refl)
+first_of : (c : Claim) (l : ProofLine) (n : ℕ) → (h : HasNumber c l n) → IsFirstFailing (All (λ k. k ≢ l)) (proof_lines_of c) h.before l
+first_of c l n h = first_failing (λ k. k ≢ l) (proof_lines_of c) h.before h.after l h.place h.first (λ other. other refl)
 
 pub one_number : (c : Claim) (l : ProofLine) (n m : ℕ) → HasNumber c l n → HasNumber c l m → n ≡ m
 one_number c l n m h k =
     let P : ProofLine → Type 0 = λ k. k ≢ l in
-    let same = one_first_failing (All P) (All-front P) (lines_of c) h.before k.before l l (first_of c l n h) (first_of c l m k) in
+    let same = one_first_failing (All P) (All-front P) (proof_lines_of c) h.before k.before l l (first_of c l n h) (first_of c l m k) in
     h.number ∙ ap (λ b. length b + 1) same.0 ∙ sym k.number
 
 -- the line of the claim is the second

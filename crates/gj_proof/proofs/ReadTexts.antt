@@ -22,7 +22,7 @@ use Rattle.gj_proof.specs.ProofText.{IfFunction, HasNames, IsBounded, subject_of
 use Rattle.gj_proof.specs.CutTexts.{row_text}
 use Rattle.gj_proof.specs.ExtremeTexts.{group_text, halves_text}
 use Rattle.gj_lex.specs.Parts.{BeginsWithLine}
-use Rattle.gj_proof.specs.ProofGrammar.{title_words, title_rule, claim_words, numbers_of_word, claim_rule, violation_words, violation_rule, rule_part, rows_part, covered_part, modulus_part, groups_part, halves_part, claim_part, proof_text}
+use Rattle.gj_proof.specs.ProofGrammar.{proof_title_words, title_rule, claim_words, numbers_of_word, claim_rule, violation_words, violation_rule, rule_part, rows_part, covered_part, modulus_part, groups_part, halves_part, claim_part, proof_text}
 use Rattle.gj_proof.specs.declared.claim.Claim.{Claim}
 use Rattle.gj_proof.specs.declared.claim.Claim.TheVariants as claims
 use Rattle.gj_proof.specs.declared.claim.ClaimWord.{ClaimWord}
@@ -97,11 +97,11 @@ claim_rule_is_exact n = record {
 title_number : List (List ℕ) → ℕ
 title_number words = get_or (get_or words 1 []) 0 0
 
-one_title : (m n : Numbers) → title_words m ≡ title_words n → m ≡ n
+one_title : (m n : Numbers) → proof_title_words m ≡ proof_title_words n → m ≡ n
 unfolding title_number
 one_title Whole Whole e = refl
 one_title Residues Residues e = refl
-one_title m n e = absurd (let k : title_number (title_words m) ≡ title_number (title_words n) = ap title_number e in omega arith)
+one_title m n e = absurd (let k : title_number (proof_title_words m) ≡ title_number (proof_title_words n) = ap title_number e in omega arith)
 
 title_rule_is_exact : IsExactRule title_rule.Spells title_rule.Breaks
 title_rule_is_exact = record {
@@ -186,17 +186,17 @@ claim_is_plain NotExtreme = plain_by_test (claim_words NotExtreme) refl
 
 title_reads : (n : Numbers) (rest : List ℕ) → title_part.Reads (title_line n ++ rest) n rest
 title_reads Whole rest =
-    line_reads title_rule (title_line Whole ++ rest) rest (title_words Whole) Whole (λ e. cc) (plain_by_test (title_words Whole) refl) refl refl
+    line_reads title_rule (title_line Whole ++ rest) rest (proof_title_words Whole) Whole (λ e. cc) (plain_by_test (proof_title_words Whole) refl) refl refl
 title_reads Residues rest =
-    line_reads title_rule (title_line Residues ++ rest) rest (title_words Residues) Residues (λ e. cc)
-    (plain_by_test (title_words Residues) refl) refl refl
+    line_reads title_rule (title_line Residues ++ rest) rest (proof_title_words Residues) Residues (λ e. cc)
+    (plain_by_test (proof_title_words Residues) refl) refl refl
 
 title_found : (n : Numbers) (text rest : List ℕ) → title_part.Reads text n rest → text ≡ title_line n ++ rest
 title_found n text rest h =
     let (words, is, spelled) = line_found title_rule text rest n h in
     spelled ∙ ap (λ ws. line (join_with_byte 32 ws) ++ rest) is ∙ ap (λ t. t ++ rest) (spelled_so n)
   where
-    spelled_so : (n : Numbers) → line (join_with_byte 32 (title_words n)) ≡ title_line n
+    spelled_so : (n : Numbers) → line (join_with_byte 32 (proof_title_words n)) ≡ title_line n
     spelled_so Whole = refl
     spelled_so Residues = refl
 

@@ -44,30 +44,30 @@ use Rattle.gj_proof.specs.declared.cut_rows.RowHead.{RowHead}
 
 -- ---- `gj-proof N`
 
-abbrev pub title_words : Numbers → List (List ℕ)
-title_words Whole = codes "gj-proof" ∷ codes "1" ∷ []
-title_words Residues = codes "gj-proof" ∷ codes "2" ∷ []
+abbrev pub proof_title_words : Numbers → List (List ℕ)
+proof_title_words Whole = codes "gj-proof" ∷ codes "1" ∷ []
+proof_title_words Residues = codes "gj-proof" ∷ codes "2" ∷ []
 
 -- it tells the numbers of the rows
 abbrev pub title_rule : LineRule Numbers
 title_rule = record {
-  Spells = λ words n. words ≡ title_words n;
-  Breaks = λ words e. (e ≡ reason.Form) × ((n : Numbers) → words ≡ title_words n → ⊥);
+  Spells = λ words n. words ≡ proof_title_words n;
+  Breaks = λ words e. (e ≡ reason.Form) × ((n : Numbers) → words ≡ proof_title_words n → ⊥);
 }
 
 -- ---- `claim W`
 
 -- the word behind `claim`
-abbrev pub word_text : ClaimWord → List ℕ
-word_text Minimal = codes "minimal"
-word_text NotMinimal = codes "not-minimal"
-word_text Cut = codes "cut"
-word_text (Extreme numbers) = codes "extreme"
-word_text NotExtreme = codes "not-extreme"
+abbrev pub claim_word_text : ClaimWord → List ℕ
+claim_word_text Minimal = codes "minimal"
+claim_word_text NotMinimal = codes "not-minimal"
+claim_word_text Cut = codes "cut"
+claim_word_text (Extreme numbers) = codes "extreme"
+claim_word_text NotExtreme = codes "not-extreme"
 
 -- the words of its line
 abbrev pub claim_words : ClaimWord → List (List ℕ)
-claim_words w = codes "claim" ∷ word_text w ∷ []
+claim_words w = codes "claim" ∷ claim_word_text w ∷ []
 
 -- the numbers of the texts in which a claim of the word stands
 abbrev pub numbers_of_word : ClaimWord → Numbers

@@ -263,8 +263,8 @@ own_lines (ExtremeByResidues f lines rows) = extreme_lines Residues lines rows
 own_lines (NotExtreme f h) = record { name = halves; bytes = halves_line h } ∷ pair_lines 0 (zip h.first h.second)
 
 -- all lines of the text of a claim
-abbrev pub lines_of : Claim → List ProofLine
-lines_of c = title ∷ claim ∷ [] ++ subject_lines (subject_of c) ++ map (λ l. l.name) (own_lines c) ++ last ∷ []
+abbrev pub proof_lines_of : Claim → List ProofLine
+proof_lines_of c = title ∷ claim ∷ [] ++ subject_lines (subject_of c) ++ map (λ l. l.name) (own_lines c) ++ last ∷ []
 
 -- the bytes of the line of a claim's word, and of its own lines
 abbrev pub HasBytes : Claim → ProofLine → List ℕ → Type 0
@@ -275,7 +275,7 @@ HasBytes c l bytes =
 pub record HasNumber (c : Claim) (l : ProofLine) (n : ℕ) : Type 0 where
   pub before : List ProofLine
   pub after : List ProofLine
-  pub place : lines_of c ≡ before ++ l ∷ after
+  pub place : proof_lines_of c ≡ before ++ l ∷ after
   pub first : All (λ k. k ≢ l) before
   pub number : n ≡ length before + 1
 

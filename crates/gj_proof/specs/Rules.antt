@@ -252,27 +252,27 @@ demands_of (NotExtreme f h) =
     minimal ∷ continuous ∷ scale ∷ pair_demands (range_with_len 0 h.order) ++ first ∷ second ∷ same ∷ []
 
 -- the line of the proof text with which a demand is written
-abbrev pub line_of : Demand → ProofLine
-line_of minimal = claim
-line_of point = violation_shown
-line_of (fraction i) = cut i
-line_of (limit i) = cut i
-line_of (term_limit i j) = term i j
-line_of (term_name i j) = term i j
-line_of (term_value i j) = term i j
-line_of continuous = claim
-line_of (cover i) = covered i
-line_of (row g) = group g
-line_of (reduce g r) = reduction g r
-line_of (size g r) = reduction g r
-line_of (pivot g) = group_pivot g
-line_of rank = last
-line_of scale = halves
-line_of (range i) = pair i
-line_of (average i) = pair i
-line_of first = halves
-line_of second = halves
-line_of same = halves
+abbrev pub line_of_demand : Demand → ProofLine
+line_of_demand minimal = claim
+line_of_demand point = violation_shown
+line_of_demand (fraction i) = cut i
+line_of_demand (limit i) = cut i
+line_of_demand (term_limit i j) = term i j
+line_of_demand (term_name i j) = term i j
+line_of_demand (term_value i j) = term i j
+line_of_demand continuous = claim
+line_of_demand (cover i) = covered i
+line_of_demand (row g) = group g
+line_of_demand (reduce g r) = reduction g r
+line_of_demand (size g r) = reduction g r
+line_of_demand (pivot g) = group_pivot g
+line_of_demand rank = last
+line_of_demand scale = halves
+line_of_demand (range i) = pair i
+line_of_demand (average i) = pair i
+line_of_demand first = halves
+line_of_demand second = halves
+line_of_demand same = halves
 
 -- the violation of the claim, if it has one, meets the rule `point`
 abbrev pub IsShown : Claim → Type 0

@@ -68,7 +68,7 @@ pub(crate) enum ClaimWord {
 }
 
 impl ClaimWord {
-    ghost use Rattle.gj_proof.specs.ProofGrammar.{numbers_of_word, word_text};
+    ghost use Rattle.gj_proof.specs.ProofGrammar.{numbers_of_word, claim_word_text};
 
     /// The words of all claims.
     pub const ALL: [ClaimWord; 6] = [
@@ -82,7 +82,7 @@ impl ClaimWord {
 
     /// The word itself, as it stands behind `claim`.
     pub fn word(self) -> &'static str
-        ensures { result.now ≡ word_text self }
+        ensures { result.now ≡ claim_word_text self }
     {
         match self {
             ClaimWord::Minimal => "minimal",

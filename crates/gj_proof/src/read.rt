@@ -5,7 +5,7 @@ ghost use Rattle.gj_lex.specs.Words.{word_texts};
 ghost use Rattle.gj_lex.specs.Parts.{line_part, IsFaultOf};
 ghost use Rattle.gj_lex.specs.declared.spelling.Spelling.TheVariants.{Strict};
 ghost use Rattle.gj_proof.specs.ProofText.{IsBounded, IsProofText, extreme_claim};
-ghost use Rattle.gj_proof.specs.ProofGrammar.{title_words, title_rule, claim_words, numbers_of_word, claim_rule, claim_part, extreme_part, proof_text};
+ghost use Rattle.gj_proof.specs.ProofGrammar.{proof_title_words, title_rule, claim_words, numbers_of_word, claim_rule, claim_part, extreme_part, proof_text};
 ghost use Rattle.gj_proof.specs.FirstFault.{NamesFirstFault, IsMemoryFault};
 ghost use Rattle.gj_proof.specs.declared.claim.Claim.{Claim};
 ghost use Rattle.gj_proof.specs.declared.claim.ClaimWord.{ClaimWord};
@@ -84,8 +84,8 @@ fn numbers_at(text: &[u8]) -> Result<(Numbers, &[u8]), PartFault>
 
 /// The numbers that the line tells.
 fn numbers_in(line: &[u8]) -> Option<Numbers>
-    ensures found { IfSome result (λ n. word_texts line.now ≡ title_words n) }
-    ensures none { IfNone result ((n : Numbers) → word_texts line.now ≡ title_words n → ⊥) }
+    ensures found { IfSome result (λ n. word_texts line.now ≡ proof_title_words n) }
+    ensures none { IfNone result ((n : Numbers) → word_texts line.now ≡ proof_title_words n → ⊥) }
 {
     if has_words(line, b"gj-proof 1") {
         return Some(Numbers::Whole);

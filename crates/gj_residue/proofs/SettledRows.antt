@@ -13,7 +13,7 @@ use Rattle.gj_theory.proofs.Kernels.{kernel_none, kernel_columns, kernel_solves,
 use Rattle.gj_theory.proofs.Passing.{none_passes}
 use Rattle.gj_theory.proofs.ResidueElimination.{elimination_modulo_zero}
 use Rattle.gj_theory.proofs.Triangular.{rank_at_most, zeros_of}
-use Rattle.gj_residue.specs.Settled.{AnswersRows, IsSettled, IsTooWide, insertion_passes, kernel_passes, IsKernelOf, IsSettledBy, IsSettledByResidues, fault_of}
+use Rattle.gj_residue.specs.Settled.{AnswersRows, IsSettled, AreRowsTooWide, insertion_passes, kernel_passes, IsKernelOf, IsSettledBy, IsSettledByResidues, fault_of}
 use Rattle.gj_elim.specs.declared.faults.ElimFault.{ElimFault}
 use Rattle.gj_elim.specs.declared.faults.ElimFault.TheVariants.{Wide as ElimWide, Memory as ElimMemory}
 use Rattle.gj_residue.specs.declared.settling.SettleFault.{SettleFault}
@@ -90,15 +90,15 @@ settled_by_residues_of_all n rows left (Kernel numbers) same p h = absurd h
 
 -- a marked number of the kernel is one of a solution
 wide_kernel : (n : ℕ) (rows : List (List ℤ)) (kept : List KeptRow) → kept ≡ (elimination n rows).kept →
-    (Passes (elimination n rows).marked → ⊥) → Passes (marked_in (kernel n kept)) → IsTooWide n rows
+    (Passes (elimination n rows).marked → ⊥) → Passes (marked_in (kernel n kept)) → AreRowsTooWide n rows
 wide_kernel n rows kept same narrow p = by_case (kernel n kept) refl p
   where
-    by_case : (o : Option Solution) → kernel n kept ≡ o → Passes (marked_in o) → IsTooWide n rows
+    by_case : (o : Option Solution) → kernel n kept ≡ o → Passes (marked_in o) → AreRowsTooWide n rows
     by_case None e q = absurd (none_passes q)
     by_case (Some s) e q = kernel_passes narrow s (ap (kernel n) (sym same) ∙ e) q
 
 pub wide_residues : (n : ℕ) (rows left : List (List ℤ)) → left ≡ rows → Passes (elimination n rows).marked →
-    length (elimination_by (modulo modulus) n left).kept < n → IsTooWide n rows
+    length (elimination_by (modulo modulus) n left).kept < n → AreRowsTooWide n rows
 wide_residues n rows left same p few =
     insertion_passes p (subst (λ (rs : List (List ℤ)). length (elimination_by (modulo modulus) n rs).kept < n) same few)
 
@@ -134,7 +134,7 @@ settled_plain n m rows left kept s columns same lengths kept_is narrow h =
     (subst (λ (k : ℕ). IsSettledBy k kept s) columns h)
 
 pub wide_plain : (n m : ℕ) (rows left : List (List ℤ)) (kept : List KeptRow) → m ≡ n → left ≡ rows →
-    kept ≡ (elimination n left).kept → (Passes (elimination n left).marked → ⊥) → Passes (marked_in (kernel m kept)) → IsTooWide n rows
+    kept ≡ (elimination n left).kept → (Passes (elimination n left).marked → ⊥) → Passes (marked_in (kernel m kept)) → AreRowsTooWide n rows
 wide_plain n m rows left kept columns same kept_is narrow p =
     wide_kernel n rows kept (kept_is ∙ ap (λ rs. (elimination n rs).kept) same)
     (subst (λ (rs : List (List ℤ)). Passes (elimination n rs).marked → ⊥) same narrow)

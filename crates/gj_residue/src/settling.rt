@@ -6,7 +6,7 @@ ghost use Rattle.gj_theory.specs.Modulus.{modulus};
 ghost use Rattle.gj_theory.specs.TriangularResidues.{AreTriangularResidues};
 ghost use Rattle.gj_theory.specs.TriangularRows.{AreTriangular};
 ghost use Rattle.gj_frac.specs.Fraction.{Fits};
-ghost use Rattle.gj_residue.specs.Settled.{IsSettled, IsSettledBy, IsSettledByResidues, IsTooWide, AnswersRows, fault_of};
+ghost use Rattle.gj_residue.specs.Settled.{IsSettled, IsSettledBy, IsSettledByResidues, AreRowsTooWide, AnswersRows, fault_of};
 ghost use Rattle.gj_elim.specs.KeptRows.{marked_in};
 
 use crate::basis::ResidueBasis;
@@ -71,7 +71,7 @@ pub fn settle<R: RowSource>(
     requires entries { All (All Fits) (R.all rows.old) }
     requires count { length (R.all rows.old) < 2 ^ 63 }
     ensures settled { IfOk result (IsSettled columns (R.all rows.old)) }
-    ensures wide { IsErrOf result SettleFault.Wide → IsTooWide columns (R.all rows.old) }
+    ensures wide { IsErrOf result SettleFault.Wide → AreRowsTooWide columns (R.all rows.old) }
     ensures rows { R.all rows.new ≡ R.all rows.old }
     ensures answers { IfOk result (AnswersRows columns (R.all rows.old)) }
 {

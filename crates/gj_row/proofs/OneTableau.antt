@@ -24,7 +24,7 @@ use Rattle.gj_lemmas.proofs.Lists.{All-front, All-back}
 use Rattle.gj_row.specs.TableauLimits.{AreWithinLimits, IsRowWithinLimits, AreNames, IsTableau, entry_count}
 use Rattle.gj_shape.specs.Limits.{IsSmallNumber}
 use Rattle.gj_row.specs.TableauText.{SpellsEntry, SpellsNext, SpellNumbers, is_zero, entry_at, entries_from, records_of, SpellsRow, SpellsTableau, IsTableauText}
-use Rattle.gj_row.specs.FirstFault.{BreaksName, BreaksNumber, HasNumberFault, entries_of, HasHeaderFault, HasRowFault, HasFirstFault, IsFirstFaultOfTableau, header, columns, name, fields, rows, number, in_header, in_row}
+use Rattle.gj_row.specs.FirstFault.{BreaksName, BreaksNumber, HasNumberFault, row_entries, HasHeaderFault, HasRowFault, HasFirstFault, IsFirstFaultOfTableau, header, columns, name, fields, rows, number, in_header, in_row}
 use Rattle.gj_row.specs.Reading.{IsMemoryFault, NamesRecord}
 use Rattle.gj_row.specs.declared.faults.RowFault.{RowFault}
 use Rattle.gj_row.specs.declared.faults.RowFault.TheVariants.{Refused, Memory}
@@ -188,12 +188,12 @@ entries_long c (x ∷ xs) ys =
     let b = length-append (entry_at c x) (entries_from (c + 1) (xs ++ ys)) in
     omega arith
 
-front_few : (xs ys : List Frac) → length (entries_of xs) ≤ length (entries_of (xs ++ ys))
+front_few : (xs ys : List Frac) → length (row_entries xs) ≤ length (row_entries (xs ++ ys))
 front_few [] ys = omega arith
 front_few (x ∷ xs) ys = entries_long 0 xs ys
 
 pub number_denied : (used : ℕ) (ws : List (List ℕ)) (zs : List Frac) (e : RowReason) → SpellNumbers ws zs → AreWithinLimits zs →
-    used + length (entries_of zs) ≤ 100000 → HasNumberFault used ws e → ⊥
+    used + length (row_entries zs) ≤ 100000 → HasNumberFault used ws e → ⊥
 number_denied used ws zs e spelled within few fault =
     let p = parted fault.front fault.back fault.word zs (subst (λ v. SpellNumbers v zs) fault.place spelled) in
     let same : p.xs ≡ fault.xs = one_list fault.front p.xs fault.xs p.spelled fault.good.spelled in
@@ -201,14 +201,14 @@ number_denied used ws zs e spelled within few fault =
     p.place ∙ ap (λ l. l ++ p.x ∷ p.ys) same ∙ sym (append_assoc fault.xs (p.x ∷ []) p.ys) in
     let limits = subst AreWithinLimits split within in
     let next = subst (λ l. SpellsNext l fault.word p.x) same p.next in
-    let count = subst (λ l. used + length (entries_of l) ≤ 100000) split few in
+    let count = subst (λ l. used + length (row_entries l) ≤ 100000) split few in
     denied e fault.xs fault.word p.x p.ys limits next count fault.breaks
   where
     small_there : (xs : List Frac) (x : Frac) (ys : List Frac) → AreWithinLimits ((xs ++ x ∷ []) ++ ys) → IsSmallNumber x
     small_there xs x ys limits = All-head IsSmallNumber x [] (All-back IsSmallNumber xs (x ∷ []) (All-front IsSmallNumber (xs ++ x ∷ []) ys limits.small))
 
     denied : (e : RowReason) (xs : List Frac) (w : List ℕ) (x : Frac) (ys : List Frac) → AreWithinLimits ((xs ++ x ∷ []) ++ ys) → SpellsNext xs w x →
-        used + length (entries_of ((xs ++ x ∷ []) ++ ys)) ≤ 100000 → BreaksNumber used xs w e → ⊥
+        used + length (row_entries ((xs ++ x ∷ []) ++ ys)) ≤ 100000 → BreaksNumber used xs w e → ⊥
     denied Number xs w x ys limits next count b = b x next
     denied Large xs w x ys limits next count b =
         b.2 (subst IsSmallNumber (one_next xs w x b.0 next b.1) (small_there xs x ys limits))
@@ -216,7 +216,7 @@ number_denied used ws zs e spelled within few fault =
         b.3 (subst (λ y. HasCommonDenominator (xs ++ y ∷ [])) (one_next xs w x b.0 next b.1) (front_common (xs ++ x ∷ []) ys limits.common))
     denied Entries xs w x ys limits next count b =
         let same = one_next xs w b.0 x b.1 next in
-        let many = subst (λ y. 100000 < used + length (entries_of (xs ++ y ∷ []))) same b.3 in
+        let many = subst (λ y. 100000 < used + length (row_entries (xs ++ y ∷ []))) same b.3 in
         let front = front_few (xs ++ x ∷ []) ys in
         omega arith
     denied Header xs w x ys limits next count b = b

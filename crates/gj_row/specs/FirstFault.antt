@@ -46,9 +46,9 @@ pub record IsNewName (names : List (List ℕ)) (word : List ℕ) : Type 0 where
 -- ---- numbers
 
 -- the entries that are not 0 of numbers that begin with a right side
-abbrev pub entries_of : List Frac → List Entry
-entries_of [] = []
-entries_of (right ∷ values) = entries_from 0 values
+abbrev pub row_entries : List Frac → List Entry
+row_entries [] = []
+row_entries (right ∷ values) = entries_from 0 values
 
 -- why the word cannot follow these numbers of a row, which follows rows with `used` entries that are not 0: it spells no number, or
 -- else one above 2^31 in absolute value, or else one that leaves no common denominator up to 2^31 - 1, or else one entry too many
@@ -57,7 +57,7 @@ BreaksNumber used xs word Number = (x : Frac) → SpellsNext xs word x → ⊥
 BreaksNumber used xs word Large = (x : Frac) × SpellsNext xs word x × (IsSmallNumber x → ⊥)
 BreaksNumber used xs word Fine = (x : Frac) × SpellsNext xs word x × IsSmallNumber x × (HasCommonDenominator (xs ++ x ∷ []) → ⊥)
 BreaksNumber used xs word Entries = (x : Frac) × SpellsNext xs word x × AreWithinLimits (xs ++ x ∷ [])
-    × (most_entries < used + length (entries_of (xs ++ x ∷ [])))
+    × (most_entries < used + length (row_entries (xs ++ x ∷ [])))
 BreaksNumber used xs word Header = ⊥
 BreaksNumber used xs word Fields = ⊥
 BreaksNumber used xs word Columns = ⊥
@@ -69,7 +69,7 @@ BreaksNumber used xs word Twice = ⊥
 pub record BeginRow (used : ℕ) (words : List (List ℕ)) (xs : List Frac) : Type 0 where
   pub spelled : SpellNumbers words xs
   pub within : AreWithinLimits xs
-  pub few : used + length (entries_of xs) ≤ most_entries
+  pub few : used + length (row_entries xs) ≤ most_entries
 
 -- ---- the first word of a record that breaks a rule
 

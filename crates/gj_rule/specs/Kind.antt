@@ -15,9 +15,9 @@ IsKind (Gmic f) = IsInside f × HasDenominatorBelow denominator_bound f
 IsKind (Table shape) = Unit {0}
 
 -- what holds of the kind of each rule: that, or the bounds of functions
-abbrev pub IsBounded : RuleKind → Type 0
-IsBounded (Gmic f) = IsKind (Gmic f)
-IsBounded (Table shape) = IsWithinBounds shape
+abbrev pub IsKindWithinBounds : RuleKind → Type 0
+IsKindWithinBounds (Gmic f) = IsKind (Gmic f)
+IsKindWithinBounds (Table shape) = IsWithinBounds shape
 
 -- y is the kind's value at x
 abbrev pub IsKindValue : RuleKind → Frac → Frac → Type 0

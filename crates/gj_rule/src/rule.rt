@@ -2,7 +2,7 @@
 ghost use Rattle.std.specs.Prelude.{◌≡◌, pos};
 ghost use Rattle.gj_frac.specs.Fraction.{IsRatio};
 ghost use Rattle.gj_shape.specs.FunctionData.{IsWithinBounds};
-ghost use Rattle.gj_rule.specs.Kind.{IsKind, IsBounded, IsKindValue, HasPlace};
+ghost use Rattle.gj_rule.specs.Kind.{IsKind, IsKindWithinBounds, IsKindValue, HasPlace};
 ghost use Rattle.gj_shape.specs.Limits.{IsRowNumber};
 ghost use Rattle.gj_rule.specs.Kept.{KeptRule, Evaluates};
 
@@ -64,7 +64,7 @@ impl<E: Evaluator> Rule<E> {
     /// The place f, where the values are 1: the f of the mixed-integer cut, or k/q of a function.
     pub fn place(&self) -> Frac
         ensures place { HasPlace self.now.kind result }
-        ensures limits { IsBounded self.now.kind }
+        ensures limits { IsKindWithinBounds self.now.kind }
     {
         match &self.kind {
             RuleKind::Gmic(f) => *f,

@@ -10,7 +10,7 @@ use Rattle.gj_lemmas.proofs.Integers.{mul_comm_z}
 use Rattle.gj_lemmas.proofs.Lists.{All-two}
 use Rattle.gj_lemmas.proofs.Ratios.{ratio_less}
 use Rattle.gj_frac.proofs.SameValues.{one_place}
-use Rattle.gj_shape.specs.Breaks.{point_at, points_at, even, on_line, IsLine, IsPiece, AreLaid, AreGridPoints, AreAscending, AreOnGrid, AreListsOfBreaks}
+use Rattle.gj_shape.specs.Breaks.{point_at, points_at, even, on_line, IsStraightLine, IsPiece, AreLaid, AreGridPoints, AreAscending, AreOnGrid, AreListsOfBreaks}
 use Rattle.gj_shape.specs.Breaks.AreLaid.{last, onward}
 use Rattle.gj_shape.specs.Given.{IsSmall, AreWithinBounds, IsOrder, IsPlace, HaveLength, HasFault, IsTooFineOf}
 use Rattle.gj_shape.specs.Points.{lefts, values, rights, all_fractions}
@@ -58,7 +58,7 @@ line_more front u w n i items x h is =
 
 -- the point of a breakpoint and the line behind it make a piece
 pub piece_pushed : (b : Break) (w : Frac) (n : ℕ) (front pushed items : List Point) →
-    (between : List Frac) × IsLine b.right w n between × (items ≡ pushed ++ map even between) → pushed ≡ front ++ point_at b ∷ [] →
+    (between : List Frac) × IsStraightLine b.right w n between × (items ≡ pushed ++ map even between) → pushed ≡ front ++ point_at b ∷ [] →
     (more : List Point) × IsPiece b w n more × (items ≡ front ++ more)
 piece_pushed b w n front pushed items (between, line, items_are) pushed_is = (
   point_at b ∷ map even between,

@@ -9,7 +9,7 @@ use Rattle.gj_frac.proofs.SameValues.{same_from_is}
 use Rattle.gj_lemmas.proofs.FirstThatFails.{IsPrefixClosed, first_failing_denies, one_first_failing}
 use Rattle.gj_shape.specs.FunctionData.{FunctionData, IsWithinBounds}
 use Rattle.gj_shape.specs.Given.{IsSmall, AreWithinBounds, IsGivenBy}
-use Rattle.gj_shape.specs.Denominators.{IsRefusal}
+use Rattle.gj_shape.specs.Denominators.{IsFractionRefusal}
 use Rattle.gj_shape.specs.Points.{lefts, values, rights, fractions_of, all_fractions, ArePointsOf, IsPointFault}
 use Rattle.gj_shape.specs.declared.faults.FractionFault.{FractionFault}
 use Rattle.gj_shape.specs.declared.faults.FractionFault.TheVariants as refusal
@@ -118,7 +118,7 @@ closed_behind : (xs : List Frac) → IsPrefixClosed (λ ys. AreWithinBounds (xs 
 closed_behind xs ys zs h = within_bounds_closed (xs ++ ys) zs (subst AreWithinBounds (sym (append_assoc xs ys zs)) h)
 
 -- fractions that are within bounds behind others are not refused
-not_refused : (xs ys : List Frac) (e : FractionFault) → AreWithinBounds (xs ++ ys) → IsRefusal xs ys e → ⊥
+not_refused : (xs ys : List Frac) (e : FractionFault) → AreWithinBounds (xs ++ ys) → IsFractionRefusal xs ys e → ⊥
 not_refused xs ys refusal.Large within (passed, x, first, large) =
     first_failing_denies (λ zs. AreWithinBounds (xs ++ zs)) (closed_behind xs) ys passed x first within
 not_refused xs ys refusal.Fine within (passed, x, first, small) =

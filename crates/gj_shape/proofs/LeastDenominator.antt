@@ -14,7 +14,7 @@ use Rattle.gj_lemmas.proofs.FirstThatFails.{IsPrefixClosed}
 use Rattle.gj_lemmas.proofs.Lists.{All-front, All-back}
 use Rattle.gj_shape.specs.Limits.{greatest_value}
 use Rattle.gj_shape.specs.Given.{in_order, IsSmall, IsCommonDenominator, IsLeastCommonDenominator, HasCommonDenominator, AreWithin, AreWithinBounds, IsFirstFractionAtFault}
-use Rattle.gj_shape.specs.Denominators.{Extends, ExtendsBy, AreWithinOver, AreWithinBoundsOver, HasNoCommonWith, IsRefused, IsFirstRefused, IsRefusal, IsRefusedBehind, IsFaultIn, fault_at}
+use Rattle.gj_shape.specs.Denominators.{Extends, ExtendsBy, AreWithinOver, AreWithinBoundsOver, HasNoCommonWith, IsFractionRefused, IsFirstRefused, IsFractionRefusal, IsRefusedBehind, IsFaultIn, fault_at}
 use Rattle.gj_shape.proofs.InOrder.{before, length-before, place_of_index, StandAt}
 use Rattle.gj_shape.specs.declared.faults.FractionFault.{FractionFault}
 use Rattle.gj_shape.specs.declared.faults.FractionFault.TheVariants.{Large, Fine}
@@ -115,13 +115,13 @@ no_common_with xs x scale h none d =
 
 -- with it the fractions are not within bounds
 leaves_bounds : (xs : List Frac) (x : Frac) (scale : ℕ) (e : FractionFault) → AreWithinBoundsOver xs scale →
-    IsRefused scale x e → AreWithinBounds (xs ++ x ∷ []) → ⊥
+    IsFractionRefused scale x e → AreWithinBounds (xs ++ x ∷ []) → ⊥
 leaves_bounds xs x scale Large least refused within = refused (All-head IsSmall x [] (All-back IsSmall xs (x ∷ []) within.small))
 leaves_bounds xs x scale Fine least refused within = no_common_with xs x scale least refused.1 within.common
 
 -- it is the first of some fractions, behind those that have passed
 refused_first : (xs ys passed after : List Frac) (x : Frac) (scale : ℕ) (e : FractionFault) → ys ≡ passed ++ x ∷ after →
-    AreWithinBoundsOver (xs ++ passed) scale → IsRefused scale x e → IsFirstRefused xs ys passed x
+    AreWithinBoundsOver (xs ++ passed) scale → IsFractionRefused scale x e → IsFirstRefused xs ys passed x
 refused_first xs ys passed after x scale e place least refused = record {
   after = after;
   place = place;
@@ -131,26 +131,26 @@ refused_first xs ys passed after x scale e place least refused = record {
 }
 
 refused_at : (xs ys passed after : List Frac) (x : Frac) (scale : ℕ) (e : FractionFault) → ys ≡ passed ++ x ∷ after →
-    AreWithinBoundsOver (xs ++ passed) scale → IsRefused scale x e → IsRefusal xs ys e
+    AreWithinBoundsOver (xs ++ passed) scale → IsFractionRefused scale x e → IsFractionRefusal xs ys e
 refused_at xs ys passed after x scale Large place least refused =
     (passed, x, refused_first xs ys passed after x scale Large place least refused, refused)
 refused_at xs ys passed after x scale Fine place least refused =
     (passed, x, refused_first xs ys passed after x scale Fine place least refused, refused.0)
 
 -- the first, the second or the third of three
-pub refused_left : (scale : ℕ) (l v r : Frac) (e : FractionFault) → IsRefused scale l e →
+pub refused_left : (scale : ℕ) (l v r : Frac) (e : FractionFault) → IsFractionRefused scale l e →
     IsRefusedBehind scale (l ∷ v ∷ r ∷ []) e
 refused_left scale l v r e refused xs least =
     refused_at xs _ [] (v ∷ r ∷ []) l scale e refl
     (subst (λ ys. AreWithinBoundsOver ys scale) (sym (append-nil xs)) least) refused
 
-pub refused_value : (scale a : ℕ) (l v r : Frac) (e : FractionFault) → Extends greatest_value scale l a → IsRefused a v e →
+pub refused_value : (scale a : ℕ) (l v r : Frac) (e : FractionFault) → Extends greatest_value scale l a → IsFractionRefused a v e →
     IsRefusedBehind scale (l ∷ v ∷ r ∷ []) e
 refused_value scale a l v r e h refused xs least =
     refused_at xs _ (l ∷ []) (r ∷ []) v a e refl (least_with_next xs l scale a least h) refused
 
 pub refused_right : (scale a b : ℕ) (l v r : Frac) (e : FractionFault) → Extends greatest_value scale l a → Extends greatest_value a v b →
-    IsRefused b r e → IsRefusedBehind scale (l ∷ v ∷ r ∷ []) e
+    IsFractionRefused b r e → IsRefusedBehind scale (l ∷ v ∷ r ∷ []) e
 refused_right scale a b l v r e h k refused xs least =
     refused_at xs _ (l ∷ v ∷ []) [] r b e refl
     (subst (λ ys. AreWithinBoundsOver ys b) (append_assoc xs (l ∷ []) (v ∷ []))
@@ -181,7 +181,7 @@ first_fault ls vs rs i l v r passed x at h =
 
 -- the first fraction of a point that is refused behind all fractions before is the first fault
 pub fault_in : (ls vs rs : List Frac) (i : ℕ) (l v r : Frac) (e : FractionFault) → StandAt ls vs rs i l v r →
-    IsRefusal (before ls vs rs i) (l ∷ v ∷ r ∷ []) e → IsFaultIn ls vs rs (fault_at e i)
+    IsFractionRefusal (before ls vs rs i) (l ∷ v ∷ r ∷ []) e → IsFaultIn ls vs rs (fault_at e i)
 fault_in ls vs rs i l v r Large at (passed, x, first, large) =
     (before ls vs rs i ++ passed, x, first_fault ls vs rs i l v r passed x at first, large)
 fault_in ls vs rs i l v r Fine at (passed, x, first, small) =

@@ -73,7 +73,7 @@ abbrev pub even : Frac → Point
 even x = record { left = x; value = x; right = x }
 
 -- the points on the line from u to w, n steps long, one a step, without its two ends
-pub record IsLine (u w : Frac) (n : ℕ) (between : List Frac) : Type 0 where
+pub record IsStraightLine (u w : Frac) (n : ℕ) (between : List Frac) : Type 0 where
   pub count : length between + 1 ≡ n
   pub on : (i : ℕ) (x : Frac) → i < length between → SameValue (fraction_of (slice_index_or between i x)) (on_line u w n (i + 1))
 
@@ -81,7 +81,7 @@ pub record IsLine (u w : Frac) (n : ℕ) (between : List Frac) : Type 0 where
 -- its own, and those on the line
 pub record IsPiece (b : Break) (w : Frac) (n : ℕ) (points : List Point) : Type 0 where
   pub between : List Frac
-  pub line : IsLine b.right w n between
+  pub line : IsStraightLine b.right w n between
   pub points_are : points ≡ point_at b ∷ map even between
 
 -- the points of the grid of order q from the first breakpoint on; behind the last one the function goes to w at 1

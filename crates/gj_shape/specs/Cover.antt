@@ -70,15 +70,15 @@ pub record IsFirstFace (q : ℕ) (P : FaceKind → ℕ → ℕ → Type 0) (face
   pub holds : P face.kind face.a face.b
 
 -- the interval has a line
-abbrev pub HasLine : List CoverLine → ℕ → Type 0
-HasLine lines i = Any (λ l. l.interval ≡ i) lines
+abbrev pub HasCoverLine : List CoverLine → ℕ → Type 0
+HasCoverLine lines i = Any (λ l. l.interval ≡ i) lines
 
 -- an interval without a line that is joined to one with a line
 pub record JoinsLines (q : ℕ) (Tight : ℕ → ℕ → Type 0) (lines : List CoverLine) (i j : ℕ) : Type 0 where
   pub first_within : i < q
   pub second_within : j < q
-  pub no_line : HasLine lines i → ⊥
-  pub line : HasLine lines j
+  pub no_line : HasCoverLine lines i → ⊥
+  pub line : HasCoverLine lines j
   pub joined : AreJoined q Tight i j
 
 -- the line joins the least such interval to the least such, by the first face in walk order that joins the two
@@ -90,7 +90,7 @@ pub record IsJoiningLine (q : ℕ) (Tight : ℕ → ℕ → Type 0) (lines : Lis
 -- an interval without a line that is directly covered
 pub record IsOpen (q : ℕ) (Tight : ℕ → ℕ → Type 0) (lines : List CoverLine) (i : ℕ) : Type 0 where
   pub within : i < q
-  pub no_line : HasLine lines i → ⊥
+  pub no_line : HasCoverLine lines i → ⊥
   pub covered : IsDirectlyCovered q Tight i
 
 -- no line joins; the line opens a component with the least such interval, by the first triangle that covers it

@@ -39,9 +39,9 @@ abbrev pub ExtendsBy : ℕ → List Frac → ℕ → Type 0
 ExtendsBy scale ys m = (xs : List Frac) → AreWithinBoundsOver xs scale → AreWithinBoundsOver (xs ++ ys) m
 
 -- why the fraction x does not go with the least common denominator of those before it
-abbrev pub IsRefused : ℕ → Frac → FractionFault → Type 0
-IsRefused scale x refusal.Large = IsSmall x → ⊥
-IsRefused scale x refusal.Fine = IsSmall x × HasNoCommonWith scale x
+abbrev pub IsFractionRefused : ℕ → Frac → FractionFault → Type 0
+IsFractionRefused scale x refusal.Large = IsSmall x → ⊥
+IsFractionRefused scale x refusal.Fine = IsSmall x × HasNoCommonWith scale x
 
 -- x is the first of the fractions ys that fails a test behind the fractions xs, and `passed` stands before it
 abbrev pub IsFirstRefused : List Frac → List Frac → List Frac → Frac → Type 0
@@ -49,13 +49,13 @@ IsFirstRefused xs ys passed x = IsFirstFailing (λ zs. AreWithinBounds (xs ++ zs
 
 -- why the fractions ys cannot follow xs: the first that fails a test is too large, or it is not, and leaves no common
 -- denominator from 1 to 2^31 - 1
-abbrev pub IsRefusal : List Frac → List Frac → FractionFault → Type 0
-IsRefusal xs ys refusal.Large = (passed : List Frac) × (x : Frac) × IsFirstRefused xs ys passed x × (IsSmall x → ⊥)
-IsRefusal xs ys refusal.Fine = (passed : List Frac) × (x : Frac) × IsFirstRefused xs ys passed x × IsSmall x
+abbrev pub IsFractionRefusal : List Frac → List Frac → FractionFault → Type 0
+IsFractionRefusal xs ys refusal.Large = (passed : List Frac) × (x : Frac) × IsFirstRefused xs ys passed x × (IsSmall x → ⊥)
+IsFractionRefusal xs ys refusal.Fine = (passed : List Frac) × (x : Frac) × IsFirstRefused xs ys passed x × IsSmall x
 
 -- the same behind any fractions with the least common denominator `scale`
 abbrev pub IsRefusedBehind : ℕ → List Frac → FractionFault → Type 0
-IsRefusedBehind scale ys e = (xs : List Frac) → AreWithinBoundsOver xs scale → IsRefusal xs ys e
+IsRefusedBehind scale ys e = (xs : List Frac) → AreWithinBoundsOver xs scale → IsFractionRefusal xs ys e
 
 -- the fault of lists with a fraction at fault at the index
 abbrev pub fault_at : FractionFault → ℕ → ShapeFault

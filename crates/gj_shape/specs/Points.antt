@@ -4,7 +4,7 @@ use Rattle.std.specs.List.{AllZip}
 use Rattle.gj_frac.specs.declared.Frac.{Frac}
 use Rattle.gj_frac.specs.Fraction.{IsRatio}
 use Rattle.gj_shape.specs.FunctionData.{FunctionData, at}
-use Rattle.gj_shape.specs.Denominators.{IsRefusal}
+use Rattle.gj_shape.specs.Denominators.{IsFractionRefusal}
 use Rattle.gj_shape.specs.declared.faults.FractionFault.{FractionFault}
 use Rattle.gj_shape.specs.declared.faults.FractionFault.TheVariants as refusal
 use Rattle.gj_shape.specs.declared.points.Point.{Point}
@@ -43,8 +43,8 @@ pub record IsPointAt (f : FunctionData) (i : ℕ) (p : Point) : Type 0 where
 -- why a point cannot follow the points: its first fraction that fails a test behind theirs is too large, or it is not,
 -- and leaves no common denominator from 1 to 2^31 - 1; or there was no memory
 abbrev pub IsPointFault : List Point → Point → PointFault → Type 0
-IsPointFault points p Large = IsRefusal (all_fractions points) (fractions_of p) refusal.Large
-IsPointFault points p Fine = IsRefusal (all_fractions points) (fractions_of p) refusal.Fine
+IsPointFault points p Large = IsFractionRefusal (all_fractions points) (fractions_of p) refusal.Large
+IsPointFault points p Fine = IsFractionRefusal (all_fractions points) (fractions_of p) refusal.Fine
 IsPointFault points p (Memory e) = Unit {0}
 
 -- the fault of a point with a fraction at fault

@@ -4,7 +4,7 @@ ghost use Rattle.gj_frac.specs.declared.Frac.{Frac};
 ghost use Rattle.gj_frac.specs.Fraction.{denominator, HasDenominatorBelow};
 ghost use Rattle.gj_shape.specs.Limits.{greatest_order, greatest_value, denominator_bound};
 ghost use Rattle.gj_shape.specs.Given.{in_order, IsSmall};
-ghost use Rattle.gj_shape.specs.Denominators.{Extends, ExtendsBy, AreWithinBoundsOver, IsRefused, IsRefusedBehind, IsFaultIn, fault_at};
+ghost use Rattle.gj_shape.specs.Denominators.{Extends, ExtendsBy, AreWithinBoundsOver, IsFractionRefused, IsRefusedBehind, IsFaultIn, fault_at};
 ghost use Rattle.gj_shape.specs.Points.{fractions_of};
 
 use crate::faults::{FractionFault, ShapeFault};
@@ -32,7 +32,7 @@ pub fn small_denominator(x: Frac) -> Option<u32>
 fn extended(scale: u32, x: Frac) -> Result<u32, FractionFault>
     requires low { 0 < scale }
     ensures least { IfOk result (Extends greatest_value scale x) }
-    ensures fault { IfErr result (IsRefused scale x) }
+    ensures fault { IfErr result (IsFractionRefused scale x) }
 {
     if !is_small(x) {
         return Err(FractionFault::Large);

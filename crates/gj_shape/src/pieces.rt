@@ -3,7 +3,7 @@ ghost use Rattle.std.specs.Prelude.{◌≡◌, ◌<◌, ◌≤◌, ◌+◌, ◌-
 ghost use Rattle.std.specs.Int.{◌∣◌};
 ghost use Rattle.gj_frac.specs.declared.Frac.{Frac};
 ghost use Rattle.gj_frac.specs.Fraction.{IsRatio, denominator};
-ghost use Rattle.gj_shape.specs.Breaks.{even, IsLine};
+ghost use Rattle.gj_shape.specs.Breaks.{even, IsStraightLine};
 ghost use Rattle.gj_shape.specs.Limits.{greatest_order, denominator_bound};
 ghost use Rattle.gj_shape.specs.Given.{AreWithinBounds, IsGivenBy, HasFault};
 ghost use Rattle.gj_shape.specs.Points.{lefts, values, rights};
@@ -37,7 +37,7 @@ pub(crate) fn push_line(
     requires some { 0 < steps }
     requires few { steps ≤ greatest_order }
     requires within { AreWithinBounds (u ∷ w ∷ []) }
-    ensures { OnOk result ((between : List Frac) × IsLine u w steps between
+    ensures { OnOk result ((between : List Frac) × IsStraightLine u w steps between
         × (points.new.items ≡ points.old.items ++ map even between)) }
 {
     let scale = scale_of(u, w);

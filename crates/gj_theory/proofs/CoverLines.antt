@@ -1,6 +1,6 @@
 -- The cover lines of the decision meet the rules for cover lines.
 use Rattle.std.proofs.Common.{◌≡◌, ℕ, List, inl, inr, subst}
-use Rattle.gj_shape.specs.Cover.{AreCoverLines, IsNextLine, HasLine}
+use Rattle.gj_shape.specs.Cover.{AreCoverLines, IsNextLine, HasCoverLine}
 use Rattle.gj_shape.specs.declared.extremality.CoverLine.{CoverLine}
 use Rattle.gj_theory.specs.CoverRules.{MeetsCoverRule, MeetsCoverRules}
 
@@ -10,7 +10,7 @@ next_meets_rule : (q : ℕ) (Tight : ℕ → ℕ → Type 0) (before : List Cove
 next_meets_rule q Tight before l (inl joining) =
     let first = joining.interval.holds.1 in
     let lines = joining.from.holds in
-    let other = λ (e : l.from ≡ l.interval). first.no_line (subst (HasLine before) e lines.line) in
+    let other = λ (e : l.from ≡ l.interval). first.no_line (subst (HasCoverLine before) e lines.line) in
     record {
       additive = joining.face.holds.additive;
       new = first.no_line;

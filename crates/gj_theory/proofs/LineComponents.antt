@@ -5,7 +5,7 @@ use Rattle.std.proofs.lemmas.Bool.{cases_eq}
 use Rattle.std.proofs.lemmas.List.{get_or_default, length-append, take-append-drop}
 use Rattle.gj_lemmas.proofs.FirstThatFails.{first_failing, one_first_failing}
 use Rattle.gj_lemmas.proofs.Lists.{All-front}
-use Rattle.gj_shape.specs.Cover.{HasLine, HasComponent}
+use Rattle.gj_shape.specs.Cover.{HasCoverLine, HasComponent}
 use Rattle.gj_shape.specs.Cover.HasComponent.{opened, joined}
 use Rattle.gj_shape.specs.declared.extremality.CoverLine.{CoverLine}
 use Rattle.gj_theory.specs.CoverRules.{MeetsCoverRules}
@@ -48,7 +48,7 @@ component_within q Tight lines rules (suc bound) before l after short place =
     ]
 
 pub component_of_line : (q : ℕ) (Tight : ℕ → ℕ → Type 0) (lines : List CoverLine) (i : ℕ) → MeetsCoverRules q Tight lines →
-    HasLine lines i → (number : ℕ) × HasComponent lines number i
+    HasCoverLine lines i → (number : ℕ) × HasComponent lines number i
 component_of_line q Tight lines i rules line =
     let split = split_at_any (λ m. m.interval ≡ i) lines line in
     let found = component_within q Tight lines rules (length split.0 + 1) split.0 split.1 split.2 (omega arith) split.3 in
@@ -92,7 +92,7 @@ one_component q Tight lines i a b rules first second = same_component q Tight li
 
 -- ---- only intervals with a line
 
-pub line_at : (lines before : List CoverLine) (l : CoverLine) (after : List CoverLine) → lines ≡ before ++ l ∷ after → HasLine lines l.interval
+pub line_at : (lines before : List CoverLine) (l : CoverLine) (after : List CoverLine) → lines ≡ before ++ l ∷ after → HasCoverLine lines l.interval
 line_at lines before l after place = (
   length before,
   l,
@@ -101,6 +101,6 @@ line_at lines before l after place = (
   refl,
 )
 
-pub line_of_component : (lines : List CoverLine) (number i : ℕ) → HasComponent lines number i → HasLine lines i
+pub line_of_component : (lines : List CoverLine) (number i : ℕ) → HasComponent lines number i → HasCoverLine lines i
 line_of_component lines number i (opened before l after place same counted) = line_at lines before l after place
 line_of_component lines number i (joined before l after place other rest) = line_at lines before l after place

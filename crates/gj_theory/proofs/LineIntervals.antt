@@ -11,7 +11,7 @@ use Rattle.std.proofs.lemmas.List.Elements.{All-push, All-map}
 use Rattle.std.proofs.lemmas.Map.Keys.{IsDistinct-push}
 use Rattle.std.proofs.lemmas.Map.Steps.{length-le_from_distinct_below, le-length_from_below}
 use Rattle.gj_lemmas.proofs.Choices.{never_true}
-use Rattle.gj_shape.specs.Cover.{HasLine}
+use Rattle.gj_shape.specs.Cover.{HasCoverLine}
 use Rattle.gj_shape.specs.declared.extremality.CoverLine.{CoverLine}
 use Rattle.gj_theory.specs.CoverRules.{MeetsCoverRules}
 use Rattle.gj_theory.proofs.Triangular.{below_from_any}
@@ -34,16 +34,16 @@ equal_laws = record {
 abbrev pub intervals_of : List CoverLine → List ℕ
 intervals_of lines = map (λ l. l.interval) lines
 
-line_listed : (lines : List CoverLine) (i : ℕ) → list_any (eqb i) (intervals_of lines) ≡ true → HasLine lines i
+line_listed : (lines : List CoverLine) (i : ℕ) → list_any (eqb i) (intervals_of lines) ≡ true → HasCoverLine lines i
 line_listed [] i e = absurd cc
 line_listed (l ∷ lines) i e = by_test (eqb i l.interval) refl e (line_listed lines i)
   where
     by_test : (b : Bool) → eqb i l.interval ≡ b → (b || list_any (eqb i) (intervals_of lines)) ≡ true →
-        (list_any (eqb i) (intervals_of lines) ≡ true → HasLine lines i) → HasLine (l ∷ lines) i
+        (list_any (eqb i) (intervals_of lines) ≡ true → HasCoverLine lines i) → HasCoverLine (l ∷ lines) i
     by_test true t e later = (0, l, omega arith, refl, sym ((Decides-eqb i l.interval).0 t))
     by_test false t e later = one_further (later e)
       where
-        one_further : HasLine lines i → HasLine (l ∷ lines) i
+        one_further : HasCoverLine lines i → HasCoverLine (l ∷ lines) i
         one_further (k, m, low, there, is) = (suc k, m, omega arith, there, is)
 
 none_distinct : IsDistinct eqb []
@@ -63,10 +63,10 @@ intervals_distinct q Tight lines rules front (l ∷ rest) place h =
     (λ t. (rules front l rest place).new (line_listed front l.interval t)))))
 
 pub line_for_each : (q : ℕ) (Tight : ℕ → ℕ → Type 0) (lines : List CoverLine) → MeetsCoverRules q Tight lines →
-    All (λ l. l.interval < q) lines → length lines ≡ q → (i : ℕ) → i < q → HasLine lines i
+    All (λ l. l.interval < q) lines → length lines ≡ q → (i : ℕ) → i < q → HasCoverLine lines i
 line_for_each q Tight lines rules below long i low = by_test (list_any (eqb i) (intervals_of lines)) refl
   where
-    by_test : (b : Bool) → list_any (eqb i) (intervals_of lines) ≡ b → HasLine lines i
+    by_test : (b : Bool) → list_any (eqb i) (intervals_of lines) ≡ b → HasCoverLine lines i
     by_test true t = line_listed lines i t
     by_test false t =
         let xs : List ℕ = intervals_of lines in
@@ -80,10 +80,10 @@ line_for_each q Tight lines rules below long i low = by_test (list_any (eqb i) (
         let len = length-map lines (λ l. l.interval) in
         absurd (omega arith)
 
-listed_line : (lines : List CoverLine) (i : ℕ) → HasLine lines i → list_any (eqb i) (intervals_of lines) ≡ true
+listed_line : (lines : List CoverLine) (i : ℕ) → HasCoverLine lines i → list_any (eqb i) (intervals_of lines) ≡ true
 listed_line lines i line = by_test (list_any (eqb i) (intervals_of lines)) refl
   where
-    none : (ls : List CoverLine) → list_any (eqb i) (intervals_of ls) ≡ false → HasLine ls i → ⊥
+    none : (ls : List CoverLine) → list_any (eqb i) (intervals_of ls) ≡ false → HasCoverLine ls i → ⊥
     none [] e (k, m, low, there, is) = absurd (omega arith)
     none (l ∷ ls) e (zero, m, low, there, is) =
         let same : eqb i l.interval ≡ true = eq-eqb i l.interval (sym is ∙ sym (ap (λ x. x.interval) there)) in absurd cc
@@ -99,7 +99,7 @@ listed_line lines i line = by_test (list_any (eqb i) (intervals_of lines)) refl
 
 -- if each interval has a line, there are as many lines as intervals
 pub lines_for_all : (q : ℕ) (Tight : ℕ → ℕ → Type 0) (lines : List CoverLine) → MeetsCoverRules q Tight lines →
-    All (λ l. l.interval < q) lines → ((i : ℕ) → i < q → HasLine lines i) → length lines ≡ q
+    All (λ l. l.interval < q) lines → ((i : ℕ) → i < q → HasCoverLine lines i) → length lines ≡ q
 lines_for_all q Tight lines rules below each =
     let xs : List ℕ = intervals_of lines in
     let within : All (λ x. x < q) xs = All-map (λ x. x < q) (λ l. l.interval) lines below in

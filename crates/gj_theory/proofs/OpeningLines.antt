@@ -2,7 +2,7 @@
 use Rattle.std.proofs.Common.{◌≡◌, ℕ, ◌⊎◌, ◌%◌, ◌<◌, inl, inr, List, [], ◌∷◌, ◌++◌, refl, sym, ap, subst, ◌∙◌, append_assoc, arith}
 use Rattle.std.proofs.Math.Nat.{mod-lt, mod-mod, mod-eq_of_lt}
 use Rattle.gj_theory.proofs.LineComponents.{line_at}
-use Rattle.gj_shape.specs.Cover.{AreCoverLines, HasComponent, HasLine, IsNextLine, JoinsLines, LeadsTo, components_in}
+use Rattle.gj_shape.specs.Cover.{AreCoverLines, HasComponent, HasCoverLine, IsNextLine, JoinsLines, LeadsTo, components_in}
 use Rattle.gj_shape.specs.Cover.HasComponent.{opened, joined}
 use Rattle.gj_shape.specs.Cover.LeadsTo.{here, onward}
 use Rattle.gj_shape.specs.declared.extremality.CoverLine.{CoverLine}
@@ -14,9 +14,9 @@ use Rattle.gj_theory.proofs.ComponentIntervals.{next_within}
 -- if no interval without a line is joined to one with a line, lists of joined intervals lead from intervals with a
 -- line to such alone
 line_along : (q : ℕ) (Tight : ℕ → ℕ → Type 0) (lines : List CoverLine) → 0 < q →
-    ((i j : ℕ) → JoinsLines q Tight lines i j → ⊥) → (j i : ℕ) → LeadsTo q Tight j i → HasLine lines (i % q) →
-    (HasLine lines (j % q) → ⊥) → ⊥
-line_along q Tight lines some none j _ (here i e) line out = out (subst (HasLine lines) e line)
+    ((i j : ℕ) → JoinsLines q Tight lines i j → ⊥) → (j i : ℕ) → LeadsTo q Tight j i → HasCoverLine lines (i % q) →
+    (HasCoverLine lines (j % q) → ⊥) → ⊥
+line_along q Tight lines some none j _ (here i e) line out = out (subst (HasCoverLine lines) e line)
 line_along q Tight lines some none j _ (onward i next both rest) line out =
     none (next % q) (i % q) (record {
       first_within = mod-lt next some;
@@ -28,14 +28,14 @@ line_along q Tight lines some none j _ (onward i next both rest) line out =
     })
 
 opens_apart : (q : ℕ) (Tight : ℕ → ℕ → Type 0) (front : List CoverLine) (i : ℕ) (l : CoverLine) → l.from ≡ l.interval →
-    i < q → HasLine front i → IsNextLine q Tight front l → LeadsTo q Tight l.interval i → ⊥
+    i < q → HasCoverLine front i → IsNextLine q Tight front l → LeadsTo q Tight l.interval i → ⊥
 opens_apart q Tight front i l same below line (inl joining) leads =
-    joining.interval.holds.1.no_line (subst (HasLine front) same joining.from.holds.line)
+    joining.interval.holds.1.no_line (subst (HasCoverLine front) same joining.from.holds.line)
 opens_apart q Tight front i l same below line (inr opening) leads =
     let open_line = opening.interval.holds in
     line_along q Tight front (omega arith) opening.none_joins l.interval i leads
-    (subst (HasLine front) (sym (mod-eq_of_lt below)) line)
-    (λ found. open_line.no_line (subst (HasLine front) (mod-eq_of_lt open_line.within) found))
+    (subst (HasCoverLine front) (sym (mod-eq_of_lt below)) line)
+    (λ found. open_line.no_line (subst (HasCoverLine front) (mod-eq_of_lt open_line.within) found))
 
 pub openings_apart : (q : ℕ) (Tight : ℕ → ℕ → Type 0) (lines before : List CoverLine) (l : CoverLine)
     (middle : List CoverLine) (m : CoverLine) (after : List CoverLine) → AreCoverLines q Tight lines →

@@ -1,16 +1,16 @@
 -- The rules that each line of a cover must meet (own).
 use Rattle.std.specs.Prelude.{ℕ, ◌≡◌, ◌≢◌, List, ◌∷◌, ◌++◌}
 use Rattle.gj_shape.specs.Additive.{IsAdditive}
-use Rattle.gj_shape.specs.Cover.{Covers, HasLine, Joins}
+use Rattle.gj_shape.specs.Cover.{Covers, HasCoverLine, Joins}
 use Rattle.gj_shape.specs.declared.extremality.CoverLine.{CoverLine}
 
 -- the line behind those before it: its face is additive, its interval has no line yet, and the face is a triangle that
 -- projects on the interval if the line opens a component, or else joins the interval to one that has a line
 pub record MeetsCoverRule (q : ℕ) (Tight : ℕ → ℕ → Type 0) (before : List CoverLine) (l : CoverLine) : Type 0 where
   pub additive : IsAdditive Tight l.face.kind l.face.a l.face.b
-  pub new : HasLine before l.interval → ⊥
+  pub new : HasCoverLine before l.interval → ⊥
   pub opening : l.from ≡ l.interval → Covers q Tight l.face.kind l.face.a l.face.b l.interval
-  pub earlier : l.from ≢ l.interval → HasLine before l.from
+  pub earlier : l.from ≢ l.interval → HasCoverLine before l.from
   pub joining : l.from ≢ l.interval → Joins q Tight l.face.kind l.face.a l.face.b l.interval l.from
 
 -- each line meets the rule behind those before it

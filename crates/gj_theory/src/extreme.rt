@@ -1,7 +1,7 @@
 //! Cover lines and rows that show a function to be extreme.
 ghost use Rattle.std.specs.Prelude.{ℕ, ℤ, pos, ◌≡◌, ◌<◌, ◌==◌, List, length, All, count_by};
 ghost use Rattle.gj_shape.specs.Additive.{IsTight};
-ghost use Rattle.gj_shape.specs.Cover.{AreCoverLines, HasLine, HasComponent};
+ghost use Rattle.gj_shape.specs.Cover.{AreCoverLines, HasCoverLine, HasComponent};
 ghost use Rattle.gj_shape.specs.Extreme.{IsExtreme};
 ghost use Rattle.gj_shape.specs.FunctionData.{FunctionData, IsWithinBounds, IsContinuous};
 ghost use Rattle.gj_shape.specs.SlopeRows.{SolveRows, sum_of_products};
@@ -21,10 +21,10 @@ pub fn cover_lines_meet_rules()
 /// lines.
 pub fn lines_give_components()
     ensures some { (f : FunctionData) (lines : List CoverLine) (i : ℕ) → MeetsCoverRules f.order (IsTight f) lines →
-        HasLine lines i → (number : ℕ) × HasComponent lines number i }
+        HasCoverLine lines i → (number : ℕ) × HasComponent lines number i }
     ensures one { (f : FunctionData) (lines : List CoverLine) (i a b : ℕ) → MeetsCoverRules f.order (IsTight f) lines →
         HasComponent lines a i → HasComponent lines b i → a ≡ b }
-    ensures line { (lines : List CoverLine) (number i : ℕ) → HasComponent lines number i → HasLine lines i }
+    ensures line { (lines : List CoverLine) (number i : ℕ) → HasComponent lines number i → HasCoverLine lines i }
     ensures below { (lines : List CoverLine) (number i : ℕ) → HasComponent lines number i →
         number < count_by (λ l. l.from == l.interval) lines }
 {}

@@ -20,7 +20,7 @@ use Rattle.gj_claims.proofs.CutClaims.{cuts_are_bounded}
 use Rattle.gj_top.specs.declared.reply.End.{End}
 use Rattle.gj_top.specs.declared.reply.Unanswered.{Unanswered}
 use Rattle.gj_top.specs.declared.reply.Unanswered.TheVariants.{Refused, Memory}
-use Rattle.gj_top.specs.Task.{IsRefusal, IsReply}
+use Rattle.gj_top.specs.Task.{IsTaskRefusal, IsReply}
 use Rattle.gj_top.specs.Forms.{IsRefusalOf}
 use Rattle.gj_top.specs.Mixed.{IsMixedReply, mixed}
 use Rattle.gj_top.specs.Cut.{BeginsWithRule, CutInput, SpellsCutInput, RefusesCutInput, IsCutReply, cut}
@@ -73,19 +73,19 @@ cut_input_refuses_only_others input text thing h (of_tableau fault) =
 
 -- the refusal for the first fault of a rule text, of a function text, of what follows either
 pub refusal_of_rule : (input : List ℕ) (n : ℕ) (e : Reason) (u : Unanswered) → BeginsAsRule input → IsFirstFaultOfRule input n e →
-    IsRefusalOf n e u → IsRefusal RefusesCutInput input u
+    IsRefusalOf n e u → IsTaskRefusal RefusesCutInput input u
 refusal_of_rule input n e (Refused text) begins first spelled =
     of_rule begins (record { at_line = n; reason = e; first = first; spelled = spelled })
 refusal_of_rule input n e (Memory a) begins first spelled = tt
 
 pub refusal_of_function : (input : List ℕ) (n : ℕ) (e : Reason) (u : Unanswered) → (BeginsAsRule input → ⊥) → IsFirstFaultOfFunction input n e →
-    IsRefusalOf n e u → IsRefusal RefusesCutInput input u
+    IsRefusalOf n e u → IsTaskRefusal RefusesCutInput input u
 refusal_of_function input n e (Refused text) begins first spelled =
     of_function begins (record { at_line = n; reason = e; first = first; spelled = spelled })
 refusal_of_function input n e (Memory a) begins first spelled = tt
 
 pub refusal_of_tableau : (input rest : List ℕ) (r : CutRule) (u : Unanswered) → BeginsWithRule input r rest → IsTableauRefusal rest u →
-    IsRefusal RefusesCutInput input u
+    IsTaskRefusal RefusesCutInput input u
 refusal_of_tableau input rest r (Refused text) begins fault = of_tableau (record {
   «rule» = r;
   rest = rest;

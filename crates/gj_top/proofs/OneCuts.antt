@@ -39,7 +39,7 @@ use Rattle.gj_mtext.specs.CutLines.{IsLineFor, IsTermFor}
 use Rattle.gj_claims.specs.CutRules.{MakesCuts}
 use Rattle.gj_top.specs.declared.reply.End.{End}
 use Rattle.gj_top.specs.declared.reply.End.TheVariants as end
-use Rattle.gj_top.specs.Cut.{CutInput, cut_input, BeginsWithRule, SpellsCutInput, RefusesCutInput, NamesRecord, refused_record_line, AreCutsOf, NamesViolation, IsCutReply, cut}
+use Rattle.gj_top.specs.Cut.{CutInput, cut_input, BeginsWithRule, SpellsCutInput, RefusesCutInput, NamesRefusedRecord, refused_record_line, AreCutsOf, NamesViolation, IsCutReply, cut}
 use Rattle.gj_top.specs.Cut.RefusesCutInput.{of_rule, of_function, of_tableau}
 use Rattle.gj_top.proofs.CutForm.{one_rest, rule_is_bounded, lines_are_bounded, no_rule_fault, no_function_fault}
 use Rattle.gj_top.proofs.Determined.{SpellsOne, RefusesOne, RepliesOne, IsDetermined, one_named_fault}
@@ -64,7 +64,7 @@ one_cut_spelled input a b h k =
     same_input a b (one_rule input a.rule b.rule h.rest k.rest first second)
     (one_tableau (records_of k.rest) a.tableau b.tableau (subst (λ (r : List ℕ). IsTableauText r a.tableau) rest h.tableau) k.tableau)
 
-one_record : (input x y : List ℕ) → NamesRecord input x → NamesRecord input y → x ≡ y
+one_record : (input x y : List ℕ) → NamesRefusedRecord input x → NamesRefusedRecord input y → x ≡ y
 one_record input x y h k =
     let rest : k.rest ≡ h.rest = one_rest input k.rule h.rule k.rest h.rest k.begins h.begins in
     let other = subst (λ (r : List ℕ). IsFirstFaultOfTableau r k.record_number k.reason) rest k.first in

@@ -30,7 +30,7 @@ use Rattle.gj_extreme.proofs.OneDecision.{one_decision}
 use Rattle.gj_proof.specs.declared.claim.Claim.TheVariants.{NotExtreme}
 use Rattle.gj_fill.specs.FillIn.{AreGreatestSteps, filled}
 use Rattle.gj_fill.specs.FillPoints.{GraphPoint, value_point, crossing_point, points_from, fill_points, IsBreakAt, AreFillBreaks}
-use Rattle.gj_fill.specs.FirstPair.{IsSuperadditiveAt}
+use Rattle.gj_fill.specs.FirstPair.{IsSuperadditivePair}
 use Rattle.gj_fill.proofs.FillIns.{at_place}
 use Rattle.gj_demo.specs.Demo.{IsDemo, demo_number}
 use Rattle.gj_demo.specs.Summary.{IsSummary, HasSummary, lines_with}
@@ -167,7 +167,7 @@ one_pair_text : (f : FunctionData) (x y : List ℕ) → IsWithinBounds f → Nam
 one_pair_text f x y l h k =
     let low = l.order_low in
     let a : k.a ≡ h.a = one_least _ k.a h.a k.first.first h.first.first in
-    let b : k.b ≡ h.b = one_least (IsSuperadditiveAt f h.a) k.b h.b (subst (λ (n : ℕ). IsLeastFrom 0 (IsSuperadditiveAt f n) k.b) a k.first.second) h.first.second in
+    let b : k.b ≡ h.b = one_least (IsSuperadditivePair f h.a) k.b h.b (subst (λ (n : ℕ). IsLeastFrom 0 (IsSuperadditivePair f n) k.b) a k.first.second) h.first.second in
     let first : h.x ≡ k.x =
     same_from_is h.x k.x (pos h.a) (pos f.order) (omega (arith, ints)) h.x_is (subst (λ (n : ℕ). IsRatio k.x (pos n) (pos f.order)) a k.x_is) in
     let second : h.y ≡ k.y =

@@ -27,7 +27,7 @@ use Rattle.gj_top.specs.declared.reply.End.TheVariants as end
 use Rattle.gj_top.specs.Continuity.{NamesFirstJump}
 use Rattle.gj_top.specs.Check.{IsJudgement, IsRejected, check}
 use Rattle.gj_top.specs.Extreme.{IsDecisionText, IsExtremality, IsJumpText, IsWideText, extreme}
-use Rattle.gj_top.specs.Forms.{function_text, proof_text, RefusesFunctionText, RefusesProofText}
+use Rattle.gj_top.specs.Forms.{function_form, proof_form, RefusesFunctionText, RefusesProofText}
 use Rattle.gj_top.specs.Minimal.{IsVerdict, IsDecision, minimal}
 use Rattle.gj_top.specs.Show.{IsShowing, show}
 use Rattle.gj_top.proofs.Determined.{SpellsOne, RefusesOne, RepliesOne, IsDetermined, one_named_fault}
@@ -35,13 +35,13 @@ use Rattle.gj_top.proofs.TextLaws.{function_is_bounded, one_function, one_proof,
 
 -- ---- the forms
 
-pub one_function_spelled : SpellsOne function_text
+pub one_function_spelled : SpellsOne function_form
 one_function_spelled input f g h k = one_function input f g h k
 
 pub one_function_refusal : RefusesOne RefusesFunctionText
 one_function_refusal input x y h k = one_named_fault _ (λ n m e d. one_function_fault input n m e d) x y h k
 
-one_proof_spelled : SpellsOne proof_text
+one_proof_spelled : SpellsOne proof_form
 one_proof_spelled input c d h k = one_proof input c d h k
 
 one_proof_refusal : RefusesOne RefusesProofText
@@ -50,7 +50,7 @@ one_proof_refusal input x y h k = one_named_fault _ (λ n m e d. one_proof_fault
 -- the replies to function texts, if those to a function within the limits are one
 pub by_bounds : (replies : FunctionData → End → List ℕ → Type 0) →
     ((f : FunctionData) → IsWithinBounds f → (e d : End) (x y : List ℕ) → replies f e x → replies f d y → (e ≡ d) × (x ≡ y)) →
-    RepliesOne function_text replies
+    RepliesOne function_form replies
 by_bounds replies one input f spelled = one f (function_is_bounded input f spelled)
 
 -- ---- the first jump

@@ -12,7 +12,7 @@ use Rattle.gj_top.specs.declared.reply.End.{End}
 use Rattle.gj_top.specs.declared.reply.End.TheVariants.{Done, Rejected}
 use Rattle.gj_top.specs.Promise.{Promise}
 use Rattle.gj_top.specs.Task.{Task}
-use Rattle.gj_top.specs.Forms.{proof_text, RefusesProofText}
+use Rattle.gj_top.specs.Forms.{proof_form, RefusesProofText}
 
 -- the line that calls a claim accepted
 abbrev pub accepted_line : Claim → List ℕ
@@ -42,7 +42,7 @@ abbrev pub IsTrueAcceptance : Claim → List ℕ → Type 0
 IsTrueAcceptance c text = ClaimHolds c × (text ≡ accepted_line c)
 
 abbrev pub check_promise : Promise
-check_promise = record { Thing = Claim; form = proof_text; headline = IsTrueAcceptance }
+check_promise = record { Thing = Claim; form = proof_form; headline = IsTrueAcceptance }
 
 abbrev pub check : Task
 check = record {

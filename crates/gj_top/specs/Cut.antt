@@ -64,7 +64,7 @@ abbrev pub refused_record_line : ℕ → RowReason → List ℕ
 refused_record_line n reason = line (codes "refused record " ++ decimal n ++ codes " " ++ reason_word reason)
 
 -- the text names the record that is the first at fault in what follows a rule, and the reason
-pub record NamesRecord (input text : List ℕ) : Type 0 where
+pub record NamesRefusedRecord (input text : List ℕ) : Type 0 where
   pub «rule» : CutRule
   pub rest : List ℕ
   pub begins : BeginsWithRule input «rule» rest
@@ -77,7 +77,7 @@ pub record NamesRecord (input text : List ℕ) : Type 0 where
 pub data RefusesCutInput (input text : List ℕ) : Type 0 where
   of_rule : BeginsAsRule input → NamesFault (IsFirstFaultOfRule input) text → RefusesCutInput input text
   of_function : (BeginsAsRule input → ⊥) → NamesFault (IsFirstFaultOfFunction input) text → RefusesCutInput input text
-  of_tableau : NamesRecord input text → RefusesCutInput input text
+  of_tableau : NamesRefusedRecord input text → RefusesCutInput input text
 
 -- ---- the cuts
 

@@ -22,7 +22,7 @@ use Rattle.gj_top.specs.declared.reply.End.{End}
 use Rattle.gj_top.specs.declared.reply.End.TheVariants.{Done, Wide, NotContinuous}
 use Rattle.gj_top.specs.Promise.{Promise}
 use Rattle.gj_top.specs.Task.{Task}
-use Rattle.gj_top.specs.Forms.{function_text, json_function, RefusesFunctionText, RefusesJson}
+use Rattle.gj_top.specs.Forms.{function_form, json_function, RefusesFunctionText, RefusesJson}
 use Rattle.gj_top.specs.Report.{IsReportOf, IsReportedReply}
 use Rattle.gj_top.specs.Continuity.{NamesFirstJump}
 use Rattle.gj_top.specs.Minimal.{IsNotMinimalText}
@@ -83,7 +83,7 @@ IsTrueExtremality f text =
     ⊎ ((v : Violation) × IsNotMinimalText f v text × ShowsViolation f v × (IsMinimal f → ⊥))
 
 abbrev pub extreme_promise : Promise
-extreme_promise = record { Thing = FunctionData; form = function_text; headline = IsTrueExtremality }
+extreme_promise = record { Thing = FunctionData; form = function_form; headline = IsTrueExtremality }
 
 abbrev pub extreme : Task
 extreme = record {

@@ -7,7 +7,7 @@ use Rattle.gj_top.specs.declared.reply.End.{End}
 use Rattle.gj_top.specs.declared.reply.End.TheVariants.{Done, NotContinuous}
 use Rattle.gj_top.specs.Promise.{Promise}
 use Rattle.gj_top.specs.Task.{Task}
-use Rattle.gj_top.specs.Forms.{function_text, RefusesFunctionText}
+use Rattle.gj_top.specs.Forms.{function_form, RefusesFunctionText}
 use Rattle.gj_top.specs.Continuity.{NamesFirstJump}
 
 -- a continuous function is answered with that text; of another the first jump is named
@@ -20,7 +20,7 @@ IsFacesReply f end text = ⊥
 abbrev pub faces_promise : Promise
 faces_promise = record {
   Thing = FunctionData;
-  form = function_text;
+  form = function_form;
   headline = λ f text. IsContinuous f;
 }
 

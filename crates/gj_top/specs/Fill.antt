@@ -15,7 +15,7 @@ use Rattle.gj_top.specs.declared.reply.End.{End}
 use Rattle.gj_top.specs.declared.reply.End.TheVariants.{Done, NotContinuous, NotSubadditive}
 use Rattle.gj_top.specs.Promise.{Promise}
 use Rattle.gj_top.specs.Task.{Task}
-use Rattle.gj_top.specs.Forms.{function_text, RefusesFunctionText}
+use Rattle.gj_top.specs.Forms.{function_form, RefusesFunctionText}
 use Rattle.gj_top.specs.Continuity.{NamesFirstJump}
 
 -- the function is continuous, and the text is that of the points of its fill-in, which is subadditive on every grid
@@ -47,7 +47,7 @@ IsFillReply f NotSubadditive text = IsContinuous f × NamesFirstPair f text
 IsFillReply f end text = ⊥
 
 abbrev pub fill_promise : Promise
-fill_promise = record { Thing = FunctionData; form = function_text; headline = IsFillText }
+fill_promise = record { Thing = FunctionData; form = function_form; headline = IsFillText }
 
 abbrev pub fill : Task
 fill = record {

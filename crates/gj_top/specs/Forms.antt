@@ -30,8 +30,8 @@ abbrev pub IsFunctionInput : List ℕ → FunctionData → Type 0
 IsFunctionInput input f = (rest : List ℕ) × BeginsWithFunction input f rest × HasNothing Lenient rest
 
 -- function text
-abbrev pub function_text : Form FunctionData
-function_text = reading IsFunctionInput
+abbrev pub function_form : Form FunctionData
+function_form = reading IsFunctionInput
 
 -- the input is the proof text of a claim; a function that it is about is within the limits
 pub record IsProofOf (input : List ℕ) (c : Claim) : Type 0 where
@@ -39,8 +39,8 @@ pub record IsProofOf (input : List ℕ) (c : Claim) : Type 0 where
   pub spelled : IsProofText c input
 
 -- proof text
-abbrev pub proof_text : Form Claim
-proof_text = reading IsProofOf
+abbrev pub proof_form : Form Claim
+proof_form = reading IsProofOf
 
 -- a function in JSON
 abbrev pub json_function : Form FunctionData

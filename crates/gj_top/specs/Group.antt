@@ -11,7 +11,7 @@ use Rattle.gj_top.specs.declared.reply.End.{End}
 use Rattle.gj_top.specs.declared.reply.End.TheVariants.{Done, Wide, NotContinuous, OrderLimit}
 use Rattle.gj_top.specs.Promise.{Promise}
 use Rattle.gj_top.specs.Task.{Task}
-use Rattle.gj_top.specs.Forms.{function_text, RefusesFunctionText}
+use Rattle.gj_top.specs.Forms.{function_form, RefusesFunctionText}
 use Rattle.gj_top.specs.Continuity.{NamesFirstJump}
 use Rattle.gj_top.specs.Extreme.{wide_line}
 
@@ -49,7 +49,7 @@ IsGroupReply f OrderLimit text = IsContinuous f × (greatest_group_order < f.ord
 IsGroupReply f end text = ⊥
 
 abbrev pub group_promise : Promise
-group_promise = record { Thing = FunctionData; form = function_text; headline = IsTrueGroupText }
+group_promise = record { Thing = FunctionData; form = function_form; headline = IsTrueGroupText }
 
 abbrev pub group : Task
 group = record {

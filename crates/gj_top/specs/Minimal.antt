@@ -12,7 +12,7 @@ use Rattle.gj_top.specs.declared.reply.End.{End}
 use Rattle.gj_top.specs.declared.reply.End.TheVariants.{Done}
 use Rattle.gj_top.specs.Promise.{Promise}
 use Rattle.gj_top.specs.Task.{Task}
-use Rattle.gj_top.specs.Forms.{function_text, json_function, RefusesFunctionText, RefusesJson}
+use Rattle.gj_top.specs.Forms.{function_form, json_function, RefusesFunctionText, RefusesJson}
 use Rattle.gj_top.specs.Report.{IsReportOf, IsReportedReply}
 
 -- the text claims that f is minimal
@@ -42,7 +42,7 @@ IsTrueVerdict f text =
     (IsMinimalText f text × IsMinimal f) ⊎ ((v : Violation) × IsNotMinimalText f v text × ShowsViolation f v × (IsMinimal f → ⊥))
 
 abbrev pub minimal_promise : Promise
-minimal_promise = record { Thing = FunctionData; form = function_text; headline = IsTrueVerdict }
+minimal_promise = record { Thing = FunctionData; form = function_form; headline = IsTrueVerdict }
 
 abbrev pub minimal : Task
 minimal = record {

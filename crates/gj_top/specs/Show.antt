@@ -7,7 +7,7 @@ use Rattle.gj_top.specs.declared.reply.End.{End}
 use Rattle.gj_top.specs.declared.reply.End.TheVariants.{Done}
 use Rattle.gj_top.specs.Promise.{Promise}
 use Rattle.gj_top.specs.Task.{Task}
-use Rattle.gj_top.specs.Forms.{function_text, json_function, RefusesFunctionText, RefusesJson}
+use Rattle.gj_top.specs.Forms.{function_form, json_function, RefusesFunctionText, RefusesJson}
 
 -- the reply to a function is its canonical text, and ends with Done
 abbrev pub IsShowing : FunctionData → End → List ℕ → Type 0
@@ -16,7 +16,7 @@ IsShowing f end text = ⊥
 
 -- the headline is all of that
 abbrev pub show_promise : Promise
-show_promise = record { Thing = FunctionData; form = function_text; headline = λ f text. IsCanonicalText text f }
+show_promise = record { Thing = FunctionData; form = function_form; headline = λ f text. IsCanonicalText text f }
 
 abbrev pub show : Task
 show = record {

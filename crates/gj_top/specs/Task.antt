@@ -31,17 +31,17 @@ abbrev pub HasEnd : Task → End → Type 0
 HasEnd task end = (thing : task.promise.Thing) × (text : List ℕ) × task.work.replies thing end text
 
 -- why an input spells nothing, unless there was no memory
-abbrev pub IsRefusal : (List ℕ → List ℕ → Type 0) → List ℕ → Unanswered → Type 0
-IsRefusal refuses input (Refused text) = refuses input text.items
-IsRefusal refuses input (Memory e) = Unit {0}
+abbrev pub IsTaskRefusal : (List ℕ → List ℕ → Type 0) → List ℕ → Unanswered → Type 0
+IsTaskRefusal refuses input (Refused text) = refuses input text.items
+IsTaskRefusal refuses input (Memory e) = Unit {0}
 
 -- what came of reading an input that spells a thing or is refused
 abbrev pub IsReadingOf : {Thing : Type 0} → (List ℕ → Thing → Type 0) → (List ℕ → List ℕ → Type 0) → List ℕ →
     Result Thing Unanswered → Type 0
 IsReadingOf spells refuses input (Ok thing) = spells input thing
-IsReadingOf spells refuses input (Err e) = IsRefusal refuses input e
+IsReadingOf spells refuses input (Err e) = IsTaskRefusal refuses input e
 
 -- what came of answering an input
 abbrev pub IsAnswering : Task → List ℕ → Result Reply Unanswered → Type 0
 IsAnswering task input (Ok reply) = IsReply task input reply.end reply.text.items
-IsAnswering task input (Err e) = IsRefusal task.work.refuses input e
+IsAnswering task input (Err e) = IsTaskRefusal task.work.refuses input e

@@ -12,7 +12,7 @@ use Rattle.gj_top.specs.declared.reply.End.{End}
 use Rattle.gj_top.specs.declared.reply.End.TheVariants.{Done, NotContinuous, OrderLimit, BadOrder}
 use Rattle.gj_top.specs.Promise.{Promise}
 use Rattle.gj_top.specs.Task.{Task}
-use Rattle.gj_top.specs.Forms.{function_text, RefusesFunctionText}
+use Rattle.gj_top.specs.Forms.{function_form, RefusesFunctionText}
 use Rattle.gj_top.specs.Continuity.{NamesFirstJump}
 
 -- ---- times
@@ -32,7 +32,7 @@ IsTimesReply n j f OrderLimit text = (greatest_order < f.order * n) × (text ≡
 IsTimesReply n j f end text = ⊥
 
 abbrev pub times_promise : ℕ → ℕ → Promise
-times_promise n j = record { Thing = FunctionData; form = function_text; headline = IsTimesText n j }
+times_promise n j = record { Thing = FunctionData; form = function_form; headline = IsTimesText n j }
 
 abbrev pub times : ℕ → ℕ → Task
 times n j = record {
@@ -57,7 +57,7 @@ IsMirrorReply f Done text = IsMirrorText f text
 IsMirrorReply f end text = ⊥
 
 abbrev pub mirror_promise : Promise
-mirror_promise = record { Thing = FunctionData; form = function_text; headline = IsMirrorText }
+mirror_promise = record { Thing = FunctionData; form = function_form; headline = IsMirrorText }
 
 abbrev pub mirror : Task
 mirror = record {
@@ -85,7 +85,7 @@ IsRestrictionReply d f BadOrder text = IsContinuous f × HasNoRestriction f d ×
 IsRestrictionReply d f end text = ⊥
 
 abbrev pub restriction_promise : ℕ → Promise
-restriction_promise d = record { Thing = FunctionData; form = function_text; headline = IsRestrictionText d }
+restriction_promise d = record { Thing = FunctionData; form = function_form; headline = IsRestrictionText d }
 
 abbrev pub restriction : ℕ → Task
 restriction d = record {

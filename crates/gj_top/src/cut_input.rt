@@ -3,7 +3,7 @@ ghost use Rattle.std.specs.Prelude.{◌≤◌, drop, length, IfOk, IfErr};
 ghost use Rattle.gj_function_text.specs.RuleText.{BeginsAsRule};
 ghost use Rattle.gj_row.specs.TableauText.{IsTableauText};
 ghost use Rattle.gj_proof.specs.declared.cut.CutRule.{CutRule};
-ghost use Rattle.gj_top.specs.Task.{IsRefusal};
+ghost use Rattle.gj_top.specs.Task.{IsTaskRefusal};
 ghost use Rattle.gj_top.specs.Cut.{BeginsWithRule, RefusesCutInput};
 ghost use Rattle.gj_top.specs.CutSteps.{IsRecordRefusalOf, IsTableauRefusal};
 
@@ -18,7 +18,7 @@ use std::alloc::Global;
 /// The rule that the input begins with, and the number of bytes up to and with its line `end`.
 pub(crate) fn rule_of(alloc: Global, input: &[u8]) -> Result<(CutRule, usize), Unanswered>
     ensures found { IfOk result (λ r. (r.1 ≤ length input.now) × BeginsWithRule input.now r.0 (drop r.1 input.now)) }
-    ensures refused { IfErr result (IsRefusal RefusesCutInput input.now) }
+    ensures refused { IfErr result (IsTaskRefusal RefusesCutInput input.now) }
 {
     if begins_as_rule(input) {
         named_rule_of(alloc, input)
@@ -31,7 +31,7 @@ pub(crate) fn rule_of(alloc: Global, input: &[u8]) -> Result<(CutRule, usize), U
 fn named_rule_of(alloc: Global, input: &[u8]) -> Result<(CutRule, usize), Unanswered>
     requires { BeginsAsRule input.now }
     ensures found { IfOk result (λ r. (r.1 ≤ length input.now) × BeginsWithRule input.now r.0 (drop r.1 input.now)) }
-    ensures refused { IfErr result (IsRefusal RefusesCutInput input.now) }
+    ensures refused { IfErr result (IsTaskRefusal RefusesCutInput input.now) }
 {
     match read_rule(input) {
         Ok(len) => Ok((CutRule::Gmic, len)),
@@ -43,7 +43,7 @@ fn named_rule_of(alloc: Global, input: &[u8]) -> Result<(CutRule, usize), Unansw
 fn function_rule_of(alloc: Global, input: &[u8]) -> Result<(CutRule, usize), Unanswered>
     requires { BeginsAsRule input.now → ⊥ }
     ensures found { IfOk result (λ r. (r.1 ≤ length input.now) × BeginsWithRule input.now r.0 (drop r.1 input.now)) }
-    ensures refused { IfErr result (IsRefusal RefusesCutInput input.now) }
+    ensures refused { IfErr result (IsTaskRefusal RefusesCutInput input.now) }
 {
     match read_function(alloc, input) {
         Ok((shape, len)) => Ok((CutRule::Table(shape), len)),
@@ -57,7 +57,7 @@ pub(crate) fn tableau_behind(alloc: Global, input: &[u8], len: usize) -> Result<
     requires within { len ≤ length input.now }
     requires rule { (r : CutRule) × BeginsWithRule input.now r (drop len input.now) }
     ensures found { IfOk result (IsTableauText (drop len input.now)) }
-    ensures refused { IfErr result (IsRefusal RefusesCutInput input.now) }
+    ensures refused { IfErr result (IsTaskRefusal RefusesCutInput input.now) }
 {
     match tableau_of(alloc, &input[len..]) {
         Ok(tableau) => Ok(tableau),

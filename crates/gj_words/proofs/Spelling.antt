@@ -9,7 +9,7 @@ use Rattle.std.specs.Str.{bytes_eq}
 use Rattle.std.specs.Str.Parse.{digits_value}
 use Rattle.gj_words.specs.Bare.{bare_words, begins_with_hyphen, flag_count, has_flag, is_flag}
 use Rattle.gj_words.specs.Grammar.{HasFlag, IsInBounds, SpellRequest, command_words}
-use Rattle.gj_words.specs.Line.{IsLineOf, IsRequestOf}
+use Rattle.gj_words.specs.Line.{IsCommandLineOf, IsRequestOf}
 use Rattle.gj_words.specs.declared.line.Line.{Line}
 use Rattle.gj_words.specs.declared.requests.Command.{Command}
 use Rattle.gj_words.specs.declared.requests.Command.TheVariants.{Minimal, Extreme, Cut, Check, Show, Faces, Demo, Mixed, Fill, Group, Times, Mirror, Restrict}
@@ -117,7 +117,7 @@ one words a b s t =
 
 -- ---- a line and its request
 
-pub spelled : (words : List Text) (line : Line) (r : Request) → flag_count words ≤ 1 → IsLineOf words line → IsRequestOf line r → SpellRequest words r
+pub spelled : (words : List Text) (line : Line) (r : Request) → flag_count words ≤ 1 → IsCommandLineOf words line → IsRequestOf line r → SpellRequest words r
 spelled words line r few is of =
     let json : has_flag words ≡ r.json = is.flag ∙ sym of.json in
     let bare : bare_words words ≡ command_words r.command = is.bare ∙ sym of.words in
@@ -128,7 +128,7 @@ spelled words line r few is of =
           (subst (λ ws. HasFlag (has_flag words) ws words) bare (placed words (omega (arith, length-filter is_flag words))));
     }
 
-pub request_spelled : (words : List Text) (line : Line) (r : Request) → IsLineOf words line → SpellRequest words r → IsRequestOf line r
+pub request_spelled : (words : List Text) (line : Line) (r : Request) → IsCommandLineOf words line → SpellRequest words r → IsRequestOf line r
 request_spelled words line r is s =
     let f = facts words r s in
     let json : r.json ≡ line.json = sym f.flag_is ∙ is.flag in

@@ -19,7 +19,7 @@ abbrev pub bare_words_of : Line → List (List ℕ)
 bare_words_of line = line.name.now ∷ words_behind line.operands
 
 -- the words are those of the line
-pub record IsLineOf (words : List (List ℕ)) (line : Line) : Type 0 where
+pub record IsCommandLineOf (words : List (List ℕ)) (line : Line) : Type 0 where
   pub bare : bare_words words ≡ bare_words_of line
   pub flag : has_flag words ≡ line.json
 

@@ -5,7 +5,7 @@ ghost use Rattle.std.specs.List.{list_all};
 ghost use Rattle.std.specs.String.{string_bytes};
 ghost use Rattle.gj_words.specs.Bare.{bare_words, flag_count, is_plain};
 ghost use Rattle.std.specs.Option.{option_to_list};
-ghost use Rattle.gj_words.specs.Line.{IsLineOf, words_behind};
+ghost use Rattle.gj_words.specs.Line.{IsCommandLineOf, words_behind};
 ghost use Rattle.gj_words.specs.Parser.{our_app};
 ghost use Rattle.clap.specs.Words.{app_of, kind_of};
 
@@ -42,7 +42,7 @@ pub(crate) enum Operands<'a> {
 pub(crate) fn parse<'a>(alloc: Global, words: &'a [String]) -> Result<Line<'a>, WordFault>
     requires plain { list_all is_plain (map string_bytes words.now) ≡ true }
     requires once { flag_count (map string_bytes words.now) ≤ 1 }
-    ensures ok { IfOk result (IsLineOf (map string_bytes words.entry.now)) }
+    ensures ok { IfOk result (IsCommandLineOf (map string_bytes words.entry.now)) }
     ensures refused { result ≡ Err WordFault.Refused → (name : List ℕ) (rest : List (List ℕ)) → length rest ≤ 2 →
         bare_words (map string_bytes words.entry.now) ≢ name ∷ rest }
 {

@@ -3,7 +3,7 @@ use Rattle.gj_proof.specs.declared.claim.Claim.{Claim}
 use Rattle.gj_proof.specs.declared.claim.Claim.TheVariants.{Cut, Extreme, ExtremeByResidues, NotExtreme}
 use Rattle.gj_proof.specs.Rules.{MeetsRules}
 use Rattle.gj_check.specs.declared.rules.CheckRule.TheVariants.{Minimal, Point}
-use Rattle.gj_check.specs.FirstFailure.{IsFirstFailure, IsFaultOf}
+use Rattle.gj_check.specs.FirstFailure.{IsFirstFailure, IsCheckFaultOf}
 use Rattle.gj_check.proofs.DemandsOfClaims.{minimal_fails, point_fails, accepted_unless}
 use Rattle.gj_check.proofs.OwnLineNumbers.{behind_function}
 use Rattle.gj_check.proofs.RulesGiveMeaning.{meaning_of_rules, accepted_holds}
@@ -28,8 +28,8 @@ pub returns-in-Cut-clause-only : goal.returns-in-Cut-clause-only
 returns-in-Cut-clause-only c =
     let is : Cut c.in-Cut.rule c.in-Cut.rows ≡ c.args.proof.now = sym c.in-Cut.is ∙ c.claim.ensures.claim in
     accepted_unless c.args.proof.now c.check_cuts.result
-    (subst (λ (d : Claim). IfErr c.check_cuts.result (IsFaultOf d)) is
-    (subst (λ rows. IfErr c.check_cuts.result (IsFaultOf (Cut c.in-Cut.rule rows))) c.as_slice.ensures c.check_cuts.ensures.fault))
+    (subst (λ (d : Claim). IfErr c.check_cuts.result (IsCheckFaultOf d)) is
+    (subst (λ rows. IfErr c.check_cuts.result (IsCheckFaultOf (Cut c.in-Cut.rule rows))) c.as_slice.ensures c.check_cuts.ensures.fault))
 
 pub returns-in-Extreme-clause-ok : goal.returns-in-Extreme-clause-ok
 returns-in-Extreme-clause-ok c =
@@ -42,8 +42,8 @@ pub returns-in-Extreme-clause-only : goal.returns-in-Extreme-clause-only
 returns-in-Extreme-clause-only c =
     let is : Extreme c.in-Extreme.shape c.in-Extreme.lines c.in-Extreme.rows ≡ c.args.proof.now = sym c.in-Extreme.is ∙ c.claim.ensures.claim in
     accepted_unless c.args.proof.now c.check_extreme.result
-    (subst (λ (d : Claim). IfErr c.check_extreme.result (IsFaultOf d)) is
-    (subst₂ (λ lines rows. IfErr c.check_extreme.result (IsFaultOf (Extreme c.in-Extreme.shape lines rows)))
+    (subst (λ (d : Claim). IfErr c.check_extreme.result (IsCheckFaultOf d)) is
+    (subst₂ (λ lines rows. IfErr c.check_extreme.result (IsCheckFaultOf (Extreme c.in-Extreme.shape lines rows)))
     c.as_slice-in-Extreme.ensures c.as_slice-in-Extreme-2.ensures c.check_extreme.ensures.fault))
 
 pub returns-in-ExtremeByResidues-clause-ok : goal.returns-in-ExtremeByResidues-clause-ok
@@ -57,15 +57,15 @@ pub returns-in-ExtremeByResidues-clause-only : goal.returns-in-ExtremeByResidues
 returns-in-ExtremeByResidues-clause-only c =
     let is : ExtremeByResidues c.in-ExtremeByResidues.shape c.in-ExtremeByResidues.lines c.in-ExtremeByResidues.rows ≡ c.args.proof.now = sym c.in-ExtremeByResidues.is ∙ c.claim.ensures.claim in
     accepted_unless c.args.proof.now c.check_extreme-in-ExtremeByResidues.result
-    (subst (λ (d : Claim). IfErr c.check_extreme-in-ExtremeByResidues.result (IsFaultOf d)) is
-    (subst₂ (λ lines rows. IfErr c.check_extreme-in-ExtremeByResidues.result (IsFaultOf (ExtremeByResidues c.in-ExtremeByResidues.shape lines rows)))
+    (subst (λ (d : Claim). IfErr c.check_extreme-in-ExtremeByResidues.result (IsCheckFaultOf d)) is
+    (subst₂ (λ lines rows. IfErr c.check_extreme-in-ExtremeByResidues.result (IsCheckFaultOf (ExtremeByResidues c.in-ExtremeByResidues.shape lines rows)))
     c.as_slice-in-ExtremeByResidues.ensures c.as_slice-in-ExtremeByResidues-2.ensures c.check_extreme-in-ExtremeByResidues.ensures.fault))
 
 pub returns-in-NotExtreme-clause-only : goal.returns-in-NotExtreme-clause-only
 returns-in-NotExtreme-clause-only c =
     let is : NotExtreme c.in-NotExtreme.shape c.in-NotExtreme.halves ≡ c.args.proof.now = sym c.in-NotExtreme.is ∙ c.claim.ensures.claim in
     accepted_unless c.args.proof.now c.check_halves.result
-    (subst (λ (d : Claim). IfErr c.check_halves.result (IsFaultOf d)) is c.check_halves.ensures.fault)
+    (subst (λ (d : Claim). IfErr c.check_halves.result (IsCheckFaultOf d)) is c.check_halves.ensures.fault)
 
 pub returns-else-not-is_minimal-clause-holds : goal.returns-else-not-is_minimal-clause-holds
 returns-else-not-is_minimal-clause-holds c = λ b. meaning_of_rules c.args.proof.now b c.claim.ensures.has_text (search rules)

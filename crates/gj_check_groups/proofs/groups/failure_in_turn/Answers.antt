@@ -12,7 +12,7 @@ use Rattle.gj_proof.specs.ProofText.{IsRowNameBelow}
 use Rattle.gj_frac.specs.Fraction.{Fits}
 use Rattle.gj_proof.specs.declared.numbers.Numbers.{Numbers}
 use Rattle.gj_proof.specs.declared.numbers.Numbers.TheVariants.{Whole, Residues}
-use Rattle.gj_check_groups.specs.RowNumbers.{AreNumbers}
+use Rattle.gj_check_groups.specs.RowNumbers.{AreRowNumbers}
 use Rattle.gj_check_groups.proofs.ResidueRows.{all_residues}
 use Rattle.gj_check_groups.proofs.RowSizes.{row_fits}
 use Rattle.gj_check_groups.specs.KeptTable.{IsKeptAt}
@@ -28,7 +28,7 @@ begun numbers f component n m q k name row is m_is q_is k_is =
     (ap₂ (λ a b. row_of component a b k name) m_is q_is ∙ ap (λ a. row_of component n f.order a name) k_is)
 
 -- a row that was read has such numbers
-read_fits : (numbers : Numbers) (row : List ℤ) → All Fits row → AreNumbers numbers ((arithmetic_of numbers).read row)
+read_fits : (numbers : Numbers) (row : List ℤ) → All Fits row → AreRowNumbers numbers ((arithmetic_of numbers).read row)
 read_fits Whole row fits = fits
 read_fits Residues row fits = all_residues row
 
@@ -46,7 +46,7 @@ failure_in_group-requires-clause-fits c =
     subst (λ (k : ℕ). IsRowNameBelow k c.group-item.result.name) (sym order)
     (subst (λ (one : PivotRow). IsRowNameBelow c.args.shape.now.order one.name) (sym c.group-item.is)
     (c.requires.rows c.loop-group.group-index c.group-item.result c.loop-group-test.true).name) in
-    subst (AreNumbers c.args.numbers) (sym c.begin_row.ensures)
+    subst (AreRowNumbers c.args.numbers) (sym c.begin_row.ensures)
     (read_fits c.args.numbers (row_of (component_in c.args.component.now) (length c.loop-group.row) q c.place.result c.group-item.result.name)
     (row_fits (component_in c.args.component.now) (length c.loop-group.row) q c.place.result c.group-item.result.name
     (omega (arith, l.place_high)) name (omega (arith, l.order_high))))

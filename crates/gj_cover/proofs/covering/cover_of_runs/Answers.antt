@@ -1,7 +1,7 @@
 use Rattle.std.proofs.Common.{subst}
 use Rattle.gj_faces.specs.Runs.{InRuns}
 use Rattle.gj_cover.specs.CoverOf.{IsCoverOf}
-use Rattle.gj_cover.specs.Table.{IsTightIn}
+use Rattle.gj_cover.specs.Table.{IsTightInTable}
 use Rattle.gj_cover.proofs.Transfers.{cover_on}
 use Rattle.gj_cover.proofs.covering.cover_of_runs.Goals as goal
 
@@ -9,6 +9,6 @@ pub returns : goal.returns
 returns c =
     let t = c.in_ok-table.table in
     let tells = c.in_ok-table.ensures.tells in
-    cover_on c.args.q (IsTightIn t) (InRuns c.args.q c.args.runs.now) c.in_ok-found.found
+    cover_on c.args.q (IsTightInTable t) (InRuns c.args.q c.args.runs.now) c.in_ok-found.found
     (λ i j. (tells i j).0) (λ i j. (tells i j).1)
-    (subst (λ q. IsCoverOf q (IsTightIn t) c.in_ok-found.found) c.in_ok-table.ensures.order c.in_ok-found.ensures)
+    (subst (λ q. IsCoverOf q (IsTightInTable t) c.in_ok-found.found) c.in_ok-table.ensures.order c.in_ok-found.ensures)

@@ -1,6 +1,6 @@
 use Rattle.std.proofs.Common.{◌≡◌, ◌≢◌, ◌<◌, ◌+◌, ◌%◌, ap, sym, ◌∙◌, subst}
 use Rattle.gj_sets.specs.IndexSets.{has}
-use Rattle.gj_cover.specs.Table.{IsTightIn, CoversBy}
+use Rattle.gj_cover.specs.Table.{IsTightInTable, CoversBy}
 use Rattle.gj_cover.proofs.FirstFaces.{AreSteps, Square, across_none, across_found}
 use Rattle.gj_cover.proofs.Merging.{Either, merged}
 use Rattle.gj_cover.proofs.first_faces.first_across.Goals as goal
@@ -8,7 +8,7 @@ use Rattle.gj_cover.proofs.first_faces.first_across.Goals as goal
 pub returns-in_default : goal.returns-in_default
 returns-in_default c =
     let t = c.args.table.now in
-    across_none t.order (IsTightIn t) c.args.i c.covering_across.result c.in_default.ensures c.covering_across.ensures.covering
+    across_none t.order (IsTightInTable t) c.args.i c.covering_across.result c.in_default.ensures c.covering_across.ensures.covering
 
 pub difference-step-requires-clause-start : goal.difference-step-requires-clause-start
 difference-step-requires-clause-start c =
@@ -40,5 +40,5 @@ returns c =
     c.earlier-found.result c.covering_in_square-found.ensures c.covering_in_square.ensures c.earlier-found.ensures in
     let second = merged two (Square k short) P c.earlier-found.result c.covering_in_square-2.result
     c.earlier.result first c.covering_in_square-2.ensures c.earlier.ensures in
-    across_found q (IsTightIn t) i k step short c.covering_across.result c.earlier.result steps other c.in-Some.ensures
+    across_found q (IsTightInTable t) i k step short c.covering_across.result c.earlier.result steps other c.in-Some.ensures
     c.covering_across.ensures.covering second

@@ -3,7 +3,7 @@ use Rattle.gj_shape.specs.Additive.{IsAdditive}
 use Rattle.gj_shape.specs.declared.faces.FaceKind.TheVariants.{Horizontal, Vertical, Diagonal, Upper}
 use Rattle.gj_cover.specs.FirstFound.{IsThis}
 use Rattle.gj_cover.specs.Links.{LeadsBy}
-use Rattle.gj_cover.specs.Table.{IsTightIn}
+use Rattle.gj_cover.specs.Table.{IsTightInTable}
 use Rattle.gj_cover.proofs.Adding.{EitherOf, both_added, added_restated}
 use Rattle.gj_cover.proofs.FirstFaces.{AreSteps, Five, five_on, five_back}
 use Rattle.gj_cover.proofs.first_faces.joining_from.Goals as goal
@@ -25,7 +25,7 @@ returns c =
       step_leads = subst (λ n. (i + step) % n ≡ j) is c.difference-step.ensures.value;
       short_leads = subst (λ n. (1 + short) % n ≡ step) is c.difference-short.ensures.value;
     } in
-    let P = IsAdditive (IsTightIn t) in
+    let P = IsAdditive (IsTightInTable t) in
     let one = IsThis Diagonal i j in
     let two = EitherOf one (IsThis Horizontal i step) in
     let three = EitherOf two (IsThis Upper i short) in

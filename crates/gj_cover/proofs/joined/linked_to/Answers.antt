@@ -4,7 +4,7 @@ use Rattle.std.proofs.lemmas.Bool.{or_cases}
 use Rattle.gj_faces.proofs.Periods.{same_sum}
 use Rattle.gj_sets.specs.IndexSets.{has}
 use Rattle.gj_cover.specs.Links.{Links}
-use Rattle.gj_cover.specs.Table.{is_tight_in, IsTightIn}
+use Rattle.gj_cover.specs.Table.{is_tight_in, IsTightInTable}
 use Rattle.gj_cover.specs.declared.table.Table.{Table}
 use Rattle.gj_cover.proofs.LinkSets.{linked_to, linked_to_symmetric}
 use Rattle.gj_cover.proofs.Parts.{add_same}
@@ -38,9 +38,9 @@ returns-then-is_symmetric-clause-within c j e =
     moved_below c.args.table.now.order j _ _ _ _ (c.and-horizontal.ensures j) (c.turned_back.ensures j) e
 
 told_symmetric : (c : goal.Then-is_symmetric) (j : ℕ) → j < c.args.table.now.order →
-    ((has c.and-horizontal.result j ≡ true) → Links c.args.table.now.order (IsTightIn c.args.table.now) j c.args.i)
-    × (Links c.args.table.now.order (IsTightIn c.args.table.now) j c.args.i →
-    (has c.and-horizontal.result j ≡ true) ⊎ Links c.args.table.now.order (IsTightIn c.args.table.now) c.args.i j)
+    ((has c.and-horizontal.result j ≡ true) → Links c.args.table.now.order (IsTightInTable c.args.table.now) j c.args.i)
+    × (Links c.args.table.now.order (IsTightInTable c.args.table.now) j c.args.i →
+    (has c.and-horizontal.result j ≡ true) ⊎ Links c.args.table.now.order (IsTightInTable c.args.table.now) c.args.i j)
 told_symmetric c j below =
     let t = c.args.table.now in
     let i = c.args.i in
@@ -68,7 +68,7 @@ returns-clause-within c j e =
     ]
 
 told : (c : goal.After-or-2) (j : ℕ) → j < c.args.table.now.order →
-    (has c.or-2.result j ≡ true) ↔ Links c.args.table.now.order (IsTightIn c.args.table.now) j c.args.i
+    (has c.or-2.result j ≡ true) ↔ Links c.args.table.now.order (IsTightInTable c.args.table.now) j c.args.i
 told c j below =
     let t = c.args.table.now in
     let q = t.order in

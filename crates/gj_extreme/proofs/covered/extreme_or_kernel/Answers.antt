@@ -9,7 +9,7 @@ use Rattle.gj_elim.specs.KeptRows.{log_row}
 use Rattle.gj_elim.proofs.Keeping.{same_error}
 use Rattle.gj_proof.specs.declared.numbers.Numbers.TheVariants.{Whole}
 use Rattle.gj_extreme.specs.Decision.{slope_elimination}
-use Rattle.gj_extreme.specs.RowsToCome.{name_of, AreLinesOf}
+use Rattle.gj_extreme.specs.RowsToCome.{name_of, AreLoggedRows}
 use Rattle.gj_extreme.proofs.ClaimTexts.{extreme_has_text}
 use Rattle.gj_extreme.proofs.DecidedHalves.{begun_columns}
 use Rattle.gj_extreme.proofs.RenumberedKernel.{lines_renumbered}
@@ -36,8 +36,8 @@ returns-then-is_full-clause-decided c =
     let len = ap length rows.kept in
     let same = length-map c.args.rows.now.basis.kept (renumbered rows.numbers) in
     let all : length (slope_elimination f comp n).kept ≡ length c.args.rows.now.row.items = omega arith in
-    let lines : AreLinesOf slope.kept c.log.result.now =
-    subst₂ AreLinesOf (sym rows.kept) (sym c.log.ensures) (lines_renumbered rows.numbers c.args.rows.now.basis.kept) in (
+    let lines : AreLoggedRows slope.kept c.log.result.now =
+    subst₂ AreLoggedRows (sym rows.kept) (sym c.log.ensures) (lines_renumbered rows.numbers c.args.rows.now.basis.kept) in (
       c.in_ok-copy.ensures,
       c.requires.minimal,
       c.requires.continuous,

@@ -2,7 +2,7 @@ use Rattle.std.proofs.Common.{◌≡◌, ℕ, List, ◌+◌, ◌-◌, ◌++◌, 
 use Rattle.gj_shape.specs.SlopeRows.{component_in, row_of}
 use Rattle.gj_shape.specs.declared.extremality.RowName.TheVariants.{Pair}
 use Rattle.gj_elim.proofs.Keeping.{same_error}
-use Rattle.gj_extreme.specs.RowsToCome.{AreToCome, pairs_from, rows_from}
+use Rattle.gj_extreme.specs.RowsToCome.{AreToCome, pairs_from, row_names_from}
 use Rattle.gj_extreme.proofs.RowOrder.{next_rows}
 use Rattle.gj_extreme.proofs.FoundPairs.{IsRow, IsBehind, behind_pair, passed_pair, found_below, found_next, found_none}
 use Rattle.gj_extreme.proofs.TakenRows.{rows_are_ready}
@@ -32,7 +32,7 @@ insert_pair-requires-clause-ready c =
 
 pub returns-in_err-insert_pair-clause-wide : goal.returns-in_err-insert_pair-clause-wide
 returns-in_err-insert_pair-clause-wide c = λ e.
-    let behind = rows_from c.args.shape.now (c.args.a + 1) in
+    let behind = row_names_from c.args.shape.now (c.args.a + 1) in
     let rest = pairs_from c.args.shape.now c.args.a (c.in-Some.b + 1) ++ behind in
     c.in_err-insert_pair.ensures.wide
     (same_error c.from_residual.result c.in_err-insert_pair.field-0.0 _ c.from_residual.ensures.0 c.from_residual.ensures.1 e)
@@ -54,7 +54,7 @@ pairs-preserved c =
     let n = c.args.system.now.columns in
     let a = c.args.a in
     let b = c.in-Some.b in
-    let behind = rows_from f (c.args.a + 1) in
+    let behind = row_names_from f (c.args.a + 1) in
     let rest = pairs_from f a (c.in-Some.b + 1) ++ behind in
     let r : IsRow c.args.pairs.now c.args.a c.row-row.result.now = record { tells = c.row-row.ensures.tells; within = c.row-row.ensures.within } in
     let below = found_below f c.args.pairs.now a c.pairs.from b c.row-row.result.now c.requires.pairs r c.in-Some.ensures in (
@@ -73,7 +73,7 @@ pairs-preserved-then-has_row_of_pair_before c =
     let n = c.args.system.now.columns in
     let a = c.args.a in
     let b = c.in-Some.b in
-    let behind = rows_from f (c.args.a + 1) in
+    let behind = row_names_from f (c.args.a + 1) in
     let rest = pairs_from f a (c.in-Some.b + 1) ++ behind in
     let r : IsRow c.args.pairs.now c.args.a c.row-row.result.now = record { tells = c.row-row.ensures.tells; within = c.row-row.ensures.within } in
     let below = found_below f c.args.pairs.now a c.pairs.from b c.row-row.result.now c.requires.pairs r c.in-Some.ensures in
@@ -91,7 +91,7 @@ pairs-preserved-then-has_row_of_pair_before c =
 
 pub returns-clause-to_come : goal.returns-clause-to_come
 returns-clause-to_come c =
-    let behind = rows_from c.args.shape.now (c.args.a + 1) in
+    let behind = row_names_from c.args.shape.now (c.args.a + 1) in
     subst (AreToCome c.args.shape.now (component_in c.args.system.now.component) c.args.system.now.columns c.pairs.rows)
     (found_none c.args.shape.now c.args.pairs.now c.args.a c.pairs.from c.row-row.result.now behind c.requires.pairs
     (record { tells = c.row-row.ensures.tells; within = c.row-row.ensures.within }) c.pairs.invariant.0 c.in_default.ensures)

@@ -2,7 +2,7 @@ use Rattle.std.proofs.Common.{◌∷◌, sym, subst, arith}
 use Rattle.gj_shape.specs.SlopeRows.{component_in}
 use Rattle.gj_shape.specs.declared.extremality.RowName.TheVariants.{F}
 use Rattle.gj_elim.proofs.Keeping.{same_error}
-use Rattle.gj_extreme.specs.RowsToCome.{AreToCome, rows_from}
+use Rattle.gj_extreme.specs.RowsToCome.{AreToCome, row_names_from}
 use Rattle.gj_extreme.proofs.RowOrder.{no_rows}
 use Rattle.gj_extreme.proofs.TakenRows.{rows_are_ready, full_takes_all, all_inserted}
 use Rattle.gj_extreme.proofs.inserted_rows.insert_rows.Goals as goal
@@ -17,26 +17,26 @@ returns-in_err-insert-clause-wide c = λ e.
     c.in_err-insert.ensures.wide
     (same_error c.from_residual-in_err-insert.result c.in_err-insert.field-0.0 _ c.from_residual-in_err-insert.ensures.0
     c.from_residual-in_err-insert.ensures.1 e)
-    (F ∷ rows_from c.args.shape.now 1) (c.in_ok-rows.ensures c.args.shape.now (sym c.requires.components))
+    (F ∷ row_names_from c.args.shape.now 1) (c.in_ok-rows.ensures c.args.shape.now (sym c.requires.components))
 
 pub insert-requires-2-clause-ready : goal.insert-requires-2-clause-ready
 insert-requires-2-clause-ready c =
     rows_are_ready c.args.shape.now (component_in c.args.system.now.component) c.args.system.now.columns c.insert.new.self
-    (F ∷ rows_from c.args.shape.now 1) c.requires.limits
-    (c.in_ok-insert.ensures.to_come (F ∷ rows_from c.args.shape.now 1) (c.in_ok-rows.ensures c.args.shape.now (sym c.requires.components))).0
+    (F ∷ row_names_from c.args.shape.now 1) c.requires.limits
+    (c.in_ok-insert.ensures.to_come (F ∷ row_names_from c.args.shape.now 1) (c.in_ok-rows.ensures c.args.shape.now (sym c.requires.components))).0
 
 pub returns-in_err-insert-2-clause-wide : goal.returns-in_err-insert-2-clause-wide
 returns-in_err-insert-2-clause-wide c = λ e.
     c.in_err-insert-2.ensures.wide
     (same_error c.from_residual-in_err-insert-2.result c.in_err-insert-2.field-0.0 _ c.from_residual-in_err-insert-2.ensures.0
     c.from_residual-in_err-insert-2.ensures.1 e)
-    (rows_from c.args.shape.now 1)
-    (c.in_ok-insert.ensures.to_come (F ∷ rows_from c.args.shape.now 1) (c.in_ok-rows.ensures c.args.shape.now (sym c.requires.components))).0
+    (row_names_from c.args.shape.now 1)
+    (c.in_ok-insert.ensures.to_come (F ∷ row_names_from c.args.shape.now 1) (c.in_ok-rows.ensures c.args.shape.now (sym c.requires.components))).0
 
 pub loop-a-init : goal.loop-a-init
 loop-a-init c =
-    (c.in_ok-insert-2.ensures.to_come (rows_from c.args.shape.now 1)
-    (c.in_ok-insert.ensures.to_come (F ∷ rows_from c.args.shape.now 1) (c.in_ok-rows.ensures c.args.shape.now (sym c.requires.components))).0).0
+    (c.in_ok-insert-2.ensures.to_come (row_names_from c.args.shape.now 1)
+    (c.in_ok-insert.ensures.to_come (F ∷ row_names_from c.args.shape.now 1) (c.in_ok-rows.ensures c.args.shape.now (sym c.requires.components))).0).0
 
 pub returns-then-is_full-clause-rows : goal.returns-then-is_full-clause-rows
 returns-then-is_full-clause-rows c =

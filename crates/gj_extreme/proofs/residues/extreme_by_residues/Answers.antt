@@ -2,7 +2,7 @@ use Rattle.std.proofs.Common.{◌≡◌, ◌≤◌, length, sym, subst, subst₂
 use Rattle.std.specs.Prelude.{All}
 use Rattle.gj_shape.specs.Elimination.{elimination, Passes}
 use Rattle.gj_shape.specs.SlopeRows.{row_names, component_in}
-use Rattle.gj_residue.specs.Settled.{IsSettled, IsPlain, IsKernel, IsByResidues, IsTooWide as IsTooWideOf}
+use Rattle.gj_residue.specs.Settled.{IsSettled, IsPlain, IsKernel, IsByResidues, AreRowsTooWide as IsTooWideOf}
 use Rattle.gj_system.specs.Components.{IsNameBelow}
 use Rattle.gj_proof.specs.declared.numbers.Numbers.TheVariants.{Residues}
 use Rattle.gj_extreme.specs.Decision.{elimination_over}

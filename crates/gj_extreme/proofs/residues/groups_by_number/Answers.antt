@@ -8,7 +8,7 @@ use Rattle.gj_shape.specs.SlopeRows.{row_names}
 use Rattle.gj_shape.specs.declared.extremality.RowName.TheVariants.{Period}
 use Rattle.gj_elim.specs.KeptRows.{log_row}
 use Rattle.gj_extreme.specs.Decision.{group_of}
-use Rattle.gj_extreme.specs.RowsToCome.{name_of, AreLinesOf}
+use Rattle.gj_extreme.specs.RowsToCome.{name_of, AreLoggedRows}
 use Rattle.gj_extreme.proofs.GroupLists.{one_name_more}
 use Rattle.gj_extreme.proofs.RenumberedKernel.{lines_of_log}
 use Rattle.gj_extreme.proofs.residues.groups_by_number.Goals as goal
@@ -39,7 +39,7 @@ groups_of-requires c =
 pub returns : goal.returns
 returns c =
     on_ok_along c.groups_of.result
-    (λ v. (f : FunctionData) (kept : List KeptRow) → c.as_slice.result.now ≡ map (name_of f) kept → AreLinesOf kept c.args.log.now →
+    (λ v. (f : FunctionData) (kept : List KeptRow) → c.as_slice.result.now ≡ map (name_of f) kept → AreLoggedRows kept c.args.log.now →
     v.items ≡ map (group_of f) kept)
     (λ v. (f : FunctionData) (kept : List KeptRow) → c.args.names.now ≡ row_names f → c.args.log.now ≡ map log_row kept →
     v.items ≡ map (group_of f) kept)
@@ -49,5 +49,5 @@ returns c =
     given f kept
     (c.as_slice.ensures.value ∙ c.loop-line.invariant.1 f kept names log ∙ ap (λ i. map (name_of f) (take i kept)) all
     ∙ ap (map (name_of f)) (take-length kept))
-    (subst (AreLinesOf kept) (sym log) (lines_of_log kept)))
+    (subst (AreLoggedRows kept) (sym log) (lines_of_log kept)))
     c.groups_of.ensures

@@ -1,6 +1,6 @@
 use Rattle.std.proofs.Common.{◌≡◌, ℕ, ◌<◌, List, [], ◌∷◌, get_or, lit<, below_more, codes, rules, arith}
 use Rattle.gj_lex.specs.Words.{word_texts}
-use Rattle.gj_proof.specs.ProofGrammar.{claim_words, numbers_of_word, word_text}
+use Rattle.gj_proof.specs.ProofGrammar.{claim_words, numbers_of_word, claim_word_text}
 use Rattle.gj_proof.specs.declared.claim.ClaimWord.{ClaimWord}
 use Rattle.gj_proof.specs.declared.claim.ClaimWord.TheVariants.{Minimal, NotMinimal, Cut, Extreme, NotExtreme}
 use Rattle.gj_proof.specs.declared.numbers.Numbers.{Numbers}
@@ -24,7 +24,7 @@ one_field : (line : List (List ℕ)) (field word : List ℕ) → line ≡ codes 
 one_field line field word e f = cc
 
 abbrev IsOther : List ℕ → Numbers → ClaimWord → Type 0
-IsOther field numbers w = field ≡ word_text w → numbers_of_word w ≡ numbers → ⊥
+IsOther field numbers w = field ≡ claim_word_text w → numbers_of_word w ≡ numbers → ⊥
 
 pub loop-word-preserved : goal.loop-word-preserved
 loop-word-preserved c =

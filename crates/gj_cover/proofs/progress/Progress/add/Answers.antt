@@ -1,6 +1,6 @@
 use Rattle.std.proofs.Common.{◌+◌, Some, refl, arith}
 use Rattle.std.specs.Vec.{with_item}
-use Rattle.gj_cover.specs.Table.{IsTightIn}
+use Rattle.gj_cover.specs.Table.{IsTightInTable}
 use Rattle.gj_cover.proofs.Advance.{line_more, joined_on, opened_on, fewer}
 use Rattle.gj_cover.specs.declared.progress.Progress.{Progress}
 use Rattle.gj_cover.proofs.progress.Progress.add.Goals as goal
@@ -8,7 +8,7 @@ use Rattle.gj_cover.proofs.progress.Progress.add.Goals as goal
 pub returns-then-line-clause-progress : goal.returns-then-line-clause-progress
 returns-then-line-clause-progress c =
     let q = c.args.table.now.order in
-    let T = IsTightIn c.args.table.now in
+    let T = IsTightInTable c.args.table.now in
     let new : Progress = record {
       component = with_item c.args.self.now.component c.args.line.interval (Some c.unwrap_or-number.result);
       free = c.remove.new.self;
@@ -26,7 +26,7 @@ returns-then-line-clause-progress c =
 pub returns-then-line-clause-fewer : goal.returns-then-line-clause-fewer
 returns-then-line-clause-fewer c =
     let q = c.args.table.now.order in
-    let T = IsTightIn c.args.table.now in
+    let T = IsTightInTable c.args.table.now in
     let new : Progress = record {
       component = with_item c.args.self.now.component c.args.line.interval (Some c.unwrap_or-number.result);
       free = c.remove.new.self;
@@ -44,7 +44,7 @@ returns-then-line-clause-fewer c =
 pub returns-clause-progress : goal.returns-clause-progress
 returns-clause-progress c =
     let q = c.args.table.now.order in
-    let T = IsTightIn c.args.table.now in
+    let T = IsTightInTable c.args.table.now in
     let new : Progress = record {
       component = with_item c.args.self.now.component c.args.line.interval (Some c.unwrap_or-number.result);
       free = c.remove.new.self;
@@ -62,7 +62,7 @@ returns-clause-progress c =
 pub returns-clause-fewer : goal.returns-clause-fewer
 returns-clause-fewer c =
     let q = c.args.table.now.order in
-    let T = IsTightIn c.args.table.now in
+    let T = IsTightInTable c.args.table.now in
     let new : Progress = record {
       component = with_item c.args.self.now.component c.args.line.interval (Some c.unwrap_or-number.result);
       free = c.remove.new.self;

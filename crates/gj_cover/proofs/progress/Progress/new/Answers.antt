@@ -1,7 +1,7 @@
 use Rattle.std.proofs.Common.{refl}
 use Rattle.gj_cover.proofs.Pending.{begun}
 use Rattle.gj_cover.specs.declared.progress.Progress.{Progress}
-use Rattle.gj_cover.specs.Table.{IsTightIn}
+use Rattle.gj_cover.specs.Table.{IsTightInTable}
 use Rattle.gj_cover.proofs.progress.Progress.new.Goals as goal
 
 pub returns : goal.returns
@@ -14,5 +14,5 @@ returns c =
       count = 0;
       searched = 0;
     } in
-    begun c.args.table.now.order c.order-order.result (IsTightIn c.args.table.now) p c.order-order.ensures.value
+    begun c.args.table.now.order c.order-order.result (IsTightInTable c.args.table.now) p c.order-order.ensures.value
     c.in_ok-no_numbers.ensures c.below.ensures c.empty.ensures c.new.ensures.items refl refl

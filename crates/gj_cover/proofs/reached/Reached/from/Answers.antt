@@ -1,4 +1,4 @@
-use Rattle.gj_cover.specs.Table.{IsTightIn}
+use Rattle.gj_cover.specs.Table.{IsTightInTable}
 use Rattle.gj_cover.proofs.Classes.{reached_on, reached_all}
 use Rattle.gj_cover.proofs.reached.Reached.from.Goals as goal
 
@@ -19,7 +19,7 @@ reach-requires-clause-waits c = c.in-Some.ensures.found
 pub loop-interval-preserved : goal.loop-interval-preserved
 loop-interval-preserved c =
     let t = c.args.table.now in
-    reached_on t.order (IsTightIn t) c.args.free.now c.args.start c.in-Some.interval c.loop-interval.found c.reach.new.self
+    reached_on t.order (IsTightInTable t) c.args.free.now c.args.start c.in-Some.interval c.loop-interval.found c.reach.new.self
     c.requires.uncovered c.requires.start c.loop-interval.invariant c.in-Some.ensures.found c.reach.ensures
 
 pub loop-interval-smaller : goal.loop-interval-smaller
@@ -28,5 +28,5 @@ loop-interval-smaller c = c.reach.ensures.fewer
 pub returns : goal.returns
 returns c =
     let t = c.args.table.now in
-    reached_all t.order (IsTightIn t) c.args.start c.loop-interval.found (c.requires.uncovered.within c.args.start c.requires.start)
+    reached_all t.order (IsTightInTable t) c.args.start c.loop-interval.found (c.requires.uncovered.within c.args.start c.requires.start)
     c.loop-interval.invariant c.in_default.ensures

@@ -1,6 +1,6 @@
 use Rattle.std.proofs.Common.{◌<◌, ◌&&◌, not, eqb, ap, ◌∙◌, arith}
 use Rattle.gj_sets.specs.IndexSets.{has}
-use Rattle.gj_cover.specs.Table.{IsTightIn}
+use Rattle.gj_cover.specs.Table.{IsTightInTable}
 use Rattle.gj_cover.specs.declared.reached.Reached.{Reached}
 use Rattle.gj_cover.proofs.Classes.{looked_at}
 use Rattle.gj_cover.proofs.reached.Reached.reach.Goals as goal
@@ -11,7 +11,7 @@ returns c =
     let old = c.args.self.now in
     let new : Reached = record { reached = c.or-self.result; waiting = c.remove.new.self } in
     let few = t.few.1 in
-    looked_at t.order (IsTightIn t) c.args.interval c.args.free.now c.joined.result c.and_not-more.result old new
+    looked_at t.order (IsTightInTable t) c.args.interval c.args.free.now c.joined.result c.and_not-more.result old new
     (let low : c.args.interval < 1024 = omega (arith, c.requires.within, few) in low)
     c.requires.reached c.requires.waits c.joined.ensures.within c.joined.ensures.joined
     (λ i. c.and_not-more.ensures i ∙ ap (λ x. x && not (has old.reached i)) (c.and.ensures i))

@@ -1,11 +1,11 @@
 use Rattle.std.proofs.Common.{◌%◌, refl, ap, sym, ◌∙◌}
 use Rattle.std.proofs.Math.Nat.{mod-mod}
-use Rattle.gj_cover.specs.Table.{IsTightIn}
+use Rattle.gj_cover.specs.Table.{IsTightInTable}
 use Rattle.gj_cover.proofs.TablePairs.{same_tight}
 use Rattle.gj_cover.proofs.table.Table.is_tight.Goals as goal
 
 pub returns : goal.returns
-unfolding IsTightIn
+unfolding IsTightInTable
 returns c =
     let t = c.args.self.now in
     let j = c.wrapped.result in
