@@ -7,8 +7,8 @@ ghost use Rattle.gj_listings.specs.FacesText.{ArePushed, AreRowsPushed, IsFacesT
 use crate::face_lines::{ends_below, push_face_lines, starts_of};
 use gj_cover::cover_of_pairs;
 use gj_faces::{TightPairs, push_maximal_row};
-use gj_lex::print_count;
 use gj_function_lines::{push_cover_lines, push_order_line};
+use gj_lex::print_count;
 use gj_shape::Shape;
 use std::alloc::{AllocError, Global};
 

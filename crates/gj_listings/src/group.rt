@@ -5,8 +5,8 @@ ghost use Rattle.gj_group.specs.Decision.{IsFound};
 ghost use Rattle.gj_listings.specs.GroupText.{IsGroupText, verdict_lines};
 
 use gj_frac::Frac;
-use gj_group::GroupAnswer;
 use gj_function_lines::{push_fraction_line, push_order_line};
+use gj_group::GroupAnswer;
 use gj_proof::{push_halves, push_violation_line};
 use gj_shape::Shape;
 use std::alloc::{AllocError, Global};

@@ -29,7 +29,11 @@ pub fn mixed_text(alloc: Global, rule: &CutRule, tableau: &Tableau) -> Result<Ve
 
 /// Appends the lines of a row: those of its cut with the whole columns, or that it is passed over, and behind them a line for each
 /// continuous column.
-pub(crate) fn push_mixed_row(alloc: Global, out: &mut Vec<u8>, line: &MixedLine) -> Result<(), AllocError>
+pub(crate) fn push_mixed_row(
+    alloc: Global,
+    out: &mut Vec<u8>,
+    line: &MixedLine,
+) -> Result<(), AllocError>
     ensures { OnOk result (out.new.items ≡ out.old.items ++ mixed_row_text line.now) }
 {
     push_row(alloc, out, &line.line)?;

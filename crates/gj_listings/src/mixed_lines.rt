@@ -14,8 +14,8 @@ ghost use Rattle.gj_listings.specs.Columns.{continuous_columns};
 ghost use Rattle.gj_listings.specs.MixedLines.{AppendsLines, IsMadeLine, MakesMixedCuts};
 
 use crate::columns::continuous_columns;
-use crate::named::line_of;
 use crate::mixed::push_mixed_row;
+use crate::named::line_of;
 use gj_frac::Frac;
 use gj_lex::Name;
 use gj_mixed::{Slopes, SlopesAtZero, cut_mixed, gmic_cut_mixed};

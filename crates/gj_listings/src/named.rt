@@ -44,11 +44,7 @@ pub(crate) fn line_of(
 }
 
 /// The terms with the names of their columns. The only error is want of memory.
-fn named_terms(
-    alloc: Global,
-    columns: &[Name],
-    terms: &[Term],
-) -> Result<Vec<CutTerm>, AllocError>
+fn named_terms(alloc: Global, columns: &[Name], terms: &[Term]) -> Result<Vec<CutTerm>, AllocError>
     requires { All (λ t. t.column < length columns.now) terms.now }
     ensures { IfOk result (λ named. AllZip (IsNamedTerm columns.now) terms.now named.items) }
 {
