@@ -1,12 +1,7 @@
 -- The line of a row of whole columns, from that by a kind of rule.
-use Rattle.std.proofs.Common.{◌≡◌, ℕ, ◌<◌, List, [], ◌∷◌, ◌++◌, get_or, refl, sym, subst, ap, arith}
+use Rattle.std.proofs.Common.{◌≡◌, ℕ, List, [], ◌∷◌, sym, subst}
 use Rattle.std.specs.List.{AllZip}
-use Rattle.std.proofs.lemmas.Int.{ints}
 use Rattle.gj_frac.specs.declared.Frac.{Frac}
-use Rattle.gj_frac.specs.Floor.{HasFractionalPart}
-use Rattle.gj_frac.specs.Fraction.{numerator, denominator}
-use Rattle.gj_frac.proofs.Floors.{quotient_is_floor}
-use Rattle.gj_frac.proofs.SameValues.{same_from_is}
 use Rattle.gj_shape.specs.FunctionData.{FunctionData}
 use Rattle.gj_theory.specs.Cuts.{IsGmicValue}
 use Rattle.gj_rule.specs.Kind.{IsKindValue}
@@ -22,6 +17,7 @@ use Rattle.gj_proof.specs.declared.cut.CutRule.{CutRule}
 use Rattle.gj_proof.specs.declared.cut.CutRule.TheVariants.{Gmic, Table}
 use Rattle.gj_proof.specs.declared.cut.CutTerm.{CutTerm}
 use Rattle.gj_proof.specs.declared.cut.SkipReason.TheVariants.{Integral, Other}
+use Rattle.gj_check.proofs.FractionalParts.{one_part}
 use Rattle.gj_claims.specs.CutLines.{IsLineFor, IsLineOfKind, IsTermFor, IsTermOfEntry}
 
 -- terms by a kind are terms by a rule that has the kind's values
@@ -35,13 +31,6 @@ terms_for r k columns row (e ∷ entries) (t ∷ terms) value h = (
   record { name = h.0.name; entry = h.0.entry; value = value t h.0.value },
   terms_for r k columns row entries terms value h.1,
 )
-
--- f is the one fractional part of x
-one_part : (x f g : Frac) → HasFractionalPart x (numerator f) (denominator f) → HasFractionalPart x (numerator g) (denominator g) → f ≡ g
-one_part x f g has part =
-    let positive = x.lowest.positive in
-    let floor = quotient_is_floor x in
-    same_from_is f g _ x.den (omega (arith, ints)) (sym (has _ floor)) (sym (part _ floor))
 
 pub gmic_line : (f : Frac) (columns : List (List ℕ)) (row : Row) (line : CutLine) → HasPart (kind.Gmic f) row.rhs →
     IsLineOfKind (kind.Gmic f) columns row line → IsLineFor Gmic columns row line
