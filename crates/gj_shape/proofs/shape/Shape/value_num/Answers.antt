@@ -1,17 +1,20 @@
-use Rattle.std.proofs.Common.{◌≡◌, ◌<◌, length, w64, to_z, of_z, ap, subst, sym, ◌∙◌, rules, arith}
-use Rattle.std.specs.Int.{w128}
+use Rattle.std.proofs.Common.{◌≡◌, get_or, w64, to_z, of_z, subst, sym, ◌∙◌, rules}
 use Rattle.std.proofs.lemmas.Int.{to_z-of_z}
-use Rattle.gj_shape.specs.FunctionData.{FunctionData, at}
-use Rattle.gj_shape.proofs.AtLemmas.{at_read}
+use Rattle.gj_shape.specs.FunctionData.{FunctionData, IsWithinBounds, at}
+use Rattle.gj_shape.specs.Limits.{IsNumerator}
+use Rattle.gj_shape.proofs.NumeratorReadings.{remainder_read, value_below}
 use Rattle.gj_shape.proofs.shape.Shape.value_num.Goals as goal
 
 pub returns : goal.returns
 returns c =
-    let xs = c.self.inside.value.items in
-    let order = ap (λ (f : FunctionData). f.order) c.self.view_is in
-    let within : c.args.i < length xs = omega (arith, c.self.invariant.value_length) in
-    let read : to_z w64 (of_z w64 c.index.result.now) ≡ at xs c.args.i =
-    to_z-of_z w64 c.index.result.now (search rules) ∙ sym (at_read xs c.args.i c.index.result.now within c.index.ensures) in
-    let is : to_z w128 (of_z w128 c.from.result) ≡ at xs c.args.i =
-    to_z-of_z w128 c.from.result (search rules) ∙ c.from.ensures ∙ read in
-    subst (λ (f : FunctionData). to_z w128 (of_z w128 c.from.result) ≡ at f.value c.args.i) c.self.view_is is
+    let f = c.args.self.now in
+    let i = c.args.i in
+    let x = c.index.result.now in
+    let limits : IsWithinBounds f = subst IsWithinBounds c.self.view_is c.self.invariant in
+    let entry : x ≡ get_or f.value c.remainder.result x =
+    subst (λ (g : FunctionData). x ≡ get_or g.value c.remainder.result x) c.self.view_is c.index.ensures in
+    let read : to_z w64 (of_z w64 x) ≡ at f.value i =
+    to_z-of_z w64 x (search rules)
+    ∙ remainder_read f.value i c.remainder.result f.order x limits.value_length c.remainder.ensures.value
+    c.remainder.ensures.below entry in
+    record { value = read; small = subst IsNumerator (sym read) (value_below f i limits); limits = limits }
