@@ -175,7 +175,7 @@ impl Shape {
         requires { i < self.now.order }
         ensures { IsRatio result (at self.now.left i) (pos self.now.scale) }
     {
-        Frac::ratio(self.left_num(i), self.scale)
+        Frac::ratio(self.left_numerator(i), self.scale)
     }
 
     /// The value at i/q.
@@ -183,7 +183,7 @@ impl Shape {
         requires { i < self.now.order }
         ensures { IsRatio result (at self.now.value i) (pos self.now.scale) }
     {
-        Frac::ratio(self.value_num(i), self.scale)
+        Frac::ratio(self.value_numerator(i), self.scale)
     }
 
     /// The limit from the right at i/q.
@@ -191,7 +191,7 @@ impl Shape {
         requires { i < self.now.order }
         ensures { IsRatio result (at self.now.right i) (pos self.now.scale) }
     {
-        Frac::ratio(self.right_num(i), self.scale)
+        Frac::ratio(self.right_numerator(i), self.scale)
     }
 
     /// The index modulo q. No division is needed below q.
@@ -207,7 +207,7 @@ impl Shape {
     }
 
     /// The limit from the left at i/q, times the common denominator; i is read modulo q.
-    pub fn left_num(&self, i: u32) -> i64
+    pub fn left_numerator(&self, i: u32) -> i64
         ensures value { result ≡ at self.now.left i }
         ensures small { IsNumerator result }
         ensures limits { IsWithinBounds self.now }
@@ -216,7 +216,7 @@ impl Shape {
     }
 
     /// The value at i/q, times the common denominator; i is read modulo q.
-    pub fn value_num(&self, i: u32) -> i64
+    pub fn value_numerator(&self, i: u32) -> i64
         ensures value { result ≡ at self.now.value i }
         ensures small { IsNumerator result }
         ensures limits { IsWithinBounds self.now }
@@ -225,12 +225,33 @@ impl Shape {
     }
 
     /// The limit from the right at i/q, times the common denominator; i is read modulo q.
-    pub fn right_num(&self, i: u32) -> i64
+    pub fn right_numerator(&self, i: u32) -> i64
         ensures value { result ≡ at self.now.right i }
         ensures small { IsNumerator result }
         ensures limits { IsWithinBounds self.now }
     {
         self.right[self.remainder(i)]
+    }
+
+    /// The limit from the left at i/q, times the common denominator; i is read modulo q.
+    pub fn left_num(&self, i: u32) -> i128
+        ensures { result ≡ at self.now.left i }
+    {
+        i128::from(self.left_numerator(i))
+    }
+
+    /// The value at i/q, times the common denominator; i is read modulo q.
+    pub fn value_num(&self, i: u32) -> i128
+        ensures { result ≡ at self.now.value i }
+    {
+        i128::from(self.value_numerator(i))
+    }
+
+    /// The limit from the right at i/q, times the common denominator; i is read modulo q.
+    pub fn right_num(&self, i: u32) -> i128
+        ensures { result ≡ at self.now.right i }
+    {
+        i128::from(self.right_numerator(i))
     }
 
     /// The limits from the left at 0, 1/q, .., (q - 1)/q, each times the common denominator.

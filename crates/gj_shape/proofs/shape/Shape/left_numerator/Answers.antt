@@ -3,7 +3,7 @@ use Rattle.std.proofs.lemmas.Int.{to_z-of_z}
 use Rattle.gj_shape.specs.FunctionData.{FunctionData, IsWithinBounds, at}
 use Rattle.gj_shape.specs.Limits.{IsNumerator}
 use Rattle.gj_shape.proofs.NumeratorReadings.{remainder_read, left_below}
-use Rattle.gj_shape.proofs.shape.Shape.left_num.Goals as goal
+use Rattle.gj_shape.proofs.shape.Shape.left_numerator.Goals as goal
 
 pub returns : goal.returns
 returns c =
