@@ -1,6 +1,5 @@
 pub mod Decimals
 pub mod FirstPlaces
-pub mod LineEnds
 pub mod LineWords
 pub mod Places
 pub mod SignedNumbers
@@ -14,7 +13,6 @@ pub mod StrictLines
 pub mod LineNumbers
 pub mod PartLaws
 pub mod SpelledWords
-pub mod CursorLines
 pub mod LoopLaws
 pub mod CanonicalLines
 pub mod WhereLaws

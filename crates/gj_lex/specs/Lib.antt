@@ -1,4 +1,3 @@
-pub mod Lines
 pub mod Name
 pub mod NumberText
 pub mod Reason
