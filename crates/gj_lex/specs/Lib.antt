@@ -1,3 +1,4 @@
+pub mod Lines
 pub mod Name
 pub mod NumberText
 pub mod Reason

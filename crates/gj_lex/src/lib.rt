@@ -10,6 +10,7 @@
 
 mod begins;
 mod canonical;
+mod cursor;
 mod digits;
 mod fault;
 mod laws;
@@ -24,6 +25,7 @@ mod words;
 
 pub use begins::{begins_with_line, begins_with_word, line_with_word};
 pub use canonical::{read_canonical, read_count};
+pub use cursor::{Cursor, LineSpan};
 pub use fault::PartFault;
 pub use laws::{
     canonical_text_is_a_word, canonical_texts_are_short, count_is_one_word, fraction_is_one_word,

@@ -77,7 +77,7 @@ pub fn line_number(text: &[u8], left: usize) -> u64
 }
 
 /// Where the first LF stands.
-fn first_line_feed(text: &[u8]) -> Option<usize>
+pub(crate) fn first_line_feed(text: &[u8]) -> Option<usize>
     ensures { result ≡ position is_line_feed text.now }
 {
     // The iterator looks near first, which suits short lines.
