@@ -1,6 +1,6 @@
 use Rattle.std.proofs.Common.{inl, arith}
 use Rattle.gj_cover.proofs.RunOrder.{two_in_order}
-use Rattle.gj_tests.proofs.tests.intervals.cover_of_two_runs.Goals as goal
+use Rattle.gj_tests.proofs.tests.faces.cover_of_two_runs.Goals as goal
 
 pub cover_of_runs-requires-clause-in_order : goal.cover_of_runs-requires-clause-in_order
 cover_of_runs-requires-clause-in_order g c =
