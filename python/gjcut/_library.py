@@ -2,9 +2,7 @@
 import ctypes
 import functools
 import os
-import shutil
 import subprocess
-import sys
 from pathlib import Path
 from typing import NamedTuple, Union
 
@@ -29,60 +27,31 @@ class Answer(NamedTuple):
     text: str
 
 
-def kit() -> Path:
-    """The folder of the Rattle kit: that of the variable KIT, or the one of the command `rt`."""
-    named = os.environ.get("KIT")
-    if named:
-        return Path(named)
-    command = shutil.which("rt")
-    return Path(os.path.realpath(command)).parents[1] if command else Path("no-kit")
-
-
-def archives() -> "list[Path]":
-    """The static library of this repository, and the functions for memory of the kit."""
-    return [TOP / "crates/gj_library/out/libgj_library.a", kit() / "c/liblibc_c.a"]
-
-
-def build(made: Path, *given: Path) -> None:
-    """Makes the shared library out of the static one and the kit's functions for memory. It exports one name."""
-    given = given or tuple(archives())
-    for archive in given:
-        if not archive.exists():
-            raise LibraryMissing(f"{MISSING} (there is no {archive})")
-    compiler = next(filter(None, map(shutil.which, ("cc", "gcc", "clang"))), None)
-    if not compiler:
-        raise LibraryMissing(f"{MISSING} (there is no C compiler here)")
-    part = made.with_name(f"{made.name}.{os.urandom(8).hex()}")
-    exported = part.with_suffix(".map")
-    try:
-        exported.write_text("{ global: gjcut_answer; local: *; };\n")
-        words = [compiler, "-shared", "-o", str(part), f"-Wl,-soname,{NAME}", f"-Wl,--version-script={exported}", "-Wl,--whole-archive"]
-        done = subprocess.run([*words, *map(str, given), "-Wl,--no-whole-archive"], stderr=subprocess.PIPE, text=True, check=False)
-        if done.returncode:
+def packed() -> Path:
+    """The shared library of the repository, made anew where the static library is newer."""
+    folder = TOP / "crates/gj_library/out"
+    archive, made = folder / "libgj_library.a", folder / NAME
+    if not archive.exists():
+        raise LibraryMissing(f"{MISSING}; without installing, `tools/build_library` builds it (there is no {archive})")
+    if not made.exists() or made.stat().st_mtime <= archive.stat().st_mtime:
+        done = subprocess.run([str(TOP / "tools/build_library"), "--pack"], stderr=subprocess.PIPE, text=True, check=False)
+        if done.returncode or not made.exists():
             raise LibraryMissing(f"the shared library could not be made:\n{done.stderr}")
-        os.replace(part, made)
-    finally:
-        exported.unlink(missing_ok=True)
-        part.unlink(missing_ok=True)
+    return made
 
 
 def find() -> Path:
-    """The shared library: the file of the variable GJCUT_LIBRARY, or one beside this file, or one of the prefix. In a repository it is made anew
-    when the static library is newer."""
+    """The shared library: the file of the variable GJCUT_LIBRARY, or one beside this file, or that of the prefix, or that of the repository."""
     named = os.environ.get("GJCUT_LIBRARY")
     if named:
         if os.path.exists(named):
             return Path(named)
         raise LibraryMissing(f"there is no file {named}, which GJCUT_LIBRARY names")
-    beside, of_prefix = HERE / NAME, HERE.parents[2] / NAME
-    if (TOP / "crates/gj_library").is_dir():
-        archive = archives()[0]
-        if not beside.exists() or archive.exists() and archive.stat().st_mtime > beside.stat().st_mtime:
-            build(beside)
-        return beside
-    for path in (beside, of_prefix):
+    for path in (HERE / NAME, HERE.parents[2] / NAME):
         if path.exists():
             return path
+    if (TOP / "crates/gj_library").is_dir():
+        return packed()
     raise LibraryMissing(MISSING)
 
 
@@ -134,6 +103,3 @@ def call(words: str, text: Union[str, bytes] = "") -> Answer:
     _free.append((output, written))
     return Answer(status, said)
 
-
-if __name__ == "__main__":
-    build(Path(sys.argv[1]), *map(Path, sys.argv[2:]))

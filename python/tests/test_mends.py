@@ -128,6 +128,8 @@ class Halves(unittest.TestCase):
 
 
 class Help(unittest.TestCase):
+    CODE = "import gjcut\ntry:\n    gjcut.call('show')\nexcept gjcut.LibraryMissing as missing:\n    print(missing)"
+
     def test_each_call_says_what_it_does(self):
         for name in gjcut.__all__:
             value = getattr(gjcut, name)
@@ -140,16 +142,20 @@ class Help(unittest.TestCase):
         self.assertTrue("get_context" in (TOP / "docs/library.md").read_text())
 
     def test_a_missing_library_is_said_in_a_sentence(self):
-        code = "import gjcut\ntry:\n    gjcut.call('show')\nexcept gjcut.LibraryMissing as missing:\n    print(missing)"
         environment = {**os.environ, "GJCUT_LIBRARY": "/no/such/file", "PYTHONPATH": str(Path(gjcut.__file__).parents[1])}
-        done = subprocess.run([sys.executable, "-c", code], env=environment, capture_output=True, text=True, check=False)
+        done = subprocess.run([sys.executable, "-c", self.CODE], env=environment, capture_output=True, text=True, check=False)
         self.assertEqual((done.returncode, done.stderr), (0, ""))
         self.assertIn("there is no file /no/such/file", done.stdout)
 
-    def test_building_without_an_archive_is_said_in_a_sentence(self):
+    def test_a_repository_without_a_library_says_what_to_do(self):
         with tempfile.TemporaryDirectory() as folder:
-            with self.assertRaisesRegex(gjcut.LibraryMissing, "tools/install"):
-                _library.build(Path(folder) / "libgjcut.so", Path(folder) / "libgj_library.a")
+            shutil.copytree(Path(gjcut.__file__).parent, Path(folder) / "python/gjcut", ignore=shutil.ignore_patterns("*.so"))
+            (Path(folder) / "crates/gj_library").mkdir(parents=True)
+            environment = {**os.environ, "PYTHONPATH": str(Path(folder) / "python")}
+            environment.pop("GJCUT_LIBRARY", None)
+            done = subprocess.run([sys.executable, "-c", self.CODE], env=environment, capture_output=True, text=True, check=False)
+        self.assertEqual((done.returncode, done.stderr), (0, ""))
+        self.assertIn("tools/install", done.stdout)
 
 
 class Room(unittest.TestCase):
