@@ -2,6 +2,7 @@
  *
  * library FOLDER..            each example, with a room that is large and with one that is a byte too short, and calls that no folder has
  * library -threads FOLDER..   the examples from four threads at once
+ * library -stack FOLDER..     how much stack the calls on the examples, on nested JSON and on large inputs use at most, against GJCUT_STACK
  * library -time N FOLDER      N calls on one example, with the time that a call takes and by how much the memory grew
  *
  * An example is a folder with the files words (one a line), input, output and status.
@@ -14,7 +15,7 @@
 
 #include "gjcut.h"
 
-enum { THREADS = 4, BEHIND = 64, MARK = 0xa5 };
+enum { THREADS = 4, BEHIND = 64, MARK = 0xa5, STACK = 1 << 20 };
 
 struct text {
     uint8_t *bytes;
@@ -146,6 +147,72 @@ static int from_threads(const struct example *examples, int count) {
     return good;
 }
 
+/* A call in a thread whose stack was filled with marks before, so that it shows how far the call has gone. */
+struct stacked {
+    struct text words, input, output;
+};
+
+static void *call_stacked(void *given) {
+    struct stacked *stacked = given;
+    size_t written;
+    if (stacked)
+        gjcut_answer(stacked->words.bytes, stacked->words.length, stacked->input.bytes, stacked->input.length, stacked->output.bytes,
+                     stacked->output.length, &written);
+    return NULL;
+}
+
+static size_t stack_of(struct stacked *stacked) {
+    uint8_t *stack = aligned_alloc(4096, STACK);
+    if (!stack) abort();
+    memset(stack, MARK, STACK);
+    pthread_attr_t attributes;
+    pthread_t thread;
+    pthread_attr_init(&attributes);
+    if (pthread_attr_setstack(&attributes, stack, STACK) || pthread_create(&thread, &attributes, call_stacked, stacked)) abort();
+    pthread_join(thread, NULL);
+    pthread_attr_destroy(&attributes);
+    size_t untouched = 0;
+    while (untouched < STACK && stack[untouched] == MARK) untouched++;
+    free(stack);
+    return STACK - untouched;
+}
+
+static struct text repeated(const char *front, const char *line, int times, const char *back) {
+    struct text text = {memory(strlen(front) + strlen(line) * (size_t)times + strlen(back)), strlen(front)};
+    memcpy(text.bytes, front, text.length);
+    for (int i = 0; i < times; i++, text.length += strlen(line)) memcpy(text.bytes + text.length, line, strlen(line));
+    memcpy(text.bytes + text.length, back, strlen(back));
+    text.length += strlen(back);
+    return text;
+}
+
+static int stack_is_enough(const struct example *examples, int count) {
+    static uint8_t output[1 << 16];
+    struct text room = {output, sizeof output};
+    const struct {
+        const char *words;
+        struct text input;
+    } large[] = {
+        {"extreme --json", repeated("", "[", 100000, "")},
+        {"extreme --json", repeated("", "{\"a\":", 100000, "")},
+        {"extreme", repeated("gj-function 1\norder 996\nf 499/996\n", "point 0\npoint 2/3\npoint 1/3\npoint 1\npoint 1/3\npoint 2/3\n", 166, "end\n")},
+        {"faces", repeated("gj-function 2\nf 1/1000\npoint 0 0\nend\n", "", 0, "")},
+        {"mixed", repeated("gj-rule 1\ngmic\nend\nbasic,rhs,c:z\nx,1/2,", "1", 9, "\n")},
+    };
+    size_t base = stack_of(NULL), most = 0;
+    for (int i = 0; i < count; i++) {
+        size_t used = stack_of(&(struct stacked){examples[i].words, examples[i].input, room}) - base;
+        if (used > most) most = used;
+    }
+    for (size_t i = 0; i < sizeof large / sizeof *large; i++) {
+        size_t used = stack_of(&(struct stacked){text_of(large[i].words), large[i].input, room}) - base;
+        if (used > most) most = used;
+        free(large[i].input.bytes);
+    }
+    printf("library: the calls use %zu bytes of stack at most, and the header says %d\n", most, GJCUT_STACK);
+    return most <= GJCUT_STACK;
+}
+
 /* The resident memory, in pages. */
 static long resident(void) {
     long size = 0, pages = 0;
@@ -180,7 +247,7 @@ static int take_time(long calls, const struct example *example) {
 
 int main(int count, char **words) {
     int threads = count > 1 && !strcmp(words[1], "-threads"), time = count > 3 && !strcmp(words[1], "-time");
-    int first = threads ? 2 : time ? 3 : 1, good = 1;
+    int stack = count > 1 && !strcmp(words[1], "-stack"), first = threads || stack ? 2 : time ? 3 : 1, good = 1;
     if (first >= count) {
         fprintf(stderr, "library: no example is named\n");
         return 2;
@@ -189,6 +256,8 @@ int main(int count, char **words) {
     for (int i = first; i < count; i++) examples[i - first] = read_example(words[i]);
     if (time)
         good = take_time(atol(words[2]), examples);
+    else if (stack)
+        good = stack_is_enough(examples, count - first);
     else if (threads)
         good = from_threads(examples, count - first);
     else {
