@@ -37,7 +37,7 @@ use Rattle.gj_demo.specs.Summary.{IsSummary, HasSummary, lines_with}
 use Rattle.gj_top.specs.declared.reply.End.{End}
 use Rattle.gj_top.specs.declared.reply.End.TheVariants as end
 use Rattle.gj_top.specs.Demo.{IsDemoReply, demo}
-use Rattle.gj_facetext.specs.FacesText.{IsFacesText, uncovered_line}
+use Rattle.gj_listings.specs.FacesText.{IsFacesText, uncovered_line}
 use Rattle.gj_top.specs.Faces.{IsFacesReply, faces}
 use Rattle.gj_top.specs.Fill.{IsFillText, NamesFirstPair, IsFillReply, fill}
 use Rattle.gj_top.proofs.Determined.{IsDetermined}
