@@ -1,0 +1,301 @@
+"""The library of gjcut from Python, with the standard library alone; docs/library.md has examples.
+
+A function is made from its breakpoints, its values or a family, and everything comes back as `Fraction`s, with what the program writes as `text`.
+A number is an int, a `Fraction`, a `Decimal`, or a text such as "3/5" or "0.25"; a float is refused, since it is seldom the number that was
+meant. An input that is refused, and a function with which a command does nothing, raise `Refused`.
+
+Several threads may call at once, and so may several processes. But the child of a fork in a process with threads must not call: where a
+process has threads, give `multiprocessing` the way "spawn" or "forkserver", by `multiprocessing.get_context("spawn")`.
+
+Nothing of this package is proved: it hands texts to the library, whose answers are.
+"""
+import operator
+from fractions import Fraction
+from typing import Iterable, List, NamedTuple, Optional, Sequence, Tuple, Union
+
+from ._functions import Function, Number, Point, line as _line, number as _number, printed as _printed
+from ._library import Answer, LibraryMissing, call
+from ._refusals import Place, Places, Refused
+from ._refusals import always as _always, no_place as _no_place, places_of_breakpoints as _places_of_breakpoints
+from ._refusals import places_of_tableau as _places_of_tableau, places_of_values as _places_of_values, refusal as _refusal
+
+__all__ = [
+    "Answer", "Cut", "Cuts", "Function", "Judgement", "LibraryMissing", "Number", "Place", "Point", "Refused", "Term", "Verdict", "Violation",
+    "by_breakpoints", "by_text", "by_values", "call", "check", "cut", "extreme", "family", "fill", "minimal", "mirror", "mixed", "restrict", "times",
+]  # fmt: skip
+
+
+class Violation(NamedTuple):
+    """`zero`, `negative` or `asymmetric` at x, or `superadditive` at x and y."""
+
+    kind: str
+    x: Optional[Fraction] = None
+    y: Optional[Fraction] = None
+
+
+class Verdict(NamedTuple):
+    """`minimal`, `not-minimal` with the first violation, `extreme`, or `not-extreme` with two halves; and the proof text.
+
+    The halves are functions that the function is the average of, by their values at the multiples of 1/N. N is up to 4,000, and commands read
+    orders up to 1,000; `at`, `==`, `+` and the others work on every half.
+    """
+
+    claim: str
+    violation: Optional[Violation]
+    halves: Optional[Tuple[Function, Function]]
+    text: str
+
+
+class Term(NamedTuple):
+    """A column, its entry in the row, and its coefficient or weight in the cut."""
+
+    name: str
+    entry: Fraction
+    coefficient: Fraction
+
+
+class Cut(NamedTuple):
+    """The sum of each coefficient times its column, over terms and weights, is at least 1; or `skipped` says why there is no cut."""
+
+    basic: str
+    right: Fraction
+    terms: Tuple[Term, ...]
+    weights: Tuple[Term, ...]
+    skipped: Optional[str]
+
+
+class Cuts(NamedTuple):
+    """The cuts of rows, in their order, and the text that the program wrote."""
+
+    cuts: Tuple[Cut, ...]
+    text: str
+
+
+class Judgement(NamedTuple):
+    """Whether a proof text is accepted, and then of which claim, or else at which line which rule fails; and what the program wrote."""
+
+    accepted: bool
+    claim: Optional[str]
+    line: Optional[int]
+    rule: Optional[str]
+    text: str
+
+
+Row = Tuple[str, Number, Iterable[Number]]
+Rule = Union[Function, str]
+
+
+def _done(words: str, text: str, places: Places = _no_place) -> str:
+    status, said = call(words, text)
+    if status:
+        raise _refusal(status, said, places)
+    return said
+
+
+def _text_of(function: Function, argument: str = "function") -> str:
+    if not isinstance(function, Function):
+        raise TypeError(f"{argument} is a {type(function).__name__}, and no Function, as by_breakpoints or by_text gives it")
+    return function.text
+
+
+def _of_function(words: str, function: Function) -> str:
+    return _done(words, _text_of(function), _always("function"))
+
+
+def by_text(text: str) -> Function:
+    """The function of a function text, in each form that the program reads.
+
+    >>> by_text("gj-function 1\\norder 2\\nf 1/2\\npoint 0\\npoint 1\\nend\\n") == family("gmic", "1/2")
+    True
+    """
+    return Function(_done("show", text))
+
+
+def by_breakpoints(f: Number, points: Iterable[Sequence[Number]]) -> Function:
+    """The function with these breakpoints: each a place and a value, or a place, the limit from the left, the value, and that from the right.
+
+    >>> gmic = by_breakpoints("3/5", [(0, 0), ("3/5", 1)])
+    >>> gmic.at("1/5"), gmic.order
+    (Fraction(1, 3), 5)
+    """
+    lines = [_line("point", *map(_number, point)) for point in points]
+    text = "gj-function 2\n" + _line("f", _number(f)) + "".join(lines) + "end\n"
+    return Function(_done("show", text, _places_of_breakpoints(len(lines))))
+
+
+def by_values(f: Number, values: Iterable[Union[Number, Sequence[Number]]]) -> Function:
+    """The function with these values at the multiples of 1/q, q their number; a tuple is the limit from the left, the value, that from the right.
+
+    >>> by_values("1/2", [0, "1/4", 1, "3/4"]).at("3/8")
+    Fraction(5, 8)
+    """
+    lines = [_line("point", *map(_number, value if isinstance(value, (tuple, list)) else (value,))) for value in values]
+    text = "gj-function 1\n" + _line("order", len(lines)) + _line("f", _number(f)) + "".join(lines) + "end\n"
+    return Function(_done("show", text, _places_of_values(len(lines))))
+
+
+def family(name: str, *words: Union[Number, str]) -> Function:
+    """The function of a family, as `family("gmic", "3/5")`, `family("half", "1/2")` or `family("two-slope", 5, "++-++---")`.
+
+    >>> family("two-slope", 5, "++-++---").order
+    8
+    """
+    parts = [str(name), *(word if isinstance(word, str) else str(_number(word)) for word in words)]
+    for part in parts:
+        if part.split() != [part]:
+            raise ValueError(f"{part!r} is no single word")
+    return Function(_done("show", "gj-function 1\n" + _line("family", *parts) + "end\n", _always("family")))
+
+
+def _verdict(command: str, function: Function) -> Verdict:
+    text = _of_function(command, function)
+    claim, violation, halves = text[text.index("claim ") + 6 :].partition("\n")[0], None, None
+    if claim == "not-minimal":
+        words = text.splitlines()[-2].split()
+        violation = Violation(words[0], *map(_printed, words[1:]))
+    if claim == "not-extreme":
+        halves = _halves(function.f, text)
+    return Verdict(claim, violation, halves, text)
+
+
+def _halves(f: Fraction, text: str) -> Tuple[Function, Function]:
+    lines = [each.split() for each in text[text.index("halves ") :].splitlines()]
+    order, scale = int(lines[0][1]), int(lines[0][2])
+    pairs = [(int(words[1]), int(words[2])) for words in lines if words[0] == "pair"]
+
+    def half(numerators: Iterable[int]) -> Function:
+        values = [Fraction(n, scale) for n in numerators]
+        return Function(f=f, points=(Point(Fraction(i, order), value, value, value) for i, value in enumerate(values)))
+
+    first, second = zip(*pairs)
+    return half(first), half(second)
+
+
+def minimal(function: Function) -> Verdict:
+    """Whether the function is minimal, with the first violation if it is not.
+
+    >>> minimal(by_values("1/2", [0, "1/3", 1, "1/2"])).violation
+    Violation(kind='asymmetric', x=Fraction(1, 4), y=None)
+    """
+    return _verdict("minimal", function)
+
+
+def extreme(function: Function) -> Verdict:
+    """Whether the function is extreme; if it is minimal and not extreme, with two halves of which it is the average.
+
+    >>> extreme(family("gmic", "3/5")).claim
+    'extreme'
+    >>> six = by_values("1/2", [0, "2/3", "1/3", 1, "1/3", "2/3"])
+    >>> first, second = extreme(six).halves
+    >>> (first + second) / 2 == six, first == second
+    (True, False)
+    """
+    return _verdict("extreme", function)
+
+
+def check(text: str) -> Judgement:
+    """What the checker says of a proof text, as that of a verdict or of cuts.
+
+    >>> check(extreme(family("gmic", "3/5")).text).accepted
+    True
+    """
+    status, said = call("check", text)
+    words = said.split()
+    if status > 1:
+        raise Refused(status, said)
+    return Judgement(False, None, int(words[2]), words[3], said) if status else Judgement(True, words[1], None, None, said)
+
+
+def cut(rule: Rule, columns: Iterable[str], rows: Iterable[Row]) -> Cuts:
+    """The cuts of rows in which every column is whole, by a function or by the rule "gmic".
+
+    A row is the name of its basic variable, its right side, and its entries in the order of the columns. An entry of 0 gives no term. A name that
+    begins with `c:` is a whole column here like any other; `mixed` has continuous ones.
+
+    >>> found = cut("gmic", ["x1", "s1"], [("x0", "8/5", ["7/5", "-1/5"])])
+    >>> found.cuts[0].terms[0]
+    Term(name='x1', entry=Fraction(7, 5), coefficient=Fraction(2, 3))
+    """
+    return _cuts("cut", rule, columns, rows)
+
+
+def mixed(rule: Rule, columns: Iterable[str], rows: Iterable[Row]) -> Cuts:
+    """The cuts of rows with continuous columns, those whose names begin with `c:` (small letter), by a function or by the rule "gmic".
+
+    A whole column gives a term and a continuous one a weight. Rows are as for `cut`.
+
+    >>> mixed("gmic", ["x1", "c:z"], [("x0", "12/5", ["3/4", "-3/2"])]).cuts[0].weights
+    (Term(name='c:z', entry=Fraction(-3, 2), coefficient=Fraction(5, 2)),)
+    """
+    return _cuts("mixed", rule, columns, rows)
+
+
+def _rule_text(rule: Rule) -> str:
+    if isinstance(rule, str):
+        if rule == "gmic":
+            return "gj-rule 1\ngmic\nend\n"
+        raise ValueError(f"there is no rule {rule!r}: a rule is \"gmic\" or a Function")
+    return _text_of(rule, "rule")
+
+
+def _field(name: str, place: Place) -> str:
+    if name.strip(" \t") != name:
+        raise ValueError(f"{place}: the name {name!r} has a blank at an end")
+    return '"' + name.replace('"', '""') + '"'
+
+
+def _cuts(command: str, rule: Rule, columns: Iterable[str], rows: Iterable[Row]) -> Cuts:
+    front, names = _rule_text(rule), [str(name) for name in columns]
+    table = [(str(basic), _number(right), [_number(entry) for entry in entries]) for basic, right, entries in rows]
+    records = [["basic", "rhs", *(_field(name, Place("columns", i)) for i, name in enumerate(names))]]
+    for i, (basic, right, entries) in enumerate(table):
+        records.append([_field(basic, Place("rows", i)), str(right), *map(str, entries)])
+    text = front + "".join(",".join(record) + "\n" for record in records)
+    said = _done(command, text, _places_of_tableau(names, table))
+    return Cuts(tuple(_read_cuts(said)), said)
+
+
+def _read_cuts(said: str) -> List[Cut]:
+    found: List[Tuple[str, Fraction, List[Term], List[Term], Optional[str]]] = []
+    for kind, *words in map(str.split, said.splitlines()):
+        if kind in ("cut", "skip"):
+            found.append((words[0], _printed(words[1]), [], [], words[2] if kind == "skip" else None))
+        elif kind in ("term", "weight"):
+            found[-1][2 if kind == "term" else 3].append(Term(words[0], _printed(words[1]), _printed(words[2])))
+    return [Cut(basic, right, tuple(terms), tuple(weights), skipped) for basic, right, terms, weights, skipped in found]
+
+
+def fill(function: Function) -> Function:
+    """The two-slope fill-in of a continuous function, which is subadditive; by its breakpoints.
+
+    >>> fill(family("gmic", "3/5")) == family("gmic", "3/5")
+    True
+    """
+    return Function(_of_function("fill", function))
+
+
+def times(function: Function, n: int, j: int = 0) -> Function:
+    """The function of n x, with the place (f + j)/n.
+
+    >>> times(family("gmic", "3/5"), 2, 1).f
+    Fraction(4, 5)
+    """
+    return Function(_of_function(f"times {operator.index(n)} {operator.index(j)}", function))
+
+
+def mirror(function: Function) -> Function:
+    """The function of -x, with the place 1 - f.
+
+    >>> mirror(family("gmic", "3/5")) == family("gmic", "2/5")
+    True
+    """
+    return Function(_of_function("mirror", function))
+
+
+def restrict(function: Function, order: int) -> Function:
+    """The continuous function of this order with the values of the function at the multiples of 1/order.
+
+    >>> restrict(by_values("1/2", [0, "1/4", 1, "3/4"]), 2) == family("gmic", "1/2")
+    True
+    """
+    return Function(_of_function(f"restrict {operator.index(order)}", function))

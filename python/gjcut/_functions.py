@@ -1,0 +1,203 @@
+"""Numbers and functions."""
+import bisect
+import math
+import numbers
+from decimal import Decimal
+from fractions import Fraction
+from typing import Iterable, Iterator, List, NamedTuple, Optional, Tuple, Union
+
+Number = Union[int, Fraction, Decimal, str]
+
+
+def number(given: Number) -> Fraction:
+    """The fraction that a caller means. A float is refused, since it is seldom the number that was meant."""
+    if isinstance(given, (str, Decimal, numbers.Rational)):
+        try:
+            return Fraction(given)
+        except (ValueError, OverflowError, ZeroDivisionError):
+            raise ValueError(f"{given!r} is no fraction") from None
+    kind = type(given).__name__
+    raise TypeError(f"{given!r} is a {kind}: write an int, a Fraction, a Decimal, or a text such as '3/5' or '0.25'")
+
+
+def printed(word: str) -> Fraction:
+    """The fraction that the program has printed."""
+    numerator, slash, denominator = word.partition("/")
+    return Fraction(int(numerator), int(denominator)) if slash else Fraction(int(numerator))
+
+
+def line(*words: object) -> str:
+    return " ".join(map(str, words)) + "\n"
+
+
+class Point(NamedTuple):
+    """A place, the limit from the left there, the value, and the limit from the right."""
+
+    place: Fraction
+    left: Fraction
+    value: Fraction
+    right: Fraction
+
+
+class Function:
+    """A function of period 1 with the place f, affine between its points. It does not change.
+
+    The calls of this package make it: `by_breakpoints`, `by_values`, `family`, `by_text` and others. Two functions are equal if they have one f
+    and one value and limit everywhere, however they were written. Functions with one f can be added, and multiplied and divided by numbers:
+
+    >>> import gjcut
+    >>> a = gjcut.by_breakpoints("1/2", [(0, 0), ("1/2", 1)])
+    >>> b = gjcut.by_values("1/2", [0, "1/4", 1, "3/4"])
+    >>> (a + b) / 2
+    by_breakpoints('1/2', [(0, 0), ('1/4', '3/8'), ('1/2', 1), ('3/4', '5/8')])
+    >>> ((a + b) / 2).at("1/8"), (a + a) / 2 == a
+    (Fraction(3, 16), True)
+    >>> [str(point.place) for point in b]
+    ['0', '1/4', '1/2', '3/4']
+    """
+
+    __slots__ = ("_text", "_f", "_points", "_places", "_breakpoints")
+
+    def __init__(self, text: Optional[str] = None, f: Optional[Fraction] = None, points: Optional[Iterable[Point]] = None):
+        # Either a text that the program has printed, or f and the points; the other is made when it is asked for.
+        self._text, self._f, self._points = text, f, None if points is None else tuple(points)
+        self._places: Optional[List[Fraction]] = None
+        self._breakpoints: Optional[Tuple[Point, ...]] = None
+
+    def __reduce__(self):
+        return Function, (self._text, None, None) if self._text is not None else (None, self._f, self._points)
+
+    def _read(self) -> None:
+        words = [each.split() for each in self._text.splitlines()]
+        found = [each[1:] for each in words if each[0] == "point"]
+        # Text 2 has the place of each point; text 1 has one for each multiple of 1/q.
+        has_places = words[0] == ["gj-function", "2"]
+        places = [printed(each[0]) for each in found] if has_places else [Fraction(i, len(found)) for i in range(len(found))]
+        points = []
+        for place, each in zip(places, found):
+            values = [printed(word) for word in each[has_places:]]
+            points.append(Point(place, values[0], values[len(values) // 2], values[-1]))
+        self._f, self._points = next(printed(each[1]) for each in words if each[0] == "f"), tuple(points)
+
+    @property
+    def f(self) -> Fraction:
+        """The place f, at which a minimal function is 1."""
+        if self._f is None:
+            self._read()
+        return self._f
+
+    @property
+    def points(self) -> Tuple[Point, ...]:
+        """The points: of what the program prints on a grid, those at all multiples of 1/q."""
+        if self._points is None:
+            self._read()
+        return self._points
+
+    @property
+    def order(self) -> int:
+        """The least common multiple of the denominators of f and of the places of the points. Commands read orders up to 1,000."""
+        return math.lcm(self.f.denominator, *(point.place.denominator for point in self.points))
+
+    @property
+    def breakpoints(self) -> Tuple[Point, ...]:
+        """The points at which the function is not affine, and the one at 0."""
+        if self._breakpoints is None:
+            points, kept = self.points, []
+            following = [*points[1:], points[0]._replace(place=Fraction(1))]
+            for point, after in zip(points, following):
+                is_smooth = point.left == point.value == point.right
+                if not (kept and is_smooth and self._is_on_line(kept[-1], point, after)):
+                    kept.append(point)
+            self._breakpoints = tuple(kept)
+        return self._breakpoints
+
+    @staticmethod
+    def _is_on_line(before: Point, point: Point, after: Point) -> bool:
+        rise, run = point.value - before.right, point.place - before.place
+        return rise * (after.place - point.place) == (after.left - point.value) * run
+
+    @property
+    def text(self) -> str:
+        """A text of the function that every command reads if its order is at most 1,000: what the program has printed, or the breakpoints."""
+        if self._text is None:
+            lines = ["gj-function 2\n", line("f", self.f)]
+            for place, left, value, right in self.breakpoints:
+                lines.append(line("point", place, value) if left == value == right else line("point", place, left, value, right))
+            self._text = "".join([*lines, "end\n"])
+        return self._text
+
+    def at(self, x: Number) -> Fraction:
+        """The value at x.
+
+        >>> import gjcut
+        >>> gjcut.family("gmic", "3/5").at("-1/5")
+        Fraction(1, 2)
+        """
+        points, x = self.points, number(x) % 1
+        if self._places is None:
+            self._places = [point.place for point in points]
+        i = bisect.bisect_right(self._places, x)
+        left = points[i - 1]
+        if left.place == x:
+            return left.value
+        right, end = (points[i], points[i].place) if i < len(points) else (points[0], 1)
+        return left.right + (x - left.place) / (end - left.place) * (right.left - left.right)
+
+    def limits(self, x: Number) -> Point:
+        """The point at x: its place from 0 to below 1, the limit from the left, the value and the limit from the right."""
+        x = number(x) % 1
+        value = self.at(x)
+        i = bisect.bisect_right(self._places, x)
+        return self.points[i - 1] if self._places[i - 1] == x else Point(x, value, value, value)
+
+    def __eq__(self, other: object) -> bool:
+        if not isinstance(other, Function):
+            return NotImplemented
+        return self.f == other.f and self.breakpoints == other.breakpoints
+
+    def __hash__(self) -> int:
+        return hash((self.f, self.breakpoints))
+
+    def __iter__(self) -> Iterator[Point]:
+        return iter(self.points)
+
+    def __len__(self) -> int:
+        return len(self.points)
+
+    def __repr__(self) -> str:
+        points = self.breakpoints
+        if len(points) > 20:
+            return f"<function with f = {self.f} and {len(points)} breakpoints>"
+        shown = [[place, value] if left == value == right else [place, left, value, right] for place, left, value, right in points]
+        shown = ", ".join(f"({', '.join(map(_shown, each))})" for each in shown)
+        return f"by_breakpoints({_shown(self.f)}, [{shown}])"
+
+    def __add__(self, other: "Function") -> "Function":
+        if not isinstance(other, Function):
+            return NotImplemented
+        if self.f != other.f:
+            raise ValueError(f"functions with f = {self.f} and f = {other.f} have no sum")
+        places = sorted({point.place for function in (self, other) for point in function.breakpoints})
+        pairs = [(self.limits(place), other.limits(place)) for place in places]
+        return Function(f=self.f, points=(Point(a.place, a.left + b.left, a.value + b.value, a.right + b.right) for a, b in pairs))
+
+    def __mul__(self, factor: Number) -> "Function":
+        if isinstance(factor, Function):
+            return NotImplemented
+        n = number(factor)
+        return Function(f=self.f, points=(Point(place, left * n, value * n, right * n) for place, left, value, right in self.points))
+
+    __rmul__ = __mul__
+
+    def __neg__(self) -> "Function":
+        return self * -1
+
+    def __sub__(self, other: "Function") -> "Function":
+        return self + -other if isinstance(other, Function) else NotImplemented
+
+    def __truediv__(self, divisor: Number) -> "Function":
+        return NotImplemented if isinstance(divisor, Function) else self * (1 / number(divisor))
+
+
+def _shown(x: Fraction) -> str:
+    return str(x) if x.denominator == 1 else f"'{x}'"

@@ -1,0 +1,165 @@
+"""What a proof text shows, line by line, in words."""
+from fractions import Fraction
+from typing import Iterator, List, Tuple
+
+from ._functions import Function, printed
+
+CLAIMS = {
+    "minimal": "the function is minimal",
+    "not-minimal": "the function is not minimal",
+    "extreme": "the function is extreme",
+    "not-extreme": "the function is minimal and not extreme",
+    "cut": "each cut holds at all solutions of its row",
+}
+# The corners of a face in the square with the lower left corner (a, b), in steps of 1/q.
+CORNERS = {
+    "vertex": [(0, 0)],
+    "horizontal": [(0, 0), (1, 0)],
+    "vertical": [(0, 0), (0, 1)],
+    "diagonal": [(1, 0), (0, 1)],
+    "lower": [(0, 0), (1, 0), (0, 1)],
+    "upper": [(1, 0), (0, 1), (1, 1)],
+}
+
+
+def function_of(text: str) -> Function:
+    """The function in a proof text."""
+    kept = [line for line in text.splitlines() if line.split(" ")[0] in ("order", "f", "point")]
+    return Function("\n".join(["gj-function 1", *kept, "end", ""]))
+
+
+def violation_in_words(function: Function, kind: str, *at: Fraction) -> str:
+    """What is wrong with a function at the points of a violation."""
+    values = [function.at(x) for x in at]
+    if kind == "zero":
+        return f"its value at 0 is {function.at(0)}, not 0"
+    if kind == "negative":
+        return f"its value at {at[0]} is {values[0]}, below 0"
+    if kind == "asymmetric":
+        other = (function.f - at[0]) % 1
+        return f"it is not symmetric, since its values at {at[0]} and at f - {at[0]} = {other} are {values[0]} and {function.at(other)}, and do not add up to 1"
+    total = (at[0] + at[1]) % 1
+    return f"it is not subadditive, since its values at {at[0]} and {at[1]} are {values[0]} and {values[1]}, and add up to less than {function.at(total)}, its value at {total}"
+
+
+class _Reader:
+    """The words of one line after another."""
+
+    def __init__(self, text: str):
+        self.text, self.claim, self.order, self.f = text, "", 1, Fraction(0)
+        self.points, self.pairs, self.halves, self.components = 0, 0, (1, 1), 0
+        # How many rows have ended, and the component that each interval is in.
+        self.rows, self.component_of = 0, {}
+
+    def at(self, i: int) -> str:
+        return str(Fraction(i, self.order))
+
+    def interval(self, i: int) -> str:
+        return f"[{self.at(i)}, {self.at(i + 1)}]"
+
+    def words(self, line: str) -> str:
+        """What a line says."""
+        word, *rest = line.split(" ")
+        found = getattr(self, "of_" + word.replace("-", "_"), None)
+        return found(*rest) if found else ""
+
+    def of_gj_proof(self, version: str) -> str:
+        return "a proof" if version == "1" else "a proof whose rows are given by residues"
+
+    def of_claim(self, claim: str) -> str:
+        self.claim = claim
+        more = {"minimal": "; `check` makes every test of minimality itself, so nothing more is shown", "extreme": "; that it is minimal, `check` tests itself"}
+        return f"it claims that {CLAIMS.get(claim, claim)}{more.get(claim, '')}"
+
+    def of_order(self, order: str) -> str:
+        self.order = int(order)
+        return f"the function is affine between the multiples of 1/{order}"
+
+    def of_f(self, f: str) -> str:
+        self.f = printed(f)
+        return "where a minimal function is 1"
+
+    def of_point(self, *values: str) -> str:
+        place, self.points = self.at(self.points), self.points + 1
+        if len(values) == 1:
+            return f"the value at {place}"
+        return f"at {place} the limit from the left, the value, and the limit from the right"
+
+    def of_rule(self, _rule: str) -> str:
+        return "the mixed-integer cut of Gomory, for the fractional part of each right side"
+
+    def of_modulus(self, modulus: str) -> str:
+        return f"the rows are read modulo {modulus}"
+
+    def of_zero(self) -> str:
+        return violation_in_words(function_of(self.text), "zero")
+
+    def of_negative(self, x: str) -> str:
+        return violation_in_words(function_of(self.text), "negative", printed(x))
+
+    def of_asymmetric(self, x: str) -> str:
+        return violation_in_words(function_of(self.text), "asymmetric", printed(x))
+
+    def of_superadditive(self, x: str, y: str) -> str:
+        return violation_in_words(function_of(self.text), "superadditive", printed(x), printed(y))
+
+    def of_cover(self, i: str, j: str, kind: str, a: str, b: str) -> str:
+        corners = ", ".join(f"({self.at(int(a) + x)}, {self.at(int(b) + y)})" for x, y in CORNERS[kind])
+        shape = "triangle" if kind in ("lower", "upper") else "edge"
+        face = f"on the {shape} with the corners {corners} the values add up to that of the sum"
+        if i == j:
+            self.component_of[i], self.components = self.components, self.components + 1
+            return f"{face}; so {self.interval(int(i))}, on which it projects, is covered, and begins component {self.component_of[i]}"
+        self.component_of[i] = self.component_of.get(j, 0)
+        return f"{face}; so {self.interval(int(i))} is covered, with the slope of {self.interval(int(j))}, in component {self.component_of[i]}"
+
+    def of_row(self, *pair: str) -> str:
+        if pair == ("period",):
+            return "an equation for the slopes of a perturbation, one for each component: it is 0 at 1"
+        if pair == ("f",):
+            return f"an equation: it is 0 at {self.f}"
+        a, b = map(int, pair)
+        total = (a + b) % self.order
+        return f"an equation: its values at {self.at(a)} and {self.at(b)} add up to that at {self.at(total)}, as those of the function do"
+
+    def of_reduce(self, column: str) -> str:
+        return f"the slope of component {column} is taken out, by the earlier equation that is solved for it"
+
+    def of_pivot(self, column: str) -> str:
+        self.rows += 1
+        return f"what is left is solved for the slope of component {column}"
+
+    def of_halves(self, order: str, scale: str) -> str:
+        self.halves = int(order), int(scale)
+        return f"two minimal functions by their values at the multiples of 1/{order}, in parts of 1/{scale}; they are different, and their average is the function"
+
+    def of_pair(self, first: str, second: str) -> str:
+        order, scale = self.halves
+        place, self.pairs = Fraction(self.pairs, order), self.pairs + 1
+        return f"at {place}: {Fraction(int(first), scale)} and {Fraction(int(second), scale)}"
+
+    def of_skip(self, name: str, right: str, why: str) -> str:
+        return f"the row of {name} gives no cut, since {skipped_in_words(right, why)}"
+
+    def of_cut(self, name: str, right: str) -> str:
+        return f"the cut of the row of {name}, whose right side {right} has the fractional part {printed(right) % 1}: the terms add up to at least 1"
+
+    def of_term(self, name: str, entry: str, coefficient: str) -> str:
+        return f"{coefficient} times {name}; it is the value of the function at the entry {entry}"
+
+    def of_end(self) -> str:
+        if self.claim == "extreme":
+            return f"as many equations as components, {self.rows}: every slope of a perturbation is 0, so there is none but 0"
+        return "the end of the proof"
+
+
+def skipped_in_words(right: str, why: str) -> str:
+    return f"its right side {right} is whole" if why == "integral" else f"the fractional part of its right side {right} is not f"
+
+
+def explained(text: str) -> Iterator[Tuple[str, str]]:
+    """Each line of a proof text that `check` reads, and what it says."""
+    reader = _Reader(text)
+    lines: List[str] = text.splitlines()
+    for line in lines:
+        yield line, reader.words(line)

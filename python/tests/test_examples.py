@@ -1,0 +1,11 @@
+"""The examples in the docstrings."""
+import doctest
+
+import gjcut
+from gjcut import _functions, _library, _refusals
+
+
+def load_tests(_loader, tests, _pattern):
+    for module in (gjcut, _functions, _library, _refusals):
+        tests.addTests(doctest.DocTestSuite(module))
+    return tests

@@ -1,0 +1,270 @@
+/* Calls the library on examples and compares what it says, byte for byte. docs/library.md has a shorter program.
+ *
+ * library FOLDER..            each example, with a room that is large and with one that is a byte too short, and calls that no folder has
+ * library -threads FOLDER..   the examples from four threads at once
+ * library -stack FOLDER..     how much stack the calls on the examples, on nested JSON and on large inputs use at most, against GJCUT_STACK
+ * library -time N FOLDER      N calls on one example, with the time that a call takes and by how much the memory grew
+ *
+ * An example is a folder with the files words (one a line), input, output and status.
+ */
+#include <pthread.h>
+#include <stdio.h>
+#include <stdlib.h>
+#include <string.h>
+#include <time.h>
+
+#include "gjcut.h"
+
+enum { THREADS = 4, BEHIND = 64, MARK = 0xa5, STACK = 1 << 20 };
+
+struct text {
+    uint8_t *bytes;
+    size_t length;
+};
+
+struct example {
+    const char *name;
+    struct text words, input, output;
+    int status;
+};
+
+static void *memory(size_t size) {
+    void *block = malloc(size ? size : 1);
+    if (!block) abort();
+    return block;
+}
+
+static struct text read_file(const char *folder, const char *name) {
+    char path[4096];
+    snprintf(path, sizeof path, "%s/%s", folder, name);
+    FILE *file = fopen(path, "rb");
+    if (!file) {
+        perror(path);
+        exit(2);
+    }
+    fseek(file, 0, SEEK_END);
+    struct text text = {.length = (size_t)ftell(file)};
+    rewind(file);
+    text.bytes = memory(text.length);
+    if (fread(text.bytes, 1, text.length, file) != text.length) exit(2);
+    fclose(file);
+    return text;
+}
+
+/* The words stand one a line, and a call takes them with one blank between two. */
+static struct example read_example(const char *folder) {
+    struct example example = {folder, read_file(folder, "words"), read_file(folder, "input"), read_file(folder, "output"), 0};
+    if (example.words.length) example.words.length--;
+    for (size_t i = 0; i < example.words.length; i++)
+        if (example.words.bytes[i] == '\n') example.words.bytes[i] = ' ';
+    struct text status = read_file(folder, "status");
+    for (size_t i = 0; i < status.length && status.bytes[i] != '\n'; i++) example.status = 10 * example.status + status.bytes[i] - '0';
+    free(status.bytes);
+    return example;
+}
+
+static void free_example(struct example example) {
+    free(example.words.bytes);
+    free(example.input.bytes);
+    free(example.output.bytes);
+}
+
+/* Whether a call with this room ends with the status, writes these bytes, and leaves those behind them as they were. */
+static int answers(const struct example *example, size_t room, int status, size_t length) {
+    uint8_t *output = memory(room + BEHIND);
+    size_t written = (size_t)-1;
+    memset(output, MARK, room + BEHIND);
+    int ended = gjcut_answer(example->words.bytes, example->words.length, example->input.bytes, example->input.length, output, room, &written);
+    int good = ended == status && written == length && !memcmp(output, example->output.bytes, length);
+    for (size_t i = length; good && i < room + BEHIND; i++) good = output[i] == MARK;
+    if (!good) printf("library: %s with %zu bytes of room ended with %d and wrote %zu bytes\n", example->name, room, ended, written);
+    free(output);
+    return good;
+}
+
+static int is_answered(const struct example *example) {
+    size_t length = example->output.length;
+    return answers(example, length + 1000, example->status, length) && answers(example, length, example->status, length)
+           && (!length || answers(example, length - 1, GJCUT_NO_ROOM, length - 1));
+}
+
+static struct text text_of(const char *bytes) {
+    return (struct text){(uint8_t *)bytes, strlen(bytes)};
+}
+
+/* Calls that no example has: the whole words, the length of an input of bytes that are 0, the status and the answer. */
+static int others(void) {
+    static const struct {
+        const char *words;
+        size_t zeros;
+        int status;
+        const char *output;
+    } calls[] = {
+        {"", 0, GJCUT_WORDS, "words refused\n"},
+        {"show ", 0, GJCUT_WORDS, "words refused\n"},
+        {"times  2 0", 0, GJCUT_WORDS, "words refused\n"},
+        {"times\t2 0", 0, GJCUT_WORDS, "words refused\n"},
+        {"\xff", 0, GJCUT_WORDS, "words refused\n"},
+        {"show\xc3", 0, GJCUT_WORDS, "words refused\n"},
+        {"show", 0, GJCUT_INPUT, "refused line 1 form\n"},
+        {"minimal", 16777216, GJCUT_INPUT, "refused line 1 form\n"},
+        {"minimal", 16777217, GJCUT_INPUT, "refused long\n"},
+    };
+    int good = 1;
+    for (size_t i = 0; i < sizeof calls / sizeof *calls; i++) {
+        struct text zeros = {memory(calls[i].zeros), calls[i].zeros};
+        memset(zeros.bytes, 0, zeros.length);
+        struct example example = {calls[i].words, text_of(calls[i].words), zeros, text_of(calls[i].output), calls[i].status};
+        good = is_answered(&example) && good;
+        free(zeros.bytes);
+    }
+    return good;
+}
+
+struct work {
+    const struct example *examples;
+    int count, good;
+};
+
+static void *work(void *given) {
+    struct work *work = given;
+    for (int i = 0; i < work->count; i++) work->good = is_answered(&work->examples[i]) && work->good;
+    return NULL;
+}
+
+static int from_threads(const struct example *examples, int count) {
+    pthread_t threads[THREADS];
+    struct work works[THREADS];
+    int good = 1;
+    for (int i = 0; i < THREADS; i++) {
+        works[i] = (struct work){examples, count, 1};
+        if (pthread_create(&threads[i], NULL, work, &works[i])) abort();
+    }
+    for (int i = 0; i < THREADS; i++) {
+        pthread_join(threads[i], NULL);
+        good = good && works[i].good;
+    }
+    return good;
+}
+
+/* A call in a thread whose stack was filled with marks before, so that it shows how far the call has gone. */
+struct stacked {
+    struct text words, input, output;
+};
+
+static void *call_stacked(void *given) {
+    struct stacked *stacked = given;
+    size_t written;
+    if (stacked)
+        gjcut_answer(stacked->words.bytes, stacked->words.length, stacked->input.bytes, stacked->input.length, stacked->output.bytes,
+                     stacked->output.length, &written);
+    return NULL;
+}
+
+static size_t stack_of(struct stacked *stacked) {
+    uint8_t *stack = aligned_alloc(4096, STACK);
+    if (!stack) abort();
+    memset(stack, MARK, STACK);
+    pthread_attr_t attributes;
+    pthread_t thread;
+    pthread_attr_init(&attributes);
+    if (pthread_attr_setstack(&attributes, stack, STACK) || pthread_create(&thread, &attributes, call_stacked, stacked)) abort();
+    pthread_join(thread, NULL);
+    pthread_attr_destroy(&attributes);
+    size_t untouched = 0;
+    while (untouched < STACK && stack[untouched] == MARK) untouched++;
+    free(stack);
+    return STACK - untouched;
+}
+
+static struct text repeated(const char *front, const char *line, int times, const char *back) {
+    struct text text = {memory(strlen(front) + strlen(line) * (size_t)times + strlen(back)), strlen(front)};
+    memcpy(text.bytes, front, text.length);
+    for (int i = 0; i < times; i++, text.length += strlen(line)) memcpy(text.bytes + text.length, line, strlen(line));
+    memcpy(text.bytes + text.length, back, strlen(back));
+    text.length += strlen(back);
+    return text;
+}
+
+static int stack_is_enough(const struct example *examples, int count) {
+    static uint8_t output[1 << 16];
+    struct text room = {output, sizeof output};
+    const struct {
+        const char *words;
+        struct text input;
+    } large[] = {
+        {"extreme --json", repeated("", "[", 100000, "")},
+        {"extreme --json", repeated("", "{\"a\":", 100000, "")},
+        {"extreme", repeated("gj-function 1\norder 996\nf 499/996\n", "point 0\npoint 2/3\npoint 1/3\npoint 1\npoint 1/3\npoint 2/3\n", 166, "end\n")},
+        {"faces", repeated("gj-function 2\nf 1/1000\npoint 0 0\nend\n", "", 0, "")},
+        {"mixed", repeated("gj-rule 1\ngmic\nend\nbasic,rhs,c:z\nx,1/2,", "1", 9, "\n")},
+    };
+    size_t base = stack_of(NULL), most = 0;
+    for (int i = 0; i < count; i++) {
+        size_t used = stack_of(&(struct stacked){examples[i].words, examples[i].input, room}) - base;
+        if (used > most) most = used;
+    }
+    for (size_t i = 0; i < sizeof large / sizeof *large; i++) {
+        size_t used = stack_of(&(struct stacked){text_of(large[i].words), large[i].input, room}) - base;
+        if (used > most) most = used;
+        free(large[i].input.bytes);
+    }
+    printf("library: the calls use %zu bytes of stack at most, and the header says %d\n", most, GJCUT_STACK);
+    return most <= GJCUT_STACK;
+}
+
+/* The resident memory, in pages. */
+static long resident(void) {
+    long size = 0, pages = 0;
+    FILE *file = fopen("/proc/self/statm", "r");
+    if (file && fscanf(file, "%ld %ld", &size, &pages) != 2) pages = 0;
+    if (file) fclose(file);
+    return pages;
+}
+
+static double seconds(void) {
+    struct timespec now;
+    clock_gettime(CLOCK_PROCESS_CPUTIME_ID, &now);
+    return (double)now.tv_sec + 1e-9 * (double)now.tv_nsec;
+}
+
+static int take_time(long calls, const struct example *example) {
+    size_t room = example->output.length, written = 0;
+    uint8_t *output = memory(room);
+    int good = 1;
+    long before = 0;
+    double begun = 0;
+    for (long i = -100; i < calls; i++) {
+        if (!i) before = resident(), begun = seconds();
+        int ended = gjcut_answer(example->words.bytes, example->words.length, example->input.bytes, example->input.length, output, room, &written);
+        good = good && ended == example->status && written == room;
+    }
+    printf("%s: %.1f microseconds a call, %ld pages more after %ld calls\n", example->name, 1e6 * (seconds() - begun) / (double)calls,
+           resident() - before, calls);
+    free(output);
+    return good;
+}
+
+int main(int count, char **words) {
+    int threads = count > 1 && !strcmp(words[1], "-threads"), time = count > 3 && !strcmp(words[1], "-time");
+    int stack = count > 1 && !strcmp(words[1], "-stack"), first = threads || stack ? 2 : time ? 3 : 1, good = 1;
+    if (first >= count) {
+        fprintf(stderr, "library: no example is named\n");
+        return 2;
+    }
+    struct example *examples = memory((size_t)(count - first) * sizeof *examples);
+    for (int i = first; i < count; i++) examples[i - first] = read_example(words[i]);
+    if (time)
+        good = take_time(atol(words[2]), examples);
+    else if (stack)
+        good = stack_is_enough(examples, count - first);
+    else if (threads)
+        good = from_threads(examples, count - first);
+    else {
+        for (int i = 0; i < count - first; i++) good = is_answered(&examples[i]) && good;
+        good = others() && good;
+    }
+    for (int i = 0; i < count - first; i++) free_example(examples[i]);
+    free(examples);
+    return !good;
+}
