@@ -1,4 +1,5 @@
-//! Values by hand. A function beside a test answers whether its values are as they must be, and none if a call gives none.
+//! Values by hand. A function beside a test answers whether its values are as they must be, and
+//! none if a call gives none.
 mod callers;
 mod cuts;
 mod faces;

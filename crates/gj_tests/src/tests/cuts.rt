@@ -15,7 +15,8 @@ fn first_row(tableau: &Tableau) -> Result<&Row, &'static str>
     tableau.rows.as_slice().first().ok_or("no row")
 }
 
-/// The cut of the first row, with f = 2/5: 1/4 over 3/5 is 5/12 at 3/4, and 3/10 over 3/5 is 1/2 at -13/10, whose part is 7/10.
+/// The cut of the first row, with f = 2/5: at 3/4 it is 1/4 over 3/5, and at -13/10, whose part is
+/// 7/10, it is 3/10 over 3/5.
 fn mixed_integer(alloc: Global) -> Option<bool> {
     let Ok(tableau) = Tableau::read(alloc, b"basic,rhs,s1,s2\nx3,2.4,0.75,-1.3") else {
         return None;

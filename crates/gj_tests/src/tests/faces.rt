@@ -8,9 +8,10 @@ use gj_shape::{Face, FaceKind, RowName, Shape};
 use gj_system::row_of;
 use std::alloc::Global;
 
-/// The function of order 2 with f = 1/2 that has at 0 the limit 1 from the left, the value 0 and the limit 1/2 from
-/// the right, and at 1/2 the limit 1/2, the value 1 and the limit 0. The limit at the corner 1 of Lower (0, 1): with R and L for
-/// the limits from the right and left, L(1) + R(1) - L(2) = 1/2 + 0 - 1.
+/// The function of order 2 with f = 1/2 that has at 0 the limit 1 from the left, the value 0 and the
+/// limit 1/2 from the right, and at 1/2 the limit 1/2, the value 1 and the limit 0. The limit at the
+/// corner 1 of Lower (0, 1): with R and L for the limits from the right and left,
+/// L(1) + R(1) - L(2) = 1/2 + 0 - 1.
 fn slack_at_jumps(alloc: Global) -> Option<Frac> {
     let zero = Frac::ratio(0, 1);
     let half = Frac::ratio(1, 2);
@@ -24,8 +25,8 @@ fn slack_at_jumps(alloc: Global) -> Option<Frac> {
     Some(slack(&shape, lower, 1))
 }
 
-/// The function of order 2 with f = 1/2 and the values 0 and 1: all pairs but (1, 1) are tight, where the slack is 2. Its maximal
-/// faces are Lower (0, 0) and Upper (1, 1).
+/// The function of order 2 with f = 1/2 and the values 0 and 1: all pairs but (1, 1) are tight,
+/// where the slack is 2. Its maximal faces are Lower (0, 0) and Upper (1, 1).
 fn faces_of_the_tent(alloc: Global) -> Option<bool> {
     let shape = of_order_2(alloc, Frac::ratio(1, 1))?;
     if !shape.is_continuous() {
@@ -86,7 +87,8 @@ fn cover_of_two_runs(alloc: Global) -> Option<bool> {
     Some(found.count == 2 && found.component.as_slice() == [Some(0), Some(1)].as_slice())
 }
 
-/// The row of the pair (2, 4) with f at 3/5, for three intervals of one component and then two of another.
+/// The row of the pair (2, 4) with f at 3/5, for three intervals of one component and then two of
+/// another.
 fn row_of_a_pair(alloc: Global) -> Option<bool> {
     let row = row_of(alloc, &[0, 0, 0, 1, 1], 2, 3, RowName::Pair(2, 4)).ok()?;
     Some(row.as_slice() == [4, 1].as_slice())

@@ -1,4 +1,5 @@
-//! Elimination: modulo 2^61 - 1 the rows (2^70, 1) and (2^70 - 1, 2^70) are (512, 1) and (511, 512).
+//! Elimination: modulo 2^61 - 1 the rows (2^70, 1) and (2^70 - 1, 2^70) are (512, 1) and
+//! (511, 512).
 ghost use Rattle.std.specs.Prelude.{◌≡◌, length, All, IfOk};
 ghost use Rattle.gj_frac.specs.Fraction.{Fits};
 

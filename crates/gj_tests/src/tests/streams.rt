@@ -1,9 +1,11 @@
-//! Whole streams, over memory and over readers and writers of std, and a run over streams in steps.
+//! Whole streams, over memory and over readers and writers of std, and a run over streams in
+//! steps.
 use gj_port::{MemSink, MemSource, StdSink, StdSource, read_all, write_all};
 use gj_top::{Status, run};
 use std::alloc::Global;
 
-/// A read that fails in mid-stream leaves the bytes that were not taken, and the next call reads them.
+/// A read that fails in mid-stream leaves the bytes that were not taken, and the next call reads
+/// them.
 fn a_read_fails(alloc: Global) -> Option<bool> {
     let given = vec![in alloc; 7; 8195].ok()?;
     let mut source = MemSource::new(alloc, &given, &[2]).ok()?;
@@ -40,8 +42,8 @@ const TWO_PIECES: &[u8] = b"gj-function 2\nf 1/2\npoint 0 0\npoint 1/2 1\nend\n"
 /// What `mirror` writes of it.
 const MIRRORED: &[u8] = b"gj-function 1\norder 2\nf 1/2\npoint 0\npoint 1\nend\n";
 
-/// Whether `mirror` ends so, and writes so much, over a source in steps of 1 and a sink in steps of 7, of which the calls with these
-/// numbers fail.
+/// Whether `mirror` ends so, and writes so much, over a source in steps of 1 and a sink in steps of
+/// 7, of which the calls with these numbers fail.
 fn ends(alloc: Global, read: u64, write: u64, ended: Status, written: &[u8]) -> Option<bool> {
     let words = vec![in alloc; String::from_str(alloc, "mirror").ok()?].ok()?;
     let mut source = MemSource::with_step(alloc, TWO_PIECES, 1, &[read]).ok()?;

@@ -3,7 +3,8 @@ use gj_proof::{read_proof, write_proof};
 use std::alloc::Global;
 
 const BY_RESIDUES: &[u8] = b"gj-proof 2\nclaim extreme\norder 2\nf 1/2\npoint 0\npoint 1\n\
-cover 0 0 lower 0 0\ncover 1 1 upper 1 1\nmodulus 2305843009213693951\nrow period\npivot 0\nrow f\nreduce 0\npivot 1\nend\n";
+cover 0 0 lower 0 0\ncover 1 1 upper 1 1\nmodulus 2305843009213693951\n\
+row period\npivot 0\nrow f\nreduce 0\npivot 1\nend\n";
 
 /// A proof by residues is written as it was read.
 fn proof_by_residues(alloc: Global) -> Option<bool> {
