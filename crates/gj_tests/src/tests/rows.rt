@@ -71,6 +71,7 @@ fn by_residues(rt: HostRuntime) -> Result<(), Fail> {
     let Settled::Residues(log) = settle(rt.alloc(), 2, &mut rows)? else {
         return Err(Fail::from("not by residues"));
     };
+    let log = log.as_slice();
     assert_eq!(rt; log.len(), 2);
     assert_eq!(rt; log[0].number, 0);
     assert_eq!(rt; log[0].reduce.as_slice(), [].as_slice());
