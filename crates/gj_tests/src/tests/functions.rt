@@ -133,7 +133,7 @@ fn own_fill_in(rt: HostRuntime) -> Result<(), Fail> {
         return Err("a jump".into());
     }
     let filled = fill(rt.alloc(), &shape).ok().ok_or("no fill-in")?;
-    assert_eq!(rt; filled.points.len(), 2);
+    assert_eq!(rt; filled.points.as_slice().len(), 2);
     assert_eq!(rt; filled_value(&shape, place(-1, 8)?), fraction(1, 4)?);
     Ok(())
 }

@@ -7,7 +7,6 @@ use gj_lex::Spelling;
 use gj_function_lines::function_at;
 use gj_proof::{Claim, read_proof, write_proof};
 use gj_row::Tableau;
-use gj_shape::Break;
 use std::test::Fail;
 
 /// The function of order 2 with f = 1/2 that is 0 at 0 and 1 at 1/2.
@@ -25,21 +24,14 @@ fn reads_a_function(rt: HostRuntime) -> Result<(), Fail> {
     Ok(())
 }
 
-/// The breakpoint n/d with the value u/w.
-fn even(n: i128, d: i128, u: i128, w: i128) -> Result<Break, &'static str> {
-    let x = fraction(n, d)?;
-    let value = fraction(u, w)?;
-    Ok(Break {
-        x,
-        left: value,
-        value,
-        right: value,
-    })
+/// The point n/d with the value u/w.
+fn point(n: i128, d: i128, u: i128, w: i128) -> Result<(Frac, Frac), &'static str> {
+    Ok((fraction(n, d)?, fraction(u, w)?))
 }
 
 #[test]
 fn writes_breaks(rt: HostRuntime) -> Result<(), Fail> {
-    let points = [even(0, 1, 0, 1)?, even(5, 24, 5, 6)?];
+    let points = [point(0, 1, 0, 1)?, point(5, 24, 5, 6)?];
     let text = write_breaks(rt.alloc(), fraction(1, 2)?, &points)?;
     let written = b"gj-function 2\nf 1/2\npoint 0 0\npoint 5/24 5/6\nend\n";
     assert_eq!(rt; text.as_slice(), written.as_slice());
