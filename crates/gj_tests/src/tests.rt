@@ -8,6 +8,7 @@ mod intervals;
 mod numbers;
 mod rows;
 mod rules;
+mod settling;
 mod streams;
 mod texts;
 mod verdicts;
