@@ -24,7 +24,7 @@ pub(crate) fn line_of(
 {
     let basic = row.basic.copy(alloc)?;
     match cut {
-        MixedCut::Cut { terms, weights } => {
+        MixedCut::Cut(terms, weights) => {
             let named = named_terms(alloc, columns, terms.as_slice())?;
             let weighed = named_terms(alloc, columns, weights.as_slice())?;
             Ok(MixedLine {

@@ -7,6 +7,7 @@ mod fractions;
 mod numbers;
 mod rows;
 mod shapes;
+mod slopes;
 mod streams;
 mod texts;
 

@@ -1,4 +1,4 @@
--- Breakpoints at the points of a fill-in.
+-- The points of a fill-in as pairs of fractions.
 use Rattle.std.proofs.Common.{◌≡◌, ℕ, ◌+◌, ◌<◌, ◌^◌, Bool, true, false, ◌&&◌, cond, ℤ, pos, neg_ℤ, int_lt, ◌+ℤ◌, ◌*ℤ◌, ◌<ℤ◌, unsigned_abs, to_z, of_z, List, [], ◌∷◌, ◌++◌, flat_map, refl, ap, sym, subst, ◌∙◌, append-nil, arith}
 use Rattle.std.specs.List.{range_with_len, AllZip}
 use Rattle.std.proofs.Math.Nat.{zero-add}
@@ -10,8 +10,7 @@ use Rattle.gj_frac.specs.declared.Frac.{Frac}
 use Rattle.gj_frac.specs.Fraction.{IsRatio}
 use Rattle.gj_shape.specs.FunctionData.{FunctionData}
 use Rattle.gj_shape.specs.TwoSlopes.{rise}
-use Rattle.gj_shape.specs.declared.breaks.Break.{Break}
-use Rattle.gj_fill.specs.FillPoints.{IsBreakAt, value_point, crossing_point, points_from}
+use Rattle.gj_fill.specs.FillPoints.{IsPairOf, value_point, crossing_point, points_from}
 
 -- ---- numbers of 64 bits
 
@@ -75,14 +74,14 @@ points_single f s t a none = by_tests (int_lt (neg_ℤ t) (rise f a)) (int_lt (r
     by_tests false y e g = refl
 
 -- the points from one more place
-pub points_more : (f : FunctionData) (s t : ℤ) (a : ℕ) (before more after : List Break) →
-    AllZip IsBreakAt (flat_map (points_from f s t) (range_with_len 0 a)) before → AllZip IsBreakAt (points_from f s t a) more →
-    after ≡ before ++ more → AllZip IsBreakAt (flat_map (points_from f s t) (range_with_len 0 (a + 1))) after
+pub points_more : (f : FunctionData) (s t : ℤ) (a : ℕ) (before more after : List (Frac × Frac)) →
+    AllZip IsPairOf (flat_map (points_from f s t) (range_with_len 0 a)) before → AllZip IsPairOf (points_from f s t a) more →
+    after ≡ before ++ more → AllZip IsPairOf (flat_map (points_from f s t) (range_with_len 0 (a + 1))) after
 points_more f s t a before more after h k e =
     let g = points_from f s t in
     let split : flat_map g (range_with_len 0 (a + 1)) ≡ flat_map g (range_with_len 0 a) ++ g a =
     ap (flat_map g) (range_split 0 a 1 ∙ ap (λ n. range_with_len 0 a ++ n ∷ []) (zero-add a))
     ∙ flat_map-append g (range_with_len 0 a) (a ∷ []) ∙ ap (λ ps. flat_map g (range_with_len 0 a) ++ ps) (append-nil (g a)) in
-    subst (λ bs. AllZip IsBreakAt (flat_map g (range_with_len 0 (a + 1))) bs) (sym e)
-    (subst (λ ps. AllZip IsBreakAt ps (before ++ more)) (sym split)
-    (zip_append IsBreakAt (flat_map g (range_with_len 0 a)) before (g a) more h k))
+    subst (λ bs. AllZip IsPairOf (flat_map g (range_with_len 0 (a + 1))) bs) (sym e)
+    (subst (λ ps. AllZip IsPairOf ps (before ++ more)) (sym split)
+    (zip_append IsPairOf (flat_map g (range_with_len 0 a)) before (g a) more h k))
