@@ -25,10 +25,11 @@ def front(*words, text=""):
 class Sentences(unittest.TestCase):
     def test_each_has_an_input_that_causes_it(self):
         for each in SENTENCES:
-            _, said = gjcut.call(each.words, each.input)
+            given = each.input * each.times
+            _, said = gjcut.call(each.words, given)
             line = each.answer if each.answer in said.splitlines() else said.strip()
             self.assertEqual(line, each.answer, each.see)
-            self.assertIs(sentence_for(each.words, each.input, line), each, each.see)
+            self.assertIs(sentence_for(each.words, given, line), each, each.see)
 
     def test_each_refusal_of_the_examples_has_one(self):
         tried = 0
