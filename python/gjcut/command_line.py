@@ -50,8 +50,8 @@ def parser() -> argparse.ArgumentParser:
         "program's, which are proved; the words around them are not.",
         epilog="FILE is a text of docs/formats.md; without one, standard input is read. The status "
         "is the greatest of the statuses of the files: 0 for a verdict, 1 for a rejected proof, 3 "
-        "for a text that is refused, 4 for a file that cannot be read, 14 where there is no library; "
-        "the others are those of docs/formats.md.",
+        "for a text that is refused, 4 for a file that cannot be read, 14 where there is no "
+        "library; the others are those of docs/formats.md.",
     )
     version = "the version, the commit, the kit, and the file of the library"
     made.add_argument("--version", action="store_true", help=version)
