@@ -1,4 +1,5 @@
-/* The library of gjcut: one call, over memory. docs/library.md says how to build and link it, and what is proved of it. */
+/* The library of gjcut: one call, over memory. docs/library.md says how to build and link it, and
+ * what is proved of it. */
 #ifndef GJCUT_H
 #define GJCUT_H
 
@@ -22,56 +23,67 @@ enum gjcut_status {
     GJCUT_NOT_CONTINUOUS = 8,  /* the function jumps; of `extreme` and `mixed`: and is minimal */
     GJCUT_NO_FUNCTION = 9,     /* `cut`, `mixed`: the function is not minimal */
     GJCUT_NOT_SUBADDITIVE = 10, /* `fill`: the function is not subadditive */
-    GJCUT_ORDER_LIMIT = 11,    /* `times`: the order would be above 1,000; `group`: it is above 120 */
+    GJCUT_ORDER_LIMIT = 11,    /* `times`: the order would pass 1,000; `group`: it is above 120 */
     GJCUT_BAD_ORDER = 12       /* `restrict`: the function has no restriction of that order */
 };
 
-/* Answers a request over an input, as the program does: `words` are the words of its command line, with one blank between two, as
- * "times 3 1", `input` is what it reads, and the answer is what it writes. It is put at the front of `output`, and its length into
- * `*written`; what stands behind it in `output` stays as it was. If the answer is longer than `output_length`, the status is
- * GJCUT_NO_ROOM, and the output is full of its front: call again with more room, of which `gjcut_room` says how much is always enough.
- * Nothing is kept from one call to the next.
+/* Answers a request over an input, as the program does: `words` are the words of its command line,
+ * with one blank between two, as "times 3 1", `input` is what it reads, and the answer is what it
+ * writes. It is put at the front of `output`, and its length into `*written`; what stands after it
+ * in `output` stays as it was. If the answer is longer than `output_length`, the status is
+ * GJCUT_NO_ROOM, and the output is full of its front: call again with more room, of which
+ * `gjcut_room` says how much is always enough. Nothing is kept from one call to the next.
  *
  * What a caller owes, since nothing tests it:
- * - `words`, `input` and `output` point to as many bytes as their lengths say, less than 2^63, and `written` to a number. No pointer
- *   is NULL, not even if a length is 0.
- * - `output` and `*written` overlap nothing else that is handed over, and during the call nobody else reads or writes them, nor writes
- *   `words` or `input`. Calls at one time from several threads are fine if each has an output and a number of its own.
- * - malloc, realloc and free of the program belong together, and malloc and realloc align a block to each power of two up to 16 that
- *   divides its size, as those of the C library do.
+ * - `words`, `input` and `output` point to as many bytes as their lengths say, less than 2^63, and
+ *   `written` to a number. No pointer is NULL, not even if a length is 0.
+ * - `output` and `*written` overlap nothing else that is handed over, and during the call nobody
+ *   else reads or writes them, nor writes `words` or `input`. Calls at one time from several
+ *   threads are fine if each has an output and a number of its own.
+ * - malloc, realloc and free of the program belong together, and malloc and realloc align a block
+ *   to each power of two up to 16 that divides its size, as those of the C library do.
+ * - There is enough stack, see GJCUT_STACK.
  * - The call is not made in a signal handler, nor in the child of a fork in a process with threads.
  */
-uint8_t gjcut_answer(const uint8_t *words, size_t words_length, const uint8_t *input, size_t input_length, uint8_t *output,
-                     size_t output_length, size_t *written);
+uint8_t gjcut_answer(const uint8_t *words, size_t words_length, const uint8_t *input,
+                     size_t input_length, uint8_t *output, size_t output_length, size_t *written);
 
-/* A call needs at most so many bytes of stack, by measurement: no more than 140,000 were used by any example, by the largest inputs and by
- * JSON that nests as deep as it is read. With less, the system ends the process by a signal at the guard page below the stack; where a
- * thread has no guard page, as a stack of your own making, memory below it is overwritten. */
+/* A call needs at most so many bytes of stack, by measurement: no example, none of the largest
+ * inputs and no JSON, however deep it nests, was seen to use more than 140,000. With less, the
+ * system ends the process by a signal at the guard page below the stack; a stack of your own making
+ * that has no guard page is run over, and memory below it is overwritten. */
 #define GJCUT_STACK 262144
 
 /* Whether a word stands among the words. */
 static inline int gjcut_has_word(const uint8_t *words, size_t words_length, const char *word) {
     size_t length = strlen(word), i;
-    for (i = 0; i + length <= words_length; i++)
-        if ((i == 0 || words[i - 1] == ' ') && (i + length == words_length || words[i + length] == ' ') && memcmp(words + i, word, length) == 0)
-            return 1;
+    for (i = 0; i + length <= words_length; i++) {
+        int begins = i == 0 || words[i - 1] == ' ';
+        int ends = i + length == words_length || words[i + length] == ' ';
+        if (begins && ends && memcmp(words + i, word, length) == 0) return 1;
+    }
     return 0;
 }
 
-/* An output of so many bytes has room for every answer to the words over an input of this length. That a proof of `extreme` has at most
- * 12,000,000 bytes is proved; the other figures are reckoned from the forms and limits of the texts, and tested. Most answers are far
- * shorter: where time counts, try first with 131,072 bytes. */
+/* An output of so many bytes has room for every answer to the words over an input of this length.
+ * That a proof of `extreme` has at most 12,000,000 bytes is proved; the other figures are reckoned
+ * from the forms and limits of the texts, and tested. Most answers are far shorter: where time
+ * counts, try first with 131,072 bytes. */
 static inline size_t gjcut_room(const uint8_t *words, size_t words_length, size_t input_length) {
     /* A function text, in JSON too: 1,000 points of 93 bytes. */
     const size_t function = 100000;
     if (gjcut_has_word(words, words_length, "extreme"))
         /* In JSON two bytes more for each line. */
         return gjcut_has_word(words, words_length, "--json") ? 15000000 : 12000000;
-    if (gjcut_has_word(words, words_length, "faces")) return 28100000; /* two triangles of 14 bytes in each of 1,000,000 squares */
-    if (gjcut_has_word(words, words_length, "cut") || gjcut_has_word(words, words_length, "mixed")) {
+    /* Two triangles of 14 bytes in each of 1,000,000 squares. */
+    if (gjcut_has_word(words, words_length, "faces")) return 28100000;
+    if (gjcut_has_word(words, words_length, "cut") ||
+        gjcut_has_word(words, words_length, "mixed")) {
         /* A row takes 4 bytes of the input or more, and an entry 2; a name has at most 255. */
         size_t rows = input_length / 4 + 1, entries = input_length / 2;
-        return function + 304 * (rows < 10000 ? rows : 10000) + 352 * (entries < 100000 ? entries : 100000);
+        if (rows > 10000) rows = 10000;
+        if (entries > 100000) entries = 100000;
+        return function + 304 * rows + 352 * entries;
     }
     if (gjcut_has_word(words, words_length, "fill")) return 400000; /* 2,000 points of 170 bytes */
     return function;

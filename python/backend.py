@@ -1,4 +1,4 @@
-"""Makes the wheel of the package, with the shared library in it. It needs nothing but Python, and no network:
+"""Makes the wheel of the package, with the shared library in it. It needs Python, and no network:
 
     pip install --no-build-isolation ./python
 
@@ -15,7 +15,8 @@ from pathlib import Path
 from gjcut import _build, _library
 
 HERE = Path(__file__).resolve().parent
-PROJECT = dict(re.findall(r'^(\S+) = "(.*)"$', (HERE / "pyproject.toml").read_text(encoding="utf-8"), re.M))
+SETTINGS = (HERE / "pyproject.toml").read_text(encoding="utf-8")
+PROJECT = dict(re.findall(r'^(\S+) = "(.*)"$', SETTINGS, re.M))
 
 
 def _files():
@@ -34,8 +35,11 @@ def build_wheel(wheel_directory, config_settings=None, metadata_directory=None):
         f"Summary: {PROJECT['description']}\nRequires-Python: {PROJECT['requires-python']}\n"
     wheel = f"Wheel-Version: 1.0\nGenerator: gjcut\nRoot-Is-Purelib: false\nTag: {tag}\n"
     records = []
-    with zipfile.ZipFile(Path(wheel_directory) / f"{name}-{tag}.whl", "w", zipfile.ZIP_DEFLATED) as archive:
-        for file, data in [*_files(), (f"{name}.dist-info/METADATA", metadata.encode()), (f"{name}.dist-info/WHEEL", wheel.encode())]:
+    told = {f"{name}.dist-info/METADATA": metadata, f"{name}.dist-info/WHEEL": wheel}
+    files = [*_files(), *((file, text.encode()) for file, text in told.items())]
+    made = Path(wheel_directory) / f"{name}-{tag}.whl"
+    with zipfile.ZipFile(made, "w", zipfile.ZIP_DEFLATED) as archive:
+        for file, data in files:
             archive.writestr(file, data)
             digest = base64.urlsafe_b64encode(hashlib.sha256(data).digest()).rstrip(b"=").decode()
             records.append(f"{file},sha256={digest},{len(data)}\n")

@@ -1,11 +1,13 @@
 """The library of gjcut from Python, with the standard library alone; docs/library.md has examples.
 
-A function is made from its breakpoints, its values or a family, and everything comes back as `Fraction`s, with what the program writes as `text`.
-A number is an int, a `Fraction`, a `Decimal`, or a text such as "3/5" or "0.25"; a float is refused, since it is seldom the number that was
-meant. An input that is refused, and a function with which a command does nothing, raise `Refused`.
+A function is made from its breakpoints, its values or a family, and everything comes back as
+`Fraction`s, with what the program writes as `text`. A number is an int, a `Fraction`, a `Decimal`,
+or a text such as "3/5" or "0.25"; a float is refused, since it is seldom the number that was meant.
+An input that is refused, and a function with which a command does nothing, raise `Refused`.
 
-Several threads may call at once, and so may several processes. But the child of a fork in a process with threads must not call: where a
-process has threads, give `multiprocessing` the way "spawn" or "forkserver", by `multiprocessing.get_context("spawn")`.
+Several threads may call at once, and so may several processes. But the child of a fork in a process
+with threads must not call: where a process has threads, give `multiprocessing` the way "spawn" or
+"forkserver", by `multiprocessing.get_context("spawn")`.
 
 Nothing of this package is proved: it hands texts to the library, whose answers are.
 """
@@ -13,15 +15,19 @@ import operator
 from fractions import Fraction
 from typing import Iterable, List, NamedTuple, Optional, Sequence, Tuple, Union
 
-from ._functions import Function, Number, Point, line as _line, number as _number, printed as _printed
+from ._functions import Function, Number, Point
+from ._functions import line as _line, number as _number, printed as _printed
 from ._library import Answer, LibraryMissing, call
 from ._refusals import Place, Places, Refused
-from ._refusals import always as _always, no_place as _no_place, places_of_breakpoints as _places_of_breakpoints
-from ._refusals import places_of_tableau as _places_of_tableau, places_of_values as _places_of_values, refusal as _refusal
+from ._refusals import always as _always, no_place as _no_place, refusal as _refusal
+from ._refusals import places_of_breakpoints as _places_of_breakpoints
+from ._refusals import places_of_tableau as _places_of_tableau
+from ._refusals import places_of_values as _places_of_values
 
 __all__ = [
-    "Answer", "Cut", "Cuts", "Function", "Judgement", "LibraryMissing", "Number", "Place", "Point", "Refused", "Term", "Verdict", "Violation",
-    "by_breakpoints", "by_text", "by_values", "call", "check", "cut", "extreme", "family", "fill", "minimal", "mirror", "mixed", "restrict", "times",
+    "Answer", "Cut", "Cuts", "Function", "Judgement", "LibraryMissing", "Number", "Place", "Point",
+    "Refused", "Term", "Verdict", "Violation", "by_breakpoints", "by_text", "by_values", "call",
+    "check", "cut", "extreme", "family", "fill", "minimal", "mirror", "mixed", "restrict", "times",
 ]  # fmt: skip
 
 
@@ -34,10 +40,12 @@ class Violation(NamedTuple):
 
 
 class Verdict(NamedTuple):
-    """`minimal`, `not-minimal` with the first violation, `extreme`, or `not-extreme` with two halves; and the proof text.
+    """`minimal`, `not-minimal` with the first violation, `extreme`, or `not-extreme` with two
+    halves; and the proof text.
 
-    The halves are functions that the function is the average of, by their values at the multiples of 1/N. N is up to 4,000, and commands read
-    orders up to 1,000; `at`, `==`, `+` and the others work on every half.
+    The halves are functions that the function is the average of, by their values at the multiples
+    of 1/N. N is up to 4,000, and commands read orders up to 1,000; `at`, `==`, `+` and the others
+    work on every half.
     """
 
     claim: str
@@ -55,7 +63,8 @@ class Term(NamedTuple):
 
 
 class Cut(NamedTuple):
-    """The sum of each coefficient times its column, over terms and weights, is at least 1; or `skipped` says why there is no cut."""
+    """The sum of each coefficient times its column, over terms and weights, is at least 1; or
+    `skipped` says why there is no cut."""
 
     basic: str
     right: Fraction
@@ -72,7 +81,8 @@ class Cuts(NamedTuple):
 
 
 class Judgement(NamedTuple):
-    """Whether a proof text is accepted, and then of which claim, or else at which line which rule fails; and what the program wrote."""
+    """Whether a proof text is accepted, and then of which claim, or else at which line which rule
+    fails; and what the program wrote."""
 
     accepted: bool
     claim: Optional[str]
@@ -94,7 +104,9 @@ def _done(words: str, text: str, places: Places = _no_place) -> str:
 
 def _text_of(function: Function, argument: str = "function") -> str:
     if not isinstance(function, Function):
-        raise TypeError(f"{argument} is a {type(function).__name__}, and no Function, as by_breakpoints or by_text gives it")
+        kind = type(function).__name__
+        how = "as by_breakpoints or by_text gives it"
+        raise TypeError(f"{argument} is a {kind}, and no Function, {how}")
     return function.text
 
 
@@ -105,14 +117,15 @@ def _of_function(words: str, function: Function) -> str:
 def by_text(text: str) -> Function:
     """The function of a function text, in each form that the program reads.
 
-    >>> by_text("gj-function 1\\norder 2\\nf 1/2\\npoint 0\\npoint 1\\nend\\n") == family("gmic", "1/2")
-    True
+    >>> by_text("gj-function 2\\nf 3/5\\npoint 0 0\\npoint 3/5 1\\nend\\n").order
+    5
     """
     return Function(_done("show", text))
 
 
 def by_breakpoints(f: Number, points: Iterable[Sequence[Number]]) -> Function:
-    """The function with these breakpoints: each a place and a value, or a place, the limit from the left, the value, and that from the right.
+    """The function with these breakpoints: each a place and a value, or a place, the limit from the
+    left, the value, and the limit from the right.
 
     >>> gmic = by_breakpoints("3/5", [(0, 0), ("3/5", 1)])
     >>> gmic.at("1/5"), gmic.order
@@ -124,18 +137,21 @@ def by_breakpoints(f: Number, points: Iterable[Sequence[Number]]) -> Function:
 
 
 def by_values(f: Number, values: Iterable[Union[Number, Sequence[Number]]]) -> Function:
-    """The function with these values at the multiples of 1/q, q their number; a tuple is the limit from the left, the value, that from the right.
+    """The function with these values at the multiples of 1/q, q their number; a tuple is the limit
+    from the left, the value, and the limit from the right.
 
     >>> by_values("1/2", [0, "1/4", 1, "3/4"]).at("3/8")
     Fraction(5, 8)
     """
-    lines = [_line("point", *map(_number, value if isinstance(value, (tuple, list)) else (value,))) for value in values]
-    text = "gj-function 1\n" + _line("order", len(lines)) + _line("f", _number(f)) + "".join(lines) + "end\n"
-    return Function(_done("show", text, _places_of_values(len(lines))))
+    triples = [value if isinstance(value, (tuple, list)) else (value,) for value in values]
+    lines = [_line("point", *map(_number, triple)) for triple in triples]
+    front = "gj-function 1\n" + _line("order", len(lines)) + _line("f", _number(f))
+    return Function(_done("show", front + "".join(lines) + "end\n", _places_of_values(len(lines))))
 
 
 def family(name: str, *words: Union[Number, str]) -> Function:
-    """The function of a family, as `family("gmic", "3/5")`, `family("half", "1/2")` or `family("two-slope", 5, "++-++---")`.
+    """The function of a family: `family("gmic", f)`, `family("half", f)` or `family("two-slope", k,
+    signs)`.
 
     >>> family("two-slope", 5, "++-++---").order
     8
@@ -144,7 +160,8 @@ def family(name: str, *words: Union[Number, str]) -> Function:
     for part in parts:
         if part.split() != [part]:
             raise ValueError(f"{part!r} is no single word")
-    return Function(_done("show", "gj-function 1\n" + _line("family", *parts) + "end\n", _always("family")))
+    text = "gj-function 1\n" + _line("family", *parts) + "end\n"
+    return Function(_done("show", text, _always("family")))
 
 
 def _verdict(command: str, function: Function) -> Verdict:
@@ -165,7 +182,8 @@ def _halves(f: Fraction, text: str) -> Tuple[Function, Function]:
 
     def half(numerators: Iterable[int]) -> Function:
         values = [Fraction(n, scale) for n in numerators]
-        return Function(f=f, points=(Point(Fraction(i, order), value, value, value) for i, value in enumerate(values)))
+        points = (Point(Fraction(i, order), value, value, value) for i, value in enumerate(values))
+        return Function(f=f, points=points)
 
     first, second = zip(*pairs)
     return half(first), half(second)
@@ -181,7 +199,8 @@ def minimal(function: Function) -> Verdict:
 
 
 def extreme(function: Function) -> Verdict:
-    """Whether the function is extreme; if it is minimal and not extreme, with two halves of which it is the average.
+    """Whether the function is extreme; if it is minimal and not extreme, with two halves of which
+    it is the average.
 
     >>> extreme(family("gmic", "3/5")).claim
     'extreme'
@@ -203,14 +222,17 @@ def check(text: str) -> Judgement:
     words = said.split()
     if status > 1:
         raise Refused(status, said)
-    return Judgement(False, None, int(words[2]), words[3], said) if status else Judgement(True, words[1], None, None, said)
+    if status:
+        return Judgement(False, None, int(words[2]), words[3], said)
+    return Judgement(True, words[1], None, None, said)
 
 
 def cut(rule: Rule, columns: Iterable[str], rows: Iterable[Row]) -> Cuts:
     """The cuts of rows in which every column is whole, by a function or by the rule "gmic".
 
-    A row is the name of its basic variable, its right side, and its entries in the order of the columns. An entry of 0 gives no term. A name that
-    begins with `c:` is a whole column here like any other; `mixed` has continuous ones.
+    A row is the name of its basic variable, its right side, and its entries in the order of the
+    columns. An entry of 0 gives no term. A name that begins with `c:` is a whole column here like
+    any other; `mixed` has continuous ones.
 
     >>> found = cut("gmic", ["x1", "s1"], [("x0", "8/5", ["7/5", "-1/5"])])
     >>> found.cuts[0].terms[0]
@@ -220,7 +242,8 @@ def cut(rule: Rule, columns: Iterable[str], rows: Iterable[Row]) -> Cuts:
 
 
 def mixed(rule: Rule, columns: Iterable[str], rows: Iterable[Row]) -> Cuts:
-    """The cuts of rows with continuous columns, those whose names begin with `c:` (small letter), by a function or by the rule "gmic".
+    """The cuts of rows with continuous columns, those whose names begin with `c:` (a small letter),
+    by a function or by the rule "gmic".
 
     A whole column gives a term and a continuous one a weight. Rows are as for `cut`.
 
@@ -246,8 +269,9 @@ def _field(name: str, place: Place) -> str:
 
 def _cuts(command: str, rule: Rule, columns: Iterable[str], rows: Iterable[Row]) -> Cuts:
     front, names = _rule_text(rule), [str(name) for name in columns]
-    table = [(str(basic), _number(right), [_number(entry) for entry in entries]) for basic, right, entries in rows]
-    records = [["basic", "rhs", *(_field(name, Place("columns", i)) for i, name in enumerate(names))]]
+    table = [(str(name), _number(right), list(map(_number, row))) for name, right, row in rows]
+    header = [_field(name, Place("columns", i)) for i, name in enumerate(names)]
+    records = [["basic", "rhs", *header]]
     for i, (basic, right, entries) in enumerate(table):
         records.append([_field(basic, Place("rows", i)), str(right), *map(str, entries)])
     text = front + "".join(",".join(record) + "\n" for record in records)
@@ -256,13 +280,19 @@ def _cuts(command: str, rule: Rule, columns: Iterable[str], rows: Iterable[Row])
 
 
 def _read_cuts(said: str) -> List[Cut]:
-    found: List[Tuple[str, Fraction, List[Term], List[Term], Optional[str]]] = []
+    # The name, the right side and why there is no cut; the terms; the weights.
+    found: List[Tuple[Tuple[str, Fraction, Optional[str]], List[Term], List[Term]]] = []
     for kind, *words in map(str.split, said.splitlines()):
         if kind in ("cut", "skip"):
-            found.append((words[0], _printed(words[1]), [], [], words[2] if kind == "skip" else None))
+            why = words[2] if kind == "skip" else None
+            found.append(((words[0], _printed(words[1]), why), [], []))
         elif kind in ("term", "weight"):
-            found[-1][2 if kind == "term" else 3].append(Term(words[0], _printed(words[1]), _printed(words[2])))
-    return [Cut(basic, right, tuple(terms), tuple(weights), skipped) for basic, right, terms, weights, skipped in found]
+            term = Term(words[0], _printed(words[1]), _printed(words[2]))
+            found[-1][1 if kind == "term" else 2].append(term)
+    return [
+        Cut(basic, right, tuple(terms), tuple(weights), why)
+        for (basic, right, why), terms, weights in found
+    ]
 
 
 def fill(function: Function) -> Function:
@@ -293,7 +323,8 @@ def mirror(function: Function) -> Function:
 
 
 def restrict(function: Function, order: int) -> Function:
-    """The continuous function of this order with the values of the function at the multiples of 1/order.
+    """The continuous function of this order with the values of the function at the multiples of
+    1/order.
 
     >>> restrict(by_values("1/2", [0, "1/4", 1, "3/4"]), 2) == family("gmic", "1/2")
     True

@@ -11,7 +11,7 @@ RECORD = HERE / "build.json"
 
 def _first_line(*words: str) -> str:
     try:
-        done = subprocess.run(words, cwd=HERE, stdout=subprocess.PIPE, stderr=subprocess.DEVNULL, text=True, check=False)
+        done = subprocess.run(words, cwd=HERE, capture_output=True, text=True, check=False)
     except OSError:
         return ""
     return done.stdout.partition("\n")[0].strip() if done.returncode == 0 else ""
@@ -22,10 +22,13 @@ def build() -> Dict[str, str]:
     if RECORD.exists():
         return json.loads(RECORD.read_text(encoding="utf-8"))
     project = HERE.parent / "pyproject.toml"
-    found = re.search(r'^version = "(.*)"$', project.read_text(encoding="utf-8"), re.M) if project.exists() else None
+    settings = project.read_text(encoding="utf-8") if project.exists() else ""
+    found = re.search(r'^version = "(.*)"$', settings, re.M)
     commit = _first_line("git", "rev-parse", "HEAD") or "unknown"
-    changed = " with changes" if _first_line("git", "status", "--porcelain", "--untracked-files=no") else ""
-    return {"version": found[1] if found else "unknown", "commit": commit + changed, "kit": _first_line("rt", "version") or "unknown"}
+    if _first_line("git", "status", "--porcelain", "--untracked-files=no"):
+        commit += " with changes"
+    kit = _first_line("rt", "version") or "unknown"
+    return {"version": found[1] if found else "unknown", "commit": commit, "kit": kit}
 
 
 if __name__ == "__main__":

@@ -10,14 +10,15 @@ Number = Union[int, Fraction, Decimal, str]
 
 
 def number(given: Number) -> Fraction:
-    """The fraction that a caller means. A float is refused, since it is seldom the number that was meant."""
+    """The fraction that a caller means. A float is refused: it is seldom the number meant."""
     if isinstance(given, (str, Decimal, numbers.Rational)):
         try:
             return Fraction(given)
         except (ValueError, OverflowError, ZeroDivisionError):
             raise ValueError(f"{given!r} is no fraction") from None
     kind = type(given).__name__
-    raise TypeError(f"{given!r} is a {kind}: write an int, a Fraction, a Decimal, or a text such as '3/5' or '0.25'")
+    wanted = "an int, a Fraction, a Decimal, or a text such as '3/5' or '0.25'"
+    raise TypeError(f"{given!r} is a {kind}: write {wanted}")
 
 
 def printed(word: str) -> Fraction:
@@ -42,8 +43,10 @@ class Point(NamedTuple):
 class Function:
     """A function of period 1 with the place f, affine between its points. It does not change.
 
-    The calls of this package make it: `by_breakpoints`, `by_values`, `family`, `by_text` and others. Two functions are equal if they have one f
-    and one value and limit everywhere, however they were written. Functions with one f can be added, and multiplied and divided by numbers:
+    The calls of this package make it: `by_breakpoints`, `by_values`, `family`, `by_text` and
+    others. Two functions are equal if they have one f and the same values and limits everywhere,
+    however they were written. Functions with one f can be added, and multiplied and divided by
+    numbers:
 
     >>> import gjcut
     >>> a = gjcut.by_breakpoints("1/2", [(0, 0), ("1/2", 1)])
@@ -58,26 +61,38 @@ class Function:
 
     __slots__ = ("_text", "_f", "_points", "_places", "_breakpoints")
 
-    def __init__(self, text: Optional[str] = None, f: Optional[Fraction] = None, points: Optional[Iterable[Point]] = None):
-        # Either a text that the program has printed, or f and the points; the other is made when it is asked for.
-        self._text, self._f, self._points = text, f, None if points is None else tuple(points)
+    def __init__(
+        self,
+        text: Optional[str] = None,
+        f: Optional[Fraction] = None,
+        points: Optional[Iterable[Point]] = None,
+    ):
+        # Either a text that the program has printed, or f and the points; the other is made when it
+        # is asked for.
+        self._text, self._f = text, f
+        self._points = None if points is None else tuple(points)
         self._places: Optional[List[Fraction]] = None
         self._breakpoints: Optional[Tuple[Point, ...]] = None
 
     def __reduce__(self):
-        return Function, (self._text, None, None) if self._text is not None else (None, self._f, self._points)
+        if self._text is not None:
+            return Function, (self._text,)
+        return Function, (None, self._f, self._points)
 
     def _read(self) -> None:
         words = [each.split() for each in self._text.splitlines()]
         found = [each[1:] for each in words if each[0] == "point"]
         # Text 2 has the place of each point; text 1 has one for each multiple of 1/q.
-        has_places = words[0] == ["gj-function", "2"]
-        places = [printed(each[0]) for each in found] if has_places else [Fraction(i, len(found)) for i in range(len(found))]
-        points = []
+        has_places, count, points = words[0] == ["gj-function", "2"], len(found), []
+        if has_places:
+            places = [printed(each[0]) for each in found]
+        else:
+            places = [Fraction(i, count) for i in range(count)]
         for place, each in zip(places, found):
             values = [printed(word) for word in each[has_places:]]
             points.append(Point(place, values[0], values[len(values) // 2], values[-1]))
-        self._f, self._points = next(printed(each[1]) for each in words if each[0] == "f"), tuple(points)
+        self._f = next(printed(each[1]) for each in words if each[0] == "f")
+        self._points = tuple(points)
 
     @property
     def f(self) -> Fraction:
@@ -95,7 +110,8 @@ class Function:
 
     @property
     def order(self) -> int:
-        """The least common multiple of the denominators of f and of the places of the points. Commands read orders up to 1,000."""
+        """The least common multiple of the denominators of f and of the places of the points.
+        Commands read orders up to 1,000."""
         return math.lcm(self.f.denominator, *(point.place.denominator for point in self.points))
 
     @property
@@ -118,11 +134,11 @@ class Function:
 
     @property
     def text(self) -> str:
-        """A text of the function that every command reads if its order is at most 1,000: what the program has printed, or the breakpoints."""
+        """A text of the function that every command reads if its order is at most 1,000: what the
+        program has printed, or the breakpoints."""
         if self._text is None:
             lines = ["gj-function 2\n", line("f", self.f)]
-            for place, left, value, right in self.breakpoints:
-                lines.append(line("point", place, value) if left == value == right else line("point", place, left, value, right))
+            lines += [line("point", *_short(point)) for point in self.breakpoints]
             self._text = "".join([*lines, "end\n"])
         return self._text
 
@@ -144,7 +160,7 @@ class Function:
         return left.right + (x - left.place) / (end - left.place) * (right.left - left.right)
 
     def limits(self, x: Number) -> Point:
-        """The point at x: its place from 0 to below 1, the limit from the left, the value and the limit from the right."""
+        """The point at x: its place from 0 to below 1, the limits and the value."""
         x = number(x) % 1
         value = self.at(x)
         i = bisect.bisect_right(self._places, x)
@@ -168,8 +184,7 @@ class Function:
         points = self.breakpoints
         if len(points) > 20:
             return f"<function with f = {self.f} and {len(points)} breakpoints>"
-        shown = [[place, value] if left == value == right else [place, left, value, right] for place, left, value, right in points]
-        shown = ", ".join(f"({', '.join(map(_shown, each))})" for each in shown)
+        shown = ", ".join(f"({', '.join(map(_shown, _short(point)))})" for point in points)
         return f"by_breakpoints({_shown(self.f)}, [{shown}])"
 
     def __add__(self, other: "Function") -> "Function":
@@ -177,15 +192,19 @@ class Function:
             return NotImplemented
         if self.f != other.f:
             raise ValueError(f"functions with f = {self.f} and f = {other.f} have no sum")
-        places = sorted({point.place for function in (self, other) for point in function.breakpoints})
-        pairs = [(self.limits(place), other.limits(place)) for place in places]
-        return Function(f=self.f, points=(Point(a.place, a.left + b.left, a.value + b.value, a.right + b.right) for a, b in pairs))
+        places = sorted({point.place for point in (*self.breakpoints, *other.breakpoints)})
+        points = []
+        for place in places:
+            pairs = list(zip(self.limits(place), other.limits(place)))
+            points.append(Point(place, *(a + b for a, b in pairs[1:])))
+        return Function(f=self.f, points=points)
 
     def __mul__(self, factor: Number) -> "Function":
         if isinstance(factor, Function):
             return NotImplemented
         n = number(factor)
-        return Function(f=self.f, points=(Point(place, left * n, value * n, right * n) for place, left, value, right in self.points))
+        points = (Point(place, *(value * n for value in rest)) for place, *rest in self.points)
+        return Function(f=self.f, points=points)
 
     __rmul__ = __mul__
 
@@ -197,6 +216,12 @@ class Function:
 
     def __truediv__(self, divisor: Number) -> "Function":
         return NotImplemented if isinstance(divisor, Function) else self * (1 / number(divisor))
+
+
+def _short(point: Point) -> Tuple[Fraction, ...]:
+    """The place and the value, if that is both limits too; else all four."""
+    place, left, value, right = point
+    return (place, value) if left == value == right else point
 
 
 def _shown(x: Fraction) -> str:

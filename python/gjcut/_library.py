@@ -13,7 +13,10 @@ NAME = "libgjcut.so"
 TOP = HERE.parents[1]
 # An output that is kept between calls has this many bytes: more than most answers have.
 KEPT_ROOM = 1 << 17
-MISSING = "the library of gjcut is not here: `tools/install` at the top of the repository builds and installs it"
+MISSING = (
+    "the library of gjcut is not here: `tools/install` at the top of the repository builds and "
+    "installs it"
+)
 
 
 class LibraryMissing(OSError):
@@ -32,16 +35,19 @@ def packed() -> Path:
     folder = TOP / "crates/gj_library/out"
     archive, made = folder / "libgj_library.a", folder / NAME
     if not archive.exists():
-        raise LibraryMissing(f"{MISSING}; without installing, `tools/build_library` builds it (there is no {archive})")
+        how = "without installing, `tools/build_library` builds it"
+        raise LibraryMissing(f"{MISSING}; {how} (there is no {archive})")
     if not made.exists() or made.stat().st_mtime <= archive.stat().st_mtime:
-        done = subprocess.run([str(TOP / "tools/build_library"), "--pack"], stderr=subprocess.PIPE, text=True, check=False)
+        words = [str(TOP / "tools/build_library"), "--pack"]
+        done = subprocess.run(words, stderr=subprocess.PIPE, text=True, check=False)
         if done.returncode or not made.exists():
             raise LibraryMissing(f"the shared library could not be made:\n{done.stderr}")
     return made
 
 
 def find() -> Path:
-    """The shared library: the file of the variable GJCUT_LIBRARY, or one beside this file, or that of the prefix, or that of the repository."""
+    """The shared library: the file of the variable GJCUT_LIBRARY, or one beside this file, or that
+    of the prefix, or that of the repository."""
     named = os.environ.get("GJCUT_LIBRARY")
     if named:
         if os.path.exists(named):
@@ -64,7 +70,8 @@ def _answer():
 
 
 def room_for(words: str, length: int) -> int:
-    """How many bytes are enough for each answer to the words over an input of this length, as `gjcut_room` of the header says."""
+    """How many bytes are enough for each answer to the words over an input of this length, as
+    `gjcut_room` of the header says."""
     command = words.split(" ")
     if "extreme" in command:
         return 15_000_000 if "--json" in command else 12_000_000
@@ -75,7 +82,8 @@ def room_for(words: str, length: int) -> int:
     return 400_000 if "fill" in command else 100_000
 
 
-# Outputs that no call uses now. A call takes one and puts it back, so that no two calls have one at a time.
+# Outputs that no call uses now. A call takes one and puts it back, so that no two calls have one at
+# a time.
 _free: list = []
 
 
@@ -84,8 +92,8 @@ def call(words: str, text: Union[str, bytes] = "") -> Answer:
 
     >>> call("check", "gj-proof 2")
     Answer(status=3, text='refused line 1 form\\n')
-    >>> call("minimal", "gj-function 2\\nf 1/2\\npoint 0 0\\npoint 1/2 1\\nend\\n").text.splitlines()[1]
-    'claim minimal'
+    >>> call("times 3", "")
+    Answer(status=2, text='words refused\\n')
     """
     command, given = words.encode(), text if isinstance(text, bytes) else text.encode()
     answer = _answer()

@@ -11,7 +11,7 @@ LARGEST_ENTRY, FINEST_ROW, WIDEST, MOST_ENTRIES = 2**31, 2**31 - 1, 2**127 - 1, 
 
 
 class Place(NamedTuple):
-    """A value that a caller handed over: the name of the argument, and where in it, counted from 0."""
+    """A value that a caller handed over: the name of the argument, and where in it, from 0 on."""
 
     argument: str
     index: Optional[int] = None
@@ -23,11 +23,12 @@ class Place(NamedTuple):
 
 
 class Refused(ValueError):
-    """A call without an answer: the program refused the input, or it does nothing with this function.
+    """A call without an answer: the program refused the input, or does nothing with this function.
 
-    `status` is that of the program, `reason` its word, and `place` says at which of the caller's values, as `points[2]` or `rows[0], 'x1'`; it is
-    None where no single value is at fault. `text` is what the program wrote, and `line` the number of the line or record of the text that
-    was sent, which a caller of `call`, `check` and `by_text` has written.
+    `status` is that of the program, `reason` its word, and `place` says at which of the caller's
+    values, as `points[2]` or `rows[0], 'x1'`; it is None where no single value is at fault. `text`
+    is what the program wrote, and `line` the number of the line or record of the text that was
+    sent, which a caller of `check` and `by_text` has written.
 
     >>> import gjcut
     >>> try:
@@ -42,14 +43,18 @@ class Refused(ValueError):
         self.status, self.text, self.place = status, text, place
         self.line = int(found[2]) if found else None
         self.reason = found[3] if found else text.strip()
-        super().__init__(f"{place}: refused, {self.reason}" if place else text.strip() or f"status {status}")
+        said = text.strip() or f"status {status}"
+        super().__init__(f"{place}: refused, {self.reason}" if place else said)
 
     def __reduce__(self):
         return Refused, (self.status, self.text, self.place)
 
 
-# Says which value of the caller stands in a `line` or a `record` with a number, for which a reason is given.
+# Says which value of the caller stands in a `line` or a `record` with a number, for which a reason
+# is given.
 Places = Callable[[str, int, str], Optional[Place]]
+# The name of a basic variable, the right side and the entries.
+Row = Tuple[str, Fraction, Sequence[Fraction]]
 
 
 def no_place(_kind: str, _at: int, _reason: str) -> Optional[Place]:
@@ -87,14 +92,16 @@ def places_of_values(count: int) -> Places:
     return place
 
 
-def places_of_tableau(columns: Sequence[str], rows: Sequence[Tuple[str, Fraction, Sequence[Fraction]]]) -> Places:
-    """The record and the reason are the program's; which field it is, is found here by the same tests."""
+def places_of_tableau(columns: Sequence[str], rows: Sequence[Row]) -> Places:
+    """The record and the reason are the program's; which field it is, is found here by the same
+    tests."""
 
     def place(kind: str, at: int, reason: str) -> Place:
         if kind == "line":
             return Place("rule")
         if at == 1:
-            return Place("columns", _name_at_fault(columns, reason)) if reason in ("name", "twice") else Place("columns")
+            is_name = reason in ("name", "twice")
+            return Place("columns", _name_at_fault(columns, reason) if is_name else None)
         if at - 2 >= len(rows):
             return Place("rows")
         return Place("rows", at - 2, _field_at_fault(columns, rows[at - 2], reason))
@@ -108,15 +115,19 @@ def _name_at_fault(names: Sequence[str], reason: str) -> Optional[int]:
     return next((i for i, name in enumerate(names) if name in names[:i]), None)
 
 
-def _field_at_fault(columns: Sequence[str], row: Tuple[str, Fraction, Sequence[Fraction]], reason: str) -> Optional[str]:
+def _field_at_fault(columns: Sequence[str], row: Row, reason: str) -> Optional[str]:
     basic, right, entries = row
     if reason in ("name", "twice"):
         return f"the name {basic!r}"
     common = 1
     for name, value in zip(["the right side", *map(repr, columns)], [right, *entries]):
         common = math.lcm(common, value.denominator)
-        is_wide = max(abs(value.numerator), value.denominator) > WIDEST
-        if {"number": is_wide, "large": abs(value) > LARGEST_ENTRY, "fine": common > FINEST_ROW}.get(reason):
+        faults = {
+            "number": max(abs(value.numerator), value.denominator) > WIDEST,
+            "large": abs(value) > LARGEST_ENTRY,
+            "fine": common > FINEST_ROW,
+        }
+        if faults.get(reason):
             return name
     return f"{len(entries)} entries for {len(columns)} columns" if reason == "fields" else None
 

@@ -46,26 +46,34 @@ class Result(NamedTuple):
 def parser() -> argparse.ArgumentParser:
     made = argparse.ArgumentParser(
         prog="python3 -m gjcut",
-        description="Verdicts on cut-generating functions, and their cuts. The answers are the program's, which are proved; the words around them are not.",
-        epilog="FILE is a text of docs/formats.md; without one, standard input is read. The status is the greatest of the statuses of the files: "
-        "0 for a verdict, 1 for a rejected proof, 3 for a text that is refused, 4 for a file that cannot be read, 14 where there is no library; the others are those of "
-        "docs/formats.md.",
+        description="Verdicts on cut-generating functions, and their cuts. The answers are the "
+        "program's, which are proved; the words around them are not.",
+        epilog="FILE is a text of docs/formats.md; without one, standard input is read. The status "
+        "is the greatest of the statuses of the files: 0 for a verdict, 1 for a rejected proof, 3 "
+        "for a text that is refused, 4 for a file that cannot be read, 14 where there is no "
+        "library; the others are those of docs/formats.md.",
     )
-    made.add_argument("--version", action="store_true", help="the version, the commit, the kit, and the file of the library")
+    version = "the version, the commit, the kit, and the file of the library"
+    made.add_argument("--version", action="store_true", help=version)
     commands = made.add_subparsers(dest="command", metavar="COMMAND")
     for name, (numbers, help_) in COMMANDS.items():
-        command = commands.add_parser(name, help=help_, description=help_[0].upper() + help_[1:] + ".")
+        description = f"{help_[0].upper()}{help_[1:]}."
+        command = commands.add_parser(name, help=help_, description=description)
         for number in numbers:
             command.add_argument(number)
         if name in WITH_PROOF:
-            command.add_argument("--proof", action="store_true", help="print the text that the program writes, in place of a sentence")
+            proof = "print the text that the program writes, in place of a sentence"
+            command.add_argument("--proof", action="store_true", help=proof)
         if name in WITH_JSON:
-            command.add_argument("--json", action="store_true", help="the files are in JSON, and so is what is written")
+            json = "the files are in JSON, and so is what is written"
+            command.add_argument("--json", action="store_true", help=json)
         if name in ("cut", "mixed"):
-            command.add_argument("--rule", metavar="RULE", help="`gmic`, or the file of a function, where it does not stand before the tableau")
+            rule = "`gmic`, or the file of a function, where it does not stand before the tableau"
+            command.add_argument("--rule", metavar="RULE", help=rule)
         if name != "demo":
             command.add_argument("files", metavar="FILE", nargs="*")
-        command.add_argument("--progress", action="store_true", help="show how far it is, also where standard error is no terminal")
+        progress = "show how far it is, also where standard error is no terminal"
+        command.add_argument("--progress", action="store_true", help=progress)
     return made
 
 
@@ -88,8 +96,8 @@ def main(words: Optional[List[str]] = None) -> int:
 
 
 def _version() -> int:
-    for name, value in {"gjcut": _build.build()["version"], "commit": _build.build()["commit"], "kit": _build.build()["kit"]}.items():
-        print(f"{name} {value}")
+    built = _build.build()
+    print(f"gjcut {built['version']}\ncommit {built['commit']}\nkit {built['kit']}")
     try:
         print(f"library {find()}")
     except LibraryMissing as missing:
@@ -116,7 +124,8 @@ def _answer_all(chosen: argparse.Namespace) -> int:
         print(said, flush=shows)
         worst, kinds[result.kind] = max(worst, result.status), kinds[result.kind] + 1
     if len(files) > 1:
-        print(f"{len(files)} files: " + ", ".join(f"{count} {kind}" for kind, count in kinds.most_common()))
+        counts = ", ".join(f"{count} {kind}" for kind, count in kinds.most_common())
+        print(f"{len(files)} files: {counts}")
     return worst
 
 
@@ -146,7 +155,8 @@ def _answer_one(chosen: argparse.Namespace, file: str, front: bytes) -> Result:
     if isinstance(data, Result):
         return data
     command = "check" if chosen.command == "explain" else chosen.command
-    words = [command, *(getattr(chosen, number) for number in COMMANDS[chosen.command][0]), *["--json"] * getattr(chosen, "json", False)]
+    words = [command, *(getattr(chosen, number) for number in COMMANDS[chosen.command][0])]
+    words += ["--json"] * getattr(chosen, "json", False)
     status, said = call(" ".join(words), front + data)
     text = (front + data).decode("utf-8", "replace")
     name = "standard input" if file == "-" else file
@@ -156,14 +166,16 @@ def _answer_one(chosen: argparse.Namespace, file: str, front: bytes) -> Result:
         return _explained(text, status, said)
     if getattr(chosen, "proof", False) or getattr(chosen, "json", False):
         return Result(said, _kind(chosen.command, said), status)
-    return Result(_sentence(chosen.command, text, status, said), _kind(chosen.command, said), status)
+    sentence = _sentence(chosen.command, text, status, said)
+    return Result(sentence, _kind(chosen.command, said), status)
 
 
 def _kind(command: str, said: str) -> str:
     found = re.search(r"^(?:claim|verdict|accepted|rejected) ?(\S*)", said, re.M)
     if command in ("check", "explain"):
         return said.split()[0]
-    return found[1].replace("-", " ") if found and command in ("minimal", "extreme", "group") else "answered"
+    is_verdict = found and command in ("minimal", "extreme", "group")
+    return found[1].replace("-", " ") if is_verdict else "answered"
 
 
 def _sentence(command: str, text: str, status: int, said: str) -> str:
@@ -180,7 +192,10 @@ def _verdict(text: str, proof: str) -> str:
     lines = proof.splitlines()
     claim, function = lines[1].split(" ")[1], function_of(proof)
     if claim == "minimal":
-        return f"minimal: the function is 0 at 0, nowhere negative, subadditive, and symmetric about f = {function.f}"
+        return (
+            "minimal: the function is 0 at 0, nowhere negative, subadditive, and symmetric about "
+            f"f = {function.f}"
+        )
     if claim == "not-minimal":
         kind, *at = lines[-2].split(" ")
         said = "not minimal: " + violation_in_words(function, kind, *map(printed, at))
@@ -189,7 +204,10 @@ def _verdict(text: str, proof: str) -> str:
     if claim == "extreme":
         return "extreme: the function is minimal, and no average of two different minimal functions"
     order = re.search(r"^halves (\d+)", proof, re.M)[1]
-    return f"not extreme: the function is minimal, and the average of two different minimal functions, which --proof shows by their values at the multiples of 1/{order}"
+    return (
+        "not extreme: the function is minimal, and the average of two different minimal functions, "
+        f"which --proof shows by their values at the multiples of 1/{order}"
+    )
 
 
 def _group(text: str, said: str) -> str:
@@ -200,8 +218,10 @@ def _group(text: str, said: str) -> str:
         kind, *at = lines[4].split(" ")
         where = f" ({kind} at {' and '.join(at)})" if at else ""
         return f"not minimal: {table} is not minimal{where}"
-    average = "and the average of two different minimal tables, which --proof shows"
-    return f"extreme: {table} is minimal, and no average of two different minimal tables" if verdict == "extreme" else f"not extreme: {table} is minimal, {average}"
+    if verdict == "extreme":
+        return f"extreme: {table} is minimal, and no average of two different minimal tables"
+    average = "the average of two different minimal tables, which --proof shows"
+    return f"not extreme: {table} is minimal, and {average}"
 
 
 def _judged(text: str, status: int, said: str) -> str:
@@ -222,7 +242,13 @@ def _cuts(said: str) -> List[str]:
         elif kind in ("term", "weight"):
             sign = "" if len(found[-1]) == 1 else " + "
             found[-1].append(f"{sign}{words[2]} {words[0]}")
-    return ["".join(each) + (" >= 1" if len(each) > 1 else "" if "no cut" in each[0] else "0 >= 1: the row has no solution") for each in found]
+    return ["".join(each) + _end_of_cut(each) for each in found]
+
+
+def _end_of_cut(parts: List[str]) -> str:
+    if len(parts) > 1:
+        return " >= 1"
+    return "" if "no cut" in parts[0] else "0 >= 1: the row has no solution"
 
 
 def _explained(text: str, status: int, said: str) -> Result:
@@ -255,7 +281,8 @@ def _refused(words: str, text: str, status: int, said: str, name: str) -> Result
     else:
         shown = [f"{name}: {said or f'status {status}'}"]
     if sentence:
-        shown += textwrap.wrap(_plain(_said(sentence)), 98, initial_indent="  ", subsequent_indent="  ", break_long_words=False, break_on_hyphens=False)
+        how = {"initial_indent": "  ", "subsequent_indent": "  ", "break_on_hyphens": False}
+        shown += textwrap.wrap(_plain(_said(sentence)), 98, break_long_words=False, **how)
     elif status == 6:
         shown.append("  There was no memory.")
     elif status == 7:

@@ -37,9 +37,15 @@ def violation_in_words(function: Function, kind: str, *at: Fraction) -> str:
         return f"its value at {at[0]} is {values[0]}, below 0"
     if kind == "asymmetric":
         other = (function.f - at[0]) % 1
-        return f"it is not symmetric, since its values at {at[0]} and at f - {at[0]} = {other} are {values[0]} and {function.at(other)}, and do not add up to 1"
+        return (
+            f"it is not symmetric, since its values at {at[0]} and at f - {at[0]} = {other} are "
+            f"{values[0]} and {function.at(other)}, and do not add up to 1"
+        )
     total = (at[0] + at[1]) % 1
-    return f"it is not subadditive, since its values at {at[0]} and {at[1]} are {values[0]} and {values[1]}, and add up to less than {function.at(total)}, its value at {total}"
+    return (
+        f"it is not subadditive, since its values at {at[0]} and {at[1]} are {values[0]} and "
+        f"{values[1]}, and add up to less than {function.at(total)}, its value at {total}"
+    )
 
 
 class _Reader:
@@ -68,7 +74,10 @@ class _Reader:
 
     def of_claim(self, claim: str) -> str:
         self.claim = claim
-        more = {"minimal": "; `check` makes every test of minimality itself, so nothing more is shown", "extreme": "; that it is minimal, `check` tests itself"}
+        more = {
+            "minimal": "; `check` makes every test of minimality itself, so nothing more is shown",
+            "extreme": "; that it is minimal, `check` tests itself",
+        }
         return f"it claims that {CLAIMS.get(claim, claim)}{more.get(claim, '')}"
 
     def of_order(self, order: str) -> str:
@@ -104,26 +113,33 @@ class _Reader:
         return violation_in_words(function_of(self.text), "superadditive", printed(x), printed(y))
 
     def of_cover(self, i: str, j: str, kind: str, a: str, b: str) -> str:
-        corners = ", ".join(f"({self.at(int(a) + x)}, {self.at(int(b) + y)})" for x, y in CORNERS[kind])
+        shown = [f"({self.at(int(a) + x)}, {self.at(int(b) + y)})" for x, y in CORNERS[kind]]
+        corners = ", ".join(shown)
         shape = "triangle" if kind in ("lower", "upper") else "edge"
         face = f"on the {shape} with the corners {corners} the values add up to that of the sum"
+        interval = self.interval(int(i))
         if i == j:
-            self.component_of[i], self.components = self.components, self.components + 1
-            return f"{face}; so {self.interval(int(i))}, on which it projects, is covered, and begins component {self.component_of[i]}"
-        self.component_of[i] = self.component_of.get(j, 0)
-        return f"{face}; so {self.interval(int(i))} is covered, with the slope of {self.interval(int(j))}, in component {self.component_of[i]}"
+            component, self.components = self.components, self.components + 1
+            self.component_of[i] = component
+            so = f"{interval}, on which it projects, is covered, and begins component {component}"
+        else:
+            component = self.component_of[i] = self.component_of.get(j, 0)
+            other = self.interval(int(j))
+            so = f"{interval} is covered, with the slope of {other}, in component {component}"
+        return f"{face}; so {so}"
 
     def of_row(self, *pair: str) -> str:
         if pair == ("period",):
-            return "an equation for the slopes of a perturbation, one for each component: it is 0 at 1"
+            return "an equation for a perturbation, which has one slope a component: it is 0 at 1"
         if pair == ("f",):
             return f"an equation: it is 0 at {self.f}"
         a, b = map(int, pair)
-        total = (a + b) % self.order
-        return f"an equation: its values at {self.at(a)} and {self.at(b)} add up to that at {self.at(total)}, as those of the function do"
+        total = self.at((a + b) % self.order)
+        places = f"{self.at(a)} and {self.at(b)}"
+        return f"an equation: its values at {places} add up to that at {total}, like the function's"
 
     def of_reduce(self, column: str) -> str:
-        return f"the slope of component {column} is taken out, by the earlier equation that is solved for it"
+        return f"the slope of component {column} is taken out, by the equation solved for it"
 
     def of_pivot(self, column: str) -> str:
         self.rows += 1
@@ -131,7 +147,10 @@ class _Reader:
 
     def of_halves(self, order: str, scale: str) -> str:
         self.halves = int(order), int(scale)
-        return f"two minimal functions by their values at the multiples of 1/{order}, in parts of 1/{scale}; they are different, and their average is the function"
+        return (
+            f"two minimal functions by their values at the multiples of 1/{order}, in parts of "
+            f"1/{scale}; they are different, and their average is the function"
+        )
 
     def of_pair(self, first: str, second: str) -> str:
         order, scale = self.halves
@@ -142,19 +161,28 @@ class _Reader:
         return f"the row of {name} gives no cut, since {skipped_in_words(right, why)}"
 
     def of_cut(self, name: str, right: str) -> str:
-        return f"the cut of the row of {name}, whose right side {right} has the fractional part {printed(right) % 1}: the terms add up to at least 1"
+        part = printed(right) % 1
+        return (
+            f"the cut of the row of {name}, whose right side {right} has the fractional part "
+            f"{part}: the terms add up to at least 1"
+        )
 
     def of_term(self, name: str, entry: str, coefficient: str) -> str:
         return f"{coefficient} times {name}; it is the value of the function at the entry {entry}"
 
     def of_end(self) -> str:
         if self.claim == "extreme":
-            return f"as many equations as components, {self.rows}: every slope of a perturbation is 0, so there is none but 0"
+            return (
+                f"as many equations as components, {self.rows}: every slope of a perturbation "
+                "is 0, so there is none but 0"
+            )
         return "the end of the proof"
 
 
 def skipped_in_words(right: str, why: str) -> str:
-    return f"its right side {right} is whole" if why == "integral" else f"the fractional part of its right side {right} is not f"
+    if why == "integral":
+        return f"its right side {right} is whole"
+    return f"the fractional part of its right side {right} is not f"
 
 
 def explained(text: str) -> Iterator[Tuple[str, str]]:

@@ -18,51 +18,64 @@ PACKAGES = Path(gjcut.__file__).parents[1]
 
 def front(*words, text=""):
     environment = {**os.environ, "PYTHONPATH": str(PACKAGES)}
-    done = subprocess.run([sys.executable, "-m", "gjcut", *words], input=text, env=environment, cwd=EXAMPLES, capture_output=True, text=True, check=False)
+    done = subprocess.run(
+        [sys.executable, "-m", "gjcut", *words],
+        input=text,
+        env=environment,
+        cwd=EXAMPLES,
+        capture_output=True,
+        text=True,
+        check=False,
+    )
     return done.returncode, done.stdout, done.stderr
 
 
 class Sentences(unittest.TestCase):
     def test_each_has_an_input_that_causes_it(self):
         for each in SENTENCES:
-            _, said = gjcut.call(each.words, each.input)
+            given = each.input * each.times
+            _, said = gjcut.call(each.words, given)
             line = each.answer if each.answer in said.splitlines() else said.strip()
             self.assertEqual(line, each.answer, each.see)
-            self.assertIs(sentence_for(each.words, each.input, line), each, each.see)
+            self.assertIs(sentence_for(each.words, given, line), each, each.see)
 
     def test_each_refusal_of_the_examples_has_one(self):
         tried = 0
         for example in sorted(EXAMPLES.glob("**/words")):
-            words, text = " ".join(example.read_text().split()), (example.parent / "input").read_bytes().decode("utf-8", "replace")
+            words = " ".join(example.read_text().split())
+            text = (example.parent / "input").read_bytes().decode("utf-8", "replace")
             said = (example.parent / "output").read_text().strip()
             if int((example.parent / "status").read_text()) not in (0, 1, 4, 5, 6, 7):
-                self.assertIsNotNone(sentence_for(words, text, said), f"{example.parent.name}: {said}")
+                self.assertIsNotNone(
+                    sentence_for(words, text, said), f"{example.parent.name}: {said}"
+                )
                 tried += 1
         self.assertGreater(tried, 60)
 
     def test_each_rule_of_the_checker_has_one(self):
         page = (TOP / "docs/formats.md").read_text()
-        table = page[page.index("## The rules of the checker") : page.index("## Words, answers and statuses")]
-        rules = set()
-        for row in re.findall(r"^\| [^|]*\| [^|]*\| ([^|]*) \|", table, re.M):
-            rules |= {word for word in re.findall(r"`(\w+)`", row) if word not in ("size",)} | {"size"}
-        rules -= {"rule"}
-        self.assertEqual(set(RULES), rules | {"integral", "other"})
+        begin, end = "## The rules of the checker", "## Words, answers and statuses"
+        rows = re.findall(
+            r"^\| [^|]*\| [^|]*\| ([^|]*) \|", page[page.index(begin) : page.index(end)], re.M
+        )
+        rules = {word for row in rows for word in re.findall(r"`(\w+)`", row)}
+        self.assertEqual(set(RULES), rules)
 
 
 class Commands(unittest.TestCase):
     def test_verdicts(self):
+        asymmetric = "it is not symmetric, since its values at 4/5 and at f - 4/5 = 4/5 are 1/3"
         for example, command, begin in (
-            ("breaks_minimal", "minimal", "minimal: the function is 0 at 0, nowhere negative, subadditive, and symmetric about f = 3/5"),
-            ("extreme_five_pieces", "extreme", "extreme: the function is minimal, and no average of two"),
-            ("not_extreme_six_pieces", "extreme", "not extreme: the function is minimal, and the average of two"),
-            ("asymmetric_point", "minimal", "not minimal: it is not symmetric, since its values at 4/5 and at f - 4/5 = 4/5 are 1/3 and 1/3"),
-            ("superadditive_pair", "minimal", "not minimal: it is not subadditive, since its values at"),
+            ("breaks_minimal", "minimal", "minimal: the function is 0 at 0, nowhere negative, sub"),
+            ("extreme_five_pieces", "extreme", "extreme: the function is minimal, and no average"),
+            ("not_extreme_six_pieces", "extreme", "not extreme: the function is minimal, and the"),
+            ("asymmetric_point", "minimal", f"not minimal: {asymmetric}"),
+            ("superadditive_pair", "minimal", "not minimal: it is not subadditive, since its"),
             ("negative_value", "minimal", "not minimal: its value at"),
             ("not_zero_at_zero", "minimal", "not minimal: its value at 0 is"),
             ("check_extreme", "check", "accepted: the function is extreme"),
-            ("check_minimal_rejected", "check", "rejected: line 2, `claim minimal`: the function is not minimal"),
-            ("group_six_pieces", "group", "not extreme: the table of the function at the multiples of 1/6"),
+            ("check_minimal_rejected", "check", "rejected: line 2, `claim minimal`: the function"),
+            ("group_six_pieces", "group", "not extreme: the table of the function at the"),
             ("cut_two_columns", "cut", "x0: 2/3 x1 + 1/2 x2 >= 1"),
             ("cut_skipped_rows", "cut", "x0: no cut, since its right side 3 is whole"),
             ("mixed_by_gmic", "mixed", "x0: 5/12 x1 + 5/4 c:z1 + 5/2 c:z2 >= 1"),
@@ -72,15 +85,24 @@ class Commands(unittest.TestCase):
             self.assertEqual(status, int(said.startswith("rejected")), example)
 
     def test_the_text_of_the_program(self):
-        for example, words in (("extreme_five_pieces", ["extreme", "--proof"]), ("json_minimal", ["minimal", "--json"]), ("times_2_1", ["times", "2", "1"]), ("demo_50", ["demo", "50"])):
+        for example, words in (
+            ("extreme_five_pieces", ["extreme", "--proof"]),
+            ("json_minimal", ["minimal", "--json"]),
+            ("times_2_1", ["times", "2", "1"]),
+            ("demo_50", ["demo", "50"]),
+        ):
             files = [] if words[0] == "demo" else [f"{example}/input"]
             status, said, _ = front(*words, *files)
-            self.assertEqual((status, said), (0, (EXAMPLES / example / "output").read_text()), example)
+            self.assertEqual(
+                (status, said), (0, (EXAMPLES / example / "output").read_text()), example
+            )
 
     def test_standard_input(self):
         text = (EXAMPLES / "breaks_minimal/input").read_text()
         for words in (["minimal"], ["minimal", "-"]):
-            self.assertEqual(front(*words, text=text)[:2], (0, front("minimal", "breaks_minimal/input")[1]))
+            self.assertEqual(
+                front(*words, text=text)[:2], (0, front("minimal", "breaks_minimal/input")[1])
+            )
 
     def test_a_rule_beside_the_tableau(self):
         with tempfile.TemporaryDirectory() as folder:
@@ -88,16 +110,27 @@ class Commands(unittest.TestCase):
             table.write_text("basic,rhs,x1,s1\nx0,8/5,7/5,-1/5\n")
             expected = "x0: 2/3 x1 + 1/2 s1 >= 1\n"
             self.assertEqual(front("cut", "--rule", "gmic", str(table)), (0, expected, ""))
-            self.assertEqual(front("cut", "--rule", "breaks_minimal/input", str(table)), (0, expected, ""))
+            self.assertEqual(
+                front("cut", "--rule", "breaks_minimal/input", str(table)), (0, expected, "")
+            )
 
     def test_many_files_give_the_worst_status_and_a_count(self):
-        files = ["extreme_five_pieces/input", "not_extreme_six_pieces/input", "breaks_place/input", "no_such_file"]
+        files = [
+            "extreme_five_pieces/input",
+            "not_extreme_six_pieces/input",
+            "breaks_place/input",
+            "no_such_file",
+        ]
         status, said, errors = front("extreme", "--progress", *files)
         self.assertEqual(status, 4)
-        self.assertEqual(said.splitlines()[-1], "4 files: 1 extreme, 1 not extreme, 1 refused, 1 not read")
+        self.assertEqual(
+            said.splitlines()[-1], "4 files: 1 extreme, 1 not extreme, 1 refused, 1 not read"
+        )
         self.assertIn("3 of 4 files", errors)
         self.assertEqual(front("extreme", *files[:3])[0], 3)
-        self.assertEqual(front("check", "check_extreme/input", "check_minimal_rejected/input")[0], 1)
+        self.assertEqual(
+            front("check", "check_extreme/input", "check_minimal_rejected/input")[0], 1
+        )
 
     def test_a_refusal_has_the_line_the_place_and_a_sentence(self):
         status, said, _ = front("minimal", "breaks_descending/input")
@@ -114,11 +147,20 @@ class Commands(unittest.TestCase):
             self.assertIn(command, said)
             self.assertEqual(front(command, "--help")[0], 0)
         status, said, _ = front("--version")
-        self.assertEqual((status, [line.split()[0] for line in said.splitlines()]), (0, ["gjcut", "commit", "kit", "library"]))
+        self.assertEqual(
+            (status, [line.split()[0] for line in said.splitlines()]),
+            (0, ["gjcut", "commit", "kit", "library"]),
+        )
 
     def test_without_a_library_there_is_a_sentence(self):
         environment = {**os.environ, "PYTHONPATH": str(PACKAGES), "GJCUT_LIBRARY": "/no/such/file"}
-        done = subprocess.run([sys.executable, "-m", "gjcut", "demo", "1"], env=environment, capture_output=True, text=True, check=False)
+        done = subprocess.run(
+            [sys.executable, "-m", "gjcut", "demo", "1"],
+            env=environment,
+            capture_output=True,
+            text=True,
+            check=False,
+        )
         self.assertEqual((done.returncode, done.stdout, done.stderr.count("\n")), (14, "", 1))
 
     def test_explain(self):

@@ -35,7 +35,10 @@ class Refusals(unittest.TestCase):
             refuse(0)
         except gjcut.Refused as refused:
             again = pickle.loads(pickle.dumps(refused))
-        self.assertEqual((again.status, again.reason, again.line, again.place), (3, "bad-f", 2, gjcut.Place("family")))
+        self.assertEqual(
+            (again.status, again.reason, again.line, again.place),
+            (3, "bad-f", 2, gjcut.Place("family")),
+        )
 
     def test_a_refusal_in_a_worker_reaches_its_pool(self):
         with multiprocessing.get_context("spawn").Pool(2) as pool:
@@ -43,13 +46,20 @@ class Refusals(unittest.TestCase):
                 pool.map_async(refuse, [0]).get(60)
 
     def test_the_place_of_a_breakpoint(self):
-        self.assertEqual(self.place_of(gjcut.by_breakpoints, "3/5", [*GMIC, ("3/5", 0)]), ("points[2]", "break"))
+        self.assertEqual(
+            self.place_of(gjcut.by_breakpoints, "3/5", [*GMIC, ("3/5", 0)]), ("points[2]", "break")
+        )
         self.assertEqual(self.place_of(gjcut.by_breakpoints, "7/5", GMIC), ("f", "place"))
         self.assertEqual(self.place_of(gjcut.by_breakpoints, "3/5", []), ("points", "form"))
-        self.assertEqual(self.place_of(gjcut.by_breakpoints, "3/5", [(0, 0), ("3/5", 1, 0)]), ("points[1]", "form"))
+        self.assertEqual(
+            self.place_of(gjcut.by_breakpoints, "3/5", [(0, 0), ("3/5", 1, 0)]),
+            ("points[1]", "form"),
+        )
 
     def test_the_place_of_a_value(self):
-        self.assertEqual(self.place_of(gjcut.by_values, "1/2", [0, 2**20 + 1]), ("values[1]", "large"))
+        self.assertEqual(
+            self.place_of(gjcut.by_values, "1/2", [0, 2**20 + 1]), ("values[1]", "large")
+        )
         self.assertEqual(self.place_of(gjcut.by_values, "1/3", [0, 1]), ("f", "place"))
         self.assertEqual(self.place_of(gjcut.by_values, "1/2", [0] * 1001), ("values", "order"))
 
@@ -61,11 +71,22 @@ class Refusals(unittest.TestCase):
         self.assertEqual(cut(["a", "b c"], good), ("columns[1]", "name"))
         self.assertEqual(cut(["a", 'b"c'], good), ("columns[1]", "name"))
         self.assertEqual(cut(["a", "a"], good), ("columns[1]", "twice"))
-        self.assertEqual(cut(["a", "b"], good, ("x0", 0, [0, 0])), ("rows[1], the name 'x0'", "twice"))
-        self.assertEqual(cut(["a", "b"], good, ("x1", 0, [0])), ("rows[1], 1 entries for 2 columns", "fields"))
-        self.assertEqual(cut(["a", "b"], good, ("x1", 0, [0, 2**31 + 1])), ("rows[1], 'b'", "large"))
-        self.assertEqual(cut(["a", "b"], good, ("x1", 0, ["1/65536", "1/65537"])), ("rows[1], 'b'", "fine"))
-        self.assertEqual(cut(["a", "b"], good, ("x1", Fraction(1, 2**127), [0, 0])), ("rows[1], the right side", "number"))
+        self.assertEqual(
+            cut(["a", "b"], good, ("x0", 0, [0, 0])), ("rows[1], the name 'x0'", "twice")
+        )
+        self.assertEqual(
+            cut(["a", "b"], good, ("x1", 0, [0])), ("rows[1], 1 entries for 2 columns", "fields")
+        )
+        self.assertEqual(
+            cut(["a", "b"], good, ("x1", 0, [0, 2**31 + 1])), ("rows[1], 'b'", "large")
+        )
+        self.assertEqual(
+            cut(["a", "b"], good, ("x1", 0, ["1/65536", "1/65537"])), ("rows[1], 'b'", "fine")
+        )
+        self.assertEqual(
+            cut(["a", "b"], good, ("x1", Fraction(1, 2**127), [0, 0])),
+            ("rows[1], the right side", "number"),
+        )
 
     def test_a_name_with_blanks_at_its_ends_is_not_changed(self):
         with self.assertRaisesRegex(ValueError, r"columns\[0\].*blank"):
@@ -85,7 +106,9 @@ class Arguments(unittest.TestCase):
                 call()
 
     def test_numbers_of_each_kind(self):
-        self.assertEqual(gjcut.family("gmic", Decimal("0.25")), gjcut.family("gmic", Fraction(1, 4)))
+        self.assertEqual(
+            gjcut.family("gmic", Decimal("0.25")), gjcut.family("gmic", Fraction(1, 4))
+        )
         self.assertEqual(gjcut.family("gmic", Decimal("2.5E-1")), gjcut.family("gmic", "1/4"))
         with self.assertRaisesRegex(ValueError, "'1/0' is no fraction"):
             gjcut.by_breakpoints("1/0", GMIC)
@@ -121,14 +144,23 @@ class Halves(unittest.TestCase):
 
     def test_functions_are_equal_however_they_were_written(self):
         function = gjcut.family("gmic", "3/5")
-        for other in (gjcut.by_breakpoints("3/5", GMIC), gjcut.by_breakpoints("3/5", [(0, 0), ("1/5", "1/3"), ("3/5", 1)]), gjcut.fill(function)):
+        for other in (
+            gjcut.by_breakpoints("3/5", GMIC),
+            gjcut.by_breakpoints("3/5", [(0, 0), ("1/5", "1/3"), ("3/5", 1)]),
+            gjcut.fill(function),
+        ):
             self.assertEqual(function, other)
             self.assertEqual(hash(function), hash(other))
         self.assertNotEqual(function, gjcut.family("gmic", "2/5"))
 
 
 class Help(unittest.TestCase):
-    CODE = "import gjcut\ntry:\n    gjcut.call('show')\nexcept gjcut.LibraryMissing as missing:\n    print(missing)"
+    CODE = """import gjcut
+try:
+    gjcut.call("show")
+except gjcut.LibraryMissing as missing:
+    print(missing)
+"""
 
     def test_each_call_says_what_it_does(self):
         for name in gjcut.__all__:
@@ -142,18 +174,35 @@ class Help(unittest.TestCase):
         self.assertTrue("get_context" in (TOP / "docs/library.md").read_text())
 
     def test_a_missing_library_is_said_in_a_sentence(self):
-        environment = {**os.environ, "GJCUT_LIBRARY": "/no/such/file", "PYTHONPATH": str(Path(gjcut.__file__).parents[1])}
-        done = subprocess.run([sys.executable, "-c", self.CODE], env=environment, capture_output=True, text=True, check=False)
+        packages = str(Path(gjcut.__file__).parents[1])
+        environment = {**os.environ, "GJCUT_LIBRARY": "/no/such/file", "PYTHONPATH": packages}
+        done = subprocess.run(
+            [sys.executable, "-c", self.CODE],
+            env=environment,
+            capture_output=True,
+            text=True,
+            check=False,
+        )
         self.assertEqual((done.returncode, done.stderr), (0, ""))
         self.assertIn("there is no file /no/such/file", done.stdout)
 
     def test_a_repository_without_a_library_says_what_to_do(self):
         with tempfile.TemporaryDirectory() as folder:
-            shutil.copytree(Path(gjcut.__file__).parent, Path(folder) / "python/gjcut", ignore=shutil.ignore_patterns("*.so"))
+            shutil.copytree(
+                Path(gjcut.__file__).parent,
+                Path(folder) / "python/gjcut",
+                ignore=shutil.ignore_patterns("*.so"),
+            )
             (Path(folder) / "crates/gj_library").mkdir(parents=True)
             environment = {**os.environ, "PYTHONPATH": str(Path(folder) / "python")}
             environment.pop("GJCUT_LIBRARY", None)
-            done = subprocess.run([sys.executable, "-c", self.CODE], env=environment, capture_output=True, text=True, check=False)
+            done = subprocess.run(
+                [sys.executable, "-c", self.CODE],
+                env=environment,
+                capture_output=True,
+                text=True,
+                check=False,
+            )
         self.assertEqual((done.returncode, done.stderr), (0, ""))
         self.assertIn("tools/install", done.stdout)
 
@@ -172,10 +221,12 @@ class Room(unittest.TestCase):
         self.assert_room("show --json", f"gj-function 1\norder 1000\nf 1/2\n{values}end\n")
         name = "x" * 250
         columns = ",".join(f"c:{name}{i}" for i in range(10))
-        row = ",".join(["2147483647"] + [f"{2**31 * (2**31 - 2) - i}/{2**31 - 1}" for i in range(9)])
+        row = ",".join(
+            ["2147483647"] + [f"{2**31 * (2**31 - 2) - i}/{2**31 - 1}" for i in range(9)]
+        )
         rows = "".join(f"y{i},-{2**30}/2147483647,{row}\n" for i in range(1000))
         for command in ("cut", "mixed"):
-            for rule in ("gj-rule 1\ngmic\nend\n", "gj-function 2\nf 2146483647/2147483647\npoint 0 0\nend\n"):
+            for rule in ("gj-rule 1\ngmic\nend\n", "gj-function 1\nfamily gmic 1/2\nend\n"):
                 self.assert_room(command, f"{rule}basic,rhs,{columns}\n{rows}")
 
 
@@ -190,7 +241,18 @@ class Page(unittest.TestCase):
             with tempfile.TemporaryDirectory() as folder:
                 source, program = Path(folder) / "mixed.c", Path(folder) / "mixed"
                 source.write_text(sample.replace("x1,c:z1", f"{name},c:z1"))
-                subprocess.run(["cc", f"-I{TOP / 'include'}", str(source), str(library), f"-Wl,-rpath,{library.parent}", "-o", str(program)], check=True)
+                subprocess.run(
+                    [
+                        "cc",
+                        f"-I{TOP / 'include'}",
+                        str(source),
+                        str(library),
+                        f"-Wl,-rpath,{library.parent}",
+                        "-o",
+                        str(program),
+                    ],
+                    check=True,
+                )
                 done = subprocess.run([str(program)], capture_output=True, text=True, check=True)
             first = done.stdout.split()
             self.assertEqual((first[0], first[1][:6]), (name, "0.4166"), length)

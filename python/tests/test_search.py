@@ -46,7 +46,9 @@ class Search(unittest.TestCase):
                 self.assertEqual(pool.map(claim, self.given, chunksize=10), self.expected)
 
     def test_functions_and_verdicts_go_between_processes(self):
-        functions = [gjcut.by_values("1/2", [0, "2/3", "1/3", 1, "1/3", "2/3"]), gjcut.family("gmic", "3/5")]
+        functions = [
+            gjcut.by_values("1/2", [0, "2/3", "1/3", 1, "1/3", "2/3"]), gjcut.family("gmic", "3/5")
+        ]
         functions.append((functions[0] + gjcut.family("gmic", "1/2")) / 2)
         with multiprocessing.get_context("spawn").Pool(2) as pool:
             found = pool.map_async(verdict, functions).get(60)
