@@ -14,21 +14,9 @@ mod texts;
 use gj_frac::Frac;
 use gj_shape::Shape;
 use std::alloc::Global;
-use std::test::Fail;
 
 /// The function with f = 1/2 that is 0 at 0 and has this value at 1/2, and is affine between.
 fn of_order_2(alloc: Global, peak: Frac) -> Option<Shape> {
     let values = [Frac::ratio(0, 1), peak];
     Shape::new(alloc, 2, 1, &values, &values, &values).ok()
-}
-
-/// The fraction n/d.
-fn fraction(n: i128, d: i128) -> Result<Frac, &'static str> {
-    Frac::new(n, d).ok_or("no fraction")
-}
-
-/// The function with f = 1/2 that is 0 at 0 and 1 at 1/2, and affine between.
-fn tent(rt: &HostRuntime) -> Result<Shape, Fail> {
-    let values = [fraction(0, 1)?, fraction(1, 1)?];
-    Ok(Shape::new(rt.alloc(), 2, 1, &values, &values, &values)?)
 }
