@@ -19,7 +19,8 @@ use std::alloc::Global;
 ///
 /// Ok exactly if every rule holds; else the line and the rule of the first that fails. `Memory` may come in place of
 /// either if the claim is about cuts, or says that a function is extreme or not extreme, and never for another claim,
-/// whose check takes no memory.
+/// whose check takes no memory. It says that memory ran out, or that a line of the proof has a
+/// number from 2^64 on, so that its text fits no memory.
 ///
 /// ```rust
 /// let proof = read_proof(alloc, text)?;

@@ -9,11 +9,11 @@ use crate::cover_lines::{Covered, components_by};
 use crate::faults::CheckFault;
 use crate::minimality::is_minimal;
 use crate::rules::CheckRule;
+use gj_check_groups::{GroupRule, failure_in_groups};
 use gj_proof::{
     CLAIM_LINE, Numbers, PivotRow, first_group_line, line_behind_covers, line_behind_group,
     line_below,
 };
-use gj_check_groups::{GroupRule, failure_in_groups};
 use gj_shape::{CoverLine, Shape};
 use std::alloc::{AllocError, Global};
 

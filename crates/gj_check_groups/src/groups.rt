@@ -15,7 +15,9 @@ use gj_shape::{List, Shape};
 use std::alloc::{AllocError, Global};
 
 /// The first rule that fails on the groups of a proof that a function is extreme by rows of these numbers, of the rules `row`,
-/// `reduce`, `size` and `pivot`; none if all hold. An error says that memory ran out. `component` has the component of each interval, and `count` is the number of components.
+/// `reduce`, `size` and `pivot`; none if all hold. An error says that memory ran out, or that a
+/// line of the groups has a number from 2^64 on, so that their text fits no memory. `component` has
+/// the component of each interval, and `count` is the number of components.
 pub fn failure_in_groups(
     alloc: Global,
     numbers: Numbers,

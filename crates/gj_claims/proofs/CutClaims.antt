@@ -23,7 +23,7 @@ use Rattle.gj_proof.specs.declared.cut.CutTerm.{CutTerm}
 use Rattle.gj_check.specs.CutRows.{MeetTerms, MeetsCutRow}
 use Rattle.gj_check.proofs.CutDemands.{cuts_meet}
 use Rattle.gj_check.proofs.RulesGiveMeaning.{meaning_of_rules}
-use Rattle.gj_mtext.specs.CutLines.{IsLineFor, IsTermFor}
+use Rattle.gj_claims.specs.CutLines.{IsLineFor, IsTermFor}
 use Rattle.gj_claims.specs.CutClaim.{IsCutClaim}
 use Rattle.gj_claims.specs.CutRules.{PassesTests}
 

@@ -1,1 +1,2 @@
 pub mod CutClaims
+pub mod CutLines

@@ -8,7 +8,7 @@ use Rattle.gj_proof.specs.declared.claim.Claim.{Claim}
 use Rattle.gj_proof.specs.declared.claim.Claim.TheVariants.{Cut}
 use Rattle.gj_proof.specs.declared.cut.CutLine.{CutLine}
 use Rattle.gj_proof.specs.declared.cut.CutRule.{CutRule}
-use Rattle.gj_mtext.specs.CutLines.{IsLineFor}
+use Rattle.gj_claims.specs.CutLines.{IsLineFor}
 
 -- the claim has a line for each row, in their order; each cut holds at every solution of its row, and every rule of the checker holds
 -- of the claim

@@ -1,3 +1,4 @@
 pub mod CutClaim
+pub mod CutLines
 pub mod CutRules
 pub mod MinimalityClaim

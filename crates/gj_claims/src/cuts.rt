@@ -5,7 +5,7 @@ ghost use Rattle.gj_proof.specs.ProofText.{IsBounded};
 ghost use Rattle.gj_claims.specs.CutClaim.{IsCutClaim};
 ghost use Rattle.gj_claims.specs.CutRules.{PassesTests};
 
-use gj_mtext::cut_lines;
+use crate::lines::cut_lines;
 use gj_proof::{Claim, CutRule, Proof};
 use gj_row::Tableau;
 use gj_shape::List;

@@ -6,6 +6,7 @@
 #![tactic(auto)]
 
 mod cuts;
+mod lines;
 mod minimality;
 mod rule;
 

@@ -1,11 +1,9 @@
 //! The limits of the slack in one square of the complex.
 ghost use Rattle.std.specs.Prelude.{◌≡◌, ◌<◌, ◌^◌, length, get_or, pos, unsigned_abs};
-ghost use Rattle.gj_shape.specs.FunctionData.{at};
 ghost use Rattle.gj_shape.specs.Faces.{corners_of, slack_from};
-ghost use Rattle.gj_shape.specs.Limits.{IsNumerator};
 ghost use Rattle.gj_complex.specs.Bounds.{AreNumerators};
 
-use gj_shape::{FaceKind, Shape, wrapped};
+use gj_shape::{FaceKind, Shape};
 
 /// The numbers that the limits of the slack in one square are made of, over the function's common denominator.
 #[derive(Clone, Copy, Debug, PartialEq, Eq)]
@@ -42,22 +40,19 @@ impl Square {
         requires second { b < shape.now.order }
         ensures { HasLimits result shape.now a b }
     {
-        let order = shape.order();
-        let sum = wrapped(a + b, order);
-        let next = wrapped(sum + 1, order);
         Square {
-            right_first: right_at(shape, a),
-            value_first: value_at(shape, a),
-            left_first: left_at(shape, wrapped(a + 1, order)),
-            right_second: right_at(shape, b),
-            value_second: value_at(shape, b),
-            left_second: left_at(shape, wrapped(b + 1, order)),
-            value_sum: value_at(shape, sum),
-            right_sum: right_at(shape, sum),
-            left_next: left_at(shape, next),
-            value_next: value_at(shape, next),
-            right_next: right_at(shape, next),
-            left_last: left_at(shape, wrapped(next + 1, order)),
+            right_first: shape.right_numerator(a),
+            value_first: shape.value_numerator(a),
+            left_first: shape.left_numerator(a + 1),
+            right_second: shape.right_numerator(b),
+            value_second: shape.value_numerator(b),
+            left_second: shape.left_numerator(b + 1),
+            value_sum: shape.value_numerator(a + b),
+            right_sum: shape.right_numerator(a + b),
+            left_next: shape.left_numerator(a + b + 1),
+            value_next: shape.value_numerator(a + b + 1),
+            right_next: shape.right_numerator(a + b + 1),
+            left_last: shape.left_numerator(a + b + 1 + 1),
         }
     }
 
@@ -93,31 +88,4 @@ impl Square {
             (FaceKind::Upper, _) => (self.left_first, self.left_second, self.left_last),
         }
     }
-}
-
-/// The limit from the left at an index below the order, times the common denominator.
-fn left_at(shape: &Shape, index: u32) -> i64
-    requires { index < shape.now.order }
-    ensures value { result ≡ at shape.now.left index }
-    ensures small { IsNumerator result }
-{
-    shape.left_numerators()[index as usize]
-}
-
-/// The value at an index below the order, times the common denominator.
-fn value_at(shape: &Shape, index: u32) -> i64
-    requires { index < shape.now.order }
-    ensures value { result ≡ at shape.now.value index }
-    ensures small { IsNumerator result }
-{
-    shape.value_numerators()[index as usize]
-}
-
-/// The limit from the right at an index below the order, times the common denominator.
-fn right_at(shape: &Shape, index: u32) -> i64
-    requires { index < shape.now.order }
-    ensures value { result ≡ at shape.now.right index }
-    ensures small { IsNumerator result }
-{
-    shape.right_numerators()[index as usize]
 }

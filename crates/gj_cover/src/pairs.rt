@@ -1,7 +1,7 @@
 //! The table of the tight pairs of a function.
-ghost use Rattle.std.specs.Prelude.{ℕ, ℤ, pos, ◌≡◌, ◌↔◌, ◌+◌, ◌-◌, ◌<◌, ◌^◌, ◌+ℤ◌, length, IfOk, IsTrue, unsigned_abs};
+ghost use Rattle.std.specs.Prelude.{ℕ, ℤ, pos, ◌≡◌, ◌↔◌, ◌+◌, ◌-◌, ◌<◌, ◌+ℤ◌, length, IfOk, IsTrue};
 ghost use Rattle.gj_shape.specs.Additive.{IsTight};
-ghost use Rattle.gj_shape.specs.FunctionData.{at, IsWithinBounds};
+ghost use Rattle.gj_shape.specs.FunctionData.{at};
 ghost use Rattle.gj_faces.specs.TightPairs.{AreTightPairsOf};
 ghost use Rattle.gj_cover.specs.Mirrored.{AreMirrored};
 ghost use Rattle.gj_cover.specs.SetRows.{in_row};
@@ -10,7 +10,7 @@ ghost use Rattle.gj_cover.specs.Table.{TellsTight};
 use crate::table::Table;
 use gj_faces::TightPairs;
 use gj_sets::IndexSet;
-use gj_shape::{Shape, wrapped};
+use gj_shape::Shape;
 use std::alloc::{AllocError, Global};
 
 /// The table of the tight pairs of a function.
@@ -57,36 +57,21 @@ fn copied_rows(
 fn is_mirrored(shape: &Shape) -> bool
     ensures { IsTrue result → AreMirrored shape.now }
 {
-    let order = shape.order();
-    let place = shape.place();
-    for i in 0..order {
-        let opposite = wrapped(place + (order - i), order);
-        let (value, other) = (value_at(shape, i), value_at(shape, opposite));
-        if !add_up(value, other, shape.common_denominator()) {
+    for i in 0..shape.order() {
+        if !is_mirrored_at(shape, i) {
             return false;
         }
     }
     true
 }
 
-/// The value at i/q, times the common denominator.
-fn value_at(shape: &Shape, i: u32) -> i128
+/// Whether the values at i/q and at f less i/q add up to 1.
+fn is_mirrored_at(shape: &Shape, i: u32) -> bool
     requires { i < shape.now.order }
-    ensures value { result ≡ at shape.now.value i }
-    ensures small { unsigned_abs result < 2 ^ 51 }
-    ensures limits { IsWithinBounds shape.now }
+    ensures { IsTrue result ↔
+        (at shape.now.value i +ℤ at shape.now.value (shape.now.place + (shape.now.order - i)) ≡ pos shape.now.scale) }
 {
-    // the call tells the proofs the bounds of the function
-    let order = shape.order();
-    prove!(i < order);
-    shape.value_num(i)
-}
-
-/// Whether two numerators add up to a third.
-fn add_up(first: i128, second: i128, sum: i128) -> bool
-    requires first { unsigned_abs first < 2 ^ 51 }
-    requires second { unsigned_abs second < 2 ^ 51 }
-    ensures { IsTrue result ↔ (first +ℤ second ≡ sum) }
-{
-    first + second == sum
+    let opposite = shape.place() + (shape.order() - i);
+    let sum = shape.value_numerator(i) + shape.value_numerator(opposite);
+    i128::from(sum) == shape.common_denominator()
 }

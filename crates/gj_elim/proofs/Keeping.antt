@@ -8,9 +8,11 @@ use Rattle.gj_theory.specs.TriangularRows.{Solves, SolvesKept, AreTriangular}
 use Rattle.gj_theory.proofs.Insertions.{inserted_leaves}
 use Rattle.gj_theory.proofs.SoundArithmetic.{whole_sound, both_ways}
 use Rattle.gj_elim.specs.declared.log.LogRow.{LogRow}
+use Rattle.gj_elim.specs.declared.log.Inserted.{Inserted}
+use Rattle.gj_elim.specs.declared.log.Inserted.TheVariants.{Pivot, Nothing}
 use Rattle.gj_frac.specs.Fraction.{Fits}
 use Rattle.gj_elim.specs.Data.{BasisData, behind_by}
-use Rattle.gj_elim.specs.KeptRows.{kept_rows, log_row}
+use Rattle.gj_elim.specs.KeptRows.{kept_rows, log_row, answer_of}
 use Rattle.gj_elim.specs.Progress.{IsLeft, kept_at}
 
 -- ---- the log beside the entries
@@ -101,6 +103,39 @@ solutions_from b d row w kept same h columns is =
     let at : (SolvesKept w kept ↔ (SolvesKept w b.kept × Solves w row)) =
     subst (λ (ks : List KeptRow). (SolvesKept w ks ↔ (SolvesKept w b.kept × Solves w row))) (sym is.kept_is) both in
     subst (λ (x : BasisData). (SolvesKept w kept ↔ (SolvesKept w x.kept × Solves w row))) same at
+
+-- ---- what is told of an insertion
+
+-- the basis `d`, also told as `b`, becomes one with these kept rows, and this is the answer
+pub record IsInserted (by : Arithmetic) (b d : BasisData) (row : List ℤ) (ks : List KeptRow) (a : Inserted) : Type 0 where
+  pub rows : AreBehind by b row ks
+  pub kept : record { columns = b.columns; inserted = b.inserted + 1; kept = ks } ≡ behind_by by d row
+  pub answer : a ≡ answer_of (inserted_by by d.columns d.kept row).kept
+
+inserted_so : (by : Arithmetic) (b d : BasisData) (row : List ℤ) (kept : List KeptRow) (o : Option (ℕ × List ℤ)) → b ≡ d →
+    AreBehind by b row kept → (inserted_by by b.columns b.kept row).kept ≡ o → IsInserted by b d row kept (answer_of o)
+inserted_so by b d row kept o same h is = record {
+  rows = h;
+  kept = behind_from by b d row kept same h;
+  answer = ap answer_of (sym is) ∙ ap (λ (x : BasisData). answer_of (inserted_by by x.columns x.kept row).kept) same;
+}
+
+-- nothing that is left is kept
+pub nothing_inserted : (by : Arithmetic) (b d : BasisData) (row left : List ℤ) (reduce : List ℕ) (o : Option ℕ) → b ≡ d →
+    IsLeft by (inserted_by by b.columns b.kept row) o left reduce → kept_at by o left ≡ None → IsInserted by b d row b.kept Nothing
+nothing_inserted by b d row left reduce o same h none =
+    inserted_so by b d row b.kept None same (nothing_kept by b row left reduce o h none) (h.kept_is ∙ none)
+
+-- or it is, behind the rows so far
+pub row_inserted : (by : Arithmetic) (b d : BasisData) (row left : List ℤ) (reduce : List ℕ) (o : Option ℕ) (log log' : List LogRow)
+    (rows rows' : List (List ℤ)) (l : LogRow) (r : List ℤ) → b ≡ d →
+    IsLeft by (inserted_by by b.columns b.kept row) o left reduce → o ≡ Some l.pivot → b.kept ≡ kept_rows log rows →
+    length log ≡ length rows → log' ≡ log ++ l ∷ [] → rows' ≡ rows ++ r ∷ [] → l.number ≡ b.inserted → l.reduce ≡ reduce →
+    by.keep left l.pivot ≡ Some r → IsInserted by b d row (kept_rows log' rows') (Pivot l.pivot)
+row_inserted by b d row left reduce o log log' rows rows' l r same h some kept_is lines log_is rows_is number_is reduce_is r_is =
+    inserted_so by b d row (kept_rows log' rows') (Some (l.pivot, r)) same
+    (row_kept by b row left reduce o log log' rows rows' l r h some kept_is lines log_is rows_is number_is reduce_is r_is)
+    (h.kept_is ∙ ap (λ x. kept_at by x left) some ∙ ap (λ xs. with_pivot l.pivot xs) r_is)
 
 -- ---- the rest of the invariant
 

@@ -1,18 +1,26 @@
 -- The breakpoints of a fill-in ascend from 0 and lie below 1.
-use Rattle.std.proofs.Common.{◌≡◌, ℕ, zero, suc, ◌+◌, ◌<◌, Bool, true, false, ◌&&◌, cond, ℤ, pos, ◌+ℤ◌, ◌*ℤ◌, ◌<ℤ◌, neg_ℤ, int_lt, List, [], ◌∷◌, ◌++◌, flat_map, refl, ap, subst, ◌∙◌, append_assoc, arith}
+use Rattle.std.proofs.Common.{◌≡◌, ℕ, zero, suc, ◌+◌, ◌<◌, Bool, true, false, ◌&&◌, cond, ℤ, pos, ◌+ℤ◌, ◌*ℤ◌, ◌<ℤ◌, neg_ℤ, int_lt, List, [], ◌∷◌, ◌++◌, map, flat_map, refl, ap, subst, ◌∙◌, append_assoc, arith}
 use Rattle.std.specs.List.{range_with_len, AllZip}
 use Rattle.std.proofs.lemmas.Int.{ints}
 use Rattle.gj_lemmas.proofs.Integers.{mul_positive_z, mul_le_mul_right_z, zero_factor_z, mul_comm_z}
 use Rattle.gj_lemmas.proofs.Ratios.{ratio_less}
 use Rattle.gj_lemmas.proofs.Ring.{by_ring, ring}
 use Rattle.gj_frac.specs.declared.Frac.{Frac}
-use Rattle.gj_frac.specs.Fraction.{LessValue, IsRatio, IsInside, fraction_of}
+use Rattle.gj_frac.specs.Fraction.{LessValue, SameValue, IsRatio, IsInside, fraction_of}
 use Rattle.gj_shape.specs.Breaks.{AreAscending}
 use Rattle.gj_shape.specs.FunctionData.{FunctionData, at}
 use Rattle.gj_shape.specs.TwoSlopes.{rise}
 use Rattle.gj_shape.specs.declared.breaks.Break.{Break}
-use Rattle.gj_fill.specs.FillPoints.{GraphPoint, IsBreakAt, value_point, crossing_point, points_from}
+use Rattle.gj_fill.specs.FillPoints.{GraphPoint, IsPairOf, value_point, crossing_point, points_from, fill_points}
 use Rattle.gj_fill.proofs.FillPoints.{EachNext, next_at}
+
+-- the pair as a breakpoint
+abbrev pub even_break : Frac × Frac → Break
+even_break pair = record { x = pair.0; left = pair.1; value = pair.1; right = pair.1 }
+
+-- the breakpoint lies where the point does
+abbrev IsPlacedAt : GraphPoint → Break → Type 0
+IsPlacedAt p b = SameValue (fraction_of b.x) p.x
 
 -- c is behind b, and below 1
 abbrev IsBehind : Break → Break → Type 0
@@ -116,7 +124,7 @@ inside_from_ratio x k q some low h =
 
 -- the points behind a/order are at the first breakpoints of the list
 climbs : (f : FunctionData) (s t : ℤ) (a n : ℕ) (breaks : List Break) → a + n ≡ f.order →
-    AllZip IsBreakAt (flat_map (points_from f s t) (range_with_len a n)) breaks → Climbs f.order a breaks
+    AllZip IsPlacedAt (flat_map (points_from f s t) (range_with_len a n)) breaks → Climbs f.order a breaks
 climbs f s t a zero [] end h = record { first = λ b rest e. absurd (cc); chain = tt }
 climbs f s t a zero (b ∷ breaks) end h = absurd h
 climbs f s t a (suc n) breaks end h =
@@ -128,20 +136,20 @@ climbs f s t a (suc n) breaks end h =
     low : a < f.order
     low = omega arith
 
-    by_tests : ((more : List Break) → AllZip IsBreakAt rest more → Climbs f.order (a + 1) more) → (x y : Bool) → int_lt (neg_ℤ t) (rise f a) ≡ x → int_lt (rise f a) s ≡ y → (breaks : List Break) →
-        AllZip IsBreakAt (cond (x && y) (value_point f a ∷ crossing_point f s t a ∷ []) (value_point f a ∷ []) ++ rest) breaks →
+    by_tests : ((more : List Break) → AllZip IsPlacedAt rest more → Climbs f.order (a + 1) more) → (x y : Bool) → int_lt (neg_ℤ t) (rise f a) ≡ x → int_lt (rise f a) s ≡ y → (breaks : List Break) →
+        AllZip IsPlacedAt (cond (x && y) (value_point f a ∷ crossing_point f s t a ∷ []) (value_point f a ∷ []) ++ rest) breaks →
         Climbs f.order a breaks
     by_tests later true true e g [] k = absurd k
     by_tests later true true e g (b ∷ []) k = absurd (k.1)
     by_tests later true true e g (b ∷ c ∷ more) k =
-        climb_two f.order a (rise f a +ℤ t) (s +ℤ t) b c more low (omega (arith, ints)) (omega (arith, ints)) k.0.x k.1.0.x (later more k.1.1)
+        climb_two f.order a (rise f a +ℤ t) (s +ℤ t) b c more low (omega (arith, ints)) (omega (arith, ints)) k.0 k.1.0 (later more k.1.1)
     by_tests later true false e g [] k = absurd k
-    by_tests later true false e g (b ∷ more) k = climb_one f.order a b more low k.0.x (later more k.1)
+    by_tests later true false e g (b ∷ more) k = climb_one f.order a b more low k.0 (later more k.1)
     by_tests later false y e g [] k = absurd k
-    by_tests later false y e g (b ∷ more) k = climb_one f.order a b more low k.0.x (later more k.1)
+    by_tests later false y e g (b ∷ more) k = climb_one f.order a b more low k.0 (later more k.1)
 
-pub fill_breaks_ascend : (f : FunctionData) (s t : ℤ) (n : ℕ) (breaks : List Break) → 0 < f.order → n ≡ f.order →
-    AllZip IsBreakAt (flat_map (points_from f s t) (range_with_len 0 n)) breaks → AreAscending breaks
+fill_breaks_ascend : (f : FunctionData) (s t : ℤ) (n : ℕ) (breaks : List Break) → 0 < f.order → n ≡ f.order →
+    AllZip IsPlacedAt (flat_map (points_from f s t) (range_with_len 0 n)) breaks → AreAscending breaks
 fill_breaks_ascend f s t n breaks some end are front b back place =
     let all = climbs f s t 0 n breaks (omega arith) are in
     record {
@@ -154,3 +162,15 @@ fill_breaks_ascend f s t n breaks some end are front b back place =
           place ∙ ap (λ ps. ps ++ b ∷ back) split ∙ append_assoc before (c ∷ []) (b ∷ back) in
           next_at IsBehind before c b back (subst (EachNext IsBehind) whole all.chain);
     }
+
+placed : (points : List GraphPoint) (pairs : List (Frac × Frac)) → AllZip IsPairOf points pairs →
+    AllZip IsPlacedAt points (map even_break pairs)
+placed [] [] h = tt
+placed [] (pair ∷ pairs) h = absurd h
+placed (p ∷ points) [] h = absurd h
+placed (p ∷ points) (pair ∷ pairs) h = (h.0.x, placed points pairs h.1)
+
+pub fill_points_ascend : (f : FunctionData) (s t : ℤ) (pairs : List (Frac × Frac)) → 0 < f.order →
+    AllZip IsPairOf (fill_points f s t) pairs → AreAscending (map even_break pairs)
+fill_points_ascend f s t pairs some h =
+    fill_breaks_ascend f s t f.order (map even_break pairs) some refl (placed (fill_points f s t) pairs h)

@@ -3,6 +3,7 @@ pub mod FillLines
 pub mod FillPoints
 pub mod Extremes
 pub mod FirstPairs
-pub mod FillBreaks
+pub mod FillPairs
 pub mod Ascending
 pub mod FilledValues
+pub mod WholeFillIn

@@ -1,11 +1,11 @@
 -- The points between which the fill-in of a continuous function is affine (Gomory and Johnson 1972).
-use Rattle.std.specs.Prelude.{ℕ, ℤ, pos, ◌≡◌, ◌⊎◌, ◌*◌, ◌<◌, ◌≤ℤ◌, ◌+ℤ◌, ◌*ℤ◌, neg_ℤ, int_lt, ◌&&◌, if◌then◌else◌, List, [], ◌∷◌, flat_map}
+use Rattle.std.specs.Prelude.{ℕ, ℤ, pos, ◌≡◌, ◌⊎◌, ◌*◌, ◌<◌, ◌+ℤ◌, ◌*ℤ◌, neg_ℤ, int_lt, ◌&&◌, if◌then◌else◌, List, [], ◌∷◌, ◌++◌, flat_map}
 use Rattle.std.specs.List.{range_with_len, AllZip}
+use Rattle.gj_frac.specs.declared.Frac.{Frac}
 use Rattle.gj_frac.specs.Fraction.{Fraction, SameValue, difference_of, product_of, fraction_of, AtMostValue}
 use Rattle.gj_shape.specs.FunctionData.{FunctionData, at}
 use Rattle.gj_shape.specs.TwoSlopes.{rise}
-use Rattle.gj_shape.specs.declared.breaks.Break.{Break}
-use Rattle.gj_fill.specs.FillIn.{filled, AreGreatestSteps}
+use Rattle.gj_fill.specs.FillIn.{filled, AreGreatestSteps, IsSubadditiveTable}
 
 -- a point of the graph
 pub record GraphPoint : Type 0 where
@@ -57,18 +57,25 @@ HasFillSlope f s t p q =
     GoesAlong f s t (record { top = pos f.order *ℤ s; bottom = pos f.scale }) p q
     ⊎ GoesAlong f s t (record { top = neg_ℤ (pos f.order *ℤ t); bottom = pos f.scale }) p q
 
--- ---- the points as breakpoints
+-- what holds of a fill-in, whose lines rise by s and fall by t: at the multiples of 1/order it is the function; at each two
+-- fractions it is subadditive; and from each of its points to the next, that at 1 behind the last, it is affine, with the slope
+-- order s or -(order t), each over scale
+pub record IsFillIn (f : FunctionData) (s t : ℤ) : Type 0 where
+  pub value : (m a : ℕ) → 0 < m → filled (at f.value) s t m (a * m) ≡ pos m *ℤ at f.value a
+  pub subadditive : (m : ℕ) → 0 < m → IsSubadditiveTable (filled (at f.value) s t m)
+  pub affine : (front : List GraphPoint) (p q : GraphPoint) (back : List GraphPoint) →
+      fill_points f s t ++ value_point f f.order ∷ [] ≡ front ++ p ∷ q ∷ back → HasFillSlope f s t p q
 
--- the breakpoint is this point, and the function is continuous there
-pub record IsBreakAt (p : GraphPoint) (b : Break) : Type 0 where
-  pub x : SameValue (fraction_of b.x) p.x
-  pub value : SameValue (fraction_of b.value) p.y
-  pub left : b.left ≡ b.value
-  pub right : b.right ≡ b.value
+-- ---- the points as pairs of fractions
 
--- the breakpoints are the points of the fill-in of the function
-pub record AreFillBreaks (f : FunctionData) (breaks : List Break) : Type 0 where
+-- the pair tells the point: where it lies, and the value there
+pub record IsPairOf (p : GraphPoint) (pair : Frac × Frac) : Type 0 where
+  pub x : SameValue (fraction_of pair.0) p.x
+  pub value : SameValue (fraction_of pair.1) p.y
+
+-- the pairs are the points of the fill-in of the function
+pub record AreFillPoints (f : FunctionData) (points : List (Frac × Frac)) : Type 0 where
   pub rise : ℤ
   pub fall : ℤ
   pub greatest : AreGreatestSteps (at f.value) rise fall
-  pub points : AllZip IsBreakAt (fill_points f rise fall) breaks
+  pub are_points : AllZip IsPairOf (fill_points f rise fall) points

@@ -1,21 +1,21 @@
 //! The points of the fill-in.
-ghost use Rattle.std.specs.Prelude.{◌≡◌, ◌<◌, ◌≤◌, ◌^◌, ◌++◌, ◌<ℤ◌, ◌+ℤ◌, ◌*ℤ◌, ◌↔◌, neg_ℤ, pos, List, IfOk, IfErr, OnOk, IsTrue, unsigned_abs};
+ghost use Rattle.std.specs.Prelude.{ℤ, ◌≡◌, ◌<◌, ◌≤◌, ◌^◌, ◌++◌, ◌<ℤ◌, ◌+ℤ◌, ◌*ℤ◌, ◌↔◌, neg_ℤ, pos, List, map, IfOk, IfErr, OnOk, IsTrue, unsigned_abs};
 ghost use Rattle.std.specs.List.{AllZip};
+ghost use Rattle.gj_frac.specs.declared.Frac.{Frac};
 ghost use Rattle.gj_frac.specs.Fraction.{IsRatio, IsInside};
 ghost use Rattle.gj_shape.specs.Breaks.{AreAscending};
 ghost use Rattle.gj_shape.specs.FunctionData.{IsWithinBounds, IsContinuous, at};
 ghost use Rattle.gj_shape.specs.TwoSlopes.{rise};
-ghost use Rattle.gj_shape.specs.declared.breaks.Break.{Break};
 ghost use Rattle.gj_fill.specs.Faults.{IsFillFault};
-ghost use Rattle.gj_fill.specs.FillIn.{IsSubadditiveTable};
-ghost use Rattle.gj_fill.specs.FillPoints.{IsBreakAt, AreFillBreaks, value_point, crossing_point, points_from, fill_points};
+ghost use Rattle.gj_fill.specs.FillIn.{AreGreatestSteps, IsSubadditiveTable};
+ghost use Rattle.gj_fill.specs.FillPoints.{IsPairOf, AreFillPoints, IsFillIn, value_point, crossing_point, points_from, fill_points};
 
 use crate::faults::FillFault;
 use crate::pairs::first_pair;
 use crate::steps::{Steps, greatest_steps};
 use crate::values::{rise_at, value_at};
 use gj_frac::Frac;
-use gj_shape::{Break, Shape};
+use gj_shape::{List, Shape};
 use std::alloc::{AllocError, Global};
 
 /// A continuous function that is affine between neighbouring points, and behind the last one goes back to the first, at 1.
@@ -23,8 +23,8 @@ use std::alloc::{AllocError, Global};
 pub struct Filled {
     /// f, between 0 and 1.
     pub f: Frac,
-    /// The points, from 0 up to, not including, 1; at each the limits are the value.
-    pub points: Vec<Break>,
+    /// The points, from 0 up to, not including, 1: where each is, and the value there.
+    pub points: List<(Frac, Frac)>,
 }
 
 /// The two-slope fill-in of a continuous function of order q: with s the greatest rise from one multiple of 1/q to the next and t the
@@ -39,8 +39,11 @@ pub fn fill(alloc: Global, shape: &Shape) -> Result<Filled, FillFault>
     requires { IsContinuous shape.now }
     ensures f { IfOk result (λ g. IsRatio g.f (pos shape.now.place) (pos shape.now.order)) }
     ensures inside { IfOk result (λ g. IsInside g.f) }
-    ensures points { IfOk result (λ g. AreFillBreaks shape.now g.points.items) }
-    ensures ascending { IfOk result (λ g. AreAscending g.points.items) }
+    ensures points { IfOk result (λ g. AreFillPoints shape.now g.points) }
+    ensures ascending { IfOk result (λ g.
+        AreAscending (map (λ p. record { x = p.0; left = p.1; value = p.1; right = p.1 }) g.points)) }
+    // It is the function at the multiples of 1/q, subadditive, and affine between its points.
+    ensures fill_in { IfOk result (λ g. (s t : ℤ) → AreGreatestSteps (at shape.now.value) s t → IsFillIn shape.now s t) }
     ensures subadditive { IfOk result (λ g. IsSubadditiveTable (at shape.now.value)) }
     ensures fault { IfErr result (IsFillFault shape.now) }
 {
@@ -50,23 +53,26 @@ pub fn fill(alloc: Global, shape: &Shape) -> Result<Filled, FillFault>
     let steps = greatest_steps(shape.value_numerators());
     let points = points_of(alloc, shape, steps)?;
     let f = place_of(shape);
-    Ok(Filled { f, points })
+    Ok(Filled {
+        f,
+        points: List::of(points),
+    })
 }
 
 /// f of the function.
 fn place_of(shape: &Shape) -> Frac
     ensures value { IsRatio result (pos shape.now.place) (pos shape.now.order) }
     ensures inside { IsInside result }
+    ensures limits { IsWithinBounds shape.now }
 {
     Frac::ratio(i64::from(shape.place()), shape.order())
 }
 
 /// All points of the fill-in by lines with these steps, from 0 on.
-fn points_of(alloc: Global, shape: &Shape, steps: Steps) -> Result<Vec<Break>, AllocError>
+fn points_of(alloc: Global, shape: &Shape, steps: Steps) -> Result<Vec<(Frac, Frac)>, AllocError>
     requires rise_small { unsigned_abs steps.rise < 2 ^ 52 }
     requires fall_small { unsigned_abs steps.fall < 2 ^ 52 }
-    ensures points { IfOk result (λ points. AllZip IsBreakAt (fill_points shape.now steps.rise steps.fall) points.items) }
-    ensures ascending { IfOk result (λ points. AreAscending points.items) }
+    ensures { IfOk result (λ points. AllZip IsPairOf (fill_points shape.now steps.rise steps.fall) points.items) }
 {
     let mut points = Vec::with_capacity(alloc, 2 * shape.order() as usize)?;
     for a in 0..shape.order() {
@@ -77,7 +83,7 @@ fn points_of(alloc: Global, shape: &Shape, steps: Steps) -> Result<Vec<Break>, A
 
 /// Adds the points from a/q up to the next multiple of 1/q.
 fn push_points(
-    points: &mut Vec<Break>,
+    points: &mut Vec<(Frac, Frac)>,
     shape: &Shape,
     steps: Steps,
     a: u32,
@@ -85,12 +91,12 @@ fn push_points(
     requires within { a < shape.now.order }
     requires rise_small { unsigned_abs steps.rise < 2 ^ 52 }
     requires fall_small { unsigned_abs steps.fall < 2 ^ 52 }
-    ensures { OnOk result ((more : List Break) × AllZip IsBreakAt (points_from shape.now steps.rise steps.fall a) more
+    ensures { OnOk result ((more : List (Frac × Frac)) × AllZip IsPairOf (points_from shape.now steps.rise steps.fall a) more
         × (points.new.items ≡ points.old.items ++ more)) }
 {
-    points.push(value_break(shape, a))?;
+    points.push(pair_at(shape, a))?;
     if crosses(shape, steps, a) {
-        points.push(crossing_break(shape, steps, a))?;
+        points.push(crossing_pair(shape, steps, a))?;
     }
     Ok(())
 }
@@ -114,30 +120,30 @@ fn rise_of(shape: &Shape, a: u32) -> i64
     rise_at(shape.value_numerators(), a)
 }
 
-/// The breakpoint at a/q.
-fn value_break(shape: &Shape, a: u32) -> Break
+/// The point at a/q.
+fn pair_at(shape: &Shape, a: u32) -> (Frac, Frac)
     requires { a < shape.now.order }
-    ensures { IsBreakAt (value_point shape.now a) result }
+    ensures { IsPairOf (value_point shape.now a) result }
 {
     let x = Frac::ratio(i64::from(a), shape.order());
-    even_break(x, shape.value(a))
+    (x, shape.value(a))
 }
 
-/// The breakpoint behind a/q at which the two lines cross.
-fn crossing_break(shape: &Shape, steps: Steps, a: u32) -> Break
+/// The point behind a/q at which the two lines cross.
+fn crossing_pair(shape: &Shape, steps: Steps, a: u32) -> (Frac, Frac)
     requires within { a < shape.now.order }
     requires rise_small { unsigned_abs steps.rise < 2 ^ 52 }
     requires fall_small { unsigned_abs steps.fall < 2 ^ 52 }
     requires above { neg_ℤ steps.fall <ℤ rise shape.now a }
     requires below { rise shape.now a <ℤ steps.rise }
-    ensures { IsBreakAt (crossing_point shape.now steps.rise steps.fall a) result }
+    ensures { IsPairOf (crossing_point shape.now steps.rise steps.fall a) result }
 {
     let width = steps.rise + steps.fall;
     let part = rise_of(shape, a) + steps.fall;
     let x = place_over(shape.order(), a, part, width);
     let value = value_at(shape.value_numerators(), a);
     let scale = shape.common_denominator() as u32;
-    even_break(x, height_over(scale, value, steps.rise, part, width))
+    (x, height_over(scale, value, steps.rise, part, width))
 }
 
 /// Where the lines cross: behind a/q by part/width of the way to the next multiple of 1/q.
@@ -167,18 +173,6 @@ fn height_over(scale: u32, value: i64, rise: i64, part: i64, width: i64) -> Frac
 {
     let height = sum_of_products(value, width, rise, part);
     over_width(height, scale, width)
-}
-
-/// The breakpoint at x where the limits are the value.
-fn even_break(x: Frac, value: Frac) -> Break
-    ensures { result ≡ record { x = x; left = value; value = value; right = value } }
-{
-    Break {
-        x,
-        left: value,
-        value,
-        right: value,
-    }
 }
 
 /// The product of two numbers.

@@ -11,7 +11,7 @@ use Rattle.gj_family.specs.Faults.{HasFamilyFault, HasNoFamilyFault, HasTwoSlope
 use Rattle.gj_family.specs.declared.faults.FamilyFault.{FamilyFault}
 use Rattle.gj_family.specs.declared.faults.FamilyFault.TheVariants as fault
 use Rattle.gj_family.proofs.OneFunction.{one_gmic, one_half_function, one_two_slope}
-use Rattle.gj_function_text.specs.FamilyLine.{Family, gmic, half, two_slope, FamilyWords, gmic_words, half_words, two_slope_words, words_of_line, sign_byte, SpellFamily, BreaksWords, IsOfFamily, HasFamilyFault, IsReasonOf, Names, NamesNone, BreaksFamily, family_rule}
+use Rattle.gj_function_text.specs.FamilyLine.{Family, gmic, half, two_slope, FamilyWords, gmic_words, half_words, two_slope_words, words_of_line, sign_byte, SpellFamily, BreaksWords, IsOfFamily, IsFaultOfFamily, IsReasonOf, Names, NamesNone, BreaksFamily, family_rule}
 use Rattle.gj_function_text.specs.FunctionText.{family_part}
 
 -- ---- words
@@ -136,7 +136,7 @@ no_two_slope_fault k s fault.BadF e none h is = h.2 none.2
 no_two_slope_fault k s fault.NoSlopes e none h is = h.3 none.3
 no_two_slope_fault k s (fault.Memory a) e none h is = is
 
-no_fault : (a : Family) (g : FunctionData) (x : FamilyFault) (e : Reason) → IsOfFamily a g → HasFamilyFault a x → IsReasonOf x e → ⊥
+no_fault : (a : Family) (g : FunctionData) (x : FamilyFault) (e : Reason) → IsOfFamily a g → IsFaultOfFamily a x → IsReasonOf x e → ⊥
 no_fault (gmic f) g x e of h is = no_family_fault f x e of.0 h is
 no_fault (half f) g x e of h is = no_family_fault f x e of.0 h is
 no_fault (two_slope k s) g x e of h is = no_two_slope_fault k s x e of.0 h is
@@ -182,7 +182,7 @@ one_two_slope_reason n s fault.NoSlopes fault.NoSlopes e d h k is is' = is ∙ s
 one_two_slope_reason n s fault.NoSlopes (fault.Memory a) e d h k is is' = absurd is'
 one_two_slope_reason n s (fault.Memory a) y e d h k is is' = absurd is
 
-one_fault_reason : (a : Family) (x y : FamilyFault) (e d : Reason) → HasFamilyFault a x → HasFamilyFault a y → IsReasonOf x e → IsReasonOf y d → e ≡ d
+one_fault_reason : (a : Family) (x y : FamilyFault) (e d : Reason) → IsFaultOfFamily a x → IsFaultOfFamily a y → IsReasonOf x e → IsReasonOf y d → e ≡ d
 one_fault_reason (gmic f) x y e d h k is is' = one_family_reason f x y e d h k is is'
 one_fault_reason (half f) x y e d h k is is' = one_family_reason f x y e d h k is is'
 one_fault_reason (two_slope n s) x y e d h k is is' = one_two_slope_reason n s x y e d h k is is'
@@ -198,7 +198,7 @@ none_one_reason w e d (inl h) (inl k) = one_words_reason w e d h k
 none_one_reason w e d (inl h) (inr (b, y, spelled, k, is)) = absurd (words_not_both w b e spelled h)
 none_one_reason w e d (inr (a, x, spelled, h, is)) (inl k) = absurd (words_not_both w a d spelled k)
 none_one_reason w e d (inr (a, x, spelled, h, is)) (inr (b, y, spelled', k, is')) =
-    one_fault_reason b x y e d (subst (λ (c : Family). HasFamilyFault c x) (one_family w a b spelled spelled') h) k is is'
+    one_fault_reason b x y e d (subst (λ (c : Family). IsFaultOfFamily c x) (one_family w a b spelled spelled') h) k is is'
 
 names_or_none : (w : FamilyWords) (g : FunctionData) (e : Reason) → Names w g → NamesNone w e → ⊥
 names_or_none w g e (a, spelled, of, within) (inl h) = words_not_both w a e spelled h

@@ -9,7 +9,7 @@ use Rattle.gj_family.specs.Families.{IsTwoSlope}
 use Rattle.gj_family.specs.Faults.{HasTwoSlopeFault, HasNoTwoSlopeFault}
 use Rattle.gj_family.specs.declared.faults.FamilyFault.{FamilyFault}
 use Rattle.gj_family.specs.declared.faults.FamilyFault.TheVariants as fault
-use Rattle.gj_function_text.specs.FamilyLine.{Family, two_slope, FamilyWords, gmic_words, half_words, two_slope_words, words_of_line, sign_byte, AreSigns, SpellFamily, HasFamilyFault, IsReasonOf, Names, NamesNone}
+use Rattle.gj_function_text.specs.FamilyLine.{Family, two_slope, FamilyWords, gmic_words, half_words, two_slope_words, words_of_line, sign_byte, AreSigns, SpellFamily, IsFaultOfFamily, IsReasonOf, Names, NamesNone}
 use Rattle.gj_function_text.specs.FamilyRead.{IsRefusedFor, IsSign, IsCut}
 use Rattle.gj_function_text.specs.declared.family.LineFault.{LineFault}
 use Rattle.gj_function_text.specs.declared.family.LineFault.TheVariants.{Broken, Memory}
@@ -43,7 +43,7 @@ refused_for P Q (Broken d) step h = step d h
 refused_for P Q (Memory a) step h = tt
 
 -- the family that the words spell has a fault
-pub family_refused : (w : FamilyWords) (a : Family) (x : FamilyFault) (e : LineFault) → SpellFamily w a → HasFamilyFault a x →
+pub family_refused : (w : FamilyWords) (a : Family) (x : FamilyFault) (e : LineFault) → SpellFamily w a → IsFaultOfFamily a x →
     IsRefusedFor (IsReasonOf x) e → IsRefusedFor (NamesNone w) e
 family_refused w a x e spelled h is = refused_for (IsReasonOf x) (NamesNone w) e (λ d why. inr (a, x, spelled, h, why)) is
 

@@ -64,10 +64,10 @@ IsOfFamily (half f) g = HasNoFamilyFault f × IsHalf (order_of f) (place_of f) g
 IsOfFamily (two_slope k signs) g = HasNoTwoSlopeFault k signs × IsTwoSlope k signs g
 
 -- the family has no function: the first test that fails
-abbrev pub HasFamilyFault : Family → FamilyFault → Type 0
-HasFamilyFault (gmic f) = HasFamilyFault f
-HasFamilyFault (half f) = HasFamilyFault f
-HasFamilyFault (two_slope k signs) = HasTwoSlopeFault k signs
+abbrev pub IsFaultOfFamily : Family → FamilyFault → Type 0
+IsFaultOfFamily (gmic f) = HasFamilyFault f
+IsFaultOfFamily (half f) = HasFamilyFault f
+IsFaultOfFamily (two_slope k signs) = HasTwoSlopeFault k signs
 
 -- how a line is refused for it
 abbrev pub IsReasonOf : FamilyFault → Reason → Type 0
@@ -87,7 +87,7 @@ Names words g = (family : Family) × SpellFamily words family × IsOfFamily fami
 abbrev pub NamesNone : FamilyWords → Reason → Type 0
 NamesNone words e =
     BreaksWords words e
-    ⊎ ((family : Family) × (fault : FamilyFault) × SpellFamily words family × HasFamilyFault family fault × IsReasonOf fault e)
+    ⊎ ((family : Family) × (fault : FamilyFault) × SpellFamily words family × IsFaultOfFamily family fault × IsReasonOf fault e)
 
 -- the line has no such words; or its words name no function
 abbrev pub BreaksFamily : List (List ℕ) → Reason → Type 0

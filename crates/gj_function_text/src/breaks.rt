@@ -9,10 +9,10 @@ ghost use Rattle.gj_function_text.specs.BreaksText.{BreaksStart, start_rule, bre
 ghost use Rattle.gj_function_text.specs.BreaksRead.{refusal_of, end_refusal};
 
 use gj_frac::Frac;
+use gj_function_lines::break_in;
 use gj_lex::{
     PartFault, Reason, Spelling, begins_with_word, field_of, fraction_of, has_words, line_at,
 };
-use gj_function_lines::break_in;
 use gj_shape::{BreakFault, Breaks, GREATEST_ORDER, Shape, ShapeFault};
 use std::alloc::Global;
 

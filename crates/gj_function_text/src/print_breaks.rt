@@ -1,11 +1,29 @@
 //! Function texts by breakpoints, printed.
-ghost use Rattle.std.specs.Prelude.{◌≡◌, IfOk};
-ghost use Rattle.gj_function_text.specs.FunctionText.{canonical_breaks_text};
+ghost use Rattle.std.specs.Prelude.{◌≡◌, IfOk, map};
+ghost use Rattle.gj_function_text.specs.FunctionText.{canonical_breaks_text, even_break};
 
 use gj_frac::Frac;
 use gj_function_lines::{push_break_line, push_fraction_line};
 use gj_shape::Break;
 use std::alloc::{AllocError, Global};
+
+/// The canonical text of a continuous function by its breakpoints, with this f: a line `point X V` for
+/// each pair of a place X and the value V there. It is that of [`write_breaks_with_limits`].
+pub fn write_breaks(alloc: Global, f: Frac, points: &[(Frac, Frac)]) -> Result<Vec<u8>, AllocError>
+    ensures { IfOk result (λ text. text.items ≡ canonical_breaks_text f (map even_break points.now)) }
+{
+    let mut breaks = Vec::with_capacity(alloc, points.len())?;
+    for pair in points {
+        let (x, value) = *pair;
+        breaks.push(Break {
+            x,
+            left: value,
+            value,
+            right: value,
+        })?;
+    }
+    write_breaks_with_limits(alloc, f, breaks.as_slice())
+}
 
 /// The canonical text of a function by its breakpoints, with this f: a line `point X V` for each breakpoint, or `point X L V R` if
 /// the function jumps there.
@@ -14,7 +32,11 @@ use std::alloc::{AllocError, Global};
 /// ascend and lie below 1, the common denominator of f and of all places is at most 1,000, and the limits and values are at most
 /// 2^20 in absolute value, with a common denominator of at most 2^31 - 1 with those between the breakpoints
 /// (`breaks_are_read_again`).
-pub fn write_breaks(alloc: Global, f: Frac, points: &[Break]) -> Result<Vec<u8>, AllocError>
+pub fn write_breaks_with_limits(
+    alloc: Global,
+    f: Frac,
+    points: &[Break],
+) -> Result<Vec<u8>, AllocError>
     ensures { IfOk result (λ text. text.items ≡ canonical_breaks_text f points.now) }
 {
     let mut text = Vec::new(alloc);

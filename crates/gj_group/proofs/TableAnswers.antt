@@ -1,8 +1,7 @@
 -- What the answers say of the table.
 use Rattle.std.proofs.Common.{◌≡◌, ◌≢◌, ℕ, ◌+◌, ◌*◌, ◌<◌, ◌≤◌, ◌<ℤ◌, ◌↔◌, ℤ, pos, List, Option, None, Some, length, get_or, Result, Ok, Err, refl, sym, ap, subst, subst₂, ◌∙◌, arith}
-use Rattle.std.specs.Prelude.{All, Any, IsErr, IsErrOf, Vec}
+use Rattle.std.specs.Prelude.{All, Any, IsErr, IsErrOf}
 use Rattle.std.specs.Result.{IsErrAnd}
-use Rattle.std.specs.declared.alloc.Global.{Global}
 use Rattle.std.specs.declared.alloc.AllocError.{AllocError}
 use Rattle.std.proofs.Math.Nat.{mul-one}
 use Rattle.std.proofs.lemmas.Int.{ints}
@@ -143,12 +142,12 @@ settled_own : (f : FunctionData) (columns : ℕ) (all : List (List ℤ)) (s t : 
 settled_own f columns all s t asked is h =
     subst₂ (λ (n : ℕ) (rows : List (List ℤ)). IsSettled n rows t) asked.columns_is asked.all_is (subst (IsSettled columns all) is h)
 
-pub plain_says : (f : FunctionData) (columns : ℕ) (all : List (List ℤ)) (s : Settled) (log : Vec LogRow Global) → IsAsked f columns all →
+pub plain_says : (f : FunctionData) (columns : ℕ) (all : List (List ℤ)) (s : Settled) (log : List LogRow) → IsAsked f columns all →
     s ≡ Plain log → AnswersRows columns all s → IsExtremeOnOwnGrid f
 plain_says f columns all s log asked is h =
     extreme_by_rows f asked.within (own_minimal f asked.minimal) (answers_own f columns all s (Plain log) asked is h)
 
-pub residues_say : (f : FunctionData) (columns : ℕ) (all : List (List ℤ)) (s : Settled) (log : Vec LogRow Global) → IsAsked f columns all →
+pub residues_say : (f : FunctionData) (columns : ℕ) (all : List (List ℤ)) (s : Settled) (log : List LogRow) → IsAsked f columns all →
     s ≡ Residues log → AnswersRows columns all s → IsExtremeOnOwnGrid f
 residues_say f columns all s log asked is h =
     extreme_by_rows f asked.within (own_minimal f asked.minimal) (answers_own f columns all s (Residues log) asked is h)
@@ -161,7 +160,7 @@ plain_own_narrow f log h (halves_too_wide numbers k wide) =
     let fewer = k.fewer in
     absurd (omega arith)
 
-pub plain_fits : (f : FunctionData) (columns : ℕ) (all : List (List ℤ)) (s : Settled) (log : Vec LogRow Global) → IsAsked f columns all →
+pub plain_fits : (f : FunctionData) (columns : ℕ) (all : List (List ℤ)) (s : Settled) (log : List LogRow) → IsAsked f columns all →
     s ≡ Plain log → IsSettled columns all s → IsTooWideGroup f → ⊥
 plain_fits f columns all s log asked is h = plain_own_narrow f log.items (settled_own f columns all s (Plain log) asked is h)
 
@@ -172,19 +171,19 @@ residues_own_narrow f log h (rows_too_wide (insertion_passes passes fewer)) =
 residues_own_narrow f log h (rows_too_wide (kernel_passes narrow s is passes)) = narrow h.passes
 residues_own_narrow f log h (halves_too_wide numbers k wide) = k.narrow h.passes
 
-pub residues_fit : (f : FunctionData) (columns : ℕ) (all : List (List ℤ)) (s : Settled) (log : Vec LogRow Global) → IsAsked f columns all →
+pub residues_fit : (f : FunctionData) (columns : ℕ) (all : List (List ℤ)) (s : Settled) (log : List LogRow) → IsAsked f columns all →
     s ≡ Residues log → IsSettled columns all s → IsTooWideGroup f → ⊥
 residues_fit f columns all s log asked is h = residues_own_narrow f log.items (settled_own f columns all s (Residues log) asked is h)
 
-pub kernel_own : (f : FunctionData) (columns : ℕ) (all : List (List ℤ)) (s : Settled) (numbers : Vec ℤ Global) → IsAsked f columns all →
-    s ≡ Kernel numbers → IsSettled columns all s → IsKernel f.order (own_rows f) numbers.items
+pub kernel_own : (f : FunctionData) (columns : ℕ) (all : List (List ℤ)) (s : Settled) (numbers : List ℤ) → IsAsked f columns all →
+    s ≡ Kernel numbers → IsSettled columns all s → IsKernel f.order (own_rows f) numbers
 kernel_own f columns all s numbers asked is h = settled_own f columns all s (Kernel numbers) asked is h
 
-pub kernel_splits : (f : FunctionData) (columns : ℕ) (all : List (List ℤ)) (s : Settled) (numbers : Vec ℤ Global) → IsAsked f columns all →
-    s ≡ Kernel numbers → IsSettled columns all s → AnswersRows columns all s → CanSplit f (of_kernel numbers.items)
+pub kernel_splits : (f : FunctionData) (columns : ℕ) (all : List (List ℤ)) (s : Settled) (numbers : List ℤ) → IsAsked f columns all →
+    s ≡ Kernel numbers → IsSettled columns all s → AnswersRows columns all s → CanSplit f (of_kernel numbers)
 kernel_splits f columns all s numbers asked is settled h =
     let answers = answers_own f columns all s (Kernel numbers) asked is h in
-    kernel_can_split f numbers.items asked.within (kernel_own f columns all s numbers asked is settled) answers.0 answers.1 answers.2
+    kernel_can_split f numbers asked.within (kernel_own f columns all s numbers asked is settled) answers.0 answers.1 answers.2
 
 pub kernel_says : (f : FunctionData) (numbers : List ℤ) (h : Halves) → IsMinimal f → AreHalvesOf f 1 (at numbers) h →
     ((size : ℕ) → IsGreatestSize (at numbers) size →

@@ -9,7 +9,7 @@ use crate::table_rows::GroupRows;
 use gj_minimal::find_violation;
 use gj_perturb::{Perturbation, split};
 use gj_residue::{Settled, settle};
-use gj_shape::{Halves, List, Shape, Violation};
+use gj_shape::{Halves, Shape, Violation};
 use std::alloc::Global;
 
 /// The greatest order of a table that is decided.
@@ -52,7 +52,7 @@ pub fn decide_group(alloc: Global, shape: &Shape) -> Result<GroupAnswer, GroupFa
         Settled::Kernel(numbers) => {
             let perturbation = Perturbation {
                 times: 1,
-                values: List::of(numbers),
+                values: numbers,
             };
             let halves = split(alloc, shape, &perturbation)?;
             Ok(GroupAnswer::NotExtreme(halves))

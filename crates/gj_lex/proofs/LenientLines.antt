@@ -4,7 +4,7 @@ use Rattle.std.specs.List.{All, position}
 use Rattle.std.proofs.lemmas.Bool.Decides.{nat_tests}
 use Rattle.std.proofs.lemmas.List.{append_cancel_right}
 use Rattle.std.proofs.lemmas.List.Elements.{All-head, All-tail, All-same, All-weaker}
-use Rattle.gj_lex.specs.Lines.{is_line_feed}
+use Rattle.gj_lex.specs.TextLines.{is_line_feed}
 use Rattle.gj_lex.specs.Words.{word_texts}
 use Rattle.gj_lex.specs.TextLines.{IsFirstLine, AreBytesOf, HasFirstWords, HasNextLine, IsSkipped, IsSkippedText}
 use Rattle.gj_lex.specs.TextLines.IsFirstLine.{ended, unended}

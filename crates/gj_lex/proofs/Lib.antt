@@ -14,7 +14,6 @@ pub mod StrictLines
 pub mod LineNumbers
 pub mod PartLaws
 pub mod SpelledWords
-pub mod CursorLines
 pub mod LoopLaws
 pub mod CanonicalLines
 pub mod WhereLaws

@@ -6,7 +6,8 @@ use Rattle.std.proofs.lemmas.Bool.Decides.{nat_tests}
 use Rattle.std.proofs.lemmas.List.{drop_min, drop-drop}
 use Rattle.std.proofs.lemmas.List.Sums.{position_or_len_is}
 use Rattle.gj_lex.specs.declared.cursor.LineSpan.{LineSpan}
-use Rattle.gj_lex.specs.Lines.{CursorState, IsLine, GivesLine, is_line_feed, rest_of}
+use Rattle.gj_lex.specs.Lines.{CursorState, IsLine, GivesLine, rest_of}
+use Rattle.gj_lex.specs.TextLines.{is_line_feed}
 use Rattle.gj_lex.proofs.Places.{fails_until, passes_there, place_within}
 
 -- the first LF from a place on, or the end of the source, ends the line that begins there
@@ -55,14 +56,6 @@ feed_at source start end line =
     let last : get_or (drop start source) (end - start) 0 ≡ 10 =
     get_or-drop start source (end - start) 0 ∙ ap (λ k. get_or source k 0) same ∙ line.ended (omega (arith, length-drop start source)) in
     rw last refl)
-
--- how long the line is
-pub span_len : (old new : CursorState) (span : LineSpan) → GivesLine old new span →
-    position_or_len is_line_feed (rest_of old) ≡ span.end - span.start
-span_len old new span given =
-    let start = given.start in
-    let line : IsLine old.source old.position span.end = subst (λ k. IsLine old.source k span.end) start given.line in
-    feed_at old.source old.position span.end line ∙ ap (λ k. span.end - k) (sym start)
 
 -- the bytes of a line are those before the first LF of what was left, and what stands behind that
 -- is left

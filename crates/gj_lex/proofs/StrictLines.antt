@@ -8,7 +8,7 @@ use Rattle.std.proofs.lemmas.List.Elements.{All-nil, All-cons, All-head, All-tai
 use Rattle.std.proofs.lemmas.List.{drop-drop, take_all}
 use Rattle.std.proofs.lemmas.List.Sums.{position_or_len_is}
 use Rattle.std.proofs.lemmas.List.Splits.{slice_split_none, slice_split_at, length-slice_split, join_with_byte-slice_split}
-use Rattle.gj_lex.specs.Lines.{is_line_feed}
+use Rattle.gj_lex.specs.TextLines.{is_line_feed}
 use Rattle.gj_lex.specs.Words.{is_blank, word_texts}
 use Rattle.gj_lex.specs.NumberText.{IsWordByte}
 use Rattle.gj_lex.specs.TextLines.{IsInWord, IsWord, HasStrictLine, HasNextLine, IsSkipped}

@@ -1,5 +1,5 @@
 -- Lines of bytes, as a cursor gives them (own).
-use Rattle.std.specs.Prelude.{ℕ, ◌≡◌, ◌≢◌, ◌+◌, ◌<◌, ◌≤◌, min, Bool, ◌==◌, List, length, drop, slice_index}
+use Rattle.std.specs.Prelude.{ℕ, ◌≡◌, ◌≢◌, ◌+◌, ◌<◌, ◌≤◌, min, List, length, drop, slice_index}
 use Rattle.gj_lex.specs.declared.cursor.LineSpan.{LineSpan}
 
 -- what a cursor knows: the whole source, at which of its bytes it stands, and how many lines it gave
@@ -25,10 +25,6 @@ pub record GivesLine (old new : CursorState) (span : LineSpan) : Type 0 where
   pub source : new.source ≡ old.source
   pub position : new.position ≡ min (span.end + 1) (length old.source)
   pub lines : new.lines ≡ old.lines + 1
-
--- whether a byte ends a line
-abbrev pub is_line_feed : ℕ → Bool
-is_line_feed b = b == 10
 
 -- what is left of the source
 abbrev pub rest_of : CursorState → List ℕ

@@ -1,9 +1,13 @@
 -- The lines of a text by their words, in either spelling (own).
-use Rattle.std.specs.Prelude.{ℕ, ◌≡◌, ◌≢◌, ◌-◌, ◌+◌, ◌<◌, ◌==◌, List, [], ◌∷◌, ◌++◌, All, length, count_by, slice_index}
+use Rattle.std.specs.Prelude.{ℕ, ◌≡◌, ◌≢◌, ◌-◌, ◌+◌, ◌<◌, Bool, ◌==◌, List, [], ◌∷◌, ◌++◌, All, length, count_by, slice_index}
 use Rattle.std.specs.List.{join_with_byte}
 use Rattle.gj_lex.specs.Words.{word_texts}
 use Rattle.gj_lex.specs.declared.spelling.Spelling.{Spelling}
 use Rattle.gj_lex.specs.declared.spelling.Spelling.TheVariants.{Lenient, Strict}
+
+-- whether a byte ends a line
+abbrev pub is_line_feed : ℕ → Bool
+is_line_feed b = b == 10
 
 -- ---- lenient lines
 

@@ -6,7 +6,7 @@ ghost use Rattle.gj_lex.specs.Parts.{BeginsWithLine, BeginsWithWord};
 
 use crate::spelling::Spelling;
 use crate::text_lines::{TextLine, line_at, words_at};
-use crate::words::{has_first_word, split_word};
+use crate::words::{behind_name, split_word};
 
 /// Whether the next line of the text has these words and no others. It takes no memory.
 pub fn begins_with_line(spelling: Spelling, text: &[u8], words: &[u8]) -> bool
@@ -38,9 +38,7 @@ pub fn line_with_word<'a>(spelling: Spelling, text: &'a [u8], word: &[u8]) -> Op
     }
     match line_at(spelling, text) {
         Ok(line) => {
-            if !has_first_word(line.bytes, word) {
-                return None;
-            }
+            behind_name(line.bytes, word)?;
             Some(line)
         }
         Err(_) => None,
@@ -53,13 +51,6 @@ fn may_begin_with(spelling: Spelling, text: &[u8], word: &[u8]) -> bool
 {
     match spelling {
         Spelling::Lenient => true,
-        Spelling::Strict => begin_alike(text, word),
+        Spelling::Strict => !text.is_empty() && !word.is_empty() && text[0] == word[0],
     }
-}
-
-/// Whether both have a first byte, and the same.
-fn begin_alike(text: &[u8], word: &[u8]) -> bool
-    ensures { (0 < length text.now) → (0 < length word.now) → slice_index text.now 0 ≡ slice_index word.now 0 → IsTrue result }
-{
-    !text.is_empty() && !word.is_empty() && text[0] == word[0]
 }

@@ -2,9 +2,10 @@
 
 ghost use Rattle.std.specs.Prelude.{◌≡◌, ◌↔◌, ◌≤◌, length, IfSome, IfNone, IsNone, OnSome};
 ghost use Rattle.std.specs.List.{after_first, before_first, position, slice_range};
-ghost use Rattle.gj_lex.specs.Lines.{GivesLine, IsLine, is_line_feed, rest_of};
+ghost use Rattle.gj_lex.specs.Lines.{GivesLine, IsLine, rest_of};
+ghost use Rattle.gj_lex.specs.TextLines.{is_line_feed};
 
-use memchr::memchr_iter;
+use crate::text_lines::first_line_feed;
 use std::marker::Model;
 
 /// A line of a source: the bytes from `start` up to `end`. Lines are numbered from 1.
@@ -89,12 +90,4 @@ fn line_end(bytes: &[u8], start: usize) -> usize
         Some(len) => start + len,
         None => bytes.len(),
     }
-}
-
-/// Where the first LF stands.
-pub(crate) fn first_line_feed(bytes: &[u8]) -> Option<usize>
-    ensures { result ≡ position is_line_feed bytes.now }
-{
-    // The iterator looks near first, which suits short lines.
-    memchr_iter(b'\n', bytes).next()
 }

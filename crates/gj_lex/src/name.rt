@@ -88,12 +88,9 @@ impl Name {
 fn is_name(bytes: &[u8]) -> bool
     ensures { IsTrue result ↔ IsName bytes.now }
 {
-    !bytes.is_empty() && bytes.len() <= LONGEST && bytes.iter().all(|byte| is_name_byte(*byte))
-}
-
-/// Whether the byte may stand in a name.
-fn is_name_byte(byte: u8) -> bool
-    ensures { IsTrue result ↔ IsNameByte byte }
-{
-    byte.is_ascii_graphic() && byte != b'"'
+    !bytes.is_empty()
+        && bytes.len() <= LONGEST
+        && bytes
+            .iter()
+            .all(|byte| byte.is_ascii_graphic() && *byte != b'"')
 }

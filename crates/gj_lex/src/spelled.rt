@@ -30,7 +30,7 @@ pub fn is_count(spelling: Spelling, word: &[u8]) -> bool
 {
     match spelling {
         Spelling::Lenient => is_numeral(word),
-        Spelling::Strict => is_strict_count(word),
+        Spelling::Strict => is_numeral(word) && !has_leading_zero(word),
     }
 }
 
@@ -51,19 +51,5 @@ pub fn count_of(spelling: Spelling, word: &[u8]) -> Option<u32>
 fn is_numeral(word: &[u8]) -> bool
     ensures { IsTrue result ↔ IsNumeral 10 word.now }
 {
-    !word.is_empty() && has_only_digits(word)
-}
-
-/// Whether each byte is a digit.
-fn has_only_digits(bytes: &[u8]) -> bool
-    ensures { IsTrue result ↔ All IsAsciiDigit bytes.now }
-{
-    bytes.iter().all(|byte| byte.is_ascii_digit())
-}
-
-/// Whether the word is a count without a leading zero.
-fn is_strict_count(word: &[u8]) -> bool
-    ensures { IsTrue result ↔ IsCount word.now }
-{
-    is_numeral(word) && !has_leading_zero(word)
+    !word.is_empty() && word.iter().all(|byte| byte.is_ascii_digit())
 }

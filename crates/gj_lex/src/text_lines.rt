@@ -1,13 +1,11 @@
 //! The lines of a text, in either spelling.
 
-ghost use Rattle.std.specs.Prelude.{◌≡◌, ◌≢◌, ◌-◌, ◌==◌, ◌↔◌, ◌∷◌, ◌++◌, [], ℕ, List, All, length, drop, slice_index, IfSome, IfNone, IfOk, IfErr, OnOk, IsTrue};
+ghost use Rattle.std.specs.Prelude.{◌≡◌, ◌≢◌, ◌-◌, ◌==◌, ◌↔◌, ◌<◌, ◌∷◌, ◌++◌, [], ℕ, List, All, length, drop, slice_index, IfSome, IfNone, IfOk, IfErr, OnOk, IsTrue};
 ghost use Rattle.std.specs.List.{position, slice_split};
-ghost use Rattle.gj_lex.specs.Lines.{rest_of};
 ghost use Rattle.gj_lex.specs.Words.{word_texts};
-ghost use Rattle.gj_lex.specs.TextLines.{AreBytesOf, HasFirstWords, HasNextLine, IsSkipped, IsSkippedText, HasLine, HasNothing, IsWord, HasStrictLine, IsLineNumber};
+ghost use Rattle.gj_lex.specs.TextLines.{is_line_feed, AreBytesOf, HasFirstWords, HasNextLine, IsSkipped, IsSkippedText, HasLine, HasNothing, IsWord, HasStrictLine, IsLineNumber};
 ghost use Rattle.gj_lex.specs.Parts.{line_part, words_rule, IsFaultOf, IsRefusal, IsNoLine, IsTail};
 
-use crate::cursor::{Cursor, first_line_feed};
 use crate::fault::PartFault;
 use crate::reason::Reason;
 use crate::spelling::Spelling;
@@ -15,7 +13,7 @@ use crate::words::{first_byte, has_words};
 use memchr::memchr_iter;
 
 /// A line of a text.
-#[derive(Clone, Copy, Debug, PartialEq, Eq)]
+#[derive(Clone, Copy, Debug)]
 pub struct TextLine<'a> {
     /// The text from the line on.
     pub start: &'a [u8],
@@ -32,8 +30,8 @@ pub fn line_at(spelling: Spelling, text: &[u8]) -> Result<TextLine<'_>, PartFaul
     ensures fault { IfErr result (IsNoLine spelling text.now) }
 {
     match spelling {
-        Spelling::Lenient => lenient_line_at(text),
-        Spelling::Strict => strict_line_at(text),
+        Spelling::Lenient => next_lenient_line(text).ok_or(PartFault::at(b"", Reason::Form)),
+        Spelling::Strict => strict_line(text).ok_or(PartFault::at(text, Reason::Form)),
     }
 }
 
@@ -57,8 +55,16 @@ pub fn end_at(spelling: Spelling, text: &[u8]) -> Result<(), PartFault>
     ensures fault { IfErr result (IsTail spelling text.now) }
 {
     match spelling {
-        Spelling::Lenient => lenient_end_at(text),
-        Spelling::Strict => strict_end_at(text),
+        Spelling::Lenient => match next_lenient_line(text) {
+            None => Ok(()),
+            Some(line) => Err(PartFault::at(line.start, Reason::Tail)),
+        },
+        Spelling::Strict => {
+            if !text.is_empty() {
+                return Err(PartFault::at(text, Reason::Tail));
+            }
+            Ok(())
+        }
     }
 }
 
@@ -70,64 +76,50 @@ pub fn line_number(text: &[u8], left: usize) -> u64
     memchr_iter(b'\n', front).count() as u64 + 1
 }
 
+/// Where the first LF stands.
+pub(crate) fn first_line_feed(text: &[u8]) -> Option<usize>
+    ensures { result ≡ position is_line_feed text.now }
+{
+    // The iterator looks near first, which suits short lines.
+    memchr_iter(b'\n', text).next()
+}
+
 // ---- lenient lines
-
-/// The next lenient line, or the fault that there is none.
-fn lenient_line_at(text: &[u8]) -> Result<TextLine<'_>, PartFault>
-    ensures found { IfOk result (λ l. HasNextLine l.start.now (word_texts l.bytes.now) l.rest.now text.now) }
-    ensures fault { IfErr result (IsNoLine Spelling.Lenient text.now) }
-{
-    match next_lenient_line(text) {
-        Some(line) => Ok(line),
-        None => Err(PartFault::at(b"", Reason::Form)),
-    }
-}
-
-/// Only lines that are skipped follow, or the fault that another follows.
-fn lenient_end_at(text: &[u8]) -> Result<(), PartFault>
-    ensures ended { OnOk result (IsSkippedText text.now) }
-    ensures fault { IfErr result (IsTail Spelling.Lenient text.now) }
-{
-    match next_lenient_line(text) {
-        None => Ok(()),
-        Some(line) => Err(PartFault::at(line.start, Reason::Tail)),
-    }
-}
 
 /// The first line of the text that is not skipped.
 fn next_lenient_line(text: &[u8]) -> Option<TextLine<'_>>
     ensures found { IfSome result (λ l. HasNextLine l.start.now (word_texts l.bytes.now) l.rest.now text.now) }
     ensures none { IfNone result (IsSkippedText text.now) }
 {
-    let mut cursor = Cursor::new(text);
-    while let Some(line) = first_line(&mut cursor) {
+    let mut left = text;
+    while !left.is_empty() {
+        let line = first_line(left);
         if !is_skipped(line.bytes) {
             return Some(line);
         }
+        left = line.rest;
     }
     None
 }
 
-/// The next line of a cursor, skipped or not.
-fn first_line<'a>(cursor: &mut Cursor<'a>) -> Option<TextLine<'a>>
-    ensures none { IfNone result (rest_of cursor.old ≡ []) }
-    ensures start { IfSome result (λ l. l.start.now ≡ rest_of cursor.old) }
-    ensures words { IfSome result (λ l. HasFirstWords (rest_of cursor.old) (word_texts l.bytes.now) (rest_of cursor.new)) }
-    ensures rest { IfSome result (λ l. l.rest.now ≡ rest_of cursor.new) }
+/// The first line of the text, skipped or not: up to its first LF, or all of a text without LF.
+fn first_line(text: &[u8]) -> TextLine<'_>
+    requires { 0 < length text.now }
+    ensures start { result.start.now ≡ text.now }
+    ensures words { HasFirstWords text.now (word_texts result.bytes.now) result.rest.now }
 {
-    let start = cursor.rest();
-    let span = cursor.next_line()?;
-    let len = span.end - span.start;
-    let bytes = if len < start.len() {
-        without_return(&start[..len])
-    } else {
-        start
-    };
-    Some(TextLine {
-        start,
-        bytes,
-        rest: cursor.rest(),
-    })
+    match first_line_feed(text) {
+        Some(end) => TextLine {
+            start: text,
+            bytes: without_return(&text[..end]),
+            rest: &text[end + 1..],
+        },
+        None => TextLine {
+            start: text,
+            bytes: text,
+            rest: b"",
+        },
+    }
 }
 
 /// The line without the CR at its end, if one stands there.
@@ -151,28 +143,6 @@ fn is_skipped(bytes: &[u8]) -> bool
 }
 
 // ---- strict lines
-
-/// The strict line at the front of the text, or the fault that there is none.
-fn strict_line_at(text: &[u8]) -> Result<TextLine<'_>, PartFault>
-    ensures found { IfOk result (λ l. HasLine Spelling.Strict text.now l.start.now (word_texts l.bytes.now) l.rest.now) }
-    ensures fault { IfErr result (IsNoLine Spelling.Strict text.now) }
-{
-    match strict_line(text) {
-        Some(line) => Ok(line),
-        None => Err(PartFault::at(text, Reason::Form)),
-    }
-}
-
-/// No byte follows, or the fault that one does.
-fn strict_end_at(text: &[u8]) -> Result<(), PartFault>
-    ensures ended { OnOk result (text.now ≡ []) }
-    ensures fault { IfErr result (IsTail Spelling.Strict text.now) }
-{
-    if !text.is_empty() {
-        return Err(PartFault::at(text, Reason::Tail));
-    }
-    Ok(())
-}
 
 /// The strict line at the front of the text.
 fn strict_line(text: &[u8]) -> Option<TextLine<'_>>

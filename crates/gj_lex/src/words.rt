@@ -40,18 +40,9 @@ fn next_word(line: &[u8], from: usize) -> Option<(usize, usize)>
     ensures word { IfSome result (λ word. IsNextWord line.now from word.0 word.1) }
 {
     let start = from + first_byte(&line[from..])?;
-    Some((start, word_end(line, start)))
-}
-
-/// Where the word ends whose first byte is at `start`.
-fn word_end(line: &[u8], start: usize) -> usize
-    requires { start ≤ length line.now }
-    ensures { result ≡ start + position_or_len is_blank (drop start line.now) }
-{
-    match first_blank(&line[start..]) {
-        Some(len) => start + len,
-        None => line.len(),
-    }
+    let behind = &line[start..];
+    let len = first_blank(behind).unwrap_or(behind.len());
+    Some((start, start + len))
 }
 
 /// Where the first space or tab stands.
@@ -85,13 +76,6 @@ pub fn behind_name<'a>(line: &'a [u8], name: &[u8]) -> Option<&'a [u8]>
         return None;
     }
     Some(rest)
-}
-
-/// Whether the first word of the line is this word. It takes no memory.
-pub(crate) fn has_first_word(line: &[u8], word: &[u8]) -> bool
-    ensures { IsTrue result ↔ ((words : List (List ℕ)) × (word_texts line.now ≡ word.now ∷ words)) }
-{
-    behind_name(line, word).is_some()
 }
 
 /// The word of the line, if it has one word.

@@ -7,12 +7,14 @@ use Rattle.std.specs.declared.alloc.Global.{Global}
 use Rattle.gj_port.specs.Faults.{HasFailed}
 use Rattle.gj_port.specs.MemorySource.{MemorySource, never_fails}
 use Rattle.gj_shape.specs.FunctionData.{FunctionData}
+use Rattle.gj_shape.specs.Table.{IsMinimal}
+use Rattle.gj_shape.specs.TwoSlopes.{HasTwoSlopes}
 use Rattle.gj_words.specs.Grammar.{HasFlag, command_words, json_word}
 use Rattle.gj_words.specs.declared.requests.Command.{Command}
 use Rattle.gj_words.specs.declared.requests.Command.TheVariants.{Minimal, Extreme, Cut, Check, Show, Faces, Demo, Mixed, Fill, Group, Times, Mirror, Restrict}
 use Rattle.gj_words.specs.declared.requests.Request.{Request}
 use Rattle.gj_top.specs.declared.status.Status.{Status}
-use Rattle.gj_top.specs.declared.status.Status.TheVariants.{Words, ReadFault, WriteFault, Memory}
+use Rattle.gj_top.specs.declared.status.Status.TheVariants.{Words, ReadFault, WriteFault, Memory, Wide, NotContinuous}
 use Rattle.gj_top.specs.Answer.{IsAnswer, IsSourceFault}
 use Rattle.gj_top.specs.Answer.IsAnswer.{no_request, read_fault, of_request}
 use Rattle.gj_top.specs.Causes.{IsTrueRun, IsDoneRun, IsCause, IsGoodInput, IsStatusOfReply}
@@ -20,13 +22,14 @@ use Rattle.gj_top.specs.Code.{code_of}
 use Rattle.gj_top.specs.Command.{IsNamed, task_for}
 use Rattle.gj_top.specs.Asked.{AskIfExtreme}
 use Rattle.gj_top.specs.Narrow.{HasUncoveredInterval, HasAtMostComponents}
-use Rattle.gj_top.specs.Decisive.{IsDecisive}
+use Rattle.gj_top.specs.Decisive.{IsDecisive, IsCalledExtreme}
 use Rattle.gj_top.specs.Outcome.{IsOutcome, IsTold}
 use Rattle.gj_top.specs.Outcome.IsOutcome.{silent, told, cut_off}
 use Rattle.gj_top.proofs.Clauses.{no_write_fault, failed_source, headline_clause, reply_clause, cause_clause, complete_clause}
 use Rattle.gj_top.proofs.Ends.{not_answered}
 use Rattle.gj_top.proofs.ByOrder4q.{order_4q_clause}
 use Rattle.gj_top.proofs.NeverWide.{narrow_clause}
+use Rattle.gj_top.proofs.TwoSlopeAnswers.{two_slopes_clause, called_extreme_clause}
 use Rattle.gj_library.specs.Call.{AreWordsOf, OfWords, IsAnswered, IsCall, IsTooSmall}
 use Rattle.gj_library.proofs.Codes.{status_is}
 
@@ -229,6 +232,34 @@ module _ (bytes input : List ℕ) (room : ℕ) (text : List ℕ) (code : ℕ) (c
     c.words,
     c.are_words,
     λ json f asked. order_4q_clause c.words ⊥ (Some input) c.left (Some []) (Some text) room c.status c.outcome
+        (status_is c.status 0 (sym c.code_is ∙ e)) input json f (λ r named reads. refl) asked,
+  )
+
+  -- the status of the call is neither Wide nor NotContinuous
+  told_of : (json : Bool) (f : FunctionData) → AskIfExtreme json c.words input f → IsMinimal f → HasTwoSlopes f →
+      (c.status ≢ Wide) × (c.status ≢ NotContinuous)
+  told_of json f =
+      two_slopes_clause c.words ⊥ (Some input) c.left (Some []) (Some text) room c.status c.outcome input json f (λ r named reads. refl)
+
+  pub two_slopes_of : (code ≡ 7) ⊎ (code ≡ 8) → OfWords bytes (λ given. (json : Bool) (f : FunctionData) → AskIfExtreme json given input f →
+      IsMinimal f → HasTwoSlopes f → ⊥)
+  two_slopes_of (inl e) = (
+    c.words,
+    c.are_words,
+    λ json f asked minimal two. (told_of json f asked minimal two).0 (status_is c.status 7 (sym c.code_is ∙ e)),
+  )
+  two_slopes_of (inr e) = (
+    c.words,
+    c.are_words,
+    λ json f asked minimal two. (told_of json f asked minimal two).1 (status_is c.status 8 (sym c.code_is ∙ e)),
+  )
+
+  pub called_extreme_of : code ≡ 0 → OfWords bytes (λ given. (json : Bool) (f : FunctionData) → AskIfExtreme json given input f →
+      IsMinimal f → HasTwoSlopes f → IsCalledExtreme json f [] (Some text))
+  called_extreme_of e = (
+    c.words,
+    c.are_words,
+    λ json f asked. called_extreme_clause c.words ⊥ (Some input) c.left (Some []) (Some text) room c.status c.outcome
         (status_is c.status 0 (sym c.code_is ∙ e)) input json f (λ r named reads. refl) asked,
   )
 

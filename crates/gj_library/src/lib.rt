@@ -4,12 +4,14 @@
 ghost use Rattle.std.specs.Prelude.{◌≡◌, ◌≢◌, ◌⊎◌, ◌≤◌, Bool, [], length, take, drop, Some};
 ghost use Rattle.std.specs.Str.{IsUtf8};
 ghost use Rattle.gj_shape.specs.FunctionData.{FunctionData};
+ghost use Rattle.gj_shape.specs.Table.{IsMinimal};
+ghost use Rattle.gj_shape.specs.TwoSlopes.{HasTwoSlopes};
 ghost use Rattle.gj_words.specs.declared.requests.Request.{Request};
 ghost use Rattle.gj_top.specs.Command.{IsNamed, task_for};
 ghost use Rattle.gj_top.specs.Code.{code_of};
 ghost use Rattle.gj_top.specs.Asked.{AskIfExtreme};
 ghost use Rattle.gj_top.specs.Narrow.{HasUncoveredInterval, HasAtMostComponents};
-ghost use Rattle.gj_top.specs.Decisive.{IsDecisive};
+ghost use Rattle.gj_top.specs.Decisive.{IsDecisive, IsCalledExtreme};
 ghost use Rattle.gj_top.specs.Causes.{IsTrueRun, IsDoneRun, IsCause, IsGoodInput, IsStatusOfReply};
 ghost use Rattle.gj_library.specs.Call.{OfWords, IsCall, IsTooSmall};
 
@@ -55,6 +57,11 @@ pub extern "C" fn gjcut_answer(
         HasUncoveredInterval f ⊎ HasAtMostComponents 4 f → ⊥) }
     ensures order_4q { result ≡ 0 → OfWords words.now (λ given. (json : Bool) (f : FunctionData) → AskIfExtreme json given input.now f →
         IsDecisive json f [] (Some (take written.new output.new))) }
+    ensures two_slopes { (result ≡ 7) ⊎ (result ≡ 8) → OfWords words.now (λ given. (json : Bool) (f : FunctionData) →
+        AskIfExtreme json given input.now f → IsMinimal f → HasTwoSlopes f → ⊥) }
+    ensures called_extreme { result ≡ 0 → OfWords words.now (λ given. (json : Bool) (f : FunctionData) →
+        AskIfExtreme json given input.now f → IsMinimal f → HasTwoSlopes f →
+        IsCalledExtreme json f [] (Some (take written.new output.new))) }
     ensures full { result ≡ 5 → written.new ≡ length output.old }
     ensures room { result ≡ 5 → IsTooSmall words.now input.now (length output.old) }
 

@@ -1,4 +1,3 @@
 pub mod FirstFailure
-pub mod Numerators
 pub mod Lanes
 pub mod Failures

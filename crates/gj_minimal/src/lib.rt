@@ -5,7 +5,6 @@
 //! near its corner. It takes no memory, and answers None exactly if the function is minimal.
 #![tactic(auto)]
 
-mod entries;
 mod faces;
 mod failures;
 mod filling;

@@ -41,6 +41,7 @@ pub fn find_violation(shape: &Shape) -> Option<Violation>
     ensures minimal { IfNone result (IsMinimal shape.now) }
     ensures only { IsMinimal shape.now → result ≡ None }
     ensures own_grid { IsContinuous shape.now → IsMinimalOnGrid shape.now 1 → result ≡ None }
+    ensures limits { IsWithinBounds shape.now }
 {
     let failure = first_failure(shape)?;
     Some(shown(shape, failure))

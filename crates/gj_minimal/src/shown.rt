@@ -9,7 +9,6 @@ ghost use Rattle.gj_theory.specs.EarlierTests.{PassesSymmetry};
 ghost use Rattle.gj_shape.specs.SlopeRows.{total};
 ghost use Rattle.gj_minimal.specs.Failures.{FailsFirst, test_of, HasGridPoints};
 
-use crate::entries::{left_at, right_at};
 use crate::failures::Failure;
 use crate::points::{grid_point, least_denominator, point_near};
 use crate::symmetry::midpoints_agree;
@@ -46,8 +45,8 @@ fn point_after(shape: &Shape, i: u32) -> Frac
     ensures points { HasGridPoints shape.now (Violation.Negative result) }
 {
     let order = shape.order();
-    let limit = right_at(shape, i);
-    let h = least_denominator(limit, limit + left_at(shape, i + 1), 2);
+    let limit = shape.right_numerator(i);
+    let h = least_denominator(limit, limit + shape.left_numerator(i + 1), 2);
     point_near(order, h, 2, i, 2 * i + 1)
 }
 
@@ -59,8 +58,8 @@ fn point_before(shape: &Shape, i: u32) -> Frac
     ensures points { HasGridPoints shape.now (Violation.Negative result) }
 {
     let order = shape.order();
-    let limit = left_at(shape, i + 1);
-    let h = least_denominator(limit, right_at(shape, i) + limit, 2);
+    let limit = shape.left_numerator(i + 1);
+    let h = least_denominator(limit, shape.right_numerator(i) + limit, 2);
     point_near(order, h, 2, i + 1, 2 * i + 1)
 }
 

@@ -4,7 +4,6 @@ ghost use Rattle.gj_shape.specs.FunctionData.{IsWithinBounds, IsContinuous};
 ghost use Rattle.gj_theory.specs.EarlierTests.{PassesValues, PassesSigns};
 ghost use Rattle.gj_minimal.specs.Failures.{FailsFirst};
 
-use crate::entries::{left_at, right_at, value_at};
 use crate::failures::Failure;
 use gj_shape::Shape;
 
@@ -14,11 +13,11 @@ pub(crate) fn failed_value(shape: &Shape) -> Option<Failure>
     ensures none { IfNone result (PassesValues shape.now) }
     ensures limits { IsWithinBounds shape.now }
 {
-    if value_at(shape, 0) != 0 {
+    if shape.value_numerator(0) != 0 {
         return Some(Failure::Zero);
     }
     for i in 0..shape.order() {
-        if value_at(shape, i) < 0 {
+        if shape.value_numerator(i) < 0 {
             return Some(Failure::Value(i));
         }
     }
@@ -38,10 +37,10 @@ pub(crate) fn failed_interval_sign(shape: &Shape, is_continuous: bool) -> Option
         return None;
     }
     for i in 0..shape.order() {
-        if right_at(shape, i) < 0 {
+        if shape.right_numerator(i) < 0 {
             return Some(Failure::Start(i));
         }
-        if left_at(shape, i + 1) < 0 {
+        if shape.left_numerator(i + 1) < 0 {
             return Some(Failure::End(i));
         }
     }

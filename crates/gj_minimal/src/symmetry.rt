@@ -1,12 +1,11 @@
 //! The tests of symmetry.
-ghost use Rattle.std.specs.Prelude.{◌<◌, ◌↔◌, IsTrue, IfSome, IfNone};
+ghost use Rattle.std.specs.Prelude.{◌≡◌, ◌<◌, ◌↔◌, pos, IsTrue, IfSome, IfNone};
 ghost use Rattle.gj_shape.specs.FunctionData.{IsWithinBounds, IsContinuous};
 ghost use Rattle.gj_shape.specs.FirstViolation.{Passes, MidpointsAgree};
 ghost use Rattle.gj_shape.specs.FirstViolation.Test.{symmetric_at, symmetric_between};
 ghost use Rattle.gj_theory.specs.EarlierTests.{PassesSigns, PassesMirrors, PassesSymmetry};
 ghost use Rattle.gj_minimal.specs.Failures.{FailsFirst};
 
-use crate::entries::{left_at, right_at, scale, value_at};
 use crate::failures::Failure;
 use gj_shape::Shape;
 
@@ -49,7 +48,7 @@ fn is_mirrored(shape: &Shape, i: u32) -> bool
     ensures { IsTrue result ↔ Passes shape.now (symmetric_at i) }
 {
     let opposite = shape.place() + (shape.order() - i);
-    value_at(shape, i) + value_at(shape, opposite) == scale(shape)
+    shape.value_numerator(i) + shape.value_numerator(opposite) == scale(shape)
 }
 
 /// Whether on the open interval from i/q to (i + 1)/q the values at x and at f - x add up to 1.
@@ -59,8 +58,8 @@ fn is_interval_mirrored(shape: &Shape, i: u32) -> bool
 {
     let opposite_end = shape.place() + (shape.order() - i);
     let opposite_start = shape.place() + (shape.order() - (i + 1));
-    right_at(shape, i) + left_at(shape, opposite_end) == scale(shape)
-        && left_at(shape, i + 1) + right_at(shape, opposite_start) == scale(shape)
+    shape.right_numerator(i) + shape.left_numerator(opposite_end) == scale(shape)
+        && shape.left_numerator(i + 1) + shape.right_numerator(opposite_start) == scale(shape)
 }
 
 /// Whether the values at (i + 1/2)/q and at f less that add up to 1.
@@ -70,7 +69,16 @@ pub(crate) fn midpoints_agree(shape: &Shape, i: u32) -> bool
 {
     let opposite_end = shape.place() + (shape.order() - i);
     let opposite_start = shape.place() + (shape.order() - (i + 1));
-    let double = right_at(shape, i) + left_at(shape, i + 1);
-    let opposite_double = right_at(shape, opposite_start) + left_at(shape, opposite_end);
+    let double = shape.right_numerator(i) + shape.left_numerator(i + 1);
+    let opposite_double = shape.right_numerator(opposite_start)
+        + shape.left_numerator(opposite_end);
     double + opposite_double == 2 * scale(shape)
+}
+
+/// The number that stands for 1.
+fn scale(shape: &Shape) -> i64
+    ensures value { result ≡ pos shape.now.scale }
+    ensures limits { IsWithinBounds shape.now }
+{
+    shape.common_denominator() as i64
 }

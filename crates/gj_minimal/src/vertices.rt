@@ -6,7 +6,6 @@ ghost use Rattle.gj_minimal.specs.FirstFailure.{IsFirstFailingIndex, HoldsBelow}
 ghost use Rattle.gj_minimal.specs.Failures.{FailsFirst, PassesVertexRow};
 ghost use Rattle.gj_minimal.specs.Lanes.{AreValuesOf};
 
-use crate::entries::value_at;
 use crate::failures::Failure;
 use crate::value_lanes::ValueLanes;
 use gj_shape::{Face, FaceKind, Shape};
@@ -60,7 +59,7 @@ fn first_negative(shape: &Shape, a: u32) -> Option<u32>
     ensures none { IfNone result (PassesVertexRow shape.now a) }
 {
     for b in 0..shape.order() {
-        if value_at(shape, a) + value_at(shape, b) < value_at(shape, a + b) {
+        if shape.value_numerator(a) + shape.value_numerator(b) < shape.value_numerator(a + b) {
             return Some(b);
         }
     }

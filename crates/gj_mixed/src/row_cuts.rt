@@ -52,10 +52,7 @@ pub fn cut_mixed<E: Evaluator, G: Evaluator>(
         row.entries.as_slice(),
         continuous,
     )?;
-    Ok(MixedCut::Cut {
-        terms: List::of(terms),
-        weights: List::of(weights),
-    })
+    Ok(MixedCut::Cut(List::of(terms), List::of(weights)))
 }
 
 /// The mixed-integer cut of the row, for f the fractional part of its right side.

@@ -1,8 +1,8 @@
 //! The table of a continuous function on a grid.
-ghost use Rattle.std.specs.Prelude.{ℕ, ℤ, pos, ◌≡◌, ◌+◌, ◌*◌, ◌<◌, ◌≤◌, ◌^◌, length, map, All, IfOk, unsigned_abs};
+ghost use Rattle.std.specs.Prelude.{◌≡◌, ◌*◌, ◌<◌, ◌≤◌, map, IfOk};
 ghost use Rattle.std.specs.List.{range_with_len};
-ghost use Rattle.gj_shape.specs.FunctionData.{IsWithinBounds, IsContinuous, at};
-ghost use Rattle.gj_shape.specs.Limits.{IsNumerator, greatest_halves_order};
+ghost use Rattle.gj_shape.specs.FunctionData.{IsContinuous};
+ghost use Rattle.gj_shape.specs.Limits.{greatest_halves_order};
 ghost use Rattle.gj_shape.specs.Table.{table};
 
 use gj_shape::Shape;
@@ -38,23 +38,6 @@ fn table_entry(shape: &Shape, times: u32, i: u32) -> i64
 {
     let start = i / times;
     let rest = i % times;
-    i64::from(times - rest) * value_at(shape, start) + i64::from(rest) * value_at(shape, start + 1)
-}
-
-/// The value at i/q, times the common denominator.
-pub(crate) fn value_at(shape: &Shape, i: u32) -> i64
-    ensures value { result ≡ at shape.now.value i }
-    ensures small { unsigned_abs result < 2 ^ 51 }
-{
-    entry(shape.value_numerators(), i)
-}
-
-/// The entry at an index that is read modulo the length.
-fn entry(numerators: &[i64], i: u32) -> i64
-    requires some { 0 < length numerators.now }
-    requires small { All IsNumerator numerators.now }
-    ensures value { result ≡ at numerators.now i }
-    ensures small { unsigned_abs result < 2 ^ 51 }
-{
-    numerators[i as usize % numerators.len()]
+    i64::from(times - rest) * shape.value_numerator(start)
+        + i64::from(rest) * shape.value_numerator(start + 1)
 }

@@ -5,7 +5,6 @@ ghost use Rattle.gj_shape.specs.Perturbation.{IsLeastSlack};
 ghost use Rattle.gj_shape.specs.Table.{IsMinimal};
 ghost use Rattle.gj_perturb.specs.Values.{AreTwoPeriods};
 
-use crate::grid::value_at;
 use crate::lanes::{least_at_corners, least_on_grid, least_slacks};
 use gj_shape::Shape;
 use std::alloc::{AllocError, Global};
@@ -38,7 +37,7 @@ fn two_periods(alloc: Global, shape: &Shape) -> Result<Vec<u32>, AllocError>
     let count = 2 * shape.order();
     let mut lanes = Vec::with_capacity(alloc, count as usize)?;
     for i in 0..count {
-        lanes.push(value_at(shape, i) as u32)?;
+        lanes.push(shape.value_numerator(i) as u32)?;
     }
     Ok(lanes)
 }

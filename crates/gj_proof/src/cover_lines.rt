@@ -11,8 +11,8 @@ ghost use Rattle.gj_proof.specs.ProofText.{IsCoverLineBelow};
 ghost use Rattle.gj_proof.specs.ProofGrammar.{cover_words, BreaksCover, cover_rule, covered_part};
 
 use crate::fields::{behind_text, count_below, five_fields_of, split_at_byte};
-use gj_lex::{PartFault, Reason, Spelling, line_at};
 use gj_function_lines::face_word;
+use gj_lex::{PartFault, Reason, Spelling, line_at};
 use gj_shape::{CoverLine, Face, FaceKind};
 use std::alloc::Global;
 

@@ -17,11 +17,11 @@ ghost use Rattle.gj_proof.specs.declared.cut_rows.RowKind.{RowKind};
 use crate::cut::{CutLine, CutRule, CutTerm, SkipReason};
 use crate::fields::{behind_text, number_of, split_at_byte, three_fields_of};
 use gj_frac::Frac;
+use gj_function_lines::function_at;
 use gj_lex::{
     Name, NameFault, PartFault, Reason, Spelling, TextLine, begins_with_line, line_at,
     line_with_word, two_fields_of, words_at,
 };
-use gj_function_lines::function_at;
 use gj_shape::List;
 use std::alloc::{AllocError, Global};
 

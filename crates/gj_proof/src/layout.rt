@@ -1,5 +1,5 @@
 //! The layout of a proof text: the numbers of its lines, counted from 1.
-ghost use Rattle.std.specs.Prelude.{◌≡◌, ◌+◌, ◌<◌, ◌^◌, [], ◌∷◌, IfOk, length};
+ghost use Rattle.std.specs.Prelude.{◌≡◌, ◌+◌, ◌<◌, ◌≤◌, ◌^◌, [], ◌∷◌, IfOk, OnErr, length};
 ghost use Rattle.gj_shape.specs.FunctionData.{IsWithinBounds};
 ghost use Rattle.gj_proof.specs.ProofText.{subject_of_rule, subject_lines, modulus_lines, row_lines, term_lines, covered_lines, reduction_lines, group_lines, IsBoundedRule};
 ghost use Rattle.gj_proof.specs.ProofText.Subject.{function};
@@ -65,7 +65,8 @@ pub fn lines_with_steps(steps: &[u32]) -> u64
 /// The number of the first line behind a group that begins with the line of this number. A text with a line whose number is
 /// not below 2^64 does not fit any memory.
 pub fn line_behind_group(line: u64, group: &PivotRow) -> Result<u64, AllocError>
-    ensures { IfOk result (λ n. n ≡ line + length (group_lines 0 (group.now ∷ []))) }
+    ensures number { IfOk result (λ n. n ≡ line + length (group_lines 0 (group.now ∷ []))) }
+    ensures memory { OnErr result (2 ^ 64 ≤ line + length (group_lines 0 (group.now ∷ []))) }
 {
     let pivot = line_below(line, lines_with_steps(group.reduce.as_slice()))?;
     line_below(pivot, 1)
@@ -82,7 +83,8 @@ pub fn lines_with_terms(terms: &[CutTerm]) -> u64
 /// The number of the first line behind a row of cuts whose line has this number. A text with a line whose number is not below
 /// 2^64 does not fit any memory.
 pub fn line_behind_row(line: u64, row: &CutLine) -> Result<u64, AllocError>
-    ensures { IfOk result (λ n. n ≡ line + length (row_lines 0 (row.now ∷ []))) }
+    ensures number { IfOk result (λ n. n ≡ line + length (row_lines 0 (row.now ∷ []))) }
+    ensures memory { OnErr result (2 ^ 64 ≤ line + length (row_lines 0 (row.now ∷ []))) }
 {
     match row {
         CutLine::Cut(_, _, terms) => line_below(line, lines_with_terms(terms.as_slice())),
@@ -101,7 +103,8 @@ pub fn line_of_pair(shape: &Shape, index: u32) -> u64
 /// The number of the line that stands so many lines below another. A text with a line whose number is not below 2^64 does
 /// not fit any memory.
 pub fn line_below(line: u64, count: u64) -> Result<u64, AllocError>
-    ensures { IfOk result (λ n. n ≡ line + count) }
+    ensures number { IfOk result (λ n. n ≡ line + count) }
+    ensures memory { OnErr result (2 ^ 64 ≤ line + count) }
 {
     line.checked_add(count).ok_or(AllocError)
 }

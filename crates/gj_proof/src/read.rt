@@ -22,10 +22,10 @@ use crate::numbers::Numbers;
 use crate::pivot::PivotRow;
 use crate::pivot_rows::groups_at;
 use crate::violations::violation_at;
+use gj_function_lines::function_at;
 use gj_lex::{
     PartFault, Reason, Spelling, end_at, field_of, has_words, line_at, line_number, words_at,
 };
-use gj_function_lines::function_at;
 use gj_shape::{CoverLine, List, Shape};
 use std::alloc::Global;
 

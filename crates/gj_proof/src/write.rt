@@ -8,8 +8,8 @@ use crate::claim::{Claim, Proof};
 use crate::numbers::Numbers;
 use crate::write_cuts::{push_rows, push_rule_lines};
 use crate::write_extreme::{push_extreme_lines, push_halves};
-use gj_lex::print_frac;
 use gj_function_lines::{push_fraction_line, push_function_lines};
+use gj_lex::print_frac;
 use gj_shape::Violation;
 use std::alloc::{AllocError, Global};
 

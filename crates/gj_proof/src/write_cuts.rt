@@ -6,8 +6,8 @@ ghost use Rattle.gj_proof.specs.CutTexts.{row_text};
 
 use crate::cut::{CutLine, CutRule, CutTerm};
 use gj_frac::Frac;
-use gj_lex::{Name, print_frac};
 use gj_function_lines::push_function_lines;
+use gj_lex::{Name, print_frac};
 use std::alloc::{AllocError, Global};
 
 /// Appends the lines of a rule: `rule gmic`, or those of its function. An error says that memory ran out; `out` may then have a

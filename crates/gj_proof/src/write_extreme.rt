@@ -10,8 +10,8 @@ ghost use Rattle.gj_proof.specs.ExtremeTexts.{group_text, halves_text};
 use crate::numbers::{MODULUS, Numbers};
 use crate::pivot::PivotRow;
 use gj_frac::Frac;
-use gj_lex::{print_count, print_frac};
 use gj_function_lines::push_cover_lines;
+use gj_lex::{print_count, print_frac};
 use gj_shape::{CoverLine, Halves, RowName};
 use std::alloc::{AllocError, Global};
 

@@ -24,7 +24,7 @@ abbrev pub AnswersRows : ℕ → List (List ℤ) → Settled → Type 0
 AnswersRows n rows (Plain log) = OnlyZeroSolves n rows
 AnswersRows n rows (Residues log) = OnlyZeroSolves n rows
 AnswersRows n rows (Kernel numbers) =
-    (length numbers.items ≡ n) × All (Solves numbers.items) rows × Any (λ x. pos 0 <ℤ x) numbers.items
+    (length numbers ≡ n) × All (Solves numbers) rows × Any (λ x. pos 0 <ℤ x) numbers
 
 -- ---- when each comes
 
@@ -50,9 +50,9 @@ pub record IsKernel (n : ℕ) (rows : List (List ℤ)) (numbers : List ℤ) : Ty
   pub numbers_are : numbers ≡ solution.numbers
 
 abbrev pub IsSettled : ℕ → List (List ℤ) → Settled → Type 0
-IsSettled n rows (Plain log) = IsPlain n rows log.items
-IsSettled n rows (Residues log) = IsByResidues n rows log.items
-IsSettled n rows (Kernel numbers) = IsKernel n rows numbers.items
+IsSettled n rows (Plain log) = IsPlain n rows log
+IsSettled n rows (Residues log) = IsByResidues n rows log
+IsSettled n rows (Kernel numbers) = IsKernel n rows numbers
 
 -- an insertion passes and over residues fewer rows are kept than there are columns, or no insertion passes and a number of the
 -- kernel does
@@ -71,13 +71,13 @@ pub record IsKernelOf (n : ℕ) (kept : List KeptRow) (numbers : List ℤ) : Typ
   pub numbers_are : numbers ≡ solution.numbers
 
 abbrev pub IsSettledBy : ℕ → List KeptRow → Settled → Type 0
-IsSettledBy n kept (Plain log) = (length kept ≡ n) × (log.items ≡ map log_row kept)
+IsSettledBy n kept (Plain log) = (length kept ≡ n) × (log ≡ map log_row kept)
 IsSettledBy n kept (Residues log) = ⊥
-IsSettledBy n kept (Kernel numbers) = IsKernelOf n kept numbers.items
+IsSettledBy n kept (Kernel numbers) = IsKernelOf n kept numbers
 
 abbrev pub IsSettledByResidues : ℕ → List KeptRow → Settled → Type 0
 IsSettledByResidues n kept (Plain log) = ⊥
-IsSettledByResidues n kept (Residues log) = (length kept ≡ n) × (log.items ≡ map log_row kept)
+IsSettledByResidues n kept (Residues log) = (length kept ≡ n) × (log ≡ map log_row kept)
 IsSettledByResidues n kept (Kernel numbers) = ⊥
 
 -- the fault that a fault of plain elimination is

@@ -12,6 +12,7 @@ ghost use Rattle.gj_elim.specs.KeptRows.{marked_in};
 use crate::basis::ResidueBasis;
 use crate::source::RowSource;
 use gj_elim::{Basis, ElimFault, LogRow};
+use gj_shape::List;
 use std::alloc::{AllocError, Global};
 use thiserror::Error;
 
@@ -19,11 +20,11 @@ use thiserror::Error;
 #[derive(Debug, Drop)]
 pub enum Settled {
     /// Only 0: plain elimination keeps as many rows as there are columns.
-    Plain(Vec<LogRow>),
+    Plain(List<LogRow>),
     /// Only 0: elimination over residues keeps as many rows as there are columns.
-    Residues(Vec<LogRow>),
+    Residues(List<LogRow>),
     /// These numbers, one of which is positive.
-    Kernel(Vec<i128>),
+    Kernel(List<i128>),
 }
 
 /// Why it is not known what solves all rows.
@@ -113,8 +114,8 @@ fn settled_by(basis: Basis) -> Result<Settled, ElimFault>
     ensures wide { IsErrOf result ElimFault.Wide → Passes (marked_in (kernel basis.columns basis.kept)) }
 {
     match basis.kernel()? {
-        None => Ok(Settled::Plain(basis.into_log())),
-        Some(numbers) => Ok(Settled::Kernel(numbers)),
+        None => Ok(Settled::Plain(List::of(basis.into_log()))),
+        Some(numbers) => Ok(Settled::Kernel(List::of(numbers))),
     }
 }
 
@@ -135,7 +136,7 @@ fn settled_by_residues<R: RowSource>(
     if basis.rank() < columns {
         return Err(SettleFault::Wide);
     }
-    Ok(Settled::Residues(basis.into_log()))
+    Ok(Settled::Residues(List::of(basis.into_log())))
 }
 
 /// Inserts the rows that are left over residues, until there are as many pivots as columns.

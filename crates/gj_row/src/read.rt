@@ -33,6 +33,10 @@ impl Tableau {
     /// `Number`, it is no number, `Large`, above 2^31 in absolute value, `Fine`, with it the common denominator of the row so far
     /// passes 2^31 - 1, or `Entries`, it is the entry 100,001 that is not 0.
     ///
+    /// `Memory` says that there was no memory. An error of the crate `csv` is answered so too: it
+    /// can want nothing else here, though its contract leaves open that reading from a slice fails
+    /// as reading from a file may.
+    ///
     /// ```text
     /// let tableau = Tableau::read(alloc, b"basic,rhs,x1,x2\nx0,8/5,7/5,-1/5\n")?;
     /// // one row: x0 + 7/5 x1 - 1/5 x2 = 8/5
@@ -100,8 +104,8 @@ fn records_of(alloc: Global, bytes: &[u8]) -> Reader<&[u8]>
 
 /// Reads the next record of a text into the fields, and says whether there is one.
 ///
-/// The contract of `csv` leaves open that reading from memory fails as reading from a file may; such a failure, which never comes,
-/// is answered as want of memory.
+/// Each error of `csv` is answered as want of memory: that reading from a slice fails in another
+/// way is left open by its contract, and never comes.
 fn next_record(records: &mut Reader<&[u8]>, fields: &mut ByteRecord) -> Result<bool, AllocError>
     ensures some { IfOk result (λ found. found ≡ true → StepsOver records.old fields.new records.new) }
     ensures end { IfOk result (λ found. found ≡ false → IsAtEnd records.old) }

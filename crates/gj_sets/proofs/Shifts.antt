@@ -1,7 +1,7 @@
 -- Bits of words that are shifted.
 use Rattle.std.proofs.Common.{◌≡◌, inl, inr, ℕ, ◌+◌, ◌-◌, ◌*◌, ◌/◌, ◌%◌, ◌^◌, ◌<◌, ◌≤◌, List, ◌++◌, Bool, true, false, ◌&&◌, ◌||◌, nat_le, nat_lt, length, get_or, replicate, bit_or, Fits, w64, refl, sym, ap, ap₂, ◌∙◌, arith}
 use Rattle.std.specs.Prelude.{◌==◌, if◌then◌else◌}
-use Rattle.std.proofs.lemmas.Bool.{cases_lt, and_left, and_right, lt-ltb, le-ltb, lt-leb, le-leb}
+use Rattle.std.proofs.lemmas.Bool.{cases_eq, eq-eqb, ne_eqb, cases_lt, and_left, and_right, lt-ltb, le-ltb, lt-leb, le-leb}
 use Rattle.std.proofs.lemmas.Nat.{shr-shr, shr_split, pow_pos}
 use Rattle.std.proofs.lemmas.Nat.Bits.{bit_at-zero, bit_at_cat_low, bit_at_cat_high, bit_at_above}
 use Rattle.std.specs.Simd.Lanes.{zip2, chunk, put_chunk}
@@ -175,6 +175,26 @@ bit_of-high words i s e within =
           bit_of-behind (replicate 16 0) filled (i + (1024 - s)) (length-replicate {A = ℕ} 16 0) (omega arith)
           ∙ bit_of-filled words (replicate 16 0) 1 (i + (1024 - s) - 1024) (length-replicate {A = ℕ} 16 0 ∙ sym e)
           ∙ ap (bit_of words) place ∙ sym (ap (λ b. b && bit_of words (i - s)) (le-leb s i behind))
+    ]
+
+-- an index below the limit
+pub in_limit : (i : ℕ) (b : Bool) → i < 1024 → (nat_lt i 1024 && b) ≡ b
+in_limit i b below = ap (λ a. a && b) (lt-ltb i 1024 below)
+
+-- each index and 1, where another index stands at 0
+pub moved_by_one : (p : ℕ → Bool) (j start : ℕ) (u r : Bool) → u ≡ (nat_lt j 1024 && (nat_le 1 j && p (j - 1))) →
+    r ≡ (if j == 0 then p start else u) → r ≡ (nat_lt j 1024 && p (if j == 0 then start else j - 1))
+moved_by_one p j start u r up both =
+    elim (cases_eq j 0) [
+      | inl e ↦
+          let first : (j == 0) ≡ true = eq-eqb j 0 e in
+          both ∙ ap (λ b. if b then p start else u) first
+          ∙ sym (in_limit j _ (omega arith) ∙ ap (λ b. p (if b then start else j - 1)) first)
+      | inr d ↦
+          let later : (j == 0) ≡ false = ne_eqb j 0 d in
+          let le : nat_le 1 j ≡ true = le-leb 1 j (omega arith) in
+          both ∙ ap (λ b. if b then p start else u) later ∙ up ∙ ap (λ b. nat_lt j 1024 && (b && p (j - 1))) le
+          ∙ sym (ap (λ b. nat_lt j 1024 && p (if b then start else j - 1)) later)
     ]
 
 -- ---- turned within a period

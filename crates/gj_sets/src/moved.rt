@@ -22,7 +22,7 @@ impl IndexSet {
     /// Each index and s. Those that are not below the limit are left out.
     pub fn up(&self, s: usize) -> IndexSet
         requires { s ≤ LIMIT }
-        ensures { (i : ℕ) → i < LIMIT → has result i ≡ (nat_le s i && has self.now (i - s)) }
+        ensures { (i : ℕ) → has result i ≡ (nat_lt i LIMIT && (nat_le s i && has self.now (i - s))) }
     {
         let mut wide = [0u64; 33];
         u64x16::from_array(self.words).copy_to_slice(&mut wide[16..32]);
@@ -51,11 +51,11 @@ impl IndexSet {
         set
     }
 
-    /// Each index and 1, where n - 1 becomes 0 too.
+    /// Each index and 1, where n - 1 becomes 0 too. The one that would reach the limit is left out.
     pub fn turned_up(&self, n: usize) -> IndexSet
         requires some { 1 ≤ n }
         requires period { n ≤ LIMIT }
-        ensures { (j : ℕ) → j < LIMIT → has result j ≡ has self.now (if j == 0 then n - 1 else j - 1) }
+        ensures { (j : ℕ) → has result j ≡ (nat_lt j LIMIT && has self.now (if j == 0 then n - 1 else j - 1)) }
     {
         let mut set = self.up(1);
         set.put(0, self.contains(n - 1));

@@ -10,6 +10,7 @@ pub mod GivenPoints
 pub mod GivenFractions
 pub mod GivenLemmas
 pub mod InOrder
+pub mod InsideFractions
 pub mod LastElements
 pub mod LeastDenominator
 pub mod NumeratorBounds

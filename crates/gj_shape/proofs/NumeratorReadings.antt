@@ -1,8 +1,8 @@
 -- How the code reads the numerators of a function.
-use Rattle.std.proofs.Common.{◌≡◌, ℕ, ◌%◌, ◌<◌, ◌^◌, ℤ, pos, List, length, get_or, unsigned_abs, FitsSigned, to_z, of_z, w64, sym, ap, ap₂, ◌∙◌, arith}
+use Rattle.std.proofs.Common.{◌≡◌, ℕ, ◌%◌, ◌<◌, ◌^◌, ℤ, pos, List, length, get_or, unsigned_abs, FitsSigned, to_z, of_z, w64, sym, subst, ap, ap₂, ◌∙◌, arith}
 use Rattle.std.proofs.lemmas.Int.{ints, to_z-of_z}
 use Rattle.gj_shape.specs.FunctionData.{FunctionData, IsWithinBounds, IsSmallOver, at}
-use Rattle.gj_shape.proofs.AtLemmas.{at_below, at_left_small, at_value_small, at_right_small}
+use Rattle.gj_shape.proofs.AtLemmas.{at_below, at_read, at_wrapped, at_left_small, at_value_small, at_right_small}
 
 -- ---- a numerator has 51 bits
 
@@ -38,3 +38,8 @@ unfolding at
 rest_read xs ys i k n e len k_is fits =
     to_z-of_z w64 (get_or xs k (pos 0)) fits
     ∙ ap₂ (λ zs j. get_or zs j (pos 0)) e (k_is ∙ ap (λ m. i % m) (sym len))
+
+-- an entry that was read at the remainder of an index
+pub remainder_read : (xs : List ℤ) (i k n : ℕ) (x : ℤ) → length xs ≡ n → k ≡ i % n → k < n → x ≡ get_or xs k x → x ≡ at xs i
+remainder_read xs i k n x len k_is below read =
+    sym (at_read xs k x (subst (λ m. k < m) (sym len) below) read) ∙ at_wrapped xs i k n len k_is

@@ -1,9 +1,10 @@
 //! Functions of period 1 that are affine between neighbouring multiples of 1/q.
-ghost use Rattle.std.specs.Prelude.{◌≡◌, ◌<◌, ℕ, pos, IfOk, IfErr, IfSome, IfNone, IsTrue, ◌↔◌};
-ghost use Rattle.gj_frac.specs.Fraction.{IsRatio};
+ghost use Rattle.std.specs.Prelude.{◌≡◌, ◌<◌, ◌%◌, ℕ, pos, All, IfOk, IfErr, IfSome, IfNone, IsTrue, ◌↔◌};
+ghost use Rattle.gj_frac.specs.Fraction.{IsRatio, IsInside};
 ghost use Rattle.gj_shape.specs.FunctionData.{IsWithinBounds, IsContinuous, IsJump, at, function_over};
 ghost use Rattle.gj_shape.specs.Given.{in_order, HaveLength, IsOrder, IsPlace};
 ghost use Rattle.gj_shape.specs.Denominators.{AreWithinBoundsOver};
+ghost use Rattle.gj_shape.specs.Limits.{IsNumerator};
 
 use crate::denominators::common_denominator;
 use crate::faults::ShapeFault;
@@ -160,12 +161,21 @@ impl Shape {
         i128::from(self.scale)
     }
 
+    /// f, which is k/q.
+    pub fn f(&self) -> Frac
+        ensures value { IsRatio result (pos self.now.place) (pos self.now.order) }
+        ensures inside { IsInside result }
+        ensures limits { IsWithinBounds self.now }
+    {
+        Frac::ratio(i64::from(self.place), self.order)
+    }
+
     /// The limit from the left at i/q.
     pub fn left(&self, i: u32) -> Frac
         requires { i < self.now.order }
         ensures { IsRatio result (at self.now.left i) (pos self.now.scale) }
     {
-        Frac::ratio(self.left[i as usize], self.scale)
+        Frac::ratio(self.left_numerator(i), self.scale)
     }
 
     /// The value at i/q.
@@ -173,7 +183,7 @@ impl Shape {
         requires { i < self.now.order }
         ensures { IsRatio result (at self.now.value i) (pos self.now.scale) }
     {
-        Frac::ratio(self.value[i as usize], self.scale)
+        Frac::ratio(self.value_numerator(i), self.scale)
     }
 
     /// The limit from the right at i/q.
@@ -181,36 +191,73 @@ impl Shape {
         requires { i < self.now.order }
         ensures { IsRatio result (at self.now.right i) (pos self.now.scale) }
     {
-        Frac::ratio(self.right[i as usize], self.scale)
+        Frac::ratio(self.right_numerator(i), self.scale)
     }
 
-    /// The limit from the left at i/q, times the common denominator.
+    /// The index modulo q. No division is needed below q.
+    fn remainder(&self, i: u32) -> usize
+        ensures value { result ≡ i % self.now.order }
+        ensures below { result < self.now.order }
+    {
+        if i < self.order {
+            i as usize
+        } else {
+            (i % self.order) as usize
+        }
+    }
+
+    /// The limit from the left at i/q, times the common denominator; i is read modulo q.
+    pub fn left_numerator(&self, i: u32) -> i64
+        ensures value { result ≡ at self.now.left i }
+        ensures small { IsNumerator result }
+        ensures limits { IsWithinBounds self.now }
+    {
+        self.left[self.remainder(i)]
+    }
+
+    /// The value at i/q, times the common denominator; i is read modulo q.
+    pub fn value_numerator(&self, i: u32) -> i64
+        ensures value { result ≡ at self.now.value i }
+        ensures small { IsNumerator result }
+        ensures limits { IsWithinBounds self.now }
+    {
+        self.value[self.remainder(i)]
+    }
+
+    /// The limit from the right at i/q, times the common denominator; i is read modulo q.
+    pub fn right_numerator(&self, i: u32) -> i64
+        ensures value { result ≡ at self.now.right i }
+        ensures small { IsNumerator result }
+        ensures limits { IsWithinBounds self.now }
+    {
+        self.right[self.remainder(i)]
+    }
+
+    /// The limit from the left at i/q, times the common denominator; i is read modulo q.
     pub fn left_num(&self, i: u32) -> i128
-        requires { i < self.now.order }
         ensures { result ≡ at self.now.left i }
     {
-        i128::from(self.left[i as usize])
+        i128::from(self.left_numerator(i))
     }
 
-    /// The value at i/q, times the common denominator.
+    /// The value at i/q, times the common denominator; i is read modulo q.
     pub fn value_num(&self, i: u32) -> i128
-        requires { i < self.now.order }
         ensures { result ≡ at self.now.value i }
     {
-        i128::from(self.value[i as usize])
+        i128::from(self.value_numerator(i))
     }
 
-    /// The limit from the right at i/q, times the common denominator.
+    /// The limit from the right at i/q, times the common denominator; i is read modulo q.
     pub fn right_num(&self, i: u32) -> i128
-        requires { i < self.now.order }
         ensures { result ≡ at self.now.right i }
     {
-        i128::from(self.right[i as usize])
+        i128::from(self.right_numerator(i))
     }
 
     /// The limits from the left at 0, 1/q, .., (q - 1)/q, each times the common denominator.
     pub fn left_numerators(&self) -> &[i64]
         ensures value { result.now ≡ self.now.left }
+        ensures small { All IsNumerator result.now }
         ensures limits { IsWithinBounds self.now }
     {
         self.left.as_slice()
@@ -219,6 +266,7 @@ impl Shape {
     /// The values at 0, 1/q, .., (q - 1)/q, each times the common denominator.
     pub fn value_numerators(&self) -> &[i64]
         ensures value { result.now ≡ self.now.value }
+        ensures small { All IsNumerator result.now }
         ensures limits { IsWithinBounds self.now }
     {
         self.value.as_slice()
@@ -227,6 +275,7 @@ impl Shape {
     /// The limits from the right at 0, 1/q, .., (q - 1)/q, each times the common denominator.
     pub fn right_numerators(&self) -> &[i64]
         ensures value { result.now ≡ self.now.right }
+        ensures small { All IsNumerator result.now }
         ensures limits { IsWithinBounds self.now }
     {
         self.right.as_slice()

@@ -1,28 +1,22 @@
-//! Values by hand.
+//! Values by hand. A function beside a test answers whether its values are as they must be, and
+//! none if a call gives none.
 mod callers;
 mod cuts;
 mod faces;
 mod fractions;
-mod functions;
-mod intervals;
 mod numbers;
 mod rows;
-mod rules;
+mod shapes;
+mod slopes;
 mod streams;
 mod texts;
-mod verdicts;
 
 use gj_frac::Frac;
 use gj_shape::Shape;
-use std::test::Fail;
+use std::alloc::Global;
 
-/// The fraction n/d.
-fn fraction(n: i128, d: i128) -> Result<Frac, &'static str> {
-    Frac::new(n, d).ok_or("no fraction")
-}
-
-/// The function with f = 1/2 that is 0 at 0 and 1 at 1/2, and affine between.
-fn tent(rt: &HostRuntime) -> Result<Shape, Fail> {
-    let values = [fraction(0, 1)?, fraction(1, 1)?];
-    Ok(Shape::new(rt.alloc(), 2, 1, &values, &values, &values)?)
+/// The function with f = 1/2 that is 0 at 0 and has this value at 1/2, and is affine between.
+fn of_order_2(alloc: Global, peak: Frac) -> Option<Shape> {
+    let values = [Frac::ratio(0, 1), peak];
+    Shape::new(alloc, 2, 1, &values, &values, &values).ok()
 }

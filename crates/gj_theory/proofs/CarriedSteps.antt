@@ -19,7 +19,7 @@ use Rattle.gj_theory.proofs.TightFaces.{tight_in_face}
 pub all_of_any : {A : Type 0} (P Q : A → Type 0) (xs : List A) → All P xs → Any Q xs → (x : A) × P x × Q x
 all_of_any P Q xs all some = (some.1, subst P some.3 (all some.0 some.1 some.2), some.4)
 
-all_two : (P : ℕ → Type 0) (x y : ℕ) → P x → P y → All P (x ∷ y ∷ [])
+pub all_two : (P : ℕ → Type 0) (x y : ℕ) → P x → P y → All P (x ∷ y ∷ [])
 all_two P x y first second = All-cons P x (y ∷ []) first (All-cons P y [] second (All-nil P))
 
 pub all_three : (P : ℕ → Type 0) (x y z : ℕ) → P x → P y → P z → All P (x ∷ y ∷ z ∷ [])

@@ -252,7 +252,7 @@ not_no_list P (suc n) refuse = not_no_list P n with_last
         further j (k, below, there) = (suc k, omega arith, there)
 
 -- no interval is uncovered if the table on the grid of order 4 q has no perturbation
-not_uncovered : (f : FunctionData) → IsWithinBounds f → IsContinuous f → IsMinimal f →
+pub not_uncovered : (f : FunctionData) → IsWithinBounds f → IsContinuous f → IsMinimal f →
     HasNoPerturbation (table f 4) (f.order * 4) (f.place * 4) → (i : ℕ) → i < f.order →
     (IsCovered f.order (IsTight f) i → ⊥) → ⊥
 not_uncovered f l c h none i i_low out = not_no_list Covered f.order by_zigzag

@@ -21,7 +21,7 @@ use Rattle.gj_theory.proofs.Affine.{limit_count, weighted, table_at_place, table
 use Rattle.gj_theory.proofs.EachTest.{test_has}
 
 -- each test of the function passes
-abbrev PassesEach : FunctionData → Type 0
+abbrev pub PassesEach : FunctionData → Type 0
 PassesEach f = (t : Test) → IsTestOf f t → Passes f t
 
 -- a place of a grid lies at a multiple of 1/order or between two neighbours
@@ -70,7 +70,7 @@ sign_at f l h m i a some (inside r u e whole u_some r_some) =
 -- ---- symmetry
 
 -- the limits at opposite places add up to 1: b + 1 is opposite to a
-limits_symmetric : (f : FunctionData) → IsWithinBounds f → PassesEach f → (a b : ℕ) →
+pub limits_symmetric : (f : FunctionData) → IsWithinBounds f → PassesEach f → (a b : ℕ) →
     (a + (b + 1)) % f.order ≡ f.place % f.order → at f.right a +ℤ at f.left (b + 1) ≡ pos f.scale
 limits_symmetric f l h a b e =
     let some : 0 < f.order = omega arith in
@@ -81,7 +81,7 @@ limits_symmetric f l h a b e =
     (opposite_index a (b + 1) f.place f.order some e) in
     ap₂ (λ x y. x +ℤ y) first second ∙ (h (symmetric_between c) (mod-lt a some)).0
 
-values_symmetric : (f : FunctionData) → IsWithinBounds f → PassesEach f → (a b : ℕ) →
+pub values_symmetric : (f : FunctionData) → IsWithinBounds f → PassesEach f → (a b : ℕ) →
     (a + b) % f.order ≡ f.place % f.order → at f.value a +ℤ at f.value b ≡ pos f.scale
 values_symmetric f l h =
     symmetric_everywhere f.value f.order f.place f.scale l.value_length (omega arith)

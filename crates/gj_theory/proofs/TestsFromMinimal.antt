@@ -33,12 +33,12 @@ limit_from_near n x d h =
     subst (λ m. pos 0 ≤ℤ (pos m *ℤ x +ℤ d)) back (h (k + n) (omega arith) (omega arith)) in
     omega (arith, ints))
 
-right_limit : (f : FunctionData) → IsMinimal f → (i : ℕ) → pos 0 ≤ℤ at f.right i
+pub right_limit : (f : FunctionData) → IsMinimal f → (i : ℕ) → pos 0 ≤ℤ at f.right i
 right_limit f h i =
     limit_from_near 2 (at f.right i) (total (at f.right i ∷ at f.left (i + 1) ∷ [])) (λ n low some.
     subst (λ z. pos 0 ≤ℤ z) (near_after f i n low) ((h n some).nonnegative (i * n + 1)))
 
-left_limit : (f : FunctionData) → IsMinimal f → (i : ℕ) → pos 0 ≤ℤ at f.left (i + 1)
+pub left_limit : (f : FunctionData) → IsMinimal f → (i : ℕ) → pos 0 ≤ℤ at f.left (i + 1)
 left_limit f h i =
     limit_from_near 2 (at f.left (i + 1)) (total (at f.right i ∷ at f.left (i + 1) ∷ [])) (λ n low some.
     subst (λ z. pos 0 ≤ℤ z) (near_before f i n low) ((h n some).nonnegative (i * n + n - 1)))
@@ -47,7 +47,8 @@ left_limit f h i =
 excess : (s w : ℤ) {x : ℤ} → x ≡ s +ℤ w → s ≤ℤ x → pos 0 ≤ℤ w
 excess s w e h = omega (arith, ints)
 
-slack_limit : (f : FunctionData) → IsWithinBounds f → IsMinimal f → (kind : FaceKind) (a b c : ℕ) →
+pub slack_limit : (f : FunctionData) → IsWithinBounds f → IsMinimal f →
+    (kind : FaceKind) (a b c : ℕ) →
     c < length (corners_of kind a b) → pos 0 ≤ℤ get_or (limits_of f kind a b) c (pos 0)
 slack_limit f l h kind a b c below =
     limit_from_near (length (limits_of f kind a b)) (get_or (limits_of f kind a b) c (pos 0))
@@ -61,7 +62,8 @@ slack_limit f l h kind a b c below =
 -- ---- symmetry
 
 -- the values at opposite places inside intervals, on a grid
-between_on_grid : (f : FunctionData) → IsMinimal f → (i j u r : ℕ) → 0 < u → 0 < r → i + j + 1 ≡ f.place + f.order →
+pub between_on_grid : (f : FunctionData) → IsMinimal f → (i j u r : ℕ) → 0 < u → 0 < r →
+    i + j + 1 ≡ f.place + f.order →
     (pos u *ℤ at f.right i +ℤ pos r *ℤ at f.left (i + 1)) +ℤ (pos r *ℤ at f.right j +ℤ pos u *ℤ at f.left (j + 1))
     ≡ pos (f.scale * (u + r))
 between_on_grid f h i j u r u_some r_some e =
@@ -96,7 +98,8 @@ symmetric_values f h i below =
 
 -- ---- all tests
 
-passes_each : (f : FunctionData) → IsWithinBounds f → IsMinimal f → (t : Test) → IsTestOf f t → Passes f t
+pub passes_each : (f : FunctionData) → IsWithinBounds f → IsMinimal f →
+    (t : Test) → IsTestOf f t → Passes f t
 passes_each f l h zero_at_zero i = sym (table_of_order f 0) ∙ (h 1 (omega arith)).zero_at_zero
 passes_each f l h (nonnegative_at k) i =
     subst (λ z. pos 0 ≤ℤ z) (table_of_order f k) ((h 1 (omega arith)).nonnegative k)

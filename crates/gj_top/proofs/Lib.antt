@@ -23,4 +23,5 @@ pub mod Refusals
 pub mod Shown
 pub mod Sound
 pub mod TextLaws
+pub mod TwoSlopeAnswers
 pub mod Verdicts

@@ -35,7 +35,7 @@ use Rattle.gj_proof.specs.declared.cut.CutRule.TheVariants.{Gmic, Table}
 use Rattle.gj_proof.specs.declared.cut.CutTerm.{CutTerm}
 use Rattle.gj_proof.specs.declared.cut.SkipReason.{SkipReason}
 use Rattle.gj_proof.specs.declared.cut.SkipReason.TheVariants.{Integral, Other}
-use Rattle.gj_mtext.specs.CutLines.{IsLineFor, IsTermFor}
+use Rattle.gj_claims.specs.CutLines.{IsLineFor, IsTermFor}
 use Rattle.gj_claims.specs.CutRules.{MakesCuts}
 use Rattle.gj_top.specs.declared.reply.End.{End}
 use Rattle.gj_top.specs.declared.reply.End.TheVariants as end

@@ -1,11 +1,12 @@
 -- The commands `faces`, `fill` and `demo` have one answer.
-use Rattle.std.proofs.Common.{◌≡◌, ◌≢◌, ℕ, ◌+◌, ◌*◌, ◌<◌, Bool, true, false, cond, ◌&&◌, ℤ, pos, neg_ℤ, int_lt, ◌+ℤ◌, ◌*ℤ◌, unsigned_abs, List, [], ◌∷◌, ◌++◌, All, length, codes, flat_map, refl, sym, ap, ap₂, subst, ◌∙◌, arith}
+use Rattle.std.proofs.Common.{◌≡◌, ◌≢◌, ℕ, ◌+◌, ◌*◌, ◌<◌, Bool, true, false, cond, ◌&&◌, ℤ, pos, neg_ℤ, int_lt, ◌+ℤ◌, ◌*ℤ◌, unsigned_abs, List, [], ◌∷◌, ◌++◌, All, length, codes, map, flat_map, refl, sym, ap, ap₂, subst, ◌∙◌, arith}
 use Rattle.std.specs.List.{AllZip}
 use Rattle.std.proofs.lemmas.Int.{ints}
 use Rattle.std.proofs.lemmas.List.Elements.{All-head, All-tail}
 use Rattle.gj_lemmas.proofs.Integers.{one_mul_z, mul_some_z}
 use Rattle.gj_lemmas.proofs.Lists.{All-one, All-two, All-joined}
 use Rattle.gj_lemmas.proofs.Ring.{by_ring, ring}
+use Rattle.gj_frac.specs.declared.Frac.{Frac}
 use Rattle.gj_frac.specs.Fraction.{IsRatio}
 use Rattle.gj_frac.proofs.SameValues.{same_from_is}
 use Rattle.gj_lex.specs.NumberText.{fraction_text}
@@ -15,13 +16,12 @@ use Rattle.gj_shape.specs.Additive.{IsTight}
 use Rattle.gj_shape.specs.Cover.{components_in}
 use Rattle.gj_shape.specs.FirstViolation.{IsLeastFrom}
 use Rattle.gj_shape.specs.FunctionData.{FunctionData, IsWithinBounds, at}
-use Rattle.gj_shape.specs.declared.breaks.Break.{Break}
 use Rattle.gj_shape.specs.declared.extremality.CoverLine.{CoverLine}
 use Rattle.gj_shape.specs.declared.extremality.Halves.{Halves}
 use Rattle.gj_shape.specs.declared.faces.Face.{Face}
 use Rattle.gj_shape.specs.TwoSlopes.{rise}
 use Rattle.gj_shape.proofs.AlikeFunctions.{alike_are_same, continuous_alike}
-use Rattle.gj_function_text.specs.FunctionText.{canonical_breaks_text}
+use Rattle.gj_function_text.specs.FunctionText.{canonical_breaks_text, even_break}
 use Rattle.gj_faces.specs.Picked.{ArePicked, none, kept, dropped}
 use Rattle.gj_cover.proofs.Classes.{one_least}
 use Rattle.gj_extreme.specs.Decision.{IsDecided}
@@ -29,7 +29,7 @@ use Rattle.gj_extreme.proofs.OneCover.{one_cover}
 use Rattle.gj_extreme.proofs.OneDecision.{one_decision}
 use Rattle.gj_proof.specs.declared.claim.Claim.TheVariants.{NotExtreme}
 use Rattle.gj_fill.specs.FillIn.{AreGreatestSteps, filled}
-use Rattle.gj_fill.specs.FillPoints.{GraphPoint, value_point, crossing_point, points_from, fill_points, IsBreakAt, AreFillBreaks}
+use Rattle.gj_fill.specs.FillPoints.{GraphPoint, value_point, crossing_point, points_from, fill_points, IsPairOf, AreFillPoints}
 use Rattle.gj_fill.specs.FirstPair.{IsSuperadditivePair}
 use Rattle.gj_fill.proofs.FillIns.{at_place}
 use Rattle.gj_demo.specs.Demo.{IsDemo, demo_number}
@@ -37,7 +37,7 @@ use Rattle.gj_demo.specs.Summary.{IsSummary, HasSummary, lines_with}
 use Rattle.gj_top.specs.declared.reply.End.{End}
 use Rattle.gj_top.specs.declared.reply.End.TheVariants as end
 use Rattle.gj_top.specs.Demo.{IsDemoReply, demo}
-use Rattle.gj_facetext.specs.FacesText.{IsFacesText, uncovered_line}
+use Rattle.gj_listings.specs.FacesText.{IsFacesText, uncovered_line}
 use Rattle.gj_top.specs.Faces.{IsFacesReply, faces}
 use Rattle.gj_top.specs.Fill.{IsFillText, NamesFirstPair, IsFillReply, fill}
 use Rattle.gj_top.proofs.Determined.{IsDetermined}
@@ -100,29 +100,27 @@ one_fall v s t u w h k =
     let b = k.fall.1 in
     omega (arith, ints)
 
--- a point with bottoms that are not 0 is one breakpoint
+-- a point with bottoms that are not 0 is one pair of fractions
 record IsDefined (p : GraphPoint) : Type 0 where
   across : unsigned_abs p.x.bottom ≢ 0
   up : unsigned_abs p.y.bottom ≢ 0
 
-same_break : (b c : Break) → b.x ≡ c.x → b.left ≡ c.left → b.value ≡ c.value → b.right ≡ c.right → b ≡ c
-same_break b c e g j k = λ i. record { x = e i; left = g i; value = j i; right = k i }
+one_pair_of : (p : GraphPoint) (b c : Frac × Frac) → IsDefined p → IsPairOf p b → IsPairOf p c → b ≡ c
+one_pair_of p b c some h k =
+    let x : b.0 ≡ c.0 = same_from_is b.0 c.0 p.x.top p.x.bottom some.across h.x k.x in
+    let value : b.1 ≡ c.1 = same_from_is b.1 c.1 p.y.top p.y.bottom some.up h.value k.value in
+    λ i. (x i, value i)
 
-one_break : (p : GraphPoint) (b c : Break) → IsDefined p → IsBreakAt p b → IsBreakAt p c → b ≡ c
-one_break p b c some h k =
-    let value : b.value ≡ c.value = same_from_is b.value c.value p.y.top p.y.bottom some.up h.value k.value in
-    same_break b c (same_from_is b.x c.x p.x.top p.x.bottom some.across h.x k.x) (h.left ∙ value ∙ sym k.left) value
-    (h.right ∙ value ∙ sym k.right)
-
-one_breaks : (ps : List GraphPoint) (bs cs : List Break) → All IsDefined ps → AllZip IsBreakAt ps bs → AllZip IsBreakAt ps cs → bs ≡ cs
-one_breaks [] [] [] some h k = refl
-one_breaks [] [] (c ∷ cs) some h k = absurd k
-one_breaks [] (b ∷ bs) cs some h k = absurd h
-one_breaks (p ∷ ps) [] cs some h k = absurd h
-one_breaks (p ∷ ps) (b ∷ bs) [] some h k = absurd k
-one_breaks (p ∷ ps) (b ∷ bs) (c ∷ cs) some h k =
-    ap₂ (λ z zs. z ∷ zs) (one_break p b c (All-head IsDefined p ps some) h.0 k.0)
-    (one_breaks ps bs cs (All-tail IsDefined p ps some) h.1 k.1)
+one_list_of_pairs : (ps : List GraphPoint) (bs cs : List (Frac × Frac)) → All IsDefined ps → AllZip IsPairOf ps bs → AllZip IsPairOf ps cs →
+    bs ≡ cs
+one_list_of_pairs [] [] [] some h k = refl
+one_list_of_pairs [] [] (c ∷ cs) some h k = absurd k
+one_list_of_pairs [] (b ∷ bs) cs some h k = absurd h
+one_list_of_pairs (p ∷ ps) [] cs some h k = absurd h
+one_list_of_pairs (p ∷ ps) (b ∷ bs) [] some h k = absurd k
+one_list_of_pairs (p ∷ ps) (b ∷ bs) (c ∷ cs) some h k =
+    ap₂ (λ z zs. z ∷ zs) (one_pair_of p b c (All-head IsDefined p ps some) h.0 k.0)
+    (one_list_of_pairs ps bs cs (All-tail IsDefined p ps some) h.1 k.1)
 
 value_defined : (f : FunctionData) (a : ℕ) → IsWithinBounds f → IsDefined (value_point f a)
 value_defined f a l =
@@ -149,19 +147,20 @@ points_here f s t a l = by_tests (int_lt (neg_ℤ t) (rise f a)) (int_lt (rise f
 points_defined : (f : FunctionData) (s t : ℤ) → IsWithinBounds f → All IsDefined (fill_points f s t)
 points_defined f s t l = All-joined IsDefined (points_from f s t) 0 f.order (λ a below. points_here f s t a l)
 
-one_fill_breaks : (f : FunctionData) (bs cs : List Break) → IsWithinBounds f → AreFillBreaks f bs → AreFillBreaks f cs → bs ≡ cs
-one_fill_breaks f bs cs l h k =
+one_list_of_fill_points : (f : FunctionData) (bs cs : List (Frac × Frac)) → IsWithinBounds f → AreFillPoints f bs → AreFillPoints f cs → bs ≡ cs
+one_list_of_fill_points f bs cs l h k =
     let s : k.rise ≡ h.rise = one_rise (at f.value) k.rise k.fall h.rise h.fall k.greatest h.greatest in
     let t : k.fall ≡ h.fall = one_fall (at f.value) k.rise k.fall h.rise h.fall k.greatest h.greatest in
     let points : fill_points f k.rise k.fall ≡ fill_points f h.rise h.fall = ap₂ (fill_points f) s t in
-    one_breaks (fill_points f h.rise h.fall) bs cs (points_defined f h.rise h.fall l) h.points
-    (subst (λ (ps : List GraphPoint). AllZip IsBreakAt ps cs) points k.points)
+    one_list_of_pairs (fill_points f h.rise h.fall) bs cs (points_defined f h.rise h.fall l) h.are_points
+    (subst (λ (ps : List GraphPoint). AllZip IsPairOf ps cs) points k.are_points)
 
 one_fill_text : (f : FunctionData) (x y : List ℕ) → IsWithinBounds f → IsFillText f x → IsFillText f y → x ≡ y
 one_fill_text f x y l h k =
     let low = l.order_low in
     let place : h.place ≡ k.place = same_from_is h.place k.place (pos f.place) (pos f.order) (omega (arith, ints)) h.place_is k.place_is in
-    h.spelled ∙ ap₂ canonical_breaks_text place (one_fill_breaks f h.breaks k.breaks l h.breaks_are k.breaks_are) ∙ sym k.spelled
+    h.spelled ∙ ap₂ (λ x pairs. canonical_breaks_text x (map even_break pairs)) place
+    (one_list_of_fill_points f h.points k.points l h.points_are k.points_are) ∙ sym k.spelled
 
 one_pair_text : (f : FunctionData) (x y : List ℕ) → IsWithinBounds f → NamesFirstPair f x → NamesFirstPair f y → x ≡ y
 one_pair_text f x y l h k =
@@ -182,11 +181,11 @@ at_one v s t a h =
 
 filled_has_no_pair : (f : FunctionData) (x y : List ℕ) → IsFillText f x → NamesFirstPair f y → ⊥
 filled_has_no_pair f x y h k =
-    let greatest = h.breaks_are.greatest in
-    let s = h.breaks_are.rise in
-    let t = h.breaks_are.fall in
+    let greatest = h.points_are.greatest in
+    let s = h.points_are.rise in
+    let t = h.points_are.fall in
     let above = k.first.second.holds in
-    let below = h.subadditive 1 (omega arith) k.a k.b in
+    let below = h.fill_in.subadditive 1 (omega arith) k.a k.b in
     let whole = at_one (at f.value) s t (k.a + k.b) greatest in
     let first = at_one (at f.value) s t k.a greatest in
     let second = at_one (at f.value) s t k.b greatest in

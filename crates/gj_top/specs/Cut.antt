@@ -22,7 +22,7 @@ use Rattle.gj_proof.specs.declared.claim.Claim.TheVariants as claim
 use Rattle.gj_proof.specs.declared.cut.CutLine.{CutLine}
 use Rattle.gj_proof.specs.declared.cut.CutRule.{CutRule}
 use Rattle.gj_proof.specs.declared.cut.CutRule.TheVariants.{Gmic, Table}
-use Rattle.gj_mtext.specs.CutLines.{IsLineFor}
+use Rattle.gj_claims.specs.CutLines.{IsLineFor}
 use Rattle.gj_claims.specs.CutRules.{MakesCuts}
 use Rattle.gj_top.specs.declared.reply.End.{End}
 use Rattle.gj_top.specs.declared.reply.End.TheVariants.{Done, NoFunction}

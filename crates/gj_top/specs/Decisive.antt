@@ -1,4 +1,4 @@
--- What `extreme` says of a function, by its table of order 4 q (own).
+-- What `extreme` says of a function: by its table of order 4 q (own), and if it has two slopes (Gomory and Johnson 1972).
 use Rattle.std.specs.Prelude.{ℕ, ◌≡◌, ◌↔◌, Bool, true, false, List, ◌++◌, Option, Some}
 use Rattle.gj_shape.specs.FunctionData.{FunctionData, IsContinuous}
 use Rattle.gj_extreme.specs.Decision.{IsExtremeOnGrid4}
@@ -9,6 +9,12 @@ use Rattle.gj_top.specs.Report.{IsReportOf}
 abbrev pub CallsExtreme : Bool → FunctionData → List ℕ → Type 0
 CallsExtreme false f text = IsExtremeText f text
 CallsExtreme true f text = IsReportOf (IsExtremeText f) text
+
+-- what was written calls f extreme
+pub record IsCalledExtreme (json : Bool) (f : FunctionData) (before : List ℕ) (written : Option (List ℕ)) : Type 0 where
+  pub text : List ℕ
+  pub gain : written ≡ Some (before ++ text)
+  pub called : CallsExtreme json f text
 
 -- f is continuous, and its table of order 4 q is extreme
 abbrev pub IsExtremeByOrder4q : FunctionData → Type 0

@@ -2,7 +2,7 @@
 -- function.
 use Rattle.std.specs.Prelude.{ℕ, List}
 use Rattle.gj_shape.specs.FunctionData.{FunctionData, IsContinuous}
-use Rattle.gj_facetext.specs.FacesText.{IsFacesText}
+use Rattle.gj_listings.specs.FacesText.{IsFacesText}
 use Rattle.gj_top.specs.declared.reply.End.{End}
 use Rattle.gj_top.specs.declared.reply.End.TheVariants.{Done, NotContinuous}
 use Rattle.gj_top.specs.Promise.{Promise}

@@ -1,15 +1,13 @@
 -- The command `fill`: a function text is answered with the two-slope fill-in of its function, by breakpoints (Gomory and Johnson 1972; the
 -- form is own).
-use Rattle.std.specs.Prelude.{ℕ, pos, ◌≡◌, ◌<◌, List, ◌++◌, codes}
+use Rattle.std.specs.Prelude.{ℕ, pos, ◌≡◌, List, ◌++◌, map, codes}
 use Rattle.gj_frac.specs.declared.Frac.{Frac}
 use Rattle.gj_frac.specs.Fraction.{IsRatio}
 use Rattle.gj_lex.specs.NumberText.{fraction_text}
-use Rattle.gj_shape.specs.FunctionData.{FunctionData, IsContinuous, at}
-use Rattle.gj_shape.specs.declared.breaks.Break.{Break}
+use Rattle.gj_shape.specs.FunctionData.{FunctionData, IsContinuous}
 use Rattle.gj_function_lines.specs.FunctionLines.{line}
-use Rattle.gj_function_text.specs.FunctionText.{canonical_breaks_text}
-use Rattle.gj_fill.specs.FillIn.{IsSubadditiveTable, filled}
-use Rattle.gj_fill.specs.FillPoints.{AreFillBreaks}
+use Rattle.gj_function_text.specs.FunctionText.{canonical_breaks_text, even_break}
+use Rattle.gj_fill.specs.FillPoints.{AreFillPoints, IsFillIn}
 use Rattle.gj_fill.specs.FirstPair.{IsFirstPair}
 use Rattle.gj_top.specs.declared.reply.End.{End}
 use Rattle.gj_top.specs.declared.reply.End.TheVariants.{Done, NotContinuous, NotSubadditive}
@@ -18,15 +16,16 @@ use Rattle.gj_top.specs.Task.{Task}
 use Rattle.gj_top.specs.Forms.{function_form, RefusesFunctionText}
 use Rattle.gj_top.specs.Continuity.{NamesFirstJump}
 
--- the function is continuous, and the text is that of the points of its fill-in, which is subadditive on every grid
+-- the function is continuous, and the text is that of the points of its fill-in
 pub record IsFillText (f : FunctionData) (text : List ℕ) : Type 0 where
   pub continuous : IsContinuous f
   pub place : Frac
-  pub breaks : List Break
+  pub points : List (Frac × Frac)
   pub place_is : IsRatio place (pos f.place) (pos f.order)
-  pub breaks_are : AreFillBreaks f breaks
-  pub subadditive : (m : ℕ) → 0 < m → IsSubadditiveTable (filled (at f.value) breaks_are.rise breaks_are.fall m)
-  pub spelled : text ≡ canonical_breaks_text place breaks
+  pub points_are : AreFillPoints f points
+  -- which is the function at the multiples of 1/order, subadditive, and affine between its points
+  pub fill_in : IsFillIn f points_are.rise points_are.fall
+  pub spelled : text ≡ canonical_breaks_text place (map even_break points)
 
 -- the text names the first two multiples of 1/order at which the function is not subadditive
 pub record NamesFirstPair (f : FunctionData) (text : List ℕ) : Type 0 where

@@ -4,7 +4,7 @@ use Rattle.std.specs.Prelude.{ℕ, List}
 use Rattle.gj_shape.specs.Table.{IsMinimal}
 use Rattle.gj_proof.specs.declared.cut.CutRule.{CutRule}
 use Rattle.gj_proof.specs.declared.cut.CutRule.TheVariants.{Gmic, Table}
-use Rattle.gj_mtext.specs.MixedLines.{AreMixedCutsOf, MakesMixedCuts}
+use Rattle.gj_listings.specs.MixedLines.{AreMixedCutsOf, MakesMixedCuts}
 use Rattle.gj_top.specs.declared.reply.End.{End}
 use Rattle.gj_top.specs.declared.reply.End.TheVariants.{Done, NotContinuous, NoFunction}
 use Rattle.gj_top.specs.Promise.{Promise}

@@ -6,7 +6,7 @@ ghost use Rattle.gj_top.specs.Faces.{IsFacesReply, faces};
 use crate::continuity::jump_line;
 use crate::forms::function_of;
 use crate::reply::{End, Reply, Unanswered};
-use gj_facetext::faces_text;
+use gj_listings::faces_text;
 use gj_shape::Shape;
 use std::alloc::{AllocError, Global};
 

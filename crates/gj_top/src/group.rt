@@ -8,7 +8,7 @@ use crate::continuity::jump_line;
 use crate::forms::function_of;
 use crate::reply::{End, Reply, Unanswered};
 use gj_group::{GREATEST_GROUP_ORDER, GroupFault, decide_group};
-use gj_gtext::group_text;
+use gj_listings::group_text;
 use gj_shape::Shape;
 use std::alloc::{AllocError, Global};
 

@@ -4,6 +4,8 @@
 ghost use Rattle.std.specs.Prelude.{◌≡◌, ◌≢◌, ◌⊎◌, ◌≤◌, ℕ, Bool, List, [], length, Some, IfSome, IsTrue};
 ghost use Rattle.gj_port.specs.Faults.{HasFailed};
 ghost use Rattle.gj_shape.specs.FunctionData.{FunctionData};
+ghost use Rattle.gj_shape.specs.Table.{IsMinimal};
+ghost use Rattle.gj_shape.specs.TwoSlopes.{HasTwoSlopes};
 ghost use Rattle.gj_words.specs.declared.requests.Request.{Request};
 ghost use Rattle.gj_top.specs.Command.{IsNamed, NameNone, promise_for, task_for};
 ghost use Rattle.gj_top.specs.Promise.{reads};
@@ -11,7 +13,7 @@ ghost use Rattle.gj_top.specs.Answer.{IsSourceFault, input_limit, words_line, fa
 ghost use Rattle.gj_top.specs.Outcome.{IsOutcome, IsUnsure, Gains};
 ghost use Rattle.gj_top.specs.Asked.{AskIfExtreme};
 ghost use Rattle.gj_top.specs.Narrow.{HasUncoveredInterval, HasAtMostComponents};
-ghost use Rattle.gj_top.specs.Decisive.{IsDecisive};
+ghost use Rattle.gj_top.specs.Decisive.{IsDecisive, IsCalledExtreme};
 ghost use Rattle.gj_top.specs.Causes.{IsInput, IsGoodInput, IsTrueRun, IsDoneRun, ReadNothing, IsStatusOf, IsCause, IsStatusOfReply};
 
 use gj_port::{Sink, Source, write_all};
@@ -103,6 +105,15 @@ pub fn run<S: Source, K: Sink>(
     ensures order_4q { result ≡ Status.Done → (input : List ℕ) (json : Bool) (f : FunctionData) →
         IsInput words.now (S.left source.old) input → AskIfExtreme json words.now input f →
         IfSome (K.written sink.old) (λ before. IsDecisive json f before (K.written sink.new)) }
+
+    // Of a minimal function with two slopes it tells neither that a number is too wide nor that the
+    // function jumps, and with Done it calls it extreme.
+    ensures two_slopes { (input : List ℕ) (json : Bool) (f : FunctionData) → IsInput words.now (S.left source.old) input →
+        AskIfExtreme json words.now input f → IsMinimal f → HasTwoSlopes f →
+        (result ≢ Status.Wide) × (result ≢ Status.NotContinuous) }
+    ensures called_extreme { result ≡ Status.Done → (input : List ℕ) (json : Bool) (f : FunctionData) →
+        IsInput words.now (S.left source.old) input → AskIfExtreme json words.now input f → IsMinimal f → HasTwoSlopes f →
+        IfSome (K.written sink.old) (λ before. IsCalledExtreme json f before (K.written sink.new)) }
 
     // A fault of the source is answered only if there was one.
     ensures read_fault { result ≡ Status.ReadFault → HasFailed (S.faults source.old) (S.faults source.new) }

@@ -1,7 +1,7 @@
 //! The command `mixed`: the mixed cuts of the rows of a tableau, by a function or by the mixed-integer cut.
 ghost use Rattle.std.specs.Prelude.{IfOk, IfSome, IfNone};
 ghost use Rattle.gj_row.specs.TableauLimits.{IsTableau};
-ghost use Rattle.gj_mtext.specs.MixedLines.{MakesMixedCuts};
+ghost use Rattle.gj_listings.specs.MixedLines.{MakesMixedCuts};
 ghost use Rattle.gj_claims.specs.CutRules.{PassesTests};
 ghost use Rattle.gj_top.specs.Task.{IsAnswering};
 ghost use Rattle.gj_top.specs.Mixed.{IsMixedReply, NamesJump, mixed};
@@ -11,7 +11,7 @@ use crate::cut::violation_text;
 use crate::cut_input::{rule_of, tableau_behind};
 use crate::reply::{End, Reply, Unanswered};
 use gj_claims::violation_of_rule;
-use gj_mtext::mixed_text;
+use gj_listings::mixed_text;
 use gj_proof::CutRule;
 use gj_row::Tableau;
 use std::alloc::{AllocError, Global};

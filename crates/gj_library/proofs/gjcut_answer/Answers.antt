@@ -1,6 +1,6 @@
 use Rattle.std.proofs.Common.{ℕ, List, length, take, drop, ◌++◌, subst, sym, arith}
 use Rattle.gj_library.specs.Call.{IsAnswered, IsCall}
-use Rattle.gj_library.proofs.Calls.{front_call, whole_call, headline_of, reply_of, cause_of, narrow_of, order_4q_of, no_read_fault_of, room_of, complete_of, no_text_of}
+use Rattle.gj_library.proofs.Calls.{front_call, whole_call, headline_of, reply_of, cause_of, narrow_of, order_4q_of, two_slopes_of, called_extreme_of, no_read_fault_of, room_of, complete_of, no_text_of}
 use Rattle.gj_library.proofs.gjcut_answer.Goals as goal
 
 -- there is no room for all of the answer
@@ -45,6 +45,15 @@ returns-clause-narrow c = narrow_of _ _ _ _ _ (whole c)
 
 pub returns-clause-order_4q : goal.returns-clause-order_4q
 returns-clause-order_4q c = order_4q_of _ _ _ _ _ (whole c)
+
+pub returns-then-count-text-clause-two_slopes : goal.returns-then-count-text-clause-two_slopes
+returns-then-count-text-clause-two_slopes c = two_slopes_of _ _ _ _ _ (front c)
+
+pub returns-clause-two_slopes : goal.returns-clause-two_slopes
+returns-clause-two_slopes c = two_slopes_of _ _ _ _ _ (whole c)
+
+pub returns-clause-called_extreme : goal.returns-clause-called_extreme
+returns-clause-called_extreme c = called_extreme_of _ _ _ _ _ (whole c)
 
 pub returns-clause-no_text : goal.returns-clause-no_text
 returns-clause-no_text c = no_text_of _ _ _ _ _ (whole c)

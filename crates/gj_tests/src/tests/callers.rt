@@ -1,25 +1,25 @@
 //! The calls of `gj_example` on a function with a verdict by hand.
-use crate::tests::fraction;
-use gj_shape::Shape;
-use std::test::Fail;
 use gj_example::{checked_proof, is_extreme};
+use gj_frac::Frac;
+use gj_shape::Shape;
+use std::alloc::Global;
 
-/// The mixed-integer cut for f = 3/5.
-#[test]
-fn mixed_integer_cut(rt: HostRuntime) -> Result<(), Fail> {
+/// The mixed-integer cut for f = 3/5 is extreme, and its proof says so.
+fn mixed_integer_cut(alloc: Global) -> Option<bool> {
     let values = [
-        fraction(0, 1)?,
-        fraction(1, 3)?,
-        fraction(2, 3)?,
-        fraction(1, 1)?,
-        fraction(1, 2)?,
+        Frac::ratio(0, 1),
+        Frac::ratio(1, 3),
+        Frac::ratio(2, 3),
+        Frac::ratio(1, 1),
+        Frac::ratio(1, 2),
     ];
-    let shape = Shape::new(rt.alloc(), 5, 3, &values, &values, &values)?;
-    assert!(rt; is_extreme(rt.alloc(), &shape)?);
-    let text = checked_proof(rt.alloc(), &shape)?;
-    assert_eq!(rt;
-        &text.as_slice()[..24],
-        b"gj-proof 1\nclaim extreme".as_slice()
-    );
-    Ok(())
+    let shape = Shape::new(alloc, 5, 3, &values, &values, &values).ok()?;
+    let answer = is_extreme(alloc, &shape).ok()?;
+    let text = checked_proof(alloc, &shape).ok()?;
+    Some(answer && text.as_slice().starts_with(b"gj-proof 1\nclaim extreme"))
+}
+
+#[test]
+fn callers(rt: HostRuntime) {
+    assert!(rt; mixed_integer_cut(rt.alloc()) == Some(true));
 }

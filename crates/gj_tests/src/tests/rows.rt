@@ -1,32 +1,11 @@
-//! Elimination: modulo 2^61 - 1 the rows (2^70, 1) and (2^70 - 1, 2^70) are (512, 1) and (511, 512).
+//! Elimination: modulo 2^61 - 1 the rows (2^70, 1) and (2^70 - 1, 2^70) are (512, 1) and
+//! (511, 512).
 ghost use Rattle.std.specs.Prelude.{◌≡◌, length, All, IfOk};
 ghost use Rattle.gj_frac.specs.Fraction.{Fits};
 
-use gj_elim::{Basis, ElimFault, Inserted};
-use gj_residue::{ListedRows, ResidueBasis, Settled, settle};
+use gj_residue::{ListedRows, SettleFault, Settled, settle};
 use gj_shape::List;
 use std::alloc::{AllocError, Global};
-use std::test::Fail;
-
-/// Rows whose steps stay small, and one whose step passes 2^127 - 1.
-#[test]
-fn wide_steps(rt: HostRuntime) -> Result<(), Fail> {
-    let mut basis = Basis::new(rt.alloc(), 2)?;
-    assert_eq!(rt; basis.insert(&[1 << 70, 1])?, Inserted::Pivot(0));
-    assert!(rt;
-        matches!(
-            basis.insert(&[(1 << 70) - 1, 1 << 70]),
-            Err(ElimFault::Wide)
-        )
-    );
-    assert_eq!(rt; basis.inserted(), 1);
-    assert_eq!(rt; basis.insert(&[1 << 71, 2])?, Inserted::Nothing);
-    assert_eq!(rt; basis.inserted(), 2);
-    assert_eq!(rt; basis.rank(), 1);
-    let numbers = basis.kernel()?.ok_or("no kernel")?;
-    assert_eq!(rt; numbers.as_slice(), [-1, 1 << 70].as_slice());
-    Ok(())
-}
 
 /// A source of two rows.
 fn listed(
@@ -48,46 +27,54 @@ fn listed(
     Ok(ListedRows::new(rows))
 }
 
-/// Rows whose residues have pivots, and one of which nothing is left.
-#[test]
-fn residues(rt: HostRuntime) -> Result<(), Fail> {
-    let mut basis = ResidueBasis::new(rt.alloc(), 2)?;
-    assert_eq!(rt; basis.insert(&[1 << 70, 1])?, Inserted::Pivot(0));
-    assert_eq!(rt;
-        basis.insert(&[(1 << 70) - 1, 1 << 70])?,
-        Inserted::Pivot(1)
-    );
-    assert_eq!(rt; basis.insert(&[3, 5])?, Inserted::Nothing);
-    assert_eq!(rt; basis.inserted(), 3);
-    assert_eq!(rt; basis.rank(), 2);
-    assert_eq!(rt; basis.log().len(), 2);
-    Ok(())
-}
-
 /// Two rows that pass 127 bits, and leave only 0.
-#[test]
-fn by_residues(rt: HostRuntime) -> Result<(), Fail> {
-    let mut rows = listed(rt.alloc(), 2, &[1 << 70, 1], &[(1 << 70) - 1, 1 << 70])?;
-    let Settled::Residues(log) = settle(rt.alloc(), 2, &mut rows)? else {
-        return Err(Fail::from("not by residues"));
+fn by_residues(alloc: Global) -> Option<bool> {
+    let Ok(mut rows) = listed(alloc, 2, &[1 << 70, 1], &[(1 << 70) - 1, 1 << 70]) else {
+        return None;
     };
-    assert_eq!(rt; log.len(), 2);
-    assert_eq!(rt; log[0].number, 0);
-    assert_eq!(rt; log[0].reduce.as_slice(), [].as_slice());
-    assert_eq!(rt; log[0].pivot, 0);
-    assert_eq!(rt; log[1].number, 1);
-    assert_eq!(rt; log[1].reduce.as_slice(), [0].as_slice());
-    assert_eq!(rt; log[1].pivot, 1);
-    Ok(())
+    let Ok(Settled::Residues(log)) = settle(alloc, 2, &mut rows) else {
+        return None;
+    };
+    let [first, second] = log.as_slice() else {
+        return None;
+    };
+    let is_first = first.number == 0
+        && first.reduce.as_slice() == [].as_slice()
+        && first.pivot == 0;
+    Some(
+        is_first
+            && second.number == 1
+            && second.reduce.as_slice() == [0].as_slice()
+            && second.pivot == 1,
+    )
 }
 
-/// Rows that a solution remains of.
-#[test]
-fn kernel(rt: HostRuntime) -> Result<(), Fail> {
-    let mut rows = listed(rt.alloc(), 2, &[1 << 70, 1], &[1 << 71, 2])?;
-    let Settled::Kernel(numbers) = settle(rt.alloc(), 2, &mut rows)? else {
-        return Err(Fail::from("no kernel"));
+/// Two rows of which only 0 is a solution, by plain elimination.
+fn plain(alloc: Global) -> Option<bool> {
+    let Ok(mut rows) = listed(alloc, 2, &[3, 2], &[3, 0]) else {
+        return None;
     };
-    assert_eq!(rt; numbers.as_slice(), [-1, 1 << 70].as_slice());
-    Ok(())
+    let Ok(Settled::Plain(log)) = settle(alloc, 2, &mut rows) else {
+        return None;
+    };
+    let [first, second] = log.as_slice() else {
+        return None;
+    };
+    let is_first = first.reduce.as_slice() == [].as_slice() && first.pivot == 0;
+    Some(is_first && second.reduce.as_slice() == [0].as_slice() && second.pivot == 1)
+}
+
+/// Rows that pass 127 bits, and of which residues keep fewer than there are columns.
+fn is_too_wide(alloc: Global) -> Option<bool> {
+    let Ok(mut rows) = listed(alloc, 3, &[1 << 70, 1, 0], &[(1 << 70) - 1, 1 << 70, 0]) else {
+        return None;
+    };
+    Some(matches!(settle(alloc, 3, &mut rows), Err(SettleFault::Wide)))
+}
+
+#[test]
+fn rows(rt: HostRuntime) {
+    assert!(rt; by_residues(rt.alloc()) == Some(true));
+    assert!(rt; plain(rt.alloc()) == Some(true));
+    assert!(rt; is_too_wide(rt.alloc()) == Some(true));
 }

@@ -1,58 +1,39 @@
-//! Whole streams, over memory and over readers and writers of std, and a run over streams in steps.
-use gj_port::{Failed, MemSink, MemSource, ReadError, StdSink, StdSource, read_all, write_all};
+//! Whole streams, over memory and over readers and writers of std, and a run over streams in
+//! steps.
+use gj_port::{MemSink, MemSource, StdSink, StdSource, read_all, write_all};
 use gj_top::{Status, run};
-use std::test::Fail;
+use std::alloc::Global;
 
-#[test]
-fn all_is_read(rt: HostRuntime) -> Result<(), Fail> {
-    let alloc = rt.alloc();
-    let mut source = MemSource::new(alloc, b"abc", &[])?;
-    let bytes = read_all(alloc, &mut source, 3)?;
-    assert_eq!(rt; bytes.as_slice(), b"abc".as_slice());
-    assert_eq!(rt; source.rest(), b"".as_slice());
-    Ok(())
+/// A read that fails in mid-stream leaves the bytes that were not taken, and the next call reads
+/// them.
+fn a_read_fails(alloc: Global) -> Option<bool> {
+    let given = vec![in alloc; 7; 8195].ok()?;
+    let mut source = MemSource::new(alloc, &given, &[2]).ok()?;
+    let is_refused = read_all(alloc, &mut source, 10_000).is_err();
+    let bytes = read_all(alloc, &mut source, 10_000).ok()?;
+    Some(is_refused && bytes.as_slice() == [7, 7, 7].as_slice())
 }
 
-#[test]
-fn a_read_fails_in_mid_stream(rt: HostRuntime) -> Result<(), Fail> {
-    let alloc = rt.alloc();
-    let given = vec![in alloc; 7; 8195]?;
-    let mut source = MemSource::new(alloc, &given, &[2])?;
-    assert!(rt;
-        matches!(
-            read_all(alloc, &mut source, 10_000),
-            Err(ReadError::ReadFault)
-        )
-    );
-    assert_eq!(rt; source.rest(), [7, 7, 7].as_slice());
-    let bytes = read_all(alloc, &mut source, 10_000)?;
-    assert_eq!(rt; bytes.as_slice(), [7, 7, 7].as_slice());
-    Ok(())
+/// A write that fails in mid-stream writes nothing, and the next call writes.
+fn a_write_fails(alloc: Global) -> Option<bool> {
+    let mut sink = MemSink::new(alloc, 8, &[2]).ok()?;
+    let is_first = write_all(&mut sink, b"he").is_ok();
+    let is_second = write_all(&mut sink, b"llo").is_ok();
+    let is_third = write_all(&mut sink, b"y").is_ok();
+    Some(is_first && !is_second && is_third && sink.taken() == b"hey".as_slice())
 }
 
-#[test]
-fn a_write_fails_in_mid_stream(rt: HostRuntime) -> Result<(), Fail> {
-    let alloc = rt.alloc();
-    let mut sink = MemSink::new(alloc, 8, &[2])?;
-    assert_eq!(rt; write_all(&mut sink, b"he"), Ok(()));
-    assert_eq!(rt; write_all(&mut sink, b"llo"), Err(Failed));
-    assert_eq!(rt; write_all(&mut sink, b"y"), Ok(()));
-    assert_eq!(rt; sink.taken(), b"hey".as_slice());
-    Ok(())
-}
-
-#[test]
-fn std_reads_and_writes(rt: HostRuntime) -> Result<(), Fail> {
-    let alloc = rt.alloc();
+/// A reader of std is read to its end.
+fn std_reads(alloc: Global) -> Option<bool> {
     let mut source = StdSource::new(b"abc".as_slice());
-    let bytes = read_all(alloc, &mut source, 10)?;
-    assert_eq!(rt; bytes.as_slice(), b"abc".as_slice());
+    Some(read_all(alloc, &mut source, 10).ok()?.as_slice() == b"abc".as_slice())
+}
 
+/// A writer of std takes all bytes.
+fn std_writes(alloc: Global) -> bool {
     let mut written = Vec::new(alloc);
     let mut sink = StdSink::new(&mut written);
-    assert_eq!(rt; write_all(&mut sink, b"abc"), Ok(()));
-    assert_eq!(rt; written.as_slice(), b"abc".as_slice());
-    Ok(())
+    write_all(&mut sink, b"abc").is_ok() && written.as_slice() == b"abc".as_slice()
 }
 
 /// A function by its breakpoints.
@@ -61,21 +42,30 @@ const TWO_PIECES: &[u8] = b"gj-function 2\nf 1/2\npoint 0 0\npoint 1/2 1\nend\n"
 /// What `mirror` writes of it.
 const MIRRORED: &[u8] = b"gj-function 1\norder 2\nf 1/2\npoint 0\npoint 1\nend\n";
 
+/// Whether `mirror` ends so, and writes so much, over a source in steps of 1 and a sink in steps of
+/// 7, of which the calls with these numbers fail.
+fn ends(alloc: Global, read: u64, write: u64, ended: Status, written: &[u8]) -> Option<bool> {
+    let words = vec![in alloc; String::from_str(alloc, "mirror").ok()?].ok()?;
+    let mut source = MemSource::with_step(alloc, TWO_PIECES, 1, &[read]).ok()?;
+    let mut sink = MemSink::with_step(alloc, 100, 7, &[write]).ok()?;
+    let status = run(alloc, words.as_slice(), &mut source, &mut sink);
+    Some(status == ended && sink.taken() == written)
+}
+
 #[test]
-fn steps_and_faults(rt: HostRuntime) -> Result<(), Fail> {
+fn steps_and_faults(rt: HostRuntime) {
     let alloc = rt.alloc();
-    let words = vec![in alloc; String::from_str(alloc, "mirror")?]?;
-    for (failing_read, failing_write, ended, written) in [
-        (0, 0, Status::Done, MIRRORED),
-        (5, 1, Status::WriteFault, b"".as_slice()),
-        (5, 0, Status::ReadFault, b"read fault\n".as_slice()),
-        (0, 3, Status::WriteFault, b"gj-function 1\n".as_slice()),
-    ] {
-        let mut source = MemSource::with_step(alloc, TWO_PIECES, 1, &[failing_read])?;
-        let mut sink = MemSink::with_step(alloc, 100, 7, &[failing_write])?;
-        let status = run(alloc, words.as_slice(), &mut source, &mut sink);
-        assert_eq!(rt; status, ended);
-        assert_eq!(rt; sink.taken(), written);
-    }
-    Ok(())
+    assert!(rt; ends(alloc, 0, 0, Status::Done, MIRRORED) == Some(true));
+    assert!(rt; ends(alloc, 5, 1, Status::WriteFault, b"") == Some(true));
+    assert!(rt; ends(alloc, 5, 0, Status::ReadFault, b"read fault\n") == Some(true));
+    assert!(rt; ends(alloc, 0, 3, Status::WriteFault, b"gj-function 1\n") == Some(true));
+}
+
+#[test]
+fn streams(rt: HostRuntime) {
+    let alloc = rt.alloc();
+    assert!(rt; a_read_fails(alloc) == Some(true));
+    assert!(rt; a_write_fails(alloc) == Some(true));
+    assert!(rt; std_reads(alloc) == Some(true));
+    assert!(rt; std_writes(alloc));
 }

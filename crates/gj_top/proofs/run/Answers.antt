@@ -7,6 +7,7 @@ use Rattle.gj_top.proofs.Clauses.{no_write_fault, failed_source, input_clause, u
 use Rattle.gj_top.proofs.Clauses.{ends_clause, cause_clause, complete_clause}
 use Rattle.gj_top.proofs.ByOrder4q.{order_4q_clause}
 use Rattle.gj_top.proofs.NeverWide.{narrow_clause}
+use Rattle.gj_top.proofs.TwoSlopeAnswers.{two_slopes_clause, called_extreme_clause}
 use Rattle.gj_top.proofs.run.Given.{Over}
 use Rattle.gj_top.proofs.run.Goals as goal
 
@@ -60,6 +61,12 @@ returns-in-Ok-write_all-clause-narrow g c = narrow_clause _ _ _ _ _ _ _ _ (outco
 
 pub returns-in-Ok-write_all-clause-order_4q : goal.returns-in-Ok-write_all-clause-order_4q
 returns-in-Ok-write_all-clause-order_4q g c = order_4q_clause _ _ _ _ _ _ _ _ (outcome g c)
+
+pub returns-in-Ok-write_all-clause-two_slopes : goal.returns-in-Ok-write_all-clause-two_slopes
+returns-in-Ok-write_all-clause-two_slopes g c = two_slopes_clause _ _ _ _ _ _ _ _ (outcome g c)
+
+pub returns-in-Ok-write_all-clause-called_extreme : goal.returns-in-Ok-write_all-clause-called_extreme
+returns-in-Ok-write_all-clause-called_extreme g c = called_extreme_clause _ _ _ _ _ _ _ _ (outcome g c)
 
 pub returns-in-Ok-write_all-clause-complete : goal.returns-in-Ok-write_all-clause-complete
 returns-in-Ok-write_all-clause-complete g c = complete_clause _ _ _ _ _ _ _ _ _ _ (outcome g c)

@@ -65,7 +65,7 @@ returns-in-Some c =
     c.requires.order c.place.ensures.value)
     (subst (λ (m : ℕ). FailsGroup c.args.numbers f m (rows_before_by (arithmetic_of c.args.numbers) f component n (take g rows)) c.begin_row.new.row c.group-item.result c.in-Some.failure) same
     (c.in-Some.ensures.outcome (rows_before_by (arithmetic_of c.args.numbers) f component n (take g rows)) c.loop-group.invariant.rows_are))
-    c.in_ok-line_below.ensures
+    c.in_ok-line_below.ensures.number
 
 pub returns : goal.returns
 returns c =
@@ -92,4 +92,4 @@ loop-group-preserved c =
     (subst (λ (m : ℕ). IsGroupOutcome c.args.numbers f m kept c.begin_row.new.row c.group-item.result c.failure_in_group.new.row None) same
     (c.in_default.ensures.outcome kept c.loop-group.invariant.rows_are))
     c.in_ok-keep.ensures.table
-    (c.in_ok-above.ensures ∙ ap (λ m. c.loop-group.above + m) (length-group 0 c.group-item.result))
+    (c.in_ok-above.ensures.number ∙ ap (λ m. c.loop-group.above + m) (length-group 0 c.group-item.result))

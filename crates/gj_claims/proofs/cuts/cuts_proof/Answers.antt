@@ -1,7 +1,7 @@
 use Rattle.std.proofs.Common.{sym, subst}
 use Rattle.std.specs.List.{AllZip}
 use Rattle.gj_proof.specs.ProofText.{IsBounded}
-use Rattle.gj_mtext.specs.CutLines.{IsLineFor}
+use Rattle.gj_claims.specs.CutLines.{IsLineFor}
 use Rattle.gj_claims.specs.CutClaim.{IsCutClaim}
 use Rattle.gj_claims.proofs.CutClaims.{claim_of_lines, cuts_are_bounded}
 use Rattle.gj_claims.proofs.cuts.cuts_proof.Goals as goal

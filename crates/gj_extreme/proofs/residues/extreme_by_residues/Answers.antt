@@ -66,7 +66,7 @@ unreachable-requires c =
     let n = c.args.system.now.columns in
     let are = rows_are f comp n (length c.args.system.now.component) c.place.result c.as_slice.result.now c.in_ok-rows.rows.all
     c.in_ok-rows.ensures c.requires.components c.place.ensures.value (c.as_slice.ensures.value ∙ c.in_ok-names.ensures.names) in
-    let plain : IsPlain c.columns.result c.in_ok-rows.rows.all c.in-Plain._log.items =
+    let plain : IsPlain c.columns.result c.in_ok-rows.rows.all c.in-Plain._log =
     subst (IsSettled c.columns.result c.in_ok-rows.rows.all) c.in-Plain.is c.in_ok-log.ensures.settled in
     plain.narrow (subst₂ (λ m rs. Passes (elimination m rs).marked) (sym c.columns.ensures) (sym are) c.requires.passes)
 
@@ -77,7 +77,7 @@ unreachable-requires-in-Kernel c =
     let n = c.args.system.now.columns in
     let are = rows_are f comp n (length c.args.system.now.component) c.place.result c.as_slice.result.now c.in_ok-rows.rows.all
     c.in_ok-rows.ensures c.requires.components c.place.ensures.value (c.as_slice.ensures.value ∙ c.in_ok-names.ensures.names) in
-    let kernel : IsKernel c.columns.result c.in_ok-rows.rows.all c.in-Kernel._numbers.items =
+    let kernel : IsKernel c.columns.result c.in_ok-rows.rows.all c.in-Kernel._numbers =
     subst (IsSettled c.columns.result c.in_ok-rows.rows.all) c.in-Kernel.is c.in_ok-log.ensures.settled in
     kernel.narrow (subst₂ (λ m rs. Passes (elimination m rs).marked) (sym c.columns.ensures) (sym are) c.requires.passes)
 
@@ -87,10 +87,10 @@ returns-clause-decided c =
     let comp = component_in c.args.system.now.component in
     let n = c.args.system.now.columns in
     let all = c.in_ok-rows.rows.all in
-    let log = c.in-Residues.log.items in
+    let log = c.in-Residues.log in
     let are = rows_are f comp n (length c.args.system.now.component) c.place.result c.as_slice.result.now c.in_ok-rows.rows.all
     c.in_ok-rows.ensures c.requires.components c.place.ensures.value (c.as_slice.ensures.value ∙ c.in_ok-names.ensures.names) in
-    let settled : IsByResidues c.columns.result c.in_ok-rows.rows.all c.in-Residues.log.items =
+    let settled : IsByResidues c.columns.result c.in_ok-rows.rows.all c.in-Residues.log =
     subst (IsSettled c.columns.result c.in_ok-rows.rows.all) c.in-Residues.is c.in_ok-log.ensures.settled in
     let by : IsByResidues n all log = subst (λ m. IsByResidues m all log) c.columns.ensures settled in (
       c.in_ok-copy-in-Residues.ensures,
@@ -100,7 +100,7 @@ returns-clause-decided c =
           (c.of.ensures
           ∙ c.in_ok-groups-in-Residues.ensures f (elimination_over Residues f comp n).kept
           (c.as_slice-in-Residues.ensures.value ∙ c.in_ok-names.ensures.names)
-          (c.as_slice-in-Residues-2.ensures.value ∙ log_of f comp n all log are by)),
+          (c.as_slice-in-Residues-2.ensures ∙ log_of f comp n all log are by)),
     )
 
 pub returns-clause-text : goal.returns-clause-text

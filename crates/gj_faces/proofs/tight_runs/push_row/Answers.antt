@@ -1,5 +1,6 @@
 use Rattle.std.proofs.Common.{inl, inr, ◌&&◌, not, refl, ap, ◌∙◌, arith}
 use Rattle.gj_sets.specs.IndexSets.{has}
+use Rattle.gj_sets.proofs.Shifts.{in_limit}
 use Rattle.gj_shape.specs.Additive.{IsTight}
 use Rattle.gj_faces.proofs.RunSteps.{next_run, run_ends, row_done}
 use Rattle.gj_faces.proofs.tight_runs.push_row.Goals as goal
@@ -15,7 +16,7 @@ loop-from-preserved c =
     let stop = c.in-Some-first_from.ensures in
     let made = next_run f.order (IsTight f) c.args.a c.loop-from.place c.in-Some.from c.in-Some-first_from.to (has row)
     (has c.and_not-starts.result) (has c.and_not-ends.result) c.loop-from.runs.items c.loop-from.invariant.0 c.requires.within c.requires.order.1
-    c.requires.row (λ i below. c.and_not-starts.ensures i ∙ ap (λ b. has row i && not b) (c.up.ensures i below))
+    c.requires.row (λ i below. c.and_not-starts.ensures i ∙ ap (λ b. has row i && not b) (c.up.ensures i ∙ in_limit i _ below))
     (λ i. c.and_not-ends.ensures i ∙ ap (λ b. has row i && not b) (c.down.ensures i)) c.loop-from.invariant.2
     start.behind start.found start.before stop.behind stop.found stop.before in (
       rw c.in_ok-push.ensures.items made.0,
@@ -29,7 +30,7 @@ unreachable-requires c =
     let row = c.args.row.now in
     let start = c.in-Some.ensures in
     run_ends f.order (IsTight f c.args.a) c.in-Some.from (has row) (has c.and_not-starts.result) (has c.and_not-ends.result) c.requires.order.1
-    c.requires.row (λ i below. c.and_not-starts.ensures i ∙ ap (λ b. has row i && not b) (c.up.ensures i below))
+    c.requires.row (λ i below. c.and_not-starts.ensures i ∙ ap (λ b. has row i && not b) (c.up.ensures i ∙ in_limit i _ below))
     (λ i. c.and_not-ends.ensures i ∙ ap (λ b. has row i && not b) (c.down.ensures i)) start.within start.found
     c.in_default-first_from.ensures
 
@@ -39,5 +40,5 @@ returns c =
     let row = c.args.row.now in
     row_done f.order (IsTight f) c.args.a c.loop-from.place (has row) (has c.and_not-starts.result) c.loop-from.runs.items
     c.loop-from.invariant.0 c.requires.order.1 c.requires.row
-    (λ i below. c.and_not-starts.ensures i ∙ ap (λ b. has row i && not b) (c.up.ensures i below)) c.loop-from.invariant.2
+    (λ i below. c.and_not-starts.ensures i ∙ ap (λ b. has row i && not b) (c.up.ensures i ∙ in_limit i _ below)) c.loop-from.invariant.2
     c.loop-from.invariant.1 c.in_default.ensures

@@ -1,7 +1,7 @@
 use Rattle.std.proofs.Common.{◌≡◌, ◌+◌, to_z, of_z, ◌∙◌, arith}
 use Rattle.std.proofs.lemmas.Int.{ints}
 use Rattle.gj_shape.specs.FunctionData.{at}
-use Rattle.gj_fill.proofs.FillBreaks.{itself}
+use Rattle.gj_fill.proofs.FillPairs.{itself}
 use Rattle.gj_fill.proofs.FilledValues.{same_sum}
 use Rattle.gj_fill.proofs.at_fractions.lines_at.Goals as goal
 use mir.Syntax.{w64, w128}

@@ -1,6 +1,6 @@
 use Rattle.std.proofs.Common.{◌≡◌, ◌+◌, ◌-◌, length, sym, ap, ◌∙◌, arith}
 use Rattle.gj_shape.specs.FunctionData.{at}
-use Rattle.gj_fill.proofs.FillBreaks.{itself}
+use Rattle.gj_fill.proofs.FillPairs.{itself}
 use Rattle.gj_shape.proofs.AtLemmas.{at_plus_length}
 use Rattle.gj_fill.proofs.values.value_above.Goals as goal
 

@@ -103,10 +103,9 @@ split-requires-clause-continuous c = c.requires.continuous
 pub split-requires-clause-perturbation : goal.split-requires-clause-perturbation
 split-requires-clause-perturbation c =
     let f = c.args.shape.now in
-    subst (λ (w : List ℤ). CanSplit f (record { times = 1; values = w })) (sym c.of.ensures)
-    (kernel_splits f c.order.result c.in_ok-rows.rows.all c.in_ok-settle.field-0 c.in-Kernel.numbers (asked_of c.args.shape.now c.order.result c.in_ok-rows.rows.all c.order.ensures.limits c.in_default.ensures.minimal
+    kernel_splits f c.order.result c.in_ok-rows.rows.all c.in_ok-settle.field-0 c.in-Kernel.numbers (asked_of c.args.shape.now c.order.result c.in_ok-rows.rows.all c.order.ensures.limits c.in_default.ensures.minimal
     c.order.ensures.value c.in_ok-rows.ensures.all) c.in-Kernel.is
-    c.in_ok-settle.ensures.settled c.in_ok-settle.ensures.answers)
+    c.in_ok-settle.ensures.settled c.in_ok-settle.ensures.answers
 
 pub returns-in_err-halves-in-Kernel-clause-wide : goal.returns-in_err-halves-in-Kernel-clause-wide
 returns-in_err-halves-in-Kernel-clause-wide c = λ e.
@@ -115,16 +114,15 @@ returns-in_err-halves-in-Kernel-clause-wide c = λ e.
     c.order.ensures.value c.in_ok-rows.ensures.all) c.in-Kernel.is
     c.in_ok-settle.ensures.settled in (
       c.in_default.ensures.minimal 1 (omega arith),
-      halves_too_wide c.in-Kernel.numbers.items kernel
-          (subst (λ (w : List ℤ). IsWide f (record { times = 1; values = w })) c.of.ensures
+      halves_too_wide c.in-Kernel.numbers kernel
           (c.in_err-halves-in-Kernel.ensures.wide (wide_split c.from_residual-in_err-halves-in-Kernel.result
           c.in_err-halves-in-Kernel.field-0.0 c.from_residual-in_err-halves-in-Kernel.ensures.0
-          c.from_residual-in_err-halves-in-Kernel.ensures.1 e))),
+          c.from_residual-in_err-halves-in-Kernel.ensures.1 e)),
     )
 
 pub returns-clause-says : goal.returns-clause-says
 returns-clause-says c =
-    kernel_says c.args.shape.now c.of.result c.in_ok-halves-in-Kernel.halves c.in_default.ensures.minimal
+    kernel_says c.args.shape.now c.in-Kernel.numbers c.in_ok-halves-in-Kernel.halves c.in_default.ensures.minimal
     c.in_ok-halves-in-Kernel.ensures.halves c.in_ok-halves-in-Kernel.ensures.different
 
 pub returns-clause-found : goal.returns-clause-found
@@ -133,7 +131,7 @@ returns-clause-found c =
     let kernel = kernel_own f c.order.result c.in_ok-rows.rows.all c.in_ok-settle.field-0 c.in-Kernel.numbers (asked_of c.args.shape.now c.order.result c.in_ok-rows.rows.all c.order.ensures.limits c.in_default.ensures.minimal
     c.order.ensures.value c.in_ok-rows.ensures.all) c.in-Kernel.is
     c.in_ok-settle.ensures.settled in
-    kernel_finds f c.of.result c.in_ok-halves-in-Kernel.halves (subst (IsKernel f.order (own_rows f)) (sym c.of.ensures) kernel)
+    kernel_finds f c.in-Kernel.numbers c.in_ok-halves-in-Kernel.halves kernel
     c.in_ok-halves-in-Kernel.ensures.halves c.in_ok-halves-in-Kernel.ensures.limits
 
 pub returns-clause-extreme : goal.returns-clause-extreme
@@ -145,5 +143,5 @@ returns-clause-narrow c = λ minimal wide.
     let kernel = kernel_own f c.order.result c.in_ok-rows.rows.all c.in_ok-settle.field-0 c.in-Kernel.numbers (asked_of c.args.shape.now c.order.result c.in_ok-rows.rows.all c.order.ensures.limits c.in_default.ensures.minimal
     c.order.ensures.value c.in_ok-rows.ensures.all) c.in-Kernel.is
     c.in_ok-settle.ensures.settled in
-    kernel_fits_group f c.of.result (subst (IsKernel f.order (own_rows f)) (sym c.of.ensures) kernel) c.in_ok-halves-in-Kernel.ensures.narrow
+    kernel_fits_group f c.in-Kernel.numbers kernel c.in_ok-halves-in-Kernel.ensures.narrow
     wide

@@ -1,16 +1,18 @@
-use Rattle.gj_lex.proofs.CursorLines.{words_of_ended, words_of_last}
+use Rattle.std.proofs.Common.{◌+◌, sym, refl, subst}
+use Rattle.std.proofs.lemmas.List.{take_rest}
+use Rattle.gj_lex.specs.TextLines.{HasFirstWords}
+use Rattle.gj_lex.specs.Words.{word_texts}
+use Rattle.gj_lex.proofs.LenientLines.{words_before_feed, words_without_feed}
 use Rattle.gj_lex.proofs.text_lines.first_line.Goals as goal
-use Rattle.gj_lex.proofs.text_lines.first_line.Goals.{then-len-start, else-len-start}
 
-pub returns-clause-words : goal.returns-clause-words
-returns-clause-words c =
-    let old = c.args.cursor.now in
-    let new = c.next_line.new.self in
-    let start = c.rest-start.result.now in
-    let given = c.in_ok-span.ensures in
-    elim c.if-len-start.branch [
-      | then-len-start w ↦ rw w.bytes-is
-          (words_of_ended old new c.in_ok-span.span start _ c.rest-start.ensures given.line given.rest w.if-len-start.true w.without_return-bytes.ensures)
-      | else-len-start w ↦ rw w.bytes-is
-          (words_of_last old new c.in_ok-span.span start c.rest-start.ensures given.line given.rest w.if-len-start.false)
-    ]
+pub returns-in-Some-clause-words : goal.returns-in-Some-clause-words
+returns-in-Some-clause-words c =
+    let text = c.args.text.now in
+    let end = c.in-Some.end in
+    let bytes = c.without_return.result.now in
+    subst (HasFirstWords text (word_texts bytes)) (sym (take_rest text (end + 1)))
+    (words_before_feed text bytes end (sym c.in-Some.ensures) c.without_return.ensures)
+
+pub returns-in-None-clause-words : goal.returns-in-None-clause-words
+returns-in-None-clause-words c =
+    words_without_feed c.args.text.now _ (sym c.in-None.ensures) c.requires refl

@@ -8,11 +8,11 @@ use Rattle.gj_minimal.proofs.shown.point_before.Goals as goal
 
 pub point_near-requires-clause-fine : goal.point_near-requires-clause-fine
 point_near-requires-clause-fine c =
-    let sum_is = sum_read c.right_at.result c.left_at-limit.result c.right_at.ensures.small
-    c.left_at-limit.ensures.small in
-    let end = c.left_at-limit.ensures.value in
+    let sum_is = sum_read c.right_numerator.result c.left_numerator-limit.result c.right_numerator.ensures.small
+    c.left_numerator-limit.ensures.small in
+    let end = c.left_numerator-limit.ensures.value in
     let negative = c.requires.negative in
-    let start = c.right_at.ensures.small in
+    let start = c.right_numerator.ensures.small in
     let high = c.order-order.ensures.limits.order_high in
     let order = c.order-order.ensures.value in
     fine_near_end c.order-order.result c.least_denominator-h.result _ (omega arith) (omega (arith, ints))
@@ -23,21 +23,21 @@ returns-clause-shows c =
     let f = c.args.shape.now in
     let h = c.least_denominator-h.result in
     let index = (h - 2) * (c.args.i + 1) + (2 * c.args.i + 1) in
-    let limit_is = small_read c.left_at-limit.result c.left_at-limit.ensures.small ∙ c.left_at-limit.ensures.value in
-    let total_is = sum_read c.right_at.result c.left_at-limit.result c.right_at.ensures.small
-    c.left_at-limit.ensures.small
-    ∙ ap₂ (λ x y. x +ℤ y) c.right_at.ensures.value c.left_at-limit.ensures.value in
+    let limit_is = small_read c.left_numerator-limit.result c.left_numerator-limit.ensures.small ∙ c.left_numerator-limit.ensures.value in
+    let total_is = sum_read c.right_numerator.result c.left_numerator-limit.result c.right_numerator.ensures.small
+    c.left_numerator-limit.ensures.small
+    ∙ ap₂ (λ x y. x +ℤ y) c.right_numerator.ensures.value c.left_numerator-limit.ensures.value in
     shows_before f c.args.i h _ _ c.point_near.result limit_is total_is c.least_denominator-h.ensures.least
     (subst (λ (q : ℕ). IsRatio c.point_near.result (pos index) (pos (q * h))) c.order-order.ensures.value
     c.point_near.ensures.value)
 
 pub returns-clause-points : goal.returns-clause-points
 returns-clause-points c =
-    let sum_is = sum_read c.right_at.result c.left_at-limit.result c.right_at.ensures.small
-    c.left_at-limit.ensures.small in
-    let end = c.left_at-limit.ensures.value in
+    let sum_is = sum_read c.right_numerator.result c.left_numerator-limit.result c.right_numerator.ensures.small
+    c.left_numerator-limit.ensures.small in
+    let end = c.left_numerator-limit.ensures.value in
     let negative = c.requires.negative in
-    let start = c.right_at.ensures.small in
+    let start = c.right_numerator.ensures.small in
     let high = c.order-order.ensures.limits.order_high in
     let order = c.order-order.ensures.value in
     let from = c.least_denominator-h.ensures.least.from in

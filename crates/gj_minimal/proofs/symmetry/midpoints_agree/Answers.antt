@@ -12,19 +12,19 @@ returns c =
     let one = c.scale.ensures.value in
     let high = c.scale.ensures.limits.scale_high in
     let small : unsigned_abs c.scale.result < 2 ^ 51 = omega (arith, ints) in
-    let test = double_bits c.right_at.result c.left_at.result c.right_at-2.result c.left_at-2.result c.scale.result
-    c.right_at.ensures.small c.left_at.ensures.small c.right_at-2.ensures.small c.left_at-2.ensures.small small in
-    let first = c.right_at.ensures.value in
-    let second = c.left_at.ensures.value in
-    let third : c.right_at-2.result ≡ at c.args.shape.now.right
+    let test = double_bits c.right_numerator.result c.left_numerator.result c.right_numerator-2.result c.left_numerator-2.result c.scale.result
+    c.right_numerator.ensures.small c.left_numerator.ensures.small c.right_numerator-2.ensures.small c.left_numerator-2.ensures.small small in
+    let first = c.right_numerator.ensures.value in
+    let second = c.left_numerator.ensures.value in
+    let third : c.right_numerator-2.result ≡ at c.args.shape.now.right
     (c.args.shape.now.place + (c.args.shape.now.order - (c.args.i + 1))) =
-    c.right_at-2.ensures.value ∙ ap₂ (λ (k q : ℕ). at f.right (k + (q - (i + 1)))) c.place-2.ensures.value
+    c.right_numerator-2.ensures.value ∙ ap₂ (λ (k q : ℕ). at f.right (k + (q - (i + 1)))) c.place-2.ensures.value
     c.order-2.ensures.value in
-    let fourth : c.left_at-2.result ≡ at c.args.shape.now.left
+    let fourth : c.left_numerator-2.result ≡ at c.args.shape.now.left
     (c.args.shape.now.place + (c.args.shape.now.order - c.args.i)) =
-    c.left_at-2.ensures.value ∙ ap₂ (λ (k q : ℕ). at f.left (k + (q - i))) c.place.ensures.value c.order.ensures.value
+    c.left_numerator-2.ensures.value ∙ ap₂ (λ (k q : ℕ). at f.left (k + (q - i))) c.place.ensures.value c.order.ensures.value
     in
-    let total : c.right_at.result +ℤ c.left_at.result +ℤ (c.right_at-2.result +ℤ c.left_at-2.result)
+    let total : c.right_numerator.result +ℤ c.left_numerator.result +ℤ (c.right_numerator-2.result +ℤ c.left_numerator-2.result)
     ≡ at c.args.shape.now.right c.args.i +ℤ at c.args.shape.now.left (c.args.i + 1)
     +ℤ (at c.args.shape.now.right (c.args.shape.now.place + (c.args.shape.now.order - (c.args.i + 1)))
     +ℤ at c.args.shape.now.left (c.args.shape.now.place + (c.args.shape.now.order - c.args.i))) = cc in

@@ -5,10 +5,10 @@ use Rattle.gj_perturb.proofs.FinerSlacks.{AreLanesBelow, value_is_lane, no_lane,
 use Rattle.gj_shape.specs.FunctionData.{at}
 use Rattle.gj_perturb.proofs.slacks.two_periods.Goals as goal
 
-pub overflow_cast-value_at : goal.overflow_cast-value_at
-overflow_cast-value_at c =
+pub overflow_cast-value_numerator : goal.overflow_cast-value_numerator
+overflow_cast-value_numerator c =
     let f = c.args.shape.now in
-    lane_cast c.value_at.result (at f.value c.loop-i.i) c.value_at.ensures.value (value_is_lane f c.loop-i.i c.order-count.ensures.limits c.requires)
+    lane_cast c.value_numerator.result (at f.value c.loop-i.i) c.value_numerator.ensures.value (value_is_lane f c.loop-i.i c.order-count.ensures.limits c.requires)
 
 pub loop-i-init : goal.loop-i-init
 loop-i-init c =
@@ -18,7 +18,7 @@ pub loop-i-preserved : goal.loop-i-preserved
 loop-i-preserved c =
     let f = c.args.shape.now in
     let i = c.loop-i.i in
-    let lane = lane_read c.value_at.result (at f.value i) c.value_at.ensures.value (value_is_lane f i c.order-count.ensures.limits c.requires) in
+    let lane = lane_read c.value_numerator.result (at f.value i) c.value_numerator.ensures.value (value_is_lane f i c.order-count.ensures.limits c.requires) in
     one_lane_more c.loop-i.lanes.items _ (at f.value) i _ c.loop-i.invariant lane.0 lane.1 c.in_ok-push.ensures.items
 
 pub returns : goal.returns

@@ -11,4 +11,4 @@ returns-clause-settled g c =
     let rank = c.rank.ensures.count in
     let least = c.if-rank-columns.false in
     let len = ap length same in
-    (omega arith, c.into_log.ensures ∙ ap (map log_row) same)
+    (omega arith, c.of.ensures ∙ c.into_log.ensures ∙ ap (map log_row) same)

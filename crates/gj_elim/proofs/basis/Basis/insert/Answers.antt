@@ -1,17 +1,31 @@
-use Rattle.std.proofs.Common.{ℕ, ℤ, List, Option, Some, refl, ap, ap₂, sym, subst, subst₂, length, ◌∙◌, arith}
+use Rattle.std.proofs.Common.{◌≡◌, ℕ, ℤ, List, Option, Some, refl, ap, ap₂, sym, subst, subst₂, length, ◌∙◌, arith}
 use Rattle.std.proofs.lemmas.List.{with_items_is}
-use Rattle.gj_shape.specs.Elimination.{Insertion, Passes, whole_numbers, kept_entries}
+use Rattle.gj_shape.specs.Elimination.{Insertion, Passes, whole_numbers, inserted, kept_entries}
 use Rattle.gj_elim.specs.Basis.{data_of}
 use Rattle.gj_elim.specs.KeptRows.{kept_rows}
 use Rattle.gj_elim.specs.Progress.{IsLeft, kept_at}
 use Rattle.gj_elim.specs.Tables.{ArePlaces, AreExtents}
+use Rattle.gj_elim.specs.declared.extent.Extent.{Extent}
 use Rattle.gj_elim.specs.declared.log.LogRow.{LogRow}
 use Rattle.std.specs.Prelude.{All}
 use Rattle.gj_frac.specs.Fraction.{Fits}
 use Rattle.gj_theory.specs.TriangularRows.{AreTriangular}
 use Rattle.gj_theory.proofs.Triangular.{rank_at_most}
-use Rattle.gj_elim.proofs.Keeping.{insertion_read, length-kept_rows, nothing_kept, row_kept, behind_from, triangular_from, solutions_from, same_length, all_small, same_error}
+use Rattle.gj_elim.proofs.Keeping.{insertion_read, length-kept_rows, nothing_inserted, row_inserted, triangular_from, solutions_from, same_length, all_small, same_error}
 use Rattle.gj_elim.proofs.basis.Basis.insert.Goals as goal
+
+-- what is as it was
+triangular_still : (n : ℕ) (log log' : List LogRow) (rows rows' : List (List ℤ)) → log' ≡ log → rows' ≡ rows →
+    AreTriangular n (kept_rows log rows) → AreTriangular n (kept_rows log' rows')
+triangular_still n log log' rows rows' same_log same_rows h = subst (AreTriangular n) (sym (ap₂ kept_rows same_log same_rows)) h
+
+places_still : (n : ℕ) (log log' : List LogRow) (places places' : List (Option ℕ)) → log' ≡ log → places' ≡ places →
+    ArePlaces n log places → ArePlaces n log' places'
+places_still n log log' places places' same_log same h = subst₂ (ArePlaces n) (sym same_log) (sym same) h
+
+extents_still : (rows rows' : List (List ℤ)) (extents extents' : List Extent) → rows' ≡ rows → extents' ≡ extents →
+    AreExtents rows extents → AreExtents rows' extents'
+extents_still rows rows' extents extents' same_rows same h = subst₂ AreExtents (sym same_rows) (sym same) h
 
 pub returns-in_err-left-clause-wide : goal.returns-in_err-left-clause-wide
 returns-in_err-left-clause-wide c =
@@ -21,25 +35,27 @@ returns-in_err-left-clause-wide c =
     λ e. subst (λ (i : Insertion). Passes i.marked) whole
     (c.in_err-left.ensures.wide (same_error c.from_residual.result c.in_err-left.field-0.0 _ c.from_residual.ensures.0 c.from_residual.ensures.1 e))
 
-pub returns-in-None-clause-kept : goal.returns-in-None-clause-kept
-returns-in-None-clause-kept c =
-    let whole = insertion_read (data_of c.self.inside) (data_of c.self.inside) c.as_slice.result.now c.as_slice-2.result.now c.args.row.now
-    c.args.row.now refl (ap₂ kept_rows c.as_slice.ensures.value c.as_slice-2.ensures.value)
-    refl (c.requires.columns ∙ sym (ap (λ d. d.columns) c.self.view_is)) in
-    behind_from whole_numbers (data_of c.self.inside) c.args.self.now c.args.row.now _ c.self.view_is
-    (nothing_kept whole_numbers (data_of c.self.inside) c.args.row.now c.reduce_row.new.row c.reduce_row.new.reduce.items c.in_ok-left.left
-    (subst (λ (i : Insertion). IsLeft whole_numbers i c.in_ok-left.left c.reduce_row.new.row c.reduce_row.new.reduce.items) whole c.in_ok-left.ensures.left)
-    (ap (λ o. kept_at whole_numbers o c.reduce_row.new.row) c.in-None.is))
-
-pub returns-in-None-clause-solutions : goal.returns-in-None-clause-solutions
-returns-in-None-clause-solutions c w =
-    let whole = insertion_read (data_of c.self.inside) (data_of c.self.inside) c.as_slice.result.now c.as_slice-2.result.now c.args.row.now
-    c.args.row.now refl (ap₂ kept_rows c.as_slice.ensures.value c.as_slice-2.ensures.value)
-    refl (c.requires.columns ∙ sym (ap (λ d. d.columns) c.self.view_is)) in
-    solutions_from (data_of c.self.inside) c.args.self.now c.args.row.now w _ c.self.view_is c.self.invariant.triangular c.requires.columns
-    (nothing_kept whole_numbers (data_of c.self.inside) c.args.row.now c.reduce_row.new.row c.reduce_row.new.reduce.items c.in_ok-left.left
-    (subst (λ (i : Insertion). IsLeft whole_numbers i c.in_ok-left.left c.reduce_row.new.row c.reduce_row.new.reduce.items) whole c.in_ok-left.ensures.left)
-    (ap (λ o. kept_at whole_numbers o c.reduce_row.new.row) c.in-None.is))
+pub returns-in-None : goal.returns-in-None
+returns-in-None c =
+    let D = data_of c.self.inside in
+    let columns : length c.args.row.now ≡ D.columns = c.requires.columns ∙ sym (ap (λ d. d.columns) c.self.view_is) in
+    let whole = insertion_read D D c.as_slice.result.now c.as_slice-2.result.now c.args.row.now
+    c.args.row.now refl (ap₂ kept_rows c.as_slice.ensures.value c.as_slice-2.ensures.value) refl columns in
+    let left = subst (λ (i : Insertion). IsLeft whole_numbers i c.in_ok-left.left c.reduce_row.new.row c.reduce_row.new.reduce.items) whole
+    c.in_ok-left.ensures.left in
+    let told = nothing_inserted whole_numbers D c.args.self.now c.args.row.now c.reduce_row.new.row c.reduce_row.new.reduce.items c.in_ok-left.left
+    c.self.view_is left (ap (λ o. kept_at whole_numbers o c.reduce_row.new.row) c.in-None.is) in
+    record {
+      kept = told.kept;
+      answer = told.answer;
+      narrow = λ p.
+          c.in_ok-left.ensures.narrow (subst (λ (i : Insertion). Passes i.marked)
+          (sym (whole ∙ ap (λ b. inserted b.columns b.kept c.args.row.now) c.self.view_is)) p);
+      wide = λ e. absurd cc;
+      unchanged = tt;
+      solutions = λ w. solutions_from D c.args.self.now c.args.row.now w _ c.self.view_is c.self.invariant.triangular c.requires.columns told.rows;
+      triangular = triangular_from D c.args.row.now _ c.self.invariant.triangular columns told.rows;
+    }
 
 pub keep-requires-clause-count : goal.keep-requires-clause-count
 keep-requires-clause-count c =
@@ -55,41 +71,41 @@ invariant_of-self-in_err-keep-in-Some c =
     let same_log = c.in_err-keep-in-Some.ensures.same_log in
     let same_rows = c.in_err-keep-in-Some.ensures.same_rows in record {
       lines = ap length same_log ∙ c.self.invariant.lines ∙ sym (ap length same_rows);
-      triangular = subst₂ (λ (ls : List LogRow) (rs : List (List ℤ)). AreTriangular c.self.inside.columns (kept_rows ls rs)) (sym same_log) (sym same_rows)
-          c.self.invariant.triangular;
+      triangular = triangular_still c.self.inside.columns _ _ _ _ same_log same_rows c.self.invariant.triangular;
       fits = subst (All (All Fits)) (sym same_rows) c.self.invariant.fits;
       columns = ap length held ∙ c.reduce_row.auto.row ∙ ap length c.as_mut_slice.ensures.value ∙ c.self.invariant.columns;
       small_columns = ap length (with_items_is c.self.inside.small c.reduce_row.new.small
           (c.reduce_row.auto.small ∙ ap length c.as_mut_slice-2.ensures.value ∙ sym c.self.inside.small.ok.0))
           ∙ c.reduce_row.auto.small ∙ ap length c.as_mut_slice-2.ensures.value ∙ c.self.invariant.small_columns;
-      places = subst₂ (λ (ls : List LogRow) (ps : List (Option ℕ)). ArePlaces c.self.inside.columns ls ps) (sym same_log)
-          (sym (with_items_is c.self.inside.places c.keep.new.places
+      places = places_still c.self.inside.columns _ _ _ _ same_log
+          (with_items_is c.self.inside.places c.keep.new.places
           (c.keep.auto.places ∙ ap length c.as_mut_slice-in-Some.ensures.value ∙ sym c.self.inside.places.ok.0)
-          ∙ c.in_err-keep-in-Some.ensures.same_places ∙ c.as_mut_slice-in-Some.ensures.value))
+          ∙ c.in_err-keep-in-Some.ensures.same_places ∙ c.as_mut_slice-in-Some.ensures.value)
           c.self.invariant.places;
-      extents = subst₂ AreExtents (sym same_rows) (sym c.in_err-keep-in-Some.ensures.same_extents) c.self.invariant.extents;
+      extents = extents_still _ _ _ _ same_rows c.in_err-keep-in-Some.ensures.same_extents c.self.invariant.extents;
       narrow = c.self.invariant.narrow;
     }
 
 pub invariant_of-self-in-Some : goal.invariant_of-self-in-Some
 invariant_of-self-in-Some c =
-    let whole = insertion_read (data_of c.self.inside) (data_of c.self.inside) c.as_slice.result.now c.as_slice-2.result.now c.args.row.now
-    c.args.row.now refl (ap₂ kept_rows c.as_slice.ensures.value c.as_slice-2.ensures.value)
-    refl (c.requires.columns ∙ sym (ap (λ d. d.columns) c.self.view_is)) in
+    let D = data_of c.self.inside in
+    let columns : length c.args.row.now ≡ D.columns = c.requires.columns ∙ sym (ap (λ d. d.columns) c.self.view_is) in
+    let whole = insertion_read D D c.as_slice.result.now c.as_slice-2.result.now c.args.row.now
+    c.args.row.now refl (ap₂ kept_rows c.as_slice.ensures.value c.as_slice-2.ensures.value) refl columns in
+    let left = subst (λ (i : Insertion). IsLeft whole_numbers i c.in_ok-left.left c.reduce_row.new.row c.reduce_row.new.reduce.items) whole
+    c.in_ok-left.ensures.left in
     let held = with_items_is c.self.inside.row c.reduce_row.new.row
     (c.reduce_row.auto.row ∙ ap length c.as_mut_slice.ensures.value ∙ sym c.self.inside.row.ok.0) in
-    let are = row_kept whole_numbers (data_of c.self.inside) c.args.row.now c.reduce_row.new.row c.reduce_row.new.reduce.items c.in_ok-left.left
+    let told = row_inserted whole_numbers D c.args.self.now c.args.row.now c.reduce_row.new.row c.reduce_row.new.reduce.items c.in_ok-left.left
     c.self.inside.log.items c.keep.new.log.items c.self.inside.rows.items c.keep.new.rows.items
     record { number = c.self.inside.inserted; reduce = c.as_slice-in-Some.result.now; pivot = c.in-Some.column }
-    (kept_entries c.as_slice-in-Some-2.result.now c.in-Some.column)
-    (subst (λ (i : Insertion). IsLeft whole_numbers i c.in_ok-left.left c.reduce_row.new.row c.reduce_row.new.reduce.items) whole c.in_ok-left.ensures.left)
+    (kept_entries c.as_slice-in-Some-2.result.now c.in-Some.column) c.self.view_is left
     c.in-Some.is refl c.self.invariant.lines c.in_ok-keep-in-Some.ensures.line c.in_ok-keep-in-Some.ensures.entries refl
     c.as_slice-in-Some.ensures.value (ap (λ xs. Some (kept_entries xs c.in-Some.column)) (sym (c.as_slice-in-Some-2.ensures.value ∙ held))) in
     record {
       lines = same_length c.self.inside.log.items c.keep.new.log.items c.self.inside.rows.items c.keep.new.rows.items _ _ c.self.invariant.lines
           c.in_ok-keep-in-Some.ensures.line c.in_ok-keep-in-Some.ensures.entries;
-      triangular = triangular_from (data_of c.self.inside) c.args.row.now _ c.self.invariant.triangular
-          (c.requires.columns ∙ sym (ap (λ d. d.columns) c.self.view_is)) are;
+      triangular = triangular_from D c.args.row.now _ c.self.invariant.triangular columns told.rows;
       fits = all_small c.self.inside.rows.items c.keep.new.rows.items _ c.self.invariant.fits c.in_ok-keep-in-Some.ensures.entries
           c.in_ok-keep-in-Some.ensures.fits;
       columns = ap length held ∙ c.reduce_row.auto.row ∙ ap length c.as_mut_slice.ensures.value ∙ c.self.invariant.columns;
@@ -105,51 +121,30 @@ invariant_of-self-in-Some c =
       narrow = c.self.invariant.narrow;
     }
 
-pub returns-in_ok-keep-in-Some-clause-kept : goal.returns-in_ok-keep-in-Some-clause-kept
-returns-in_ok-keep-in-Some-clause-kept c =
-    let whole = insertion_read (data_of c.self.inside) (data_of c.self.inside) c.as_slice.result.now c.as_slice-2.result.now c.args.row.now
-    c.args.row.now refl (ap₂ kept_rows c.as_slice.ensures.value c.as_slice-2.ensures.value)
-    refl (c.requires.columns ∙ sym (ap (λ d. d.columns) c.self.view_is)) in
+pub returns-in_ok-keep-in-Some : goal.returns-in_ok-keep-in-Some
+returns-in_ok-keep-in-Some c =
+    let D = data_of c.self.inside in
+    let columns : length c.args.row.now ≡ D.columns = c.requires.columns ∙ sym (ap (λ d. d.columns) c.self.view_is) in
+    let whole = insertion_read D D c.as_slice.result.now c.as_slice-2.result.now c.args.row.now
+    c.args.row.now refl (ap₂ kept_rows c.as_slice.ensures.value c.as_slice-2.ensures.value) refl columns in
+    let left = subst (λ (i : Insertion). IsLeft whole_numbers i c.in_ok-left.left c.reduce_row.new.row c.reduce_row.new.reduce.items) whole
+    c.in_ok-left.ensures.left in
     let held = with_items_is c.self.inside.row c.reduce_row.new.row
     (c.reduce_row.auto.row ∙ ap length c.as_mut_slice.ensures.value ∙ sym c.self.inside.row.ok.0) in
-    let are = row_kept whole_numbers (data_of c.self.inside) c.args.row.now c.reduce_row.new.row c.reduce_row.new.reduce.items c.in_ok-left.left
+    let told = row_inserted whole_numbers D c.args.self.now c.args.row.now c.reduce_row.new.row c.reduce_row.new.reduce.items c.in_ok-left.left
     c.self.inside.log.items c.keep.new.log.items c.self.inside.rows.items c.keep.new.rows.items
     record { number = c.self.inside.inserted; reduce = c.as_slice-in-Some.result.now; pivot = c.in-Some.column }
-    (kept_entries c.as_slice-in-Some-2.result.now c.in-Some.column)
-    (subst (λ (i : Insertion). IsLeft whole_numbers i c.in_ok-left.left c.reduce_row.new.row c.reduce_row.new.reduce.items) whole c.in_ok-left.ensures.left)
+    (kept_entries c.as_slice-in-Some-2.result.now c.in-Some.column) c.self.view_is left
     c.in-Some.is refl c.self.invariant.lines c.in_ok-keep-in-Some.ensures.line c.in_ok-keep-in-Some.ensures.entries refl
     c.as_slice-in-Some.ensures.value (ap (λ xs. Some (kept_entries xs c.in-Some.column)) (sym (c.as_slice-in-Some-2.ensures.value ∙ held))) in
-    behind_from whole_numbers (data_of c.self.inside) c.args.self.now c.args.row.now _ c.self.view_is are
-
-pub returns-in_ok-keep-in-Some-clause-solutions : goal.returns-in_ok-keep-in-Some-clause-solutions
-returns-in_ok-keep-in-Some-clause-solutions c w =
-    let whole = insertion_read (data_of c.self.inside) (data_of c.self.inside) c.as_slice.result.now c.as_slice-2.result.now c.args.row.now
-    c.args.row.now refl (ap₂ kept_rows c.as_slice.ensures.value c.as_slice-2.ensures.value)
-    refl (c.requires.columns ∙ sym (ap (λ d. d.columns) c.self.view_is)) in
-    let held = with_items_is c.self.inside.row c.reduce_row.new.row
-    (c.reduce_row.auto.row ∙ ap length c.as_mut_slice.ensures.value ∙ sym c.self.inside.row.ok.0) in
-    let are = row_kept whole_numbers (data_of c.self.inside) c.args.row.now c.reduce_row.new.row c.reduce_row.new.reduce.items c.in_ok-left.left
-    c.self.inside.log.items c.keep.new.log.items c.self.inside.rows.items c.keep.new.rows.items
-    record { number = c.self.inside.inserted; reduce = c.as_slice-in-Some.result.now; pivot = c.in-Some.column }
-    (kept_entries c.as_slice-in-Some-2.result.now c.in-Some.column)
-    (subst (λ (i : Insertion). IsLeft whole_numbers i c.in_ok-left.left c.reduce_row.new.row c.reduce_row.new.reduce.items) whole c.in_ok-left.ensures.left)
-    c.in-Some.is refl c.self.invariant.lines c.in_ok-keep-in-Some.ensures.line c.in_ok-keep-in-Some.ensures.entries refl
-    c.as_slice-in-Some.ensures.value (ap (λ xs. Some (kept_entries xs c.in-Some.column)) (sym (c.as_slice-in-Some-2.ensures.value ∙ held))) in
-    solutions_from (data_of c.self.inside) c.args.self.now c.args.row.now w _ c.self.view_is c.self.invariant.triangular c.requires.columns are
-
-pub returns-in_ok-keep-in-Some-clause-triangular : goal.returns-in_ok-keep-in-Some-clause-triangular
-returns-in_ok-keep-in-Some-clause-triangular c =
-    let whole = insertion_read (data_of c.self.inside) (data_of c.self.inside) c.as_slice.result.now c.as_slice-2.result.now c.args.row.now
-    c.args.row.now refl (ap₂ kept_rows c.as_slice.ensures.value c.as_slice-2.ensures.value)
-    refl (c.requires.columns ∙ sym (ap (λ d. d.columns) c.self.view_is)) in
-    let held = with_items_is c.self.inside.row c.reduce_row.new.row
-    (c.reduce_row.auto.row ∙ ap length c.as_mut_slice.ensures.value ∙ sym c.self.inside.row.ok.0) in
-    let are = row_kept whole_numbers (data_of c.self.inside) c.args.row.now c.reduce_row.new.row c.reduce_row.new.reduce.items c.in_ok-left.left
-    c.self.inside.log.items c.keep.new.log.items c.self.inside.rows.items c.keep.new.rows.items
-    record { number = c.self.inside.inserted; reduce = c.as_slice-in-Some.result.now; pivot = c.in-Some.column }
-    (kept_entries c.as_slice-in-Some-2.result.now c.in-Some.column)
-    (subst (λ (i : Insertion). IsLeft whole_numbers i c.in_ok-left.left c.reduce_row.new.row c.reduce_row.new.reduce.items) whole c.in_ok-left.ensures.left)
-    c.in-Some.is refl c.self.invariant.lines c.in_ok-keep-in-Some.ensures.line c.in_ok-keep-in-Some.ensures.entries refl
-    c.as_slice-in-Some.ensures.value (ap (λ xs. Some (kept_entries xs c.in-Some.column)) (sym (c.as_slice-in-Some-2.ensures.value ∙ held))) in
-    triangular_from (data_of c.self.inside) c.args.row.now _ c.self.invariant.triangular
-    (c.requires.columns ∙ sym (ap (λ d. d.columns) c.self.view_is)) are
+    record {
+      kept = told.kept;
+      answer = told.answer;
+      narrow = λ p.
+          c.in_ok-left.ensures.narrow (subst (λ (i : Insertion). Passes i.marked)
+          (sym (whole ∙ ap (λ b. inserted b.columns b.kept c.args.row.now) c.self.view_is)) p);
+      wide = λ e. absurd cc;
+      unchanged = tt;
+      solutions = λ w. solutions_from D c.args.self.now c.args.row.now w _ c.self.view_is c.self.invariant.triangular c.requires.columns told.rows;
+      triangular = triangular_from D c.args.row.now _ c.self.invariant.triangular columns told.rows;
+    }

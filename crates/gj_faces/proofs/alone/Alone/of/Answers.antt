@@ -2,6 +2,7 @@ use Rattle.std.proofs.Common.{◌≡◌, ◌+◌, ◌-◌, ◌%◌, ◌<◌, ◌
 use Rattle.std.specs.Prelude.{◌==◌, if◌then◌else◌}
 use Rattle.std.proofs.Math.Nat.{mod-eq_of_lt}
 use Rattle.gj_sets.specs.IndexSets.{has}
+use Rattle.gj_sets.proofs.Shifts.{in_limit}
 use Rattle.gj_sets.specs.declared.index_set.IndexSet.{IndexSet}
 use Rattle.gj_shape.specs.Additive.{IsTight}
 use Rattle.gj_shape.specs.declared.faces.FaceKind.TheVariants.{Vertex, Horizontal, Vertical, Diagonal, Lower, Upper}
@@ -153,11 +154,11 @@ tells_at c b below =
       north = next_in_row f a b c.row-middle.result.now (has c.turned_down-north.result b) limits below middle
           (c.turned_down-north.ensures b ∙ after c.row-middle.result.now);
       south = previous_in_row f a b c.row-middle.result.now (has c.turned_up-south.result b) limits below middle
-          (c.turned_up-south.ensures b inside ∙ behind c.row-middle.result.now);
+          (c.turned_up-south.ensures b ∙ in_limit b _ inside ∙ behind c.row-middle.result.now);
       north_west = next_in_row f (a + (f.order - 1)) b c.row-west.result.now (has c.turned_down-north_west.result b) limits below west
           (c.turned_down-north_west.ensures b ∙ after c.row-west.result.now);
       south_east = previous_in_row f (a + 1) b c.row-east.result.now (has c.turned_up-south_east.result b) limits below east
-          (c.turned_up-south_east.ensures b inside ∙ behind c.row-east.result.now);
+          (c.turned_up-south_east.ensures b ∙ in_limit b _ inside ∙ behind c.row-east.result.now);
       north_east = next_in_row f (a + 1) b c.row-east.result.now (has c.turned_down-north_east.result b) limits below east
           (c.turned_down-north_east.ensures b ∙ after c.row-east.result.now);
     }

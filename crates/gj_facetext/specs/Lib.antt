@@ -1,2 +1,0 @@
-pub mod FacesText
-pub mod FacePieces

@@ -1,0 +1,27 @@
+//! Which columns are continuous.
+ghost use Rattle.std.specs.Prelude.{◌≡◌, IfOk, map};
+ghost use Rattle.gj_listings.specs.Columns.{begins_with_c, continuous_columns};
+
+use gj_lex::Name;
+use std::alloc::{AllocError, Global};
+
+/// Of each column, whether it is continuous: its name begins with `c:`.
+pub(crate) fn continuous_columns(alloc: Global, columns: &[Name]) -> Result<Vec<bool>, AllocError>
+    ensures { IfOk result (λ flags. flags.items ≡ continuous_columns columns.now) }
+{
+    let mut flags = Vec::with_capacity(alloc, columns.len())?;
+    for column in columns {
+        flags.push(begins_with_c(column.bytes()))?;
+    }
+    Ok(flags)
+}
+
+/// Whether the name begins with `c:`.
+fn begins_with_c(name: &[u8]) -> bool
+    ensures { result ≡ begins_with_c name.now }
+{
+    if name.len() < 2 {
+        return false;
+    }
+    name[0] == b'c' && name[1] == b':'
+}

@@ -1,0 +1,59 @@
+//! Mixed cuts, printed.
+ghost use Rattle.std.specs.Prelude.{◌≡◌, ◌++◌, flat_map, IfOk, OnOk};
+ghost use Rattle.gj_row.specs.TableauLimits.{IsTableau};
+ghost use Rattle.gj_proof.specs.ProofText.{IsBoundedRule};
+ghost use Rattle.gj_listings.specs.MixedLines.{AreMixedCutsOf, MakesMixedCuts, mixed_row_text, weight_line};
+
+use crate::mixed_lines::{MixedLine, push_mixed_lines};
+use gj_function_lines::push_fraction_line;
+use gj_proof::{CutRule, CutTerm, push_named, push_row, push_rule_lines};
+use gj_row::Tableau;
+use std::alloc::{AllocError, Global};
+
+/// The text of the mixed cuts of the rows of the tableau by the rule: `gj-mixed 1`, the lines of the rule, a group of lines a row in
+/// their order, and `end`.
+///
+/// A function is minimal and continuous. The only error is want of memory.
+pub fn mixed_text(alloc: Global, rule: &CutRule, tableau: &Tableau) -> Result<Vec<u8>, AllocError>
+    requires bounded { IsBoundedRule rule.now }
+    requires makes { MakesMixedCuts rule.now }
+    requires tableau { IsTableau tableau.now }
+    ensures { IfOk result (λ text. AreMixedCutsOf rule.now tableau.now text.items) }
+{
+    let mut text = Vec::from_slice(alloc, b"gj-mixed 1\n")?;
+    push_rule_lines(alloc, &mut text, rule)?;
+    push_mixed_lines(alloc, &mut text, rule, tableau)?;
+    text.extend_from_slice(b"end\n")?;
+    Ok(text)
+}
+
+/// Appends the lines of a row: those of its cut with the whole columns, or that it is passed over, and behind them a line for each
+/// continuous column.
+pub(crate) fn push_mixed_row(
+    alloc: Global,
+    out: &mut Vec<u8>,
+    line: &MixedLine,
+) -> Result<(), AllocError>
+    ensures { OnOk result (out.new.items ≡ out.old.items ++ mixed_row_text line.now) }
+{
+    push_row(alloc, out, &line.line)?;
+    push_weights(alloc, out, line.weights.as_slice())
+}
+
+/// Appends the lines of continuous columns.
+fn push_weights(alloc: Global, out: &mut Vec<u8>, weights: &[CutTerm]) -> Result<(), AllocError>
+    ensures { OnOk result (out.new.items ≡ out.old.items ++ flat_map weight_line weights.now) }
+{
+    for term in weights {
+        push_weight(alloc, out, term)?;
+    }
+    Ok(())
+}
+
+/// Appends the line of a continuous column.
+fn push_weight(alloc: Global, out: &mut Vec<u8>, term: &CutTerm) -> Result<(), AllocError>
+    ensures { OnOk result (out.new.items ≡ out.old.items ++ weight_line term.now) }
+{
+    push_named(alloc, out, b"weight ", &term.name, term.entry)?;
+    push_fraction_line(alloc, out, b" ", term.cut)
+}

@@ -1,7 +1,0 @@
-use Rattle.std.proofs.Common.{rules}
-use Rattle.gj_shape.specs.FunctionData.{at}
-use Rattle.gj_minimal.proofs.entries.entry.Goals as goal
-
-pub returns-clause-value : goal.returns-clause-value
-unfolding at
-returns-clause-value c = search rules

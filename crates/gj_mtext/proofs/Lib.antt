@@ -1,2 +1,0 @@
-pub mod CutLines
-pub mod RowLines

@@ -1,0 +1,4 @@
+pub mod Over
+pub mod MixedIntegerCut
+pub mod RowCuts
+pub mod FractionValues

@@ -1,0 +1,2 @@
+pub mod Gmic
+pub mod RealRows
