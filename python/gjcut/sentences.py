@@ -38,8 +38,8 @@ RULES = {
     "first": "the first half is not minimal",
     "second": "the second half is not minimal",
     "same": "the two halves are the same",
-    "fraction": "the right side is not of this kind: a cut asks for the fractional part f, `integral` "
-    "for a whole number, `other` for another fractional part",
+    "fraction": "the right side is not of this kind: a cut asks for the fractional part f, "
+    "`integral` for a whole number, `other` for another fractional part",
     "limit": "a number of the row is above its limit",
     "name": "this name stands in the row already",
     "value": "this coefficient is not the value of the function at the entry",
