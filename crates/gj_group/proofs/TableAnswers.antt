@@ -162,7 +162,7 @@ plain_own_narrow f log h (halves_too_wide numbers k wide) =
 
 pub plain_fits : (f : FunctionData) (columns : ℕ) (all : List (List ℤ)) (s : Settled) (log : List LogRow) → IsAsked f columns all →
     s ≡ Plain log → IsSettled columns all s → IsTooWideGroup f → ⊥
-plain_fits f columns all s log asked is h = plain_own_narrow f log.items (settled_own f columns all s (Plain log) asked is h)
+plain_fits f columns all s log asked is h = plain_own_narrow f log (settled_own f columns all s (Plain log) asked is h)
 
 residues_own_narrow : (f : FunctionData) (log : List LogRow) → IsByResidues f.order (own_rows f) log → IsTooWideGroup f → ⊥
 residues_own_narrow f log h (rows_too_wide (insertion_passes passes fewer)) =
@@ -173,7 +173,7 @@ residues_own_narrow f log h (halves_too_wide numbers k wide) = k.narrow h.passes
 
 pub residues_fit : (f : FunctionData) (columns : ℕ) (all : List (List ℤ)) (s : Settled) (log : List LogRow) → IsAsked f columns all →
     s ≡ Residues log → IsSettled columns all s → IsTooWideGroup f → ⊥
-residues_fit f columns all s log asked is h = residues_own_narrow f log.items (settled_own f columns all s (Residues log) asked is h)
+residues_fit f columns all s log asked is h = residues_own_narrow f log (settled_own f columns all s (Residues log) asked is h)
 
 pub kernel_own : (f : FunctionData) (columns : ℕ) (all : List (List ℤ)) (s : Settled) (numbers : List ℤ) → IsAsked f columns all →
     s ≡ Kernel numbers → IsSettled columns all s → IsKernel f.order (own_rows f) numbers
