@@ -1,5 +1,5 @@
 //! The lines of the cuts of a tableau whose columns are all whole, with the names of its columns.
-ghost use Rattle.std.specs.Prelude.{◌<◌, All, IfOk, length};
+ghost use Rattle.std.specs.Prelude.{◌≡◌, ◌<◌, [], All, IfOk, get_or, length};
 ghost use Rattle.std.specs.List.{AllZip};
 ghost use Rattle.gj_theory.specs.Cuts.{IsValueOf};
 ghost use Rattle.gj_row.specs.TableauLimits.{IsTableau, IsRowWithinLimits};
@@ -153,7 +153,7 @@ fn terms_of<E: Evaluator>(
 {
     let mut terms = Vec::with_capacity(alloc, entries.len())?;
     for entry in entries {
-        let name = columns[entry.column as usize].copy(alloc)?;
+        let name = name_of(alloc, columns, entry.column)?;
         terms.push(CutTerm {
             name,
             entry: entry.value,
@@ -161,4 +161,12 @@ fn terms_of<E: Evaluator>(
         })?;
     }
     Ok(terms)
+}
+
+/// The name of a column.
+fn name_of(alloc: Global, columns: &[Name], column: u32) -> Result<Name, AllocError>
+    requires { column < length columns.now }
+    ensures { IfOk result (λ name. name ≡ get_or columns.now column []) }
+{
+    columns[column as usize].copy(alloc)
 }

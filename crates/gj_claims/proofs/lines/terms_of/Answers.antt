@@ -7,4 +7,4 @@ pub loop-entry-preserved : goal.loop-entry-preserved
 loop-entry-preserved g c =
     zip_next (IsTermOfEntry c.args.rule.now.kind c.args.columns.now) c.args.entries.now c.loop-entry.entry-index c.entry-item.result
     c.loop-entry.terms.items c.push.new.self.items _ c.loop-entry-test.true c.entry-item.is c.in_ok-push.ensures.items
-    c.loop-entry.invariant (record { name = c.in_ok-copy.ensures; entry = refl; value = c.at.ensures.value })
+    c.loop-entry.invariant (record { name = c.in_ok-name.ensures; entry = refl; value = c.at.ensures.value })
