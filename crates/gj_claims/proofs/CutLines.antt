@@ -49,4 +49,4 @@ pub function_line : (f : FunctionData) (columns : List (List ℕ)) (row : Row) (
 function_line f columns row (Cut name right terms) h =
     (h.0, h.1, h.3, terms_for (Table f) (kind.Table f) columns row row.entries terms (λ t v. v) h.4)
 function_line f columns row (Skip name right Integral) h = h
-function_line f columns row (Skip name right Other) h = h
+function_line f columns row (Skip name right Other) h = (h.0, h.1, (h.2, h.3))
