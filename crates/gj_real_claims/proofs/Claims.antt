@@ -1,6 +1,6 @@
 -- Claims that hold, over all numbers of a field with floors.
 use Rattle.std.proofs.Common.{◌*◌}
-use Rattle.gj_shape.specs.FunctionData.{FunctionData, IsWithinBounds, IsContinuous, at}
+use Rattle.gj_shape.specs.FunctionData.{FunctionData, IsWithinBounds, at}
 use Rattle.gj_shape.specs.Extreme.{IsExtreme}
 use Rattle.gj_shape.specs.Table.{table, IsMinimal}
 use Rattle.gj_shape.specs.declared.extremality.Halves.{Halves}
@@ -18,7 +18,7 @@ use Rattle.gj_reals.proofs.AtReals.{rules_at_reals}
 use Rattle.gj_reals.proofs.AtFractions.{rules_give_minimal}
 use Rattle.gj_reals.proofs.ExtremeAtReals.{extreme_there}
 use Rattle.gj_reals.proofs.OnlyExtremeAtReals.{extreme_from_reals}
-use Rattle.gj_real_claims.specs.RealMeaning.{IsRealMinimal, IsRealExtreme, RealClaimHolds}
+use Rattle.gj_real_claims.specs.RealMeaning.{IsRealMinimal, RealClaimHolds}
 
 module _ {R : Type 0} (K : OrderedField R) (floors : HasFloor K) where
   module _ (f : FunctionData) (bounds : IsWithinBounds f) where

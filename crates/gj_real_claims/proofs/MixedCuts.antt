@@ -1,12 +1,12 @@
 -- Cuts of rows with continuous columns hold at all whole and real amounts.
-use Rattle.std.proofs.Common.{◌≡◌, ℕ, ◌-◌, ℤ, pos, ◌+ℤ◌, ◌-ℤ◌, ◌*ℤ◌, ◌<ℤ◌, ◌≤ℤ◌, unsigned_abs, Bool, List, [], ◌∷◌, map, refl, sym, subst, subst₂, ap, ◌∙◌, arith}
+use Rattle.std.proofs.Common.{◌≡◌, ◌-◌, ℤ, pos, ◌-ℤ◌, ◌*ℤ◌, ◌<ℤ◌, ◌≤ℤ◌, Bool, List, [], ◌∷◌, map, sym, subst, subst₂, ◌∙◌, arith}
 use Rattle.std.specs.List.{AllZip}
 use Rattle.std.specs.Int.{int_div_euclid}
 use Rattle.std.proofs.lemmas.Int.{ints, by_lt_z}
 use Rattle.std.proofs.Math.Nat.{eq-one_of_dvd-one}
 use Rattle.gj_frac.specs.declared.Frac.{Frac}
 use Rattle.gj_frac.specs.Floor.{HasFractionalPart}
-use Rattle.gj_frac.specs.Fraction.{IsWhole, IsInside, IsRatio}
+use Rattle.gj_frac.specs.Fraction.{IsWhole, IsInside}
 use Rattle.gj_frac.proofs.Floors.{quotient_is_floor}
 use Rattle.gj_frac.proofs.OneDenominator.{denominator_divides_each}
 use Rattle.gj_lemmas.proofs.Integers.{add_mul_z, mul_positive_z, mul_le_mul_right_z, mul_lt_mul_right_z}
