@@ -1,0 +1,101 @@
+-- What a run that ends with Done says over a field in which each number lies between a whole number
+-- and the next, so over the real numbers (own; the words are those of Gomory and Johnson 1972).
+use Rattle.std.specs.Prelude.{ℕ, ◌≡◌, ◌⊎◌, Bool, true, false, List, ◌++◌, All, map, Option, Some, String}
+use Rattle.std.specs.declared.alloc.Global.{Global}
+use Rattle.gj_shape.specs.FunctionData.{FunctionData}
+use Rattle.gj_shape.specs.declared.violations.Violation.{Violation}
+use Rattle.gj_shape.specs.declared.extremality.Halves.{Halves}
+use Rattle.gj_row.specs.declared.tableau.Tableau.{Tableau}
+use Rattle.gj_proof.specs.declared.claim.Claim.{Claim}
+use Rattle.gj_proof.specs.declared.cut.CutRule.{CutRule}
+use Rattle.gj_proof.specs.declared.cut.CutLine.{CutLine}
+use Rattle.gj_proof.specs.declared.cut.CutLine.TheVariants as cuts
+use Rattle.gj_proof.specs.declared.cut.CutTerm.{CutTerm}
+use Rattle.gj_listings.specs.MixedLines.{AreMixedCutsOf}
+use Rattle.gj_listings.specs.declared.mixed_lines.MixedLine.{MixedLine}
+use Rattle.gj_words.specs.declared.requests.Command.{Command}
+use Rattle.gj_words.specs.declared.requests.Command.TheVariants.{Minimal, Extreme, Cut, Show, Check, Faces, Demo, Mixed, Fill, Group, Times, Mirror, Restrict}
+use Rattle.gj_words.specs.declared.requests.Request.{Request}
+use Rattle.gj_top.specs.Promise.{Spells}
+use Rattle.gj_top.specs.Command.{IsNamed, promise_with, promise_for}
+use Rattle.gj_top.specs.Minimal.{IsMinimalText, IsNotMinimalText}
+use Rattle.gj_top.specs.Extreme.{IsExtremeText, IsNotExtremeText}
+use Rattle.gj_top.specs.Check.{accepted_line}
+use Rattle.gj_top.specs.Cut.{CutInput}
+use Rattle.gj_top.specs.Report.{IsReportOf}
+use Rattle.gj_fields.specs.Fields.{OrderedField, HasFloor}
+use Rattle.gj_real_claims.specs.RealMeaning.{IsRealMinimal, IsRealExtreme, RealClaimHolds}
+use Rattle.gj_real_cuts.specs.RealRows.{RealCutHolds}
+
+-- the text calls f minimal, and f is minimal among the valid functions; or not minimal, and it is
+-- not
+abbrev pub IsRealVerdict : {R : Type 0} (K : OrderedField R) → HasFloor K → FunctionData → List ℕ →
+    Type 0
+IsRealVerdict K floors f text =
+    (IsMinimalText f text × IsRealMinimal K floors f)
+    ⊎ ((v : Violation) × IsNotMinimalText f v text × (IsRealMinimal K floors f → ⊥))
+
+-- the text calls f extreme, and f is no average of two different valid functions; or not extreme,
+-- and f is minimal and such an average; or not minimal, and it is not
+abbrev pub IsRealExtremality : {R : Type 0} (K : OrderedField R) → HasFloor K → FunctionData →
+    List ℕ → Type 0
+IsRealExtremality K floors f text =
+    (IsExtremeText f text × IsRealExtreme K floors f)
+    ⊎ ((h : Halves) × IsNotExtremeText f h text × IsRealMinimal K floors f
+    × (IsRealExtreme K floors f → ⊥))
+    ⊎ ((v : Violation) × IsNotMinimalText f v text × (IsRealMinimal K floors f → ⊥))
+
+-- the text calls the claim accepted, and so it is over the field
+abbrev pub IsRealAcceptance : {R : Type 0} (K : OrderedField R) → HasFloor K → Claim → List ℕ →
+    Type 0
+IsRealAcceptance K floors c text = RealClaimHolds K floors c × (text ≡ accepted_line c)
+
+-- the cut of a line, if it has one, holds at all whole and real amounts
+abbrev pub RealLineHolds : {R : Type 0} → OrderedField R → CutLine → List CutTerm → Type 0
+RealLineHolds K (cuts.Cut name right terms) weights =
+    RealCutHolds K (map (λ t. t.entry) terms) (map (λ t. t.entry) weights) right
+    (map (λ t. t.cut) terms) (map (λ t. t.cut) weights)
+RealLineHolds K (cuts.Skip name right reason) weights = Unit {0}
+
+abbrev pub RealMixedLineHolds : {R : Type 0} → OrderedField R → MixedLine → Type 0
+RealMixedLineHolds K m = RealLineHolds K m.line m.weights
+
+-- the text has the mixed cuts of the rows, and each holds at all whole and real amounts
+pub record AreRealMixedCuts {R : Type 0} (K : OrderedField R) («rule» : CutRule) (tableau : Tableau)
+    (text : List ℕ) : Type 0 where
+  pub cuts : AreMixedCutsOf «rule» tableau text
+  pub hold : All (RealMixedLineHolds K) cuts.lines
+
+-- what is promised of a text, over the field; where no real number enters, as for cuts of whole
+-- columns, it is what is promised
+abbrev pub real_headline : {R : Type 0} (K : OrderedField R) → HasFloor K →
+    (command : Command) (json : Bool) → (promise_with command json).Thing → List ℕ → Type 0
+real_headline K floors Minimal true = λ f text. IsReportOf (IsRealVerdict K floors f) text
+real_headline K floors Minimal false = IsRealVerdict K floors
+real_headline K floors Extreme true = λ f text. IsReportOf (IsRealExtremality K floors f) text
+real_headline K floors Extreme false = IsRealExtremality K floors
+real_headline K floors Check json = IsRealAcceptance K floors
+real_headline K floors Mixed json =
+    λ (input : CutInput) text. AreRealMixedCuts K input.rule input.tableau text
+real_headline K floors Show true = (promise_with Show true).headline
+real_headline K floors Show false = (promise_with Show false).headline
+real_headline K floors Faces json = (promise_with Faces json).headline
+real_headline K floors Cut json = (promise_with Cut json).headline
+real_headline K floors (Demo n) json = (promise_with (Demo n) json).headline
+real_headline K floors Fill json = (promise_with Fill json).headline
+real_headline K floors Group json = (promise_with Group json).headline
+real_headline K floors (Times n j) json = (promise_with (Times n j) json).headline
+real_headline K floors Mirror json = (promise_with Mirror json).headline
+real_headline K floors (Restrict d) json = (promise_with (Restrict d) json).headline
+
+-- the words name a request, the input is in its form, and what was written keeps this
+pub record IsTrueRealRun {R : Type 0} (K : OrderedField R) (floors : HasFloor K)
+    (words : List (String Global)) (input before : List ℕ) (written : Option (List ℕ)) :
+    Type 0 where
+  pub request : Request
+  pub named : IsNamed words request
+  pub text : List ℕ
+  pub thing : (promise_for request).Thing
+  pub spelled : Spells (promise_for request).form input thing
+  pub holds : real_headline K floors request.command request.json thing text
+  pub gain : written ≡ Some (before ++ text)
