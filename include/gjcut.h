@@ -11,14 +11,17 @@
 extern "C" {
 #endif
 
-/* How a call ended: the status with which the program ends. */
+/* How a call ended: the status with which the program ends. Take cuts and proofs from GJCUT_DONE
+ * alone. */
 enum gjcut_status {
     GJCUT_DONE = 0,            /* the answer was written */
     GJCUT_REJECTED = 1,        /* `check`: a rule of the checker fails */
     GJCUT_WORDS = 2,           /* the words name no request */
     GJCUT_INPUT = 3,           /* the input is outside its form or a limit */
-    GJCUT_NO_ROOM = 5,         /* the output has no room for the answer: its front was written */
-    GJCUT_NO_MEMORY = 6,       /* there was no memory: nothing was written */
+    GJCUT_NO_ROOM = 5,         /* the output has no room for the answer, which can be any other,
+                                * also a refusal: its front was written. 200 bytes have room for
+                                * every refusal, as reckoned */
+    GJCUT_NO_MEMORY = 6,       /* there was no memory: nothing was written, and `*written` is 0 */
     GJCUT_WIDE = 7,            /* `extreme`, `group`: a number passed its bound */
     GJCUT_NOT_CONTINUOUS = 8,  /* the function jumps; of `extreme` and `mixed`: and is minimal */
     GJCUT_NO_FUNCTION = 9,     /* `cut`, `mixed`: the function is not minimal */
@@ -27,31 +30,36 @@ enum gjcut_status {
     GJCUT_BAD_ORDER = 12       /* `restrict`: the function has no restriction of that order */
 };
 
-/* Answers a request over an input, as the program does: `words` are the words of its command line,
- * with one blank between two, as "times 3 1", `input` is what it reads, and the answer is what it
- * writes. It is put at the front of `output`, and its length into `*written`; what stands after it
- * in `output` stays as it was. If the answer is longer than `output_length`, the status is
- * GJCUT_NO_ROOM, and the output is full of its front: call again with more room, of which
- * `gjcut_room` says how much is always enough. Nothing is kept from one call to the next.
+/* Answers a request over an input, as the program does. `words` are the words of its command line,
+ * with one blank between two, as "times 3 1". `input` is what it reads, and the answer is what it
+ * writes. The answer is put at the front of `output`, and its length into `*written`, which every
+ * call sets. What stands after it in `output` stays as it was. If the answer is longer than
+ * `output_length`, the status is GJCUT_NO_ROOM, and the output is full of its front. Then call
+ * again with more room: `gjcut_room` says how much is always enough. Nothing is kept from one call
+ * to the next, and what a call takes of the heap it gives back before it returns.
  *
  * What a caller owes, since nothing tests it:
  * - `words`, `input` and `output` point to as many bytes as their lengths say, less than 2^63, and
  *   `written` to a number. No pointer is NULL, not even if a length is 0.
  * - `output` and `*written` overlap nothing else that is handed over, and during the call nobody
- *   else reads or writes them, nor writes `words` or `input`. Calls at one time from several
- *   threads are fine if each has an output and a number of its own.
+ *   else reads or writes them, nor writes `words` or `input`. Several threads may call at once if
+ *   each has an output and a number of its own. That such calls do not disturb each other is
+ *   tested, with four threads, and not proved.
  * - malloc, realloc and free of the program belong together, and malloc and realloc align a block
  *   to each power of two up to 16 that divides its size, as those of the C library do.
  * - There is enough stack, see GJCUT_STACK.
- * - The call is not made in a signal handler, nor in the child of a fork in a process with threads.
+ * - The call is not made in a signal handler. Nor is it made in the child of a fork in a process
+ *   with several threads, before exec: malloc may be locked there. The child of a process with one
+ *   thread may call.
  */
 uint8_t gjcut_answer(const uint8_t *words, size_t words_length, const uint8_t *input,
                      size_t input_length, uint8_t *output, size_t output_length, size_t *written);
 
 /* A call needs at most so many bytes of stack, by measurement: no example, none of the largest
- * inputs and no JSON, however deep it nests, was seen to use more than 140,000. With less, the
- * system ends the process by a signal at the guard page below the stack; a stack of your own making
- * that has no guard page is run over, and memory below it is overwritten. */
+ * inputs and no JSON, however deep it nests, was seen to use more than 140,000. Give a thread that
+ * calls as much, and what your own functions need: 128 KB, the default of musl, is too little. With
+ * less, the system ends the process by a signal at the guard page below the stack. A stack of your
+ * own making that has no guard page is run over, and memory below it is overwritten. */
 #define GJCUT_STACK 262144
 
 /* Whether a word stands among the words. */
@@ -79,7 +87,8 @@ static inline size_t gjcut_room(const uint8_t *words, size_t words_length, size_
     if (gjcut_has_word(words, words_length, "faces")) return 28100000;
     if (gjcut_has_word(words, words_length, "cut") ||
         gjcut_has_word(words, words_length, "mixed")) {
-        /* A row takes 4 bytes of the input or more, and an entry 2; a name has at most 255. */
+        /* A row takes 4 bytes of the input or more, and an entry 2. A name has at most 255: with
+         * names of at most n a row takes n + 49 bytes of the answer, and an entry n + 97. */
         size_t rows = input_length / 4 + 1, entries = input_length / 2;
         if (rows > 10000) rows = 10000;
         if (entries > 100000) entries = 100000;

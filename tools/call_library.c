@@ -3,10 +3,15 @@
  * library FOLDER..            each example, with a room that is large and with one that is a byte too short, and calls that no folder has
  * library -threads FOLDER..   the examples from four threads at once
  * library -stack FOLDER..     how much stack the calls on the examples, on nested JSON and on large inputs use at most, against GJCUT_STACK
+ * library -refuse FOLDER..    the short examples, with each allocation refused in turn
+ * library -heap FOLDER..      how many bytes the calls on the examples and on large inputs hold at most, against the bound
+ *                             of docs/library.md, and that all are given back
  * library -time N FOLDER      N calls on one example, with the time that a call takes and by how much the memory grew
  *
- * An example is a folder with the files words (one a line), input, output and status.
+ * An example is a folder with the files words (one a line), input, output and status. The program is linked with
+ * --wrap for malloc, realloc and free, so that it sees what a call asks for.
  */
+#include <malloc.h>
 #include <pthread.h>
 #include <stdio.h>
 #include <stdlib.h>
@@ -21,6 +26,48 @@ struct text {
     uint8_t *bytes;
     size_t length;
 };
+
+/* What the blocks of a call came to, while one is watched: of one thread only. */
+static struct {
+    int watched;
+    long asked, refused;
+    size_t held, most;
+} heap = {.refused = -1};
+
+void *__real_malloc(size_t);
+void *__real_realloc(void *, size_t);
+void __real_free(void *);
+void *__wrap_malloc(size_t);
+void *__wrap_realloc(void *, size_t);
+void __wrap_free(void *);
+
+static int is_refused(void) { return heap.watched && heap.asked++ == heap.refused; }
+
+/* While a block moves, both are held. */
+static void hold(void *block, size_t before) {
+    if (!heap.watched || !block) return;
+    heap.held += malloc_usable_size(block);
+    if (heap.held > heap.most) heap.most = heap.held;
+    heap.held -= before;
+}
+
+void *__wrap_malloc(size_t size) {
+    void *block = is_refused() ? NULL : __real_malloc(size);
+    hold(block, 0);
+    return block;
+}
+
+void *__wrap_realloc(void *old, size_t size) {
+    size_t before = old ? malloc_usable_size(old) : 0;
+    void *block = is_refused() ? NULL : __real_realloc(old, size);
+    hold(block, before);
+    return block;
+}
+
+void __wrap_free(void *block) {
+    if (heap.watched && block) heap.held -= malloc_usable_size(block);
+    __real_free(block);
+}
 
 struct example {
     const char *name;
@@ -213,6 +260,99 @@ static int stack_is_enough(const struct example *examples, int count) {
     return most <= GJCUT_STACK;
 }
 
+/* The call on an input, watched, with the block of this number refused. */
+static int watched(struct text words, struct text input, struct text output, long refused, size_t *written) {
+    heap.asked = 0, heap.held = heap.most = 0, heap.refused = refused, heap.watched = 1;
+    int status = gjcut_answer(words.bytes, words.length, input.bytes, input.length, output.bytes, output.length, written);
+    heap.watched = 0;
+    return status;
+}
+
+/* Each allocation of a short example refused in turn: the call ends with 6 and nothing written, or gives its whole answer. */
+static int is_refused_well(const struct example *example, long *refusals) {
+    static uint8_t output[1 << 16];
+    struct text room = {output, sizeof output};
+    size_t length = example->output.length, written;
+    if (example->input.length > 2000 || length > sizeof output) return 1;
+    watched(example->words, example->input, room, -1, &written);
+    for (long i = 0, all = heap.asked; i < all; i++, ++*refusals) {
+        memset(output, MARK, length);
+        int status = watched(example->words, example->input, room, i, &written), good = !heap.held;
+        if (status == GJCUT_NO_MEMORY) {
+            good = good && !written;
+            for (size_t j = 0; j < length; j++) good = good && output[j] == MARK;
+        } else
+            good = good && status == example->status && written == length && !memcmp(output, example->output.bytes, length);
+        if (!good) {
+            printf("library: %s with allocation %ld refused ended with %d\n", example->name, i, status);
+            return 0;
+        }
+    }
+    return 1;
+}
+
+static int refuse(const struct example *examples, int count) {
+    long refusals = 0;
+    int good = 1;
+    for (int i = 0; i < count; i++) good = is_refused_well(&examples[i], &refusals) && good;
+    printf("library: %ld allocations refused in turn\n", refusals);
+    return good;
+}
+
+/* A tableau of 100,000 entries, each name filled up to a width. */
+static struct text tableau(int rows, int columns, int width) {
+    struct text text = {memory((size_t)(rows + columns) * 300 + 100000 * 12 + 64), 0};
+    char *at = (char *)text.bytes;
+    at += sprintf(at, "gj-rule 1\ngmic\nend\nbasic,rhs");
+    for (int i = 0; i < columns; i++) at += sprintf(at, ",%s%0*d", i % 2 ? "c:" : "x_", width, i);
+    for (int i = 0; i < rows; i++) {
+        at += sprintf(at, "\nb%0*d,0.500000001", width, i);
+        for (int j = 0; j < columns; j++) at += sprintf(at, ",%d.%09d", j % 10, 123456789 + 7 * (i + j));
+    }
+    text.length = (size_t)(at - (char *)text.bytes);
+    return text;
+}
+
+static int holds_at_most(const char *name, struct text words, struct text input, struct text output) {
+    size_t written, allowed;
+    watched(words, input, output, -1, &written);
+    allowed = gjcut_has_word(words.bytes, words.length, "--json") ? 30 * input.length : 6 * (input.length + written);
+    int good = !heap.held && heap.most <= allowed + 1000000;
+    if (!good || input.length > 1000000 || written > 1000000)
+        printf("library: %s, %zu bytes of input, %zu of answer: %.1f MB held at most\n", name, input.length, written, (double)heap.most / 1e6);
+    return good;
+}
+
+static int heap_is_enough(const struct example *examples, int count) {
+    struct text output = {memory(40000000), 40000000};
+    const struct {
+        const char *words;
+        struct text input;
+    } large[] = {
+        {"cut", tableau(10, 10000, 6)},
+        {"cut", tableau(1000, 100, 6)},
+        {"cut", tableau(10000, 10, 6)},
+        {"cut", tableau(10, 10000, 250)},
+        {"mixed", tableau(10, 10000, 6)},
+        {"mixed", tableau(1000, 100, 6)},
+        {"mixed", tableau(10000, 10, 6)},
+        {"mixed", tableau(10, 10000, 250)},
+        {"faces", repeated("gj-function 2\nf 1/1000\npoint 0 0\nend\n", "", 0, "")},
+        {"extreme", repeated("gj-function 1\nfamily gmic 499/1000\nend\n", "", 0, "")},
+        {"group", repeated("gj-function 1\nfamily gmic 59/120\nend\n", "", 0, "")},
+        {"minimal", repeated("", "\n", 16777216, "")},
+        {"extreme --json", repeated("{\"value\":[", "1,", 8000000, "1]}")},
+    };
+    int good = 1;
+    for (int i = 0; i < count; i++) good = holds_at_most(examples[i].name, examples[i].words, examples[i].input, output) && good;
+    for (size_t i = 0; i < sizeof large / sizeof *large; i++) {
+        good = holds_at_most(large[i].words, text_of(large[i].words), large[i].input, output) && good;
+        free(large[i].input.bytes);
+    }
+    free(output.bytes);
+    return good;
+}
+
 /* The resident memory, in pages. */
 static long resident(void) {
     long size = 0, pages = 0;
@@ -247,7 +387,9 @@ static int take_time(long calls, const struct example *example) {
 
 int main(int count, char **words) {
     int threads = count > 1 && !strcmp(words[1], "-threads"), time = count > 3 && !strcmp(words[1], "-time");
-    int stack = count > 1 && !strcmp(words[1], "-stack"), first = threads || stack ? 2 : time ? 3 : 1, good = 1;
+    int stack = count > 1 && !strcmp(words[1], "-stack"), refused = count > 1 && !strcmp(words[1], "-refuse");
+    int counted = count > 1 && !strcmp(words[1], "-heap");
+    int first = threads || stack || refused || counted ? 2 : time ? 3 : 1, good = 1;
     if (first >= count) {
         fprintf(stderr, "library: no example is named\n");
         return 2;
@@ -258,6 +400,10 @@ int main(int count, char **words) {
         good = take_time(atol(words[2]), examples);
     else if (stack)
         good = stack_is_enough(examples, count - first);
+    else if (refused)
+        good = refuse(examples, count - first);
+    else if (counted)
+        good = heap_is_enough(examples, count - first);
     else if (threads)
         good = from_threads(examples, count - first);
     else {

@@ -6,10 +6,11 @@ or a text such as "3/5" or "0.25"; a float is refused, since it is seldom the nu
 An input that is refused, and a function with which a command does nothing, raise `Refused`.
 
 Several threads may call at once, and so may several processes. But the child of a fork in a process
-with threads must not call: where a process has threads, give `multiprocessing` the way "spawn" or
-"forkserver", by `multiprocessing.get_context("spawn")`.
+with several threads must not call: where a process has threads, give `multiprocessing` the way
+"spawn" or "forkserver", by `multiprocessing.get_context("spawn")`.
 
-Nothing of this package is proved: it hands texts to the library, whose answers are.
+Nothing of this package is proved: it hands texts to the library, whose answers are. For a paper
+write the `text` of a verdict to a file, let the proved `gjcut check` accept it, and cite that.
 """
 import operator
 from fractions import Fraction
@@ -199,8 +200,9 @@ def minimal(function: Function) -> Verdict:
 
 
 def extreme(function: Function) -> Verdict:
-    """Whether the function is extreme; if it is minimal and not extreme, with two halves of which
-    it is the average.
+    """Whether the function is extreme: minimal, and no average of two other valid functions. If it
+    is minimal and not extreme, with two halves of which it is the average. A minimal function that
+    jumps is not decided: that raises `Refused` with the status 8.
 
     >>> extreme(family("gmic", "3/5")).claim
     'extreme'

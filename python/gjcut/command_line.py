@@ -97,7 +97,8 @@ def main(words: Optional[List[str]] = None) -> int:
 
 def _version() -> int:
     built = _build.build()
-    print(f"gjcut {built['version']}\ncommit {built['commit']}\nkit {built['kit']}")
+    clone = "" if _build.RECORD.exists() else " (of this clone; the library may be older)"
+    print(f"gjcut {built['version']}\ncommit {built['commit']}{clone}\nkit {built['kit']}")
     try:
         print(f"library {find()}")
     except LibraryMissing as missing:

@@ -254,8 +254,11 @@ class Page(unittest.TestCase):
                     check=True,
                 )
                 done = subprocess.run([str(program)], capture_output=True, text=True, check=True)
-            first = done.stdout.split()
-            self.assertEqual((first[0], first[1][:6]), (name, "0.4166"), length)
+            title, first = done.stdout.splitlines()[:2]
+            found, value = first.split()
+            self.assertEqual(
+                (title, found, value[:6]), ("cut of x0", name, "0.4166"), length
+            )
 
 
 if __name__ == "__main__":
