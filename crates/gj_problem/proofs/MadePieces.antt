@@ -1,0 +1,68 @@
+-- Pieces that items make, and their sums.
+use Rattle.std.proofs.Common.{◌≡◌, ◌⊎◌, ⊎_elim, inl, inr, ℕ, zero, suc, ◌<◌, List, [], ◌∷◌, ◌++◌, map, length, All, ℤ, pos, refl, sym, ap, ap₂, subst, ◌∙◌, arith}
+use Rattle.std.specs.List.{AllZip}
+use Rattle.std.proofs.lemmas.List.Elements.{All-nil, All-cons, All-head, All-tail}
+use Rattle.gj_frac.specs.declared.Frac.{Frac}
+use Rattle.gj_rational.specs.Rational.{Rational, whole, rational, ◌+ℚ◌, ◌*ℚ◌}
+use Rattle.gj_rational.proofs.RationalLaws.{zero_add_q, add_assoc_q}
+use Rattle.gj_problem.specs.declared.problem.Inequality.{Inequality}
+use Rattle.gj_problem.specs.declared.pieces.Piece.{Piece}
+use Rattle.gj_problem.specs.Problems.{surplus_at}
+use Rattle.gj_problem.specs.Rows.{dot}
+use Rattle.gj_problem.specs.Aggregates.{pieces_at, AreMadeOf}
+
+-- ---- one more item
+
+-- what an item that is not passed over makes of the first pieces
+abbrev pub Made : {A : Type 0} → (A → Type 0) → (A → Piece → Type 0) → A → List A → List Piece → Type 0
+Made Passed Makes x xs pieces =
+    (Passed x → ⊥) × (s : Piece) × (rest : List Piece) × (pieces ≡ s ∷ rest) × Makes x s × AreMadeOf Passed Makes xs rest
+
+pub made_passed : {A : Type 0} (P : A → Type 0) (M : A → Piece → Type 0) (xs : List A) (ps : List Piece) (x : A) →
+    AreMadeOf P M xs ps → P x → AreMadeOf P M (xs ++ x ∷ []) ps
+made_passed P M [] ps x h passed = inl (passed, h)
+made_passed P M (y ∷ xs) ps x h passed =
+    ⊎_elim
+    (λ (k : P y × AreMadeOf P M xs ps). inl (k.0, made_passed P M xs ps x k.1 passed))
+    (λ (k : Made P M y xs ps). inr (k.0, k.1, k.2, k.3, k.4, made_passed P M xs k.2 x k.5 passed))
+    h
+
+pub made_more : {A : Type 0} (P : A → Type 0) (M : A → Piece → Type 0) (xs : List A) (ps : List Piece) (x : A) (s : Piece) →
+    AreMadeOf P M xs ps → (P x → ⊥) → M x s → AreMadeOf P M (xs ++ x ∷ []) (ps ++ s ∷ [])
+made_more P M [] ps x s h kept makes = inr (kept, s, [], ap (λ (qs : List Piece). qs ++ s ∷ []) h, makes, refl)
+made_more P M (y ∷ xs) ps x s h kept makes =
+    ⊎_elim
+    (λ (k : P y × AreMadeOf P M xs ps). inl (k.0, made_more P M xs ps x s k.1 kept makes))
+    (λ (k : Made P M y xs ps).
+    inr (k.0, k.1, k.2 ++ s ∷ [], ap (λ (qs : List Piece). qs ++ s ∷ []) k.3, k.4, made_more P M xs k.2 x s k.5 kept makes))
+    h
+
+-- what is true of each item is true of each piece
+pub made_all : {A : Type 0} (P : A → Type 0) (M : A → Piece → Type 0) (Q : A → Type 0) (R : Piece → Type 0) (xs : List A) (ps : List Piece) →
+    AreMadeOf P M xs ps → All Q xs → ((x : A) (s : Piece) → Q x → M x s → R s) → All R ps
+made_all P M Q R [] ps h all step = subst (All R) (sym h) (All-nil R)
+made_all P M Q R (y ∷ xs) ps h all step =
+    ⊎_elim
+    (λ (k : P y × AreMadeOf P M xs ps). made_all P M Q R xs ps k.1 (All-tail Q y xs all) step)
+    (λ (k : Made P M y xs ps).
+    subst (All R) (sym k.3)
+    (All-cons R k.1 k.2 (step y k.1 (All-head Q y xs all) k.4) (made_all P M Q R xs k.2 k.5 (All-tail Q y xs all) step)))
+    h
+
+-- no item is free of which a piece is made or that is passed over
+pub none_from_made : {A : Type 0} (P : A → Type 0) (M : A → Piece → Type 0) (Q : A → Type 0) (xs : List A) (ps : List Piece) →
+    AreMadeOf P M xs ps → ((x : A) → P x → Q x) → ((x : A) (s : Piece) → M x s → Q x) → All Q xs
+none_from_made P M Q [] ps h pass step = All-nil Q
+none_from_made P M Q (y ∷ xs) ps h pass step =
+    ⊎_elim
+    (λ (k : P y × AreMadeOf P M xs ps). All-cons Q y xs (pass y k.0) (none_from_made P M Q xs ps k.1 pass step))
+    (λ (k : Made P M y xs ps). All-cons Q y xs (step y k.1 k.4) (none_from_made P M Q xs k.2 k.5 pass step))
+    h
+
+-- ---- sums
+
+pub pieces_joined : (point : List Rational) (ps qs : List Piece) → pieces_at point (ps ++ qs) ≡ pieces_at point ps +ℚ pieces_at point qs
+pieces_joined point [] qs = sym (zero_add_q (pieces_at point qs))
+pieces_joined point (s ∷ ps) qs =
+    let x = rational s.entry *ℚ surplus_at point s.inequality in
+    ap (λ w. x +ℚ w) (pieces_joined point ps qs) ∙ sym (add_assoc_q x (pieces_at point ps) (pieces_at point qs))

@@ -1,0 +1,3 @@
+pub mod RationalLaws
+pub mod RationalRing
+pub mod RationalOrder
