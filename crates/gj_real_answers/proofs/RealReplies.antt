@@ -33,11 +33,10 @@ use Rattle.gj_top.proofs.OneReport.{reported}
 use Rattle.gj_top.proofs.Sound.{sound}
 use Rattle.gj_top.proofs.TextLaws.{function_is_bounded, json_is_bounded}
 use Rattle.gj_fields.specs.Fields.{OrderedField, HasFloor}
-use Rattle.gj_reals.proofs.ExtremeAtReals.{extreme_there}
 use Rattle.gj_reals.proofs.OnlyExtremeAtReals.{extreme_from_reals}
 use Rattle.gj_real_cuts.specs.RealRows.{RealCutHolds}
 use Rattle.gj_real_claims.specs.RealMeaning.{RealHoldsFor}
-use Rattle.gj_real_claims.proofs.Claims.{minimal_at_reals, minimal_from_reals, claim_at_reals}
+use Rattle.gj_real_claims.proofs.Claims.{minimal_at_reals, minimal_from_reals, extreme_at_reals, claim_at_reals}
 use Rattle.gj_real_claims.proofs.MixedCuts.{cut_by_function, cut_by_gmic}
 use Rattle.gj_real_answers.specs.RealAnswers.{IsRealVerdict, IsRealExtremality, RealLineHolds, RealMixedLineHolds, AreRealMixedCuts, real_headline, IsTrueRealRun}
 
@@ -70,13 +69,13 @@ module _ {R : Type 0} (K : OrderedField R) (floors : HasFloor K) where
 
   extremality : (f : FunctionData) (text : List ℕ) → IsWithinBounds f → IsTrueExtremality f text →
       IsRealExtremality K floors f text
-  extremality f text bounds (inl h) = inl (h.0, extreme_there K floors f bounds h.1 h.2)
+  extremality f text bounds (inl h) = inl (h.0, extreme_at_reals K floors f bounds h.1 h.2)
   extremality f text bounds (inr (inl h)) =
       inr (inl (
         h.0,
         h.1,
         minimal_at_reals K floors f bounds h.3,
-        λ real. h.5 (extreme_from_reals K floors f bounds h.2 real),
+        λ real. h.5 (extreme_from_reals K floors f bounds h.2 real.1),
       ))
   extremality f text bounds (inr (inr h)) =
       inr (inr (h.0, h.1, λ real. h.3 (minimal_from_reals K floors f bounds real)))

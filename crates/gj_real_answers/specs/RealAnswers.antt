@@ -35,8 +35,8 @@ IsRealVerdict K floors f text =
     (IsMinimalText f text × IsRealMinimal K floors f)
     ⊎ ((v : Violation) × IsNotMinimalText f v text × (IsRealMinimal K floors f → ⊥))
 
--- the text calls f extreme, and f is no average of two different valid functions; or not extreme,
--- and f is minimal and such an average; or not minimal, and it is not
+-- the text calls f extreme, and f is minimal and no average of two different valid functions; or
+-- not extreme, and f is minimal and not extreme; or not minimal, and it is not
 abbrev pub IsRealExtremality : {R : Type 0} (K : OrderedField R) → HasFloor K → FunctionData →
     List ℕ → Type 0
 IsRealExtremality K floors f text =

@@ -9,10 +9,10 @@ ghost use Rattle.gj_real_answers.specs.RealAnswers.{IsTrueRealRun};
 use gj_fields::reals::Reals;
 
 /// A run that ends with Done, of which the clause `reply` of `run` says `IsDoneRun`, tells the
-/// truth of all real numbers. What it calls minimal is minimal among all valid functions, and what
-/// it calls extreme is no average of two different ones; what it calls not minimal, or not extreme,
-/// is not. So it is with the claims that it accepts; and each mixed cut that it writes holds at all
-/// whole and real amounts.
+/// truth of all real numbers. What it calls minimal is minimal among all valid functions. What it
+/// calls extreme is minimal, and no average of two different valid functions. What it calls not
+/// minimal, or not extreme, is not. So it is with the claims that it accepts. Each mixed cut that it
+/// writes holds at all whole and real amounts.
 pub fn runs_are_true_over_reals<K: Reals>()
     ensures { (words : List (String Global)) (input before : List ℕ) (written : Option (List ℕ)) →
         IsDoneRun words input before written →

@@ -17,9 +17,10 @@ use Rattle.gj_real_cuts.specs.RealRows.{RealCutHolds}
 abbrev pub IsRealMinimal : {R : Type 0} (K : OrderedField R) → HasFloor K → FunctionData → Type 0
 IsRealMinimal K floors f = IsMinimalAmong K (real_function K floors f) (real_place K f)
 
--- it is no average of two different valid functions
+-- it is minimal, and no average of two different valid functions
 abbrev pub IsRealExtreme : {R : Type 0} (K : OrderedField R) → HasFloor K → FunctionData → Type 0
-IsRealExtreme K floors f = IsExtremeAmong K (real_function K floors f) (real_place K f)
+IsRealExtreme K floors f =
+    IsRealMinimal K floors f × IsExtremeAmong K (real_function K floors f) (real_place K f)
 
 -- what a claim about a function says of it at all numbers; the variables of the rows of a claim are
 -- whole numbers

@@ -18,10 +18,10 @@ ghost use Rattle.gj_real_claims.specs.RealMeaning.{RealClaimHolds, RealHoldsFor}
 
 use gj_fields::reals::Reals;
 
-/// A claim that holds says so of all real numbers: a function that is called minimal is minimal
-/// among the valid functions of real numbers, and one that is called not minimal is not; one that
-/// is called extreme is no average of two different valid functions, and one that is called not
-/// extreme is one.
+/// A claim that holds says so of all real numbers. A function that is called minimal is minimal
+/// among the valid functions of real numbers, and one that is called not minimal is not. One that
+/// is called extreme is minimal, and no average of two different valid functions. One that is
+/// called not extreme is minimal, and not extreme.
 pub fn claims_hold_over_reals<K: Reals>()
     ensures { (c : Claim) → IsBounded c → ClaimHolds c → RealClaimHolds K.field K.floors c }
 {}
