@@ -203,7 +203,7 @@ def _verdict(text: str, proof: str) -> str:
         hint = sentence_for("minimal", text, lines[-2])
         return f"{said}\n  {_said(hint)}" if hint else said
     if claim == "extreme":
-        return "extreme: the function is minimal, and no average of two different minimal functions"
+        return "extreme: the function is minimal, and no average of two other valid functions"
     order = re.search(r"^halves (\d+)", proof, re.M)[1]
     return (
         "not extreme: the function is minimal, and the average of two different minimal functions, "

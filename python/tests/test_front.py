@@ -65,9 +65,10 @@ class Sentences(unittest.TestCase):
 class Commands(unittest.TestCase):
     def test_verdicts(self):
         asymmetric = "it is not symmetric, since its values at 4/5 and at f - 4/5 = 4/5 are 1/3"
+        extreme = "extreme: the function is minimal, and no average of two other valid functions"
         for example, command, begin in (
             ("breaks_minimal", "minimal", "minimal: the function is 0 at 0, nowhere negative, sub"),
-            ("extreme_five_pieces", "extreme", "extreme: the function is minimal, and no average"),
+            ("extreme_five_pieces", "extreme", extreme),
             ("not_extreme_six_pieces", "extreme", "not extreme: the function is minimal, and the"),
             ("asymmetric_point", "minimal", f"not minimal: {asymmetric}"),
             ("superadditive_pair", "minimal", "not minimal: it is not subadditive, since its"),
