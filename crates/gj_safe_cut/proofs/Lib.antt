@@ -1,0 +1,5 @@
+pub mod AtRationals
+pub mod TurnedCuts
+pub mod WholePieces
+pub mod SafeCutsHold
+pub mod FractionalParts

@@ -1,0 +1,2 @@
+pub mod TurnedBack
+pub mod SafeCuts
