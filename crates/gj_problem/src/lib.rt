@@ -5,9 +5,19 @@
 //! bounds. [`theorems`] says that these hold, that the row adds up at each feasible point, and that what is rounded holds.
 #![tactic(auto)]
 
+mod bounds;
+mod faults;
 mod pieces;
 mod problem;
+mod row;
+mod scales;
+mod slacks;
+mod sums;
 pub mod theorems;
 
 pub use pieces::Piece;
+pub use faults::Fault;
 pub use problem::{Column, Constraint, Entry, Inequality, Problem, Sense};
+pub use row::{MadeRow, Row, row_of};
+pub use scales::divided;
+pub use sums::Sum;
