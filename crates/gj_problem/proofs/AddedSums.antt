@@ -203,3 +203,12 @@ zero_minus = by_ring_q [] (search ring_q depth 30) refl
 
 pub nothing_minus : (d : Rational) (r z : Frac) → d ≡ whole (pos 0) → r ≡ z → z.num *ℤ pos 1 ≡ pos 0 *ℤ z.den → d -ℚ rational r ≡ whole (pos 0)
 nothing_minus d r z d_is r_is z_is = ap₂ (λ a b. a -ℚ b) d_is (ap rational r_is ∙ whole_ratio z (pos 0) z_is) ∙ zero_minus
+
+none_step : (y x : Rational) → y ≡ y +ℚ whole (pos 0) *ℚ x
+none_step y x = by_ring_q (y ∷ x ∷ []) (search ring_q depth 30) refl
+
+-- 0 times anything adds nothing
+pub none_weighted : (m : Frac) (y x : Rational) → m.num ≡ pos 0 → y ≡ y +ℚ rational m *ℚ x
+none_weighted m y x none =
+    none_step y x
+    ∙ ap (λ w. y +ℚ w *ℚ x) (sym (zero_frac m none))

@@ -1,11 +1,11 @@
 -- The surplus of an inequality with one column, and of the multiple of a constraint.
-use Rattle.std.proofs.Common.{◌≡◌, ℕ, zero, suc, ◌+◌, ◌<◌, ◌≤◌, List, [], ◌∷◌, ◌++◌, length, get_or, take, ℤ, pos, negsuc, neg_ℤ, ◌-ℤ◌, ◌+ℤ◌, ◌*ℤ◌, ◌<ℤ◌, ◌≤ℤ◌, refl, sym, ap, ap₂, subst, ◌∙◌, arith}
+use Rattle.std.proofs.Common.{◌≡◌, ℕ, zero, suc, ◌+◌, ◌<◌, ◌≤◌, List, [], ◌∷◌, ◌++◌, length, get_or, take, ℤ, pos, negsuc, neg_ℤ, ◌-ℤ◌, ◌+ℤ◌, ◌*ℤ◌, ◌<ℤ◌, ◌≤ℤ◌, refl, sym, ap, ap₂, subst, subst₂, ◌∙◌, arith}
 use Rattle.std.proofs.lemmas.Int.{ints}
 use Rattle.std.proofs.lemmas.List.{take_more, take_all}
 use Rattle.gj_frac.specs.declared.Frac.{Frac}
 use Rattle.gj_frac.specs.Floor.{IsFloor}
 use Rattle.gj_frac.specs.Fraction.{SameValue, fraction_of, product_of, numerator, denominator}
-use Rattle.gj_lemmas.proofs.Integers.{neg_mul_z, add_mul_z, sub_mul_z, one_mul_z}
+use Rattle.gj_lemmas.proofs.Integers.{neg_mul_z, add_mul_z, sub_mul_z, one_mul_z, swap_last_z, mul_le_cancel_right_z, mul_lt_cancel_right_z, mul_le_mul_right_z, mul_lt_mul_right_z}
 use Rattle.gj_rational.specs.Rational.{Rational, whole, rational, ◌+ℚ◌, ◌*ℚ◌, neg_ℚ, ◌-ℚ◌}
 use Rattle.gj_rational.proofs.RationalLaws.{mul_assoc_q, add_comm_q, mul_zero_q, zero_add_q}
 use Rattle.gj_rational.proofs.RationalRing.{by_ring_q, ring_q}
@@ -99,11 +99,17 @@ all_scaled point es i f right scaled made made' end is same scaled_is =
 -- ---- rounding up
 
 -- the ceiling of l is minus the floor of -l
-pub ceiling_from_floor : (l m : Frac) (n : ℤ) → m.num ≡ neg_ℤ l.num → m.den ≡ l.den → IsFloor m n → IsCeiling l (neg_ℤ n)
-ceiling_from_floor l m n top bottom floor =
-    let low : (n *ℤ l.den) ≤ℤ (neg_ℤ l.num) = subst (λ d. (n *ℤ d) ≤ℤ (neg_ℤ l.num)) bottom (subst (λ z. (n *ℤ m.den) ≤ℤ z) top floor.at_most) in
+pub ceiling_from_floor : (l m : Frac) (n : ℤ) → m.num *ℤ l.den ≡ neg_ℤ l.num *ℤ m.den → IsFloor m n → IsCeiling l (neg_ℤ n)
+ceiling_from_floor l m n same floor =
+    let some : pos 0 <ℤ l.den = l.lowest.positive in
+    let low : (n *ℤ l.den) ≤ℤ (neg_ℤ l.num) =
+    mul_le_cancel_right_z (n *ℤ l.den) (neg_ℤ l.num) m.den m.lowest.positive
+    (subst₂ (λ (a b : ℤ). a ≤ℤ b) (swap_last_z n m.den l.den) same
+    (mul_le_mul_right_z (n *ℤ m.den) m.num l.den (omega (arith, ints)) floor.at_most)) in
     let high : (neg_ℤ l.num) <ℤ ((n +ℤ pos 1) *ℤ l.den) =
-    subst (λ d. (neg_ℤ l.num) <ℤ ((n +ℤ pos 1) *ℤ d)) bottom (subst (λ z. z <ℤ ((n +ℤ pos 1) *ℤ m.den)) top floor.next_above) in
+    mul_lt_cancel_right_z (neg_ℤ l.num) ((n +ℤ pos 1) *ℤ l.den) m.den m.lowest.positive
+    (subst₂ (λ (a b : ℤ). a <ℤ b) same (swap_last_z (n +ℤ pos 1) m.den l.den)
+    (mul_lt_mul_right_z m.num ((n +ℤ pos 1) *ℤ m.den) l.den l.lowest.positive floor.next_above)) in
     let next = add_mul_z n (pos 1) l.den in
     let before = sub_mul_z (neg_ℤ n) (pos 1) l.den in
     let turned = neg_mul_z n l.den in

@@ -116,3 +116,9 @@ held_split ds cs ups i d c up d_below c_below up_below d_is c_is up_is =
     sym (take-append-drop (i + 1) hs)
     ∙ ap (λ (xs : List Held). xs ++ drop (i + 1) hs) (held_next ds cs ups i d c up d_below c_below up_below d_is c_is up_is)
     ∙ append_assoc (take i hs) (h ∷ []) (drop (i + 1) hs)
+
+-- below the length the default says nothing
+pub default_unused : (us : List Bool) (i : ℕ) (a b : Bool) → i < length us → get_or us i a ≡ get_or us i b
+default_unused [] i a b below = absurd (omega arith)
+default_unused (u ∷ us) zero a b below = refl
+default_unused (u ∷ us) (suc i) a b below = default_unused us i a b (omega arith)

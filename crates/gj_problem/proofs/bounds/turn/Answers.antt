@@ -1,6 +1,7 @@
-use Rattle.std.proofs.Common.{◌≡◌, ◌⊎◌, IsTrue, true, false, inl, inr, [], refl, ap, ◌∙◌, rules}
+use Rattle.std.proofs.Common.{◌≡◌, ◌⊎◌, IsTrue, true, false, inl, inr, [], Option, None, MatchOption, refl, ap, subst, ◌∙◌, rules}
 use Rattle.gj_rational.specs.Rational.{rational, ◌+ℚ◌, neg_ℚ}
-use Rattle.gj_problem.specs.Aggregates.{Held, IsLeftOut}
+use Rattle.gj_problem.specs.Aggregates.{Held, IsLeftOut, IsTurned}
+use Rattle.gj_problem.specs.declared.pieces.Piece.{Piece}
 use Rattle.gj_problem.proofs.AddedSums.{sum_value, product_value, negation_value}
 use Rattle.gj_problem.proofs.OneColumn.{right_kept}
 use Rattle.gj_problem.proofs.bounds.turn.Goals as goal
@@ -14,3 +15,12 @@ returns-clause-right c = λ (done : IsTrue true).
     ∙ ap (λ w. rational old.right +ℚ w)
     (negation_value c.in_ok-shift.shift c.neg.result c.neg.ensures
     ∙ ap neg_ℚ (product_value s.entry s.inequality.right c.in_ok-shift.shift c.in_ok-shift.ensures.value)))
+
+pub returns-clause-next : goal.returns-clause-next
+returns-clause-next c = λ (done : IsTrue true).
+    let h : Held = record { index = c.args.index; column = c.args.column.now; coefficient = c.args.coefficient; at_upper = c.args.at_upper } in
+    let kept : IsLeftOut h → ⊥ = λ passed. let t = c.is_left_out.ensures.1 passed in absurd (cc) in
+    let turned : IsTurned h c.in-Some.piece =
+    subst (λ (made : Option Piece). MatchOption made ((h.column.lower ≡ None) × (h.column.upper ≡ None)) (IsTurned h)) c.in-Some.is
+    c.in_ok-piece.ensures in
+    inr (kept, c.in-Some.piece, turned, c.in_ok-push_piece.ensures)

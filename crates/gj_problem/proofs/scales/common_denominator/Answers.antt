@@ -26,9 +26,9 @@ loop-entry-preserved c =
     let next : map (λ (f : Entry). f.value) (take (i + 1) es) ≡ vs ++ e.value ∷ [] =
     ap (λ (fs : List Entry). map (λ (f : Entry). f.value) fs)
     (take_more es i e c.loop-entry-test.true ∙ ap (λ z. take i es ++ z ∷ []) (sym c.entry-item.is)) ∙ values_append (take i es) e in
-    subst (λ (ws : List Frac). IsLeastCommonDenominator (c.args.right ∷ ws) c.in_ok-with_denominator.field-0) (sym next)
-    (least_common_more (c.args.right ∷ vs) e.value c.loop-entry.least c.in_ok-with_denominator.field-0 c.loop-entry.invariant
-    c.in_ok-with_denominator.ensures)
+    subst (λ (ws : List Frac). IsLeastCommonDenominator (c.args.right ∷ ws) c.in_ok-least-2.least) (sym next)
+    (least_common_more (c.args.right ∷ vs) e.value c.loop-entry.least c.in_ok-least-2.least c.loop-entry.invariant
+    c.in_ok-least-2.ensures)
 
 pub returns : goal.returns
 returns c =

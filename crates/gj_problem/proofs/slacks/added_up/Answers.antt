@@ -10,7 +10,7 @@ use Rattle.gj_problem.proofs.slacks.added_up.Goals as goal
 
 pub loop-i-init : goal.loop-i-init
 loop-i-init c = record {
-  count = c.in_ok-sum.ensures.count ∙ ap (λ xs. length xs) c.as_slice.ensures;
+  count = c.in_ok-sum.ensures.count ∙ ap (λ xs. length xs) c.as_slice-columns.ensures;
   adds = λ (point : List Rational).
       nothing_minus (dot c.in_ok-sum.sum.coefficients.items point) c.in_ok-sum.sum.right c.ratio.result (c.in_ok-sum.ensures.none point)
       c.in_ok-sum.ensures.right c.ratio.ensures;
@@ -22,9 +22,9 @@ loop-i-preserved c =
     let ms = c.args.multipliers.now in
     let cs = c.args.constraints.now in
     let m_below : c.loop-i.i < length ms = omega arith in
-    let next = weighted_next ms cs c.loop-i.i c.index-multipliers-i.result c.constraint-item.result m_below c.loop-i-test.true
-    c.index-multipliers-i.is c.constraint-item.is in
-    let w : Weighted = record { multiplier = c.index-multipliers-i.result; constraint = c.constraint-item.result } in
+    let next = weighted_next ms cs c.loop-i.i c.index-multipliers-i.result c.index-constraints-i.result m_below c.loop-i-test.true
+    c.index-multipliers-i.is c.index-constraints-i.is in
+    let w : Weighted = record { multiplier = c.index-multipliers-i.result; constraint = c.index-constraints-i.result } in
     let ws = take c.loop-i.i (weighted ms cs) in
     let vs = take (c.loop-i.i + 1) (weighted ms cs) in
     record {
