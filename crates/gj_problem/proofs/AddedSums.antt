@@ -1,5 +1,5 @@
 -- Sums over all columns, with multiples of entries and inequalities added.
-use Rattle.std.proofs.Common.{◌≡◌, ◌≢◌, unsigned_abs, ℕ, zero, suc, ◌+◌, ◌<◌, ◌≤◌, List, [], ◌∷◌, ◌++◌, map, length, get_or, take, replicate, add-one, ℤ, pos, negsuc, ◌*ℤ◌, ◌+ℤ◌, neg_ℤ, refl, sym, ap, ap₂, subst, subst₂, ◌∙◌, arith}
+use Rattle.std.proofs.Common.{◌≡◌, ◌≢◌, unsigned_abs, ℕ, zero, suc, ◌+◌, ◌<◌, ◌≤◌, List, [], ◌∷◌, ◌++◌, length, get_or, take, replicate, add-one, ℤ, pos, negsuc, ◌*ℤ◌, ◌+ℤ◌, neg_ℤ, refl, sym, ap, ap₂, ◌∙◌, arith}
 use Rattle.std.proofs.lemmas.Int.{ints}
 use Rattle.std.proofs.lemmas.List.{take_more, take_all}
 use Rattle.std.specs.Prelude.{slice_set}
@@ -12,8 +12,7 @@ use Rattle.gj_rational.specs.Rational.{Rational, whole, rational, ◌+ℚ◌, �
 use Rattle.gj_rational.proofs.RationalLaws.{equal_q, sum_is, product_is, mul_assoc_q, add_assoc_q, add_comm_q, zero_add_q, zero_mul_q}
 use Rattle.gj_rational.proofs.RationalRing.{by_ring_q, ring_q}
 use Rattle.gj_problem.specs.declared.problem.Entry.{Entry}
-use Rattle.gj_problem.specs.declared.problem.Inequality.{Inequality}
-use Rattle.gj_problem.specs.Problems.{value_at, sum_at, surplus_at}
+use Rattle.gj_problem.specs.Problems.{value_at, sum_at}
 use Rattle.gj_problem.specs.Rows.{dot}
 use lib.IntN.{zero-*ℤ}
 

@@ -1,18 +1,17 @@
 -- The surplus of an inequality with one column, and of the multiple of a constraint.
-use Rattle.std.proofs.Common.{◌≡◌, ℕ, zero, suc, ◌+◌, ◌<◌, ◌≤◌, List, [], ◌∷◌, ◌++◌, length, get_or, take, ℤ, pos, negsuc, neg_ℤ, ◌-ℤ◌, ◌+ℤ◌, ◌*ℤ◌, ◌<ℤ◌, ◌≤ℤ◌, refl, sym, ap, ap₂, subst, subst₂, ◌∙◌, arith}
+use Rattle.std.proofs.Common.{◌≡◌, ℕ, zero, suc, ◌+◌, ◌<◌, ◌≤◌, List, [], ◌∷◌, ◌++◌, length, get_or, take, ℤ, pos, negsuc, neg_ℤ, ◌+ℤ◌, ◌*ℤ◌, ◌<ℤ◌, ◌≤ℤ◌, refl, sym, ap, ap₂, subst₂, ◌∙◌, arith}
 use Rattle.std.proofs.lemmas.Int.{ints}
 use Rattle.std.proofs.lemmas.List.{take_more, take_all}
 use Rattle.gj_frac.specs.declared.Frac.{Frac}
 use Rattle.gj_frac.specs.Floor.{IsFloor}
-use Rattle.gj_frac.specs.Fraction.{SameValue, fraction_of, product_of, numerator, denominator}
-use Rattle.gj_lemmas.proofs.Integers.{neg_mul_z, add_mul_z, sub_mul_z, one_mul_z, swap_last_z, mul_le_cancel_right_z, mul_lt_cancel_right_z, mul_le_mul_right_z, mul_lt_mul_right_z}
+use Rattle.gj_frac.specs.Fraction.{SameValue, fraction_of, product_of}
+use Rattle.gj_lemmas.proofs.Integers.{neg_mul_z, add_mul_z, sub_mul_z, swap_last_z, mul_le_cancel_right_z, mul_lt_cancel_right_z, mul_le_mul_right_z, mul_lt_mul_right_z}
 use Rattle.gj_rational.specs.Rational.{Rational, whole, rational, ◌+ℚ◌, ◌*ℚ◌, neg_ℚ, ◌-ℚ◌}
-use Rattle.gj_rational.proofs.RationalLaws.{mul_assoc_q, add_comm_q, mul_zero_q, zero_add_q}
+use Rattle.gj_rational.proofs.RationalLaws.{mul_zero_q, zero_add_q}
 use Rattle.gj_rational.proofs.RationalRing.{by_ring_q, ring_q}
 use Rattle.gj_problem.specs.declared.problem.Entry.{Entry}
-use Rattle.gj_problem.specs.declared.problem.Inequality.{Inequality}
 use Rattle.gj_problem.specs.declared.pieces.Piece.{Piece}
-use Rattle.gj_problem.specs.Problems.{value_at, sum_at, surplus_at}
+use Rattle.gj_problem.specs.Problems.{value_at, sum_at}
 use Rattle.gj_problem.specs.Aggregates.{pieces_at, IsCeiling}
 use Rattle.gj_problem.proofs.AddedSums.{product_value, sum_at_append}
 use Rattle.gj_problem.proofs.MadePieces.{pieces_joined}

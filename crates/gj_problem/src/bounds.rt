@@ -29,7 +29,8 @@ pub(crate) enum Turned {
     Free(u32),
 }
 
-/// Turns each column of a sum, with these coefficients against this right side, unless it is left out.
+/// Turns each column of a sum, with these coefficients against this right side, unless it is left
+/// out.
 pub(crate) fn turned_columns(
     alloc: Global,
     columns: &[Column],
@@ -49,7 +50,14 @@ pub(crate) fn turned_columns(
         let Ok(index) = u32::try_from(j) else {
             return Err(Fault::Wide);
         };
-        if !turn(alloc, &mut bounds, index, column, coefficients[j], at_upper[j])? {
+        if !turn(
+            alloc,
+            &mut bounds,
+            index,
+            column,
+            coefficients[j],
+            at_upper[j],
+        )? {
             return Ok(Turned::Free(index));
         }
     }
@@ -92,7 +100,8 @@ fn is_left_out(x: Frac, is_whole: bool) -> bool
     x.num() == 0 || x.den() == 1 && is_whole
 }
 
-/// The column turned to its bound: the lower one, unless there is none or the upper one is preferred.
+/// The column turned to its bound: the lower one, unless there is none or the upper one is
+/// preferred.
 fn to_bound(
     alloc: Global,
     index: u32,
@@ -105,8 +114,22 @@ fn to_bound(
 {
     match (column.lower, column.upper) {
         (None, None) => Ok(None),
-        (Some(lower), None) => Ok(Some(from_lower(alloc, index, column, coefficient, at_upper, lower)?)),
-        (None, Some(upper)) => Ok(Some(from_upper(alloc, index, column, coefficient, at_upper, upper)?)),
+        (Some(lower), None) => Ok(Some(from_lower(
+            alloc,
+            index,
+            column,
+            coefficient,
+            at_upper,
+            lower,
+        )?)),
+        (None, Some(upper)) => Ok(Some(from_upper(
+            alloc,
+            index,
+            column,
+            coefficient,
+            at_upper,
+            upper,
+        )?)),
         (Some(lower), Some(upper)) => {
             if at_upper {
                 Ok(Some(from_upper(alloc, index, column, coefficient, at_upper, upper)?))

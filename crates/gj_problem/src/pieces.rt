@@ -6,7 +6,8 @@ use gj_frac::Frac;
 use gj_shape::List;
 use std::alloc::{AllocError, Global};
 
-/// An inequality that holds at all feasible points. Its surplus, what its sum has above its right side, is a column of a row.
+/// An inequality that holds at all feasible points. Its surplus, what its sum has above its right
+/// side, is a column of a row.
 #[derive(Drop)]
 pub struct Piece {
     /// What stands before the surplus in the row.

@@ -4,12 +4,11 @@ ghost use Rattle.gj_problem.specs.Made.{IsMadeRow};
 
 use crate::bounds::{Bounds, Turned, turned_columns};
 use crate::faults::Fault;
+use crate::pieces::Piece;
 use crate::problem::Problem;
 use crate::slacks::{Aggregate, added_up};
 use gj_frac::Frac;
 use std::alloc::Global;
-
-use crate::pieces::Piece;
 
 /// A row whose columns are slacks and columns turned to bounds.
 #[derive(Drop)]

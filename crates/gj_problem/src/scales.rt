@@ -19,7 +19,8 @@ pub fn divided(x: Frac, y: Frac) -> Result<Frac, Wide>
     }
 }
 
-/// The number by which the slack of a constraint is multiplied: its least common denominator if its columns are whole, else 1.
+/// The number by which the slack of a constraint is multiplied: its least common denominator if its
+/// columns are whole, else 1.
 pub(crate) fn scale(right: Frac, entries: &[Entry], is_whole: bool) -> Result<Frac, Wide>
     ensures { IfOk result (λ m. (n : ℕ) × IsScale right entries.now is_whole n × (rational m ≡ whole (pos n))) }
 {

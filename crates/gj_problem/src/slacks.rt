@@ -67,8 +67,7 @@ fn add_weighted(
     if multiplier.num() == 0 {
         return Ok(());
     }
-    made.sum
-        .add(multiplier, constraint.entries.as_slice(), constraint.right)?;
+    made.sum.add(multiplier, constraint.entries.as_slice(), constraint.right)?;
     if is_equation(constraint.sense) {
         return Ok(());
     }
@@ -88,7 +87,12 @@ fn is_equation(sense: Sense) -> bool
 }
 
 /// The slack of a constraint with a multiplier, times its scale.
-fn slack(alloc: Global, problem: &Problem, constraint: &Constraint, multiplier: Frac) -> Result<Piece, Fault>
+fn slack(
+    alloc: Global,
+    problem: &Problem,
+    constraint: &Constraint,
+    multiplier: Frac,
+) -> Result<Piece, Fault>
     ensures { IfOk result (IsSlack problem.now (record { multiplier = multiplier; constraint = constraint.now })) }
 {
     let entries = constraint.entries.as_slice();
@@ -126,7 +130,8 @@ fn is_whole_column(problem: &Problem, column: u32) -> bool
     }
 }
 
-/// The inequality whose surplus is the factor times what the sum of the entries has above the right side.
+/// The inequality whose surplus is the factor times what the sum of the entries has above the right
+/// side.
 fn times(alloc: Global, factor: Frac, entries: &[Entry], right: Frac) -> Result<Inequality, Fault>
     ensures { IfOk result (λ q. (point : List Rational) → surplus_at point q
         ≡ rational factor *ℚ (sum_at point entries.now -ℚ rational right)) }
@@ -134,10 +139,13 @@ fn times(alloc: Global, factor: Frac, entries: &[Entry], right: Frac) -> Result<
     let mut scaled = Vec::new(alloc);
     for entry in entries {
         let value = factor.checked_mul(entry.value)?;
-        push_entry(&mut scaled, Entry {
-            column: entry.column,
-            value,
-        })?;
+        push_entry(
+            &mut scaled,
+            Entry {
+                column: entry.column,
+                value,
+            },
+        )?;
     }
     let right = factor.checked_mul(right)?;
     Ok(Inequality {

@@ -6,7 +6,6 @@ ghost use Rattle.gj_problem.specs.Rows.{dot};
 
 use crate::problem::{Entry, Inequality};
 use gj_frac::{Frac, Wide};
-
 use std::alloc::{AllocError, Global};
 
 /// A coefficient for each column, and a right side.
@@ -60,7 +59,8 @@ impl Sum {
         Ok(())
     }
 
-    /// The inequality of the coefficients that are not 0; none if there are too many columns to count.
+    /// The inequality of the coefficients that are not 0; none if there are too many columns to
+    /// count.
     pub fn inequality(self, alloc: Global) -> Result<Option<Inequality>, AllocError>
         ensures { IfOk result (λ made. IfSome made (λ q. (point : List Rational) → surplus_at point q
             ≡ dot self.coefficients.items point -ℚ rational self.right)) }
@@ -70,10 +70,13 @@ impl Sum {
             let Ok(index) = u32::try_from(column) else {
                 return Ok(None);
             };
-            push_some(&mut entries, Entry {
-                column: index,
-                value: *coefficient,
-            })?;
+            push_some(
+                &mut entries,
+                Entry {
+                    column: index,
+                    value: *coefficient,
+                },
+            )?;
         }
         Ok(Some(Inequality {
             entries: gj_shape::List::of(entries),

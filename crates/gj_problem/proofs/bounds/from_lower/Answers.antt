@@ -1,6 +1,5 @@
-use Rattle.std.proofs.Common.{◌≡◌, List, pos, ap, refl, ◌∙◌}
-use Rattle.gj_rational.specs.Rational.{Rational, rational, ◌-ℚ◌}
-use Rattle.gj_problem.specs.Problems.{sum_at}
+use Rattle.std.proofs.Common.{List, pos, refl}
+use Rattle.gj_rational.specs.Rational.{Rational}
 use Rattle.gj_problem.proofs.AddedSums.{whole_ratio}
 use Rattle.gj_problem.proofs.OneColumn.{lower_surplus}
 use Rattle.gj_problem.proofs.bounds.from_lower.Goals as goal

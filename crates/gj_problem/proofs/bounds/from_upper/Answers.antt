@@ -1,4 +1,4 @@
-use Rattle.std.proofs.Common.{◌≡◌, List, negsuc, refl}
+use Rattle.std.proofs.Common.{List, negsuc}
 use Rattle.gj_rational.specs.Rational.{Rational}
 use Rattle.gj_problem.proofs.AddedSums.{whole_ratio, negation_value}
 use Rattle.gj_problem.proofs.OneColumn.{upper_surplus}

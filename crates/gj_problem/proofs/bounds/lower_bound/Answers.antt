@@ -1,4 +1,4 @@
-use Rattle.std.proofs.Common.{◌≡◌, Bool, neg_ℤ, sym, ap, subst, ◌∙◌}
+use Rattle.std.proofs.Common.{Bool, neg_ℤ, sym, ap, subst, ◌∙◌}
 use Rattle.gj_rational.specs.Rational.{neg_ℚ}
 use Rattle.gj_rational.proofs.RationalLaws.{whole_neg}
 use Rattle.gj_problem.specs.Aggregates.{IsLowerBound}

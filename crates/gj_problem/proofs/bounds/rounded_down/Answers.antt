@@ -8,6 +8,8 @@ use mir.Syntax.{w128}
 pub returns-in-Some : goal.returns-in-Some
 returns-in-Some c =
     let n = c.floor.result in
-    let x = c.in-Some.whole in
-    (n, c.floor.ensures,
-    whole_ratio x n (subst (λ (z : ℤ). IsRatio x z (pos 1)) (to_z-of_z w128 n (search rules)) c.in-Some.ensures.value))
+    let x = c.in-Some.whole in (
+      n,
+      c.floor.ensures,
+      whole_ratio x n (subst (λ (z : ℤ). IsRatio x z (pos 1)) (to_z-of_z w128 n (search rules)) c.in-Some.ensures.value),
+    )

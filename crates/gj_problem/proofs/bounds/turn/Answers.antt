@@ -1,4 +1,4 @@
-use Rattle.std.proofs.Common.{◌≡◌, ◌⊎◌, IsTrue, true, false, inl, inr, [], Option, None, MatchOption, refl, ap, subst, ◌∙◌, rules}
+use Rattle.std.proofs.Common.{◌≡◌, IsTrue, true, inr, Option, None, MatchOption, ap, subst, ◌∙◌}
 use Rattle.gj_rational.specs.Rational.{rational, ◌+ℚ◌, neg_ℚ}
 use Rattle.gj_problem.specs.Aggregates.{Held, IsLeftOut, IsTurned}
 use Rattle.gj_problem.specs.declared.pieces.Piece.{Piece}

@@ -1,6 +1,6 @@
-use Rattle.std.proofs.Common.{◌≡◌, ◌+◌, ◌<◌, true, false, Bool, ℕ, List, [], ◌∷◌, ◌++◌, length, take, drop, get_or, refl, sym, ap, subst, ◌∙◌, arith}
+use Rattle.std.proofs.Common.{◌≡◌, ◌+◌, ◌<◌, false, Bool, ℕ, List, [], ◌∷◌, ◌++◌, length, take, drop, get_or, refl, sym, subst, arith}
 use Rattle.gj_rational.specs.Rational.{rational}
-use Rattle.gj_problem.specs.Aggregates.{Held, held, IsLeftOut, IsTurned, IsFree}
+use Rattle.gj_problem.specs.Aggregates.{Held, held, IsLeftOut, IsTurned}
 use Rattle.gj_problem.specs.Steps.{AreTurned}
 use Rattle.gj_problem.proofs.OneColumn.{right_begun, right_more}
 use Rattle.gj_problem.proofs.Prefixes.{made_next, held_next, held_split, held_all_taken, default_unused}
@@ -25,8 +25,12 @@ loop-j-preserved c =
     let up_below : j < length ups = omega arith in
     let next = held_next ds cs ups j c.index-columns-j.result c.index-coefficients-j.result up c.loop-j-test.true c_below up_below
     c.index-columns-j.is c.index-coefficients-j.is (default_unused ups j false up up_below) in
-    let h : ℕ → Held = λ i. record { index = i; column = c.index-columns-j.result; coefficient = c.index-coefficients-j.result;
-    at_upper = up } in
+    let h : ℕ → Held = λ i. record {
+      index = i;
+      column = c.index-columns-j.result;
+      coefficient = c.index-coefficients-j.result;
+      at_upper = up;
+    } in
     let next_is = subst (λ (i : ℕ). take (j + 1) (held 0 ds cs ups) ≡ take j (held 0 ds cs ups) ++ h i ∷ []) (sym same) next in
     record {
       made = made_next IsLeftOut IsTurned (take j (held 0 ds cs ups)) (take (j + 1) (held 0 ds cs ups)) (h c.in-Ok.index)
@@ -47,8 +51,12 @@ returns-then-not-branch c =
     let up_below : j < length ups = omega arith in
     let split = held_split ds cs ups j c.index-columns-j.result c.index-coefficients-j.result up c.loop-j-test.true c_below
     up_below c.index-columns-j.is c.index-coefficients-j.is (default_unused ups j false up up_below) in
-    let h : ℕ → Held = λ i. record { index = i; column = c.index-columns-j.result; coefficient = c.index-coefficients-j.result;
-    at_upper = up } in
+    let h : ℕ → Held = λ i. record {
+      index = i;
+      column = c.index-columns-j.result;
+      coefficient = c.index-coefficients-j.result;
+      at_upper = up;
+    } in
     record {
       before = take j (held 0 ds cs ups);
       column = h c.in-Ok.index;

@@ -1,4 +1,4 @@
-use Rattle.std.proofs.Common.{◌≡◌, List, refl, sym, ap, ap₂, subst, subst₂}
+use Rattle.std.proofs.Common.{List, refl, subst, subst₂}
 use Rattle.gj_frac.specs.declared.Frac.{Frac}
 use Rattle.gj_problem.specs.declared.bounds.Turned.{Turned}
 use Rattle.gj_problem.specs.declared.problem.Column.{Column}

@@ -1,4 +1,4 @@
-use Rattle.std.proofs.Common.{◌≡◌, ℤ, pos, FitsSigned, sym, ap, subst, ◌∙◌}
+use Rattle.std.proofs.Common.{ℤ, pos, FitsSigned, sym, ap, subst, ◌∙◌}
 use Rattle.std.proofs.lemmas.Int.{to_z-of_z}
 use Rattle.gj_frac.specs.Fraction.{IsRatio}
 use Rattle.gj_rational.specs.Rational.{whole}

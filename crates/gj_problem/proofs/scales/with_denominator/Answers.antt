@@ -1,4 +1,4 @@
-use Rattle.std.proofs.Common.{◌≡◌, ℕ, ℤ, to_z, of_z, ◌*◌, ◌/◌, unsigned_abs, inr, sym, ap, ap₂, subst, ◌∙◌}
+use Rattle.std.proofs.Common.{◌≡◌, ℕ, ℤ, to_z, of_z, ◌*◌, ◌/◌, unsigned_abs, inr, sym, ap, subst, ◌∙◌}
 use Rattle.std.specs.Int.{IsGcd}
 use Rattle.std.proofs.Math.Nat.{div-mul_cancel}
 use Rattle.gj_frac.proofs.Reduced.{read_part}

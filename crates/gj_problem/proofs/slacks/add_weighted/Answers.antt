@@ -1,4 +1,4 @@
-use Rattle.std.proofs.Common.{◌≡◌, ◌⊎◌, ℤ, pos, to_z, of_z, inl, inr, true, false, ⊎_elim, List, refl, sym, ap, ◌∙◌, rules}
+use Rattle.std.proofs.Common.{◌≡◌, ℤ, pos, to_z, of_z, inr, ⊎_elim, List, sym, ap, ◌∙◌}
 use Rattle.gj_frac.specs.Fraction.{numerator}
 use Rattle.gj_frac.proofs.Reduced.{read_part}
 use Rattle.gj_rational.specs.Rational.{Rational, rational, ◌-ℚ◌}

@@ -1,10 +1,8 @@
-use Rattle.std.proofs.Common.{◌≡◌, ◌+◌, ◌<◌, List, [], length, take, refl, sym, ap, subst, ◌∙◌, arith, pos}
-use Rattle.gj_rational.specs.Rational.{Rational, whole, rational, ◌-ℚ◌}
-use Rattle.gj_frac.specs.declared.Frac.{Frac}
-use Rattle.gj_problem.specs.declared.pieces.Piece.{Piece}
+use Rattle.std.proofs.Common.{◌+◌, ◌<◌, List, length, take, ap, subst, ◌∙◌, arith}
+use Rattle.gj_rational.specs.Rational.{Rational, rational, ◌-ℚ◌}
 use Rattle.gj_problem.specs.Rows.{dot}
 use Rattle.gj_problem.specs.Aggregates.{AreMadeOf, Weighted, weighted, aggregate_at, HasNoSlack, IsSlack}
-use Rattle.gj_problem.proofs.AddedSums.{nothing_minus, whole_ratio}
+use Rattle.gj_problem.proofs.AddedSums.{nothing_minus}
 use Rattle.gj_problem.proofs.Prefixes.{made_next, weighted_next, weighted_all_taken, aggregate_next}
 use Rattle.gj_problem.proofs.slacks.added_up.Goals as goal
 

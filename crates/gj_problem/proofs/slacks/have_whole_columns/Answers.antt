@@ -1,6 +1,6 @@
-use Rattle.std.proofs.Common.{◌≡◌, IsTrue, true, false, All, List, take, get_or, sym, subst, rules}
+use Rattle.std.proofs.Common.{All, sym, subst, rules}
 use Rattle.std.proofs.lemmas.List.{take_all}
-use Rattle.std.proofs.lemmas.List.Elements.{All-more, All-get_or, All-nil}
+use Rattle.std.proofs.lemmas.List.Elements.{All-more, All-get_or}
 use Rattle.gj_problem.specs.declared.problem.Entry.{Entry}
 use Rattle.gj_problem.specs.Problems.{IsWholeColumn}
 use Rattle.gj_problem.proofs.slacks.have_whole_columns.Goals as goal
@@ -16,7 +16,7 @@ returns-then-not-is_whole_column c =
     let P : Entry → Type 0 = λ e. IsWholeColumn c.args.problem.now e.column in (
       λ t. absurd (cc),
       λ all. let t = c.is_whole_column.ensures.1 (subst P (sym c.entry-item.is)
-      (All-get_or P c.args.entries.now c.loop-entry.entry-index c.entry-item.result c.loop-entry-test.true all)) in absurd (cc),
+          (All-get_or P c.args.entries.now c.loop-entry.entry-index c.entry-item.result c.loop-entry-test.true all)) in absurd (cc),
     )
 
 pub returns : goal.returns
