@@ -1,5 +1,5 @@
 -- Sums over all columns, with multiples of entries and inequalities added.
-use Rattle.std.proofs.Common.{◌≡◌, ◌≢◌, unsigned_abs, ℕ, zero, suc, ◌+◌, ◌<◌, ◌≤◌, List, [], ◌∷◌, ◌++◌, map, length, get_or, take, replicate, add-one, ℤ, pos, negsuc, ◌*ℤ◌, ◌+ℤ◌, neg_ℤ, refl, sym, ap, ap₂, subst, subst₂, ◌∙◌, arith}
+use Rattle.std.proofs.Common.{◌≡◌, ◌≢◌, unsigned_abs, ℕ, zero, suc, ◌+◌, ◌<◌, ◌≤◌, List, [], ◌∷◌, ◌++◌, length, get_or, take, replicate, add-one, ℤ, pos, negsuc, ◌*ℤ◌, ◌+ℤ◌, neg_ℤ, refl, sym, ap, ap₂, ◌∙◌, arith}
 use Rattle.std.proofs.lemmas.Int.{ints}
 use Rattle.std.proofs.lemmas.List.{take_more, take_all}
 use Rattle.std.specs.Prelude.{slice_set}
@@ -12,8 +12,7 @@ use Rattle.gj_rational.specs.Rational.{Rational, whole, rational, ◌+ℚ◌, �
 use Rattle.gj_rational.proofs.RationalLaws.{equal_q, sum_is, product_is, mul_assoc_q, add_assoc_q, add_comm_q, zero_add_q, zero_mul_q}
 use Rattle.gj_rational.proofs.RationalRing.{by_ring_q, ring_q}
 use Rattle.gj_problem.specs.declared.problem.Entry.{Entry}
-use Rattle.gj_problem.specs.declared.problem.Inequality.{Inequality}
-use Rattle.gj_problem.specs.Problems.{value_at, sum_at, surplus_at}
+use Rattle.gj_problem.specs.Problems.{value_at, sum_at}
 use Rattle.gj_problem.specs.Rows.{dot}
 use lib.IntN.{zero-*ℤ}
 
@@ -203,3 +202,12 @@ zero_minus = by_ring_q [] (search ring_q depth 30) refl
 
 pub nothing_minus : (d : Rational) (r z : Frac) → d ≡ whole (pos 0) → r ≡ z → z.num *ℤ pos 1 ≡ pos 0 *ℤ z.den → d -ℚ rational r ≡ whole (pos 0)
 nothing_minus d r z d_is r_is z_is = ap₂ (λ a b. a -ℚ b) d_is (ap rational r_is ∙ whole_ratio z (pos 0) z_is) ∙ zero_minus
+
+none_step : (y x : Rational) → y ≡ y +ℚ whole (pos 0) *ℚ x
+none_step y x = by_ring_q (y ∷ x ∷ []) (search ring_q depth 30) refl
+
+-- 0 times anything adds nothing
+pub none_weighted : (m : Frac) (y x : Rational) → m.num ≡ pos 0 → y ≡ y +ℚ rational m *ℚ x
+none_weighted m y x none =
+    none_step y x
+    ∙ ap (λ w. y +ℚ w *ℚ x) (sym (zero_frac m none))

@@ -1,13 +1,13 @@
 -- Slacks of constraints: with them each constraint in the sum is an equation, and they hold.
-use Rattle.std.proofs.Common.{◌≡◌, ◌⊎◌, ⊎_elim, ℕ, List, [], ◌∷◌, map, All, Bool, true, false, IsTrue, ℤ, pos, negsuc, neg_ℤ, ◌*ℤ◌, refl, sym, ap, ap₂, subst, ◌∙◌, arith}
+use Rattle.std.proofs.Common.{◌≡◌, ⊎_elim, ℕ, List, [], ◌∷◌, map, All, Bool, true, false, IsTrue, pos, negsuc, refl, sym, ap, ap₂, subst, ◌∙◌, arith}
 use Rattle.std.proofs.lemmas.Int.{ints}
 use Rattle.std.proofs.lemmas.List.Elements.{All-nil, All-cons, All-head, All-tail}
 use Rattle.gj_frac.specs.declared.Frac.{Frac}
 use Rattle.gj_frac.specs.Fraction.{numerator}
-use Rattle.gj_shape.specs.Given.{IsLeastCommonDenominator, IsCommonDenominator, numerator_over}
+use Rattle.gj_shape.specs.Given.{IsCommonDenominator, numerator_over}
 use Rattle.gj_shape.proofs.LeastDenominator.{Divides}
 use Rattle.gj_rational.specs.Rational.{Rational, whole, rational, ◌+ℚ◌, ◌*ℚ◌, neg_ℚ, ◌-ℚ◌, IsWholeNumber}
-use Rattle.gj_rational.proofs.RationalLaws.{equal_q, zero_add_q, zero_mul_q, whole_neg}
+use Rattle.gj_rational.proofs.RationalLaws.{zero_add_q, zero_mul_q, whole_neg}
 use Rattle.gj_rational.proofs.RationalOrder.{IsNonnegativeQ}
 use Rattle.gj_rational.proofs.RationalRing.{by_ring_q, ring_q}
 use Rattle.gj_problem.specs.declared.problem.Constraint.{Constraint}
@@ -16,7 +16,7 @@ use Rattle.gj_problem.specs.declared.problem.Problem.{Problem}
 use Rattle.gj_problem.specs.declared.problem.Sense.{Sense}
 use Rattle.gj_problem.specs.declared.problem.Sense.TheVariants.{AtMost, AtLeast, Equal}
 use Rattle.gj_problem.specs.declared.pieces.Piece.{Piece}
-use Rattle.gj_problem.specs.Problems.{value_at, sum_at, surplus_at, Meets, MeetsConstraint, IsFeasible, Holds, IsColumn, IsWholeColumn}
+use Rattle.gj_problem.specs.Problems.{value_at, sum_at, surplus_at, Meets, MeetsConstraint, IsFeasible, Holds, IsWholeColumn}
 use Rattle.gj_problem.specs.Rows.{HasWholeSurplus, IsSignFor}
 use Rattle.gj_problem.specs.Aggregates.{pieces_at, AreMadeOf, Weighted, weighted, aggregate_at, HasWholeColumns, signed, IsScale, HasNoSlack, IsSlack}
 use Rattle.gj_problem.proofs.Numerators.{numerator_is}

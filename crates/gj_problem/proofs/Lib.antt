@@ -5,3 +5,5 @@ pub mod MadePieces
 pub mod ConstraintSlacks
 pub mod TurnedColumns
 pub mod RowsAtPoints
+pub mod Prefixes
+pub mod OneColumn

@@ -1,5 +1,5 @@
 -- The row of a problem by multipliers: its pieces hold, and it adds up at each feasible point.
-use Rattle.std.proofs.Common.{◌≡◌, ℕ, ◌+◌, List, [], ◌∷◌, ◌++◌, length, All, Bool, IsTrue, ℤ, pos, refl, sym, ap, subst, ◌∙◌, arith}
+use Rattle.std.proofs.Common.{◌≡◌, ◌+◌, List, [], ◌∷◌, length, All, Bool, pos, refl, sym, ap, subst, ◌∙◌, arith}
 use Rattle.std.proofs.lemmas.List.Elements.{All-append}
 use Rattle.gj_frac.specs.declared.Frac.{Frac}
 use Rattle.gj_rational.specs.Rational.{Rational, whole, rational, ◌+ℚ◌, ◌-ℚ◌}
@@ -7,8 +7,8 @@ use Rattle.gj_rational.proofs.RationalLaws.{zero_add_q}
 use Rattle.gj_rational.proofs.RationalRing.{by_ring_q, ring_q}
 use Rattle.gj_problem.specs.declared.problem.Problem.{Problem}
 use Rattle.gj_problem.specs.declared.pieces.Piece.{Piece}
-use Rattle.gj_problem.specs.Problems.{IsFeasible, Holds, value_at, MeetsConstraint}
-use Rattle.gj_problem.specs.Rows.{dot, HasWholeSurplus}
+use Rattle.gj_problem.specs.Problems.{IsFeasible, value_at, MeetsConstraint}
+use Rattle.gj_problem.specs.Rows.{dot}
 use Rattle.gj_problem.specs.Aggregates.{pieces_at, Weighted, weighted, aggregate_at, HasNoSlack, IsSlack, held, IsLeftOut, IsTurned, IsRow, IsSound, AddsUpAt}
 use Rattle.gj_problem.proofs.MadePieces.{made_all, pieces_joined}
 use Rattle.gj_problem.proofs.ConstraintSlacks.{slacks_at, slack_holds, slack_whole, all_met, IsMet}

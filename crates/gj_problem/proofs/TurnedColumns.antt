@@ -1,14 +1,14 @@
 -- Columns turned to their bounds: what they add to a sum, and that they hold.
-use Rattle.std.proofs.Common.{◌≡◌, ◌⊎◌, ⊎_elim, inl, inr, ℕ, zero, suc, ◌+◌, ◌<◌, List, [], ◌∷◌, ◌++◌, map, length, get_or, All, Bool, true, false, Option, Some, None, IsTrue, ℤ, pos, negsuc, neg_ℤ, ◌+ℤ◌, ◌-ℤ◌, ◌*ℤ◌, ◌≤ℤ◌, ◌<ℤ◌, refl, sym, ap, ap₂, subst, ◌∙◌, arith, rules}
+use Rattle.std.proofs.Common.{◌≡◌, ◌⊎◌, ⊎_elim, inl, inr, ℕ, zero, suc, ◌+◌, ◌<◌, List, [], ◌∷◌, length, get_or, All, Bool, true, false, Option, Some, None, IsTrue, ℤ, pos, negsuc, neg_ℤ, ◌+ℤ◌, ◌-ℤ◌, ◌≤ℤ◌, ◌<ℤ◌, refl, sym, ap, ap₂, subst, ◌∙◌, arith, rules}
 use Rattle.std.specs.List.{AllZip}
 use Rattle.std.proofs.lemmas.Int.{ints}
 use Rattle.std.proofs.lemmas.List.Elements.{All-nil, All-cons}
 use Rattle.gj_frac.specs.declared.Frac.{Frac}
 use Rattle.gj_frac.specs.Floor.{IsFloor}
-use Rattle.gj_frac.specs.Fraction.{IsWhole, numerator, denominator}
+use Rattle.gj_frac.specs.Fraction.{IsWhole, numerator}
 use Rattle.gj_lemmas.proofs.Integers.{mul_lt_cancel_right_z}
 use Rattle.gj_rational.specs.Rational.{Rational, whole, rational, ◌+ℚ◌, ◌*ℚ◌, neg_ℚ, ◌-ℚ◌, ◌≤ℚ◌, IsWholeNumber}
-use Rattle.gj_rational.proofs.RationalLaws.{zero_add_q, zero_mul_q, whole_add, whole_neg}
+use Rattle.gj_rational.proofs.RationalLaws.{zero_mul_q, whole_add, whole_neg}
 use Rattle.gj_rational.proofs.RationalOrder.{IsNonnegativeQ, nonnegative_whole, at_most_from_difference}
 use Rattle.gj_rational.proofs.RationalRing.{by_ring_q, ring_q}
 use Rattle.gj_problem.specs.declared.problem.Column.{Column}

@@ -1,3 +1,5 @@
 pub mod Problems
 pub mod Rows
 pub mod Aggregates
+pub mod Steps
+pub mod Made

@@ -1,5 +1,5 @@
 -- Rows made of inequalities that hold at all feasible points (own).
-use Rattle.std.specs.Prelude.{◌≡◌, ◌⊎◌, ℕ, ℤ, pos, ◌≤ℤ◌, List, [], ◌∷◌, All, Some, map, length}
+use Rattle.std.specs.Prelude.{◌≡◌, ◌⊎◌, ℤ, pos, ◌≤ℤ◌, List, [], ◌∷◌, All, Some}
 use Rattle.gj_frac.specs.declared.Frac.{Frac}
 use Rattle.gj_frac.specs.Fraction.{IsWhole}
 use Rattle.gj_rational.specs.Rational.{Rational, whole, rational, ◌+ℚ◌, ◌*ℚ◌, ◌-ℚ◌, ◌≤ℚ◌, IsWholeNumber}
@@ -10,7 +10,7 @@ use Rattle.gj_problem.specs.declared.problem.Problem.{Problem}
 use Rattle.gj_problem.specs.declared.problem.Sense.{Sense}
 use Rattle.gj_problem.specs.declared.problem.Sense.TheVariants.{AtMost, AtLeast, Equal}
 use Rattle.gj_problem.specs.declared.problem.Inequality.{Inequality}
-use Rattle.gj_problem.specs.Problems.{IsFeasible, Holds, surplus_at, sum_at, IsColumn, IsWholeColumn}
+use Rattle.gj_problem.specs.Problems.{IsFeasible, surplus_at, sum_at, IsColumn, IsWholeColumn}
 
 -- the sum of the products of numbers
 abbrev pub dot : List Frac → List Rational → Rational

@@ -1,13 +1,24 @@
 //! Mixed-integer programs, and the rows that any multipliers make of them.
 //!
-//! A [`Problem`] has columns, whole or continuous, with bounds, and constraints with exact data. Its constraints, each times a
-//! multiplier, add up to a row whose columns are the surpluses of inequalities that hold: slacks, and columns turned to their
-//! bounds. [`theorems`] says that these hold, that the row adds up at each feasible point, and that what is rounded holds.
+//! A [`Problem`] has columns, whole or continuous, with bounds, and constraints with exact data.
+//! Its constraints, each times a multiplier, add up to a row whose columns are the surpluses of
+//! inequalities that hold: slacks, and columns turned to their bounds. [`theorems`] says that these
+//! hold, that the row adds up at each feasible point, and that what is rounded holds.
 #![tactic(auto)]
 
+mod bounds;
+mod faults;
 mod pieces;
 mod problem;
+mod row;
+mod scales;
+mod slacks;
+mod sums;
 pub mod theorems;
 
+pub use faults::Fault;
 pub use pieces::Piece;
 pub use problem::{Column, Constraint, Entry, Inequality, Problem, Sense};
+pub use row::{MadeRow, Row, row_of};
+pub use scales::divided;
+pub use sums::Sum;

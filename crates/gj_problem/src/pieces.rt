@@ -1,8 +1,13 @@
 //! Inequalities as the columns of a row.
-use crate::problem::Inequality;
-use gj_frac::Frac;
+ghost use Rattle.std.specs.Prelude.{◌≡◌, IfOk, [], ◌∷◌, ◌++◌};
 
-/// An inequality that holds at all feasible points. Its surplus, what its sum has above its right side, is a column of a row.
+use crate::problem::{Entry, Inequality};
+use gj_frac::Frac;
+use gj_shape::List;
+use std::alloc::{AllocError, Global};
+
+/// An inequality that holds at all feasible points. Its surplus, what its sum has above its right
+/// side, is a column of a row.
 #[derive(Drop)]
 pub struct Piece {
     /// What stands before the surplus in the row.
@@ -11,4 +16,29 @@ pub struct Piece {
     pub inequality: Inequality,
     /// Whether the surplus is a whole number at each feasible point.
     pub is_whole: bool,
+}
+
+/// One more piece.
+pub(crate) fn push_piece(pieces: &mut Vec<Piece>, piece: Piece) -> Result<(), AllocError>
+    ensures { IfOk result (λ _. pieces.new.items ≡ pieces.old.items ++ piece ∷ []) }
+{
+    pieces.push(piece)?;
+    Ok(())
+}
+
+/// One more entry.
+pub(crate) fn push_entry(entries: &mut Vec<Entry>, entry: Entry) -> Result<(), AllocError>
+    ensures { IfOk result (λ _. entries.new.items ≡ entries.old.items ++ entry ∷ []) }
+{
+    entries.push(entry)?;
+    Ok(())
+}
+
+/// One entry alone.
+pub(crate) fn one_entry(alloc: Global, column: u32, value: Frac) -> Result<List<Entry>, AllocError>
+    ensures { IfOk result (λ entries. entries ≡ record { column = column; value = value } ∷ []) }
+{
+    let mut entries = Vec::new(alloc);
+    push_entry(&mut entries, Entry { column, value })?;
+    Ok(List::of(entries))
 }

@@ -1,0 +1,15 @@
+use Rattle.std.proofs.Common.{ℤ, pos, subst, rules}
+use Rattle.std.proofs.lemmas.Int.{to_z-of_z}
+use Rattle.gj_frac.specs.Fraction.{IsRatio}
+use Rattle.gj_problem.proofs.AddedSums.{whole_ratio}
+use Rattle.gj_problem.proofs.bounds.rounded_down.Goals as goal
+use mir.Syntax.{w128}
+
+pub returns-in-Some : goal.returns-in-Some
+returns-in-Some c =
+    let n = c.floor.result in
+    let x = c.in-Some.whole in (
+      n,
+      c.floor.ensures,
+      whole_ratio x n (subst (λ (z : ℤ). IsRatio x z (pos 1)) (to_z-of_z w128 n (search rules)) c.in-Some.ensures.value),
+    )

@@ -1,0 +1,50 @@
+use Rattle.std.proofs.Common.{List, refl, subst, subst₂}
+use Rattle.gj_frac.specs.declared.Frac.{Frac}
+use Rattle.gj_problem.specs.declared.bounds.Turned.{Turned}
+use Rattle.gj_problem.specs.declared.problem.Column.{Column}
+use Rattle.gj_problem.specs.declared.problem.Constraint.{Constraint}
+use Rattle.gj_problem.specs.Aggregates.{AreMadeOf, HasNoSlack, IsSlack, IsAggregate, weighted, held}
+use Rattle.gj_problem.specs.Steps.{AreTurned, AreTurnedOrFree}
+use Rattle.gj_problem.proofs.row.row_of.Goals as goal
+
+pub returns-in-Bounds : goal.returns-in-Bounds
+returns-in-Bounds c =
+    let p = c.args.problem.now in
+    let ms = c.args.multipliers.now in
+    let ups = c.args.at_upper.now in
+    let sum = c.in_ok-sum.field-0.sum in
+    let slacks = c.in_ok-sum.field-0.slacks in
+    let made = c.in-Bounds.field-0 in
+    let turned : AreTurned (held 0 p.columns sum.coefficients.items ups) sum.right made.pieces.items made.right =
+    subst (λ (t : Turned). AreTurnedOrFree (held 0 p.columns sum.coefficients.items ups) sum.right t) c.in-Bounds.is
+    (subst₂ (λ (ds : List Column) (cs : List Frac). AreTurnedOrFree (held 0 ds cs ups) sum.right c.in_ok-turned.turned)
+    c.as_slice.ensures c.as_slice-2.ensures.value c.in_ok-turned.ensures) in
+    record {
+      coefficients = sum.coefficients.items;
+      against = sum.right;
+      sum = subst (λ (ks : List Constraint). IsAggregate p (weighted ms ks) sum.coefficients.items sum.right) c.as_slice-constraints.ensures
+          c.in_ok-sum.ensures.sum;
+      slacks = slacks.items;
+      bounds = made.pieces.items;
+      pieces_are = refl;
+      slacks_are = subst (λ (ks : List Constraint). AreMadeOf HasNoSlack (IsSlack p) (weighted ms ks) slacks.items) c.as_slice-constraints.ensures
+          c.in_ok-sum.ensures.slacks;
+      bounds_are = turned.made;
+      right_is = turned.right_is;
+    }
+
+pub returns : goal.returns
+returns c =
+    let p = c.args.problem.now in
+    let ms = c.args.multipliers.now in
+    let ups = c.args.at_upper.now in
+    let sum = c.in_ok-sum.field-0.sum in
+    record {
+      coefficients = sum.coefficients.items;
+      against = sum.right;
+      sum = subst (λ (ks : List Constraint). IsAggregate p (weighted ms ks) sum.coefficients.items sum.right) c.as_slice-constraints.ensures
+          c.in_ok-sum.ensures.sum;
+      first = subst (λ (t : Turned). AreTurnedOrFree (held 0 p.columns sum.coefficients.items ups) sum.right t) c.in-Free.is
+          (subst₂ (λ (ds : List Column) (cs : List Frac). AreTurnedOrFree (held 0 ds cs ups) sum.right c.in_ok-turned.turned)
+          c.as_slice.ensures c.as_slice-2.ensures.value c.in_ok-turned.ensures);
+    }

@@ -1,0 +1,27 @@
+use Rattle.std.proofs.Common.{◌≡◌, ℤ, pos, to_z, of_z, inr, ⊎_elim, List, sym, ap, ◌∙◌}
+use Rattle.gj_frac.specs.Fraction.{numerator}
+use Rattle.gj_frac.proofs.Reduced.{read_part}
+use Rattle.gj_rational.specs.Rational.{Rational, rational, ◌-ℚ◌}
+use Rattle.gj_problem.specs.declared.problem.Sense.TheVariants.{Equal}
+use Rattle.gj_problem.specs.Problems.{sum_at}
+use Rattle.gj_problem.specs.Rows.{dot}
+use Rattle.gj_problem.proofs.AddedSums.{none_weighted}
+use Rattle.gj_problem.proofs.slacks.add_weighted.Goals as goal
+use mir.Syntax.{w128}
+
+pub returns-then-num-eq0-clause-sum : goal.returns-then-num-eq0-clause-sum
+returns-then-num-eq0-clause-sum c =
+    let m = c.args.multiplier in
+    let none : m.num ≡ pos 0 =
+    sym (read_part m.num m.lowest.num_fits) ∙ ap (λ (z : ℤ). to_z w128 (of_z w128 z)) (sym c.num.ensures) ∙ ap (to_z w128) c.if-num-eq0.true in
+    λ (point : List Rational).
+    let k = c.args.constraint.now in
+    let old = c.args.made.now.sum in
+    none_weighted m (dot old.coefficients.items point -ℚ rational old.right)
+    (sum_at point k.entries -ℚ rational k.right) none
+
+pub returns-clause-slack : goal.returns-clause-slack
+returns-clause-slack c =
+    let some : numerator c.args.multiplier ≡ pos 0 → ⊥ = λ none. c.if-num-eq0.false (ap (of_z w128) (c.num.ensures ∙ none)) in
+    let unequal : c.args.constraint.now.sense ≡ Equal → ⊥ = λ equal. let t = c.is_equation.ensures.1 equal in absurd (cc) in
+    inr (λ passed. ⊎_elim some unequal passed, c.in_ok-piece.piece, c.in_ok-piece.ensures, c.in_ok-push_piece.ensures)

@@ -1,0 +1,13 @@
+use Rattle.std.proofs.Common.{◌≡◌, List, length, take}
+use Rattle.gj_rational.specs.Rational.{Rational, rational, ◌-ℚ◌}
+use Rattle.gj_problem.specs.Rows.{dot}
+use Rattle.gj_problem.specs.Aggregates.{AreMadeOf, weighted, aggregate_at, HasNoSlack, IsSlack}
+use Rattle.gj_problem.proofs.slacks.added_up.Given as goal
+
+abbrev pub invariant-loop-i : goal.invariant-loop-i
+invariant-loop-i l = record {
+  count : length l.made.sum.coefficients.items ≡ length l.problem.columns;
+  adds : (point : List Rational) → dot l.made.sum.coefficients.items point -ℚ rational l.made.sum.right
+      ≡ aggregate_at point (take l.i (weighted l.multipliers l.constraints));
+  slacks : AreMadeOf HasNoSlack (IsSlack l.problem) (take l.i (weighted l.multipliers l.constraints)) l.made.slacks.items;
+}

@@ -1,0 +1,22 @@
+use Rattle.std.proofs.Common.{List, refl, ap, ◌∙◌}
+use Rattle.gj_rational.specs.Rational.{Rational, rational}
+use Rattle.gj_problem.specs.Problems.{sum_at}
+use Rattle.gj_problem.specs.declared.problem.Entry.{Entry}
+use Rattle.gj_problem.proofs.OneColumn.{nothing_scaled, entry_scaled, all_scaled}
+use Rattle.gj_problem.proofs.slacks.times.Goals as goal
+
+pub loop-entry-init : goal.loop-entry-init
+loop-entry-init c = λ (point : List Rational).
+    ap (λ (es : List Entry). sum_at point es) c.new-scaled.ensures.items ∙ nothing_scaled (rational c.args.factor)
+
+pub loop-entry-preserved : goal.loop-entry-preserved
+loop-entry-preserved c = λ (point : List Rational).
+    let made : Entry = record { column = c.entry-item.result.column; value = c.in_ok-value.value } in
+    entry_scaled point c.args.entries.now c.loop-entry.entry-index c.entry-item.result made c.args.factor c.loop-entry.scaled.items
+    c.push_entry.new.entries.items c.loop-entry-test.true c.entry-item.is (c.loop-entry.invariant point) c.in_ok-push_entry.ensures refl
+    c.in_ok-value.ensures.value
+
+pub returns : goal.returns
+returns c = λ (point : List Rational).
+    all_scaled point c.args.entries.now c.loop-entry.entry-index c.args.factor c.args.right c.in_ok-right.right c.loop-entry.scaled.items
+    c.of.result c.loop-entry-test.false (c.loop-entry.invariant point) c.of.ensures c.in_ok-right.ensures.value

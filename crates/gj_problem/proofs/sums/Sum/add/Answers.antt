@@ -1,0 +1,35 @@
+use Rattle.std.proofs.Common.{List, refl, ap, ◌∙◌}
+use Rattle.gj_rational.specs.Rational.{Rational, rational, ◌+ℚ◌, ◌*ℚ◌, ◌-ℚ◌}
+use Rattle.gj_frac.specs.declared.Frac.{Frac}
+use Rattle.gj_problem.specs.Problems.{sum_at}
+use Rattle.gj_problem.specs.Rows.{dot}
+use Rattle.gj_problem.proofs.AddedSums.{nothing_added, entries_added, all_added, inequality_added}
+use Rattle.gj_problem.proofs.sums.Sum.add.Goals as goal
+
+pub loop-entry-init : goal.loop-entry-init
+loop-entry-init c = record {
+  right = refl;
+  count = refl;
+  added = λ (point : List Rational). nothing_added (dot c.args.self.now.coefficients.items point) (rational c.args.factor);
+}
+
+pub loop-entry-preserved : goal.loop-entry-preserved
+loop-entry-preserved c = record {
+  right = c.add_entry.ensures.right ∙ c.loop-entry.invariant.right;
+  count = c.add_entry.ensures.count ∙ c.loop-entry.invariant.count;
+  added = λ (point : List Rational). entries_added point c.args.entries.now c.loop-entry.entry-index c.entry-item.result (rational c.args.factor)
+      (dot c.args.self.now.coefficients.items point) (dot c.loop-entry.self.coefficients.items point)
+      (dot c.add_entry.new.self.coefficients.items point) c.loop-entry-test.true c.entry-item.is (c.loop-entry.invariant.added point)
+      (c.in_ok-add_entry.ensures.added point);
+}
+
+pub returns-clause-added : goal.returns-clause-added
+returns-clause-added c = λ (point : List Rational).
+    let d = dot c.args.self.now.coefficients.items point in
+    let now = dot c.loop-entry.self.coefficients.items point in
+    inequality_added d now (sum_at point c.args.entries.now) c.loop-entry.self.right c.in_ok-checked_mul.field-0 c.in_ok-self.field-0
+    c.args.factor c.args.right
+    (all_added d now d point c.args.entries.now c.loop-entry.entry-index (rational c.args.factor) c.loop-entry-test.false
+    (c.loop-entry.invariant.added point)) c.in_ok-checked_mul.ensures.value c.in_ok-self.ensures.value
+    ∙ ap (λ (r : Frac). (d -ℚ rational r) +ℚ rational c.args.factor *ℚ (sum_at point c.args.entries.now -ℚ rational c.args.right))
+    c.loop-entry.invariant.right

@@ -1,0 +1,78 @@
+//! Fractions divided and scaled.
+ghost use Rattle.std.specs.Prelude.{◌≡◌, ℕ, pos, IfOk, unsigned_abs, ◌∷◌, map};
+ghost use Rattle.gj_frac.specs.Fraction.{SameValue, fraction_of, quotient_of, denominator};
+ghost use Rattle.gj_lemmas.specs.Divisors.{IsLcm};
+ghost use Rattle.gj_shape.specs.Given.{IsLeastCommonDenominator};
+ghost use Rattle.gj_rational.specs.Rational.{whole, rational};
+ghost use Rattle.gj_problem.specs.Aggregates.{IsScale, signed};
+
+use crate::problem::{Entry, Sense};
+use gj_frac::{Frac, Wide, gcd};
+
+/// The quotient, if there is one and it fits.
+pub fn divided(x: Frac, y: Frac) -> Result<Frac, Wide>
+    ensures { IfOk result (λ z. SameValue (fraction_of z) (quotient_of (fraction_of x) (fraction_of y))) }
+{
+    match x.checked_div(y) {
+        Ok(quotient) => Ok(quotient),
+        Err(_) => Err(Wide),
+    }
+}
+
+/// The number by which the slack of a constraint is multiplied: its least common denominator if its
+/// columns are whole, else 1.
+pub(crate) fn scale(right: Frac, entries: &[Entry], is_whole: bool) -> Result<Frac, Wide>
+    ensures { IfOk result (λ m. (n : ℕ) × IsScale right entries.now is_whole n × (rational m ≡ whole (pos n))) }
+{
+    if is_whole {
+        whole_number(common_denominator(right, entries)?)
+    } else {
+        Ok(Frac::ratio(1, 1))
+    }
+}
+
+/// The least common denominator of the numbers of a constraint.
+fn common_denominator(right: Frac, entries: &[Entry]) -> Result<u128, Wide>
+    ensures { IfOk result (IsLeastCommonDenominator (right ∷ map (λ e. e.value) entries.now)) }
+{
+    let mut least = with_denominator(1, right)?;
+    for entry in entries {
+        least = with_denominator(least, entry.value)?;
+    }
+    Ok(least)
+}
+
+/// The least common multiple of a number and a denominator.
+fn with_denominator(m: u128, x: Frac) -> Result<u128, Wide>
+    ensures { IfOk result (IsLcm m (unsigned_abs (denominator x))) }
+{
+    let d = x.den().unsigned_abs();
+    let common = gcd(m, d);
+    match (m / common).checked_mul(d) {
+        Some(multiple) => Ok(multiple),
+        None => Err(Wide),
+    }
+}
+
+/// The fraction that is this whole number, if it fits.
+fn whole_number(n: u128) -> Result<Frac, Wide>
+    ensures { IfOk result (λ x. rational x ≡ whole (pos n)) }
+{
+    let Ok(signed) = i128::try_from(n) else {
+        return Err(Wide);
+    };
+    match Frac::new(signed, 1) {
+        Some(x) => Ok(x),
+        None => Err(Wide),
+    }
+}
+
+/// The scale with the sign of slacks.
+pub(crate) fn with_sign(sense: Sense, scale: Frac) -> Frac
+    ensures { (n : ℕ) → rational scale ≡ whole (pos n) → rational result ≡ whole (signed sense n) }
+{
+    match sense {
+        Sense::AtMost => -scale,
+        Sense::AtLeast | Sense::Equal => scale,
+    }
+}

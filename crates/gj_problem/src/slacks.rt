@@ -1,0 +1,155 @@
+//! Sums of constraints, and their slacks.
+ghost use Rattle.std.specs.Prelude.{◌≡◌, ◌↔◌, List, IfOk, IsTrue, All, length};
+ghost use Rattle.gj_rational.specs.Rational.{Rational, rational, ◌+ℚ◌, ◌*ℚ◌, ◌-ℚ◌};
+ghost use Rattle.gj_problem.specs.Problems.{IsWholeColumn, sum_at, surplus_at};
+ghost use Rattle.gj_problem.specs.Rows.{dot};
+ghost use Rattle.gj_problem.specs.Aggregates.{AreMadeOf, IsAggregate, Weighted, weighted, HasNoSlack, IsSlack};
+ghost use Rattle.gj_problem.specs.Steps.{IsMadeNext};
+
+use crate::faults::Fault;
+use crate::pieces::{Piece, push_entry, push_piece};
+use crate::problem::{Constraint, Entry, Inequality, Problem, Sense};
+use crate::scales::{divided, scale, with_sign};
+use crate::sums::Sum;
+use gj_frac::Frac;
+use gj_shape::List;
+use std::alloc::Global;
+
+/// The sum of the constraints, each times its multiplier, and their slacks.
+#[derive(Drop)]
+pub(crate) struct Aggregate {
+    /// The sum.
+    pub(crate) sum: Sum,
+    /// The slacks.
+    pub(crate) slacks: Vec<Piece>,
+}
+
+/// The sum of the constraints, each times its multiplier, with the slacks of those that are in it.
+pub(crate) fn added_up(
+    alloc: Global,
+    problem: &Problem,
+    constraints: &[Constraint],
+    multipliers: &[Frac],
+) -> Result<Aggregate, Fault>
+    requires { length multipliers.now ≡ length constraints.now }
+    ensures sum { IfOk result (λ made.
+        IsAggregate problem.now (weighted multipliers.now constraints.now) made.sum.coefficients.items made.sum.right) }
+    ensures slacks { IfOk result (λ made.
+        AreMadeOf HasNoSlack (IsSlack problem.now) (weighted multipliers.now constraints.now) made.slacks.items) }
+{
+    let columns = problem.columns.as_slice().len();
+    let sum = Sum::of_none(alloc, columns, Frac::ratio(0, 1))?;
+    let mut made = Aggregate {
+        sum,
+        slacks: Vec::new(alloc),
+    };
+    for (i, constraint) in constraints.iter().enumerate() {
+        add_weighted(alloc, &mut made, problem, constraint, multipliers[i])?;
+    }
+    Ok(made)
+}
+
+/// The sum with one more constraint and its slack.
+fn add_weighted(
+    alloc: Global,
+    made: &mut Aggregate,
+    problem: &Problem,
+    constraint: &Constraint,
+    multiplier: Frac,
+) -> Result<(), Fault>
+    ensures count { IfOk result (λ _. length made.new.sum.coefficients.items ≡ length made.old.sum.coefficients.items) }
+    ensures sum { IfOk result (λ _. (point : List Rational) → dot made.new.sum.coefficients.items point -ℚ rational made.new.sum.right
+        ≡ (dot made.old.sum.coefficients.items point -ℚ rational made.old.sum.right)
+        +ℚ rational multiplier *ℚ (sum_at point constraint.now.entries -ℚ rational constraint.now.right)) }
+    ensures slack { IfOk result (λ _. let w : Weighted = record { multiplier = multiplier; constraint = constraint.now } in
+        IsMadeNext (HasNoSlack w) (IsSlack problem.now w) made.old.slacks.items made.new.slacks.items) }
+{
+    if multiplier.num() == 0 {
+        return Ok(());
+    }
+    made.sum.add(multiplier, constraint.entries.as_slice(), constraint.right)?;
+    if is_equation(constraint.sense) {
+        return Ok(());
+    }
+    let piece = slack(alloc, problem, constraint, multiplier)?;
+    push_piece(&mut made.slacks, piece)?;
+    Ok(())
+}
+
+/// Whether the two sides are equal.
+fn is_equation(sense: Sense) -> bool
+    ensures { IsTrue result ↔ (sense ≡ Sense.Equal) }
+{
+    match sense {
+        Sense::AtMost | Sense::AtLeast => false,
+        Sense::Equal => true,
+    }
+}
+
+/// The slack of a constraint with a multiplier, times its scale.
+fn slack(
+    alloc: Global,
+    problem: &Problem,
+    constraint: &Constraint,
+    multiplier: Frac,
+) -> Result<Piece, Fault>
+    ensures { IfOk result (IsSlack problem.now (record { multiplier = multiplier; constraint = constraint.now })) }
+{
+    let entries = constraint.entries.as_slice();
+    let is_whole = have_whole_columns(problem, entries);
+    let scale = scale(constraint.right, entries, is_whole)?;
+    let factor = with_sign(constraint.sense, scale);
+    let entry = divided(-multiplier, factor)?;
+    let inequality = times(alloc, factor, entries, constraint.right)?;
+    Ok(Piece {
+        entry,
+        inequality,
+        is_whole,
+    })
+}
+
+/// Whether all columns of the entries are whole.
+fn have_whole_columns(problem: &Problem, entries: &[Entry]) -> bool
+    ensures { IsTrue result ↔ All (λ e. IsWholeColumn problem.now e.column) entries.now }
+{
+    for entry in entries {
+        if !is_whole_column(problem, entry.column) {
+            return false;
+        }
+    }
+    true
+}
+
+/// Whether the column at an index is whole.
+fn is_whole_column(problem: &Problem, column: u32) -> bool
+    ensures { IsTrue result ↔ IsWholeColumn problem.now column }
+{
+    match problem.columns.as_slice().get(column as usize) {
+        Some(c) => c.is_whole,
+        None => false,
+    }
+}
+
+/// The inequality whose surplus is the factor times what the sum of the entries has above the right
+/// side.
+fn times(alloc: Global, factor: Frac, entries: &[Entry], right: Frac) -> Result<Inequality, Fault>
+    ensures { IfOk result (λ q. (point : List Rational) → surplus_at point q
+        ≡ rational factor *ℚ (sum_at point entries.now -ℚ rational right)) }
+{
+    let mut scaled = Vec::new(alloc);
+    for entry in entries {
+        let value = factor.checked_mul(entry.value)?;
+        push_entry(
+            &mut scaled,
+            Entry {
+                column: entry.column,
+                value,
+            },
+        )?;
+    }
+    let right = factor.checked_mul(right)?;
+    Ok(Inequality {
+        entries: List::of(scaled),
+        right,
+    })
+}

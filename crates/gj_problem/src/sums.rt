@@ -1,0 +1,97 @@
+//! Sums over all columns, to which multiples of inequalities are added.
+ghost use Rattle.std.specs.Prelude.{◌≡◌, ◌<◌, ◌^◌, ℕ, pos, List, IfOk, IfSome, length};
+ghost use Rattle.gj_rational.specs.Rational.{Rational, whole, rational, ◌+ℚ◌, ◌*ℚ◌, ◌-ℚ◌};
+ghost use Rattle.gj_problem.specs.Problems.{value_at, sum_at, surplus_at};
+ghost use Rattle.gj_problem.specs.Rows.{dot};
+
+use crate::problem::{Entry, Inequality};
+use gj_frac::{Frac, Wide};
+use std::alloc::{AllocError, Global};
+
+/// A coefficient for each column, and a right side.
+#[derive(Drop)]
+pub struct Sum {
+    /// The coefficients.
+    pub coefficients: Vec<Frac>,
+    /// The right side.
+    pub right: Frac,
+}
+
+impl Sum {
+    /// No coefficient, against this right side.
+    pub fn of_none(alloc: Global, columns: usize, right: Frac) -> Result<Sum, AllocError>
+        ensures right { IfOk result (λ sum. sum.right ≡ right) }
+        ensures count { IfOk result (λ sum. length sum.coefficients.items ≡ columns) }
+        ensures none { IfOk result (λ sum. (point : List Rational) → dot sum.coefficients.items point ≡ whole (pos 0)) }
+    {
+        let coefficients = vec![in alloc; Frac::ratio(0, 1); columns]?;
+        Ok(Sum {
+            coefficients,
+            right,
+        })
+    }
+
+    /// The sum with this multiple of an entry added.
+    fn add_entry(&mut self, factor: Frac, entry: Entry) -> Result<(), Wide>
+        ensures right { self.new.right ≡ self.old.right }
+        ensures count { length self.new.coefficients.items ≡ length self.old.coefficients.items }
+        ensures added { IfOk result (λ _. (point : List Rational) → dot self.new.coefficients.items point
+            ≡ dot self.old.coefficients.items point +ℚ rational factor *ℚ (rational entry.value *ℚ value_at point entry.column)) }
+    {
+        let Some(coefficient) = self.coefficients.get_mut(entry.column as usize) else {
+            return Err(Wide);
+        };
+        *coefficient = coefficient.checked_add(factor.checked_mul(entry.value)?)?;
+        Ok(())
+    }
+
+    /// The same for all entries and the right side of an inequality.
+    pub fn add(&mut self, factor: Frac, entries: &[Entry], right: Frac) -> Result<(), Wide>
+        ensures count { length self.new.coefficients.items ≡ length self.old.coefficients.items }
+        ensures added { IfOk result (λ _. (point : List Rational) → dot self.new.coefficients.items point -ℚ rational self.new.right
+            ≡ (dot self.old.coefficients.items point -ℚ rational self.old.right)
+            +ℚ rational factor *ℚ (sum_at point entries.now -ℚ rational right)) }
+    {
+        for entry in entries {
+            self.add_entry(factor, *entry)?;
+        }
+        self.right = self.right.checked_add(factor.checked_mul(right)?)?;
+        Ok(())
+    }
+
+    /// The inequality of the coefficients that are not 0; none if there are too many columns to
+    /// count.
+    pub fn inequality(self, alloc: Global) -> Result<Option<Inequality>, AllocError>
+        ensures { IfOk result (λ made. IfSome made (λ q. (point : List Rational) → surplus_at point q
+            ≡ dot self.coefficients.items point -ℚ rational self.right)) }
+    {
+        let mut entries = Vec::new(alloc);
+        for (column, coefficient) in self.coefficients.iter().enumerate() {
+            let Ok(index) = u32::try_from(column) else {
+                return Ok(None);
+            };
+            push_some(
+                &mut entries,
+                Entry {
+                    column: index,
+                    value: *coefficient,
+                },
+            )?;
+        }
+        Ok(Some(Inequality {
+            entries: gj_shape::List::of(entries),
+            right: self.right,
+        }))
+    }
+}
+
+/// The entries with one more, unless it is 0.
+fn push_some(entries: &mut Vec<Entry>, entry: Entry) -> Result<(), AllocError>
+    ensures { IfOk result (λ _. (point : List Rational) → sum_at point entries.new.items
+        ≡ sum_at point entries.old.items +ℚ rational entry.value *ℚ value_at point entry.column) }
+{
+    if entry.value.num() != 0 {
+        entries.push(entry)?;
+    }
+    Ok(())
+}
