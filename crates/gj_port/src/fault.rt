@@ -1,4 +1,4 @@
-// Why a read or a write did not go through.
+//! Why a read or a write did not go through.
 ghost use Rattle.std.specs.Prelude.{◌≡◌};
 ghost use Rattle.gj_port.specs.declared.fault.ReadError.TheVariants.{ReadFault, Memory};
 

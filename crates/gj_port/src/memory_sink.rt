@@ -1,4 +1,4 @@
-// A sink over memory.
+//! A sink over memory.
 ghost use Rattle.std.specs.Prelude.{◌≡◌, ◌+◌, ◌-◌, ◌<◌, ◌≤◌, ◌^◌, ◌↔◌, ◌⊎◌, ◌++◌, [], min, Some, length, take, IfOk, IsOk, IsErr, OnErr, Contains};
 ghost use Rattle.gj_port.specs.Faults.{HasFailed, one_more};
 ghost use Rattle.gj_port.specs.Sink.{Writes};

@@ -1,4 +1,4 @@
-// A source over bytes in memory.
+//! A source over bytes in memory.
 ghost use Rattle.std.specs.Prelude.{◌≡◌, ◌-◌, ◌<◌, ◌≤◌, ◌^◌, ◌↔◌, min, Some, length, drop, IfOk, IsOk, IsErr, OnErr, IsTrue, Contains};
 ghost use Rattle.gj_port.specs.Faults.{HasFailed, one_more};
 ghost use Rattle.gj_port.specs.Source.{Reads};

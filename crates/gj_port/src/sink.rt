@@ -1,4 +1,4 @@
-// Where bytes go to.
+//! Where bytes go to.
 ghost use Rattle.std.specs.Prelude.{◌+◌, ◌<◌, ◌≤◌, ℕ, List, Option, length, IfOk, IsOk, OnErr};
 ghost use Rattle.gj_port.specs.Faults.{HasFailed};
 ghost use Rattle.gj_port.specs.Sink.{Writes};

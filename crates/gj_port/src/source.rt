@@ -1,4 +1,4 @@
-// Where bytes come from.
+//! Where bytes come from.
 ghost use Rattle.std.specs.Prelude.{◌≡◌, ◌<◌, ◌≤◌, ℕ, Bool, List, Option, length, IfOk, IsOk, OnErr, IsTrue};
 ghost use Rattle.gj_port.specs.Faults.{HasFailed};
 ghost use Rattle.gj_port.specs.Source.{Reads};

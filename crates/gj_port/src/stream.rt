@@ -1,4 +1,4 @@
-// A source and a sink over the readers and writers of std. They are the edge to the system.
+//! A source and a sink over the readers and writers of std. They are the edge to the system.
 ghost use Rattle.std.specs.Prelude.{◌≡◌, ◌<◌, ◌≤◌, false, length, IfOk, IsOk, OnOk, OnErr, IsTrue};
 ghost use Rattle.gj_port.specs.Faults.{HasFailed, one_more};
 ghost use Rattle.gj_port.specs.Source.{Reads};
