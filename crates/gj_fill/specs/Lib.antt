@@ -1,6 +1,5 @@
 pub mod FillIn
 pub mod FillPoints
 pub mod FirstPair
-pub mod Numerators
 pub mod Faults
 pub mod FilledValue
