@@ -32,16 +32,6 @@ fn first_behind(shape: &Shape, a: u32) -> Option<u32>
     if is_subadditive_from(shape.value_numerators(), a as usize) {
         return None;
     }
-    first_in_row(shape, a)
-}
-
-/// The same, found one by one.
-fn first_in_row(shape: &Shape, a: u32) -> Option<u32>
-    requires { a < shape.now.order }
-    ensures found { IfSome result (IsLeastFrom a (IsSuperadditivePair shape.now a)) }
-    ensures below { IfSome result (λ b. b < shape.now.order) }
-    ensures none { IfNone result ((b : ℕ) → a ≤ b → b < shape.now.order → IsSuperadditivePair shape.now a b → ⊥) }
-{
     let first = shape.value_numerator(a);
     for b in a..shape.order() {
         if first + shape.value_numerator(b) < shape.value_numerator(a + b) {

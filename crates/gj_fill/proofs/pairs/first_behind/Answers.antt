@@ -2,7 +2,7 @@ use Rattle.std.proofs.Common.{◌≡◌, ◌+◌, ◌+ℤ◌, ◌<ℤ◌, inl, i
 use Rattle.std.proofs.lemmas.Bool.{cases_lt}
 use Rattle.std.proofs.lemmas.Int.{ints}
 use Rattle.gj_shape.specs.FunctionData.{at}
-use Rattle.gj_fill.proofs.pairs.first_in_row.Goals as goal
+use Rattle.gj_fill.proofs.pairs.first_behind.Goals as goal
 
 pub loop-b-preserved : goal.loop-b-preserved
 loop-b-preserved c b up low h = elim (cases_lt b c.loop-b.b) [
