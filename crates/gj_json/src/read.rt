@@ -1,5 +1,5 @@
 //! JSON functions, read.
-ghost use Rattle.std.specs.Prelude.{◌≡◌, List, ℕ, length, map, ◌↔◌, IsTrue, IfOk, IfErr, MatchResult};
+ghost use Rattle.std.specs.Prelude.{◌≡◌, length, map, ◌↔◌, IsTrue, IfOk, IfErr, MatchResult};
 ghost use Rattle.gj_frac.specs.declared.Frac.{Frac};
 ghost use Rattle.gj_shape.specs.FunctionData.{FunctionData};
 ghost use Rattle.gj_shape.specs.Given.{IsOrder};
@@ -46,10 +46,7 @@ pub fn read_json(alloc: Global, bytes: &[u8]) -> Result<Shape, JsonFault>
     // A refusal names the first reason.
     ensures refused { IfErr result (NamesJsonReason (HasFirstReason bytes.now)) }
 {
-    match function_of(alloc, bytes) {
-        Ok(shape) => Ok(shape),
-        Err(fault) => Err(fault),
-    }
+    function_of(alloc, bytes)
 }
 
 /// The function that the text spells, or why it spells none.
@@ -66,10 +63,7 @@ fn value_of(alloc: Global, bytes: &[u8]) -> Result<Value, JsonFault>
     ensures found { IfOk result (λ value. HasValue bytes.now (view value)) }
     ensures refused { IfErr result (NamesJsonReason (λ e. (e ≡ Syntax) × ((d : Data) → HasValue bytes.now d → ⊥))) }
 {
-    match Value::from_slice(alloc, bytes) {
-        Ok(value) => Ok(value),
-        Err(error) => Err(fault_of(error.is_memory())),
-    }
+    Value::from_slice(alloc, bytes).map_err(|error| fault_of(error.is_memory()))
 }
 
 /// Why a text has no value.
