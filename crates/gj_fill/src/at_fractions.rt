@@ -50,8 +50,6 @@ pub fn filled_value(shape: &Shape, x: Frac) -> Frac
 /// The two lines at a place.
 fn lines_at(shape: &Shape, steps: Steps, place: Place) -> Lines
     requires within { place.index < shape.now.order }
-    requires steps { unsigned_abs steps.rise < 2 ^ 52 }
-    requires falls { unsigned_abs steps.fall < 2 ^ 52 }
     requires parts { unsigned_abs place.parts < 2 ^ 31 }
     requires part { unsigned_abs place.part < 2 ^ 31 }
     requires rest { unsigned_abs place.rest < 2 ^ 31 }

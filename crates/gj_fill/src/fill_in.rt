@@ -60,8 +60,6 @@ pub fn fill(alloc: Global, shape: &Shape) -> Result<Filled, FillFault>
 
 /// All points of the fill-in by lines with these steps, from 0 on.
 fn points_of(alloc: Global, shape: &Shape, steps: Steps) -> Result<Vec<(Frac, Frac)>, AllocError>
-    requires rise_small { unsigned_abs steps.rise < 2 ^ 52 }
-    requires fall_small { unsigned_abs steps.fall < 2 ^ 52 }
     ensures { IfOk result (λ points. AllZip IsPairOf (fill_points shape.now steps.rise steps.fall) points.items) }
 {
     let mut points = Vec::with_capacity(alloc, 2 * shape.order() as usize)?;
@@ -78,9 +76,7 @@ fn push_points(
     steps: Steps,
     a: u32,
 ) -> Result<(), AllocError>
-    requires within { a < shape.now.order }
-    requires rise_small { unsigned_abs steps.rise < 2 ^ 52 }
-    requires fall_small { unsigned_abs steps.fall < 2 ^ 52 }
+    requires { a < shape.now.order }
     ensures { OnOk result ((more : List (Frac × Frac)) × AllZip IsPairOf (points_from shape.now steps.rise steps.fall a) more
         × (points.new.items ≡ points.old.items ++ more)) }
 {
@@ -93,8 +89,7 @@ fn push_points(
 
 /// Whether the function goes by neither slope from a/q to the next multiple of 1/q.
 fn crosses(shape: &Shape, steps: Steps, a: u32) -> bool
-    requires within { a < shape.now.order }
-    requires fall_small { unsigned_abs steps.fall < 2 ^ 52 }
+    requires { a < shape.now.order }
     ensures { IsTrue result ↔ ((neg_ℤ steps.fall <ℤ rise shape.now a) × (rise shape.now a <ℤ steps.rise)) }
 {
     let rise = rise_at(shape, a);
@@ -113,8 +108,6 @@ fn pair_at(shape: &Shape, a: u32) -> (Frac, Frac)
 /// The point behind a/q at which the two lines cross.
 fn crossing_pair(shape: &Shape, steps: Steps, a: u32) -> (Frac, Frac)
     requires within { a < shape.now.order }
-    requires rise_small { unsigned_abs steps.rise < 2 ^ 52 }
-    requires fall_small { unsigned_abs steps.fall < 2 ^ 52 }
     requires above { neg_ℤ steps.fall <ℤ rise shape.now a }
     requires below { rise shape.now a <ℤ steps.rise }
     ensures { IsPairOf (crossing_point shape.now steps.rise steps.fall a) result }

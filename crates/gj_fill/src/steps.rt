@@ -1,7 +1,8 @@
 //! The greatest rise and the greatest fall of a function from one multiple of 1/q to the next.
-ghost use Rattle.std.specs.Prelude.{◌≡◌, ◌⊎◌, ◌<◌, ◌^◌, ◌↔◌, neg_ℤ, unsigned_abs, IsTrue};
+ghost use Rattle.std.specs.Prelude.{◌≡◌, ◌⊎◌, ◌<◌, ◌↔◌, neg_ℤ, IsTrue};
 ghost use Rattle.gj_shape.specs.FunctionData.{at};
 ghost use Rattle.gj_shape.specs.TwoSlopes.{rise, HasTwoSlopes};
+ghost use Rattle.gj_fill.specs.StepSizes.{IsStep};
 ghost use Rattle.gj_fill.specs.FillIn.{AreGreatestSteps};
 
 use gj_shape::Shape;
@@ -11,13 +12,15 @@ use gj_shape::Shape;
 pub(crate) struct Steps {
     pub(crate) rise: i64,
     pub(crate) fall: i64,
+    ghost rise_small: { IsStep rise },
+    ghost fall_small: { IsStep fall },
 }
 
 /// What the function rises by from a/q to the next multiple of 1/q, times the common denominator.
 pub(crate) fn rise_at(shape: &Shape, a: u32) -> i64
     requires { a < shape.now.order }
     ensures value { result ≡ rise shape.now a }
-    ensures small { unsigned_abs result < 2 ^ 52 }
+    ensures small { IsStep result }
 {
     let here = shape.value_numerator(a);
     shape.value_numerator(a + 1) - here
@@ -25,9 +28,7 @@ pub(crate) fn rise_at(shape: &Shape, a: u32) -> i64
 
 /// The greatest rise and the greatest fall from one place to the next, and behind the last one to the first.
 pub(crate) fn greatest_steps(shape: &Shape) -> Steps
-    ensures greatest { AreGreatestSteps (at shape.now.value) result.rise result.fall }
-    ensures rise_small { unsigned_abs result.rise < 2 ^ 52 }
-    ensures fall_small { unsigned_abs result.fall < 2 ^ 52 }
+    ensures { AreGreatestSteps (at shape.now.value) result.rise result.fall }
 {
     let order = shape.order();
     let first = rise_at(shape, 0);
@@ -65,8 +66,7 @@ pub fn two_slopes(shape: &Shape) -> bool
 
 /// Whether the function rises by the greatest rise or falls by the greatest fall from a/q to the next place.
 fn goes_by_step(shape: &Shape, steps: Steps, a: u32) -> bool
-    requires within { a < shape.now.order }
-    requires fall_small { unsigned_abs steps.fall < 2 ^ 52 }
+    requires { a < shape.now.order }
     ensures { IsTrue result ↔ ((rise shape.now a ≡ steps.rise) ⊎ (rise shape.now a ≡ neg_ℤ steps.fall)) }
 {
     let rise = rise_at(shape, a);

@@ -16,7 +16,7 @@ returns-clause-rising c =
     let whole : to_z w128 (of_z w128 c.sum_of_products-rising.result) ≡ c.sum_of_products-rising.result =
     let small = c.sum_of_products-rising.ensures.small in omega (arith, ints) in
     whole ∙ c.sum_of_products-rising.ensures.value
-    ∙ same_sum _ p.parts _ (at c.args.shape.now.value p.index) _ p.part _ s parts value part (itself s c.requires.steps)
+    ∙ same_sum _ p.parts _ (at c.args.shape.now.value p.index) _ p.part _ s parts value part (itself s c.args.steps.rise_small)
 
 pub returns-clause-falling : goal.returns-clause-falling
 returns-clause-falling c =
@@ -28,4 +28,4 @@ returns-clause-falling c =
     let whole : to_z w128 (of_z w128 c.sum_of_products-falling.result) ≡ c.sum_of_products-falling.result =
     let small = c.sum_of_products-falling.ensures.small in omega (arith, ints) in
     whole ∙ c.sum_of_products-falling.ensures.value
-    ∙ same_sum _ p.parts _ (at c.args.shape.now.value (p.index + 1)) _ p.rest _ t parts value rest (itself t c.requires.falls)
+    ∙ same_sum _ p.parts _ (at c.args.shape.now.value (p.index + 1)) _ p.rest _ t parts value rest (itself t c.args.steps.fall_small)

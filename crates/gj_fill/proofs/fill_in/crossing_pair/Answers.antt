@@ -12,9 +12,9 @@ returns c =
     let a = c.args.a in
     let s = c.args.steps.rise in
     let t = c.args.steps.fall in
-    let s_is : to_z w64 (of_z w64 s) ≡ s = itself s c.requires.rise_small in
-    let width_is = sum_is s t c.requires.rise_small c.requires.fall_small in
-    let part_is = sum_is c.rise_at.result t c.rise_at.ensures.small c.requires.fall_small ∙ ap (λ z. z +ℤ t) c.rise_at.ensures.value in
+    let s_is : to_z w64 (of_z w64 s) ≡ s = itself s c.args.steps.rise_small in
+    let width_is = sum_is s t c.args.steps.rise_small c.args.steps.fall_small in
+    let part_is = sum_is c.rise_at.result t c.rise_at.ensures.small c.args.steps.fall_small ∙ ap (λ z. z +ℤ t) c.rise_at.ensures.value in
     let value = itself c.value_numerator-value.result (let small = c.value_numerator-value.ensures.small in omega arith) in
     let scale_is : unsigned_abs (to_z w128 (of_z w128 c.common_denominator-scale.result)) ≡ f.scale = omega (arith, ints) in
     record {

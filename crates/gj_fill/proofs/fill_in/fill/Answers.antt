@@ -13,7 +13,7 @@ returns-clause-points c =
     subst (AreFillPoints c.args.shape.now) (sym c.of.ensures) (record {
       rise = s;
       fall = t;
-      greatest = c.greatest_steps-steps.ensures.greatest;
+      greatest = c.greatest_steps-steps.ensures;
       are_points = c.in_ok-points.ensures;
     })
 

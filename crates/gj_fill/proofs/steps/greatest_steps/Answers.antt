@@ -23,8 +23,8 @@ loop-a-preserved c =
     (to_z w64 (of_z w64 c.min-least.result)) c.loop-a.invariant c.rise_at-step.ensures.value c.rise_at-step.ensures.small
     (up ∙ c.max-most.ensures.value ∙ ap (int_max most) same) (down ∙ c.min-least.ensures.value ∙ ap (int_min least) same)
 
-pub returns-clause-greatest : goal.returns-clause-greatest
-returns-clause-greatest c =
+pub returns : goal.returns
+returns c =
     let f = c.args.shape.now in
     let limits = c.order-order.ensures.limits in
     let most = to_z w64 c.loop-a.most-bits in

@@ -8,7 +8,7 @@ pub returns-then-steps : goal.returns-then-steps
 returns-then-steps c =
     let s = c.greatest_steps-steps.result.rise in
     let t = c.greatest_steps-steps.result.fall in
-    let greatest = c.greatest_steps-steps.ensures.greatest in
+    let greatest = c.greatest_steps-steps.ensures in
     (λ no. absurd (cc), λ two. absurd (not_one_slope c.args.shape.now s t greatest (omega (arith, ints)) two))
 
 pub returns-then-not-goes_by_step : goal.returns-then-not-goes_by_step
@@ -18,7 +18,7 @@ returns-then-not-goes_by_step c =
     let apart : s ≢ neg_ℤ t = λ e. omega (arith, ints) in (
       λ no. absurd (cc),
       λ two.
-          let goes = one_of_steps c.args.shape.now s t c.loop-a.a c.greatest_steps-steps.ensures.greatest apart two in
+          let goes = one_of_steps c.args.shape.now s t c.loop-a.a c.greatest_steps-steps.ensures apart two in
           let is : c.goes_by_step.result ≡ true = c.goes_by_step.ensures.1 goes in
           absurd (cc (is, c.if-not-goes_by_step.true)),
     )
@@ -37,6 +37,6 @@ returns c =
     let apart : s ≢ neg_ℤ t = λ e. omega (arith, ints) in (
       λ yes.
           are_two_slopes c.args.shape.now s t c.order-a-end.ensures.limits (c.is_continuous.ensures.0 c.if-not-is_continuous.false)
-          c.greatest_steps-steps.ensures.greatest apart (λ a low. c.loop-a.invariant a (omega arith)),
+          c.greatest_steps-steps.ensures apart (λ a low. c.loop-a.invariant a (omega arith)),
       λ two. refl,
     )
