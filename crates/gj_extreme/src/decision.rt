@@ -55,9 +55,6 @@ pub fn decide(alloc: Global, shape: &Shape) -> Result<Proof, DecideFault>
     ensures two_slopes { IsMinimal shape.now → HasTwoSlopes shape.now → MatchResult result (IsExtremeClaim shape.now) IsMemoryFault }
     ensures order_4q { IsContinuous shape.now → IsExtreme shape.now ↔ IsExtremeOnGrid4 shape.now }
 {
-    // the call tells the proofs the bounds of the function
-    let order = shape.order();
-    prove!(order >= 2);
     let claim = claim_of(alloc, shape)?;
     Ok(Proof::of(claim))
 }
@@ -90,7 +87,7 @@ pub fn decide_by_cover(
 
 /// What is claimed of the function.
 fn claim_of(alloc: Global, shape: &Shape) -> Result<Claim, DecideFault>
-    requires { IsWithinBounds shape.now }
+    ensures limits { IsWithinBounds shape.now }
     ensures decided { IfOk result (IsDecided shape.now) }
     ensures text { IfOk result HasText }
     ensures rules { IfOk result MeetsRules }

@@ -43,25 +43,6 @@ pub(crate) fn rows_of(
         Passes (slope_elimination shape.now (component_in system.now.component) system.now.columns).marked }
 {
     let order = shape.order();
-    insert_rows(alloc, shape, pairs, order, system)
-}
-
-/// Inserts the rows of the system for a function of this order, until there is one for each component.
-fn insert_rows(
-    alloc: Global,
-    shape: &Shape,
-    pairs: &TightPairs,
-    order: u32,
-    system: &SlopeRows,
-) -> Result<Rows, ElimFault>
-    requires pairs { AreTightPairsOf shape.now pairs.now }
-    requires limits { IsWithinBounds shape.now }
-    requires order { order ≡ shape.now.order }
-    requires components { length system.now.component ≡ shape.now.order }
-    ensures rows { IfOk result (AreInserted shape.now (component_in system.now.component) system.now.columns) }
-    ensures wide { IsErrOf result ElimFault.Wide →
-        Passes (slope_elimination shape.now (component_in system.now.component) system.now.columns).marked }
-{
     let mut rows = Rows::new(alloc, system)?;
     rows.insert(shape, system, RowName::Period)?;
     rows.insert(shape, system, RowName::F)?;

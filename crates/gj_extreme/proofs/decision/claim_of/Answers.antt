@@ -11,10 +11,10 @@ returns-in-None-clause-not_continuous c = λ i e. (c.in-None.ensures.minimal, c.
 pub returns-in-None-clause-rules : goal.returns-in-None-clause-rules
 returns-in-None-clause-rules c =
     on_ok_along c.claim_of_minimal.result (IsDecided c.args.shape.now) MeetsRules
-    (λ claim decided. minimal_rules c.args.shape.now claim c.requires c.in-None.ensures.minimal decided) c.claim_of_minimal.ensures.decided
+    (λ claim decided. minimal_rules c.args.shape.now claim c.in-None.ensures.limits c.in-None.ensures.minimal decided) c.claim_of_minimal.ensures.decided
 
 pub returns-in_ok-copy-in-Some-clause-rules : goal.returns-in_ok-copy-in-Some-clause-rules
 returns-in_ok-copy-in-Some-clause-rules c =
     let points = c.in-Some.ensures.points in
-    decided_violation_rules c.args.shape.now c.in_ok-copy-in-Some.field-0 c.in-Some.violation points.0 c.requires points.2 points.3
+    decided_violation_rules c.args.shape.now c.in_ok-copy-in-Some.field-0 c.in-Some.violation points.0 c.in-Some.ensures.limits points.2 points.3
     (c.in_ok-copy-in-Some.ensures, c.in-Some.ensures.first)
