@@ -1,5 +1,5 @@
 //! The rows of the linear system for the slopes, inserted in their order until there is one for each component.
-ghost use Rattle.std.specs.Prelude.{ℕ, ◌≡◌, ◌<◌, ◌≤◌, ◌+◌, ◌-◌, ◌%◌, ◌^◌, ◌↔◌, ◌∷◌, List, length, IfOk, OnOk, IsErrOf, IsTrue};
+ghost use Rattle.std.specs.Prelude.{ℕ, ◌≡◌, ◌<◌, ◌≤◌, ◌+◌, ◌-◌, ◌^◌, ◌↔◌, ◌∷◌, List, length, IfOk, OnOk, IsErrOf, IsTrue};
 ghost use Rattle.gj_faces.specs.TightPairs.{AreTightPairsOf};
 ghost use Rattle.gj_shape.specs.Elimination.{Passes};
 ghost use Rattle.gj_shape.specs.FunctionData.{FunctionData, IsWithinBounds};
@@ -13,7 +13,7 @@ ghost use Rattle.gj_extreme.specs.RowsToCome.{AreToCome, AreInserted, IsReady, I
 use crate::seen::{SeenPair, SeenPairs};
 use gj_elim::{Basis, ElimFault, Inserted};
 use gj_faces::TightPairs;
-use gj_shape::{RowName, Shape};
+use gj_shape::{RowName, Shape, wrapped};
 use gj_system::SlopeRows;
 use std::alloc::{AllocError, Global};
 
@@ -104,18 +104,7 @@ fn has_row_of_pair_before(component: &[u32], a: usize, b: usize) -> bool
     if a + b == order {
         return false;
     }
-    component[b - 1] == component[sum_below(a, b - 1, order)]
-}
-
-/// The sum of two numbers below the order, less the order if that is not below it.
-fn sum_below(a: usize, b: usize, order: usize) -> usize
-    requires first { a < order }
-    requires second { b < order }
-    requires small { order < 2 ^ 31 }
-    ensures { result ≡ (a + b) % order }
-{
-    let sum = a + b;
-    if sum < order { sum } else { sum - order }
+    component[b - 1] == component[wrapped((a + (b - 1)) as u32, order as u32) as usize]
 }
 
 impl Rows {
