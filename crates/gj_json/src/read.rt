@@ -1,8 +1,7 @@
 //! JSON functions, read.
-ghost use Rattle.std.specs.Prelude.{◌≡◌, length, map, ◌↔◌, IsTrue, IfOk, IfErr, MatchResult};
+ghost use Rattle.std.specs.Prelude.{◌≡◌, length, map, IfOk, IfErr, MatchResult};
 ghost use Rattle.gj_frac.specs.declared.Frac.{Frac};
 ghost use Rattle.gj_shape.specs.FunctionData.{FunctionData};
-ghost use Rattle.gj_shape.specs.Given.{IsOrder};
 ghost use Rattle.serde_json.specs.Data.{Data};
 ghost use Rattle.serde_json.specs.View.{view};
 ghost use Rattle.gj_json.specs.JsonFunction.{SpellsForm, GivesFunction, SaysFunction, HasValue, IsJsonFunction};
@@ -138,7 +137,7 @@ fn shape_given(
     ensures found { IfOk result (GivesFunction place left.now value.now right.now) }
     ensures refused { IfErr result (NamesJsonReason (RefusesFractions place left.now value.now right.now)) }
 {
-    if !is_order(value.len()) {
+    if !(2..=GREATEST_ORDER as usize).contains(&value.len()) {
         return Err(JsonFault::Refused(JsonReason::Order));
     }
     let order = value.len() as u32;
@@ -152,11 +151,4 @@ fn shape_given(
         Err(ShapeFault::Memory(error)) => Err(JsonFault::Memory(error)),
         Err(_) => unreachable!(),
     }
-}
-
-/// Whether the order is from 2 to 1,000.
-fn is_order(order: usize) -> bool
-    ensures { IsTrue result ↔ IsOrder order }
-{
-    (2..=GREATEST_ORDER as usize).contains(&order)
 }
