@@ -115,11 +115,5 @@ fn count_covered(component: &[Option<u32>]) -> u32
     requires { length component.now < 2 ^ 32 }
     ensures { result ≡ count_by is_some component.now }
 {
-    let mut count = 0;
-    for number in component {
-        if number.is_some() {
-            count += 1;
-        }
-    }
-    count
+    component.iter().filter(|number| number.is_some()).count() as u32
 }
