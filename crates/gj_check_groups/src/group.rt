@@ -1,5 +1,5 @@
 //! The rules on one group.
-ghost use Rattle.std.specs.Prelude.{ℤ, pos, ◌≡◌, ◌<◌, ◌^◌, ◌↔◌, ◌+ℤ◌, List, All, IfNone, IfSome, IsTrue, get_or, length, unsigned_abs};
+ghost use Rattle.std.specs.Prelude.{pos, ◌≡◌, ◌<◌, ◌↔◌, List, All, IfNone, IfSome, IsTrue, get_or, length};
 ghost use Rattle.std.specs.declared.option.Option.TheVariants.{Some, None};
 ghost use Rattle.gj_shape.specs.Additive.{IsTight};
 ghost use Rattle.gj_shape.specs.Elimination.{KeptRow};
@@ -57,28 +57,18 @@ fn meets_row(shape: &Shape, name: RowName) -> bool
 {
     match name {
         RowName::Period | RowName::F => true,
-        RowName::Pair(a, b) => is_tight(shape, a as usize, b as usize),
+        RowName::Pair(a, b) => is_tight(shape, a, b),
     }
 }
 
 /// Whether the pair is tight.
-fn is_tight(shape: &Shape, a: usize, b: usize) -> bool
+fn is_tight(shape: &Shape, a: u32, b: u32) -> bool
     requires first { a < shape.now.order }
     requires second { b < shape.now.order }
     ensures { IsTrue result ↔ IsTight shape.now a b }
 {
-    let values = shape.value_numerators();
-    let sum = (a + b) % values.len();
-    adds_up(values[a], values[b], values[sum])
-}
-
-/// Whether the sum of two numbers is the third.
-fn adds_up(x: i64, y: i64, sum: i64) -> bool
-    requires first { unsigned_abs x < 2 ^ 51 }
-    requires second { unsigned_abs y < 2 ^ 51 }
-    ensures { IsTrue result ↔ (x +ℤ y ≡ sum) }
-{
-    x + y == sum
+    let first = shape.value_numerator(a);
+    first + shape.value_numerator(b) == shape.value_numerator(a + b)
 }
 
 /// Reduces a row at these columns in turn. The answer is the first rule that fails; the row is no longer used then.

@@ -9,7 +9,7 @@ use Rattle.gj_shape.specs.Additive.{IsTight}
 use Rattle.gj_shape.specs.FunctionData.{FunctionData, IsWithinBounds, at}
 use Rattle.gj_faces.proofs.Periods.{tight_is_periodic}
 use Rattle.gj_shape.proofs.AtLemmas.{at_same_remainder, at_wrapped}
-use Rattle.gj_theory.proofs.Zigzags.{same_tests}
+use Rattle.gj_lemmas.proofs.Choices.{same_tests}
 use Rattle.gj_cover.specs.Mirrored.{AreMirrored}
 use Rattle.gj_cover.specs.SetRows.{in_row, AreColumns}
 use Rattle.gj_cover.specs.Sides.{AreOwnSides}

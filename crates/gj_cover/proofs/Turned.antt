@@ -1,5 +1,6 @@
 -- Rows whose indices are turned, row by row, and rows with the indices turned around.
 use Rattle.std.proofs.Common.{◌≡◌, ◌≢◌, ℕ, ◌+◌, ◌%◌, ◌<◌, ◌≤◌, ◌&&◌, ◌||◌, ltb, eqb, Bool, true, false, List, [], ◌∷◌, ◌++◌, length, get_or, refl, sym, ap, ◌∙◌, inl, inr, arith}
+use Rattle.std.proofs.Math.Bool.{or-false}
 use Rattle.std.proofs.Math.ListN.{set}
 use Rattle.std.proofs.Math.Nat.{mod-lt}
 use Rattle.std.proofs.lemmas.Bool.{cases_lt, lt-ltb, le-ltb}
@@ -32,10 +33,6 @@ unchanged : (x b y : Bool) → y ≡ false → x ≡ (x || (b && y))
 unchanged true b y e = refl
 unchanged false true y e = sym e
 unchanged false false y e = refl
-
-or_false : (x : Bool) → (x || false) ≡ x
-or_false true = refl
-or_false false = refl
 
 -- the columns below `from` have it, the others are as before
 pub added_one : (old now : List IndexSet) (row column new : IndexSet) (a from n : ℕ) → length now ≡ length old →
@@ -98,12 +95,12 @@ row_added rows old new row n within read len before is b i below =
         | inl low ↦
             let here : ltb i n ≡ true = lt-ltb i n low in
             let there : ltb i (n + 1) ≡ true = lt-ltb i (n + 1) (let lt : i < n + 1 = omega arith in lt) in
-            ap (λ x. (ltb i n && in_row rows i b) || (x && has row b)) t ∙ or_false (ltb i n && in_row rows i b)
+            ap (λ x. (ltb i n && in_row rows i b) || (x && has row b)) t ∙ or-false (ltb i n && in_row rows i b)
             ∙ ap (λ x. x && in_row rows i b) (here ∙ sym there)
         | inr high ↦
             let here : ltb i n ≡ false = le-ltb i n high in
             let there : ltb i (n + 1) ≡ false = le-ltb i (n + 1) (let le : n + 1 ≤ i = omega arith in le) in
-            ap (λ x. (ltb i n && in_row rows i b) || (x && has row b)) t ∙ or_false (ltb i n && in_row rows i b)
+            ap (λ x. (ltb i n && in_row rows i b) || (x && has row b)) t ∙ or-false (ltb i n && in_row rows i b)
             ∙ ap (λ x. x && in_row rows i b) (here ∙ sym there)
       ]
     ])

@@ -2,6 +2,10 @@
 use Rattle.std.specs.Prelude.{ℕ, pos, ◌≡◌, ◌+◌, ◌-◌, ◌*◌, ◌%◌, ◌<◌, ◌*ℤ◌, min}
 use Rattle.gj_shape.specs.FunctionData.{FunctionData, IsContinuous, at}
 
+-- the greatest number of the demonstration: with it the order 2 (2 n + 1) is 998
+abbrev pub greatest_demo : ℕ
+greatest_demo = 249
+
 -- 2 k times the value at i/(2 k): the mixed-integer cut with f = 1/2 is min(i, 2 k - i)/k there, the function that is
 -- 0 at even and 1 at odd i is i mod 2, and the value is half their sum
 abbrev pub demo_number : ℕ → ℕ → ℕ

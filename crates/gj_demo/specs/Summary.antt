@@ -1,6 +1,7 @@
 -- The summary of the demonstration (own).
-use Rattle.std.specs.Prelude.{ℕ, ◌≡◌, ◌+◌, List, ◌++◌, codes, decimal, length}
+use Rattle.std.specs.Prelude.{ℕ, ◌≡◌, ◌+◌, List, ◌++◌, codes, length}
 use Rattle.std.specs.List.{range_with_len}
+use Rattle.gj_lex.specs.NumberText.{count_line}
 use Rattle.gj_shape.specs.Additive.{IsTight}
 use Rattle.gj_shape.specs.Cover.{AreCoverLines, IsCovered, components_in}
 use Rattle.gj_shape.specs.FunctionData.{FunctionData, IsWithinBounds}
@@ -19,16 +20,12 @@ use Rattle.gj_demo.specs.Demo.{IsDemo}
 abbrev pub AreCoveredIntervals : FunctionData → List ℕ → Type 0
 AreCoveredIntervals f intervals = ArePicked (IsCovered f.order (IsTight f)) (range_with_len 0 f.order) intervals
 
--- a line of a word and a count
-abbrev pub count_line : List ℕ → ℕ → List ℕ
-count_line word n = line (word ++ codes " " ++ decimal n)
-
 -- the lines of a summary with these numbers
 abbrev pub lines_with : ℕ → ℕ → ℕ → ℕ → ℕ → ℕ → Halves → List ℕ
 lines_with n order triangles covered uncovered components h =
-    count_line (codes "demo") n ++ order_line order ++ line (codes "f 1/2") ++ count_line (codes "triangles") triangles
-    ++ count_line (codes "covered") covered ++ count_line (codes "uncovered") uncovered
-    ++ count_line (codes "components") components ++ line (codes "verdict not-extreme") ++ halves_line h
+    count_line (codes "demo ") n ++ order_line order ++ line (codes "f 1/2") ++ count_line (codes "triangles ") triangles
+    ++ count_line (codes "covered ") covered ++ count_line (codes "uncovered ") uncovered
+    ++ count_line (codes "components ") components ++ line (codes "verdict not-extreme") ++ halves_line h
 
 -- the text sums up the n-th function: how many triangles are additive, how many intervals are covered and how many are not, how many
 -- components there are, and that it is not extreme, with the order and scale of the halves

@@ -3,7 +3,7 @@ ghost use Rattle.std.specs.Prelude.{◌≡◌, ◌<◌, ◌≤◌, ◌*◌, pos,
 ghost use Rattle.gj_frac.specs.Fraction.{IsRatio};
 ghost use Rattle.gj_shape.specs.FunctionData.{IsWithinBounds};
 ghost use Rattle.gj_shape.specs.Given.{AreOver};
-ghost use Rattle.gj_demo.specs.Demo.{demo_number, IsDemo};
+ghost use Rattle.gj_demo.specs.Demo.{greatest_demo, demo_number, IsDemo};
 
 use gj_frac::Frac;
 use gj_shape::Shape;
@@ -19,7 +19,7 @@ use std::alloc::{AllocError, Global};
 /// ```
 pub fn demo_function(alloc: Global, n: u32) -> Result<Shape, AllocError>
     requires low { 1 ≤ n }
-    requires high { n ≤ 249 }
+    requires high { n ≤ greatest_demo }
     ensures closed_form { IfOk result (IsDemo n) }
     ensures within_bounds { IfOk result IsWithinBounds }
 {

@@ -1,15 +1,14 @@
 //! The summary of the demonstration.
-ghost use Rattle.std.specs.Prelude.{◌≡◌, ◌-◌, ◌<◌, ◌≤◌, ◌^◌, ◌++◌, count_by, decimal, is_some, length, IfOk, OnOk};
+ghost use Rattle.std.specs.Prelude.{◌≡◌, ◌-◌, ◌<◌, ◌≤◌, ◌^◌, count_by, is_some, length, IfOk};
 ghost use Rattle.gj_cover.specs.CoverOf.{IsCoverOf};
 ghost use Rattle.gj_faces.specs.TightPairs.{AreTightPairsOf};
 ghost use Rattle.gj_shape.specs.Additive.{IsTight};
 ghost use Rattle.gj_shape.specs.Perturbation.{AreHalvesInBounds};
 ghost use Rattle.gj_shape.specs.FunctionData.{FunctionData, IsWithinBounds};
 ghost use Rattle.gj_shape.specs.declared.extremality.Halves.{Halves};
-ghost use Rattle.gj_function_lines.specs.FunctionLines.{line};
 ghost use Rattle.gj_proof.specs.declared.claim.Claim.TheVariants.{NotExtreme};
 ghost use Rattle.gj_extreme.specs.Decision.{IsDecided};
-ghost use Rattle.gj_demo.specs.Demo.{IsDemo};
+ghost use Rattle.gj_demo.specs.Demo.{greatest_demo, IsDemo};
 ghost use Rattle.gj_demo.specs.Summary.{HasSummary, lines_with};
 
 use crate::function::demo_function;
@@ -17,7 +16,7 @@ use gj_cover::{Cover, cover_of_pairs};
 use gj_extreme::{DecideFault, decide_by_cover};
 use gj_faces::{TightPairs, count_additive_triangles};
 use gj_function_lines::push_order_line;
-use gj_lex::print_count;
+use gj_lex::push_count_line;
 use gj_proof::{Claim, Proof, push_halves_line};
 use gj_shape::{Halves, Shape};
 use std::alloc::{AllocError, Global};
@@ -27,7 +26,7 @@ use std::alloc::{AllocError, Global};
 /// it is not extreme. There is no other verdict.
 pub fn summary(alloc: Global, n: u32) -> Result<Vec<u8>, AllocError>
     requires low { 1 ≤ n }
-    requires high { n ≤ 249 }
+    requires high { n ≤ greatest_demo }
     ensures { IfOk result (λ text. HasSummary n text.items) }
 {
     let shape = demo_function(alloc, n)?;
@@ -116,21 +115,5 @@ fn count_covered(component: &[Option<u32>]) -> u32
     requires { length component.now < 2 ^ 32 }
     ensures { result ≡ count_by is_some component.now }
 {
-    let mut count = 0;
-    for number in component {
-        if number.is_some() {
-            count += 1;
-        }
-    }
-    count
-}
-
-/// Appends a word, a count and the end of the line.
-fn push_count_line(out: &mut Vec<u8>, word: &[u8], n: u32) -> Result<(), AllocError>
-    ensures { OnOk result (out.new.items ≡ out.old.items ++ line (word.now ++ decimal n)) }
-{
-    out.extend_from_slice(word)?;
-    print_count(out, n)?;
-    out.push(b'\n')?;
-    Ok(())
+    component.iter().filter(|number| number.is_some()).count() as u32
 }

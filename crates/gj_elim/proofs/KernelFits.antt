@@ -1,5 +1,6 @@
 -- The numbers of the kernel are at most 2^127 - 1 in absolute value, if none of the marked ones is above.
-use Rattle.std.proofs.Common.{mul-le-mul_left, ◌≡◌, ℕ, zero, suc, ◌<◌, ◌≤◌, ◌^◌, ◌*◌, ◌==◌, ◌⊎◌, inl, inr, Bool, true, false, if◌then◌else◌, Option, None, Some, ℤ, pos, ◌+ℤ◌, ◌*ℤ◌, neg_ℤ, int_div, List, [], ◌∷◌, ◌++◌, unsigned_abs, refl, sym, ap, subst, ◌∙◌, arith}
+use Rattle.std.proofs.Common.{mul-le-mul_left, ◌≡◌, ℕ, zero, suc, ◌<◌, ◌≤◌, ◌^◌, ◌*◌, ◌==◌, ◌⊎◌, inl, inr, Bool, true, false, if◌then◌else◌, Option, None, Some, ℤ, pos, ◌+ℤ◌, ◌*ℤ◌, neg_ℤ, int_div, List, [], ◌∷◌, ◌++◌, unsigned_abs, sym, ap, subst, ◌∙◌, arith}
+use Rattle.std.proofs.Math.Nat.{eq-zero-or-pos}
 use Rattle.std.specs.Prelude.{All}
 use Rattle.std.proofs.lemmas.Bool.{cases_lt}
 use Rattle.std.proofs.lemmas.Int.{ints}
@@ -8,7 +9,7 @@ use Rattle.gj_lemmas.specs.Divisors.{gcd_of}
 use Rattle.gj_lemmas.proofs.Choices.{same_some}
 use Rattle.gj_lemmas.proofs.Divisors.{gcd_of_is}
 use Rattle.gj_lemmas.proofs.Lists.{All-made}
-use Rattle.gj_lemmas.proofs.Integers.{unsigned_abs-mul}
+use Rattle.gj_lemmas.proofs.Integers.{unsigned_abs-mul, abs_neg_z}
 use Rattle.gj_frac.proofs.Reduced.{quotient_of_divisor}
 use Rattle.gj_shape.specs.SlopeRows.{total}
 use Rattle.gj_shape.specs.Elimination.{KeptRow, Solution, at_column, row_with_pivot, entries_of, products_behind, partial_sums, solving_gcd, solving_products, solved_at, marked_in_solving, solution_below, solution_from, free_column, unit_row, kernel, Passes}
@@ -21,9 +22,6 @@ factor_small u g x some e =
     let product : unsigned_abs u * g ≡ unsigned_abs x = sym (unsigned_abs-mul u (pos g)) ∙ ap unsigned_abs e in
     let more : unsigned_abs u * 1 ≤ unsigned_abs u * g = mul-le-mul_left (unsigned_abs u) some in
     omega arith
-
-pub small_negated : (x : ℤ) → unsigned_abs (neg_ℤ x) ≡ unsigned_abs x
-small_negated x = omega (arith, ints)
 
 -- ---- one row is solved
 
@@ -48,17 +46,13 @@ sum_fits s (x ∷ xs) fits narrow =
     let here = first_fits (s +ℤ x) sums narrow in
     subst Fits (plus_both s x (total xs)) (sum_fits (s +ℤ x) xs here (λ p. narrow (later_passes (s +ℤ x) sums p)))
 
-zero_or_more : (g : ℕ) → (g ≡ 0) ⊎ (0 < g)
-zero_or_more zero = inl refl
-zero_or_more (suc g) = inr (omega arith)
-
 times_zero : (u t : ℤ) → u *ℤ pos 0 ≡ t → t ≡ pos 0
 times_zero u t e = omega (arith, ints)
 
 quotient_fits : (t : ℤ) (m : ℕ) → Fits t → Fits (int_div t (pos (gcd_of (unsigned_abs t) m)))
 quotient_fits t m fits = by_divisor (gcd_of (unsigned_abs t) m)
     (quotient_of_divisor t (pos (gcd_of (unsigned_abs t) m)) (gcd_of_is (unsigned_abs t) m).0)
-    (zero_or_more (gcd_of (unsigned_abs t) m))
+    (eq-zero-or-pos (gcd_of (unsigned_abs t) m))
   where
     none : Fits (int_div (pos 0) (pos 0))
     none = omega arith
@@ -86,7 +80,7 @@ solved_fits row w j narrow =
     let fits : Fits (total ps) = subst Fits (none_plus (total ps)) sum in
     let quotient = quotient_fits t (unsigned_abs (at_column row j)) fits in
     let turned : Fits (neg_ℤ (int_div t (pos (solving_gcd row j w)))) =
-    subst (λ (n : ℕ). n < 2 ^ 127) (sym (small_negated (int_div t (pos (solving_gcd row j w))))) quotient in
+    subst (λ (n : ℕ). n < 2 ^ 127) (sym (abs_neg_z (int_div t (pos (solving_gcd row j w))))) quotient in
     All-set Fits products j (neg_ℤ (int_div t (pos (solving_gcd row j w)))) turned
     (all_fit products (λ p. narrow (back_passes (ps ++ sums) products p)))
   where

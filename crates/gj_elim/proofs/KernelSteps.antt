@@ -1,5 +1,6 @@
 -- The columns below the free column are solved, one after another.
 use Rattle.std.proofs.Common.{◌≡◌, ℕ, ◌+◌, ◌<◌, ◌⊎◌, inl, inr, ◌↔◌, Option, None, Some, ℤ, pos, ◌<ℤ◌, List, ◌++◌, length, eqb, if◌then◌else◌, refl, sym, ap, ap₂, subst, subst₂, ◌∙◌, add-one}
+use Rattle.std.proofs.lemmas.Option.{none-some}
 use Rattle.std.specs.Prelude.{Any, IfSome}
 use Rattle.std.proofs.lemmas.List.FromFn.{length-map-range_with_len}
 use Rattle.gj_shape.specs.Elimination.{KeptRow, Solution, solution_below, solution_from, solved_at, marked_in_solving, entries_of, row_with_pivot, unit_row, free_column, kernel, Passes}
@@ -78,9 +79,6 @@ solved_wide b kept n free j w e kept_is n_is free_is h at p =
 
 -- ---- the end
 
-none_or_some : {X : Type 0} {x : X} → None ≡ Some x → ⊥
-none_or_some e = cc
-
 pub record IsKernel (b : BasisData) (w : List ℤ) : Type 0 where
   pub some : length b.kept ≡ b.columns → ⊥
   pub value : IfSome (kernel b.columns b.kept) (λ s. w ≡ s.numbers)
@@ -110,7 +108,7 @@ solved_end b kept n free j w kept_is n_is h free_is solved zero =
       some = λ full.
           let none : kernel n kept ≡ None = (kernel_none n kept h).1 full in
           let clash : None ≡ Some (solution_below kept free (unit_row n free)) = sym none ∙ is in
-          none_or_some clash;
+          none-some _ clash;
       value = subst (λ (o : Option Solution). IfSome o (λ s. w ≡ s.numbers)) (sym is) numbers;
       narrow = λ p.
           none_passes (subst (λ (m : ℕ). Passes (solution_below kept m w).marked) zero

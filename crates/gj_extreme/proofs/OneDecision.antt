@@ -8,7 +8,7 @@ use Rattle.std.proofs.lemmas.Bool.Decides.{Decides-eqb}
 use Rattle.std.proofs.lemmas.Bool.{eq-eqb}
 use Rattle.std.proofs.lemmas.Int.{ints}
 use Rattle.std.proofs.lemmas.List.Folds.{Any-from_list_any, list_any-from_Any}
-use Rattle.gj_lemmas.proofs.Choices.{same_some}
+use Rattle.gj_lemmas.proofs.Choices.{same_some, same_tests}
 use Rattle.gj_lemmas.proofs.Integers.{same_or_apart_z}
 use Rattle.gj_lemmas.proofs.Lists.{All-range}
 use Rattle.gj_shape.specs.Additive.{IsTight}
@@ -27,7 +27,6 @@ use Rattle.gj_theory.proofs.Fillings.{halves_deny}
 use Rattle.gj_theory.proofs.FirstFailed.{first_denies}
 use Rattle.gj_theory.proofs.LineComponents.{one_component}
 use Rattle.gj_theory.proofs.TestsFromMinimal.{tests_from_minimal}
-use Rattle.gj_theory.proofs.Zigzags.{same_tests}
 use Rattle.gj_cover.specs.CoverOf.{IsLeastClass}
 use Rattle.gj_cover.proofs.Joining.{covered_on, covered_directly}
 use Rattle.gj_proof.specs.declared.claim.Claim.{Claim}

@@ -9,12 +9,12 @@ use Rattle.std.proofs.lemmas.List.Elements.{All-nil, All-cons, All-head, All-tai
 use Rattle.gj_perturb.proofs.SplitParts.{product_at_most}
 use Rattle.gj_lemmas.specs.Divisors.{gcd_of}
 use Rattle.gj_lemmas.proofs.Divisors.{gcd_of_is, gcd_positive}
-use Rattle.gj_lemmas.proofs.Integers.{unsigned_abs-mul, abs_sub_z, abs_zero_z}
+use Rattle.gj_lemmas.proofs.Integers.{abs_neg_z, unsigned_abs-mul, abs_sub_z, abs_zero_z}
 use Rattle.gj_shape.specs.Elimination.{KeptRow, Insertion, Elimination, at_column, divided, scaled, differences, row_factor, kept_factor, eliminated, reduced, marked_in_step, row_with_pivot, kept_entries, insertion, insertion_by, inserted, inserted_at, inserted_at_by, kept_behind, elimination_from, elimination_from_by, behind_insertion}
 use Rattle.gj_theory.proofs.Triangular.{find_has}
 use Rattle.gj_theory.proofs.RowSums.{divided_times}
 use Rattle.gj_theory.proofs.Steps.{row_factor_times, kept_factor_times}
-use Rattle.gj_elim.proofs.KernelFits.{factor_small, small_negated}
+use Rattle.gj_elim.proofs.KernelFits.{factor_small}
 
 -- ---- small numbers
 
@@ -65,7 +65,7 @@ small_kept b row c h = by_sign (int_lt (at_column row c) (pos 0))
     by_sign : (s : Bool) → IsSmall b (if s then map neg_ℤ (divided row) else divided row)
     by_sign true =
         All-map (λ y. unsigned_abs y ≤ b) neg_ℤ (divided row)
-        (λ k d low. subst (λ (n : ℕ). n ≤ b) (sym (small_negated _)) (small_divided b row h k d low))
+        (λ k d low. subst (λ (n : ℕ). n ≤ b) (sym (abs_neg_z _)) (small_divided b row h k d low))
     by_sign false = small_divided b row h
 
 -- ---- a step

@@ -8,14 +8,14 @@ use Rattle.std.proofs.lemmas.List.Elements.{All-nil, All-cons, All-head, All-tai
 use Rattle.gj_frac.proofs.Reduced.{quotient_of_divisor}
 use Rattle.gj_perturb.proofs.SplitParts.{product_at_most}
 use Rattle.gj_lemmas.proofs.Divisors.{gcd_of_is, gcd_positive}
-use Rattle.gj_lemmas.proofs.Integers.{abs_add_z, abs_positive_z}
+use Rattle.gj_lemmas.proofs.Integers.{abs_neg_z, abs_add_z, abs_positive_z}
 use Rattle.gj_lemmas.proofs.Lists.{All-made}
 use Rattle.gj_shape.specs.Elimination.{KeptRow, Solution, at_column, scaled, partial_sums, products_behind, solving_gcd, solved_at, marked_in_solving, entries_of, row_with_pivot, solution_below, solution_from, free_column, unit_row, kernel}
 use Rattle.gj_shape.specs.SlopeRows.{total}
 use Rattle.gj_theory.specs.TriangularRows.{AreTriangular}
 use Rattle.gj_theory.proofs.Triangular.{kept_row_at}
 use Rattle.gj_theory.proofs.Kernels.{free_has_no_row, length-solved}
-use Rattle.gj_elim.proofs.KernelFits.{factor_small, small_negated}
+use Rattle.gj_elim.proofs.KernelFits.{factor_small}
 use Rattle.gj_extreme.proofs.SmallNumbers.{IsSmall, small_up, small_at, small_scaled, bound, bound_some, bound_up, pivots_before, pivots_by_column, bound_at, AreSmall, kept_small_at}
 
 -- ---- sums and products
@@ -88,7 +88,7 @@ solving_small m k v row j w m_some row_small w_small short some =
     let at_most : length ps * (k * v) ≤ b = mul-le-mul_right (k * v) few in
     let scaled_small : IsSmall (k * v) (scaled u w) = small_scaled k v u w (omega arith) w_small in
     let sum_low = small_total (k * v) ps products in
-    let turned = small_negated q in
+    let turned = abs_neg_z q in
     let up : k * v ≤ b = times_more m (k * v) m_some in
     let scaled_up = small_up (k * v) b (scaled u w) up scaled_small in
     record {

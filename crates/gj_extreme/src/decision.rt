@@ -55,9 +55,6 @@ pub fn decide(alloc: Global, shape: &Shape) -> Result<Proof, DecideFault>
     ensures two_slopes { IsMinimal shape.now → HasTwoSlopes shape.now → MatchResult result (IsExtremeClaim shape.now) IsMemoryFault }
     ensures order_4q { IsContinuous shape.now → IsExtreme shape.now ↔ IsExtremeOnGrid4 shape.now }
 {
-    // the call tells the proofs the bounds of the function
-    let order = shape.order();
-    prove!(order >= 2);
     let claim = claim_of(alloc, shape)?;
     Ok(Proof::of(claim))
 }
@@ -90,42 +87,19 @@ pub fn decide_by_cover(
 
 /// What is claimed of the function.
 fn claim_of(alloc: Global, shape: &Shape) -> Result<Claim, DecideFault>
-    requires { IsWithinBounds shape.now }
+    ensures limits { IsWithinBounds shape.now }
     ensures decided { IfOk result (IsDecided shape.now) }
     ensures text { IfOk result HasText }
     ensures rules { IfOk result MeetsRules }
     ensures not_continuous { (i : ℕ) → IsErrOf result (DecideFault.NotContinuous i) → IsMinimal shape.now × IsFirstJump shape.now i }
     ensures wide { IsErrOf result DecideFault.Wide → IsMinimal shape.now × IsContinuous shape.now × IsTooWide shape.now }
 {
-    match find_violation(shape) {
-        Some(violation) => Ok(Claim::NotMinimal(shape.copy(alloc)?, violation)),
-        None => claim_of_minimal(alloc, shape),
+    if let Some(violation) = find_violation(shape) {
+        return Ok(Claim::NotMinimal(shape.copy(alloc)?, violation));
     }
-}
-
-/// What is claimed of a minimal function.
-fn claim_of_minimal(alloc: Global, shape: &Shape) -> Result<Claim, DecideFault>
-    requires { IsMinimal shape.now }
-    ensures decided { IfOk result (IsDecided shape.now) }
-    ensures text { IfOk result HasText }
-    ensures not_continuous { (i : ℕ) → IsErrOf result (DecideFault.NotContinuous i) → IsFirstJump shape.now i }
-    ensures wide { IsErrOf result DecideFault.Wide → IsContinuous shape.now × IsTooWide shape.now }
-{
-    match shape.first_jump() {
-        Some(i) => Err(DecideFault::NotContinuous(i)),
-        None => claim_of_continuous(alloc, shape),
+    if let Some(i) = shape.first_jump() {
+        return Err(DecideFault::NotContinuous(i));
     }
-}
-
-/// What is claimed of a minimal continuous function.
-fn claim_of_continuous(alloc: Global, shape: &Shape) -> Result<Claim, DecideFault>
-    requires minimal { IsMinimal shape.now }
-    requires continuous { IsContinuous shape.now }
-    ensures decided { IfOk result (IsDecided shape.now) }
-    ensures text { IfOk result HasText }
-    ensures no_jump { (i : ℕ) → ¬ IsErrOf result (DecideFault.NotContinuous i) }
-    ensures wide { IsErrOf result DecideFault.Wide → IsTooWide shape.now }
-{
     let pairs = TightPairs::new(alloc, shape)?;
     let cover = cover_of_pairs(alloc, shape, &pairs)?;
     claim_by_cover(alloc, shape, &pairs, cover)

@@ -1,5 +1,5 @@
 //! The rows of the linear system for the slopes, inserted in their order until there is one for each component.
-ghost use Rattle.std.specs.Prelude.{ℕ, ◌≡◌, ◌<◌, ◌≤◌, ◌+◌, ◌-◌, ◌%◌, ◌^◌, ◌↔◌, ◌∷◌, List, length, IfOk, OnOk, IsErrOf, IsTrue};
+ghost use Rattle.std.specs.Prelude.{ℕ, ◌≡◌, ◌<◌, ◌≤◌, ◌+◌, ◌-◌, ◌^◌, ◌↔◌, ◌∷◌, List, length, IfOk, OnOk, IsErrOf, IsTrue};
 ghost use Rattle.gj_faces.specs.TightPairs.{AreTightPairsOf};
 ghost use Rattle.gj_shape.specs.Elimination.{Passes};
 ghost use Rattle.gj_shape.specs.FunctionData.{FunctionData, IsWithinBounds};
@@ -13,7 +13,7 @@ ghost use Rattle.gj_extreme.specs.RowsToCome.{AreToCome, AreInserted, IsReady, I
 use crate::seen::{SeenPair, SeenPairs};
 use gj_elim::{Basis, ElimFault, Inserted};
 use gj_faces::TightPairs;
-use gj_shape::{RowName, Shape};
+use gj_shape::{RowName, Shape, wrapped};
 use gj_system::SlopeRows;
 use std::alloc::{AllocError, Global};
 
@@ -43,25 +43,6 @@ pub(crate) fn rows_of(
         Passes (slope_elimination shape.now (component_in system.now.component) system.now.columns).marked }
 {
     let order = shape.order();
-    insert_rows(alloc, shape, pairs, order, system)
-}
-
-/// Inserts the rows of the system for a function of this order, until there is one for each component.
-fn insert_rows(
-    alloc: Global,
-    shape: &Shape,
-    pairs: &TightPairs,
-    order: u32,
-    system: &SlopeRows,
-) -> Result<Rows, ElimFault>
-    requires pairs { AreTightPairsOf shape.now pairs.now }
-    requires limits { IsWithinBounds shape.now }
-    requires order { order ≡ shape.now.order }
-    requires components { length system.now.component ≡ shape.now.order }
-    ensures rows { IfOk result (AreInserted shape.now (component_in system.now.component) system.now.columns) }
-    ensures wide { IsErrOf result ElimFault.Wide →
-        Passes (slope_elimination shape.now (component_in system.now.component) system.now.columns).marked }
-{
     let mut rows = Rows::new(alloc, system)?;
     rows.insert(shape, system, RowName::Period)?;
     rows.insert(shape, system, RowName::F)?;
@@ -123,18 +104,7 @@ fn has_row_of_pair_before(component: &[u32], a: usize, b: usize) -> bool
     if a + b == order {
         return false;
     }
-    component[b - 1] == component[sum_below(a, b - 1, order)]
-}
-
-/// The sum of two numbers below the order, less the order if that is not below it.
-fn sum_below(a: usize, b: usize, order: usize) -> usize
-    requires first { a < order }
-    requires second { b < order }
-    requires small { order < 2 ^ 31 }
-    ensures { result ≡ (a + b) % order }
-{
-    let sum = a + b;
-    if sum < order { sum } else { sum - order }
+    component[b - 1] == component[wrapped((a + (b - 1)) as u32, order as u32) as usize]
 }
 
 impl Rows {

@@ -15,8 +15,8 @@ fn fractions(alloc: Global, numerators: &[i64], denominator: u32) -> Result<Vec<
     ensures fractions { IfOk result (λ v. AreOver (at numerators.now) denominator v.items) }
 {
     let mut items = Vec::with_capacity(alloc, numerators.len())?;
-    for i in 0..numerators.len() {
-        items.push(Frac::ratio(numerators[i], denominator))?;
+    for numerator in numerators {
+        items.push(Frac::ratio(*numerator, denominator))?;
     }
     Ok(items)
 }

@@ -8,6 +8,7 @@ use lib.Signed.{le_z}
 use mathlib.Core.Bool.{Bool-set}
 use lib.IntN.{ℤ_set}
 use mathlib.Core.Quot.{Quot, mk, sound, ind, lift, Quot-set}
+use Rattle.gj_lemmas.proofs.Choices.{same_tests}
 use Rattle.gj_lemmas.proofs.Integers.{same_or_apart_z, mul_cancel_right_z, mul_le_mul_right_z, mul_le_cancel_right_z, mul_lt_cancel_right_z, mul_nonnegative_z, pos_abs_z, abs_zero_z, mul_some_z}
 use Rattle.gj_lemmas.proofs.Ring.{by_ring, ring}
 use Rattle.gj_fields.specs.Fields.{OrderedField, HasFloor, number, whole}
@@ -122,11 +123,6 @@ le_yes x y h = record { le = subst T (sym h) tt }
 yes_le : (x y : ℤ) → x ≤ℤ y → le_z x y ≡ true
 yes_le x y h = true_of (le_z x y) h.le
 
-same_test : (a b : Bool) → (a ≡ true → b ≡ true) → (b ≡ true → a ≡ true) → a ≡ b
-same_test true b h k = sym (h refl)
-same_test false true h k = k refl
-same_test false false h k = refl
-
 -- both sides times a positive number
 le_scaled : (x y z x' y' : ℤ) → pos 0 <ℤ z → x *ℤ z ≡ x' → y *ℤ z ≡ y' → x ≤ℤ y → x' ≤ℤ y'
 le_scaled x y z x' y' some e g h =
@@ -164,12 +160,12 @@ test a b = le_z (a.top *ℤ B b) (b.top *ℤ B a)
 
 test_left : (a a' b : Raw) → Same a a' → test a b ≡ test a' b
 test_left a a' b h =
-    same_test (test a b) (test a' b) (λ k. yes_le _ _ (below_left a a' b h (le_yes _ _ k)))
+    same_tests (test a b) (test a' b) (λ k. yes_le _ _ (below_left a a' b h (le_yes _ _ k)))
     (λ k. yes_le _ _ (below_left a' a b (sym h) (le_yes _ _ k)))
 
 test_right : (a b b' : Raw) → Same b b' → test a b ≡ test a b'
 test_right a b b' h =
-    same_test (test a b) (test a b') (λ k. yes_le _ _ (below_right a b b' h (le_yes _ _ k)))
+    same_tests (test a b) (test a b') (λ k. yes_le _ _ (below_right a b b' h (le_yes _ _ k)))
     (λ k. yes_le _ _ (below_right a b' b (sym h) (le_yes _ _ k)))
 
 abbrev at_most_q : Q → Q → Bool

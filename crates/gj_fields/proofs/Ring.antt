@@ -197,11 +197,3 @@ module _ {R : Type 0} (K : OrderedField R) (env : List R) where
       (sym (sum-append (parts s).0 (parts t).1) ∙ sym (normal_keeps ((parts s).0 ++ (parts t).1))
       ∙ ap sum same
       ∙ normal_keeps ((parts t).0 ++ (parts s).1) ∙ sum-append (parts t).0 (parts s).1)
-
--- ---- an example
-
-sample : {R : Type 0} (K : OrderedField R) (x y z : R) →
-    K.times (K.plus x (K.negative y)) (K.plus x y) ≡ K.plus (K.times x x) (K.negative (K.times y y))
-sample K x y z =
-    ring K (x ∷ y ∷ z ∷ []) ((var 0 ⊕ neg (var 1)) ⊗ (var 0 ⊕ var 1))
-    (var 0 ⊗ var 0 ⊕ neg (var 1 ⊗ var 1)) refl

@@ -6,7 +6,7 @@ use Rattle.gj_lemmas.proofs.Integers.{mul_positive_z, mul_le_mul_right_z, zero_f
 use Rattle.gj_lemmas.proofs.Ratios.{ratio_less}
 use Rattle.gj_lemmas.proofs.Ring.{by_ring, ring}
 use Rattle.gj_frac.specs.declared.Frac.{Frac}
-use Rattle.gj_frac.specs.Fraction.{LessValue, SameValue, IsRatio, IsInside, fraction_of}
+use Rattle.gj_frac.specs.Fraction.{LessValue, SameValue, IsRatio, fraction_of}
 use Rattle.gj_shape.specs.Breaks.{AreAscending}
 use Rattle.gj_shape.specs.FunctionData.{FunctionData, at}
 use Rattle.gj_shape.specs.TwoSlopes.{rise}
@@ -111,14 +111,6 @@ climb_two q a part w b c breaks low some less at crossing h = record {
           ),
           k.chain,
         )
-
-pub inside_from_ratio : (x : Frac) (k q : ℕ) → 0 < k → k < q → IsRatio x (pos k) (pos q) → IsInside x
-inside_from_ratio x k q some low h =
-    let wide : pos 0 <ℤ pos q = omega (arith, ints) in
-    let above = (ratio_less (pos 0) (pos 1) x.num x.den (pos 0) (pos k) (pos q) (omega (arith, ints)) x.lowest.positive wide
-    (omega (arith, ints)) h).1 (omega (arith, ints)) in
-    let below = below_one x (pos k) (pos q) wide h (omega (arith, ints)) in
-    (omega (arith, ints), omega (arith, ints))
 
 -- ---- the breakpoints of a fill-in
 

@@ -1,5 +1,5 @@
 -- The value of the fill-in at a fraction, by the place of the fraction.
-use Rattle.std.proofs.Common.{◌≡◌, ℕ, inl, inr, ◌+◌, ◌-◌, ◌*◌, ◌/◌, ◌%◌, ◌<◌, ℤ, pos, ◌+ℤ◌, ◌*ℤ◌, List, [], ◌∷◌, unsigned_abs, refl, sym, ap, ap₂, subst, ◌∙◌, arith}
+use Rattle.std.proofs.Common.{◌≡◌, ℕ, inl, inr, ◌+◌, ◌-◌, ◌*◌, ◌/◌, ◌%◌, ◌<◌, ℤ, pos, ◌+ℤ◌, ◌*ℤ◌, [], ◌∷◌, unsigned_abs, refl, sym, ap, ap₂, subst, ◌∙◌, arith}
 use Rattle.std.specs.Int.{int_min}
 use Rattle.std.proofs.Math.Nat.{div-add-mod', mod-lt, mul-le-mul_right, mul-lt-mul_of_pos_left}
 use Rattle.std.proofs.lemmas.Bool.{cases_lt}
@@ -80,17 +80,15 @@ value_at_place f x y p s t lesser bounds greatest h lesser_is is =
           subst (λ z. IsRatio y z (pos (f.scale * d))) (lesser_is ∙ sym here ∙ same) is;
     }
 
--- the same by the lines at the place over the values that were read
-pub value_by_lines : (f : FunctionData) (values : List ℤ) (x y : Frac) (q : ℕ) (p : Place) (s t rising falling lesser : ℤ) (n : ℕ) (w : ℤ) →
-    IsWithinBounds f → values ≡ f.value → q ≡ f.order → n ≡ f.scale → w ≡ p.parts → AreGreatestSteps (at values) s t → IsPlaceOf q x p →
-    rising ≡ p.parts *ℤ at values p.index +ℤ p.part *ℤ s → falling ≡ p.parts *ℤ at values (p.index + 1) +ℤ p.rest *ℤ t →
+-- the same by the lines at the place
+pub value_by_lines : (f : FunctionData) (x y : Frac) (q : ℕ) (p : Place) (s t rising falling lesser : ℤ) (n : ℕ) (w : ℤ) →
+    IsWithinBounds f → q ≡ f.order → n ≡ f.scale → w ≡ p.parts → AreGreatestSteps (at f.value) s t → IsPlaceOf q x p →
+    rising ≡ p.parts *ℤ at f.value p.index +ℤ p.part *ℤ s → falling ≡ p.parts *ℤ at f.value (p.index + 1) +ℤ p.rest *ℤ t →
     lesser ≡ int_min rising falling → IsRatio y lesser (pos n *ℤ w) → IsFilledValue f x y
-value_by_lines f values x y q p s t rising falling lesser n w bounds values_are q_is n_is w_is steps place rising_is falling_is lesser_is is =
+value_by_lines f x y q p s t rising falling lesser n w bounds q_is n_is w_is steps place rising_is falling_is lesser_is is =
     let h : IsPlaceOf f.order x p = subst (λ m. IsPlaceOf m x p) q_is place in
-    let first = rising_is ∙ ap (λ xs. p.parts *ℤ at xs p.index +ℤ p.part *ℤ s) values_are
-    ∙ ap₂ (λ u v. u *ℤ at f.value p.index +ℤ v *ℤ s) h.parts_are h.part_is in
-    let second = falling_is ∙ ap (λ xs. p.parts *ℤ at xs (p.index + 1) +ℤ p.rest *ℤ t) values_are
-    ∙ ap₂ (λ u v. u *ℤ at f.value (p.index + 1) +ℤ v *ℤ t) h.parts_are h.rest_is in
-    value_at_place f x y p s t lesser bounds (subst (λ xs. AreGreatestSteps (at xs) s t) values_are steps) h
+    let first = rising_is ∙ ap₂ (λ u v. u *ℤ at f.value p.index +ℤ v *ℤ s) h.parts_are h.part_is in
+    let second = falling_is ∙ ap₂ (λ u v. u *ℤ at f.value (p.index + 1) +ℤ v *ℤ t) h.parts_are h.rest_is in
+    value_at_place f x y p s t lesser bounds steps h
     (lesser_is ∙ ap₂ int_min first second)
     (subst (λ (z : ℤ). IsRatio y lesser (pos f.scale *ℤ z)) (w_is ∙ h.parts_are) (subst (λ (m : ℕ). IsRatio y lesser (pos m *ℤ w)) n_is is))

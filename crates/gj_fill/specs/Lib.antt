@@ -1,6 +1,6 @@
 pub mod FillIn
 pub mod FillPoints
 pub mod FirstPair
-pub mod Numerators
+pub mod StepSizes
 pub mod Faults
 pub mod FilledValue

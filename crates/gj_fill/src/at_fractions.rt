@@ -1,15 +1,13 @@
 //! The value of the fill-in at a fraction.
-ghost use Rattle.std.specs.Prelude.{◌≡◌, ◌<◌, ◌≤◌, ◌^◌, ◌+◌, ◌+ℤ◌, ◌*ℤ◌, pos, length, unsigned_abs};
+ghost use Rattle.std.specs.Prelude.{◌≡◌, ◌<◌, ◌≤◌, ◌^◌, ◌+◌, ◌+ℤ◌, ◌*ℤ◌, pos, unsigned_abs};
 ghost use Rattle.gj_frac.specs.Fraction.{numerator, denominator};
 ghost use Rattle.gj_shape.specs.FunctionData.{at};
 ghost use Rattle.gj_shape.specs.Limits.{IsRowNumber, greatest_order};
 ghost use Rattle.gj_shape.specs.Values.{IsCongruent};
 ghost use Rattle.gj_fill.specs.FilledValue.{IsFilledValue, IsPlaceOf};
-ghost use Rattle.gj_fill.specs.Numerators.{AreNumerators};
 
 use crate::fill_in::{over_width, sum_of_products};
 use crate::steps::{Steps, greatest_steps};
-use crate::values::value_at;
 use gj_frac::Frac;
 use gj_shape::Shape;
 
@@ -39,10 +37,9 @@ pub fn filled_value(shape: &Shape, x: Frac) -> Frac
     requires { IsRowNumber x }
     ensures { IsFilledValue shape.now x result }
 {
-    let values = shape.value_numerators();
-    let steps = greatest_steps(values);
+    let steps = greatest_steps(shape);
     let place = place_of(x, shape.order());
-    let lines = lines_at(values, steps, place);
+    let lines = lines_at(shape, steps, place);
     let scale = shape.common_denominator() as u32;
     if lines.rising <= lines.falling {
         return over_width(lines.rising, scale, place.parts);
@@ -51,21 +48,18 @@ pub fn filled_value(shape: &Shape, x: Frac) -> Frac
 }
 
 /// The two lines at a place.
-fn lines_at(values: &[i64], steps: Steps, place: Place) -> Lines
-    requires numerators { AreNumerators values.now }
-    requires within { place.index < length values.now }
-    requires steps { unsigned_abs steps.rise < 2 ^ 52 }
-    requires falls { unsigned_abs steps.fall < 2 ^ 52 }
+fn lines_at(shape: &Shape, steps: Steps, place: Place) -> Lines
+    requires within { place.index < shape.now.order }
     requires parts { unsigned_abs place.parts < 2 ^ 31 }
     requires part { unsigned_abs place.part < 2 ^ 31 }
     requires rest { unsigned_abs place.rest < 2 ^ 31 }
-    ensures rising { result.rising ≡ place.parts *ℤ at values.now place.index +ℤ place.part *ℤ steps.rise }
-    ensures falling { result.falling ≡ place.parts *ℤ at values.now (place.index + 1) +ℤ place.rest *ℤ steps.fall }
+    ensures rising { result.rising ≡ place.parts *ℤ at shape.now.value place.index +ℤ place.part *ℤ steps.rise }
+    ensures falling { result.falling ≡ place.parts *ℤ at shape.now.value (place.index + 1) +ℤ place.rest *ℤ steps.fall }
     ensures rising_small { unsigned_abs result.rising ≤ 2 ^ 107 }
     ensures falling_small { unsigned_abs result.falling ≤ 2 ^ 107 }
 {
-    let before = value_at(values, place.index);
-    let behind = value_at(values, place.index + 1);
+    let before = shape.value_numerator(place.index);
+    let behind = shape.value_numerator(place.index + 1);
     let rising = sum_of_products(place.parts, before, place.part, steps.rise);
     let falling = sum_of_products(place.parts, behind, place.rest, steps.fall);
     Lines { rising, falling }

@@ -4,7 +4,7 @@ ghost use Rattle.std.specs.List.{AllZip};
 ghost use Rattle.gj_frac.specs.declared.Frac.{Frac};
 ghost use Rattle.gj_frac.specs.Fraction.{IsRatio, IsInside};
 ghost use Rattle.gj_shape.specs.Breaks.{AreAscending};
-ghost use Rattle.gj_shape.specs.FunctionData.{IsWithinBounds, IsContinuous, at};
+ghost use Rattle.gj_shape.specs.FunctionData.{IsContinuous, at};
 ghost use Rattle.gj_shape.specs.TwoSlopes.{rise};
 ghost use Rattle.gj_fill.specs.Faults.{IsFillFault};
 ghost use Rattle.gj_fill.specs.FillIn.{AreGreatestSteps, IsSubadditiveTable};
@@ -12,8 +12,7 @@ ghost use Rattle.gj_fill.specs.FillPoints.{IsPairOf, AreFillPoints, IsFillIn, va
 
 use crate::faults::FillFault;
 use crate::pairs::first_pair;
-use crate::steps::{Steps, greatest_steps};
-use crate::values::{rise_at, value_at};
+use crate::steps::{Steps, greatest_steps, rise_at};
 use gj_frac::Frac;
 use gj_shape::{List, Shape};
 use std::alloc::{AllocError, Global};
@@ -50,28 +49,17 @@ pub fn fill(alloc: Global, shape: &Shape) -> Result<Filled, FillFault>
     if let Some((a, b)) = first_pair(shape) {
         return Err(FillFault::NotSubadditive(a, b));
     }
-    let steps = greatest_steps(shape.value_numerators());
+    let steps = greatest_steps(shape);
     let points = points_of(alloc, shape, steps)?;
-    let f = place_of(shape);
+    let f = shape.f();
     Ok(Filled {
         f,
         points: List::of(points),
     })
 }
 
-/// f of the function.
-fn place_of(shape: &Shape) -> Frac
-    ensures value { IsRatio result (pos shape.now.place) (pos shape.now.order) }
-    ensures inside { IsInside result }
-    ensures limits { IsWithinBounds shape.now }
-{
-    Frac::ratio(i64::from(shape.place()), shape.order())
-}
-
 /// All points of the fill-in by lines with these steps, from 0 on.
 fn points_of(alloc: Global, shape: &Shape, steps: Steps) -> Result<Vec<(Frac, Frac)>, AllocError>
-    requires rise_small { unsigned_abs steps.rise < 2 ^ 52 }
-    requires fall_small { unsigned_abs steps.fall < 2 ^ 52 }
     ensures { IfOk result (λ points. AllZip IsPairOf (fill_points shape.now steps.rise steps.fall) points.items) }
 {
     let mut points = Vec::with_capacity(alloc, 2 * shape.order() as usize)?;
@@ -88,9 +76,7 @@ fn push_points(
     steps: Steps,
     a: u32,
 ) -> Result<(), AllocError>
-    requires within { a < shape.now.order }
-    requires rise_small { unsigned_abs steps.rise < 2 ^ 52 }
-    requires fall_small { unsigned_abs steps.fall < 2 ^ 52 }
+    requires { a < shape.now.order }
     ensures { OnOk result ((more : List (Frac × Frac)) × AllZip IsPairOf (points_from shape.now steps.rise steps.fall a) more
         × (points.new.items ≡ points.old.items ++ more)) }
 {
@@ -103,21 +89,11 @@ fn push_points(
 
 /// Whether the function goes by neither slope from a/q to the next multiple of 1/q.
 fn crosses(shape: &Shape, steps: Steps, a: u32) -> bool
-    requires within { a < shape.now.order }
-    requires fall_small { unsigned_abs steps.fall < 2 ^ 52 }
+    requires { a < shape.now.order }
     ensures { IsTrue result ↔ ((neg_ℤ steps.fall <ℤ rise shape.now a) × (rise shape.now a <ℤ steps.rise)) }
 {
-    let rise = rise_of(shape, a);
+    let rise = rise_at(shape, a);
     -steps.fall < rise && rise < steps.rise
-}
-
-/// What the function rises by from a/q to the next multiple of 1/q, times the common denominator.
-fn rise_of(shape: &Shape, a: u32) -> i64
-    requires { a < shape.now.order }
-    ensures value { result ≡ rise shape.now a }
-    ensures small { unsigned_abs result < 2 ^ 52 }
-{
-    rise_at(shape.value_numerators(), a)
 }
 
 /// The point at a/q.
@@ -132,16 +108,14 @@ fn pair_at(shape: &Shape, a: u32) -> (Frac, Frac)
 /// The point behind a/q at which the two lines cross.
 fn crossing_pair(shape: &Shape, steps: Steps, a: u32) -> (Frac, Frac)
     requires within { a < shape.now.order }
-    requires rise_small { unsigned_abs steps.rise < 2 ^ 52 }
-    requires fall_small { unsigned_abs steps.fall < 2 ^ 52 }
     requires above { neg_ℤ steps.fall <ℤ rise shape.now a }
     requires below { rise shape.now a <ℤ steps.rise }
     ensures { IsPairOf (crossing_point shape.now steps.rise steps.fall a) result }
 {
     let width = steps.rise + steps.fall;
-    let part = rise_of(shape, a) + steps.fall;
+    let part = rise_at(shape, a) + steps.fall;
     let x = place_over(shape.order(), a, part, width);
-    let value = value_at(shape.value_numerators(), a);
+    let value = shape.value_numerator(a);
     let scale = shape.common_denominator() as u32;
     (x, height_over(scale, value, steps.rise, part, width))
 }

@@ -17,7 +17,6 @@ mod fill_in;
 mod laws;
 mod pairs;
 mod steps;
-mod values;
 
 pub use at_fractions::filled_value;
 pub use faults::FillFault;

@@ -1,32 +1,41 @@
 //! The greatest rise and the greatest fall of a function from one multiple of 1/q to the next.
-ghost use Rattle.std.specs.Prelude.{◌≡◌, ◌⊎◌, ◌<◌, ◌^◌, ◌+◌, ◌-ℤ◌, ◌↔◌, neg_ℤ, length, unsigned_abs, IsTrue};
+ghost use Rattle.std.specs.Prelude.{◌≡◌, ◌⊎◌, ◌<◌, ◌↔◌, neg_ℤ, IsTrue};
 ghost use Rattle.gj_shape.specs.FunctionData.{at};
-ghost use Rattle.gj_shape.specs.TwoSlopes.{HasTwoSlopes};
+ghost use Rattle.gj_shape.specs.TwoSlopes.{rise, HasTwoSlopes};
+ghost use Rattle.gj_fill.specs.StepSizes.{IsStep};
 ghost use Rattle.gj_fill.specs.FillIn.{AreGreatestSteps};
-ghost use Rattle.gj_fill.specs.Numerators.{AreNumerators};
 
-use crate::values::rise_at;
 use gj_shape::Shape;
 
 /// The greatest rise and the greatest fall, times the common denominator.
-#[derive(Clone, Copy, Debug)]
+#[derive(Clone, Copy)]
 pub(crate) struct Steps {
     pub(crate) rise: i64,
     pub(crate) fall: i64,
+    ghost rise_small: { IsStep rise },
+    ghost fall_small: { IsStep fall },
+}
+
+/// What the function rises by from a/q to the next multiple of 1/q, times the common denominator.
+pub(crate) fn rise_at(shape: &Shape, a: u32) -> i64
+    requires { a < shape.now.order }
+    ensures value { result ≡ rise shape.now a }
+    ensures small { IsStep result }
+{
+    let here = shape.value_numerator(a);
+    shape.value_numerator(a + 1) - here
 }
 
 /// The greatest rise and the greatest fall from one place to the next, and behind the last one to the first.
-pub(crate) fn greatest_steps(values: &[i64]) -> Steps
-    requires { AreNumerators values.now }
-    ensures greatest { AreGreatestSteps (at values.now) result.rise result.fall }
-    ensures rise_small { unsigned_abs result.rise < 2 ^ 52 }
-    ensures fall_small { unsigned_abs result.fall < 2 ^ 52 }
+pub(crate) fn greatest_steps(shape: &Shape) -> Steps
+    ensures { AreGreatestSteps (at shape.now.value) result.rise result.fall }
 {
-    let first = rise_at(values, 0);
+    let order = shape.order();
+    let first = rise_at(shape, 0);
     let mut most: i64 = first;
     let mut least: i64 = first;
-    for a in 1..values.len() as u32 {
-        let step = rise_at(values, a);
+    for a in 1..order {
+        let step = rise_at(shape, a);
         most = most.max(step);
         least = least.min(step);
     }
@@ -43,13 +52,12 @@ pub fn two_slopes(shape: &Shape) -> bool
     if !shape.is_continuous() {
         return false;
     }
-    let values = shape.value_numerators();
-    let steps = greatest_steps(values);
+    let steps = greatest_steps(shape);
     if steps.rise == -steps.fall {
         return false;
     }
     for a in 0..shape.order() {
-        if !goes_by_step(values, steps, a) {
+        if !goes_by_step(shape, steps, a) {
             return false;
         }
     }
@@ -57,13 +65,10 @@ pub fn two_slopes(shape: &Shape) -> bool
 }
 
 /// Whether the function rises by the greatest rise or falls by the greatest fall from a/q to the next place.
-fn goes_by_step(values: &[i64], steps: Steps, a: u32) -> bool
-    requires numerators { AreNumerators values.now }
-    requires within { a < length values.now }
-    requires fall_small { unsigned_abs steps.fall < 2 ^ 52 }
-    ensures { IsTrue result ↔ ((at values.now (a + 1) -ℤ at values.now a ≡ steps.rise)
-        ⊎ (at values.now (a + 1) -ℤ at values.now a ≡ neg_ℤ steps.fall)) }
+fn goes_by_step(shape: &Shape, steps: Steps, a: u32) -> bool
+    requires { a < shape.now.order }
+    ensures { IsTrue result ↔ ((rise shape.now a ≡ steps.rise) ⊎ (rise shape.now a ≡ neg_ℤ steps.fall)) }
 {
-    let rise = rise_at(values, a);
+    let rise = rise_at(shape, a);
     rise == steps.rise || rise == -steps.fall
 }

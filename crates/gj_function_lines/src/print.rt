@@ -39,12 +39,7 @@ pub fn push_function_lines(
     ensures { OnOk result ((lines : List ℕ) × AreFunctionLines shape.now lines
         × (out.new.items ≡ out.old.items ++ lines)) }
 {
-    push_head(
-        alloc,
-        out,
-        shape.order(),
-        Frac::ratio(i64::from(shape.place()), shape.order()),
-    )?;
+    push_head(alloc, out, shape.order(), shape.f())?;
     push_point_lines(alloc, out, shape)
 }
 

@@ -5,4 +5,3 @@ pub mod DenseRows
 pub mod TightTests
 pub mod RowBounds
 pub mod TableAnswers
-mod Worked

@@ -1,5 +1,6 @@
 -- A text spells one function at most, and one that is refused spells none.
-use Rattle.std.proofs.Common.{◌≡◌, ◌≢◌, inl, inr, ℕ, pos, List, [], ◌∷◌, length, refl, sym, ap₂, subst, ◌∙◌, arith}
+use Rattle.std.proofs.Common.{◌≡◌, ◌≢◌, inl, inr, ℕ, pos, List, [], ◌∷◌, length, Result, Ok, Err, IfOk, IfErr, MatchResult, refl, sym, ap₂, subst, ◌∙◌, arith}
+use Rattle.std.proofs.lemmas.Option.{none-some}
 use Rattle.std.specs.List.{AllZip}
 use Rattle.gj_frac.specs.declared.Frac.{Frac}
 use Rattle.gj_frac.specs.Fraction.{IsRatio}
@@ -22,16 +23,15 @@ use Rattle.gj_json.specs.declared.faults.JsonReason.{JsonReason}
 use Rattle.gj_json.specs.declared.faults.JsonReason.TheVariants.{Syntax, Form, Number, Order, Place, Large, Fine}
 use Rattle.gj_json.specs.declared.faults.JsonFault.{JsonFault}
 use Rattle.gj_json.specs.declared.faults.JsonFault.TheVariants.{Refused, Memory}
-use Rattle.gj_json.proofs.Options.{not_none}
-use Rattle.gj_json.proofs.Refusals.{string_or_integer, with_form, left_long, right_long}
+use Rattle.gj_json.proofs.Refusals.{string_or_integer, with_form}
 
 -- ---- the fractions
 
 one_spelled : (d : Data) (x y : Frac) → SpellsNumber d x → SpellsNumber d y → x ≡ y
 one_spelled d x y (inl (v, e, h)) (inl (w, g, k)) =
     one_fraction Lenient w x y (subst (λ u. IsFractionWord Lenient u x) (same_some v w (sym e ∙ g)) h) k
-one_spelled d x y (inl (v, e, h)) (inr (z, g, k)) = absurd (not_none z (sym (string_or_integer d v e) ∙ g))
-one_spelled d x y (inr (z, e, h)) (inl (w, g, k)) = absurd (not_none z (sym (string_or_integer d w g) ∙ e))
+one_spelled d x y (inl (v, e, h)) (inr (z, g, k)) = absurd (none-some z (sym (string_or_integer d v e) ∙ g))
+one_spelled d x y (inr (z, e, h)) (inl (w, g, k)) = absurd (none-some z (sym (string_or_integer d w g) ∙ e))
 one_spelled d x y (inr (z, e, h)) (inr (t, g, k)) =
     let some : 1 ≢ 0 = omega arith in
     same_from_is x y t (pos 1) some (subst (λ u. IsRatio x u (pos 1)) (same_some z t (sym e ∙ g)) h) k
@@ -128,3 +128,10 @@ pub only_memory : (text : List ℕ) (f : FunctionData) (e : JsonFault) → IsJso
     IsMemoryFault e
 only_memory text f (Refused e) h r = absurd (no_reason text f e h r)
 only_memory text f (Memory a) h r = tt
+
+-- of a text that spells a function nothing else is read
+pub only_function : (text : List ℕ) (result : Result FunctionData JsonFault) → IfOk result (IsJsonFunction text) →
+    IfErr result (NamesJsonReason (HasFirstReason text)) →
+    (f : FunctionData) → IsJsonFunction text f → MatchResult result (λ g. g ≡ f) IsMemoryFault
+only_function text (Ok g) found refused f h = one_function text g f found h
+only_function text (Err e) found refused f h = only_memory text f e h refused

@@ -1,5 +1,6 @@
 -- How what a step refuses refuses the whole, and what it reads makes the whole.
 use Rattle.std.proofs.Common.{◌≡◌, inl, inr, ℕ, List, length, Some, None, option_map, option_and_then, refl, sym, ap, subst, ◌∙◌, codes}
+use Rattle.std.proofs.lemmas.Option.{none-some}
 use Rattle.std.specs.List.{AllZip}
 use Rattle.std.proofs.lemmas.Slice.Zip.{AllZip-long}
 use Rattle.gj_frac.specs.declared.Frac.{Frac}
@@ -9,7 +10,6 @@ use Rattle.gj_lex.specs.declared.spelling.Spelling.TheVariants.{Lenient}
 use Rattle.gj_shape.specs.FunctionData.{FunctionData}
 use Rattle.serde_json.specs.Data.{Data, null, boolean, number, string, array, object}
 use Rattle.serde_json.specs.Find.{get, as_str, as_array}
-use Rattle.gj_json.proofs.Options.{not_none}
 use Rattle.gj_json.specs.JsonFunction.{integer, list_of, list_at, HasSideLimits, HasForm, SpellsNumber, SpellsForm, HasFractions, GivesFunction, SaysFunction}
 use Rattle.gj_json.specs.FirstReason.{RefusesFractions, RefusesValue, NamesJsonReason}
 use Rattle.gj_json.specs.Reading.{SpellsNone, SpellsNoForm}
@@ -29,7 +29,7 @@ names_weaker P Q (Memory a) f p = tt
 pub string_or_integer : (d : Data) (w : List ℕ) → as_str d ≡ Some w → integer d ≡ None
 string_or_integer null w e = refl
 string_or_integer (boolean b) w e = refl
-string_or_integer (number n) w e = absurd (not_none w e)
+string_or_integer (number n) w e = absurd (none-some w e)
 string_or_integer (string s) w e = refl
 string_or_integer (array ds) w e = refl
 string_or_integer (object ms) w e = refl
@@ -37,7 +37,7 @@ string_or_integer (object ms) w e = refl
 pub no_word : (d : Data) (w : List ℕ) → as_str d ≡ Some w → ((x : Frac) → IsFractionWord Lenient w x → ⊥) →
     (x : Frac) → SpellsNumber d x → ⊥
 no_word d w is none x (inl (v, e, h)) = none x (subst (λ u. IsFractionWord Lenient u x) (same_some v w (sym e ∙ is)) h)
-no_word d w is none x (inr (z, e, h)) = not_none z (sym (string_or_integer d w is) ∙ e)
+no_word d w is none x (inr (z, e, h)) = none-some z (sym (string_or_integer d w is) ∙ e)
 
 -- ---- the form
 
@@ -77,8 +77,8 @@ no_list key d e = ap (λ o. option_map list_of (option_and_then as_array o)) e
 same_limits : (d : Data) (ls ms vs rs ts : List Data) → HasSideLimits d ls vs rs → HasSideLimits d ms vs ts → (ls ≡ ms) × (rs ≡ ts)
 same_limits d ls ms vs rs ts (inl (a, b)) (inl (f, g)) =
     (same_some ls ms (sym a ∙ f), same_some rs ts (sym b ∙ g))
-same_limits d ls ms vs rs ts (inl (a, b)) (inr (f, g, i, j)) = absurd (not_none ls (sym (no_list (codes "left") d f) ∙ a))
-same_limits d ls ms vs rs ts (inr (f, g, i, j)) (inl (a, b)) = absurd (not_none ms (sym (no_list (codes "left") d f) ∙ a))
+same_limits d ls ms vs rs ts (inl (a, b)) (inr (f, g, i, j)) = absurd (none-some ls (sym (no_list (codes "left") d f) ∙ a))
+same_limits d ls ms vs rs ts (inr (f, g, i, j)) (inl (a, b)) = absurd (none-some ms (sym (no_list (codes "left") d f) ∙ a))
 same_limits d ls ms vs rs ts (inr (a, b, i, j)) (inr (f, g, k, l)) = (i ∙ sym k, j ∙ sym l)
 
 pub one_form : (d p q : Data) (ls ms vs ws rs ts : List Data) → HasForm d p ls vs rs → HasForm d q ms ws ts →

@@ -1,5 +1,5 @@
 //! What stands for a fraction in JSON.
-ghost use Rattle.std.specs.Prelude.{◌≡◌, ◌↔◌, List, ℤ, pos, map, All, IsTrue, IfSome, IfNone, IfOk, IfErr};
+ghost use Rattle.std.specs.Prelude.{◌≡◌, ◌↔◌, pos, map, IsTrue, IfSome, IfNone, IfOk, IfErr};
 ghost use Rattle.std.specs.List.{AllZip};
 ghost use Rattle.gj_frac.specs.declared.Frac.{Frac};
 ghost use Rattle.gj_frac.specs.Fraction.{IsRatio};
@@ -32,14 +32,7 @@ pub(crate) fn is_entry(value: &Value) -> bool
 pub(crate) fn are_entries(count: usize, values: &[Value]) -> bool
     ensures { IsTrue result ↔ AreEntries count (map view values.now) }
 {
-    values.len() == count && all_entries(values)
-}
-
-/// Whether each value is an entry.
-fn all_entries(values: &[Value]) -> bool
-    ensures { IsTrue result ↔ All (λ v. IsEntry (view v)) values.now }
-{
-    values.iter().all(|value| is_entry(value))
+    values.len() == count && values.iter().all(|value| is_entry(value))
 }
 
 /// The fraction that the entry spells.

@@ -1,13 +1,12 @@
 //! The form of a function in JSON.
-ghost use Rattle.std.specs.Prelude.{◌≡◌, ◌↔◌, List, pos, map, All, Some, IsTrue, IfSome, IfNone, option_map, option_and_then, codes, string_bytes};
-ghost use Rattle.std.specs.BTreeMap.{keys};
+ghost use Rattle.std.specs.Prelude.{◌≡◌, ◌↔◌, List, pos, map, Some, IsTrue, IfSome, IfNone, option_map, option_and_then, codes};
 ghost use Rattle.serde_json.specs.Data.{Data};
 ghost use Rattle.serde_json.specs.Find.{get, as_array};
 ghost use Rattle.serde_json.specs.View.{view};
 ghost use Rattle.gj_json.specs.JsonFunction.{integer, list_of, list_at, IsKey, HasOnlyKeys, HasSideLimits, HasForm};
 
 use crate::entries::{are_entries, integer, is_entry};
-use serde_json::{Map, Value};
+use serde_json::Value;
 
 /// What stands in a value of the form of a function.
 #[derive(Clone, Copy)]
@@ -90,16 +89,9 @@ fn has_only_keys(value: &Value) -> bool
     ensures { IsTrue result ↔ HasOnlyKeys (view value.now) }
 {
     match value.as_object() {
-        Some(members) => are_keys(members),
+        Some(members) => members.keys().all(|key| is_key(key.as_str())),
         None => false,
     }
-}
-
-/// Whether each key is one of a function.
-fn are_keys(members: &Map<String, Value>) -> bool
-    ensures { IsTrue result ↔ All (λ key. IsKey (string_bytes key)) (keys members.now) }
-{
-    members.keys().all(|key| is_key(key.as_str()))
 }
 
 /// Whether a function has the key.

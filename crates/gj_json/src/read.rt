@@ -1,8 +1,7 @@
 //! JSON functions, read.
-ghost use Rattle.std.specs.Prelude.{◌≡◌, List, ℕ, length, map, ◌↔◌, IsTrue, IfOk, IfErr, MatchResult};
+ghost use Rattle.std.specs.Prelude.{◌≡◌, length, map, IfOk, IfErr, MatchResult};
 ghost use Rattle.gj_frac.specs.declared.Frac.{Frac};
 ghost use Rattle.gj_shape.specs.FunctionData.{FunctionData};
-ghost use Rattle.gj_shape.specs.Given.{IsOrder};
 ghost use Rattle.serde_json.specs.Data.{Data};
 ghost use Rattle.serde_json.specs.View.{view};
 ghost use Rattle.gj_json.specs.JsonFunction.{SpellsForm, GivesFunction, SaysFunction, HasValue, IsJsonFunction};
@@ -46,10 +45,7 @@ pub fn read_json(alloc: Global, bytes: &[u8]) -> Result<Shape, JsonFault>
     // A refusal names the first reason.
     ensures refused { IfErr result (NamesJsonReason (HasFirstReason bytes.now)) }
 {
-    match function_of(alloc, bytes) {
-        Ok(shape) => Ok(shape),
-        Err(fault) => Err(fault),
-    }
+    function_of(alloc, bytes)
 }
 
 /// The function that the text spells, or why it spells none.
@@ -66,10 +62,7 @@ fn value_of(alloc: Global, bytes: &[u8]) -> Result<Value, JsonFault>
     ensures found { IfOk result (λ value. HasValue bytes.now (view value)) }
     ensures refused { IfErr result (NamesJsonReason (λ e. (e ≡ Syntax) × ((d : Data) → HasValue bytes.now d → ⊥))) }
 {
-    match Value::from_slice(alloc, bytes) {
-        Ok(value) => Ok(value),
-        Err(error) => Err(fault_of(error.is_memory())),
-    }
+    Value::from_slice(alloc, bytes).map_err(|error| fault_of(error.is_memory()))
 }
 
 /// Why a text has no value.
@@ -144,7 +137,7 @@ fn shape_given(
     ensures found { IfOk result (GivesFunction place left.now value.now right.now) }
     ensures refused { IfErr result (NamesJsonReason (RefusesFractions place left.now value.now right.now)) }
 {
-    if !is_order(value.len()) {
+    if !(2..=GREATEST_ORDER as usize).contains(&value.len()) {
         return Err(JsonFault::Refused(JsonReason::Order));
     }
     let order = value.len() as u32;
@@ -158,11 +151,4 @@ fn shape_given(
         Err(ShapeFault::Memory(error)) => Err(JsonFault::Memory(error)),
         Err(_) => unreachable!(),
     }
-}
-
-/// Whether the order is from 2 to 1,000.
-fn is_order(order: usize) -> bool
-    ensures { IsTrue result ↔ IsOrder order }
-{
-    (2..=GREATEST_ORDER as usize).contains(&order)
 }

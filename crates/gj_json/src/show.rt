@@ -1,7 +1,6 @@
 //! JSON functions, printed.
-ghost use Rattle.std.specs.Prelude.{◌≡◌, ◌<◌, ◌≤◌, ◌^◌, List, ℕ, pos, false, codes, string_bytes, IfOk};
+ghost use Rattle.std.specs.Prelude.{◌≡◌, ◌<◌, ◌≤◌, List, false, codes, IfOk};
 ghost use Rattle.gj_frac.specs.declared.Frac.{Frac};
-ghost use Rattle.gj_frac.specs.Fraction.{IsRatio};
 ghost use Rattle.gj_lex.specs.NumberText.{fraction_text};
 ghost use Rattle.gj_shape.specs.FunctionData.{IsWithinBounds};
 ghost use Rattle.serde_json.specs.Data.{depth as nesting, unsigned, number, string, array, object, no_members, member};
@@ -38,27 +37,12 @@ fn function_value(alloc: Global, shape: &Shape) -> Result<Value, AllocError>
     ensures within { IsWithinBounds shape.now }
 {
     let order = shape.order();
-    let scale = scale_of(shape);
-    let place = fraction_value(alloc, place_of(shape))?;
+    let scale = shape.common_denominator() as u32;
+    let place = fraction_value(alloc, shape.f())?;
     let left = fraction_values(alloc, shape.left_numerators(), scale)?;
     let value = fraction_values(alloc, shape.value_numerators(), scale)?;
     let right = fraction_values(alloc, shape.right_numerators(), scale)?;
     object_of(alloc, order, place, left, value, right)
-}
-
-/// The least common denominator of all values and limits.
-fn scale_of(shape: &Shape) -> u32
-    ensures value { result ≡ shape.now.scale }
-    ensures within { IsWithinBounds shape.now }
-{
-    shape.common_denominator() as u32
-}
-
-/// f.
-fn place_of(shape: &Shape) -> Frac
-    ensures { IsRatio result (pos shape.now.place) (pos shape.now.order) }
-{
-    Frac::ratio(i64::from(shape.place()), shape.order())
 }
 
 /// The object of a function.
@@ -90,20 +74,13 @@ fn fraction_values(alloc: Global, numerators: &[i64], scale: u32) -> Result<Valu
     Ok(Value::Array(values))
 }
 
-/// The fraction as a string.
+/// The fraction as a string in canonical form.
 fn fraction_value(alloc: Global, x: Frac) -> Result<Value, AllocError>
     ensures { IfOk result (λ v. view v ≡ string (fraction_text x)) }
 {
-    Ok(Value::String(fraction_string(alloc, x)?))
-}
-
-/// The fraction in canonical form.
-fn fraction_string(alloc: Global, x: Frac) -> Result<String, AllocError>
-    ensures { IfOk result (λ s. string_bytes s ≡ fraction_text x) }
-{
     let mut text = Vec::new(alloc);
     print_frac(alloc, &mut text, x)?;
-    Ok(String::from_utf8(text).unwrap())
+    Ok(Value::String(String::from_utf8(text).unwrap()))
 }
 
 /// The value with no blanks, and a line feed.

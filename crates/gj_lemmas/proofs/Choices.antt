@@ -1,5 +1,5 @@
 -- What is known of an option by its value, and of a test by its answer.
-use Rattle.std.proofs.Common.{◌≡◌, Bool, true, false, not, Option, Some, None, refl, ap}
+use Rattle.std.proofs.Common.{◌≡◌, Bool, true, false, not, Option, Some, None, refl, sym, ap}
 
 -- ---- options
 
@@ -19,6 +19,16 @@ not_true false e = refl
 pub not_false : (b : Bool) → not b ≡ false → b ≡ true
 not_false true e = refl
 not_false false e = absurd cc
+
+-- the two ways of a test
+pub by_test : (P : Bool → Type 0) → P true → P false → (b : Bool) → P b
+by_test P t f true = t
+by_test P t f false = f
+
+pub same_tests : (b c : Bool) → (b ≡ true → c ≡ true) → (c ≡ true → b ≡ true) → b ≡ c
+same_tests true c f g = sym (f refl)
+same_tests false true f g = g refl
+same_tests false false f g = refl
 
 pub never_true : (b : Bool) → (b ≡ true → ⊥) → b ≡ false
 never_true true h = absurd (h refl)

@@ -193,6 +193,9 @@ pub abs_sub_z : (x y : ℤ) → unsigned_abs (x -ℤ y) ≤ unsigned_abs x + uns
 abs_sub_z x y = omega (arith, ints)
 
 -- only zero has the absolute value zero
+pub abs_neg_z : (x : ℤ) → unsigned_abs (neg_ℤ x) ≡ unsigned_abs x
+abs_neg_z x = omega (arith, ints)
+
 pub abs_zero_z : (x : ℤ) → unsigned_abs x ≡ 0 → x ≡ pos 0
 abs_zero_z x e = omega (arith, ints)
 

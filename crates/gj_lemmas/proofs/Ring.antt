@@ -8,6 +8,7 @@
 --     `refl` does not fit              the two sides differ: the message shows the two normal forms
 use Rattle.std.proofs.Common.{◌≡◌, ℕ, zero, suc, ◌+◌, ◌*◌, Bool, true, false, T, eqb, ltb, leb, List, [], ◌∷◌, ℤ, pos, negsuc, ◌+ℤ◌, ◌*ℤ◌, neg_ℤ, refl, sym, ap, ap₂, subst, ◌∙◌, arith, eqb→eq, add-one}
 use Rattle.std.proofs.lemmas.Int.{ints}
+use Rattle.gj_lemmas.proofs.Choices.{by_test}
 use Rattle.gj_lemmas.proofs.Integers.{mul_assoc_z, mul_left_comm_z, mul_mul_comm_z, one_mul_z, mul_add_z, add_mul_z, neg_mul_z, add_assoc_z}
 use lib.IntN.{+ℤ_idl, *ℤ-zero, zero-*ℤ, neg_ℤ-+ℤ}
 
@@ -126,11 +127,6 @@ normal (neg e) = opposite (normal e)
 add_left_comm_z : (x y z : ℤ) → x +ℤ (y +ℤ z) ≡ y +ℤ (x +ℤ z)
 add_left_comm_z x y z = omega (arith, ints)
 
--- the two ways of a test
-by_test : (P : Bool → Type 0) → P true → P false → (b : Bool) → P b
-by_test P t f true = t
-by_test P t f false = f
-
 with_atom_is : (atoms : List ℤ) (i : ℕ) (js : List ℕ) →
     product_of atoms (with_atom i js) ≡ atom atoms i *ℤ product_of atoms js
 with_atom_is atoms i [] = refl
@@ -163,7 +159,7 @@ order_step i j is js h true b e = ap₂ (λ k ks. k ∷ ks) (eqb→eq i j (subst
 order_step i j is js h false b e = absurd (not_same (ltb i j) e)
 
 -- lists that come at one place are equal
-order_same : (is js : List ℕ) → order is js ≡ same → is ≡ js
+pub order_same : (is js : List ℕ) → order is js ≡ same → is ≡ js
 order_same [] [] e = refl
 order_same [] (j ∷ js) e = absurd (cc)
 order_same (i ∷ is) [] e = absurd (cc)

@@ -1,6 +1,7 @@
 -- Which intervals are in a class, as a list, and the zigzag from it.
 use Rattle.std.proofs.Common.{◌≡◌, ℕ, ◌+◌, ◌*◌, ◌/◌, ◌%◌, ◌<◌, ◌==◌, ◌||◌, Bool, true, false, if◌then◌else◌, inl, inr, ℤ, pos, ◌-ℤ◌, List, length, get_or, set, take, map, replicate, [], refl, sym, ap, ◌∙◌, arith}
 use Rattle.std.specs.List.{range_with_len, list_any}
+use Rattle.std.proofs.Math.Bool.{or-true, or-false}
 use Rattle.std.proofs.Math.Nat.{mod-eq_of_lt}
 use Rattle.std.proofs.Common.{get_or-set_other, get_or-set_same}
 use Rattle.std.proofs.lemmas.List.{get_or-replicate, length-replicate}
@@ -11,14 +12,6 @@ use Rattle.gj_shape.specs.Perturbation.{zigzag}
 
 abbrev pub is_among : List ℕ → ℕ → Bool
 is_among class i = list_any (λ a. a == i) class
-
-or_true : (b : Bool) → (b || true) ≡ true
-or_true true = refl
-or_true false = refl
-
-or_false : (b : Bool) → (b || false) ≡ b
-or_false true = refl
-or_false false = refl
 
 -- the marks of the intervals among the first n of the class
 pub record AreMarks (marks : List Bool) (q : ℕ) (class : List ℕ) : Type 0 where
@@ -45,12 +38,12 @@ one_mark_more marks q n a class below e a_below h len = record {
             let set_here : get_or (set marks a true) i false ≡ true =
             ap (λ k. get_or (set marks a true) k false) here ∙ (rw get_or-set_same refl) in
             let hit : (a == i) ≡ true = eq-eqb a i (sym here) in
-            set_here ∙ sym (more ∙ ap (λ b. (is_among (take n class) i || b)) hit ∙ or_true (is_among (take n class) i))
+            set_here ∙ sym (more ∙ ap (λ b. (is_among (take n class) i || b)) hit ∙ or-true (is_among (take n class) i))
         | inr other ↦
             let miss : (a == i) ≡ false = ne_eqb a i (λ s. other (sym s)) in
             let kept : get_or (set marks a true) i false ≡ get_or marks i false = rw get_or-set_other refl in
             kept ∙ h.same i i_below
-            ∙ sym (more ∙ ap (λ b. (is_among (take n class) i || b)) miss ∙ or_false (is_among (take n class) i))
+            ∙ sym (more ∙ ap (λ b. (is_among (take n class) i || b)) miss ∙ or-false (is_among (take n class) i))
       ];
 }
 

@@ -8,6 +8,7 @@ use Rattle.std.proofs.lemmas.List.{length-map, length-append}
 use Rattle.std.proofs.lemmas.Bool.{cases_lt}
 use Rattle.std.proofs.lemmas.Int.{ints}
 use Rattle.std.proofs.lemmas.List.Elements.{All-map}
+use Rattle.gj_lemmas.proofs.Lists.{All-three}
 use Rattle.gj_shape.specs.FunctionData.{FunctionData, IsWithinBounds, IsContinuous, at}
 use Rattle.gj_shape.specs.Faces.{limits_of}
 use Rattle.gj_shape.specs.Perturbation.{slack_on_grid, IsLeastSlack}
@@ -23,7 +24,6 @@ use Rattle.gj_theory.proofs.SlacksAndSizes.{least_slack}
 use Rattle.gj_perturb.specs.Lanes.{lane_slack, triangle, AreSubadditive, no_slack, IsAtCorner, IsBesideZero, AreLeast, IsLeastAt, IsInRows}
 use Rattle.gj_perturb.specs.Values.{AreTwoPeriods}
 use Rattle.gj_perturb.proofs.LaneSlacks.{slack_small}
-use Rattle.gj_theory.proofs.CarriedSteps.{all_three}
 use Rattle.gj_perturb.proofs.TableParts.{has_least_slack, entry_at_most}
 
 -- ---- the lanes of a minimal function
@@ -126,7 +126,7 @@ down_contains xs (k, below, e) =
 
 triangle_small : (lanes : List ℕ) (n a b : ℕ) → AreSubadditive lanes n → a ≤ b → b < n → All (λ x. x < no_slack) (triangle lanes a b)
 triangle_small lanes n a b d from below =
-    all_three (λ x. x < no_slack) _ _ _ (slack_small lanes n a b d (omega arith) (omega arith))
+    All-three (λ x. x < no_slack) _ _ _ (slack_small lanes n a b d (omega arith) (omega arith))
     (slack_small lanes n (a + 1) b d (omega arith) (omega arith)) (slack_small lanes n a (b + 1) d (omega arith) (omega arith))
 
 below_corners : (lanes : List ℕ) (n m u any beside : ℕ) (a b : ℕ) → AreLeast lanes n (IsInRows n n) any beside → a ≤ b → b < n →

@@ -2,7 +2,7 @@
 use Rattle.std.proofs.Common.{◌≡◌, ◌≢◌, ℕ, zero, suc, ◌⊎◌, inl, inr, ◌+◌, ◌-◌, ◌*◌, ◌%◌, ◌<◌, ◌≤◌, ◌^◌, min, max, List, [], ◌∷◌, All, refl, sym, subst, ◌∙◌, arith}
 use Rattle.std.specs.List.{Contains}
 use Rattle.std.proofs.lemmas.Bool.{cases_lt}
-use Rattle.gj_theory.proofs.CarriedSteps.{all_three}
+use Rattle.gj_lemmas.proofs.Lists.{All-three}
 use Rattle.gj_perturb.specs.Lanes.{lane_slack, triangle, AreSubadditive, no_slack, IsAtCorner, IsBesideZero, AreLeast, IsLeastAt, IsInRow, IsInRows}
 
 -- ---- the least of two choices of triangles
@@ -133,7 +133,7 @@ module _ (s t r x y z least greatest chosen : ℕ)
   low : All (λ v. 0 < v → least < v) (s ∷ t ∷ r ∷ [])
   low =
       let least_is = h.least_is in
-      all_three (λ v. 0 < v → least < v) s t r (λ above. let e = first.some above in omega arith)
+      All-three (λ v. 0 < v → least < v) s t r (λ above. let e = first.some above in omega arith)
       (λ above. let e = second.some above in omega arith) (λ above. let e = third.some above in omega arith)
 
   -- if a slack is 0 the greatest lane is that of none

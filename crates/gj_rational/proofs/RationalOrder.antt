@@ -1,10 +1,10 @@
 -- The order of rational numbers.
-use Rattle.std.proofs.Common.{◌≡◌, ℕ, ℤ, pos, negsuc, ◌+ℤ◌, ◌-ℤ◌, ◌*ℤ◌, neg_ℤ, ◌<ℤ◌, ◌≤ℤ◌, [], ◌∷◌, unsigned_abs, refl, sym, ap, ap₂, subst, subst₂, ◌∙◌, arith}
+use Rattle.std.proofs.Common.{◌≡◌, ℤ, pos, negsuc, ◌+ℤ◌, ◌-ℤ◌, ◌*ℤ◌, neg_ℤ, ◌<ℤ◌, ◌≤ℤ◌, [], ◌∷◌, refl, sym, ap, ◌∙◌, arith}
 use Rattle.std.proofs.lemmas.Int.{ints}
-use Rattle.gj_lemmas.proofs.Integers.{mul_positive_z, mul_nonnegative_z, mul_le_cancel_right_z, mul_le_mul_right_z, neg_mul_z, one_mul_z}
+use Rattle.gj_lemmas.proofs.Integers.{mul_positive_z, mul_nonnegative_z, mul_le_cancel_right_z, one_mul_z}
 use Rattle.gj_lemmas.proofs.Ring.{by_ring, ring}
 use Rattle.gj_rational.specs.Rational.{Rational, whole, ◌+ℚ◌, ◌*ℚ◌, neg_ℚ, ◌-ℚ◌, ◌≤ℚ◌}
-use Rattle.gj_rational.proofs.RationalLaws.{sum_is, product_is, whole_top, whole_bottom}
+use Rattle.gj_rational.proofs.RationalLaws.{sum_is, product_is}
 
 -- x is at least 0
 pub record IsNonnegativeQ (x : Rational) : Type 0 where
@@ -13,10 +13,6 @@ pub record IsNonnegativeQ (x : Rational) : Type 0 where
 pub nonnegative_whole : (z : ℤ) → pos 0 ≤ℤ z → IsNonnegativeQ (whole z)
 unfolding whole
 nonnegative_whole z h = record { low = h }
-
-pub whole_nonnegative : (z : ℤ) → IsNonnegativeQ (whole z) → pos 0 ≤ℤ z
-unfolding whole
-whole_nonnegative z h = h.low
 
 -- s/b = k/d has the sign of k
 sign_from : (s b k d : ℤ) → pos 0 <ℤ d → pos 0 ≤ℤ b → s *ℤ d ≡ k *ℤ b → pos 0 ≤ℤ k → pos 0 ≤ℤ s

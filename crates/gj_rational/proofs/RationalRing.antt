@@ -2,10 +2,10 @@
 -- An identity over the atoms x, y and z, each a variable or any other term, is one line:
 --     by_ring_q (x ∷ y ∷ z ∷ []) (search ring_q depth 40) refl
 -- The two sides may have +, -, *, signs and whole numerals.
-use Rattle.std.proofs.Common.{◌≡◌, ℕ, zero, suc, Bool, true, false, T, eqb, ltb, leb, List, [], ◌∷◌, ℤ, pos, negsuc, ◌+ℤ◌, ◌*ℤ◌, neg_ℤ, refl, sym, ap, ap₂, subst, ◌∙◌, arith, eqb→eq}
-use Rattle.std.proofs.lemmas.Int.{ints}
-use Rattle.gj_lemmas.proofs.Ring.{Expr, var, num, add, mul, neg, Poly, none, plus, Order, before, same, after, with_atom, joined, order, plus_some, with_term, sum_of, times_term, times, opposite, normal}
-use Rattle.gj_rational.specs.Rational.{Rational, whole, ◌+ℚ◌, ◌*ℚ◌, neg_ℚ, ◌-ℚ◌}
+use Rattle.std.proofs.Common.{◌≡◌, ℕ, zero, suc, true, false, eqb, leb, List, [], ◌∷◌, ℤ, pos, negsuc, ◌+ℤ◌, ◌*ℤ◌, refl, sym, ap, ap₂, ◌∙◌}
+use Rattle.gj_lemmas.proofs.Choices.{by_test}
+use Rattle.gj_lemmas.proofs.Ring.{Expr, var, num, add, mul, neg, Poly, none, plus, Order, before, same, after, with_atom, joined, order, plus_some, with_term, sum_of, times_term, times, opposite, normal, order_same}
+use Rattle.gj_rational.specs.Rational.{Rational, whole, ◌+ℚ◌, ◌*ℚ◌, neg_ℚ}
 use Rattle.gj_rational.proofs.RationalLaws.{add_assoc_q, add_comm_q, add_left_comm_q, zero_add_q, zero_mul_q, mul_zero_q, one_mul_q, mul_comm_q, mul_assoc_q, mul_left_comm_q, mul_mul_comm_q, mul_add_q, add_mul_q, neg_mul_q, neg_add_q, whole_add, whole_mul, whole_neg}
 
 -- the atom of a number; past the last it is 0
@@ -32,11 +32,6 @@ abbrev total : List Rational → Poly → Rational
 total atoms none = whole (pos 0)
 total atoms (plus z is p) = whole z *ℚ product_of atoms is +ℚ total atoms p
 
--- the two ways of a test
-by_test : (P : Bool → Type 0) → P true → P false → (b : Bool) → P b
-by_test P t f true = t
-by_test P t f false = f
-
 with_atom_is : (atoms : List Rational) (i : ℕ) (js : List ℕ) →
     product_of atoms (with_atom i js) ≡ atom atoms i *ℚ product_of atoms js
 with_atom_is atoms i [] = refl
@@ -56,24 +51,6 @@ joined_is atoms (i ∷ is) js =
     with_atom_is atoms i (joined is js)
     ∙ ap (λ z. atom atoms i *ℚ z) (joined_is atoms is js)
     ∙ sym (mul_assoc_q (atom atoms i) (product_of atoms is) (product_of atoms js))
-
-not_same : (b : Bool) → elim b [ true ↦ before | false ↦ after ] ≡ same → ⊥
-not_same true e = cc
-not_same false e = cc
-
-order_step : (i j : ℕ) (is js : List ℕ) → (order is js ≡ same → is ≡ js) →
-    (b : Bool) → eqb i j ≡ b →
-    elim b [ true ↦ order is js | false ↦ elim (ltb i j) [ true ↦ before | false ↦ after ] ] ≡ same →
-    i ∷ is ≡ j ∷ js
-order_step i j is js h true b e = ap₂ (λ k ks. k ∷ ks) (eqb→eq i j (subst T (sym b) tt)) (h e)
-order_step i j is js h false b e = absurd (not_same (ltb i j) e)
-
--- lists that come at one place are equal
-order_same : (is js : List ℕ) → order is js ≡ same → is ≡ js
-order_same [] [] e = refl
-order_same [] (j ∷ js) e = absurd (cc)
-order_same (i ∷ is) [] e = absurd (cc)
-order_same (i ∷ is) (j ∷ js) e = order_step i j is js (order_same is js) (eqb i j) refl e
 
 plus_some_is : (atoms : List Rational) (z : ℤ) (is : List ℕ) (p : Poly) →
     total atoms (plus_some z is p) ≡ whole z *ℚ product_of atoms is +ℚ total atoms p

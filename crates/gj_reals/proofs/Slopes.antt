@@ -1,13 +1,14 @@
 -- A slope on each covered interval.
 use Rattle.std.proofs.Common.{◌≡◌, ℕ, ◌+◌, ◌%◌, List, [], ◌∷◌, All, sym}
 use Rattle.std.proofs.lemmas.List.Elements.{All-nil}
+use Rattle.gj_lemmas.proofs.Lists.{All-two, All-three}
 use Rattle.gj_shape.specs.Additive.{IsTight, IsAdditive}
 use Rattle.gj_shape.specs.Cover.{IsOneOf, triangle_projections, Joins, IsCovered, LeadsTo}
 use Rattle.gj_shape.specs.Cover.LeadsTo.{here, onward}
 use Rattle.gj_shape.specs.FunctionData.{FunctionData, IsWithinBounds, IsContinuous}
 use Rattle.gj_shape.specs.declared.faces.FaceKind.{FaceKind}
 use Rattle.gj_shape.specs.declared.faces.FaceKind.TheVariants.{Vertex, Horizontal, Vertical, Diagonal, Lower, Upper}
-use Rattle.gj_theory.proofs.CarriedSteps.{all_of_any, all_two, all_three}
+use Rattle.gj_theory.proofs.CarriedSteps.{all_of_any}
 use Rattle.gj_fields.specs.Fields.{OrderedField, HasFloor}
 use Rattle.gj_reals.proofs.Lines.{FollowsTight, HasSlope, on_lower, on_upper, along_horizontal, along_vertical, along_diagonal, slope_modulo}
 
@@ -30,11 +31,11 @@ module _ {R : Type 0} (K : OrderedField R) (floors : HasFloor K) (f : FunctionDa
       IsOneOf f.order (triangle_projections kind a b) i → Slope i
   from_triangle Lower a b i h one =
       let slopes = on_lower K floors f bounds continuous d follows a b h in
-      from_all (a ∷ b ∷ (a + b) ∷ []) i (all_three Slope a b (a + b) slopes.0 slopes.1 slopes.2) one
+      from_all (a ∷ b ∷ (a + b) ∷ []) i (All-three Slope a b (a + b) slopes.0 slopes.1 slopes.2) one
   from_triangle Upper a b i h one =
       let slopes = on_upper K floors f bounds continuous d follows a b h in
       from_all (a ∷ b ∷ (a + b + 1) ∷ []) i
-      (all_three Slope a b (a + b + 1) slopes.0 slopes.1 slopes.2) one
+      (All-three Slope a b (a + b + 1) slopes.0 slopes.1 slopes.2) one
   from_triangle Vertex a b i h one = from_all [] i (All-nil Slope) one
   from_triangle Horizontal a b i h one = from_all [] i (All-nil Slope) one
   from_triangle Vertical a b i h one = from_all [] i (All-nil Slope) one
@@ -45,8 +46,8 @@ module _ {R : Type 0} (K : OrderedField R) (floors : HasFloor K) (f : FunctionDa
       IsOneOf f.order (x ∷ y ∷ []) i → IsOneOf f.order (x ∷ y ∷ []) j →
       Slope i → Slope j
   from_either x y i j ways first second slope =
-      let each = all_two (λ z. Slope z → All Slope (x ∷ y ∷ [])) x y
-      (λ s. all_two Slope x y s (ways.0 s)) (λ s. all_two Slope x y (ways.1 s) s) in
+      let each = All-two (λ z. Slope z → All Slope (x ∷ y ∷ [])) x y
+      (λ s. All-two Slope x y s (ways.0 s)) (λ s. All-two Slope x y (ways.1 s) s) in
       let found = all_of_any (λ z. Slope z → All Slope (x ∷ y ∷ []))
       (λ z. z % f.order ≡ i % f.order) (x ∷ y ∷ []) each first in
       from_all (x ∷ y ∷ []) j (found.1 (modulo i found.0 (sym found.2) slope)) second

@@ -1,6 +1,6 @@
 -- A function on a finer grid.
-use Rattle.std.proofs.Common.{◌≡◌, ℕ, zero, suc, ◌+◌, ◌-◌, ◌*◌, ◌/◌, ◌%◌, ◌<◌, ◌≤◌, ◌^◌, ◌⊎◌, inl, inr, ⊎_elim, ℤ, pos, ◌+ℤ◌, ◌*ℤ◌, List, [], ◌∷◌, length, All, unsigned_abs, refl, sym, ap, ap₂, subst, ◌∙◌, arith}
-use Rattle.std.proofs.Math.Nat.{mul-le-mul_right, mul-le-mul_left, mul-lt-mul_of_pos_right, mul-pos, mod-lt, mod-mod, div-add-mod'}
+use Rattle.std.proofs.Common.{◌≡◌, ℕ, zero, suc, ◌+◌, ◌-◌, ◌*◌, ◌/◌, ◌%◌, ◌<◌, ◌≤◌, ◌^◌, ◌⊎◌, ⊎_elim, ℤ, pos, ◌+ℤ◌, ◌*ℤ◌, List, [], ◌∷◌, length, All, unsigned_abs, refl, sym, ap, ap₂, subst, ◌∙◌, arith}
+use Rattle.std.proofs.Math.Nat.{eq-zero-or-pos, mul-le-mul_right, mul-le-mul_left, mul-lt-mul_of_pos_right, mul-pos, mod-lt, mod-mod, div-add-mod'}
 use Rattle.std.proofs.lemmas.Int.{unsigned_abs-mul}
 use Rattle.gj_frac.specs.declared.Frac.{Frac}
 use Rattle.gj_lemmas.proofs.Integers.{abs_add_z, first_only_z, second_only_z}
@@ -197,10 +197,6 @@ same_between f g t m a r t_some r_some below lists =
     ∙ two_right_z g.scale m (m - r) r x y
     ∙ ap (λ z. z *ℤ pos (g.scale * m)) whole
 
-some_or_none : (r : ℕ) → (r ≡ 0) ⊎ (0 < r)
-some_or_none zero = inl refl
-some_or_none (suc r) = inr (omega arith)
-
 same_everywhere : (f g : FunctionData) (t m i : ℕ) → 0 < t → 0 < m → AreLists f g t →
     table g m i *ℤ pos (f.scale * (t * m)) ≡ table f (t * m) i *ℤ pos (g.scale * m)
 same_everywhere f g t m i t_some m_some lists =
@@ -209,7 +205,7 @@ same_everywhere f g t m i t_some m_some lists =
     ⊎_elim
     (λ e. subst P (let h : i / m * m ≡ i = omega arith in h) (same_at_points f g t m (i / m) t_some m_some lists))
     (λ some. subst P split (same_between f g t m (i / m) (i % m) t_some some (mod-lt i m_some) lists))
-    (some_or_none (i % m))
+    (eq-zero-or-pos (i % m))
 
 -- the function that the refined lists give is the refinement
 pub refinement_from_given : (f g : FunctionData) (t : ℕ) (l v r : List Frac) → 0 < t → IsWithinBounds f → AreRefined f t l v r →

@@ -60,7 +60,7 @@ impl<T: Drop> From<AllocFailed<T>> for ShapeFault {
 }
 
 /// Why a fraction cannot follow others.
-#[derive(Clone, Copy, Debug, PartialEq, Eq)]
+#[derive(Clone, Copy)]
 pub(crate) enum FractionFault {
     /// It is greater than 2^20 in absolute value.
     Large,

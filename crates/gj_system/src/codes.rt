@@ -1,5 +1,5 @@
 //! Counts packed into one number, by which the sums of counts are compared at once.
-ghost use Rattle.std.specs.Prelude.{◌≡◌, ◌+◌, ◌++◌, ◌<◌, ◌≤◌, ◌^◌, ◌↔◌, get_or, length, map, All, IfOk, IsTrue};
+ghost use Rattle.std.specs.Prelude.{◌≡◌, ◌+◌, ◌++◌, ◌<◌, ◌≤◌, ◌^◌, get_or, length, map, All, IfOk};
 ghost use Rattle.gj_system.specs.Codes.{packed as packed_counts, codes_twice, ArePackable};
 
 use gj_shape::List;
@@ -16,13 +16,6 @@ const MOST_COLUMNS: u32 = u64::BITS / DIGIT_BITS;
 
 /// The greatest order of which three counts have a sum below the base.
 const GREATEST_CODED_ORDER: usize = (BASE as usize - 1) / 3;
-
-/// Whether a sum of three codes carries no digit, for so many columns and counts up to the order.
-fn are_packable(columns: u32, order: usize) -> bool
-    ensures { IsTrue result ↔ ArePackable columns order }
-{
-    columns <= MOST_COLUMNS && order <= GREATEST_CODED_ORDER
-}
 
 /// The code of the counts.
 fn packed(counts: &[u32]) -> u64
@@ -63,7 +56,7 @@ pub(crate) fn codes_of(
     ensures packable { IfOk result (λ codes. 0 < length codes.items → ArePackable columns order) }
     ensures codes { IfOk result (λ codes. 0 < length codes.items → codes.items ≡ codes_twice order counts.now) }
 {
-    if !are_packable(columns, order) {
+    if columns > MOST_COLUMNS || order > GREATEST_CODED_ORDER {
         return Ok(Vec::new(alloc));
     }
     let points = &counts[..order];

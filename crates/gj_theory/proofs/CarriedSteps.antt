@@ -1,8 +1,9 @@
 -- Additive edges carry a constant step, and additive triangles give one.
 use Rattle.std.proofs.Common.{◌≡◌, ℕ, ◌+◌, ◌-◌, ◌*◌, ◌/◌, ◌%◌, ◌<◌, ◌≤◌, ℤ, pos, ◌+ℤ◌, List, [], ◌∷◌, All, Any, ap, sym, subst, ◌∙◌, arith}
 use Rattle.std.proofs.lemmas.Int.{ints}
-use Rattle.std.proofs.lemmas.List.Elements.{All-nil, All-cons}
+use Rattle.std.proofs.lemmas.List.Elements.{All-nil}
 use Rattle.gj_lemmas.proofs.Integers.{add_comm_z}
+use Rattle.gj_lemmas.proofs.Lists.{All-two, All-three}
 use Rattle.gj_lemmas.proofs.Quotients.{same_remainder, from_same_remainder, same_at_remainder}
 use Rattle.gj_shape.specs.Additive.{IsTight, IsAdditive, IsInFace}
 use Rattle.gj_shape.specs.Cover.{IsOneOf, links_of, triangle_projections}
@@ -18,12 +19,6 @@ use Rattle.gj_theory.proofs.TightFaces.{tight_in_face}
 -- what holds of all elements holds of one that has another property
 pub all_of_any : {A : Type 0} (P Q : A → Type 0) (xs : List A) → All P xs → Any Q xs → (x : A) × P x × Q x
 all_of_any P Q xs all some = (some.1, subst P some.3 (all some.0 some.1 some.2), some.4)
-
-pub all_two : (P : ℕ → Type 0) (x y : ℕ) → P x → P y → All P (x ∷ y ∷ [])
-all_two P x y first second = All-cons P x (y ∷ []) first (All-cons P y [] second (All-nil P))
-
-pub all_three : (P : ℕ → Type 0) (x y z : ℕ) → P x → P y → P z → All P (x ∷ y ∷ z ∷ [])
-all_three P x y z first second third = All-cons P x (y ∷ z ∷ []) first (all_two P y z second third)
 
 -- ---- intervals modulo the order
 
@@ -85,8 +80,8 @@ from_either : (p : ℕ → ℤ) (q m x y i : ℕ) (t : ℤ) → ((k : ℕ) → p
     IsOneOf q (x ∷ y ∷ []) i → HasStepOn p m i t → All (λ z. HasStepOn p m z t) (x ∷ y ∷ [])
 from_either p q m x y i t period to back one step =
     let Both : Type 0 = All (λ z. HasStepOn p m z t) (x ∷ y ∷ []) in
-    let each = all_two (λ z. HasStepOn p m z t → Both) x y
-    (λ s. all_two (λ z. HasStepOn p m z t) x y s (to s)) (λ s. all_two (λ z. HasStepOn p m z t) x y (back s) s) in
+    let each = All-two (λ z. HasStepOn p m z t → Both) x y
+    (λ s. All-two (λ z. HasStepOn p m z t) x y s (to s)) (λ s. All-two (λ z. HasStepOn p m z t) x y (back s) s) in
     let found = all_of_any (λ z. HasStepOn p m z t → Both) (λ z. z % q ≡ i % q) (x ∷ y ∷ []) each one in
     found.1 (step_modulo p q m i found.0 t period (sym found.2) step)
 
@@ -138,7 +133,7 @@ step_on_projections f m p Lower a b continuous some h face =
     let steps = step_on_lower p (a * m) (b * m) m additive in
     let sum : a * m + b * m ≡ (a + b) * m = omega arith in (
       steps.0,
-      all_three (λ z. HasStepOn p m z steps.0) a b (a + b) steps.1 steps.2
+      All-three (λ z. HasStepOn p m z steps.0) a b (a + b) steps.1 steps.2
           (subst (λ (x : ℕ). HasStep p x m steps.0) sum steps.3),
     )
 step_on_projections f m p Upper a b continuous some h face =
@@ -148,7 +143,7 @@ step_on_projections f m p Upper a b continuous some h face =
     let steps = step_on_upper p (a * m) (b * m) m additive in
     let sum : a * m + b * m + m ≡ (a + b + 1) * m = omega arith in (
       steps.0,
-      all_three (λ z. HasStepOn p m z steps.0) a b (a + b + 1) steps.1 steps.2
+      All-three (λ z. HasStepOn p m z steps.0) a b (a + b + 1) steps.1 steps.2
           (subst (λ (x : ℕ). HasStep p x m steps.0) sum steps.3),
     )
 step_on_projections f m p Vertex a b continuous some h face = (pos 0, All-nil (λ z. HasStepOn p m z (pos 0)))

@@ -6,6 +6,7 @@ use Rattle.std.proofs.lemmas.Bool.{cases_order, cases_lt}
 use Rattle.std.proofs.lemmas.Int.{ints, by_lt_z}
 use Rattle.std.proofs.lemmas.List.Elements.{All-nil, All-cons, All-head, All-tail, All-map, All-contains}
 use Rattle.gj_lemmas.proofs.Integers.{mul_nonnegative_z, mul_le_mul_left_z, mul_le_mul_right_z, mul_le_cancel_right_z, mul_comm_z}
+use Rattle.gj_lemmas.proofs.Lists.{All-one, All-two, All-three}
 use Rattle.gj_lemmas.proofs.Quotients.{same_at_remainder}
 use Rattle.gj_lemmas.proofs.Ring.{by_ring, ring}
 use Rattle.gj_shape.specs.FunctionData.{FunctionData, IsWithinBounds, IsContinuous, at}
@@ -113,15 +114,6 @@ among m u xs ys inside' h = record {
       λ k d below. All-contains (λ x. pos 0 <ℤ x → pos u ≤ℤ x) xs (get_or ys k d) beside (inside' k d below);
 }
 
-one_of : (P : ℤ → Type 0) (x : ℤ) → P x → All P (x ∷ [])
-one_of P x p = All-cons P x [] p (All-nil P)
-
-two_of : (P : ℤ → Type 0) (x y : ℤ) → P x → P y → All P (x ∷ y ∷ [])
-two_of P x y p q = All-cons P x (y ∷ []) p (one_of P y q)
-
-three_of : (P : ℤ → Type 0) (x y z : ℤ) → P x → P y → P z → All P (x ∷ y ∷ z ∷ [])
-three_of P x y z p q r = All-cons P x (y ∷ z ∷ []) p (two_of P y z q r)
-
 in_first : (x y z : ℤ) → Contains (x ∷ y ∷ z ∷ []) x
 in_first x y z = (0, omega arith, refl)
 
@@ -132,26 +124,26 @@ in_third : (x y z : ℤ) → Contains (x ∷ y ∷ z ∷ []) z
 in_third x y z = (2, omega arith, refl)
 
 first_of : (m u : ℕ) (x y z : ℤ) → IsBelowCorners m u (x ∷ y ∷ z ∷ []) → IsBelowCorners m u (x ∷ [])
-first_of m u x y z = among m u _ _ (one_of (Contains (x ∷ y ∷ z ∷ [])) x (in_first x y z))
+first_of m u x y z = among m u _ _ (All-one (Contains (x ∷ y ∷ z ∷ [])) x (in_first x y z))
 
 first_two : (m u : ℕ) (x y z : ℤ) → IsBelowCorners m u (x ∷ y ∷ z ∷ []) → IsBelowCorners m u (x ∷ y ∷ [])
-first_two m u x y z = among m u _ _ (two_of (Contains (x ∷ y ∷ z ∷ [])) x y (in_first x y z) (in_second x y z))
+first_two m u x y z = among m u _ _ (All-two (Contains (x ∷ y ∷ z ∷ [])) x y (in_first x y z) (in_second x y z))
 
 outer_two : (m u : ℕ) (x y z : ℤ) → IsBelowCorners m u (x ∷ y ∷ z ∷ []) → IsBelowCorners m u (x ∷ z ∷ [])
-outer_two m u x y z = among m u _ _ (two_of (Contains (x ∷ y ∷ z ∷ [])) x z (in_first x y z) (in_third x y z))
+outer_two m u x y z = among m u _ _ (All-two (Contains (x ∷ y ∷ z ∷ [])) x z (in_first x y z) (in_third x y z))
 
 last_two : (m u : ℕ) (x y z : ℤ) → IsBelowCorners m u (x ∷ y ∷ z ∷ []) → IsBelowCorners m u (y ∷ z ∷ [])
-last_two m u x y z = among m u _ _ (two_of (Contains (x ∷ y ∷ z ∷ [])) y z (in_second x y z) (in_third x y z))
+last_two m u x y z = among m u _ _ (All-two (Contains (x ∷ y ∷ z ∷ [])) y z (in_second x y z) (in_third x y z))
 
 mirrored : (m u : ℕ) (x y z : ℤ) → IsBelowCorners m u (x ∷ y ∷ z ∷ []) → IsBelowCorners m u (x ∷ z ∷ y ∷ [])
 mirrored m u x y z =
-    among m u _ _ (three_of (Contains (x ∷ y ∷ z ∷ [])) x z y (in_first x y z) (in_third x y z) (in_second x y z))
+    among m u _ _ (All-three (Contains (x ∷ y ∷ z ∷ [])) x z y (in_first x y z) (in_third x y z) (in_second x y z))
 
 -- what holds of each two corners holds of three
 from_pairs : (m u : ℕ) (x y z : ℤ) → IsBelowCorners m u (x ∷ y ∷ []) → IsBelowCorners m u (x ∷ z ∷ []) → IsBelowCorners m u (y ∷ z ∷ []) →
     IsBelowCorners m u (x ∷ y ∷ z ∷ [])
 from_pairs m u x y z xy xz yz = record {
-  each = three_of (λ v. pos 0 <ℤ v → pos u ≤ℤ (pos m *ℤ v)) x y z (xy.each 0 x (omega arith)) (xy.each 1 x (omega arith))
+  each = All-three (λ v. pos 0 <ℤ v → pos u ≤ℤ (pos m *ℤ v)) x y z (xy.each 0 x (omega arith)) (xy.each 1 x (omega arith))
       (xz.each 1 x (omega arith));
   beside_zero = beside;
 }
@@ -164,13 +156,13 @@ from_pairs m u x y z xy xz yz = record {
 
     beside : Contains (x ∷ y ∷ z ∷ []) (pos 0) → All (λ v. pos 0 <ℤ v → pos u ≤ℤ v) (x ∷ y ∷ z ∷ [])
     beside (zero, below, e) =
-        three_of (λ v. pos 0 <ℤ v → pos u ≤ℤ v) x y z (none x e) (xy.beside_zero (0, omega arith, e) 1 x (omega arith))
+        All-three (λ v. pos 0 <ℤ v → pos u ≤ℤ v) x y z (none x e) (xy.beside_zero (0, omega arith, e) 1 x (omega arith))
         (xz.beside_zero (0, omega arith, e) 1 x (omega arith))
     beside (suc zero, below, e) =
-        three_of (λ v. pos 0 <ℤ v → pos u ≤ℤ v) x y z (xy.beside_zero (1, omega arith, e) 0 x (omega arith)) (none y e)
+        All-three (λ v. pos 0 <ℤ v → pos u ≤ℤ v) x y z (xy.beside_zero (1, omega arith, e) 0 x (omega arith)) (none y e)
         (yz.beside_zero (0, omega arith, e) 1 x (omega arith))
     beside (suc (suc zero), below, e) =
-        three_of (λ v. pos 0 <ℤ v → pos u ≤ℤ v) x y z (xz.beside_zero (1, omega arith, e) 0 x (omega arith))
+        All-three (λ v. pos 0 <ℤ v → pos u ≤ℤ v) x y z (xz.beside_zero (1, omega arith, e) 0 x (omega arith))
         (yz.beside_zero (1, omega arith, e) 0 x (omega arith)) (none z e)
     beside (suc (suc (suc k)), below, e) = absurd (omega arith)
 

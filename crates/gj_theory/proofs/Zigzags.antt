@@ -6,7 +6,7 @@ use Rattle.std.proofs.lemmas.Bool.{eqb-true, eq-eqb, cases_lt}
 use Rattle.std.proofs.lemmas.Int.{ints}
 use Rattle.std.proofs.lemmas.List.Folds.{Any-from_list_any, list_any-from_Any}
 use Rattle.gj_lemmas.proofs.Quotients.{parts_of_place}
-use Rattle.gj_lemmas.proofs.Choices.{never_true}
+use Rattle.gj_lemmas.proofs.Choices.{never_true, same_tests}
 use Rattle.gj_shape.specs.Additive.{IsTight, IsAdditive, IsInFace}
 use Rattle.gj_shape.specs.Cover.{IsOneOf, AreJoined, IsDirectlyCovered, IsCovered}
 use Rattle.gj_shape.specs.Cover.LeadsTo.{here}
@@ -189,11 +189,6 @@ contains_chosen q class i e = of_any (Any-from_list_any (λ a. a == i % q) class
 chosen_contained : (q : ℕ) (class : List ℕ) (i : ℕ) → Contains class (i % q) → chosen_by q class i ≡ true
 chosen_contained q class i (k, below, there) =
     list_any-from_Any (λ a. a == i % q) class (k, i % q, below, there, eq-eqb (i % q) (i % q) refl)
-
-pub same_tests : (b c : Bool) → (b ≡ true → c ≡ true) → (c ≡ true → b ≡ true) → b ≡ c
-same_tests true c f g = sym (f refl)
-same_tests false true f g = g refl
-same_tests false false f g = refl
 
 apart_from_cover : (q : ℕ) (Tight : ℕ → ℕ → Type 0) (class : List ℕ) → 0 < q → AreUncoveredClasses q Tight class →
     IsApartFromCover q Tight (chosen_by q class)

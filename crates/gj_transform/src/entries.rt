@@ -48,8 +48,8 @@ pub(crate) fn quotients(
     ensures { IfOk result (λ v. HasEntries (λ i. int_div (at entries.now i) (pos divisor)) (length entries.now) v.items) }
 {
     let mut items = Vec::with_capacity(alloc, entries.len())?;
-    for i in 0..entries.len() {
-        items.push(entries[i] / i64::from(divisor))?;
+    for n in entries {
+        items.push(*n / i64::from(divisor))?;
     }
     Ok(items)
 }

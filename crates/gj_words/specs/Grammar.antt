@@ -1,5 +1,6 @@
 -- The words of a command line, and the request that they spell. Source: own.
 use Rattle.std.specs.Prelude.{◌≡◌, ◌≤◌, ◌<◌, ℕ, Bool, true, false, List, [], ◌∷◌, ◌++◌, codes, decimal}
+use Rattle.gj_shape.specs.Limits.{greatest_order}
 use Rattle.gj_words.specs.declared.requests.Command.{Command}
 use Rattle.gj_words.specs.declared.requests.Command.TheVariants.{Minimal, Extreme, Cut, Check, Show, Faces, Demo, Mixed, Fill, Group, Times, Mirror, Restrict}
 use Rattle.gj_words.specs.declared.requests.Request.{Request}
@@ -25,7 +26,7 @@ command_words (Restrict d) = codes "restrict" ∷ decimal d ∷ []
 abbrev pub IsInBounds : Command → Type 0
 IsInBounds (Demo n) = (1 ≤ n) × (n ≤ 249)
 IsInBounds (Times n j) = (1 ≤ n) × (n ≤ 500) × (j < n)
-IsInBounds (Restrict d) = (2 ≤ d) × (d ≤ 1000)
+IsInBounds (Restrict d) = (2 ≤ d) × (d ≤ greatest_order)
 IsInBounds _ = Unit {0}
 
 -- the commands with which the flag may stand

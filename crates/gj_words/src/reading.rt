@@ -12,6 +12,7 @@ ghost use Rattle.gj_words.specs.declared.requests.Request.{Request};
 use crate::line::{Line, Operands, parse};
 use crate::number::number_of;
 use crate::requests::{Command, Request, WordFault};
+use gj_shape::GREATEST_ORDER;
 use std::alloc::Global;
 
 /// The word of the flag.
@@ -20,11 +21,8 @@ const FLAG: &str = "--json";
 /// The greatest number of `demo`.
 const GREATEST_DEMO: u32 = 249;
 
-/// The greatest number of `restrict`: the greatest order of a function.
-const GREATEST_ORDER: u32 = 1000;
-
 /// The greatest first number of `times`: a function of order 2 has then the greatest order.
-const GREATEST_FACTOR: u32 = 500;
+const GREATEST_FACTOR: u32 = GREATEST_ORDER / 2;
 
 /// The request that the words spell.
 ///

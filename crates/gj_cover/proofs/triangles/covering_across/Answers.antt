@@ -1,4 +1,5 @@
-use Rattle.std.proofs.Common.{◌≡◌, ◌+◌, ◌%◌, ◌<◌, ◌&&◌, ◌||◌, Bool, true, false, not, eqb, refl, ap, ap₂, sym, ◌∙◌, inl, inr, arith}
+use Rattle.std.proofs.Common.{◌≡◌, ◌+◌, ◌%◌, ◌<◌, ◌&&◌, ◌||◌, Bool, not, eqb, refl, ap, ap₂, sym, ◌∙◌, inl, inr, arith}
+use Rattle.std.proofs.Math.Bool.{and-true}
 use Rattle.std.proofs.Math.Nat.{mod-mod, mod-lt, mod-eq_of_lt}
 use Rattle.std.proofs.lemmas.Bool.{and_parts, or_cases, ne_eqb}
 use Rattle.gj_faces.proofs.Periods.{same_sum}
@@ -24,10 +25,6 @@ returns-clause-within c j e =
           let edge = and_parts (has c.firsts-sum.result.now j) (has c.turned_back-later.result j) (sym (c.and-2.ensures j) ∙ both.0) in
           in_below q q j (has c.firsts-next_sum.result.now ((j + 1) % q)) (has c.turned_back-later.result j) is (c.turned_back-later.ensures j) edge.1
     ]
-
-kept : (x : Bool) → (x && not false) ≡ x
-kept true = refl
-kept false = refl
 
 pub returns-clause-covering : goal.returns-clause-covering
 returns-clause-covering c a below other =
@@ -62,7 +59,7 @@ returns-clause-covering c a below other =
     let shorter = back_in q q a (has c.firsts-sum.result.now) (has c.turned_back-shorter.result a) is below (c.turned_back-shorter.ensures a)
     ∙ c.firsts-sum.ensures up short next short_place.0 (short_place.1 ∙ sym i_is) ∙ same_tight t up short (a + 1) short (mod-mod (a + 1) q) refl in
     in_another t a b short i (has c.remove.new.self a) below place.0 short_place.0 place.1 short_leads c.requires other
-    (c.remove.ensures a ∙ ap (λ x. has c.or-places.result a && not x) (ne_eqb a i other) ∙ kept (has c.or-places.result a)
+    (c.remove.ensures a ∙ ap (λ x. has c.or-places.result a && not x) (ne_eqb a i other) ∙ and-true (has c.or-places.result a)
     ∙ c.or-places.ensures a ∙ ap₂ (λ (x y : Bool). x || y)
     (c.and-second.ensures a ∙ ap₂ (λ (x y : Bool). x && y)
     (c.and.ensures a ∙ ap₂ (λ (x y : Bool). x && y) east (c.column-north.ensures a below))

@@ -23,7 +23,7 @@ returns-in_err-claim-clause-wide c = λ e.
 
 pub returns-clause-not_wide : goal.returns-clause-not_wide
 returns-clause-not_wide c = λ minimal wide.
-    decided_not_wide c.args.shape.now c.in_ok-claim.claim c.order-order.ensures.limits minimal c.in_ok-claim.ensures.text
+    decided_not_wide c.args.shape.now c.in_ok-claim.claim c.claim_of.ensures.limits minimal c.in_ok-claim.ensures.text
     c.in_ok-claim.ensures.decided wide
 
 pub returns-clause-rules : goal.returns-clause-rules
@@ -32,26 +32,26 @@ returns-clause-rules c = subst MeetsRules (sym c.of.ensures.claim) c.in_ok-claim
 pub returns-clause-holds : goal.returns-clause-holds
 returns-clause-holds c =
     subst ClaimHolds (sym c.of.ensures.claim)
-    (decided_holds c.args.shape.now c.in_ok-claim.claim c.order-order.ensures.limits c.in_ok-claim.ensures.decided)
+    (decided_holds c.args.shape.now c.in_ok-claim.claim c.claim_of.ensures.limits c.in_ok-claim.ensures.decided)
 
 pub returns-clause-by_table : goal.returns-clause-by_table
 returns-clause-by_table c =
     subst (IsByTable c.args.shape.now) (sym c.of.ensures.claim)
-    (decided_by_table c.args.shape.now c.in_ok-claim.claim c.order-order.ensures.limits c.in_ok-claim.ensures.decided)
+    (decided_by_table c.args.shape.now c.in_ok-claim.claim c.claim_of.ensures.limits c.in_ok-claim.ensures.decided)
 
 pub returns-in_err-claim-clause-few_components : goal.returns-in_err-claim-clause-few_components
 returns-in_err-claim-clause-few_components c = λ lines component n covered few wide.
-    few_components c.args.shape.now lines component n c.order-order.ensures.limits covered few wide
+    few_components c.args.shape.now lines component n c.claim_of.ensures.limits covered few wide
 
 pub returns-clause-few_components : goal.returns-clause-few_components
 returns-clause-few_components c = λ lines component n covered few wide.
-    few_components c.args.shape.now lines component n c.order-order.ensures.limits covered few wide
+    few_components c.args.shape.now lines component n c.claim_of.ensures.limits covered few wide
 
 pub returns-in_err-claim-clause-order_4q : goal.returns-in_err-claim-clause-order_4q
-returns-in_err-claim-clause-order_4q c = λ continuous. four_times_decides c.args.shape.now c.order-order.ensures.limits continuous
+returns-in_err-claim-clause-order_4q c = λ continuous. four_times_decides c.args.shape.now c.claim_of.ensures.limits continuous
 
 pub returns-clause-order_4q : goal.returns-clause-order_4q
-returns-clause-order_4q c = λ continuous. four_times_decides c.args.shape.now c.order-order.ensures.limits continuous
+returns-clause-order_4q c = λ continuous. four_times_decides c.args.shape.now c.claim_of.ensures.limits continuous
 
 pub returns-in_err-claim-clause-two_slopes : goal.returns-in_err-claim-clause-two_slopes
 returns-in_err-claim-clause-two_slopes c = λ minimal two.
@@ -60,10 +60,10 @@ returns-in_err-claim-clause-two_slopes c = λ minimal two.
     only_memory c.from_residual.result (IsExtremeClaim c.args.shape.now) is
     (λ i e. continuous_no_jump c.args.shape.now i two.continuous
     (c.in_err-claim.ensures.not_continuous i (same_error c.from_residual.result c.in_err-claim.field-0.0 _ is same e)).1.jump)
-    (λ e. two_slopes_not_wide c.args.shape.now c.order-order.ensures.limits minimal two
+    (λ e. two_slopes_not_wide c.args.shape.now c.claim_of.ensures.limits minimal two
     (c.in_err-claim.ensures.wide (same_error c.from_residual.result c.in_err-claim.field-0.0 _ is same e)).2)
 
 pub returns-clause-two_slopes : goal.returns-clause-two_slopes
 returns-clause-two_slopes c = λ minimal two.
     subst (IsExtremeClaim c.args.shape.now) (sym c.of.ensures.claim)
-    (two_slopes_decided c.args.shape.now c.in_ok-claim.claim c.order-order.ensures.limits minimal two c.in_ok-claim.ensures.decided)
+    (two_slopes_decided c.args.shape.now c.in_ok-claim.claim c.claim_of.ensures.limits minimal two c.in_ok-claim.ensures.decided)

@@ -7,6 +7,6 @@ use Rattle.gj_extreme.proofs.inserted_rows.has_row_of_pair_before.Goals as goal
 pub returns : goal.returns
 returns c = λ e n place.
     let comp = component_in c.args.component.now in
-    let same = eqb-true (comp (c.args.b - 1)) (comp c.sum_below.result) e in
-    same_row_as_before comp n (length c.args.component.now) place c.args.a c.args.b c.sum_below.result c.requires.positive
-    c.requires.first c.requires.second c.if-a-b.false c.sum_below.ensures same
+    let same = eqb-true (comp (c.args.b - 1)) (comp c.wrapped.result) e in
+    same_row_as_before comp n (length c.args.component.now) place c.args.a c.args.b c.wrapped.result c.requires.positive
+    c.requires.first c.requires.second c.if-a-b.false c.wrapped.ensures.value same

@@ -8,9 +8,9 @@ use Rattle.gj_shape.proofs.AtLemmas.{at_below}
 use Rattle.gj_shape.proofs.GivenFractions.{are_over_push}
 use Rattle.gj_family.proofs.numerators.fractions.Goals as goal
 
-pub loop-i-preserved : goal.loop-i-preserved
-loop-i-preserved c =
-    let i = c.loop-i.i in
+pub loop-numerator-preserved : goal.loop-numerator-preserved
+loop-numerator-preserved c =
+    let i = c.loop-numerator.numerator-index in
     let ns = c.args.numerators.now in
     let d = c.args.denominator in
     let inside : i < length ns = omega arith in
@@ -18,7 +18,7 @@ loop-i-preserved c =
     let is : IsRatio c.ratio.result (at ns i) (pos d) = subst (λ n. IsRatio c.ratio.result n (pos d)) read c.ratio.ensures in
     let pushed = c.in_ok-push.ensures.items in
     record {
-      count = ap length pushed ∙ length_push _ _ ∙ ap (λ n. n + 1) c.loop-i.invariant.count;
+      count = ap length pushed ∙ length_push _ _ ∙ ap (λ n. n + 1) c.loop-numerator.invariant.count;
       fractions = subst (AreOver _ _) (sym pushed)
-          (are_over_push (at ns) d _ c.ratio.result i c.loop-i.invariant.count c.loop-i.invariant.fractions is);
+          (are_over_push (at ns) d _ c.ratio.result i c.loop-numerator.invariant.count c.loop-numerator.invariant.fractions is);
     }

@@ -3,8 +3,8 @@ use Rattle.gj_shape.specs.FunctionData.{at}
 use Rattle.gj_shape.specs.Given.{AreOver}
 use Rattle.gj_family.proofs.numerators.fractions.Given as goal
 
-abbrev pub invariant-loop-i : goal.invariant-loop-i
-invariant-loop-i l = record {
-  count : length l.items.items ≡ l.i;
+abbrev pub invariant-loop-numerator : goal.invariant-loop-numerator
+invariant-loop-numerator l = record {
+  count : length l.items.items ≡ l.numerator-index;
   fractions : AreOver (at l.numerators) l.denominator l.items.items;
 }

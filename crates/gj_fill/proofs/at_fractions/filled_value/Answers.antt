@@ -19,9 +19,9 @@ returns-then-lines c =
     let rising : to_z w128 (of_z w128 lines.rising) ≡ lines.rising = omega (arith, ints) in
     let falling : to_z w128 (of_z w128 lines.falling) ≡ lines.falling = omega (arith, ints) in
     let order : lines.rising ≤ℤ lines.falling = omega (arith, ints, c.if-lines.true) in
-    value_by_lines f c.value_numerators-values.result.now c.args.x c.over_width.result c.order.result p c.greatest_steps-steps.result.rise
-    c.greatest_steps-steps.result.fall lines.rising lines.falling _ _ _ c.value_numerators-values.ensures.limits
-    c.value_numerators-values.ensures.value c.order.ensures.value scale parts c.greatest_steps-steps.ensures.greatest c.place_of-place.ensures
+    value_by_lines f c.args.x c.over_width.result c.order.result p c.greatest_steps-steps.result.rise
+    c.greatest_steps-steps.result.fall lines.rising lines.falling _ _ _ c.order.ensures.limits
+    c.order.ensures.value scale parts c.greatest_steps-steps.ensures c.place_of-place.ensures
     c.lines_at-lines.ensures.rising c.lines_at-lines.ensures.falling (rising ∙ sym (min_first lines.rising lines.falling order)) c.over_width.ensures
 
 pub returns : goal.returns
@@ -37,7 +37,7 @@ returns c =
     let rising : to_z w128 (of_z w128 lines.rising) ≡ lines.rising = omega (arith, ints) in
     let falling : to_z w128 (of_z w128 lines.falling) ≡ lines.falling = omega (arith, ints) in
     let order : lines.falling ≤ℤ lines.rising = omega (arith, ints, c.if-lines.false) in
-    value_by_lines f c.value_numerators-values.result.now c.args.x c.over_width-2.result c.order.result p c.greatest_steps-steps.result.rise
-    c.greatest_steps-steps.result.fall lines.rising lines.falling _ _ _ c.value_numerators-values.ensures.limits
-    c.value_numerators-values.ensures.value c.order.ensures.value scale parts c.greatest_steps-steps.ensures.greatest c.place_of-place.ensures
+    value_by_lines f c.args.x c.over_width-2.result c.order.result p c.greatest_steps-steps.result.rise
+    c.greatest_steps-steps.result.fall lines.rising lines.falling _ _ _ c.order.ensures.limits
+    c.order.ensures.value scale parts c.greatest_steps-steps.ensures c.place_of-place.ensures
     c.lines_at-lines.ensures.rising c.lines_at-lines.ensures.falling (falling ∙ sym (min_second lines.rising lines.falling order)) c.over_width-2.ensures

@@ -12,16 +12,14 @@ returns c =
     let a = c.args.a in
     let s = c.args.steps.rise in
     let t = c.args.steps.fall in
-    let s_is : to_z w64 (of_z w64 s) ≡ s = itself s c.requires.rise_small in
-    let width_is = sum_is s t c.requires.rise_small c.requires.fall_small in
-    let part_is = sum_is c.rise_of.result t c.rise_of.ensures.small c.requires.fall_small ∙ ap (λ z. z +ℤ t) c.rise_of.ensures.value in
-    let value = itself c.value_at-value.result (omega (arith, c.value_at-value.ensures.small)) in
-    let value_is : c.value_at-value.result ≡ at f.value a =
-    c.value_at-value.ensures.value ∙ ap (λ xs. at xs a) c.value_numerators.ensures.value in
+    let s_is : to_z w64 (of_z w64 s) ≡ s = itself s c.args.steps.rise_small in
+    let width_is = sum_is s t c.args.steps.rise_small c.args.steps.fall_small in
+    let part_is = sum_is c.rise_at.result t c.rise_at.ensures.small c.args.steps.fall_small ∙ ap (λ z. z +ℤ t) c.rise_at.ensures.value in
+    let value = itself c.value_numerator-value.result (let small = c.value_numerator-value.ensures.small in omega arith) in
     let scale_is : unsigned_abs (to_z w128 (of_z w128 c.common_denominator-scale.result)) ≡ f.scale = omega (arith, ints) in
     record {
       x = place_ratio c.place_over-x.result a c.order.result f.order _ (rise f a +ℤ t) _ (s +ℤ t) c.place_over-x.ensures
           c.order.ensures.value part_is width_is;
       value = height_ratio c.height_over.result _ f.scale _ (at f.value a) _ s _ (rise f a +ℤ t) _ (s +ℤ t) c.height_over.ensures
-          scale_is (value ∙ value_is) s_is part_is width_is;
+          scale_is (value ∙ c.value_numerator-value.ensures.value) s_is part_is width_is;
     }

@@ -1,7 +1,8 @@
-use Rattle.std.proofs.Common.{◌≡◌, ◌*◌, pos, neg_ℤ, length, map, List, ℕ, ℤ, unsigned_abs, sym, ap, ap₂, subst, subst₂, refl, ◌∙◌, arith, rules}
+use Rattle.std.proofs.Common.{◌≡◌, ◌*◌, pos, neg_ℤ, length, map, List, ℕ, ℤ, sym, ap, ap₂, subst, subst₂, refl, ◌∙◌, arith, rules}
 use Rattle.std.specs.List.{range_with_len}
-use Rattle.std.proofs.lemmas.Int.{ints, to_z-of_z, to_z_pos, fits_signed_from_abs}
+use Rattle.std.proofs.lemmas.Int.{to_z-of_z, to_z_pos, fits_signed_from_abs}
 use Rattle.std.proofs.lemmas.List.FromFn.{length-map-range_with_len}
+use Rattle.gj_lemmas.proofs.Integers.{abs_neg_z}
 use Rattle.gj_shape.specs.FunctionData.{at}
 use Rattle.gj_shape.specs.Perturbation.{IsGreatestSize}
 use Rattle.gj_shape.specs.Table.{table as table_of}
@@ -11,9 +12,6 @@ use Rattle.gj_perturb.proofs.MovedEntries.{wide}
 use Rattle.gj_perturb.proofs.SplitParts.{AreMade, step_read, parts_of, size_fits, factor_read, turned_read, count_is, small_move, are_halves, are_different, fit_proof_text, not_wide}
 use Rattle.gj_perturb.proofs.halves.split.Goals as goal
 use mir.Syntax.{w128}
-
-same_size : (x : ℤ) → unsigned_abs (neg_ℤ x) ≡ unsigned_abs x
-same_size x = omega (arith, ints)
 
 -- the list has the entries of one period
 table_length : (t : ℕ → ℤ) (xs : List ℤ) (n : ℕ) → xs ≡ map t (range_with_len 0 n) → length xs ≡ n
@@ -107,7 +105,7 @@ moved-requires-2-clause-small c =
     ap wide c.from-step.ensures ∙ step_read c.in_ok-least.least (search rules) in
     let turned_is = turned_read (wide c.from-step.result) u step_is (search rules) in
     λ i below. subst₂ (λ a b. IsSmallMove xs a values b i) (sym factor_is) (sym turned_is)
-    (small_move f p size x values xs parts (neg_ℤ x) (same_size x) i below)
+    (small_move f p size x values xs parts (neg_ℤ x) (abs_neg_z x) i below)
 
 pub returns : goal.returns
 returns c =

@@ -2,7 +2,7 @@ use Rattle.std.proofs.Common.{◌++◌, sym, ap, subst, ◌∙◌}
 use Rattle.std.specs.Str.{IsUtf8}
 use Rattle.gj_lex.specs.NumberText.{fraction_text}
 use Rattle.gj_json.proofs.Shown.{fraction_is_utf8}
-use Rattle.gj_json.proofs.show.fraction_string.Goals as goal
+use Rattle.gj_json.proofs.show.fraction_value.Goals as goal
 
 pub unwrap-requires : goal.unwrap-requires
 unwrap-requires c =

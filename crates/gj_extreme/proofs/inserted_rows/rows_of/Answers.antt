@@ -5,12 +5,12 @@ use Rattle.gj_elim.proofs.Keeping.{same_error}
 use Rattle.gj_extreme.specs.RowsToCome.{AreToCome, row_names_from}
 use Rattle.gj_extreme.proofs.RowOrder.{no_rows}
 use Rattle.gj_extreme.proofs.TakenRows.{rows_are_ready, full_takes_all, all_inserted}
-use Rattle.gj_extreme.proofs.inserted_rows.insert_rows.Goals as goal
+use Rattle.gj_extreme.proofs.inserted_rows.rows_of.Goals as goal
 
 pub insert-requires-clause-ready : goal.insert-requires-clause-ready
 insert-requires-clause-ready c =
     rows_are_ready c.args.shape.now (component_in c.args.system.now.component) c.args.system.now.columns c.in_ok-rows.rows _
-    c.requires.limits (c.in_ok-rows.ensures c.args.shape.now (sym c.requires.components))
+    c.order-order.ensures.limits (c.in_ok-rows.ensures c.args.shape.now (sym c.requires.components))
 
 pub returns-in_err-insert-clause-wide : goal.returns-in_err-insert-clause-wide
 returns-in_err-insert-clause-wide c = λ e.
@@ -22,7 +22,7 @@ returns-in_err-insert-clause-wide c = λ e.
 pub insert-requires-2-clause-ready : goal.insert-requires-2-clause-ready
 insert-requires-2-clause-ready c =
     rows_are_ready c.args.shape.now (component_in c.args.system.now.component) c.args.system.now.columns c.insert.new.self
-    (F ∷ row_names_from c.args.shape.now 1) c.requires.limits
+    (F ∷ row_names_from c.args.shape.now 1) c.order-order.ensures.limits
     (c.in_ok-insert.ensures.to_come (F ∷ row_names_from c.args.shape.now 1) (c.in_ok-rows.ensures c.args.shape.now (sym c.requires.components))).0
 
 pub returns-in_err-insert-2-clause-wide : goal.returns-in_err-insert-2-clause-wide
@@ -44,7 +44,7 @@ returns-then-is_full-clause-rows c =
     let comp = component_in c.args.system.now.component in
     let n = c.args.system.now.columns in
     let full = c.is_full.ensures.0 c.if-is_full.true in
-    all_inserted f comp n c.loop-a.rows c.requires.limits
+    all_inserted f comp n c.loop-a.rows c.order-order.ensures.limits
     (full_takes_all f comp n c.loop-a.rows _ (omega (arith, c.loop-a.invariant.width)) c.loop-a.invariant)
 
 pub returns-clause-rows : goal.returns-clause-rows
@@ -52,5 +52,5 @@ returns-clause-rows c =
     let f = c.args.shape.now in
     let comp = component_in c.args.system.now.component in
     let n = c.args.system.now.columns in
-    all_inserted f comp n c.loop-a.rows c.requires.limits
-    (subst (AreToCome f comp n c.loop-a.rows) (no_rows f c.loop-a.a (omega (arith, c.requires.order))) c.loop-a.invariant)
+    all_inserted f comp n c.loop-a.rows c.order-order.ensures.limits
+    (subst (AreToCome f comp n c.loop-a.rows) (no_rows f c.loop-a.a (omega (arith, c.order-order.ensures.value))) c.loop-a.invariant)

@@ -2,7 +2,7 @@ use Rattle.std.proofs.Common.{◌≡◌, ◌+◌, ◌-◌, length, sym, ap, ◌�
 use Rattle.gj_shape.specs.FunctionData.{at}
 use Rattle.gj_fill.proofs.FillPairs.{itself}
 use Rattle.gj_shape.proofs.AtLemmas.{at_plus_length}
-use Rattle.gj_fill.proofs.values.value_above.Goals as goal
+use Rattle.gj_fill.proofs.pairs.value_above.Goals as goal
 
 pub returns-clause-value : goal.returns-clause-value
 returns-clause-value c =

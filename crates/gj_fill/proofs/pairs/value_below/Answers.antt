@@ -1,6 +1,6 @@
 use Rattle.std.proofs.Common.{◌≡◌, pos, get_or, to_z, of_z, sym, ◌∙◌, rules}
 use Rattle.gj_shape.proofs.AtLemmas.{at_below}
-use Rattle.gj_fill.proofs.values.value_below.Goals as goal
+use Rattle.gj_fill.proofs.pairs.value_below.Goals as goal
 use mir.Syntax.{w64}
 
 pub returns-clause-value : goal.returns-clause-value
