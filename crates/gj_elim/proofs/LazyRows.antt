@@ -1,5 +1,5 @@
 -- Rows that are read, written and combined entry by entry, and their extents.
-use Rattle.std.proofs.Common.{◌≡◌, ◌≢◌, ℕ, ◌*◌, ◌<◌, ◌≤◌, ◌^◌, ◌⊎◌, inl, inr, ℤ, pos, ◌-ℤ◌, ◌*ℤ◌, ◌+ℤ◌, ◌<ℤ◌, int_div, int_rem, Bool, true, false, FitsSigned, to_z, of_z, List, length, unsigned_abs, mul-le-mul_left, sym, ap, ap₂, subst, subst₂, ◌∙◌, arith}
+use Rattle.std.proofs.Common.{◌≡◌, ◌≢◌, ℕ, ◌*◌, ◌<◌, ◌≤◌, ◌^◌, ◌⊎◌, inl, inr, ℤ, pos, ◌-ℤ◌, ◌*ℤ◌, ◌+ℤ◌, ◌<ℤ◌, int_div, int_rem, Bool, true, false, FitsSigned, to_z, of_z, List, length, unsigned_abs, mul-le-mul_left, refl, sym, ap, ap₂, subst, subst₂, ◌∙◌, arith}
 use Rattle.std.proofs.lemmas.Bool.{cases_lt}
 use Rattle.std.proofs.lemmas.Int.{ints, quot-rem, rem_is, quot_fits, fits_signed_from_abs, to_z-of_z}
 use mir.Syntax.{w64, w128}
@@ -35,6 +35,28 @@ copied_all row source i len all same =
 
 read_small : (z : ℤ) → unsigned_abs z < 2 ^ 63 → to_z w64 (of_z w64 z) ≡ z
 read_small z h = to_z-of_z w64 z (fits_signed_from_abs w64 z h)
+
+-- the kept entry, and its product with the factor
+pub record IsCodeProduct (w e : ℤ) : Type 0 where
+  pub entry : FitsSigned w64 (to_z w128 (of_z w128 e))
+  pub product : FitsSigned w64 (to_z w64 (of_z w64 w) *ℤ to_z w64 (of_z w64 (to_z w128 (of_z w128 e))))
+
+pub code_product : (w e : ℤ) → FitsSigned w64 w → FitsSigned w128 e → unsigned_abs (w *ℤ e) < 2 ^ 62 → unsigned_abs e < 2 ^ 63 →
+    IsCodeProduct w e
+code_product w e w_fits e_fits narrow small =
+    let same = to_z-of_z w128 e e_fits in
+    let e_is : to_z w64 (of_z w64 (to_z w128 (of_z w128 e))) ≡ e = ap (λ z. to_z w64 (of_z w64 z)) same ∙ read_small e small in
+    let product = ap₂ (λ a b. a *ℤ b) (to_z-of_z w64 w w_fits) e_is in record {
+      entry = subst (FitsSigned w64) (sym same) (fits_signed_from_abs w64 e small);
+      product = subst (FitsSigned w64) (sym product) (fits_signed_from_abs w64 (w *ℤ e) (omega arith));
+    }
+
+-- the product of a factor and an entry
+pub code_factor : (u x : ℤ) → FitsSigned w64 u → FitsSigned w64 x → unsigned_abs (u *ℤ x) < 2 ^ 62 →
+    FitsSigned w64 (to_z w64 (of_z w64 u) *ℤ to_z w64 (of_z w64 x))
+code_factor u x u_fits x_fits narrow =
+    subst (FitsSigned w64) (sym (ap₂ (λ a b. a *ℤ b) (to_z-of_z w64 u u_fits) (to_z-of_z w64 x x_fits)))
+    (fits_signed_from_abs w64 (u *ℤ x) (omega arith))
 
 pub record IsCodeDifference (u x w e code : ℤ) : Type 0 where
   pub fits : FitsSigned w64 code
@@ -87,6 +109,25 @@ code_subtraction x w e x_fits w_fits e_fits first second small =
 pub read_factor : (u w w' : ℤ) (old kept row : List ℤ) (i : ℕ) → w' ≡ w → AreCombined u w old kept row i → AreCombined u w' old kept row i
 read_factor u w w' old kept row i e h = subst (λ (v : ℤ). AreCombined u v old kept row i) (sym e) h
 
+zeros : (u w : ℤ) → pos 0 ≡ u *ℤ pos 0 -ℤ w *ℤ pos 0
+zeros u w = omega (arith, ints)
+
+zero_fits : (u w x e : ℤ) → x ≡ pos 0 → e ≡ pos 0 → FitsCombined u x w e
+zero_fits u w x e x_is e_is =
+    subst (λ (y : ℤ). FitsCombined u y w e) (sym x_is)
+    (subst (λ (y : ℤ). FitsCombined u (pos 0) w y) (sym e_is)
+    record { first = omega (arith, ints); second = omega (arith, ints); difference = omega (arith, ints) })
+
+-- before the first of the columns all is 0, and so combined
+pub combined_from : (u w : ℤ) (old kept : List ℤ) (from to : ℕ) → IsZeroOutside from to old → IsZeroOutside from to kept →
+    AreCombined u w old kept old from
+combined_from u w old kept from to old_zero kept_zero = record {
+  done = λ k below. let x = old_zero.before k below in
+      x ∙ zeros u w ∙ ap₂ (λ a b. u *ℤ a -ℤ w *ℤ b) (sym x) (sym (kept_zero.before k below));
+  fit = λ k below. zero_fits u w (at_column old k) (at_column kept k) (old_zero.before k below) (kept_zero.before k below);
+  later = λ k there. refl;
+}
+
 -- outside of the columns all is 0, and so combined
 pub combined_end : (u w : ℤ) (old kept row : List ℤ) (from to i : ℕ) → AreCombined u w old kept row i → IsZeroOutside from to old →
     IsZeroOutside from to kept → to ≤ i → length kept ≡ length old → length row ≡ length old →
@@ -94,15 +135,6 @@ pub combined_end : (u w : ℤ) (old kept row : List ℤ) (from to i : ℕ) → A
 combined_end u w old kept row from to i h old_zero kept_zero past len same =
     combined_value u w old kept row (length row) all len same (omega arith)
   where
-    zeros : (u w : ℤ) → pos 0 ≡ u *ℤ pos 0 -ℤ w *ℤ pos 0
-    zeros u w = omega (arith, ints)
-
-    zero_fits : (u w x e : ℤ) → x ≡ pos 0 → e ≡ pos 0 → FitsCombined u x w e
-    zero_fits u w x e x_is e_is =
-        subst (λ (y : ℤ). FitsCombined u y w e) (sym x_is)
-        (subst (λ (y : ℤ). FitsCombined u (pos 0) w y) (sym e_is)
-        record { first = omega (arith, ints); second = omega (arith, ints); difference = omega (arith, ints) })
-
     done_at : (k : ℕ) → (k < i) ⊎ (i ≤ k) → at_column row k ≡ u *ℤ at_column old k -ℤ w *ℤ at_column kept k
     done_at k (inl before) = h.done k before
     done_at k (inr there) =

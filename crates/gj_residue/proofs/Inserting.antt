@@ -1,10 +1,11 @@
 -- What a basis of residues keeps behind an insertion.
-use Rattle.std.proofs.Common.{◌≡◌, ◌≢◌, ℕ, ◌<◌, Bool, true, false, if◌then◌else◌, Option, None, Some, ℤ, pos, List, [], ◌∷◌, ◌++◌, length, map, get_or, refl, sym, ap, ap₂, subst, ◌∙◌, arith}
+use Rattle.std.proofs.Common.{◌≡◌, ◌≢◌, ℕ, ◌<◌, Bool, true, false, if◌then◌else◌, Option, None, Some, ℤ, pos, List, [], ◌∷◌, ◌++◌, Vec, Global, length, map, get_or, refl, sym, ap, ap₂, subst, ◌∙◌, arith}
 use Rattle.std.specs.Prelude.{IfSome}
 use Rattle.std.specs.List.{range_with_len, position}
 use Rattle.std.specs.Ordering.{int_eq}
 use Rattle.std.proofs.lemmas.Int.{ints}
-use Rattle.std.proofs.lemmas.List.{length-map, get_or-map, get_or_default}
+use Rattle.std.specs.Vec.{with_items}
+use Rattle.std.proofs.lemmas.List.{length-map, get_or-map, get_or_default, with_items_is}
 use Rattle.gj_shape.specs.Elimination.{KeptRow, Insertion, at_column, scaled, insertion_by, inserted_by, inserted_at_by, with_pivot, row_with_pivot, Passes}
 use Rattle.gj_shape.specs.Residues.{residues, inverse, times_inverse, modulo, SolvesModulo}
 use Rattle.gj_theory.specs.Modulus.{modulus}
@@ -152,3 +153,26 @@ no_marks kept (c ∷ columns) row =
 
 pub nothing_passes : (n : ℕ) (kept : List KeptRow) (row : List ℤ) → Passes (inserted_by (modulo modulus) n kept row).marked → ⊥
 nothing_passes n kept row p = none_passes (subst Passes (no_marks kept (range_with_len 0 n) (residues modulus row)) p)
+
+-- ---- the row that is reduced, in its place
+
+-- what was read of a row stands in its place, and then what is left of it
+pub record IsInPlace (row : Vec ℕ Global) (read left : List ℕ) (n : ℕ) : Type 0 where
+  pub read_is : (with_items row read).items ≡ read
+  pub read_columns : length read ≡ n
+  pub left_is : (with_items (with_items row read) left).items ≡ left
+  pub columns : length (with_items (with_items row read) left).items ≡ n
+
+pub in_place : (row : Vec ℕ Global) (first read second left : List ℕ) (n : ℕ) → row.len ≡ length row.items → length row.items ≡ n →
+    first ≡ row.items → length read ≡ length first → second ≡ (with_items row read).items → length left ≡ length second →
+    IsInPlace row read left n
+in_place row first read second left n len n_is first_is read_len second_is left_len =
+    let wide : length read ≡ length row.items = read_len ∙ ap length first_is in
+    let read_is = with_items_is row read (wide ∙ sym len) in
+    let long : length left ≡ length row.items = left_len ∙ ap length (second_is ∙ read_is) ∙ wide in
+    let left_is = with_items_is (with_items row read) left (long ∙ sym len) in record {
+      read_is = read_is;
+      read_columns = wide ∙ n_is;
+      left_is = left_is;
+      columns = ap length left_is ∙ long ∙ n_is;
+    }

@@ -25,7 +25,7 @@ use Rattle.gj_row.specs.TableauLimits.{AreWithinLimits, IsRowWithinLimits, AreNa
 use Rattle.gj_shape.specs.Limits.{IsSmallNumber}
 use Rattle.gj_row.specs.TableauText.{SpellsEntry, SpellsNext, SpellNumbers, is_zero, entry_at, entries_from, records_of, SpellsRow, SpellsTableau, IsTableauText}
 use Rattle.gj_row.specs.FirstFault.{BreaksName, BreaksNumber, HasNumberFault, row_entries, HasHeaderFault, HasRowFault, HasFirstFault, IsFirstFaultOfTableau, header, columns, name, fields, rows, number, in_header, in_row}
-use Rattle.gj_row.specs.Reading.{IsMemoryFault, NamesRecord}
+use Rattle.gj_row.specs.Reading.{IsMemoryFault, NamesRecord, tableau_of}
 use Rattle.gj_row.specs.declared.faults.RowFault.{RowFault}
 use Rattle.gj_row.specs.declared.faults.RowFault.TheVariants.{Refused, Memory}
 use Rattle.gj_row.specs.declared.tableau.Row.{Row}
@@ -34,7 +34,6 @@ use Rattle.gj_row.specs.declared.faults.RowReason.{RowReason}
 use Rattle.gj_row.specs.declared.faults.RowReason.TheVariants.{Header, Fields, Columns, Rows, Name, Twice, Number, Large, Fine, Entries}
 use Rattle.gj_row.proofs.SpelledNumbers.{entry_none, entry_one}
 use Rattle.gj_row.proofs.RowNumbers.{numbers_long}
-use Rattle.gj_row.proofs.RowsRead.{tableau_of}
 
 -- ---- one number
 

@@ -3,6 +3,8 @@ use Rattle.std.proofs.Common.{ℕ}
 use Rattle.gj_row.specs.declared.faults.RowReason.{RowReason}
 use Rattle.gj_row.specs.declared.faults.RecordFault.{RecordFault}
 use Rattle.gj_row.specs.declared.faults.RecordFault.TheVariants.{Refused, Memory}
+use Rattle.gj_row.specs.declared.faults.RowFault.{RowFault}
+use Rattle.gj_row.specs.declared.faults.RowFault.TheVariants as fault
 use Rattle.gj_row.specs.Reading.{NamesReason, NamesRecord, fault_in_record}
 
 pub names_weaker : (P Q : RowReason → Type 0) (fault : RecordFault) → ((e : RowReason) → P e → Q e) → NamesReason P fault → NamesReason Q fault
@@ -13,3 +15,7 @@ pub names_record : (P : RowReason → Type 0) (Q : ℕ → RowReason → Type 0)
     NamesReason P fault → NamesRecord Q (fault_in_record fault n)
 names_record P Q (Refused e) n f p = f e p
 names_record P Q (Memory a) n f p = tt
+
+pub records_weaker : (P Q : ℕ → RowReason → Type 0) (fault : RowFault) → ((n : ℕ) (e : RowReason) → P n e → Q n e) → NamesRecord P fault → NamesRecord Q fault
+records_weaker P Q (fault.Refused n e) f p = f n e p
+records_weaker P Q (fault.Memory a) f p = tt

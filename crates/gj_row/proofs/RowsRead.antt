@@ -11,9 +11,8 @@ use Rattle.std.specs.Borrow.{Bor}
 use Rattle.gj_row.specs.TableauLimits.{IsRowWithinLimits, AreNames, names_of, entry_count}
 use Rattle.gj_row.specs.TableauText.{word_of, records_of, header_of, SpellsRow, SpellsTableau, IsTableauText}
 use Rattle.gj_row.specs.FirstFault.{IsNewName, HasHeaderFault, HasRowFault, IsFirstFaultOfTableau, header, in_header, in_row}
-use Rattle.gj_row.specs.Reading.{ReadsRow, StandsBehind, IsAtEnd}
+use Rattle.gj_row.specs.Reading.{ReadsRow, StandsBehind, StandsBehindHeader, IsAtEnd, tableau_of}
 use Rattle.gj_row.specs.declared.tableau.Row.{Row}
-use Rattle.gj_row.specs.declared.tableau.Tableau.{Tableau}
 use Rattle.gj_row.specs.declared.faults.RowReason.{RowReason}
 use Rattle.gj_row.specs.declared.faults.RowReason.TheVariants.{Header}
 use Rattle.gj_row.proofs.CsvRecords.{records_begin}
@@ -25,9 +24,6 @@ Words = List (List (List ℕ))
 -- the words of records
 abbrev pub words_of : Words → Words
 words_of fields = map (map word_of) fields
-
-abbrev pub tableau_of : List (List ℕ) → List Row → Tableau
-tableau_of columns rows = record { columns = columns; rows = rows }
 
 -- records that spell the tableau of these columns and rows have been read, with these names and so many entries that are not 0
 pub record RowsRead (text : List ℕ) (it : Reader (Bor (List ℕ))) (names columns : List (List ℕ)) (rows : List Row)
@@ -54,14 +50,19 @@ header_spells words columns begins few names = record {
   };
 }
 
-pub header_read : (text : List ℕ) (it : Reader (Bor (List ℕ))) (fields columns names : List (List ℕ)) →
+pub behind_header : (text : List ℕ) (it : Reader (Bor (List ℕ))) (fields columns names same : List (List ℕ)) → same ≡ columns →
     StandsBehind text (fields ∷ []) it → map word_of fields ≡ header_of columns → length columns ≤ 10000 → AreNames columns →
-    names ≡ columns → RowsRead text it names columns [] 0
-header_read text it fields columns names stands begins few valid named = record {
-  before = fields ∷ [];
-  stands = stands;
-  spelled = header_spells (map word_of fields) columns begins few valid;
-  named = named ∙ sym (append-nil columns);
+    names ≡ columns → StandsBehindHeader text same names it
+behind_header text it fields columns names same e stands begins few valid named = subst (λ cs. StandsBehindHeader text cs names it) (sym e)
+    (record { header = fields; stands = stands; begins = begins; few = few; valid = valid; named = named })
+
+pub header_read : (text : List ℕ) (it : Reader (Bor (List ℕ))) (columns names : List (List ℕ)) →
+    StandsBehindHeader text columns names it → RowsRead text it names columns [] 0
+header_read text it columns names h = record {
+  before = h.header ∷ [];
+  stands = h.stands;
+  spelled = header_spells (map word_of h.header) columns h.begins h.few h.valid;
+  named = h.named ∙ sym (append-nil columns);
   counted = refl;
 }
 

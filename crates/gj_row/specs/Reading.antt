@@ -10,11 +10,12 @@ use Rattle.gj_frac.specs.declared.Frac.{Frac}
 use Rattle.gj_shape.specs.Limits.{greatest_number, denominator_bound, IsSmallNumber}
 use Rattle.gj_shape.specs.Given.{IsLeastCommonDenominator}
 use Rattle.gj_shape.specs.Denominators.{Extends, HasNoCommonWith}
-use Rattle.gj_row.specs.TableauLimits.{most_entries, IsRowWithinLimits}
-use Rattle.gj_row.specs.TableauText.{word_of, is_zero, SpellsRow, entries_from}
+use Rattle.gj_row.specs.TableauLimits.{most_columns, most_entries, AreNames, IsRowWithinLimits}
+use Rattle.gj_row.specs.TableauText.{word_of, is_zero, header_of, SpellsRow, entries_from}
 use Rattle.gj_row.specs.FirstFault.{BeginRow}
 use Rattle.gj_row.specs.declared.tableau.Entry.{Entry}
 use Rattle.gj_row.specs.declared.tableau.Row.{Row}
+use Rattle.gj_row.specs.declared.tableau.Tableau.{Tableau}
 use Rattle.gj_row.specs.declared.faults.RowReason.{RowReason}
 use Rattle.gj_row.specs.declared.faults.RowReason.TheVariants.{Header, Fields, Columns, Rows, Name, Twice, Number, Large, Fine, Entries}
 use Rattle.gj_row.specs.declared.faults.RowFault.{RowFault}
@@ -118,6 +119,9 @@ pub record ReadsRow (columns used : ℕ) (words : List (List ℕ)) (row : Row) :
   pub within : IsRowWithinLimits columns row
   pub few : used + length row.entries ≤ most_entries
 
+abbrev pub tableau_of : List (List ℕ) → List Row → Tableau
+tableau_of columns rows = record { columns = columns; rows = rows }
+
 -- ---- the records of a text
 
 -- the bytes that are left of a text in memory
@@ -132,6 +136,23 @@ pub record StandsBehind (text : List ℕ) (before : List (List (List ℕ))) (rea
   pub rest : List ℕ
   pub source : source_of bytes_left reader ≡ Some rest
   pub reached : Reached default_config state.StartRecord (strip_bom text) before (reader_state reader) rest
+
+-- the next record is the one behind record 1 of the text, which names these columns; the names so far are theirs
+pub record StandsBehindHeader (text : List ℕ) (columns names : List (List ℕ)) (reader : Reader (Bor (List ℕ))) : Type 0 where
+  pub header : List (List ℕ)
+  pub stands : StandsBehind text (header ∷ []) reader
+  pub begins : map word_of header ≡ header_of columns
+  pub few : length columns ≤ most_columns
+  pub valid : AreNames columns
+  pub named : names ≡ columns
+
+-- this holds of each text of which the reader has read nothing
+abbrev pub HoldsOfText : Reader (Bor (List ℕ)) → (List ℕ → Type 0) → Type 0
+HoldsOfText reader P = (text : List ℕ) → StandsBehind text [] reader → P text
+
+-- this holds of each text of which the reader has read record 1
+abbrev pub HoldsBehindHeader : List (List ℕ) → List (List ℕ) → Reader (Bor (List ℕ)) → (List ℕ → Type 0) → Type 0
+HoldsBehindHeader columns names reader P = (text : List ℕ) → StandsBehindHeader text columns names reader → P text
 
 -- the step gave the record that is the next one
 abbrev pub StepsOver : Reader (Bor (List ℕ)) → FieldRow → Reader (Bor (List ℕ)) → Type 0

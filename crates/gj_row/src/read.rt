@@ -3,7 +3,7 @@ ghost use Rattle.std.specs.Prelude.{◌≡◌, ◌<◌, ◌≤◌, ◌++◌, ◌
 ghost use Rattle.gj_row.specs.TableauLimits.{most_columns, most_entries, most_rows, IsTableau, names_of, entry_count};
 ghost use Rattle.gj_row.specs.TableauText.{IsTableauText};
 ghost use Rattle.gj_row.specs.FirstFault.{HasRowFault, IsFirstFaultOfTableau, IsNewName};
-ghost use Rattle.gj_row.specs.Reading.{IsMemoryFault, NamesRecord, NamesReason, ReadsRow, StandsBehind, StepsOver, IsAtEnd, bytes_of, words_in};
+ghost use Rattle.gj_row.specs.Reading.{IsMemoryFault, NamesRecord, NamesReason, ReadsRow, HoldsBehindHeader, HoldsOfText, StandsBehind, StepsOver, IsAtEnd, bytes_of, tableau_of, words_in};
 ghost use Rattle.gj_row.specs.declared.tableau.Tableau.{Tableau};
 
 use crate::faults::{RecordFault, RowFault, RowReason};
@@ -12,6 +12,7 @@ use crate::header::{Header, header_in, new_name};
 use crate::numbers::numbers_in;
 use crate::tableau::{Row, Tableau};
 use csv::{ByteRecord, Reader, ReaderBuilder};
+use gj_lex::Name;
 use gj_shape::List;
 use indexmap::IndexSet;
 use std::alloc::{AllocError, Global};
@@ -52,10 +53,7 @@ impl Tableau {
         // A refusal names the first fault.
         ensures refused { IfErr result (NamesRecord (IsFirstFaultOfTableau bytes.now)) }
     {
-        match tableau_in(alloc, bytes) {
-            Ok(tableau) => Ok(tableau),
-            Err(fault) => Err(fault),
-        }
+        tableau_in(alloc, bytes)
     }
 }
 
@@ -65,8 +63,16 @@ fn tableau_in(alloc: Global, bytes: &[u8]) -> Result<Tableau, RowFault>
     ensures refused { IfErr result (NamesRecord (IsFirstFaultOfTableau bytes.now)) }
 {
     let mut records = records_of(alloc, bytes);
+    tableau_from(alloc, &mut records)
+}
+
+/// The tableau that all records spell, or the first fault among them.
+fn tableau_from(alloc: Global, records: &mut Reader<&[u8]>) -> Result<Tableau, RowFault>
+    ensures found { IfOk result (λ t. HoldsOfText records.old (λ text. IsTableauText text t)) }
+    ensures refused { IfErr result (NamesRecord (λ n e. HoldsOfText records.old (λ text. IsFirstFaultOfTableau text n e))) }
+{
     let mut fields = ByteRecord::new(alloc);
-    if !next_record(&mut records, &mut fields)? {
+    if !next_record(records, &mut fields)? {
         return Err(RowFault::Refused(1, RowReason::Header));
     }
     let header = match header_in(alloc, &fields) {
@@ -75,10 +81,31 @@ fn tableau_in(alloc: Global, bytes: &[u8]) -> Result<Tableau, RowFault>
     };
     let columns = header.columns;
     let mut names = header.names;
+    let rows = rows_in(alloc, records, &mut fields, &columns, &mut names)?;
+    Ok(Tableau {
+        columns: List::of(columns),
+        rows: List::of(rows),
+    })
+}
+
+/// The rows in the records that are left, behind a header with these columns, or the first fault among them.
+fn rows_in(
+    alloc: Global,
+    records: &mut Reader<&[u8]>,
+    fields: &mut ByteRecord,
+    columns: &[Name],
+    names: &mut IndexSet<Vec<u8>>,
+) -> Result<Vec<Row>, RowFault>
+    requires { length columns.now ≤ most_columns }
+    ensures found { IfOk result (λ rows. HoldsBehindHeader columns.now (bytes_of names.old.keys) records.old
+        (λ text. IsTableauText text (tableau_of columns.now rows.items))) }
+    ensures refused { IfErr result (NamesRecord (λ n e. HoldsBehindHeader columns.now (bytes_of names.old.keys) records.old
+        (λ text. IsFirstFaultOfTableau text n e))) }
+{
     let mut rows = Vec::new(alloc);
     let mut used = 0;
-    while next_record(&mut records, &mut fields)? {
-        match next_row(alloc, &fields, &mut names, columns.len(), rows.len(), used) {
+    while next_record(records, fields)? {
+        match next_row(alloc, fields, names, columns.len(), rows.len(), used) {
             Ok(row) => {
                 used += row.entries.as_slice().len();
                 rows.push(row)?;
@@ -86,10 +113,7 @@ fn tableau_in(alloc: Global, bytes: &[u8]) -> Result<Tableau, RowFault>
             Err(fault) => return Err(fault.in_record(rows.len() as u64 + 2)),
         }
     }
-    Ok(Tableau {
-        columns: List::of(columns),
-        rows: List::of(rows),
-    })
+    Ok(rows)
 }
 
 /// What reads the records of the text.

@@ -80,20 +80,18 @@ fn operands_of<'a>(first: Option<&'a str>, second: Option<&'a str>) -> Operands<
 fn our_command<'a>(alloc: Global) -> Result<clap::Command<'a>, AllocError>
     ensures { IfOk result (λ command. app_of command ≡ our_app) }
 {
-    let name = Arg::new(alloc, "command").required(true);
-    let first = Arg::new(alloc, "first");
-    let second = Arg::new(alloc, "second");
-    let json = Arg::new(alloc, "json")
-        .long("json")
-        .action(ArgAction::SetTrue);
     clap::Command::new(alloc, "gjcut")
         .no_binary_name(true)
         .disable_help_flag(true)
         .disable_version_flag(true)
-        .arg(name)?
-        .arg(first)?
-        .arg(second)?
-        .arg(json)
+        .arg(Arg::new(alloc, "command").required(true))?
+        .arg(Arg::new(alloc, "first"))?
+        .arg(Arg::new(alloc, "second"))?
+        .arg(
+            Arg::new(alloc, "json")
+                .long("json")
+                .action(ArgAction::SetTrue),
+        )
 }
 
 /// Why `clap` does not take the words.

@@ -3,6 +3,7 @@ use Rattle.std.proofs.lemmas.Int.{to_z-of_z}
 use mir.Syntax.{w128}
 use Rattle.gj_frac.proofs.Refusals.{on_err}
 use Rattle.gj_frac.specs.Fraction.{Fits}
+use Rattle.std.proofs.lemmas.Result.{err_from_is_err_and}
 use Rattle.gj_elim.proofs.Solving.{summed_more, summed_wide_product, summed_wide_sum}
 use Rattle.gj_elim.proofs.solve.sum_behind.Goals as goal
 
@@ -34,3 +35,21 @@ returns-in_err-total-clause-wide c =
     on_err _ _
     (summed_wide_sum c.args.row.now c.args.numbers.now c.args.column c.loop-i.i _ c.in_ok-product.field-0 c.loop-i.invariant (omega arith)
     c.requires.columns product.1 (simp p at c.in_err-total.ensures))
+
+pub returns-in_err-product-clause-value : goal.returns-in_err-product-clause-value
+returns-in_err-product-clause-value c = rw (err_from_is_err_and c.from_residual.result c.from_residual.ensures.1).1 tt
+
+pub returns-in_err-product-clause-fits : goal.returns-in_err-product-clause-fits
+returns-in_err-product-clause-fits c = rw (err_from_is_err_and c.from_residual.result c.from_residual.ensures.1).1 tt
+
+pub returns-in_err-product-clause-narrow : goal.returns-in_err-product-clause-narrow
+returns-in_err-product-clause-narrow c = rw (err_from_is_err_and c.from_residual.result c.from_residual.ensures.1).1 tt
+
+pub returns-in_err-total-clause-value : goal.returns-in_err-total-clause-value
+returns-in_err-total-clause-value c = rw (err_from_is_err_and c.from_residual-in_err-total.result c.from_residual-in_err-total.ensures.1).1 tt
+
+pub returns-in_err-total-clause-fits : goal.returns-in_err-total-clause-fits
+returns-in_err-total-clause-fits c = rw (err_from_is_err_and c.from_residual-in_err-total.result c.from_residual-in_err-total.ensures.1).1 tt
+
+pub returns-in_err-total-clause-narrow : goal.returns-in_err-total-clause-narrow
+returns-in_err-total-clause-narrow c = rw (err_from_is_err_and c.from_residual-in_err-total.result c.from_residual-in_err-total.ensures.1).1 tt

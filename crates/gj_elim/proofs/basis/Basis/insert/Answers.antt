@@ -12,6 +12,8 @@ use Rattle.gj_frac.specs.Fraction.{Fits}
 use Rattle.gj_theory.specs.TriangularRows.{AreTriangular}
 use Rattle.gj_theory.proofs.Triangular.{rank_at_most}
 use Rattle.gj_elim.proofs.Keeping.{insertion_read, length-kept_rows, nothing_inserted, row_inserted, triangular_from, solutions_from, same_length, all_small, same_error}
+use Rattle.gj_frac.proofs.Refusals.{on_err}
+use Rattle.std.proofs.lemmas.Result.{err_from_is_err_and}
 use Rattle.gj_elim.proofs.basis.Basis.insert.Goals as goal
 
 -- what is as it was
@@ -148,3 +150,68 @@ returns-in_ok-keep-in-Some c =
       solutions = λ w. solutions_from D c.args.self.now c.args.row.now w _ c.self.view_is c.self.invariant.triangular c.requires.columns told.rows;
       triangular = triangular_from D c.args.row.now _ c.self.invariant.triangular columns told.rows;
     }
+
+pub invariant_of-self : goal.invariant_of-self
+invariant_of-self c =
+    let held = with_items_is c.self.inside.row c.reduce_row.new.row
+    (c.reduce_row.auto.row ∙ ap length c.as_mut_slice.ensures.value ∙ sym c.self.inside.row.ok.0) in record {
+      lines = c.self.invariant.lines;
+      triangular = c.self.invariant.triangular;
+      fits = c.self.invariant.fits;
+      columns = ap length held ∙ c.reduce_row.auto.row ∙ ap length c.as_mut_slice.ensures.value ∙ c.self.invariant.columns;
+      small_columns = ap length (with_items_is c.self.inside.small c.reduce_row.new.small
+          (c.reduce_row.auto.small ∙ ap length c.as_mut_slice-2.ensures.value ∙ sym c.self.inside.small.ok.0))
+          ∙ c.reduce_row.auto.small ∙ ap length c.as_mut_slice-2.ensures.value ∙ c.self.invariant.small_columns;
+      places = c.self.invariant.places;
+      extents = c.self.invariant.extents;
+      narrow = c.self.invariant.narrow;
+    }
+
+pub invariant_of-self-in-None : goal.invariant_of-self-in-None
+invariant_of-self-in-None c =
+    let held = with_items_is c.self.inside.row c.reduce_row.new.row
+    (c.reduce_row.auto.row ∙ ap length c.as_mut_slice.ensures.value ∙ sym c.self.inside.row.ok.0) in record {
+      lines = c.self.invariant.lines;
+      triangular = c.self.invariant.triangular;
+      fits = c.self.invariant.fits;
+      columns = ap length held ∙ c.reduce_row.auto.row ∙ ap length c.as_mut_slice.ensures.value ∙ c.self.invariant.columns;
+      small_columns = ap length (with_items_is c.self.inside.small c.reduce_row.new.small
+          (c.reduce_row.auto.small ∙ ap length c.as_mut_slice-2.ensures.value ∙ sym c.self.inside.small.ok.0))
+          ∙ c.reduce_row.auto.small ∙ ap length c.as_mut_slice-2.ensures.value ∙ c.self.invariant.small_columns;
+      places = c.self.invariant.places;
+      extents = c.self.invariant.extents;
+      narrow = c.self.invariant.narrow;
+    }
+
+pub returns-in_err-left-clause-kept : goal.returns-in_err-left-clause-kept
+returns-in_err-left-clause-kept c = rw (err_from_is_err_and c.from_residual.result c.from_residual.ensures.1).1 tt
+
+pub returns-in_err-left-clause-answer : goal.returns-in_err-left-clause-answer
+returns-in_err-left-clause-answer c = rw (err_from_is_err_and c.from_residual.result c.from_residual.ensures.1).1 tt
+
+pub returns-in_err-left-clause-narrow : goal.returns-in_err-left-clause-narrow
+returns-in_err-left-clause-narrow c = rw (err_from_is_err_and c.from_residual.result c.from_residual.ensures.1).1 tt
+
+pub returns-in_err-left-clause-solutions : goal.returns-in_err-left-clause-solutions
+returns-in_err-left-clause-solutions c = rw (err_from_is_err_and c.from_residual.result c.from_residual.ensures.1).1 tt
+
+pub returns-in_err-left-clause-triangular : goal.returns-in_err-left-clause-triangular
+returns-in_err-left-clause-triangular c = rw (err_from_is_err_and c.from_residual.result c.from_residual.ensures.1).1 tt
+
+pub returns-in_err-keep-in-Some-clause-kept : goal.returns-in_err-keep-in-Some-clause-kept
+returns-in_err-keep-in-Some-clause-kept c = rw (err_from_is_err_and c.from_residual-in_err-keep-in-Some.result c.from_residual-in_err-keep-in-Some.ensures.1).1 tt
+
+pub returns-in_err-keep-in-Some-clause-answer : goal.returns-in_err-keep-in-Some-clause-answer
+returns-in_err-keep-in-Some-clause-answer c = rw (err_from_is_err_and c.from_residual-in_err-keep-in-Some.result c.from_residual-in_err-keep-in-Some.ensures.1).1 tt
+
+pub returns-in_err-keep-in-Some-clause-narrow : goal.returns-in_err-keep-in-Some-clause-narrow
+returns-in_err-keep-in-Some-clause-narrow c = rw (err_from_is_err_and c.from_residual-in_err-keep-in-Some.result c.from_residual-in_err-keep-in-Some.ensures.1).1 tt
+
+pub returns-in_err-keep-in-Some-clause-solutions : goal.returns-in_err-keep-in-Some-clause-solutions
+returns-in_err-keep-in-Some-clause-solutions c = rw (err_from_is_err_and c.from_residual-in_err-keep-in-Some.result c.from_residual-in_err-keep-in-Some.ensures.1).1 tt
+
+pub returns-in_err-keep-in-Some-clause-triangular : goal.returns-in_err-keep-in-Some-clause-triangular
+returns-in_err-keep-in-Some-clause-triangular c = rw (err_from_is_err_and c.from_residual-in_err-keep-in-Some.result c.from_residual-in_err-keep-in-Some.ensures.1).1 tt
+
+pub returns-in_err-left-clause-unchanged : goal.returns-in_err-left-clause-unchanged
+returns-in_err-left-clause-unchanged c = on_err _ _ c.self.view_is

@@ -1,9 +1,17 @@
-use Rattle.gj_row.specs.TableauText.{records_of}
+use Rattle.std.proofs.Common.{◌≡◌}
+use Rattle.std.proofs.lemmas.Result.{IfOk-weaker, IfErr-weaker, MatchResult-from_both}
+use Rattle.gj_row.specs.TableauText.{IsTableauText, records_of}
+use Rattle.gj_row.specs.FirstFault.{IsFirstFaultOfTableau}
+use Rattle.gj_row.specs.Reading.{IsMemoryFault, NamesRecord}
 use Rattle.gj_row.proofs.OneTableau.{one_tableau, only_memory}
 use Rattle.gj_row.proofs.tableau.Tableau.read.Goals as goal
 
-pub returns-in-Ok-clause-only : goal.returns-in-Ok-clause-only
-returns-in-Ok-clause-only c = λ t h. one_tableau (records_of c.args.bytes.now) _ t c.in-Ok.ensures.found h
-
-pub returns-in-Err-clause-only : goal.returns-in-Err-clause-only
-returns-in-Err-clause-only c = λ t h. only_memory c.args.bytes.now t c.in-Err.fault h c.in-Err.ensures.refused
+pub returns-clause-only : goal.returns-clause-only
+returns-clause-only c = λ t h.
+    let text = c.args.bytes.now in
+    let result = c.tableau_in.result in
+    MatchResult-from_both result (λ read. read ≡ t) IsMemoryFault
+    (IfOk-weaker result (IsTableauText text) (λ read. read ≡ t) (λ read spelled. one_tableau (records_of text) read t spelled h)
+    c.tableau_in.ensures.found)
+    (IfErr-weaker result (NamesRecord (IsFirstFaultOfTableau text)) IsMemoryFault (λ fault first. only_memory text t fault h first)
+    c.tableau_in.ensures.refused)
