@@ -2,7 +2,6 @@ pub mod Runs
 pub mod RunsBefore
 pub mod Rows
 pub mod TightPairs
-pub mod Lanes
 pub mod Picked
 pub mod Listed
 pub mod Added

@@ -17,7 +17,8 @@ use Rattle.gj_theory.proofs.Lanes.{PassesAt, HasLanes, FitAtSums, mirrored_squar
 use Rattle.gj_minimal.specs.FirstFailure.{IsFirstFailingIndex, HoldsBelow}
 use Rattle.gj_minimal.specs.declared.failures.Failure.TheVariants as failure
 use Rattle.gj_minimal.specs.Failures.{FailsFirst, PassesRow, IsNonnegativeIn}
-use Rattle.gj_minimal.specs.Lanes.{AreLimits}
+use Rattle.gj_lanes.specs.Lanes.{AreInRange}
+use Rattle.gj_minimal.proofs.NumbersInLanes.{natural_at, natural_is}
 
 -- how many corners a face has does not depend on the square
 pub same_corners : (kind : FaceKind) (a b : ℕ) → length (corners_of kind 0 0) ≡ length (corners_of kind a b)
@@ -100,47 +101,26 @@ pub continuous_passes : (f : FunctionData) (a b : ℕ) → IsWithinBounds f → 
     PassesSquare f a b
 continuous_passes f a b l continuous v = square_passes_at f a b (continuous_square f l continuous v.vertices a b)
 
--- the lanes are below the bound, and are the numbers of the function
-pub record FitSquares (bound : ℕ) (f : FunctionData) (left value right : List ℕ) : Type 0 where
-  pub lefts : (i : ℕ) → i ≤ 2 * f.order → get_or left i 0 < bound
-  pub values : (i : ℕ) → i ≤ 2 * f.order → get_or value i 0 < bound
-  pub rights : (i : ℕ) → i ≤ 2 * f.order → get_or right i 0 < bound
-  pub numbers : HasLanes f (λ i. get_or left (i + 1) 0) (λ i. get_or value i 0) (λ i. get_or right i 0) (2 * f.order)
+-- the limits and values of a function, from 0 on
+pub has_lanes : (bound : ℕ) (f : FunctionData) → AreInRange (pos 0) bound f.left → AreInRange (pos 0) bound f.value →
+    AreInRange (pos 0) bound f.right →
+    HasLanes f (λ i. natural_at f.left (i + 1)) (λ i. natural_at f.value i) (λ i. natural_at f.right i) (2 * f.order)
+has_lanes bound f lefts values rights = record {
+  lefts = λ i below. natural_is bound f.left (i + 1) lefts;
+  values = λ i below. natural_is bound f.value i values;
+  rights = λ i below. natural_is bound f.right i rights;
+}
 
-pub fit_squares : (bound : ℕ) (f : FunctionData) (left value right : List ℕ) → IsWithinBounds f →
-    AreLimits bound f left value right → FitSquares bound f left value right
-fit_squares bound f left value right limits lanes =
-    let lefts = limits.left_length in
-    let values = limits.value_length in
-    let rights = limits.right_length in
-    record {
-      lefts = λ i below. lanes.lefts.small i (omega arith);
-      values = λ i below. lanes.values.small i (omega arith);
-      rights = λ i below. lanes.rights.small i (omega arith);
-      numbers = record {
-        lefts = λ i below. lanes.lefts.same (i + 1) (omega arith);
-        values = λ i below. lanes.values.same i (omega arith);
-        rights = λ i below. lanes.rights.same i (omega arith);
-      };
-    }
-
--- a sum of two fits 16 bits, and the lesser of two is below the bound
-pub short_sum : (x y : ℕ) → x < 2 ^ 15 → y < 2 ^ 15 → Fits w16 (x + y)
-short_sum x y h k = omega arith
-
-pub lesser_below : (bound x y m : ℕ) → m ≡ min x y → x < bound → m < bound
-lesser_below bound x y m e h = omega arith
-
--- a square passes if no limit in it is negative over lanes
-pub square_from_lanes : (bound : ℕ) (f : FunctionData) (left value right : List ℕ) (a b : ℕ) →
-    FitSquares bound f left value right → PassesVertices f → a < f.order → b < f.order →
-    FitAtSums (λ i. get_or left (i + 1) 0) (λ i. get_or value i 0) (λ i. get_or right i 0) a b → PassesSquare f a b
-square_from_lanes bound f left value right a b lanes v a_below b_below sums =
-    let before = λ (i : ℕ). get_or left (i + 1) 0 in
-    let there = λ (i : ℕ). get_or value i 0 in
-    let after = λ (i : ℕ). get_or right i 0 in
+-- a square passes if no limit in it is negative, over naturals
+pub square_from_naturals : (bound : ℕ) (f : FunctionData) (a b : ℕ) → AreInRange (pos 0) bound f.left → AreInRange (pos 0) bound f.value →
+    AreInRange (pos 0) bound f.right → PassesVertices f → a < f.order → b < f.order →
+    FitAtSums (λ i. natural_at f.left (i + 1)) (λ i. natural_at f.value i) (λ i. natural_at f.right i) a b → PassesSquare f a b
+square_from_naturals bound f a b lefts values rights v a_below b_below sums =
+    let before = λ (i : ℕ). natural_at f.left (i + 1) in
+    let there = λ (i : ℕ). natural_at f.value i in
+    let after = λ (i : ℕ). natural_at f.right i in
     square_passes_at f a b
-    (square_passes f before there after (2 * f.order) a b lanes.numbers (omega arith) (v.vertices a b a_below b_below)
+    (square_passes f before there after (2 * f.order) a b (has_lanes bound f lefts values rights) (omega arith) (v.vertices a b a_below b_below)
     (fit_from_sums before there after a b sums))
 
 -- ---- the first failed limit

@@ -5,7 +5,7 @@ ghost use Rattle.gj_shape.specs.FunctionData.{IsContinuous};
 ghost use Rattle.gj_theory.specs.EarlierTests.{PassesVertices, PassesSquare, HoldsBefore};
 ghost use Rattle.gj_minimal.specs.FirstFailure.{IsFirstFailingIndex, HoldsBelow};
 ghost use Rattle.gj_minimal.specs.Failures.{FailsFirst, PassesRow, IsNonnegativeIn};
-ghost use Rattle.gj_minimal.specs.Lanes.{AreLanesOf};
+ghost use Rattle.gj_minimal.specs.Lanes.{AreLimitsOf};
 
 use crate::failures::Failure;
 use crate::lanes::Lanes;
@@ -46,7 +46,7 @@ pub(crate) fn failed_face(shape: &Shape, is_continuous: bool) -> Option<Failure>
 fn failed_in_row(shape: &Shape, lanes: &Lanes, a: u32) -> Option<Failure>
     requires within { a < shape.now.order }
     requires vertices { PassesVertices shape.now }
-    requires lanes { AreLanesOf shape.now lanes.now }
+    requires lanes { AreLimitsOf shape.now lanes.now }
     requires rows { HoldsBelow (PassesRow shape.now) a }
     ensures found { IfSome result (FailsFirst shape.now) }
     ensures none { IfNone result (PassesRow shape.now a) }

@@ -1,8 +1,9 @@
 //! Numbers twice over in lanes, so that no index below twice the order has to be reduced.
-ghost use Rattle.std.specs.Prelude.{◌<◌, ◌≤◌, ◌^◌, length, IsTrue};
+ghost use Rattle.std.specs.Prelude.{pos, ◌<◌, ◌≤◌, ◌^◌, length, IsTrue};
 ghost use Rattle.gj_shape.specs.Limits.{greatest_order};
-ghost use Rattle.gj_minimal.specs.Lanes.{AreFrom0Below, AreTwice};
+ghost use Rattle.gj_lanes.specs.Lanes.{AreInRange, ArePeriods};
 
+use gj_lanes::write_periods;
 use gj_shape::{GREATEST_ORDER, Shape};
 
 /// How many lanes there are: one for each index from 0 to 2 q, q being the greatest order.
@@ -22,18 +23,11 @@ pub(crate) fn is_short(shape: &Shape) -> bool
 pub(crate) fn short_lanes(numbers: &[i64]) -> [u16; COUNT]
     requires some { 0 < length numbers.now }
     requires few { length numbers.now ≤ greatest_order }
-    requires small { AreFrom0Below (2 ^ 15) numbers.now }
-    ensures { AreTwice (2 ^ 15) numbers.now result }
+    requires range { AreInRange (pos 0) (2 ^ 15) numbers.now }
+    ensures { ArePeriods (λ n. pos n) (pos 0) (2 ^ 15) result numbers.now }
 {
-    let order = numbers.len();
     let mut lanes = [0u16; COUNT];
-    for i in 0..order {
-        lanes[i] = numbers[i] as u16;
-    }
-    for j in 0..order {
-        lanes[order + j] = numbers[j] as u16;
-    }
-    lanes[2 * order] = numbers[0] as u16;
+    write_periods(&mut lanes, numbers);
     lanes
 }
 
@@ -41,17 +35,10 @@ pub(crate) fn short_lanes(numbers: &[i64]) -> [u16; COUNT]
 pub(crate) fn narrow_lanes(numbers: &[i64]) -> [u32; COUNT]
     requires some { 0 < length numbers.now }
     requires few { length numbers.now ≤ greatest_order }
-    requires small { AreFrom0Below (2 ^ 31) numbers.now }
-    ensures { AreTwice (2 ^ 31) numbers.now result }
+    requires range { AreInRange (pos 0) (2 ^ 31) numbers.now }
+    ensures { ArePeriods (λ n. pos n) (pos 0) (2 ^ 31) result numbers.now }
 {
-    let order = numbers.len();
     let mut lanes = [0u32; COUNT];
-    for i in 0..order {
-        lanes[i] = numbers[i] as u32;
-    }
-    for j in 0..order {
-        lanes[order + j] = numbers[j] as u32;
-    }
-    lanes[2 * order] = numbers[0] as u32;
+    write_periods(&mut lanes, numbers);
     lanes
 }

@@ -3,8 +3,7 @@ ghost use Rattle.std.specs.Prelude.{ℕ, ◌<◌, ◌≤◌, IsTrue};
 ghost use Rattle.gj_theory.specs.EarlierTests.{PassesSymmetry, PassesVertices, PassesSquare};
 
 use crate::filling::{COUNT, is_short, narrow_lanes, short_lanes};
-use crate::narrow_squares::narrow_squares_pass;
-use crate::short_squares::short_squares_pass;
+use crate::squares::squares_pass;
 use gj_shape::Shape;
 
 /// The limits from the left, the values and the limits from the right at i/q for each i up to 2 q, each times the common
@@ -18,12 +17,12 @@ pub(crate) enum Lanes {
 }
 
 impl Lanes {
-    ghost use Rattle.gj_minimal.specs.Lanes.{AreLanesOf};
+    ghost use Rattle.gj_minimal.specs.Lanes.{AreLimitsOf};
 
     /// The lanes of a function whose tests of signs and of symmetry pass: then each number is from 0 to the scale.
     pub(crate) fn of(shape: &Shape) -> Lanes
         requires { PassesSymmetry shape.now }
-        ensures { AreLanesOf shape.now result }
+        ensures { AreLimitsOf shape.now result }
     {
         let left = shape.left_numerators();
         let value = shape.value_numerators();
@@ -38,14 +37,14 @@ impl Lanes {
     /// Whether no limit of the slack on the faces of the square (a, b) but its vertex is found to be negative, for each b
     /// from a to below q.
     pub(crate) fn squares_pass(&self, shape: &Shape, a: usize) -> bool
-        requires lanes { AreLanesOf shape.now self.now }
+        requires lanes { AreLimitsOf shape.now self.now }
         requires within { a < shape.now.order }
         requires vertices { PassesVertices shape.now }
         ensures { IsTrue result → (b : ℕ) → a ≤ b → b < shape.now.order → PassesSquare shape.now a b }
     {
         match self {
-            Lanes::Short(left, value, right) => short_squares_pass(left, value, right, shape, a),
-            Lanes::Narrow(left, value, right) => narrow_squares_pass(left, value, right, shape, a),
+            Lanes::Short(left, value, right) => squares_pass(left, value, right, shape, a),
+            Lanes::Narrow(left, value, right) => squares_pass(left, value, right, shape, a),
         }
     }
 }

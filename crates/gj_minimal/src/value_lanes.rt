@@ -1,11 +1,12 @@
 //! The values in lanes, over which a whole row of vertices is tested at once.
-ghost use Rattle.std.specs.Prelude.{◌≡◌, ◌⊎◌, ◌+◌, ◌-◌, ◌*◌, ◌<◌, ◌^◌, IsTrue, max};
+ghost use Rattle.std.specs.Prelude.{◌≡◌, ◌⊎◌, ◌+◌, ◌-◌, ◌*◌, ◌<◌, IsTrue, max};
 ghost use Rattle.gj_shape.specs.FunctionData.{IsWithinBounds};
 ghost use Rattle.gj_theory.specs.EarlierTests.{PassesSymmetry};
 ghost use Rattle.gj_minimal.specs.Failures.{PassesAhead, PassesWithSum};
-ghost use Rattle.gj_minimal.specs.Lanes.{AreTwice};
+ghost use Rattle.gj_lanes.specs.Lanes.{ArePeriods};
 
 use crate::filling::{COUNT, is_short, narrow_lanes, short_lanes};
+use gj_lanes::UnsignedLane;
 use gj_shape::Shape;
 
 /// The values at i/q for each i up to 2 q, each times the common denominator, in the narrowest lanes in which the sum of
@@ -56,43 +57,27 @@ impl ValueLanes {
         ensures { IsTrue result → PassesWithSum shape.now a rest }
     {
         match self {
-            ValueLanes::Short(lanes) => short_part_passes(lanes, shape, a, rest),
-            ValueLanes::Narrow(lanes) => narrow_part_passes(lanes, shape, a, rest),
+            ValueLanes::Short(lanes) => part_passes_over(lanes, shape, a, rest),
+            ValueLanes::Narrow(lanes) => part_passes_over(lanes, shape, a, rest),
         }
     }
 }
 
 /// Whether no slack at (a/q, b/q) is found to be negative, for each b and c from a with this sum and with b at most c, over
-/// lanes of 16 bits.
-fn short_part_passes(lanes: &[u16; COUNT], shape: &Shape, a: usize, rest: usize) -> bool
-    requires lanes { AreTwice (2 ^ 15) shape.now.value lanes.now }
+/// lanes of one width.
+fn part_passes_over<L: UnsignedLane>(lanes: &[L], shape: &Shape, a: usize, rest: usize) -> bool
+    requires lanes { ArePeriods L.number L.least L.bound lanes.now shape.now.value }
     requires within { a < shape.now.order }
     requires rest { rest < 2 * shape.now.order }
     ensures { IsTrue result → PassesWithSum shape.now a rest }
 {
     let start = first_index(shape, a, rest);
     let first = lanes[a];
-    let mut excess = 0u16;
+    let mut excess = L::of(0);
     for b in start..rest / 2 + 1 {
-        excess = excess.max(lanes[a + b].saturating_sub(first + lanes[b]));
+        excess = excess.greater(lanes[a + b].excess_over(first.plus(lanes[b])));
     }
-    excess == 0
-}
-
-/// The same over lanes of 32 bits.
-fn narrow_part_passes(lanes: &[u32; COUNT], shape: &Shape, a: usize, rest: usize) -> bool
-    requires lanes { AreTwice (2 ^ 31) shape.now.value lanes.now }
-    requires within { a < shape.now.order }
-    requires rest { rest < 2 * shape.now.order }
-    ensures { IsTrue result → PassesWithSum shape.now a rest }
-{
-    let start = first_index(shape, a, rest);
-    let first = lanes[a];
-    let mut excess = 0u32;
-    for b in start..rest / 2 + 1 {
-        excess = excess.max(lanes[a + b].saturating_sub(first + lanes[b]));
-    }
-    excess == 0
+    excess.is_zero()
 }
 
 /// The index that with a adds up to the place modulo q.

@@ -189,39 +189,37 @@ between_bounds i from end =
           ∙ sym (ap (λ b. b && nat_lt i end) (le-leb from i above))
     ]
 
--- ---- words that are made one after another, of the numbers with a property
+-- ---- words that are made one after another
 
-pub word_more : (P : ℕ → Type 0) (words : List ℕ) (place v : ℕ) → place < length words →
-    ((k b : ℕ) → k < place → b < 64 → (bit (get_or words k 0) b ≡ true) ↔ P (64 * k + b)) →
-    ((b : ℕ) → b < 64 → (bit v b ≡ true) ↔ P (64 * place + b)) → (k b : ℕ) → k < place + 1 → b < 64 →
-    (bit (get_or (set words place v) k 0) b ≡ true) ↔ P (64 * k + b)
-word_more P words place v within before here k b below inside =
+-- what is said of each bit, one word more
+pub word_more : (Q : ℕ → Bool → Type 0) (words : List ℕ) (place v : ℕ) → place < length words →
+    ((k b : ℕ) → k < place → b < 64 → Q (64 * k + b) (bit (get_or words k 0) b)) →
+    ((b : ℕ) → b < 64 → Q (64 * place + b) (bit v b)) → (k b : ℕ) → k < place + 1 → b < 64 →
+    Q (64 * k + b) (bit (get_or (set words place v) k 0) b)
+word_more Q words place v within before here k b below inside =
     elim (cases_eq k place) [
       | inl e ↦
-          let word = ap (λ i. get_or (set words place v) i 0) e ∙ get_or-set_same words place v 0 within in
-          let f = ap (λ w. bit w b) word in
-          let both = here b inside in (
-            λ set_bit. subst (λ i. P (64 * i + b)) (sym e) (both.0 (sym f ∙ set_bit)),
-            λ holds. f ∙ both.1 (subst (λ i. P (64 * i + b)) e holds),
-          )
+          subst (λ w. Q (64 * k + b) (bit w b)) (sym (ap (λ i. get_or (set words place v) i 0) e ∙ get_or-set_same words place v 0 within))
+          (subst (λ i. Q (64 * i + b) (bit v b)) (sym e) (here b inside))
       | inr differ ↦
-          let f = ap (λ w. bit w b) (get_or-set_other words place k v 0 differ) in
-          let both = before k b (omega arith) inside in (λ set_bit. both.0 (sym f ∙ set_bit), λ holds. f ∙ both.1 holds)
+          subst (λ w. Q (64 * k + b) (bit w b)) (sym (get_or-set_other words place k v 0 differ)) (before k b (omega arith) inside)
     ]
 
--- and then without those from n on
+-- if the bits below n tell a property, they do without those from n on
 pub words_masked : (P : ℕ → Type 0) (words : List ℕ) (end n b : ℕ) (r : Bool) → n ≤ 64 * end →
-    ((k j : ℕ) → k < end → j < 64 → (bit (get_or words k 0) j ≡ true) ↔ P (64 * k + j)) → r ≡ (bit_of words b && nat_lt b n) →
-    (r ≡ true) ↔ ((b < n) × P b)
+    ((k j : ℕ) → k < end → j < 64 → 64 * k + j < n → (bit (get_or words k 0) j ≡ true) ↔ P (64 * k + j)) →
+    r ≡ (bit_of words b && nat_lt b n) → (r ≡ true) ↔ ((b < n) × P b)
 words_masked P words end n b r within each masked =
     let e : 64 * (b / 64) + b % 64 ≡ b = omega arith in (
       λ yes.
           let both = and_parts (bit_of words b) (nat_lt b n) (sym masked ∙ yes) in
-          let below = ltb-true b n both.1 in (below, subst P e ((each (b / 64) (b % 64) (omega arith) (omega arith)).0 both.0)),
+          let below = ltb-true b n both.1 in
+          (below, subst P e ((each (b / 64) (b % 64) (omega arith) (omega arith) (omega arith)).0 both.0)),
       λ both.
           let below = both.0 in
-          masked ∙ and_from (bit_of words b) (nat_lt b n) ((each (b / 64) (b % 64) (omega arith) (omega arith)).1 (subst P (sym e) both.1))
-          (lt-ltb b n below),
+          masked
+          ∙ and_from (bit_of words b) (nat_lt b n)
+          ((each (b / 64) (b % 64) (omega arith) (omega arith) (omega arith)).1 (subst P (sym e) both.1)) (lt-ltb b n below),
     )
 
 -- ---- a set without words

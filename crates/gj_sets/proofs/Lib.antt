@@ -2,4 +2,4 @@ pub mod Bits
 pub mod Shifts
 pub mod Counts
 pub mod Firsts
-pub mod Lanes
+pub mod ToldSums

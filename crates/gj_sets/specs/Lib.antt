@@ -1,2 +1,1 @@
 pub mod IndexSets
-pub mod Sums

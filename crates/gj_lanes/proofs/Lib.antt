@@ -1,0 +1,2 @@
+pub mod EqualSums
+pub mod LaidNumbers

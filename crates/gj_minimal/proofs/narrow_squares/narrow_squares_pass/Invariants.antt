@@ -1,6 +1,0 @@
-use Rattle.std.proofs.Common.{◌≡◌, ℕ, ◌<◌, ◌≤◌}
-use Rattle.gj_theory.specs.EarlierTests.{PassesSquare}
-use Rattle.gj_minimal.proofs.narrow_squares.narrow_squares_pass.Given as goal
-
-abbrev pub invariant-loop-b : goal.invariant-loop-b
-invariant-loop-b l = l.excess ≡ 0 → (b : ℕ) → b < l.b → l.a ≤ b → PassesSquare l.shape l.a b
