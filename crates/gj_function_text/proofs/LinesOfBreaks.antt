@@ -5,15 +5,15 @@ use Rattle.gj_lex.specs.TextLines.{HasLines, HasNextLine}
 use Rattle.gj_lex.specs.Parts.{ReadsInTurn}
 use Rattle.gj_lex.specs.Parts.ReadsInTurn.{last, onward}
 use Rattle.gj_lex.specs.declared.spelling.Spelling.TheVariants.{Lenient}
-use Rattle.gj_lex.specs.SpelledNumbers.{IsFractionWord}
 use Rattle.gj_lex.proofs.WhereLaws.{other_word}
 use Rattle.gj_shape.specs.FunctionData.{FunctionData}
 use Rattle.gj_shape.specs.Breaks.{BreakList, no_breaks, AreBreaks, IsOfBreaks, Follows}
 use Rattle.gj_shape.specs.declared.breaks.Break.{Break}
 use Rattle.gj_shape.proofs.BreakLists.{breaks_of_none}
 use Rattle.gj_shape.proofs.BreakChains.{breaks_kept, next_follows, one_break_list, place_denominator}
-use Rattle.gj_function_lines.specs.FunctionGrammar.{place_words, point_words}
-use Rattle.gj_function_lines.specs.BreakLines.{SpellBreak}
+use Rattle.gj_forms.specs.SpelledForms.{rule_in}
+use Rattle.gj_function_lines.specs.FunctionLines.{place_form}
+use Rattle.gj_function_lines.specs.BreakLines.{spelled_break_rule}
 use Rattle.gj_function_text.specs.BreaksText.{end_words, next_break}
 use Rattle.gj_function_text.specs.FunctionText.{breaks_title_words, breaks_text}
 use Rattle.gj_function_text.specs.LinesOfFunction.{HasLinesOfBreaks}
@@ -29,7 +29,7 @@ record HasBreakLines (f : FunctionData) (rest : List ℕ) (s : BreakList) (text 
   some : list.breaks ≢ []
   place_is : list.place ≡ s.place
   breaks_are : list.breaks ≡ s.breaks ++ added
-  spelled : AllZip SpellBreak points added
+  spelled : AllZip spelled_break_rule.Spells points added
   function_is : IsOfBreaks list f
   lines : HasLines Lenient text (points ++ end_words ∷ []) rest
 
@@ -45,7 +45,7 @@ not_both_ways s f e = cc
 
 turns_have_lines : (f : FunctionData) (rest : List ℕ) (s : BreakList) (text : List ℕ) → AreBreaks s →
     ReadsInTurn (λ t. (next_break t).Reads) f rest s text → HasBreakLines f rest s text
-turns_have_lines f rest s text are (last _ _ (inl ((some, begins), (g, (start, words, line, (is, of)), same)))) = record {
+turns_have_lines f rest s text are (last _ _ (inl ((some, begins), (g, (start, words, line, (t, is, of)), same)))) = record {
   points = [];
   added = [];
   list = s;
@@ -80,26 +80,26 @@ breaks_have_lines text f rest (
   t,
   m,
   (start, ws, title, title_is),
-  (s, n, (start1, ws1, line, (word, x, line_is, spelled, inside, few, list_is)), turns),
+  (s, n, (start1, ws1, line, (x, spelled, (inside, few, list_is))), turns),
 ) =
     let found = turns_have_lines f rest (no_breaks x) n (breaks_of_none x inside few)
     (subst (λ u. ReadsInTurn (λ t. (next_break t).Reads) f rest u n) list_is turns) in
     record {
-      lines = breaks_title_words ∷ place_words word ∷ found.points ++ end_words ∷ [];
+      lines = breaks_title_words ∷ ws1 ∷ found.points ++ end_words ∷ [];
       has_lines = (
         start,
         m,
         subst (λ vs. HasNextLine start vs m text) title_is title,
-        (start1, n, subst (λ vs. HasNextLine start1 vs n m) line_is line, found.lines),
+        (start1, n, line, found.lines),
       );
       are_lines = record {
-        place_word = word;
+        place = ws1;
         points = found.points;
         list = found.list;
         are_breaks = found.are_breaks;
         some = found.some;
-        place_spelled = subst (λ p. IsFractionWord Lenient word p) (sym found.place_is) spelled;
-        points_spelled = subst (λ bs. AllZip SpellBreak found.points bs) (sym found.breaks_are) found.spelled;
+        place_spelled = subst (λ p. (rule_in Lenient place_form).Spells ws1 p) (sym found.place_is) spelled;
+        points_spelled = subst (λ bs. AllZip spelled_break_rule.Spells found.points bs) (sym found.breaks_are) found.spelled;
         function_is = found.function_is;
         lines_are = refl;
       };
@@ -108,13 +108,13 @@ breaks_have_lines text f rest (
 -- ---- from the lines to the grammar
 
 -- the line of a breakpoint is not the last one
-not_the_end : (words more : List (List ℕ)) → point_words words ≡ codes "end" ∷ more → ⊥
+not_the_end : (words more : List (List ℕ)) → codes "point" ∷ words ≡ codes "end" ∷ more → ⊥
 not_the_end words more e = cc
 
 -- the lines of the breakpoints behind those of s, up to all of the list, are read in turn
 lines_in_turn : (all : BreakList) (f : FunctionData) (rest : List ℕ) → AreBreaks all → all.breaks ≢ [] → IsOfBreaks all f →
     (points : List (List (List ℕ))) (back : List Break) (s : BreakList) (text : List ℕ) → AreBreaks s → s.place ≡ all.place →
-    all.breaks ≡ s.breaks ++ back → AllZip SpellBreak points back → HasLines Lenient text (points ++ end_words ∷ []) rest →
+    all.breaks ≡ s.breaks ++ back → AllZip spelled_break_rule.Spells points back → HasLines Lenient text (points ++ end_words ∷ []) rest →
     ReadsInTurn (λ t. (next_break t).Reads) f rest s text
 lines_in_turn all f rest whole some of [] [] s text are place split spelled (start, next, line, at) =
     let same : all ≡ s = one_break_list all s whole are (sym place) (split ∙ append-nil s.breaks) in
@@ -122,17 +122,17 @@ lines_in_turn all f rest whole some of [] [] s text are place split spelled (sta
     last s text
     (inl (
       (subst (λ (u : BreakList). u.breaks ≢ []) same some, ([], (start, rest, end))),
-      (f, (start, end_words, end, (refl, subst (λ (u : BreakList). IsOfBreaks u f) same of)), refl),
+      (f, (start, end_words, end, (tt, refl, subst (λ (u : BreakList). IsOfBreaks u f) same of)), refl),
     ))
 lines_in_turn all f rest whole some of [] (b ∷ back) s text are place split spelled lines = absurd spelled
 lines_in_turn all f rest whole some of (words ∷ points) [] s text are place split spelled lines = absurd spelled
 lines_in_turn all f rest whole some of (words ∷ points) (b ∷ back) s text are place split (spelled, more) (start, next, line, lines) =
     let (order, follows) = next_follows all s b back whole are place split in
     let t : BreakList = record { place = s.place; order = order; breaks = s.breaks ++ b ∷ [] } in
-    let (word, ws, is, form, place_spelled, limits_spelled) = spelled in
+    let (numbers, (is, h, u), b_is) = spelled in
     onward s text t next
     (inr (
-      λ begins. other_word Lenient text start words (codes "end") next line (λ tail e. not_the_end (word ∷ ws) tail (sym is ∙ e)) begins.1,
+      λ begins. other_word Lenient text start words (codes "end") next line (λ tail e. not_the_end _ tail (sym is ∙ e)) begins.1,
       (t, (start, words, line, (b, spelled, follows)), refl),
     ))
     (lines_in_turn all f rest whole some of points back t next (breaks_kept s t b are follows) place
@@ -153,9 +153,9 @@ lines_are_breaks text f rest h =
         n,
         (
           start1,
-          place_words are.place_word,
+          are.place,
           line,
-          (are.place_word, list.place, refl, are.place_spelled, whole.inside, few, refl),
+          (list.place, are.place_spelled, (whole.inside, few, refl)),
         ),
         lines_in_turn list f rest whole are.some are.function_is are.points list.breaks (no_breaks list.place) n
             (breaks_of_none list.place whole.inside few) refl refl are.points_spelled lines,

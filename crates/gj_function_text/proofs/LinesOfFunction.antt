@@ -1,9 +1,7 @@
 -- A function text has the lines of its function, and a text that has them is one.
-use Rattle.std.proofs.Common.{◌≡◌, ◌⊎◌, ⊎_elim, inl, inr, codes, ℕ, zero, suc, pos, List, [], ◌∷◌, ◌++◌, length, map, refl, sym, ap, subst, subst₂, ◌∙◌, append-nil, append_assoc}
+use Rattle.std.proofs.Common.{◌≡◌, ◌⊎◌, ⊎_elim, inl, inr, codes, ℕ, zero, suc, List, [], ◌∷◌, ◌++◌, length, refl, sym, ap, subst, subst₂, ◌∙◌, append-nil, append_assoc}
 use Rattle.std.specs.List.{AllZip}
 use Rattle.std.proofs.lemmas.Grind.{flat_map-append}
-use Rattle.gj_frac.specs.Fraction.{IsRatio}
-use Rattle.gj_lex.specs.SpelledNumbers.{IsCountWord}
 use Rattle.gj_lex.specs.Parts.{BeginsWithLine, BeginsWithWord}
 use Rattle.gj_lex.specs.TextLines.{HasLines, HasNextLine}
 use Rattle.gj_lex.specs.declared.spelling.Spelling.TheVariants.{Lenient}
@@ -14,7 +12,7 @@ use Rattle.gj_shape.specs.Points.{fractions_of, all_fractions, ArePointsOf}
 use Rattle.gj_shape.specs.declared.points.Point.{Point}
 use Rattle.gj_shape.proofs.GivenPoints.{given_by_points, points_given, good_points, count_of_points}
 use Rattle.gj_shape.proofs.LeastDenominator.{within_bounds_closed}
-use Rattle.gj_function_lines.specs.FunctionGrammar.{SpellPoint, ArePointWords, order_words, place_words, point_words, points_part, function_part}
+use Rattle.gj_function_lines.specs.FunctionGrammar.{order_rule, place_rule, spelled_point_rule, points_part, function_part}
 use Rattle.gj_function_text.specs.BreaksText.{end_words}
 use Rattle.gj_function_text.specs.FunctionText.{title_words, breaks_title_words, points_text, IsFunctionText}
 use Rattle.gj_function_text.specs.FamilyLine.{FamilyWords, gmic_words, half_words, two_slope_words, words_of_line}
@@ -40,38 +38,30 @@ lines_split text rest (words ∷ lines) more (start, next, line, h) =
 
 -- the lines of the points behind these
 record HasPointLines (text rest : List ℕ) (before points : List Point) : Type 0 where
-  fractions : List (List (List ℕ))
+  spelling : List (List (List ℕ))
   added : List Point
   points_are : points ≡ before ++ added
-  spelled : AllZip (SpellPoint Lenient) fractions added
-  lines : HasLines Lenient text (map point_words fractions) rest
+  spelled : AllZip (spelled_point_rule Lenient).Spells spelling added
+  lines : HasLines Lenient text spelling rest
 
 points_have_lines : (n : ℕ) (before : List Point) (text rest : List ℕ) (points : List Point) →
     (points_part Lenient n before).Reads text points rest → HasPointLines text rest before points
 points_have_lines zero before text rest points (is, at) = record {
-  fractions = [];
+  spelling = [];
   added = [];
   points_are = is ∙ sym (append-nil before);
   spelled = tt;
   lines = at;
 }
-points_have_lines (suc n) before text rest points (p, next, (start, words, line, (ws, is, form, spelled, within)), h) =
+points_have_lines (suc n) before text rest points (p, next, (start, words, line, (q, spelled, (p_is, within))), h) =
     let more = points_have_lines n (before ++ p ∷ []) next rest points h in
     record {
-      fractions = ws ∷ more.fractions;
+      spelling = words ∷ more.spelling;
       added = p ∷ more.added;
       points_are = more.points_are ∙ append_assoc before (p ∷ []) more.added;
-      spelled = (spelled, more.spelled);
-      lines = (start, next, subst (λ vs. HasNextLine start vs next text) is line, more.lines);
+      spelled = (subst (λ r. (spelled_point_rule Lenient).Spells words r) (sym p_is) spelled, more.spelled);
+      lines = (start, next, line, more.lines);
     }
-
--- words that spell a point are one or three
-point_form : (ws : List (List ℕ)) (p : Point) → SpellPoint Lenient ws p → ArePointWords Lenient ws
-point_form [] p h = h
-point_form (w ∷ []) p h = tt
-point_form (w ∷ v ∷ []) p h = h
-point_form (w ∷ v ∷ u ∷ []) p h = tt
-point_form (w ∷ v ∷ u ∷ t ∷ ws) p h = h
 
 -- the first points of some that are within bounds
 first_points : (before more : List Point) (p : Point) → AreWithinBounds (all_fractions (before ++ p ∷ more)) →
@@ -81,19 +71,19 @@ first_points before more p h =
     (subst AreWithinBounds
     (ap all_fractions (sym (append_assoc before (p ∷ []) more)) ∙ flat_map-append fractions_of (before ++ p ∷ []) more) h)
 
-points_from_lines : (fractions : List (List (List ℕ))) (added before : List Point) (text rest : List ℕ) →
-    AllZip (SpellPoint Lenient) fractions added → HasLines Lenient text (map point_words fractions) rest →
+points_from_lines : (lines : List (List (List ℕ))) (added before : List Point) (text rest : List ℕ) →
+    AllZip (spelled_point_rule Lenient).Spells lines added → HasLines Lenient text lines rest →
     AreWithinBounds (all_fractions (before ++ added)) → (points_part Lenient (length added) before).Reads text (before ++ added) rest
 points_from_lines [] [] before text rest spelled h within = (append-nil before, h)
 points_from_lines [] (p ∷ added) before text rest spelled h within = absurd spelled
-points_from_lines (ws ∷ fractions) [] before text rest spelled h within = absurd spelled
-points_from_lines (ws ∷ fractions) (p ∷ added) before text rest (spelled, more) (start, next, line, h) within =
+points_from_lines (words ∷ lines) [] before text rest spelled h within = absurd spelled
+points_from_lines (words ∷ lines) (p ∷ added) before text rest (spelled, more) (start, next, line, h) within =
     let same : (before ++ p ∷ []) ++ added ≡ before ++ p ∷ added = append_assoc before (p ∷ []) added in
-    let behind = points_from_lines fractions added (before ++ p ∷ []) next rest more h
+    let behind = points_from_lines lines added (before ++ p ∷ []) next rest more h
     (subst (λ ps. AreWithinBounds (all_fractions ps)) (sym same) within) in (
       p,
       next,
-      (start, point_words ws, line, (ws, refl, point_form ws p spelled, spelled, first_points before added p within)),
+      (start, words, line, (p, spelled, (refl, first_points before added p within))),
       subst (λ ps. (points_part Lenient (length added) (before ++ p ∷ [])).Reads next ps rest) same behind,
     )
 
@@ -136,23 +126,11 @@ points_text_has_lines text f rest (
       (
         q,
         m1,
-        (s1, ws1, order_line, (word, order_is, count, fits)),
+        (s1, ws1, order_line, order),
         (
           k,
           m2,
-          (
-            s2,
-            ws2,
-            place_line,
-            (
-              place_word,
-              x,
-              place_is,
-              spelled,
-              place_fits,
-              ratio,
-            ),
-          ),
+          (s2, ws2, place_line, place),
           (points, points_read, given),
         ),
       ),
@@ -164,32 +142,20 @@ points_text_has_lines text f rest (
     let end : HasLines Lenient n (end_words ∷ []) rest = (s3, r, subst (λ vs. HasNextLine s3 vs r n) last_is last, at) in
     let found : HasLinesOfFunction text g rest = record {
       within = given.within;
-      lines = title_words ∷ order_words word ∷ place_words place_word ∷ map point_words pts.fractions ++ end_words ∷ [];
+      lines = title_words ∷ ws1 ∷ ws2 ∷ pts.spelling ++ end_words ∷ [];
       has_lines = (
         s,
         m,
         subst (λ vs. HasNextLine s vs m text) title_is title,
-        (
-          s1,
-          m1,
-          subst (λ vs. HasNextLine s1 vs m1 m) order_is order_line,
-          (
-            s2,
-            m2,
-            subst (λ vs. HasNextLine s2 vs m2 m1) place_is place_line,
-            lines_joined m2 n rest (map point_words pts.fractions) (end_words ∷ []) pts.lines end,
-          ),
-        ),
+        (s1, m1, order_line, (s2, m2, place_line, lines_joined m2 n rest pts.spelling (end_words ∷ []) pts.lines end)),
       );
       are_lines = record {
-        order_word = word;
-        place_word = place_word;
-        fractions = pts.fractions;
-        place = x;
+        order = ws1;
+        place = ws2;
+        point_lines = pts.spelling;
         points = pts.added;
-        order_is = subst (λ j. IsCountWord Lenient word j) (sym given.order) count;
-        place_spelled = spelled;
-        place_is = subst₂ (λ i j. IsRatio x (pos i) (pos j)) (sym given.place) (sym given.order) ratio;
+        order_spelled = subst (λ j. (order_rule Lenient).Spells ws1 j) (sym given.order) order;
+        place_spelled = subst₂ (λ i j. (place_rule Lenient j).Spells ws2 i) (sym given.place) (sym given.order) place;
         points_spelled = pts.spelled;
         points_are = subst (ArePointsOf g) pts.points_are (points_given q k points g given);
         lines_are = refl;
@@ -211,22 +177,17 @@ function_lines_are_text text f rest h =
     let within = h.within in
     let (s, m, title, (s1, m1, order_line, (s2, m2, place_line, more))) =
     subst (λ ls. HasLines Lenient text ls rest) are.lines_are h.has_lines in
-    let (n, point_lines, (s3, r, last, at)) = lines_split m2 rest (map point_words are.fractions) (end_words ∷ []) more in
+    let (n, point_lines, (s3, r, last, at)) = lines_split m2 rest are.point_lines (end_words ∷ []) more in
     let points_read = subst (λ j. (points_part Lenient j []).Reads m2 are.points n) (count_of_points are.points f within are.points_are)
-    (points_from_lines are.fractions are.points [] m2 n are.points_spelled point_lines (good_points are.points f within are.points_are)) in
+    (points_from_lines are.point_lines are.points [] m2 n are.points_spelled point_lines (good_points are.points f within are.points_are)) in
     let lines : (function_part Lenient).Reads m f n = (
       f.order,
       m1,
-      (s1, order_words are.order_word, order_line, (are.order_word, refl, are.order_is, (within.order_low, within.order_high))),
+      (s1, are.order, order_line, are.order_spelled),
       (
         f.place,
         m2,
-        (
-          s2,
-          place_words are.place_word,
-          place_line,
-          (are.place_word, are.place, refl, are.place_spelled, (within.place_low, within.place_high), are.place_is),
-        ),
+        (s2, are.place, place_line, are.place_spelled),
         (are.points, points_read, given_by_points are.points f within are.points_are),
       ),
     ) in

@@ -1,17 +1,16 @@
 -- Function texts by the words of their lines (own).
-use Rattle.std.specs.Prelude.{ℕ, pos, ◌≡◌, ◌≢◌, List, [], ◌∷◌, ◌++◌, map}
+use Rattle.std.specs.Prelude.{ℕ, ◌≡◌, ◌≢◌, List, [], ◌∷◌, ◌++◌}
 use Rattle.std.specs.List.{AllZip}
-use Rattle.gj_frac.specs.declared.Frac.{Frac}
-use Rattle.gj_frac.specs.Fraction.{IsRatio}
-use Rattle.gj_lex.specs.SpelledNumbers.{IsCountWord, IsFractionWord}
 use Rattle.gj_lex.specs.TextLines.{HasLines}
 use Rattle.gj_lex.specs.declared.spelling.Spelling.TheVariants.{Lenient}
 use Rattle.gj_shape.specs.FunctionData.{FunctionData, IsWithinBounds}
 use Rattle.gj_shape.specs.Points.{ArePointsOf}
 use Rattle.gj_shape.specs.Breaks.{BreakList, AreBreaks, IsOfBreaks}
 use Rattle.gj_shape.specs.declared.points.Point.{Point}
-use Rattle.gj_function_lines.specs.FunctionGrammar.{SpellPoint, order_words, place_words, point_words}
-use Rattle.gj_function_lines.specs.BreakLines.{SpellBreak}
+use Rattle.gj_forms.specs.SpelledForms.{rule_in}
+use Rattle.gj_function_lines.specs.FunctionLines.{place_form}
+use Rattle.gj_function_lines.specs.FunctionGrammar.{order_rule, place_rule, spelled_point_rule}
+use Rattle.gj_function_lines.specs.BreakLines.{spelled_break_rule}
 use Rattle.gj_function_text.specs.FamilyLine.{FamilyWords, words_of_line, Names}
 use Rattle.gj_function_text.specs.BreaksText.{end_words}
 use Rattle.gj_function_text.specs.FunctionText.{title_words, breaks_title_words}
@@ -20,17 +19,15 @@ use Rattle.gj_function_text.specs.FunctionText.{title_words, breaks_title_words}
 
 -- the lines are `gj-function 1`, `order Q`, `f F`, a line `point V` or `point L V R` for each point of the function f, and `end`
 pub record AreLinesOf (f : FunctionData) (lines : List (List (List ℕ))) : Type 0 where
-  pub order_word : List ℕ
-  pub place_word : List ℕ
-  pub fractions : List (List (List ℕ))
-  pub place : Frac
+  pub order : List (List ℕ)
+  pub place : List (List ℕ)
+  pub point_lines : List (List (List ℕ))
   pub points : List Point
-  pub order_is : IsCountWord Lenient order_word f.order
-  pub place_spelled : IsFractionWord Lenient place_word place
-  pub place_is : IsRatio place (pos f.place) (pos f.order)
-  pub points_spelled : AllZip (SpellPoint Lenient) fractions points
+  pub order_spelled : (order_rule Lenient).Spells order f.order
+  pub place_spelled : (place_rule Lenient f.order).Spells place f.place
+  pub points_spelled : AllZip (spelled_point_rule Lenient).Spells point_lines points
   pub points_are : ArePointsOf f points
-  pub lines_are : lines ≡ title_words ∷ order_words order_word ∷ place_words place_word ∷ map point_words fractions ++ end_words ∷ []
+  pub lines_are : lines ≡ title_words ∷ order ∷ place ∷ point_lines ++ end_words ∷ []
 
 -- the text has the lines of f, a function within the bounds, and the rest follows
 pub record HasLinesOfFunction (text : List ℕ) (f : FunctionData) (rest : List ℕ) : Type 0 where
@@ -52,15 +49,15 @@ pub record HasLinesOfFamily (text : List ℕ) (f : FunctionData) (rest : List �
 -- the lines are `gj-function 2`, `f F` with F between 0 and 1, a line `point X V` or `point X L V R` for each of one or more
 -- breakpoints, and `end`; f is the function of the breakpoints, of order the least common multiple of all denominators
 pub record AreLinesOfBreaks (f : FunctionData) (lines : List (List (List ℕ))) : Type 0 where
-  pub place_word : List ℕ
+  pub place : List (List ℕ)
   pub points : List (List (List ℕ))
   pub list : BreakList
   pub are_breaks : AreBreaks list
   pub some : list.breaks ≢ []
-  pub place_spelled : IsFractionWord Lenient place_word list.place
-  pub points_spelled : AllZip SpellBreak points list.breaks
+  pub place_spelled : (rule_in Lenient place_form).Spells place list.place
+  pub points_spelled : AllZip spelled_break_rule.Spells points list.breaks
   pub function_is : IsOfBreaks list f
-  pub lines_are : lines ≡ breaks_title_words ∷ place_words place_word ∷ points ++ end_words ∷ []
+  pub lines_are : lines ≡ breaks_title_words ∷ place ∷ points ++ end_words ∷ []
 
 -- the text has the lines of f by its breakpoints, and the rest follows
 pub record HasLinesOfBreaks (text : List ℕ) (f : FunctionData) (rest : List ℕ) : Type 0 where

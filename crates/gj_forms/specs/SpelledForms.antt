@@ -1,0 +1,49 @@
+-- Lines of a form in either spelling, and things that are made of what a line tells (own).
+use Rattle.std.specs.Prelude.{ℕ, ◌≡◌, ◌⊎◌, List, [], ◌∷◌}
+use Rattle.std.specs.Fmt.{signed_decimal}
+use Rattle.gj_frac.specs.Fraction.{Fits}
+use Rattle.gj_lex.specs.SpelledNumbers.{IsCountWord, IsFractionWord}
+use Rattle.gj_lex.specs.Parts.{LineRule}
+use Rattle.gj_lex.specs.declared.spelling.Spelling.{Spelling}
+use Rattle.gj_lex.specs.declared.reason.Reason.{Reason}
+use Rattle.gj_lex.specs.declared.reason.Reason.TheVariants as reason
+use Rattle.gj_forms.specs.LineForms.{Field, with_numbers, first_of, others_of, LineForm, AreOfForm}
+use Rattle.gj_forms.specs.LineForms.Field.{word, fraction, count, whole}
+
+-- in the places of numbers stand words that spell them
+abbrev pub SpellNumbers : Spelling → List Field → List (List ℕ) → Type 0
+SpellNumbers s [] words = Unit {0}
+SpellNumbers s (word w ∷ fields) words = SpellNumbers s fields (others_of words)
+SpellNumbers s (fraction x ∷ fields) words = IsFractionWord s (first_of words) x × SpellNumbers s fields (others_of words)
+SpellNumbers s (count n ∷ fields) words = IsCountWord s (first_of words) n × SpellNumbers s fields (others_of words)
+SpellNumbers s (whole n ∷ fields) words = ((first_of words ≡ signed_decimal n) × Fits n) × SpellNumbers s fields (others_of words)
+
+-- the words spell the thing
+abbrev pub Spell : {A : Type 0} → Spelling → LineForm A → List (List ℕ) → A → Type 0
+Spell s form words a = (words ≡ with_numbers (form.fields a) words) × SpellNumbers s (form.fields a) words × form.HasLine a
+
+-- the rule by which a line of the form is read, in either spelling
+abbrev pub rule_in : {A : Type 0} → Spelling → LineForm A → LineRule A
+rule_in {A} s form = record {
+  Spells = Spell s form;
+  Breaks = λ words e. ((e ≡ reason.Form) × (AreOfForm form words → ⊥))
+      ⊎ ((e ≡ reason.Number) × AreOfForm form words × ((a : A) → Spell s form words a → ⊥));
+}
+
+-- a line whose thing makes another; a thing that makes none is refused for a reason of its own
+abbrev pub made_rule : {A B : Type 0} → (A → B → Type 0) → (A → Reason → Type 0) → LineRule A → LineRule B
+made_rule {A} Makes Refused rule = record {
+  Spells = λ words b. (a : A) × rule.Spells words a × Makes a b;
+  Breaks = λ words e. rule.Breaks words e ⊎ ((a : A) × rule.Spells words a × Refused a e);
+}
+
+-- a line whose thing makes another, always
+abbrev pub turned_rule : {A B : Type 0} → (A → B) → LineRule A → LineRule B
+turned_rule make rule = made_rule (λ a b. b ≡ make a) (λ a e. ⊥) rule
+
+-- a line with such words has not the form
+abbrev pub barred_rule : {A : Type 0} → (List (List ℕ) → Type 0) → LineRule A → LineRule A
+barred_rule AreBarred rule = record {
+  Spells = λ words a. (AreBarred words → ⊥) × rule.Spells words a;
+  Breaks = λ words e. ((e ≡ reason.Form) × AreBarred words) ⊎ ((AreBarred words → ⊥) × rule.Breaks words e);
+}
