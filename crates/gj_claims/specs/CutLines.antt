@@ -1,12 +1,11 @@
 -- The lines of rows whose columns are all whole (Gomory and Johnson 1972; the form is own).
-use Rattle.std.specs.Prelude.{ℕ, ◌≡◌, List, [], get_or}
+use Rattle.std.specs.Prelude.{ℕ, ◌≡◌, ◌<◌, List, [], All, get_or}
 use Rattle.std.specs.List.{AllZip}
-use Rattle.gj_frac.specs.Fraction.{IsWhole}
 use Rattle.gj_row.specs.declared.tableau.Entry.{Entry}
 use Rattle.gj_row.specs.declared.tableau.Row.{Row}
-use Rattle.gj_rule.specs.Kind.{IsKindValue}
-use Rattle.gj_rule.specs.declared.kind.RuleKind.{RuleKind}
-use Rattle.gj_cut.specs.RowCuts.{HasPart}
+use Rattle.gj_cut.specs.declared.cut.RowCut.{RowCut}
+use Rattle.gj_cut.specs.declared.cut.RowCut.TheVariants as row_cut
+use Rattle.gj_listings.specs.MixedLines.{IsNamedTerm}
 use Rattle.gj_proof.specs.Rules.{MeetsFraction, MeetsValue}
 use Rattle.gj_proof.specs.declared.cut.CutLine.{CutLine}
 use Rattle.gj_proof.specs.declared.cut.CutLine.TheVariants.{Cut, Skip}
@@ -31,16 +30,15 @@ IsLineFor r columns row (Skip name right reason) = (name ≡ row.basic) × (righ
 
 -- ---- what is made
 
--- the term of an entry by the kind: the name of its column, the entry, and the kind's value there
-pub record IsTermOfEntry (kind : RuleKind) (columns : List (List ℕ)) (e : Entry) (t : CutTerm) : Type 0 where
-  pub name : t.name ≡ get_or columns e.column []
-  pub entry : t.entry ≡ e.value
-  pub value : IsKindValue kind t.entry t.cut
+-- the columns of the terms of a cut are among so many
+abbrev pub HasColumns : ℕ → RowCut → Type 0
+HasColumns n (row_cut.Cut terms) = All (λ t. t.column < n) terms
+HasColumns n row_cut.Integral = Unit {0}
+HasColumns n row_cut.OtherFraction = Unit {0}
 
--- the line of a row by the kind
-abbrev pub IsLineOfKind : RuleKind → List (List ℕ) → Row → CutLine → Type 0
-IsLineOfKind kind columns row (Cut name right terms) = (name ≡ row.basic) × (right ≡ row.rhs) × (IsWhole right → ⊥)
-    × HasPart kind right × AllZip (IsTermOfEntry kind columns) row.entries terms
-IsLineOfKind kind columns row (Skip name right Integral) = (name ≡ row.basic) × (right ≡ row.rhs) × IsWhole right
-IsLineOfKind kind columns row (Skip name right Other) = (name ≡ row.basic) × (right ≡ row.rhs) × (IsWhole right → ⊥)
-    × (HasPart kind right → ⊥)
+-- the line of a row with this cut, with the names of its columns; or why the row has no cut
+abbrev pub NamesCut : List (List ℕ) → Row → RowCut → CutLine → Type 0
+NamesCut columns row (row_cut.Cut terms) (Cut name right named) = (name ≡ row.basic) × (right ≡ row.rhs) × AllZip (IsNamedTerm columns) terms named
+NamesCut columns row row_cut.Integral (Skip name right Integral) = (name ≡ row.basic) × (right ≡ row.rhs)
+NamesCut columns row row_cut.OtherFraction (Skip name right Other) = (name ≡ row.basic) × (right ≡ row.rhs)
+NamesCut columns row cut line = ⊥

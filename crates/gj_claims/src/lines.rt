@@ -1,21 +1,21 @@
 //! The lines of the cuts of a tableau whose columns are all whole, with the names of its columns.
-ghost use Rattle.std.specs.Prelude.{◌≡◌, ◌<◌, [], All, IfOk, get_or, length};
+ghost use Rattle.std.specs.Prelude.{All, IfOk, length};
 ghost use Rattle.std.specs.List.{AllZip};
 ghost use Rattle.gj_theory.specs.Cuts.{IsValueOf};
 ghost use Rattle.gj_row.specs.TableauLimits.{IsTableau, IsRowWithinLimits};
 ghost use Rattle.gj_rule.specs.Kept.{Evaluates};
-ghost use Rattle.gj_rule.specs.Kind.{IsKind};
 ghost use Rattle.gj_shape.specs.Limits.{IsRowNumber};
 ghost use Rattle.gj_rule.specs.declared.kind.RuleKind.TheVariants as kind;
 ghost use Rattle.gj_proof.specs.declared.cut.CutRule.TheVariants.{Gmic, Table};
-ghost use Rattle.gj_claims.specs.CutLines.{IsLineFor, IsLineOfKind, IsTermOfEntry};
+ghost use Rattle.gj_claims.specs.CutLines.{HasColumns, IsLineFor, NamesCut};
 
-use gj_cut::{has_part, part_of};
+use gj_cut::{RowCut, cut_row, gmic_cut_row};
 use gj_frac::Frac;
 use gj_lex::Name;
-use gj_proof::{CutLine, CutRule, CutTerm, SkipReason};
-use gj_row::{Entry, Row, Tableau};
-use gj_rule::{Evaluator, Rule, RuleKind, gmic_value, table_value};
+use gj_listings::named_terms;
+use gj_proof::{CutLine, CutRule, SkipReason};
+use gj_row::{Row, Tableau};
+use gj_rule::{Evaluator, Rule, RuleKind, table_value};
 use gj_shape::{List, Shape};
 use std::alloc::{AllocError, Global};
 
@@ -45,39 +45,10 @@ fn gmic_lines(alloc: Global, columns: &[Name], rows: &[Row]) -> Result<Vec<CutLi
 {
     let mut lines = Vec::with_capacity(alloc, rows.len())?;
     for row in rows {
-        lines.push(gmic_line(alloc, columns, row)?)?;
+        let cut = gmic_cut_row(alloc, row)?;
+        lines.push(line_of(alloc, columns, row, &cut)?)?;
     }
     Ok(lines)
-}
-
-/// The line of a row by the mixed-integer cut.
-fn gmic_line(alloc: Global, columns: &[Name], row: &Row) -> Result<CutLine, AllocError>
-    requires { IsRowWithinLimits (length columns.now) row.now }
-    ensures { IfOk result (IsLineFor Gmic columns.now row.now) }
-{
-    if row.rhs.den() == 1 {
-        let basic = row.basic.copy(alloc)?;
-        return Ok(CutLine::Skip(basic, row.rhs, SkipReason::Integral));
-    }
-    let f = part_of(row.rhs);
-    line_of_kind(alloc, RuleKind::Gmic(f), |x| gmic_value(f, x), columns, row)
-}
-
-/// The line of a row by the rule of this kind with this evaluator.
-fn line_of_kind<E: Evaluator>(
-    alloc: Global,
-    rule_kind: RuleKind,
-    eval: E,
-    columns: &[Name],
-    row: &Row,
-) -> Result<CutLine, AllocError>
-    requires kind { IsKind rule_kind }
-    requires evaluates { Evaluates E.can_answer E.answers rule_kind eval }
-    requires limits { IsRowWithinLimits (length columns.now) row.now }
-    ensures { IfOk result (IsLineOfKind rule_kind columns.now row.now) }
-{
-    let rule = Rule::new(rule_kind, eval);
-    line_by(alloc, &rule, columns, row)
 }
 
 /// The line of each row by the function.
@@ -114,59 +85,24 @@ fn lines_by<E: Evaluator>(
     let rule = Rule::new(RuleKind::Table(shape), eval);
     let mut lines = Vec::with_capacity(alloc, rows.len())?;
     for row in rows {
-        lines.push(line_by(alloc, &rule, columns, row)?)?;
+        let cut = cut_row(alloc, &rule, row)?;
+        lines.push(line_of(alloc, columns, row, &cut)?)?;
     }
     Ok(lines)
 }
 
-/// The line of a row by a rule: its cut, with each term made with the name of its column.
-fn line_by<E: Evaluator>(
-    alloc: Global,
-    rule: &Rule<E>,
-    columns: &[Name],
-    row: &Row,
-) -> Result<CutLine, AllocError>
-    requires { IsRowWithinLimits (length columns.now) row.now }
-    ensures { IfOk result (IsLineOfKind rule.now.kind columns.now row.now) }
+/// The line of a row with this cut, with the names of its columns.
+fn line_of(alloc: Global, columns: &[Name], row: &Row, cut: &RowCut) -> Result<CutLine, AllocError>
+    requires { HasColumns (length columns.now) cut.now }
+    ensures { IfOk result (NamesCut columns.now row.now cut.now) }
 {
     let basic = row.basic.copy(alloc)?;
-    if row.rhs.den() == 1 {
-        return Ok(CutLine::Skip(basic, row.rhs, SkipReason::Integral));
+    match cut {
+        RowCut::Cut(terms) => {
+            let named = named_terms(alloc, columns, terms.as_slice())?;
+            Ok(CutLine::Cut(basic, row.rhs, List::of(named)))
+        }
+        RowCut::Integral => Ok(CutLine::Skip(basic, row.rhs, SkipReason::Integral)),
+        RowCut::OtherFraction => Ok(CutLine::Skip(basic, row.rhs, SkipReason::Other)),
     }
-    if !has_part(rule, row.rhs) {
-        return Ok(CutLine::Skip(basic, row.rhs, SkipReason::Other));
-    }
-    let terms = terms_of(alloc, rule, columns, row.entries.as_slice())?;
-    Ok(CutLine::Cut(basic, row.rhs, List::of(terms)))
-}
-
-/// The terms of the entries by a rule, with the names of their columns.
-fn terms_of<E: Evaluator>(
-    alloc: Global,
-    rule: &Rule<E>,
-    columns: &[Name],
-    entries: &[Entry],
-) -> Result<Vec<CutTerm>, AllocError>
-    requires range { All (λ entry. IsRowNumber entry.value) entries.now }
-    requires below { All (λ entry. entry.column < length columns.now) entries.now }
-    ensures { IfOk result (λ terms. AllZip (IsTermOfEntry rule.now.kind columns.now) entries.now terms.items) }
-{
-    let mut terms = Vec::with_capacity(alloc, entries.len())?;
-    for entry in entries {
-        let name = name_of(alloc, columns, entry.column)?;
-        terms.push(CutTerm {
-            name,
-            entry: entry.value,
-            cut: rule.at(entry.value),
-        })?;
-    }
-    Ok(terms)
-}
-
-/// The name of a column.
-fn name_of(alloc: Global, columns: &[Name], column: u32) -> Result<Name, AllocError>
-    requires { column < length columns.now }
-    ensures { IfOk result (λ name. name ≡ get_or columns.now column []) }
-{
-    columns[column as usize].copy(alloc)
 }

@@ -16,9 +16,6 @@ pub fn minimality_proof(shape: Shape) -> Proof
     ensures claim { IsMinimalityClaim shape result }
     ensures bounded { IsBounded result }
 {
-    // the call tells the proofs the bounds of the function
-    let order = shape.order();
-    prove!(order >= 2);
     match find_violation(&shape) {
         None => Proof::of(Claim::Minimal(shape)),
         Some(violation) => Proof::of(Claim::NotMinimal(shape, violation)),

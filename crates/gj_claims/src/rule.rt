@@ -15,11 +15,6 @@ pub fn violation_of_rule(rule: &CutRule) -> Option<Violation>
 {
     match rule {
         CutRule::Gmic => None,
-        CutRule::Table(shape) => {
-            // the call tells the proofs the bounds of the function
-            let order = shape.order();
-            prove!(order >= 2);
-            find_violation(shape)
-        }
+        CutRule::Table(shape) => find_violation(shape),
     }
 }

@@ -5,6 +5,9 @@ ghost use Rattle.gj_listings.specs.Columns.{begins_with_c, continuous_columns};
 use gj_lex::Name;
 use std::alloc::{AllocError, Global};
 
+/// What the name of a continuous column begins with.
+const CONTINUOUS: &[u8] = b"c:";
+
 /// Of each column, whether it is continuous: its name begins with `c:`.
 pub(crate) fn continuous_columns(alloc: Global, columns: &[Name]) -> Result<Vec<bool>, AllocError>
     ensures { IfOk result (λ flags. flags.items ≡ continuous_columns columns.now) }
@@ -20,8 +23,5 @@ pub(crate) fn continuous_columns(alloc: Global, columns: &[Name]) -> Result<Vec<
 fn begins_with_c(name: &[u8]) -> bool
     ensures { result ≡ begins_with_c name.now }
 {
-    if name.len() < 2 {
-        return false;
-    }
-    name[0] == b'c' && name[1] == b':'
+    name.starts_with(CONTINUOUS)
 }

@@ -44,28 +44,24 @@ pub(crate) fn line_of(
 }
 
 /// The terms with the names of their columns. The only error is want of memory.
-fn named_terms(alloc: Global, columns: &[Name], terms: &[Term]) -> Result<Vec<CutTerm>, AllocError>
+pub fn named_terms(
+    alloc: Global,
+    columns: &[Name],
+    terms: &[Term],
+) -> Result<Vec<CutTerm>, AllocError>
     requires { All (λ t. t.column < length columns.now) terms.now }
     ensures { IfOk result (λ named. AllZip (IsNamedTerm columns.now) terms.now named.items) }
 {
     let mut named = Vec::with_capacity(alloc, terms.len())?;
     for term in terms {
-        named.push(named_term(alloc, columns, term)?)?;
+        let name = name_of(alloc, columns, term.column)?;
+        named.push(CutTerm {
+            name,
+            entry: term.entry,
+            cut: term.cut,
+        })?;
     }
     Ok(named)
-}
-
-/// The term with the name of its column.
-fn named_term(alloc: Global, columns: &[Name], term: &Term) -> Result<CutTerm, AllocError>
-    requires { term.now.column < length columns.now }
-    ensures { IfOk result (IsNamedTerm columns.now term.now) }
-{
-    let name = name_of(alloc, columns, term.column)?;
-    Ok(CutTerm {
-        name,
-        entry: term.entry,
-        cut: term.cut,
-    })
 }
 
 /// The name of a column.

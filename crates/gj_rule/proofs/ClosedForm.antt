@@ -1,14 +1,14 @@
 -- The closed form of the mixed-integer cut from quotients of fractions.
-use Rattle.std.proofs.Common.{◌≡◌, ◌<◌, ◌≤◌, ◌^◌, ℤ, pos, ◌-ℤ◌, ◌*ℤ◌, ◌<ℤ◌, ◌≤ℤ◌, ◌+ℤ◌, unsigned_abs, sym, ap, ap₂, subst, subst₂, ◌∙◌, arith, to_z, of_z}
+use Rattle.std.proofs.Common.{◌≡◌, ◌<◌, ◌≤◌, ◌^◌, ℤ, pos, ◌-ℤ◌, ◌*ℤ◌, ◌<ℤ◌, ◌≤ℤ◌, ◌+ℤ◌, unsigned_abs, refl, sym, ap, ap₂, subst, subst₂, ◌∙◌, arith, to_z, of_z}
 use Rattle.std.proofs.lemmas.Int.{ints}
 use Rattle.gj_frac.specs.declared.Frac.{Frac}
 use Rattle.gj_frac.specs.Floor.{IsFloor}
 use Rattle.gj_frac.specs.Fraction.{IsRatio, LessValue, SameValue, fraction_of, quotient_of, numerator, denominator}
 use Rattle.gj_frac.specs.Lowest.{IsLowest}
-use Rattle.gj_frac.proofs.Floors.{quotient_is_floor, rest_from_floor, rest_lowest, complement_lowest}
+use Rattle.gj_frac.proofs.Floors.{quotient_is_floor, rest_from_floor, rest_lowest}
 use Rattle.gj_frac.proofs.Reduced.{read_part}
 use Rattle.gj_frac.proofs.SameValues.{parts_from_is}
-use Rattle.gj_lemmas.proofs.Integers.{one_mul_z, add_mul_z}
+use Rattle.gj_lemmas.proofs.Integers.{one_mul_z, add_mul_z, sub_mul_z, mul_sub_z, mul_comm_z, mul_positive_z, mul_lt_mul_right_z}
 use Rattle.gj_theory.specs.Cuts.{IsGmicValue}
 use mir.Syntax.{w128}
 
@@ -42,33 +42,39 @@ rest_parts x r is w floor =
 pub rest_fine : (x r : Frac) → IsRestOf x r → unsigned_abs x.den ≤ 2 ^ 62 → unsigned_abs r.den ≤ 2 ^ 62
 rest_fine x r rest fine = subst (λ d. unsigned_abs d ≤ 2 ^ 62) (sym (rest _ (quotient_is_floor x)).1) fine
 
-pub complement_parts : (x c : Frac) → pos 0 ≤ℤ numerator x → numerator x ≤ℤ denominator x →
-    IsRatio c (denominator x -ℤ numerator x) (denominator x) → (c.num ≡ x.den -ℤ x.num) × (c.den ≡ x.den)
-complement_parts x c low high is =
-    parts_from_is c (x.den -ℤ x.num) x.den x.lowest.positive (complement_lowest x.num x.den x.lowest low high).coprime is
+-- ---- whole numbers over the product of both denominators
 
-pub complement_small : (x c : Frac) → pos 0 ≤ℤ numerator x → numerator x ≤ℤ denominator x →
-    IsRatio c (denominator x -ℤ numerator x) (denominator x) → unsigned_abs x.den ≤ 2 ^ 62 →
-    (unsigned_abs c.num ≤ 2 ^ 62) × (unsigned_abs c.den ≤ 2 ^ 62)
-complement_small x c low high is fine =
-    let (top, bottom) = complement_parts x c low high is in
-    (rw top (omega (arith, ints)), rw bottom fine)
+-- a product as the code computes it
+pub product_read : (p n m x y : ℤ) → n ≡ x → m ≡ y → unsigned_abs x < 2 ^ 127 → unsigned_abs y < 2 ^ 127 → p ≡ read n *ℤ read m →
+    p ≡ x *ℤ y
+product_read p n m x y n_is m_is x_fits y_fits is = is ∙ ap₂ (λ a b. a *ℤ b) (reads_as n x n_is x_fits) (reads_as m y m_is y_fits)
 
--- a quotient of the parts as they are read is that of the fractions
-pub quotient_read : (q x y : Frac) (n d m e : ℤ) → n ≡ x.num → d ≡ x.den → m ≡ y.num → e ≡ y.den →
-    IsRatio q (read n *ℤ read e) (read d *ℤ read m) → SameValue (fraction_of q) (quotient_of (fraction_of x) (fraction_of y))
-quotient_read q x y n d m e n_is d_is m_is e_is h =
-    subst₂ (IsRatio q)
-    (ap₂ (λ a b. a *ℤ b) (reads_as n x.num n_is x.lowest.num_fits) (reads_as e y.den e_is y.lowest.den_fits))
-    (ap₂ (λ a b. a *ℤ b) (reads_as d x.den d_is x.lowest.den_fits) (reads_as m y.num m_is y.lowest.num_fits)) h
+-- a product of parts of two fractions
+pub parts_read : (p n m : ℤ) (x y : Frac) → n ≡ numerator x → m ≡ denominator y → p ≡ read n *ℤ read m → p ≡ numerator x *ℤ denominator y
+parts_read p n m x y n_is m_is = product_read p n m x.num y.den n_is m_is x.lowest.num_fits y.lowest.den_fits
+
+-- a difference as the code computes it
+pub difference_read : (one n : ℤ) → unsigned_abs one ≤ 2 ^ 124 → unsigned_abs n ≤ 2 ^ 124 → read (read one -ℤ read n) ≡ one -ℤ n
+difference_read one n one_small n_small =
+    reads_as (read one -ℤ read n) (one -ℤ n)
+    (ap₂ (λ a b. a -ℤ b) (reads_as one one refl (omega arith)) (reads_as n n refl (omega arith))) (omega (arith, ints))
+
+-- the place is above 0, and 1 is above it
+pub place_positive : (f r : Frac) → pos 0 <ℤ numerator f → pos 0 <ℤ (numerator f *ℤ denominator r)
+place_positive f r some = mul_positive_z f.num r.den some r.lowest.positive
+
+pub place_below : (f r : Frac) → numerator f <ℤ denominator f → (numerator f *ℤ denominator r) <ℤ (denominator r *ℤ denominator f)
+place_below f r below =
+    subst (λ z. (f.num *ℤ r.den) <ℤ z) (mul_comm_z f.den r.den) (mul_lt_mul_right_z f.num f.den r.den r.lowest.positive below)
 
 -- ---- the two branches
 
 pub rising_value : (f x r y : Frac) → IsRestOf x r → (LessValue (fraction_of f) (fraction_of r) → ⊥) →
-    SameValue (fraction_of y) (quotient_of (fraction_of r) (fraction_of f)) → IsGmicValue f x y
+    IsRatio y (numerator r *ℤ denominator f) (numerator f *ℤ denominator r) → IsGmicValue f x y
 rising_value f x r y rest low is = record {
   rises = λ w floor h. let parts = rest w floor in
-      subst₂ (λ n d. SameValue (fraction_of y) (quotient_of (record { top = n; bottom = d }) (fraction_of f))) parts.0 parts.1 is;
+      subst₂ (λ n d. SameValue (fraction_of y) (quotient_of (record { top = n; bottom = d }) (fraction_of f))) parts.0 parts.1
+      (subst (IsRatio y (r.num *ℤ f.den)) (mul_comm_z f.num r.den) is);
   falls = λ w floor h. let parts = rest w floor in
       absurd (low (subst₂ (λ n d. LessValue (fraction_of f) (record { top = n; bottom = d })) (sym parts.0) (sym parts.1) h));
 }
@@ -80,15 +86,16 @@ ones a b = omega (arith, ints)
 one_times : (a : ℤ) → a ≡ pos 1 *ℤ a
 one_times a = sym (one_mul_z a)
 
-pub falling_value : (f x r c d y : Frac) → IsRestOf x r → LessValue (fraction_of f) (fraction_of r) →
-    (c.num ≡ r.den -ℤ r.num) × (c.den ≡ r.den) → (d.num ≡ f.den -ℤ f.num) × (d.den ≡ f.den) →
-    SameValue (fraction_of y) (quotient_of (fraction_of c) (fraction_of d)) → IsGmicValue f x y
-falling_value f x r c d y rest high c_is d_is is = record {
+pub falling_value : (f x r y : Frac) → IsRestOf x r → LessValue (fraction_of f) (fraction_of r) →
+    IsRatio y (denominator r *ℤ denominator f -ℤ numerator r *ℤ denominator f) (denominator r *ℤ denominator f -ℤ numerator f *ℤ denominator r) →
+    IsGmicValue f x y
+falling_value f x r y rest high is = record {
   rises = λ w floor low. let parts = rest w floor in
       absurd (low (subst₂ (λ n m. LessValue (fraction_of f) (record { top = n; bottom = m })) parts.0 parts.1 high));
   falls = λ w floor h. let parts = rest w floor in
-      let top = ap₂ (λ a b. a *ℤ b) (c_is.0 ∙ ap₂ (λ a b. a -ℤ b) parts.1 parts.0 ∙ ones x.den (x.num -ℤ w *ℤ x.den))
-      (d_is.1 ∙ one_times f.den) in
-      let bottom = ap₂ (λ a b. a *ℤ b) (c_is.1 ∙ parts.1 ∙ one_times x.den) (d_is.0 ∙ ones f.den f.num) in
+      let top = sym (sub_mul_z r.den r.num f.den) ∙ ap₂ (λ a b. a *ℤ b)
+      (ap₂ (λ a b. a -ℤ b) parts.1 parts.0 ∙ ones x.den (x.num -ℤ w *ℤ x.den)) (one_times f.den) in
+      let bottom = ap (λ z. r.den *ℤ f.den -ℤ z) (mul_comm_z f.num r.den) ∙ sym (mul_sub_z r.den f.den f.num)
+      ∙ ap₂ (λ a b. a *ℤ b) (parts.1 ∙ one_times x.den) (ones f.den f.num) in
       subst₂ (IsRatio y) top bottom is;
 }

@@ -1,6 +1,6 @@
 //! Evaluators.
-ghost use Rattle.std.specs.Prelude.{◌≡◌, ◌≢◌, ◌↔◌, IsTrue, ◌≤◌, ◌<◌, ◌^◌, ◌*ℤ◌, ◌≤ℤ◌, ◌<ℤ◌, pos, unsigned_abs};
-ghost use Rattle.gj_frac.specs.Fraction.{IsRatio, LessValue, SameValue, IsInside, fraction_of, quotient_of, numerator, denominator};
+ghost use Rattle.std.specs.Prelude.{◌≡◌, ◌≢◌, ◌↔◌, IsTrue, ◌≤◌, ◌<◌, ◌^◌, ◌*ℤ◌, unsigned_abs};
+ghost use Rattle.gj_frac.specs.Fraction.{IsRatio, IsInside, denominator};
 ghost use Rattle.gj_theory.specs.Cuts.{IsGmicValue, IsValueOf};
 ghost use Rattle.gj_shape.specs.Limits.{IsRowNumber};
 
@@ -10,7 +10,9 @@ use gj_shape::{GREATEST_DENOMINATOR, GREATEST_NUMBER, Shape};
 /// The mixed-integer cut for f at x: with r the fractional part of x it is r/f if r is at most f, and else
 /// (1 - r)/(1 - f).
 ///
-/// f is between 0 and 1, both excluded. Both denominators are at most 2^62; x may be of any size.
+/// f is between 0 and 1, both excluded. Both denominators are at most 2^62; x may be of any size. Over the product
+/// of both denominators r, f and 1 are whole numbers, and the value is a quotient of two of them or of their
+/// differences, so one divisor is sought.
 pub fn gmic_value(f: Frac, x: Frac) -> Frac
     requires inside { IsInside f }
     requires f_fine { unsigned_abs (denominator f) ≤ 2 ^ 62 }
@@ -18,23 +20,13 @@ pub fn gmic_value(f: Frac, x: Frac) -> Frac
     ensures { IsGmicValue f x result }
 {
     let rest = x.fract();
-    if is_above(f, rest) {
-        divided(rest.complement(), f.complement())
-    } else {
-        divided(rest, f)
+    let part = product(rest.num(), f.den());
+    let place = product(f.num(), rest.den());
+    if part <= place {
+        return ratio(part, place);
     }
-}
-
-/// A fraction divided by one above 0, both with parts of at most 2^62: in lowest terms by one divisor.
-fn divided(x: Frac, y: Frac) -> Frac
-    requires x_num { unsigned_abs (numerator x) ≤ 2 ^ 62 }
-    requires x_den { unsigned_abs (denominator x) ≤ 2 ^ 62 }
-    requires y_some { pos 0 <ℤ numerator y }
-    requires y_num { unsigned_abs (numerator y) ≤ 2 ^ 62 }
-    requires y_den { unsigned_abs (denominator y) ≤ 2 ^ 62 }
-    ensures { SameValue (fraction_of result) (quotient_of (fraction_of x) (fraction_of y)) }
-{
-    quotient(x.num(), x.den(), y.num(), y.den())
+    let one = product(rest.den(), f.den());
+    ratio(one - part, one - place)
 }
 
 /// Whether x can stand in a row: its denominator is at most 2^31 - 1, and it is at most 2^31 in absolute value.
@@ -51,18 +43,6 @@ pub fn table_value(shape: &Shape, x: Frac) -> Frac
     ensures { IsValueOf shape.now x result }
 {
     shape.value_at(x)
-}
-
-/// Whether a fractional part is above f.
-fn is_above(f: Frac, rest: Frac) -> bool
-    requires inside { IsInside f }
-    requires f_fine { unsigned_abs (denominator f) ≤ 2 ^ 62 }
-    requires low { pos 0 ≤ℤ numerator rest }
-    requires high { numerator rest <ℤ denominator rest }
-    requires rest_fine { unsigned_abs (denominator rest) ≤ 2 ^ 62 }
-    ensures { IsTrue result ↔ LessValue (fraction_of f) (fraction_of rest) }
-{
-    product(f.num(), rest.den()) < product(rest.num(), f.den())
 }
 
 /// The quotient of n/d by m/e, whose parts are at most 2^62 in absolute value; d and m are not 0.

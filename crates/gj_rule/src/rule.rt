@@ -1,7 +1,5 @@
 //! A kind beside a closure that evaluates it.
-ghost use Rattle.std.specs.Prelude.{◌≡◌, pos};
-ghost use Rattle.gj_frac.specs.Fraction.{IsRatio};
-ghost use Rattle.gj_shape.specs.FunctionData.{IsWithinBounds};
+ghost use Rattle.std.specs.Prelude.{◌≡◌};
 ghost use Rattle.gj_rule.specs.Kind.{IsKind, IsKindWithinBounds, IsKindValue, HasPlace};
 ghost use Rattle.gj_shape.specs.Limits.{IsRowNumber};
 ghost use Rattle.gj_rule.specs.Kept.{KeptRule, Evaluates};
@@ -9,7 +7,6 @@ ghost use Rattle.gj_rule.specs.Kept.{KeptRule, Evaluates};
 use crate::evaluator::Evaluator;
 use crate::kind::RuleKind;
 use gj_frac::Frac;
-use gj_shape::Shape;
 use std::marker::Model;
 
 /// A kind, and an evaluator that answers the kind's value at each fraction of the range: of denominator at most
@@ -68,7 +65,7 @@ impl<E: Evaluator> Rule<E> {
     {
         match &self.kind {
             RuleKind::Gmic(f) => *f,
-            RuleKind::Table(shape) => place_of(shape),
+            RuleKind::Table(shape) => shape.f(),
         }
     }
 
@@ -80,12 +77,4 @@ impl<E: Evaluator> Rule<E> {
     {
         self.eval.answer(x)
     }
-}
-
-/// The place of a function over its order.
-fn place_of(shape: &Shape) -> Frac
-    ensures value { IsRatio result (pos shape.now.place) (pos shape.now.order) }
-    ensures limits { IsWithinBounds shape.now }
-{
-    Frac::ratio(i64::from(shape.place()), shape.order())
 }

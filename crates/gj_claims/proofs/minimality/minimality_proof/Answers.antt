@@ -16,7 +16,7 @@ returns-in-Some c =
         (point_rules c.args.shape c.in-Some.violation).0
             (meets_point c.args.shape c.in-Some.violation found.points.0 found.points.2 found.points.3 found.shown),
       );
-      bounded = subst IsBounded (sym c.of-in-Some.ensures.claim) c.order-order.ensures.limits;
+      bounded = subst IsBounded (sym c.of-in-Some.ensures.claim) found.limits;
     }
 
 pub returns-in-None : goal.returns-in-None
@@ -24,5 +24,5 @@ returns-in-None c =
     record {
       claim = subst (IsMinimalityClaim c.args.shape) (sym c.of.ensures.claim)
           (refl, c.in-None.ensures.minimal, (minimal_rules c.args.shape).0 c.in-None.ensures.none);
-      bounded = subst IsBounded (sym c.of.ensures.claim) c.order-order.ensures.limits;
+      bounded = subst IsBounded (sym c.of.ensures.claim) c.in-None.ensures.limits;
     }

@@ -1,80 +1,113 @@
-use Rattle.std.proofs.Common.{rules, ◌≤◌, ◌^◌, IsTrue, false, unsigned_abs, arith}
+use Rattle.std.proofs.Common.{rules, ◌≤◌, ◌^◌, ℤ, ◌*ℤ◌, ◌-ℤ◌, ◌≤ℤ◌, ◌<ℤ◌, unsigned_abs, ap₂, subst₂, refl, sym, ◌∙◌, arith}
 use Rattle.std.proofs.lemmas.Int.{ints}
-use Rattle.gj_rule.proofs.ClosedForm.{rest_parts, rest_fine, complement_parts, complement_small, rising_value, falling_value}
+use Rattle.gj_frac.specs.Fraction.{IsRatio}
+use Rattle.gj_rule.proofs.ClosedForm.{reads_as, rest_parts, rest_fine, parts_read, product_read, difference_read, place_positive, place_below, rising_value, falling_value}
 use Rattle.gj_rule.proofs.evaluators.gmic_value.Goals as goal
 
-false_is_not_true : IsTrue false → ⊥
-false_is_not_true h = search rules
-
-pub is_above-requires-clause-rest_fine : goal.is_above-requires-clause-rest_fine
-is_above-requires-clause-rest_fine c =
-    rest_fine c.args.x c.fract-rest.result (rest_parts c.args.x c.fract-rest.result c.fract-rest.ensures.value) c.requires.x_fine
-
-pub divided-requires-clause-x_num : goal.divided-requires-clause-x_num
-divided-requires-clause-x_num c =
+-- the parts of the rest are small
+pub product-part-requires-clause-n_small : goal.product-part-requires-clause-n_small
+product-part-requires-clause-n_small c =
     let rest = c.fract-rest.result in
     let fine : unsigned_abs rest.den ≤ 2 ^ 62 = rest_fine c.args.x rest (rest_parts c.args.x rest c.fract-rest.ensures.value) c.requires.x_fine in
     let low = c.fract-rest.ensures.not_negative in
     let high = c.fract-rest.ensures.below_one in
-    (complement_small rest c.complement.result low (omega (arith, ints)) c.complement.ensures fine).0
+    let num = reads_as c.num.result rest.num c.num.ensures rest.lowest.num_fits in
+    rw num (omega (arith, ints))
 
-pub divided-requires-clause-x_den : goal.divided-requires-clause-x_den
-divided-requires-clause-x_den c =
+pub product-place-requires-clause-m_small : goal.product-place-requires-clause-m_small
+product-place-requires-clause-m_small c =
     let rest = c.fract-rest.result in
-    let fine : unsigned_abs rest.den ≤ 2 ^ 62 = rest_fine c.args.x rest (rest_parts c.args.x rest c.fract-rest.ensures.value) c.requires.x_fine in
-    let low = c.fract-rest.ensures.not_negative in
-    let high = c.fract-rest.ensures.below_one in
-    (complement_small rest c.complement.result low (omega (arith, ints)) c.complement.ensures fine).1
+    let den = reads_as c.den-2.result rest.den c.den-2.ensures rest.lowest.den_fits in
+    rw den (rest_fine c.args.x rest (rest_parts c.args.x rest c.fract-rest.ensures.value) c.requires.x_fine)
 
-pub divided-requires-clause-y_num : goal.divided-requires-clause-y_num
-divided-requires-clause-y_num c =
-    let place = c.requires.inside.0 in
-    let below = c.requires.inside.1 in
-    (complement_small c.args.f c.complement-then-is_above.result (omega (arith, ints)) (omega (arith, ints)) c.complement-then-is_above.ensures c.requires.f_fine).0
-
-pub divided-requires-clause-y_den : goal.divided-requires-clause-y_den
-divided-requires-clause-y_den c =
-    let place = c.requires.inside.0 in
-    let below = c.requires.inside.1 in
-    (complement_small c.args.f c.complement-then-is_above.result (omega (arith, ints)) (omega (arith, ints)) c.complement-then-is_above.ensures c.requires.f_fine).1
-
-pub divided-requires-clause-y_some : goal.divided-requires-clause-y_some
-divided-requires-clause-y_some c =
-    let place = c.requires.inside.0 in
-    let below = c.requires.inside.1 in
-    let (top, bottom) = complement_parts c.args.f c.complement-then-is_above.result (omega (arith, ints)) (omega (arith, ints))
-    c.complement-then-is_above.ensures in
-    rw top (omega (arith, ints))
-
-pub divided-requires-else-is_above-clause-x_den : goal.divided-requires-else-is_above-clause-x_den
-divided-requires-else-is_above-clause-x_den c =
+pub product-one-requires-clause-n_small : goal.product-one-requires-clause-n_small
+product-one-requires-clause-n_small c =
     let rest = c.fract-rest.result in
-    rest_fine c.args.x rest (rest_parts c.args.x rest c.fract-rest.ensures.value) c.requires.x_fine
+    let den = reads_as c.den-3.result rest.den c.den-3.ensures rest.lowest.den_fits in
+    rw den (rest_fine c.args.x rest (rest_parts c.args.x rest c.fract-rest.ensures.value) c.requires.x_fine)
 
-pub divided-requires-else-is_above-clause-x_num : goal.divided-requires-else-is_above-clause-x_num
-divided-requires-else-is_above-clause-x_num c =
+-- the place is not 0, and not 1
+pub ratio-requires-clause-zero : goal.ratio-requires-clause-zero
+ratio-requires-clause-zero c =
+    let f = c.args.f in
     let rest = c.fract-rest.result in
-    let fine : unsigned_abs rest.den ≤ 2 ^ 62 = rest_fine c.args.x rest (rest_parts c.args.x rest c.fract-rest.ensures.value) c.requires.x_fine in
-    let low = c.fract-rest.ensures.not_negative in
-    let high = c.fract-rest.ensures.below_one in
-    omega (arith, ints)
+    let place = parts_read c.product-place.result c.num-2.result c.den-2.result f rest c.num-2.ensures c.den-2.ensures c.product-place.ensures.value in
+    let size = c.product-place.ensures.fits in
+    let some = place_positive f rest c.requires.inside.0 in
+    rw (reads_as c.product-place.result (f.num *ℤ rest.den) place (rw (sym place) (omega arith))) (omega (arith, ints))
 
-pub returns-then-is_above : goal.returns-then-is_above
-returns-then-is_above c =
+pub ratio-requires-2-clause-zero : goal.ratio-requires-2-clause-zero
+ratio-requires-2-clause-zero c =
+    let f = c.args.f in
     let rest = c.fract-rest.result in
-    let low = c.fract-rest.ensures.not_negative in
-    let high = c.fract-rest.ensures.below_one in
-    let place = c.requires.inside.0 in
-    let below = c.requires.inside.1 in
-    falling_value c.args.f c.args.x rest c.complement.result c.complement-then-is_above.result c.divided.result
-    (rest_parts c.args.x rest c.fract-rest.ensures.value)
-    (c.if-is_above.ensures.0 (search rules))
-    (complement_parts rest c.complement.result low (omega (arith, ints)) c.complement.ensures)
-    (complement_parts c.args.f c.complement-then-is_above.result (omega (arith, ints)) (omega (arith, ints)) c.complement-then-is_above.ensures)
-    c.divided.ensures
+    let place = parts_read c.product-place.result c.num-2.result c.den-2.result f rest c.num-2.ensures c.den-2.ensures c.product-place.ensures.value in
+    let one = product_read c.product-one.result c.den-3.result c.den-4.result rest.den f.den c.den-3.ensures c.den-4.ensures rest.lowest.den_fits
+    f.lowest.den_fits c.product-one.ensures.value in
+    let below = place_below f rest c.requires.inside.1 in
+    rw (difference_read c.product-one.result c.product-place.result c.product-one.ensures.fits c.product-place.ensures.fits, one, place)
+    (omega (arith, ints))
 
-pub returns-else-is_above : goal.returns-else-is_above
-returns-else-is_above c =
+-- the differences fit
+pub overflow_sub-one : goal.overflow_sub-one
+overflow_sub-one c =
+    let one_small = c.product-one.ensures.fits in
+    let part_small = c.product-part.ensures.fits in
+    let one = reads_as c.product-one.result c.product-one.result refl (omega arith) in
+    let part = reads_as c.product-part.result c.product-part.result refl (omega arith) in
+    search rules
+
+pub overflow_sub-one-2 : goal.overflow_sub-one-2
+overflow_sub-one-2 c =
+    let one_small = c.product-one.ensures.fits in
+    let place_small = c.product-place.ensures.fits in
+    let one = reads_as c.product-one.result c.product-one.result refl (omega arith) in
+    let place = reads_as c.product-place.result c.product-place.result refl (omega arith) in
+    search rules
+
+pub ratio-requires-2-clause-numerator_fits : goal.ratio-requires-2-clause-numerator_fits
+ratio-requires-2-clause-numerator_fits c =
+    let one_small = c.product-one.ensures.fits in
+    let part_small = c.product-part.ensures.fits in
+    rw (difference_read c.product-one.result c.product-part.result one_small part_small) (omega (arith, ints))
+
+pub ratio-requires-2-clause-denominator_fits : goal.ratio-requires-2-clause-denominator_fits
+ratio-requires-2-clause-denominator_fits c =
+    let one_small = c.product-one.ensures.fits in
+    let place_small = c.product-place.ensures.fits in
+    rw (difference_read c.product-one.result c.product-place.result one_small place_small) (omega (arith, ints))
+
+pub returns-then-part-place : goal.returns-then-part-place
+returns-then-part-place c =
+    let f = c.args.f in
     let rest = c.fract-rest.result in
-    rising_value c.args.f c.args.x rest c.divided-else-is_above.result (rest_parts c.args.x rest c.fract-rest.ensures.value)
-    (λ above. false_is_not_true (c.if-is_above.ensures.1 above)) c.divided-else-is_above.ensures
+    let part = parts_read c.product-part.result c.num.result c.den.result rest f c.num.ensures c.den.ensures c.product-part.ensures.value in
+    let place = parts_read c.product-place.result c.num-2.result c.den-2.result f rest c.num-2.ensures c.den-2.ensures c.product-place.ensures.value in
+    let part_small = c.product-part.ensures.fits in
+    let place_small = c.product-place.ensures.fits in
+    let part_read = reads_as c.product-part.result (rest.num *ℤ f.den) part (rw (sym part) (omega arith)) in
+    let place_read = reads_as c.product-place.result (f.num *ℤ rest.den) place (rw (sym place) (omega arith)) in
+    let here = c.if-part-place.true in
+    let low : (rest.num *ℤ f.den) ≤ℤ (f.num *ℤ rest.den) = subst₂ (λ (a b : ℤ). a ≤ℤ b) part_read place_read (omega (arith, ints)) in
+    rising_value f c.args.x rest c.ratio.result (rest_parts c.args.x rest c.fract-rest.ensures.value) (λ above. omega (arith, ints))
+    (subst₂ (IsRatio c.ratio.result) part_read place_read c.ratio.ensures)
+
+pub returns : goal.returns
+returns c =
+    let f = c.args.f in
+    let rest = c.fract-rest.result in
+    let part = parts_read c.product-part.result c.num.result c.den.result rest f c.num.ensures c.den.ensures c.product-part.ensures.value in
+    let place = parts_read c.product-place.result c.num-2.result c.den-2.result f rest c.num-2.ensures c.den-2.ensures c.product-place.ensures.value in
+    let one = product_read c.product-one.result c.den-3.result c.den-4.result rest.den f.den c.den-3.ensures c.den-4.ensures rest.lowest.den_fits
+    f.lowest.den_fits c.product-one.ensures.value in
+    let one_small = c.product-one.ensures.fits in
+    let part_small = c.product-part.ensures.fits in
+    let place_small = c.product-place.ensures.fits in
+    let part_read = reads_as c.product-part.result (rest.num *ℤ f.den) part (rw (sym part) (omega arith)) in
+    let place_read = reads_as c.product-place.result (f.num *ℤ rest.den) place (rw (sym place) (omega arith)) in
+    let here = c.if-part-place.false in
+    let high : (f.num *ℤ rest.den) <ℤ (rest.num *ℤ f.den) = subst₂ (λ (a b : ℤ). a <ℤ b) place_read part_read (omega (arith, ints)) in
+    falling_value f c.args.x rest c.ratio-2.result (rest_parts c.args.x rest c.fract-rest.ensures.value) high
+    (subst₂ (IsRatio c.ratio-2.result)
+    (difference_read c.product-one.result c.product-part.result one_small part_small ∙ ap₂ (λ a b. a -ℤ b) one part)
+    (difference_read c.product-one.result c.product-place.result one_small place_small ∙ ap₂ (λ a b. a -ℤ b) one place)
+    c.ratio-2.ensures)
