@@ -139,8 +139,8 @@ pub all_added : (d now s : Rational) (point : List Rational) (es : List Entry) (
     now ≡ d +ℚ f *ℚ sum_at point (take i es) → now ≡ d +ℚ f *ℚ sum_at point es
 all_added d now s point es i f end is = is ∙ ap (λ xs. d +ℚ f *ℚ sum_at point xs) (take_all i es end)
 
-pub no_terms : (d : Rational) → d ≡ d +ℚ whole (pos 0)
-no_terms d = sym (add_comm_q d (whole (pos 0)) ∙ zero_add_q d)
+pub add_zero_q : (d : Rational) → d ≡ d +ℚ whole (pos 0)
+add_zero_q d = sym (add_comm_q d (whole (pos 0)) ∙ zero_add_q d)
 
 -- ---- the inequality of a sum
 
@@ -155,7 +155,7 @@ zero_frac x none = equal_q (rational x) (whole (pos 0)) (ap (λ z. z *ℤ pos 1)
 pub no_entry : (point : List Rational) (es fs : List Entry) (e : Entry) → fs ≡ es → e.value.num ≡ pos 0 →
     sum_at point fs ≡ sum_at point es +ℚ rational e.value *ℚ value_at point e.column
 no_entry point es fs e is none =
-    ap (sum_at point) is ∙ no_terms (sum_at point es)
+    ap (sum_at point) is ∙ add_zero_q (sum_at point es)
     ∙ ap (λ w. sum_at point es +ℚ w) (sym (ap (λ w. w *ℚ value_at point e.column) (zero_frac e.value none) ∙ zero_mul_q (value_at point e.column)))
 
 first_taken : (c v : Rational) → c *ℚ v +ℚ whole (pos 0) ≡ whole (pos 0) +ℚ c *ℚ v

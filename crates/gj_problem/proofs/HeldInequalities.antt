@@ -16,6 +16,8 @@ use Rattle.gj_problem.specs.declared.problem.Inequality.{Inequality}
 use Rattle.gj_problem.specs.declared.problem.Problem.{Problem}
 use Rattle.gj_problem.specs.declared.problem.Sense.{Sense}
 use Rattle.gj_problem.specs.declared.problem.Sense.TheVariants.{AtMost, AtLeast, Equal}
+use Rattle.gj_problem.specs.declared.pieces.Piece.{Piece}
+use Rattle.gj_problem.specs.Aggregates.{combined_at, IsCutOver, IsTurnedBack}
 use Rattle.gj_problem.specs.Problems.{value_at, sum_at, surplus_at, Meets, MeetsColumn, MeetsConstraint, IsFeasible, Holds, IsColumn, IsWholeColumn, IsConstraint}
 use Rattle.gj_problem.specs.Rows.{HasWholeSurplus, IsSignFor, IsMultiple, IsWholeInequality, IsRaised, IsLowered, AreChanged, total_of, IsRounded}
 
@@ -184,3 +186,13 @@ rounded_holds p q r holds h =
     (nonnegative_add _ _ (changes_low p point q.entries r.entries h.shifts feasible h.changed)
     (difference_nonnegative (rational q.right) (sum_at point q.entries) (holds point feasible)))
     (difference_nonnegative (rational r.right) (rational q.right +ℚ total_of h.shifts) h.right)))
+
+-- ---- turning back
+
+pub turned_back_holds : (p : Problem) (pieces : List Piece) (coefficients : List Frac) (q : Inequality) → IsCutOver p pieces coefficients →
+    IsTurnedBack pieces coefficients q → Holds p q
+turned_back_holds p pieces coefficients q cut back =
+    from_surplus p q
+    (λ (point : List Rational) (feasible : IsFeasible p point).
+    subst IsNonnegativeQ (sym (back point))
+    (difference_nonnegative (whole (pos 1)) (combined_at point coefficients pieces) (cut point feasible)))

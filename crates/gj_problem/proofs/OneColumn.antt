@@ -13,7 +13,7 @@ use Rattle.gj_problem.specs.declared.problem.Entry.{Entry}
 use Rattle.gj_problem.specs.declared.pieces.Piece.{Piece}
 use Rattle.gj_problem.specs.Problems.{value_at, sum_at}
 use Rattle.gj_problem.specs.Aggregates.{pieces_at, IsCeiling}
-use Rattle.gj_problem.proofs.AddedSums.{product_value, sum_at_append}
+use Rattle.gj_problem.proofs.AddedSums.{product_value, sum_at_append, add_zero_q}
 use Rattle.gj_problem.proofs.MadePieces.{pieces_joined}
 
 -- ---- one column
@@ -38,7 +38,7 @@ upper_surplus point es j v b n es_are v_is n_is =
 
 -- ---- the right side
 
-nothing_value : (j : ℕ) → value_at [] j ≡ whole (pos 0)
+pub nothing_value : (j : ℕ) → value_at [] j ≡ whole (pos 0)
 nothing_value zero = refl
 nothing_value (suc j) = refl
 
@@ -116,11 +116,8 @@ ceiling_from_floor l m n same floor =
 
 -- ---- the right side over all columns
 
-right_none : (r : Rational) → r ≡ r +ℚ whole (pos 0)
-right_none r = by_ring_q (r ∷ []) (search ring_q depth 30) refl
-
 pub right_begun : (r : Rational) (ps : List Piece) → ps ≡ [] → r ≡ r +ℚ pieces_at [] ps
-right_begun r ps none = right_none r ∙ ap (λ (qs : List Piece). r +ℚ pieces_at [] qs) (sym none)
+right_begun r ps none = add_zero_q r ∙ ap (λ (qs : List Piece). r +ℚ pieces_at [] qs) (sym none)
 
 back : (x p : Rational) → x ≡ (x -ℚ p) +ℚ p
 back x p = by_ring_q (x ∷ p ∷ []) (search ring_q depth 30) refl

@@ -1,6 +1,6 @@
 -- The first constraints and the first columns, one more at a time.
 use Rattle.std.proofs.Common.{◌≡◌, ⊎_elim, ℕ, zero, suc, ◌+◌, ◌<◌, ◌≤◌, add-one, Bool, List, [], ◌∷◌, ◌++◌, length, get_or, take, drop, append_assoc, pos, refl, sym, ap, ap₂, subst, ◌∙◌, arith}
-use Rattle.std.proofs.lemmas.List.{take_all, take-append-drop}
+use Rattle.std.proofs.lemmas.List.{take_more, take_all, take-append-drop}
 use Rattle.gj_frac.specs.declared.Frac.{Frac}
 use Rattle.gj_rational.specs.Rational.{Rational, whole, rational, ◌+ℚ◌, ◌*ℚ◌, ◌-ℚ◌}
 use Rattle.gj_rational.proofs.RationalLaws.{add_assoc_q, add_comm_q}
@@ -23,6 +23,13 @@ made_next P M xs ys x old new ys_is h next =
     (λ (k : (P x → ⊥) × (s : Piece) × M x s × (new ≡ old ++ s ∷ [])).
     subst (AreMadeOf P M (xs ++ x ∷ [])) (sym k.3) (made_more P M xs old x k.1 h k.0 k.2))
     next)
+
+-- the items before, at and behind an index
+pub split_at : {A : Type 0} (xs : List A) (i : ℕ) (x : A) → i < length xs → x ≡ get_or xs i x → xs ≡ take i xs ++ x ∷ drop (i + 1) xs
+split_at xs i x below here =
+    sym (take-append-drop (i + 1) xs)
+    ∙ ap (λ ys. ys ++ drop (i + 1) xs) (take_more xs i x below ∙ ap (λ y. take i xs ++ y ∷ []) (sym here))
+    ∙ append_assoc (take i xs) (x ∷ []) (drop (i + 1) xs)
 
 -- ---- constraints
 

@@ -19,6 +19,7 @@ use Rattle.gj_problem.specs.Rows.{dot, HasWholeSurplus}
 use Rattle.gj_problem.specs.Aggregates.{pieces_at, AreMadeOf, Held, held, IsLeftOut, IsCeiling, IsLowerBound, IsUpperBound, IsFromLower, IsFromUpper, IsTurnedFrom, IsTurned, IsFree}
 use Rattle.gj_problem.proofs.MadePieces.{Made, none_from_made}
 use Rattle.gj_problem.proofs.AddedSums.{zero_frac}
+use Rattle.gj_problem.proofs.OneColumn.{nothing_value}
 use Rattle.gj_problem.proofs.HeldInequalities.{from_surplus, column_at, lower_at, upper_at, whole_frac, whole_sum, whole_product}
 
 -- ---- which bound
@@ -35,10 +36,6 @@ from_bound h (Some l) (Some u) true s k = inr (u, refl, k)
 from_bound h (Some l) (Some u) false s k = inl (l, refl, k)
 
 -- ---- what it adds
-
-nothing_at : (j : ℕ) → value_at [] j ≡ whole (pos 0)
-nothing_at zero = refl
-nothing_at (suc j) = refl
 
 lower_change : (c x b : Rational) → c *ℚ (x -ℚ b) -ℚ c *ℚ (whole (pos 0) -ℚ b) ≡ c *ℚ x
 lower_change c x b = by_ring_q (c ∷ x ∷ b ∷ []) (search ring_q depth 40) refl
@@ -57,12 +54,12 @@ change_at h point s k =
     (λ (low : (l : Frac) × (h.column.lower ≡ Some l) × IsFromLower h l s).
     let b = rational low.2.bound in
     ap₂ (λ e z. e *ℚ z -ℚ e *ℚ surplus_at [] s.inequality) low.2.entry_is (low.2.surplus_is point)
-    ∙ ap (λ z. c *ℚ (x -ℚ b) -ℚ c *ℚ z) (low.2.surplus_is [] ∙ ap (λ z. z -ℚ b) (nothing_at h.index))
+    ∙ ap (λ z. c *ℚ (x -ℚ b) -ℚ c *ℚ z) (low.2.surplus_is [] ∙ ap (λ z. z -ℚ b) (nothing_value h.index))
     ∙ lower_change c x b)
     (λ (high : (u : Frac) × (h.column.upper ≡ Some u) × IsFromUpper h u s).
     let b = rational high.2.bound in
     ap₂ (λ e z. e *ℚ z -ℚ e *ℚ surplus_at [] s.inequality) high.2.entry_is (high.2.surplus_is point)
-    ∙ ap (λ z. neg_ℚ c *ℚ (b -ℚ x) -ℚ neg_ℚ c *ℚ z) (high.2.surplus_is [] ∙ ap (λ z. b -ℚ z) (nothing_at h.index))
+    ∙ ap (λ z. neg_ℚ c *ℚ (b -ℚ x) -ℚ neg_ℚ c *ℚ z) (high.2.surplus_is [] ∙ ap (λ z. b -ℚ z) (nothing_value h.index))
     ∙ upper_change c x b)
     (from_bound h h.column.lower h.column.upper h.at_upper s k.turned)
 

@@ -5,22 +5,27 @@ use Rattle.gj_frac.specs.declared.Frac.{Frac}
 use Rattle.gj_frac.specs.Floor.{IsFloor}
 use Rattle.gj_frac.specs.Fraction.{IsWhole, numerator, denominator}
 use Rattle.gj_shape.specs.Given.{IsLeastCommonDenominator}
-use Rattle.gj_rational.specs.Rational.{Rational, whole, rational, ◌+ℚ◌, ◌*ℚ◌, neg_ℚ, ◌-ℚ◌}
+use Rattle.gj_rational.specs.Rational.{Rational, whole, rational, ◌+ℚ◌, ◌*ℚ◌, neg_ℚ, ◌-ℚ◌, ◌≤ℚ◌}
 use Rattle.gj_problem.specs.declared.problem.Column.{Column}
 use Rattle.gj_problem.specs.declared.problem.Constraint.{Constraint}
 use Rattle.gj_problem.specs.declared.problem.Entry.{Entry}
+use Rattle.gj_problem.specs.declared.problem.Inequality.{Inequality}
 use Rattle.gj_problem.specs.declared.problem.Problem.{Problem}
 use Rattle.gj_problem.specs.declared.problem.Sense.{Sense}
 use Rattle.gj_problem.specs.declared.problem.Sense.TheVariants.{AtMost, AtLeast, Equal}
 use Rattle.gj_problem.specs.declared.pieces.Piece.{Piece}
-use Rattle.gj_problem.specs.Problems.{IsWholeColumn, Holds, sum_at, value_at, surplus_at}
+use Rattle.gj_problem.specs.Problems.{IsFeasible, IsWholeColumn, Holds, sum_at, value_at, surplus_at}
 use Rattle.gj_problem.specs.Rows.{dot, IsMultiple, HasWholeSurplus}
 
 -- ---- pieces
 
--- the entries, each times the surplus of its inequality
+-- the numbers, each times the surplus of its piece
+abbrev pub combined_at : List Rational → List Frac → List Piece → Rational
+combined_at point numbers pieces = dot numbers (map (surplus_at point) (map (λ s. s.inequality) pieces))
+
+-- the entries, each times the surplus of its piece
 abbrev pub pieces_at : List Rational → List Piece → Rational
-pieces_at point pieces = dot (map (λ s. s.entry) pieces) (map (surplus_at point) (map (λ s. s.inequality) pieces))
+pieces_at point pieces = combined_at point (map (λ s. s.entry) pieces) pieces
 
 -- the pieces that the items make, in their order; some are passed over
 abbrev pub AreMadeOf : {A : Type 0} → (A → Type 0) → (A → Piece → Type 0) → List A → List Piece → Type 0
@@ -189,3 +194,15 @@ pub record IsSound (p : Problem) (s : Piece) : Type 0 where
 -- the entries, each times the surplus of its piece, and a whole number add up to the right side
 abbrev pub AddsUpAt : List Rational → List Piece → Frac → Type 0
 AddsUpAt point pieces right = (z : ℤ) × (pieces_at point pieces +ℚ whole z ≡ rational right)
+
+-- ---- turning back
+
+-- at all feasible points the coefficients, each times the surplus of its piece, add up to at least 1
+abbrev pub IsCutOver : Problem → List Piece → List Frac → Type 0
+IsCutOver p pieces coefficients =
+    (point : List Rational) → IsFeasible p point → whole (pos 1) ≤ℚ combined_at point coefficients pieces
+
+-- the inequality says the same in the columns of the problem
+abbrev pub IsTurnedBack : List Piece → List Frac → Inequality → Type 0
+IsTurnedBack pieces coefficients q =
+    (point : List Rational) → surplus_at point q ≡ combined_at point coefficients pieces -ℚ whole (pos 1)

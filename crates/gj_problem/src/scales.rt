@@ -1,6 +1,7 @@
 //! Fractions divided and scaled.
-ghost use Rattle.std.specs.Prelude.{◌≡◌, ℕ, pos, IfOk, unsigned_abs, ◌∷◌, map};
+ghost use Rattle.std.specs.Prelude.{◌≡◌, ℕ, pos, IfOk, OnErr, unsigned_abs, ◌∷◌, map};
 ghost use Rattle.gj_frac.specs.Fraction.{SameValue, fraction_of, quotient_of, denominator};
+ghost use Rattle.gj_frac.specs.Fits.{FitsQuotient};
 ghost use Rattle.gj_lemmas.specs.Divisors.{IsLcm};
 ghost use Rattle.gj_shape.specs.Given.{IsLeastCommonDenominator};
 ghost use Rattle.gj_rational.specs.Rational.{whole, rational};
@@ -9,9 +10,10 @@ ghost use Rattle.gj_problem.specs.Aggregates.{IsScale, signed};
 use crate::problem::{Entry, Sense};
 use gj_frac::{Frac, Wide, gcd};
 
-/// The quotient, if there is one and it fits.
+/// The quotient. Wide exactly if the divisor is 0 or the quotient does not fit in lowest terms.
 pub fn divided(x: Frac, y: Frac) -> Result<Frac, Wide>
-    ensures { IfOk result (λ z. SameValue (fraction_of z) (quotient_of (fraction_of x) (fraction_of y))) }
+    ensures wide { OnErr result (¬ FitsQuotient x y) }
+    ensures value { IfOk result (λ z. SameValue (fraction_of z) (quotient_of (fraction_of x) (fraction_of y))) }
 {
     match x.checked_div(y) {
         Ok(quotient) => Ok(quotient),

@@ -1,8 +1,9 @@
 //! Sums over all columns, to which multiples of inequalities are added.
-ghost use Rattle.std.specs.Prelude.{◌≡◌, ◌<◌, ◌^◌, ℕ, pos, List, IfOk, IfSome, length};
+ghost use Rattle.std.specs.Prelude.{◌≡◌, ◌<◌, ◌^◌, ◌⊎◌, ℕ, pos, List, IfOk, IfSome, IsNone, OnErr, length};
 ghost use Rattle.gj_rational.specs.Rational.{Rational, whole, rational, ◌+ℚ◌, ◌*ℚ◌, ◌-ℚ◌};
 ghost use Rattle.gj_problem.specs.Problems.{value_at, sum_at, surplus_at};
 ghost use Rattle.gj_problem.specs.Rows.{dot};
+ghost use Rattle.gj_problem.specs.Steps.{IsWideAt, IsWideEntry, IsWideWithin};
 
 use crate::problem::{Entry, Inequality};
 use gj_frac::{Frac, Wide};
@@ -18,7 +19,7 @@ pub struct Sum {
 }
 
 impl Sum {
-    /// No coefficient, against this right side.
+    /// No coefficient, against this right side. The only error is want of memory.
     pub fn of_none(alloc: Global, columns: usize, right: Frac) -> Result<Sum, AllocError>
         ensures right { IfOk result (λ sum. sum.right ≡ right) }
         ensures count { IfOk result (λ sum. length sum.coefficients.items ≡ columns) }
@@ -37,6 +38,7 @@ impl Sum {
         ensures count { length self.new.coefficients.items ≡ length self.old.coefficients.items }
         ensures added { IfOk result (λ _. (point : List Rational) → dot self.new.coefficients.items point
             ≡ dot self.old.coefficients.items point +ℚ rational factor *ℚ (rational entry.value *ℚ value_at point entry.column)) }
+        ensures wide { OnErr result (IsWideEntry self.old.coefficients.items factor entry) }
     {
         let Some(coefficient) = self.coefficients.get_mut(entry.column as usize) else {
             return Err(Wide);
@@ -45,12 +47,17 @@ impl Sum {
         Ok(())
     }
 
-    /// The same for all entries and the right side of an inequality.
+    /// The sum with this multiple of an inequality added.
+    ///
+    /// Wide exactly if at one of the entries, or at the right side, a product or a sum does not fit,
+    /// or an entry has no column. Then a part of the entries has been added.
     pub fn add(&mut self, factor: Frac, entries: &[Entry], right: Frac) -> Result<(), Wide>
         ensures count { length self.new.coefficients.items ≡ length self.old.coefficients.items }
         ensures added { IfOk result (λ _. (point : List Rational) → dot self.new.coefficients.items point -ℚ rational self.new.right
             ≡ (dot self.old.coefficients.items point -ℚ rational self.old.right)
             +ℚ rational factor *ℚ (sum_at point entries.now -ℚ rational right)) }
+        ensures wide { OnErr result (IsWideWithin self.old.coefficients.items factor entries.now
+            ⊎ IsWideAt self.old.right factor right) }
     {
         for entry in entries {
             self.add_entry(factor, *entry)?;
@@ -59,10 +66,11 @@ impl Sum {
         Ok(())
     }
 
-    /// The inequality of the coefficients that are not 0; none if there are too many columns to
-    /// count.
+    /// The inequality of the coefficients that are not 0; none exactly if there are more than 2^32
+    /// columns. The only error is want of memory.
     pub fn inequality(self, alloc: Global) -> Result<Option<Inequality>, AllocError>
-        ensures { IfOk result (λ made. IfSome made (λ q. (point : List Rational) → surplus_at point q
+        ensures none { IfOk result (λ made. IsNone made → 2 ^ 32 < length self.coefficients.items) }
+        ensures surplus { IfOk result (λ made. IfSome made (λ q. (point : List Rational) → surplus_at point q
             ≡ dot self.coefficients.items point -ℚ rational self.right)) }
     {
         let mut entries = Vec::new(alloc);

@@ -9,7 +9,7 @@ ghost use Rattle.gj_problem.specs.declared.pieces.Piece.{Piece};
 ghost use Rattle.gj_rational.specs.Rational.{Rational, rational, ◌-ℚ◌};
 ghost use Rattle.gj_problem.specs.Problems.{IsFeasible, Holds, IsColumn, IsConstraint, value_at, surplus_at};
 ghost use Rattle.gj_problem.specs.Rows.{IsSignFor, IsMultiple, IsWholeInequality, HasWholeSurplus, IsRounded};
-ghost use Rattle.gj_problem.specs.Aggregates.{IsRow, IsSound, AddsUpAt};
+ghost use Rattle.gj_problem.specs.Aggregates.{IsRow, IsSound, AddsUpAt, IsCutOver, IsTurnedBack};
 
 /// A constraint times a whole number of the sign that its sense asks for holds. If the numbers of an inequality and its columns
 /// are whole, so is what its sum has above its right side.
@@ -40,4 +40,10 @@ pub fn row_by_multipliers()
 /// What is rounded by the bounds holds.
 pub fn rounded_cut()
     ensures { (p : Problem) (q rounded : Inequality) → Holds p q → IsRounded p q rounded → Holds p rounded }
+{}
+
+/// A cut over the pieces holds when it is turned back into the columns of the problem.
+pub fn turned_back_cut()
+    ensures { (p : Problem) (pieces : List Piece) (coefficients : List Frac) (q : Inequality) → IsCutOver p pieces coefficients →
+        IsTurnedBack pieces coefficients q → Holds p q }
 {}

@@ -21,6 +21,6 @@ returns c =
       slack_is = λ (point : List Rational). c.in_ok-inequality.ensures point
           ∙ ap₂ (λ f (es : List Entry). f *ℚ (sum_at point es -ℚ rational k.right)) factor_is entries_are;
       entry_is = ap (λ f. f *ℚ rational c.in_ok-entry.entry) (sym factor_is)
-          ∙ quotient_value c.neg.result factor c.in_ok-entry.entry c.in_ok-entry.ensures
+          ∙ quotient_value c.neg.result factor c.in_ok-entry.entry c.in_ok-entry.ensures.value
           ∙ negation_value c.args.multiplier c.neg.result c.neg.ensures;
     }

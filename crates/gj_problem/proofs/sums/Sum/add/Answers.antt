@@ -1,8 +1,11 @@
-use Rattle.std.proofs.Common.{List, refl, ap, ◌∙◌}
-use Rattle.gj_rational.specs.Rational.{Rational, rational, ◌+ℚ◌, ◌*ℚ◌, ◌-ℚ◌}
+use Rattle.std.proofs.Common.{◌⊎◌, ◌+◌, inl, inr, List, take, drop, refl, ap, subst, ◌∙◌}
+use Rattle.gj_frac.proofs.Refusals.{on_err}
 use Rattle.gj_frac.specs.declared.Frac.{Frac}
+use Rattle.gj_rational.specs.Rational.{Rational, rational, ◌+ℚ◌, ◌*ℚ◌, ◌-ℚ◌}
 use Rattle.gj_problem.specs.Problems.{sum_at}
 use Rattle.gj_problem.specs.Rows.{dot}
+use Rattle.gj_problem.specs.Steps.{IsWideAt, IsWideWithin}
+use Rattle.gj_problem.proofs.Prefixes.{split_at}
 use Rattle.gj_problem.proofs.AddedSums.{nothing_added, entries_added, all_added, inequality_added}
 use Rattle.gj_problem.proofs.sums.Sum.add.Goals as goal
 
@@ -33,3 +36,27 @@ returns-clause-added c = λ (point : List Rational).
     (c.loop-entry.invariant.added point)) c.in_ok-checked_mul.ensures.value c.in_ok-self.ensures.value
     ∙ ap (λ (r : Frac). (d -ℚ rational r) +ℚ rational c.args.factor *ℚ (sum_at point c.args.entries.now -ℚ rational c.args.right))
     c.loop-entry.invariant.right
+
+pub returns-in_err-add_entry-clause-wide : goal.returns-in_err-add_entry-clause-wide
+returns-in_err-add_entry-clause-wide c =
+    let items = c.args.self.now.coefficients.items in
+    let es = c.args.entries.now in
+    let i = c.loop-entry.entry-index in
+    on_err c.from_residual.result (IsWideWithin items c.args.factor es ⊎ IsWideAt c.args.self.now.right c.args.factor c.args.right)
+    (inl (record {
+      before = take i es;
+      entry = c.entry-item.result;
+      after = drop (i + 1) es;
+      place = split_at es i c.entry-item.result c.loop-entry-test.true c.entry-item.is;
+      reached = c.loop-entry.self.coefficients.items;
+      count = c.loop-entry.invariant.count;
+      adds = c.loop-entry.invariant.added;
+      wide = c.in_err-add_entry.ensures.wide;
+    }))
+
+pub returns-in_err-self-clause-wide : goal.returns-in_err-self-clause-wide
+returns-in_err-self-clause-wide c =
+    on_err c.from_residual-in_err-self.result
+    (IsWideWithin c.args.self.now.coefficients.items c.args.factor c.args.entries.now ⊎ IsWideAt c.args.self.now.right c.args.factor c.args.right)
+    (inr (subst (λ (r : Frac). IsWideAt r c.args.factor c.args.right) c.loop-entry.invariant.right
+    (inr (c.in_ok-checked_mul.field-0, c.in_ok-checked_mul.ensures.value, c.in_err-self.ensures.wide))))
