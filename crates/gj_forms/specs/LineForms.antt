@@ -78,3 +78,7 @@ BreaksForm {A} form words e =
 -- the rule by which a line of the form is read, in its one spelling
 abbrev pub rule_of : {A : Type 0} → LineForm A → LineRule A
 rule_of form = record { Spells = AreLine form; Breaks = BreaksForm form }
+
+-- the lines of things that all have one
+abbrev pub form_of : {A : Type 0} → (A → List Field) → LineForm A
+form_of fields = record { fields = fields; HasForm = λ a. Unit {0}; HasLine = λ a. Unit {0} }

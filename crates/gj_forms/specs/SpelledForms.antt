@@ -36,3 +36,14 @@ made_rule {A} Makes Refused rule = record {
   Spells = λ words b. (a : A) × rule.Spells words a × Makes a b;
   Breaks = λ words e. rule.Breaks words e ⊎ ((a : A) × rule.Spells words a × Refused a e);
 }
+
+-- a line whose thing makes another, always
+abbrev pub turned_rule : {A B : Type 0} → (A → B) → LineRule A → LineRule B
+turned_rule make rule = made_rule (λ a b. b ≡ make a) (λ a e. ⊥) rule
+
+-- a line with such words has not the form
+abbrev pub barred_rule : {A : Type 0} → (List (List ℕ) → Type 0) → LineRule A → LineRule A
+barred_rule AreBarred rule = record {
+  Spells = λ words a. (AreBarred words → ⊥) × rule.Spells words a;
+  Breaks = λ words e. ((e ≡ reason.Form) × AreBarred words) ⊎ ((AreBarred words → ⊥) × rule.Breaks words e);
+}

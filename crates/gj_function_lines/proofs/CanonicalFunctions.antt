@@ -1,87 +1,39 @@
 -- The lines of a function in their one spelling are read in either spelling.
-use Rattle.std.proofs.Common.{◌≡◌, ℕ, ◌<◌, ◌^◌, pos, Bool, true, false, List, [], ◌∷◌, ◌++◌, length, flat_map, codes, decimal, refl, sym, ap, subst, ◌∙◌, append_assoc, append-nil, arith}
-use Rattle.std.specs.List.{All, join_with_byte}
-use Rattle.std.proofs.lemmas.List.Elements.{All-nil, All-cons}
+use Rattle.std.proofs.Common.{◌≡◌, ℕ, pos, List, [], ◌∷◌, ◌++◌, length, flat_map, refl, sym, ap, subst, ◌∙◌, append_assoc, append-nil, arith}
 use Rattle.std.proofs.lemmas.List.Concat.{flat_map-append}
-use Rattle.std.proofs.lemmas.Bool.{false≢true}
 use Rattle.gj_frac.specs.declared.Frac.{Frac}
 use Rattle.gj_frac.specs.Fraction.{IsRatio}
 use Rattle.gj_lex.specs.declared.spelling.Spelling.{Spelling}
-use Rattle.gj_lex.specs.declared.spelling.Spelling.TheVariants.{Lenient, Strict}
-use Rattle.gj_lex.specs.NumberText.{fraction_text}
 use Rattle.gj_lex.specs.Parts.{line_part}
-use Rattle.gj_lex.specs.TextLines.{HasLine}
-use Rattle.gj_lex.proofs.CanonicalLines.{line_in, plain_by_test}
-use Rattle.gj_lex.proofs.CanonicalTexts.{same_from_fraction_text}
-use Rattle.gj_lex.proofs.SpelledWords.{canonical_fraction, canonical_count, fraction_is_plain, count_is_plain}
-use Rattle.gj_lex.proofs.StrictLines.{IsPlain}
+use Rattle.gj_forms.specs.LineForms.{words_of}
+use Rattle.gj_forms.proofs.SpelledLines.{spells_its_thing, has_its_line, line_is_spelled}
 use Rattle.gj_shape.specs.FunctionData.{FunctionData, IsWithinBounds}
 use Rattle.gj_shape.specs.Given.{AreWithinBounds}
 use Rattle.gj_shape.specs.Points.{all_fractions, fractions_of}
 use Rattle.gj_shape.specs.declared.points.Point.{Point}
 use Rattle.gj_shape.proofs.GivenPoints.{given_by_points, good_points, count_of_points}
 use Rattle.gj_shape.proofs.LeastDenominator.{within_bounds_closed}
-use Rattle.gj_function_lines.specs.FunctionGrammar.{order_words, place_words, point_words, ArePointWords, SpellPoint, order_rule, place_rule, point_rule, points_part, function_part}
+use Rattle.gj_function_lines.specs.FunctionGrammar.{order_rule, place_rule, point_rule, points_part, function_part}
 use Rattle.gj_function_lines.specs.Reading.{IsPointLine}
-use Rattle.gj_function_lines.specs.FunctionLines.{line, has_no_jump, point_line, order_line, place_line, AreFunctionLines}
-use Rattle.gj_function_lines.proofs.PointLines.{text_of_one, text_of_three, same_where_no_jump, no_jump_where_same}
+use Rattle.gj_function_lines.specs.FunctionLines.{order_form, place_form, point_form, numbers_of, point_line, order_line, place_line, AreFunctionLines}
+use Rattle.gj_function_lines.proofs.ClearLines.{good_order, good_place, good_point, told_point, not_three_same}
 
--- ---- the words of a point
+-- ---- a point
 
--- one fraction, or three if they are not all the same
-abbrev pub texts_by : Bool → Point → List (List ℕ)
-texts_by true p = fraction_text p.value ∷ []
-texts_by false p = fraction_text p.left ∷ fraction_text p.value ∷ fraction_text p.right ∷ []
-
-pub texts_are_plain : (b : Bool) (p : Point) → All IsPlain (texts_by b p)
-texts_are_plain true p = All-cons IsPlain (fraction_text p.value) [] (fraction_is_plain p.value) (All-nil IsPlain)
-texts_are_plain false p =
-    All-cons IsPlain (fraction_text p.left) (fraction_text p.value ∷ fraction_text p.right ∷ []) (fraction_is_plain p.left)
-    (All-cons IsPlain (fraction_text p.value) (fraction_text p.right ∷ []) (fraction_is_plain p.value)
-    (All-cons IsPlain (fraction_text p.right) [] (fraction_is_plain p.right) (All-nil IsPlain)))
-
-pub texts_spell : (s : Spelling) (b : Bool) (p : Point) → has_no_jump p ≡ b → SpellPoint s (texts_by b p) p
-texts_spell s true p e =
-    let same = same_where_no_jump p e in (canonical_fraction s p.value, same.0, sym same.1)
-texts_spell s false p e = (canonical_fraction s p.left, canonical_fraction s p.value, canonical_fraction s p.right)
-
-pub texts_are_words : (s : Spelling) (b : Bool) (p : Point) → has_no_jump p ≡ b → ArePointWords s (texts_by b p)
-texts_are_words Lenient true p e = tt
-texts_are_words Strict true p e = tt
-texts_are_words Lenient false p e = tt
-texts_are_words Strict false p e = λ first second.
-    let same = no_jump_where_same p (same_from_fraction_text p.left p.value first) (same_from_fraction_text p.value p.right second) in
-    false≢true (sym e ∙ same)
-
--- the line of the point has them
-pub line_has_texts : (b : Bool) (p : Point) (rest : List ℕ) → has_no_jump p ≡ b →
-    point_line p ++ rest ≡ join_with_byte 32 (point_words (texts_by b p)) ++ 10 ∷ rest
-line_has_texts true p rest e =
-    ap (λ t. line (codes "point " ++ t) ++ rest) (text_of_one p e) ∙ append_assoc (codes "point " ++ fraction_text p.value) (10 ∷ []) rest
-line_has_texts false p rest e =
-    ap (λ t. line (codes "point " ++ t) ++ rest) (text_of_three p e)
-    ∙ append_assoc (codes "point " ++
-    (fraction_text p.left ++ codes " " ++ fraction_text p.value ++ codes " " ++ fraction_text p.right)) (10 ∷ []) rest
-    ∙ ap (λ t. codes "point " ++ t ++ 10 ∷ rest)
-    (append_assoc (fraction_text p.left ++ codes " " ++ fraction_text p.value) (codes " ") (fraction_text p.right)
-    ∙ append_assoc (fraction_text p.left ++ codes " ") (fraction_text p.value) (32 ∷ fraction_text p.right)
-    ∙ append_assoc (fraction_text p.left) (codes " ") (fraction_text p.value ++ 32 ∷ fraction_text p.right))
-
--- a text that begins with it spells the point there
-pub line_is_read : (s : Spelling) (b : Bool) (p : Point) (text rest : List ℕ) → has_no_jump p ≡ b → text ≡ point_line p ++ rest →
-    IsPointLine s text text rest p
-line_is_read s b p text rest e is =
-    let plain : All IsPlain (point_words (texts_by b p)) =
-    All-cons IsPlain (codes "point") (texts_by b p) (plain_by_test (codes "point" ∷ []) refl 0 [] (omega arith)) (texts_are_plain b p) in
-    let has : HasLine s text text (point_words (texts_by b p)) rest =
-    line_in s (codes "point") (texts_by b p) text rest plain (λ z. omega arith) (is ∙ line_has_texts b p rest e) in
-    (point_words (texts_by b p), has, (texts_by b p, refl, texts_are_words s b p e, texts_spell s b p e))
+-- a text that begins with its line spells the point there
+pub line_is_read : (s : Spelling) (p : Point) (text rest : List ℕ) → text ≡ point_line p ++ rest → IsPointLine s text text rest p
+line_is_read s p text rest is =
+    let n = numbers_of p in (
+      words_of (point_form.fields n),
+      has_its_line s (point_form.fields n) text rest (good_point n) (λ z. omega arith) is,
+      (n, (not_three_same s p, spells_its_thing s point_form n (good_point n) tt), sym (told_point p)),
+    )
 
 point_is_read : (s : Spelling) (points : List Point) (p : Point) (text rest : List ℕ) → text ≡ point_line p ++ rest →
     AreWithinBounds (all_fractions (points ++ p ∷ [])) → (line_part s (point_rule s points)).Reads text p rest
 point_is_read s points p text rest is within =
-    let (words, has, (ws, words_are, are, spelled)) = line_is_read s (has_no_jump p) p text rest refl is in
-    (text, words, has, (ws, words_are, are, spelled, within))
+    let (words, has, spelled) = line_is_read s p text rest is in
+    (text, words, has, (p, spelled, (refl, within)))
 
 -- ---- all points
 
@@ -110,28 +62,16 @@ points_are_read s before (p ∷ points) text rest is within =
 order_is_read : (s : Spelling) (f : FunctionData) (text rest : List ℕ) → IsWithinBounds f → text ≡ order_line f.order ++ rest →
     (line_part s (order_rule s)).Reads text f.order rest
 order_is_read s f text rest within is =
-    let word = decimal f.order in
-    let small : f.order < 2 ^ 127 = let high = within.order_high in omega arith in
-    let plain : All IsPlain (order_words word) =
-    All-cons IsPlain (codes "order") (word ∷ []) (plain_by_test (codes "order" ∷ []) refl 0 [] (omega arith))
-    (All-cons IsPlain word [] (count_is_plain f.order small) (All-nil IsPlain)) in
-    let has : HasLine s text text (order_words word) rest =
-    line_in s (codes "order") (word ∷ []) text rest plain (λ z. omega arith)
-    (is ∙ append_assoc (codes "order " ++ word) (10 ∷ []) rest) in
-    (text, order_words word, has, (word, refl, canonical_count s f.order small, (within.order_low, within.order_high)))
+    let good = good_order f.order (let high = within.order_high in omega arith) in
+    let (start, words, line, spelled) = line_is_spelled s order_form f.order text rest good tt (λ z. omega arith) is in
+    (start, words, line, (f.order, spelled, (refl, (within.order_low, within.order_high))))
 
 place_is_read : (s : Spelling) (f : FunctionData) (place : Frac) (text rest : List ℕ) → IsWithinBounds f →
     IsRatio place (pos f.place) (pos f.order) → text ≡ place_line place ++ rest →
     (line_part s (place_rule s f.order)).Reads text f.place rest
 place_is_read s f place text rest within ratio is =
-    let word = fraction_text place in
-    let plain : All IsPlain (place_words word) =
-    All-cons IsPlain (codes "f") (word ∷ []) (plain_by_test (codes "f" ∷ []) refl 0 [] (omega arith))
-    (All-cons IsPlain word [] (fraction_is_plain place) (All-nil IsPlain)) in
-    let has : HasLine s text text (place_words word) rest =
-    line_in s (codes "f") (word ∷ []) text rest plain (λ z. omega arith)
-    (is ∙ append_assoc (codes "f " ++ word) (10 ∷ []) rest) in
-    (text, place_words word, has, (word, place, refl, canonical_fraction s place, (within.place_low, within.place_high), ratio))
+    let (start, words, line, spelled) = line_is_spelled s place_form place text rest (good_place place) tt (λ z. omega arith) is in
+    (start, words, line, (place, spelled, ((within.place_low, within.place_high), ratio)))
 
 -- ---- the function
 

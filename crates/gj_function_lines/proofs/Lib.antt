@@ -9,3 +9,5 @@ pub mod StrictFunctions
 pub mod PointLines
 pub mod ExactBreaks
 pub mod CanonicalBreaks
+pub mod ClearLines
+pub mod LinesRead

@@ -1,63 +1,23 @@
 -- Point lines, printed one after another.
-use Rattle.std.proofs.Common.{◌≡◌, ℕ, ◌+◌, ◌<◌, ◌≤◌, ℤ, pos, List, [], ◌∷◌, ◌++◌, length, take, flat_map, codes, true, false, if◌then◌else◌, Result, Ok, Err, OnOk, refl, sym, ap, subst, ◌∙◌, arith}
+use Rattle.std.proofs.Common.{◌≡◌, ℕ, ◌+◌, ◌<◌, ◌≤◌, ℤ, pos, List, [], ◌∷◌, ◌++◌, length, take, flat_map, codes, true, false, Result, Ok, Err, OnOk, refl, sym, ap, subst, ◌∙◌, arith}
 use Rattle.std.specs.List.{AllZip}
-use Rattle.std.specs.Ordering.{int_eq}
-use Rattle.std.proofs.lemmas.Bool.{and_parts}
-use Rattle.std.proofs.lemmas.Bool.Decides.{Decides-int_eq}
 use Rattle.std.proofs.lemmas.List.{append_assoc, append-nil, flat_map_more, map-append, take_more, take_all}
 use Rattle.std.proofs.lemmas.Slice.Zip.{all_zipped_more}
 use Rattle.gj_frac.specs.declared.Frac.{Frac}
-use Rattle.gj_frac.specs.Fraction.{IsRatio, numerator, denominator}
-use Rattle.gj_frac.proofs.SameValues.{same_parts_same}
+use Rattle.gj_frac.specs.Fraction.{IsRatio}
 use Rattle.gj_lex.specs.NumberText.{fraction_text}
 use Rattle.gj_shape.specs.FunctionData.{FunctionData, IsWithinBounds, at}
 use Rattle.gj_shape.proofs.AtLemmas.{at_below}
 use Rattle.gj_shape.specs.Points.{lefts, values, rights, ArePointsOf, IsPointAt}
-use Rattle.gj_function_lines.specs.FunctionLines.{order_line, place_line, is_same, has_no_jump, point_text, point_line, lines_of, AreFunctionLines}
+use Rattle.gj_forms.specs.LineForms.{bytes_of}
+use Rattle.gj_forms.specs.LineForms.Field.{word, fraction}
+use Rattle.gj_shape.specs.Breaks.{point_at}
+use Rattle.gj_shape.specs.declared.breaks.Break.{Break}
+use Rattle.gj_function_lines.specs.BreakLines.{break_line}
+use Rattle.gj_function_lines.specs.FunctionLines.{order_line, place_line, number_fields, has_no_jump, numbers_of, point_line, lines_of, AreFunctionLines}
+use Rattle.gj_function_lines.proofs.ClearLines.{bytes_before, no_jump_where_same, number_of_even, numbers_of_jump}
 use Rattle.gj_shape.specs.declared.points.Point.{Point}
 use Rattle.gj_shape.proofs.OverScale.{IsOver}
-
--- ---- the fractions of a point
-
--- the limit from the left, the value and the limit from the right
-abbrev pub three_texts : Point → List ℕ
-three_texts p = fraction_text p.left ++ codes " " ++ fraction_text p.value ++ codes " " ++ fraction_text p.right
-
--- a point without a jump is written by its value
-pub text_of_one : (p : Point) → has_no_jump p ≡ true → point_text p ≡ fraction_text p.value
-unfolding point_text
-text_of_one p e = ap (λ b. if b then fraction_text p.value else three_texts p) e
-
--- and one with a jump by its three fractions
-pub text_of_three : (p : Point) → has_no_jump p ≡ false → point_text p ≡ three_texts p
-unfolding point_text
-text_of_three p e = ap (λ b. if b then fraction_text p.value else three_texts p) e
-
--- fractions with the same parts are one
-same_from_is_same : (x y : Frac) → is_same x y ≡ true → x ≡ y
-same_from_is_same x y h =
-    let parts = and_parts (int_eq (numerator x) (numerator y)) (int_eq (denominator x) (denominator y)) h in
-    same_parts_same x y ((Decides-int_eq (numerator x) (numerator y)).0 parts.0)
-    ((Decides-int_eq (denominator x) (denominator y)).0 parts.1)
-
-is_same_itself : (x : Frac) → is_same x x ≡ true
-is_same_itself x =
-    let n = (Decides-int_eq (numerator x) (numerator x)).1 refl in
-    let d = (Decides-int_eq (denominator x) (denominator x)).1 refl in
-    rw (n, d)
-
--- if a point has no jump, its value is both limits
-pub same_where_no_jump : (p : Point) → has_no_jump p ≡ true → (p.left ≡ p.value) × (p.value ≡ p.right)
-same_where_no_jump p h =
-    let parts = and_parts (is_same p.left p.value) (is_same p.value p.right) h in
-    (same_from_is_same p.left p.value parts.0, same_from_is_same p.value p.right parts.1)
-
--- and the other way round
-pub no_jump_where_same : (p : Point) → p.left ≡ p.value → p.value ≡ p.right → has_no_jump p ≡ true
-no_jump_where_same p first second =
-    let left : is_same p.left p.value ≡ true = rw first (is_same_itself p.value) in
-    let right : is_same p.value p.right ≡ true = rw (← second) (is_same_itself p.value) in
-    rw (left, right)
 
 -- ---- the lines of the points
 
@@ -77,12 +37,36 @@ first_all : (scale : ℕ) (ns : List ℤ) (n : ℕ) (xs : List Frac) → length 
     AllZip (IsOver scale) xs ns
 first_all scale ns n xs most are = subst (AllZip (IsOver scale) xs) (take_all n ns most) are
 
--- one fraction is the text of a point whose limits are the value
+-- the numbers of a point, and the line feed that is still to come
+abbrev pub AreNumbersPushed : Point → List ℕ → List ℕ → Type 0
+AreNumbersPushed p before now = now ++ 10 ∷ [] ≡ before ++ bytes_of (number_fields (numbers_of p))
+
+-- one fraction is pushed for a point without a jump
+pub even_is_pushed : {E : Type 0} (p : Point) (r : Result (Unit {0}) E) (before now : List ℕ) → has_no_jump p ≡ true →
+    OnOk r (now ≡ before ++ fraction_text p.value) → OnOk r (AreNumbersPushed p before now)
+even_is_pushed p (Err e) before now even h = tt
+even_is_pushed p (Ok u) before now even h =
+    ap (λ t. t ++ 10 ∷ []) h ∙ append_assoc before (fraction_text p.value) (10 ∷ [])
+    ∙ ap (λ n. before ++ bytes_of (number_fields n)) (sym (number_of_even p even))
+
+-- and three for one with a jump
+pub jump_is_pushed : {E : Type 0} (p : Point) (r : Result (Unit {0}) E) (before now : List ℕ) → has_no_jump p ≡ false →
+    OnOk r (now ≡ before ++ (fraction_text p.left ++ codes " " ++ fraction_text p.value ++ codes " " ++ fraction_text p.right)) →
+    OnOk r (AreNumbersPushed p before now)
+jump_is_pushed p (Err e) before now jump h = tt
+jump_is_pushed p (Ok u) before now jump h =
+    ap (λ t. t ++ 10 ∷ []) h ∙ joined (fraction_text p.left) (fraction_text p.value) (fraction_text p.right)
+    ∙ ap (λ n. before ++ bytes_of (number_fields n)) (sym (numbers_of_jump p jump))
+  where
+    joined : (l v r : List ℕ) → (before ++ (l ++ codes " " ++ v ++ codes " " ++ r)) ++ 10 ∷ [] ≡ before ++ (l ++ 32 ∷ (v ++ 32 ∷ (r ++ 10 ∷ [])))
+    joined l v r = simp append_assoc
+
+-- a point whose limits are the value
 pub even_pushed : {E : Type 0} (f : FunctionData) (i : ℕ) (x : Frac) (r : Result (Unit {0}) E) (before now : List ℕ) →
     (at f.left i ≡ at f.value i) × (at f.right i ≡ at f.value i) → IsOver f.scale x (at f.value i) →
-    OnOk r (now ≡ before ++ fraction_text x) → OnOk r ((p : Point) × IsPointAt f i p × (now ≡ before ++ point_text p))
+    OnOk r (now ≡ before ++ fraction_text x) → OnOk r ((p : Point) × IsPointAt f i p × AreNumbersPushed p before now)
 even_pushed f i x (Err e) before now same is h = tt
-even_pushed f i x (Ok u) before now (left, right) is h =
+even_pushed {E} f i x (Ok u) before now (left, right) is h =
     let p : Point = record { left = x; value = x; right = x } in (
       p,
       record {
@@ -90,25 +74,40 @@ even_pushed f i x (Ok u) before now (left, right) is h =
         value_is = is;
         right_is = subst (IsOver f.scale x) (sym right) is;
       },
-      h ∙ ap (λ t. before ++ t) (sym (text_of_one p (no_jump_where_same p refl refl))),
+      even_is_pushed {E = E} p (Ok u) before now (no_jump_where_same p refl refl) h,
     )
 
--- the text of the point at i/order
+-- the numbers of the point at i/order
 pub point_pushed : {E : Type 0} (f : FunctionData) (i : ℕ) (p : Point) (r : Result (Unit {0}) E) (before now : List ℕ) → IsPointAt f i p →
-    OnOk r (now ≡ before ++ point_text p) → OnOk r ((q : Point) × IsPointAt f i q × (now ≡ before ++ point_text q))
+    OnOk r (AreNumbersPushed p before now) → OnOk r ((q : Point) × IsPointAt f i q × AreNumbersPushed q before now)
 point_pushed f i p (Err e) before now is h = tt
 point_pushed f i p (Ok u) before now is h = (p, is, h)
 
 -- a point line is pushed in three parts
 pub line_pushed : (f : FunctionData) (i : ℕ) (before first second third : List ℕ) → first ≡ before ++ codes "point " →
-    (p : Point) × IsPointAt f i p × (second ≡ first ++ point_text p) → third ≡ second ++ 10 ∷ [] →
+    (p : Point) × IsPointAt f i p × AreNumbersPushed p first second → third ≡ second ++ 10 ∷ [] →
     (p : Point) × IsPointAt f i p × (third ≡ before ++ point_line p)
-line_pushed f i before first second third first_is (p, is, second_is) third_is = (
-  p,
-  is,
-  third_is ∙ ap (λ t. t ++ 10 ∷ []) (second_is ∙ ap (λ t. t ++ point_text p) first_is ∙ append_assoc before (codes "point ") (point_text p))
-      ∙ append_assoc before (codes "point " ++ point_text p) (10 ∷ []),
-)
+line_pushed f i before first second third first_is (p, is, second_is) third_is =
+    let numbers = bytes_of (number_fields (numbers_of p)) in (
+      p,
+      is,
+      third_is ∙ second_is ∙ ap (λ t. t ++ numbers) first_is ∙ append_assoc before (codes "point ") numbers
+          ∙ ap (λ t. before ++ t) (sym (bytes_before (word (codes "point")) (numbers_of p))),
+    )
+
+-- so is the line of a breakpoint
+pub break_pushed : (b : Break) (before first second third : List ℕ) → first ≡ before ++ codes "point " →
+    second ≡ first ++ fraction_text b.x ++ codes " " → AreNumbersPushed (point_at b) second third →
+    third ++ 10 ∷ [] ≡ before ++ break_line b
+break_pushed b before first second third first_is second_is h =
+    let n = numbers_of (point_at b) in
+    let numbers = bytes_of (number_fields n) in
+    let x = fraction_text b.x in
+    h ∙ ap (λ t. t ++ numbers) (second_is ∙ ap (λ t. t ++ x ++ codes " ") first_is) ∙ joined x numbers
+    ∙ ap (λ t. before ++ (codes "point " ++ t)) (sym (bytes_before (fraction b.x) n))
+  where
+    joined : (x numbers : List ℕ) → (before ++ codes "point " ++ x ++ codes " ") ++ numbers ≡ before ++ (codes "point " ++ (x ++ 32 ∷ numbers))
+    joined x numbers = simp append_assoc
 
 -- the text before has gained the lines of the first n points of the function
 pub record ArePushed (f : FunctionData) (n : ℕ) (before now : List ℕ) : Type 0 where

@@ -2,8 +2,6 @@
 use Rattle.std.proofs.Common.{◌≡◌, inl, inr, ℕ, zero, suc, ◌+◌, ◌-◌, ◌<◌, List, [], ◌∷◌, ◌++◌, All, length, refl, sym, ap, subst, arith}
 use Rattle.std.proofs.lemmas.List.{length_push}
 use Rattle.gj_lex.specs.declared.spelling.Spelling.{Spelling}
-use Rattle.gj_lex.specs.declared.spelling.Spelling.TheVariants.{Lenient, Strict}
-use Rattle.gj_lex.specs.declared.reason.Reason.{Reason}
 use Rattle.gj_lex.specs.declared.fault.PartFault.{PartFault}
 use Rattle.gj_lex.specs.Parts.{line_part, IsFaultOf}
 use Rattle.gj_lex.proofs.PartLaws.{line_refused, fault_in_first, fault_in_next}
@@ -12,48 +10,26 @@ use Rattle.gj_shape.specs.Points.{all_fractions, IsPointFault}
 use Rattle.gj_shape.specs.declared.points.Point.{Point}
 use Rattle.gj_shape.specs.declared.points.PointFault.{PointFault}
 use Rattle.gj_shape.specs.declared.points.PointFault.TheVariants.{Large, Fine, Memory}
-use Rattle.gj_function_lines.specs.FunctionGrammar.{ArePointWords, point_rule, points_part}
-use Rattle.gj_function_lines.specs.Reading.{IsOneOrThree, IsPointLine, BreaksPointForm, refusal_of}
-
--- ---- the words of a point
-
-pub one_or_three : (s : Spelling) (words : List (List ℕ)) → ArePointWords s words → IsOneOrThree words
-one_or_three Lenient [] h = absurd h
-one_or_three Lenient (a ∷ []) h = inl refl
-one_or_three Lenient (a ∷ b ∷ []) h = absurd h
-one_or_three Lenient (a ∷ b ∷ c ∷ []) h = inr refl
-one_or_three Lenient (a ∷ b ∷ c ∷ d ∷ words) h = absurd h
-one_or_three Strict [] h = absurd h
-one_or_three Strict (a ∷ []) h = inl refl
-one_or_three Strict (a ∷ b ∷ []) h = absurd h
-one_or_three Strict (a ∷ b ∷ c ∷ []) h = inr refl
-one_or_three Strict (a ∷ b ∷ c ∷ d ∷ words) h = absurd h
-
--- a line that breaks the rule on its form breaks the rule of points
-pub form_breaks : (s : Spelling) (points : List Point) (words : List (List ℕ)) (e : Reason) → BreaksPointForm s words e →
-    (point_rule s points).Breaks words e
-form_breaks s points words e (inl form) = inl form
-form_breaks s points words e (inr number) = inr (inl number)
+use Rattle.gj_function_lines.specs.FunctionGrammar.{point_rule, points_part}
+use Rattle.gj_function_lines.specs.Reading.{IsPointLine, refusal_of}
 
 -- ---- one point
 
 pub point_read : (s : Spelling) (text start rest : List ℕ) (points new : List Point) (p : Point) → IsPointLine s text start rest p →
     new ≡ points ++ p ∷ [] → All IsSmall (all_fractions new) → HasCommonDenominator (all_fractions new) →
     (q : Point) × (new ≡ points ++ q ∷ []) × (line_part s (point_rule s points)).Reads text q rest
-point_read s text start rest points new p (words, line, (ws, is, are, spelled)) new_is small common =
+point_read s text start rest points new p (words, line, spelled) new_is small common =
     let within : AreWithinBounds (all_fractions new) = record { small = small; common = common } in
-    (p, new_is, (start, words, line, (ws, is, are, spelled, subst (λ ps. AreWithinBounds (all_fractions ps)) new_is within)))
+    (p, new_is, (start, words, line, (p, spelled, (refl, subst (λ ps. AreWithinBounds (all_fractions ps)) new_is within))))
 
 -- a point that cannot follow
 pub point_refused : (s : Spelling) (text start rest : List ℕ) (points : List Point) (p : Point) (e : PointFault) →
     IsPointLine s text start rest p → IsPointFault points p e →
     IsFaultOf (line_part s (point_rule s points)) text (refusal_of e (length start))
-point_refused s text start rest points p Large (words, line, (ws, is, are, spelled)) fault =
-    line_refused s (point_rule s points) text start words rest _ _ line
-    (inr (inr (inl (refl, (ws, p, is, are, spelled, fault))))) refl
-point_refused s text start rest points p Fine (words, line, (ws, is, are, spelled)) fault =
-    line_refused s (point_rule s points) text start words rest _ _ line
-    (inr (inr (inr (refl, (ws, p, is, are, spelled, fault))))) refl
+point_refused s text start rest points p Large (words, line, spelled) fault =
+    line_refused s (point_rule s points) text start words rest _ _ line (inr (p, spelled, inl (refl, fault))) refl
+point_refused s text start rest points p Fine (words, line, spelled) fault =
+    line_refused s (point_rule s points) text start words rest _ _ line (inr (p, spelled, inr (refl, fault))) refl
 point_refused s text start rest points p (Memory e) line fault = tt
 
 -- ---- one after another

@@ -6,9 +6,9 @@ use Rattle.gj_lex.specs.NumberText.{denominator_text, fraction_text}
 use Rattle.gj_lex.proofs.CanonicalTexts.{denominator_more}
 use Rattle.gj_lex.proofs.Decimals.{decimal_of_value}
 use Rattle.gj_shape.specs.declared.points.Point.{Point}
-use Rattle.gj_function_lines.specs.FunctionLines.{has_no_jump, point_line}
-use Rattle.gj_function_lines.proofs.CanonicalFunctions.{line_has_texts}
-use Rattle.gj_function_lines.proofs.PointLines.{text_of_one, no_jump_where_same}
+use Rattle.gj_forms.specs.LineForms.{line_of}
+use Rattle.gj_function_lines.specs.FunctionLines.{point_form, has_no_jump, point_line}
+use Rattle.gj_function_lines.proofs.ClearLines.{no_jump_where_same, number_of_even, numbers_of_jump}
 
 -- digits that begin with no zero, or with one alone, are printed for their number
 pub number_printed : (text front rest : List ℕ) (len number : ℕ) → front ≡ take len text → rest ≡ drop len text → AllDigits 10 (take len text) →
@@ -34,7 +34,7 @@ even_printed text behind more rest x text_is behind_is more_is =
     let p : Point = record { left = x; value = x; right = x } in
     text_is ∙ ap (λ t. codes "point " ++ t) (behind_is ∙ ap (λ t. fraction_text x ++ t) more_is)
     ∙ sym (append_assoc (codes "point " ++ fraction_text x) (10 ∷ []) rest)
-    ∙ ap (λ t. (codes "point " ++ t ++ 10 ∷ []) ++ rest) (sym (text_of_one p (no_jump_where_same p refl refl)))
+    ∙ ap (λ n. line_of point_form n ++ rest) (sym (number_of_even p (no_jump_where_same p refl refl)))
 
 -- and three for one with a jump
 pub jump_printed : (p : Point) (first second third fourth fifth rest : List ℕ) → has_no_jump p ≡ false → first ≡ 32 ∷ second →
@@ -44,10 +44,11 @@ jump_printed p first second third fourth fifth rest e first_is second_is third_i
     let l = fraction_text p.left in
     let v = fraction_text p.value in
     let r = fraction_text p.right in
-    let all : first ≡ (32 ∷ (v ++ 32 ∷ r)) ++ 10 ∷ rest =
+    let all : first ≡ 32 ∷ (v ++ 32 ∷ (r ++ 10 ∷ rest)) =
     first_is
-    ∙ ap (λ t. 32 ∷ t)
-    (second_is ∙ ap (λ t. v ++ t) (third_is ∙ ap (λ t. 32 ∷ t) (fourth_is ∙ ap (λ t. r ++ t) fifth_is))
-    ∙ sym (append_assoc v (32 ∷ r) (10 ∷ rest))) in
-    ap (λ t. codes "point " ++ (l ++ t)) all ∙ ap (λ t. codes "point " ++ t) (sym (append_assoc l (32 ∷ (v ++ 32 ∷ r)) (10 ∷ rest)))
-    ∙ sym (line_has_texts false p rest e)
+    ∙ ap (λ t. 32 ∷ t) (second_is ∙ ap (λ t. v ++ t) (third_is ∙ ap (λ t. 32 ∷ t) (fourth_is ∙ ap (λ t. r ++ t) fifth_is))) in
+    ap (λ t. codes "point " ++ (l ++ t)) all ∙ ap (λ t. codes "point " ++ t) (joined l v r)
+    ∙ ap (λ n. line_of point_form n ++ rest) (sym (numbers_of_jump p e))
+  where
+    joined : (l v r : List ℕ) → l ++ 32 ∷ (v ++ 32 ∷ (r ++ 10 ∷ rest)) ≡ (l ++ 32 ∷ (v ++ 32 ∷ (r ++ 10 ∷ []))) ++ rest
+    joined l v r = simp append_assoc

@@ -1,9 +1,11 @@
--- The lines of a function in their one spelling (own).
-use Rattle.std.specs.Prelude.{ℕ, pos, ◌≡◌, Bool, ◌&&◌, if◌then◌else◌, List, [], ◌∷◌, ◌++◌, codes, decimal, flat_map}
+-- The lines of a function, each defined once by its fields, and printed in their one spelling (own).
+use Rattle.std.specs.Prelude.{ℕ, pos, ◌≡◌, Bool, ◌&&◌, if◌then◌else◌, List, [], ◌∷◌, ◌++◌, codes, flat_map}
 use Rattle.std.specs.Ordering.{int_eq}
 use Rattle.gj_frac.specs.declared.Frac.{Frac}
 use Rattle.gj_frac.specs.Fraction.{IsRatio, numerator, denominator}
 use Rattle.gj_lex.specs.NumberText.{fraction_text}
+use Rattle.gj_forms.specs.LineForms.{Field, LineForm, form_of, line_of}
+use Rattle.gj_forms.specs.LineForms.Field.{word, fraction, count}
 use Rattle.gj_shape.specs.FunctionData.{FunctionData}
 use Rattle.gj_shape.specs.Points.{ArePointsOf}
 use Rattle.gj_shape.specs.declared.points.Point.{Point}
@@ -14,13 +16,35 @@ line bytes = bytes ++ 10 ∷ []
 
 -- a line of a word and a fraction
 abbrev pub fraction_line : List ℕ → Frac → List ℕ
-fraction_line word x = line (word ++ fraction_text x)
+fraction_line name x = line (name ++ fraction_text x)
+
+-- `order Q`
+abbrev pub order_form : LineForm ℕ
+order_form = form_of (λ order. word (codes "order") ∷ count order ∷ [])
 
 abbrev pub order_line : ℕ → List ℕ
-order_line order = line (codes "order " ++ decimal order)
+order_line order = line_of order_form order
+
+-- `f F`
+abbrev pub place_form : LineForm Frac
+place_form = form_of (λ place. word (codes "f") ∷ fraction place ∷ [])
 
 abbrev pub place_line : Frac → List ℕ
-place_line place = fraction_line (codes "f ") place
+place_line place = line_of place_form place
+
+-- the numbers of a point: one for its value and both limits; or the limit from the left, the value and the limit from
+-- the right
+pub data PointNumbers : Type 0 where
+  one : Frac → PointNumbers
+  three : Point → PointNumbers
+
+abbrev pub number_fields : PointNumbers → List Field
+number_fields (one x) = fraction x ∷ []
+number_fields (three p) = fraction p.left ∷ fraction p.value ∷ fraction p.right ∷ []
+
+-- `point V` or `point L V R`
+abbrev pub point_form : LineForm PointNumbers
+point_form = form_of (λ numbers. word (codes "point") ∷ number_fields numbers)
 
 -- whether two fractions in lowest terms are one
 abbrev pub is_same : Frac → Frac → Bool
@@ -30,15 +54,12 @@ is_same x y = int_eq (numerator x) (numerator y) && int_eq (denominator x) (deno
 abbrev pub has_no_jump : Point → Bool
 has_no_jump p = is_same p.left p.value && is_same p.value p.right
 
--- the fractions of a point: one if the three are equal, else the limit from the left, the value and the limit from
--- the right
-unfoldable pub point_text : Point → List ℕ
-point_text p =
-    if has_no_jump p then fraction_text p.value
-    else fraction_text p.left ++ codes " " ++ fraction_text p.value ++ codes " " ++ fraction_text p.right
+-- the numbers that are printed of a point: one if the three are equal
+unfoldable pub numbers_of : Point → PointNumbers
+numbers_of p = if has_no_jump p then one p.value else three p
 
 abbrev pub point_line : Point → List ℕ
-point_line p = line (codes "point " ++ point_text p)
+point_line p = line_of point_form (numbers_of p)
 
 -- the line `order Q`, the line `f F`, and a line for each point
 abbrev pub lines_of : ℕ → Frac → List Point → List ℕ

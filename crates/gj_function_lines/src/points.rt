@@ -1,10 +1,10 @@
 //! The points of a function, read.
-ghost use Rattle.std.specs.Prelude.{◌≡◌, ◌↔◌, ◌++◌, [], ◌∷◌, ℕ, List, length, IsTrue, IfSome, IfNone, IfOk, IfErr};
+ghost use Rattle.std.specs.Prelude.{◌≡◌, ◌↔◌, ◌++◌, [], ◌∷◌, ℕ, List, length, codes, IsTrue, IfSome, IfNone, IfOk, IfErr};
 ghost use Rattle.gj_lex.specs.Words.{word_texts};
 ghost use Rattle.gj_lex.specs.Parts.{line_part, IsFaultOf};
 ghost use Rattle.gj_shape.specs.declared.points.Point.{Point};
-ghost use Rattle.gj_function_lines.specs.FunctionGrammar.{point_words, ArePointWords, SpellPoint, point_rule, points_part};
-ghost use Rattle.gj_function_lines.specs.Reading.{words_of_point, IsOneOrThree, SpellsPoint, IsPointLine, BreaksPointForm, refusal_of};
+ghost use Rattle.gj_function_lines.specs.FunctionGrammar.{AreThreeSame, spelled_point_rule, point_rule, points_part};
+ghost use Rattle.gj_function_lines.specs.Reading.{words_of_point, IsOneOrThree, numbers_rule, IsPointLine, refusal_of};
 ghost use Rattle.gj_function_lines.specs.declared.points.PointWords.{PointWords};
 
 use crate::printed::printed_point;
@@ -106,37 +106,26 @@ fn refusal_of(fault: PointFault, text: &[u8]) -> PartFault
 
 /// The point that the line gives, or the rule on its form and its numbers that it breaks first.
 fn point_in(spelling: Spelling, line: &[u8]) -> Result<Point, Reason>
-    ensures found { IfOk result (SpellsPoint spelling (word_texts line.now)) }
-    ensures broken { IfErr result (BreaksPointForm spelling (word_texts line.now)) }
+    ensures found { IfOk result ((spelled_point_rule spelling).Spells (word_texts line.now)) }
+    ensures broken { IfErr result ((spelled_point_rule spelling).Breaks (word_texts line.now)) }
 {
-    let Some(words) = point_words(spelling, line) else {
+    let Some(words) = point_words(line) else {
         return Err(Reason::Form);
     };
+    if are_three_same(spelling, words) {
+        return Err(Reason::Form);
+    }
     match point_of(spelling, words) {
         Some(point) => Ok(point),
         None => Err(Reason::Number),
     }
 }
 
-/// The words behind `point` in the line, if they are one or three, in strict spelling not three that are the same.
-fn point_words(spelling: Spelling, line: &[u8]) -> Option<PointWords<'_>>
-    ensures found { IfSome result (λ p. word_texts line.now ≡ point_words (words_of_point p)) }
-    ensures words { IfSome result (λ p. ArePointWords spelling (words_of_point p)) }
-    ensures none { IfNone result ((words : List (List ℕ)) →
-        word_texts line.now ≡ point_words words → ArePointWords spelling words → ⊥) }
-{
-    let words = one_or_three(line)?;
-    if !are_point_words(spelling, words) {
-        return None;
-    }
-    Some(words)
-}
-
 /// The words behind `point` in the line, if they are one or three.
-fn one_or_three(line: &[u8]) -> Option<PointWords<'_>>
-    ensures found { IfSome result (λ p. word_texts line.now ≡ point_words (words_of_point p)) }
+fn point_words(line: &[u8]) -> Option<PointWords<'_>>
+    ensures found { IfSome result (λ p. word_texts line.now ≡ codes "point" ∷ words_of_point p) }
     ensures none { IfNone result ((words : List (List ℕ)) →
-        word_texts line.now ≡ point_words words → IsOneOrThree words → ⊥) }
+        word_texts line.now ≡ codes "point" ∷ words → IsOneOrThree words → ⊥) }
 {
     fractions_in(behind_name(line, b"point")?)
 }
@@ -157,51 +146,36 @@ pub(crate) fn fractions_in(words: &[u8]) -> Option<PointWords<'_>>
     Some(PointWords::Three(first, second, third))
 }
 
-/// Whether the words may stand for a point: in strict spelling no three that are all the same.
-fn are_point_words(spelling: Spelling, words: PointWords<'_>) -> bool
-    ensures { IsTrue result ↔ ArePointWords spelling (words_of_point words.entry) }
+/// Whether the words are three that are all the same, which strict spelling does not allow.
+fn are_three_same(spelling: Spelling, words: PointWords<'_>) -> bool
+    ensures { IsTrue result ↔ AreThreeSame spelling (codes "point" ∷ words_of_point words.entry) }
 {
     match (spelling, words) {
         (Spelling::Strict, PointWords::Three(first, second, third)) => {
-            first != second || second != third
+            first == second && second == third
         }
-        _ => true,
+        _ => false,
     }
 }
 
 /// The point that the words spell.
 pub(crate) fn point_of(spelling: Spelling, words: PointWords<'_>) -> Option<Point>
-    ensures found { IfSome result (SpellPoint spelling (words_of_point words.entry)) }
-    ensures none { IfNone result ((p : Point) → SpellPoint spelling (words_of_point words.entry) p → ⊥) }
+    ensures found { IfSome result ((numbers_rule spelling).Spells (words_of_point words.entry)) }
+    ensures none { IfNone result ((p : Point) → (numbers_rule spelling).Spells (words_of_point words.entry) p → ⊥) }
 {
     match words {
-        PointWords::One(word) => even_point(spelling, word),
-        PointWords::Three(first, second, third) => jump_point(spelling, first, second, third),
+        PointWords::One(word) => {
+            let value = fraction_of(spelling, word)?;
+            Some(Point {
+                left: value,
+                value,
+                right: value,
+            })
+        }
+        PointWords::Three(first, second, third) => Some(Point {
+            left: fraction_of(spelling, first)?,
+            value: fraction_of(spelling, second)?,
+            right: fraction_of(spelling, third)?,
+        }),
     }
-}
-
-/// The point whose value and limits are the fraction that the word spells.
-fn even_point(spelling: Spelling, word: &[u8]) -> Option<Point>
-    ensures found { IfSome result (SpellPoint spelling (word.now ∷ [])) }
-    ensures none { IfNone result ((p : Point) → SpellPoint spelling (word.now ∷ []) p → ⊥) }
-{
-    let value = fraction_of(spelling, word)?;
-    Some(Point {
-        left: value,
-        value,
-        right: value,
-    })
-}
-
-/// The point whose limit from the left, value and limit from the right are the fractions that the words spell.
-fn jump_point(spelling: Spelling, first: &[u8], second: &[u8], third: &[u8]) -> Option<Point>
-    ensures found { IfSome result (SpellPoint spelling (first.now ∷ second.now ∷ third.now ∷ [])) }
-    ensures none { IfNone result ((p : Point) →
-        SpellPoint spelling (first.now ∷ second.now ∷ third.now ∷ []) p → ⊥) }
-{
-    Some(Point {
-        left: fraction_of(spelling, first)?,
-        value: fraction_of(spelling, second)?,
-        right: fraction_of(spelling, third)?,
-    })
 }

@@ -1,11 +1,12 @@
 //! The lines of a function, printed.
-ghost use Rattle.std.specs.Prelude.{◌≡◌, ◌<◌, ◌++◌, ℕ, List, codes, flat_map, IsTrue, OnOk};
+ghost use Rattle.std.specs.Prelude.{◌≡◌, ◌<◌, [], ◌∷◌, ◌++◌, ℕ, List, codes, flat_map, IsTrue, OnOk};
 ghost use Rattle.gj_lex.specs.NumberText.{fraction_text};
+ghost use Rattle.gj_forms.specs.LineForms.{bytes_of};
 ghost use Rattle.gj_shape.specs.FunctionData.{at};
 ghost use Rattle.gj_shape.specs.Points.{ArePointsOf, IsPointAt};
 ghost use Rattle.gj_shape.specs.Breaks.{point_at};
 ghost use Rattle.gj_function_lines.specs.BreakLines.{break_line};
-ghost use Rattle.gj_function_lines.specs.FunctionLines.{fraction_line, order_line, place_line, has_no_jump, point_text, point_line, AreFunctionLines};
+ghost use Rattle.gj_function_lines.specs.FunctionLines.{fraction_line, order_line, place_line, number_fields, has_no_jump, numbers_of, point_line, AreFunctionLines};
 ghost use Rattle.gj_shape.specs.declared.points.Point.{Point};
 
 use gj_frac::Frac;
@@ -86,11 +87,12 @@ fn push_line_at(alloc: Global, out: &mut Vec<u8>, shape: &Shape, i: u32) -> Resu
     Ok(())
 }
 
-/// Appends the one fraction of the point at i/q, or the three if they are not equal. One fraction is made if the limits are the value.
+/// Appends the one fraction of the point at i/q, or the three if they are not equal: the rest of its line but for the line
+/// feed. One fraction is made if the limits are the value.
 fn push_point_at(alloc: Global, out: &mut Vec<u8>, shape: &Shape, i: u32) -> Result<(), AllocError>
     requires { i < shape.now.order }
     ensures { OnOk result ((p : Point) × IsPointAt shape.now i p
-        × (out.new.items ≡ out.old.items ++ point_text p)) }
+        × (out.new.items ++ 10 ∷ [] ≡ out.old.items ++ bytes_of (number_fields (numbers_of p)))) }
 {
     if is_even_at(shape, i) {
         return print_frac(alloc, out, shape.value(i));
@@ -144,9 +146,9 @@ fn limits_of(point: Break) -> Point
     }
 }
 
-/// Appends the one fraction of a point, or the three if they are not equal.
+/// Appends the one fraction of a point, or the three if they are not equal: the rest of its line but for the line feed.
 fn push_point(alloc: Global, out: &mut Vec<u8>, point: Point) -> Result<(), AllocError>
-    ensures { OnOk result (out.new.items ≡ out.old.items ++ point_text point) }
+    ensures { OnOk result (out.new.items ++ 10 ∷ [] ≡ out.old.items ++ bytes_of (number_fields (numbers_of point))) }
 {
     if has_no_jump(point) {
         return print_frac(alloc, out, point.value);

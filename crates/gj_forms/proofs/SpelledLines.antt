@@ -1,0 +1,120 @@
+-- Lines of a form in either spelling: what is printed is read again, and what is read in strict spelling is what is printed.
+use Rattle.std.proofs.Common.{◌≡◌, ◌≢◌, inl, inr, ℕ, List, [], ◌∷◌, ◌++◌, get_or, refl, sym, ap, subst, ◌∙◌}
+use Rattle.std.specs.List.{join_with_byte}
+use Rattle.std.proofs.lemmas.List.{append_assoc}
+use Rattle.gj_lex.specs.Parts.{LineRule, line_part, IsExactRule}
+use Rattle.gj_lex.specs.TextLines.{HasLine}
+use Rattle.gj_lex.specs.declared.spelling.Spelling.{Spelling}
+use Rattle.gj_lex.specs.declared.spelling.Spelling.TheVariants.{Strict}
+use Rattle.gj_lex.specs.declared.reason.Reason.{Reason}
+use Rattle.gj_lex.proofs.CanonicalLines.{line_in}
+use Rattle.gj_lex.proofs.SpelledWords.{canonical_fraction, canonical_count}
+use Rattle.gj_forms.specs.LineForms.{Field, words_of, first_of, others_of, with_numbers, bytes_of, LineForm, line_of, form_of}
+use Rattle.gj_forms.specs.LineForms.Field.{word, fraction, count, whole}
+use Rattle.gj_forms.specs.SpelledForms.{SpellNumbers, Spell, rule_in, turned_rule, barred_rule}
+use Rattle.gj_forms.proofs.FieldWords.{IsGood, AreGood, AreAlike, words_are_plain, own_numbers, joined_words}
+use Rattle.gj_forms.proofs.PlainWords.{word_of_count}
+use Rattle.gj_forms.proofs.SpelledLaws.{IsClearForm, made_rule_is_exact}
+
+-- ---- the words of a line spell its fields
+
+spelled_first : (s : Spelling) (f : Field) (fs : List Field) → IsGood f → SpellNumbers s fs (words_of fs) →
+    SpellNumbers s (f ∷ fs) (words_of (f ∷ fs))
+spelled_first s (word w) fs good h = h
+spelled_first s (fraction x) fs good h = (canonical_fraction s x, h)
+spelled_first s (count n) fs good h = (canonical_count s n good, h)
+spelled_first s (whole n) fs good h = ((refl, good), h)
+
+own_words : (s : Spelling) (fs : List Field) → AreGood fs → SpellNumbers s fs (words_of fs)
+own_words s [] good = absurd good
+own_words s (f ∷ []) good = spelled_first s f [] good tt
+own_words s (f ∷ g ∷ fs) good = spelled_first s f (g ∷ fs) good.0 (own_words s (g ∷ fs) good.1)
+
+pub spells_its_thing : {A : Type 0} (s : Spelling) (form : LineForm A) (a : A) → AreGood (form.fields a) → form.HasLine a →
+    Spell s form (words_of (form.fields a)) a
+spells_its_thing s form a good has = (own_numbers (form.fields a), own_words s (form.fields a) good, has)
+
+-- and in strict spelling no other words do
+strict_first : (f : Field) (fs : List Field) (words : List (List ℕ)) → IsGood f →
+    (SpellNumbers Strict fs (others_of words) → with_numbers fs (others_of words) ≡ words_of fs) →
+    SpellNumbers Strict (f ∷ fs) words → with_numbers (f ∷ fs) words ≡ words_of (f ∷ fs)
+strict_first (word w) fs words good more h = ap (λ ws. w ∷ ws) (more h)
+strict_first (fraction x) fs words good more h = λ i. h.0 i ∷ more h.1 i
+strict_first (count n) fs words good more h = λ i. word_of_count (first_of words) n good h.0 i ∷ more h.1 i
+strict_first (whole n) fs words good more h = λ i. h.0.0 i ∷ more h.1 i
+
+strict_numbers : (fs : List Field) (words : List (List ℕ)) → AreGood fs → SpellNumbers Strict fs words → with_numbers fs words ≡ words_of fs
+strict_numbers [] words good h = absurd good
+strict_numbers (f ∷ []) words good h = strict_first f [] words good (λ t. refl) h
+strict_numbers (f ∷ g ∷ fs) words good h =
+    strict_first f (g ∷ fs) words good.0 (λ k. strict_numbers (g ∷ fs) (others_of words) good.1 k) h
+
+pub strict_words_are : {A : Type 0} (form : LineForm A) (words : List (List ℕ)) (a : A) → AreGood (form.fields a) → Spell Strict form words a →
+    words ≡ words_of (form.fields a)
+strict_words_are form words a good h = h.0 ∙ strict_numbers (form.fields a) words good h.1
+
+-- words of one kind spell what they are
+pub spelled_as : {A : Type 0} (s : Spelling) (form : LineForm A) (words known : List (List ℕ)) (a : A) → words ≡ known →
+    Spell s form known a → Spell s form words a
+spelled_as s form words known a is h = subst (λ ws. Spell s form ws a) (sym is) h
+
+-- ---- lines
+
+line_is_joined : (fs : List Field) (rest : List ℕ) → bytes_of fs ++ rest ≡ join_with_byte 32 (words_of fs) ++ 10 ∷ rest
+line_is_joined fs rest =
+    ap (λ t. t ++ rest) (joined_words fs) ∙ append_assoc (join_with_byte 32 (words_of fs)) (10 ∷ []) rest
+
+-- a text that begins with the bytes has a line of the words there, unless they begin with `#`
+pub has_its_line : (s : Spelling) (fs : List Field) (text rest : List ℕ) → AreGood fs → get_or (first_of (words_of fs)) 0 0 ≢ 35 →
+    text ≡ bytes_of fs ++ rest → HasLine s text text (words_of fs) rest
+has_its_line s [] text rest good other is = absurd good
+has_its_line s (f ∷ fs) text rest good other is =
+    line_in s _ (words_of fs) text rest (words_are_plain (f ∷ fs) good) other (is ∙ line_is_joined (f ∷ fs) rest)
+
+module _ {A : Type 0} (s : Spelling) (form : LineForm A) where
+  -- the line of a thing is read as the thing
+  pub line_is_spelled : (a : A) (text rest : List ℕ) → AreGood (form.fields a) → form.HasLine a →
+      get_or (first_of (words_of (form.fields a))) 0 0 ≢ 35 → text ≡ line_of form a ++ rest →
+      (line_part s (rule_in s form)).Reads text a rest
+  line_is_spelled a text rest good has other is =
+      (text, words_of (form.fields a), has_its_line s (form.fields a) text rest good other is, spells_its_thing s form a good has)
+
+-- what is read in strict spelling is the line of its thing
+pub strict_bytes : {A : Type 0} (form : LineForm A) (text : List ℕ) (words : List (List ℕ)) (a : A) (rest : List ℕ) →
+    AreGood (form.fields a) → text ≡ join_with_byte 32 words ++ 10 ∷ rest → Spell Strict form words a → text ≡ line_of form a ++ rest
+strict_bytes form text words a rest good is h =
+    is ∙ ap (λ ws. join_with_byte 32 ws ++ 10 ∷ rest) (strict_words_are form words a good h) ∙ sym (line_is_joined (form.fields a) rest)
+
+-- ---- rules
+
+-- a form whose things all have a line is clear if words of one kind have one kind of fields, and these tell the thing
+pub clear_form : {A : Type 0} (fields : A → List Field) →
+    ((a b : A) (words : List (List ℕ)) → with_numbers (fields a) words ≡ with_numbers (fields b) words → AreAlike (fields a) (fields b)) →
+    ((a b : A) → fields a ≡ fields b → a ≡ b) → IsClearForm (form_of fields)
+clear_form fields alike tell = record { of_form = λ a h. tt; alike = alike; tell = tell }
+
+pub turned_rule_is_exact : {A B : Type 0} (make : A → B) (rule : LineRule A) → IsExactRule rule.Spells rule.Breaks →
+    IsExactRule (turned_rule make rule).Spells (turned_rule make rule).Breaks
+turned_rule_is_exact {A} {B} make rule exact =
+    made_rule_is_exact (λ (a : A) (b : B). b ≡ make a) (λ (a : A) (e : Reason). ⊥) rule exact (λ a b c h k. h ∙ sym k) (λ a e d h k. absurd h)
+    (λ a b e h k. k)
+
+module _ {A : Type 0} (AreBarred : List (List ℕ) → Type 0) (rule : LineRule A) (exact : IsExactRule rule.Spells rule.Breaks) where
+  barred_reason : (words : List (List ℕ)) (e d : Reason) → (barred_rule AreBarred rule).Breaks words e →
+      (barred_rule AreBarred rule).Breaks words d → e ≡ d
+  barred_reason words e d (inl h) (inl k) = h.0 ∙ sym k.0
+  barred_reason words e d (inl h) (inr k) = absurd (k.0 h.1)
+  barred_reason words e d (inr h) (inl k) = absurd (h.0 k.1)
+  barred_reason words e d (inr h) (inr k) = exact.one_reason words e d h.1 k.1
+
+  barred_unbroken : (words : List (List ℕ)) (a : A) (e : Reason) → (barred_rule AreBarred rule).Spells words a →
+      (barred_rule AreBarred rule).Breaks words e → ⊥
+  barred_unbroken words a e h (inl k) = h.0 k.1
+  barred_unbroken words a e h (inr k) = exact.not_both words a e h.1 k.1
+
+  pub barred_rule_is_exact : IsExactRule (barred_rule AreBarred rule).Spells (barred_rule AreBarred rule).Breaks
+  barred_rule_is_exact = record {
+    one_thing = λ words a b h k. exact.one_thing words a b h.1 k.1;
+    one_reason = barred_reason;
+    not_both = barred_unbroken;
+  }
