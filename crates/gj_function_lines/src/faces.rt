@@ -1,7 +1,8 @@
 //! The lines of faces and of covered intervals, printed.
-ghost use Rattle.std.specs.Prelude.{◌≡◌, ◌++◌, flat_map, OnOk};
-ghost use Rattle.gj_function_lines.specs.FunctionLines.{line};
-ghost use Rattle.gj_function_lines.specs.FaceLines.{face_word, face_text, cover_line};
+ghost use Rattle.std.specs.Prelude.{◌≡◌, [], ◌∷◌, ◌++◌, flat_map, OnOk};
+ghost use Rattle.gj_forms.specs.LineForms.{bytes_of};
+ghost use Rattle.gj_forms.specs.LineForms.Field.{word, count};
+ghost use Rattle.gj_function_lines.specs.FaceLines.{face_word, cover_line};
 
 use gj_lex::print_count;
 use gj_shape::{CoverLine, Face, FaceKind};
@@ -26,27 +27,20 @@ fn push_cover_line(out: &mut Vec<u8>, line: CoverLine) -> Result<(), AllocError>
     out.push(b' ')?;
     print_count(out, line.from)?;
     out.push(b' ')?;
-    push_face_line(out, line.face)
+    push_face(out, line.face)
 }
 
-/// Appends the line of a face: the word of its kind and its square.
-fn push_face_line(out: &mut Vec<u8>, face: Face) -> Result<(), AllocError>
-    ensures { OnOk result (out.new.items ≡ out.old.items ++ line (face_text face)) }
-{
-    push_face(out, face)?;
-    out.push(b'\n')?;
-    Ok(())
-}
-
-/// Appends a face: the word of its kind and its square.
+/// Appends the word of a face and its square, and the end of the line.
 fn push_face(out: &mut Vec<u8>, face: Face) -> Result<(), AllocError>
-    ensures { OnOk result (out.new.items ≡ out.old.items ++ face_text face) }
+    ensures { OnOk result (out.new.items ≡ out.old.items ++ bytes_of (word (face_word face.kind) ∷ count face.a ∷ count face.b ∷ [])) }
 {
     out.extend_from_slice(face_word(face.kind))?;
     out.push(b' ')?;
     print_count(out, face.a)?;
     out.push(b' ')?;
-    print_count(out, face.b)
+    print_count(out, face.b)?;
+    out.push(b'\n')?;
+    Ok(())
 }
 
 /// The word of a kind of face.

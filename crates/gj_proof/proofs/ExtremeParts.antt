@@ -14,7 +14,6 @@ use Rattle.gj_proof.specs.declared.numbers.Numbers.{Numbers}
 use Rattle.gj_proof.specs.declared.numbers.Numbers.TheVariants.{Whole, Residues}
 use Rattle.gj_proof.specs.declared.pivot.PivotRow.{PivotRow}
 use Rattle.gj_lex.proofs.WhereLaws.{where_part_is_exact, shorter_behind_line}
-use Rattle.gj_proof.proofs.CutParts.{end_words}
 use Rattle.gj_proof.proofs.ExtremeWords.{cover_rule_is_exact, row_name_rule_is_exact, column_rule_is_exact, modulus_rule_is_exact, halves_rule_is_exact, pair_rule_is_exact}
 
 -- ---- covered intervals
@@ -89,7 +88,7 @@ more_groups q rows = made_part (λ (row : PivotRow) next. next ≡ inl (rows ++ 
 
 next_group_is_exact : (q : ℕ) → q ≤ 1000 → (rows : List PivotRow) → IsExactPart (next_group q rows).Reads (next_group q rows).Faults
 next_group_is_exact q small rows =
-    where_part_is_exact (BeginsWithLine Strict end_words) (empty_part (inr rows)) (more_groups q rows) (empty_part_is_exact (inr rows))
+    where_part_is_exact (BeginsWithLine Strict (codes "end" ∷ [])) (empty_part (inr rows)) (more_groups q rows) (empty_part_is_exact (inr rows))
     (made_part_is_exact (λ (row : PivotRow) next. next ≡ inl (rows ++ row ∷ [])) (λ row m n h k. h ∙ sym k) (group_part q)
     (group_part_is_exact q small))
 

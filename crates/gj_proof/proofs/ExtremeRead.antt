@@ -17,7 +17,6 @@ use Rattle.gj_proof.specs.declared.numbers.Numbers.{Numbers}
 use Rattle.gj_proof.specs.declared.pivot.PivotRow.{PivotRow}
 use Rattle.gj_lex.proofs.LoopRead.{LeadsOn, leads_on, leads_to_end, leads_to_fault}
 use Rattle.gj_lex.proofs.WhereLaws.{fault_where, fault_else}
-use Rattle.gj_proof.proofs.CutParts.{end_words}
 use Rattle.gj_proof.proofs.ExtremeParts.{cover_part, name_part, step_part, pivot_part, more_steps, steps_part, makes_row, behind_steps, behind_name, more_groups, pair_part}
 use Rattle.gj_proof.proofs.ReadTexts.{makes_extreme, behind_modulus, behind_cover, behind_function, makes_not_extreme, behind_subject}
 
@@ -85,21 +84,21 @@ fault_in_pivot q text middle behind name columns e first steps h =
 -- ---- all groups
 
 pub group_on : (q : ℕ) (text rest behind : List ℕ) (rows new : List PivotRow) (row : PivotRow) → LeadsOn (next_group q) [] text rows rest →
-    (BeginsWithLine Strict end_words rest → ⊥) → (group_part q).Reads rest row behind → new ≡ rows ++ row ∷ [] →
+    (BeginsWithLine Strict (codes "end" ∷ []) rest → ⊥) → (group_part q).Reads rest row behind → new ≡ rows ++ row ∷ [] →
     LeadsOn (next_group q) [] text new behind
 group_on q text rest behind rows new row h not group new_is =
     subst (λ (rs : List PivotRow). LeadsOn (next_group q) [] text rs behind) (sym new_is)
     (leads_on (next_group q) [] text rows (rows ++ row ∷ []) rest behind h (inr (not, (row, group, refl))))
 
 pub groups_end : (q : ℕ) (text rest : List ℕ) (rows : List PivotRow) → LeadsOn (next_group q) [] text rows rest →
-    BeginsWithLine Strict end_words rest → (groups_part q []).Reads text rows rest
+    BeginsWithLine Strict (codes "end" ∷ []) rest → (groups_part q []).Reads text rows rest
 groups_end q text rest rows h is = leads_to_end (next_group q) [] text rows rest rows rest h (inl (is, (refl, refl)))
 
 pub group_at_fault : (q : ℕ) (text rest : List ℕ) (rows : List PivotRow) (e : PartFault) → LeadsOn (next_group q) [] text rows rest →
-    (BeginsWithLine Strict end_words rest → ⊥) → IsFaultOf (group_part q) rest e → IsFaultOf (groups_part q []) text e
+    (BeginsWithLine Strict (codes "end" ∷ []) rest → ⊥) → IsFaultOf (group_part q) rest e → IsFaultOf (groups_part q []) text e
 group_at_fault q text rest rows e h not fault =
     leads_to_fault (next_group q) [] text rows rest e h
-    (fault_else (BeginsWithLine Strict end_words) (empty_part (inr rows)) (more_groups q rows) rest e not
+    (fault_else (BeginsWithLine Strict (codes "end" ∷ [])) (empty_part (inr rows)) (more_groups q rows) rest e not
     (fault_in_made {B = List PivotRow ⊎ List PivotRow} (λ row next. next ≡ inl (rows ++ row ∷ [])) (group_part q) rest e fault))
 
 -- ---- pairs of values

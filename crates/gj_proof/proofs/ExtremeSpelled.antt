@@ -29,7 +29,6 @@ use Rattle.gj_proof.specs.declared.pivot.PivotRow.{PivotRow}
 use Rattle.gj_proof.proofs.LineLists.{bytes}
 use Rattle.gj_proof.proofs.StrictParts.{line_reads, line_found, strict_line}
 use Rattle.gj_lex.proofs.WhereLaws.{other_line, other_word}
-use Rattle.gj_proof.proofs.CutParts.{end_words}
 use Rattle.gj_proof.proofs.ExtremeWords.{cover_is_plain, bytes_of_cover, row_name_is_plain, bytes_of_row_name, column_is_plain, modulus_is_plain, head_is_plain, bytes_of_head, pair_is_plain, bytes_of_pair}
 use Rattle.gj_proof.proofs.ExtremeParts.{cover_part, name_part, head_part, pair_part}
 
@@ -216,16 +215,16 @@ name_found q text rest n h =
 
 -- the first line of a group is no line `end`
 no_end : (q : ℕ) (n : RowName) (text rest : List ℕ) → q ≤ 1000 → IsRowNameBelow q n → text ≡ group_line n ++ rest →
-    BeginsWithLine Strict end_words text → ⊥
+    BeginsWithLine Strict (codes "end" ∷ []) text → ⊥
 no_end q Period text rest small h is =
-    other_line Strict text text (row_words Period) end_words rest
+    other_line Strict text text (row_words Period) (codes "end" ∷ []) rest
     (refl, strict_line text rest (codes "row") (codes "period" ∷ []) (row_name_is_plain q Period small h) is) (λ e. cc)
 no_end q F text rest small h is =
-    other_line Strict text text (row_words F) end_words rest
+    other_line Strict text text (row_words F) (codes "end" ∷ []) rest
     (refl, strict_line text rest (codes "row") (codes "f" ∷ []) (row_name_is_plain q F small h) is)
     (λ e. cc)
 no_end q (Pair a b) text rest small h is =
-    other_line Strict text text (row_words (Pair a b)) end_words rest (
+    other_line Strict text text (row_words (Pair a b)) (codes "end" ∷ []) rest (
       refl,
       strict_line text rest (codes "row") (decimal a ∷ decimal b ∷ []) (row_name_is_plain q (Pair a b) small h)
           (is ∙ ap (λ u. u ++ rest) (sym (bytes_of_row_name (Pair a b)))),
@@ -275,7 +274,7 @@ group_found q text rest row (name, middle, first, (columns, behind, steps, (c, p
 -- ---- all groups
 
 pub groups_read : (q : ℕ) (before rows : List PivotRow) (rest : List ℕ) → q ≤ 1000 → All (IsPivotRowBelow q) rows →
-    BeginsWithLine Strict end_words rest → (groups_part q before).Reads (flat_map group_text rows ++ rest) (before ++ rows) rest
+    BeginsWithLine Strict (codes "end" ∷ []) rest → (groups_part q before).Reads (flat_map group_text rows ++ rest) (before ++ rows) rest
 groups_read q before [] rest small h ends = last before rest (inl (ends, (ap inr (append-nil before), refl)))
 groups_read q before (row ∷ rows) rest small h ends =
     let first = All-head (IsPivotRowBelow q) row rows h in

@@ -26,7 +26,6 @@ use Rattle.gj_proof.specs.ProofText.{group_line, pair_line, IsCoverLineBelow, Is
 use Rattle.gj_proof.specs.ProofGrammar.{IsCountIn, cover_words, BreaksCover, cover_rule, row_words, BreaksRowName, row_name_rule, column_rule, modulus_rule, IsHeadInBounds, halves_words, halves_rule, pair_words, pair_rule}
 use Rattle.gj_proof.specs.declared.halves.HalvesHead.{HalvesHead}
 use Rattle.gj_proof.proofs.WholeNumbers.{same_from_whole, whole_is_plain}
-use Rattle.gj_proof.proofs.CutWords.{two_joined, plain_word}
 
 -- a count below some limit up to 4,001 is spelled so in one way
 same_count : (m n limit : ℕ) → m < limit → n < limit → limit ≤ 4001 → decimal m ≡ decimal n → m ≡ n
@@ -34,6 +33,12 @@ same_count m n limit h k small e = same_from_decimal m n (omega arith) (omega ar
 
 count_in : (n limit : ℕ) → n < limit → limit ≤ 4001 → IsCountIn (λ m. m < limit) (decimal n)
 count_in n limit h small = (n, canonical_count Strict n (omega arith), h)
+
+two_joined : (a b c : List ℕ) → a ++ 32 ∷ (b ++ 32 ∷ c) ≡ (a ++ codes " ") ++ b ++ codes " " ++ c
+two_joined a b c = simp append_assoc
+
+plain_word : (w : List ℕ) → All IsPlain (w ∷ []) → IsPlain w
+plain_word w h = h 0 w (omega arith)
 
 -- ---- plain words
 

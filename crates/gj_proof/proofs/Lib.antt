@@ -1,13 +1,12 @@
 pub mod StrictParts
-pub mod ViolationRule
 pub mod ReadTexts
 pub mod ReadFaults
 pub mod OneText
 pub mod LineNumbers
-pub mod ViolationLines
 pub mod ShortTexts
-pub mod CutWords
-pub mod CutParts
+pub mod ListRead
+pub mod ClearLines
+pub mod BrokenLines
 pub mod CutTexts
 pub mod CutRead
 pub mod WholeNumbers

@@ -1,15 +1,11 @@
 -- The lines of a claim's own: their names differ, and each has one line feed, at its end.
-use Rattle.std.proofs.Common.{◌≡◌, ◌≢◌, ℕ, suc, ◌+◌, ◌≤◌, List, [], ◌∷◌, ◌++◌, All, length, flat_map, zip, codes, refl, sym, ap, subst, ◌∙◌, arith}
+use Rattle.std.proofs.Common.{◌≡◌, ◌≢◌, ℕ, suc, ◌+◌, ◌≤◌, List, [], ◌∷◌, ◌++◌, All, length, flat_map, zip, refl, sym, ap, subst, ◌∙◌, arith}
 use Rattle.std.proofs.lemmas.List.{append_assoc, map-append}
 use Rattle.std.proofs.lemmas.List.Elements.{All-nil, All-cons, All-head, All-tail, All-append, All-weaker}
-use Rattle.gj_frac.specs.declared.Frac.{Frac}
-use Rattle.gj_lex.specs.Name.{IsName, IsNameByte}
-use Rattle.gj_lex.specs.NumberText.{fraction_text}
-use Rattle.gj_lex.specs.TextLines.{line_feeds}
+use Rattle.gj_lex.specs.Name.{IsName}
 use Rattle.gj_shape.specs.declared.extremality.CoverLine.{CoverLine}
-use Rattle.gj_shape.specs.declared.violations.Violation.{Violation}
-use Rattle.gj_shape.specs.declared.violations.Violation.TheVariants as violation
-use Rattle.gj_proof.specs.ProofText.{ProofLine, OwnLine, IsBounded, HasNames, HasText, own_lines, violation_line, reason_word, row_line, term_line, terms_of, term_lines, row_lines, covered_lines, extreme_lines, pair_lines}
+use Rattle.gj_forms.proofs.LineFeeds.{one_feed}
+use Rattle.gj_proof.specs.ProofText.{ProofLine, OwnLine, IsBounded, HasNames, HasText, own_lines, violation_form, violation_line, head_form, head_of, row_line, term_form, term_line, terms_of, term_lines, row_lines, covered_lines, extreme_lines, pair_lines}
 use Rattle.gj_proof.specs.CutTexts.{row_text}
 use Rattle.gj_proof.specs.declared.claim.Claim.{Claim}
 use Rattle.gj_proof.specs.declared.claim.Claim.TheVariants.{Minimal, NotMinimal, Cut, Extreme, ExtremeByResidues, NotExtreme}
@@ -19,9 +15,9 @@ use Rattle.gj_proof.specs.declared.pivot.PivotRow.{PivotRow}
 use Rattle.gj_proof.specs.declared.cut.CutLine.{CutLine}
 use Rattle.gj_proof.specs.declared.cut.CutLine.TheVariants as cuts
 use Rattle.gj_proof.specs.declared.cut.CutTerm.{CutTerm}
-use Rattle.gj_proof.specs.declared.cut.SkipReason.{SkipReason}
-use Rattle.gj_proof.specs.declared.cut.SkipReason.TheVariants.{Integral, Other}
-use Rattle.gj_proof.proofs.LineLists.{names, bytes, bytes_append, Differ, differ_append, no_feeds, feeds_of_line, feeds_of_two, feeds_of_fraction, HasOneFeed}
+use Rattle.gj_proof.proofs.ClearLines.{violation_is_clear, head_is_clear, term_is_clear}
+use Rattle.gj_proof.proofs.CutTexts.{has_name}
+use Rattle.gj_proof.proofs.LineLists.{names, bytes, bytes_append, Differ, differ_append, HasOneFeed}
 use Rattle.gj_proof.proofs.ExtremeLines.{IsCoveredFrom, covered_are, IsBehindCover, behind_cover, behind_are, IsPairFrom, pairs_are, extreme_lines_differ, halves_lines_differ, extreme_have_one_feed, halves_have_one_feed}
 
 -- ---- the bytes of the lines of cuts
@@ -212,56 +208,12 @@ own_lines_are_own (NotExtreme f h) =
 
 -- ---- line feeds
 
-feeds_of_name : (name : List ℕ) → IsName name → line_feeds name ≡ 0
-feeds_of_name name h =
-    no_feeds name (All-weaker IsNameByte (λ b. b ≢ 10) (λ b i e. omega (arith, i.above_space)) name h.visible)
-
--- a word, a name, a space and a fraction
-feeds_of_named : (word name : List ℕ) (x : Frac) → line_feeds word ≡ 0 → IsName name →
-    line_feeds (word ++ name ++ codes " " ++ fraction_text x) ≡ 0
-feeds_of_named word name x none named =
-    feeds_of_two (word ++ name ++ codes " ") (fraction_text x)
-    (feeds_of_two (word ++ name) (codes " ") (feeds_of_two word name none (feeds_of_name name named)) refl) (feeds_of_fraction x)
-
-feeds_of_term : (t : CutTerm) → IsName t.name → line_feeds (term_line t) ≡ 1
-feeds_of_term t named =
-    let front = codes "term " ++ t.name ++ codes " " ++ fraction_text t.entry in
-    feeds_of_line (front ++ codes " " ++ fraction_text t.cut)
-    (feeds_of_two (front ++ codes " ") (fraction_text t.cut)
-    (feeds_of_two front (codes " ") (feeds_of_named (codes "term ") t.name t.entry refl named) refl) (feeds_of_fraction t.cut))
-
-feeds_of_reason : (r : SkipReason) → line_feeds (reason_word r) ≡ 0
-feeds_of_reason Integral = refl
-feeds_of_reason Other = refl
-
-feeds_of_row : (l : CutLine) → HasNames l → line_feeds (row_line l) ≡ 1
-feeds_of_row (cuts.Cut name right terms) h =
-    feeds_of_line (codes "cut " ++ name ++ codes " " ++ fraction_text right) (feeds_of_named (codes "cut ") name right refl h.0)
-feeds_of_row (cuts.Skip name right r) h =
-    let front = codes "skip " ++ name ++ codes " " ++ fraction_text right in
-    feeds_of_line (front ++ codes " " ++ reason_word r)
-    (feeds_of_two (front ++ codes " ") (reason_word r)
-    (feeds_of_two front (codes " ") (feeds_of_named (codes "skip ") name right refl h) refl) (feeds_of_reason r))
-
-feeds_of_violation : (v : Violation) → line_feeds (violation_line v) ≡ 1
-feeds_of_violation violation.Zero = refl
-feeds_of_violation (violation.Negative x) =
-    feeds_of_line (codes "negative " ++ fraction_text x) (feeds_of_two (codes "negative ") (fraction_text x) refl (feeds_of_fraction x))
-feeds_of_violation (violation.Asymmetric x) =
-    feeds_of_line (codes "asymmetric " ++ fraction_text x) (feeds_of_two (codes "asymmetric ") (fraction_text x) refl (feeds_of_fraction x))
-feeds_of_violation (violation.Superadditive x y) =
-    let front = codes "superadditive " ++ fraction_text x in
-    feeds_of_line (front ++ codes " " ++ fraction_text y)
-    (feeds_of_two (front ++ codes " ") (fraction_text y)
-    (feeds_of_two front (codes " ") (feeds_of_two (codes "superadditive ") (fraction_text x) refl (feeds_of_fraction x)) refl)
-    (feeds_of_fraction y))
-
 terms_have_one_feed : (i j : ℕ) (terms : List CutTerm) → All (λ t. IsName t.name) terms → All HasOneFeed (term_lines i j terms)
 terms_have_one_feed i j [] named = All-nil HasOneFeed
 terms_have_one_feed i j (t ∷ terms) named =
     let P : CutTerm → Type 0 = λ t. IsName t.name in
     All-cons HasOneFeed (record { name = ProofLine.term i j; bytes = term_line t }) (term_lines i (j + 1) terms)
-    (feeds_of_term t (All-head P t terms named)) (terms_have_one_feed i (j + 1) terms (All-tail P t terms named))
+    (one_feed term_form term_is_clear t (All-head P t terms named)) (terms_have_one_feed i (j + 1) terms (All-tail P t terms named))
 
 pub names_of_terms : (l : CutLine) → HasNames l → All (λ t. IsName t.name) (terms_of l)
 names_of_terms (cuts.Cut name right terms) h = h.1
@@ -272,14 +224,14 @@ rows_have_one_feed i [] named = All-nil HasOneFeed
 rows_have_one_feed i (l ∷ rows) named =
     let here = All-head HasNames l rows named in
     All-cons HasOneFeed (record { name = ProofLine.cut i; bytes = row_line l }) (term_lines i 0 (terms_of l) ++ row_lines (i + 1) rows)
-    (feeds_of_row l here)
+    (one_feed head_form head_is_clear (head_of l) (has_name l here))
     (All-append HasOneFeed (term_lines i 0 (terms_of l)) (row_lines (i + 1) rows)
     (terms_have_one_feed i 0 (terms_of l) (names_of_terms l here)) (rows_have_one_feed (i + 1) rows (All-tail HasNames l rows named)))
 
 pub own_lines_have_one_feed : (c : Claim) → IsBounded c → HasText c → All HasOneFeed (own_lines c)
 own_lines_have_one_feed (Minimal f) b t = All-nil HasOneFeed
 own_lines_have_one_feed (NotMinimal f v) b t =
-    All-cons HasOneFeed (record { name = ProofLine.violation_shown; bytes = violation_line v }) [] (feeds_of_violation v)
+    All-cons HasOneFeed (record { name = ProofLine.violation_shown; bytes = violation_line v }) [] (one_feed violation_form violation_is_clear v tt)
     (All-nil HasOneFeed)
 own_lines_have_one_feed (Cut rule rows) b t = rows_have_one_feed 0 rows b.1
 own_lines_have_one_feed (Extreme f lines rows) b t = extreme_have_one_feed Whole f.order lines rows b.order_high t.1 t.2

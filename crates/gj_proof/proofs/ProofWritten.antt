@@ -1,10 +1,15 @@
 -- The text of a claim, written one part after another.
-use Rattle.std.proofs.Common.{◌≡◌, ℕ, Result, OnOk, List, ◌++◌, flat_map, codes, sym, ap, subst, ◌∙◌}
+use Rattle.std.proofs.Common.{◌≡◌, ℕ, Result, OnOk, List, [], ◌∷◌, ◌++◌, flat_map, codes, sym, ap, subst, ◌∙◌}
+use Rattle.std.proofs.lemmas.List.{append_assoc}
+use Rattle.gj_frac.specs.declared.Frac.{Frac}
+use Rattle.gj_lex.specs.NumberText.{fraction_text}
+use Rattle.gj_shape.specs.declared.violations.Violation.{Violation}
+use Rattle.gj_shape.specs.declared.violations.Violation.TheVariants as violation
 use Rattle.std.proofs.lemmas.Result.{on_ok_weaker}
 use Rattle.gj_shape.specs.FunctionData.{FunctionData}
 use Rattle.gj_shape.specs.declared.extremality.Halves.{Halves}
 use Rattle.gj_function_lines.specs.FunctionLines.{line}
-use Rattle.gj_proof.specs.ProofText.{subject_of, numbers_of, title_text, claim_word, own_lines, AreSubjectLines, HasText, IsProofText}
+use Rattle.gj_proof.specs.ProofText.{subject_of, numbers_of, title_text, claim_word, violation_line, own_lines, AreSubjectLines, HasText, IsProofText}
 use Rattle.gj_proof.specs.CutTexts.{row_text}
 use Rattle.gj_proof.specs.ExtremeTexts.{halves_text}
 use Rattle.gj_proof.specs.declared.claim.Claim.{Claim}
@@ -44,3 +49,14 @@ proof_written c d first second third text same has first_is (lines, are, second_
           ∙ ap (λ t. t ++ line (codes "end"))
           (third_is ∙ ap (λ t. t ++ bytes (own_lines c)) (second_is ∙ ap (λ t. t ++ lines) first_is));
     })
+
+-- the line of two points
+
+pub points_pushed : (v : Violation) (x y : Frac) (old a b c d new : List ℕ) → v ≡ violation.Superadditive x y →
+    a ≡ old ++ codes "superadditive " → b ≡ a ++ fraction_text x → c ≡ b ++ codes " " → d ≡ c ++ fraction_text y → new ≡ d ++ 10 ∷ [] →
+    new ≡ old ++ violation_line v
+points_pushed v x y old a b c d new v_is a_is b_is c_is d_is new_is =
+    rw (v_is, new_is, d_is, c_is, b_is, a_is) (regroup old (codes "superadditive ") (fraction_text x) (codes " ") (fraction_text y) (10 ∷ []))
+  where
+    regroup : (a b c d e f : List ℕ) → a ++ b ++ c ++ d ++ e ++ f ≡ a ++ (b ++ (c ++ (d ++ (e ++ f))))
+    regroup a b c d e f = simp append_assoc

@@ -18,11 +18,12 @@ use Rattle.gj_function_lines.proofs.CanonicalFunctions.{canonical_lines_are_read
 use Rattle.gj_function_lines.proofs.ExactFunctions.{function_part_is_exact}
 use Rattle.gj_function_lines.proofs.FunctionRead.{within_bounds}
 use Rattle.gj_function_lines.proofs.StrictFunctions.{strict_lines_are_canonical}
-use Rattle.gj_proof.specs.ProofText.{IfFunction, HasNames, IsBounded, subject_of_rule, extreme_claim, title_text, modulus_lines, AreSubjectLines, violation_line, IsCoverLineBelow, IsPivotRowBelow, IsProofText}
+use Rattle.gj_forms.proofs.LineLaws.{part_is_exact, line_is_read, only_line}
+use Rattle.gj_proof.specs.ProofText.{IfFunction, IsBounded, subject_of_rule, extreme_claim, title_text, modulus_lines, AreSubjectLines, violation_form, violation_line, IsCoverLineBelow, IsPivotRowBelow, IsProofText}
 use Rattle.gj_proof.specs.CutTexts.{row_text}
 use Rattle.gj_proof.specs.ExtremeTexts.{group_text, halves_text}
 use Rattle.gj_lex.specs.Parts.{BeginsWithLine}
-use Rattle.gj_proof.specs.ProofGrammar.{proof_title_words, title_rule, claim_words, numbers_of_word, claim_rule, violation_words, violation_rule, rule_part, rows_part, covered_part, modulus_part, groups_part, halves_part, claim_part, proof_text}
+use Rattle.gj_proof.specs.ProofGrammar.{proof_title_words, title_rule, claim_words, numbers_of_word, claim_rule, form_part, rule_part, rows_part, covered_part, modulus_part, groups_part, halves_part, claim_part, proof_text}
 use Rattle.gj_proof.specs.declared.claim.Claim.{Claim}
 use Rattle.gj_proof.specs.declared.claim.Claim.TheVariants as claims
 use Rattle.gj_proof.specs.declared.claim.ClaimWord.{ClaimWord}
@@ -35,16 +36,15 @@ use Rattle.gj_proof.specs.declared.numbers.Numbers.TheVariants.{Whole, Residues}
 use Rattle.gj_proof.specs.declared.pivot.PivotRow.{PivotRow}
 use Rattle.gj_proof.proofs.StrictParts.{line_reads, line_found}
 use Rattle.gj_lex.proofs.WhereLaws.{other_line, begins_so}
-use Rattle.gj_proof.proofs.CutParts.{gmic_words, end_words, rule_part_is_exact, rows_part_is_exact}
-use Rattle.gj_proof.proofs.CutRead.{gmic_read, table_read}
-use Rattle.gj_proof.proofs.CutTexts.{rows_read, rows_found}
+use Rattle.gj_proof.proofs.ClearLines.{violation_is_clear}
+use Rattle.gj_proof.proofs.CutRead.{gmic_words, rule_part_is_exact, gmic_read, table_read}
+use Rattle.gj_proof.proofs.CutTexts.{BeginsEnd, rows_are_exact, rows_are_printed}
 use Rattle.gj_proof.proofs.ExtremeLines.{extreme_bytes, halves_bytes}
 use Rattle.gj_proof.proofs.ExtremeClaims.{IsExtremeText, extreme_text, of_extreme_text, extreme_is_bounded}
 use Rattle.gj_proof.proofs.LineLists.{bytes}
 use Rattle.gj_proof.proofs.ExtremeParts.{covered_part_is_exact, modulus_part_is_exact, groups_part_is_exact, halves_part_is_exact}
 use Rattle.gj_proof.proofs.ExtremeSpelled.{covered_read, covered_found, modulus_read, modulus_found, groups_read, groups_found, halves_read, halves_found}
 use Rattle.gj_proof.proofs.OwnLines.{row_bytes}
-use Rattle.gj_proof.proofs.ViolationRule.{bytes_of_words, some_words, violation_is_plain, violation_rule_is_exact}
 
 -- ---- the parts of a proof text
 
@@ -55,7 +55,7 @@ abbrev pub last_part : Part (Unit {0})
 last_part = line_part Strict (words_rule (codes "end" ∷ []))
 
 abbrev pub violation_part : Part Violation
-violation_part = line_part Strict violation_rule
+violation_part = form_part violation_form
 
 abbrev pub word_part : Numbers → Part ClaimWord
 word_part n = line_part Strict (claim_rule n)
@@ -139,12 +139,12 @@ claim_part_is_exact NotMinimal =
     let behind : FunctionData → Part Claim = λ f. made_part (λ (v : Violation) c. c ≡ claims.NotMinimal f v) violation_part in
     then_part_is_exact (function_part Strict) behind (function_part_is_exact Strict)
     (λ f. made_part_is_exact (λ (v : Violation) c. c ≡ claims.NotMinimal f v) (λ v c d h k. h ∙ sym k) violation_part
-    (line_part_is_exact Strict violation_rule violation_rule_is_exact))
+    (part_is_exact violation_form violation_is_clear))
 claim_part_is_exact Cut =
-    let behind : CutRule → Part Claim = λ rule. made_part (λ (rows : List CutLine) c. c ≡ claims.Cut rule rows) (rows_part []) in
+    let behind : CutRule → Part Claim = λ rule. made_part (λ (rows : List CutLine) c. c ≡ claims.Cut rule rows) rows_part in
     then_part_is_exact rule_part behind rule_part_is_exact
-    (λ rule. made_part_is_exact (λ (rows : List CutLine) c. c ≡ claims.Cut rule rows) (λ rows c d h k. h ∙ sym k) (rows_part [])
-    (rows_part_is_exact []))
+    (λ rule. made_part_is_exact (λ (rows : List CutLine) c. c ≡ claims.Cut rule rows) (λ rows c d h k. h ∙ sym k) rows_part
+    rows_are_exact)
 claim_part_is_exact (Extreme n) =
     then_read_is_exact (function_part Strict) (behind_function n) (function_part_is_exact Strict)
     (λ text f m h.
@@ -216,16 +216,6 @@ claim_reads w rest =
     some (Extreme n) e = cc
     some NotExtreme e = cc
 
-violation_reads : (v : Violation) (rest : List ℕ) → violation_part.Reads (violation_line v ++ rest) v rest
-violation_reads v rest =
-    line_reads violation_rule (violation_line v ++ rest) rest (violation_words v) v (some_words v) (violation_is_plain v) refl
-    (ap (λ t. t ++ rest) (sym (bytes_of_words v)))
-
-violation_found : (text rest : List ℕ) (v : Violation) → violation_part.Reads text v rest → text ≡ violation_line v ++ rest
-violation_found text rest v h =
-    let (words, is, spelled) = line_found violation_rule text rest v h in
-    spelled ∙ ap (λ ws. line (join_with_byte 32 ws) ++ rest) is ∙ ap (λ t. t ++ rest) (bytes_of_words v)
-
 -- ---- the rule of cuts
 
 gmic_reads : (rest : List ℕ) → (line_part Strict (words_rule gmic_words)).Reads (line (codes "rule gmic") ++ rest) tt rest
@@ -251,8 +241,8 @@ rule_reads Gmic lines rest b are =
     (gmic_read (line (codes "rule gmic") ++ rest) rest (begins_so Strict _ rest gmic_words (gmic_reads rest)) (gmic_reads rest))
 
 -- the line of the end begins as one
-end_begins : BeginsWithLine Strict end_words last_line
-end_begins = begins_so Strict last_line [] end_words last_reads
+end_begins : BeginsEnd last_line
+end_begins = begins_so Strict last_line [] (codes "end" ∷ []) last_reads
 
 -- ---- a text of a claim is read as the claim
 
@@ -305,7 +295,7 @@ text_is_read (claims.NotMinimal f v) text b p =
       f,
       violation_line v ++ last_line,
       canonical_lines_are_read Strict f p.subject (violation_line v ++ last_line) b p.are_subject_lines,
-      (v, violation_reads v last_line, refl),
+      (v, line_is_read violation_form violation_is_clear v last_line tt, refl),
     )
     (p.spelled ∙ regroup (title_line Whole) (claim_line NotMinimal) p.subject (violation_line v) last_line)
   where
@@ -314,7 +304,7 @@ text_is_read (claims.NotMinimal f v) text b p =
 text_is_read (claims.Cut rule rows) text b p =
     let behind = flat_map row_text rows ++ last_line in
     whole_reads Cut (claims.Cut rule rows) (p.subject ++ behind) text
-    (rule, behind, rule_reads rule p.subject behind b.0 p.are_subject_lines, (rows, rows_read [] rows last_line b.1 end_begins, refl))
+    (rule, behind, rule_reads rule p.subject behind b.0 p.are_subject_lines, (rows, rows_are_printed.reads rows last_line b.1 end_begins, refl))
     (p.spelled ∙ ap (λ t. title_line Whole ++ claim_line Cut ++ p.subject ++ t ++ last_line) (row_bytes 0 rows)
     ∙ regroup (title_line Whole) (claim_line Cut) p.subject (flat_map row_text rows) last_line)
   where
@@ -387,7 +377,7 @@ claim_found Minimal c text inner rest (f, reads, c_is) is rest_is =
     regroup a b c d = simp (append-nil, append_assoc)
 claim_found NotMinimal c text inner rest (f, middle, reads, (v, shown, c_is)) is rest_is =
     let (within, bytes, lines, inner_is) = function_found inner f middle reads in
-    let middle_is = violation_found middle rest v shown in
+    let middle_is = (only_line violation_form violation_is_clear middle rest v shown).0 in
     let P : Claim → Type 0 = λ d. IsBounded d × IsProofText d text in
     subst P (sym c_is) (
       within,
@@ -406,13 +396,11 @@ claim_found NotMinimal c text inner rest (f, middle, reads, (v, shown, c_is)) is
     regroup a b c d e = simp (append-nil, append_assoc)
 claim_found Cut c text inner rest (rule, middle, reads, (rows, more, c_is)) is rest_is =
     let subject = rule_found inner middle rule reads in
-    let found = rows_found rows rest [] middle more in
+    let found = rows_are_printed.found middle rest rows more in
     let P : Claim → Type 0 = λ d. IsBounded d × IsProofText d text in
-    let named : All HasNames rows = subst (All HasNames) (sym found.all_are) found.named in
-    let own : middle ≡ flat_map row_text rows ++ last_line =
-    found.spelled ∙ ap (λ ls. flat_map row_text ls ++ rest) (sym found.all_are) ∙ ap (λ t. flat_map row_text rows ++ t) rest_is in
+    let own : middle ≡ flat_map row_text rows ++ last_line = found.0 ∙ ap (λ t. flat_map row_text rows ++ t) rest_is in
     subst P (sym c_is) (
-      (subject.within, named),
+      (subject.within, found.1),
       record {
         has_text = tt;
         subject = subject.lines;

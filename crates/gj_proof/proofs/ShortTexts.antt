@@ -39,16 +39,15 @@ line_is_long a b = omega (arith, length-append (a ++ b) (10 ∷ []), length-appe
 
 violation_is_short : (v : Violation) → length (violation_line v) ≤ 176
 violation_is_short violation.Zero = omega arith
-violation_is_short (violation.Negative x) = omega (arith, fraction_is_short x, line_is_long (codes "negative ") (fraction_text x))
-violation_is_short (violation.Asymmetric x) = omega (arith, fraction_is_short x, line_is_long (codes "asymmetric ") (fraction_text x))
+violation_is_short (violation.Negative x) = omega (arith, fraction_is_short x, length-append (fraction_text x) (10 ∷ []))
+violation_is_short (violation.Asymmetric x) = omega (arith, fraction_is_short x, length-append (fraction_text x) (10 ∷ []))
 violation_is_short (violation.Superadditive x y) =
     omega (
       arith,
       fraction_is_short x,
       fraction_is_short y,
-      line_is_long (codes "superadditive " ++ fraction_text x ++ codes " ") (fraction_text y),
-      length-append (codes "superadditive " ++ fraction_text x) (codes " "),
-      length-append (codes "superadditive ") (fraction_text x),
+      length-append (fraction_text x) (32 ∷ (fraction_text y ++ 10 ∷ [])),
+      length-append (fraction_text y) (10 ∷ []),
     )
 
 -- ---- halves

@@ -3,8 +3,10 @@ use Rattle.std.specs.Prelude.{ℕ, ℤ, ◌≡◌, ◌≢◌, ◌⊎◌, ◌+◌
 use Rattle.std.specs.Fmt.{signed_decimal}
 use Rattle.std.specs.List.{range_with_len}
 use Rattle.gj_shape.specs.Perturbation.{AreHalvesInBounds}
+use Rattle.gj_frac.specs.declared.Frac.{Frac}
 use Rattle.gj_lex.specs.Name.{IsName}
-use Rattle.gj_lex.specs.NumberText.{fraction_text}
+use Rattle.gj_forms.specs.LineForms.{Field, LineForm, line_of}
+use Rattle.gj_forms.specs.LineForms.Field.{word, fraction}
 use Rattle.gj_shape.specs.Limits.{greatest_order}
 use Rattle.gj_shape.specs.FunctionData.{FunctionData, IsWithinBounds}
 use Rattle.gj_shape.specs.declared.extremality.CoverLine.{CoverLine}
@@ -15,7 +17,7 @@ use Rattle.gj_shape.specs.declared.faces.FaceKind.TheVariants.{Vertex}
 use Rattle.gj_shape.specs.declared.violations.Violation.{Violation}
 use Rattle.gj_shape.specs.declared.violations.Violation.TheVariants as violation
 use Rattle.gj_function_lines.specs.FaceLines.{cover_line}
-use Rattle.gj_function_lines.specs.FunctionLines.{line, fraction_line, AreFunctionLines}
+use Rattle.gj_function_lines.specs.FunctionLines.{line, AreFunctionLines}
 use Rattle.gj_proof.specs.declared.claim.Claim.{Claim}
 use Rattle.gj_theory.specs.Modulus.{modulus}
 use Rattle.gj_proof.specs.declared.claim.Claim.TheVariants.{Minimal, NotMinimal, Cut, Extreme, ExtremeByResidues, NotExtreme}
@@ -26,6 +28,9 @@ use Rattle.gj_proof.specs.declared.cut.CutLine.TheVariants as cuts
 use Rattle.gj_proof.specs.declared.cut.CutTerm.{CutTerm}
 use Rattle.gj_proof.specs.declared.cut.SkipReason.{SkipReason}
 use Rattle.gj_proof.specs.declared.cut.SkipReason.TheVariants.{Integral, Other}
+use Rattle.gj_proof.specs.declared.cut_rows.RowHead.{RowHead}
+use Rattle.gj_proof.specs.declared.cut_rows.RowKind.{RowKind}
+use Rattle.gj_proof.specs.declared.cut_rows.RowKind.TheVariants.{WithCut, Skipped}
 use Rattle.gj_proof.specs.declared.numbers.Numbers.{Numbers}
 use Rattle.gj_proof.specs.declared.numbers.Numbers.TheVariants.{Whole, Residues}
 use Rattle.gj_proof.specs.declared.pivot.PivotRow.{PivotRow}
@@ -148,12 +153,18 @@ abbrev pub AreSubjectLines : Subject → List ℕ → Type 0
 AreSubjectLines (function f) bytes = AreFunctionLines f bytes
 AreSubjectLines gmic bytes = bytes ≡ line (codes "rule gmic")
 
--- the line of a violation: its word and its points
+-- `zero`, `negative X`, `asymmetric X` or `superadditive X Y`
+abbrev pub violation_fields : Violation → List Field
+violation_fields violation.Zero = word (codes "zero") ∷ []
+violation_fields (violation.Negative x) = word (codes "negative") ∷ fraction x ∷ []
+violation_fields (violation.Asymmetric x) = word (codes "asymmetric") ∷ fraction x ∷ []
+violation_fields (violation.Superadditive x y) = word (codes "superadditive") ∷ fraction x ∷ fraction y ∷ []
+
+abbrev pub violation_form : LineForm Violation
+violation_form = record { fields = violation_fields; HasForm = λ v. Unit {0}; HasLine = λ v. Unit {0} }
+
 abbrev pub violation_line : Violation → List ℕ
-violation_line violation.Zero = line (codes "zero")
-violation_line (violation.Negative x) = fraction_line (codes "negative ") x
-violation_line (violation.Asymmetric x) = fraction_line (codes "asymmetric ") x
-violation_line (violation.Superadditive x y) = line (codes "superadditive " ++ fraction_text x ++ codes " " ++ fraction_text y)
+violation_line = line_of violation_form
 
 -- ---- the lines of cuts
 
@@ -162,15 +173,36 @@ abbrev pub reason_word : SkipReason → List ℕ
 reason_word Integral = codes "integral"
 reason_word Other = codes "other"
 
--- `cut NAME B` or `skip NAME B integral` or `skip NAME B other`
-abbrev pub row_line : CutLine → List ℕ
-row_line (cuts.Cut name right terms) = line (codes "cut " ++ name ++ codes " " ++ fraction_text right)
-row_line (cuts.Skip name right reason) =
-    line (codes "skip " ++ name ++ codes " " ++ fraction_text right ++ codes " " ++ reason_word reason)
+-- `cut NAME B`, `skip NAME B integral` or `skip NAME B other`
+abbrev pub head_fields : RowKind → List ℕ → Frac → List Field
+head_fields WithCut name right = word (codes "cut") ∷ word name ∷ fraction right ∷ []
+head_fields (Skipped reason) name right = word (codes "skip") ∷ word name ∷ fraction right ∷ word (reason_word reason) ∷ []
+
+abbrev pub head_form : LineForm RowHead
+head_form = record {
+  fields = λ h. head_fields h.kind h.name h.right;
+  HasForm = λ h. IsName h.name;
+  HasLine = λ h. IsName h.name;
+}
 
 -- `term NAME A C`
+abbrev pub term_form : LineForm CutTerm
+term_form = record {
+  fields = λ t. word (codes "term") ∷ word t.name ∷ fraction t.entry ∷ fraction t.cut ∷ [];
+  HasForm = λ t. IsName t.name;
+  HasLine = λ t. IsName t.name;
+}
+
+-- what the first line of a row tells
+abbrev pub head_of : CutLine → RowHead
+head_of (cuts.Cut name right terms) = record { kind = WithCut; name = name; right = right }
+head_of (cuts.Skip name right reason) = record { kind = Skipped reason; name = name; right = right }
+
+abbrev pub row_line : CutLine → List ℕ
+row_line l = line_of head_form (head_of l)
+
 abbrev pub term_line : CutTerm → List ℕ
-term_line t = line (codes "term " ++ t.name ++ codes " " ++ fraction_text t.entry ++ codes " " ++ fraction_text t.cut)
+term_line = line_of term_form
 
 -- the terms of a line of cuts: of one that passes its row over, none
 abbrev pub terms_of : CutLine → List CutTerm

@@ -1,18 +1,18 @@
 //! The lines of cuts, read.
-ghost use Rattle.std.specs.Prelude.{◌≡◌, ◌↔◌, [], ◌∷◌, ◌++◌, ℕ, List, codes, IfOk, IfErr, IfSome, IfNone, OnSome, IsTrue};
+ghost use Rattle.std.specs.Prelude.{◌≡◌, ◌++◌, codes, IfOk, IfErr, IfSome, IfNone, OnSome};
 ghost use Rattle.gj_frac.specs.declared.Frac.{Frac};
 ghost use Rattle.gj_lex.specs.Name.{IsName};
 ghost use Rattle.gj_lex.specs.NumberText.{fraction_text};
 ghost use Rattle.gj_lex.specs.Words.{word_texts};
-ghost use Rattle.gj_lex.specs.Parts.{line_part, BeginsWithWord, IsFaultOf};
+ghost use Rattle.gj_lex.specs.Parts.{BeginsWithWord, IsFaultOf};
 ghost use Rattle.gj_lex.specs.TextLines.{HasLine};
 ghost use Rattle.gj_lex.specs.declared.spelling.Spelling.TheVariants.{Strict};
 ghost use Rattle.gj_lex.specs.declared.reason.Reason.TheVariants.{Form, Number};
-ghost use Rattle.gj_proof.specs.ProofText.{reason_word, term_line};
-ghost use Rattle.gj_proof.specs.ProofGrammar.{IsFraction, rule_part, head_words, BreaksHead, head_rule, term_words, BreaksTerm, term_rule, terms_part, row_part, rows_part};
+ghost use Rattle.gj_forms.specs.LineForms.{AreOfForm, AreLine, BreaksForm};
+ghost use Rattle.gj_proof.specs.ProofText.{reason_word, head_form, term_form, term_line};
+ghost use Rattle.gj_proof.specs.ProofGrammar.{form_part, rule_part, terms_part, row_part, rows_part};
 ghost use Rattle.gj_proof.specs.LineFaults.{IsRefusedFor, texts_of_head};
 ghost use Rattle.gj_proof.specs.declared.cut.SkipReason.{SkipReason};
-ghost use Rattle.gj_proof.specs.declared.cut_rows.RowKind.{RowKind};
 
 use crate::cut::{CutLine, CutRule, CutTerm, SkipReason};
 use crate::fields::{behind_text, number_of, split_at_byte, three_fields_of};
@@ -80,8 +80,8 @@ pub(crate) fn rule_at(alloc: Global, text: &[u8]) -> Result<(CutRule, &[u8]), Pa
 
 /// The rows up to a line `end`, and that line with what follows it.
 pub(crate) fn rows_at(alloc: Global, text: &[u8]) -> Result<(Vec<CutLine>, &[u8]), PartFault>
-    ensures found { IfOk result (λ r. (rows_part []).Reads text.now r.0.items r.1.now) }
-    ensures fault { IfErr result (IsFaultOf (rows_part []) text.now) }
+    ensures found { IfOk result (λ r. rows_part.Reads text.now r.0.items r.1.now) }
+    ensures fault { IfErr result (IsFaultOf rows_part text.now) }
 {
     let mut rows = Vec::new(alloc);
     let mut rest = text;
@@ -110,8 +110,8 @@ fn row_at(alloc: Global, text: &[u8]) -> Result<(CutLine, &[u8]), PartFault>
 
 /// What the first line of a row tells, and what follows the line.
 fn head_at(alloc: Global, text: &[u8]) -> Result<(RowHead, &[u8]), PartFault>
-    ensures found { IfOk result (λ r. (line_part Strict head_rule).Reads text.now r.0 r.1.now) }
-    ensures fault { IfErr result (IsFaultOf (line_part Strict head_rule) text.now) }
+    ensures found { IfOk result (λ r. (form_part head_form).Reads text.now r.0 r.1.now) }
+    ensures fault { IfErr result (IsFaultOf (form_part head_form) text.now) }
 {
     let line = line_at(Spelling::Strict, text)?;
     match head_in(alloc, line.bytes) {
@@ -123,8 +123,8 @@ fn head_at(alloc: Global, text: &[u8]) -> Result<(RowHead, &[u8]), PartFault>
 
 /// What the line tells, if it is the first of a row.
 fn head_in(alloc: Global, line: &[u8]) -> Result<RowHead, LineFault>
-    ensures found { IfOk result (head_rule.Spells (word_texts line.now)) }
-    ensures fault { IfErr result (IsRefusedFor (BreaksHead (word_texts line.now))) }
+    ensures found { IfOk result (AreLine head_form (word_texts line.now)) }
+    ensures fault { IfErr result (IsRefusedFor (BreaksForm head_form (word_texts line.now))) }
 {
     let Some(words) = head_words(line) else {
         return Err(LineFault::Broken(Reason::Form));
@@ -142,9 +142,8 @@ fn head_in(alloc: Global, line: &[u8]) -> Result<RowHead, LineFault>
 
 /// The words of the line, if they are of the first line of a row.
 fn head_words(line: &[u8]) -> Option<HeadWords<'_>>
-    ensures found { IfSome result (λ w. word_texts line.now ≡ texts_of_head w) }
-    ensures none { IfNone result ((kind : RowKind) (name right : List ℕ) →
-        word_texts line.now ≡ head_words kind name right → ⊥) }
+    ensures found { IfSome result (λ w. word_texts line.now ≡ texts_of_head w.kind w.name.now w.right.now) }
+    ensures none { IfNone result (AreOfForm head_form (word_texts line.now) → ⊥) }
 {
     if let Some((name, right)) = two_fields_of(line, b"cut") {
         return Some(HeadWords {
@@ -179,8 +178,8 @@ fn skip_reason(word: &[u8]) -> Option<SkipReason>
 
 /// The terms in the next lines, as long as these begin with `term`, and what follows them.
 fn terms_at(alloc: Global, text: &[u8]) -> Result<(Vec<CutTerm>, &[u8]), PartFault>
-    ensures found { IfOk result (λ r. (terms_part []).Reads text.now r.0.items r.1.now) }
-    ensures fault { IfErr result (IsFaultOf (terms_part []) text.now) }
+    ensures found { IfOk result (λ r. terms_part.Reads text.now r.0.items r.1.now) }
+    ensures fault { IfErr result (IsFaultOf terms_part text.now) }
 {
     let mut terms = Vec::new(alloc);
     let mut rest = text;
@@ -193,11 +192,11 @@ fn terms_at(alloc: Global, text: &[u8]) -> Result<(Vec<CutTerm>, &[u8]), PartFau
 
 /// The term in the next line, and what follows that line; none if it does not begin with `term`.
 fn next_term(alloc: Global, text: &[u8]) -> Result<Option<(CutTerm, &[u8])>, PartFault>
-    ensures found { IfOk result (λ next. IfSome next (λ r. (line_part Strict term_rule).Reads text.now r.0 r.1.now)) }
+    ensures found { IfOk result (λ next. IfSome next (λ r. (form_part term_form).Reads text.now r.0 r.1.now)) }
     ensures begins { IfOk result (λ next. OnSome next (BeginsWithWord Strict (codes "term") text.now)) }
     ensures none { IfOk result (λ next. IfNone next (BeginsWithWord Strict (codes "term") text.now → ⊥)) }
     ensures fault { IfErr result (λ e. BeginsWithWord Strict (codes "term") text.now
-        × IsFaultOf (line_part Strict term_rule) text.now e) }
+        × IsFaultOf (form_part term_form) text.now e) }
 {
     if let Some((term, rest)) = printed_term(alloc, text) {
         return Ok(Some((term, rest)));
@@ -230,8 +229,8 @@ fn term_at<'a>(
     line: TextLine<'a>,
 ) -> Result<(CutTerm, &'a [u8]), PartFault>
     requires { HasLine Strict _text.now line.start.now (word_texts line.bytes.now) line.rest.now }
-    ensures found { IfOk result (λ r. (line_part Strict term_rule).Reads _text.now r.0 r.1.now) }
-    ensures fault { IfErr result (IsFaultOf (line_part Strict term_rule) _text.now) }
+    ensures found { IfOk result (λ r. (form_part term_form).Reads _text.now r.0 r.1.now) }
+    ensures fault { IfErr result (IsFaultOf (form_part term_form) _text.now) }
 {
     match term_in(alloc, line.bytes) {
         Ok(term) => Ok((term, line.rest)),
@@ -242,8 +241,8 @@ fn term_at<'a>(
 
 /// The term of the line.
 fn term_in(alloc: Global, line: &[u8]) -> Result<CutTerm, LineFault>
-    ensures found { IfOk result (term_rule.Spells (word_texts line.now)) }
-    ensures fault { IfErr result (IsRefusedFor (BreaksTerm (word_texts line.now))) }
+    ensures found { IfOk result (AreLine term_form (word_texts line.now)) }
+    ensures fault { IfErr result (IsRefusedFor (BreaksForm term_form (word_texts line.now))) }
 {
     let Some((word, entry, cut)) = three_fields_of(line, b"term") else {
         return Err(LineFault::Broken(Reason::Form));
@@ -258,7 +257,7 @@ fn term_in(alloc: Global, line: &[u8]) -> Result<CutTerm, LineFault>
 /// The two fractions that the words spell.
 fn numbers_of(first: &[u8], second: &[u8]) -> Result<(Frac, Frac), Reason>
     ensures found { IfOk result (λ r. (first.now ≡ fraction_text r.0) × (second.now ≡ fraction_text r.1)) }
-    ensures fault { IfErr result (λ e. (e ≡ Number) × (IsFraction first.now × IsFraction second.now → ⊥)) }
+    ensures fault { IfErr result (λ e. (e ≡ Number) × ((x y : Frac) → first.now ≡ fraction_text x → second.now ≡ fraction_text y → ⊥)) }
 {
     let x = number_of(first)?;
     let y = number_of(second)?;

@@ -3,10 +3,11 @@ ghost use Rattle.std.specs.Prelude.{◌≡◌, ◌==◌, ◌<◌, [], ◌∷◌,
 ghost use Rattle.std.specs.List.{position};
 ghost use Rattle.std.specs.Fmt.{signed_decimal};
 ghost use Rattle.gj_frac.specs.Fraction.{Fits};
+ghost use Rattle.gj_frac.specs.declared.Frac.{Frac};
 ghost use Rattle.gj_lex.specs.NumberText.{fraction_text};
 ghost use Rattle.gj_lex.specs.Words.{word_texts};
 ghost use Rattle.gj_lex.specs.declared.reason.Reason.TheVariants.{Number};
-ghost use Rattle.gj_proof.specs.ProofGrammar.{IsFraction, IsCountIn};
+ghost use Rattle.gj_proof.specs.ProofGrammar.{IsCountIn};
 
 use gj_frac::Frac;
 use gj_lex::{Reason, Spelling, behind_name, fraction_of, only_word, read_count, split_word};
@@ -57,7 +58,7 @@ fn first_such(bytes: &[u8], mark: u8) -> Option<usize>
 /// The fraction that the word spells.
 pub(crate) fn number_of(word: &[u8]) -> Result<Frac, Reason>
     ensures found { IfOk result (λ x. word.now ≡ fraction_text x) }
-    ensures fault { IfErr result (λ e. (e ≡ Number) × (IsFraction word.now → ⊥)) }
+    ensures fault { IfErr result (λ e. (e ≡ Number) × ((x : Frac) → word.now ≡ fraction_text x → ⊥)) }
 {
     match fraction_of(Spelling::Strict, word) {
         Some(x) => Ok(x),

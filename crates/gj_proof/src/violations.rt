@@ -1,10 +1,11 @@
 //! The line of a violation, read.
 
-ghost use Rattle.std.specs.Prelude.{◌≡◌, IfOk, IfErr};
+ghost use Rattle.std.specs.Prelude.{IfOk, IfErr};
 ghost use Rattle.gj_lex.specs.Words.{word_texts};
-ghost use Rattle.gj_lex.specs.Parts.{line_part, IsFaultOf};
-ghost use Rattle.gj_lex.specs.declared.spelling.Spelling.TheVariants.{Strict};
-ghost use Rattle.gj_proof.specs.ProofGrammar.{violation_words, BreaksViolation, violation_rule};
+ghost use Rattle.gj_lex.specs.Parts.{IsFaultOf};
+ghost use Rattle.gj_forms.specs.LineForms.{AreLine, BreaksForm};
+ghost use Rattle.gj_proof.specs.ProofText.{violation_form};
+ghost use Rattle.gj_proof.specs.ProofGrammar.{form_part};
 
 use crate::fields::number_of;
 use gj_lex::{PartFault, Reason, Spelling, field_of, has_words, line_at, two_fields_of};
@@ -12,8 +13,8 @@ use gj_shape::Violation;
 
 /// The violation in the first line of the text, and what follows the line. It takes no memory.
 pub(crate) fn violation_at(text: &[u8]) -> Result<(Violation, &[u8]), PartFault>
-    ensures found { IfOk result (λ r. (line_part Strict violation_rule).Reads text.now r.0 r.1.now) }
-    ensures fault { IfErr result (IsFaultOf (line_part Strict violation_rule) text.now) }
+    ensures found { IfOk result (λ r. (form_part violation_form).Reads text.now r.0 r.1.now) }
+    ensures fault { IfErr result (IsFaultOf (form_part violation_form) text.now) }
 {
     let line = line_at(Spelling::Strict, text)?;
     match violation_of(line.bytes) {
@@ -24,8 +25,8 @@ pub(crate) fn violation_at(text: &[u8]) -> Result<(Violation, &[u8]), PartFault>
 
 /// The violation of the line.
 fn violation_of(line: &[u8]) -> Result<Violation, Reason>
-    ensures found { IfOk result (λ v. word_texts line.now ≡ violation_words v) }
-    ensures fault { IfErr result (BreaksViolation (word_texts line.now)) }
+    ensures found { IfOk result (AreLine violation_form (word_texts line.now)) }
+    ensures fault { IfErr result (BreaksForm violation_form (word_texts line.now)) }
 {
     if has_words(line, b"zero") {
         return Ok(Violation::Zero);

@@ -104,7 +104,10 @@ pub fn push_violation_line(
         Violation::Superadditive(x, y) => {
             out.extend_from_slice(b"superadditive ")?;
             print_frac(alloc, out, x)?;
-            push_fraction_line(alloc, out, b" ", y)
+            out.push(b' ')?;
+            print_frac(alloc, out, y)?;
+            out.push(b'\n')?;
+            Ok(())
         }
     }
 }

@@ -1,10 +1,13 @@
 use Rattle.std.proofs.Common.{[], length}
-use Rattle.gj_proof.specs.ProofGrammar.{next_term}
 use Rattle.gj_lex.proofs.LoopRead.{LeadsOn}
+use Rattle.gj_forms.specs.ListParts.{next_while}
+use Rattle.gj_proof.specs.ProofText.{term_form}
+use Rattle.gj_proof.specs.ProofGrammar.{form_part}
+use Rattle.gj_proof.proofs.CutTexts.{BeginsTerm}
 use Rattle.gj_proof.proofs.cut_rows.terms_at.Given as goal
 
 abbrev pub invariant-loop-terms : goal.invariant-loop-terms
-invariant-loop-terms l = LeadsOn next_term [] l.text l.terms.items l.rest
+invariant-loop-terms l = LeadsOn (next_while BeginsTerm (form_part term_form)) [] l.text l.terms.items l.rest
 
 abbrev pub decreases-loop-terms : goal.decreases-loop-terms
 decreases-loop-terms l = length l.rest

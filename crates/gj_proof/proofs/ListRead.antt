@@ -1,0 +1,45 @@
+-- Lists of things, read one after another.
+use Rattle.std.proofs.Common.{◌≡◌, ◌⊎◌, inl, inr, ℕ, List, [], ◌∷◌, ◌++◌, refl, sym, subst}
+use Rattle.gj_lex.specs.declared.fault.PartFault.{PartFault}
+use Rattle.gj_lex.specs.Parts.{Part, empty_part, IsFaultOf}
+use Rattle.gj_lex.proofs.PartLaws.{fault_in_made}
+use Rattle.gj_lex.proofs.LoopRead.{LeadsOn, leads_on, leads_to_end, leads_to_fault}
+use Rattle.gj_lex.proofs.WhereLaws.{fault_where, fault_else}
+use Rattle.gj_forms.specs.ListParts.{one_more, next_while, while_part, next_until, until_part}
+
+module _ {A : Type 0} (p : Part A) where
+  abbrev makes_more : List A → A → List A ⊎ List A → Type 0
+  makes_more items a next = next ≡ inl (items ++ a ∷ [])
+
+  -- ---- as long as the text begins so, or up to where it does
+
+  module _ (Begins : List ℕ → Type 0) (text rest : List ℕ) (items : List A) where
+    pub while_on : (behind : List ℕ) (new : List A) (a : A) → LeadsOn (next_while Begins p) [] text items rest → Begins rest →
+        p.Reads rest a behind → new ≡ items ++ a ∷ [] → LeadsOn (next_while Begins p) [] text new behind
+    while_on behind new a h is one new_is =
+        subst (λ (all : List A). LeadsOn (next_while Begins p) [] text all behind) (sym new_is)
+        (leads_on (next_while Begins p) [] text items (items ++ a ∷ []) rest behind h (inl (is, (a, one, refl))))
+
+    pub while_end : LeadsOn (next_while Begins p) [] text items rest → (Begins rest → ⊥) → (while_part Begins p []).Reads text items rest
+    while_end h not = leads_to_end (next_while Begins p) [] text items rest items rest h (inr (not, (refl, refl)))
+
+    pub while_at_fault : (e : PartFault) → LeadsOn (next_while Begins p) [] text items rest → Begins rest → IsFaultOf p rest e →
+        IsFaultOf (while_part Begins p []) text e
+    while_at_fault e h is fault =
+        leads_to_fault (next_while Begins p) [] text items rest e h
+        (fault_where Begins (one_more p items) (empty_part (inr items)) rest e is (fault_in_made (makes_more items) p rest e fault))
+
+    pub until_on : (behind : List ℕ) (new : List A) (a : A) → LeadsOn (next_until Begins p) [] text items rest → (Begins rest → ⊥) →
+        p.Reads rest a behind → new ≡ items ++ a ∷ [] → LeadsOn (next_until Begins p) [] text new behind
+    until_on behind new a h not one new_is =
+        subst (λ (all : List A). LeadsOn (next_until Begins p) [] text all behind) (sym new_is)
+        (leads_on (next_until Begins p) [] text items (items ++ a ∷ []) rest behind h (inr (not, (a, one, refl))))
+
+    pub until_end : LeadsOn (next_until Begins p) [] text items rest → Begins rest → (until_part Begins p []).Reads text items rest
+    until_end h is = leads_to_end (next_until Begins p) [] text items rest items rest h (inl (is, (refl, refl)))
+
+    pub until_at_fault : (e : PartFault) → LeadsOn (next_until Begins p) [] text items rest → (Begins rest → ⊥) → IsFaultOf p rest e →
+        IsFaultOf (until_part Begins p []) text e
+    until_at_fault e h not fault =
+        leads_to_fault (next_until Begins p) [] text items rest e h
+        (fault_else Begins (empty_part (inr items)) (one_more p items) rest e not (fault_in_made (makes_more items) p rest e fault))
