@@ -1,10 +1,9 @@
 -- The least positive slack on a finer grid, from those at the corners in lanes.
 use Rattle.std.proofs.Math.Nat.{mul-le-mul_left, mul-lt-mul_of_pos_left, add-mod, mod-mod, mod-lt}
-use Rattle.std.proofs.Common.{◌≡◌, ℕ, zero, suc, ◌⊎◌, inl, inr, ◌+◌, ◌*◌, ◌<◌, ◌≤◌, ◌^◌, ℤ, pos, ◌+ℤ◌, ◌*ℤ◌, ◌<ℤ◌, ◌≤ℤ◌, List, [], ◌∷◌, ◌++◌, length, get_or, map, All, refl, sym, ap, ap₂, subst, ◌∙◌, ◌%◌, mul-pos, add_comm, below_more, arith}
+use Rattle.std.proofs.Common.{◌≡◌, ℕ, zero, suc, ◌⊎◌, inl, inr, ◌+◌, ◌*◌, ◌<◌, ◌≤◌, ◌^◌, pos, ◌+ℤ◌, ◌*ℤ◌, ◌<ℤ◌, ◌≤ℤ◌, List, [], ◌∷◌, get_or, map, All, refl, sym, ap, ap₂, subst, ◌∙◌, ◌%◌, mul-pos, add_comm, arith}
 use Rattle.std.specs.List.{Contains}
-use Rattle.std.proofs.Math.ListN.{get_or-map, get_or-append}
-use Rattle.std.proofs.Math.Seq.{get_or-append_seam}
-use Rattle.std.proofs.lemmas.List.{length-map, length-append}
+use Rattle.std.proofs.Math.ListN.{get_or-map}
+use Rattle.std.proofs.lemmas.List.{length-map}
 use Rattle.std.proofs.lemmas.Bool.{cases_lt}
 use Rattle.std.proofs.lemmas.Int.{ints}
 use Rattle.std.proofs.lemmas.List.Elements.{All-map}
@@ -18,11 +17,9 @@ use Rattle.gj_shape.proofs.TableLemmas.{table_of_order, limits_are_slacks, slack
 use Rattle.gj_lemmas.proofs.Quotients.{same_at_remainder}
 use Rattle.gj_theory.specs.CornerSlacks.{IsBelowCorners}
 use Rattle.gj_theory.proofs.CornerSlacks.{grid_slacks_low, slack_at_multiples, reached_beside_zero}
-use Rattle.gj_theory.specs.Lanes.{AreNumbers}
-use Rattle.gj_theory.proofs.Lanes.{IsLane}
+use Rattle.gj_lanes.specs.Lanes.{IsInRange}
 use Rattle.gj_theory.proofs.SlacksAndSizes.{least_slack}
-use Rattle.gj_perturb.specs.Lanes.{lane_slack, triangle, AreSubadditive, no_slack, IsAtCorner, IsBesideZero, AreLeast, IsLeastAt, IsInRows}
-use Rattle.gj_perturb.specs.Values.{AreTwoPeriods}
+use Rattle.gj_perturb.specs.Lanes.{HoldValues, lane_slack, triangle, AreSubadditive, no_slack, IsAtCorner, IsBesideZero, AreLeast, IsLeastAt, IsInRows}
 use Rattle.gj_perturb.proofs.LaneSlacks.{slack_small}
 use Rattle.gj_perturb.proofs.TableParts.{has_least_slack, entry_at_most}
 
@@ -35,28 +32,35 @@ subadditive_at f a b h =
     let values = rw (value (a + b), value a, value b) at whole in
     values
 
-pub are_subadditive : (f : FunctionData) (lanes : List ℕ) → IsMinimal f → AreTwoPeriods f lanes → AreSubadditive lanes f.order
+-- a lane is the value at its index
+value_lane : (f : FunctionData) (lanes : List ℕ) (i : ℕ) → HoldValues f lanes → i < 2 * f.order → pos (get_or lanes i 0) ≡ at f.value i
+value_lane f lanes i d below = let len = d.count in d.periods.same i 0 (omega arith)
+
+pub are_subadditive : (f : FunctionData) (lanes : List ℕ) → IsMinimal f → HoldValues f lanes → AreSubadditive lanes f.order
 are_subadditive f lanes h d = record {
-  count = d.count;
-  small = d.numbers.small;
+  room = let room = d.periods.room in let len = d.count in omega arith;
+  small = λ i below.
+      let same = value_lane f lanes i d below in
+      let high = (d.periods.range i).1 in
+      omega (arith, ints);
   subadditive = λ a b below.
       let whole = subadditive_at f a b h in
-      let first = d.numbers.same a (omega arith) in
-      let second = d.numbers.same b (omega arith) in
-      let sum_is = d.numbers.same (a + b) below in
+      let first = value_lane f lanes a d (omega arith) in
+      let second = value_lane f lanes b d (omega arith) in
+      let sum_is = value_lane f lanes (a + b) d below in
       omega (arith, ints);
 }
 
-lane_slack_is : (f : FunctionData) (lanes : List ℕ) (a b : ℕ) → IsMinimal f → AreTwoPeriods f lanes → a + b < 2 * f.order →
+lane_slack_is : (f : FunctionData) (lanes : List ℕ) (a b : ℕ) → IsMinimal f → HoldValues f lanes → a + b < 2 * f.order →
     pos (lane_slack lanes a b) ≡ slack_at f (a, b)
 lane_slack_is f lanes a b h d below =
     let whole = (are_subadditive f lanes h d).subadditive a b below in
-    let first = d.numbers.same a (omega arith) in
-    let second = d.numbers.same b (omega arith) in
-    let sum_is = d.numbers.same (a + b) below in
+    let first = value_lane f lanes a d (omega arith) in
+    let second = value_lane f lanes b d (omega arith) in
+    let sum_is = value_lane f lanes (a + b) d below in
     omega (arith, ints)
 
-limits_are : (f : FunctionData) (lanes : List ℕ) (a b : ℕ) → IsContinuous f → IsMinimal f → AreTwoPeriods f lanes →
+limits_are : (f : FunctionData) (lanes : List ℕ) (a b : ℕ) → IsContinuous f → IsMinimal f → HoldValues f lanes →
     a < f.order → b < f.order → limits_of f Lower a b ≡ map pos (triangle lanes a b)
 limits_are f lanes a b c h d a_below b_below =
     let first = lane_slack_is f lanes a b h d (omega arith) in
@@ -68,10 +72,8 @@ limits_are f lanes a b c h d a_below b_below =
     cc (first, second, third) in
     same)
 
--- ---- the lanes are made
-
--- a value can be a lane
-pub value_is_lane : (f : FunctionData) (i : ℕ) → IsWithinBounds f → IsMinimal f → IsLane (at f.value i)
+-- a value can be a lane of 32 bits
+pub value_is_lane : (f : FunctionData) (i : ℕ) → IsWithinBounds f → IsMinimal f → IsInRange (pos 0) (2 ^ 31) (at f.value i)
 value_is_lane f i l h =
     let whole = h 1 (omega arith) in
     let some : 0 < f.order * 1 = omega (arith, l.order_low) in
@@ -81,32 +83,6 @@ value_is_lane f i l h =
     let same = table_of_order f i in (
       omega (arith, ints),
       omega (arith, ints),
-    )
-
--- the lanes at the indices below n
-abbrev pub AreLanesBelow : List ℕ → (ℕ → ℤ) → ℕ → Type 0
-AreLanesBelow lanes number n = (length lanes ≡ n) × AreNumbers lanes number n
-
-pub no_lane : (number : ℕ → ℤ) → AreLanesBelow [] number 0
-no_lane number = (refl, record { same = λ i below. absurd (omega arith); small = λ i below. absurd (omega arith) })
-
-pub one_lane_more : (lanes more : List ℕ) (number : ℕ → ℤ) (n lane : ℕ) → AreLanesBelow lanes number n → pos lane ≡ number n → lane < 2 ^ 31 →
-    more ≡ lanes ++ lane ∷ [] → AreLanesBelow more number (n + 1)
-one_lane_more lanes more number n lane (count, h) is small pushed =
-    let long = ap length pushed ∙ length-append lanes (lane ∷ []) in
-    let before = λ (i : ℕ) (below : i < n).
-    let inside : i < length lanes = omega arith in
-    ap (λ xs. get_or xs i 0) pushed ∙ get_or-append lanes (lane ∷ []) 0 i inside in
-    let last : get_or more n 0 ≡ lane =
-    ap (λ xs. get_or xs n 0) pushed
-    ∙ subst (λ (k : ℕ). get_or (lanes ++ lane ∷ []) k 0 ≡ lane) count (get_or-append_seam lanes lane [] 0) in (
-      omega arith,
-      record {
-        same = below_more (λ i. pos (get_or more i 0) ≡ number i) n (λ i below. ap pos (before i below) ∙ h.same i below) (ap pos last ∙ is);
-        small = below_more (λ i. get_or more i 0 < 2 ^ 31) n
-            (λ i below. subst (λ (k : ℕ). k < 2 ^ 31) (sym (before i below)) (h.small i below))
-            (subst (λ (k : ℕ). k < 2 ^ 31) (sym last) small);
-      },
     )
 
 -- ---- lists of naturals among whole numbers
@@ -154,14 +130,14 @@ module _ (f : FunctionData) (m : ℕ) (l : IsWithinBounds f) (c : IsContinuous f
   abbrev IsMet : ℕ → Type 0
   IsMet x = (i : ℕ) × (j : ℕ) × (slack_on_grid f m i j ≡ pos x)
 
-  at_multiple : (lanes : List ℕ) (a b x : ℕ) → AreTwoPeriods f lanes → a + b < 2 * f.order → lane_slack lanes a b ≡ x → IsMet (m * x)
+  at_multiple : (lanes : List ℕ) (a b x : ℕ) → HoldValues f lanes → a + b < 2 * f.order → lane_slack lanes a b ≡ x → IsMet (m * x)
   at_multiple lanes a b x d below e =
       let here = slack_at_multiples f m a b some in
       let slack = lane_slack_is f lanes a b minimal d below in
       let value : slack_at f (a, b) ≡ pos x = sym slack ∙ ap pos e in
       (a * m, b * m, here ∙ ap (λ z. pos m *ℤ z) value ∙ omega (arith, ints))
 
-  corner_met : (lanes : List ℕ) (x : ℕ) → AreTwoPeriods f lanes → IsAtCorner lanes f.order x → IsMet (m * x)
+  corner_met : (lanes : List ℕ) (x : ℕ) → HoldValues f lanes → IsAtCorner lanes f.order x → IsMet (m * x)
   corner_met lanes x d h = of_here h.here
     where
       a : ℕ
@@ -182,7 +158,7 @@ module _ (f : FunctionData) (m : ℕ) (l : IsWithinBounds f) (c : IsContinuous f
       of_here (suc (suc zero), below, e) = at_multiple lanes a (b + 1) x d (let p = a_below in let q = b_below in omega arith) e
       of_here (suc (suc (suc k)), below, e) = absurd (omega arith)
 
-  beside_met : (lanes : List ℕ) (x : ℕ) → AreTwoPeriods f lanes → 0 < x → IsBesideZero lanes f.order x → IsMet x
+  beside_met : (lanes : List ℕ) (x : ℕ) → HoldValues f lanes → 0 < x → IsBesideZero lanes f.order x → IsMet x
   beside_met lanes x d positive h = elim (cases_lt 1 m) [
     | inl two ↦
         let limits = limits_are f lanes h.a h.b c minimal d h.a_below h.b_below in
@@ -212,7 +188,7 @@ module _ (f : FunctionData) (m : ℕ) (l : IsWithinBounds f) (c : IsContinuous f
           let turned : 2 * (f.scale * m) ≡ m * (2 * f.scale) = omega arith in
           omega (arith, ints)
 
-  pub is_least : (lanes : List ℕ) (any beside u : ℕ) → AreTwoPeriods f lanes →
+  pub is_least : (lanes : List ℕ) (any beside u : ℕ) → HoldValues f lanes →
       AreLeast lanes f.order (IsInRows f.order f.order) any beside → u ≤ m * (any + 1) →
       (beside < no_slack → u ≤ beside + 1) → (u ≡ m * (any + 1)) ⊎ ((beside < no_slack) × (u ≡ beside + 1)) → IsLeastSlack f m u
   is_least lanes any beside u d h at_corners at_beside met = of_met met_here
@@ -247,7 +223,7 @@ module _ (f : FunctionData) (m : ℕ) (l : IsWithinBounds f) (c : IsContinuous f
 -- ---- on the grid of order q
 
 module _ (f : FunctionData) (lanes : List ℕ) (l : IsWithinBounds f) (c : IsContinuous f) (minimal : IsMinimal f)
-    (d : AreTwoPeriods f lanes) where
+    (d : HoldValues f lanes) where
   -- the slack at two indices is that at others with the same remainders
   slack_at_remainders : (i j a b : ℕ) → a % f.order ≡ i % f.order → b % f.order ≡ j % f.order →
       slack_on_grid f 1 i j ≡ slack_at f (a, b)

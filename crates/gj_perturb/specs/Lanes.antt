@@ -1,6 +1,8 @@
 -- The values of a function in lanes of 32 bits, and the slacks at the corners of triangles (own).
-use Rattle.std.specs.Prelude.{ℕ, ◌≡◌, ◌⊎◌, ◌+◌, ◌-◌, ◌*◌, ◌<◌, ◌≤◌, ◌^◌, List, [], ◌∷◌, length, get_or, All}
+use Rattle.std.specs.Prelude.{ℕ, pos, ◌≡◌, ◌⊎◌, ◌+◌, ◌-◌, ◌*◌, ◌<◌, ◌≤◌, ◌^◌, List, [], ◌∷◌, length, get_or, All}
 use Rattle.std.specs.List.{Contains}
+use Rattle.gj_shape.specs.FunctionData.{FunctionData}
+use Rattle.gj_lanes.specs.Lanes.{ArePeriods}
 
 -- the slack at a pair of indices, if it is not negative
 abbrev pub lane_slack : List ℕ → ℕ → ℕ → ℕ
@@ -10,9 +12,14 @@ lane_slack lanes a b = get_or lanes a 0 + get_or lanes b 0 - get_or lanes (a + b
 abbrev pub triangle : List ℕ → ℕ → ℕ → List ℕ
 triangle lanes a b = lane_slack lanes a b ∷ lane_slack lanes (a + 1) b ∷ lane_slack lanes a (b + 1) ∷ []
 
+-- the lanes are the values of the function, over two periods
+pub record HoldValues (f : FunctionData) (lanes : List ℕ) : Type 0 where
+  pub periods : ArePeriods (λ n. pos n) (pos 0) (2 ^ 31) lanes f.value
+  pub count : length f.value ≡ f.order
+
 -- two periods of n lanes below 2^31, of which no two add up to less than that at the sum of their indices
 pub record AreSubadditive (lanes : List ℕ) (n : ℕ) : Type 0 where
-  pub count : length lanes ≡ 2 * n
+  pub room : 2 * n ≤ length lanes
   pub small : (i : ℕ) → i < 2 * n → get_or lanes i 0 < 2 ^ 31
   pub subadditive : (a b : ℕ) → a + b < 2 * n → get_or lanes (a + b) 0 ≤ get_or lanes a 0 + get_or lanes b 0
 

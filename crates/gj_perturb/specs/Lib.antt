@@ -2,4 +2,3 @@ pub mod SlopeSums
 pub mod Lanes
 pub mod Moves
 pub mod Split
-pub mod Values

@@ -1,11 +1,12 @@
 //! The least positive slack of a minimal continuous function on a finer grid.
-ghost use Rattle.std.specs.Prelude.{◌*◌, ◌≤◌, IfOk, length};
-ghost use Rattle.gj_shape.specs.FunctionData.{IsContinuous, at};
+ghost use Rattle.std.specs.Prelude.{◌≤◌, IfOk};
+ghost use Rattle.gj_shape.specs.FunctionData.{IsContinuous};
 ghost use Rattle.gj_shape.specs.Perturbation.{IsLeastSlack};
 ghost use Rattle.gj_shape.specs.Table.{IsMinimal};
-ghost use Rattle.gj_perturb.specs.Values.{AreTwoPeriods};
+ghost use Rattle.gj_perturb.specs.Lanes.{HoldValues};
 
 use crate::lanes::{least_at_corners, least_on_grid, least_slacks};
+use gj_lanes::write_periods;
 use gj_shape::Shape;
 use std::alloc::{AllocError, Global};
 
@@ -29,15 +30,13 @@ pub(crate) fn least_slack(alloc: Global, shape: &Shape, times: u32) -> Result<u6
     Ok(least_on_grid(least, times))
 }
 
-/// The values at 0, 1/q, .., (2 q - 1)/q as lanes, so that no sum of two indices is reduced.
+/// The values at 0, 1/q, .., 2 as lanes, so that no sum of two indices is reduced.
 fn two_periods(alloc: Global, shape: &Shape) -> Result<Vec<u32>, AllocError>
     requires { IsMinimal shape.now }
-    ensures { IfOk result (λ v. AreTwoPeriods shape.now v.items) }
+    ensures { IfOk result (λ v. HoldValues shape.now v.items) }
 {
-    let count = 2 * shape.order();
-    let mut lanes = Vec::with_capacity(alloc, count as usize)?;
-    for i in 0..count {
-        lanes.push(shape.value_numerator(i) as u32)?;
-    }
+    let values = shape.value_numerators();
+    let mut lanes = vec![in alloc; 0u32; 2 * values.len() + 1]?;
+    write_periods(&mut lanes, values);
     Ok(lanes)
 }
