@@ -1,21 +1,9 @@
-//! Products, sums and differences of at most 2^127 - 1 in absolute value.
-ghost use Rattle.std.specs.Prelude.{pos, ◌≡◌, ◌<◌, ◌^◌, ◌<ℤ◌, ◌↔◌, IsTrue, unsigned_abs, int_div, ◌*ℤ◌, ◌+ℤ◌, ◌-ℤ◌, IsErr, MatchOption};
+//! Quotients, and products of at most 2^127 - 1 in absolute value.
+ghost use Rattle.std.specs.Prelude.{pos, ◌≡◌, ◌<◌, ◌^◌, ◌<ℤ◌, ◌↔◌, IsTrue, unsigned_abs, int_div, ◌*ℤ◌};
 ghost use Rattle.std.specs.Result.{OkIff};
 ghost use Rattle.gj_frac.specs.Fraction.{Fits};
 
-/// A number passes 2^127 - 1 in absolute value.
-#[derive(Clone, Copy)]
-pub(crate) struct TooWide;
-
-/// The number, if there is one and it is not -2^127.
-fn number(checked: Option<i128>) -> Result<i128, TooWide>
-    ensures { MatchOption checked (IsErr result) (λ n. OkIff result (Fits n) n) }
-{
-    match checked {
-        Some(n) if n != i128::MIN => Ok(n),
-        _ => Err(TooWide),
-    }
-}
+use gj_frac::{Wide, checked_product};
 
 /// Whether a number is below 2^63 in absolute value.
 pub(crate) fn is_small(n: i128) -> bool
@@ -36,7 +24,7 @@ pub(crate) fn quotient(n: i128, m: i128) -> i128
 }
 
 /// The product of two numbers.
-pub(crate) fn product(n: i128, m: i128) -> Result<i128, TooWide>
+pub(crate) fn product(n: i128, m: i128) -> Result<i128, Wide>
     ensures { OkIff result (Fits (n *ℤ m)) (n *ℤ m) }
 {
     if m == 0 {
@@ -45,19 +33,5 @@ pub(crate) fn product(n: i128, m: i128) -> Result<i128, TooWide>
     if is_small(n) && is_small(m) {
         return Ok(n * m);
     }
-    number(n.checked_mul(m))
-}
-
-/// The sum of two numbers.
-pub(crate) fn sum(n: i128, m: i128) -> Result<i128, TooWide>
-    ensures { OkIff result (Fits (n +ℤ m)) (n +ℤ m) }
-{
-    number(n.checked_add(m))
-}
-
-/// The difference of two numbers.
-pub(crate) fn difference(n: i128, m: i128) -> Result<i128, TooWide>
-    ensures { OkIff result (Fits (n -ℤ m)) (n -ℤ m) }
-{
-    number(n.checked_sub(m))
+    checked_product(n, m)
 }

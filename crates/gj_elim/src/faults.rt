@@ -1,7 +1,7 @@
 //! Why an elimination gives no answer.
 ghost use Rattle.std.specs.Prelude.{◌≡◌};
 
-use crate::checked::TooWide;
+use gj_frac::Wide;
 use std::alloc::AllocError;
 use thiserror::Error;
 
@@ -16,12 +16,12 @@ pub enum ElimFault {
     Memory(AllocError),
 }
 
-impl From<TooWide> for ElimFault {
-    ghost use Rattle.gj_elim.specs.declared.faults.ElimFault.TheVariants.{Wide};
+impl From<Wide> for ElimFault {
+    ghost use Rattle.gj_elim.specs.declared.faults.ElimFault.TheVariants.{Wide as wide};
 
-    ghost from_gives = { λ _ fault. fault ≡ Wide };
+    ghost from_gives = { λ _ fault. fault ≡ wide };
 
-    fn from(_wide: TooWide) -> ElimFault {
+    fn from(_wide: Wide) -> ElimFault {
         ElimFault::Wide
     }
 }

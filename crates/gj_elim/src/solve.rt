@@ -4,8 +4,9 @@ ghost use Rattle.gj_shape.specs.Elimination.{at_column, scaled, products_behind,
 ghost use Rattle.gj_shape.specs.SlopeRows.{total};
 ghost use Rattle.gj_frac.specs.Fraction.{Fits};
 
-use crate::checked::{TooWide, product, sum};
+use crate::checked::product;
 use crate::step::common_divisor;
+use gj_frac::{Wide, checked_total};
 use std::alloc::{AllocError, Global};
 
 /// 1 at the column, and 0 at the other columns.
@@ -22,7 +23,7 @@ pub(crate) fn unit_row(
 }
 
 /// The sum of the products of the entries behind the column.
-fn sum_behind(row: &[i128], numbers: &[i128], column: usize) -> Result<i128, TooWide>
+fn sum_behind(row: &[i128], numbers: &[i128], column: usize) -> Result<i128, Wide>
     requires columns { length row.now ≡ length numbers.now }
     requires within { column < length row.now }
     ensures value { IfOk result (λ t. t ≡ total (products_behind column row.now numbers.now)) }
@@ -34,13 +35,13 @@ fn sum_behind(row: &[i128], numbers: &[i128], column: usize) -> Result<i128, Too
 {
     let mut total: i128 = 0;
     for i in column + 1..row.len() {
-        total = sum(total, product(row[i], numbers[i])?)?;
+        total = checked_total(total, product(row[i], numbers[i])?)?;
     }
     Ok(total)
 }
 
 /// Multiplies all numbers by the factor. After an error some are changed.
-fn multiply(factor: i128, numbers: &mut [i128]) -> Result<(), TooWide>
+fn multiply(factor: i128, numbers: &mut [i128]) -> Result<(), Wide>
     ensures value { OnOk result (numbers.new ≡ scaled factor numbers.old) }
     ensures narrow { OnOk result (¬ Passes (scaled factor numbers.old)) }
     ensures wide { OnErr result (Passes (scaled factor numbers.old)) }
@@ -53,7 +54,7 @@ fn multiply(factor: i128, numbers: &mut [i128]) -> Result<(), TooWide>
 
 /// Multiplies the numbers, and sets that of the column, so that they solve the row with its pivot there. After an error some are
 /// changed.
-pub(crate) fn solve_at(row: &[i128], column: usize, numbers: &mut [i128]) -> Result<(), TooWide>
+pub(crate) fn solve_at(row: &[i128], column: usize, numbers: &mut [i128]) -> Result<(), Wide>
     requires columns { length row.now ≡ length numbers.old }
     requires within { column < length row.now }
     requires fits { All Fits row.now }

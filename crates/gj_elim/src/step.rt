@@ -6,8 +6,8 @@ ghost use Rattle.gj_lemmas.specs.Divisors.{gcd_of};
 ghost use Rattle.gj_frac.specs.Fraction.{Fits};
 ghost use Rattle.gj_theory.specs.Fitting.{FitsCombined};
 
-use crate::checked::{TooWide, difference, product, quotient};
-use gj_frac::gcd;
+use crate::checked::{product, quotient};
+use gj_frac::{Wide, checked_difference, gcd};
 
 /// The greatest common divisor of the absolute values of two numbers, one of them at most 2^127 - 1 and not 0.
 pub(crate) fn common_divisor(n: i128, m: i128) -> i128
@@ -58,7 +58,7 @@ fn divide(row: &mut [i128])
 }
 
 /// u x - w e.
-fn combination(u: i128, x: i128, w: i128, e: i128) -> Result<i128, TooWide>
+fn combination(u: i128, x: i128, w: i128, e: i128) -> Result<i128, Wide>
     ensures value { IfOk result (λ r. r ≡ u *ℤ x -ℤ w *ℤ e) }
     ensures fits { OnOk result (FitsCombined u x w e) }
     ensures wide { OnErr result (¬ FitsCombined u x w e) }
@@ -68,11 +68,11 @@ fn combination(u: i128, x: i128, w: i128, e: i128) -> Result<i128, TooWide>
     }
     let first = product(u, x)?;
     let second = product(w, e)?;
-    difference(first, second)
+    checked_difference(first, second)
 }
 
 /// Puts u times the row less w times the kept row in the place of the row. After an error some entries are changed.
-fn combine(u: i128, row: &mut [i128], w: i128, kept: &[i128]) -> Result<(), TooWide>
+fn combine(u: i128, row: &mut [i128], w: i128, kept: &[i128]) -> Result<(), Wide>
     requires { length kept.now ≡ length row.old }
     ensures value { OnOk result (row.new ≡ differences (scaled u row.old) (scaled w kept.now)) }
     ensures fits { OnOk result (¬ Passes (scaled u row.old ++ scaled w kept.now
@@ -87,7 +87,7 @@ fn combine(u: i128, row: &mut [i128], w: i128, kept: &[i128]) -> Result<(), TooW
 }
 
 /// Reduces a row by a kept row with its pivot at the column. After an error some entries are changed.
-pub(crate) fn reduce_by(kept: &[i128], row: &mut [i128], column: usize) -> Result<(), TooWide>
+pub(crate) fn reduce_by(kept: &[i128], row: &mut [i128], column: usize) -> Result<(), Wide>
     requires columns { length kept.now ≡ length row.old }
     requires within { column < length row.old }
     requires fits { All Fits kept.now }

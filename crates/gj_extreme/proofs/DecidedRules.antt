@@ -2,7 +2,7 @@
 use Rattle.std.proofs.Common.{◌≡◌, ℕ, zero, suc, ◌⊎◌, inl, inr, ◌+◌, ◌*◌, ◌/◌, ◌<◌, ◌≤◌, ◌^◌, ℤ, pos, ◌+ℤ◌, ◌*ℤ◌, ◌≤ℤ◌, List, [], ◌∷◌, ◌++◌, length, map, unsigned_abs, sym, ap, subst, ◌∙◌, mul-pos, arith}
 use Rattle.std.specs.Prelude.{All}
 use Rattle.std.specs.List.{range_with_len}
-use Rattle.std.proofs.Math.Nat.{mul-div_cancel_left}
+use Rattle.std.proofs.Math.Nat.{eq_of_mul-eq-mul_left}
 use Rattle.std.proofs.lemmas.List.{length-map}
 use Rattle.std.proofs.lemmas.List.Elements.{All-nil, All-cons, All-append}
 use Rattle.gj_shape.specs.Cover.{components_in}
@@ -176,9 +176,6 @@ residue_rules f lines rows l minimal continuous h =
 
 -- ---- not extreme
 
-same_factor : (q m k : ℕ) → 0 < q → q * m ≡ q * k → m ≡ k
-same_factor q m k some e = sym (mul-div_cancel_left m some) ∙ ap (λ x. x / q) e ∙ mul-div_cancel_left k some
-
 -- the halves on the grid of order m times the function's, over c times the scale
 record AreHalvesOn (f : FunctionData) (h : Halves) (m c : ℕ) : Type 0 where
   some : 0 < m
@@ -212,7 +209,7 @@ halves_rules f h m c l minimal continuous on =
     n_some = mul-pos order_some on.some
 
     same_order : (k : ℕ) → h.order ≡ f.order * k → k ≡ m
-    same_order k e = same_factor f.order k m order_some (sym e ∙ on.order)
+    same_order k e = eq_of_mul-eq-mul_left f.order order_some k m (sym e ∙ on.order)
 
     same_pos : (x y : ℕ) → pos x ≡ pos y → x ≡ y
     same_pos x y e = ap unsigned_abs e
@@ -223,7 +220,7 @@ halves_rules f h m c l minimal continuous on =
         let over : h.scale ≡ pos (d * (f.scale * m)) = s ∙ ap (λ x. pos (d * (f.scale * x))) (same_order k e) in
         let numbers : d * (f.scale * m) ≡ c * (f.scale * m) =
         same_pos (d * (f.scale * m)) (c * (f.scale * m)) (sym over ∙ on.scale) in
-        same_factor (f.scale * m) d c scale_some
+        eq_of_mul-eq-mul_left (f.scale * m) scale_some d c
         (let left : f.scale * m * d ≡ d * (f.scale * m) = omega arith in
         let right : f.scale * m * c ≡ c * (f.scale * m) = omega arith in left ∙ numbers ∙ sym right)
 

@@ -4,6 +4,7 @@ use Rattle.std.proofs.Math.Nat.{mod-eq_of_lt, mod-mod, mod-lt}
 use Rattle.std.proofs.lemmas.Bool.{cases_eq, cases_lt, and_parts, and_right, not-true, not-false, le-leb}
 use Rattle.std.proofs.lemmas.List.{get_or_append_left, get_or_push, length_push}
 use Rattle.std.proofs.lemmas.List.Elements.{All-push, All-weaker}
+use Rattle.gj_sets.proofs.Bits.{and_all}
 use Rattle.gj_faces.specs.declared.run.Run.{Run}
 use Rattle.gj_faces.specs.Runs.{InRuns, IsRunOf, EndsBefore, IsWholeRun, AreRunsOf}
 use Rattle.gj_faces.specs.RunsBefore.{ComesBefore, IsTightRun, AreRunsBefore}
@@ -153,10 +154,6 @@ all_of_row q Tight a runs h = record {
 
 -- ---- read off a row
 
-and_all_true : (x y : Bool) → y ≡ true → (x && y) ≡ false → x ≡ false
-and_all_true true y e h = sym e ∙ h
-and_all_true false y e h = refl
-
 -- the row has the indices below q with the property, and no others
 abbrev Tells : (ℕ → Type 0) → (ℕ → Bool) → ℕ → Type 0
 Tells P row q = (b : ℕ) → (row b ≡ true) ↔ ((b < q) × P b)
@@ -184,7 +181,7 @@ stays_out : (row starts : ℕ → Bool) (c j : ℕ) → AreStarts row starts →
 stays_out row starts c zero are (inr out) order below none = let e : c ≡ 0 = omega arith in ap row (sym e) ∙ out
 stays_out row starts c zero are (inl first) order below none =
     let silent = sym (are 0 below) ∙ none 0 order (omega arith) in
-    and_all_true (row 0) (not (nat_le 1 0 && row (0 - 1))) refl silent
+    and_all (row 0) (not (nat_le 1 0 && row (0 - 1))) refl ∙ silent
 stays_out row starts c (suc j) are edge order below none =
     elim (cases_lt c (suc j)) [
       | inl earlier ↦
@@ -192,7 +189,7 @@ stays_out row starts c (suc j) are edge order below none =
           let silent = sym (are (suc j) below) ∙ none (suc j) order (omega arith) in
           let e : suc j - 1 ≡ j = omega arith in
           let free = ap not (and_right (nat_le 1 (suc j)) (row (suc j - 1)) (ap row e ∙ before)) in
-          and_all_true (row (suc j)) (not (nat_le 1 (suc j) && row (suc j - 1))) free silent
+          and_all (row (suc j)) (not (nat_le 1 (suc j) && row (suc j - 1))) free ∙ silent
       | inr same ↦
           let e : c ≡ suc j = omega arith in
           elim edge [ inl first ↦ absurd (omega arith) | inr out ↦ ap row (sym e) ∙ out ]

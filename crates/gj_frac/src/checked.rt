@@ -48,21 +48,21 @@ fn part(number: Option<i128>) -> Result<i128, Wide>
 }
 
 /// The product of two whole numbers, if it fits a part of a fraction.
-fn checked_product(n: i128, m: i128) -> Result<i128, Wide>
+pub fn checked_product(n: i128, m: i128) -> Result<i128, Wide>
     ensures { OkIff result (Fits (n *ℤ m)) (n *ℤ m) }
 {
     part(n.checked_mul(m))
 }
 
 /// The sum of two whole numbers, if it fits a part of a fraction.
-fn checked_total(n: i128, m: i128) -> Result<i128, Wide>
+pub fn checked_total(n: i128, m: i128) -> Result<i128, Wide>
     ensures { OkIff result (Fits (n +ℤ m)) (n +ℤ m) }
 {
     part(n.checked_add(m))
 }
 
 /// The difference of two whole numbers, if it fits a part of a fraction.
-fn checked_difference(n: i128, m: i128) -> Result<i128, Wide>
+pub fn checked_difference(n: i128, m: i128) -> Result<i128, Wide>
     ensures { OkIff result (Fits (n -ℤ m)) (n -ℤ m) }
 {
     part(n.checked_sub(m))

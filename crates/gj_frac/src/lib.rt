@@ -25,7 +25,7 @@ mod parts;
 mod products;
 mod rounding;
 
-pub use checked::{DivFault, Wide};
+pub use checked::{DivFault, Wide, checked_difference, checked_product, checked_total};
 pub use divisors::{gcd, lcm};
 pub use laws::{ExactNumber, equal_values_are_one};
 pub use operators::fits_over_one_denominator;

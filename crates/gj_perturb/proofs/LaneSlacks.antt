@@ -7,19 +7,13 @@ use Rattle.gj_perturb.specs.Lanes.{lane_slack, triangle, AreSubadditive, no_slac
 
 -- ---- the least of two choices of triangles
 
-min_first : (x y : ℕ) → x ≤ y → min x y ≡ x
-min_first x y h = omega arith
-
-min_second : (x y : ℕ) → y ≤ x → min x y ≡ y
-min_second x y h = omega arith
-
 lesser_met : (M : ℕ → Type 0) (x y : ℕ) → (x ≡ no_slack) ⊎ M (x + 1) → (y ≡ no_slack) ⊎ M (y + 1) →
     (min x y ≡ no_slack) ⊎ M (min x y + 1)
 lesser_met M x y first second =
     let P : ℕ → Type 0 = λ v. (v ≡ no_slack) ⊎ M (v + 1) in
     elim (cases_lt y x) [
-      | inl less ↦ subst P (sym (min_second x y (omega arith))) second
-      | inr high ↦ subst P (sym (min_first x y high)) first
+      | inl less ↦ let is : min x y ≡ y = omega arith in subst P (sym is) second
+      | inr high ↦ let is : min x y ≡ x = omega arith in subst P (sym is) first
     ]
 
 lesser_low : (x y s : ℕ) → x < s → min x y < s

@@ -39,7 +39,7 @@ less_digit (suc zero) (suc zero) h k = refl
 less_digit (suc zero) (suc (suc y)) h k = absurd (omega arith)
 less_digit (suc (suc x)) y h k = absurd (omega arith)
 
-or_nothing : (x y : Bool) → y ≡ false → x ≡ (x || y)
+pub or_nothing : (x y : Bool) → y ≡ false → x ≡ (x || y)
 or_nothing true y e = refl
 or_nothing false y e = sym e
 

@@ -8,7 +8,7 @@ use Rattle.std.specs.Simd.Lanes.{zip2, chunk, put_chunk}
 use Rattle.std.proofs.lemmas.Simd.{length-zip2, length-replicate, length-chunk, get_or-zip2, get_or-replicate, get_or-chunk, put_chunk_whole}
 use Rattle.std.proofs.lemmas.List.{get_or_past, get_or_append_left, get_or-append_right}
 use Rattle.gj_sets.specs.IndexSets.{bit_of}
-use Rattle.gj_sets.proofs.Bits.{bit, get_or-zeros, bit-or, and_all, get_or-zip2_zero}
+use Rattle.gj_sets.proofs.Bits.{bit, get_or-zeros, bit-or, or_nothing, and_all, get_or-zip2_zero}
 
 -- a word moved down
 pub bit-shr : (x s j : ℕ) → bit (x / 2 ^ s) j ≡ bit x (j + s)
@@ -50,10 +50,6 @@ not_moved_in y s j offset below before =
           ∙ bit-shl_low y (63 - s) 64 (j - 1) (omega arith) (omega arith)
     ]
 
-or_false : (x y : Bool) → y ≡ false → (x || y) ≡ x
-or_false true y e = refl
-or_false false y e = e
-
 false_or : (x y : Bool) → x ≡ false → (x || y) ≡ y
 false_or true y e = absurd (cc)
 false_or false y e = refl
@@ -62,7 +58,7 @@ pub window_low : (x y s j : ℕ) → s < 64 → j < 64 → j + s < 64 →
     bit (bit_or (x / 2 ^ s) (y * 2 ^ (63 - s) % 2 ^ 64 * 2 ^ 1 % 2 ^ 64)) j ≡ bit x (j + s)
 window_low x y s j offset below before =
     bit-or (x / 2 ^ s) (y * 2 ^ (63 - s) % 2 ^ 64 * 2 ^ 1 % 2 ^ 64) j
-    ∙ or_false (bit (x / 2 ^ s) j) (bit (y * 2 ^ (63 - s) % 2 ^ 64 * 2 ^ 1 % 2 ^ 64) j) (not_moved_in y s j offset below before)
+    ∙ sym (or_nothing (bit (x / 2 ^ s) j) (bit (y * 2 ^ (63 - s) % 2 ^ 64 * 2 ^ 1 % 2 ^ 64) j) (not_moved_in y s j offset below before))
     ∙ bit-shr x s j
 
 pub window_high : (x y s j : ℕ) → x < 2 ^ 64 → s < 64 → j < 64 → 64 ≤ j + s →
@@ -225,7 +221,7 @@ turned_bits p i s n u d o r within up down both masked step =
                 let lt : nat_lt (i - s) n ≡ true = lt-ltb (i - s) n (omega arith) in
                 let past : nat_lt (i + (n - s)) n ≡ false = le-ltb (i + (n - s)) n (omega arith) in
                 kept ∙ both ∙ ap (λ b. u || b) (down ∙ and_right (p (i + (n - s))) (nat_lt (i + (n - s)) n) past)
-                ∙ or_false u false refl ∙ here ∙ ap (λ b. b && (p (i - s) && nat_lt (i - s) n)) le
+                ∙ sym (or_nothing u false refl) ∙ here ∙ ap (λ b. b && (p (i - s) && nat_lt (i - s) n)) le
                 ∙ sym (and_all (p (i - s)) (nat_lt (i - s) n) lt)
                 ∙ ap₂ (λ b c. b && p (if c then i - s else i + (n - s))) (sym yes) (sym le)
           ]
