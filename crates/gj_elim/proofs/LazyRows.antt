@@ -36,6 +36,18 @@ copied_all row source i len all same =
 read_small : (z : ℤ) → unsigned_abs z < 2 ^ 63 → to_z w64 (of_z w64 z) ≡ z
 read_small z h = to_z-of_z w64 z (fits_signed_from_abs w64 z h)
 
+-- an entry below 2^63 in absolute value
+pub record IsSmallEntry (e : ℤ) : Type 0 where
+  pub fits : FitsSigned w64 (to_z w128 (of_z w128 e))
+  pub read : to_z w64 (of_z w64 (to_z w128 (of_z w128 e))) ≡ e
+
+pub small_entry : (e : ℤ) → FitsSigned w128 e → unsigned_abs e < 2 ^ 63 → IsSmallEntry e
+small_entry e fits small =
+    let same = to_z-of_z w128 e fits in record {
+      fits = subst (FitsSigned w64) (sym same) (fits_signed_from_abs w64 e small);
+      read = ap (λ z. to_z w64 (of_z w64 z)) same ∙ read_small e small;
+    }
+
 -- the kept entry, and its product with the factor
 pub record IsCodeProduct (w e : ℤ) : Type 0 where
   pub entry : FitsSigned w64 (to_z w128 (of_z w128 e))
@@ -44,10 +56,9 @@ pub record IsCodeProduct (w e : ℤ) : Type 0 where
 pub code_product : (w e : ℤ) → FitsSigned w64 w → FitsSigned w128 e → unsigned_abs (w *ℤ e) < 2 ^ 62 → unsigned_abs e < 2 ^ 63 →
     IsCodeProduct w e
 code_product w e w_fits e_fits narrow small =
-    let same = to_z-of_z w128 e e_fits in
-    let e_is : to_z w64 (of_z w64 (to_z w128 (of_z w128 e))) ≡ e = ap (λ z. to_z w64 (of_z w64 z)) same ∙ read_small e small in
-    let product = ap₂ (λ a b. a *ℤ b) (to_z-of_z w64 w w_fits) e_is in record {
-      entry = subst (FitsSigned w64) (sym same) (fits_signed_from_abs w64 e small);
+    let here = small_entry e e_fits small in
+    let product = ap₂ (λ a b. a *ℤ b) (to_z-of_z w64 w w_fits) here.read in record {
+      entry = here.fits;
       product = subst (FitsSigned w64) (sym product) (fits_signed_from_abs w64 (w *ℤ e) (omega arith));
     }
 

@@ -1,9 +1,9 @@
 //! The rows of a table, given one after another.
-ghost use Rattle.std.specs.Prelude.{ℕ, ◌≡◌, ◌<◌, length, All, IfOk};
+ghost use Rattle.std.specs.Prelude.{ℕ, pos, ◌≡◌, ◌≢◌, ◌⊎◌, ◌<◌, ◌≤◌, ◌^◌, length, All, IfOk};
 ghost use Rattle.gj_frac.specs.Fraction.{Fits};
 ghost use Rattle.gj_residue.specs.Source.{Gives};
 ghost use Rattle.gj_shape.specs.FunctionData.{at};
-ghost use Rattle.gj_group.specs.GroupRows.{group_rows};
+ghost use Rattle.gj_group.specs.GroupRows.{entry_row, group_rows, sum_row};
 
 use crate::tight::next_pair;
 use gj_residue::RowSource;
@@ -65,14 +65,12 @@ impl RowSource for GroupRows {
         let order = self.values.len();
         match self.upcoming {
             Upcoming::Start => {
-                let mut row = vec![in alloc; 0; order]?;
-                row[0] = 1;
+                let row = row_of_entry(alloc, order, 0)?;
                 self.upcoming = Upcoming::Place;
                 Ok(Some(row))
             }
             Upcoming::Place => {
-                let mut row = vec![in alloc; 0; order]?;
-                row[self.place] = 1;
+                let row = row_of_entry(alloc, order, self.place)?;
                 self.upcoming = Upcoming::Pair(1, 1);
                 Ok(Some(row))
             }
@@ -80,10 +78,7 @@ impl RowSource for GroupRows {
                 let Some((a, b)) = next_pair(self.values.as_slice(), a, from) else {
                     return Ok(None);
                 };
-                let mut row = vec![in alloc; 0; order]?;
-                row[a] = 1;
-                row[b] = if a == b { 2 } else { 1 };
-                row[(a + b) % order] = -1;
+                let row = row_of_pair(alloc, order, a, b)?;
                 self.upcoming = Upcoming::Pair(a, b + 1);
                 Ok(Some(row))
             }
@@ -93,4 +88,36 @@ impl RowSource for GroupRows {
     fn restart(&mut self) {
         self.upcoming = Upcoming::Start;
     }
+}
+
+/// The row that says that the entry at this place is 0.
+fn row_of_entry(alloc: Global, order: usize, place: usize) -> Result<Vec<i128>, AllocError>
+    requires { place < order }
+    ensures { IfOk result (λ row. row.items ≡ entry_row order place) }
+{
+    let mut row = vec![in alloc; 0; order]?;
+    row[place] = 1;
+    Ok(row)
+}
+
+/// The row that says that the entries at a and b add up to that at their sum.
+fn row_of_pair(alloc: Global, order: usize, a: usize, b: usize) -> Result<Vec<i128>, AllocError>
+    requires some { 1 ≤ a }
+    requires ordered { a ≤ b }
+    requires within { b < order }
+    requires short { order < 2 ^ 32 }
+    ensures { IfOk result (λ row. row.items ≡ sum_row order a b) }
+{
+    let mut row = vec![in alloc; 0; order]?;
+    row[a] = 1;
+    row[b] = times_in_pair(a, b);
+    row[(a + b) % order] = -1;
+    Ok(row)
+}
+
+/// How many times b stands in the pair (a, b).
+fn times_in_pair(a: usize, b: usize) -> i128
+    ensures { ((a ≡ b) × (result ≡ pos 2)) ⊎ ((a ≢ b) × (result ≡ pos 1)) }
+{
+    if a == b { 2 } else { 1 }
 }

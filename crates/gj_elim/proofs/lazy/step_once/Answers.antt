@@ -1,6 +1,6 @@
-use Rattle.std.proofs.Common.{rules, pos, get_or, arith}
+use Rattle.std.proofs.Common.{rules, ℤ, pos, ◌<ℤ◌, get_or, refl, sym, subst, arith}
 use Rattle.gj_elim.proofs.LazySteps.{lazy_step}
-use Rattle.gj_elim.proofs.LazyRows.{have_room, row_products, kept_products, are_narrow, zero_outside, extent_behind, factors_read}
+use Rattle.gj_elim.proofs.LazyRows.{have_room, row_products, kept_products, are_narrow, zero_outside, extent_behind, factors_read, small_entry}
 use Rattle.gj_elim.proofs.lazy.step_once.Goals as goal
 
 pub combine_within-requires-clause-row : goal.combine_within-requires-clause-row
@@ -30,3 +30,23 @@ returns-in-Some-clause-step c other multiple =
 pub returns-in-Some-clause-extent : goal.returns-in-Some-clause-extent
 returns-in-Some-clause-extent c =
     extent_behind _ _ c.args.row.now c.args.kept.now c.combine_within.new.row _ _ _ _ _ _ (have_room c.requires.extent c.requires.kept_extent c.requires.bound (omega arith) c.in-Some.ensures) c.requires.columns c.combine_within.ensures
+
+pub returns-then-kept_extent-ge-GREATEST_BOUND-clause-same : goal.returns-then-kept_extent-ge-GREATEST_BOUND-clause-same
+returns-then-kept_extent-ge-GREATEST_BOUND-clause-same c = λ none. refl
+
+pub overflow_cast-kept : goal.overflow_cast-kept
+overflow_cast-kept c =
+    let small = c.requires.kept_extent.small (omega arith) c.args.column in
+    (small_entry (get_or c.args.kept.now c.args.column (pos 0)) (search rules) (omega arith)).fits
+
+pub factors_of-factors-requires : goal.factors_of-factors-requires
+factors_of-factors-requires c =
+    let small = c.requires.kept_extent.small (omega arith) c.args.column in
+    let here = small_entry (get_or c.args.kept.now c.args.column (pos 0)) (search rules) (omega arith) in
+    record { positive = subst (λ (z : ℤ). pos 0 <ℤ z) (sym here.read) c.requires.positive }
+
+pub combine_within-requires-clause-columns : goal.combine_within-requires-clause-columns
+combine_within-requires-clause-columns c = c.requires.columns
+
+pub combine_within-requires-clause-entries : goal.combine_within-requires-clause-entries
+combine_within-requires-clause-entries c k = let small = c.requires.kept_extent.small (omega arith) k in omega arith

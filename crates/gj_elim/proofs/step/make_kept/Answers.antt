@@ -30,3 +30,9 @@ pub returns-else-is_negative-clause-value : goal.returns-else-is_negative-clause
 returns-else-is_negative-clause-value c =
     let x = to_z-of_z w128 (get_or c.args.row.now c.args.column (pos 0)) (search rules) in
     kept_positive c.args.row.now c.divide.new.row c.args.column (simp x at c.if-is_negative.false) c.divide.ensures.value
+
+pub divide-requires : goal.divide-requires
+divide-requires c = c.requires.fits
+
+pub returns-else-is_negative-clause-fits : goal.returns-else-is_negative-clause-fits
+returns-else-is_negative-clause-fits c = c.divide.ensures.fits

@@ -4,6 +4,7 @@ use Rattle.gj_theory.specs.Modulus.{modulus}
 use Rattle.gj_elim.specs.Data.{behind_by}
 use Rattle.gj_residue.proofs.Coming.{come_start, come_on, come_full, come_end, next_length, gives_none, gives_some}
 use Rattle.gj_residue.proofs.Inserting.{nothing_passes}
+use Rattle.std.proofs.lemmas.Result.{err_from_is_err_and}
 use Rattle.gj_residue.proofs.settling.insert_residues.Goals as goal
 
 pub loop-alloc-init : goal.loop-alloc-init
@@ -47,3 +48,21 @@ pub returns-clause-kept : goal.returns-clause-kept
 returns-clause-kept g c =
     (come_full (modulo modulus) c.args.columns (g.R.RowSource.left c.args.rows.now) (g.R.RowSource.left c.loop-alloc.rows) c.loop-alloc.basis c.loop-alloc.invariant.come
     (omega (arith, c.rank.ensures.count, c.loop-alloc-test.false))).kept
+
+pub returns-in_err-basis-clause-columns : goal.returns-in_err-basis-clause-columns
+returns-in_err-basis-clause-columns g c = rw (err_from_is_err_and c.from_residual.result c.from_residual.ensures.1).1 tt
+
+pub returns-in_err-basis-clause-kept : goal.returns-in_err-basis-clause-kept
+returns-in_err-basis-clause-kept g c = rw (err_from_is_err_and c.from_residual.result c.from_residual.ensures.1).1 tt
+
+pub returns-in_err-row-clause-columns : goal.returns-in_err-row-clause-columns
+returns-in_err-row-clause-columns g c = rw (err_from_is_err_and c.from_residual-in_err-row.result c.from_residual-in_err-row.ensures.1).1 tt
+
+pub returns-in_err-row-clause-kept : goal.returns-in_err-row-clause-kept
+returns-in_err-row-clause-kept g c = rw (err_from_is_err_and c.from_residual-in_err-row.result c.from_residual-in_err-row.ensures.1).1 tt
+
+pub returns-in_err-insert-clause-columns : goal.returns-in_err-insert-clause-columns
+returns-in_err-insert-clause-columns g c = rw (err_from_is_err_and c.from_residual-in_err-insert.result c.from_residual-in_err-insert.ensures.1).1 tt
+
+pub returns-in_err-insert-clause-kept : goal.returns-in_err-insert-clause-kept
+returns-in_err-insert-clause-kept g c = rw (err_from_is_err_and c.from_residual-in_err-insert.result c.from_residual-in_err-insert.ensures.1).1 tt

@@ -5,6 +5,7 @@ use Rattle.gj_shape.specs.Residues.{modulo}
 use Rattle.gj_theory.specs.Modulus.{modulus}
 use Rattle.gj_residue.specs.Settled.{IsSettled, IsSettledByResidues, AnswersRows}
 use Rattle.gj_residue.proofs.SettledRows.{settled_answers, settled_plain, settled_by_residues_of_all, wide_plain, wide_residues, wide_fault, wide_here}
+use Rattle.std.proofs.lemmas.Result.{err_from_is_err_and}
 use Rattle.gj_residue.proofs.settling.settle.Goals as goal
 
 pub returns-in_err-settled_by-in-Ok-clause-wide : goal.returns-in_err-settled_by-in-Ok-clause-wide
@@ -52,3 +53,9 @@ returns-in-Err-Wide-clause-answers g c =
     (AnswersRows c.args.columns (g.R.RowSource.all c.args.rows.now))
     (λ s. settled_answers c.args.columns (g.R.RowSource.all c.args.rows.now) s c.requires.lengths)
     (returns-in-Err-Wide-clause-settled g c)
+
+pub returns-in_err-settled_by-in-Ok-clause-settled : goal.returns-in_err-settled_by-in-Ok-clause-settled
+returns-in_err-settled_by-in-Ok-clause-settled g c = rw (err_from_is_err_and c.from_residual.result c.from_residual.ensures.1).1 tt
+
+pub returns-in_err-settled_by-in-Ok-clause-answers : goal.returns-in_err-settled_by-in-Ok-clause-answers
+returns-in_err-settled_by-in-Ok-clause-answers g c = rw (err_from_is_err_and c.from_residual.result c.from_residual.ensures.1).1 tt
