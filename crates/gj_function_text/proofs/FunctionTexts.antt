@@ -65,7 +65,7 @@ whole_text text rest f h nothing = (rest, (f, rest, h, (refl, refl, nothing)))
 
 -- what tells a function, and that it is within bounds
 body_is_within : (text : List ℕ) (f : FunctionData) (rest : List ℕ) → body_part.Reads text f rest → IsWithinBounds f
-body_is_within text f rest (inl (is, (start, words, line, (w, line_is, (family, spelled, of, within))))) = within
+body_is_within text f rest (inl (is, (start, words, line, (family, spelled, (of, within))))) = within
 body_is_within text f rest (inr (not, h)) = within_bounds Lenient text f rest h
 
 points_are_within : (text : List ℕ) (f : FunctionData) (rest : List ℕ) → points_text.Reads text f rest → IsWithinBounds f

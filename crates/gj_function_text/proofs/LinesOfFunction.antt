@@ -15,7 +15,7 @@ use Rattle.gj_shape.proofs.LeastDenominator.{within_bounds_closed}
 use Rattle.gj_function_lines.specs.FunctionGrammar.{order_rule, place_rule, spelled_point_rule, points_part, function_part}
 use Rattle.gj_function_text.specs.BreaksText.{end_words}
 use Rattle.gj_function_text.specs.FunctionText.{title_words, breaks_title_words, points_text, IsFunctionText}
-use Rattle.gj_function_text.specs.FamilyLine.{FamilyWords, gmic_words, half_words, two_slope_words, words_of_line}
+use Rattle.gj_function_text.specs.FamilyLine.{gmic, half, two_slope, family_rule}
 use Rattle.gj_function_text.specs.LinesOfFunction.{HasLinesOfFunction, HasLinesOfFamily, HasLinesOfBreaks}
 use Rattle.gj_function_text.proofs.LinesOfBreaks.{breaks_have_lines, lines_are_breaks}
 use Rattle.gj_function_text.proofs.FunctionTexts.{no_family_line, one_title}
@@ -98,19 +98,19 @@ points_text_has_lines text f rest (
   (
     g,
     n,
-    inl (begins, (s1, ws1, line, (words, line_is, names))),
+    inl (begins, (s1, ws1, line, names)),
     (t', r, (s3, ws3, last, last_is), (same, at)),
   ),
 ) =
     let end : HasLines Lenient n (end_words ∷ []) rest = (s3, r, subst (λ vs. HasNextLine s3 vs r n) last_is last, at) in
     let found : HasLinesOfFamily text g rest = record {
-      words = words;
+      words = ws1;
       names = names;
       has_lines = (
         s,
         m,
         subst (λ vs. HasNextLine s vs m text) title_is title,
-        (s1, n, subst (λ vs. HasNextLine s1 vs n m) line_is line, end),
+        (s1, n, line, end),
       );
     } in
     inr (subst (λ (h : FunctionData). HasLinesOfFamily text h rest) (sym same) found)
@@ -207,11 +207,12 @@ function_lines_are_text text f rest h =
     )
 
 -- the words of a family begin with `family`
-family_begins : (text start rest : List ℕ) (words : FamilyWords) → HasNextLine start (words_of_line words) rest text →
-    BeginsWithWord Lenient (codes "family") text
-family_begins text start rest (gmic_words v) line = (_, (start, rest, line))
-family_begins text start rest (half_words v) line = (_, (start, rest, line))
-family_begins text start rest (two_slope_words v w) line = (_, (start, rest, line))
+family_begins : (text start rest : List ℕ) (words : List (List ℕ)) (f : FunctionData) → HasNextLine start words rest text →
+    family_rule.Spells words f → BeginsWithWord Lenient (codes "family") text
+family_begins text start rest words f line (gmic x, (is, h, t), made) = (_, (start, rest, subst (λ ws. HasNextLine start ws rest text) is line))
+family_begins text start rest words f line (half x, (is, h, t), made) = (_, (start, rest, subst (λ ws. HasNextLine start ws rest text) is line))
+family_begins text start rest words f line (two_slope k w, (is, h, t), made) =
+    (_, (start, rest, subst (λ ws. HasNextLine start ws rest text) is line))
 
 family_lines_are_text : (text : List ℕ) (f : FunctionData) (rest : List ℕ) → HasLinesOfFamily text f rest → IsFunctionText text f rest
 family_lines_are_text text f rest h =
@@ -225,7 +226,7 @@ family_lines_are_text text f rest h =
         (
           f,
           n,
-          inl (family_begins m s1 n h.words line, (s1, words_of_line h.words, line, (h.words, refl, h.names))),
+          inl (family_begins m s1 n h.words f line h.names, (s1, h.words, line, h.names)),
           (tt, r, (s3, end_words, last, refl), (refl, at)),
         ),
       ),

@@ -11,7 +11,7 @@ use Rattle.gj_forms.specs.SpelledForms.{rule_in}
 use Rattle.gj_function_lines.specs.FunctionLines.{place_form}
 use Rattle.gj_function_lines.specs.FunctionGrammar.{order_rule, place_rule, spelled_point_rule}
 use Rattle.gj_function_lines.specs.BreakLines.{spelled_break_rule}
-use Rattle.gj_function_text.specs.FamilyLine.{FamilyWords, words_of_line, Names}
+use Rattle.gj_function_text.specs.FamilyLine.{family_rule}
 use Rattle.gj_function_text.specs.BreaksText.{end_words}
 use Rattle.gj_function_text.specs.FunctionText.{title_words, breaks_title_words}
 
@@ -40,9 +40,9 @@ pub record HasLinesOfFunction (text : List ℕ) (f : FunctionData) (rest : List 
 
 -- the text has the lines `gj-function 1`, one that names the function f of a family, and `end`, and the rest follows
 pub record HasLinesOfFamily (text : List ℕ) (f : FunctionData) (rest : List ℕ) : Type 0 where
-  pub words : FamilyWords
-  pub names : Names words f
-  pub has_lines : HasLines Lenient text (title_words ∷ words_of_line words ∷ end_words ∷ []) rest
+  pub words : List (List ℕ)
+  pub names : family_rule.Spells words f
+  pub has_lines : HasLines Lenient text (title_words ∷ words ∷ end_words ∷ []) rest
 
 -- ---- functions by their breakpoints
 
