@@ -26,9 +26,6 @@ use Rattle.gj_function_text.specs.declared.family.LineFault.TheVariants.{Broken,
 behind : (v w : List ℕ) (vs ws : List (List ℕ)) → v ∷ vs ≡ w ∷ ws → vs ≡ ws
 behind v w vs ws e = cc
 
-second : (a b c : List ℕ) (v w : List (List ℕ)) → c ∷ a ∷ v ≡ c ∷ b ∷ w → a ≡ b
-second a b c v w e = cc
-
 -- a number for a word that spells none
 zero : Frac
 zero = whole (pos 0) (omega (arith, ints))
@@ -43,38 +40,38 @@ no_line_words line rest e no_gmic no_half no_slopes (two_slope k w, is, t) = no_
 
 -- what words spell
 pub gmic_spelled : (w : List ℕ) (f : Frac) → IsFractionWord Lenient w f → (rule_in Lenient family_form).Spells (gmic_words w) (gmic f)
-gmic_spelled w f h = (refl, (h, tt), tt)
+gmic_spelled w f h = ((refl, (refl, (h, tt))), tt)
 
 pub half_spelled : (w : List ℕ) (f : Frac) → IsFractionWord Lenient w f → (rule_in Lenient family_form).Spells (half_words w) (half f)
-half_spelled w f h = (refl, (h, tt), tt)
+half_spelled w f h = ((refl, (refl, (h, tt))), tt)
 
 slopes_spelled : (v w : List ℕ) (n : ℕ) → IsCountWord Lenient v n → (rule_in Lenient family_form).Spells (two_slope_words v w) (two_slope n w)
-slopes_spelled v w n h = (refl, (h, tt), tt)
+slopes_spelled v w n h = ((refl, (refl, (h, (refl, tt)))), tt)
 
 -- and which spell no number
 pub no_gmic_number : (w : List ℕ) → ((f : Frac) → IsFractionWord Lenient w f → ⊥) → family_rule.Breaks (gmic_words w) reason.Number
 no_gmic_number w none = inl (inr (refl, (gmic zero, refl, tt), no_family))
   where
     no_family : (a : Family) → (rule_in Lenient family_form).Spells (gmic_words w) a → ⊥
-    no_family (gmic f) h = none f h.1.0
-    no_family (half f) h = apart (codes "gmic") (codes "half") refl (second _ _ _ _ _ h.0)
-    no_family (two_slope k v) h = let e = h.0 in cc
+    no_family (gmic f) h = none f h.0.1.1.0
+    no_family (half f) h = apart (codes "gmic") (codes "half") refl h.0.1.0
+    no_family (two_slope k v) h = h.0.1.1.1
 
 pub no_half_number : (w : List ℕ) → ((f : Frac) → IsFractionWord Lenient w f → ⊥) → family_rule.Breaks (half_words w) reason.Number
 no_half_number w none = inl (inr (refl, (half zero, refl, tt), no_family))
   where
     no_family : (a : Family) → (rule_in Lenient family_form).Spells (half_words w) a → ⊥
-    no_family (half f) h = none f h.1.0
-    no_family (gmic f) h = apart (codes "half") (codes "gmic") refl (second _ _ _ _ _ h.0)
-    no_family (two_slope k v) h = let e = h.0 in cc
+    no_family (half f) h = none f h.0.1.1.0
+    no_family (gmic f) h = apart (codes "half") (codes "gmic") refl h.0.1.0
+    no_family (two_slope k v) h = h.0.1.1.1
 
 pub no_slopes_count : (v w : List ℕ) → ((n : ℕ) → IsCountWord Lenient v n → ⊥) → family_rule.Breaks (two_slope_words v w) reason.Number
 no_slopes_count v w none = inl (inr (refl, (two_slope 0 w, refl, tt), no_family))
   where
     no_family : (a : Family) → (rule_in Lenient family_form).Spells (two_slope_words v w) a → ⊥
-    no_family (two_slope k u) h = none k h.1.0
-    no_family (gmic f) h = let e = h.0 in cc
-    no_family (half f) h = let e = h.0 in cc
+    no_family (two_slope k u) h = none k h.0.1.1.0
+    no_family (gmic f) h = h.0.1.1.1
+    no_family (half f) h = h.0.1.1.1
 
 pub no_slopes_signs : (v w : List ℕ) (n : ℕ) → IsCountWord Lenient v n → ((signs : List Bool) → AreSigns w signs → ⊥) →
     family_rule.Breaks (two_slope_words v w) reason.Signs
