@@ -8,7 +8,7 @@ use Rattle.gj_lex.proofs.CanonicalLines.{line_in, plain_by_test}
 use Rattle.gj_shape.specs.Breaks.{BreakList, AreBreaks, IsOfBreaks}
 use Rattle.gj_shape.specs.FunctionData.{FunctionData}
 use Rattle.gj_shape.specs.declared.breaks.Break.{Break}
-use Rattle.gj_function_lines.specs.BreakLines.{spelled_break_rule, break_line}
+use Rattle.gj_function_lines.specs.BreakLines.{break_line}
 use Rattle.gj_function_lines.specs.FunctionLines.{line, place_form, place_line}
 use Rattle.gj_function_lines.proofs.ClearLines.{good_place}
 use Rattle.gj_forms.specs.LineForms.{words_of}
@@ -16,6 +16,7 @@ use Rattle.gj_forms.proofs.SpelledLines.{spells_its_thing, has_its_line}
 use Rattle.gj_function_lines.proofs.CanonicalBreaks.{words_of_break, break_is_read, break_is_spelled}
 use Rattle.gj_function_text.specs.BreaksText.{end_words}
 use Rattle.gj_function_text.specs.FunctionText.{breaks_title_words, canonical_breaks_text, IsFunctionText}
+use Rattle.gj_function_text.specs.LinesOfFunction.{SpellBreak}
 use Rattle.gj_function_text.proofs.LinesOfFunction.{lines_are_text}
 
 -- ---- the lines
@@ -36,7 +37,7 @@ breaks_are_read (b ∷ breaks) after =
     let split : text ≡ break_line b ++ more = append_assoc (break_line b) (flat_map break_line breaks) (line (codes "end") ++ after) in
     (text, more, subst (λ t. HasLine Lenient t t (words_of_break b) more) (sym split) (break_is_read b more), breaks_are_read breaks after)
 
-breaks_are_spelled : (breaks : List Break) → AllZip spelled_break_rule.Spells (map words_of_break breaks) breaks
+breaks_are_spelled : (breaks : List Break) → AllZip SpellBreak (map words_of_break breaks) breaks
 breaks_are_spelled [] = tt
 breaks_are_spelled (b ∷ breaks) = (break_is_spelled b, breaks_are_spelled breaks)
 
@@ -59,17 +60,13 @@ breaks_read_again list f after are some of =
     let points = map words_of_break list.breaks in
     lines_are_text text f after
     (inr (inr (record {
-      lines = breaks_title_words ∷ words_of (place_form.fields list.place) ∷ points ++ end_words ∷ [];
       has_lines = (text, middle, title, (middle, last, place_is_read list.place last, breaks_are_read list.breaks after));
-      are_lines = record {
-        place = words_of (place_form.fields list.place);
-        points = points;
-        list = list;
-        are_breaks = are;
-        some = some;
-        place_spelled = spells_its_thing Lenient place_form list.place (good_place list.place) tt;
-        points_spelled = breaks_are_spelled list.breaks;
-        function_is = of;
-        lines_are = refl;
-      };
+      place = words_of (place_form.fields list.place);
+      points = points;
+      list = list;
+      are_breaks = are;
+      some = some;
+      place_spelled = spells_its_thing Lenient place_form list.place (good_place list.place) tt;
+      points_spelled = breaks_are_spelled list.breaks;
+      function_is = of;
     })))

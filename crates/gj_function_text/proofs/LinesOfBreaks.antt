@@ -11,12 +11,13 @@ use Rattle.gj_shape.specs.Breaks.{BreakList, no_breaks, AreBreaks, IsOfBreaks, F
 use Rattle.gj_shape.specs.declared.breaks.Break.{Break}
 use Rattle.gj_shape.proofs.BreakLists.{breaks_of_none}
 use Rattle.gj_shape.proofs.BreakChains.{breaks_kept, next_follows, one_break_list, place_denominator}
-use Rattle.gj_forms.specs.SpelledForms.{rule_in}
+use Rattle.gj_forms.specs.SpelledForms.{Spell}
+use Rattle.gj_forms.proofs.SpelledLaws.{spelled_words}
 use Rattle.gj_function_lines.specs.FunctionLines.{place_form}
-use Rattle.gj_function_lines.specs.BreakLines.{spelled_break_rule}
+use Rattle.gj_function_lines.specs.BreakLines.{break_form}
 use Rattle.gj_function_text.specs.BreaksText.{end_words, next_break}
 use Rattle.gj_function_text.specs.FunctionText.{breaks_title_words, breaks_text}
-use Rattle.gj_function_text.specs.LinesOfFunction.{HasLinesOfBreaks}
+use Rattle.gj_function_text.specs.LinesOfFunction.{SpellBreak, HasLinesOfBreaks}
 
 -- ---- from the grammar to the lines
 
@@ -29,7 +30,7 @@ record HasBreakLines (f : FunctionData) (rest : List ℕ) (s : BreakList) (text 
   some : list.breaks ≢ []
   place_is : list.place ≡ s.place
   breaks_are : list.breaks ≡ s.breaks ++ added
-  spelled : AllZip spelled_break_rule.Spells points added
+  spelled : AllZip SpellBreak points added
   function_is : IsOfBreaks list f
   lines : HasLines Lenient text (points ++ end_words ∷ []) rest
 
@@ -85,24 +86,20 @@ breaks_have_lines text f rest (
     let found = turns_have_lines f rest (no_breaks x) n (breaks_of_none x inside few)
     (subst (λ u. ReadsInTurn (λ t. (next_break t).Reads) f rest u n) list_is turns) in
     record {
-      lines = breaks_title_words ∷ ws1 ∷ found.points ++ end_words ∷ [];
       has_lines = (
         start,
         m,
         subst (λ vs. HasNextLine start vs m text) title_is title,
         (start1, n, line, found.lines),
       );
-      are_lines = record {
-        place = ws1;
-        points = found.points;
-        list = found.list;
-        are_breaks = found.are_breaks;
-        some = found.some;
-        place_spelled = subst (λ p. (rule_in Lenient place_form).Spells ws1 p) (sym found.place_is) spelled;
-        points_spelled = subst (λ bs. AllZip spelled_break_rule.Spells found.points bs) (sym found.breaks_are) found.spelled;
-        function_is = found.function_is;
-        lines_are = refl;
-      };
+      place = ws1;
+      points = found.points;
+      list = found.list;
+      are_breaks = found.are_breaks;
+      some = found.some;
+      place_spelled = subst (λ p. Spell Lenient place_form ws1 p) (sym found.place_is) spelled;
+      points_spelled = subst (λ bs. AllZip SpellBreak found.points bs) (sym found.breaks_are) found.spelled;
+      function_is = found.function_is;
     }
 
 -- ---- from the lines to the grammar
@@ -114,7 +111,7 @@ not_the_end words more e = cc
 -- the lines of the breakpoints behind those of s, up to all of the list, are read in turn
 lines_in_turn : (all : BreakList) (f : FunctionData) (rest : List ℕ) → AreBreaks all → all.breaks ≢ [] → IsOfBreaks all f →
     (points : List (List (List ℕ))) (back : List Break) (s : BreakList) (text : List ℕ) → AreBreaks s → s.place ≡ all.place →
-    all.breaks ≡ s.breaks ++ back → AllZip spelled_break_rule.Spells points back → HasLines Lenient text (points ++ end_words ∷ []) rest →
+    all.breaks ≡ s.breaks ++ back → AllZip SpellBreak points back → HasLines Lenient text (points ++ end_words ∷ []) rest →
     ReadsInTurn (λ t. (next_break t).Reads) f rest s text
 lines_in_turn all f rest whole some of [] [] s text are place split spelled (start, next, line, at) =
     let same : all ≡ s = one_break_list all s whole are (sym place) (split ∙ append-nil s.breaks) in
@@ -129,7 +126,8 @@ lines_in_turn all f rest whole some of (words ∷ points) [] s text are place sp
 lines_in_turn all f rest whole some of (words ∷ points) (b ∷ back) s text are place split (spelled, more) (start, next, line, lines) =
     let (order, follows) = next_follows all s b back whole are place split in
     let t : BreakList = record { place = s.place; order = order; breaks = s.breaks ++ b ∷ [] } in
-    let (numbers, (is, h, u), b_is) = spelled in
+    let (numbers, (h, u), b_is) = spelled in
+    let is = spelled_words Lenient (break_form.fields numbers) words h in
     onward s text t next
     (inr (
       λ begins. other_word Lenient text start words (codes "end") next line (λ tail e. not_the_end _ tail (sym is ∙ e)) begins.1,
@@ -140,11 +138,10 @@ lines_in_turn all f rest whole some of (words ∷ points) (b ∷ back) s text ar
 
 pub lines_are_breaks : (text : List ℕ) (f : FunctionData) (rest : List ℕ) → HasLinesOfBreaks text f rest → breaks_text.Reads text f rest
 lines_are_breaks text f rest h =
-    let are = h.are_lines in
-    let list = are.list in
-    let whole = are.are_breaks in
+    let list = h.list in
+    let whole = h.are_breaks in
     let few = place_denominator list whole in
-    let (start, m, title, (start1, n, line, lines)) = subst (λ ls. HasLines Lenient text ls rest) are.lines_are h.has_lines in (
+    let (start, m, title, (start1, n, line, lines)) = h.has_lines in (
       tt,
       m,
       (start, breaks_title_words, title, refl),
@@ -153,11 +150,11 @@ lines_are_breaks text f rest h =
         n,
         (
           start1,
-          are.place,
+          h.place,
           line,
-          (list.place, are.place_spelled, (whole.inside, few, refl)),
+          (list.place, h.place_spelled, (whole.inside, few, refl)),
         ),
-        lines_in_turn list f rest whole are.some are.function_is are.points list.breaks (no_breaks list.place) n
-            (breaks_of_none list.place whole.inside few) refl refl are.points_spelled lines,
+        lines_in_turn list f rest whole h.some h.function_is h.points list.breaks (no_breaks list.place) n
+            (breaks_of_none list.place whole.inside few) refl refl h.points_spelled lines,
       ),
     )
