@@ -3,7 +3,7 @@ use Rattle.std.proofs.Common.{◌≡◌, ℕ, List, ◌++◌, codes}
 use Rattle.gj_shape.specs.FunctionData.{FunctionData, IsWithinBounds}
 use Rattle.gj_shape.specs.declared.extremality.CoverLine.{CoverLine}
 use Rattle.gj_function_lines.specs.FunctionLines.{line, AreFunctionLines}
-use Rattle.gj_proof.specs.ProofText.{extreme_claim, title_text, extreme_lines, AreExtremeLines, IsBounded, IsProofText}
+use Rattle.gj_proof.specs.ProofText.{extreme_claim, title_line, extreme_lines, AreExtremeLines, IsBounded, IsProofText}
 use Rattle.gj_proof.specs.declared.numbers.Numbers.{Numbers}
 use Rattle.gj_proof.specs.declared.numbers.Numbers.TheVariants.{Whole, Residues}
 use Rattle.gj_proof.specs.declared.pivot.PivotRow.{PivotRow}
@@ -14,7 +14,7 @@ pub record IsExtremeText (n : Numbers) (f : FunctionData) (lines : List CoverLin
   pub has_text : AreExtremeLines f lines rows
   pub subject : List ℕ
   pub are_subject_lines : AreFunctionLines f subject
-  pub spelled : text ≡ line (title_text n) ++ line (codes "claim extreme") ++ subject ++ bytes (extreme_lines n lines rows)
+  pub spelled : text ≡ title_line n ++ line (codes "claim extreme") ++ subject ++ bytes (extreme_lines n lines rows)
       ++ line (codes "end")
 
 module _ (f : FunctionData) (lines : List CoverLine) (rows : List PivotRow) where

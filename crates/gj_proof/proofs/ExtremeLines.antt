@@ -1,29 +1,21 @@
 -- The lines of an extreme function and those of halves: their names differ, and each has one line feed, at its end.
-use Rattle.std.proofs.Common.{◌≡◌, ◌≢◌, ℕ, ℤ, ◌+◌, ◌<◌, ◌≤◌, List, [], ◌∷◌, ◌++◌, All, flat_map, zip, codes, decimal, refl, sym, ap, subst, ◌∙◌, arith, lit<}
-use Rattle.std.proofs.lemmas.Int.{ints}
-use Rattle.std.specs.Fmt.{signed_decimal}
+use Rattle.std.proofs.Common.{◌≡◌, ◌≢◌, ℕ, ℤ, ◌+◌, ◌<◌, ◌≤◌, List, [], ◌∷◌, ◌++◌, All, flat_map, zip, refl, sym, ap, subst, ◌∙◌, arith}
 use Rattle.std.proofs.lemmas.List.{append_assoc, map-append}
 use Rattle.std.proofs.lemmas.List.Elements.{All-nil, All-cons, All-head, All-tail, All-append, All-weaker}
 use Rattle.gj_frac.specs.Fraction.{Fits}
 use Rattle.gj_shape.specs.Perturbation.{AreHalvesInBounds}
-use Rattle.gj_lex.specs.TextLines.{line_feeds}
-use Rattle.gj_lex.proofs.WordBytes.{decimal_is_word}
 use Rattle.gj_shape.specs.declared.extremality.CoverLine.{CoverLine}
 use Rattle.gj_shape.specs.declared.extremality.Halves.{Halves}
-use Rattle.gj_shape.specs.declared.extremality.RowName.{RowName}
-use Rattle.gj_shape.specs.declared.extremality.RowName.TheVariants.{Period, F, Pair}
-use Rattle.gj_shape.specs.declared.faces.FaceKind.{FaceKind}
-use Rattle.gj_shape.specs.declared.faces.FaceKind.TheVariants.{Vertex, Horizontal, Vertical, Diagonal, Lower, Upper}
-use Rattle.gj_theory.specs.Modulus.{modulus}
-use Rattle.gj_function_lines.specs.FaceLines.{face_word, face_text, cover_line}
-use Rattle.gj_function_lines.specs.FunctionLines.{line}
-use Rattle.gj_proof.specs.ProofText.{ProofLine, OwnLine, group_line, reduction_line, pivot_line, covered_lines, reduction_lines, group_lines, modulus_line, modulus_lines, extreme_lines, halves_line, pair_line, pair_lines, IsCoverLineBelow, IsRowNameBelow, IsPivotRowBelow}
+use Rattle.gj_function_lines.specs.FaceLines.{cover_line}
+use Rattle.gj_forms.proofs.LineFeeds.{one_feed}
+use Rattle.gj_proof.specs.ProofText.{cover_form, row_name_form, modulus_form, halves_form, pair_form, ProofLine, OwnLine, group_line, reduction_line, pivot_line, covered_lines, reduction_lines, group_lines, modulus_line, modulus_lines, extreme_lines, halves_line, pair_line, pair_lines, IsCoverLineBelow, IsPivotRowBelow}
 use Rattle.gj_proof.specs.ExtremeTexts.{group_text, halves_text}
 use Rattle.gj_proof.specs.declared.numbers.Numbers.{Numbers}
 use Rattle.gj_proof.specs.declared.numbers.Numbers.TheVariants.{Whole, Residues}
 use Rattle.gj_proof.specs.declared.pivot.PivotRow.{PivotRow}
-use Rattle.gj_proof.proofs.LineLists.{names, bytes, bytes_append, Differ, differ_append, HasOneFeed, feeds_of_line, feeds_of_two, feeds_of_word}
-use Rattle.gj_proof.proofs.WholeNumbers.{whole_is_word}
+use Rattle.gj_proof.proofs.ClearLines.{cover_is_clear, row_name_is_clear, modulus_is_clear, halves_is_clear, pair_is_clear}
+use Rattle.gj_proof.proofs.ExtremeTexts.{reduce_form, reduce_is_clear, pivot_form, pivot_is_clear, head_of}
+use Rattle.gj_proof.proofs.LineLists.{names, bytes, bytes_append, Differ, differ_append, HasOneFeed}
 
 -- ---- their bytes
 
@@ -293,70 +285,12 @@ halves_lines_differ h =
 
 -- ---- line feeds
 
-feeds_of_count : (n : ℕ) → n < 4001 → line_feeds (decimal n) ≡ 0
-feeds_of_count n small = feeds_of_word (decimal n) (decimal_is_word n (omega arith))
-
-feeds_of_whole : (n : ℤ) → Fits n → line_feeds (signed_decimal n) ≡ 0
-feeds_of_whole n fits = feeds_of_word (signed_decimal n) (whole_is_word n fits)
-
--- two parts with a space between
-feeds_of_spaced : (x y : List ℕ) → line_feeds x ≡ 0 → line_feeds y ≡ 0 → line_feeds (x ++ codes " " ++ y) ≡ 0
-feeds_of_spaced x y h k = feeds_of_two (x ++ codes " ") y (feeds_of_two x (codes " ") h refl) k
-
-feeds_of_kind : (kind : FaceKind) → line_feeds (face_word kind) ≡ 0
-feeds_of_kind Vertex = refl
-feeds_of_kind Horizontal = refl
-feeds_of_kind Vertical = refl
-feeds_of_kind Diagonal = refl
-feeds_of_kind Lower = refl
-feeds_of_kind Upper = refl
-
-feeds_of_cover : (q : ℕ) (l : CoverLine) → q ≤ 1000 → IsCoverLineBelow q l → line_feeds (cover_line l) ≡ 1
-feeds_of_cover q l small h =
-    let interval = feeds_of_count l.interval (let b = h.interval in omega arith) in
-    let from = feeds_of_count l.from (let b = h.from in omega arith) in
-    let a = feeds_of_count l.face.a (let b = h.first in omega arith) in
-    let b = feeds_of_count l.face.b (let b = h.second in omega arith) in
-    let face : line_feeds (face_text l.face) ≡ 0 =
-    feeds_of_spaced (face_word l.face.kind ++ codes " " ++ decimal l.face.a) (decimal l.face.b)
-    (feeds_of_spaced (face_word l.face.kind) (decimal l.face.a) (feeds_of_kind l.face.kind) a) b in
-    feeds_of_line (codes "cover " ++ decimal l.interval ++ codes " " ++ decimal l.from ++ codes " " ++ face_text l.face)
-    (feeds_of_spaced (codes "cover " ++ decimal l.interval ++ codes " " ++ decimal l.from) (face_text l.face)
-    (feeds_of_spaced (codes "cover " ++ decimal l.interval) (decimal l.from)
-    (feeds_of_two (codes "cover ") (decimal l.interval) refl interval) from) face)
-
-feeds_of_row_name : (q : ℕ) (name : RowName) → q ≤ 1000 → IsRowNameBelow q name → line_feeds (group_line name) ≡ 1
-feeds_of_row_name q Period small h = refl
-feeds_of_row_name q F small h = refl
-feeds_of_row_name q (Pair a b) small h =
-    let first = feeds_of_count a (omega (arith, h.1, h.2)) in
-    let second = feeds_of_count b (omega (arith, h.2)) in
-    feeds_of_line (codes "row " ++ (decimal a ++ codes " " ++ decimal b))
-    (feeds_of_two (codes "row ") (decimal a ++ codes " " ++ decimal b) refl (feeds_of_spaced (decimal a) (decimal b) first second))
-
-feeds_of_column : (word : List ℕ) (c : ℕ) → line_feeds word ≡ 0 → c < 1000 → line_feeds (line (word ++ decimal c)) ≡ 1
-feeds_of_column word c none small = feeds_of_line (word ++ decimal c) (feeds_of_two word (decimal c) none (feeds_of_count c (omega arith)))
-
-feeds_of_halves : (h : Halves) → AreHalvesInBounds h → line_feeds (halves_line h) ≡ 1
-feeds_of_halves h b =
-    let order = feeds_of_count h.order (let top = b.order_high in omega arith) in
-    let scale = feeds_of_whole h.scale (let low = b.scale_low in let high = b.scale_high in omega (arith, ints)) in
-    feeds_of_line (codes "halves " ++ decimal h.order ++ codes " " ++ signed_decimal h.scale)
-    (feeds_of_spaced (codes "halves " ++ decimal h.order) (signed_decimal h.scale)
-    (feeds_of_two (codes "halves ") (decimal h.order) refl order) scale)
-
-feeds_of_pair : (p : ℤ × ℤ) → Fits p.0 → Fits p.1 → line_feeds (pair_line p) ≡ 1
-feeds_of_pair p first second =
-    feeds_of_line (codes "pair " ++ signed_decimal p.0 ++ codes " " ++ signed_decimal p.1)
-    (feeds_of_spaced (codes "pair " ++ signed_decimal p.0) (signed_decimal p.1)
-    (feeds_of_two (codes "pair ") (signed_decimal p.0) refl (feeds_of_whole p.0 first)) (feeds_of_whole p.1 second))
-
 covered_have_one_feed : (i q : ℕ) (lines : List CoverLine) → q ≤ 1000 → All (IsCoverLineBelow q) lines →
     All HasOneFeed (covered_lines i lines)
 covered_have_one_feed i q [] small h = All-nil HasOneFeed
 covered_have_one_feed i q (l ∷ lines) small h =
     All-cons HasOneFeed (record { name = ProofLine.covered i; bytes = cover_line l }) (covered_lines (i + 1) lines)
-    (feeds_of_cover q l small (All-head (IsCoverLineBelow q) l lines h))
+    (one_feed (cover_form q) (cover_is_clear q small) l (All-head (IsCoverLineBelow q) l lines h))
     (covered_have_one_feed (i + 1) q lines small (All-tail (IsCoverLineBelow q) l lines h))
 
 reductions_have_one_feed : (g r : ℕ) (columns : List ℕ) → All (λ c. c < 1000) columns → All HasOneFeed (reduction_lines g r columns)
@@ -364,7 +298,7 @@ reductions_have_one_feed g r [] h = All-nil HasOneFeed
 reductions_have_one_feed g r (c ∷ columns) h =
     let P : ℕ → Type 0 = λ c. c < 1000 in
     All-cons HasOneFeed (record { name = ProofLine.reduction g r; bytes = reduction_line c }) (reduction_lines g (r + 1) columns)
-    (feeds_of_column (codes "reduce ") c refl (All-head P c columns h))
+    (one_feed reduce_form reduce_is_clear c (All-head P c columns h))
     (reductions_have_one_feed g (r + 1) columns (All-tail P c columns h))
 
 groups_have_one_feed : (g q : ℕ) (rows : List PivotRow) → q ≤ 1000 → All (IsPivotRowBelow q) rows → All HasOneFeed (group_lines g rows)
@@ -374,20 +308,16 @@ groups_have_one_feed g q (row ∷ rows) small h =
     let first : OwnLine = record { name = ProofLine.group g; bytes = group_line row.name } in
     let last : OwnLine = record { name = ProofLine.group_pivot g; bytes = pivot_line row.pivot } in
     let more = group_lines (g + 1) rows in
-    All-cons HasOneFeed first (reduction_lines g 0 row.reduce ++ last ∷ more) (feeds_of_row_name q row.name small here.name)
+    All-cons HasOneFeed first (reduction_lines g 0 row.reduce ++ last ∷ more) (one_feed (row_name_form q) (row_name_is_clear q small) row.name here.name)
     (All-append HasOneFeed (reduction_lines g 0 row.reduce) (last ∷ more) (reductions_have_one_feed g 0 row.reduce here.reduce)
-    (All-cons HasOneFeed last more (feeds_of_column (codes "pivot ") row.pivot refl here.pivot)
+    (All-cons HasOneFeed last more (one_feed pivot_form pivot_is_clear row.pivot here.pivot)
     (groups_have_one_feed (g + 1) q rows small (All-tail (IsPivotRowBelow q) row rows h))))
-
-feeds_of_modulus : line_feeds modulus_line ≡ 1
-feeds_of_modulus =
-    feeds_of_line (codes "modulus " ++ decimal modulus)
-    (feeds_of_two (codes "modulus ") (decimal modulus) refl (feeds_of_word (decimal modulus) (decimal_is_word modulus (lit< tt))))
 
 modulus_has_one_feed : (n : Numbers) → All HasOneFeed (modulus_lines n)
 modulus_has_one_feed Whole = All-nil HasOneFeed
 modulus_has_one_feed Residues =
-    All-cons HasOneFeed (record { name = ProofLine.modulus_named; bytes = modulus_line }) [] feeds_of_modulus (All-nil HasOneFeed)
+    All-cons HasOneFeed (record { name = ProofLine.modulus_named; bytes = modulus_line }) []
+    (one_feed modulus_form modulus_is_clear tt tt) (All-nil HasOneFeed)
 
 pub extreme_have_one_feed : (n : Numbers) (q : ℕ) (lines : List CoverLine) (rows : List PivotRow) → q ≤ 1000 →
     All (IsCoverLineBelow q) lines → All (IsPivotRowBelow q) rows → All HasOneFeed (extreme_lines n lines rows)
@@ -402,11 +332,13 @@ pairs_have_one_feed i [] second h k = All-nil HasOneFeed
 pairs_have_one_feed i (x ∷ first) [] h k = All-nil HasOneFeed
 pairs_have_one_feed i (x ∷ first) (y ∷ second) h k =
     All-cons HasOneFeed (record { name = ProofLine.pair i; bytes = pair_line (x, y) }) (pair_lines (i + 1) (zip first second))
-    (feeds_of_pair (x, y) (All-head Fits x first h) (All-head Fits y second k))
+    (one_feed pair_form pair_is_clear (x, y) (All-head Fits x first h, All-head Fits y second k))
     (pairs_have_one_feed (i + 1) first second (All-tail Fits x first h) (All-tail Fits y second k))
 
 pub halves_have_one_feed : (h : Halves) → AreHalvesInBounds h →
     All HasOneFeed (record { name = ProofLine.halves; bytes = halves_line h } ∷ pair_lines 0 (zip h.first h.second))
 halves_have_one_feed h b =
     All-cons HasOneFeed (record { name = ProofLine.halves; bytes = halves_line h }) (pair_lines 0 (zip h.first h.second))
-    (feeds_of_halves h b) (pairs_have_one_feed 0 h.first h.second b.first_fit b.second_fit)
+    (one_feed halves_form halves_is_clear (head_of h)
+    (record { order_low = b.order_low; order_high = b.order_high; scale_low = b.scale_low; scale_high = b.scale_high }))
+    (pairs_have_one_feed 0 h.first h.second b.first_fit b.second_fit)

@@ -17,7 +17,7 @@ use Rattle.gj_proof.specs.declared.numbers.Numbers.{Numbers}
 use Rattle.gj_proof.specs.declared.pivot.PivotRow.{PivotRow}
 use Rattle.gj_proof.proofs.ExtremeLines.{extreme_bytes}
 use Rattle.gj_proof.proofs.LineLists.{bytes}
-use Rattle.gj_proof.proofs.WholeNumbers.{text_of_ratio}
+use Rattle.gj_forms.proofs.WholeNumbers.{text_of_ratio}
 
 -- a whole number, printed as the fraction over 1
 pub whole_pushed : {E : Type 0} (r : Result (Unit {0}) E) (o : Option Frac) (x : Frac) (m n : ℤ) (old new : List ℕ) → Fits n → m ≡ n →

@@ -1,15 +1,10 @@
 -- Lists of lines: their names, their bytes and their line feeds.
-use Rattle.std.proofs.Common.{◌≡◌, ◌≢◌, ℕ, ◌+◌, ◌==◌, false, List, [], ◌∷◌, ◌++◌, All, length, map, flat_map, cond, refl, sym, ap, ◌∙◌, arith}
-use Rattle.std.proofs.lemmas.Bool.{ne_eqb}
+use Rattle.std.proofs.Common.{◌≡◌, ◌≢◌, ℕ, List, [], ◌∷◌, ◌++◌, All, length, map, flat_map, refl, sym, ap, ◌∙◌, arith}
 use Rattle.std.proofs.lemmas.List.{append_assoc}
-use Rattle.std.proofs.lemmas.List.Elements.{All-nil, All-cons, All-head, All-tail, All-append, All-weaker}
-use Rattle.gj_frac.specs.declared.Frac.{Frac}
+use Rattle.std.proofs.lemmas.List.Elements.{All-nil, All-cons, All-head, All-tail, All-append}
 use Rattle.gj_lemmas.proofs.Lists.{All-back}
-use Rattle.gj_lex.specs.NumberText.{fraction_text, IsWordByte}
 use Rattle.gj_lex.specs.TextLines.{line_feeds}
 use Rattle.gj_lex.proofs.LineNumbers.{line_feeds_append}
-use Rattle.gj_lex.proofs.WordBytes.{fraction_is_word}
-use Rattle.gj_function_lines.specs.FunctionLines.{line}
 use Rattle.gj_proof.specs.ProofText.{ProofLine, OwnLine}
 
 abbrev pub names : List OwnLine → List ProofLine
@@ -45,27 +40,6 @@ differs_from_those_before (m ∷ a) b l h =
     All-cons (λ k. k ≢ l) m a (λ e. here (sym e)) (differs_from_those_before a b l h.1)
 
 -- ---- line feeds
-
-pub no_feeds : (x : List ℕ) → All (λ b. b ≢ 10) x → line_feeds x ≡ 0
-no_feeds [] h = refl
-no_feeds (b ∷ x) h =
-    let other : (b == 10) ≡ false = ne_eqb b 10 (All-head (λ b. b ≢ 10) b x h) in
-    let first : line_feeds (b ∷ []) ≡ 0 = ap (λ t. 0 + cond t 1 0) other in
-    let rest = no_feeds x (All-tail (λ b. b ≢ 10) b x h) in
-    let none : line_feeds (b ∷ []) + line_feeds x ≡ 0 = omega arith in
-    line_feeds_append (b ∷ []) x ∙ none
-
-pub feeds_of_line : (x : List ℕ) → line_feeds x ≡ 0 → line_feeds (line x) ≡ 1
-feeds_of_line x none = let whole = line_feeds_append x (10 ∷ []) in let feed : line_feeds (10 ∷ []) ≡ 1 = refl in omega arith
-
-pub feeds_of_two : (x y : List ℕ) → line_feeds x ≡ 0 → line_feeds y ≡ 0 → line_feeds (x ++ y) ≡ 0
-feeds_of_two x y h k = let both = line_feeds_append x y in omega arith
-
-pub feeds_of_word : (w : List ℕ) → All IsWordByte w → line_feeds w ≡ 0
-feeds_of_word w h = no_feeds w (All-weaker IsWordByte (λ b. b ≢ 10) (λ b i. i.no_line_feed) w h)
-
-pub feeds_of_fraction : (x : Frac) → line_feeds (fraction_text x) ≡ 0
-feeds_of_fraction x = feeds_of_word (fraction_text x) (fraction_is_word x)
 
 -- the line has one line feed
 abbrev pub HasOneFeed : OwnLine → Type 0

@@ -1,29 +1,31 @@
 -- The numbers of the lines of a proof text.
-use Rattle.std.proofs.Common.{◌≡◌, ◌≢◌, inl, inr, ℕ, zero, suc, ◌+◌, List, [], ◌∷◌, ◌++◌, All, Contains, length, map, flat_map, codes, decimal, Bool, true, false, refl, sym, ap, subst, ◌∙◌, arith, length-append}
+use Rattle.std.proofs.Common.{◌≡◌, ◌≢◌, inl, inr, ℕ, zero, suc, ◌+◌, List, [], ◌∷◌, ◌++◌, All, Contains, length, map, flat_map, codes, refl, sym, ap, subst, ◌∙◌, arith, length-append}
 use Rattle.std.specs.List.{range_with_len}
 use Rattle.std.proofs.lemmas.List.{append_assoc, map-append, length-map}
 use Rattle.std.proofs.lemmas.List.Elements.{All-nil, All-cons, All-head, All-append, All-map}
 use Rattle.std.proofs.lemmas.List.FromFn.{length-map-range_with_len}
 use Rattle.gj_lex.specs.TextLines.{line_feeds}
-use Rattle.gj_lex.specs.NumberText.{fraction_text}
 use Rattle.gj_lex.proofs.LineNumbers.{line_feeds_append}
-use Rattle.gj_lex.proofs.WordBytes.{decimal_is_word}
 use Rattle.gj_shape.specs.FunctionData.{FunctionData, IsWithinBounds}
 use Rattle.gj_shape.specs.declared.violations.Violation.{Violation}
-use Rattle.gj_function_lines.specs.FunctionLines.{line, order_line, place_line, has_no_jump, point_text, point_line, AreFunctionLines}
+use Rattle.gj_function_lines.specs.FunctionLines.{line, order_form, order_line, place_form, place_line, PointNumbers, point_form, numbers_of as printed_numbers, point_line, AreFunctionLines}
+use Rattle.gj_function_lines.specs.FunctionLines.PointNumbers.{one, three}
+use Rattle.gj_forms.specs.LineForms.{Field, bytes_of, form_of}
+use Rattle.gj_forms.proofs.FieldWords.{AreGood}
+use Rattle.gj_forms.proofs.LineFeeds.{one_feed}
+use Rattle.gj_forms.proofs.PlainWords.{known}
 use Rattle.gj_shape.specs.declared.points.Point.{Point}
 use Rattle.gj_shape.proofs.GivenPoints.{count_of_points}
-use Rattle.gj_function_lines.proofs.PointLines.{text_of_one, text_of_three}
 use Rattle.gj_lemmas.specs.FirstThatFails.{IsFirstFailing}
 use Rattle.gj_lemmas.proofs.FirstThatFails.{first_failing, one_first_failing}
 use Rattle.gj_lemmas.proofs.Lists.{All-front, All-back, All-range}
-use Rattle.gj_proof.specs.ProofText.{ProofLine, OwnLine, Subject, function, gmic, IfFunction, IsBounded, title_text, claim_word, subject_of, numbers_of, subject_lines, AreSubjectLines, own_lines, proof_lines_of, HasBytes, HasNumber, violation_line, IsProofText}
+use Rattle.gj_proof.specs.ProofText.{ProofLine, OwnLine, Subject, function, gmic, IfFunction, IsBounded, title_line, claim_line, subject_of, numbers_of, subject_lines, AreSubjectLines, own_lines, proof_lines_of, HasBytes, HasNumber, violation_line, IsProofText}
 use Rattle.gj_proof.specs.ProofText.ProofLine.{title, claim, order, place, point, rule_named, violation_shown, last}
 use Rattle.gj_proof.specs.declared.claim.Claim.{Claim}
 use Rattle.gj_proof.specs.declared.claim.Claim.TheVariants.{Minimal, NotMinimal, Cut, Extreme, ExtremeByResidues, NotExtreme}
 use Rattle.gj_proof.specs.declared.numbers.Numbers.{Numbers}
 use Rattle.gj_proof.specs.declared.numbers.Numbers.TheVariants.{Whole, Residues}
-use Rattle.gj_proof.proofs.LineLists.{names, bytes, bytes_append, Differ, differs_from_those_before, HasOneFeed, feeds_of_own, feeds_of_line, feeds_of_two, feeds_of_word, feeds_of_fraction}
+use Rattle.gj_proof.proofs.LineLists.{names, bytes, bytes_append, Differ, differs_from_those_before, HasOneFeed, feeds_of_own}
 use Rattle.gj_proof.proofs.OwnLines.{own_lines_differ, IsOwn, own_lines_are_own, own_lines_have_one_feed}
 
 -- ---- one number
@@ -96,30 +98,18 @@ number_of_violation f v =
 
 -- ---- line feeds
 
-feeds_of_front : (front x : List ℕ) → line_feeds front ≡ 0 → line_feeds x ≡ 0 → line_feeds (line (front ++ x)) ≡ 1
-feeds_of_front front x none none' = feeds_of_line (front ++ x) (feeds_of_two front x none none')
+feeds_of_fields : (fs : List Field) → AreGood fs → line_feeds (bytes_of fs) ≡ 1
+feeds_of_fields fs good =
+    one_feed (form_of (λ (t : Unit {0}). fs)) (record { of_form = λ t h. tt; good = λ t h. good; one = λ a b h k e. refl }) tt tt
 
-feeds_of_point : (p : Point) → line_feeds (point_text p) ≡ 0
-feeds_of_point p = by (has_no_jump p) refl
-  where
-    by : (b : Bool) → has_no_jump p ≡ b → line_feeds (point_text p) ≡ 0
-    by true e = ap line_feeds (text_of_one p e) ∙ feeds_of_fraction p.value
-    by false e =
-        let l = feeds_of_fraction p.left in
-        let v = feeds_of_fraction p.value in
-        let r = feeds_of_fraction p.right in
-        let a = line_feeds_append (fraction_text p.left) (codes " ") in
-        let b = line_feeds_append (fraction_text p.left ++ codes " ") (fraction_text p.value) in
-        let c = line_feeds_append (fraction_text p.left ++ codes " " ++ fraction_text p.value) (codes " ") in
-        let d = line_feeds_append (fraction_text p.left ++ codes " " ++ fraction_text p.value ++ codes " ") (fraction_text p.right) in
-        let space : line_feeds (codes " ") ≡ 0 = refl in
-        let whole = ap line_feeds (text_of_three p e) in
-        omega arith
+good_point : (n : PointNumbers) → AreGood (point_form.fields n)
+good_point (one x) = (known (codes "point") refl, tt)
+good_point (three p) = (known (codes "point") refl, (tt, (tt, tt)))
 
 feeds_of_points : (points : List Point) → line_feeds (flat_map point_line points) ≡ length points
 feeds_of_points [] = refl
 feeds_of_points (p ∷ points) =
-    let one = feeds_of_front (codes "point ") (point_text p) refl (feeds_of_point p) in
+    let one = feeds_of_fields (point_form.fields (printed_numbers p)) (good_point (printed_numbers p)) in
     let more = feeds_of_points points in
     let both = line_feeds_append (point_line p) (flat_map point_line points) in
     omega arith
@@ -127,9 +117,9 @@ feeds_of_points (p ∷ points) =
 -- the lines of a function are two more than its order
 feeds_of_function : (f : FunctionData) (text : List ℕ) → IsWithinBounds f → AreFunctionLines f text → line_feeds text ≡ f.order + 2
 feeds_of_function f text b l =
-    let order_feeds = feeds_of_front (codes "order ") (decimal f.order) refl
-    (feeds_of_word (decimal f.order) (decimal_is_word f.order (let high = b.order_high in omega arith))) in
-    let place_feeds = feeds_of_front (codes "f ") (fraction_text l.place) refl (feeds_of_fraction l.place) in
+    let order_feeds = feeds_of_fields (order_form.fields f.order)
+    (known (codes "order") refl, (let high = b.order_high in omega arith)) in
+    let place_feeds = feeds_of_fields (place_form.fields l.place) (known (codes "f") refl, tt) in
     let points_feeds = feeds_of_points l.points in
     let count = count_of_points l.points f b l.points_are in
     let first = line_feeds_append (order_line f.order) (place_line l.place) in
@@ -151,16 +141,16 @@ feeds_of_subject gmic text b l = ap line_feeds l
 abbrev pub StandsAt : List ℕ → List ℕ → ℕ → Type 0
 StandsAt text bytes n = (before rest : List ℕ) × (text ≡ before ++ (bytes ++ rest)) × (n ≡ line_feeds before + 1)
 
-feeds_of_title : (n : Numbers) → line_feeds (line (title_text n)) ≡ 1
+feeds_of_title : (n : Numbers) → line_feeds (title_line n) ≡ 1
 feeds_of_title Whole = refl
 feeds_of_title Residues = refl
 
-claim_at : (c : Claim) (text : List ℕ) → IsProofText c text → StandsAt text (line (codes "claim " ++ claim_word c)) 2
+claim_at : (c : Claim) (text : List ℕ) → IsProofText c text → StandsAt text (claim_line c) 2
 claim_at c text p = (
-  line (title_text (numbers_of c)),
+  title_line (numbers_of c),
   p.subject ++ flat_map (λ l. l.bytes) (own_lines c) ++ line (codes "end"),
   p.spelled
-      ∙ regroup (line (title_text (numbers_of c))) (line (codes "claim " ++ claim_word c)) p.subject
+      ∙ regroup (title_line (numbers_of c)) (claim_line c) p.subject
       (flat_map (λ l. l.bytes) (own_lines c)) (line (codes "end")),
   ap (λ k. k + 1) (sym (feeds_of_title (numbers_of c))),
 )
@@ -168,7 +158,7 @@ claim_at c text p = (
     regroup : (a b c d e : List ℕ) → a ++ b ++ c ++ d ++ e ≡ a ++ (b ++ (c ++ d ++ e))
     regroup a b c d e = simp append_assoc
 
-feeds_of_claim : (c : Claim) → line_feeds (line (codes "claim " ++ claim_word c)) ≡ 1
+feeds_of_claim : (c : Claim) → line_feeds (claim_line c) ≡ 1
 feeds_of_claim (Minimal f) = refl
 feeds_of_claim (NotMinimal f v) = refl
 feeds_of_claim (Cut rule rows) = refl
@@ -187,8 +177,8 @@ subject_is_bounded (NotExtreme f h) b = b
 own_at : (c : Claim) (text : List ℕ) (a b : List OwnLine) (l : OwnLine) → IsBounded c → IsProofText c text → own_lines c ≡ a ++ l ∷ b →
     StandsAt text l.bytes (length (subject_lines (subject_of c)) + length a + 3)
 own_at c text a b l within p is =
-    let title_bytes = line (title_text (numbers_of c)) in
-    let claim_bytes = line (codes "claim " ++ claim_word c) in
+    let title_bytes = title_line (numbers_of c) in
+    let claim_bytes = claim_line c in
     let front = title_bytes ++ claim_bytes ++ p.subject ++ bytes a in
     let ones : All HasOneFeed a = All-front HasOneFeed a (l ∷ b) (subst (All HasOneFeed) is (own_lines_have_one_feed c within p.has_text)) in
     let own = feeds_of_own a ones in

@@ -4,7 +4,7 @@ use Rattle.gj_lex.specs.declared.reason.Reason.{Reason}
 use Rattle.gj_lex.proofs.LineNumbers as numbers
 use Rattle.gj_function_lines.specs.FunctionLines.{line}
 use Rattle.gj_function_lines.proofs.OneTextOfLines.{one_text_of_lines}
-use Rattle.gj_proof.specs.ProofText.{IsBounded, subject_of, numbers_of, AreSubjectLines, title_text, claim_word, own_lines, IsProofText}
+use Rattle.gj_proof.specs.ProofText.{IsBounded, subject_of, numbers_of, AreSubjectLines, title_line, claim_line, own_lines, IsProofText}
 use Rattle.gj_proof.specs.ProofGrammar.{proof_text}
 use Rattle.gj_proof.specs.FirstFault.{IsFirstFaultOfProof}
 use Rattle.gj_proof.specs.declared.claim.Claim.{Claim}
@@ -30,7 +30,7 @@ pub one_text : (c : Claim) (s t : List ℕ) → IsBounded c → IsProofText c s 
 one_text c s t b p q =
     let same = one_subject c p.subject q.subject b p.are_subject_lines q.are_subject_lines in
     p.spelled
-    ∙ ap (λ u. line (title_text (numbers_of c)) ++ line (codes "claim " ++ claim_word c) ++ u
+    ∙ ap (λ u. title_line (numbers_of c) ++ claim_line c ++ u
     ++ flat_map (λ l. l.bytes) (own_lines c) ++ line (codes "end")) same
     ∙ sym q.spelled
 

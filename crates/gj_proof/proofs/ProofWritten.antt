@@ -9,7 +9,7 @@ use Rattle.std.proofs.lemmas.Result.{on_ok_weaker}
 use Rattle.gj_shape.specs.FunctionData.{FunctionData}
 use Rattle.gj_shape.specs.declared.extremality.Halves.{Halves}
 use Rattle.gj_function_lines.specs.FunctionLines.{line}
-use Rattle.gj_proof.specs.ProofText.{subject_of, numbers_of, title_text, claim_word, violation_line, own_lines, AreSubjectLines, HasText, IsProofText}
+use Rattle.gj_proof.specs.ProofText.{subject_of, numbers_of, title_line, claim_line, violation_line, own_lines, AreSubjectLines, HasText, IsProofText}
 use Rattle.gj_proof.specs.CutTexts.{row_text}
 use Rattle.gj_proof.specs.ExtremeTexts.{halves_text}
 use Rattle.gj_proof.specs.declared.claim.Claim.{Claim}
@@ -36,7 +36,7 @@ halves_pushed r c f h old new c_is =
 -- the parts of a text
 
 pub proof_written : (c d : Claim) (first second third text : List ℕ) → c ≡ d → HasText d →
-    first ≡ line (title_text (numbers_of c)) ++ line (codes "claim " ++ claim_word c) →
+    first ≡ title_line (numbers_of c) ++ claim_line c →
     (lines : List ℕ) × AreSubjectLines (subject_of c) lines × (second ≡ first ++ lines) →
     third ≡ second ++ bytes (own_lines c) → text ≡ third ++ codes "end\n" → IsProofText d text
 proof_written c d first second third text same has first_is (lines, are, second_is) third_is text_is =

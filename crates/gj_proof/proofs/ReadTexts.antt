@@ -1,11 +1,10 @@
 -- The texts that the part `proof_text` reads are the proof texts of claims.
-use Rattle.std.proofs.Common.{◌≡◌, inl, inr, ℕ, ◌+◌, ◌*◌, List, [], ◌∷◌, ◌++◌, All, length, flat_map, codes, get_or, arith, refl, sym, ap, subst, ◌∙◌}
+use Rattle.std.proofs.Common.{◌≡◌, inl, inr, ℕ, List, [], ◌∷◌, ◌++◌, flat_map, codes, refl, sym, ap, subst, ◌∙◌}
 use Rattle.std.specs.List.{join_with_byte}
 use Rattle.std.proofs.lemmas.List.{append_assoc, append-nil}
 use Rattle.gj_lex.specs.declared.spelling.Spelling.TheVariants.{Strict}
-use Rattle.gj_lex.specs.Parts.{Part, words_rule, line_part, then_part, made_part, end_part, IsExactRule, IsExactPart}
+use Rattle.gj_lex.specs.Parts.{Part, words_rule, line_part, then_part, made_part, end_part, IsExactPart}
 use Rattle.gj_lex.proofs.CanonicalLines.{plain_by_test}
-use Rattle.gj_lex.proofs.StrictLines.{IsPlain}
 use Rattle.gj_lex.proofs.PartLaws.{line_part_is_exact, words_rule_is_exact, then_part_is_exact, then_read_is_exact, made_part_is_exact, end_part_is_exact}
 use Rattle.gj_shape.specs.FunctionData.{FunctionData, IsWithinBounds}
 use Rattle.gj_shape.specs.declared.extremality.CoverLine.{CoverLine}
@@ -13,17 +12,18 @@ use Rattle.gj_shape.specs.declared.extremality.Halves.{Halves}
 use Rattle.gj_shape.specs.declared.violations.Violation.{Violation}
 use Rattle.gj_function_lines.specs.FaceLines.{cover_line}
 use Rattle.gj_function_lines.specs.FunctionLines.{line, AreFunctionLines}
-use Rattle.gj_function_lines.specs.FunctionGrammar.{order_words, function_part}
+use Rattle.gj_function_lines.specs.FunctionGrammar.{function_part}
 use Rattle.gj_function_lines.proofs.CanonicalFunctions.{canonical_lines_are_read}
 use Rattle.gj_function_lines.proofs.ExactFunctions.{function_part_is_exact}
 use Rattle.gj_function_lines.proofs.FunctionRead.{within_bounds}
 use Rattle.gj_function_lines.proofs.StrictFunctions.{strict_lines_are_canonical}
+use Rattle.gj_forms.specs.LineForms.{line_of}
 use Rattle.gj_forms.proofs.LineLaws.{part_is_exact, line_is_read, only_line}
-use Rattle.gj_proof.specs.ProofText.{IfFunction, IsBounded, subject_of_rule, extreme_claim, title_text, modulus_lines, AreSubjectLines, violation_form, violation_line, IsCoverLineBelow, IsPivotRowBelow, IsProofText}
+use Rattle.gj_proof.specs.ProofText.{title_form, numbers_of_word, claim_form, IfFunction, IsBounded, subject_of_rule, extreme_claim, title_line, modulus_lines, AreSubjectLines, violation_form, violation_line, IsProofText}
 use Rattle.gj_proof.specs.CutTexts.{row_text}
 use Rattle.gj_proof.specs.ExtremeTexts.{group_text, halves_text}
 use Rattle.gj_lex.specs.Parts.{BeginsWithLine}
-use Rattle.gj_proof.specs.ProofGrammar.{proof_title_words, title_rule, claim_words, numbers_of_word, claim_rule, form_part, rule_part, rows_part, covered_part, modulus_part, groups_part, halves_part, claim_part, proof_text}
+use Rattle.gj_proof.specs.ProofGrammar.{form_part, rule_part, rows_part, covered_part, modulus_part, groups_part, halves_part, claim_part, proof_text}
 use Rattle.gj_proof.specs.declared.claim.Claim.{Claim}
 use Rattle.gj_proof.specs.declared.claim.Claim.TheVariants as claims
 use Rattle.gj_proof.specs.declared.claim.ClaimWord.{ClaimWord}
@@ -36,20 +36,19 @@ use Rattle.gj_proof.specs.declared.numbers.Numbers.TheVariants.{Whole, Residues}
 use Rattle.gj_proof.specs.declared.pivot.PivotRow.{PivotRow}
 use Rattle.gj_proof.proofs.StrictParts.{line_reads, line_found}
 use Rattle.gj_lex.proofs.WhereLaws.{other_line, begins_so}
-use Rattle.gj_proof.proofs.ClearLines.{violation_is_clear}
+use Rattle.gj_proof.proofs.ClearLines.{title_is_clear, claim_is_clear, violation_is_clear}
 use Rattle.gj_proof.proofs.CutRead.{gmic_words, rule_part_is_exact, gmic_read, table_read}
 use Rattle.gj_proof.proofs.CutTexts.{BeginsEnd, rows_are_exact, rows_are_printed}
 use Rattle.gj_proof.proofs.ExtremeLines.{extreme_bytes, halves_bytes}
 use Rattle.gj_proof.proofs.ExtremeClaims.{IsExtremeText, extreme_text, of_extreme_text, extreme_is_bounded}
 use Rattle.gj_proof.proofs.LineLists.{bytes}
-use Rattle.gj_proof.proofs.ExtremeParts.{covered_part_is_exact, modulus_part_is_exact, groups_part_is_exact, halves_part_is_exact}
-use Rattle.gj_proof.proofs.ExtremeSpelled.{covered_read, covered_found, modulus_read, modulus_found, groups_read, groups_found, halves_read, halves_found}
+use Rattle.gj_proof.proofs.ExtremeTexts.{covered_is_exact, modulus_is_exact, groups_are_exact, halves_are_exact, covered_is_printed, modulus_is_printed, groups_are_printed, halves_are_printed}
 use Rattle.gj_proof.proofs.OwnLines.{row_bytes}
 
 -- ---- the parts of a proof text
 
 abbrev pub title_part : Part Numbers
-title_part = line_part Strict title_rule
+title_part = form_part title_form
 
 abbrev pub last_part : Part (Unit {0})
 last_part = line_part Strict (words_rule (codes "end" ∷ []))
@@ -58,7 +57,7 @@ abbrev pub violation_part : Part Violation
 violation_part = form_part violation_form
 
 abbrev pub word_part : Numbers → Part ClaimWord
-word_part n = line_part Strict (claim_rule n)
+word_part n = form_part (claim_form n)
 
 -- the line of the word and the lines of the claim
 abbrev pub named_claim : Numbers → Part Claim
@@ -73,56 +72,19 @@ after_title n = then_part (named_claim n) after_claim
 
 -- ---- each is exact
 
--- the words of claims are told apart by their lengths and their fifth bytes
-word_number : List (List ℕ) → ℕ
-word_number words = length (get_or words 1 []) * 1000 + get_or (get_or words 1 []) 4 0
-
-one_word : (w v : ClaimWord) → claim_words w ≡ claim_words v → numbers_of_word w ≡ numbers_of_word v → w ≡ v
-unfolding word_number
-one_word Minimal Minimal e h = refl
-one_word NotMinimal NotMinimal e h = refl
-one_word Cut Cut e h = refl
-one_word (Extreme m) (Extreme n) e h = ap Extreme h
-one_word NotExtreme NotExtreme e h = refl
-one_word w v e h = absurd (let n : word_number (claim_words w) ≡ word_number (claim_words v) = ap word_number e in omega arith)
-
-claim_rule_is_exact : (n : Numbers) → IsExactRule (claim_rule n).Spells (claim_rule n).Breaks
-claim_rule_is_exact n = record {
-  one_thing = λ words a b h k. one_word a b (sym h.0 ∙ k.0) (h.1 ∙ sym k.1);
-  one_reason = λ words e d h k. h.0 ∙ sym k.0;
-  not_both = λ words a e h k. k.1 a h.0 h.1;
-}
-
--- titles are told apart by the first byte of their second word
-title_number : List (List ℕ) → ℕ
-title_number words = get_or (get_or words 1 []) 0 0
-
-one_title : (m n : Numbers) → proof_title_words m ≡ proof_title_words n → m ≡ n
-unfolding title_number
-one_title Whole Whole e = refl
-one_title Residues Residues e = refl
-one_title m n e = absurd (let k : title_number (proof_title_words m) ≡ title_number (proof_title_words n) = ap title_number e in omega arith)
-
-title_rule_is_exact : IsExactRule title_rule.Spells title_rule.Breaks
-title_rule_is_exact = record {
-  one_thing = λ words m n h k. one_title m n (sym h ∙ k);
-  one_reason = λ words e d h k. h.0 ∙ sym k.0;
-  not_both = λ words n e h k. k.1 n h;
-}
-
 -- what follows the line of the modulus of a claim that a function is extreme, what follows the lines of covered intervals, and
 -- what follows the function
 abbrev pub makes_extreme : Numbers → FunctionData → List CoverLine → List PivotRow → Claim → Type 0
 makes_extreme n f lines rows c = c ≡ extreme_claim n f lines rows
 
 abbrev pub behind_modulus : Numbers → FunctionData → List CoverLine → Part Claim
-behind_modulus n f lines = made_part (makes_extreme n f lines) (groups_part f.order [])
+behind_modulus n f lines = made_part (makes_extreme n f lines) (groups_part f.order)
 
 abbrev pub behind_cover : Numbers → FunctionData → List CoverLine → Part Claim
 behind_cover n f lines = then_part (modulus_part n) (λ t. behind_modulus n f lines)
 
 abbrev pub behind_function : Numbers → FunctionData → Part Claim
-behind_function n f = then_part (covered_part f.order f.order []) (behind_cover n f)
+behind_function n f = then_part (covered_part f.order) (behind_cover n f)
 
 -- what follows the function of a claim that it is not extreme
 abbrev pub makes_not_extreme : FunctionData → Halves → Claim → Type 0
@@ -149,72 +111,35 @@ claim_part_is_exact (Extreme n) =
     then_read_is_exact (function_part Strict) (behind_function n) (function_part_is_exact Strict)
     (λ text f m h.
     let small = (within_bounds Strict text f m h).order_high in
-    then_part_is_exact (covered_part f.order f.order []) (behind_cover n f) (covered_part_is_exact f.order f.order [] small)
-    (λ lines. then_part_is_exact (modulus_part n) (λ t. behind_modulus n f lines) (modulus_part_is_exact n)
-    (λ t. made_part_is_exact (makes_extreme n f lines) (λ rows c d h k. h ∙ sym k) (groups_part f.order [])
-    (groups_part_is_exact f.order [] small))))
+    then_part_is_exact (covered_part f.order) (behind_cover n f) (covered_is_exact f.order small)
+    (λ lines. then_part_is_exact (modulus_part n) (λ t. behind_modulus n f lines) (modulus_is_exact n)
+    (λ t. made_part_is_exact (makes_extreme n f lines) (λ rows c d h k. h ∙ sym k) (groups_part f.order)
+    (groups_are_exact f.order small))))
 claim_part_is_exact NotExtreme =
     then_part_is_exact (function_part Strict) behind_subject (function_part_is_exact Strict)
-    (λ f. made_part_is_exact (makes_not_extreme f) (λ h c d k l. k ∙ sym l) halves_part halves_part_is_exact)
+    (λ f. made_part_is_exact (makes_not_extreme f) (λ h c d k l. k ∙ sym l) halves_part halves_are_exact)
 
 pub proof_text_is_exact : IsExactPart proof_text.Reads proof_text.Faults
 proof_text_is_exact =
-    then_part_is_exact title_part after_title (line_part_is_exact Strict title_rule title_rule_is_exact)
+    then_part_is_exact title_part after_title (part_is_exact title_form title_is_clear)
     (λ n. then_part_is_exact (named_claim n) after_claim
-    (then_part_is_exact (word_part n) claim_part (line_part_is_exact Strict (claim_rule n) (claim_rule_is_exact n)) claim_part_is_exact)
+    (then_part_is_exact (word_part n) claim_part (part_is_exact (claim_form n) (claim_is_clear n)) claim_part_is_exact)
     (λ c. then_part_is_exact last_part (λ _. end_part Strict c)
     (line_part_is_exact Strict (words_rule (codes "end" ∷ [])) (words_rule_is_exact (codes "end" ∷ [])))
     (λ _. end_part_is_exact Strict c)))
 
 -- ---- the lines as bytes
 
-abbrev title_line : Numbers → List ℕ
-title_line n = line (title_text n)
-
-abbrev claim_line : ClaimWord → List ℕ
-claim_line w = line (join_with_byte 32 (claim_words w))
+abbrev word_line : ClaimWord → List ℕ
+word_line w = line_of (claim_form (numbers_of_word w)) w
 
 abbrev last_line : List ℕ
 last_line = line (codes "end")
-
-claim_is_plain : (w : ClaimWord) → All IsPlain (claim_words w)
-claim_is_plain Minimal = plain_by_test (claim_words Minimal) refl
-claim_is_plain NotMinimal = plain_by_test (claim_words NotMinimal) refl
-claim_is_plain Cut = plain_by_test (claim_words Cut) refl
-claim_is_plain (Extreme n) = plain_by_test (claim_words (Extreme n)) refl
-claim_is_plain NotExtreme = plain_by_test (claim_words NotExtreme) refl
-
-title_reads : (n : Numbers) (rest : List ℕ) → title_part.Reads (title_line n ++ rest) n rest
-title_reads Whole rest =
-    line_reads title_rule (title_line Whole ++ rest) rest (proof_title_words Whole) Whole (λ e. cc) (plain_by_test (proof_title_words Whole) refl) refl refl
-title_reads Residues rest =
-    line_reads title_rule (title_line Residues ++ rest) rest (proof_title_words Residues) Residues (λ e. cc)
-    (plain_by_test (proof_title_words Residues) refl) refl refl
-
-title_found : (n : Numbers) (text rest : List ℕ) → title_part.Reads text n rest → text ≡ title_line n ++ rest
-title_found n text rest h =
-    let (words, is, spelled) = line_found title_rule text rest n h in
-    spelled ∙ ap (λ ws. line (join_with_byte 32 ws) ++ rest) is ∙ ap (λ t. t ++ rest) (spelled_so n)
-  where
-    spelled_so : (n : Numbers) → line (join_with_byte 32 (proof_title_words n)) ≡ title_line n
-    spelled_so Whole = refl
-    spelled_so Residues = refl
 
 last_reads : last_part.Reads last_line tt []
 last_reads =
     line_reads (words_rule (codes "end" ∷ [])) last_line [] (codes "end" ∷ []) tt (λ e. cc)
     (plain_by_test (codes "end" ∷ []) refl) refl (sym (append-nil last_line))
-
-claim_reads : (w : ClaimWord) (rest : List ℕ) → (word_part (numbers_of_word w)).Reads (claim_line w ++ rest) w rest
-claim_reads w rest =
-    line_reads (claim_rule (numbers_of_word w)) (claim_line w ++ rest) rest (claim_words w) w (some w) (claim_is_plain w) (refl, refl) refl
-  where
-    some : (w : ClaimWord) → claim_words w ≡ [] → ⊥
-    some Minimal e = cc
-    some NotMinimal e = cc
-    some Cut e = cc
-    some (Extreme n) e = cc
-    some NotExtreme e = cc
 
 -- ---- the rule of cuts
 
@@ -225,10 +150,10 @@ gmic_reads rest =
 
 -- the lines of a function begin with none of that rule
 no_gmic_line : (text rest : List ℕ) (f : FunctionData) → (function_part Strict).Reads text f rest → BeginsWithLine Strict gmic_words text → ⊥
-no_gmic_line text rest f (q, next, (start, words, strict, (word, is, spelled, order_is)), h) =
-    other_line Strict text start words gmic_words next strict (λ e. not_both word (sym is ∙ e))
+no_gmic_line text rest f (q, next, (start, words, strict, (n, (is, numbers, has), order_is)), h) =
+    other_line Strict text start words gmic_words next strict (λ e. not_both _ (sym is ∙ e))
   where
-    not_both : (word : List ℕ) → order_words word ≡ gmic_words → ⊥
+    not_both : (word : List ℕ) → codes "order" ∷ word ∷ [] ≡ gmic_words → ⊥
     not_both word e = cc
 
 rule_reads : (r : CutRule) (lines rest : List ℕ) → IfFunction (subject_of_rule r) IsWithinBounds →
@@ -248,12 +173,21 @@ end_begins = begins_so Strict last_line [] (codes "end" ∷ []) last_reads
 
 -- the lines of a claim's subject and its own are read, and so is the whole
 whole_reads : (w : ClaimWord) (c : Claim) (inner text : List ℕ) → (claim_part w).Reads inner c last_line →
-    text ≡ title_line (numbers_of_word w) ++ (claim_line w ++ inner) → proof_text.Reads text c []
+    text ≡ title_line (numbers_of_word w) ++ (word_line w ++ inner) → proof_text.Reads text c []
 whole_reads w c inner text reads is =
     let n = numbers_of_word w in
-    let rest = claim_line w ++ inner in
-    let whole : proof_text.Reads (title_line n ++ rest) c [] =
-    (n, rest, title_reads n rest, (c, last_line, (w, inner, claim_reads w inner, reads), (tt, [], last_reads, (refl, refl, refl)))) in
+    let rest = word_line w ++ inner in
+    let whole : proof_text.Reads (title_line n ++ rest) c [] = (
+      n,
+      rest,
+      line_is_read title_form title_is_clear n rest tt,
+      (
+        c,
+        last_line,
+        (w, inner, line_is_read (claim_form n) (claim_is_clear n) w inner refl, reads),
+        (tt, [], last_reads, (refl, refl, refl)),
+      ),
+    ) in
     subst (λ t. proof_text.Reads t c []) (sym is) whole
 
 extreme_is_read : (n : Numbers) (f : FunctionData) (lines : List CoverLine) (rows : List PivotRow) (text : List ℕ) → IsWithinBounds f →
@@ -262,9 +196,7 @@ extreme_is_read n f lines rows text b p =
     let groups = flat_map group_text rows ++ last_line in
     let modulus = bytes (modulus_lines n) in
     let behind = flat_map cover_line lines ++ (modulus ++ groups) in
-    let covered : (covered_part f.order f.order []).Reads behind lines (modulus ++ groups) =
-    subst (λ (n : ℕ). (covered_part f.order n []).Reads behind lines (modulus ++ groups)) p.has_text.0
-    (covered_read f.order [] lines (modulus ++ groups) b.order_high p.has_text.1) in
+    let covered = (covered_is_printed f.order b.order_high).reads lines (modulus ++ groups) (p.has_text.0, p.has_text.1) tt in
     whole_reads (Extreme n) (extreme_claim n f lines rows) (p.subject ++ behind) text (
       f,
       behind,
@@ -273,11 +205,16 @@ extreme_is_read n f lines rows text b p =
         lines,
         modulus ++ groups,
         covered,
-        (tt, groups, modulus_read n groups, (rows, groups_read f.order [] rows last_line b.order_high p.has_text.2 end_begins, refl)),
+        (
+          tt,
+          groups,
+          (modulus_is_printed n).reads tt groups tt tt,
+          (rows, (groups_are_printed f.order b.order_high).reads rows last_line p.has_text.2 end_begins, refl),
+        ),
       ),
     )
-    (p.spelled ∙ ap (λ t. title_line n ++ claim_line (Extreme n) ++ p.subject ++ t ++ last_line) (extreme_bytes n lines rows)
-    ∙ regroup (title_line n) (claim_line (Extreme n)) p.subject (flat_map cover_line lines) modulus (flat_map group_text rows) last_line)
+    (p.spelled ∙ ap (λ t. title_line n ++ word_line (Extreme n) ++ p.subject ++ t ++ last_line) (extreme_bytes n lines rows)
+    ∙ regroup (title_line n) (word_line (Extreme n)) p.subject (flat_map cover_line lines) modulus (flat_map group_text rows) last_line)
   where
     regroup : (a b c d m e g : List ℕ) → a ++ b ++ c ++ (d ++ (m ++ e)) ++ g ≡ a ++ (b ++ (c ++ (d ++ (m ++ (e ++ g)))))
     regroup a b c d m e g = simp append_assoc
@@ -286,7 +223,7 @@ pub text_is_read : (c : Claim) (text : List ℕ) → IsBounded c → IsProofText
 text_is_read (claims.Minimal f) text b p =
     whole_reads Minimal (claims.Minimal f) (p.subject ++ last_line) text
     (f, canonical_lines_are_read Strict f p.subject last_line b p.are_subject_lines, refl)
-    (p.spelled ∙ regroup (title_line Whole) (claim_line Minimal) p.subject last_line)
+    (p.spelled ∙ regroup (title_line Whole) (word_line Minimal) p.subject last_line)
   where
     regroup : (a b c d : List ℕ) → a ++ b ++ c ++ [] ++ d ≡ a ++ (b ++ (c ++ d))
     regroup a b c d = simp (append-nil, append_assoc)
@@ -297,7 +234,7 @@ text_is_read (claims.NotMinimal f v) text b p =
       canonical_lines_are_read Strict f p.subject (violation_line v ++ last_line) b p.are_subject_lines,
       (v, line_is_read violation_form violation_is_clear v last_line tt, refl),
     )
-    (p.spelled ∙ regroup (title_line Whole) (claim_line NotMinimal) p.subject (violation_line v) last_line)
+    (p.spelled ∙ regroup (title_line Whole) (word_line NotMinimal) p.subject (violation_line v) last_line)
   where
     regroup : (a b c d e : List ℕ) → a ++ b ++ c ++ (d ++ []) ++ e ≡ a ++ (b ++ (c ++ (d ++ e)))
     regroup a b c d e = simp (append-nil, append_assoc)
@@ -305,8 +242,8 @@ text_is_read (claims.Cut rule rows) text b p =
     let behind = flat_map row_text rows ++ last_line in
     whole_reads Cut (claims.Cut rule rows) (p.subject ++ behind) text
     (rule, behind, rule_reads rule p.subject behind b.0 p.are_subject_lines, (rows, rows_are_printed.reads rows last_line b.1 end_begins, refl))
-    (p.spelled ∙ ap (λ t. title_line Whole ++ claim_line Cut ++ p.subject ++ t ++ last_line) (row_bytes 0 rows)
-    ∙ regroup (title_line Whole) (claim_line Cut) p.subject (flat_map row_text rows) last_line)
+    (p.spelled ∙ ap (λ t. title_line Whole ++ word_line Cut ++ p.subject ++ t ++ last_line) (row_bytes 0 rows)
+    ∙ regroup (title_line Whole) (word_line Cut) p.subject (flat_map row_text rows) last_line)
   where
     regroup : (a b c d e : List ℕ) → a ++ b ++ c ++ d ++ e ≡ a ++ (b ++ (c ++ (d ++ e)))
     regroup a b c d e = simp append_assoc
@@ -319,10 +256,10 @@ text_is_read (claims.NotExtreme f h) text b p =
       f,
       behind,
       canonical_lines_are_read Strict f p.subject behind b p.are_subject_lines,
-      (h, halves_read h last_line p.has_text, refl),
+      (h, halves_are_printed.reads h last_line p.has_text tt, refl),
     )
-    (p.spelled ∙ ap (λ t. title_line Whole ++ claim_line NotExtreme ++ p.subject ++ t ++ last_line) (halves_bytes h)
-    ∙ regroup (title_line Whole) (claim_line NotExtreme) p.subject (halves_text h) last_line)
+    (p.spelled ∙ ap (λ t. title_line Whole ++ word_line NotExtreme ++ p.subject ++ t ++ last_line) (halves_bytes h)
+    ∙ regroup (title_line Whole) (word_line NotExtreme) p.subject (halves_text h) last_line)
   where
     regroup : (a b c d e : List ℕ) → a ++ b ++ c ++ d ++ e ≡ a ++ (b ++ (c ++ (d ++ e)))
     regroup a b c d e = simp append_assoc
@@ -358,7 +295,7 @@ rule_found text rest r (inr (not, (f, h, r_is))) =
     subst (λ (r : CutRule). RuleFound r text rest) (sym r_is) found
 
 claim_found : (w : ClaimWord) (c : Claim) (text inner rest : List ℕ) → (claim_part w).Reads inner c rest →
-    text ≡ title_line (numbers_of_word w) ++ (claim_line w ++ inner) → rest ≡ last_line → IsBounded c × IsProofText c text
+    text ≡ title_line (numbers_of_word w) ++ (word_line w ++ inner) → rest ≡ last_line → IsBounded c × IsProofText c text
 claim_found Minimal c text inner rest (f, reads, c_is) is rest_is =
     let (within, bytes, lines, inner_is) = function_found inner f rest reads in
     let P : Claim → Type 0 = λ d. IsBounded d × IsProofText d text in
@@ -368,8 +305,8 @@ claim_found Minimal c text inner rest (f, reads, c_is) is rest_is =
         has_text = tt;
         subject = bytes;
         are_subject_lines = lines;
-        spelled = is ∙ ap (λ t. title_line Whole ++ (claim_line Minimal ++ t)) (inner_is ∙ ap (λ t. bytes ++ t) rest_is)
-            ∙ regroup (title_line Whole) (claim_line Minimal) bytes last_line;
+        spelled = is ∙ ap (λ t. title_line Whole ++ (word_line Minimal ++ t)) (inner_is ∙ ap (λ t. bytes ++ t) rest_is)
+            ∙ regroup (title_line Whole) (word_line Minimal) bytes last_line;
       },
     )
   where
@@ -386,9 +323,9 @@ claim_found NotMinimal c text inner rest (f, middle, reads, (v, shown, c_is)) is
         subject = bytes;
         are_subject_lines = lines;
         spelled = is
-            ∙ ap (λ t. title_line Whole ++ (claim_line NotMinimal ++ t))
+            ∙ ap (λ t. title_line Whole ++ (word_line NotMinimal ++ t))
             (inner_is ∙ ap (λ t. bytes ++ t) (middle_is ∙ ap (λ t. violation_line v ++ t) rest_is))
-            ∙ regroup (title_line Whole) (claim_line NotMinimal) bytes (violation_line v) last_line;
+            ∙ regroup (title_line Whole) (word_line NotMinimal) bytes (violation_line v) last_line;
       },
     )
   where
@@ -406,9 +343,9 @@ claim_found Cut c text inner rest (rule, middle, reads, (rows, more, c_is)) is r
         subject = subject.lines;
         are_subject_lines = subject.are_lines;
         spelled = is
-            ∙ ap (λ t. title_line Whole ++ (claim_line Cut ++ t)) (subject.spelled ∙ ap (λ t. subject.lines ++ t) own)
-            ∙ regroup (title_line Whole) (claim_line Cut) subject.lines (flat_map row_text rows) last_line
-            ∙ ap (λ t. title_line Whole ++ claim_line Cut ++ subject.lines ++ t ++ last_line) (sym (row_bytes 0 rows));
+            ∙ ap (λ t. title_line Whole ++ (word_line Cut ++ t)) (subject.spelled ∙ ap (λ t. subject.lines ++ t) own)
+            ∙ regroup (title_line Whole) (word_line Cut) subject.lines (flat_map row_text rows) last_line
+            ∙ ap (λ t. title_line Whole ++ word_line Cut ++ subject.lines ++ t ++ last_line) (sym (row_bytes 0 rows));
       },
     )
   where
@@ -416,26 +353,23 @@ claim_found Cut c text inner rest (rule, middle, reads, (rows, more, c_is)) is r
     regroup a b c d e = simp append_assoc
 claim_found (Extreme n) c text inner rest (f, middle, reads, (lines, behind, covered, (t, groups, modulus_reads, (rows, more, c_is)))) is rest_is =
     let (within, function, subject, inner_is) = function_found inner f middle reads in
-    let cover = covered_found f.order f.order [] lines middle behind covered in
+    let small = within.order_high in
+    let cover = (covered_is_printed f.order small).found middle behind lines covered in
     let modulus = bytes (modulus_lines n) in
-    let found = groups_found f.order rows rest [] groups more in
+    let found = (groups_are_printed f.order small).found groups rest rows more in
     let P : Claim → Type 0 = λ d. IsBounded d × IsProofText d text in
-    let count : length lines ≡ f.order = ap length cover.all_are ∙ cover.count in
-    let lines_below : All (IsCoverLineBelow f.order) lines = subst (All (IsCoverLineBelow f.order)) (sym cover.all_are) cover.below in
-    let rows_below : All (IsPivotRowBelow f.order) rows = subst (All (IsPivotRowBelow f.order)) (sym found.all_are) found.below in
-    let groups_are : groups ≡ flat_map group_text rows ++ last_line =
-    found.spelled ∙ ap (λ rs. flat_map group_text rs ++ rest) (sym found.all_are) ∙ ap (λ t. flat_map group_text rows ++ t) rest_is in
+    let groups_are : groups ≡ flat_map group_text rows ++ last_line = found.0 ∙ ap (λ t. flat_map group_text rows ++ t) rest_is in
     let own : middle ≡ flat_map cover_line lines ++ (modulus ++ (flat_map group_text rows ++ last_line)) =
-    cover.spelled ∙ ap (λ ls. flat_map cover_line ls ++ behind) (sym cover.all_are)
-    ∙ ap (λ t. flat_map cover_line lines ++ t) (modulus_found n behind groups t modulus_reads ∙ ap (λ u. modulus ++ u) groups_are) in
+    cover.0 ∙ ap (λ t. flat_map cover_line lines ++ t)
+    (((modulus_is_printed n).found behind groups t modulus_reads).0 ∙ ap (λ u. modulus ++ u) groups_are) in
     let whole : IsExtremeText n f lines rows text = record {
-      has_text = (count, lines_below, rows_below);
+      has_text = (cover.1.0, cover.1.1, found.1);
       subject = function;
       are_subject_lines = subject;
       spelled = is
-          ∙ ap (λ t. title_line n ++ (claim_line (Extreme n) ++ t)) (inner_is ∙ ap (λ t. function ++ t) own)
-          ∙ regroup (title_line n) (claim_line (Extreme n)) function (flat_map cover_line lines) modulus (flat_map group_text rows) last_line
-          ∙ ap (λ t. title_line n ++ claim_line (Extreme n) ++ function ++ t ++ last_line) (sym (extreme_bytes n lines rows));
+          ∙ ap (λ t. title_line n ++ (word_line (Extreme n) ++ t)) (inner_is ∙ ap (λ t. function ++ t) own)
+          ∙ regroup (title_line n) (word_line (Extreme n)) function (flat_map cover_line lines) modulus (flat_map group_text rows) last_line
+          ∙ ap (λ t. title_line n ++ word_line (Extreme n) ++ function ++ t ++ last_line) (sym (extreme_bytes n lines rows));
     } in
     subst P (sym c_is) (extreme_is_bounded f lines rows n within, extreme_text f lines rows n text whole)
   where
@@ -443,7 +377,7 @@ claim_found (Extreme n) c text inner rest (f, middle, reads, (lines, behind, cov
     regroup a b c d m e g = simp append_assoc
 claim_found NotExtreme c text inner rest (f, middle, reads, (h, shown, c_is)) is rest_is =
     let (within, bytes, subject, inner_is) = function_found inner f middle reads in
-    let found = halves_found middle rest h shown in
+    let found = halves_are_printed.found middle rest h shown in
     let P : Claim → Type 0 = λ d. IsBounded d × IsProofText d text in
     subst P (sym c_is) (
       within,
@@ -452,10 +386,10 @@ claim_found NotExtreme c text inner rest (f, middle, reads, (h, shown, c_is)) is
         subject = bytes;
         are_subject_lines = subject;
         spelled = is
-            ∙ ap (λ t. title_line Whole ++ (claim_line NotExtreme ++ t))
+            ∙ ap (λ t. title_line Whole ++ (word_line NotExtreme ++ t))
             (inner_is ∙ ap (λ t. bytes ++ t) (found.0 ∙ ap (λ t. halves_text h ++ t) rest_is))
-            ∙ regroup (title_line Whole) (claim_line NotExtreme) bytes (halves_text h) last_line
-            ∙ ap (λ t. title_line Whole ++ claim_line NotExtreme ++ bytes ++ t ++ last_line) (sym (halves_bytes h));
+            ∙ regroup (title_line Whole) (word_line NotExtreme) bytes (halves_text h) last_line
+            ∙ ap (λ t. title_line Whole ++ word_line NotExtreme ++ bytes ++ t ++ last_line) (sym (halves_bytes h));
       },
     )
   where
@@ -465,11 +399,12 @@ claim_found NotExtreme c text inner rest (f, middle, reads, (h, shown, c_is)) is
 pub read_is_text : (c : Claim) (text : List ℕ) → proof_text.Reads text c [] → IsBounded c × IsProofText c text
 read_is_text c text
     (n, m, title, (d, rest, (w, inner, word, reads), (u, left, end, (c_is, nil, nothing)))) =
-    let (words, (words_are, numbers_are), m_is) = line_found (claim_rule n) m inner w word in
+    let claimed = only_line (claim_form n) (claim_is_clear n) m inner w word in
+    let numbers_are = claimed.1 in
     let (end_words, end_is, rest_is) = line_found (words_rule (codes "end" ∷ [])) rest left u end in
-    let whole : text ≡ title_line (numbers_of_word w) ++ (claim_line w ++ inner) =
-    title_found n text m title ∙ ap (λ k. title_line k ++ m) (sym numbers_are)
-    ∙ ap (λ t. title_line (numbers_of_word w) ++ t) (m_is ∙ ap (λ ws. line (join_with_byte 32 ws) ++ inner) words_are) in
+    let whole : text ≡ title_line (numbers_of_word w) ++ (word_line w ++ inner) =
+    (only_line title_form title_is_clear text m n title).0 ∙ ap (λ k. title_line k ++ m) (sym numbers_are)
+    ∙ ap (λ t. title_line (numbers_of_word w) ++ t) claimed.0 in
     let last_is : rest ≡ last_line =
     rest_is ∙ ap (λ ws. line (join_with_byte 32 ws) ++ left) end_is ∙ ap (λ t. last_line ++ t) nothing ∙ append-nil last_line in
     let P : Claim → Type 0 = λ a. IsBounded a × IsProofText a text in

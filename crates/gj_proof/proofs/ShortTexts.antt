@@ -19,10 +19,12 @@ use Rattle.gj_shape.specs.declared.faces.FaceKind.TheVariants.{Vertex, Horizonta
 use Rattle.gj_shape.specs.declared.violations.Violation.{Violation}
 use Rattle.gj_shape.specs.declared.violations.Violation.TheVariants as violation
 use Rattle.gj_theory.specs.Modulus.{modulus}
-use Rattle.gj_function_lines.specs.FaceLines.{face_word, face_text, cover_line}
+use Rattle.gj_function_lines.specs.FaceLines.{face_word, cover_line}
+use Rattle.gj_forms.specs.LineForms.{Field, bytes_of}
+use Rattle.gj_forms.specs.LineForms.Field.{word, count}
 use Rattle.gj_function_lines.specs.FunctionLines.{line}
 use Rattle.gj_function_lines.proofs.StrictFunctions.{function_lines_are_short}
-use Rattle.gj_proof.specs.ProofText.{IsBounded, IsShort, own_lines, title_text, modulus_line, modulus_lines, extreme_lines, violation_line, group_line, reduction_line, pivot_line, halves_line, pair_line, IsCoverLineBelow, IsRowNameBelow, IsPivotRowBelow, HaveFewSteps, IsProofText}
+use Rattle.gj_proof.specs.ProofText.{IsBounded, IsShort, own_lines, title_line, modulus_line, modulus_lines, extreme_lines, violation_line, group_line, reduction_line, pivot_line, halves_line, pair_line, IsCoverLineBelow, IsRowNameBelow, IsPivotRowBelow, HaveFewSteps, IsProofText}
 use Rattle.gj_proof.specs.ExtremeTexts.{group_text, halves_text}
 use Rattle.gj_proof.specs.declared.claim.Claim.{Claim}
 use Rattle.gj_proof.specs.declared.claim.Claim.TheVariants.{Minimal, NotMinimal, Cut, Extreme, ExtremeByResidues, NotExtreme}
@@ -32,10 +34,7 @@ use Rattle.gj_proof.specs.declared.pivot.PivotRow.{PivotRow}
 use Rattle.gj_proof.proofs.LineLists.{bytes}
 use Rattle.gj_proof.proofs.ExtremeClaims.{IsExtremeText, of_extreme_text}
 use Rattle.gj_proof.proofs.ExtremeLines.{extreme_bytes, halves_bytes}
-use Rattle.gj_proof.proofs.WholeNumbers.{whole_is_short}
-
-line_is_long : (a b : List ℕ) → length (line (a ++ b)) ≡ length a + length b + 1
-line_is_long a b = omega (arith, length-append (a ++ b) (10 ∷ []), length-append a b)
+use Rattle.gj_forms.proofs.WholeNumbers.{whole_is_short}
 
 violation_is_short : (v : Violation) → length (violation_line v) ≤ 176
 violation_is_short violation.Zero = omega arith
@@ -58,9 +57,8 @@ pair_is_short p x y =
       arith,
       whole_is_short p.0 x,
       whole_is_short p.1 y,
-      line_is_long (codes "pair " ++ signed_decimal p.0 ++ codes " ") (signed_decimal p.1),
-      length-append (codes "pair " ++ signed_decimal p.0) (codes " "),
-      length-append (codes "pair ") (signed_decimal p.0),
+      length-append (signed_decimal p.0) (32 ∷ (signed_decimal p.1 ++ 10 ∷ [])),
+      length-append (signed_decimal p.1) (10 ∷ []),
     )
 
 pairs_are_short : (first second : List ℤ) → All Fits first → All Fits second →
@@ -86,9 +84,8 @@ halves_are_short h b =
       whole_is_short h.scale (omega (arith, ints)),
       count_is_short h.order (omega arith),
       pairs_are_short h.first h.second b.first_fit b.second_fit,
-      line_is_long (codes "halves " ++ decimal h.order ++ codes " ") (signed_decimal h.scale),
-      length-append (codes "halves " ++ decimal h.order) (codes " "),
-      length-append (codes "halves ") (decimal h.order),
+      length-append (decimal h.order) (32 ∷ (signed_decimal h.scale ++ 10 ∷ [])),
+      length-append (signed_decimal h.scale) (10 ∷ []),
       length-append (halves_line h) (flat_map pair_line (zip h.first h.second)),
     )
 
@@ -139,6 +136,10 @@ face_word_is_short Diagonal = omega arith
 face_word_is_short Lower = omega arith
 face_word_is_short Upper = omega arith
 
+-- the bytes of the fields behind others
+abbrev bytes_behind : List Field → List ℕ
+bytes_behind fields = 32 ∷ bytes_of fields
+
 cover_is_short : (q : ℕ) (l : CoverLine) → q ≤ 1000 → IsCoverLineBelow q l → length (cover_line l) ≤ 61
 cover_is_short q l small h =
     let interval = h.interval in
@@ -152,15 +153,11 @@ cover_is_short q l small h =
       count_is_short l.face.a (omega arith),
       count_is_short l.face.b (omega arith),
       face_word_is_short l.face.kind,
-      line_is_long (codes "cover " ++ decimal l.interval ++ codes " " ++ decimal l.from ++ codes " ") (face_text l.face),
-      length-append (codes "cover " ++ decimal l.interval ++ codes " " ++ decimal l.from) (codes " "),
-      length-append (codes "cover " ++ decimal l.interval ++ codes " ") (decimal l.from),
-      length-append (codes "cover " ++ decimal l.interval) (codes " "),
-      length-append (codes "cover ") (decimal l.interval),
-      length-append (face_word l.face.kind ++ codes " " ++ decimal l.face.a ++ codes " ") (decimal l.face.b),
-      length-append (face_word l.face.kind ++ codes " " ++ decimal l.face.a) (codes " "),
-      length-append (face_word l.face.kind ++ codes " ") (decimal l.face.a),
-      length-append (face_word l.face.kind) (codes " "),
+      length-append (decimal l.interval) (bytes_behind (count l.from ∷ word (face_word l.face.kind) ∷ count l.face.a ∷ count l.face.b ∷ [])),
+      length-append (decimal l.from) (bytes_behind (word (face_word l.face.kind) ∷ count l.face.a ∷ count l.face.b ∷ [])),
+      length-append (face_word l.face.kind) (bytes_behind (count l.face.a ∷ count l.face.b ∷ [])),
+      length-append (decimal l.face.a) (bytes_behind (count l.face.b ∷ [])),
+      length-append (decimal l.face.b) (10 ∷ []),
     )
 
 covers_are_short : (q : ℕ) (lines : List CoverLine) → q ≤ 1000 → All (IsCoverLineBelow q) lines →
@@ -182,9 +179,8 @@ row_name_is_short q (Pair a b) small h =
       arith,
       count_is_short a (omega (arith, h.1, h.2)),
       count_is_short b (omega (arith, h.2)),
-      line_is_long (codes "row ") (decimal a ++ codes " " ++ decimal b),
-      length-append (decimal a ++ codes " ") (decimal b),
-      length-append (decimal a) (codes " "),
+      length-append (decimal a) (32 ∷ (decimal b ++ 10 ∷ [])),
+      length-append (decimal b) (10 ∷ []),
     )
 
 -- a column has three digits at most
@@ -198,7 +194,7 @@ steps_are_short (c ∷ columns) h =
       arith,
       column_is_short c (All-head (λ c. c < 1000) c columns h),
       steps_are_short columns (All-tail (λ c. c < 1000) c columns h),
-      line_is_long (codes "reduce ") (decimal c),
+      length-append (decimal c) (10 ∷ []),
       length-append (reduction_line c) (flat_map reduction_line columns),
     )
 
@@ -209,7 +205,7 @@ group_is_short q row small h few =
       row_name_is_short q row.name small h.name,
       steps_are_short row.reduce h.reduce,
       column_is_short row.pivot h.pivot,
-      line_is_long (codes "pivot ") (decimal row.pivot),
+      length-append (decimal row.pivot) (10 ∷ []),
       length-append (group_line row.name ++ flat_map reduction_line row.reduce) (pivot_line row.pivot),
       length-append (group_line row.name) (flat_map reduction_line row.reduce),
     )
@@ -225,7 +221,7 @@ groups_are_short q (row ∷ rows) small h few =
       length-append (group_text row) (flat_map group_text rows),
     )
 
-title_is_short : (n : Numbers) → length (line (title_text n)) ≤ 11
+title_is_short : (n : Numbers) → length (title_line n) ≤ 11
 title_is_short Whole = omega arith
 title_is_short Residues = omega arith
 
@@ -235,7 +231,7 @@ modulus_is_short Residues =
     omega (
       arith,
       length-append modulus_line [],
-      line_is_long (codes "modulus ") (decimal modulus),
+      length-append (decimal modulus) (10 ∷ []),
       length-decimal-le_wide 19 modulus (omega arith) (omega arith) (lit< tt),
     )
 
@@ -249,7 +245,7 @@ extreme_text_is_short_by n f lines rows text b few p =
       arith,
       ap length p.spelled,
       ap length (extreme_bytes n lines rows),
-      text_is_long (line (title_text n)) (line (codes "claim extreme")) p.subject (bytes (extreme_lines n lines rows))
+      text_is_long (title_line n) (line (codes "claim extreme")) p.subject (bytes (extreme_lines n lines rows))
           (line (codes "end")),
       length-append (flat_map cover_line lines) (bytes (modulus_lines n) ++ flat_map group_text rows),
       length-append (bytes (modulus_lines n)) (flat_map group_text rows),

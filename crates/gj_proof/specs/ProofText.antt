@@ -1,13 +1,13 @@
 -- The one spelling of a proof (own).
-use Rattle.std.specs.Prelude.{ℕ, ℤ, ◌≡◌, ◌≢◌, ◌⊎◌, ◌+◌, ◌<◌, ◌≤◌, List, [], ◌∷◌, ◌++◌, All, Contains, length, map, flat_map, zip, codes, decimal}
-use Rattle.std.specs.Fmt.{signed_decimal}
+use Rattle.std.specs.Prelude.{ℕ, ℤ, pos, ◌≡◌, ◌≢◌, ◌⊎◌, ◌+◌, ◌<◌, ◌≤◌, ◌≤ℤ◌, List, [], ◌∷◌, ◌++◌, All, Contains, length, map, flat_map, zip, codes}
 use Rattle.std.specs.List.{range_with_len}
 use Rattle.gj_shape.specs.Perturbation.{AreHalvesInBounds}
+use Rattle.gj_frac.specs.Fraction.{Fits}
 use Rattle.gj_frac.specs.declared.Frac.{Frac}
 use Rattle.gj_lex.specs.Name.{IsName}
-use Rattle.gj_forms.specs.LineForms.{Field, LineForm, line_of}
-use Rattle.gj_forms.specs.LineForms.Field.{word, fraction}
-use Rattle.gj_shape.specs.Limits.{greatest_order}
+use Rattle.gj_forms.specs.LineForms.{Field, bytes_of, LineForm, form_of, line_of}
+use Rattle.gj_forms.specs.LineForms.Field.{word, fraction, count, whole}
+use Rattle.gj_shape.specs.Limits.{greatest_order, greatest_halves_order, greatest_halves_scale}
 use Rattle.gj_shape.specs.FunctionData.{FunctionData, IsWithinBounds}
 use Rattle.gj_shape.specs.declared.extremality.CoverLine.{CoverLine}
 use Rattle.gj_shape.specs.declared.extremality.Halves.{Halves}
@@ -16,11 +16,13 @@ use Rattle.gj_shape.specs.declared.extremality.RowName.TheVariants.{Period, F, P
 use Rattle.gj_shape.specs.declared.faces.FaceKind.TheVariants.{Vertex}
 use Rattle.gj_shape.specs.declared.violations.Violation.{Violation}
 use Rattle.gj_shape.specs.declared.violations.Violation.TheVariants as violation
-use Rattle.gj_function_lines.specs.FaceLines.{cover_line}
+use Rattle.gj_function_lines.specs.FaceLines.{cover_fields, cover_line}
 use Rattle.gj_function_lines.specs.FunctionLines.{line, AreFunctionLines}
 use Rattle.gj_proof.specs.declared.claim.Claim.{Claim}
 use Rattle.gj_theory.specs.Modulus.{modulus}
 use Rattle.gj_proof.specs.declared.claim.Claim.TheVariants.{Minimal, NotMinimal, Cut, Extreme, ExtremeByResidues, NotExtreme}
+use Rattle.gj_proof.specs.declared.claim.ClaimWord.{ClaimWord}
+use Rattle.gj_proof.specs.declared.claim.ClaimWord.TheVariants as words
 use Rattle.gj_proof.specs.declared.cut.CutRule.{CutRule}
 use Rattle.gj_proof.specs.declared.cut.CutRule.TheVariants.{Gmic, Table}
 use Rattle.gj_proof.specs.declared.cut.CutLine.{CutLine}
@@ -31,6 +33,7 @@ use Rattle.gj_proof.specs.declared.cut.SkipReason.TheVariants.{Integral, Other}
 use Rattle.gj_proof.specs.declared.cut_rows.RowHead.{RowHead}
 use Rattle.gj_proof.specs.declared.cut_rows.RowKind.{RowKind}
 use Rattle.gj_proof.specs.declared.cut_rows.RowKind.TheVariants.{WithCut, Skipped}
+use Rattle.gj_proof.specs.declared.halves.HalvesHead.{HalvesHead}
 use Rattle.gj_proof.specs.declared.numbers.Numbers.{Numbers}
 use Rattle.gj_proof.specs.declared.numbers.Numbers.TheVariants.{Whole, Residues}
 use Rattle.gj_proof.specs.declared.pivot.PivotRow.{PivotRow}
@@ -86,15 +89,6 @@ IsShort (Extreme f lines rows) = ⊥
 IsShort (ExtremeByResidues f lines rows) = ⊥
 IsShort (NotExtreme f halves) = Unit {0}
 
--- the numbers of the rows of a claim: residues, if it says so, and else whole numbers
-abbrev pub numbers_of : Claim → Numbers
-numbers_of (Minimal f) = Whole
-numbers_of (NotMinimal f v) = Whole
-numbers_of (Cut rule rows) = Whole
-numbers_of (Extreme f lines rows) = Whole
-numbers_of (ExtremeByResidues f lines rows) = Residues
-numbers_of (NotExtreme f halves) = Whole
-
 -- the claim that a function is extreme, by rows of these numbers
 abbrev pub extreme_claim : Numbers → FunctionData → List CoverLine → List PivotRow → Claim
 extreme_claim Whole f lines rows = Extreme f lines rows
@@ -102,19 +96,58 @@ extreme_claim Residues f lines rows = ExtremeByResidues f lines rows
 
 -- ---- the lines of a claim
 
--- the first line of a text: `gj-proof 1`, or of a claim by residues `gj-proof 2`
-abbrev pub title_text : Numbers → List ℕ
-title_text Whole = codes "gj-proof 1"
-title_text Residues = codes "gj-proof 2"
+-- `gj-proof 1`, or of a claim by residues `gj-proof 2`
+abbrev pub title_number : Numbers → List ℕ
+title_number Whole = codes "1"
+title_number Residues = codes "2"
+
+abbrev pub title_form : LineForm Numbers
+title_form = form_of (λ n. word (codes "gj-proof") ∷ word (title_number n) ∷ [])
+
+abbrev pub title_line : Numbers → List ℕ
+title_line = line_of title_form
+
+-- `claim W`, in a text of these numbers
+abbrev pub claim_word_text : ClaimWord → List ℕ
+claim_word_text words.Minimal = codes "minimal"
+claim_word_text words.NotMinimal = codes "not-minimal"
+claim_word_text words.Cut = codes "cut"
+claim_word_text (words.Extreme numbers) = codes "extreme"
+claim_word_text words.NotExtreme = codes "not-extreme"
+
+-- the numbers of the texts in which a claim of the word stands
+abbrev pub numbers_of_word : ClaimWord → Numbers
+numbers_of_word words.Minimal = Whole
+numbers_of_word words.NotMinimal = Whole
+numbers_of_word words.Cut = Whole
+numbers_of_word (words.Extreme numbers) = numbers
+numbers_of_word words.NotExtreme = Whole
+
+abbrev pub claim_form : Numbers → LineForm ClaimWord
+claim_form numbers = record {
+  fields = λ w. word (codes "claim") ∷ word (claim_word_text w) ∷ [];
+  HasForm = λ w. numbers_of_word w ≡ numbers;
+  HasLine = λ w. numbers_of_word w ≡ numbers;
+}
 
 -- the word of a claim
+abbrev pub word_of_claim : Claim → ClaimWord
+word_of_claim (Minimal f) = words.Minimal
+word_of_claim (NotMinimal f v) = words.NotMinimal
+word_of_claim (Cut rule rows) = words.Cut
+word_of_claim (Extreme f lines rows) = words.Extreme Whole
+word_of_claim (ExtremeByResidues f lines rows) = words.Extreme Residues
+word_of_claim (NotExtreme f halves) = words.NotExtreme
+
 abbrev pub claim_word : Claim → List ℕ
-claim_word (Minimal f) = codes "minimal"
-claim_word (NotMinimal f v) = codes "not-minimal"
-claim_word (Cut rule rows) = codes "cut"
-claim_word (Extreme f lines rows) = codes "extreme"
-claim_word (ExtremeByResidues f lines rows) = codes "extreme"
-claim_word (NotExtreme f halves) = codes "not-extreme"
+claim_word c = claim_word_text (word_of_claim c)
+
+-- the numbers of the rows of a claim: residues, if it says so, and else whole numbers
+abbrev pub numbers_of : Claim → Numbers
+numbers_of c = numbers_of_word (word_of_claim c)
+
+abbrev pub claim_line : Claim → List ℕ
+claim_line c = line_of (claim_form (numbers_of c)) (word_of_claim c)
 
 -- a line of a proof text, by its place in the form: of a claim about cuts, the line of the i-th row, and that of the j-th term of
 -- the i-th row; of an extreme function, the line of the i-th covered interval, that of the modulus, the first line of the g-th
@@ -161,7 +194,7 @@ violation_fields (violation.Asymmetric x) = word (codes "asymmetric") ∷ fracti
 violation_fields (violation.Superadditive x y) = word (codes "superadditive") ∷ fraction x ∷ fraction y ∷ []
 
 abbrev pub violation_form : LineForm Violation
-violation_form = record { fields = violation_fields; HasForm = λ v. Unit {0}; HasLine = λ v. Unit {0} }
+violation_form = form_of violation_fields
 
 abbrev pub violation_line : Violation → List ℕ
 violation_line = line_of violation_form
@@ -221,22 +254,49 @@ row_lines i (l ∷ more) = record { name = cut i; bytes = row_line l } ∷ term_
 
 -- ---- the lines of an extreme function
 
+-- the intervals and the square of a line of a covered interval are below the order, and its face is no vertex
+pub record IsCoverLineBelow (q : ℕ) (l : CoverLine) : Type 0 where
+  pub interval : l.interval < q
+  pub from : l.from < q
+  pub first : l.face.a < q
+  pub second : l.face.b < q
+  pub not_vertex : l.face.kind ≢ Vertex
+
+-- a pair that names a row is ascending, from 1 to below the order
+abbrev pub IsRowNameBelow : ℕ → RowName → Type 0
+IsRowNameBelow q Period = Unit {0}
+IsRowNameBelow q F = Unit {0}
+IsRowNameBelow q (Pair a b) = (1 ≤ a) × (a ≤ b) × (b < q)
+
+-- its face is no vertex
+abbrev pub cover_form : ℕ → LineForm CoverLine
+cover_form q = record {
+  fields = cover_fields;
+  HasForm = λ l. l.face.kind ≢ Vertex;
+  HasLine = IsCoverLineBelow q;
+}
+
 -- `row period`, `row f` or `row A B`
-abbrev pub row_name_text : RowName → List ℕ
-row_name_text Period = codes "period"
-row_name_text F = codes "f"
-row_name_text (Pair a b) = decimal a ++ codes " " ++ decimal b
+abbrev pub row_name_fields : RowName → List Field
+row_name_fields Period = word (codes "row") ∷ word (codes "period") ∷ []
+row_name_fields F = word (codes "row") ∷ word (codes "f") ∷ []
+row_name_fields (Pair a b) = word (codes "row") ∷ count a ∷ count b ∷ []
+
+abbrev pub row_name_form : ℕ → LineForm RowName
+row_name_form q = record { fields = row_name_fields; HasForm = λ n. Unit {0}; HasLine = IsRowNameBelow q }
 
 abbrev pub group_line : RowName → List ℕ
-group_line name = line (codes "row " ++ row_name_text name)
+group_line name = bytes_of (row_name_fields name)
 
--- `reduce C`
+-- a word and a column below 1,000: `reduce C` or `pivot C`
+abbrev pub column_form : List ℕ → LineForm ℕ
+column_form w = record { fields = λ c. word w ∷ count c ∷ []; HasForm = λ c. Unit {0}; HasLine = λ c. c < greatest_order }
+
 abbrev pub reduction_line : ℕ → List ℕ
-reduction_line c = line (codes "reduce " ++ decimal c)
+reduction_line = line_of (column_form (codes "reduce"))
 
--- `pivot C`
 abbrev pub pivot_line : ℕ → List ℕ
-pivot_line c = line (codes "pivot " ++ decimal c)
+pivot_line = line_of (column_form (codes "pivot"))
 
 -- the lines of covered intervals, from the i-th on
 abbrev pub covered_lines : ℕ → List CoverLine → List OwnLine
@@ -256,8 +316,11 @@ group_lines g (row ∷ more) =
     ++ record { name = group_pivot g; bytes = pivot_line row.pivot } ∷ group_lines (g + 1) more
 
 -- `modulus M`
+abbrev pub modulus_form : LineForm (Unit {0})
+modulus_form = form_of (λ t. word (codes "modulus") ∷ count modulus ∷ [])
+
 abbrev pub modulus_line : List ℕ
-modulus_line = line (codes "modulus " ++ decimal modulus)
+modulus_line = line_of modulus_form tt
 
 -- by residues, this line
 abbrev pub modulus_lines : Numbers → List OwnLine
@@ -270,13 +333,34 @@ extreme_lines numbers lines rows = covered_lines 0 lines ++ (modulus_lines numbe
 
 -- ---- the lines of halves
 
+-- the order and the scale are within the limits
+pub record IsHeadInBounds (h : HalvesHead) : Type 0 where
+  pub order_low : 2 ≤ h.order
+  pub order_high : h.order ≤ greatest_halves_order
+  pub scale_low : pos 1 ≤ℤ h.scale
+  pub scale_high : h.scale ≤ℤ pos greatest_halves_scale
+
 -- `halves N S`
+abbrev pub halves_form : LineForm HalvesHead
+halves_form = record {
+  fields = λ h. word (codes "halves") ∷ count h.order ∷ whole h.scale ∷ [];
+  HasForm = λ h. Unit {0};
+  HasLine = IsHeadInBounds;
+}
+
 abbrev pub halves_line : Halves → List ℕ
-halves_line h = line (codes "halves " ++ decimal h.order ++ codes " " ++ signed_decimal h.scale)
+halves_line h = line_of halves_form (record { order = h.order; scale = h.scale })
 
 -- `pair A B`
+abbrev pub pair_form : LineForm (ℤ × ℤ)
+pair_form = record {
+  fields = λ p. word (codes "pair") ∷ whole p.0 ∷ whole p.1 ∷ [];
+  HasForm = λ p. Unit {0};
+  HasLine = λ p. Fits p.0 × Fits p.1;
+}
+
 abbrev pub pair_line : ℤ × ℤ → List ℕ
-pair_line p = line (codes "pair " ++ signed_decimal p.0 ++ codes " " ++ signed_decimal p.1)
+pair_line = line_of pair_form
 
 -- the lines of the halves' values, from the i-th on
 abbrev pub pair_lines : ℕ → List (ℤ × ℤ) → List OwnLine
@@ -301,7 +385,7 @@ proof_lines_of c = title ∷ claim ∷ [] ++ subject_lines (subject_of c) ++ map
 -- the bytes of the line of a claim's word, and of its own lines
 abbrev pub HasBytes : Claim → ProofLine → List ℕ → Type 0
 HasBytes c l bytes =
-    ((l ≡ claim) × (bytes ≡ line (codes "claim " ++ claim_word c))) ⊎ Contains (own_lines c) (record { name = l; bytes = bytes })
+    ((l ≡ claim) × (bytes ≡ claim_line c)) ⊎ Contains (own_lines c) (record { name = l; bytes = bytes })
 
 -- the line is the n-th of the text, counted from 1, and none before it
 pub record HasNumber (c : Claim) (l : ProofLine) (n : ℕ) : Type 0 where
@@ -312,20 +396,6 @@ pub record HasNumber (c : Claim) (l : ProofLine) (n : ℕ) : Type 0 where
   pub number : n ≡ length before + 1
 
 -- ---- the text of a claim
-
--- the intervals and the square of a line of a covered interval are below the order, and its face is no vertex
-pub record IsCoverLineBelow (q : ℕ) (l : CoverLine) : Type 0 where
-  pub interval : l.interval < q
-  pub from : l.from < q
-  pub first : l.face.a < q
-  pub second : l.face.b < q
-  pub not_vertex : l.face.kind ≢ Vertex
-
--- a pair that names a row is ascending, from 1 to below the order
-abbrev pub IsRowNameBelow : ℕ → RowName → Type 0
-IsRowNameBelow q Period = Unit {0}
-IsRowNameBelow q F = Unit {0}
-IsRowNameBelow q (Pair a b) = (1 ≤ a) × (a ≤ b) × (b < q)
 
 -- the columns of a row are below 1,000
 pub record IsPivotRowBelow (q : ℕ) (row : PivotRow) : Type 0 where
@@ -357,5 +427,5 @@ pub record IsProofText (c : Claim) (text : List ℕ) : Type 0 where
   pub has_text : HasText c
   pub subject : List ℕ
   pub are_subject_lines : AreSubjectLines (subject_of c) subject
-  pub spelled : text ≡ line (title_text (numbers_of c)) ++ line (codes "claim " ++ claim_word c) ++ subject
+  pub spelled : text ≡ title_line (numbers_of c) ++ claim_line c ++ subject
       ++ flat_map (λ l. l.bytes) (own_lines c) ++ line (codes "end")

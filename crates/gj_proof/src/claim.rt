@@ -57,7 +57,7 @@ impl Claim {
 }
 
 /// The word of a claim.
-#[derive(Clone, Copy, Debug, PartialEq, Eq)]
+#[derive(Clone, Copy)]
 pub(crate) enum ClaimWord {
     Minimal,
     NotMinimal,
@@ -68,7 +68,7 @@ pub(crate) enum ClaimWord {
 }
 
 impl ClaimWord {
-    ghost use Rattle.gj_proof.specs.ProofGrammar.{numbers_of_word, claim_word_text};
+    ghost use Rattle.gj_proof.specs.ProofText.{numbers_of_word, claim_word_text};
 
     /// The words of all claims.
     pub const ALL: [ClaimWord; 6] = [

@@ -1,14 +1,14 @@
 //! The lines of covered intervals, read.
-ghost use Rattle.std.specs.Prelude.{◌≡◌, ◌≢◌, ◌≤◌, ◌++◌, [], ℕ, List, IfOk, IfErr, IfSome, IfNone};
+ghost use Rattle.std.specs.Prelude.{◌≡◌, ◌≢◌, ◌≤◌, ◌++◌, [], ◌∷◌, ℕ, codes, IfOk, IfErr, IfSome, IfNone};
 ghost use Rattle.gj_lex.specs.Words.{word_texts};
-ghost use Rattle.gj_lex.specs.Parts.{line_part, IsFaultOf};
-ghost use Rattle.gj_lex.specs.declared.spelling.Spelling.TheVariants.{Strict};
+ghost use Rattle.gj_lex.specs.Parts.{IsFaultOf};
+ghost use Rattle.gj_forms.specs.LineForms.{AreOfForm, AreLine, BreaksForm};
 ghost use Rattle.gj_shape.specs.Limits.{greatest_order};
 ghost use Rattle.gj_shape.specs.declared.faces.FaceKind.{FaceKind};
 ghost use Rattle.gj_shape.specs.declared.faces.FaceKind.TheVariants.{Vertex};
 ghost use Rattle.gj_function_lines.specs.FaceLines.{face_word, cover_line};
-ghost use Rattle.gj_proof.specs.ProofText.{IsCoverLineBelow};
-ghost use Rattle.gj_proof.specs.ProofGrammar.{cover_words, BreaksCover, cover_rule, covered_part};
+ghost use Rattle.gj_proof.specs.ProofText.{IsCoverLineBelow, cover_form};
+ghost use Rattle.gj_proof.specs.ProofGrammar.{form_part, covered_part};
 
 use crate::fields::{behind_text, count_below, five_fields_of, split_at_byte};
 use gj_function_lines::face_word;
@@ -26,7 +26,7 @@ const EDGES_AND_TRIANGLES: [FaceKind; 5] = [
 ];
 
 /// The words of the line of a covered interval that differ from line to line.
-#[derive(Clone, Copy, Debug)]
+#[derive(Clone, Copy)]
 pub(crate) struct CoverWords<'a> {
     pub kind: FaceKind,
     pub interval: &'a [u8],
@@ -42,8 +42,8 @@ pub(crate) fn cover_lines_at(
     order: u32,
 ) -> Result<(Vec<CoverLine>, &[u8]), PartFault>
     requires { order ≤ greatest_order }
-    ensures found { IfOk result (λ r. (covered_part order order []).Reads text.now r.0.items r.1.now) }
-    ensures fault { IfErr result (IsFaultOf (covered_part order order []) text.now) }
+    ensures found { IfOk result (λ r. (covered_part order).Reads text.now r.0.items r.1.now) }
+    ensures fault { IfErr result (IsFaultOf (covered_part order) text.now) }
 {
     let mut lines = Vec::new(alloc);
     let mut rest = text;
@@ -58,8 +58,8 @@ pub(crate) fn cover_lines_at(
 /// The line of a covered interval that comes next, and what follows it. It takes no memory.
 fn cover_line_at(text: &[u8], order: u32) -> Result<(CoverLine, &[u8]), PartFault>
     requires { order ≤ greatest_order }
-    ensures found { IfOk result (λ r. (line_part Strict (cover_rule order)).Reads text.now r.0 r.1.now) }
-    ensures fault { IfErr result (IsFaultOf (line_part Strict (cover_rule order)) text.now) }
+    ensures found { IfOk result (λ r. (form_part (cover_form order)).Reads text.now r.0 r.1.now) }
+    ensures fault { IfErr result (IsFaultOf (form_part (cover_form order)) text.now) }
 {
     if let Some((line, rest)) = printed_cover_line(text, order) {
         return Ok((line, rest));
@@ -99,8 +99,8 @@ fn printed_cover_line(text: &[u8], order: u32) -> Option<(CoverLine, &[u8])>
 
 /// What the line of a covered interval tells.
 fn cover_line_in(line: &[u8], order: u32) -> Result<CoverLine, Reason>
-    ensures found { IfOk result ((cover_rule order).Spells (word_texts line.now)) }
-    ensures fault { IfErr result (BreaksCover order (word_texts line.now)) }
+    ensures found { IfOk result (AreLine (cover_form order) (word_texts line.now)) }
+    ensures fault { IfErr result (BreaksForm (cover_form order) (word_texts line.now)) }
 {
     let Some(words) = cover_words(line) else {
         return Err(Reason::Form);
@@ -123,10 +123,10 @@ fn cover_line_in(line: &[u8], order: u32) -> Result<CoverLine, Reason>
 
 /// The words of the line, if they are of a covered interval.
 fn cover_words(line: &[u8]) -> Option<CoverWords<'_>>
-    ensures found { IfSome result (λ w. word_texts line.now ≡ cover_words w.kind w.interval.now w.from.now w.a.now w.b.now) }
+    ensures found { IfSome result (λ w. word_texts line.now
+        ≡ codes "cover" ∷ w.interval.now ∷ w.from.now ∷ face_word w.kind ∷ w.a.now ∷ w.b.now ∷ []) }
     ensures kind { IfSome result (λ w. w.kind ≢ Vertex) }
-    ensures none { IfNone result ((kind : FaceKind) (i j a b : List ℕ) →
-        word_texts line.now ≡ cover_words kind i j a b → kind ≢ Vertex → ⊥) }
+    ensures none { IfNone result ((q : ℕ) → AreOfForm (cover_form q) (word_texts line.now) → ⊥) }
 {
     let (interval, from, word, a, b) = five_fields_of(line, b"cover")?;
     let kind = face_kind(word)?;

@@ -26,7 +26,7 @@ use gj_shape::List;
 use std::alloc::{AllocError, Global};
 
 /// What the first line of a row tells.
-#[derive(Clone, Copy, Debug, PartialEq, Eq)]
+#[derive(Clone, Copy)]
 pub(crate) enum RowKind {
     /// The terms of its cut follow.
     WithCut,
@@ -35,7 +35,7 @@ pub(crate) enum RowKind {
 }
 
 /// The first line of a row.
-#[derive(Debug, Drop)]
+#[derive(Drop)]
 pub(crate) struct RowHead {
     pub kind: RowKind,
     /// The name of the basic variable.
@@ -45,7 +45,7 @@ pub(crate) struct RowHead {
 }
 
 /// The words of the first line of a row that differ from line to line.
-#[derive(Clone, Copy, Debug)]
+#[derive(Clone, Copy)]
 pub(crate) struct HeadWords<'a> {
     pub kind: RowKind,
     pub name: &'a [u8],
@@ -53,7 +53,7 @@ pub(crate) struct HeadWords<'a> {
 }
 
 /// Why a line is not read.
-#[derive(Debug, Drop)]
+#[derive(Drop)]
 pub(crate) enum LineFault {
     /// It is refused for this reason.
     Broken(Reason),

@@ -7,7 +7,6 @@ ghost use Rattle.gj_frac.specs.declared.Frac.{Frac};
 ghost use Rattle.gj_lex.specs.NumberText.{fraction_text};
 ghost use Rattle.gj_lex.specs.Words.{word_texts};
 ghost use Rattle.gj_lex.specs.declared.reason.Reason.TheVariants.{Number};
-ghost use Rattle.gj_proof.specs.ProofGrammar.{IsCountIn};
 
 use gj_frac::Frac;
 use gj_lex::{Reason, Spelling, behind_name, fraction_of, only_word, read_count, split_word};
@@ -87,7 +86,7 @@ pub(crate) fn five_fields_of<'a>(
 /// The count below the limit that the word spells.
 pub(crate) fn count_below(word: &[u8], limit: u32) -> Result<u32, Reason>
     ensures found { IfOk result (λ n. (word.now ≡ decimal n) × (n < limit)) }
-    ensures fault { IfErr result (λ e. (e ≡ Number) × (IsCountIn (λ n. n < limit) word.now → ⊥)) }
+    ensures fault { IfErr result (λ e. (e ≡ Number) × ((n : ℕ) → n < limit → word.now ≡ decimal n → ⊥)) }
 {
     let Some(n) = read_count(word) else {
         return Err(Reason::Number);

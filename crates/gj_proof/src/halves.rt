@@ -1,12 +1,12 @@
 //! The lines of halves, read.
-ghost use Rattle.std.specs.Prelude.{◌≡◌, ◌++◌, [], ℤ, decimal, IfOk, IfErr, IfSome, IfNone};
+ghost use Rattle.std.specs.Prelude.{◌≡◌, ◌++◌, ℤ, List, map, decimal, IfOk, IfErr, IfSome, IfNone};
 ghost use Rattle.std.specs.Fmt.{signed_decimal};
 ghost use Rattle.gj_frac.specs.Fraction.{Fits};
 ghost use Rattle.gj_lex.specs.Words.{word_texts};
-ghost use Rattle.gj_lex.specs.Parts.{line_part, IsFaultOf};
-ghost use Rattle.gj_lex.specs.declared.spelling.Spelling.TheVariants.{Strict};
-ghost use Rattle.gj_proof.specs.ProofText.{pair_line};
-ghost use Rattle.gj_proof.specs.ProofGrammar.{IsHeadInBounds, halves_rule, pair_rule, pairs_part, halves_part};
+ghost use Rattle.gj_lex.specs.Parts.{IsFaultOf};
+ghost use Rattle.gj_forms.specs.LineForms.{AreLine, BreaksForm};
+ghost use Rattle.gj_proof.specs.ProofText.{IsHeadInBounds, halves_form, pair_form, pair_line};
+ghost use Rattle.gj_proof.specs.ProofGrammar.{form_part, pairs_part, halves_part};
 ghost use Rattle.gj_proof.specs.declared.halves.HalvesHead.{HalvesHead};
 
 use crate::bounds::is_head_in_bounds;
@@ -16,7 +16,7 @@ use gj_shape::{Halves, List};
 use std::alloc::Global;
 
 /// The order and the scale of halves.
-#[derive(Clone, Copy, Debug, PartialEq, Eq)]
+#[derive(Clone, Copy)]
 pub(crate) struct HalvesHead {
     pub order: u32,
     pub scale: i128,
@@ -40,8 +40,8 @@ pub(crate) fn halves_at(alloc: Global, text: &[u8]) -> Result<(Halves, &[u8]), P
 
 /// The order and the scale in the next line, and what follows the line. It takes no memory.
 fn halves_head_at(text: &[u8]) -> Result<(HalvesHead, &[u8]), PartFault>
-    ensures found { IfOk result (λ r. (line_part Strict halves_rule).Reads text.now r.0 r.1.now) }
-    ensures fault { IfErr result (IsFaultOf (line_part Strict halves_rule) text.now) }
+    ensures found { IfOk result (λ r. (form_part halves_form).Reads text.now r.0 r.1.now) }
+    ensures fault { IfErr result (IsFaultOf (form_part halves_form) text.now) }
 {
     let line = line_at(Spelling::Strict, text)?;
     match halves_head_in(line.bytes) {
@@ -52,8 +52,8 @@ fn halves_head_at(text: &[u8]) -> Result<(HalvesHead, &[u8]), PartFault>
 
 /// The order and the scale that the line tells.
 fn halves_head_in(line: &[u8]) -> Result<HalvesHead, Reason>
-    ensures found { IfOk result (halves_rule.Spells (word_texts line.now)) }
-    ensures fault { IfErr result (halves_rule.Breaks (word_texts line.now)) }
+    ensures found { IfOk result (AreLine halves_form (word_texts line.now)) }
+    ensures fault { IfErr result (BreaksForm halves_form (word_texts line.now)) }
 {
     let Some((first, second)) = two_fields_of(line, b"halves") else {
         return Err(Reason::Form);
@@ -84,8 +84,9 @@ fn pairs_at(
     text: &[u8],
     count: u32,
 ) -> Result<((Vec<i128>, Vec<i128>), &[u8]), PartFault>
-    ensures found { IfOk result (λ r. (pairs_part count [] []).Reads text.now (r.0.0.items, r.0.1.items) r.1.now) }
-    ensures fault { IfErr result (IsFaultOf (pairs_part count [] []) text.now) }
+    ensures found { IfOk result (λ r. (pairs : List (ℤ × ℤ)) × (pairs_part count).Reads text.now pairs r.1.now
+        × (r.0.0.items ≡ map (λ p. p.0) pairs) × (r.0.1.items ≡ map (λ p. p.1) pairs)) }
+    ensures fault { IfErr result (IsFaultOf (pairs_part count) text.now) }
 {
     let mut first = Vec::new(alloc);
     let mut second = Vec::new(alloc);
@@ -101,8 +102,8 @@ fn pairs_at(
 
 /// The pair of values in the next line, and what follows the line. It takes no memory.
 fn pair_at(text: &[u8]) -> Result<((i128, i128), &[u8]), PartFault>
-    ensures found { IfOk result (λ r. (line_part Strict pair_rule).Reads text.now r.0 r.1.now) }
-    ensures fault { IfErr result (IsFaultOf (line_part Strict pair_rule) text.now) }
+    ensures found { IfOk result (λ r. (form_part pair_form).Reads text.now r.0 r.1.now) }
+    ensures fault { IfErr result (IsFaultOf (form_part pair_form) text.now) }
 {
     if let Some((pair, rest)) = printed_pair(text) {
         return Ok((pair, rest));
@@ -127,8 +128,8 @@ fn printed_pair(text: &[u8]) -> Option<((i128, i128), &[u8])>
 
 /// The pair of values of the line.
 fn pair_in(line: &[u8]) -> Result<(i128, i128), Reason>
-    ensures found { IfOk result (pair_rule.Spells (word_texts line.now)) }
-    ensures fault { IfErr result (pair_rule.Breaks (word_texts line.now)) }
+    ensures found { IfOk result (AreLine pair_form (word_texts line.now)) }
+    ensures fault { IfErr result (BreaksForm pair_form (word_texts line.now)) }
 {
     let Some((first, second)) = two_fields_of(line, b"pair") else {
         return Err(Reason::Form);

@@ -1,9 +1,10 @@
 //! The line of the modulus, read.
 ghost use Rattle.std.specs.Prelude.{IfOk, IfErr};
 ghost use Rattle.gj_lex.specs.Words.{word_texts};
-ghost use Rattle.gj_lex.specs.Parts.{line_part, IsFaultOf};
-ghost use Rattle.gj_lex.specs.declared.spelling.Spelling.TheVariants.{Strict};
-ghost use Rattle.gj_proof.specs.ProofGrammar.{modulus_rule, modulus_part};
+ghost use Rattle.gj_lex.specs.Parts.{IsFaultOf};
+ghost use Rattle.gj_forms.specs.LineForms.{AreLine, BreaksForm};
+ghost use Rattle.gj_proof.specs.ProofText.{modulus_form};
+ghost use Rattle.gj_proof.specs.ProofGrammar.{form_part, modulus_part};
 
 use crate::fields::whole_of;
 use crate::numbers::{MODULUS, Numbers};
@@ -23,8 +24,8 @@ pub(crate) fn modulus_at(text: &[u8], numbers: Numbers) -> Result<&[u8], PartFau
 
 /// What follows the line of the modulus.
 fn behind_modulus(text: &[u8]) -> Result<&[u8], PartFault>
-    ensures found { IfOk result (λ rest. (line_part Strict modulus_rule).Reads text.now tt rest.now) }
-    ensures fault { IfErr result (IsFaultOf (line_part Strict modulus_rule) text.now) }
+    ensures found { IfOk result (λ rest. (form_part modulus_form).Reads text.now tt rest.now) }
+    ensures fault { IfErr result (IsFaultOf (form_part modulus_form) text.now) }
 {
     let line = line_at(Spelling::Strict, text)?;
     match test_modulus(line.bytes) {
@@ -35,8 +36,8 @@ fn behind_modulus(text: &[u8]) -> Result<&[u8], PartFault>
 
 /// Ok if the line tells the modulus.
 fn test_modulus(line: &[u8]) -> Result<(), Reason>
-    ensures found { IfOk result (λ u. modulus_rule.Spells (word_texts line.now) tt) }
-    ensures fault { IfErr result (modulus_rule.Breaks (word_texts line.now)) }
+    ensures found { IfOk result (λ u. AreLine modulus_form (word_texts line.now) tt) }
+    ensures fault { IfErr result (BreaksForm modulus_form (word_texts line.now)) }
 {
     let Some(word) = field_of(line, b"modulus") else {
         return Err(Reason::Form);

@@ -1,13 +1,12 @@
 //! The groups of a row, its steps and its pivot, read.
-ghost use Rattle.std.specs.Prelude.{◌≡◌, [], ◌∷◌, ℕ, codes, IfOk, IfErr};
-ghost use Rattle.gj_lex.specs.SpelledNumbers.{IsCountWord};
+ghost use Rattle.std.specs.Prelude.{◌≡◌, ◌≤◌, [], ◌∷◌, codes, IfOk, IfErr};
 ghost use Rattle.gj_lex.specs.Words.{word_texts};
-ghost use Rattle.gj_lex.specs.Parts.{line_part, loop_part, IsFaultOf};
-ghost use Rattle.gj_lex.specs.declared.spelling.Spelling.TheVariants.{Strict};
+ghost use Rattle.gj_lex.specs.Parts.{IsFaultOf};
 ghost use Rattle.gj_lex.specs.declared.reason.Reason.TheVariants.{Number};
-ghost use Rattle.gj_shape.specs.declared.extremality.RowName.TheVariants.{Pair};
-ghost use Rattle.gj_proof.specs.ProofText.{IsRowNameBelow};
-ghost use Rattle.gj_proof.specs.ProofGrammar.{row_words, BreaksRowName, row_name_rule, column_rule, next_step, group_part, groups_part};
+ghost use Rattle.gj_forms.specs.LineForms.{AreLine, BreaksForm};
+ghost use Rattle.gj_shape.specs.Limits.{greatest_order};
+ghost use Rattle.gj_proof.specs.ProofText.{row_name_form, column_form};
+ghost use Rattle.gj_proof.specs.ProofGrammar.{form_part, steps_part, group_part, groups_part};
 
 use crate::fields::count_below;
 use crate::pivot::PivotRow;
@@ -24,8 +23,8 @@ pub(crate) fn groups_at(
     text: &[u8],
     order: u32,
 ) -> Result<(Vec<PivotRow>, &[u8]), PartFault>
-    ensures found { IfOk result (λ r. (groups_part order []).Reads text.now r.0.items r.1.now) }
-    ensures fault { IfErr result (IsFaultOf (groups_part order []) text.now) }
+    ensures found { IfOk result (λ r. (groups_part order).Reads text.now r.0.items r.1.now) }
+    ensures fault { IfErr result (IsFaultOf (groups_part order) text.now) }
 {
     let mut rows = Vec::new(alloc);
     let mut rest = text;
@@ -58,8 +57,8 @@ fn group_at(alloc: Global, text: &[u8], order: u32) -> Result<(PivotRow, &[u8]),
 
 /// The steps in the next lines, as long as these begin with `reduce`, and what follows them.
 fn steps_at(alloc: Global, text: &[u8]) -> Result<(Vec<u32>, &[u8]), PartFault>
-    ensures found { IfOk result (λ r. (loop_part next_step []).Reads text.now r.0.items r.1.now) }
-    ensures fault { IfErr result (IsFaultOf (loop_part next_step []) text.now) }
+    ensures found { IfOk result (λ r. steps_part.Reads text.now r.0.items r.1.now) }
+    ensures fault { IfErr result (IsFaultOf steps_part text.now) }
 {
     let mut columns = Vec::new(alloc);
     let mut rest = text;
@@ -73,8 +72,8 @@ fn steps_at(alloc: Global, text: &[u8]) -> Result<(Vec<u32>, &[u8]), PartFault>
 
 /// The column in the next line, behind the word, and what follows the line. It takes no memory.
 fn column_at<'a>(text: &'a [u8], word: &[u8]) -> Result<(u32, &'a [u8]), PartFault>
-    ensures found { IfOk result (λ r. (line_part Strict (column_rule word.now)).Reads text.now r.0 r.1.now) }
-    ensures fault { IfErr result (IsFaultOf (line_part Strict (column_rule word.now)) text.now) }
+    ensures found { IfOk result (λ r. (form_part (column_form word.now)).Reads text.now r.0 r.1.now) }
+    ensures fault { IfErr result (IsFaultOf (form_part (column_form word.now)) text.now) }
 {
     let line = line_at(Spelling::Strict, text)?;
     match column_in(line.bytes, word) {
@@ -85,8 +84,8 @@ fn column_at<'a>(text: &'a [u8], word: &[u8]) -> Result<(u32, &'a [u8]), PartFau
 
 /// The column of the line, behind the word.
 fn column_in(line: &[u8], word: &[u8]) -> Result<u32, Reason>
-    ensures found { IfOk result ((column_rule word.now).Spells (word_texts line.now)) }
-    ensures fault { IfErr result ((column_rule word.now).Breaks (word_texts line.now)) }
+    ensures found { IfOk result (AreLine (column_form word.now) (word_texts line.now)) }
+    ensures fault { IfErr result (BreaksForm (column_form word.now) (word_texts line.now)) }
 {
     let Some(column) = field_of(line, word) else {
         return Err(Reason::Form);
@@ -96,8 +95,8 @@ fn column_in(line: &[u8], word: &[u8]) -> Result<u32, Reason>
 
 /// The name of the row in the next line, and what follows the line. It takes no memory.
 fn row_name_at(text: &[u8], order: u32) -> Result<(RowName, &[u8]), PartFault>
-    ensures found { IfOk result (λ r. (line_part Strict (row_name_rule order)).Reads text.now r.0 r.1.now) }
-    ensures fault { IfErr result (IsFaultOf (line_part Strict (row_name_rule order)) text.now) }
+    ensures found { IfOk result (λ r. (form_part (row_name_form order)).Reads text.now r.0 r.1.now) }
+    ensures fault { IfErr result (IsFaultOf (form_part (row_name_form order)) text.now) }
 {
     let line = line_at(Spelling::Strict, text)?;
     match row_name_in(line.bytes, order) {
@@ -108,8 +107,8 @@ fn row_name_at(text: &[u8], order: u32) -> Result<(RowName, &[u8]), PartFault>
 
 /// The name of the row that the line tells.
 fn row_name_in(line: &[u8], order: u32) -> Result<RowName, Reason>
-    ensures found { IfOk result ((row_name_rule order).Spells (word_texts line.now)) }
-    ensures fault { IfErr result (BreaksRowName order (word_texts line.now)) }
+    ensures found { IfOk result (AreLine (row_name_form order) (word_texts line.now)) }
+    ensures fault { IfErr result (BreaksForm (row_name_form order) (word_texts line.now)) }
 {
     if has_words(line, b"row period") {
         return Ok(RowName::Period);
@@ -120,15 +119,6 @@ fn row_name_in(line: &[u8], order: u32) -> Result<RowName, Reason>
     let Some((first, second)) = two_fields_of(line, b"row") else {
         return Err(Reason::Form);
     };
-    pair_of(first, second, order)
-}
-
-/// The pair that the two words spell: ascending, from 1 to below the order.
-fn pair_of(first: &[u8], second: &[u8], order: u32) -> Result<RowName, Reason>
-    ensures found { IfOk result (λ name. (codes "row" ∷ first.now ∷ second.now ∷ [] ≡ row_words name) × IsRowNameBelow order name) }
-    ensures fault { IfErr result (λ e. (e ≡ Number) × ((m n : ℕ) → IsCountWord Strict first.now m →
-        IsCountWord Strict second.now n → IsRowNameBelow order (Pair m n) → ⊥)) }
-{
     let a = count_below(first, order)?;
     let b = count_below(second, order)?;
     if a < 1 || b < a {

@@ -2,15 +2,13 @@
 
 ghost use Rattle.std.specs.Prelude.{◌≡◌, [], IfOk, IfErr, IfSome, IfNone, MatchResult};
 ghost use Rattle.gj_lex.specs.Words.{word_texts};
-ghost use Rattle.gj_lex.specs.Parts.{line_part, IsFaultOf};
-ghost use Rattle.gj_lex.specs.declared.spelling.Spelling.TheVariants.{Strict};
-ghost use Rattle.gj_proof.specs.ProofText.{IsBounded, IsProofText, extreme_claim};
-ghost use Rattle.gj_proof.specs.ProofGrammar.{proof_title_words, title_rule, claim_words, numbers_of_word, claim_rule, claim_part, extreme_part, proof_text};
+ghost use Rattle.gj_lex.specs.Parts.{IsFaultOf};
+ghost use Rattle.gj_forms.specs.LineForms.{AreOfForm, AreLine};
+ghost use Rattle.gj_proof.specs.ProofText.{title_form, claim_form, IsBounded, IsProofText, extreme_claim};
+ghost use Rattle.gj_proof.specs.ProofGrammar.{form_part, claim_part, extreme_part, proof_text};
 ghost use Rattle.gj_proof.specs.FirstFault.{NamesFirstFault, IsMemoryFault};
 ghost use Rattle.gj_proof.specs.declared.claim.Claim.{Claim};
-ghost use Rattle.gj_proof.specs.declared.claim.ClaimWord.{ClaimWord};
 ghost use Rattle.gj_proof.specs.declared.claim.ClaimWord.TheVariants.{Minimal, NotMinimal, Cut, NotExtreme};
-ghost use Rattle.gj_proof.specs.declared.numbers.Numbers.{Numbers};
 
 use crate::claim::{Claim, ClaimWord, Proof};
 use crate::cover_lines::cover_lines_at;
@@ -72,8 +70,8 @@ fn proof_at(alloc: Global, text: &[u8]) -> Result<Proof, PartFault>
 
 /// The numbers that the first line of the text tells, and what follows the line.
 fn numbers_at(text: &[u8]) -> Result<(Numbers, &[u8]), PartFault>
-    ensures found { IfOk result (λ r. (line_part Strict title_rule).Reads text.now r.0 r.1.now) }
-    ensures fault { IfErr result (IsFaultOf (line_part Strict title_rule) text.now) }
+    ensures found { IfOk result (λ r. (form_part title_form).Reads text.now r.0 r.1.now) }
+    ensures fault { IfErr result (IsFaultOf (form_part title_form) text.now) }
 {
     let line = line_at(Spelling::Strict, text)?;
     match numbers_in(line.bytes) {
@@ -84,8 +82,8 @@ fn numbers_at(text: &[u8]) -> Result<(Numbers, &[u8]), PartFault>
 
 /// The numbers that the line tells.
 fn numbers_in(line: &[u8]) -> Option<Numbers>
-    ensures found { IfSome result (λ n. word_texts line.now ≡ proof_title_words n) }
-    ensures none { IfNone result ((n : Numbers) → word_texts line.now ≡ proof_title_words n → ⊥) }
+    ensures found { IfSome result (AreLine title_form (word_texts line.now)) }
+    ensures none { IfNone result (AreOfForm title_form (word_texts line.now) → ⊥) }
 {
     if has_words(line, b"gj-proof 1") {
         return Some(Numbers::Whole);
@@ -98,8 +96,8 @@ fn numbers_in(line: &[u8]) -> Option<Numbers>
 
 /// The word of the claim in the first line of what follows the title, and what follows the line.
 fn claim_word_at(text: &[u8], numbers: Numbers) -> Result<(ClaimWord, &[u8]), PartFault>
-    ensures found { IfOk result (λ r. (line_part Strict (claim_rule numbers)).Reads text.now r.0 r.1.now) }
-    ensures fault { IfErr result (IsFaultOf (line_part Strict (claim_rule numbers)) text.now) }
+    ensures found { IfOk result (λ r. (form_part (claim_form numbers)).Reads text.now r.0 r.1.now) }
+    ensures fault { IfErr result (IsFaultOf (form_part (claim_form numbers)) text.now) }
 {
     let line = line_at(Spelling::Strict, text)?;
     match claim_word_of(line.bytes, numbers) {
@@ -110,8 +108,8 @@ fn claim_word_at(text: &[u8], numbers: Numbers) -> Result<(ClaimWord, &[u8]), Pa
 
 /// The word of the claim in the line, in a text of these numbers.
 fn claim_word_of(line: &[u8], numbers: Numbers) -> Option<ClaimWord>
-    ensures found { IfSome result ((claim_rule numbers).Spells (word_texts line.now)) }
-    ensures none { IfNone result ((w : ClaimWord) → word_texts line.now ≡ claim_words w → numbers_of_word w ≡ numbers → ⊥) }
+    ensures found { IfSome result (AreLine (claim_form numbers) (word_texts line.now)) }
+    ensures none { IfNone result (AreOfForm (claim_form numbers) (word_texts line.now) → ⊥) }
 {
     let field = field_of(line, b"claim")?;
     for word in ClaimWord::ALL {

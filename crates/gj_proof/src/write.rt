@@ -2,7 +2,7 @@
 
 ghost use Rattle.std.specs.Prelude.{◌≡◌, ◌++◌, ℕ, List, codes, flat_map, IfOk, OnOk};
 ghost use Rattle.gj_function_lines.specs.FunctionLines.{line};
-ghost use Rattle.gj_proof.specs.ProofText.{subject_of, numbers_of, AreSubjectLines, title_text, claim_word, violation_line, own_lines, HasText, IsProofText};
+ghost use Rattle.gj_proof.specs.ProofText.{subject_of, numbers_of, AreSubjectLines, title_number, claim_word, violation_line, own_lines, HasText, IsProofText};
 
 use crate::claim::{Claim, Proof};
 use crate::numbers::Numbers;
@@ -27,7 +27,7 @@ pub fn write_proof(alloc: Global, proof: &Proof) -> Result<Vec<u8>, AllocError>
 
 /// The first two lines of a proof text: its title and the word of its claim.
 fn start_text(alloc: Global, claim: &Claim) -> Result<Vec<u8>, AllocError>
-    ensures { IfOk result (λ text. text.items ≡ line (title_text (numbers_of claim.now)) ++ line (codes "claim " ++ claim_word claim.now)) }
+    ensures { IfOk result (λ text. text.items ≡ line (codes "gj-proof " ++ title_number (numbers_of claim.now)) ++ line (codes "claim " ++ claim_word claim.now)) }
 {
     let mut text = Vec::new(alloc);
     text.extend_from_slice(title(claim.numbers()))?;
@@ -81,7 +81,7 @@ fn push_own_lines(alloc: Global, out: &mut Vec<u8>, claim: &Claim) -> Result<(),
 
 /// The words of the first line of a proof text.
 fn title(numbers: Numbers) -> &'static [u8]
-    ensures { result.now ≡ title_text numbers }
+    ensures { result.now ≡ codes "gj-proof " ++ title_number numbers }
 {
     match numbers {
         Numbers::Whole => b"gj-proof 1",

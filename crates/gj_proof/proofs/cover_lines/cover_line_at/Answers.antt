@@ -1,6 +1,10 @@
-use Rattle.gj_proof.proofs.ExtremeSpelled.{cover_reads}
+use Rattle.gj_forms.proofs.LineLaws.{line_is_read}
+use Rattle.gj_proof.specs.ProofText.{cover_form}
+use Rattle.gj_proof.proofs.ClearLines.{cover_is_clear}
 use Rattle.gj_proof.proofs.cover_lines.cover_line_at.Goals as goal
 
 pub returns-in-Some-clause-found : goal.returns-in-Some-clause-found
 returns-in-Some-clause-found c =
-    let printed = c.in-Some.ensures in rw printed.0 (cover_reads c.args.order c.in-Some.line _ c.requires printed.1)
+    let printed = c.in-Some.ensures in
+    let q = c.args.order in
+    rw printed.0 (line_is_read (cover_form q) (cover_is_clear q c.requires) c.in-Some.line _ printed.1)

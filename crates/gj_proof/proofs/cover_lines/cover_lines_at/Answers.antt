@@ -1,18 +1,20 @@
-use Rattle.std.proofs.Common.{[], arith}
+use Rattle.std.proofs.Common.{arith}
 use Rattle.std.proofs.lemmas.Result.{err_from_is_err_and}
 use Rattle.gj_lex.specs.Parts.{IsFaultOf}
 use Rattle.gj_lex.proofs.PartLaws.{passed_on}
-use Rattle.gj_proof.specs.ProofGrammar.{covered_part}
-use Rattle.gj_proof.proofs.ExtremeRead.{covered_on, covered_at_fault}
+use Rattle.gj_proof.specs.ProofText.{cover_form}
+use Rattle.gj_proof.specs.ProofGrammar.{form_part, covered_part}
+use Rattle.gj_proof.proofs.ListRead.{times_on, times_at_fault}
 use Rattle.gj_proof.proofs.cover_lines.cover_lines_at.Goals as goal
 
 pub loop-preserved : goal.loop-preserved
 loop-preserved c =
-    covered_on c.args.order c.args.order c.loop.counter _ _ _ c.loop.invariant _ _ c.in_ok-line.line (omega arith) c.in_ok-line.ensures.found
-    c.in_ok-push.ensures.items
+    times_on (form_part (cover_form c.args.order)) c.args.order c.loop.counter _ _ _ c.loop.invariant (omega arith) _ _ c.in_ok-line.line
+    c.in_ok-line.ensures.found c.in_ok-push.ensures.items
 
 pub returns-in_err-line-clause-fault : goal.returns-in_err-line-clause-fault
 returns-in_err-line-clause-fault c =
     let p = err_from_is_err_and c.from_residual.result c.from_residual.ensures.1 in
-    passed_on (IsFaultOf (covered_part c.args.order c.args.order []) c.args.text.now) _ _ _ p.1 p.2
-    (covered_at_fault c.args.order c.args.order c.loop.counter _ _ _ c.loop.invariant _ (omega arith) c.in_err-line.ensures.fault)
+    passed_on (IsFaultOf (covered_part c.args.order) c.args.text.now) _ _ _ p.1 p.2
+    (times_at_fault (form_part (cover_form c.args.order)) c.args.order c.loop.counter _ _ _ c.loop.invariant (omega arith) _
+    c.in_err-line.ensures.fault)

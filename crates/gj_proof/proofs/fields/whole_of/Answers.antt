@@ -3,7 +3,7 @@ use Rattle.std.specs.Fmt.{signed_decimal}
 use Rattle.std.proofs.lemmas.Int.{ints}
 use Rattle.gj_frac.specs.Fraction.{Fits}
 use Rattle.gj_lex.proofs.CanonicalTexts.{within_bits}
-use Rattle.gj_proof.proofs.WholeNumbers.{text_over_one, no_whole, not_over_one}
+use Rattle.gj_forms.proofs.WholeNumbers.{text_over_one, no_whole, not_over_one}
 use Rattle.gj_proof.proofs.fields.whole_of.Goals as goal
 
 pub returns-in_err-x-clause-none : goal.returns-in_err-x-clause-none

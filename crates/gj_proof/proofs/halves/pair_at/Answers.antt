@@ -1,5 +1,8 @@
-use Rattle.gj_proof.proofs.ExtremeSpelled.{pair_reads}
+use Rattle.gj_forms.proofs.LineLaws.{line_is_read}
+use Rattle.gj_proof.specs.ProofText.{pair_form}
+use Rattle.gj_proof.proofs.ClearLines.{pair_is_clear}
 use Rattle.gj_proof.proofs.halves.pair_at.Goals as goal
 
 pub returns-in-Some-clause-found : goal.returns-in-Some-clause-found
-returns-in-Some-clause-found c = let printed = c.in-Some.ensures in rw printed.0 (pair_reads c.in-Some.pair _ printed.1 printed.2)
+returns-in-Some-clause-found c =
+    let printed = c.in-Some.ensures in rw printed.0 (line_is_read pair_form pair_is_clear c.in-Some.pair _ (printed.1, printed.2))

@@ -1,6 +1,5 @@
 use Rattle.std.proofs.Common.{◌≡◌, ℕ, ◌<◌, List, [], ◌∷◌, get_or, lit<, below_more, codes, rules, arith}
-use Rattle.gj_lex.specs.Words.{word_texts}
-use Rattle.gj_proof.specs.ProofGrammar.{claim_words, numbers_of_word, claim_word_text}
+use Rattle.gj_proof.specs.ProofText.{numbers_of_word, claim_word_text}
 use Rattle.gj_proof.specs.declared.claim.ClaimWord.{ClaimWord}
 use Rattle.gj_proof.specs.declared.claim.ClaimWord.TheVariants.{Minimal, NotMinimal, Cut, Extreme, NotExtreme}
 use Rattle.gj_proof.specs.declared.numbers.Numbers.{Numbers}
@@ -35,6 +34,6 @@ loop-word-preserved c =
     ])
 
 pub returns-clause-none : goal.returns-clause-none
-returns-clause-none c =
-    every_word (λ w. word_texts c.args.line.now ≡ claim_words w → numbers_of_word w ≡ c.args.numbers → ⊥)
-    (λ i below is of. c.loop-word.invariant i (omega arith) (one_field _ _ _ c.in_ok-field.ensures.found is) of)
+returns-clause-none c = λ (w, is, of).
+    every_word (IsOther c.in_ok-field.field.now c.args.numbers) (λ i below. c.loop-word.invariant i (omega arith)) w
+    (one_field _ _ _ c.in_ok-field.ensures.found is) of
