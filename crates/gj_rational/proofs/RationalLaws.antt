@@ -122,6 +122,9 @@ whole_mul x y = equal_q _ _ (whole_product (whole x *ℚ whole y).top (whole x *
 pub whole_neg : (x : ℤ) → whole (neg_ℤ x) ≡ neg_ℚ (whole x)
 whole_neg x = ap whole (omega (arith, ints)) ∙ whole_mul (negsuc 0) x
 
+pub whole_sub : (x y : ℤ) → whole (x -ℤ y) ≡ whole x -ℚ whole y
+whole_sub x y = ap whole (omega (arith, ints)) ∙ whole_add x (neg_ℤ y) ∙ ap (λ w. whole x +ℚ w) (whole_neg y)
+
 pub whole_injective : (x y : ℤ) → whole x ≡ whole y → x ≡ y
 unfolding whole
 whole_injective x y e = ap (λ q. q.top) e

@@ -1,0 +1,7 @@
+pub mod PointCuts
+pub mod HeldCuts
+pub mod ValueParts
+pub mod TermSums
+pub mod CutRows
+pub mod GridParts
+pub mod MovedEntries

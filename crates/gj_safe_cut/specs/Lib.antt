@@ -1,0 +1,3 @@
+pub mod SafeCuts
+pub mod AddedTerms
+pub mod RoundedCuts
