@@ -1,10 +1,10 @@
 -- The order of rational numbers.
-use Rattle.std.proofs.Common.{◌≡◌, ◌<◌, ℕ, ℤ, pos, negsuc, ◌+ℤ◌, ◌-ℤ◌, ◌*ℤ◌, neg_ℤ, ◌<ℤ◌, ◌≤ℤ◌, [], ◌∷◌, unsigned_abs, refl, sym, ap, ap₂, subst, subst₂, ◌∙◌, arith}
+use Rattle.std.proofs.Common.{◌≡◌, ◌<◌, ℕ, ℤ, pos, negsuc, ◌+ℤ◌, ◌-ℤ◌, ◌*ℤ◌, neg_ℤ, ◌<ℤ◌, ◌≤ℤ◌, [], ◌∷◌, refl, sym, ap, subst, ◌∙◌, arith}
 use Rattle.std.proofs.lemmas.Int.{ints}
-use Rattle.gj_lemmas.proofs.Integers.{mul_positive_z, mul_nonnegative_z, mul_le_cancel_right_z, mul_le_mul_right_z, neg_mul_z, one_mul_z}
+use Rattle.gj_lemmas.proofs.Integers.{mul_positive_z, mul_nonnegative_z, mul_le_cancel_right_z, one_mul_z}
 use Rattle.gj_lemmas.proofs.Ring.{by_ring, ring}
 use Rattle.gj_rational.specs.Rational.{Rational, whole, ◌+ℚ◌, ◌*ℚ◌, neg_ℚ, ◌-ℚ◌, ◌≤ℚ◌}
-use Rattle.gj_rational.proofs.RationalLaws.{sum_is, product_is, whole_top, whole_bottom, whole_sub}
+use Rattle.gj_rational.proofs.RationalLaws.{sum_is, product_is, whole_sub}
 use Rattle.gj_rational.proofs.RationalRing.{by_ring_q, ring_q}
 
 -- x is at least 0

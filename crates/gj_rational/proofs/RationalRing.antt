@@ -2,10 +2,9 @@
 -- An identity over the atoms x, y and z, each a variable or any other term, is one line:
 --     by_ring_q (x ∷ y ∷ z ∷ []) (search ring_q depth 40) refl
 -- The two sides may have +, -, *, signs and whole numerals.
-use Rattle.std.proofs.Common.{◌≡◌, ℕ, zero, suc, Bool, true, false, T, eqb, ltb, leb, List, [], ◌∷◌, ℤ, pos, negsuc, ◌+ℤ◌, ◌*ℤ◌, neg_ℤ, refl, sym, ap, ap₂, subst, ◌∙◌, arith, eqb→eq}
-use Rattle.std.proofs.lemmas.Int.{ints}
+use Rattle.std.proofs.Common.{◌≡◌, ℕ, zero, suc, Bool, true, false, T, eqb, ltb, leb, List, [], ◌∷◌, ℤ, pos, negsuc, ◌+ℤ◌, ◌*ℤ◌, refl, sym, ap, ap₂, subst, ◌∙◌, eqb→eq}
 use Rattle.gj_lemmas.proofs.Ring.{Expr, var, num, add, mul, neg, Poly, none, plus, Order, before, same, after, with_atom, joined, order, plus_some, with_term, sum_of, times_term, times, opposite, normal}
-use Rattle.gj_rational.specs.Rational.{Rational, whole, ◌+ℚ◌, ◌*ℚ◌, neg_ℚ, ◌-ℚ◌}
+use Rattle.gj_rational.specs.Rational.{Rational, whole, ◌+ℚ◌, ◌*ℚ◌, neg_ℚ}
 use Rattle.gj_rational.proofs.RationalLaws.{add_assoc_q, add_comm_q, add_left_comm_q, zero_add_q, zero_mul_q, mul_zero_q, one_mul_q, mul_comm_q, mul_assoc_q, mul_left_comm_q, mul_mul_comm_q, mul_add_q, add_mul_q, neg_mul_q, neg_add_q, whole_add, whole_mul, whole_neg}
 
 -- the atom of a number; past the last it is 0
