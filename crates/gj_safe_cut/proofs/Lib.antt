@@ -3,5 +3,3 @@ pub mod HeldCuts
 pub mod ValueParts
 pub mod TermSums
 pub mod CutRows
-pub mod GridParts
-pub mod MovedEntries

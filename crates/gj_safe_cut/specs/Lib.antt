@@ -1,3 +1,2 @@
 pub mod SafeCuts
 pub mod AddedTerms
-pub mod RoundedCuts

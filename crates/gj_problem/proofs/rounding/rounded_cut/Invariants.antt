@@ -1,7 +1,7 @@
 use Rattle.std.proofs.Common.{take}
 use Rattle.gj_rational.specs.Rational.{rational}
-use Rattle.gj_safe_cut.proofs.MovedEntries.{AreMovedTo}
-use Rattle.gj_safe_cut.proofs.rounding.rounded_cut.Given as goal
+use Rattle.gj_problem.proofs.MovedEntries.{AreMovedTo}
+use Rattle.gj_problem.proofs.rounding.rounded_cut.Given as goal
 
 abbrev pub invariant-loop-entry : goal.invariant-loop-entry
 invariant-loop-entry l =

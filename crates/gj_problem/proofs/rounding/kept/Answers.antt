@@ -1,8 +1,8 @@
 use Rattle.std.proofs.Common.{◌≡◌, ℤ, pos, to_z, of_z, refl, sym, ap, ◌∙◌}
 use Rattle.gj_frac.proofs.Reduced.{read_part}
 use Rattle.gj_problem.proofs.AddedSums.{whole_ratio}
-use Rattle.gj_safe_cut.proofs.GridParts.{on_grid_if_whole, whole_if_on_grid}
-use Rattle.gj_safe_cut.proofs.rounding.kept.Goals as goal
+use Rattle.gj_problem.proofs.GridParts.{on_grid_if_whole, whole_if_on_grid}
+use Rattle.gj_problem.proofs.rounding.kept.Goals as goal
 use mir.Syntax.{w128}
 
 pub returns-then-den-eq1 : goal.returns-then-den-eq1

@@ -1,8 +1,8 @@
 use Rattle.std.proofs.Common.{◌∙◌, subst₂, rules}
 use Rattle.std.proofs.lemmas.Int.{to_z-of_z}
 use Rattle.gj_frac.specs.Fraction.{IsRatio}
-use Rattle.gj_safe_cut.proofs.GridParts.{below_from_floor}
-use Rattle.gj_safe_cut.proofs.rounding.below_on_grid.Goals as goal
+use Rattle.gj_problem.proofs.GridParts.{below_from_floor}
+use Rattle.gj_problem.proofs.rounding.below_on_grid.Goals as goal
 use mir.Syntax.{w128}
 
 pub returns-in-Some : goal.returns-in-Some

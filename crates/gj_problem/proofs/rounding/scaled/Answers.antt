@@ -4,7 +4,7 @@ use Rattle.std.proofs.lemmas.Result.{IfOk-weaker}
 use Rattle.gj_frac.specs.Fraction.{IsRatio, SameValue, fraction_of, product_of}
 use Rattle.gj_rational.specs.Rational.{whole, rational, ◌*ℚ◌}
 use Rattle.gj_problem.proofs.AddedSums.{product_value, whole_ratio}
-use Rattle.gj_safe_cut.proofs.rounding.scaled.Goals as goal
+use Rattle.gj_problem.proofs.rounding.scaled.Goals as goal
 use mir.Syntax.{w128}
 
 pub returns-in-Some : goal.returns-in-Some

@@ -7,8 +7,8 @@ use Rattle.gj_problem.specs.declared.problem.Inequality.{Inequality}
 use Rattle.gj_problem.specs.declared.problem.Problem.{Problem}
 use Rattle.gj_problem.specs.Problems.{Holds}
 use Rattle.gj_problem.specs.Rows.{total_of}
-use Rattle.gj_safe_cut.specs.declared.rounding.RoundedCut.{RoundedCut}
-use Rattle.gj_safe_cut.specs.declared.rounding.RoundedCut.TheVariants.{Cut, Free, Wide}
+use Rattle.gj_problem.specs.declared.rounding.RoundedCut.{RoundedCut}
+use Rattle.gj_problem.specs.declared.rounding.RoundedCut.TheVariants.{Cut, Free, Wide}
 
 -- x is k/n for some whole number k
 abbrev pub IsOnGrid : ℕ → Rational → Type 0

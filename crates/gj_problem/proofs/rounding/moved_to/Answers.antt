@@ -1,7 +1,7 @@
 use Rattle.std.proofs.Common.{ap, ◌∙◌}
 use Rattle.gj_rational.specs.Rational.{rational, ◌+ℚ◌, ◌*ℚ◌}
 use Rattle.gj_problem.proofs.AddedSums.{sum_value, product_value, negation_value}
-use Rattle.gj_safe_cut.proofs.rounding.moved_to.Goals as goal
+use Rattle.gj_problem.proofs.rounding.moved_to.Goals as goal
 
 pub returns-clause-shift : goal.returns-clause-shift
 returns-clause-shift c =

@@ -2,9 +2,9 @@ use Rattle.std.proofs.Common.{Option, sym, subst, ◌∙◌}
 use Rattle.gj_frac.specs.declared.Frac.{Frac}
 use Rattle.gj_rational.specs.Rational.{rational}
 use Rattle.gj_problem.proofs.AddedSums.{negation_value}
-use Rattle.gj_safe_cut.specs.RoundedCuts.{upper_of, IsMoved}
-use Rattle.gj_safe_cut.proofs.MovedEntries.{raised_to}
-use Rattle.gj_safe_cut.proofs.rounding.moved_entry.Goals as goal
+use Rattle.gj_problem.specs.RoundedCuts.{upper_of, IsMoved}
+use Rattle.gj_problem.proofs.MovedEntries.{raised_to}
+use Rattle.gj_problem.proofs.rounding.moved_entry.Goals as goal
 
 pub returns-in_ok-moved_to-in-Some-default : goal.returns-in_ok-moved_to-in-Some-default
 returns-in_ok-moved_to-in-Some-default c =

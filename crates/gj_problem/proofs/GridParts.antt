@@ -10,7 +10,7 @@ use Rattle.gj_rational.proofs.RationalOrder.{at_most_whole, at_most_scaled, at_m
 use Rattle.gj_problem.proofs.HeldInequalities.{whole_frac}
 use Rattle.gj_problem.proofs.Numerators.{ratio_whole}
 use Rattle.gj_problem.proofs.TurnedColumns.{below_floor}
-use Rattle.gj_safe_cut.specs.RoundedCuts.{IsOnGrid, IsBelowOnGrid}
+use Rattle.gj_problem.specs.RoundedCuts.{IsOnGrid, IsBelowOnGrid}
 
 -- n times k/n is k
 ratio_times : (y : Frac) (k n : ℤ) → IsRatio y k n → whole n *ℚ rational y ≡ whole k

@@ -3,10 +3,10 @@ use Rattle.gj_rational.specs.Rational.{rational}
 use Rattle.gj_problem.specs.declared.problem.Entry.{Entry}
 use Rattle.gj_problem.proofs.AddedSums.{sum_value}
 use Rattle.gj_problem.proofs.Prefixes.{split_at}
-use Rattle.gj_safe_cut.specs.declared.rounding.Moved.{Moved}
-use Rattle.gj_safe_cut.specs.RoundedCuts.{lower_of, upper_of, IsMoved, IsFreeEntry, IsFirstFreeEntry}
-use Rattle.gj_safe_cut.proofs.MovedEntries.{none_moved, one_moved, none_free_in}
-use Rattle.gj_safe_cut.proofs.rounding.rounded_cut.Goals as goal
+use Rattle.gj_problem.specs.declared.rounding.Moved.{Moved}
+use Rattle.gj_problem.specs.RoundedCuts.{lower_of, upper_of, IsMoved, IsFreeEntry, IsFirstFreeEntry}
+use Rattle.gj_problem.proofs.MovedEntries.{none_moved, one_moved, none_free_in}
+use Rattle.gj_problem.proofs.rounding.rounded_cut.Goals as goal
 
 pub loop-entry-init : goal.loop-entry-init
 loop-entry-init c = none_moved c.args.problem.now c.args.grid (rational c.args.cut.now.right) c.new-entries.result.items c.new-entries.ensures.items

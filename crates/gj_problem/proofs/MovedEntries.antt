@@ -15,9 +15,9 @@ use Rattle.gj_problem.specs.Problems.{Holds}
 use Rattle.gj_problem.specs.Rows.{IsKept, IsRaised, IsLowered, AreChanged, total_of}
 use Rattle.gj_problem.proofs.AddedSums.{add_zero_q}
 use Rattle.gj_problem.proofs.HeldInequalities.{rounded_holds}
-use Rattle.gj_safe_cut.specs.declared.rounding.RoundedCut.{RoundedCut}
-use Rattle.gj_safe_cut.specs.declared.rounding.RoundedCut.TheVariants.{Cut, Free, Wide}
-use Rattle.gj_safe_cut.specs.RoundedCuts.{IsBelowOnGrid, lower_of, upper_of, IsMoved, AreMoved, IsRoundedOf, IsFreeEntry, RoundedHolds}
+use Rattle.gj_problem.specs.declared.rounding.RoundedCut.{RoundedCut}
+use Rattle.gj_problem.specs.declared.rounding.RoundedCut.TheVariants.{Cut, Free, Wide}
+use Rattle.gj_problem.specs.RoundedCuts.{IsBelowOnGrid, lower_of, upper_of, IsMoved, AreMoved, IsRoundedOf, IsFreeEntry, RoundedHolds}
 
 -- ---- bounds
 

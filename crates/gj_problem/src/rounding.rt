@@ -1,11 +1,13 @@
 //! Cuts rounded to a grid.
-ghost use Rattle.std.specs.Prelude.{◌≡◌, ◌<◌, ◌↔◌, pos, [], ◌∷◌, ◌++◌, IfOk, IsTrue, MatchOption};
+ghost use Rattle.std.specs.Prelude.{◌≡◌, ◌<◌, ◌↔◌, pos, IfOk, IsTrue, MatchOption};
 ghost use Rattle.gj_rational.specs.Rational.{whole, rational, ◌-ℚ◌, ◌*ℚ◌};
 ghost use Rattle.gj_problem.specs.Problems.{Holds};
-ghost use Rattle.gj_safe_cut.specs.RoundedCuts.{IsOnGrid, IsBelowOnGrid, lower_of, upper_of, IsMoved, IsFreeEntry, IsRoundedOf, RoundedHolds};
+ghost use Rattle.gj_problem.specs.RoundedCuts.{IsOnGrid, IsBelowOnGrid, lower_of, upper_of, IsMoved, IsFreeEntry, IsRoundedOf, RoundedHolds};
 
+use crate::faults::Fault;
+use crate::pieces::push_entry;
+use crate::problem::{Entry, Inequality, Problem};
 use gj_frac::{Frac, Wide};
-use gj_problem::{Entry, Fault, Inequality, Problem};
 use gj_shape::List;
 use std::alloc::{AllocError, Global};
 
@@ -61,21 +63,19 @@ fn rounded_cut(
             return Ok(RoundedCut::Free(entry.column));
         };
         right = right.checked_add(moved.shift)?;
-        push_entry(&mut entries, entry.column, moved.value)?;
+        push_entry(
+            &mut entries,
+            Entry {
+                column: entry.column,
+                value: moved.value,
+            },
+        )?;
     }
     let right = below_on_grid(right, grid)?;
     Ok(RoundedCut::Cut(Inequality {
         entries: List::of(entries),
         right,
     }))
-}
-
-/// One more entry.
-fn push_entry(entries: &mut Vec<Entry>, column: u32, value: Frac) -> Result<(), AllocError>
-    ensures { IfOk result (λ _. entries.new.items ≡ entries.old.items ++ record { column = column; value = value } ∷ []) }
-{
-    entries.push(Entry { column, value })?;
-    Ok(())
 }
 
 /// A rounded coefficient, and what it adds to the right side.
