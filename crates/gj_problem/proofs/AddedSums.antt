@@ -55,6 +55,11 @@ quotient_value x y z h =
     equal_q p (rational x)
     (quotient_cross x.num x.den y.num y.den z.num z.den p.top p.bottom h (product_is (rational y) (rational z)) (both_some y z))
 
+pub multiple_value : (x factor value product z : Frac) → SameValue (fraction_of product) (product_of (fraction_of factor) (fraction_of value)) →
+    SameValue (fraction_of z) (sum_of (fraction_of x) (fraction_of product)) → rational z ≡ rational x +ℚ rational factor *ℚ rational value
+multiple_value x factor value product z product_is sum_is =
+    sum_value x product z sum_is ∙ ap (λ w. rational x +ℚ w) (product_value factor value product product_is)
+
 negation_ratio : (p r x d : ℤ) → p *ℤ (pos 1 *ℤ d) ≡ (negsuc 0 *ℤ x) *ℤ r → p *ℤ d ≡ neg_ℤ x *ℤ r
 negation_ratio p r x d k = ap (λ z. p *ℤ z) (sym (one_mul_z d)) ∙ k ∙ ap (λ z. z *ℤ r) (omega (arith, ints))
 
@@ -85,13 +90,12 @@ dot_set (c ∷ cs) (v ∷ point) (suc j) d e x below is =
     ap (λ w. rational c *ℚ v +ℚ w) (dot_set cs point j d e x (omega arith) is)
     ∙ sym (add_assoc_q (rational c *ℚ v) (dot cs point) (x *ℚ value_at point j))
 
-pub entry_added : (cs : List Frac) (point : List Rational) (j : ℕ) (old product e factor value : Frac) → j < length cs →
-    old ≡ get_or cs j old → SameValue (fraction_of product) (product_of (fraction_of factor) (fraction_of value)) →
-    SameValue (fraction_of e) (sum_of (fraction_of old) (fraction_of product)) →
+pub entry_added : (cs : List Frac) (point : List Rational) (j : ℕ) (old e factor value : Frac) → j < length cs → old ≡ get_or cs j old →
+    rational e ≡ rational old +ℚ rational factor *ℚ rational value →
     dot (slice_set cs j e) point ≡ dot cs point +ℚ rational factor *ℚ (rational value *ℚ value_at point j)
-entry_added cs point j old product e factor value below here product_is sum_is =
+entry_added cs point j old e factor value below here sum_is =
     dot_set cs point j old e (rational factor *ℚ rational value) below
-    (sum_value old product e sum_is ∙ ap₂ (λ a b. a +ℚ b) (ap rational here) (product_value factor value product product_is))
+    (sum_is ∙ ap (λ (c : Frac). rational c +ℚ rational factor *ℚ rational value) here)
     ∙ ap (λ w. dot cs point +ℚ w) (mul_assoc_q (rational factor) (rational value) (value_at point j))
 
 -- ---- more entries
@@ -123,14 +127,11 @@ entries_added point es i e f d now next below here now_is next_is =
 both_added : (d r f s q : Rational) → (d +ℚ f *ℚ s) -ℚ (r +ℚ f *ℚ q) ≡ (d -ℚ r) +ℚ f *ℚ (s -ℚ q)
 both_added d r f s q = by_ring_q (d ∷ r ∷ f ∷ s ∷ q ∷ []) (search ring_q depth 40) refl
 
-pub inequality_added : (d now s : Rational) (old product new factor right : Frac) → now ≡ d +ℚ rational factor *ℚ s →
-    SameValue (fraction_of product) (product_of (fraction_of factor) (fraction_of right)) →
-    SameValue (fraction_of new) (sum_of (fraction_of old) (fraction_of product)) →
+pub inequality_added : (d now s : Rational) (old new factor right : Frac) → now ≡ d +ℚ rational factor *ℚ s →
+    rational new ≡ rational old +ℚ rational factor *ℚ rational right →
     now -ℚ rational new ≡ (d -ℚ rational old) +ℚ rational factor *ℚ (s -ℚ rational right)
-inequality_added d now s old product new factor right now_is product_is sum_is =
-    ap₂ (λ a b. a -ℚ b) now_is
-    (sum_value old product new sum_is ∙ ap (λ w. rational old +ℚ w) (product_value factor right product product_is))
-    ∙ both_added d (rational old) (rational factor) s (rational right)
+inequality_added d now s old new factor right now_is sum_is =
+    ap₂ (λ a b. a -ℚ b) now_is sum_is ∙ both_added d (rational old) (rational factor) s (rational right)
 
 pub nothing_added : (d f : Rational) → d ≡ d +ℚ f *ℚ whole (pos 0)
 nothing_added d f = by_ring_q (d ∷ f ∷ []) (search ring_q depth 30) refl

@@ -19,7 +19,7 @@ use Rattle.gj_problem.specs.declared.problem.Sense.TheVariants.{AtMost, AtLeast,
 use Rattle.gj_problem.specs.declared.pieces.Piece.{Piece}
 use Rattle.gj_problem.specs.Aggregates.{combined_at, IsCutOver, IsTurnedBack}
 use Rattle.gj_problem.specs.Problems.{value_at, sum_at, surplus_at, Meets, MeetsColumn, MeetsConstraint, IsFeasible, Holds, IsColumn, IsWholeColumn, IsConstraint}
-use Rattle.gj_problem.specs.Rows.{HasWholeSurplus, IsSignFor, IsMultiple, IsWholeInequality, IsRaised, IsLowered, AreChanged, total_of, IsRounded}
+use Rattle.gj_problem.specs.Rows.{HasWholeSurplus, IsSignFor, IsMultiple, IsWholeInequality, IsKept, IsRaised, IsLowered, AreChanged, total_of, IsRounded}
 
 -- ---- surplus
 
@@ -133,13 +133,23 @@ raised d x b = by_ring_q (d ∷ x ∷ b ∷ []) (search ring_q depth 40) refl
 lowered : (e f x b : Rational) → (e -ℚ f) *ℚ (b -ℚ x) ≡ (f -ℚ e) *ℚ x -ℚ (f -ℚ e) *ℚ b
 lowered e f x b = by_ring_q (e ∷ f ∷ x ∷ b ∷ []) (search ring_q depth 40) refl
 
+kept_change : (e x : Rational) → whole (pos 0) ≡ (e -ℚ e) *ℚ x -ℚ whole (pos 0)
+kept_change e x = by_ring_q (e ∷ x ∷ []) (search ring_q depth 40) refl
+
+kept_low : (e f : Entry) (x shift : Rational) → IsKept e f shift → IsNonnegativeQ ((rational f.value -ℚ rational e.value) *ℚ x -ℚ shift)
+kept_low e f x shift h =
+    subst IsNonnegativeQ
+    (kept_change (rational e.value) x ∙ ap₂ (λ v w. (v -ℚ rational e.value) *ℚ x -ℚ w) (sym h.same) (sym h.shift_is))
+    (nonnegative_whole (pos 0) (omega (arith, ints)))
+
 change_low : (p : Problem) (point : List Rational) (e f : Entry) (shift : Rational) → IsFeasible p point →
-    IsRaised p e f shift ⊎ IsLowered p e f shift →
+    IsKept e f shift ⊎ (IsRaised p e f shift ⊎ IsLowered p e f shift) →
     IsNonnegativeQ ((rational f.value -ℚ rational e.value) *ℚ value_at point e.column -ℚ shift)
 change_low p point e f shift feasible change =
     let x = value_at point e.column in
     let d = rational f.value -ℚ rational e.value in
-    ⊎_elim
+    ⊎_elim (kept_low e f x shift)
+    (⊎_elim
     (λ (h : IsRaised p e f shift).
     subst IsNonnegativeQ (raised d x (rational h.bound) ∙ ap (λ w. d *ℚ x -ℚ w) (sym h.shift_is))
     (nonnegative_mul d (x -ℚ rational h.bound) (difference_nonnegative (rational e.value) (rational f.value) h.greater)
@@ -148,7 +158,7 @@ change_low p point e f shift feasible change =
     subst IsNonnegativeQ (lowered (rational e.value) (rational f.value) x (rational h.bound) ∙ ap (λ w. d *ℚ x -ℚ w) (sym h.shift_is))
     (nonnegative_mul (rational e.value -ℚ rational f.value) (rational h.bound -ℚ x)
     (difference_nonnegative (rational f.value) (rational e.value) h.lesser)
-    (upper_at p point e.column h.column h.bound h.is h.bound_is feasible)))
+    (upper_at p point e.column h.column h.bound h.is h.bound_is feasible))))
     change
 
 no_change : whole (pos 0) ≡ (whole (pos 0) -ℚ whole (pos 0)) -ℚ whole (pos 0)

@@ -7,3 +7,5 @@ pub mod TurnedColumns
 pub mod RowsAtPoints
 pub mod Prefixes
 pub mod OneColumn
+pub mod GridParts
+pub mod MovedEntries

@@ -31,18 +31,35 @@ split_at xs i x below here =
     ∙ ap (λ ys. ys ++ drop (i + 1) xs) (take_more xs i x below ∙ ap (λ y. take i xs ++ y ∷ []) (sym here))
     ∙ append_assoc (take i xs) (x ∷ []) (drop (i + 1) xs)
 
+-- ---- indices
+
+none_below : {A : Type 0} (i : ℕ) → i < 0 → A
+none_below i h = absurd (omega arith)
+
+next_below : (i n : ℕ) → suc i < suc n → i < n
+next_below i n h = omega arith
+
+add_zero_n : (i : ℕ) → i ≡ i + 0
+add_zero_n i = omega arith
+
+from_zero : (i : ℕ) → 0 + i ≡ i
+from_zero i = omega arith
+
+next_index : (j i : ℕ) → j + 1 + i ≡ j + suc i
+next_index j i = omega arith
+
 -- ---- constraints
 
 weighted_more : (ms : List Frac) (cs : List Constraint) (i : ℕ) (m : Frac) (c : Constraint) → i < length ms → i < length cs →
     m ≡ get_or ms i m → c ≡ get_or cs i c →
     take (suc i) (weighted ms cs) ≡ take i (weighted ms cs) ++ record { multiplier = m; constraint = c } ∷ []
-weighted_more [] cs i m c m_below c_below m_is c_is = absurd (omega arith)
-weighted_more (n ∷ ms) [] i m c m_below c_below m_is c_is = absurd (omega arith)
+weighted_more [] cs i m c m_below c_below m_is c_is = none_below i m_below
+weighted_more (n ∷ ms) [] i m c m_below c_below m_is c_is = none_below i c_below
 weighted_more (n ∷ ms) (d ∷ cs) zero m c m_below c_below m_is c_is =
     ap₂ (λ (a : Frac) (b : Constraint). let w : Weighted = record { multiplier = a; constraint = b } in w ∷ []) (sym m_is) (sym c_is)
 weighted_more (n ∷ ms) (d ∷ cs) (suc i) m c m_below c_below m_is c_is =
     ap (λ (ws : List Weighted). record { multiplier = n; constraint = d } ∷ ws)
-    (weighted_more ms cs i m c (omega arith) (omega arith) m_is c_is)
+    (weighted_more ms cs i m c (next_below i (length ms) m_below) (next_below i (length cs) c_below) m_is c_is)
 
 pub weighted_next : (ms : List Frac) (cs : List Constraint) (i : ℕ) (m : Frac) (c : Constraint) → i < length ms → i < length cs →
     m ≡ get_or ms i m → c ≡ get_or cs i c →
@@ -80,28 +97,26 @@ aggregate_next point ws vs w old new vs_is old_is new_is =
 held_more : (j : ℕ) (ds : List Column) (cs : List Frac) (ups : List Bool) (i : ℕ) (d : Column) (c : Frac) (up : Bool) →
     i < length ds → i < length cs → i < length ups → d ≡ get_or ds i d → c ≡ get_or cs i c → up ≡ get_or ups i up →
     take (suc i) (held j ds cs ups) ≡ take i (held j ds cs ups) ++ record { index = j + i; column = d; coefficient = c; at_upper = up } ∷ []
-held_more j [] cs ups i d c up d_below c_below up_below d_is c_is up_is = absurd (omega arith)
-held_more j (e ∷ ds) [] ups i d c up d_below c_below up_below d_is c_is up_is = absurd (omega arith)
-held_more j (e ∷ ds) (b ∷ cs) [] i d c up d_below c_below up_below d_is c_is up_is = absurd (omega arith)
+held_more j [] cs ups i d c up d_below c_below up_below d_is c_is up_is = none_below i d_below
+held_more j (e ∷ ds) [] ups i d c up d_below c_below up_below d_is c_is up_is = none_below i c_below
+held_more j (e ∷ ds) (b ∷ cs) [] i d c up d_below c_below up_below d_is c_is up_is = none_below i up_below
 held_more j (e ∷ ds) (b ∷ cs) (p ∷ ups) zero d c up d_below c_below up_below d_is c_is up_is =
-    let index : j ≡ j + 0 = omega arith in
-    ap (λ (k : ℕ). let h : Held = record { index = k; column = e; coefficient = b; at_upper = p } in h ∷ []) index
+    ap (λ (k : ℕ). let h : Held = record { index = k; column = e; coefficient = b; at_upper = p } in h ∷ []) (add_zero_n j)
     ∙ ap (λ (f : Column). let h : Held = record { index = j + 0; column = f; coefficient = b; at_upper = p } in h ∷ []) (sym d_is)
     ∙ ap₂ (λ (a : Frac) (u : Bool). let h : Held = record { index = j + 0; column = d; coefficient = a; at_upper = u } in h ∷ []) (sym c_is) (sym up_is)
 held_more j (e ∷ ds) (b ∷ cs) (p ∷ ups) (suc i) d c up d_below c_below up_below d_is c_is up_is =
-    let index : j + 1 + i ≡ j + suc i = omega arith in
     ap (λ (hs : List Held). record { index = j; column = e; coefficient = b; at_upper = p } ∷ hs)
-    (held_more (j + 1) ds cs ups i d c up (omega arith) (omega arith) (omega arith) d_is c_is up_is
-    ∙ ap (λ (k : ℕ). take i (held (j + 1) ds cs ups) ++ record { index = k; column = d; coefficient = c; at_upper = up } ∷ []) index)
+    (held_more (j + 1) ds cs ups i d c up (next_below i (length ds) d_below) (next_below i (length cs) c_below)
+    (next_below i (length ups) up_below) d_is c_is up_is
+    ∙ ap (λ (k : ℕ). take i (held (j + 1) ds cs ups) ++ record { index = k; column = d; coefficient = c; at_upper = up } ∷ []) (next_index j i))
 
 pub held_next : (ds : List Column) (cs : List Frac) (ups : List Bool) (i : ℕ) (d : Column) (c : Frac) (up : Bool) →
     i < length ds → i < length cs → i < length ups → d ≡ get_or ds i d → c ≡ get_or cs i c → up ≡ get_or ups i up →
     take (i + 1) (held 0 ds cs ups) ≡ take i (held 0 ds cs ups) ++ record { index = i; column = d; coefficient = c; at_upper = up } ∷ []
 held_next ds cs ups i d c up d_below c_below up_below d_is c_is up_is =
-    let index : 0 + i ≡ i = omega arith in
     ap (λ (k : ℕ). take k (held 0 ds cs ups)) (add-one i)
     ∙ held_more 0 ds cs ups i d c up d_below c_below up_below d_is c_is up_is
-    ∙ ap (λ (k : ℕ). take i (held 0 ds cs ups) ++ record { index = k; column = d; coefficient = c; at_upper = up } ∷ []) index
+    ∙ ap (λ (k : ℕ). take i (held 0 ds cs ups) ++ record { index = k; column = d; coefficient = c; at_upper = up } ∷ []) (from_zero i)
 
 held_length : (j : ℕ) (ds : List Column) (cs : List Frac) (ups : List Bool) → length (held j ds cs ups) ≤ length ds
 held_length j [] cs ups = omega arith

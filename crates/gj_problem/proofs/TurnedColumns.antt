@@ -1,5 +1,5 @@
 -- Columns turned to their bounds: what they add to a sum, and that they hold.
-use Rattle.std.proofs.Common.{◌≡◌, ◌⊎◌, ⊎_elim, inl, inr, ℕ, zero, suc, ◌+◌, ◌<◌, List, [], ◌∷◌, length, get_or, All, Bool, true, false, Option, Some, None, IsTrue, ℤ, pos, negsuc, neg_ℤ, ◌+ℤ◌, ◌-ℤ◌, ◌≤ℤ◌, ◌<ℤ◌, refl, sym, ap, ap₂, subst, ◌∙◌, arith, rules}
+use Rattle.std.proofs.Common.{◌≡◌, ◌⊎◌, ⊎_elim, inl, inr, ℕ, zero, suc, ◌+◌, ◌<◌, List, [], ◌∷◌, length, get_or, All, Bool, true, false, Option, Some, None, IsTrue, ℤ, pos, negsuc, ◌+ℤ◌, ◌-ℤ◌, ◌≤ℤ◌, ◌<ℤ◌, refl, sym, ap, ap₂, subst, ◌∙◌, arith, rules}
 use Rattle.std.specs.List.{AllZip}
 use Rattle.std.proofs.lemmas.Int.{ints}
 use Rattle.std.proofs.lemmas.List.Elements.{All-nil, All-cons}
@@ -8,7 +8,7 @@ use Rattle.gj_frac.specs.Floor.{IsFloor}
 use Rattle.gj_frac.specs.Fraction.{IsWhole, numerator}
 use Rattle.gj_lemmas.proofs.Integers.{mul_lt_cancel_right_z}
 use Rattle.gj_rational.specs.Rational.{Rational, whole, rational, ◌+ℚ◌, ◌*ℚ◌, neg_ℚ, ◌-ℚ◌, ◌≤ℚ◌, IsWholeNumber}
-use Rattle.gj_rational.proofs.RationalLaws.{zero_mul_q, whole_add, whole_neg}
+use Rattle.gj_rational.proofs.RationalLaws.{zero_mul_q, whole_add, whole_sub}
 use Rattle.gj_rational.proofs.RationalOrder.{IsNonnegativeQ, nonnegative_whole, at_most_from_difference}
 use Rattle.gj_rational.proofs.RationalRing.{by_ring_q, ring_q}
 use Rattle.gj_problem.specs.declared.problem.Column.{Column}
@@ -125,9 +125,6 @@ bounds_at full j (d ∷ columns) (c ∷ cs) (up ∷ ups) (x ∷ point) ps h meet
 
 -- ---- rounded bounds
 
-shifted : (z n : ℤ) → whole (z -ℤ n) ≡ whole z -ℚ whole n
-shifted z n = ap whole (omega (arith, ints)) ∙ whole_add z (neg_ℤ n) ∙ ap (λ w. whole z +ℚ w) (whole_neg n)
-
 above_ceiling : (l : Frac) (n z : ℤ) → IsCeiling l n → rational l ≤ℚ whole z → pos 0 ≤ℤ (z -ℤ n)
 unfolding whole
 above_ceiling l n z ceiling h =
@@ -137,7 +134,7 @@ above_ceiling l n z ceiling h =
     mul_lt_cancel_right_z (n -ℤ pos 1) z l.den l.lowest.positive (omega (arith, ints)) in
     omega (arith, ints)
 
-below_floor : (u : Frac) (n z : ℤ) → IsFloor u n → whole z ≤ℚ rational u → pos 0 ≤ℤ (n -ℤ z)
+pub below_floor : (u : Frac) (n z : ℤ) → IsFloor u n → whole z ≤ℚ rational u → pos 0 ≤ℤ (n -ℤ z)
 unfolding whole
 below_floor u n z floor h =
     let high = h.crosswise in
@@ -153,7 +150,7 @@ lower_rounded true l bound x h is_whole low =
     let (z, z_is) = is_whole (search rules) in
     let n = h.0 in
     let below : rational l ≤ℚ whole z = at_most_from_difference (rational l) (whole z) (subst (λ y. IsNonnegativeQ (y -ℚ rational l)) z_is low) in
-    subst IsNonnegativeQ (shifted z n ∙ ap₂ (λ a b. a -ℚ b) (sym z_is) (sym h.2)) (nonnegative_whole (z -ℤ n) (above_ceiling l n z h.1 below))
+    subst IsNonnegativeQ (whole_sub z n ∙ ap₂ (λ a b. a -ℚ b) (sym z_is) (sym h.2)) (nonnegative_whole (z -ℤ n) (above_ceiling l n z h.1 below))
 
 upper_rounded : (b : Bool) (u bound : Frac) (x : Rational) → IsUpperBound b u bound → (IsTrue b → IsWholeNumber x) →
     IsNonnegativeQ (rational u -ℚ x) → IsNonnegativeQ (rational bound -ℚ x)
@@ -162,7 +159,7 @@ upper_rounded true u bound x h is_whole low =
     let (z, z_is) = is_whole (search rules) in
     let n = h.0 in
     let below : whole z ≤ℚ rational u = at_most_from_difference (whole z) (rational u) (subst (λ y. IsNonnegativeQ (rational u -ℚ y)) z_is low) in
-    subst IsNonnegativeQ (shifted n z ∙ ap₂ (λ a b. a -ℚ b) (sym h.2) (sym z_is)) (nonnegative_whole (n -ℤ z) (below_floor u n z h.1 below))
+    subst IsNonnegativeQ (whole_sub n z ∙ ap₂ (λ a b. a -ℚ b) (sym h.2) (sym z_is)) (nonnegative_whole (n -ℤ z) (below_floor u n z h.1 below))
 
 lower_whole : (b : Bool) (l bound : Frac) → IsTrue b → IsLowerBound b l bound → IsWholeNumber (rational bound)
 lower_whole true l bound flag h = (h.0, h.2)

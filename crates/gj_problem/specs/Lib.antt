@@ -3,3 +3,4 @@ pub mod Rows
 pub mod Aggregates
 pub mod Steps
 pub mod Made
+pub mod RoundedCuts

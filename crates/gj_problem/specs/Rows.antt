@@ -40,6 +40,11 @@ pub record IsWholeInequality (p : Problem) (q : Inequality) : Type 0 where
 
 -- ---- rounding
 
+-- the second entry is the first
+pub record IsKept (e e' : Entry) (shift : Rational) : Type 0 where
+  pub same : rational e'.value ≡ rational e.value
+  pub shift_is : shift ≡ whole (pos 0)
+
 -- the second entry is the first with a greater value, in a column with the lower bound l, or with a lesser one, in a column with the upper bound
 -- u; the shift is the change times the bound
 pub record IsRaised (p : Problem) (e e' : Entry) (shift : Rational) : Type 0 where
@@ -60,7 +65,7 @@ pub record IsLowered (p : Problem) (e e' : Entry) (shift : Rational) : Type 0 wh
 
 abbrev pub AreChanged : Problem → List Entry → List Entry → List Rational → Type 0
 AreChanged p (e ∷ es) (e' ∷ es') (shift ∷ shifts) =
-    (e'.column ≡ e.column) × (IsRaised p e e' shift ⊎ IsLowered p e e' shift) × AreChanged p es es' shifts
+    (e'.column ≡ e.column) × (IsKept e e' shift ⊎ (IsRaised p e e' shift ⊎ IsLowered p e e' shift)) × AreChanged p es es' shifts
 AreChanged p [] [] [] = Unit {0}
 AreChanged p es es' shifts = ⊥
 

@@ -3,13 +3,15 @@
 //! A [`Problem`] has columns, whole or continuous, with bounds, and constraints with exact data.
 //! Its constraints, each times a multiplier, add up to a row whose columns are the surpluses of
 //! inequalities that hold: slacks, and columns turned to their bounds. [`theorems`] says that these
-//! hold, that the row adds up at each feasible point, and that what is rounded holds.
+//! hold, that the row adds up at each feasible point, and that a cut over the pieces holds in the
+//! columns of the problem. [`rounded`] rounds an inequality to a grid, so that it still holds.
 #![tactic(auto)]
 
 mod bounds;
 mod faults;
 mod pieces;
 mod problem;
+mod rounding;
 mod row;
 mod scales;
 mod slacks;
@@ -19,6 +21,7 @@ pub mod theorems;
 pub use faults::Fault;
 pub use pieces::Piece;
 pub use problem::{Column, Constraint, Entry, Inequality, Problem, Sense};
+pub use rounding::{RoundedCut, rounded};
 pub use row::{MadeRow, Row, row_of};
 pub use scales::divided;
 pub use sums::Sum;

@@ -43,7 +43,7 @@ impl Sum {
         let Some(coefficient) = self.coefficients.get_mut(entry.column as usize) else {
             return Err(Wide);
         };
-        *coefficient = coefficient.checked_add(factor.checked_mul(entry.value)?)?;
+        *coefficient = with_multiple(*coefficient, factor, entry.value)?;
         Ok(())
     }
 
@@ -62,7 +62,7 @@ impl Sum {
         for entry in entries {
             self.add_entry(factor, *entry)?;
         }
-        self.right = self.right.checked_add(factor.checked_mul(right)?)?;
+        self.right = with_multiple(self.right, factor, right)?;
         Ok(())
     }
 
@@ -91,6 +91,14 @@ impl Sum {
             right: self.right,
         }))
     }
+}
+
+/// x with this multiple of a value added.
+fn with_multiple(x: Frac, factor: Frac, value: Frac) -> Result<Frac, Wide>
+    ensures value { IfOk result (λ z. rational z ≡ rational x +ℚ rational factor *ℚ rational value) }
+    ensures wide { OnErr result (IsWideAt x factor value) }
+{
+    x.checked_add(factor.checked_mul(value)?)
 }
 
 /// The entries with one more, unless it is 0.

@@ -1,11 +1,10 @@
 -- The laws of sums, products and the order of rational numbers.
-use Rattle.std.proofs.Common.{◌≡◌, ◌≢◌, ◌↔◌, ℕ, ℤ, pos, negsuc, ◌+ℤ◌, ◌-ℤ◌, ◌*ℤ◌, neg_ℤ, ◌<ℤ◌, ◌≤ℤ◌, [], ◌∷◌, unsigned_abs, refl, sym, ap, ap₂, subst, subst₂, ◌∙◌, arith}
+use Rattle.std.proofs.Common.{◌≡◌, ℤ, pos, negsuc, ◌+ℤ◌, ◌-ℤ◌, ◌*ℤ◌, neg_ℤ, ◌<ℤ◌, refl, sym, ap, ap₂, ◌∙◌, arith}
 use Rattle.std.proofs.lemmas.Int.{ints}
 use Rattle.gj_lemmas.proofs.Divisors.{same_ratio}
-use Rattle.gj_lemmas.proofs.Integers.{mul_positive_z, mul_nonnegative_z, mul_le_cancel_right_z, mul_le_mul_right_z, mul_cancel_right_z, mul_comm_z, mul_assoc_z, one_mul_z, swap_last_z, positive_some_z}
-use Rattle.gj_lemmas.proofs.Ratios.{Ratio, IsSum, IsProduct, IsOver, sum_over, product_over, sums_swapped, sums_regrouped, products_swapped, products_regrouped, products_over_sums}
-use Rattle.gj_lemmas.proofs.Ring.{by_ring, ring}
-use Rattle.gj_rational.specs.Rational.{Rational, IsReduced, reduced, over, whole, ◌+ℚ◌, ◌*ℚ◌, neg_ℚ, ◌-ℚ◌, ◌≤ℚ◌}
+use Rattle.gj_lemmas.proofs.Integers.{mul_positive_z, mul_cancel_right_z, one_mul_z, positive_some_z}
+use Rattle.gj_lemmas.proofs.Ratios.{Ratio, IsSum, IsProduct, sums_swapped, sums_regrouped, products_swapped, products_regrouped, products_over_sums}
+use Rattle.gj_rational.specs.Rational.{Rational, IsReduced, reduced, over, whole, ◌+ℚ◌, ◌*ℚ◌, neg_ℚ, ◌-ℚ◌}
 use lib.IntN.{zero-*ℤ}
 use denote.Struct.Props.{props}
 use mathlib.Core.HLevel.{is_prop→PathP}
@@ -121,6 +120,9 @@ whole_mul x y = equal_q _ _ (whole_product (whole x *ℚ whole y).top (whole x *
 
 pub whole_neg : (x : ℤ) → whole (neg_ℤ x) ≡ neg_ℚ (whole x)
 whole_neg x = ap whole (omega (arith, ints)) ∙ whole_mul (negsuc 0) x
+
+pub whole_sub : (x y : ℤ) → whole (x -ℤ y) ≡ whole x -ℚ whole y
+whole_sub x y = ap whole (omega (arith, ints)) ∙ whole_add x (neg_ℤ y) ∙ ap (λ w. whole x +ℚ w) (whole_neg y)
 
 pub whole_injective : (x y : ℤ) → whole x ≡ whole y → x ≡ y
 unfolding whole

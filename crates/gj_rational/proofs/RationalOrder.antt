@@ -1,10 +1,11 @@
 -- The order of rational numbers.
-use Rattle.std.proofs.Common.{◌≡◌, ℤ, pos, negsuc, ◌+ℤ◌, ◌-ℤ◌, ◌*ℤ◌, neg_ℤ, ◌<ℤ◌, ◌≤ℤ◌, [], ◌∷◌, refl, sym, ap, ◌∙◌, arith}
+use Rattle.std.proofs.Common.{◌≡◌, ◌<◌, ℕ, ℤ, pos, negsuc, ◌+ℤ◌, ◌-ℤ◌, ◌*ℤ◌, neg_ℤ, ◌<ℤ◌, ◌≤ℤ◌, [], ◌∷◌, refl, sym, ap, subst, ◌∙◌, arith}
 use Rattle.std.proofs.lemmas.Int.{ints}
 use Rattle.gj_lemmas.proofs.Integers.{mul_positive_z, mul_nonnegative_z, mul_le_cancel_right_z, one_mul_z}
 use Rattle.gj_lemmas.proofs.Ring.{by_ring, ring}
 use Rattle.gj_rational.specs.Rational.{Rational, whole, ◌+ℚ◌, ◌*ℚ◌, neg_ℚ, ◌-ℚ◌, ◌≤ℚ◌}
-use Rattle.gj_rational.proofs.RationalLaws.{sum_is, product_is}
+use Rattle.gj_rational.proofs.RationalLaws.{sum_is, product_is, whole_sub}
+use Rattle.gj_rational.proofs.RationalRing.{by_ring_q, ring_q}
 
 -- x is at least 0
 pub record IsNonnegativeQ (x : Rational) : Type 0 where
@@ -13,6 +14,10 @@ pub record IsNonnegativeQ (x : Rational) : Type 0 where
 pub nonnegative_whole : (z : ℤ) → pos 0 ≤ℤ z → IsNonnegativeQ (whole z)
 unfolding whole
 nonnegative_whole z h = record { low = h }
+
+pub whole_nonnegative : (z : ℤ) → IsNonnegativeQ (whole z) → pos 0 ≤ℤ z
+unfolding whole
+whole_nonnegative z h = h.low
 
 -- s/b = k/d has the sign of k
 sign_from : (s b k d : ℤ) → pos 0 <ℤ d → pos 0 ≤ℤ b → s *ℤ d ≡ k *ℤ b → pos 0 ≤ℤ k → pos 0 ≤ℤ s
@@ -36,6 +41,24 @@ nonnegative_mul x y h k = record {
       (mul_positive_z x.bottom y.bottom x.reduced.positive y.reduced.positive) (omega (arith, ints, (x *ℚ y).reduced.positive))
       (product_is x y) (mul_nonnegative_z x.top y.top h.low k.low);
 }
+
+scaled_low : (p b n d m : ℤ) → pos 0 <ℤ m → pos 0 <ℤ d → pos 0 <ℤ b → p *ℤ (pos 1 *ℤ d) ≡ (m *ℤ n) *ℤ b → pos 0 ≤ℤ p → pos 0 ≤ℤ n
+scaled_low p b n d m m_some d_some b_some e low =
+    sign_from n d p (m *ℤ b) (mul_positive_z m b m_some b_some) (omega (arith, ints))
+    (regrouped m n b ∙ sym e ∙ ap (λ z. p *ℤ z) (one_mul_z d)) low
+  where
+    regrouped : (m n b : ℤ) → n *ℤ (m *ℤ b) ≡ (m *ℤ n) *ℤ b
+    regrouped m n b = by_ring (m ∷ n ∷ b ∷ []) (search ring depth 40) refl
+
+-- what is at least 0 times a number above 0 is at least 0
+pub nonnegative_cancel : (n : ℕ) (x : Rational) → 0 < n → IsNonnegativeQ (whole (pos n) *ℚ x) → IsNonnegativeQ x
+unfolding whole
+nonnegative_cancel n x some h =
+    let p = whole (pos n) *ℚ x in
+    record {
+      low = scaled_low p.top p.bottom x.top x.bottom (pos n) (omega (arith, ints)) x.reduced.positive
+          (omega (arith, ints, p.reduced.positive)) (product_is (whole (pos n)) x) h.low;
+    }
 
 -- ---- x is at most y exactly if y - x is at least 0
 
@@ -86,3 +109,30 @@ at_most_from_difference x y h =
     sign_from (y.top *ℤ x.bottom -ℤ x.top *ℤ y.bottom) (y.bottom *ℤ n.bottom *ℤ x.bottom) d.top (n.bottom *ℤ d.bottom)
     (mul_positive_z n.bottom d.bottom n.reduced.positive d.reduced.positive) (omega (arith, ints)) (sym (difference_over x y)) h.low in
     record { crosswise = omega (arith, ints) }
+
+-- ---- multiples
+
+pub at_most_whole : (x y : ℤ) → x ≤ℤ y → whole x ≤ℚ whole y
+at_most_whole x y h =
+    at_most_from_difference (whole x) (whole y) (subst IsNonnegativeQ (whole_sub y x) (nonnegative_whole (y -ℤ x) (omega (arith, ints))))
+
+scaled_difference : (n x y : Rational) → n *ℚ (y -ℚ x) ≡ n *ℚ y -ℚ n *ℚ x
+scaled_difference n x y = by_ring_q (n ∷ x ∷ y ∷ []) (search ring_q depth 40) refl
+
+pub at_most_scaled : (n : ℕ) (x y : Rational) → x ≤ℚ y → (whole (pos n) *ℚ x) ≤ℚ (whole (pos n) *ℚ y)
+at_most_scaled n x y h =
+    at_most_from_difference _ _
+    (subst IsNonnegativeQ (scaled_difference (whole (pos n)) x y)
+    (nonnegative_mul (whole (pos n)) (y -ℚ x) (nonnegative_whole (pos n) (omega (arith, ints))) (difference_nonnegative x y h)))
+
+pub at_most_cancel : (n : ℕ) (x y : Rational) → 0 < n → (whole (pos n) *ℚ x) ≤ℚ (whole (pos n) *ℚ y) → x ≤ℚ y
+at_most_cancel n x y some h =
+    at_most_from_difference x y
+    (nonnegative_cancel n (y -ℚ x) some (subst IsNonnegativeQ (sym (scaled_difference (whole (pos n)) x y)) (difference_nonnegative _ _ h)))
+
+turned_difference : (x y : Rational) → neg_ℚ x -ℚ neg_ℚ y ≡ y -ℚ x
+turned_difference x y = by_ring_q (x ∷ y ∷ []) (search ring_q depth 40) refl
+
+pub at_most_turned : (x y : Rational) → neg_ℚ y ≤ℚ neg_ℚ x → x ≤ℚ y
+at_most_turned x y h =
+    at_most_from_difference x y (subst IsNonnegativeQ (turned_difference x y) (difference_nonnegative (neg_ℚ y) (neg_ℚ x) h))

@@ -1,9 +1,9 @@
 -- Rational numbers without bound: a top over a bottom above 0 in lowest terms, so that equal values are one number (the usual ones).
-use Rattle.std.proofs.Common.{◌≡◌, ℕ, ◌<◌, inr, ℤ, pos, negsuc, ◌+ℤ◌, ◌*ℤ◌, ◌<ℤ◌, ◌≤ℤ◌, unsigned_abs, int_div, refl, sym, ap, subst, ◌∙◌, arith}
+use Rattle.std.proofs.Common.{◌≡◌, ◌<◌, inr, ℤ, pos, negsuc, ◌+ℤ◌, ◌*ℤ◌, ◌<ℤ◌, ◌≤ℤ◌, unsigned_abs, int_div, sym, ap, ◌∙◌, arith}
 use Rattle.std.proofs.lemmas.Int.{ints}
-use Rattle.std.proofs.lemmas.Nat.Gcd.{IsGcd-swap, IsGcd-from_zero}
+use Rattle.std.proofs.lemmas.Nat.Gcd.{IsGcd-swap}
 use Rattle.std.proofs.Math.Nat.{one-dvd}
-use Rattle.std.specs.Int.{IsGcd, ◌∣◌}
+use Rattle.std.specs.Int.{IsGcd}
 use Rattle.gj_frac.specs.declared.Frac.{Frac}
 use Rattle.gj_frac.proofs.Reduced.{quotient_of_divisor, coprime_signed_quotients}
 use Rattle.gj_lemmas.specs.Divisors.{gcd_of}

@@ -5,6 +5,7 @@ mod cuts;
 mod faces;
 mod fractions;
 mod numbers;
+mod problems;
 mod rows;
 mod shapes;
 mod slopes;

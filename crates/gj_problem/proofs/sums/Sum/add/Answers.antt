@@ -30,10 +30,9 @@ pub returns-clause-added : goal.returns-clause-added
 returns-clause-added c = λ (point : List Rational).
     let d = dot c.args.self.now.coefficients.items point in
     let now = dot c.loop-entry.self.coefficients.items point in
-    inequality_added d now (sum_at point c.args.entries.now) c.loop-entry.self.right c.in_ok-checked_mul.field-0 c.in_ok-self.field-0
-    c.args.factor c.args.right
+    inequality_added d now (sum_at point c.args.entries.now) c.loop-entry.self.right c.in_ok-self.field-0 c.args.factor c.args.right
     (all_added d now d point c.args.entries.now c.loop-entry.entry-index (rational c.args.factor) c.loop-entry-test.false
-    (c.loop-entry.invariant.added point)) c.in_ok-checked_mul.ensures.value c.in_ok-self.ensures.value
+    (c.loop-entry.invariant.added point)) c.in_ok-self.ensures.value
     ∙ ap (λ (r : Frac). (d -ℚ rational r) +ℚ rational c.args.factor *ℚ (sum_at point c.args.entries.now -ℚ rational c.args.right))
     c.loop-entry.invariant.right
 
@@ -59,4 +58,4 @@ returns-in_err-self-clause-wide c =
     on_err c.from_residual-in_err-self.result
     (IsWideWithin c.args.self.now.coefficients.items c.args.factor c.args.entries.now ⊎ IsWideAt c.args.self.now.right c.args.factor c.args.right)
     (inr (subst (λ (r : Frac). IsWideAt r c.args.factor c.args.right) c.loop-entry.invariant.right
-    (inr (c.in_ok-checked_mul.field-0, c.in_ok-checked_mul.ensures.value, c.in_err-self.ensures.wide))))
+    c.in_err-self.ensures.wide))

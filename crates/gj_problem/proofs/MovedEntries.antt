@@ -1,0 +1,152 @@
+-- What is rounded by the bounds of its columns holds.
+use Rattle.std.proofs.Common.{◌≡◌, ◌<◌, ◌⊎◌, inl, inr, ℕ, zero, suc, ◌+◌, List, [], ◌∷◌, ◌++◌, length, get_or, take, map, All, Option, Some, None, pos, refl, sym, ap, subst, subst₂, ◌∙◌, arith}
+use Rattle.std.proofs.lemmas.List.{take_more}
+use Rattle.std.proofs.lemmas.List.Elements.{All-nil, All-cons}
+use Rattle.gj_frac.specs.declared.Frac.{Frac}
+use Rattle.gj_rational.specs.Rational.{Rational, whole, rational, ◌+ℚ◌, ◌*ℚ◌, neg_ℚ, ◌-ℚ◌}
+use Rattle.gj_rational.proofs.RationalLaws.{add_assoc_q, add_comm_q}
+use Rattle.gj_rational.proofs.RationalOrder.{at_most_turned}
+use Rattle.gj_rational.proofs.RationalRing.{by_ring_q, ring_q}
+use Rattle.gj_problem.specs.declared.problem.Column.{Column}
+use Rattle.gj_problem.specs.declared.problem.Entry.{Entry}
+use Rattle.gj_problem.specs.declared.problem.Inequality.{Inequality}
+use Rattle.gj_problem.specs.declared.problem.Problem.{Problem}
+use Rattle.gj_problem.specs.Problems.{Holds}
+use Rattle.gj_problem.specs.Rows.{IsKept, IsRaised, IsLowered, AreChanged, total_of}
+use Rattle.gj_problem.proofs.AddedSums.{add_zero_q}
+use Rattle.gj_problem.proofs.HeldInequalities.{rounded_holds}
+use Rattle.gj_problem.specs.declared.rounding.RoundedCut.{RoundedCut}
+use Rattle.gj_problem.specs.declared.rounding.RoundedCut.TheVariants.{Cut, Free, Wide}
+use Rattle.gj_problem.specs.RoundedCuts.{IsBelowOnGrid, lower_of, upper_of, IsMoved, AreMoved, IsRoundedOf, IsFreeEntry, RoundedHolds}
+
+-- ---- bounds
+
+-- the column at an index with this bound, which f gives
+abbrev HasBound : (Column → Option Frac) → List Column → ℕ → Frac → Type 0
+HasBound f cs j b = (c : Column) × (j < length cs) × (get_or cs j c ≡ c) × (f c ≡ Some b)
+
+bound_at : (f : Column → Option Frac) (cs : List Column) (j : ℕ) (b : Frac) → get_or (map f cs) j None ≡ Some b → HasBound f cs j b
+bound_at f [] zero b e = absurd (cc)
+bound_at f [] (suc j) b e = absurd (cc)
+bound_at f (c ∷ cs) zero b e = (c, omega arith, refl, e)
+bound_at f (c ∷ cs) (suc j) b e = let (d, below, is, f_is) = bound_at f cs j b e in (d, omega arith, is, f_is)
+
+-- ---- they hold
+
+abbrev IsChanged : Problem → Entry → Entry → Rational → Type 0
+IsChanged p e e' shift = IsKept e e' shift ⊎ (IsRaised p e e' shift ⊎ IsLowered p e e' shift)
+
+changed_from : (p : Problem) (n : ℕ) (e e' : Entry) (shift : Rational) (lower upper : Option Frac) → lower_of p e.column ≡ lower →
+    upper_of p e.column ≡ upper → IsMoved n lower upper (rational e.value) (rational e'.value) shift → IsChanged p e e' shift
+changed_from p n e e' shift (Some l) upper l_is u_is h =
+    let (c, below, is, bound_is) = bound_at (λ (d : Column). d.lower) p.columns e.column l l_is in
+    inr (inl (record {
+      column = c;
+      is = record { below = below; is = is };
+      bound = l;
+      bound_is = bound_is;
+      greater = at_most_turned (rational e.value) (rational e'.value) h.0.at_most;
+      shift_is = h.1;
+    }))
+changed_from p n e e' shift None (Some u) l_is u_is h =
+    let (c, below, is, bound_is) = bound_at (λ (d : Column). d.upper) p.columns e.column u u_is in
+    inr (inr (record {
+      column = c;
+      is = record { below = below; is = is };
+      bound = u;
+      bound_is = bound_is;
+      lesser = h.0.at_most;
+      shift_is = h.1;
+    }))
+changed_from p n e e' shift None None l_is u_is h = inl (record { same = h.1; shift_is = h.2 })
+
+moved_changed : (p : Problem) (n : ℕ) (es fs : List Entry) (shifts : List Rational) → AreMoved p n es fs shifts → AreChanged p es fs shifts
+moved_changed p n [] [] [] h = tt
+moved_changed p n [] [] (s ∷ shifts) h = absurd h
+moved_changed p n [] (f ∷ fs) shifts h = absurd h
+moved_changed p n (e ∷ es) [] shifts h = absurd h
+moved_changed p n (e ∷ es) (f ∷ fs) [] h = absurd h
+moved_changed p n (e ∷ es) (f ∷ fs) (s ∷ shifts) h = (
+  h.0,
+  changed_from p n e f s (lower_of p e.column) (upper_of p e.column) refl refl h.1,
+  moved_changed p n es fs shifts h.2,
+)
+
+pub rounded_of_holds : (p : Problem) (n : ℕ) (q : Inequality) (r : RoundedCut) → IsRoundedOf p n q r → Holds p q → RoundedHolds p r
+rounded_of_holds p n q (Cut r) h holds =
+    rounded_holds p q r holds
+    (record { shifts = h.shifts; changed = moved_changed p n q.entries r.entries h.shifts h.moved; right = h.right.at_most })
+rounded_of_holds p n q (Free j) h holds = tt
+rounded_of_holds p n q Wide h holds = tt
+
+-- ---- one more entry
+
+-- the entries up to now are moved, and the right side is the given one with their shifts
+pub record AreMovedTo (p : Problem) (n : ℕ) (es fs : List Entry) (given right : Rational) : Type 0 where
+  pub shifts : List Rational
+  pub moved : AreMoved p n es fs shifts
+  pub right_is : right ≡ given +ℚ total_of shifts
+
+pub none_moved : (p : Problem) (n : ℕ) (given : Rational) (fs : List Entry) → fs ≡ [] → AreMovedTo p n [] fs given given
+none_moved p n given fs none =
+    subst (λ (gs : List Entry). AreMovedTo p n [] gs given given) (sym none) (record { shifts = []; moved = tt; right_is = add_zero_q given })
+
+longer : (p : Problem) (n : ℕ) (es fs : List Entry) (shifts : List Rational) (e f : Entry) (shift : Rational) → AreMoved p n es fs shifts →
+    f.column ≡ e.column → IsMoved n (lower_of p e.column) (upper_of p e.column) (rational e.value) (rational f.value) shift →
+    AreMoved p n (es ++ e ∷ []) (fs ++ f ∷ []) (shifts ++ shift ∷ [])
+longer p n [] [] [] e f shift h same is = (same, is, tt)
+longer p n [] [] (s ∷ shifts) e f shift h same is = absurd h
+longer p n [] (g ∷ fs) shifts e f shift h same is = absurd h
+longer p n (d ∷ es) [] shifts e f shift h same is = absurd h
+longer p n (d ∷ es) (g ∷ fs) [] e f shift h same is = absurd h
+longer p n (d ∷ es) (g ∷ fs) (s ∷ shifts) e f shift h same is = (h.0, h.1, longer p n es fs shifts e f shift h.2 same is)
+
+total_more : (shifts : List Rational) (x : Rational) → total_of (shifts ++ x ∷ []) ≡ total_of shifts +ℚ x
+total_more [] x = add_comm_q x (whole (pos 0))
+total_more (s ∷ shifts) x = ap (λ w. s +ℚ w) (total_more shifts x) ∙ sym (add_assoc_q s (total_of shifts) x)
+
+pub one_moved : (p : Problem) (n : ℕ) (es : List Entry) (i : ℕ) (e f : Entry) (fs gs : List Entry) (given now next shift : Rational) →
+    i < length es → e ≡ get_or es i e → gs ≡ fs ++ f ∷ [] → next ≡ now +ℚ shift → f.column ≡ e.column →
+    IsMoved n (lower_of p e.column) (upper_of p e.column) (rational e.value) (rational f.value) shift →
+    AreMovedTo p n (take i es) fs given now → AreMovedTo p n (take (i + 1) es) gs given next
+one_moved p n es i e f fs gs given now next shift below here gs_is next_is same is h =
+    let more : take (i + 1) es ≡ take i es ++ e ∷ [] = take_more es i e below ∙ ap (λ (z : Entry). take i es ++ z ∷ []) (sym here) in
+    record {
+      shifts = h.shifts ++ shift ∷ [];
+      moved = subst (λ (xs : List Entry). AreMoved p n xs gs (h.shifts ++ shift ∷ [])) (sym more)
+          (subst (λ (ys : List Entry). AreMoved p n (take i es ++ e ∷ []) ys (h.shifts ++ shift ∷ [])) (sym gs_is)
+          (longer p n (take i es) fs h.shifts e f shift h.moved same is));
+      right_is = next_is ∙ ap (λ w. w +ℚ shift) h.right_is ∙ add_assoc_q given (total_of h.shifts) shift
+          ∙ ap (λ w. given +ℚ w) (sym (total_more h.shifts shift));
+    }
+
+-- ---- none before is free
+
+not_free_at : (p : Problem) (n : ℕ) (e : Entry) (y shift : Rational) (lower upper : Option Frac) → lower_of p e.column ≡ lower →
+    upper_of p e.column ≡ upper → IsMoved n lower upper (rational e.value) y shift → IsFreeEntry p n e → ⊥
+not_free_at p n e y shift (Some l) upper l_is u_is h free = let none = sym l_is ∙ free.no_lower in absurd (cc)
+not_free_at p n e y shift None (Some u) l_is u_is h free = let none = sym u_is ∙ free.no_upper in absurd (cc)
+not_free_at p n e y shift None None l_is u_is h free = free.off_grid h.0
+
+pub none_free_in : (p : Problem) (n : ℕ) (es fs : List Entry) (shifts : List Rational) → AreMoved p n es fs shifts →
+    All (λ e. IsFreeEntry p n e → ⊥) es
+none_free_in p n [] fs shifts h = All-nil (λ e. IsFreeEntry p n e → ⊥)
+none_free_in p n (e ∷ es) [] shifts h = absurd h
+none_free_in p n (e ∷ es) (f ∷ fs) [] h = absurd h
+none_free_in p n (e ∷ es) (f ∷ fs) (s ∷ shifts) h =
+    All-cons (λ e. IsFreeEntry p n e → ⊥) e es
+    (not_free_at p n e (rational f.value) s (lower_of p e.column) (upper_of p e.column) refl refl h.1)
+    (none_free_in p n es fs shifts h.2)
+
+-- ---- a coefficient that goes up
+
+double_neg : (x : Rational) → neg_ℚ (neg_ℚ x) ≡ x
+double_neg x = by_ring_q (x ∷ []) (search ring_q depth 30) refl
+
+pub raised_to : (n : ℕ) (x y z value l m shift : Frac) (upper : Option Frac) → rational y ≡ neg_ℚ (rational x) →
+    IsBelowOnGrid n (rational y) (rational z) → rational value ≡ neg_ℚ (rational z) → m ≡ value →
+    rational shift ≡ (rational value -ℚ rational x) *ℚ rational l → IsMoved n (Some l) upper (rational x) (rational m) (rational shift)
+raised_to n x y z value l m shift upper y_is below value_is m_is shift_is = (
+  subst₂ (IsBelowOnGrid n) y_is (sym (ap (λ (w : Frac). neg_ℚ (rational w)) m_is ∙ ap neg_ℚ value_is ∙ double_neg (rational z))) below,
+  shift_is ∙ ap (λ (w : Frac). (rational w -ℚ rational x) *ℚ rational l) (sym m_is),
+)

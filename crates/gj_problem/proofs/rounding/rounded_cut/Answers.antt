@@ -1,0 +1,50 @@
+use Rattle.std.proofs.Common.{◌+◌, List, Option, MatchOption, take, drop, refl, subst}
+use Rattle.gj_rational.specs.Rational.{rational}
+use Rattle.gj_problem.specs.declared.problem.Entry.{Entry}
+use Rattle.gj_problem.proofs.AddedSums.{sum_value}
+use Rattle.gj_problem.proofs.Prefixes.{split_at}
+use Rattle.gj_problem.specs.declared.rounding.Moved.{Moved}
+use Rattle.gj_problem.specs.RoundedCuts.{lower_of, upper_of, IsMoved, IsFreeEntry, IsFirstFreeEntry}
+use Rattle.gj_problem.proofs.MovedEntries.{none_moved, one_moved, none_free_in}
+use Rattle.gj_problem.proofs.rounding.rounded_cut.Goals as goal
+
+pub loop-entry-init : goal.loop-entry-init
+loop-entry-init c = none_moved c.args.problem.now c.args.grid (rational c.args.cut.now.right) c.new-entries.result.items c.new-entries.ensures.items
+
+pub loop-entry-preserved : goal.loop-entry-preserved
+loop-entry-preserved c =
+    let p = c.args.problem.now in
+    let n = c.args.grid in
+    let e = c.entry-item.result in
+    let moved = c.in-Some.moved in
+    let f : Entry = record { column = e.column; value = moved.value } in
+    let is : IsMoved n (lower_of p e.column) (upper_of p e.column) (rational e.value) (rational moved.value) (rational moved.shift) =
+    subst
+    (λ (made : Option Moved). MatchOption made (IsFreeEntry p n e)
+    (λ m. IsMoved n (lower_of p e.column) (upper_of p e.column) (rational e.value) (rational m.value) (rational m.shift)))
+    c.in-Some.is c.in_ok-moved.ensures in
+    one_moved p n c.as_slice-entry-items.result.now c.loop-entry.entry-index e f c.loop-entry.entries.items c.push_entry.new.entries.items
+    (rational c.args.cut.now.right) (rational c.loop-entry.right) (rational c.in_ok-right.right) (rational moved.shift) c.loop-entry-test.true
+    c.entry-item.is c.in_ok-push_entry.ensures
+    (sum_value c.loop-entry.right moved.shift c.in_ok-right.right c.in_ok-right.ensures.value) refl is c.loop-entry.invariant
+
+pub returns-in_default : goal.returns-in_default
+returns-in_default c =
+    let p = c.args.problem.now in
+    let n = c.args.grid in
+    let e = c.entry-item.result in
+    let es = c.as_slice-entry-items.result.now in
+    let i = c.loop-entry.entry-index in
+    let first : IsFirstFreeEntry p n es e.column = record {
+      before = take i es;
+      entry = e;
+      after = drop (i + 1) es;
+      place = split_at es i e c.loop-entry-test.true c.entry-item.is;
+      none_before = none_free_in p n (take i es) c.loop-entry.entries.items c.loop-entry.invariant.shifts c.loop-entry.invariant.moved;
+      free = subst
+          (λ (made : Option Moved). MatchOption made (IsFreeEntry p n e)
+          (λ m. IsMoved n (lower_of p e.column) (upper_of p e.column) (rational e.value) (rational m.value) (rational m.shift)))
+          c.in_default.is c.in_ok-moved.ensures;
+      column = refl;
+    } in
+    subst (λ (xs : List Entry). IsFirstFreeEntry p n xs e.column) c.as_slice-entry-items.ensures first

@@ -1,0 +1,18 @@
+use Rattle.std.proofs.Common.{◌≡◌, inr}
+use Rattle.std.proofs.lemmas.Result.{IfOk-weaker, on_err_weaker}
+use Rattle.gj_frac.specs.Fraction.{SameValue, fraction_of, sum_of}
+use Rattle.gj_rational.specs.Rational.{rational, ◌+ℚ◌, ◌*ℚ◌}
+use Rattle.gj_problem.proofs.AddedSums.{multiple_value}
+use Rattle.gj_problem.proofs.sums.with_multiple.Goals as goal
+
+pub returns-clause-value : goal.returns-clause-value
+returns-clause-value c =
+    let product = c.in_ok-checked_mul.field-0 in
+    IfOk-weaker c.checked_add.result (λ z. SameValue (fraction_of z) (sum_of (fraction_of c.args.x) (fraction_of product)))
+    (λ z. rational z ≡ rational c.args.x +ℚ rational c.args.factor *ℚ rational c.args.value)
+    (λ z is. multiple_value c.args.x c.args.factor c.args.value product z c.in_ok-checked_mul.ensures.value is) c.checked_add.ensures.value
+
+pub returns-clause-wide : goal.returns-clause-wide
+returns-clause-wide c =
+    on_err_weaker c.checked_add.result (λ wide. inr (c.in_ok-checked_mul.field-0, c.in_ok-checked_mul.ensures.value, wide))
+    c.checked_add.ensures.wide

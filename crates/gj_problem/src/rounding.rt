@@ -1,0 +1,171 @@
+//! Cuts rounded to a grid.
+ghost use Rattle.std.specs.Prelude.{◌≡◌, ◌<◌, ◌↔◌, pos, IfOk, IsTrue, MatchOption};
+ghost use Rattle.gj_rational.specs.Rational.{whole, rational, ◌-ℚ◌, ◌*ℚ◌};
+ghost use Rattle.gj_problem.specs.Problems.{Holds};
+ghost use Rattle.gj_problem.specs.RoundedCuts.{IsOnGrid, IsBelowOnGrid, lower_of, upper_of, IsMoved, IsFreeEntry, IsRoundedOf, RoundedHolds};
+
+use crate::faults::Fault;
+use crate::pieces::push_entry;
+use crate::problem::{Entry, Inequality, Problem};
+use gj_frac::{Frac, Wide};
+use gj_shape::List;
+use std::alloc::{AllocError, Global};
+
+/// A rounded inequality, or why there is none.
+#[derive(Drop)]
+pub enum RoundedCut {
+    /// The inequality.
+    Cut(Inequality),
+    /// The column of the first entry that is off the grid in a column without bounds.
+    Free(u32),
+    /// A number does not fit 128 bits.
+    Wide,
+}
+
+/// The inequality with each number rounded to a multiple of 1/grid, so that it holds at each
+/// feasible point if the given one does.
+///
+/// A coefficient goes up where its column has a lower bound, and down where it has only an upper
+/// one; the right side changes by the bound times the change, and goes down. `Free` exactly if a
+/// coefficient is off the grid in a column without bounds; `Wide` only where a number of this does
+/// not fit. The only error is want of memory.
+pub fn rounded(
+    alloc: Global,
+    problem: &Problem,
+    cut: &Inequality,
+    grid: u64,
+) -> Result<RoundedCut, AllocError>
+    requires { 0 < grid }
+    ensures is { IfOk result (IsRoundedOf problem.now grid cut.now) }
+    ensures holds { IfOk result (λ r. Holds problem.now cut.now → RoundedHolds problem.now r) }
+{
+    match rounded_cut(alloc, problem, cut, grid) {
+        Ok(made) => Ok(made),
+        Err(Fault::Wide) => Ok(RoundedCut::Wide),
+        Err(Fault::Memory(error)) => Err(error),
+    }
+}
+
+/// The inequality rounded.
+fn rounded_cut(
+    alloc: Global,
+    problem: &Problem,
+    cut: &Inequality,
+    grid: u64,
+) -> Result<RoundedCut, Fault>
+    requires { 0 < grid }
+    ensures { IfOk result (IsRoundedOf problem.now grid cut.now) }
+{
+    let mut entries = Vec::new(alloc);
+    let mut right = cut.right;
+    for entry in cut.entries.as_slice() {
+        let Some(moved) = moved_entry(problem, *entry, grid)? else {
+            return Ok(RoundedCut::Free(entry.column));
+        };
+        right = right.checked_add(moved.shift)?;
+        push_entry(
+            &mut entries,
+            Entry {
+                column: entry.column,
+                value: moved.value,
+            },
+        )?;
+    }
+    let right = below_on_grid(right, grid)?;
+    Ok(RoundedCut::Cut(Inequality {
+        entries: List::of(entries),
+        right,
+    }))
+}
+
+/// A rounded coefficient, and what it adds to the right side.
+#[derive(Clone, Copy)]
+struct Moved {
+    value: Frac,
+    shift: Frac,
+}
+
+/// An entry rounded by the bounds of its column; none if it is off the grid and there is no bound.
+fn moved_entry(problem: &Problem, entry: Entry, grid: u64) -> Result<Option<Moved>, Wide>
+    requires { 0 < grid }
+    ensures { IfOk result (λ made. MatchOption made (IsFreeEntry problem.now grid entry)
+        (λ m. IsMoved grid (lower_of problem.now entry.column) (upper_of problem.now entry.column)
+        (rational entry.value) (rational m.value) (rational m.shift))) }
+{
+    let x = entry.value;
+    match (
+        lower_bound(problem, entry.column),
+        upper_bound(problem, entry.column),
+    ) {
+        (Some(lower), _) => Ok(Some(moved_to(x, -below_on_grid(-x, grid)?, lower)?)),
+        (None, Some(upper)) => Ok(Some(moved_to(x, below_on_grid(x, grid)?, upper)?)),
+        (None, None) => kept(x, grid),
+    }
+}
+
+/// The lower bound of a column.
+fn lower_bound(problem: &Problem, column: u32) -> Option<Frac>
+    ensures { result ≡ lower_of problem.now column }
+{
+    match problem.columns.as_slice().get(column as usize) {
+        Some(c) => c.lower,
+        None => None,
+    }
+}
+
+/// The upper bound of a column.
+fn upper_bound(problem: &Problem, column: u32) -> Option<Frac>
+    ensures { result ≡ upper_of problem.now column }
+{
+    match problem.columns.as_slice().get(column as usize) {
+        Some(c) => c.upper,
+        None => None,
+    }
+}
+
+/// The coefficient x rounded to this value, in a column with this bound.
+fn moved_to(x: Frac, value: Frac, bound: Frac) -> Result<Moved, Wide>
+    ensures value { IfOk result (λ m. m.value ≡ value) }
+    ensures shift { IfOk result (λ m. rational m.shift ≡ (rational value -ℚ rational x) *ℚ rational bound) }
+{
+    let change = value.checked_add(-x)?;
+    let shift = change.checked_mul(bound)?;
+    Ok(Moved { value, shift })
+}
+
+/// The coefficient x if it is on the grid.
+fn kept(x: Frac, grid: u64) -> Result<Option<Moved>, Wide>
+    ensures { IfOk result (λ made. MatchOption made (IsOnGrid grid (rational x) → ⊥)
+        (λ m. IsOnGrid grid (rational x) × (rational m.value ≡ rational x) × (rational m.shift ≡ whole (pos 0)))) }
+{
+    if scaled(x, grid)?.den() == 1 {
+        Ok(Some(Moved {
+            value: x,
+            shift: Frac::ratio(0, 1),
+        }))
+    } else {
+        Ok(None)
+    }
+}
+
+/// The greatest number on the grid that is at most x.
+fn below_on_grid(x: Frac, grid: u64) -> Result<Frac, Wide>
+    requires { 0 < grid }
+    ensures { IfOk result (λ y. IsBelowOnGrid grid (rational x) (rational y)) }
+{
+    let multiple = scaled(x, grid)?.floor();
+    match Frac::new(multiple, i128::from(grid)) {
+        Some(y) => Ok(y),
+        None => Err(Wide),
+    }
+}
+
+/// x times the whole number.
+fn scaled(x: Frac, grid: u64) -> Result<Frac, Wide>
+    ensures { IfOk result (λ s. rational s ≡ whole (pos grid) *ℚ rational x) }
+{
+    match Frac::new(i128::from(grid), 1) {
+        Some(n) => n.checked_mul(x),
+        None => Err(Wide),
+    }
+}

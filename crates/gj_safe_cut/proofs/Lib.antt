@@ -1,0 +1,5 @@
+pub mod PointCuts
+pub mod HeldCuts
+pub mod ValueParts
+pub mod TermSums
+pub mod CutRows

@@ -1,0 +1,73 @@
+-- Sums to which the inequalities of pieces are added.
+use Rattle.std.proofs.Common.{◌≡◌, ℕ, ◌+◌, ◌<◌, ◌≤◌, List, [], ◌∷◌, ◌++◌, length, get_or, take, pos, refl, sym, ap, ap₂, subst, ◌∙◌}
+use Rattle.std.specs.List.{AllZip}
+use Rattle.std.proofs.lemmas.List.{take_more, take_all}
+use Rattle.gj_frac.specs.declared.Frac.{Frac}
+use Rattle.gj_cut.proofs.RowTerms.{zip_longer}
+use Rattle.gj_rational.specs.Rational.{Rational, whole, rational, ◌+ℚ◌, ◌*ℚ◌, ◌-ℚ◌}
+use Rattle.gj_rational.proofs.RationalLaws.{zero_add_q, add_assoc_q}
+use Rattle.gj_rational.proofs.RationalRing.{by_ring_q, ring_q}
+use Rattle.gj_problem.specs.declared.pieces.Piece.{Piece}
+use Rattle.gj_problem.specs.declared.sums.Sum.{Sum}
+use Rattle.gj_problem.specs.Problems.{surplus_at}
+use Rattle.gj_problem.specs.Aggregates.{combined_at}
+use Rattle.gj_problem.proofs.AddedSums.{add_zero_q}
+use Rattle.gj_safe_cut.specs.AddedTerms.{sum_surplus_at, AreAdded}
+
+-- ---- two lists of pieces
+
+pub zip_joined : {A B : Type 0} (R : A → B → Type 0) (xs xs' : List A) (ys ys' : List B) → AllZip R xs ys → AllZip R xs' ys' →
+    AllZip R (xs ++ xs') (ys ++ ys')
+zip_joined R [] xs' [] ys' h k = k
+zip_joined R [] xs' (y ∷ ys) ys' h k = absurd h
+zip_joined R (x ∷ xs) xs' [] ys' h k = absurd h
+zip_joined R (x ∷ xs) xs' (y ∷ ys) ys' h k = (h.0, zip_joined R xs xs' ys ys' h.1 k)
+
+pub combined_joined : (R : Piece → Frac → Type 0) (point : List Rational) (ps qs : List Piece) (ks ls : List Frac) → AllZip R ps ks →
+    combined_at point (ks ++ ls) (ps ++ qs) ≡ combined_at point ks ps +ℚ combined_at point ls qs
+combined_joined R point [] qs [] ls h = sym (zero_add_q (combined_at point ls qs))
+combined_joined R point [] qs (k ∷ ks) ls h = absurd h
+combined_joined R point (s ∷ ps) qs [] ls h = absurd h
+combined_joined R point (s ∷ ps) qs (k ∷ ks) ls h =
+    let x = rational k *ℚ surplus_at point s.inequality in
+    ap (λ w. x +ℚ w) (combined_joined R point ps qs ks ls h.1) ∙ sym (add_assoc_q x (combined_at point ks ps) (combined_at point ls qs))
+
+-- ---- one more piece
+
+pub none_added : (R : Piece → Frac → Type 0) (sum : Sum) → AreAdded R [] sum sum
+none_added R sum = record { coefficients = []; given = tt; adds = λ (point : List Rational). add_zero_q (sum_surplus_at point sum) }
+
+last_term : (x a y : Rational) → (x +ℚ a) +ℚ y ≡ x +ℚ (a +ℚ (y +ℚ whole (pos 0)))
+last_term x a y = by_ring_q (x ∷ a ∷ y ∷ []) (search ring_q depth 40) refl
+
+pub one_added : (R : Piece → Frac → Type 0) (ps : List Piece) (i : ℕ) (s : Piece) (k : Frac) (old now next : Sum) → i < length ps →
+    s ≡ get_or ps i s → AreAdded R (take i ps) old now → R s k →
+    ((point : List Rational) → sum_surplus_at point next ≡ sum_surplus_at point now +ℚ rational k *ℚ surplus_at point s.inequality) →
+    AreAdded R (take (i + 1) ps) old next
+one_added R ps i s k old now next below here h given adds =
+    let more : take (i + 1) ps ≡ take i ps ++ s ∷ [] = take_more ps i s below ∙ ap (λ (z : Piece). take i ps ++ z ∷ []) (sym here) in
+    record {
+      coefficients = h.coefficients ++ k ∷ [];
+      given = subst (λ (qs : List Piece). AllZip R qs (h.coefficients ++ k ∷ [])) (sym more) (zip_longer R (take i ps) h.coefficients s k h.given given);
+      adds = λ (point : List Rational).
+          let y = rational k *ℚ surplus_at point s.inequality in
+          adds point ∙ ap (λ w. w +ℚ y) (h.adds point)
+          ∙ last_term (sum_surplus_at point old) (combined_at point h.coefficients (take i ps)) y
+          ∙ ap (λ w. sum_surplus_at point old +ℚ w)
+          (sym (ap (λ (qs : List Piece). combined_at point (h.coefficients ++ k ∷ []) qs) more
+          ∙ combined_joined R point (take i ps) (s ∷ []) h.coefficients (k ∷ []) h.given));
+    }
+
+pub all_added : (R : Piece → Frac → Type 0) (ps : List Piece) (i : ℕ) (old new : Sum) → length ps ≤ i → AreAdded R (take i ps) old new →
+    AreAdded R ps old new
+all_added R ps i old new end h = subst (λ (qs : List Piece). AreAdded R qs old new) (take_all i ps end) h
+
+-- ---- against 1
+
+pub against_one : (d a b x y q : Rational) (r : Frac) → d ≡ whole (pos 0) → rational r ≡ whole (pos 1) → x ≡ (d -ℚ rational r) +ℚ a → y ≡ x +ℚ b →
+    q ≡ y → q ≡ (a +ℚ b) -ℚ whole (pos 1)
+against_one d a b x y q r d_is r_is x_is y_is q_is =
+    q_is ∙ y_is ∙ ap (λ w. w +ℚ b) (x_is ∙ ap₂ (λ v w. (v -ℚ w) +ℚ a) d_is r_is) ∙ grouped a b
+  where
+    grouped : (a b : Rational) → ((whole (pos 0) -ℚ whole (pos 1)) +ℚ a) +ℚ b ≡ (a +ℚ b) -ℚ whole (pos 1)
+    grouped a b = by_ring_q (a ∷ b ∷ []) (search ring_q depth 40) refl

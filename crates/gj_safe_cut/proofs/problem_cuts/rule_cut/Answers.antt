@@ -1,0 +1,22 @@
+use Rattle.std.proofs.Common.{◌++◌, subst}
+use Rattle.std.proofs.lemmas.Result.{IfOk-weaker}
+use Rattle.gj_problem.specs.Aggregates.{IsRow}
+use Rattle.gj_problem.specs.Made.{IsMadeRow}
+use Rattle.gj_problem.specs.declared.row.MadeRow.{MadeRow}
+use Rattle.gj_safe_cut.specs.SafeCuts.{IsCutOfRow, IsSafeCutOf}
+use Rattle.gj_safe_cut.proofs.CutRows.{of_row}
+use Rattle.gj_safe_cut.proofs.problem_cuts.rule_cut.Goals as goal
+
+pub returns-in-Row-clause-is : goal.returns-in-Row-clause-is
+returns-in-Row-clause-is g c =
+    let p = c.args.problem.now in
+    let ms = c.args.multipliers.now in
+    let ups = c.args.at_upper.now in
+    let kind = c.args.rule.now.kind in
+    let up = c.args.slopes.now.up in
+    let down = c.args.slopes.now.down in
+    let row = c.in-Row.row in
+    let pieces = row.slacks.items ++ row.bounds.items in
+    let is : IsRow p ms ups pieces row.right = subst (λ (made : MadeRow). IsMadeRow p ms ups made) c.in-Row.is c.in_ok-row.ensures in
+    IfOk-weaker c.rule_cut_of_row.result (IsCutOfRow kind up down pieces row.right) (IsSafeCutOf kind up down p ms ups)
+    (of_row (IsCutOfRow kind up down) p ms ups pieces row.right is (λ j h. h)) c.rule_cut_of_row.ensures.is

@@ -1,0 +1,37 @@
+use Rattle.std.proofs.Common.{rules, IsTrue, false, arith}
+use Rattle.std.proofs.lemmas.Int.{ints}
+use Rattle.std.proofs.lemmas.Result.{IfOk-weaker}
+use Rattle.gj_frac.specs.Fraction.{SameValue, fraction_of, quotient_of}
+use Rattle.gj_rule.proofs.ClosedForm.{rest_parts, complement_parts, rising_value, falling_value}
+use Rattle.gj_theory.specs.Cuts.{IsGmicValue}
+use Rattle.gj_safe_cut.proofs.values.PlaceValues.value.Goals as goal
+
+false_is_not_true : IsTrue false → ⊥
+false_is_not_true h = search rules
+
+pub returns-then-is_below : goal.returns-then-is_below
+returns-then-is_below c =
+    let f = c.args.self.now.f in
+    let inside = c.args.self.now.inside in
+    let rest = c.fract-rest.result in
+    let low = c.fract-rest.ensures.not_negative in
+    let high = c.fract-rest.ensures.below_one in
+    IfOk-weaker c.divided.result
+    (λ y. SameValue (fraction_of y) (quotient_of (fraction_of c.complement.result) (fraction_of c.complement-then-is_below.result)))
+    (IsGmicValue f c.args.x)
+    (λ y is. falling_value f c.args.x rest c.complement.result c.complement-then-is_below.result y
+    (rest_parts c.args.x rest c.fract-rest.ensures.value) (c.if-is_below.ensures.0 (search rules))
+    (complement_parts rest c.complement.result low (omega (arith, ints)) c.complement.ensures)
+    (complement_parts f c.complement-then-is_below.result (omega (arith, ints, inside.0)) (omega (arith, ints, inside.1))
+    c.complement-then-is_below.ensures) is)
+    c.divided.ensures.value
+
+pub returns-else-is_below : goal.returns-else-is_below
+returns-else-is_below c =
+    let f = c.args.self.now.f in
+    let rest = c.fract-rest.result in
+    IfOk-weaker c.divided-else-is_below.result (λ y. SameValue (fraction_of y) (quotient_of (fraction_of rest) (fraction_of f)))
+    (IsGmicValue f c.args.x)
+    (λ y is. rising_value f c.args.x rest y (rest_parts c.args.x rest c.fract-rest.ensures.value)
+    (λ above. false_is_not_true (c.if-is_below.ensures.1 above)) is)
+    c.divided-else-is_below.ensures.value

@@ -1,0 +1,19 @@
+-- Sums to which the inequalities of pieces are added, each times its coefficient (own).
+use Rattle.std.specs.Prelude.{◌≡◌, List}
+use Rattle.std.specs.List.{AllZip}
+use Rattle.gj_frac.specs.declared.Frac.{Frac}
+use Rattle.gj_rational.specs.Rational.{Rational, rational, ◌+ℚ◌, ◌-ℚ◌}
+use Rattle.gj_problem.specs.declared.pieces.Piece.{Piece}
+use Rattle.gj_problem.specs.declared.sums.Sum.{Sum}
+use Rattle.gj_problem.specs.Rows.{dot}
+use Rattle.gj_problem.specs.Aggregates.{combined_at}
+
+-- what the sum is at a point, against its right side
+abbrev pub sum_surplus_at : List Rational → Sum → Rational
+sum_surplus_at point sum = dot sum.coefficients.items point -ℚ rational sum.right
+
+-- the new sum is the old one with such coefficients of the pieces
+pub record AreAdded (Gives : Piece → Frac → Type 0) (pieces : List Piece) (old new : Sum) : Type 0 where
+  pub coefficients : List Frac
+  pub given : AllZip Gives pieces coefficients
+  pub adds : (point : List Rational) → sum_surplus_at point new ≡ sum_surplus_at point old +ℚ combined_at point coefficients pieces

@@ -1,0 +1,2 @@
+pub mod SafeCuts
+pub mod AddedTerms

@@ -1,0 +1,57 @@
+//! Terms of a cut, added up in the columns of a problem.
+ghost use Rattle.std.specs.Prelude.{IfOk, ◌++◌};
+ghost use Rattle.gj_safe_cut.specs.SafeCuts.{IsCoefficient, IsCutOfPieces};
+ghost use Rattle.gj_safe_cut.specs.AddedTerms.{AreAdded};
+
+use crate::values::{Values, weight};
+use gj_frac::{Frac, Wide};
+use gj_mixed::SlopesAtZero;
+use gj_problem::{Fault, Inequality, Piece, Row, Sum};
+use std::alloc::Global;
+
+/// The cut over the pieces of a row, by these values and slopes, in the columns of the problem.
+pub(crate) fn turned_back<V: Values>(
+    alloc: Global,
+    columns: usize,
+    row: &Row,
+    values: &V,
+    slopes: SlopesAtZero,
+) -> Result<Inequality, Fault>
+    ensures { IfOk result (IsCutOfPieces (V.has_value values.now) slopes.up slopes.down (row.now.slacks.items ++ row.now.bounds.items)) }
+{
+    let mut sum = Sum::of_none(alloc, columns, Frac::ratio(1, 1))?;
+    add_terms(&mut sum, row.slacks.as_slice(), values, slopes)?;
+    add_terms(&mut sum, row.bounds.as_slice(), values, slopes)?;
+    match sum.inequality(alloc)? {
+        Some(cut) => Ok(cut),
+        None => Err(Fault::Wide),
+    }
+}
+
+/// Adds the inequalities of the pieces, each times its coefficient.
+fn add_terms<V: Values>(
+    sum: &mut Sum,
+    pieces: &[Piece],
+    values: &V,
+    slopes: SlopesAtZero,
+) -> Result<(), Wide>
+    ensures { IfOk result (λ _. AreAdded (IsCoefficient (V.has_value values.now) slopes.up slopes.down) pieces.now sum.old sum.new) }
+{
+    for piece in pieces {
+        let coefficient = coefficient_of(piece, values, slopes)?;
+        let inequality = &piece.inequality;
+        sum.add(coefficient, inequality.entries.as_slice(), inequality.right)?;
+    }
+    Ok(())
+}
+
+/// The coefficient of a piece.
+fn coefficient_of<V: Values>(piece: &Piece, values: &V, slopes: SlopesAtZero) -> Result<Frac, Wide>
+    ensures { IfOk result (IsCoefficient (V.has_value values.now) slopes.up slopes.down piece.now) }
+{
+    if piece.is_whole {
+        values.value(piece.entry)
+    } else {
+        weight(slopes, piece.entry)
+    }
+}

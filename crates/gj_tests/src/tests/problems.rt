@@ -1,0 +1,93 @@
+//! The cut of a problem by its multipliers, before and after it is rounded. No command makes it.
+use gj_frac::Frac;
+use gj_problem::{Column, Constraint, Entry, Inequality, Problem, RoundedCut, Sense, rounded};
+use gj_safe_cut::{SafeCut, gmic_safe_cut};
+use gj_shape::List;
+use std::alloc::Global;
+
+/// A column that is at least 0.
+fn column(is_whole: bool) -> Column {
+    Column {
+        is_whole,
+        lower: Some(Frac::ratio(0, 1)),
+        upper: None,
+    }
+}
+
+/// A whole coefficient.
+fn entry(column: u32, value: i64) -> Entry {
+    Entry {
+        column,
+        value: Frac::ratio(value, 1),
+    }
+}
+
+/// The sum of the entries is at most the right side.
+fn at_most(entries: Vec<Entry>, right: i64) -> Constraint {
+    Constraint {
+        entries: List::of(entries),
+        sense: Sense::AtMost,
+        right: Frac::ratio(right, 1),
+    }
+}
+
+/// x and y whole, z continuous, none below 0: 2x + y <= 7 and x + 3y - z <= 9.
+fn problem(alloc: Global) -> Option<Problem> {
+    let columns = vec![in alloc; column(true), column(true), column(false)].ok()?;
+    let first = vec![in alloc; entry(0, 2), entry(1, 1)].ok()?;
+    let second = vec![in alloc; entry(0, 1), entry(1, 3), entry(2, -1)].ok()?;
+    let constraints = vec![in alloc; at_most(first, 7), at_most(second, 9)].ok()?;
+    Some(Problem {
+        columns: List::of(columns),
+        constraints: List::of(constraints),
+    })
+}
+
+/// The mixed-integer cut by the multipliers 3/5 and -1/5, which make the row of x.
+fn cut_of(alloc: Global, problem: &Problem) -> Option<Inequality> {
+    let multipliers = [Frac::ratio(3, 5), Frac::ratio(-1, 5)];
+    let at_upper = [false, false, false];
+    if problem.constraints.as_slice().len() != 2 || problem.columns.as_slice().len() != 3 {
+        return None;
+    }
+    match gmic_safe_cut(alloc, problem, &multipliers, &at_upper) {
+        Ok(SafeCut::Cut(cut)) => Some(cut),
+        _ => None,
+    }
+}
+
+/// Whether the inequality has these coefficients of x, y and z and this right side.
+fn says(q: &Inequality, x: Frac, y: Frac, z: Frac, right: Frac) -> bool {
+    match q.entries.as_slice() {
+        [first, second, third] => {
+            first.value == x && second.value == y && third.value == z && q.right == right
+        }
+        _ => false,
+    }
+}
+
+/// The row is x + 3/5 s1 - 1/5 s2 + 1/5 z = 12/5, with s1 = 7 - 2x - y whole and s2 = 9 - x - 3y + z
+/// not: so 2/3 s1 + 1/3 s2 + 1/2 z >= 1, which is -5/3 x - 5/3 y + 5/6 z >= -20/3.
+fn safe_cut(alloc: Global) -> Option<bool> {
+    let cut = cut_of(alloc, &problem(alloc)?)?;
+    let xy = Frac::ratio(-5, 3);
+    Some(says(&cut, xy, xy, Frac::ratio(5, 6), Frac::ratio(-20, 3)))
+}
+
+/// In whole numbers it is -x - y + z >= -7: the coefficients go up, since all lower bounds are 0,
+/// and the right side goes down.
+fn rounded_cut(alloc: Global) -> Option<bool> {
+    let problem = problem(alloc)?;
+    let cut = cut_of(alloc, &problem)?;
+    let Ok(RoundedCut::Cut(made)) = rounded(alloc, &problem, &cut, 1) else {
+        return None;
+    };
+    let xy = Frac::ratio(-1, 1);
+    Some(says(&made, xy, xy, Frac::ratio(1, 1), Frac::ratio(-7, 1)))
+}
+
+#[test]
+fn problems(rt: HostRuntime) {
+    assert!(rt; safe_cut(rt.alloc()) == Some(true));
+    assert!(rt; rounded_cut(rt.alloc()) == Some(true));
+}
