@@ -2,6 +2,7 @@
 use Rattle.std.proofs.Common.{◌≡◌, ℕ, ◌<◌, ◌≤◌, List, [], ◌∷◌, refl, sym, ap, ap₂, subst, ◌∙◌, arith}
 use Rattle.std.specs.List.{AllZip}
 use Rattle.gj_lex.specs.declared.reason.Reason.{Reason}
+use Rattle.gj_shape.specs.FunctionData.{FunctionData, IsWithinBounds}
 use Rattle.gj_top.specs.declared.reply.End.{End}
 use Rattle.gj_top.specs.declared.status.Status.{Status}
 use Rattle.gj_top.specs.Answer.{IsAnswerTo}
@@ -29,6 +30,10 @@ pub record IsDetermined (task : Task) : Type 0 where
   pub spells : SpellsOne task.promise.form
   pub refuses : RefusesOne task.work.refuses
   pub replies : RepliesOne task.promise.form task.work.replies
+
+-- a function within the limits has one reply
+abbrev pub AnswersOne : (FunctionData → End → List ℕ → Type 0) → Type 0
+AnswersOne replies = (f : FunctionData) → IsWithinBounds f → (e d : End) (x y : List ℕ) → replies f e x → replies f d y → (e ≡ d) × (x ≡ y)
 
 one_reply : (task : Task) (input : List ℕ) (e d : End) (x y : List ℕ) → IsDetermined task → IsReply task input e x → IsReply task input d y →
     (e ≡ d) × (x ≡ y)

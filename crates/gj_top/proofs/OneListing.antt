@@ -38,10 +38,10 @@ use Rattle.gj_top.specs.declared.reply.End.{End}
 use Rattle.gj_top.specs.declared.reply.End.TheVariants as end
 use Rattle.gj_top.specs.Demo.{IsDemoReply, demo}
 use Rattle.gj_listings.specs.FacesText.{IsFacesText, uncovered_line}
-use Rattle.gj_top.specs.Faces.{IsFacesReply, faces}
-use Rattle.gj_top.specs.Fill.{IsFillText, NamesFirstPair, IsFillReply, fill}
-use Rattle.gj_top.proofs.Determined.{IsDetermined}
-use Rattle.gj_top.proofs.OneVerdict.{one_function_spelled, one_function_refusal, by_bounds, one_jump_text, no_jump_named}
+use Rattle.gj_top.specs.Faces.{IsFacesReply}
+use Rattle.gj_top.specs.Fill.{IsFillText, NamesFirstPair, IsFillReply}
+use Rattle.gj_top.proofs.Determined.{AnswersOne, IsDetermined}
+use Rattle.gj_top.proofs.OneVerdict.{one_jump_text, no_jump_named}
 use Rattle.gj_transform.proofs.OneTransform.{over_both}
 
 -- ---- faces
@@ -66,7 +66,7 @@ one_faces_text f x y h k =
     let intervals = one_picked _ h.uncovered k.uncovered in
     h.spelled ∙ (λ i. listing f.order (listed i) (lines i) (intervals i)) ∙ sym k.spelled
 
-one_faces_reply : (f : FunctionData) → IsWithinBounds f → (e d : End) (x y : List ℕ) → IsFacesReply f e x → IsFacesReply f d y → (e ≡ d) × (x ≡ y)
+pub one_faces_reply : AnswersOne IsFacesReply
 one_faces_reply f l end.Done end.Done x y h k = (refl, one_faces_text f x y h.1 k.1)
 one_faces_reply f l end.Done end.NotContinuous x y h k = absurd (no_jump_named f y h.0 k)
 one_faces_reply f l end.NotContinuous end.Done x y h k = absurd (no_jump_named f x k.0 h)
@@ -74,13 +74,6 @@ one_faces_reply f l end.NotContinuous end.NotContinuous x y h k = (refl, one_jum
 one_faces_reply f l end.Done d x y h k = absurd k
 one_faces_reply f l end.NotContinuous d x y h k = absurd k
 one_faces_reply f l e d x y h k = absurd h
-
-pub faces_is_determined : IsDetermined faces
-faces_is_determined = record {
-  spells = one_function_spelled;
-  refuses = one_function_refusal;
-  replies = by_bounds IsFacesReply one_faces_reply;
-}
 
 -- ---- fill-ins
 
@@ -191,7 +184,7 @@ filled_has_no_pair f x y h k =
     let second = at_one (at f.value) s t k.b greatest in
     absurd (omega (arith, ints))
 
-one_fill_reply : (f : FunctionData) → IsWithinBounds f → (e d : End) (x y : List ℕ) → IsFillReply f e x → IsFillReply f d y → (e ≡ d) × (x ≡ y)
+pub one_fill_reply : AnswersOne IsFillReply
 one_fill_reply f l end.Done end.Done x y h k = (refl, one_fill_text f x y l h k)
 one_fill_reply f l end.Done end.NotContinuous x y h k = absurd (no_jump_named f y h.continuous k)
 one_fill_reply f l end.Done end.NotSubadditive x y h k = absurd (filled_has_no_pair f x y h k.1)
@@ -205,13 +198,6 @@ one_fill_reply f l end.Done d x y h k = absurd k
 one_fill_reply f l end.NotContinuous d x y h k = absurd k
 one_fill_reply f l end.NotSubadditive d x y h k = absurd k
 one_fill_reply f l e d x y h k = absurd h
-
-pub fill_is_determined : IsDetermined fill
-fill_is_determined = record {
-  spells = one_function_spelled;
-  refuses = one_function_refusal;
-  replies = by_bounds IsFillReply one_fill_reply;
-}
 
 -- ---- the demonstration
 

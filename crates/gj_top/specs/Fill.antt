@@ -1,6 +1,6 @@
 -- The command `fill`: a function text is answered with the two-slope fill-in of its function, by breakpoints (Gomory and Johnson 1972; the
 -- form is own).
-use Rattle.std.specs.Prelude.{ℕ, pos, ◌≡◌, List, ◌++◌, map, codes}
+use Rattle.std.specs.Prelude.{ℕ, pos, ◌≡◌, false, List, ◌++◌, map, codes}
 use Rattle.gj_frac.specs.declared.Frac.{Frac}
 use Rattle.gj_frac.specs.Fraction.{IsRatio}
 use Rattle.gj_lex.specs.NumberText.{fraction_text}
@@ -13,7 +13,7 @@ use Rattle.gj_top.specs.declared.reply.End.{End}
 use Rattle.gj_top.specs.declared.reply.End.TheVariants.{Done, NotContinuous, NotSubadditive}
 use Rattle.gj_top.specs.Promise.{Promise}
 use Rattle.gj_top.specs.Task.{Task}
-use Rattle.gj_top.specs.Forms.{function_form, RefusesFunctionText}
+use Rattle.gj_top.specs.Forms.{function_promise, function_task}
 use Rattle.gj_top.specs.Continuity.{NamesFirstJump}
 
 -- the function is continuous, and the text is that of the points of its fill-in
@@ -46,10 +46,7 @@ IsFillReply f NotSubadditive text = IsContinuous f × NamesFirstPair f text
 IsFillReply f end text = ⊥
 
 abbrev pub fill_promise : Promise
-fill_promise = record { Thing = FunctionData; form = function_form; headline = IsFillText }
+fill_promise = function_promise false IsFillText
 
 abbrev pub fill : Task
-fill = record {
-  promise = fill_promise;
-  work = record { refuses = RefusesFunctionText; replies = IsFillReply };
-}
+fill = function_task false IsFillText IsFillReply

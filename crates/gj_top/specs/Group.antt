@@ -1,6 +1,6 @@
 -- The command `group`: a function text is answered with a verdict on the table of the function's own order, the finite master problem of
 -- that order (Gomory and Johnson 1972; the form is own).
-use Rattle.std.specs.Prelude.{ℕ, ◌≡◌, ◌<◌, ◌≤◌, List, codes}
+use Rattle.std.specs.Prelude.{ℕ, ◌≡◌, ◌<◌, ◌≤◌, false, List, codes}
 use Rattle.gj_shape.specs.FunctionData.{FunctionData, IsContinuous}
 use Rattle.gj_shape.specs.Table.{IsMinimalOnGrid}
 use Rattle.gj_function_lines.specs.FunctionLines.{line}
@@ -11,7 +11,7 @@ use Rattle.gj_top.specs.declared.reply.End.{End}
 use Rattle.gj_top.specs.declared.reply.End.TheVariants.{Done, Wide, NotContinuous, OrderLimit}
 use Rattle.gj_top.specs.Promise.{Promise}
 use Rattle.gj_top.specs.Task.{Task}
-use Rattle.gj_top.specs.Forms.{function_form, RefusesFunctionText}
+use Rattle.gj_top.specs.Forms.{function_promise, function_task}
 use Rattle.gj_top.specs.Continuity.{NamesFirstJump}
 use Rattle.gj_top.specs.Extreme.{wide_line}
 
@@ -49,10 +49,7 @@ IsGroupReply f OrderLimit text = IsContinuous f × (greatest_group_order < f.ord
 IsGroupReply f end text = ⊥
 
 abbrev pub group_promise : Promise
-group_promise = record { Thing = FunctionData; form = function_form; headline = IsTrueGroupText }
+group_promise = function_promise false IsTrueGroupText
 
 abbrev pub group : Task
-group = record {
-  promise = group_promise;
-  work = record { refuses = RefusesFunctionText; replies = IsGroupReply };
-}
+group = function_task false IsTrueGroupText IsGroupReply

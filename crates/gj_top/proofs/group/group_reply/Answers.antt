@@ -3,7 +3,7 @@ use Rattle.gj_top.proofs.group.group_reply.Goals as goal
 
 pub returns-in_ok-group_text-in-Ok : goal.returns-in_ok-group_text-in-Ok
 returns-in_ok-group_text-in-Ok c = record {
-  continuous = c.in_default.ensures.none;
+  continuous = rw c.in_default.is at c.in_ok-jump.ensures.none;
   few = omega arith;
   narrow = c.in-Ok.ensures.narrow;
   answer = c.in-Ok.answer;
@@ -16,7 +16,7 @@ pub returns-in_ok-from_slice-in-Err-Wide : goal.returns-in_ok-from_slice-in-Err-
 returns-in_ok-from_slice-in-Err-Wide c =
     let wide = c.in-Err-Wide.ensures.wide (cc (c.in-Err-Wide.field-0-is)) in
     record {
-      continuous = c.in_default.ensures.none;
+      continuous = rw c.in_default.is at c.in_ok-jump.ensures.none;
       few = omega arith;
       minimal = wide.0;
       wide = wide.1;
