@@ -16,7 +16,7 @@ use Rattle.gj_proof.specs.ProofText.{IsProofText, claim_word, title_text, number
 use Rattle.gj_top.specs.declared.reply.End.{End}
 use Rattle.gj_top.specs.declared.reply.End.TheVariants as end
 use Rattle.gj_top.specs.Report.{Tells, IsToldReply}
-use Rattle.gj_top.specs.Show.{IsShownText, IsShowing}
+use Rattle.gj_top.specs.Show.{IsShownText}
 use Rattle.gj_top.proofs.Determined.{AnswersOne, each_one}
 use Rattle.gj_top.proofs.ProofBytes.{known, claim_word_printable}
 use Rattle.gj_top.proofs.TextLaws.{one_canonical}
@@ -37,19 +37,9 @@ one_json_text f x y l (d, h, x_is) (e, k, y_is) =
     let right = one_list f.scale h.right k.right f.right scale h.right_are k.right_are in
     x_is ∙ ap json_line (h.is ∙ (λ i. function_value f.order (place i) (left i) (value i) (right i)) ∙ sym k.is) ∙ sym y_is
 
-one_shown : (json : Bool) (f : FunctionData) (x y : List ℕ) → IsWithinBounds f → IsShownText json f x → IsShownText json f y → x ≡ y
+pub one_shown : (json : Bool) (f : FunctionData) (x y : List ℕ) → IsWithinBounds f → IsShownText json f x → IsShownText json f y → x ≡ y
 one_shown false f x y l h k = one_canonical f x y l h k
 one_shown true f x y l h k = one_json_text f x y l h k
-
-showing_done : (json : Bool) (f : FunctionData) (e : End) (x : List ℕ) → IsShowing json f e x → (e ≡ end.Done) × IsShownText json f x
-showing_done json f end.Done x h = (refl, h)
-showing_done json f e x h = absurd h
-
-pub one_showing : (json : Bool) → AnswersOne (IsShowing json)
-one_showing json f l e d x y h k =
-    let (first, shown) = showing_done json f e x h in
-    let (second, other) = showing_done json f d y k in
-    (first ∙ sym second, one_shown json f x y l shown other)
 
 -- ---- the word of the claim of a proof text
 

@@ -25,11 +25,11 @@ use Rattle.gj_extreme.proofs.OneViolation.{one_violation}
 use Rattle.gj_extreme.proofs.TwoSlopeDecisions.{continuous_no_jump}
 use Rattle.gj_top.specs.declared.reply.End.{End}
 use Rattle.gj_top.specs.declared.reply.End.TheVariants as end
-use Rattle.gj_top.specs.Continuity.{NamesFirstJump}
+use Rattle.gj_top.specs.Continuity.{NamesFirstJump, IsContinuousReply}
 use Rattle.gj_top.specs.Check.{IsJudgement, IsRejected, check}
 use Rattle.gj_top.specs.Extreme.{IsDecisionText, IsExtremality, IsJumpText, IsWideText}
 use Rattle.gj_top.specs.Forms.{proof_form, RefusesFunction, RefusesProofText, json_refused_line, function_task}
-use Rattle.gj_top.specs.Minimal.{IsVerdict, IsDecision}
+use Rattle.gj_top.specs.Minimal.{IsVerdict}
 use Rattle.gj_top.proofs.Determined.{SpellsOne, RefusesOne, AnswersOne, IsDetermined, one_named_fault}
 use Rattle.gj_top.proofs.TextLaws.{spelled_is_bounded, one_spelled, one_proof}
 
@@ -79,25 +79,22 @@ one_jump_text f x y l h k =
 pub no_jump_named : (f : FunctionData) (x : List ℕ) → IsContinuous f → NamesFirstJump f x → ⊥
 no_jump_named f x continuous h = continuous_no_jump f h.index continuous h.first.jump
 
+-- a function has one reply if it has one as a continuous function
+pub one_continuous : (replies : FunctionData → End → List ℕ → Type 0) → AnswersOne replies → AnswersOne (IsContinuousReply replies)
+one_continuous replies one f l end.NotContinuous end.NotContinuous x y h k = (refl, one_jump_text f x y l h k)
+one_continuous replies one f l end.NotContinuous d x y h k = absurd (no_jump_named f x k.0 h)
+one_continuous replies one f l e end.NotContinuous x y h k = absurd (no_jump_named f y h.0 k)
+one_continuous replies one f l e d x y h k = one f l e d x y h.1 k.1
+
 -- ---- verdicts on minimality
 
-one_verdict : (f : FunctionData) (x y : List ℕ) → IsWithinBounds f → IsVerdict f x → IsVerdict f y → x ≡ y
+pub one_verdict : (f : FunctionData) (x y : List ℕ) → IsWithinBounds f → IsVerdict f x → IsVerdict f y → x ≡ y
 one_verdict f x y l (inl h) (inl k) = one_text (Minimal f) x y l h.2 k.2
 one_verdict f x y l (inl h) (inr k) = absurd (violation_denies f k.0 l k.2 h.0)
 one_verdict f x y l (inr h) (inl k) = absurd (violation_denies f h.0 l h.2 k.0)
 one_verdict f x y l (inr h) (inr k) =
     let same : k.0 ≡ h.0 = one_violation f k.0 h.0 l k.1 h.1 in
     one_text (NotMinimal f h.0) x y l h.4 (subst (λ (v : Violation). IsProofText (NotMinimal f v) y) same k.4)
-
-decision_done : (f : FunctionData) (e : End) (x : List ℕ) → IsDecision f e x → (e ≡ end.Done) × IsVerdict f x
-decision_done f end.Done x h = (refl, h)
-decision_done f e x h = absurd h
-
-pub one_decision_reply : AnswersOne IsDecision
-one_decision_reply f l e d x y h k =
-    let (first, verdict) = decision_done f e x h in
-    let (second, other) = decision_done f d y k in
-    (first ∙ sym second, one_verdict f x y l verdict other)
 
 -- ---- what the checker says
 

@@ -6,8 +6,8 @@ use Rattle.gj_top.specs.declared.reply.End.{End}
 use Rattle.gj_top.specs.declared.reply.End.TheVariants as end
 use Rattle.gj_top.specs.declared.status.Status.{Status}
 use Rattle.gj_top.specs.declared.status.Status.TheVariants.{Done}
-use Rattle.gj_top.specs.Task.{IsReply}
-use Rattle.gj_top.specs.Show.{IsShowing, show}
+use Rattle.gj_top.specs.Task.{IsReply, EndsDone}
+use Rattle.gj_top.specs.Show.{IsShownText, show}
 use Rattle.gj_top.specs.Answer.{IsAnswerTo}
 use Rattle.gj_top.specs.Answer.IsAnswerTo.{too_long, refused, replied}
 use Rattle.gj_top.proofs.InputLines.{whole_of_input}
@@ -24,7 +24,7 @@ shown_is_read input text r = (
 )
 
 -- a showing ends with Done
-showing_done : (f : FunctionData) (e : End) (text : List ℕ) → IsShowing false f e text → (e ≡ end.Done) × IsCanonicalText text f
+showing_done : (f : FunctionData) (e : End) (text : List ℕ) → EndsDone (IsShownText false) f e text → (e ≡ end.Done) × IsCanonicalText text f
 showing_done f end.Done text s = (refl, s)
 showing_done f e text s = absurd s
 

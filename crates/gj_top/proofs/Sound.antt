@@ -8,19 +8,20 @@ use Rattle.gj_words.specs.declared.requests.Request.{Request}
 use Rattle.gj_top.specs.declared.reply.End.{End}
 use Rattle.gj_top.specs.declared.reply.End.TheVariants.{Done}
 use Rattle.gj_top.specs.Promise.{reads, Spells}
-use Rattle.gj_top.specs.Task.{Task}
+use Rattle.gj_top.specs.Task.{Task, EndsDone}
 use Rattle.gj_json.proofs.OneFunction.{no_reason}
 use Rattle.gj_top.specs.Forms.{SpellsFunction, IsProofOf, RefusesFunction, RefusesProofText, function_task}
-use Rattle.gj_top.specs.Minimal.{IsDecision, IsVerdict, IsTrueVerdict}
+use Rattle.gj_top.specs.Minimal.{IsVerdict, IsTrueVerdict}
 use Rattle.gj_top.specs.Extreme.{IsExtremality, IsTrueExtremality, extreme}
-use Rattle.gj_top.specs.Show.{IsShownText, IsShowing, show}
+use Rattle.gj_top.specs.Show.{IsShownText, show}
 use Rattle.gj_top.specs.Check.{check}
-use Rattle.gj_top.specs.Faces.{IsFacesReply}
+use Rattle.gj_listings.specs.FacesText.{IsFacesText}
+use Rattle.gj_top.specs.Continuity.{IsContinuousReply}
 use Rattle.gj_top.specs.Cut.{cut}
 use Rattle.gj_top.specs.Mixed.{mixed}
 use Rattle.gj_top.specs.Fill.{IsFillText, IsFillReply}
 use Rattle.gj_top.specs.Group.{IsGroupVerdict, IsTrueGroupText, IsGroupReply}
-use Rattle.gj_top.specs.Transform.{IsTimesText, IsTimesReply, IsMirrorText, IsMirrorReply, IsRestrictionText, IsRestrictionReply}
+use Rattle.gj_top.specs.Transform.{IsTimesText, IsTimesReply, IsMirrorText, IsRestrictionText, IsRestrictionReply}
 use Rattle.gj_top.specs.Report.{Tells, IsToldReply, proof_task}
 use Rattle.gj_top.specs.Demo.{IsTrueDemonstration, demo}
 use Rattle.gj_demo.specs.Summary.{HasSummary}
@@ -62,6 +63,13 @@ of_functions json headline replies keeps = record {
   work = λ input f text spelled. keeps f text (spelled_is_bounded json input f spelled);
 }
 
+-- one about continuous functions
+of_continuous : (headline : FunctionData → List ℕ → Type 0) (replies : FunctionData → End → List ℕ → Type 0) →
+    ((f : FunctionData) (text : List ℕ) → IsContinuous f → replies f Done text → headline f text) →
+    IsSound (function_task false headline (IsContinuousReply replies))
+of_continuous headline replies keeps =
+    of_functions false headline (IsContinuousReply replies) (λ f text within h. keeps f text h.0 h.1)
+
 -- and one that tells proof texts
 of_proofs : (json : Bool) (headline : FunctionData → List ℕ → Type 0) (replies : FunctionData → End → List ℕ → Type 0) →
     ((f : FunctionData) (text : List ℕ) → IsWithinBounds f → replies f Done text → headline f text) →
@@ -78,7 +86,7 @@ pub extreme_sound : (json : Bool) → IsSound (extreme json)
 extreme_sound json = of_proofs json IsTrueExtremality IsExtremality extremality_true
 
 pub show_sound : (json : Bool) → IsSound (show json)
-show_sound json = of_functions json (IsShownText json) (IsShowing json) (λ f text within shown. shown)
+show_sound json = of_functions json (IsShownText json) (EndsDone (IsShownText json)) (λ f text within shown. shown)
 
 pub check_sound : IsSound check
 check_sound = record {
@@ -101,9 +109,9 @@ mixed_sound = record {
   work = λ input thing text spelled made. made.1;
 }
 
-group_true : (f : FunctionData) (text : List ℕ) → IsWithinBounds f → IsGroupVerdict f text → IsTrueGroupText f text
-group_true f text within decided =
-    record { continuous = decided.continuous; answer = decided.answer; says = decided.says; spelled = decided.spelled }
+group_true : (f : FunctionData) (text : List ℕ) → IsContinuous f → IsGroupVerdict f text → IsTrueGroupText f text
+group_true f text continuous decided =
+    record { continuous = continuous; answer = decided.answer; says = decided.says; spelled = decided.spelled }
 
 demo_true : (n : ℕ) (text : List ℕ) → HasSummary n text → IsTrueDemonstration n text
 demo_true n text h =
@@ -129,19 +137,19 @@ demo_sound n = record {
 
 -- the task of each request is sound
 sound_with : (c : Command) (json : Bool) → IsSound (task_with c json)
-sound_with Minimal json = of_proofs json IsTrueVerdict IsDecision verdict_true
+sound_with Minimal json = of_proofs json IsTrueVerdict (EndsDone IsVerdict) verdict_true
 sound_with Check json = check_sound
 sound_with Extreme json = extreme_sound json
 sound_with Cut json = cut_sound
 sound_with Show json = show_sound json
-sound_with Faces json = of_functions false (λ f text. IsContinuous f) IsFacesReply (λ f text within listed. listed.0)
+sound_with Faces json = of_continuous (λ f text. IsContinuous f) (EndsDone IsFacesText) (λ f text continuous listed. continuous)
 sound_with (Demo n) json = demo_sound n
 sound_with Mixed json = mixed_sound
-sound_with Fill json = of_functions false IsFillText IsFillReply (λ f text within filled. filled)
-sound_with Group json = of_functions false IsTrueGroupText IsGroupReply group_true
+sound_with Fill json = of_continuous IsFillText IsFillReply (λ f text continuous filled. filled)
+sound_with Group json = of_continuous IsTrueGroupText IsGroupReply group_true
 sound_with (Times n j) json = of_functions false (IsTimesText n j) (IsTimesReply n j) (λ f text within shown. shown)
-sound_with Mirror json = of_functions false IsMirrorText IsMirrorReply (λ f text within shown. shown)
-sound_with (Restrict d) json = of_functions false (IsRestrictionText d) (IsRestrictionReply d) (λ f text within shown. shown)
+sound_with Mirror json = of_functions false IsMirrorText (EndsDone IsMirrorText) (λ f text within shown. shown)
+sound_with (Restrict d) json = of_continuous (IsRestrictionText d) (IsRestrictionReply d) (λ f text continuous shown. shown)
 
 pub sound : (r : Request) → IsSound (task_for r)
 sound r = sound_with r.command r.json

@@ -8,10 +8,8 @@ use Rattle.gj_shape.specs.declared.violations.Violation.{Violation}
 use Rattle.gj_proof.specs.declared.claim.Claim.TheVariants.{Minimal, NotMinimal}
 use Rattle.gj_proof.specs.ProofText.{IsProofText}
 use Rattle.gj_proof.specs.Rules.{MeetsRules}
-use Rattle.gj_top.specs.declared.reply.End.{End}
-use Rattle.gj_top.specs.declared.reply.End.TheVariants.{Done}
 use Rattle.gj_top.specs.Promise.{Promise}
-use Rattle.gj_top.specs.Task.{Task}
+use Rattle.gj_top.specs.Task.{Task, EndsDone}
 use Rattle.gj_top.specs.Report.{proof_promise, proof_task}
 
 -- the text claims that f is minimal
@@ -29,11 +27,6 @@ IsVerdict f text =
     (IsMinimal f × MeetsRules (Minimal f) × IsMinimalText f text)
     ⊎ ((v : Violation) × IsFirstViolation f v × ShowsViolation f v × MeetsRules (NotMinimal f v) × IsNotMinimalText f v text)
 
--- the reply to a function is the verdict on it, and ends with Done
-abbrev pub IsDecision : FunctionData → End → List ℕ → Type 0
-IsDecision f Done text = IsVerdict f text
-IsDecision f end text = ⊥
-
 -- the headline: the text calls f minimal, and then its table on every grid of order a multiple of its own is minimal; or it
 -- calls f not minimal, with a violation that shows it, and it is not
 abbrev pub IsTrueVerdict : FunctionData → List ℕ → Type 0
@@ -44,4 +37,4 @@ abbrev pub minimal_promise : Bool → Promise
 minimal_promise json = proof_promise json IsTrueVerdict
 
 abbrev pub minimal : Bool → Task
-minimal json = proof_task json IsTrueVerdict IsDecision
+minimal json = proof_task json IsTrueVerdict (EndsDone IsVerdict)

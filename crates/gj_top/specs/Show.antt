@@ -4,10 +4,8 @@ use Rattle.std.specs.Prelude.{ℕ, Bool, true, false, List}
 use Rattle.gj_shape.specs.FunctionData.{FunctionData}
 use Rattle.gj_function_text.specs.FunctionText.{IsCanonicalText}
 use Rattle.gj_json.specs.JsonText.{IsJsonText}
-use Rattle.gj_top.specs.declared.reply.End.{End}
-use Rattle.gj_top.specs.declared.reply.End.TheVariants.{Done}
 use Rattle.gj_top.specs.Promise.{Promise}
-use Rattle.gj_top.specs.Task.{Task}
+use Rattle.gj_top.specs.Task.{Task, EndsDone}
 use Rattle.gj_top.specs.Forms.{function_promise, function_task}
 
 -- the text is the canonical text of f, or with `--json` its one JSON text
@@ -15,14 +13,9 @@ abbrev pub IsShownText : Bool → FunctionData → List ℕ → Type 0
 IsShownText false f text = IsCanonicalText text f
 IsShownText true f text = IsJsonText text f
 
--- the reply to a function is that text, and ends with Done
-abbrev pub IsShowing : Bool → FunctionData → End → List ℕ → Type 0
-IsShowing json f Done text = IsShownText json f text
-IsShowing json f end text = ⊥
-
 -- the headline is all of that
 abbrev pub show_promise : Bool → Promise
 show_promise json = function_promise json (IsShownText json)
 
 abbrev pub show : Bool → Task
-show json = function_task json (IsShownText json) (IsShowing json)
+show json = function_task json (IsShownText json) (EndsDone (IsShownText json))

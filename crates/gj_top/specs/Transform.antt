@@ -11,11 +11,11 @@ use Rattle.gj_transform.specs.declared.faults.TransformFault.{TransformFault}
 use Rattle.gj_transform.specs.declared.faults.TransformFault.TheVariants as fault
 use Rattle.gj_transform.specs.Transforms.{IsTimesOf, IsMirrorOf, IsRestrictionOf, HasNoRestriction}
 use Rattle.gj_top.specs.declared.reply.End.{End}
-use Rattle.gj_top.specs.declared.reply.End.TheVariants.{Done, NotContinuous, OrderLimit, BadOrder}
+use Rattle.gj_top.specs.declared.reply.End.TheVariants.{Done, OrderLimit, BadOrder}
 use Rattle.gj_top.specs.Promise.{Promise}
-use Rattle.gj_top.specs.Task.{Task}
+use Rattle.gj_top.specs.Task.{Task, EndsDone}
 use Rattle.gj_top.specs.Forms.{function_promise, function_task}
-use Rattle.gj_top.specs.Continuity.{NamesFirstJump}
+use Rattle.gj_top.specs.Continuity.{IsContinuousReply}
 
 -- the reply to what came of making a function
 abbrev pub IsMadeReply : Result FunctionData TransformFault → End → List ℕ → Type 0
@@ -58,15 +58,11 @@ pub record IsMirrorText (f : FunctionData) (text : List ℕ) : Type 0 where
   pub extreme : IsExtreme f ↔ IsExtreme function
   pub spelled : IsCanonicalText text function
 
-abbrev pub IsMirrorReply : FunctionData → End → List ℕ → Type 0
-IsMirrorReply f Done text = IsMirrorText f text
-IsMirrorReply f end text = ⊥
-
 abbrev pub mirror_promise : Promise
 mirror_promise = function_promise false IsMirrorText
 
 abbrev pub mirror : Task
-mirror = function_task false IsMirrorText IsMirrorReply
+mirror = function_task false IsMirrorText (EndsDone IsMirrorText)
 
 -- ---- restrict
 
@@ -80,15 +76,14 @@ pub record IsRestrictionText (d : ℕ) (f : FunctionData) (text : List ℕ) : Ty
   pub minimal : IsMinimal f → IsMinimal function
   pub spelled : IsCanonicalText text function
 
--- of a function that jumps the first jump is named; and if a continuous one has no restriction of order d, that is said
+-- if a continuous function has no restriction of order d, that is said
 abbrev pub IsRestrictionReply : ℕ → FunctionData → End → List ℕ → Type 0
 IsRestrictionReply d f Done text = IsRestrictionText d f text
-IsRestrictionReply d f NotContinuous text = NamesFirstJump f text
-IsRestrictionReply d f BadOrder text = IsContinuous f × HasNoRestriction f d × (text ≡ line (codes "bad order"))
+IsRestrictionReply d f BadOrder text = HasNoRestriction f d × (text ≡ line (codes "bad order"))
 IsRestrictionReply d f end text = ⊥
 
 abbrev pub restriction_promise : ℕ → Promise
 restriction_promise d = function_promise false (IsRestrictionText d)
 
 abbrev pub restriction : ℕ → Task
-restriction d = function_task false (IsRestrictionText d) (IsRestrictionReply d)
+restriction d = function_task false (IsRestrictionText d) (IsContinuousReply (IsRestrictionReply d))

@@ -3,6 +3,7 @@ ghost use Rattle.std.specs.Prelude.{◌<◌, IfOk};
 ghost use Rattle.gj_shape.specs.FunctionData.{IsContinuous};
 ghost use Rattle.gj_fill.specs.FirstPair.{IsFirstPair};
 ghost use Rattle.gj_top.specs.Task.{IsAnswering};
+ghost use Rattle.gj_top.specs.Continuity.{IsContinuousReply};
 ghost use Rattle.gj_top.specs.Fill.{IsFillReply, NamesFirstPair, fill};
 
 use crate::continuity::jump_reply;
@@ -29,7 +30,7 @@ pub(crate) fn reply(alloc: Global, input: &[u8]) -> Result<Reply, Unanswered>
 /// The fill-in of a continuous function, or the first two places at which it is not subadditive.
 fn fill_or_pair(alloc: Global, shape: &Shape) -> Result<Reply, AllocError>
     requires { IsContinuous shape.now }
-    ensures { IfOk result (λ reply. IsFillReply shape.now reply.end reply.text.items) }
+    ensures { IfOk result (λ reply. IsContinuousReply IsFillReply shape.now reply.end reply.text.items) }
 {
     match fill(alloc, shape) {
         Ok(filled) => Ok(Reply {
