@@ -28,7 +28,8 @@ use Rattle.gj_top.specs.Command.{promise_with, work_with}
 use Rattle.gj_top.specs.Causes.{IsDoneRun}
 use Rattle.gj_top.specs.Minimal.{IsTrueVerdict}
 use Rattle.gj_top.specs.Extreme.{IsTrueExtremality}
-use Rattle.gj_top.specs.Cut.{CutInput, SpellsCutInput, HasLinesOfRule}
+use Rattle.gj_top.specs.declared.cut_input.CutInput.{CutInput}
+use Rattle.gj_top.specs.Cut.{SpellsCutInput, HasLinesOfRule}
 use Rattle.gj_top.proofs.OneReport.{reported}
 use Rattle.gj_top.proofs.Sound.{sound}
 use Rattle.gj_top.proofs.TextLaws.{function_is_bounded, json_is_bounded}

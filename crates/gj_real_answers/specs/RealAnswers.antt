@@ -21,7 +21,7 @@ use Rattle.gj_top.specs.Command.{IsNamed, promise_with, promise_for}
 use Rattle.gj_top.specs.Minimal.{IsMinimalText, IsNotMinimalText}
 use Rattle.gj_top.specs.Extreme.{IsExtremeText, IsNotExtremeText}
 use Rattle.gj_top.specs.Check.{accepted_line}
-use Rattle.gj_top.specs.Cut.{CutInput}
+use Rattle.gj_top.specs.declared.cut_input.CutInput.{CutInput}
 use Rattle.gj_top.specs.Report.{IsReportOf}
 use Rattle.gj_fields.specs.Fields.{OrderedField, HasFloor}
 use Rattle.gj_real_claims.specs.RealMeaning.{IsRealMinimal, IsRealExtreme, RealClaimHolds}

@@ -1,5 +1,5 @@
 -- A proof text that a command writes is one that the checker accepts.
-use Rattle.std.proofs.Common.{◌≡◌, inl, inr, ℕ, ◌≤◌, List, length, subst, refl, arith}
+use Rattle.std.proofs.Common.{◌≡◌, ◌⊎◌, inl, inr, ℕ, ◌≤◌, false, List, length, subst, refl, arith}
 use Rattle.gj_shape.specs.FunctionData.{FunctionData}
 use Rattle.gj_proof.specs.declared.claim.Claim.{Claim}
 use Rattle.gj_proof.specs.declared.claim.Claim.TheVariants as claim
@@ -15,19 +15,19 @@ use Rattle.gj_top.specs.Minimal.{IsVerdict, minimal}
 use Rattle.gj_top.specs.Check.{IsJudgement, check}
 use Rattle.gj_top.specs.Cut.{cut}
 use Rattle.gj_top.specs.Extreme.{extreme}
+use Rattle.gj_top.specs.Written.{IsWrittenProof}
 use Rattle.gj_top.specs.Answer.{IsAnswerTo, input_limit}
 use Rattle.gj_top.specs.Answer.IsAnswerTo.{too_long, refused, replied}
-use Rattle.gj_top.proofs.Clauses.{done_reply}
 use Rattle.gj_check.proofs.DemandsOfClaims.{no_failure}
 use Rattle.gj_top.proofs.CutForm.{lines_are_bounded}
 use Rattle.gj_top.proofs.Sound.{check_sound}
 use Rattle.gj_top.proofs.TextLaws.{function_is_bounded, minimal_proof, not_minimal_proof, one_proof, proof_text_is_short}
 
 -- the text is the proof of a claim of which every rule holds
-record IsGoodProof (text : List ℕ) : Type 0 where
-  about : Claim
-  proof : IsProofOf text about
-  rules : MeetsRules about
+pub record IsGoodProof (text : List ℕ) : Type 0 where
+  pub about : Claim
+  pub proof : IsProofOf text about
+  pub rules : MeetsRules about
 
 good_proof : (f : FunctionData) (input text : List ℕ) → IsFunctionInput input f → IsVerdict f text → IsGoodProof text
 good_proof f input text form (inl v) = record {
@@ -55,13 +55,13 @@ good_end c end.Rejected answer rules j = absurd (no_failure c j.at_line j.rule j
 good_end c e answer rules j = absurd j
 
 -- so the reply to such a text ends with Done
-accepted_reply : (text answer : List ℕ) (e : End) → IsGoodProof text → IsReply check text e answer → e ≡ end.Done
+pub accepted_reply : (text answer : List ℕ) (e : End) → IsGoodProof text → IsReply check text e answer → e ≡ end.Done
 accepted_reply text answer e g r =
     let same : g.about ≡ r.thing = one_proof text g.about r.thing g.proof r.spelled in
     good_end r.thing e answer (subst MeetsRules same g.rules) r.replied
 
 -- and within the limit of length it is answered so
-accepted : (text answer : List ℕ) (s : Status) → length text ≤ input_limit → IsGoodProof text → IsAnswerTo check text s answer → s ≡ Done
+pub accepted : (text answer : List ℕ) (s : Status) → length text ≤ input_limit → IsGoodProof text → IsAnswerTo check text s answer → s ≡ Done
 accepted text answer s short g (too_long a) =
     let long = a.long in
     absurd (omega arith)
@@ -71,24 +71,12 @@ accepted text answer s short g (replied a) =
     let is = a.status_is in
     rw ended at is
 
--- ---- verdicts
+-- ---- what the commands write
 
-good_verdict : (input text : List ℕ) → IsReply minimal input end.Done text → IsGoodProof text
+good_verdict : (input text : List ℕ) → IsReply (minimal false) input end.Done text → IsGoodProof text
 good_verdict input text r = good_proof r.thing input text r.spelled r.replied
 
-pub verdict_accepted : (input text answer : List ℕ) (s : Status) → IsAnswerTo minimal input Done text → IsAnswerTo check text s answer → s ≡ Done
-verdict_accepted input text answer s m a =
-    let r = done_reply minimal input text m in
-    let short : length text ≤ 1000000 = verdict_is_short r.thing input text r.spelled r.replied in
-    accepted text answer s (omega arith) (good_verdict input text r) a
-
-pub verdict_accepted_reply : (input text answer : List ℕ) (e : End) → IsReply minimal input end.Done text → IsReply check text e answer →
-    e ≡ end.Done
-verdict_accepted_reply input text answer e m r = accepted_reply text answer e (good_verdict input text m) r
-
--- ---- decisions
-
-good_decision : (input text : List ℕ) → IsReply extreme input end.Done text → IsGoodProof text
+good_decision : (input text : List ℕ) → IsReply (extreme false) input end.Done text → IsGoodProof text
 good_decision input text r = record {
   about = r.replied.claim;
   proof = record {
@@ -97,20 +85,6 @@ good_decision input text r = record {
   };
   rules = r.replied.rules;
 }
-
-pub decision_accepted : (input text answer : List ℕ) (s : Status) → IsAnswerTo extreme input Done text → IsAnswerTo check text s answer → s ≡ Done
-decision_accepted input text answer s m a =
-    let r = done_reply extreme input text m in
-    let d = r.replied in
-    let short : length text ≤ 12000000 =
-    decided_text_is_short r.thing d.claim text (function_is_bounded input r.thing r.spelled) d.decided d.spelled in
-    accepted text answer s (omega arith) (good_decision input text r) a
-
-pub decision_accepted_reply : (input text answer : List ℕ) (e : End) → IsReply extreme input end.Done text →
-    IsReply check text e answer → e ≡ end.Done
-decision_accepted_reply input text answer e m r = accepted_reply text answer e (good_decision input text m) r
-
--- ---- cuts
 
 good_cuts : (input text : List ℕ) → IsReply cut input end.Done text → IsGoodProof text
 good_cuts input text r = record {
@@ -122,10 +96,18 @@ good_cuts input text r = record {
   rules = r.replied.1.rules;
 }
 
-pub cuts_accepted : (input text answer : List ℕ) (s : Status) → length text ≤ input_limit → IsAnswerTo cut input Done text →
-    IsAnswerTo check text s answer → s ≡ Done
-cuts_accepted input text answer s short m a = accepted text answer s short (good_cuts input text (done_reply cut input text m)) a
+pub written_is_good : (input text : List ℕ) → IsWrittenProof input text → IsGoodProof text
+written_is_good input text (inl r) = good_verdict input text r
+written_is_good input text (inr (inl r)) = good_decision input text r
+written_is_good input text (inr (inr r)) = good_cuts input text r
 
-pub cuts_accepted_reply : (input text answer : List ℕ) (e : End) → IsReply cut input end.Done text → IsReply check text e answer →
-    e ≡ end.Done
-cuts_accepted_reply input text answer e m r = accepted_reply text answer e (good_cuts input text m) r
+pub verdict_or_decision_is_short : (input text : List ℕ) → IsReply (minimal false) input end.Done text ⊎ IsReply (extreme false) input end.Done text →
+    length text ≤ input_limit
+verdict_or_decision_is_short input text (inl r) =
+    let short : length text ≤ 1000000 = verdict_is_short r.thing input text r.spelled r.replied in
+    omega arith
+verdict_or_decision_is_short input text (inr r) =
+    let d = r.replied in
+    let short : length text ≤ 12000000 =
+    decided_text_is_short r.thing d.claim text (function_is_bounded input r.thing r.spelled) d.decided d.spelled in
+    omega arith

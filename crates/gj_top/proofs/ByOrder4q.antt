@@ -1,37 +1,35 @@
 -- What `extreme` writes with Done calls a function extreme exactly if it is continuous and its table of order 4 q is extreme.
-use Rattle.std.proofs.Common.{◌≡◌, ◌↔◌, ℕ, Bool, true, false, List, String, Option, subst}
+use Rattle.std.proofs.Common.{◌≡◌, ◌↔◌, ℕ, Bool, List, String, Option, subst}
 use Rattle.std.specs.Prelude.{IfSome}
 use Rattle.std.specs.declared.alloc.Global.{Global}
-use Rattle.gj_words.specs.declared.requests.Command.TheVariants.{Extreme}
 use Rattle.gj_words.specs.declared.requests.Request.{Request}
 use Rattle.gj_shape.specs.FunctionData.{FunctionData}
-use Rattle.gj_json.proofs.OneFunction.{one_function as one_json_function}
 use Rattle.gj_top.specs.declared.reply.End.TheVariants as end
 use Rattle.gj_top.specs.declared.status.Status.{Status}
 use Rattle.gj_top.specs.declared.status.Status.TheVariants.{Done}
-use Rattle.gj_top.specs.Asked.{SpellsFunction, AskIfExtreme}
+use Rattle.gj_top.specs.Asked.{AskIfExtreme}
 use Rattle.gj_top.specs.Causes.{IsInput, IsDoneRun}
 use Rattle.gj_top.specs.Command.{task_for}
 use Rattle.gj_top.specs.Decisive.{CallsExtreme, IsExtremeByOrder4q, IsDecisive}
-use Rattle.gj_top.specs.Extreme.{IsDecisionText}
+use Rattle.gj_top.specs.Extreme.{IsDecisionText, IsExtremeText, extreme}
+use Rattle.gj_top.specs.Forms.{SpellsFunction}
 use Rattle.gj_top.specs.Outcome.{IsOutcome}
-use Rattle.gj_top.specs.Report.{IsReportOf}
+use Rattle.gj_top.specs.Report.{Tells}
 use Rattle.gj_top.specs.Task.{IsReply}
 use Rattle.gj_top.proofs.Clauses.{reply_clause, weaker}
 use Rattle.gj_top.proofs.Commands.{one_named}
-use Rattle.gj_top.proofs.Extremality.{extreme_at_four, report_at_four}
-use Rattle.gj_top.proofs.TextLaws.{function_is_bounded, json_is_bounded, one_function}
+use Rattle.gj_top.proofs.Extremality.{extreme_at_four}
+use Rattle.gj_top.proofs.OneReport.{told_exactly}
+use Rattle.gj_top.proofs.TextLaws.{spelled_is_bounded, one_spelled}
 
 -- a reply
 pub by_order_4q : (json : Bool) (f : FunctionData) (input text : List ℕ) → SpellsFunction json input f →
-    IsReply (task_for (record { command = Extreme; json = json })) input end.Done text → (CallsExtreme json f text ↔ IsExtremeByOrder4q f)
-by_order_4q false f input text spelled r =
-    let same : r.thing ≡ f = one_function input r.thing f r.spelled spelled in
-    extreme_at_four f text (function_is_bounded input f spelled) (subst (λ (g : FunctionData). IsDecisionText g text) same r.replied)
-by_order_4q true f input text spelled r =
-    let same : r.thing ≡ f = one_json_function input r.thing f r.spelled spelled in
-    report_at_four f text (json_is_bounded input f spelled)
-    (subst (λ (g : FunctionData). IsReportOf (IsDecisionText g) text) same r.replied)
+    IsReply (extreme json) input end.Done text → (CallsExtreme json f text ↔ IsExtremeByOrder4q f)
+by_order_4q json f input text spelled r =
+    let same : r.thing ≡ f = one_spelled json input r.thing f r.spelled spelled in
+    told_exactly json (IsDecisionText f) (IsExtremeText f) (IsExtremeByOrder4q f)
+    (λ proof. extreme_at_four f proof (spelled_is_bounded json input f spelled)) text
+    (subst (λ (g : FunctionData). Tells json (IsDecisionText g) text) same r.replied)
 
 -- a run
 decisive : (json : Bool) (words : List (String Global)) (input before : List ℕ) (written : Option (List ℕ)) (f : FunctionData) →

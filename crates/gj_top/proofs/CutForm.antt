@@ -9,24 +9,22 @@ use Rattle.gj_function_text.proofs.OneText.{one_function_text, no_fault_of_text}
 use Rattle.gj_function_text.proofs.FunctionTexts.{function_is_within}
 use Rattle.gj_function_text.proofs.RuleTexts.{one_end, no_fault_of_rule}
 use Rattle.gj_row.specs.TableauText.{records_of, IsTableauText}
+use Rattle.gj_row.specs.FirstFault.{IsFirstFaultOfTableau}
+use Rattle.gj_row.specs.declared.faults.RowReason.{RowReason}
 use Rattle.gj_row.proofs.OneTableau.{no_first_fault}
-use Rattle.gj_row.specs.declared.tableau.Tableau.{Tableau}
 use Rattle.gj_proof.specs.declared.claim.Claim.TheVariants as claim
 use Rattle.gj_proof.specs.declared.cut.CutLine.{CutLine}
 use Rattle.gj_proof.specs.declared.cut.CutRule.{CutRule}
 use Rattle.gj_proof.specs.declared.cut.CutRule.TheVariants.{Gmic, Table}
 use Rattle.gj_claims.specs.CutLines.{IsLineFor}
 use Rattle.gj_claims.proofs.CutClaims.{cuts_are_bounded}
-use Rattle.gj_top.specs.declared.reply.End.{End}
 use Rattle.gj_top.specs.declared.reply.Unanswered.{Unanswered}
 use Rattle.gj_top.specs.declared.reply.Unanswered.TheVariants.{Refused, Memory}
-use Rattle.gj_top.specs.Task.{IsTaskRefusal, IsReply}
+use Rattle.gj_top.specs.Task.{IsTaskRefusal}
 use Rattle.gj_top.specs.Forms.{IsRefusalOf}
-use Rattle.gj_top.specs.Mixed.{IsMixedReply, mixed}
-use Rattle.gj_top.specs.Cut.{BeginsWithRule, CutInput, SpellsCutInput, RefusesCutInput, IsCutReply, cut}
+use Rattle.gj_top.specs.Cut.{BeginsWithRule, CutInput, SpellsCutInput, RefusesCutInput, IsRecordRefusalOf}
 use Rattle.gj_top.specs.Cut.RefusesCutInput.{of_rule, of_function, of_tableau}
-use Rattle.gj_top.specs.CutSteps.{IsTableauRefusal}
-use Rattle.gj_top.proofs.InputLines.{rule_of_lines, lines_of_rule}
+use Rattle.gj_top.proofs.InputLines.{rule_of_lines}
 
 -- ---- what follows a rule
 
@@ -84,34 +82,15 @@ refusal_of_function input n e (Refused text) begins first spelled =
     of_function begins (record { at_line = n; reason = e; first = first; spelled = spelled })
 refusal_of_function input n e (Memory a) begins first spelled = tt
 
-pub refusal_of_tableau : (input rest : List ℕ) (r : CutRule) (u : Unanswered) → BeginsWithRule input r rest → IsTableauRefusal rest u →
-    IsTaskRefusal RefusesCutInput input u
-refusal_of_tableau input rest r (Refused text) begins fault = of_tableau (record {
+pub refusal_of_tableau : (input rest : List ℕ) (r : CutRule) (n : ℕ) (e : RowReason) (u : Unanswered) → BeginsWithRule input r rest →
+    IsFirstFaultOfTableau rest n e → IsRecordRefusalOf n e u → IsTaskRefusal RefusesCutInput input u
+refusal_of_tableau input rest r n e (Refused text) begins first spelled = of_tableau (record {
   «rule» = r;
   rest = rest;
   begins = begins;
-  record_number = fault.0;
-  reason = fault.1;
-  first = fault.2;
-  spelled = fault.3;
+  record_number = n;
+  reason = e;
+  first = first;
+  spelled = spelled;
 })
-refusal_of_tableau input rest r (Memory a) begins fault = tt
-
--- ---- the reply
-
--- the reply to the rule and the tableau that an input spells is that to the input
-pub reply_of : (input rest : List ℕ) (r : CutRule) (t : Tableau) (end : End) (text : List ℕ) → BeginsWithRule input r rest → IsTableauText rest t →
-    IsCutReply (record { «rule» = r; tableau = t }) end text → IsReply cut input end text
-reply_of input rest r t end text begins spelled replied = record {
-  thing = record { «rule» = r; tableau = t };
-  spelled = record { rest = rest; «rule» = lines_of_rule input r rest begins; tableau = spelled };
-  replied = replied;
-}
-
-pub mixed_reply_of : (input rest : List ℕ) (r : CutRule) (t : Tableau) (end : End) (text : List ℕ) → BeginsWithRule input r rest → IsTableauText rest t →
-    IsMixedReply (record { «rule» = r; tableau = t }) end text → IsReply mixed input end text
-mixed_reply_of input rest r t end text begins spelled replied = record {
-  thing = record { «rule» = r; tableau = t };
-  spelled = record { rest = rest; «rule» = lines_of_rule input r rest begins; tableau = spelled };
-  replied = replied;
-}
+refusal_of_tableau input rest r n e (Memory a) begins first spelled = tt

@@ -2,14 +2,16 @@
 use Rattle.std.proofs.Common.{◌≡◌, ℕ, ◌<◌, ◌≤◌, List, [], ◌∷◌, refl, sym, ap, ap₂, subst, ◌∙◌, arith}
 use Rattle.std.specs.List.{AllZip}
 use Rattle.gj_lex.specs.declared.reason.Reason.{Reason}
+use Rattle.gj_shape.specs.FunctionData.{FunctionData, IsWithinBounds}
 use Rattle.gj_top.specs.declared.reply.End.{End}
+use Rattle.gj_top.specs.declared.reply.End.TheVariants as end
 use Rattle.gj_top.specs.declared.status.Status.{Status}
 use Rattle.gj_top.specs.Answer.{IsAnswerTo}
 use Rattle.gj_top.specs.Answer.IsAnswerTo.{too_long, refused, replied}
 use Rattle.gj_top.specs.Forms.{NamesFault, refused_line}
 use Rattle.gj_top.specs.Promise.{Form, Spells}
 use Rattle.gj_top.specs.Reply.{status_of}
-use Rattle.gj_top.specs.Task.{Task, IsReply}
+use Rattle.gj_top.specs.Task.{Task, IsReply, EndsDone}
 use Rattle.gj_top.proofs.Sound.{IsSound}
 
 -- an input spells one thing at most
@@ -29,6 +31,10 @@ pub record IsDetermined (task : Task) : Type 0 where
   pub spells : SpellsOne task.promise.form
   pub refuses : RefusesOne task.work.refuses
   pub replies : RepliesOne task.promise.form task.work.replies
+
+-- a function within the limits has one reply
+abbrev pub AnswersOne : (FunctionData → End → List ℕ → Type 0) → Type 0
+AnswersOne replies = (f : FunctionData) → IsWithinBounds f → (e d : End) (x y : List ℕ) → replies f e x → replies f d y → (e ≡ d) × (x ≡ y)
 
 one_reply : (task : Task) (input : List ℕ) (e d : End) (x y : List ℕ) → IsDetermined task → IsReply task input e x → IsReply task input d y →
     (e ≡ d) × (x ≡ y)
@@ -52,6 +58,15 @@ one_answer_of task input s t x y sound h (replied a) (refused b) = absurd (sound
 one_answer_of task input s t x y sound h (replied a) (replied b) =
     let same = one_reply task input a.end b.end x y h a.reply b.reply in
     (a.status_is ∙ ap status_of same.0 ∙ sym b.status_is, same.1)
+
+-- ---- what replies share
+
+-- one that ends with Done is one if its text is
+pub one_done : {Thing : Type 0} (P : Thing → List ℕ → Type 0) (thing : Thing) → ((x y : List ℕ) → P thing x → P thing y → x ≡ y) →
+    (e d : End) (x y : List ℕ) → EndsDone P thing e x → EndsDone P thing d y → (e ≡ d) × (x ≡ y)
+one_done P thing one end.Done end.Done x y h k = (refl, one x y h k)
+one_done P thing one end.Done d x y h k = absurd k
+one_done P thing one e d x y h k = absurd h
 
 -- ---- what the forms share
 

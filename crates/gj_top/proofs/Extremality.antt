@@ -1,6 +1,6 @@
 -- The proof text of a decision keeps what is promised of it, and calls f extreme exactly if the table of order 4 q is.
-use Rattle.std.proofs.Common.{◌≡◌, ◌↔◌, ◌*◌, ℕ, inl, inr, List, Result, Err, subst, arith}
-use Rattle.gj_shape.specs.FunctionData.{FunctionData, IsWithinBounds, IsContinuous, IsFirstJump}
+use Rattle.std.proofs.Common.{◌≡◌, ◌↔◌, ◌*◌, ℕ, inl, inr, List, subst, arith}
+use Rattle.gj_shape.specs.FunctionData.{FunctionData, IsWithinBounds, IsContinuous}
 use Rattle.gj_shape.specs.Table.{table, IsMinimal}
 use Rattle.gj_shape.specs.Extreme.{IsExtreme, IsExtremeTable}
 use Rattle.gj_shape.specs.Violation.{ShowsViolation}
@@ -12,15 +12,11 @@ use Rattle.gj_proof.specs.declared.numbers.Numbers.TheVariants.{Whole, Residues}
 use Rattle.gj_proof.specs.ProofText.{IsProofText}
 use Rattle.gj_proof.specs.Meaning.{ClaimHolds, ShowHalves}
 use Rattle.gj_proof.proofs.OneText.{one_claim}
-use Rattle.gj_extreme.specs.Decision.{IsDecided, IsTooWide}
-use Rattle.gj_extreme.specs.declared.faults.DecideFault.{DecideFault}
-use Rattle.gj_extreme.specs.declared.faults.DecideFault.TheVariants as fault
+use Rattle.gj_extreme.specs.Decision.{IsDecided}
 use Rattle.gj_extreme.proofs.DecidedTexts.{decided_is_bounded}
 use Rattle.gj_extreme.proofs.TwoSlopeDecisions.{shown_halves_deny}
 use Rattle.gj_top.specs.Minimal.{IsNotMinimalText}
-use Rattle.gj_top.specs.Extreme.{IsDecisionText, IsExtremeText, IsNotExtremeText, IsTrueExtremality, IsUndecided, extreme}
-use Rattle.gj_top.specs.Report.{IsReportOf}
-use Rattle.gj_top.proofs.OneReport.{reported_exactly}
+use Rattle.gj_top.specs.Extreme.{IsDecisionText, IsExtremeText, IsNotExtremeText, IsTrueExtremality}
 
 -- ---- what is promised
 
@@ -102,18 +98,3 @@ extreme_at_four f text within d = (
   to_four f text within d,
   λ h. from_four f text within (extremality_true f text within d) h.0 h.1,
 )
-
--- the same of the proof text in a report
-pub report_at_four : (f : FunctionData) (text : List ℕ) → IsWithinBounds f → IsReportOf (IsDecisionText f) text →
-    IsReportOf (IsExtremeText f) text ↔ (IsContinuous f × IsExtremeAtFour f)
-report_at_four f text within r =
-    reported_exactly (IsDecisionText f) (IsExtremeText f) (IsContinuous f × IsExtremeAtFour f) (λ proof. extreme_at_four f proof within) text r
-
--- ---- faults of the decision
-
-pub undecided : {T : Type 0} (f : FunctionData) (r : Result T DecideFault) (e : DecideFault) → r ≡ Err e →
-    ((i : ℕ) → r ≡ Err (fault.NotContinuous i) → IsMinimal f × IsFirstJump f i) →
-    (r ≡ Err fault.Wide → IsMinimal f × IsContinuous f × IsTooWide f) → IsUndecided f e
-undecided f r (fault.NotContinuous i) is jumps wide = jumps i is
-undecided f r fault.Wide is jumps wide = wide is
-undecided f r (fault.Memory error) is jumps wide = tt

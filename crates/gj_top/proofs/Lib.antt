@@ -8,6 +8,7 @@ pub mod Ends
 pub mod Extremality
 pub mod InputLines
 pub mod InputRead
+pub mod Made
 pub mod NeverWide
 pub mod OneAnswer
 pub mod OneCuts

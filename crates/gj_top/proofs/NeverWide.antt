@@ -1,12 +1,10 @@
 -- `extreme` never ends with Wide on a function that has an uncovered interval, or at most four components.
-use Rattle.std.proofs.Common.{◌≡◌, ◌≢◌, ◌⊎◌, inl, inr, ℕ, Bool, true, false, List, String, Option, ap, subst, ◌∙◌, arith}
+use Rattle.std.proofs.Common.{◌≡◌, ◌≢◌, ◌⊎◌, inl, inr, ℕ, Bool, List, String, Option, ap, subst, ◌∙◌, arith}
 use Rattle.std.specs.declared.alloc.Global.{Global}
 use Rattle.gj_words.specs.declared.requests.Request.{Request}
 use Rattle.gj_shape.specs.Additive.{IsTight}
 use Rattle.gj_shape.specs.Cover.{components_in}
 use Rattle.gj_shape.specs.FunctionData.{FunctionData, IsWithinBounds}
-use Rattle.gj_json.specs.JsonFunction.{IsJsonFunction}
-use Rattle.gj_json.proofs.OneFunction.{one_function as one_json_function}
 use Rattle.gj_extreme.specs.Decision.{IsTooWide}
 use Rattle.gj_extreme.proofs.FewComponents.{few_components}
 use Rattle.gj_extreme.proofs.OneCover.{one_cover}
@@ -19,8 +17,8 @@ use Rattle.gj_top.specs.Answer.{IsAnswerTo}
 use Rattle.gj_top.specs.Answer.IsAnswerTo.{too_long, refused, replied}
 use Rattle.gj_top.specs.Causes.{IsInput, IsCause}
 use Rattle.gj_top.specs.Command.{task_for}
-use Rattle.gj_top.specs.Extreme.{extreme, extreme_json}
-use Rattle.gj_top.specs.Forms.{IsFunctionInput}
+use Rattle.gj_top.specs.Extreme.{extreme}
+use Rattle.gj_top.specs.Forms.{SpellsFunction}
 use Rattle.gj_top.specs.Asked.{AskIfExtreme}
 use Rattle.gj_top.specs.Narrow.{HasUncoveredInterval, HasAtMostComponents}
 use Rattle.gj_top.specs.Outcome.{IsOutcome}
@@ -29,7 +27,7 @@ use Rattle.gj_top.specs.Task.{Task, IsReply}
 use Rattle.gj_top.proofs.Clauses.{cause_clause}
 use Rattle.gj_top.proofs.Commands.{one_named}
 use Rattle.gj_top.proofs.Ends.{end_is}
-use Rattle.gj_top.proofs.TextLaws.{function_is_bounded, json_is_bounded, one_function}
+use Rattle.gj_top.proofs.TextLaws.{spelled_is_bounded, one_spelled}
 
 -- no number of the decision is too wide
 narrow : (f : FunctionData) → IsWithinBounds f → HasUncoveredInterval f ⊎ HasAtMostComponents 4 f → IsTooWide f → ⊥
@@ -51,16 +49,11 @@ wide_reply task input text (refused a) = absurd (let is = a.status_is in cc)
 wide_reply task input text (replied a) = subst (λ (e : End). IsReply task input e text) (wide_end a.end a.status_is) a.reply
 
 -- so of the function a number is too wide
-wide_text : (f : FunctionData) (input text : List ℕ) → IsFunctionInput input f → IsAnswerTo extreme input Wide text → IsTooWide f
-wide_text f input text spelled a =
-    let r = wide_reply extreme input text a in
-    let same : r.thing ≡ f = one_function input r.thing f r.spelled spelled in
-    subst IsTooWide same r.replied.2
-
-wide_json : (f : FunctionData) (input text : List ℕ) → IsJsonFunction input f → IsAnswerTo extreme_json input Wide text → IsTooWide f
-wide_json f input text spelled a =
-    let r = wide_reply extreme_json input text a in
-    let same : r.thing ≡ f = one_json_function input r.thing f r.spelled spelled in
+wide_text : (json : Bool) (f : FunctionData) (input text : List ℕ) → SpellsFunction json input f → IsAnswerTo (extreme json) input Wide text →
+    IsTooWide f
+wide_text json f input text spelled a =
+    let r = wide_reply (extreme json) input text a in
+    let same : r.thing ≡ f = one_spelled json input r.thing f r.spelled spelled in
     subst IsTooWide same r.replied.2
 
 -- ---- the clause
@@ -77,13 +70,9 @@ module _ (words : List (String Global)) (input : List ℕ) (f : FunctionData) wh
   asked_wide json asked s wide (inr (inl is)) = absurd (cc)
   asked_wide json asked s wide (inr (inr (inl is))) = absurd (cc)
   asked_wide json asked s wide (inr (inr (inr (inl none)))) = absurd (let is = none.0 in cc)
-  asked_wide false asked s wide (inr (inr (inr (inr (r, of_words, text, a))))) = (
-    function_is_bounded input f asked.spelled,
-    wide_text f input text asked.spelled (answer_moved r _ s text (one_named words r _ of_words asked.named) wide a),
-  )
-  asked_wide true asked s wide (inr (inr (inr (inr (r, of_words, text, a))))) = (
-    json_is_bounded input f asked.spelled,
-    wide_json f input text asked.spelled (answer_moved r _ s text (one_named words r _ of_words asked.named) wide a),
+  asked_wide json asked s wide (inr (inr (inr (inr (r, of_words, text, a))))) = (
+    spelled_is_bounded json input f asked.spelled,
+    wide_text json f input text asked.spelled (answer_moved r _ s text (one_named words r _ of_words asked.named) wide a),
   )
 
   pub never_wide : (json : Bool) (s : Status) → IsCause words input s → AskIfExtreme json words input f →

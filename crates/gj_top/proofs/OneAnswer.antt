@@ -1,38 +1,61 @@
 -- The task of each request is determined, so that it gives one answer to an input.
-use Rattle.std.proofs.Common.{◌≡◌, ℕ, Bool, true, false, List}
+use Rattle.std.proofs.Common.{◌≡◌, ℕ, Bool, false, List}
+use Rattle.gj_shape.specs.FunctionData.{FunctionData, IsContinuous}
 use Rattle.gj_words.specs.declared.requests.Command.{Command}
 use Rattle.gj_words.specs.declared.requests.Command.TheVariants.{Minimal, Extreme, Cut, Check, Show, Faces, Demo, Mixed, Fill, Group, Times, Mirror, Restrict}
 use Rattle.gj_words.specs.declared.requests.Request.{Request}
+use Rattle.gj_top.specs.declared.reply.End.{End}
 use Rattle.gj_top.specs.declared.status.Status.{Status}
 use Rattle.gj_top.specs.Answer.{IsAnswerTo}
 use Rattle.gj_top.specs.Command.{task_with, task_for}
-use Rattle.gj_top.proofs.Determined.{IsDetermined, one_answer_of}
+use Rattle.gj_top.specs.Extreme.{IsExtremality, IsTrueExtremality}
+use Rattle.gj_listings.specs.FacesText.{IsFacesText}
+use Rattle.gj_top.specs.Continuity.{IsContinuousReply}
+use Rattle.gj_top.specs.Forms.{function_task}
+use Rattle.gj_top.specs.Task.{EndsDone}
+use Rattle.gj_top.specs.Fill.{IsFillText, IsFillReply}
+use Rattle.gj_top.specs.Group.{IsTrueGroupText, IsGroupReply}
+use Rattle.gj_top.specs.Minimal.{IsVerdict, IsTrueVerdict}
+use Rattle.gj_top.specs.Report.{Tells, IsToldReply, proof_task}
+use Rattle.gj_top.specs.Show.{IsShownText}
+use Rattle.gj_top.specs.Transform.{IsTimesText, IsTimesReply, IsMirrorText, IsRestrictionText, IsRestrictionReply}
+use Rattle.gj_top.proofs.Determined.{AnswersOne, IsDetermined, one_answer_of, one_done}
 use Rattle.gj_top.proofs.OneCuts.{cut_is_determined}
-use Rattle.gj_top.proofs.OneListing.{faces_is_determined, fill_is_determined, demo_is_determined}
-use Rattle.gj_top.proofs.OneMade.{times_is_determined, mirror_is_determined, restriction_is_determined}
+use Rattle.gj_top.proofs.OneListing.{one_faces_text, one_fill_reply, demo_is_determined}
+use Rattle.gj_top.proofs.OneMade.{one_times_reply, one_mirror_text, one_restriction_reply}
 use Rattle.gj_top.proofs.OneMixed.{mixed_is_determined}
-use Rattle.gj_top.proofs.OneReported.{minimal_json_is_determined, extreme_json_is_determined, show_json_is_determined}
-use Rattle.gj_top.proofs.OneTable.{group_is_determined}
-use Rattle.gj_top.proofs.OneVerdict.{minimal_is_determined, extreme_is_determined, show_is_determined, check_is_determined}
+use Rattle.gj_top.proofs.OneReported.{one_shown, one_told_reply}
+use Rattle.gj_top.proofs.OneTable.{one_group_reply}
+use Rattle.gj_top.proofs.OneVerdict.{of_functions, one_continuous, one_verdict, one_extremality, check_is_determined}
 use Rattle.gj_top.proofs.Sound.{sound}
 
+of_proofs : (json : Bool) (headline : FunctionData → List ℕ → Type 0) (replies : FunctionData → End → List ℕ → Type 0) → AnswersOne replies →
+    IsDetermined (proof_task json headline replies)
+of_proofs json headline replies one =
+    of_functions json (λ f. Tells json (headline f)) (IsToldReply json replies) (one_told_reply json replies one)
+
+of_continuous : (headline : FunctionData → List ℕ → Type 0) (replies : FunctionData → End → List ℕ → Type 0) → AnswersOne replies →
+    IsDetermined (function_task false headline (IsContinuousReply replies))
+of_continuous headline replies one = of_functions false headline (IsContinuousReply replies) (one_continuous replies one)
+
 is_determined : (c : Command) (json : Bool) → IsDetermined (task_with c json)
-is_determined Minimal true = minimal_json_is_determined
-is_determined Minimal false = minimal_is_determined
-is_determined Extreme true = extreme_json_is_determined
-is_determined Extreme false = extreme_is_determined
-is_determined Show true = show_json_is_determined
-is_determined Show false = show_is_determined
+is_determined Minimal json =
+    of_proofs json IsTrueVerdict (EndsDone IsVerdict) (λ f l. one_done IsVerdict f (λ x y. one_verdict f x y l))
+is_determined Extreme json = of_proofs json IsTrueExtremality IsExtremality one_extremality
+is_determined Show json =
+    of_functions json (IsShownText json) (EndsDone (IsShownText json)) (λ f l. one_done (IsShownText json) f (λ x y. one_shown json f x y l))
 is_determined Check json = check_is_determined
-is_determined Faces json = faces_is_determined
+is_determined Faces json =
+    of_continuous (λ f text. IsContinuous f) (EndsDone IsFacesText) (λ f l. one_done IsFacesText f (one_faces_text f))
 is_determined Cut json = cut_is_determined
 is_determined (Demo n) json = demo_is_determined n
 is_determined Mixed json = mixed_is_determined
-is_determined Fill json = fill_is_determined
-is_determined Group json = group_is_determined
-is_determined (Times n j) json = times_is_determined n j
-is_determined Mirror json = mirror_is_determined
-is_determined (Restrict d) json = restriction_is_determined d
+is_determined Fill json = of_continuous IsFillText IsFillReply one_fill_reply
+is_determined Group json = of_continuous IsTrueGroupText IsGroupReply one_group_reply
+is_determined (Times n j) json = of_functions false (IsTimesText n j) (IsTimesReply n j) (one_times_reply n j)
+is_determined Mirror json =
+    of_functions false IsMirrorText (EndsDone IsMirrorText) (λ f l. one_done IsMirrorText f (λ x y. one_mirror_text f x y l))
+is_determined (Restrict d) json = of_continuous (IsRestrictionText d) (IsRestrictionReply d) (one_restriction_reply d)
 
 pub one_answer : (r : Request) (input : List ℕ) (s t : Status) (x y : List ℕ) →
     IsAnswerTo (task_for r) input s x → IsAnswerTo (task_for r) input t y → (s ≡ t) × (x ≡ y)

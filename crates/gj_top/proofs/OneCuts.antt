@@ -4,15 +4,11 @@ use Rattle.std.proofs.lemmas.Int.{ints}
 use Rattle.gj_frac.specs.declared.Frac.{Frac}
 use Rattle.gj_frac.specs.Floor.{HasFractionalPart}
 use Rattle.gj_frac.specs.Fraction.{IsWhole, numerator, denominator}
-use Rattle.gj_lex.specs.declared.reason.Reason.{Reason}
-use Rattle.gj_lex.proofs.LineNumbers as numbers
 use Rattle.gj_shape.specs.FunctionData.{FunctionData, IsWithinBounds}
 use Rattle.gj_shape.specs.Table.{IsMinimal}
 use Rattle.gj_shape.specs.Values.{IsValueAt}
 use Rattle.gj_shape.proofs.LeastDenominator.{denominator_some}
 use Rattle.gj_theory.proofs.Violations.{violation_denies, first_shown}
-use Rattle.gj_function_text.specs.FirstFault.{IsFirstFaultOfFunction}
-use Rattle.gj_function_text.specs.FunctionText.{function_text}
 use Rattle.gj_function_text.proofs.OneText.{one_function_text, one_first_fault_at_front}
 use Rattle.gj_function_text.proofs.RuleTexts.{one_fault_of_rule}
 use Rattle.gj_row.specs.TableauText.{records_of, IsTableauText}

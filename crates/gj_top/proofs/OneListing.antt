@@ -34,14 +34,11 @@ use Rattle.gj_fill.specs.FirstPair.{IsSuperadditivePair}
 use Rattle.gj_fill.proofs.FillIns.{at_place}
 use Rattle.gj_demo.specs.Demo.{IsDemo, demo_number}
 use Rattle.gj_demo.specs.Summary.{IsSummary, HasSummary, lines_with}
-use Rattle.gj_top.specs.declared.reply.End.{End}
 use Rattle.gj_top.specs.declared.reply.End.TheVariants as end
-use Rattle.gj_top.specs.Demo.{IsDemoReply, demo}
+use Rattle.gj_top.specs.Demo.{demo}
 use Rattle.gj_listings.specs.FacesText.{IsFacesText, uncovered_line}
-use Rattle.gj_top.specs.Faces.{IsFacesReply, faces}
-use Rattle.gj_top.specs.Fill.{IsFillText, NamesFirstPair, IsFillReply, fill}
-use Rattle.gj_top.proofs.Determined.{IsDetermined}
-use Rattle.gj_top.proofs.OneVerdict.{one_function_spelled, one_function_refusal, by_bounds, one_jump_text, no_jump_named}
+use Rattle.gj_top.specs.Fill.{IsFillText, NamesFirstPair, IsFillReply}
+use Rattle.gj_top.proofs.Determined.{AnswersOne, IsDetermined, one_done}
 use Rattle.gj_transform.proofs.OneTransform.{over_both}
 
 -- ---- faces
@@ -59,28 +56,12 @@ listing q listed lines intervals =
     line (codes "gj-faces 1") ++ order_line q ++ flat_map (λ face. line (face_text face)) listed ++ flat_map cover_line lines
     ++ flat_map uncovered_line intervals ++ line (codes "end")
 
-one_faces_text : (f : FunctionData) (x y : List ℕ) → IsFacesText f x → IsFacesText f y → x ≡ y
+pub one_faces_text : (f : FunctionData) (x y : List ℕ) → IsFacesText f x → IsFacesText f y → x ≡ y
 one_faces_text f x y h k =
     let listed = one_picked _ h.maximal k.maximal in
     let lines = one_cover f.order (IsTight f) h.lines k.lines h.cover k.cover in
     let intervals = one_picked _ h.uncovered k.uncovered in
     h.spelled ∙ (λ i. listing f.order (listed i) (lines i) (intervals i)) ∙ sym k.spelled
-
-one_faces_reply : (f : FunctionData) → IsWithinBounds f → (e d : End) (x y : List ℕ) → IsFacesReply f e x → IsFacesReply f d y → (e ≡ d) × (x ≡ y)
-one_faces_reply f l end.Done end.Done x y h k = (refl, one_faces_text f x y h.1 k.1)
-one_faces_reply f l end.Done end.NotContinuous x y h k = absurd (no_jump_named f y h.0 k)
-one_faces_reply f l end.NotContinuous end.Done x y h k = absurd (no_jump_named f x k.0 h)
-one_faces_reply f l end.NotContinuous end.NotContinuous x y h k = (refl, one_jump_text f x y l h k)
-one_faces_reply f l end.Done d x y h k = absurd k
-one_faces_reply f l end.NotContinuous d x y h k = absurd k
-one_faces_reply f l e d x y h k = absurd h
-
-pub faces_is_determined : IsDetermined faces
-faces_is_determined = record {
-  spells = one_function_spelled;
-  refuses = one_function_refusal;
-  replies = by_bounds IsFacesReply one_faces_reply;
-}
 
 -- ---- fill-ins
 
@@ -191,27 +172,14 @@ filled_has_no_pair f x y h k =
     let second = at_one (at f.value) s t k.b greatest in
     absurd (omega (arith, ints))
 
-one_fill_reply : (f : FunctionData) → IsWithinBounds f → (e d : End) (x y : List ℕ) → IsFillReply f e x → IsFillReply f d y → (e ≡ d) × (x ≡ y)
+pub one_fill_reply : AnswersOne IsFillReply
 one_fill_reply f l end.Done end.Done x y h k = (refl, one_fill_text f x y l h k)
-one_fill_reply f l end.Done end.NotContinuous x y h k = absurd (no_jump_named f y h.continuous k)
-one_fill_reply f l end.Done end.NotSubadditive x y h k = absurd (filled_has_no_pair f x y h k.1)
-one_fill_reply f l end.NotContinuous end.Done x y h k = absurd (no_jump_named f x k.continuous h)
-one_fill_reply f l end.NotContinuous end.NotContinuous x y h k = (refl, one_jump_text f x y l h k)
-one_fill_reply f l end.NotContinuous end.NotSubadditive x y h k = absurd (no_jump_named f x k.0 h)
-one_fill_reply f l end.NotSubadditive end.Done x y h k = absurd (filled_has_no_pair f y x k h.1)
-one_fill_reply f l end.NotSubadditive end.NotContinuous x y h k = absurd (no_jump_named f y h.0 k)
-one_fill_reply f l end.NotSubadditive end.NotSubadditive x y h k = (refl, one_pair_text f x y l h.1 k.1)
+one_fill_reply f l end.Done end.NotSubadditive x y h k = absurd (filled_has_no_pair f x y h k)
+one_fill_reply f l end.NotSubadditive end.Done x y h k = absurd (filled_has_no_pair f y x k h)
+one_fill_reply f l end.NotSubadditive end.NotSubadditive x y h k = (refl, one_pair_text f x y l h k)
 one_fill_reply f l end.Done d x y h k = absurd k
-one_fill_reply f l end.NotContinuous d x y h k = absurd k
 one_fill_reply f l end.NotSubadditive d x y h k = absurd k
 one_fill_reply f l e d x y h k = absurd h
-
-pub fill_is_determined : IsDetermined fill
-fill_is_determined = record {
-  spells = one_function_spelled;
-  refuses = one_function_refusal;
-  replies = by_bounds IsFillReply one_fill_reply;
-}
 
 -- ---- the demonstration
 
@@ -250,19 +218,9 @@ one_demo_text n x y h k =
     let halves = same_halves f h.halves k.halves (one_decision f (NotExtreme f h.halves) (NotExtreme f k.halves) h.within h.verdict verdict) in
     one_summary n f h.halves k.halves x y halves h.summary (subst (λ (g : FunctionData). IsSummary n g k.halves y) same k.summary)
 
-demo_done : (n : ℕ) (e : End) (x : List ℕ) → IsDemoReply n e x → (e ≡ end.Done) × HasSummary n x
-demo_done n end.Done x h = (refl, h)
-demo_done n e x h = absurd h
-
-one_demo_reply : (n : ℕ) (e d : End) (x y : List ℕ) → IsDemoReply n e x → IsDemoReply n d y → (e ≡ d) × (x ≡ y)
-one_demo_reply n e d x y h k =
-    let (first, summary) = demo_done n e x h in
-    let (second, other) = demo_done n d y k in
-    (first ∙ sym second, one_demo_text n x y summary other)
-
 pub demo_is_determined : (n : ℕ) → IsDetermined (demo n)
 demo_is_determined n = record {
   spells = λ input a b h k. h ∙ sym k;
   refuses = λ input x y h k. absurd h;
-  replies = λ input m spelled. one_demo_reply m;
+  replies = λ input m spelled. one_done HasSummary m (one_demo_text m);
 }

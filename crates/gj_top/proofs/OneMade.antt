@@ -6,11 +6,9 @@ use Rattle.gj_shape.specs.FunctionData.{FunctionData, IsWithinBounds}
 use Rattle.gj_function_text.specs.FunctionText.{IsCanonicalText}
 use Rattle.gj_transform.specs.Transforms.{HasNoRestriction}
 use Rattle.gj_transform.proofs.OneTransform.{one_times, one_mirror, one_restriction}
-use Rattle.gj_top.specs.declared.reply.End.{End}
 use Rattle.gj_top.specs.declared.reply.End.TheVariants as end
-use Rattle.gj_top.specs.Transform.{IsTimesText, IsTimesReply, times, IsMirrorText, IsMirrorReply, mirror, IsRestrictionText, IsRestrictionReply, restriction}
-use Rattle.gj_top.proofs.Determined.{IsDetermined}
-use Rattle.gj_top.proofs.OneVerdict.{one_function_spelled, one_function_refusal, by_bounds, one_jump_text, no_jump_named}
+use Rattle.gj_top.specs.Transform.{IsTimesText, IsTimesReply, IsMirrorText, IsRestrictionText, IsRestrictionReply}
+use Rattle.gj_top.proofs.Determined.{AnswersOne}
 use Rattle.gj_top.proofs.TextLaws.{one_canonical}
 
 -- a function has one canonical text
@@ -36,8 +34,7 @@ order_low n j f x y h k =
     let above = k.0 in
     absurd (omega arith)
 
-one_times_reply : (n j : ℕ) (f : FunctionData) → IsWithinBounds f → (e d : End) (x y : List ℕ) → IsTimesReply n j f e x → IsTimesReply n j f d y →
-    (e ≡ d) × (x ≡ y)
+pub one_times_reply : (n j : ℕ) → AnswersOne (IsTimesReply n j)
 one_times_reply n j f l end.Done end.Done x y h k = (refl, one_times_text n j f x y l h k)
 one_times_reply n j f l end.Done end.OrderLimit x y h k = absurd (order_low n j f x y h k)
 one_times_reply n j f l end.OrderLimit end.Done x y h k = absurd (order_low n j f y x k h)
@@ -46,35 +43,11 @@ one_times_reply n j f l end.Done d x y h k = absurd k
 one_times_reply n j f l end.OrderLimit d x y h k = absurd k
 one_times_reply n j f l e d x y h k = absurd h
 
-pub times_is_determined : (n j : ℕ) → IsDetermined (times n j)
-times_is_determined n j = record {
-  spells = one_function_spelled;
-  refuses = one_function_refusal;
-  replies = by_bounds (IsTimesReply n j) (one_times_reply n j);
-}
-
 -- ---- mirror
 
-mirror_done : (f : FunctionData) (e : End) (x : List ℕ) → IsMirrorReply f e x → (e ≡ end.Done) × IsMirrorText f x
-mirror_done f end.Done x h = (refl, h)
-mirror_done f e x h = absurd h
-
-one_mirror_reply : (f : FunctionData) → IsWithinBounds f → (e d : End) (x y : List ℕ) → IsMirrorReply f e x → IsMirrorReply f d y →
-    (e ≡ d) × (x ≡ y)
-one_mirror_reply f l e d x y h k =
-    let (first, image) = mirror_done f e x h in
-    let (second, other) = mirror_done f d y k in (
-      first ∙ sym second,
-      one_written image.function other.function x y other.within
-          (one_mirror f image.function other.function l image.within other.within image.is_mirror other.is_mirror) image.spelled other.spelled,
-    )
-
-pub mirror_is_determined : IsDetermined mirror
-mirror_is_determined = record {
-  spells = one_function_spelled;
-  refuses = one_function_refusal;
-  replies = by_bounds IsMirrorReply one_mirror_reply;
-}
+pub one_mirror_text : (f : FunctionData) (x y : List ℕ) → IsWithinBounds f → IsMirrorText f x → IsMirrorText f y → x ≡ y
+one_mirror_text f x y l h k =
+    one_written h.function k.function x y k.within (one_mirror f h.function k.function l h.within k.within h.is_mirror k.is_mirror) h.spelled k.spelled
 
 -- ---- restrict
 
@@ -99,25 +72,11 @@ one_restriction_text d f x y l h k =
     one_written h.function k.function x y k.within
     (one_restriction f h.function k.function d l h.within k.within h.is_restriction k.is_restriction) h.spelled k.spelled
 
-one_restriction_reply : (d : ℕ) (f : FunctionData) → IsWithinBounds f → (e g : End) (x y : List ℕ) → IsRestrictionReply d f e x →
-    IsRestrictionReply d f g y → (e ≡ g) × (x ≡ y)
+pub one_restriction_reply : (d : ℕ) → AnswersOne (IsRestrictionReply d)
 one_restriction_reply d f l end.Done end.Done x y h k = (refl, one_restriction_text d f x y l h k)
-one_restriction_reply d f l end.Done end.NotContinuous x y h k = absurd (no_jump_named f y h.continuous k)
-one_restriction_reply d f l end.Done end.BadOrder x y h k = absurd (not_bad d f x h k.1)
-one_restriction_reply d f l end.NotContinuous end.Done x y h k = absurd (no_jump_named f x k.continuous h)
-one_restriction_reply d f l end.NotContinuous end.NotContinuous x y h k = (refl, one_jump_text f x y l h k)
-one_restriction_reply d f l end.NotContinuous end.BadOrder x y h k = absurd (no_jump_named f x k.0 h)
-one_restriction_reply d f l end.BadOrder end.Done x y h k = absurd (not_bad d f y k h.1)
-one_restriction_reply d f l end.BadOrder end.NotContinuous x y h k = absurd (no_jump_named f y h.0 k)
-one_restriction_reply d f l end.BadOrder end.BadOrder x y h k = (refl, h.2 ∙ sym k.2)
+one_restriction_reply d f l end.Done end.BadOrder x y h k = absurd (not_bad d f x h k.0)
+one_restriction_reply d f l end.BadOrder end.Done x y h k = absurd (not_bad d f y k h.0)
+one_restriction_reply d f l end.BadOrder end.BadOrder x y h k = (refl, h.1 ∙ sym k.1)
 one_restriction_reply d f l end.Done g x y h k = absurd k
-one_restriction_reply d f l end.NotContinuous g x y h k = absurd k
 one_restriction_reply d f l end.BadOrder g x y h k = absurd k
 one_restriction_reply d f l e g x y h k = absurd h
-
-pub restriction_is_determined : (d : ℕ) → IsDetermined (restriction d)
-restriction_is_determined d = record {
-  spells = one_function_spelled;
-  refuses = one_function_refusal;
-  replies = by_bounds (IsRestrictionReply d) (one_restriction_reply d);
-}

@@ -1,5 +1,5 @@
 -- A report has one verdict and one proof text.
-use Rattle.std.proofs.Common.{◌≡◌, ◌↔◌, ℕ, List, [], ◌∷◌, ◌++◌, flat_map, codes, Some, refl, sym, ap, ap₂, subst, ◌∙◌, arith}
+use Rattle.std.proofs.Common.{◌≡◌, ◌↔◌, ℕ, Bool, true, false, List, [], ◌∷◌, ◌++◌, flat_map, codes, Some, refl, sym, ap, ap₂, subst, ◌∙◌, arith}
 use Rattle.std.proofs.lemmas.List.{append_cancel_right}
 use Rattle.json.specs.Json as json
 use Rattle.json.specs.Tree.{items_depth, ItemsHaveNumbers}
@@ -11,7 +11,7 @@ use Rattle.gj_json.specs.JsonText.{strings, report_value, IsReport}
 use Rattle.gj_proof.specs.ProofText.{IsBounded, IsProofText, claim_word}
 use Rattle.gj_proof.specs.declared.claim.Claim.{Claim}
 use Rattle.gj_proof.proofs.OneText.{one_claim}
-use Rattle.gj_top.specs.Report.{IsReportOf}
+use Rattle.gj_top.specs.Report.{IsReportOf, Tells}
 
 -- ---- the lines as strings
 
@@ -83,6 +83,10 @@ reported P Q keeps text r = record {
   report = r.report;
 }
 
+pub told : (json : Bool) (P Q : List ℕ → Type 0) → ((proof : List ℕ) → P proof → Q proof) → (text : List ℕ) → Tells json P text → Tells json Q text
+told false P Q keeps text p = keeps text p
+told true P Q keeps text p = reported P Q keeps text p
+
 -- two properties of it hold of one proof text
 pub also_reported : (P Q : List ℕ → Type 0) (text : List ℕ) (r : IsReportOf P text) → IsReportOf Q text → Q r.proof
 also_reported P Q text r s =
@@ -90,9 +94,10 @@ also_reported P Q text r s =
     subst Q same.1 s.holds
 
 -- it has a property exactly if A holds, if that follows from another of its properties
-pub reported_exactly : (P Q : List ℕ → Type 0) (A : Type 0) → ((proof : List ℕ) → P proof → Q proof ↔ A) → (text : List ℕ) →
-    IsReportOf P text → IsReportOf Q text ↔ A
-reported_exactly P Q A exactly text r = (
+pub told_exactly : (json : Bool) (P Q : List ℕ → Type 0) (A : Type 0) → ((proof : List ℕ) → P proof → Q proof ↔ A) → (text : List ℕ) →
+    Tells json P text → Tells json Q text ↔ A
+told_exactly false P Q A exactly text p = exactly text p
+told_exactly true P Q A exactly text r = (
   λ s. (exactly r.proof r.holds).0 (also_reported P Q text r s),
   λ a. reported P Q (λ proof p. (exactly proof p).1 a) text r,
 )

@@ -1,5 +1,5 @@
--- The commands with `--json` have one answer.
-use Rattle.std.proofs.Common.{◌≡◌, ◌≢◌, ℕ, ℤ, ◌≤◌, pos, List, [], ◌∷◌, ◌++◌, All, drop, flat_map, codes, refl, sym, ap, ap₂, subst, ◌∙◌, append_assoc, arith}
+-- What tells of one proof text, or shows one function, is one text.
+use Rattle.std.proofs.Common.{◌≡◌, ◌≢◌, ℕ, ℤ, Bool, true, false, ◌≤◌, pos, List, [], ◌∷◌, ◌++◌, All, drop, flat_map, codes, refl, sym, ap, ap₂, subst, ◌∙◌, append_assoc, arith}
 use Rattle.std.proofs.lemmas.Int.{ints}
 use Rattle.std.proofs.lemmas.List.Elements.{All-head, All-tail, All-append}
 use Rattle.gj_frac.specs.declared.Frac.{Frac}
@@ -9,37 +9,17 @@ use Rattle.gj_lex.proofs.LenientLines.{one_cut}
 use Rattle.gj_function_lines.specs.FunctionLines.{line}
 use Rattle.gj_shape.specs.FunctionData.{FunctionData, IsWithinBounds}
 use Rattle.gj_json.specs.JsonText.{IsPrintable, AreRatios, IsJsonText, IsReport, function_value, json_line, report_value}
-use Rattle.gj_json.proofs.OneFunction.{one_function as one_json_function}
-use Rattle.gj_json.proofs.OneReason.{one_reason}
 use Rattle.gj_proof.specs.declared.claim.Claim.{Claim}
 use Rattle.gj_proof.specs.declared.numbers.Numbers.{Numbers}
 use Rattle.gj_proof.specs.declared.numbers.Numbers.TheVariants.{Whole, Residues}
 use Rattle.gj_proof.specs.ProofText.{IsProofText, claim_word, title_text, numbers_of, own_lines}
 use Rattle.gj_top.specs.declared.reply.End.{End}
 use Rattle.gj_top.specs.declared.reply.End.TheVariants as end
-use Rattle.gj_top.specs.Extreme.{IsExtremality, extreme_json}
-use Rattle.gj_top.specs.Forms.{json_function, RefusesJson, json_refused_line}
-use Rattle.gj_top.specs.Minimal.{IsDecision, minimal_json}
-use Rattle.gj_top.specs.Report.{IsReportedReply}
-use Rattle.gj_top.specs.Show.{IsJsonShowing, show_json}
-use Rattle.gj_top.proofs.Determined.{SpellsOne, RefusesOne, RepliesOne, IsDetermined, each_one}
-use Rattle.gj_top.proofs.OneVerdict.{one_decision_reply, one_extremality}
+use Rattle.gj_top.specs.Report.{Tells, IsToldReply}
+use Rattle.gj_top.specs.Show.{IsShownText}
+use Rattle.gj_top.proofs.Determined.{AnswersOne, each_one}
 use Rattle.gj_top.proofs.ProofBytes.{known, claim_word_printable}
-use Rattle.gj_top.proofs.TextLaws.{json_is_bounded}
-
--- ---- the form
-
-one_json_spelled : SpellsOne json_function
-one_json_spelled input f g h k = one_json_function input f g h k
-
-one_json_refusal : RefusesOne RefusesJson
-one_json_refusal input x y h k =
-    h.spelled ∙ ap json_refused_line (one_reason input h.reason k.reason h.first k.first) ∙ sym k.spelled
-
-by_json_bounds : (replies : FunctionData → End → List ℕ → Type 0) →
-    ((f : FunctionData) → IsWithinBounds f → (e d : End) (x y : List ℕ) → replies f e x → replies f d y → (e ≡ d) × (x ≡ y)) →
-    RepliesOne json_function replies
-by_json_bounds replies one input f spelled = one f (json_is_bounded input f spelled)
+use Rattle.gj_top.proofs.TextLaws.{one_canonical}
 
 -- ---- functions in JSON
 
@@ -57,23 +37,9 @@ one_json_text f x y l (d, h, x_is) (e, k, y_is) =
     let right = one_list f.scale h.right k.right f.right scale h.right_are k.right_are in
     x_is ∙ ap json_line (h.is ∙ (λ i. function_value f.order (place i) (left i) (value i) (right i)) ∙ sym k.is) ∙ sym y_is
 
-showing_done : (f : FunctionData) (e : End) (x : List ℕ) → IsJsonShowing f e x → (e ≡ end.Done) × IsJsonText x f
-showing_done f end.Done x h = (refl, h)
-showing_done f e x h = absurd h
-
-one_json_showing : (f : FunctionData) → IsWithinBounds f → (e d : End) (x y : List ℕ) → IsJsonShowing f e x → IsJsonShowing f d y →
-    (e ≡ d) × (x ≡ y)
-one_json_showing f l e d x y h k =
-    let (first, shown) = showing_done f e x h in
-    let (second, other) = showing_done f d y k in
-    (first ∙ sym second, one_json_text f x y l shown other)
-
-pub show_json_is_determined : IsDetermined show_json
-show_json_is_determined = record {
-  spells = one_json_spelled;
-  refuses = one_json_refusal;
-  replies = by_json_bounds IsJsonShowing one_json_showing;
-}
+pub one_shown : (json : Bool) (f : FunctionData) (x y : List ℕ) → IsWithinBounds f → IsShownText json f x → IsShownText json f y → x ≡ y
+one_shown false f x y l h k = one_canonical f x y l h k
+one_shown true f x y l h k = one_json_text f x y l h k
 
 -- ---- the word of the claim of a proof text
 
@@ -143,52 +109,43 @@ one_report_text word proof x y (ls, h, x_is) (ms, k, y_is) =
     let lines = one_split ls ms h.printable k.printable (sym h.joined ∙ k.joined) in
     x_is ∙ ap (λ l. json_line (report_value l word)) lines ∙ sym y_is
 
--- ---- replies that are reported
+-- ---- replies that are told
 
--- the text tells of the reply with this text: it is that, or if the reply ends with Done its report
-abbrev Tells : End → List ℕ → List ℕ → Type 0
-Tells end.Done proof text = (c : Claim) × IsProofText c proof × IsReport (claim_word c) proof text
-Tells e proof text = text ≡ proof
+-- the text tells of the proof text: it is that, or its report
+abbrev TellsOf : Bool → List ℕ → List ℕ → Type 0
+TellsOf false proof text = text ≡ proof
+TellsOf true proof text = (c : Claim) × IsProofText c proof × IsReport (claim_word c) proof text
 
-reply_of : (replies : FunctionData → End → List ℕ → Type 0) (f : FunctionData) (e : End) (text : List ℕ) →
-    IsReportedReply replies f e text → (proof : List ℕ) × replies f e proof × Tells e proof text
-reply_of replies f end.Done text h = (h.proof, h.holds, (h.claim, h.spelled, h.report))
-reply_of replies f end.Rejected text h = (text, h, refl)
-reply_of replies f end.Wide text h = (text, h, refl)
-reply_of replies f end.NotContinuous text h = (text, h, refl)
-reply_of replies f end.NoFunction text h = (text, h, refl)
-reply_of replies f end.NotSubadditive text h = (text, h, refl)
-reply_of replies f end.OrderLimit text h = (text, h, refl)
-reply_of replies f end.BadOrder text h = (text, h, refl)
+proof_told : (json : Bool) (P : List ℕ → Type 0) (text : List ℕ) → Tells json P text → (proof : List ℕ) × P proof × TellsOf json proof text
+proof_told false P text h = (text, h, refl)
+proof_told true P text h = (h.proof, h.holds, (h.claim, h.spelled, h.report))
 
-one_told : (e : End) (proof x y : List ℕ) → Tells e proof x → Tells e proof y → x ≡ y
-one_told end.Done proof x y (c, p, h) (d, q, k) =
+one_told : (json : Bool) (proof x y : List ℕ) → TellsOf json proof x → TellsOf json proof y → x ≡ y
+one_told false proof x y h k = h ∙ sym k
+one_told true proof x y (c, p, h) (d, q, k) =
     one_report_text (claim_word c) proof x y h (subst (λ (w : List ℕ). IsReport w proof y) (one_word d c proof q p) k)
-one_told e proof x y h k = h ∙ sym k
 
-one_reported : (replies : FunctionData → End → List ℕ → Type 0) →
-    ((f : FunctionData) → IsWithinBounds f → (e d : End) (x y : List ℕ) → replies f e x → replies f d y → (e ≡ d) × (x ≡ y)) →
-    (f : FunctionData) → IsWithinBounds f → (e d : End) (x y : List ℕ) → IsReportedReply replies f e x → IsReportedReply replies f d y →
-    (e ≡ d) × (x ≡ y)
-one_reported replies one f l e d x y h k =
-    let (p, first, tells) = reply_of replies f e x h in
-    let (q, second, told) = reply_of replies f d y k in
+-- the text of a reply with this end tells of that text
+abbrev TellsReply : Bool → End → List ℕ → List ℕ → Type 0
+TellsReply json end.Done proof text = TellsOf json proof text
+TellsReply json e proof text = text ≡ proof
+
+reply_told : (json : Bool) (replies : FunctionData → End → List ℕ → Type 0) (f : FunctionData) (e : End) (text : List ℕ) →
+    IsToldReply json replies f e text → (proof : List ℕ) × replies f e proof × TellsReply json e proof text
+reply_told json replies f end.Done text h = proof_told json (replies f end.Done) text h
+reply_told json replies f e text h = (text, h, refl)
+
+one_told_as : (json : Bool) (e : End) (proof x y : List ℕ) → TellsReply json e proof x → TellsReply json e proof y → x ≡ y
+one_told_as json end.Done proof x y h k = one_told json proof x y h k
+one_told_as json e proof x y h k = h ∙ sym k
+
+pub one_told_reply : (json : Bool) (replies : FunctionData → End → List ℕ → Type 0) → AnswersOne replies →
+    AnswersOne (IsToldReply json replies)
+one_told_reply json replies one f l e d x y h k =
+    let (p, first, tells) = reply_told json replies f e x h in
+    let (q, second, others) = reply_told json replies f d y k in
     let same = one f l e d p q first second in (
       same.0,
-      one_told e p x y tells
-          (subst (λ (t : List ℕ). Tells e t y) (sym same.1) (subst (λ (n : End). Tells n q y) (sym same.0) told)),
+      one_told_as json e p x y tells
+          (subst (λ (t : List ℕ). TellsReply json e t y) (sym same.1) (subst (λ (n : End). TellsReply json n q y) (sym same.0) others)),
     )
-
-pub minimal_json_is_determined : IsDetermined minimal_json
-minimal_json_is_determined = record {
-  spells = one_json_spelled;
-  refuses = one_json_refusal;
-  replies = by_json_bounds (IsReportedReply IsDecision) (one_reported IsDecision one_decision_reply);
-}
-
-pub extreme_json_is_determined : IsDetermined extreme_json
-extreme_json_is_determined = record {
-  spells = one_json_spelled;
-  refuses = one_json_refusal;
-  replies = by_json_bounds (IsReportedReply IsExtremality) (one_reported IsExtremality one_extremality);
-}

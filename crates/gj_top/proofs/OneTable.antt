@@ -14,11 +14,9 @@ use Rattle.gj_group.specs.Decision.{greatest_group_order, SaysOfTable, AreGroupH
 use Rattle.gj_group.specs.declared.decision.GroupAnswer.{GroupAnswer}
 use Rattle.gj_group.specs.declared.decision.GroupAnswer.TheVariants.{NotMinimal, Extreme, NotExtreme}
 use Rattle.gj_listings.specs.GroupText.{verdict_lines}
-use Rattle.gj_top.specs.declared.reply.End.{End}
 use Rattle.gj_top.specs.declared.reply.End.TheVariants as end
-use Rattle.gj_top.specs.Group.{IsGroupVerdict, IsGroupReply, group}
-use Rattle.gj_top.proofs.Determined.{IsDetermined}
-use Rattle.gj_top.proofs.OneVerdict.{one_function_spelled, one_function_refusal, by_bounds, one_jump_text, no_jump_named}
+use Rattle.gj_top.specs.Group.{IsGroupVerdict, IsGroupReply}
+use Rattle.gj_top.proofs.Determined.{AnswersOne}
 
 -- the halves of the kernel of a table's rows are one pair
 one_group_halves : (f : FunctionData) (g h : Halves) → AreGroupHalves f g → AreGroupHalves f h → g ≡ h
@@ -52,32 +50,17 @@ one_group_text f x y l h k =
 few_or_many : (n m : ℕ) → n ≤ m → m < n → ⊥
 few_or_many n m few many = omega arith
 
-one_group_reply : (f : FunctionData) → IsWithinBounds f → (e d : End) (x y : List ℕ) → IsGroupReply f e x → IsGroupReply f d y → (e ≡ d) × (x ≡ y)
+pub one_group_reply : AnswersOne IsGroupReply
 one_group_reply f l end.Done end.Done x y h k = (refl, one_group_text f x y l h k)
 one_group_reply f l end.Done end.Wide x y h k = absurd (h.narrow k.minimal k.wide)
-one_group_reply f l end.Done end.NotContinuous x y h k = absurd (no_jump_named f y h.continuous k)
-one_group_reply f l end.Done end.OrderLimit x y h k = absurd (few_or_many f.order greatest_group_order h.few k.1)
+one_group_reply f l end.Done end.OrderLimit x y h k = absurd (few_or_many f.order greatest_group_order h.few k.0)
 one_group_reply f l end.Wide end.Done x y h k = absurd (k.narrow h.minimal h.wide)
 one_group_reply f l end.Wide end.Wide x y h k = (refl, h.spelled ∙ sym k.spelled)
-one_group_reply f l end.Wide end.NotContinuous x y h k = absurd (no_jump_named f y h.continuous k)
-one_group_reply f l end.Wide end.OrderLimit x y h k = absurd (few_or_many f.order greatest_group_order h.few k.1)
-one_group_reply f l end.NotContinuous end.Done x y h k = absurd (no_jump_named f x k.continuous h)
-one_group_reply f l end.NotContinuous end.Wide x y h k = absurd (no_jump_named f x k.continuous h)
-one_group_reply f l end.NotContinuous end.NotContinuous x y h k = (refl, one_jump_text f x y l h k)
-one_group_reply f l end.NotContinuous end.OrderLimit x y h k = absurd (no_jump_named f x k.0 h)
-one_group_reply f l end.OrderLimit end.Done x y h k = absurd (few_or_many f.order greatest_group_order k.few h.1)
-one_group_reply f l end.OrderLimit end.Wide x y h k = absurd (few_or_many f.order greatest_group_order k.few h.1)
-one_group_reply f l end.OrderLimit end.NotContinuous x y h k = absurd (no_jump_named f y h.0 k)
-one_group_reply f l end.OrderLimit end.OrderLimit x y h k = (refl, h.2 ∙ sym k.2)
+one_group_reply f l end.Wide end.OrderLimit x y h k = absurd (few_or_many f.order greatest_group_order h.few k.0)
+one_group_reply f l end.OrderLimit end.Done x y h k = absurd (few_or_many f.order greatest_group_order k.few h.0)
+one_group_reply f l end.OrderLimit end.Wide x y h k = absurd (few_or_many f.order greatest_group_order k.few h.0)
+one_group_reply f l end.OrderLimit end.OrderLimit x y h k = (refl, h.1 ∙ sym k.1)
 one_group_reply f l end.Done d x y h k = absurd k
 one_group_reply f l end.Wide d x y h k = absurd k
-one_group_reply f l end.NotContinuous d x y h k = absurd k
 one_group_reply f l end.OrderLimit d x y h k = absurd k
 one_group_reply f l e d x y h k = absurd h
-
-pub group_is_determined : IsDetermined group
-group_is_determined = record {
-  spells = one_function_spelled;
-  refuses = one_function_refusal;
-  replies = by_bounds IsGroupReply one_group_reply;
-}

@@ -1,5 +1,5 @@
--- The commands `minimal`, `extreme`, `show` and `check` have one answer.
-use Rattle.std.proofs.Common.{◌≡◌, inl, inr, ℕ, pos, ◌++◌, List, codes, decimal, refl, sym, ap, ap₂, subst, ◌∙◌, arith}
+-- The command `check` has one answer, and a function one verdict.
+use Rattle.std.proofs.Common.{◌≡◌, inl, inr, ℕ, Bool, true, false, pos, ◌++◌, List, codes, decimal, refl, sym, ap, ap₂, subst, ◌∙◌, arith}
 use Rattle.std.proofs.lemmas.Bool.{cases_lt}
 use Rattle.std.proofs.lemmas.Int.{ints}
 use Rattle.gj_frac.specs.Fraction.{IsRatio}
@@ -10,6 +10,7 @@ use Rattle.gj_shape.specs.Table.{IsMinimal}
 use Rattle.gj_shape.specs.declared.violations.Violation.{Violation}
 use Rattle.gj_theory.proofs.Violations.{violation_denies, first_shown}
 use Rattle.gj_function_text.proofs.OneText.{one_first_fault as one_function_fault}
+use Rattle.gj_json.proofs.OneReason.{one_reason as one_json_reason}
 use Rattle.gj_proof.specs.declared.claim.Claim.{Claim}
 use Rattle.gj_proof.specs.declared.claim.Claim.TheVariants.{Minimal, NotMinimal, Cut, Extreme, ExtremeByResidues, NotExtreme}
 use Rattle.gj_proof.specs.ProofText.{IsProofText}
@@ -24,34 +25,35 @@ use Rattle.gj_extreme.proofs.OneViolation.{one_violation}
 use Rattle.gj_extreme.proofs.TwoSlopeDecisions.{continuous_no_jump}
 use Rattle.gj_top.specs.declared.reply.End.{End}
 use Rattle.gj_top.specs.declared.reply.End.TheVariants as end
-use Rattle.gj_top.specs.Continuity.{NamesFirstJump}
+use Rattle.gj_top.specs.Continuity.{NamesFirstJump, IsContinuousReply}
 use Rattle.gj_top.specs.Check.{IsJudgement, IsRejected, check}
-use Rattle.gj_top.specs.Extreme.{IsDecisionText, IsExtremality, IsJumpText, IsWideText, extreme}
-use Rattle.gj_top.specs.Forms.{function_form, proof_form, RefusesFunctionText, RefusesProofText}
-use Rattle.gj_top.specs.Minimal.{IsVerdict, IsDecision, minimal}
-use Rattle.gj_top.specs.Show.{IsShowing, show}
-use Rattle.gj_top.proofs.Determined.{SpellsOne, RefusesOne, RepliesOne, IsDetermined, one_named_fault}
-use Rattle.gj_top.proofs.TextLaws.{function_is_bounded, one_function, one_proof, one_canonical}
+use Rattle.gj_top.specs.Extreme.{IsDecisionText, IsExtremality, IsJumpText, IsWideText}
+use Rattle.gj_top.specs.Forms.{proof_form, RefusesFunction, RefusesProofText, json_refused_line, function_task}
+use Rattle.gj_top.specs.Minimal.{IsVerdict}
+use Rattle.gj_top.proofs.Determined.{SpellsOne, RefusesOne, AnswersOne, IsDetermined, one_named_fault}
+use Rattle.gj_top.proofs.TextLaws.{spelled_is_bounded, one_spelled, one_proof}
 
 -- ---- the forms
 
-pub one_function_spelled : SpellsOne function_form
-one_function_spelled input f g h k = one_function input f g h k
+one_refusal : (json : Bool) → RefusesOne (RefusesFunction json)
+one_refusal false input x y h k = one_named_fault _ (λ n m e d. one_function_fault input n m e d) x y h k
+one_refusal true input x y h k =
+    h.spelled ∙ ap json_refused_line (one_json_reason input h.reason k.reason h.first k.first) ∙ sym k.spelled
 
-pub one_function_refusal : RefusesOne RefusesFunctionText
-one_function_refusal input x y h k = one_named_fault _ (λ n m e d. one_function_fault input n m e d) x y h k
+-- a task about functions
+pub of_functions : (json : Bool) (headline : FunctionData → List ℕ → Type 0) (replies : FunctionData → End → List ℕ → Type 0) →
+    AnswersOne replies → IsDetermined (function_task json headline replies)
+of_functions json headline replies one = record {
+  spells = one_spelled json;
+  refuses = one_refusal json;
+  replies = λ input f spelled. one f (spelled_is_bounded json input f spelled);
+}
 
 one_proof_spelled : SpellsOne proof_form
 one_proof_spelled input c d h k = one_proof input c d h k
 
 one_proof_refusal : RefusesOne RefusesProofText
 one_proof_refusal input x y h k = one_named_fault _ (λ n m e d. one_proof_fault input n m e d) x y h k
-
--- the replies to function texts, if those to a function within the limits are one
-pub by_bounds : (replies : FunctionData → End → List ℕ → Type 0) →
-    ((f : FunctionData) → IsWithinBounds f → (e d : End) (x y : List ℕ) → replies f e x → replies f d y → (e ≡ d) × (x ≡ y)) →
-    RepliesOne function_form replies
-by_bounds replies one input f spelled = one f (function_is_bounded input f spelled)
 
 -- ---- the first jump
 
@@ -77,51 +79,22 @@ one_jump_text f x y l h k =
 pub no_jump_named : (f : FunctionData) (x : List ℕ) → IsContinuous f → NamesFirstJump f x → ⊥
 no_jump_named f x continuous h = continuous_no_jump f h.index continuous h.first.jump
 
+-- a function has one reply if it has one as a continuous function
+pub one_continuous : (replies : FunctionData → End → List ℕ → Type 0) → AnswersOne replies → AnswersOne (IsContinuousReply replies)
+one_continuous replies one f l end.NotContinuous end.NotContinuous x y h k = (refl, one_jump_text f x y l h k)
+one_continuous replies one f l end.NotContinuous d x y h k = absurd (no_jump_named f x k.0 h)
+one_continuous replies one f l e end.NotContinuous x y h k = absurd (no_jump_named f y h.0 k)
+one_continuous replies one f l e d x y h k = one f l e d x y h.1 k.1
+
 -- ---- verdicts on minimality
 
-one_verdict : (f : FunctionData) (x y : List ℕ) → IsWithinBounds f → IsVerdict f x → IsVerdict f y → x ≡ y
+pub one_verdict : (f : FunctionData) (x y : List ℕ) → IsWithinBounds f → IsVerdict f x → IsVerdict f y → x ≡ y
 one_verdict f x y l (inl h) (inl k) = one_text (Minimal f) x y l h.2 k.2
 one_verdict f x y l (inl h) (inr k) = absurd (violation_denies f k.0 l k.2 h.0)
 one_verdict f x y l (inr h) (inl k) = absurd (violation_denies f h.0 l h.2 k.0)
 one_verdict f x y l (inr h) (inr k) =
     let same : k.0 ≡ h.0 = one_violation f k.0 h.0 l k.1 h.1 in
     one_text (NotMinimal f h.0) x y l h.4 (subst (λ (v : Violation). IsProofText (NotMinimal f v) y) same k.4)
-
-decision_done : (f : FunctionData) (e : End) (x : List ℕ) → IsDecision f e x → (e ≡ end.Done) × IsVerdict f x
-decision_done f end.Done x h = (refl, h)
-decision_done f e x h = absurd h
-
-pub one_decision_reply : (f : FunctionData) → IsWithinBounds f → (e d : End) (x y : List ℕ) → IsDecision f e x → IsDecision f d y → (e ≡ d) × (x ≡ y)
-one_decision_reply f l e d x y h k =
-    let (first, verdict) = decision_done f e x h in
-    let (second, other) = decision_done f d y k in
-    (first ∙ sym second, one_verdict f x y l verdict other)
-
-pub minimal_is_determined : IsDetermined minimal
-minimal_is_determined = record {
-  spells = one_function_spelled;
-  refuses = one_function_refusal;
-  replies = by_bounds IsDecision one_decision_reply;
-}
-
--- ---- canonical texts
-
-showing_done : (f : FunctionData) (e : End) (x : List ℕ) → IsShowing f e x → (e ≡ end.Done) × IsShowing f end.Done x
-showing_done f end.Done x h = (refl, h)
-showing_done f e x h = absurd h
-
-one_showing : (f : FunctionData) → IsWithinBounds f → (e d : End) (x y : List ℕ) → IsShowing f e x → IsShowing f d y → (e ≡ d) × (x ≡ y)
-one_showing f l e d x y h k =
-    let (first, shown) = showing_done f e x h in
-    let (second, other) = showing_done f d y k in
-    (first ∙ sym second, one_canonical f x y l shown other)
-
-pub show_is_determined : IsDetermined show
-show_is_determined = record {
-  spells = one_function_spelled;
-  refuses = one_function_refusal;
-  replies = by_bounds IsShowing one_showing;
-}
 
 -- ---- what the checker says
 
@@ -168,7 +141,7 @@ decided_no_jump f x y l h k = no_jump_named f y (decided_continuous f h.claim l 
 decided_narrow : (f : FunctionData) (x y : List ℕ) → IsWithinBounds f → IsDecisionText f x → IsWideText f y → ⊥
 decided_narrow f x y l h k = decided_not_wide f h.claim l k.0 h.spelled.has_text h.decided k.2
 
-pub one_extremality : (f : FunctionData) → IsWithinBounds f → (e d : End) (x y : List ℕ) → IsExtremality f e x → IsExtremality f d y → (e ≡ d) × (x ≡ y)
+pub one_extremality : AnswersOne IsExtremality
 one_extremality f l end.Done end.Done x y h k = (refl, one_decision_text f x y l h k)
 one_extremality f l end.Done end.NotContinuous x y h k = absurd (decided_no_jump f x y l h k)
 one_extremality f l end.Done end.Wide x y h k = absurd (decided_narrow f x y l h k)
@@ -182,10 +155,3 @@ one_extremality f l end.Done d x y h k = absurd k
 one_extremality f l end.NotContinuous d x y h k = absurd k
 one_extremality f l end.Wide d x y h k = absurd k
 one_extremality f l e d x y h k = absurd h
-
-pub extreme_is_determined : IsDetermined extreme
-extreme_is_determined = record {
-  spells = one_function_spelled;
-  refuses = one_function_refusal;
-  replies = by_bounds IsExtremality one_extremality;
-}

@@ -1,22 +1,21 @@
 -- What `show` writes is a function text of the function that it read, and `show` writes it again as it stands.
-use Rattle.std.proofs.Common.{◌≡◌, ℕ, List, refl, subst, arith}
+use Rattle.std.proofs.Common.{◌≡◌, ℕ, false, List, refl, subst, arith}
 use Rattle.gj_shape.specs.FunctionData.{FunctionData}
 use Rattle.gj_function_text.specs.FunctionText.{IsWholeFunctionText, IsCanonicalText}
 use Rattle.gj_top.specs.declared.reply.End.{End}
 use Rattle.gj_top.specs.declared.reply.End.TheVariants as end
 use Rattle.gj_top.specs.declared.status.Status.{Status}
 use Rattle.gj_top.specs.declared.status.Status.TheVariants.{Done}
-use Rattle.gj_top.specs.Task.{IsReply}
-use Rattle.gj_top.specs.Show.{IsShowing, show}
+use Rattle.gj_top.specs.Task.{IsReply, EndsDone}
+use Rattle.gj_top.specs.Show.{IsShownText, show}
 use Rattle.gj_top.specs.Answer.{IsAnswerTo}
 use Rattle.gj_top.specs.Answer.IsAnswerTo.{too_long, refused, replied}
-use Rattle.gj_top.proofs.Clauses.{done_reply}
 use Rattle.gj_top.proofs.InputLines.{whole_of_input}
 use Rattle.gj_top.proofs.Sound.{show_sound}
 use Rattle.gj_top.proofs.TextLaws.{function_is_bounded, one_function, canonical_text_is_read, one_canonical, shown_text_is_short}
 
 -- what is shown is a function text of the function that was read
-pub shown_is_read : (input text : List ℕ) → IsReply show input end.Done text →
+pub shown_is_read : (input text : List ℕ) → IsReply (show false) input end.Done text →
     (f : FunctionData) × IsWholeFunctionText input f × IsWholeFunctionText text f
 shown_is_read input text r = (
   r.thing,
@@ -25,12 +24,12 @@ shown_is_read input text r = (
 )
 
 -- a showing ends with Done
-showing_done : (f : FunctionData) (e : End) (text : List ℕ) → IsShowing f e text → (e ≡ end.Done) × IsCanonicalText text f
+showing_done : (f : FunctionData) (e : End) (text : List ℕ) → EndsDone (IsShownText false) f e text → (e ≡ end.Done) × IsCanonicalText text f
 showing_done f end.Done text s = (refl, s)
 showing_done f e text s = absurd s
 
 -- the reply to what was shown is that text
-pub shown_again_reply : (input text again : List ℕ) (e : End) → IsReply show input end.Done text → IsReply show text e again →
+pub shown_again_reply : (input text again : List ℕ) (e : End) → IsReply (show false) input end.Done text → IsReply (show false) text e again →
     (e ≡ end.Done) × (again ≡ text)
 shown_again_reply input text again e r q =
     let f = r.thing in
@@ -40,21 +39,17 @@ shown_again_reply input text again e r q =
     (showing.0, one_canonical f again text within (subst (IsCanonicalText again) same showing.1) r.replied)
 
 -- and it is answered so, since it is short
-again_by_reply : (input text again : List ℕ) (s : Status) → IsReply show input end.Done text → IsAnswerTo show text s again →
+pub shown_again : (input text again : List ℕ) (s : Status) → IsReply (show false) input end.Done text → IsAnswerTo (show false) text s again →
     (s ≡ Done) × (again ≡ text)
-again_by_reply input text again s r (too_long a) =
+shown_again input text again s r (too_long a) =
     let short = shown_text_is_short r.thing text (function_is_bounded input r.thing r.spelled) r.replied in
     let long = a.long in
     absurd (omega arith)
-again_by_reply input text again s r (refused a) =
+shown_again input text again s r (refused a) =
     let whole = canonical_text_is_read r.thing text (function_is_bounded input r.thing r.spelled) r.replied in
-    absurd (show_sound.form text again r.thing whole a.refused)
-again_by_reply input text again s r (replied a) =
+    absurd ((show_sound false).form text again r.thing whole a.refused)
+shown_again input text again s r (replied a) =
     let same = shown_again_reply input text again a.end r a.reply in
     let ended = same.0 in
     let is = a.status_is in
     (rw ended at is, same.1)
-
-pub shown_again : (input text again : List ℕ) (s : Status) → IsAnswerTo show input Done text → IsAnswerTo show text s again →
-    (s ≡ Done) × (again ≡ text)
-shown_again input text again s a b = again_by_reply input text again s (done_reply show input text a) b

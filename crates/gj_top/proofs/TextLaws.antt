@@ -1,5 +1,5 @@
 -- What the commands use of the laws of function texts, proof texts and the checker's rules.
-use Rattle.std.proofs.Common.{◌≡◌, ℕ, ◌≤◌, List, length}
+use Rattle.std.proofs.Common.{◌≡◌, ℕ, ◌≤◌, Bool, true, false, List, length}
 use Rattle.gj_lex.specs.declared.reason.Reason.{Reason}
 use Rattle.gj_shape.specs.FunctionData.{FunctionData, IsWithinBounds}
 use Rattle.gj_shape.specs.declared.violations.Violation.{Violation}
@@ -18,7 +18,8 @@ use Rattle.gj_proof.specs.declared.claim.Claim.TheVariants.{Minimal, NotMinimal}
 use Rattle.gj_proof.proofs.OneText.{one_claim, no_fault}
 use Rattle.gj_proof.proofs.ShortTexts.{text_is_short}
 use Rattle.gj_json.specs.JsonFunction.{IsJsonFunction}
-use Rattle.gj_top.specs.Forms.{IsFunctionInput, IsProofOf}
+use Rattle.gj_json.proofs.OneFunction.{one_function as one_json_function}
+use Rattle.gj_top.specs.Forms.{IsFunctionInput, SpellsFunction, IsProofOf}
 use Rattle.gj_top.proofs.InputLines.{whole_of_input, input_of_whole}
 
 -- ---- function texts
@@ -31,6 +32,15 @@ json_is_bounded input f (d, read, says) = says.gives.given.within
 
 pub one_function : (input : List ℕ) (f g : FunctionData) → IsFunctionInput input f → IsFunctionInput input g → f ≡ g
 one_function input f g h k = one_whole_function input f g (whole_of_input input f h) (whole_of_input input g k)
+
+-- the same with `--json` or without
+pub spelled_is_bounded : (json : Bool) (input : List ℕ) (f : FunctionData) → SpellsFunction json input f → IsWithinBounds f
+spelled_is_bounded false input f h = function_is_bounded input f h
+spelled_is_bounded true input f h = json_is_bounded input f h
+
+pub one_spelled : (json : Bool) (input : List ℕ) (f g : FunctionData) → SpellsFunction json input f → SpellsFunction json input g → f ≡ g
+one_spelled false input f g h k = one_function input f g h k
+one_spelled true input f g h k = one_json_function input f g h k
 
 pub function_text_has_no_fault : (input : List ℕ) (f : FunctionData) (n : ℕ) (reason : Reason) → IsFunctionInput input f →
     IsFirstFaultOfWhole input n reason → ⊥

@@ -1,13 +1,11 @@
 -- A minimal function with two slopes is called extreme.
-use Rattle.std.proofs.Common.{◌≡◌, ◌≢◌, inl, inr, ℕ, Bool, true, false, List, String, Option, refl, ap, subst, ◌∙◌}
+use Rattle.std.proofs.Common.{◌≡◌, ◌≢◌, inl, inr, ℕ, Bool, List, String, Option, refl, ap, subst, ◌∙◌}
 use Rattle.std.specs.Prelude.{IfSome}
 use Rattle.std.specs.declared.alloc.Global.{Global}
-use Rattle.gj_words.specs.declared.requests.Command.TheVariants.{Extreme}
 use Rattle.gj_words.specs.declared.requests.Request.{Request}
 use Rattle.gj_shape.specs.FunctionData.{FunctionData, IsWithinBounds}
 use Rattle.gj_shape.specs.Table.{IsMinimal}
 use Rattle.gj_shape.specs.TwoSlopes.{HasTwoSlopes}
-use Rattle.gj_json.proofs.OneFunction.{one_function as one_json_function}
 use Rattle.gj_proof.specs.declared.claim.Claim.{Claim}
 use Rattle.gj_proof.specs.declared.numbers.Numbers.TheVariants.{Whole}
 use Rattle.gj_proof.specs.ProofText.{IsProofText}
@@ -18,19 +16,20 @@ use Rattle.gj_top.specs.declared.status.Status.{Status}
 use Rattle.gj_top.specs.declared.status.Status.TheVariants.{Done, Wide, NotContinuous}
 use Rattle.gj_top.specs.Answer.{IsAnswerTo}
 use Rattle.gj_top.specs.Answer.IsAnswerTo.{too_long, refused, replied}
-use Rattle.gj_top.specs.Asked.{SpellsFunction, AskIfExtreme}
+use Rattle.gj_top.specs.Asked.{AskIfExtreme}
 use Rattle.gj_top.specs.Causes.{IsInput, IsCause, IsDoneRun}
 use Rattle.gj_top.specs.Command.{IsNamed, task_for}
 use Rattle.gj_top.specs.Decisive.{CallsExtreme, IsCalledExtreme}
-use Rattle.gj_top.specs.Extreme.{IsExtremality, IsExtremeText}
+use Rattle.gj_top.specs.Extreme.{IsExtremality, IsExtremeText, extreme}
+use Rattle.gj_top.specs.Forms.{SpellsFunction}
 use Rattle.gj_top.specs.Outcome.{IsOutcome}
 use Rattle.gj_top.specs.Reply.{status_of}
-use Rattle.gj_top.specs.Report.{IsReportOf, IsReportedReply}
+use Rattle.gj_top.specs.Report.{IsToldReply}
 use Rattle.gj_top.specs.Task.{IsReply}
 use Rattle.gj_top.proofs.Clauses.{cause_clause, reply_clause, weaker}
 use Rattle.gj_top.proofs.Commands.{one_named}
-use Rattle.gj_top.proofs.OneReport.{reported}
-use Rattle.gj_top.proofs.TextLaws.{function_is_bounded, json_is_bounded, one_function}
+use Rattle.gj_top.proofs.OneReport.{told}
+use Rattle.gj_top.proofs.TextLaws.{spelled_is_bounded, one_spelled}
 
 called_extreme : (f : FunctionData) (e : End) (text : List ℕ) → IsWithinBounds f → IsMinimal f → HasTwoSlopes f →
     IsExtremality f e text → (e ≡ end.Done) × IsExtremeText f text
@@ -43,26 +42,22 @@ called_extreme f end.Wide text l minimal two h = absurd (two_slopes_not_wide f l
 called_extreme f e text l minimal two h = absurd h
 
 -- so does the proof text of a report
-report_called_extreme : (f : FunctionData) (e : End) (text : List ℕ) → IsWithinBounds f → IsMinimal f → HasTwoSlopes f →
-    IsReportedReply IsExtremality f e text → (e ≡ end.Done) × IsReportOf (IsExtremeText f) text
-report_called_extreme f end.Done text l minimal two h =
-    (refl, reported (IsExtremality f end.Done) (IsExtremeText f) (λ proof d. (called_extreme f end.Done proof l minimal two d).1) text h)
-report_called_extreme f e text l minimal two h =
+told_extreme : (json : Bool) (f : FunctionData) (e : End) (text : List ℕ) → IsWithinBounds f → IsMinimal f → HasTwoSlopes f →
+    IsToldReply json IsExtremality f e text → (e ≡ end.Done) × CallsExtreme json f text
+told_extreme json f end.Done text l minimal two h =
+    (refl, told json (IsExtremality f end.Done) (IsExtremeText f) (λ proof d. (called_extreme f end.Done proof l minimal two d).1) text h)
+told_extreme json f e text l minimal two h =
     let ended = (called_extreme f e text l minimal two h).0 in
     absurd (cc)
 
 -- a reply
 pub two_slope_reply : (json : Bool) (f : FunctionData) (input text : List ℕ) (e : End) → SpellsFunction json input f →
-    IsMinimal f → HasTwoSlopes f → IsReply (task_for (record { command = Extreme; json = json })) input e text →
+    IsMinimal f → HasTwoSlopes f → IsReply (extreme json) input e text →
     (e ≡ end.Done) × CallsExtreme json f text
-two_slope_reply false f input text e spelled minimal two r =
-    let same : r.thing ≡ f = one_function input r.thing f r.spelled spelled in
-    called_extreme f e text (function_is_bounded input f spelled) minimal two
-    (subst (λ (g : FunctionData). IsExtremality g e text) same r.replied)
-two_slope_reply true f input text e spelled minimal two r =
-    let same : r.thing ≡ f = one_json_function input r.thing f r.spelled spelled in
-    report_called_extreme f e text (json_is_bounded input f spelled) minimal two
-    (subst (λ (g : FunctionData). IsReportedReply IsExtremality g e text) same r.replied)
+two_slope_reply json f input text e spelled minimal two r =
+    let same : r.thing ≡ f = one_spelled json input r.thing f r.spelled spelled in
+    told_extreme json f e text (spelled_is_bounded json input f spelled) minimal two
+    (subst (λ (g : FunctionData). IsToldReply json IsExtremality g e text) same r.replied)
 
 -- ---- runs
 

@@ -1,5 +1,5 @@
 -- The task of each request (own).
-use Rattle.std.specs.Prelude.{Bool, true, false, List, map, String, string_bytes, IfSome, IfNone, Option}
+use Rattle.std.specs.Prelude.{Bool, List, map, String, string_bytes, IfSome, IfNone, Option}
 use Rattle.std.specs.declared.alloc.Global.{Global}
 use Rattle.gj_words.specs.Grammar.{SpellRequest}
 use Rattle.gj_words.specs.declared.requests.Command.{Command}
@@ -7,9 +7,9 @@ use Rattle.gj_words.specs.declared.requests.Command.TheVariants.{Minimal, Extrem
 use Rattle.gj_words.specs.declared.requests.Request.{Request}
 use Rattle.gj_top.specs.Promise.{Promise}
 use Rattle.gj_top.specs.Task.{Work, Task}
-use Rattle.gj_top.specs.Minimal.{minimal, minimal_promise, minimal_json, minimal_json_promise}
-use Rattle.gj_top.specs.Extreme.{extreme, extreme_promise, extreme_json, extreme_json_promise}
-use Rattle.gj_top.specs.Show.{show, show_promise, show_json, show_json_promise}
+use Rattle.gj_top.specs.Minimal.{minimal, minimal_promise}
+use Rattle.gj_top.specs.Extreme.{extreme, extreme_promise}
+use Rattle.gj_top.specs.Show.{show, show_promise}
 use Rattle.gj_top.specs.Check.{check, check_promise}
 use Rattle.gj_top.specs.Faces.{faces, faces_promise}
 use Rattle.gj_top.specs.Cut.{cut, cut_promise}
@@ -21,12 +21,9 @@ use Rattle.gj_top.specs.Transform.{times, times_promise, mirror, mirror_promise,
 
 -- what a command with the flag or without it promises
 abbrev pub promise_with : Command → Bool → Promise
-promise_with Minimal true = minimal_json_promise
-promise_with Minimal false = minimal_promise
-promise_with Extreme true = extreme_json_promise
-promise_with Extreme false = extreme_promise
-promise_with Show true = show_json_promise
-promise_with Show false = show_promise
+promise_with Minimal json = minimal_promise json
+promise_with Extreme json = extreme_promise json
+promise_with Show json = show_promise json
 promise_with Check json = check_promise
 promise_with Faces json = faces_promise
 promise_with Cut json = cut_promise
@@ -43,12 +40,9 @@ promise_for request = promise_with request.command request.json
 
 -- and how it answers
 abbrev pub work_with : (command : Command) (json : Bool) → Work (promise_with command json)
-work_with Minimal true = minimal_json.work
-work_with Minimal false = minimal.work
-work_with Extreme true = extreme_json.work
-work_with Extreme false = extreme.work
-work_with Show true = show_json.work
-work_with Show false = show.work
+work_with Minimal json = (minimal json).work
+work_with Extreme json = (extreme json).work
+work_with Show json = (show json).work
 work_with Check json = check.work
 work_with Faces json = faces.work
 work_with Cut json = cut.work

@@ -1,9 +1,11 @@
--- The first jump of a function, and the line that names it (own).
+-- The first jump of a function, the line that names it, and commands for continuous functions (own).
 use Rattle.std.specs.Prelude.{ℕ, pos, ◌≡◌, List, codes}
 use Rattle.gj_frac.specs.declared.Frac.{Frac}
 use Rattle.gj_frac.specs.Fraction.{IsRatio}
-use Rattle.gj_shape.specs.FunctionData.{FunctionData, IsFirstJump}
+use Rattle.gj_shape.specs.FunctionData.{FunctionData, IsContinuous, IsFirstJump}
 use Rattle.gj_function_lines.specs.FunctionLines.{fraction_line}
+use Rattle.gj_top.specs.declared.reply.End.{End}
+use Rattle.gj_top.specs.declared.reply.End.TheVariants.{NotContinuous}
 
 -- the text names the first jump
 pub record NamesFirstJump (f : FunctionData) (text : List ℕ) : Type 0 where
@@ -12,3 +14,9 @@ pub record NamesFirstJump (f : FunctionData) (text : List ℕ) : Type 0 where
   pub point : Frac
   pub point_is : IsRatio point (pos index) (pos f.order)
   pub spelled : text ≡ fraction_line (codes "not continuous ") point
+
+-- a continuous function is replied to so; of one that jumps the first jump is named
+abbrev pub IsContinuousReply : (FunctionData → End → List ℕ → Type 0) → FunctionData → End →
+    List ℕ → Type 0
+IsContinuousReply replies f NotContinuous text = NamesFirstJump f text
+IsContinuousReply replies f end text = IsContinuous f × replies f end text

@@ -14,7 +14,6 @@ use Rattle.gj_function_text.specs.RuleText.{rule_title_words, rule_name_words, B
 use Rattle.gj_row.specs.FirstFault.{IsFirstFaultOfTableau, reason_word}
 use Rattle.gj_row.specs.TableauText.{IsTableauText}
 use Rattle.gj_row.specs.declared.faults.RowReason.{RowReason}
-use Rattle.gj_row.specs.declared.tableau.Tableau.{Tableau}
 use Rattle.gj_proof.specs.Meaning.{CutLineHolds}
 use Rattle.gj_proof.specs.ProofText.{IsProofText, violation_line}
 use Rattle.gj_proof.specs.Rules.{MeetsRules}
@@ -24,19 +23,17 @@ use Rattle.gj_proof.specs.declared.cut.CutRule.{CutRule}
 use Rattle.gj_proof.specs.declared.cut.CutRule.TheVariants.{Gmic, Table}
 use Rattle.gj_claims.specs.CutLines.{IsLineFor}
 use Rattle.gj_claims.specs.CutRules.{MakesCuts}
+pub use Rattle.gj_top.specs.declared.cut_input.CutInput.{CutInput}
 use Rattle.gj_top.specs.declared.reply.End.{End}
 use Rattle.gj_top.specs.declared.reply.End.TheVariants.{Done, NoFunction}
+use Rattle.gj_top.specs.declared.reply.Unanswered.{Unanswered}
+use Rattle.gj_top.specs.declared.reply.Unanswered.TheVariants.{Refused, Memory}
 use Rattle.gj_top.specs.Promise.{Form, Promise}
 use Rattle.gj_top.specs.Promise.Form.{reading}
 use Rattle.gj_top.specs.Task.{Task}
 use Rattle.gj_top.specs.Forms.{BeginsWithFunction, NamesFault}
 
 -- ---- the input
-
--- a rule, and the rows of which it makes cuts
-pub record CutInput : Type 0 where
-  pub «rule» : CutRule
-  pub tableau : Tableau
 
 -- the text begins with the lines `gj-rule 1`, `gmic` and `end`, or with those of a function, and the rest follows
 abbrev pub HasLinesOfRule : List ℕ → CutRule → List ℕ → Type 0
@@ -62,6 +59,11 @@ BeginsWithRule text (Table f) rest = (BeginsAsRule text → ⊥) × IsFunctionTe
 -- the line that refuses an input for the n-th record of its tableau
 abbrev pub refused_record_line : ℕ → RowReason → List ℕ
 refused_record_line n reason = line (codes "refused record " ++ decimal n ++ codes " " ++ reason_word reason)
+
+-- an input is refused with that line, unless there was no memory for it
+abbrev pub IsRecordRefusalOf : ℕ → RowReason → Unanswered → Type 0
+IsRecordRefusalOf n reason (Refused text) = text.items ≡ refused_record_line n reason
+IsRecordRefusalOf n reason (Memory e) = Unit {0}
 
 -- the text names the record that is the first at fault in what follows a rule, and the reason
 pub record NamesRefusedRecord (input text : List ℕ) : Type 0 where

@@ -6,16 +6,9 @@ use Rattle.gj_shape.specs.declared.extremality.Halves.{Halves}
 use Rattle.gj_proof.specs.Meaning.{ShowHalves}
 use Rattle.gj_demo.specs.Demo.{IsDemo}
 use Rattle.gj_demo.specs.Summary.{HasSummary}
-use Rattle.gj_top.specs.declared.reply.End.{End}
-use Rattle.gj_top.specs.declared.reply.End.TheVariants.{Done}
 use Rattle.gj_top.specs.Promise.{Promise}
 use Rattle.gj_top.specs.Promise.Form.{reading_nothing}
-use Rattle.gj_top.specs.Task.{Task}
-
--- the reply to a number is the summary, and ends with Done
-abbrev pub IsDemoReply : ℕ → End → List ℕ → Type 0
-IsDemoReply n Done text = HasSummary n text
-IsDemoReply n end text = ⊥
+use Rattle.gj_top.specs.Task.{Task, EndsDone}
 
 -- the headline: the n-th function is minimal and, as the halves show, not extreme; what the text counts is said by the reply
 pub record IsTrueDemonstration (n : ℕ) (text : List ℕ) : Type 0 where
@@ -33,5 +26,5 @@ demo_promise n = record { Thing = ℕ; form = reading_nothing n; headline = IsTr
 abbrev pub demo : ℕ → Task
 demo n = record {
   promise = demo_promise n;
-  work = record { refuses = λ input text. ⊥; replies = IsDemoReply };
+  work = record { refuses = λ input text. ⊥; replies = EndsDone HasSummary };
 }

@@ -1,6 +1,6 @@
--- The command `extreme`: a function text is answered with the proof text of a verdict on extremality (own).
-use Rattle.std.specs.Prelude.{ℕ, ◌≡◌, ◌⊎◌, List, codes}
-use Rattle.gj_shape.specs.FunctionData.{FunctionData, IsContinuous, IsFirstJump}
+-- The command `extreme`: a function is answered with the proof text of a verdict on extremality (own).
+use Rattle.std.specs.Prelude.{ℕ, ◌≡◌, ◌⊎◌, Bool, List, codes}
+use Rattle.gj_shape.specs.FunctionData.{FunctionData, IsContinuous}
 use Rattle.gj_shape.specs.Table.{IsMinimal}
 use Rattle.gj_shape.specs.Extreme.{IsExtreme}
 use Rattle.gj_shape.specs.Violation.{ShowsViolation}
@@ -16,14 +16,11 @@ use Rattle.gj_proof.specs.ProofText.{IsProofText, extreme_claim}
 use Rattle.gj_proof.specs.Meaning.{ClaimHolds, ShowHalves}
 use Rattle.gj_proof.specs.Rules.{MeetsRules}
 use Rattle.gj_extreme.specs.Decision.{IsDecided, IsTooWide}
-use Rattle.gj_extreme.specs.declared.faults.DecideFault.{DecideFault}
-use Rattle.gj_extreme.specs.declared.faults.DecideFault.TheVariants as fault
 use Rattle.gj_top.specs.declared.reply.End.{End}
 use Rattle.gj_top.specs.declared.reply.End.TheVariants.{Done, Wide, NotContinuous}
 use Rattle.gj_top.specs.Promise.{Promise}
 use Rattle.gj_top.specs.Task.{Task}
-use Rattle.gj_top.specs.Forms.{function_form, json_function, RefusesFunctionText, RefusesJson}
-use Rattle.gj_top.specs.Report.{IsReportOf, IsReportedReply}
+use Rattle.gj_top.specs.Report.{proof_promise, proof_task}
 use Rattle.gj_top.specs.Continuity.{NamesFirstJump}
 use Rattle.gj_top.specs.Minimal.{IsNotMinimalText}
 
@@ -47,22 +44,12 @@ IsJumpText f text = IsMinimal f × NamesFirstJump f text
 abbrev pub IsWideText : FunctionData → List ℕ → Type 0
 IsWideText f text = IsMinimal f × IsContinuous f × IsTooWide f × (text ≡ wide_line)
 
--- what a fault of the decision says of f
-abbrev pub IsUndecided : FunctionData → DecideFault → Type 0
-IsUndecided f (fault.NotContinuous i) = IsMinimal f × IsFirstJump f i
-IsUndecided f fault.Wide = IsMinimal f × IsContinuous f × IsTooWide f
-IsUndecided f (fault.Memory e) = Unit {0}
-
--- why there is no verdict, by the end of the reply
-abbrev pub IsNoVerdict : FunctionData → End → List ℕ → Type 0
-IsNoVerdict f NotContinuous text = IsJumpText f text
-IsNoVerdict f Wide text = IsWideText f text
-IsNoVerdict f end text = ⊥
-
 -- the reply to a function, by its end
 abbrev pub IsExtremality : FunctionData → End → List ℕ → Type 0
 IsExtremality f Done text = IsDecisionText f text
-IsExtremality f end text = IsNoVerdict f end text
+IsExtremality f NotContinuous text = IsJumpText f text
+IsExtremality f Wide text = IsWideText f text
+IsExtremality f end text = ⊥
 
 -- the text claims that f is extreme, by cover lines and rows, of whole numbers or over residues
 abbrev pub IsExtremeText : FunctionData → List ℕ → Type 0
@@ -82,25 +69,8 @@ IsTrueExtremality f text =
     ⊎ ((h : Halves) × IsNotExtremeText f h text × IsContinuous f × IsMinimal f × ShowHalves f h × (IsExtreme f → ⊥))
     ⊎ ((v : Violation) × IsNotMinimalText f v text × ShowsViolation f v × (IsMinimal f → ⊥))
 
-abbrev pub extreme_promise : Promise
-extreme_promise = record { Thing = FunctionData; form = function_form; headline = IsTrueExtremality }
+abbrev pub extreme_promise : Bool → Promise
+extreme_promise json = proof_promise json IsTrueExtremality
 
-abbrev pub extreme : Task
-extreme = record {
-  promise = extreme_promise;
-  work = record { refuses = RefusesFunctionText; replies = IsExtremality };
-}
-
--- with `--json` the function is read in JSON, and the proof text is reported
-abbrev pub extreme_json_promise : Promise
-extreme_json_promise = record {
-  Thing = FunctionData;
-  form = json_function;
-  headline = λ f text. IsReportOf (IsTrueExtremality f) text;
-}
-
-abbrev pub extreme_json : Task
-extreme_json = record {
-  promise = extreme_json_promise;
-  work = record { refuses = RefusesJson; replies = IsReportedReply IsExtremality };
-}
+abbrev pub extreme : Bool → Task
+extreme json = proof_task json IsTrueExtremality IsExtremality

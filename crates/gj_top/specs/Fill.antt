@@ -1,6 +1,6 @@
 -- The command `fill`: a function text is answered with the two-slope fill-in of its function, by breakpoints (Gomory and Johnson 1972; the
 -- form is own).
-use Rattle.std.specs.Prelude.{ℕ, pos, ◌≡◌, List, ◌++◌, map, codes}
+use Rattle.std.specs.Prelude.{ℕ, pos, ◌≡◌, false, List, ◌++◌, map, codes}
 use Rattle.gj_frac.specs.declared.Frac.{Frac}
 use Rattle.gj_frac.specs.Fraction.{IsRatio}
 use Rattle.gj_lex.specs.NumberText.{fraction_text}
@@ -10,11 +10,11 @@ use Rattle.gj_function_text.specs.FunctionText.{canonical_breaks_text, even_brea
 use Rattle.gj_fill.specs.FillPoints.{AreFillPoints, IsFillIn}
 use Rattle.gj_fill.specs.FirstPair.{IsFirstPair}
 use Rattle.gj_top.specs.declared.reply.End.{End}
-use Rattle.gj_top.specs.declared.reply.End.TheVariants.{Done, NotContinuous, NotSubadditive}
+use Rattle.gj_top.specs.declared.reply.End.TheVariants.{Done, NotSubadditive}
 use Rattle.gj_top.specs.Promise.{Promise}
 use Rattle.gj_top.specs.Task.{Task}
-use Rattle.gj_top.specs.Forms.{function_form, RefusesFunctionText}
-use Rattle.gj_top.specs.Continuity.{NamesFirstJump}
+use Rattle.gj_top.specs.Forms.{function_promise, function_task}
+use Rattle.gj_top.specs.Continuity.{IsContinuousReply}
 
 -- the function is continuous, and the text is that of the points of its fill-in
 pub record IsFillText (f : FunctionData) (text : List ℕ) : Type 0 where
@@ -38,18 +38,14 @@ pub record NamesFirstPair (f : FunctionData) (text : List ℕ) : Type 0 where
   pub y_is : IsRatio y (pos b) (pos f.order)
   pub spelled : text ≡ line (codes "not subadditive " ++ fraction_text x ++ codes " " ++ fraction_text y)
 
--- of a function that jumps the first jump is named, of one that is not subadditive at the multiples of 1/order the first two of these
+-- of a continuous function that is not subadditive at the multiples of 1/order the first two of these are named
 abbrev pub IsFillReply : FunctionData → End → List ℕ → Type 0
 IsFillReply f Done text = IsFillText f text
-IsFillReply f NotContinuous text = NamesFirstJump f text
-IsFillReply f NotSubadditive text = IsContinuous f × NamesFirstPair f text
+IsFillReply f NotSubadditive text = NamesFirstPair f text
 IsFillReply f end text = ⊥
 
 abbrev pub fill_promise : Promise
-fill_promise = record { Thing = FunctionData; form = function_form; headline = IsFillText }
+fill_promise = function_promise false IsFillText
 
 abbrev pub fill : Task
-fill = record {
-  promise = fill_promise;
-  work = record { refuses = RefusesFunctionText; replies = IsFillReply };
-}
+fill = function_task false IsFillText (IsContinuousReply IsFillReply)

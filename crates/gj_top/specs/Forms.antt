@@ -1,5 +1,5 @@
 -- The forms of input, and how an input outside one is refused (own).
-use Rattle.std.specs.Prelude.{ℕ, ◌≡◌, ◌⊎◌, List, ◌++◌, codes, decimal}
+use Rattle.std.specs.Prelude.{ℕ, ◌≡◌, ◌⊎◌, Bool, true, false, List, ◌++◌, codes, decimal}
 use Rattle.gj_lex.specs.declared.reason.Reason.{Reason}
 use Rattle.gj_lex.specs.declared.spelling.Spelling.TheVariants.{Lenient}
 use Rattle.gj_lex.specs.Reason.{reason_word}
@@ -14,10 +14,12 @@ use Rattle.gj_proof.specs.declared.claim.Claim.{Claim}
 use Rattle.gj_json.specs.JsonFunction.{IsJsonFunction}
 use Rattle.gj_json.specs.FirstReason.{HasFirstReason, reason_word as json_reason_word}
 use Rattle.gj_json.specs.declared.faults.JsonReason.{JsonReason}
+use Rattle.gj_top.specs.declared.reply.End.{End}
 use Rattle.gj_top.specs.declared.reply.Unanswered.{Unanswered}
 use Rattle.gj_top.specs.declared.reply.Unanswered.TheVariants.{Refused, Memory}
-use Rattle.gj_top.specs.Promise.{Form}
+use Rattle.gj_top.specs.Promise.{Form, Promise}
 use Rattle.gj_top.specs.Promise.Form.{reading}
+use Rattle.gj_top.specs.Task.{Task}
 
 -- ---- the forms
 
@@ -29,9 +31,18 @@ BeginsWithFunction text f rest = HasLinesOfFunction text f rest ⊎ HasLinesOfFa
 abbrev pub IsFunctionInput : List ℕ → FunctionData → Type 0
 IsFunctionInput input f = (rest : List ℕ) × BeginsWithFunction input f rest × HasNothing Lenient rest
 
--- function text
-abbrev pub function_form : Form FunctionData
-function_form = reading IsFunctionInput
+-- the input is a function text that spells f, or with `--json` a function in JSON
+abbrev pub SpellsFunction : Bool → List ℕ → FunctionData → Type 0
+SpellsFunction false input f = IsFunctionInput input f
+SpellsFunction true input f = IsJsonFunction input f
+
+abbrev pub function_form : Bool → Form FunctionData
+function_form json = reading (SpellsFunction json)
+
+-- what is promised of the function that an input spells
+abbrev pub function_promise : Bool → (FunctionData → List ℕ → Type 0) → Promise
+function_promise json headline =
+    record { Thing = FunctionData; form = function_form json; headline = headline }
 
 -- the input is the proof text of a claim; a function that it is about is within the limits
 pub record IsProofOf (input : List ℕ) (c : Claim) : Type 0 where
@@ -41,10 +52,6 @@ pub record IsProofOf (input : List ℕ) (c : Claim) : Type 0 where
 -- proof text
 abbrev pub proof_form : Form Claim
 proof_form = reading IsProofOf
-
--- a function in JSON
-abbrev pub json_function : Form FunctionData
-json_function = reading IsJsonFunction
 
 -- ---- refusals
 
@@ -86,3 +93,18 @@ pub record RefusesJson (input text : List ℕ) : Type 0 where
   pub reason : JsonReason
   pub first : HasFirstReason input reason
   pub spelled : text ≡ json_refused_line reason
+
+-- the input spells no function
+abbrev pub RefusesFunction : Bool → List ℕ → List ℕ → Type 0
+RefusesFunction false input text = RefusesFunctionText input text
+RefusesFunction true input text = RefusesJson input text
+
+-- ---- commands that answer a function
+
+-- the task that keeps such a promise by these replies
+abbrev pub function_task : Bool → (FunctionData → List ℕ → Type 0) →
+    (FunctionData → End → List ℕ → Type 0) → Task
+function_task json headline replies = record {
+  promise = function_promise json headline;
+  work = record { refuses = RefusesFunction json; replies = replies };
+}

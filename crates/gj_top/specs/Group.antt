@@ -1,6 +1,6 @@
 -- The command `group`: a function text is answered with a verdict on the table of the function's own order, the finite master problem of
 -- that order (Gomory and Johnson 1972; the form is own).
-use Rattle.std.specs.Prelude.{ℕ, ◌≡◌, ◌<◌, ◌≤◌, List, codes}
+use Rattle.std.specs.Prelude.{ℕ, ◌≡◌, ◌<◌, ◌≤◌, false, List, codes}
 use Rattle.gj_shape.specs.FunctionData.{FunctionData, IsContinuous}
 use Rattle.gj_shape.specs.Table.{IsMinimalOnGrid}
 use Rattle.gj_function_lines.specs.FunctionLines.{line}
@@ -8,11 +8,11 @@ use Rattle.gj_group.specs.Decision.{greatest_group_order, SaysOfTable, IsFound, 
 use Rattle.gj_group.specs.declared.decision.GroupAnswer.{GroupAnswer}
 use Rattle.gj_listings.specs.GroupText.{IsGroupText}
 use Rattle.gj_top.specs.declared.reply.End.{End}
-use Rattle.gj_top.specs.declared.reply.End.TheVariants.{Done, Wide, NotContinuous, OrderLimit}
+use Rattle.gj_top.specs.declared.reply.End.TheVariants.{Done, Wide, OrderLimit}
 use Rattle.gj_top.specs.Promise.{Promise}
 use Rattle.gj_top.specs.Task.{Task}
-use Rattle.gj_top.specs.Forms.{function_form, RefusesFunctionText}
-use Rattle.gj_top.specs.Continuity.{NamesFirstJump}
+use Rattle.gj_top.specs.Forms.{function_promise, function_task}
+use Rattle.gj_top.specs.Continuity.{IsContinuousReply}
 use Rattle.gj_top.specs.Extreme.{wide_line}
 
 -- the headline: the function is continuous, and the text calls the table of its own order not minimal, extreme or not extreme, and so it is
@@ -24,7 +24,6 @@ pub record IsTrueGroupText (f : FunctionData) (text : List ℕ) : Type 0 where
 
 -- of a function of at most the greatest order, no number is too wide, and the violation or the halves are those of the decision
 pub record IsGroupVerdict (f : FunctionData) (text : List ℕ) : Type 0 where
-  pub continuous : IsContinuous f
   pub few : f.order ≤ greatest_group_order
   pub narrow : IsMinimalOnGrid f 1 → IsTooWideGroup f → ⊥
   pub answer : GroupAnswer
@@ -34,25 +33,20 @@ pub record IsGroupVerdict (f : FunctionData) (text : List ℕ) : Type 0 where
 
 -- the table is minimal, and a number of the decision is too wide
 pub record IsGroupTooWide (f : FunctionData) (text : List ℕ) : Type 0 where
-  pub continuous : IsContinuous f
   pub few : f.order ≤ greatest_group_order
   pub minimal : IsMinimalOnGrid f 1
   pub wide : IsTooWideGroup f
   pub spelled : text ≡ wide_line
 
--- of a function that jumps the first jump is named; of a continuous one whose order passes the limit that is said
+-- of a continuous function whose order passes the limit that is said
 abbrev pub IsGroupReply : FunctionData → End → List ℕ → Type 0
 IsGroupReply f Done text = IsGroupVerdict f text
 IsGroupReply f Wide text = IsGroupTooWide f text
-IsGroupReply f NotContinuous text = NamesFirstJump f text
-IsGroupReply f OrderLimit text = IsContinuous f × (greatest_group_order < f.order) × (text ≡ line (codes "order limit"))
+IsGroupReply f OrderLimit text = (greatest_group_order < f.order) × (text ≡ line (codes "order limit"))
 IsGroupReply f end text = ⊥
 
 abbrev pub group_promise : Promise
-group_promise = record { Thing = FunctionData; form = function_form; headline = IsTrueGroupText }
+group_promise = function_promise false IsTrueGroupText
 
 abbrev pub group : Task
-group = record {
-  promise = group_promise;
-  work = record { refuses = RefusesFunctionText; replies = IsGroupReply };
-}
+group = function_task false IsTrueGroupText (IsContinuousReply IsGroupReply)

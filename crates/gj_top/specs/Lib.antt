@@ -10,7 +10,7 @@ pub mod Faces
 pub mod Extreme
 pub mod Demo
 pub mod Cut
-pub mod CutSteps
+pub mod Written
 pub mod Mixed
 pub mod Fill
 pub mod Group

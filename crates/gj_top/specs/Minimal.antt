@@ -1,5 +1,5 @@
--- The command `minimal`: a function text is answered with the proof text of a verdict on minimality (own).
-use Rattle.std.specs.Prelude.{ℕ, ◌⊎◌, List}
+-- The command `minimal`: a function is answered with the proof text of a verdict on minimality (own).
+use Rattle.std.specs.Prelude.{ℕ, ◌⊎◌, Bool, List}
 use Rattle.gj_shape.specs.FunctionData.{FunctionData}
 use Rattle.gj_shape.specs.Table.{IsMinimal}
 use Rattle.gj_shape.specs.Violation.{ShowsViolation}
@@ -8,12 +8,9 @@ use Rattle.gj_shape.specs.declared.violations.Violation.{Violation}
 use Rattle.gj_proof.specs.declared.claim.Claim.TheVariants.{Minimal, NotMinimal}
 use Rattle.gj_proof.specs.ProofText.{IsProofText}
 use Rattle.gj_proof.specs.Rules.{MeetsRules}
-use Rattle.gj_top.specs.declared.reply.End.{End}
-use Rattle.gj_top.specs.declared.reply.End.TheVariants.{Done}
 use Rattle.gj_top.specs.Promise.{Promise}
-use Rattle.gj_top.specs.Task.{Task}
-use Rattle.gj_top.specs.Forms.{function_form, json_function, RefusesFunctionText, RefusesJson}
-use Rattle.gj_top.specs.Report.{IsReportOf, IsReportedReply}
+use Rattle.gj_top.specs.Task.{Task, EndsDone}
+use Rattle.gj_top.specs.Report.{proof_promise, proof_task}
 
 -- the text claims that f is minimal
 abbrev pub IsMinimalText : FunctionData → List ℕ → Type 0
@@ -30,36 +27,14 @@ IsVerdict f text =
     (IsMinimal f × MeetsRules (Minimal f) × IsMinimalText f text)
     ⊎ ((v : Violation) × IsFirstViolation f v × ShowsViolation f v × MeetsRules (NotMinimal f v) × IsNotMinimalText f v text)
 
--- the reply to a function is the verdict on it, and ends with Done
-abbrev pub IsDecision : FunctionData → End → List ℕ → Type 0
-IsDecision f Done text = IsVerdict f text
-IsDecision f end text = ⊥
-
 -- the headline: the text calls f minimal, and then its table on every grid of order a multiple of its own is minimal; or it
 -- calls f not minimal, with a violation that shows it, and it is not
 abbrev pub IsTrueVerdict : FunctionData → List ℕ → Type 0
 IsTrueVerdict f text =
     (IsMinimalText f text × IsMinimal f) ⊎ ((v : Violation) × IsNotMinimalText f v text × ShowsViolation f v × (IsMinimal f → ⊥))
 
-abbrev pub minimal_promise : Promise
-minimal_promise = record { Thing = FunctionData; form = function_form; headline = IsTrueVerdict }
+abbrev pub minimal_promise : Bool → Promise
+minimal_promise json = proof_promise json IsTrueVerdict
 
-abbrev pub minimal : Task
-minimal = record {
-  promise = minimal_promise;
-  work = record { refuses = RefusesFunctionText; replies = IsDecision };
-}
-
--- with `--json` the function is read in JSON, and the proof text is reported
-abbrev pub minimal_json_promise : Promise
-minimal_json_promise = record {
-  Thing = FunctionData;
-  form = json_function;
-  headline = λ f text. IsReportOf (IsTrueVerdict f) text;
-}
-
-abbrev pub minimal_json : Task
-minimal_json = record {
-  promise = minimal_json_promise;
-  work = record { refuses = RefusesJson; replies = IsReportedReply IsDecision };
-}
+abbrev pub minimal : Bool → Task
+minimal json = proof_task json IsTrueVerdict (EndsDone IsVerdict)

@@ -1,6 +1,7 @@
 -- What a command does: what it promises, how it refuses an input that spells nothing, and how it answers a thing (own).
 use Rattle.std.specs.Prelude.{ℕ, List, Result, Ok, Err}
 use Rattle.gj_top.specs.declared.reply.End.{End}
+use Rattle.gj_top.specs.declared.reply.End.TheVariants.{Done}
 use Rattle.gj_top.specs.declared.reply.Reply.{Reply}
 use Rattle.gj_top.specs.declared.reply.Unanswered.{Unanswered}
 use Rattle.gj_top.specs.declared.reply.Unanswered.TheVariants.{Refused, Memory}
@@ -40,6 +41,11 @@ abbrev pub IsReadingOf : {Thing : Type 0} → (List ℕ → Thing → Type 0) �
     Result Thing Unanswered → Type 0
 IsReadingOf spells refuses input (Ok thing) = spells input thing
 IsReadingOf spells refuses input (Err e) = IsTaskRefusal refuses input e
+
+-- a thing is replied to with a text that has this property, and the end Done
+abbrev pub EndsDone : {Thing : Type 0} → (Thing → List ℕ → Type 0) → Thing → End → List ℕ → Type 0
+EndsDone P thing Done text = P thing text
+EndsDone P thing end text = ⊥
 
 -- what came of answering an input
 abbrev pub IsAnswering : Task → List ℕ → Result Reply Unanswered → Type 0

@@ -1,19 +1,28 @@
 -- The commands `times`, `mirror` and `restrict`: a function text is answered with the canonical text of a function that is made of its
 -- function (Gomory and Johnson 1972; the form is own).
-use Rattle.std.specs.Prelude.{ℕ, ◌≡◌, ◌*◌, ◌<◌, ◌↔◌, List, codes}
+use Rattle.std.specs.Prelude.{ℕ, ◌≡◌, ◌*◌, ◌<◌, ◌↔◌, false, List, codes, Result, Ok, Err}
 use Rattle.gj_shape.specs.Limits.{greatest_order}
 use Rattle.gj_shape.specs.Extreme.{IsExtreme}
 use Rattle.gj_shape.specs.FunctionData.{FunctionData, IsWithinBounds, IsContinuous}
 use Rattle.gj_shape.specs.Table.{IsMinimal}
 use Rattle.gj_function_lines.specs.FunctionLines.{line}
 use Rattle.gj_function_text.specs.FunctionText.{IsCanonicalText}
+use Rattle.gj_transform.specs.declared.faults.TransformFault.{TransformFault}
+use Rattle.gj_transform.specs.declared.faults.TransformFault.TheVariants as fault
 use Rattle.gj_transform.specs.Transforms.{IsTimesOf, IsMirrorOf, IsRestrictionOf, HasNoRestriction}
 use Rattle.gj_top.specs.declared.reply.End.{End}
-use Rattle.gj_top.specs.declared.reply.End.TheVariants.{Done, NotContinuous, OrderLimit, BadOrder}
+use Rattle.gj_top.specs.declared.reply.End.TheVariants.{Done, OrderLimit, BadOrder}
 use Rattle.gj_top.specs.Promise.{Promise}
-use Rattle.gj_top.specs.Task.{Task}
-use Rattle.gj_top.specs.Forms.{function_form, RefusesFunctionText}
-use Rattle.gj_top.specs.Continuity.{NamesFirstJump}
+use Rattle.gj_top.specs.Task.{Task, EndsDone}
+use Rattle.gj_top.specs.Forms.{function_promise, function_task}
+use Rattle.gj_top.specs.Continuity.{IsContinuousReply}
+
+-- the reply to what came of making a function
+abbrev pub IsMadeReply : Result FunctionData TransformFault → End → List ℕ → Type 0
+IsMadeReply (Ok g) Done text = IsCanonicalText text g
+IsMadeReply (Err fault.OrderLimit) OrderLimit text = text ≡ line (codes "order limit")
+IsMadeReply (Err fault.BadOrder) BadOrder text = text ≡ line (codes "bad order")
+IsMadeReply made end text = ⊥
 
 -- ---- times
 
@@ -32,13 +41,10 @@ IsTimesReply n j f OrderLimit text = (greatest_order < f.order * n) × (text ≡
 IsTimesReply n j f end text = ⊥
 
 abbrev pub times_promise : ℕ → ℕ → Promise
-times_promise n j = record { Thing = FunctionData; form = function_form; headline = IsTimesText n j }
+times_promise n j = function_promise false (IsTimesText n j)
 
 abbrev pub times : ℕ → ℕ → Task
-times n j = record {
-  promise = times_promise n j;
-  work = record { refuses = RefusesFunctionText; replies = IsTimesReply n j };
-}
+times n j = function_task false (IsTimesText n j) (IsTimesReply n j)
 
 -- ---- mirror
 
@@ -52,18 +58,11 @@ pub record IsMirrorText (f : FunctionData) (text : List ℕ) : Type 0 where
   pub extreme : IsExtreme f ↔ IsExtreme function
   pub spelled : IsCanonicalText text function
 
-abbrev pub IsMirrorReply : FunctionData → End → List ℕ → Type 0
-IsMirrorReply f Done text = IsMirrorText f text
-IsMirrorReply f end text = ⊥
-
 abbrev pub mirror_promise : Promise
-mirror_promise = record { Thing = FunctionData; form = function_form; headline = IsMirrorText }
+mirror_promise = function_promise false IsMirrorText
 
 abbrev pub mirror : Task
-mirror = record {
-  promise = mirror_promise;
-  work = record { refuses = RefusesFunctionText; replies = IsMirrorReply };
-}
+mirror = function_task false IsMirrorText (EndsDone IsMirrorText)
 
 -- ---- restrict
 
@@ -77,18 +76,14 @@ pub record IsRestrictionText (d : ℕ) (f : FunctionData) (text : List ℕ) : Ty
   pub minimal : IsMinimal f → IsMinimal function
   pub spelled : IsCanonicalText text function
 
--- of a function that jumps the first jump is named; and if a continuous one has no restriction of order d, that is said
+-- if a continuous function has no restriction of order d, that is said
 abbrev pub IsRestrictionReply : ℕ → FunctionData → End → List ℕ → Type 0
 IsRestrictionReply d f Done text = IsRestrictionText d f text
-IsRestrictionReply d f NotContinuous text = NamesFirstJump f text
-IsRestrictionReply d f BadOrder text = IsContinuous f × HasNoRestriction f d × (text ≡ line (codes "bad order"))
+IsRestrictionReply d f BadOrder text = HasNoRestriction f d × (text ≡ line (codes "bad order"))
 IsRestrictionReply d f end text = ⊥
 
 abbrev pub restriction_promise : ℕ → Promise
-restriction_promise d = record { Thing = FunctionData; form = function_form; headline = IsRestrictionText d }
+restriction_promise d = function_promise false (IsRestrictionText d)
 
 abbrev pub restriction : ℕ → Task
-restriction d = record {
-  promise = restriction_promise d;
-  work = record { refuses = RefusesFunctionText; replies = IsRestrictionReply d };
-}
+restriction d = function_task false (IsRestrictionText d) (IsContinuousReply (IsRestrictionReply d))

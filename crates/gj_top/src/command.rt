@@ -26,19 +26,8 @@ pub(crate) fn reads_input(request: Request) -> bool
     ensures { result ≡ reads (promise_for request).form }
 {
     match request.command {
-        Command::Minimal => true,
-        Command::Extreme => true,
-        Command::Show => true,
-        Command::Check => true,
-        Command::Faces => true,
-        Command::Cut => true,
         Command::Demo(_) => false,
-        Command::Mixed => true,
-        Command::Fill => true,
-        Command::Group => true,
-        Command::Times(_, _) => true,
-        Command::Mirror => true,
-        Command::Restrict(_) => true,
+        _ => true,
     }
 }
 
@@ -48,12 +37,9 @@ pub(crate) fn reply_to(alloc: Global, request: Request, input: &[u8]) -> Result<
     ensures { IsAnswering (task_for request) input.now result }
 {
     match request.command {
-        Command::Minimal if request.json => minimal::json_reply(alloc, input),
-        Command::Minimal => minimal::reply(alloc, input),
-        Command::Extreme if request.json => extreme::json_reply(alloc, input),
-        Command::Extreme => extreme::reply(alloc, input),
-        Command::Show if request.json => show::json_reply(alloc, input),
-        Command::Show => show::reply(alloc, input),
+        Command::Minimal => minimal::reply(alloc, input, request.json),
+        Command::Extreme => extreme::reply(alloc, input, request.json),
+        Command::Show => show::reply(alloc, input, request.json),
         Command::Check => check::reply(alloc, input),
         Command::Faces => faces::reply(alloc, input),
         Command::Cut => cut::reply(alloc, input),

@@ -6,7 +6,7 @@ ghost use Rattle.gj_claims.specs.CutRules.{PassesTests};
 ghost use Rattle.gj_top.specs.Task.{IsAnswering};
 ghost use Rattle.gj_top.specs.Cut.{AreCheckedCutsOf, IsCutReply, cut};
 
-use crate::cut_input::{rule_of, tableau_behind};
+use crate::cut_input::{CutInput, cut_input_of};
 use crate::reply::{End, Reply, Unanswered};
 use gj_claims::{cuts_proof, violation_of_rule};
 use gj_proof::{CutRule, push_violation_line, write_proof};
@@ -19,8 +19,7 @@ use std::alloc::{AllocError, Global};
 pub(crate) fn reply(alloc: Global, input: &[u8]) -> Result<Reply, Unanswered>
     ensures { IsAnswering cut input.now result }
 {
-    let (rule, len) = rule_of(alloc, input)?;
-    let tableau = tableau_behind(alloc, input, len)?;
+    let CutInput { rule, tableau } = cut_input_of(alloc, input)?;
     Ok(cuts_or_violation(alloc, rule, &tableau)?)
 }
 

@@ -3,10 +3,11 @@ ghost use Rattle.std.specs.Prelude.{◌<◌, IfOk};
 ghost use Rattle.gj_shape.specs.FunctionData.{IsContinuous};
 ghost use Rattle.gj_fill.specs.FirstPair.{IsFirstPair};
 ghost use Rattle.gj_top.specs.Task.{IsAnswering};
+ghost use Rattle.gj_top.specs.Continuity.{IsContinuousReply};
 ghost use Rattle.gj_top.specs.Fill.{IsFillReply, NamesFirstPair, fill};
 
-use crate::continuity::jump_line;
-use crate::forms::function_of;
+use crate::continuity::jump_reply;
+use crate::forms::function_text_of;
 use crate::reply::{End, Reply, Unanswered};
 use gj_fill::{FillFault, fill};
 use gj_frac::Frac;
@@ -15,31 +16,21 @@ use gj_lex::print_frac;
 use gj_shape::Shape;
 use std::alloc::{AllocError, Global};
 
-/// The fill-in of the function that the input spells.
+/// The fill-in of the function that the input spells, or its first jump.
 pub(crate) fn reply(alloc: Global, input: &[u8]) -> Result<Reply, Unanswered>
     ensures { IsAnswering fill input.now result }
 {
-    let shape = function_of(alloc, input)?;
-    Ok(fill_or_jump(alloc, &shape)?)
-}
-
-/// The fill-in of the function, or its first jump.
-fn fill_or_jump(alloc: Global, shape: &Shape) -> Result<Reply, AllocError>
-    ensures { IfOk result (λ reply. IsFillReply shape.now reply.end reply.text.items) }
-{
-    match shape.first_jump() {
-        Some(index) => Ok(Reply {
-            end: End::NotContinuous,
-            text: jump_line(alloc, shape, index)?,
-        }),
-        None => fill_or_pair(alloc, shape),
+    let shape = function_text_of(alloc, input)?;
+    if let Some(jump) = jump_reply(alloc, &shape)? {
+        return Ok(jump);
     }
+    Ok(fill_or_pair(alloc, &shape)?)
 }
 
 /// The fill-in of a continuous function, or the first two places at which it is not subadditive.
 fn fill_or_pair(alloc: Global, shape: &Shape) -> Result<Reply, AllocError>
     requires { IsContinuous shape.now }
-    ensures { IfOk result (λ reply. IsFillReply shape.now reply.end reply.text.items) }
+    ensures { IfOk result (λ reply. IsContinuousReply IsFillReply shape.now reply.end reply.text.items) }
 {
     match fill(alloc, shape) {
         Ok(filled) => Ok(Reply {

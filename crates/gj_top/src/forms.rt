@@ -2,8 +2,8 @@
 ghost use Rattle.gj_function_lines.specs.FunctionLines.{line};
 ghost use Rattle.gj_top.specs.Task.{IsReadingOf};
 ghost use Rattle.gj_json.specs.JsonFunction.{IsJsonFunction};
-ghost use Rattle.gj_top.specs.Forms.{IsFunctionInput, IsProofOf, IsRefusalOf, IsJsonRefusalOf};
-ghost use Rattle.gj_top.specs.Forms.{RefusesFunctionText, RefusesJson, RefusesProofText};
+ghost use Rattle.gj_top.specs.Forms.{IsFunctionInput, SpellsFunction, IsProofOf, IsRefusalOf, IsJsonRefusalOf};
+ghost use Rattle.gj_top.specs.Forms.{RefusesFunctionText, RefusesJson, RefusesFunction, RefusesProofText};
 
 use crate::lines::{numbered_line, worded_line};
 use crate::reply::Unanswered;
@@ -14,8 +14,19 @@ use gj_proof::{Proof, ProofFault, read_proof};
 use gj_shape::Shape;
 use std::alloc::Global;
 
-/// The function that the input spells.
-pub(crate) fn function_of(alloc: Global, input: &[u8]) -> Result<Shape, Unanswered>
+/// The function that the input spells: a function text, or with `json` a function in JSON.
+pub(crate) fn function_of(alloc: Global, input: &[u8], json: bool) -> Result<Shape, Unanswered>
+    ensures { IsReadingOf (SpellsFunction json) (RefusesFunction json) input.now result }
+{
+    if json {
+        json_function_of(alloc, input)
+    } else {
+        function_text_of(alloc, input)
+    }
+}
+
+/// The function that the input, a function text, spells.
+pub(crate) fn function_text_of(alloc: Global, input: &[u8]) -> Result<Shape, Unanswered>
     ensures { IsReadingOf IsFunctionInput RefusesFunctionText input.now result }
 {
     match read_whole_function(alloc, input) {
@@ -26,7 +37,7 @@ pub(crate) fn function_of(alloc: Global, input: &[u8]) -> Result<Shape, Unanswer
 }
 
 /// The function that the input, a JSON text, spells.
-pub(crate) fn json_function_of(alloc: Global, input: &[u8]) -> Result<Shape, Unanswered>
+fn json_function_of(alloc: Global, input: &[u8]) -> Result<Shape, Unanswered>
     ensures { IsReadingOf IsJsonFunction RefusesJson input.now result }
 {
     match read_json(alloc, input) {

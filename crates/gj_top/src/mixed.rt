@@ -1,14 +1,14 @@
 //! The command `mixed`: the mixed cuts of the rows of a tableau, by a function or by the mixed-integer cut.
-ghost use Rattle.std.specs.Prelude.{IfOk, IfSome, IfNone};
+ghost use Rattle.std.specs.Prelude.{◌≡◌, IfOk, IfSome, IfNone};
 ghost use Rattle.gj_row.specs.TableauLimits.{IsTableau};
 ghost use Rattle.gj_listings.specs.MixedLines.{MakesMixedCuts};
 ghost use Rattle.gj_claims.specs.CutRules.{PassesTests};
 ghost use Rattle.gj_top.specs.Task.{IsAnswering};
 ghost use Rattle.gj_top.specs.Mixed.{IsMixedReply, NamesJump, mixed};
 
-use crate::continuity::jump_line;
+use crate::continuity::jump_reply;
 use crate::cut::violation_text;
-use crate::cut_input::{rule_of, tableau_behind};
+use crate::cut_input::{CutInput, cut_input_of};
 use crate::reply::{End, Reply, Unanswered};
 use gj_claims::violation_of_rule;
 use gj_listings::mixed_text;
@@ -21,8 +21,7 @@ use std::alloc::{AllocError, Global};
 pub(crate) fn reply(alloc: Global, input: &[u8]) -> Result<Reply, Unanswered>
     ensures { IsAnswering mixed input.now result }
 {
-    let (rule, len) = rule_of(alloc, input)?;
-    let tableau = tableau_behind(alloc, input, len)?;
+    let CutInput { rule, tableau } = cut_input_of(alloc, input)?;
     Ok(mixed_reply(alloc, &rule, &tableau)?)
 }
 
@@ -38,29 +37,24 @@ pub fn mixed_reply(alloc: Global, rule: &CutRule, tableau: &Tableau) -> Result<R
             text: violation_text(alloc, violation)?,
         });
     }
-    match jump_of(alloc, rule)? {
-        Some(text) => Ok(Reply {
-            end: End::NotContinuous,
-            text,
-        }),
-        None => Ok(Reply {
-            end: End::Done,
-            text: mixed_text(alloc, rule, tableau)?,
-        }),
+    if let Some(jump) = jump_of(alloc, rule)? {
+        return Ok(jump);
     }
+    Ok(Reply {
+        end: End::Done,
+        text: mixed_text(alloc, rule, tableau)?,
+    })
 }
 
-/// The line that names the first jump of the function of the rule, if it has one.
-fn jump_of(alloc: Global, rule: &CutRule) -> Result<Option<Vec<u8>>, AllocError>
+/// The reply to a rule whose function jumps.
+fn jump_of(alloc: Global, rule: &CutRule) -> Result<Option<Reply>, AllocError>
     requires tests { PassesTests rule.now }
-    ensures jump { IfOk result (λ found. IfSome found (λ text. NamesJump rule.now text.items)) }
+    ensures end { IfOk result (λ found. IfSome found (λ reply. reply.end ≡ End.NotContinuous)) }
+    ensures jump { IfOk result (λ found. IfSome found (λ reply. NamesJump rule.now reply.text.items)) }
     ensures none { IfOk result (λ found. IfNone found (MakesMixedCuts rule.now)) }
 {
     match rule {
         CutRule::Gmic => Ok(None),
-        CutRule::Table(shape) => match shape.first_jump() {
-            Some(index) => Ok(Some(jump_line(alloc, shape, index)?)),
-            None => Ok(None),
-        },
+        CutRule::Table(shape) => jump_reply(alloc, shape),
     }
 }

@@ -1,31 +1,33 @@
 //! The command `show`: a function in its canonical text, or in JSON.
+ghost use Rattle.std.specs.Prelude.{IfOk};
 ghost use Rattle.gj_top.specs.Task.{IsAnswering};
-ghost use Rattle.gj_top.specs.Show.{show, show_json};
+ghost use Rattle.gj_top.specs.Show.{IsShownText, show};
 
-use crate::forms::{function_of, json_function_of};
+use crate::forms::function_of;
 use crate::reply::{End, Reply, Unanswered};
 use gj_function_text::write_function;
 use gj_json::show_json;
-use std::alloc::Global;
+use gj_shape::Shape;
+use std::alloc::{AllocError, Global};
 
-/// The canonical text of the function that the input spells.
-pub(crate) fn reply(alloc: Global, input: &[u8]) -> Result<Reply, Unanswered>
-    ensures { IsAnswering show input.now result }
+/// The text of the function that the input spells.
+pub(crate) fn reply(alloc: Global, input: &[u8], json: bool) -> Result<Reply, Unanswered>
+    ensures { IsAnswering (show json) input.now result }
 {
-    let shape = function_of(alloc, input)?;
+    let shape = function_of(alloc, input, json)?;
     Ok(Reply {
         end: End::Done,
-        text: write_function(alloc, &shape)?,
+        text: shown(alloc, &shape, json)?,
     })
 }
 
-/// The JSON text of the function that the input, a JSON text, spells.
-pub(crate) fn json_reply(alloc: Global, input: &[u8]) -> Result<Reply, Unanswered>
-    ensures { IsAnswering show_json input.now result }
+/// The canonical text of the function, or with `json` its JSON text.
+fn shown(alloc: Global, shape: &Shape, json: bool) -> Result<Vec<u8>, AllocError>
+    ensures { IfOk result (λ text. IsShownText json shape.now text.items) }
 {
-    let shape = json_function_of(alloc, input)?;
-    Ok(Reply {
-        end: End::Done,
-        text: show_json(alloc, &shape)?,
-    })
+    if json {
+        show_json(alloc, shape)
+    } else {
+        write_function(alloc, shape)
+    }
 }

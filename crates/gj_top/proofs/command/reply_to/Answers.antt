@@ -1,22 +1,13 @@
 use Rattle.gj_top.proofs.command.reply_to.Goals as goal
 
 pub returns-in-Minimal : goal.returns-in-Minimal
-returns-in-Minimal c = rw (c.in-Minimal.is, c.if-request.true) c.json_reply.ensures
-
-pub returns-in-Minimal-2 : goal.returns-in-Minimal-2
-returns-in-Minimal-2 c = rw (c.in-Minimal-2.is, c.if-request.false) c.reply.ensures
+returns-in-Minimal c = rw c.in-Minimal.is c.reply.ensures
 
 pub returns-in-Extreme : goal.returns-in-Extreme
-returns-in-Extreme c = rw (c.in-Extreme.is, c.if-request-2.true) c.json_reply-in-Extreme.ensures
-
-pub returns-in-Extreme-2 : goal.returns-in-Extreme-2
-returns-in-Extreme-2 c = rw (c.in-Extreme-2.is, c.if-request-2.false) c.reply-in-Extreme-2.ensures
+returns-in-Extreme c = rw c.in-Extreme.is c.reply-in-Extreme.ensures
 
 pub returns-in-Show : goal.returns-in-Show
-returns-in-Show c = rw (c.in-Show.is, c.if-request-3.true) c.json_reply-in-Show.ensures
-
-pub returns-in-Show-2 : goal.returns-in-Show-2
-returns-in-Show-2 c = rw (c.in-Show-2.is, c.if-request-3.false) c.reply-in-Show-2.ensures
+returns-in-Show c = rw c.in-Show.is c.reply-in-Show.ensures
 
 pub returns-in-Check : goal.returns-in-Check
 returns-in-Check c = rw c.in-Check.is c.reply-in-Check.ensures

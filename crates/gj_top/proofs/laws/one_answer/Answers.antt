@@ -1,3 +1,5 @@
+use Rattle.gj_top.specs.Command.{task_for}
+use Rattle.gj_top.proofs.Clauses.{done_reply}
 use Rattle.gj_top.proofs.Commands.{one_named}
 use Rattle.gj_top.proofs.OneAnswer.{one_answer}
 use Rattle.gj_top.proofs.laws.one_answer.Goals as goal
@@ -7,3 +9,6 @@ returns-clause-request c = one_named
 
 pub returns-clause-answer : goal.returns-clause-answer
 returns-clause-answer c = one_answer
+
+pub returns-clause-done : goal.returns-clause-done
+returns-clause-done c = λ r. done_reply (task_for r)

@@ -1,16 +1,15 @@
-use Rattle.std.proofs.Common.{◌≡◌, ℕ, ◌≤◌, true, false, List, length, ap, ◌∙◌, arith}
+use Rattle.std.proofs.Common.{◌≡◌, ℕ, ◌≤◌, List, length, ap, ◌∙◌, arith}
 use Rattle.gj_top.specs.declared.reply.End.{End}
 use Rattle.gj_top.specs.declared.reply.End.TheVariants as end
 use Rattle.gj_top.specs.declared.status.Status.{Status}
 use Rattle.gj_top.specs.declared.status.Status.TheVariants.{Done}
 use Rattle.gj_top.specs.Answer.{IsAnswerTo, input_limit}
 use Rattle.gj_top.specs.Answer.IsAnswerTo.{too_long, refused, replied}
-use Rattle.gj_top.specs.Extreme.{IsExtremeText, extreme, extreme_json}
+use Rattle.gj_top.specs.Decisive.{CallsExtreme}
+use Rattle.gj_top.specs.Extreme.{extreme}
 use Rattle.gj_top.specs.Reply.{status_of}
-use Rattle.gj_top.specs.Report.{IsReportOf}
 use Rattle.gj_top.specs.Task.{Task, IsInForm, IsReply}
-use Rattle.gj_top.proofs.InputLines.{input_of_whole}
-use Rattle.gj_top.proofs.Sound.{IsSound, extreme_sound, extreme_json_sound}
+use Rattle.gj_top.proofs.Sound.{IsSound, extreme_sound}
 use Rattle.gj_top.proofs.TwoSlopeAnswers.{two_slope_reply}
 use Rattle.gj_top.proofs.laws.two_slopes_are_called_extreme.Goals as goal
 
@@ -26,22 +25,10 @@ answered task input text s Called sound form short called (replied a) =
     let (ended, here) = called a.end a.reply in
     (a.status_is ∙ ap status_of ended, here)
 
--- ---- function texts
-
 pub returns-clause-reply : goal.returns-clause-reply
-returns-clause-reply c = λ f input text e spelled. two_slope_reply false f input text e (input_of_whole input f spelled)
+returns-clause-reply c = λ json f input text e. two_slope_reply json f input text e
 
 pub returns-clause-answer : goal.returns-clause-answer
-returns-clause-answer c = λ f input text s spelled minimal two short.
-    answered extreme input text s (IsExtremeText f text) extreme_sound (f, input_of_whole input f spelled) short
-    (λ e. two_slope_reply false f input text e (input_of_whole input f spelled) minimal two)
-
--- ---- functions in JSON
-
-pub returns-clause-json_reply : goal.returns-clause-json_reply
-returns-clause-json_reply c = λ f input text e spelled. two_slope_reply true f input text e spelled
-
-pub returns-clause-json_answer : goal.returns-clause-json_answer
-returns-clause-json_answer c = λ f input text s spelled minimal two short.
-    answered extreme_json input text s (IsReportOf (IsExtremeText f) text) extreme_json_sound (f, spelled) short
-    (λ e. two_slope_reply true f input text e spelled minimal two)
+returns-clause-answer c = λ json f input text s spelled minimal two short.
+    answered (extreme json) input text s (CallsExtreme json f text) (extreme_sound json) (f, spelled) short
+    (λ e. two_slope_reply json f input text e spelled minimal two)

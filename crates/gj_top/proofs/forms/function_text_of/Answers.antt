@@ -1,7 +1,7 @@
 use Rattle.gj_function_text.specs.FirstFault.{IsFirstFaultOfWhole}
 use Rattle.gj_top.proofs.InputLines.{input_of_whole}
 use Rattle.gj_top.proofs.Refusals.{refusal_of_fault}
-use Rattle.gj_top.proofs.forms.function_of.Goals as goal
+use Rattle.gj_top.proofs.forms.function_text_of.Goals as goal
 
 pub returns-in-Ok : goal.returns-in-Ok
 returns-in-Ok c = input_of_whole c.args.input.now c.in-Ok.shape c.in-Ok.ensures.found

@@ -1,5 +1,5 @@
 use Rattle.gj_top.proofs.ProofBytes.{proof_bytes, proof_is_ended}
-use Rattle.gj_top.proofs.report.report_of.Goals as goal
+use Rattle.gj_top.proofs.report.proof_text.Goals as goal
 
 pub report-requires-clause-bytes : goal.report-requires-clause-bytes
 report-requires-clause-bytes c =

@@ -1,0 +1,12 @@
+-- Proofs that commands write (own).
+use Rattle.std.specs.Prelude.{ℕ, ◌⊎◌, false, List}
+use Rattle.gj_top.specs.declared.reply.End.TheVariants.{Done}
+use Rattle.gj_top.specs.Task.{IsReply}
+use Rattle.gj_top.specs.Minimal.{minimal}
+use Rattle.gj_top.specs.Extreme.{extreme}
+use Rattle.gj_top.specs.Cut.{cut}
+
+-- the text is what `minimal`, `extreme` or `cut` replies to the input with Done
+abbrev pub IsWrittenProof : List ℕ → List ℕ → Type 0
+IsWrittenProof input text =
+    IsReply (minimal false) input Done text ⊎ IsReply (extreme false) input Done text ⊎ IsReply cut input Done text
