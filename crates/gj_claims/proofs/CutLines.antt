@@ -29,23 +29,28 @@ use Rattle.gj_claims.specs.CutLines.{HasColumns, IsLineFor, IsTermFor, NamesCut}
 
 -- ---- the columns of the terms
 
-pub cut_has_columns : (k : RuleKind) (n : ℕ) (row : Row) (cut : RowCut) → IsRowWithinLimits n row → IsCutOfKind k row cut → HasColumns n cut
+pub cut_has_columns : (k : RuleKind) (n : ℕ) (row : Row) (cut : RowCut) → IsRowWithinLimits n row →
+    IsCutOfKind k row cut → HasColumns n cut
 cut_has_columns k n row (row_cut.Cut terms) limits h =
     terms_in_columns (IsTermOfKind k) n row.entries terms (λ e t p. p.column_is) limits.below h.2
 cut_has_columns k n row row_cut.Integral limits h = tt
 cut_has_columns k n row row_cut.OtherFraction limits h = tt
 
-pub gmic_has_columns : (n : ℕ) (row : Row) (cut : RowCut) → IsRowWithinLimits n row → IsGmicCutOf row cut → HasColumns n cut
-gmic_has_columns n row (row_cut.Cut terms) limits (f, h) = cut_has_columns (kind.Gmic f) n row (row_cut.Cut terms) limits h
+pub gmic_has_columns : (n : ℕ) (row : Row) (cut : RowCut) → IsRowWithinLimits n row →
+    IsGmicCutOf row cut → HasColumns n cut
+gmic_has_columns n row (row_cut.Cut terms) limits (f, h) =
+    cut_has_columns (kind.Gmic f) n row (row_cut.Cut terms) limits h
 gmic_has_columns n row row_cut.Integral limits h = tt
 gmic_has_columns n row row_cut.OtherFraction limits h = tt
 
 -- ---- lines by a rule
 
 -- terms by a kind, with their names, are terms by a rule that has the kind's values
-terms_for : (r : CutRule) (k : RuleKind) (columns : List (List ℕ)) (row : Row) (entries : List Entry) (terms : List Term) (named : List CutTerm) →
+terms_for : (r : CutRule) (k : RuleKind) (columns : List (List ℕ)) (row : Row)
+    (entries : List Entry) (terms : List Term) (named : List CutTerm) →
     ((t : CutTerm) → IsKindValue k t.entry t.cut → MeetsValue r row.rhs t) →
-    AllZip (IsTermOfKind k) entries terms → AllZip (IsNamedTerm columns) terms named → AllZip (IsTermFor r columns row) entries named
+    AllZip (IsTermOfKind k) entries terms → AllZip (IsNamedTerm columns) terms named →
+    AllZip (IsTermFor r columns row) entries named
 terms_for r k columns row [] [] [] value h names = tt
 terms_for r k columns row [] [] (c ∷ named) value h names = absurd names
 terms_for r k columns row [] (t ∷ terms) named value h names = absurd h
@@ -56,28 +61,34 @@ terms_for r k columns row (e ∷ entries) (t ∷ terms) (c ∷ named) value h na
       record {
         name = names.0.name ∙ ap (λ i. get_or columns i []) h.0.column_is;
         entry = entry;
-        value = value c (subst₂ (λ (x y : Frac). IsKindValue k x y) (sym entry) (sym names.0.cut) h.0.value_is);
+        value = value c (subst₂ (λ (x y : Frac). IsKindValue k x y) (sym entry) (sym names.0.cut)
+            h.0.value_is);
       },
       terms_for r k columns row entries terms named value h.1 names.1,
     )
 
-pub gmic_line : (columns : List (List ℕ)) (row : Row) (cut : RowCut) (line : CutLine) → IsGmicCutOf row cut →
+pub gmic_line : (columns : List (List ℕ)) (row : Row) (cut : RowCut) (line : CutLine) →
+    IsGmicCutOf row cut →
     NamesCut columns row cut line → IsLineFor Gmic columns row line
 gmic_line columns row (row_cut.Cut terms) (Cut name right named) (f, h) names = (
   names.0,
   names.1,
   subst (λ (x : Frac). IsWhole x → ⊥) (sym names.1) h.0,
   terms_for Gmic (kind.Gmic f) columns row row.entries terms named
-      (λ t v g has. subst (λ (p : Frac). IsGmicValue p t.entry t.cut) (one_part row.rhs f g h.1 has) v) h.2 names.2,
+      (λ t v g has. subst (λ (p : Frac). IsGmicValue p t.entry t.cut) (one_part row.rhs f g h.1 has)
+      v) h.2 names.2,
 )
 gmic_line columns row (row_cut.Cut terms) (Skip name right reason) h names = absurd names
-gmic_line columns row row_cut.Integral (Skip name right Integral) h names = (names.0, names.1, subst IsWhole (sym names.1) h)
+gmic_line columns row row_cut.Integral (Skip name right Integral) h names =
+    (names.0, names.1, subst IsWhole (sym names.1) h)
 gmic_line columns row row_cut.Integral (Skip name right Other) h names = absurd names
 gmic_line columns row row_cut.Integral (Cut name right named) h names = absurd names
 gmic_line columns row row_cut.OtherFraction line h names = absurd h
 
-pub function_line : (f : FunctionData) (columns : List (List ℕ)) (row : Row) (cut : RowCut) (line : CutLine) →
-    IsCutOfKind (kind.Table f) row cut → NamesCut columns row cut line → IsLineFor (Table f) columns row line
+pub function_line : (f : FunctionData) (columns : List (List ℕ)) (row : Row) (cut : RowCut)
+    (line : CutLine) →
+    IsCutOfKind (kind.Table f) row cut → NamesCut columns row cut line →
+    IsLineFor (Table f) columns row line
 function_line f columns row (row_cut.Cut terms) (Cut name right named) h names = (
   names.0,
   names.1,
@@ -85,7 +96,8 @@ function_line f columns row (row_cut.Cut terms) (Cut name right named) h names =
   terms_for (Table f) (kind.Table f) columns row row.entries terms named (λ t v. v) h.2 names.2,
 )
 function_line f columns row (row_cut.Cut terms) (Skip name right reason) h names = absurd names
-function_line f columns row row_cut.Integral (Skip name right Integral) h names = (names.0, names.1, subst IsWhole (sym names.1) h)
+function_line f columns row row_cut.Integral (Skip name right Integral) h names =
+    (names.0, names.1, subst IsWhole (sym names.1) h)
 function_line f columns row row_cut.Integral (Skip name right Other) h names = absurd names
 function_line f columns row row_cut.Integral (Cut name right named) h names = absurd names
 function_line f columns row row_cut.OtherFraction (Skip name right Other) h names = (

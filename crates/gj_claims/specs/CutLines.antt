@@ -36,9 +36,12 @@ HasColumns n (row_cut.Cut terms) = All (λ t. t.column < n) terms
 HasColumns n row_cut.Integral = Unit {0}
 HasColumns n row_cut.OtherFraction = Unit {0}
 
--- the line of a row with this cut, with the names of its columns; or why the row has no cut
+-- the line of a row with this cut: the terms with the names of their columns, or why it has none
 abbrev pub NamesCut : List (List ℕ) → Row → RowCut → CutLine → Type 0
-NamesCut columns row (row_cut.Cut terms) (Cut name right named) = (name ≡ row.basic) × (right ≡ row.rhs) × AllZip (IsNamedTerm columns) terms named
-NamesCut columns row row_cut.Integral (Skip name right Integral) = (name ≡ row.basic) × (right ≡ row.rhs)
-NamesCut columns row row_cut.OtherFraction (Skip name right Other) = (name ≡ row.basic) × (right ≡ row.rhs)
+NamesCut columns row (row_cut.Cut terms) (Cut name right named) =
+    (name ≡ row.basic) × (right ≡ row.rhs) × AllZip (IsNamedTerm columns) terms named
+NamesCut columns row row_cut.Integral (Skip name right Integral) =
+    (name ≡ row.basic) × (right ≡ row.rhs)
+NamesCut columns row row_cut.OtherFraction (Skip name right Other) =
+    (name ≡ row.basic) × (right ≡ row.rhs)
 NamesCut columns row cut line = ⊥

@@ -45,27 +45,35 @@ rest_fine x r rest fine = subst (λ d. unsigned_abs d ≤ 2 ^ 62) (sym (rest _ (
 -- ---- whole numbers over the product of both denominators
 
 -- a product as the code computes it
-pub product_read : (p n m x y : ℤ) → n ≡ x → m ≡ y → unsigned_abs x < 2 ^ 127 → unsigned_abs y < 2 ^ 127 → p ≡ read n *ℤ read m →
+pub product_read : (p n m x y : ℤ) → n ≡ x → m ≡ y → unsigned_abs x < 2 ^ 127 →
+    unsigned_abs y < 2 ^ 127 → p ≡ read n *ℤ read m →
     p ≡ x *ℤ y
-product_read p n m x y n_is m_is x_fits y_fits is = is ∙ ap₂ (λ a b. a *ℤ b) (reads_as n x n_is x_fits) (reads_as m y m_is y_fits)
+product_read p n m x y n_is m_is x_fits y_fits is =
+    is ∙ ap₂ (λ a b. a *ℤ b) (reads_as n x n_is x_fits) (reads_as m y m_is y_fits)
 
 -- a product of parts of two fractions
-pub parts_read : (p n m : ℤ) (x y : Frac) → n ≡ numerator x → m ≡ denominator y → p ≡ read n *ℤ read m → p ≡ numerator x *ℤ denominator y
-parts_read p n m x y n_is m_is = product_read p n m x.num y.den n_is m_is x.lowest.num_fits y.lowest.den_fits
+pub parts_read : (p n m : ℤ) (x y : Frac) → n ≡ numerator x → m ≡ denominator y →
+    p ≡ read n *ℤ read m → p ≡ numerator x *ℤ denominator y
+parts_read p n m x y n_is m_is =
+    product_read p n m x.num y.den n_is m_is x.lowest.num_fits y.lowest.den_fits
 
 -- a difference as the code computes it
-pub difference_read : (one n : ℤ) → unsigned_abs one ≤ 2 ^ 124 → unsigned_abs n ≤ 2 ^ 124 → read (read one -ℤ read n) ≡ one -ℤ n
+pub difference_read : (one n : ℤ) → unsigned_abs one ≤ 2 ^ 124 → unsigned_abs n ≤ 2 ^ 124 →
+    read (read one -ℤ read n) ≡ one -ℤ n
 difference_read one n one_small n_small =
     reads_as (read one -ℤ read n) (one -ℤ n)
-    (ap₂ (λ a b. a -ℤ b) (reads_as one one refl (omega arith)) (reads_as n n refl (omega arith))) (omega (arith, ints))
+    (ap₂ (λ a b. a -ℤ b) (reads_as one one refl (omega arith)) (reads_as n n refl (omega arith)))
+    (omega (arith, ints))
 
 -- the place is above 0, and 1 is above it
 pub place_positive : (f r : Frac) → pos 0 <ℤ numerator f → pos 0 <ℤ (numerator f *ℤ denominator r)
 place_positive f r some = mul_positive_z f.num r.den some r.lowest.positive
 
-pub place_below : (f r : Frac) → numerator f <ℤ denominator f → (numerator f *ℤ denominator r) <ℤ (denominator r *ℤ denominator f)
+pub place_below : (f r : Frac) → numerator f <ℤ denominator f →
+    (numerator f *ℤ denominator r) <ℤ (denominator r *ℤ denominator f)
 place_below f r below =
-    subst (λ z. (f.num *ℤ r.den) <ℤ z) (mul_comm_z f.den r.den) (mul_lt_mul_right_z f.num f.den r.den r.lowest.positive below)
+    subst (λ z. (f.num *ℤ r.den) <ℤ z) (mul_comm_z f.den r.den)
+    (mul_lt_mul_right_z f.num f.den r.den r.lowest.positive below)
 
 -- ---- the two branches
 
@@ -73,7 +81,8 @@ pub rising_value : (f x r y : Frac) → IsRestOf x r → (LessValue (fraction_of
     IsRatio y (numerator r *ℤ denominator f) (numerator f *ℤ denominator r) → IsGmicValue f x y
 rising_value f x r y rest low is = record {
   rises = λ w floor h. let parts = rest w floor in
-      subst₂ (λ n d. SameValue (fraction_of y) (quotient_of (record { top = n; bottom = d }) (fraction_of f))) parts.0 parts.1
+      subst₂ (λ n d. SameValue (fraction_of y) (quotient_of (record { top = n; bottom = d })
+      (fraction_of f))) parts.0 parts.1
       (subst (IsRatio y (r.num *ℤ f.den)) (mul_comm_z f.num r.den) is);
   falls = λ w floor h. let parts = rest w floor in
       absurd (low (subst₂ (λ n d. LessValue (fraction_of f) (record { top = n; bottom = d })) (sym parts.0) (sym parts.1) h));
@@ -87,7 +96,8 @@ one_times : (a : ℤ) → a ≡ pos 1 *ℤ a
 one_times a = sym (one_mul_z a)
 
 pub falling_value : (f x r y : Frac) → IsRestOf x r → LessValue (fraction_of f) (fraction_of r) →
-    IsRatio y (denominator r *ℤ denominator f -ℤ numerator r *ℤ denominator f) (denominator r *ℤ denominator f -ℤ numerator f *ℤ denominator r) →
+    IsRatio y (denominator r *ℤ denominator f -ℤ numerator r *ℤ denominator f)
+    (denominator r *ℤ denominator f -ℤ numerator f *ℤ denominator r) →
     IsGmicValue f x y
 falling_value f x r y rest high is = record {
   rises = λ w floor low. let parts = rest w floor in
@@ -95,7 +105,8 @@ falling_value f x r y rest high is = record {
   falls = λ w floor h. let parts = rest w floor in
       let top = sym (sub_mul_z r.den r.num f.den) ∙ ap₂ (λ a b. a *ℤ b)
       (ap₂ (λ a b. a -ℤ b) parts.1 parts.0 ∙ ones x.den (x.num -ℤ w *ℤ x.den)) (one_times f.den) in
-      let bottom = ap (λ z. r.den *ℤ f.den -ℤ z) (mul_comm_z f.num r.den) ∙ sym (mul_sub_z r.den f.den f.num)
+      let bottom = ap (λ z. r.den *ℤ f.den -ℤ z) (mul_comm_z f.num r.den) ∙
+      sym (mul_sub_z r.den f.den f.num)
       ∙ ap₂ (λ a b. a *ℤ b) (parts.1 ∙ one_times x.den) (ones f.den f.num) in
       subst₂ (IsRatio y) top bottom is;
 }

@@ -7,12 +7,12 @@ ghost use Rattle.gj_shape.specs.Limits.{IsRowNumber};
 use gj_frac::Frac;
 use gj_shape::{GREATEST_DENOMINATOR, GREATEST_NUMBER, Shape};
 
-/// The mixed-integer cut for f at x: with r the fractional part of x it is r/f if r is at most f, and else
-/// (1 - r)/(1 - f).
+/// The mixed-integer cut for f at x: with r the fractional part of x it is r/f if r is at most f,
+/// and else (1 - r)/(1 - f).
 ///
-/// f is between 0 and 1, both excluded. Both denominators are at most 2^62; x may be of any size. Over the product
-/// of both denominators r, f and 1 are whole numbers, and the value is a quotient of two of them or of their
-/// differences, so one divisor is sought.
+/// f is between 0 and 1, both excluded. Both denominators are at most 2^62; x may be of any size.
+/// Over the product of both denominators r, f and 1 are whole numbers. The value is a quotient of
+/// two of them or of two differences, so that one divisor is sought.
 pub fn gmic_value(f: Frac, x: Frac) -> Frac
     requires inside { IsInside f }
     requires f_fine { unsigned_abs (denominator f) ≤ 2 ^ 62 }

@@ -21,6 +21,8 @@ line_of-requires c =
 pub loop-row-preserved : goal.loop-row-preserved
 loop-row-preserved c =
     zip_next (IsLineFor Gmic c.args.columns.now) c.args.rows.now c.loop-row.row-index c.row-item.result
-    c.loop-row.lines.items c.push.new.self.items c.in_ok-line_of.field-0 c.loop-row-test.true c.row-item.is c.in_ok-push.ensures.items
+    c.loop-row.lines.items c.push.new.self.items c.in_ok-line_of.field-0 c.loop-row-test.true
+    c.row-item.is c.in_ok-push.ensures.items
     c.loop-row.invariant
-    (gmic_line c.args.columns.now c.row-item.result c.in_ok-cut.cut c.in_ok-line_of.field-0 c.in_ok-cut.ensures.cut c.in_ok-line_of.ensures)
+    (gmic_line c.args.columns.now c.row-item.result c.in_ok-cut.cut c.in_ok-line_of.field-0
+    c.in_ok-cut.ensures.cut c.in_ok-line_of.ensures)
