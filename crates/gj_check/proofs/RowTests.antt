@@ -1,5 +1,5 @@
 -- The tests of the limits of the slack in rows of squares, over lanes.
-use Rattle.std.proofs.Common.{◌≡◌, ◌↔◌, ℕ, ◌+◌, ◌*◌, ◌<◌, ◌≤◌, get_or, max, lit<, ⊎_elim, below_more, arith}
+use Rattle.std.proofs.Common.{◌≡◌, ◌↔◌, ℕ, ◌+◌, ◌*◌, ◌<◌, ◌≤◌, ℤ, pos, get_or, max, lit<, sym, ◌∙◌, ⊎_elim, below_more, arith}
 use Rattle.std.proofs.lemmas.Bool.{cases_lt}
 use Rattle.gj_shape.specs.FunctionData.{FunctionData, IsWithinBounds, IsContinuous}
 use Rattle.gj_shape.specs.declared.faces.FaceKind.TheVariants.{Vertex}
@@ -19,44 +19,50 @@ row_more P a i e x m from m_is h here =
       λ all. both.1 (h.1 (λ b below. all b (omega arith)), here.1 (all i (omega arith) from)),
     )
 
--- the lanes of a function, each with e for those that are not there
-pub has_lanes : {L : Type 0} (number : L → ℕ) (bound : ℕ) (f : FunctionData) (l : Lanes L) (e : L) → AreLanesOf number bound f l →
-    HasLanes f (λ i. number (get_or l.left.now i e)) (λ i. number (get_or l.value.now i e)) (λ i. number (get_or l.right.now i e)) (2 * f.order)
-has_lanes number bound f l e h = record {
-  lefts = λ i. h.lefts.same i e;
-  values = λ i. h.values.same i e;
-  rights = λ i. h.rights.same i e;
-}
+-- lanes from 0 on are naturals
+module _ {L : Type 0} (number : L → ℤ) (natural : L → ℕ) (least : ℤ) (bound : ℕ) (f : FunctionData) (l : Lanes L)
+    (natural_of : (x : L) → number x ≡ pos (natural x)) (limits : IsWithinBounds f) (h : AreLanesOf number least bound f l) where
+  -- those of a function, each with e for those that are not there
+  has_lanes : (e : L) →
+      HasLanes f (λ i. natural (get_or l.left.now (i + 1) e)) (λ i. natural (get_or l.value.now i e)) (λ i. natural (get_or l.right.now i e)) (2 * f.order)
+  has_lanes e =
+      let left_length = limits.left_length in
+      let value_length = limits.value_length in
+      let right_length = limits.right_length in
+      record {
+        lefts = λ i below. sym (natural_of _) ∙ h.lefts.same (i + 1) e (omega arith);
+        values = λ i below. sym (natural_of _) ∙ h.values.same i e (omega arith);
+        rights = λ i below. sym (natural_of _) ∙ h.rights.same i e (omega arith);
+      }
 
--- the limits in a square, by four pieces
-pub square_read : {L : Type 0} (number : L → ℕ) (bound : ℕ) (f : FunctionData) (l : Lanes L) (a b : ℕ) (e : L) →
-    AreLanesOf number bound f l → a < f.order → b < f.order →
-    HasNoExcess number (part_at l a e) (part_at l b e) (part_at l (a + b) e) (part_at l (a + b + 1) e) ↔ IsSubadditiveAt f a b
-square_read number bound f l a b e h a_below b_below =
-    let left = λ (i : ℕ). number (get_or l.left.now i e) in
-    let value = λ (i : ℕ). number (get_or l.value.now i e) in
-    let right = λ (i : ℕ). number (get_or l.right.now i e) in
-    let below : a + b + 1 < 2 * f.order = omega arith in
-    let lanes = has_lanes number bound f l e h in
-    let vertex = vertex_of_lanes f value (2 * f.order) a b lanes.values (omega arith) in (
-      λ none.
-          square_passes f left value right (2 * f.order) a b lanes below (vertex.0 none.at_vertex)
-          (fit_from_sums left value right a b (record {
-            at_sum = none.at_sum;
-            before_next = none.before_next;
-            at_next = none.at_next;
-            before_last = none.before_last;
-          })),
-      λ all.
-          let fit = fit_at_sums left value right a b (square_fits f left value right (2 * f.order) a b lanes below all) in
-          record {
-            at_vertex = vertex.1 (all Vertex 0 (lit< tt));
-            at_sum = fit.at_sum;
-            before_next = fit.before_next;
-            at_next = fit.at_next;
-            before_last = fit.before_last;
-          },
-    )
+  -- the limits in a square, by four pieces
+  pub square_read : (a b : ℕ) (e : L) → a < f.order → b < f.order →
+      HasNoExcess natural (part_at l a e) (part_at l b e) (part_at l (a + b) e) (part_at l (a + b + 1) e) ↔ IsSubadditiveAt f a b
+  square_read a b e a_below b_below =
+      let left = λ (i : ℕ). natural (get_or l.left.now (i + 1) e) in
+      let value = λ (i : ℕ). natural (get_or l.value.now i e) in
+      let right = λ (i : ℕ). natural (get_or l.right.now i e) in
+      let below : a + b + 1 < 2 * f.order = omega arith in
+      let lanes = has_lanes e in
+      let vertex = vertex_of_lanes f value (2 * f.order) a b lanes.values (omega arith) in (
+        λ none.
+            square_passes f left value right (2 * f.order) a b lanes below (vertex.0 none.at_vertex)
+            (fit_from_sums left value right a b (record {
+              at_sum = none.at_sum;
+              before_next = none.before_next;
+              at_next = none.at_next;
+              before_last = none.before_last;
+            })),
+        λ all.
+            let fit = fit_at_sums left value right a b (square_fits f left value right (2 * f.order) a b lanes below all) in
+            record {
+              at_vertex = vertex.1 (all Vertex 0 (lit< tt));
+              at_sum = fit.at_sum;
+              before_next = fit.before_next;
+              at_next = fit.at_next;
+              before_last = fit.before_last;
+            },
+      )
 
 -- ---- all rows
 

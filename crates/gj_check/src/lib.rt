@@ -2,8 +2,8 @@
 //!
 //! `check` takes the demands of a claim in their order, and answers the first that fails by its rule and the number of its line.
 //! `rules_give_meaning`: if every rule holds, what the claim says is true. With them it
-//! shares functions and fractions as data, the reading of texts, definitions and theorems. The rules on the rows of a proof that a
-//! function is extreme are those of `gj_check_groups`.
+//! shares functions and fractions as data, numbers in lanes, the reading of texts, definitions and theorems. The rules on the
+//! rows of a proof that a function is extreme are those of `gj_check_groups`.
 #![tactic(auto)]
 
 mod checker;
@@ -16,7 +16,6 @@ mod entries;
 mod extremality;
 mod faults;
 mod halves;
-mod lane;
 mod laws;
 mod minimality;
 mod names;

@@ -11,14 +11,17 @@ ghost use Rattle.gj_check.specs.Lanes.{AreLanesOf};
 ghost use Rattle.gj_check.specs.Tables.{AreTwoPeriods};
 
 use crate::entries::Entry;
-use crate::lane::Lane;
 use crate::pieces::{adds_up, wrapped};
-use crate::squares::{Lanes, write_pieces};
+use crate::squares::Lanes;
 use crate::tables::has_subadditive_totals;
+use gj_lanes::{UnsignedLane, write_periods};
 use gj_shape::{GREATEST_ORDER, Shape};
 
-/// How many entries or lanes there are: those of two periods of the greatest order.
+/// How many entries there are: those of two periods of the greatest order.
 const COUNT: usize = 2 * GREATEST_ORDER as usize;
+
+/// How many lanes there are: those of two periods, and one more.
+const LANES: usize = COUNT + 1;
 
 /// Whether all tests of minimality pass. It takes no memory.
 pub(crate) fn is_minimal(shape: &Shape) -> bool
@@ -140,16 +143,16 @@ fn is_subadditive(shape: &Shape) -> bool
     if shape.common_denominator() <= i128::from(i16::MAX) {
         return is_subadditive_over(
             shape,
-            &mut [0u16; COUNT],
-            &mut [0u16; COUNT],
-            &mut [0u16; COUNT],
+            &mut [0u16; LANES],
+            &mut [0u16; LANES],
+            &mut [0u16; LANES],
         );
     }
     is_subadditive_over(
         shape,
-        &mut [0u32; COUNT],
-        &mut [0u32; COUNT],
-        &mut [0u32; COUNT],
+        &mut [0u32; LANES],
+        &mut [0u32; LANES],
+        &mut [0u32; LANES],
     )
 }
 
@@ -192,7 +195,7 @@ fn write_two_periods<E: Entry>(shape: &Shape, entries: &mut [E])
 
 /// Whether no limit of the slack is negative in any square, over lanes of one width, in which the common denominator fits: these
 /// are written over.
-fn is_subadditive_over<L: Lane>(
+fn is_subadditive_over<L: UnsignedLane>(
     shape: &Shape,
     value: &mut [L],
     right: &mut [L],
@@ -200,18 +203,20 @@ fn is_subadditive_over<L: Lane>(
 ) -> bool
     requires symmetric { PassesSymmetry shape.now }
     requires fits { shape.now.scale < L.bound }
-    requires value { length value.old ≡ 2 * greatest_order }
-    requires right { length right.old ≡ 2 * greatest_order }
-    requires left { length left.old ≡ 2 * greatest_order }
+    requires value { 2 * greatest_order < length value.old }
+    requires right { 2 * greatest_order < length right.old }
+    requires left { 2 * greatest_order < length left.old }
     ensures { IsTrue result ↔ IsSubadditive shape.now }
 {
-    write_pieces(shape, value, right, left);
+    write_periods(value, shape.value_numerators());
+    write_periods(right, shape.right_numerators());
+    write_periods(left, shape.left_numerators());
     is_subadditive_between(shape, Lanes { value, right, left })
 }
 
 /// Whether no limit of the slack is negative in any square. The squares (a, b) and (b, a) have the same limits, so half are tested.
-fn is_subadditive_between<L: Lane>(shape: &Shape, lanes: Lanes<'_, L>) -> bool
-    requires { AreLanesOf L.number L.bound shape.now lanes }
+fn is_subadditive_between<L: UnsignedLane>(shape: &Shape, lanes: Lanes<'_, L>) -> bool
+    requires { AreLanesOf L.number L.least L.bound shape.now lanes }
     ensures { IsTrue result ↔ IsSubadditive shape.now }
 {
     for a in 0..shape.order() as usize {

@@ -21,10 +21,10 @@ from_digit false e = e
 -- numbers below the bound and the sums of two have room in the width
 module _ (w : Width) (bound : ℕ) (room : 2 * bound ≤ 2 ^ hbits w) where
   -- a number of either sign in the range
-  abbrev IsSmall : ℤ → Type 0
-  IsSmall x = IsInRange (pos 1 -ℤ pos bound) bound x
+  abbrev IsInSymmetricRange : ℤ → Type 0
+  IsInSymmetricRange x = IsInRange (pos 1 -ℤ pos bound) bound x
 
-  small : {x : ℤ} → IsSmall x → unsigned_abs x < bound
+  small : {x : ℤ} → IsInSymmetricRange x → unsigned_abs x < bound
   small h = let low = h.0 in let high = h.1 in omega (arith, ints)
 
   -- the sum of two lanes
@@ -58,8 +58,8 @@ module _ (w : Width) (bound : ℕ) (room : 2 * bound ≤ 2 ^ hbits w) where
   )
 
   -- bit b of the comparison of 64 sums from a place on
-  pub equal_sum_bit : (values sums : List ℤ) (first d : ℤ) (from b : ℕ) → IsSmall first → IsSmall (get_or values (from + b) d) →
-      IsSmall (get_or sums (from + b) d) → from + 64 ≤ length values → from + 64 ≤ length sums → b < 64 →
+  pub equal_sum_bit : (values sums : List ℤ) (first d : ℤ) (from b : ℕ) → IsInSymmetricRange first → IsInSymmetricRange (get_or values (from + b) d) →
+      IsInSymmetricRange (get_or sums (from + b) d) → from + 64 ≤ length values → from + 64 ≤ length sums → b < 64 →
       IsTrue (bit_at (mask_l (map (top (hbits w)) (zip2 (λ x y. cond (eqb x y) (2 ^ bits w - 1) 0)
       (zip2 wrapped (map (of_z w) (chunk from 64 values)) (replicate 64 (of_z w first)))
       (map (of_z w) (chunk from 64 sums)))) % 2 ^ 64) b == 1)

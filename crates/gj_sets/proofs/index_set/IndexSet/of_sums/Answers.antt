@@ -1,4 +1,4 @@
-use Rattle.std.proofs.Common.{◌≡◌, ℕ, ◌+ℤ◌, ◌*◌, ◌&&◌, get_or, ap, ◌∙◌, length-set, arith}
+use Rattle.std.proofs.Common.{◌≡◌, ◌+ℤ◌, ◌&&◌, get_or, ap, ◌∙◌, length-set, arith}
 use Rattle.gj_sets.specs.IndexSets.{has, bit_of}
 use Rattle.gj_sets.proofs.Bits.{word_more, words_masked}
 use Rattle.gj_sets.proofs.ToldSums.{TellsSum}
