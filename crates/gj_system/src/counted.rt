@@ -1,5 +1,6 @@
 //! Rows that are made from counts of intervals, which are made once for all rows.
 ghost use Rattle.std.specs.Prelude.{ℕ, ℤ, pos, ◌≡◌, ◌+◌, ◌%◌, ◌<◌, ◌≤◌, ◌^◌, ◌↔◌, ◌+ℤ◌, ◌-ℤ◌, get_or, length, map, All, IfOk, IsTrue, unsigned_abs};
+ghost use Rattle.std.specs.List.{range_with_len};
 ghost use Rattle.gj_shape.specs.SlopeRows.{row_of as row_entries, component_in};
 ghost use Rattle.gj_shape.specs.declared.extremality.RowName.TheVariants.{Pair};
 ghost use Rattle.gj_system.specs.Components.{rises_at, IsNameBelow};
@@ -41,13 +42,7 @@ impl SlopeRows {
         ensures component { IfOk result (λ s. s.component ≡ component.now) }
         ensures columns { IfOk result (λ s. s.columns ≡ columns) }
     {
-        let mut count = vec![in alloc; 0; columns as usize]?;
-        let mut counts = Vec::with_capacity(alloc, component.len() + 1)?;
-        counts.push(List::of(Vec::from_slice(alloc, count.as_slice())?))?;
-        for c in component {
-            count[*c as usize] += 1;
-            counts.push(List::of(Vec::from_slice(alloc, count.as_slice())?))?;
-        }
+        let counts = counts_of(alloc, component, columns)?;
         let codes = codes_of(alloc, counts.as_slice(), columns, component.len())?;
         Ok(SlopeRows {
             component: Vec::from_slice(alloc, component)?,
@@ -142,6 +137,23 @@ impl SlopeRows {
     {
         self.counts[i].as_slice()
     }
+}
+
+/// For each i up to the number of intervals, how many of those before i/q are in each component.
+fn counts_of(alloc: Global, component: &[u32], columns: u32) -> Result<Vec<List<u32>>, AllocError>
+    requires components { All (λ c. c < columns) component.now }
+    requires count { length component.now < 2 ^ 31 }
+    ensures { IfOk result (λ counts. counts.items
+        ≡ map (rises_at (component_in component.now) columns) (range_with_len 0 (length component.now + 1))) }
+{
+    let mut count = vec![in alloc; 0; columns as usize]?;
+    let mut counts = Vec::with_capacity(alloc, component.len() + 1)?;
+    counts.push(List::of(Vec::from_slice(alloc, count.as_slice())?))?;
+    for c in component {
+        count[*c as usize] += 1;
+        counts.push(List::of(Vec::from_slice(alloc, count.as_slice())?))?;
+    }
+    Ok(counts)
 }
 
 /// The sum of two numbers below the order, less the order if that is not below it.

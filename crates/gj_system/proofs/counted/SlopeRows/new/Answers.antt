@@ -1,78 +1,25 @@
-use Rattle.std.proofs.Common.{◌≡◌, ◌<◌, ◌≤◌, ◌+◌, ◌++◌, ◌∷◌, [], get_or, length, sym, ap, ap₂, subst, ◌∙◌, arith}
+use Rattle.std.proofs.Common.{◌≡◌, ◌≤◌, ◌+◌, length, sym, ap, subst, ◌∙◌, arith}
 use Rattle.std.specs.Prelude.{All}
-use Rattle.std.proofs.lemmas.List.{get_or_default}
-use Rattle.std.proofs.lemmas.List.Elements.{All-get_or}
 use Rattle.std.proofs.lemmas.List.FromFn.{length-map-range_with_len}
 use Rattle.gj_shape.specs.SlopeRows.{component_in}
 use Rattle.gj_system.specs.Components.{rises_at}
-use Rattle.gj_system.proofs.RowCounts.{no_counts, length-rises_at, one_count_more, one_point_more, count_at_most, all_columns, all_at_most}
+use Rattle.gj_system.proofs.RowCounts.{all_columns, all_at_most}
 use Rattle.gj_system.proofs.counted.SlopeRows.new.Goals as goal
-
-pub loop-c-init : goal.loop-c-init
-loop-c-init c =
-    let none = c.in_ok-count.ensures.items_if_clones_equal (λ y e. e) ∙ no_counts (component_in c.args.component.now) c.args.columns in (
-      none,
-      c.in_ok-push.ensures.items
-          ∙ ap₂ (λ xs x. xs ++ x ∷ []) c.in_ok-counts.ensures.items
-          (c.of.ensures ∙ c.in_ok-from_slice.ensures.items ∙ c.as_slice.ensures.value ∙ none),
-    )
-
-pub index_mut-requires : goal.index_mut-requires
-index_mut-requires c =
-    let inside = All-get_or (λ x. x < c.args.columns) c.args.component.now c.loop-c.c-index 0 (omega arith) c.requires.components in
-    let len : length c.loop-c.count.items ≡ c.args.columns =
-    ap length c.loop-c.invariant.0 ∙ length-rises_at (component_in c.args.component.now) c.args.columns c.loop-c.c-index in
-    omega (arith, c.loop-c.count.ok.0)
-
-pub overflow_add-index_mut : goal.overflow_add-index_mut
-overflow_add-index_mut c =
-    let old = c.loop-c.count.items in
-    let i = get_or c.args.component.now c.loop-c.c-index 0 in
-    let inside = All-get_or (λ x. x < c.args.columns) c.args.component.now c.loop-c.c-index 0 (omega arith) c.requires.components in
-    let len : length c.loop-c.count.items ≡ c.args.columns =
-    ap length c.loop-c.invariant.0 ∙ length-rises_at (component_in c.args.component.now) c.args.columns c.loop-c.c-index in
-    let most = count_at_most (component_in c.args.component.now) c.args.columns c.loop-c.c-index
-    (get_or c.args.component.now c.loop-c.c-index 0) c.loop-c.count.items c.loop-c.invariant.0 inside in
-    let within : get_or c.args.component.now c.loop-c.c-index 0 < length c.loop-c.count.items = omega arith in
-    let read : c.index_mut.result.now ≡ get_or c.loop-c.count.items (get_or c.args.component.now c.loop-c.c-index 0) 0 =
-    c.index_mut.ensures.value ∙ get_or_default old i c.index_mut.result.now 0 within in
-    omega arith
-
-pub loop-c-preserved : goal.loop-c-preserved
-loop-c-preserved c =
-    let f = component_in c.args.component.now in
-    let n = c.args.columns in
-    let at = c.loop-c.c-index in
-    let old = c.loop-c.count.items in
-    let i = get_or c.args.component.now c.loop-c.c-index 0 in
-    let inside = All-get_or (λ x. x < c.args.columns) c.args.component.now c.loop-c.c-index 0 (omega arith) c.requires.components in
-    let len : length c.loop-c.count.items ≡ c.args.columns =
-    ap length c.loop-c.invariant.0 ∙ length-rises_at f n at in
-    let within : get_or c.args.component.now c.loop-c.c-index 0 < length c.loop-c.count.items = omega arith in
-    let read : c.index_mut.result.now ≡ get_or c.loop-c.count.items (get_or c.args.component.now c.loop-c.c-index 0) 0 =
-    c.index_mut.ensures.value ∙ get_or_default old i c.index_mut.result.now 0 within in
-    let more = one_count_more f n at (c.index_mut.result.now + 1) old c.loop-c.invariant.0 inside (ap (λ x. x + 1) read) in (
-      more,
-      one_point_more f n at c.loop-c.counts.items c.push-in-loop-c.new.self.items c.of-in-loop-c.result c.loop-c.invariant.1
-          (c.of-in-loop-c.ensures ∙ c.in_ok-from_slice-2.ensures.items ∙ c.as_slice-in-loop-c.ensures.value ∙ more)
-          c.in_ok-push-2.ensures.items,
-    )
 
 pub codes_of-requires-clause-points : goal.codes_of-requires-clause-points
 codes_of-requires-clause-points c =
-    let whole = ap length (c.as_slice-2.ensures.value ∙ c.loop-c.invariant.1)
-    ∙ length-map-range_with_len (rises_at (component_in c.args.component.now) c.args.columns) 0 (c.loop-c.c-index + 1) in
-    omega (arith, c.loop-c.auto.c-index-end, c.loop-c-test.false, whole)
+    ap length (c.as_slice.ensures.value ∙ c.in_ok-counts.ensures)
+    ∙ length-map-range_with_len (rises_at (component_in c.args.component.now) c.args.columns) 0 (length c.args.component.now + 1)
 
 pub codes_of-requires-clause-columns : goal.codes_of-requires-clause-columns
 codes_of-requires-clause-columns c =
     let n = c.args.columns in
-    subst (All (λ row. length row ≡ n)) (sym (c.as_slice-2.ensures.value ∙ c.loop-c.invariant.1))
-    (all_columns (component_in c.args.component.now) c.args.columns (c.loop-c.c-index + 1))
+    subst (All (λ row. length row ≡ n)) (sym (c.as_slice.ensures.value ∙ c.in_ok-counts.ensures))
+    (all_columns (component_in c.args.component.now) c.args.columns (length c.args.component.now + 1))
 
 pub codes_of-requires-clause-order : goal.codes_of-requires-clause-order
 codes_of-requires-clause-order c =
     let q = length c.args.component.now in
-    subst (All (All (λ x. x ≤ q))) (sym (c.as_slice-2.ensures.value ∙ c.loop-c.invariant.1))
-    (all_at_most (component_in c.args.component.now) c.args.columns (c.loop-c.c-index + 1) (length c.args.component.now)
-    (omega (arith, c.loop-c.auto.c-index-end)))
+    subst (All (All (λ x. x ≤ q))) (sym (c.as_slice.ensures.value ∙ c.in_ok-counts.ensures))
+    (all_at_most (component_in c.args.component.now) c.args.columns (length c.args.component.now + 1) (length c.args.component.now)
+    (omega arith))

@@ -2,7 +2,7 @@ use Rattle.std.proofs.Common.{◌≡◌, ◌+◌, map}
 use Rattle.std.specs.List.{range_with_len}
 use Rattle.gj_shape.specs.SlopeRows.{component_in}
 use Rattle.gj_system.specs.Components.{rises_at}
-use Rattle.gj_system.proofs.counted.SlopeRows.new.Given as goal
+use Rattle.gj_system.proofs.counted.counts_of.Given as goal
 
 abbrev pub invariant-loop-c : goal.invariant-loop-c
 invariant-loop-c l =
