@@ -21,7 +21,8 @@ use Rattle.gj_shape.specs.declared.faces.FaceKind.{FaceKind}
 use Rattle.gj_shape.specs.declared.violations.Violation.{Violation}
 use Rattle.gj_shape.specs.declared.violations.Violation.TheVariants as violation
 use Rattle.gj_proof.specs.LineFaults.{texts_of_head}
-use Rattle.gj_proof.specs.ProofText.{violation_fields, violation_form, head_fields, head_form, term_form, IsCoverLineBelow, IsRowNameBelow, row_name_fields, modulus_form, IsHeadInBounds, halves_form, pair_form}
+use Rattle.gj_proof.specs.ProofText.{violation_fields, IsCoverLineBelow, IsRowNameBelow, row_name_fields}
+use Rattle.gj_proof.specs.ProofGrammar.{violation_form, head_fields, head_form, term_form, modulus_form, IsHeadInBounds, halves_form, pair_form}
 use Rattle.gj_proof.specs.declared.cut.CutTerm.{CutTerm}
 use Rattle.gj_proof.specs.declared.cut_rows.RowHead.{RowHead}
 use Rattle.gj_proof.specs.declared.cut_rows.RowKind.{RowKind}

@@ -17,7 +17,8 @@ use Rattle.gj_shape.specs.declared.faces.FaceKind.{FaceKind}
 use Rattle.gj_shape.specs.declared.faces.FaceKind.TheVariants.{Vertex, Horizontal, Vertical, Diagonal, Lower, Upper}
 use Rattle.gj_shape.specs.declared.violations.Violation.{Violation}
 use Rattle.gj_shape.specs.declared.violations.Violation.TheVariants as violation
-use Rattle.gj_proof.specs.ProofText.{title_number, title_form, claim_word_text, numbers_of_word, claim_form, violation_fields, violation_form, reason_word, head_fields, head_form, term_form, IsCoverLineBelow, cover_form, IsRowNameBelow, row_name_fields, row_name_form, column_form, modulus_form, IsHeadInBounds, halves_form, pair_form}
+use Rattle.gj_proof.specs.ProofText.{title_fields, violation_fields, reason_word, IsCoverLineBelow, IsRowNameBelow, row_name_fields}
+use Rattle.gj_proof.specs.ProofGrammar.{title_form, claim_word_text, numbers_of_word, claim_form, violation_form, head_fields, head_form, term_form, cover_form, row_name_form, column_form, modulus_form, IsHeadInBounds, halves_form, pair_form}
 use Rattle.gj_proof.specs.declared.claim.ClaimWord.{ClaimWord}
 use Rattle.gj_proof.specs.declared.claim.ClaimWord.TheVariants as words
 use Rattle.gj_proof.specs.declared.numbers.Numbers.{Numbers}
@@ -31,22 +32,18 @@ use Rattle.gj_proof.specs.declared.cut_rows.RowKind.TheVariants.{WithCut, Skippe
 
 -- ---- the title and the claim
 
-one_number : (m n : Numbers) → title_number m ≡ title_number n → m ≡ n
-one_number Whole Whole e = refl
-one_number Residues Residues e = refl
-one_number Whole Residues e = absurd (apart (codes "1") (codes "2") refl e)
-one_number Residues Whole e = absurd (apart (codes "2") (codes "1") refl e)
+good_title : (n : Numbers) → AreGood (title_fields n)
+good_title Whole = (known (codes "gj-proof") refl, known (codes "1") refl)
+good_title Residues = (known (codes "gj-proof") refl, known (codes "2") refl)
 
-number_is_plain : (n : Numbers) → IsPlain (title_number n)
-number_is_plain Whole = known (codes "1") refl
-number_is_plain Residues = known (codes "2") refl
+one_title : (m n : Numbers) → words_of (title_fields m) ≡ words_of (title_fields n) → m ≡ n
+one_title Whole Whole e = refl
+one_title Residues Residues e = refl
+one_title Whole Residues e = absurd (apart (codes "1") (codes "2") refl cc)
+one_title Residues Whole e = absurd (apart (codes "2") (codes "1") refl cc)
 
 pub title_is_clear : IsClear title_form
-title_is_clear = record {
-  of_form = λ n h. tt;
-  good = λ n h. (known (codes "gj-proof") refl, number_is_plain n);
-  one = λ m n h k e. one_number m n (let same : title_number m ≡ title_number n = cc in same);
-}
+title_is_clear = record { of_form = λ n h. tt; good = λ n h. good_title n; one = λ m n h k. one_title m n }
 
 claim_is_plain : (w : ClaimWord) → IsPlain (claim_word_text w)
 claim_is_plain words.Minimal = known (codes "minimal") refl

@@ -8,8 +8,7 @@ use Rattle.gj_lex.proofs.WhereLaws.{where_part_is_exact, fault_where, fault_else
 use Rattle.gj_shape.specs.FunctionData.{FunctionData}
 use Rattle.gj_function_lines.specs.FunctionGrammar.{function_part}
 use Rattle.gj_function_lines.proofs.ExactFunctions.{function_part_is_exact}
-use Rattle.gj_proof.specs.ProofText.{head_form}
-use Rattle.gj_proof.specs.ProofGrammar.{form_part, rule_part, terms_part, behind_head, row_part, rows_part, claim_part}
+use Rattle.gj_proof.specs.ProofGrammar.{head_form, form_part, rule_part, terms_part, behind_head, row_part, rows_part, claim_part}
 use Rattle.gj_proof.specs.declared.claim.ClaimWord.TheVariants.{Cut}
 use Rattle.gj_proof.specs.declared.claim.Claim.{Claim}
 use Rattle.gj_proof.specs.declared.claim.Claim.TheVariants as claims

@@ -12,9 +12,9 @@ use Rattle.gj_forms.specs.ListParts.{IsPrinted}
 use Rattle.gj_forms.proofs.PlainWords.{apart}
 use Rattle.gj_forms.proofs.LineLaws.{part_is_exact, line_is_printed, begins_so, begins_not}
 use Rattle.gj_forms.proofs.ListLaws.{while_part_is_exact, until_part_is_exact, while_is_printed, until_is_printed, then_is_printed}
-use Rattle.gj_proof.specs.ProofText.{HasNames, head_form, head_of, row_line, term_form, term_line, terms_of}
+use Rattle.gj_proof.specs.ProofText.{HasNames, row_line, term_line, terms_of}
+use Rattle.gj_proof.specs.ProofGrammar.{head_form, term_form, form_part, terms_part, behind_head, row_part, rows_part}
 use Rattle.gj_proof.specs.CutTexts.{row_text}
-use Rattle.gj_proof.specs.ProofGrammar.{form_part, terms_part, behind_head, row_part, rows_part}
 use Rattle.gj_proof.specs.declared.cut.CutLine.{CutLine}
 use Rattle.gj_proof.specs.declared.cut.CutLine.TheVariants as cuts
 use Rattle.gj_proof.specs.declared.cut.CutTerm.{CutTerm}
@@ -22,6 +22,7 @@ use Rattle.gj_proof.specs.declared.cut_rows.RowHead.{RowHead}
 use Rattle.gj_proof.specs.declared.cut_rows.RowKind.{RowKind}
 use Rattle.gj_proof.specs.declared.cut_rows.RowKind.TheVariants.{WithCut, Skipped}
 use Rattle.gj_proof.proofs.ClearLines.{head_is_clear, term_is_clear}
+use Rattle.gj_proof.proofs.ListRead.{printed_as}
 
 abbrev pub BeginsTerm : List ℕ → Type 0
 BeginsTerm = BeginsWithWord Strict (codes "term")
@@ -65,6 +66,11 @@ terms_are_printed =
     (line_is_printed term_form term_is_clear) (λ t rest h. tt)
     (λ t rest h. begins_so term_form term_is_clear t (codes "term") _ rest h refl) (λ rest h. tt)
 
+-- what the first line of a row tells
+abbrev pub head_of : CutLine → RowHead
+head_of (cuts.Cut name right terms) = record { kind = WithCut; name = name; right = right }
+head_of (cuts.Skip name right reason) = record { kind = Skipped reason; name = name; right = right }
+
 abbrev terms_text : CutLine → List ℕ
 terms_text l = flat_map term_line (terms_of l)
 
@@ -107,9 +113,15 @@ ends_at_row l rest h = begins_other l (codes "term") rest h (apart (codes "cut")
 
 row_is_printed : IsPrinted row_part EndsTerms row_text HasNames
 row_is_printed =
-    then_is_printed (form_part head_form) (λ h. behind_head h.name h.right h.kind) (λ rest. Unit {0}) EndsTerms (line_of head_form)
+    printed_as row_part EndsTerms (λ l. line_of head_form (head_of l) ++ terms_text l) row_text HasNames
+    (then_is_printed (form_part head_form) (λ h. behind_head h.name h.right h.kind) (λ rest. Unit {0}) EndsTerms (line_of head_form)
     head_form.HasLine HasNames head_of terms_text (line_is_printed head_form head_is_clear) has_name (λ l rest h e. tt) behind_reads
-    (λ h text rest l has reads. behind_found h.kind h.name h.right text rest l has reads)
+    (λ h text rest l has reads. behind_found h.kind h.name h.right text rest l has reads))
+    same
+  where
+    same : (l : CutLine) → line_of head_form (head_of l) ++ terms_text l ≡ row_text l
+    same (cuts.Cut name right terms) = refl
+    same (cuts.Skip name right reason) = refl
 
 pub rows_are_printed : IsPrinted rows_part BeginsEnd (flat_map row_text) (All HasNames)
 rows_are_printed =

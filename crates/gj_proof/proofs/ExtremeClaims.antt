@@ -3,11 +3,11 @@ use Rattle.std.proofs.Common.{◌≡◌, ℕ, List, ◌++◌, codes}
 use Rattle.gj_shape.specs.FunctionData.{FunctionData, IsWithinBounds}
 use Rattle.gj_shape.specs.declared.extremality.CoverLine.{CoverLine}
 use Rattle.gj_function_lines.specs.FunctionLines.{line, AreFunctionLines}
-use Rattle.gj_proof.specs.ProofText.{extreme_claim, title_line, extreme_lines, AreExtremeLines, IsBounded, IsProofText}
+use Rattle.gj_proof.specs.ProofText.{extreme_claim, extreme_lines, AreExtremeLines, IsBounded, IsProofText}
 use Rattle.gj_proof.specs.declared.numbers.Numbers.{Numbers}
 use Rattle.gj_proof.specs.declared.numbers.Numbers.TheVariants.{Whole, Residues}
 use Rattle.gj_proof.specs.declared.pivot.PivotRow.{PivotRow}
-use Rattle.gj_proof.proofs.LineLists.{bytes}
+use Rattle.gj_proof.proofs.LineLists.{title_line, bytes}
 
 -- the text is that of the claim, by rows of these numbers
 pub record IsExtremeText (n : Numbers) (f : FunctionData) (lines : List CoverLine) (rows : List PivotRow) (text : List ℕ) : Type 0 where

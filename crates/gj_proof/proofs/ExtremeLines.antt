@@ -8,7 +8,8 @@ use Rattle.gj_shape.specs.declared.extremality.CoverLine.{CoverLine}
 use Rattle.gj_shape.specs.declared.extremality.Halves.{Halves}
 use Rattle.gj_function_lines.specs.FaceLines.{cover_line}
 use Rattle.gj_forms.proofs.LineFeeds.{one_feed}
-use Rattle.gj_proof.specs.ProofText.{cover_form, row_name_form, modulus_form, halves_form, pair_form, ProofLine, OwnLine, group_line, reduction_line, pivot_line, covered_lines, reduction_lines, group_lines, modulus_line, modulus_lines, extreme_lines, halves_line, pair_line, pair_lines, IsCoverLineBelow, IsPivotRowBelow}
+use Rattle.gj_proof.specs.ProofText.{ProofLine, OwnLine, group_line, reduction_line, pivot_line, covered_lines, reduction_lines, group_lines, modulus_line, modulus_lines, extreme_lines, halves_line, pair_line, pair_lines, IsCoverLineBelow, IsPivotRowBelow}
+use Rattle.gj_proof.specs.ProofGrammar.{cover_form, row_name_form, modulus_form, halves_form, pair_form}
 use Rattle.gj_proof.specs.ExtremeTexts.{group_text, halves_text}
 use Rattle.gj_proof.specs.declared.numbers.Numbers.{Numbers}
 use Rattle.gj_proof.specs.declared.numbers.Numbers.TheVariants.{Whole, Residues}

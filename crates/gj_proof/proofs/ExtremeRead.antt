@@ -9,8 +9,8 @@ use Rattle.gj_shape.specs.FunctionData.{FunctionData}
 use Rattle.gj_shape.specs.declared.extremality.CoverLine.{CoverLine}
 use Rattle.gj_shape.specs.declared.extremality.RowName.{RowName}
 use Rattle.gj_function_lines.specs.FunctionGrammar.{function_part}
-use Rattle.gj_proof.specs.ProofText.{row_name_form, pair_form, extreme_claim}
-use Rattle.gj_proof.specs.ProofGrammar.{form_part, covered_part, modulus_part, steps_part, group_part, groups_part, pairs_part, halves_part, extreme_part, claim_part}
+use Rattle.gj_proof.specs.ProofText.{extreme_claim}
+use Rattle.gj_proof.specs.ProofGrammar.{row_name_form, pair_form, form_part, covered_part, modulus_part, steps_part, group_part, groups_part, pairs_part, halves_part, extreme_part, claim_part}
 use Rattle.gj_proof.specs.declared.claim.Claim.{Claim}
 use Rattle.gj_proof.specs.declared.claim.ClaimWord.TheVariants.{NotExtreme}
 use Rattle.gj_proof.specs.declared.numbers.Numbers.{Numbers}

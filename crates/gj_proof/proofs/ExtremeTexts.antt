@@ -18,9 +18,9 @@ use Rattle.gj_shape.specs.declared.extremality.Halves.{Halves}
 use Rattle.gj_shape.specs.declared.extremality.RowName.{RowName}
 use Rattle.gj_shape.specs.declared.extremality.RowName.TheVariants.{Period, F, Pair}
 use Rattle.gj_function_lines.specs.FaceLines.{cover_line}
-use Rattle.gj_proof.specs.ProofText.{IsCoverLineBelow, cover_form, IsRowNameBelow, row_name_form, group_line, column_form, reduction_line, pivot_line, modulus_form, modulus_line, modulus_lines, halves_form, pair_form, pair_line, IsPivotRowBelow}
+use Rattle.gj_proof.specs.ProofText.{IsCoverLineBelow, IsRowNameBelow, group_line, reduction_line, pivot_line, modulus_line, modulus_lines, pair_line, IsPivotRowBelow}
+use Rattle.gj_proof.specs.ProofGrammar.{cover_form, row_name_form, column_form, modulus_form, halves_form, pair_form, form_part, covered_part, modulus_part, steps_part, group_part, groups_part, pairs_part, halves_part}
 use Rattle.gj_proof.specs.ExtremeTexts.{group_text, halves_text}
-use Rattle.gj_proof.specs.ProofGrammar.{form_part, covered_part, modulus_part, steps_part, group_part, groups_part, pairs_part, halves_part}
 use Rattle.gj_proof.specs.declared.halves.HalvesHead.{HalvesHead}
 use Rattle.gj_proof.specs.declared.numbers.Numbers.{Numbers}
 use Rattle.gj_proof.specs.declared.numbers.Numbers.TheVariants.{Whole, Residues}
@@ -28,6 +28,7 @@ use Rattle.gj_proof.specs.declared.pivot.PivotRow.{PivotRow}
 use Rattle.gj_proof.proofs.ClearLines.{cover_is_clear, row_name_is_clear, column_is_clear, modulus_is_clear, halves_is_clear, pair_is_clear}
 use Rattle.gj_proof.proofs.CutTexts.{BeginsEnd}
 use Rattle.gj_proof.proofs.LineLists.{bytes}
+use Rattle.gj_proof.proofs.ListRead.{printed_as}
 
 abbrev pub BeginsStep : List ℕ → Type 0
 BeginsStep = BeginsWithWord Strict (codes "reduce")
@@ -179,12 +180,10 @@ group_is_printed q small =
 
 pub groups_are_printed : (q : ℕ) → q ≤ 1000 → IsPrinted (groups_part q) BeginsEnd (flat_map group_text) (All (IsPivotRowBelow q))
 groups_are_printed q small =
-    let printed = until_is_printed BeginsEnd (group_part q) (λ rest. Unit {0}) text_of_group (IsPivotRowBelow q) (group_is_printed q small)
-    (λ row rest h. tt) other (λ rest e. tt) in record {
-      reads = λ rows rest has done. subst (λ t. (groups_part q).Reads (t ++ rest) rows rest) (same rows) (printed.reads rows rest has done);
-      found = λ text rest rows h.
-          let found = printed.found text rest rows h in (found.0 ∙ ap (λ t. t ++ rest) (same rows), found.1);
-    }
+    printed_as (groups_part q) BeginsEnd (flat_map text_of_group) (flat_map group_text) (All (IsPivotRowBelow q))
+    (until_is_printed BeginsEnd (group_part q) (λ rest. Unit {0}) text_of_group (IsPivotRowBelow q) (group_is_printed q small)
+    (λ row rest h. tt) other (λ rest e. tt))
+    same
   where
     other : (row : PivotRow) (rest : List ℕ) → IsPivotRowBelow q row → BeginsEnd (text_of_group row ++ rest) → ⊥
     other row rest h e =

@@ -5,7 +5,16 @@ use Rattle.std.proofs.lemmas.List.Elements.{All-nil, All-cons, All-head, All-tai
 use Rattle.gj_lemmas.proofs.Lists.{All-back}
 use Rattle.gj_lex.specs.TextLines.{line_feeds}
 use Rattle.gj_lex.proofs.LineNumbers.{line_feeds_append}
-use Rattle.gj_proof.specs.ProofText.{ProofLine, OwnLine}
+use Rattle.gj_forms.specs.LineForms.{bytes_of}
+use Rattle.gj_proof.specs.ProofText.{title_fields, claim_fields, claim_word, ProofLine, OwnLine}
+use Rattle.gj_proof.specs.declared.claim.Claim.{Claim}
+use Rattle.gj_proof.specs.declared.numbers.Numbers.{Numbers}
+
+abbrev pub title_line : Numbers → List ℕ
+title_line n = bytes_of (title_fields n)
+
+abbrev pub claim_line : Claim → List ℕ
+claim_line c = bytes_of (claim_fields (claim_word c))
 
 abbrev pub names : List OwnLine → List ProofLine
 names ls = map (λ l. l.name) ls

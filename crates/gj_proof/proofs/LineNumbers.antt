@@ -19,13 +19,13 @@ use Rattle.gj_shape.proofs.GivenPoints.{count_of_points}
 use Rattle.gj_lemmas.specs.FirstThatFails.{IsFirstFailing}
 use Rattle.gj_lemmas.proofs.FirstThatFails.{first_failing, one_first_failing}
 use Rattle.gj_lemmas.proofs.Lists.{All-front, All-back, All-range}
-use Rattle.gj_proof.specs.ProofText.{ProofLine, OwnLine, Subject, function, gmic, IfFunction, IsBounded, title_line, claim_line, subject_of, numbers_of, subject_lines, AreSubjectLines, own_lines, proof_lines_of, HasBytes, HasNumber, violation_line, IsProofText}
+use Rattle.gj_proof.specs.ProofText.{ProofLine, OwnLine, Subject, function, gmic, IfFunction, IsBounded, subject_of, numbers_of, subject_lines, AreSubjectLines, own_lines, proof_lines_of, HasBytes, HasNumber, violation_line, IsProofText}
 use Rattle.gj_proof.specs.ProofText.ProofLine.{title, claim, order, place, point, rule_named, violation_shown, last}
 use Rattle.gj_proof.specs.declared.claim.Claim.{Claim}
 use Rattle.gj_proof.specs.declared.claim.Claim.TheVariants.{Minimal, NotMinimal, Cut, Extreme, ExtremeByResidues, NotExtreme}
 use Rattle.gj_proof.specs.declared.numbers.Numbers.{Numbers}
 use Rattle.gj_proof.specs.declared.numbers.Numbers.TheVariants.{Whole, Residues}
-use Rattle.gj_proof.proofs.LineLists.{names, bytes, bytes_append, Differ, differs_from_those_before, HasOneFeed, feeds_of_own}
+use Rattle.gj_proof.proofs.LineLists.{title_line, claim_line, names, bytes, bytes_append, Differ, differs_from_those_before, HasOneFeed, feeds_of_own}
 use Rattle.gj_proof.proofs.OwnLines.{own_lines_differ, IsOwn, own_lines_are_own, own_lines_have_one_feed}
 
 -- ---- one number

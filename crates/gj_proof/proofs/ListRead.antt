@@ -1,11 +1,11 @@
 -- Lists of things, read one after another.
-use Rattle.std.proofs.Common.{◌≡◌, ◌⊎◌, inl, inr, ℕ, zero, suc, ◌+◌, ◌-◌, ◌<◌, ◌≤◌, List, [], ◌∷◌, ◌++◌, refl, sym, subst, arith}
+use Rattle.std.proofs.Common.{◌≡◌, ◌⊎◌, inl, inr, ℕ, zero, suc, ◌+◌, ◌-◌, ◌<◌, ◌≤◌, List, [], ◌∷◌, ◌++◌, refl, sym, ap, subst, ◌∙◌, arith}
 use Rattle.gj_lex.specs.declared.fault.PartFault.{PartFault}
 use Rattle.gj_lex.specs.Parts.{Part, empty_part, IsFaultOf}
 use Rattle.gj_lex.proofs.PartLaws.{fault_in_first, fault_in_next, fault_in_made}
 use Rattle.gj_lex.proofs.LoopRead.{LeadsOn, leads_on, leads_to_end, leads_to_fault}
 use Rattle.gj_lex.proofs.WhereLaws.{fault_where, fault_else}
-use Rattle.gj_forms.specs.ListParts.{one_more, next_while, while_part, next_until, until_part, times_part}
+use Rattle.gj_forms.specs.ListParts.{IsPrinted, one_more, next_while, while_part, next_until, until_part, times_part}
 
 module _ {A : Type 0} (p : Part A) where
   abbrev makes_more : List A → A → List A ⊎ List A → Type 0
@@ -81,3 +81,13 @@ module _ {A : Type 0} (p : Part A) where
     times_at_fault e fault =
         h.faults e (subst (λ (m : ℕ). IsFaultOf (times_part p m items) rest e) next_is
         (fault_in_first p (λ b. times_part p (n - (i + 1)) (items ++ b ∷ [])) rest e fault))
+
+  -- ---- printed another way
+
+  pub printed_as : (Follows : List ℕ → Type 0) (print other : A → List ℕ) (Has : A → Type 0) → IsPrinted p Follows print Has →
+      ((a : A) → print a ≡ other a) → IsPrinted p Follows other Has
+  printed_as Follows print other Has h same = record {
+    reads = λ a rest has f. subst (λ t. p.Reads (t ++ rest) a rest) (same a) (h.reads a rest has f);
+    found = λ text rest a k.
+        let found = h.found text rest a k in (found.0 ∙ ap (λ t. t ++ rest) (same a), found.1);
+  }

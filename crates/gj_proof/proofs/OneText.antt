@@ -4,13 +4,14 @@ use Rattle.gj_lex.specs.declared.reason.Reason.{Reason}
 use Rattle.gj_lex.proofs.LineNumbers as numbers
 use Rattle.gj_function_lines.specs.FunctionLines.{line}
 use Rattle.gj_function_lines.proofs.OneTextOfLines.{one_text_of_lines}
-use Rattle.gj_proof.specs.ProofText.{IsBounded, subject_of, numbers_of, AreSubjectLines, title_line, claim_line, own_lines, IsProofText}
+use Rattle.gj_proof.specs.ProofText.{IsBounded, subject_of, numbers_of, AreSubjectLines, own_lines, IsProofText}
 use Rattle.gj_proof.specs.ProofGrammar.{proof_text}
 use Rattle.gj_proof.specs.FirstFault.{IsFirstFaultOfProof}
 use Rattle.gj_proof.specs.declared.claim.Claim.{Claim}
 use Rattle.gj_proof.specs.declared.claim.Claim.TheVariants.{Minimal, NotMinimal, Cut, Extreme, ExtremeByResidues, NotExtreme}
 use Rattle.gj_proof.specs.declared.cut.CutRule.TheVariants.{Gmic, Table}
 use Rattle.gj_proof.proofs.ReadTexts.{proof_text_is_exact, text_is_read}
+use Rattle.gj_proof.proofs.LineLists.{title_line, claim_line}
 
 pub one_claim : (c d : Claim) (text : List ℕ) → IsBounded c → IsBounded d → IsProofText c text → IsProofText d text → c ≡ d
 one_claim c d text b e p q =

@@ -3,9 +3,11 @@ use Rattle.std.proofs.Common.{◌≡◌, ◌≢◌, ℕ, suc, ◌+◌, ◌≤◌
 use Rattle.std.proofs.lemmas.List.{append_assoc, map-append}
 use Rattle.std.proofs.lemmas.List.Elements.{All-nil, All-cons, All-head, All-tail, All-append, All-weaker}
 use Rattle.gj_lex.specs.Name.{IsName}
+use Rattle.gj_lex.specs.TextLines.{line_feeds}
 use Rattle.gj_shape.specs.declared.extremality.CoverLine.{CoverLine}
 use Rattle.gj_forms.proofs.LineFeeds.{one_feed}
-use Rattle.gj_proof.specs.ProofText.{ProofLine, OwnLine, IsBounded, HasNames, HasText, own_lines, violation_form, violation_line, head_form, head_of, row_line, term_form, term_line, terms_of, term_lines, row_lines, covered_lines, extreme_lines, pair_lines}
+use Rattle.gj_proof.specs.ProofText.{ProofLine, OwnLine, IsBounded, HasNames, HasText, own_lines, violation_line, row_line, term_line, terms_of, term_lines, row_lines, covered_lines, extreme_lines, pair_lines}
+use Rattle.gj_proof.specs.ProofGrammar.{violation_form, head_form, term_form}
 use Rattle.gj_proof.specs.CutTexts.{row_text}
 use Rattle.gj_proof.specs.declared.claim.Claim.{Claim}
 use Rattle.gj_proof.specs.declared.claim.Claim.TheVariants.{Minimal, NotMinimal, Cut, Extreme, ExtremeByResidues, NotExtreme}
@@ -16,7 +18,7 @@ use Rattle.gj_proof.specs.declared.cut.CutLine.{CutLine}
 use Rattle.gj_proof.specs.declared.cut.CutLine.TheVariants as cuts
 use Rattle.gj_proof.specs.declared.cut.CutTerm.{CutTerm}
 use Rattle.gj_proof.proofs.ClearLines.{violation_is_clear, head_is_clear, term_is_clear}
-use Rattle.gj_proof.proofs.CutTexts.{has_name}
+use Rattle.gj_proof.proofs.CutTexts.{head_of}
 use Rattle.gj_proof.proofs.LineLists.{names, bytes, bytes_append, Differ, differ_append, HasOneFeed}
 use Rattle.gj_proof.proofs.ExtremeLines.{IsCoveredFrom, covered_are, IsBehindCover, behind_cover, behind_are, IsPairFrom, pairs_are, extreme_lines_differ, halves_lines_differ, extreme_have_one_feed, halves_have_one_feed}
 
@@ -208,6 +210,10 @@ own_lines_are_own (NotExtreme f h) =
 
 -- ---- line feeds
 
+feeds_of_row : (l : CutLine) → HasNames l → line_feeds (row_line l) ≡ 1
+feeds_of_row (cuts.Cut name right terms) h = one_feed head_form head_is_clear (head_of (cuts.Cut name right terms)) h.0
+feeds_of_row (cuts.Skip name right r) h = one_feed head_form head_is_clear (head_of (cuts.Skip name right r)) h
+
 terms_have_one_feed : (i j : ℕ) (terms : List CutTerm) → All (λ t. IsName t.name) terms → All HasOneFeed (term_lines i j terms)
 terms_have_one_feed i j [] named = All-nil HasOneFeed
 terms_have_one_feed i j (t ∷ terms) named =
@@ -224,7 +230,7 @@ rows_have_one_feed i [] named = All-nil HasOneFeed
 rows_have_one_feed i (l ∷ rows) named =
     let here = All-head HasNames l rows named in
     All-cons HasOneFeed (record { name = ProofLine.cut i; bytes = row_line l }) (term_lines i 0 (terms_of l) ++ row_lines (i + 1) rows)
-    (one_feed head_form head_is_clear (head_of l) (has_name l here))
+    (feeds_of_row l here)
     (All-append HasOneFeed (term_lines i 0 (terms_of l)) (row_lines (i + 1) rows)
     (terms_have_one_feed i 0 (terms_of l) (names_of_terms l here)) (rows_have_one_feed (i + 1) rows (All-tail HasNames l rows named)))
 

@@ -9,7 +9,7 @@ use Rattle.std.proofs.lemmas.Result.{on_ok_weaker}
 use Rattle.gj_shape.specs.FunctionData.{FunctionData}
 use Rattle.gj_shape.specs.declared.extremality.Halves.{Halves}
 use Rattle.gj_function_lines.specs.FunctionLines.{line}
-use Rattle.gj_proof.specs.ProofText.{subject_of, numbers_of, title_line, claim_line, violation_line, own_lines, AreSubjectLines, HasText, IsProofText}
+use Rattle.gj_proof.specs.ProofText.{subject_of, numbers_of, violation_line, own_lines, AreSubjectLines, HasText, IsProofText}
 use Rattle.gj_proof.specs.CutTexts.{row_text}
 use Rattle.gj_proof.specs.ExtremeTexts.{halves_text}
 use Rattle.gj_proof.specs.declared.claim.Claim.{Claim}
@@ -17,7 +17,7 @@ use Rattle.gj_proof.specs.declared.claim.Claim.TheVariants.{Cut, NotExtreme}
 use Rattle.gj_proof.specs.declared.cut.CutLine.{CutLine}
 use Rattle.gj_proof.specs.declared.cut.CutRule.{CutRule}
 use Rattle.gj_proof.proofs.ExtremeLines.{halves_bytes}
-use Rattle.gj_proof.proofs.LineLists.{bytes}
+use Rattle.gj_proof.proofs.LineLists.{title_line, claim_line, bytes}
 use Rattle.gj_proof.proofs.OwnLines.{row_bytes}
 
 -- the lines of rows, as those of their claim's own

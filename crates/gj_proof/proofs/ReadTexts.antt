@@ -19,11 +19,11 @@ use Rattle.gj_function_lines.proofs.FunctionRead.{within_bounds}
 use Rattle.gj_function_lines.proofs.StrictFunctions.{strict_lines_are_canonical}
 use Rattle.gj_forms.specs.LineForms.{line_of}
 use Rattle.gj_forms.proofs.LineLaws.{part_is_exact, line_is_read, only_line}
-use Rattle.gj_proof.specs.ProofText.{title_form, numbers_of_word, claim_form, IfFunction, IsBounded, subject_of_rule, extreme_claim, title_line, modulus_lines, AreSubjectLines, violation_form, violation_line, IsProofText}
+use Rattle.gj_proof.specs.ProofText.{IfFunction, IsBounded, subject_of_rule, extreme_claim, modulus_lines, AreSubjectLines, violation_line, IsProofText}
+use Rattle.gj_proof.specs.ProofGrammar.{title_form, numbers_of_word, claim_form, violation_form, form_part, rule_part, rows_part, covered_part, modulus_part, groups_part, halves_part, claim_part, proof_text}
 use Rattle.gj_proof.specs.CutTexts.{row_text}
 use Rattle.gj_proof.specs.ExtremeTexts.{group_text, halves_text}
 use Rattle.gj_lex.specs.Parts.{BeginsWithLine}
-use Rattle.gj_proof.specs.ProofGrammar.{form_part, rule_part, rows_part, covered_part, modulus_part, groups_part, halves_part, claim_part, proof_text}
 use Rattle.gj_proof.specs.declared.claim.Claim.{Claim}
 use Rattle.gj_proof.specs.declared.claim.Claim.TheVariants as claims
 use Rattle.gj_proof.specs.declared.claim.ClaimWord.{ClaimWord}
@@ -41,7 +41,7 @@ use Rattle.gj_proof.proofs.CutRead.{gmic_words, rule_part_is_exact, gmic_read, t
 use Rattle.gj_proof.proofs.CutTexts.{BeginsEnd, rows_are_exact, rows_are_printed}
 use Rattle.gj_proof.proofs.ExtremeLines.{extreme_bytes, halves_bytes}
 use Rattle.gj_proof.proofs.ExtremeClaims.{IsExtremeText, extreme_text, of_extreme_text, extreme_is_bounded}
-use Rattle.gj_proof.proofs.LineLists.{bytes}
+use Rattle.gj_proof.proofs.LineLists.{title_line, bytes}
 use Rattle.gj_proof.proofs.ExtremeTexts.{covered_is_exact, modulus_is_exact, groups_are_exact, halves_are_exact, covered_is_printed, modulus_is_printed, groups_are_printed, halves_are_printed}
 use Rattle.gj_proof.proofs.OwnLines.{row_bytes}
 

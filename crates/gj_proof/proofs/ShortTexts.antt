@@ -24,14 +24,14 @@ use Rattle.gj_forms.specs.LineForms.{Field, bytes_of}
 use Rattle.gj_forms.specs.LineForms.Field.{word, count}
 use Rattle.gj_function_lines.specs.FunctionLines.{line}
 use Rattle.gj_function_lines.proofs.StrictFunctions.{function_lines_are_short}
-use Rattle.gj_proof.specs.ProofText.{IsBounded, IsShort, own_lines, title_line, modulus_line, modulus_lines, extreme_lines, violation_line, group_line, reduction_line, pivot_line, halves_line, pair_line, IsCoverLineBelow, IsRowNameBelow, IsPivotRowBelow, HaveFewSteps, IsProofText}
+use Rattle.gj_proof.specs.ProofText.{IsBounded, IsShort, own_lines, modulus_line, modulus_lines, extreme_lines, violation_line, group_line, reduction_line, pivot_line, halves_line, pair_line, IsCoverLineBelow, IsRowNameBelow, IsPivotRowBelow, HaveFewSteps, IsProofText}
 use Rattle.gj_proof.specs.ExtremeTexts.{group_text, halves_text}
 use Rattle.gj_proof.specs.declared.claim.Claim.{Claim}
 use Rattle.gj_proof.specs.declared.claim.Claim.TheVariants.{Minimal, NotMinimal, Cut, Extreme, ExtremeByResidues, NotExtreme}
 use Rattle.gj_proof.specs.declared.numbers.Numbers.{Numbers}
 use Rattle.gj_proof.specs.declared.numbers.Numbers.TheVariants.{Whole, Residues}
 use Rattle.gj_proof.specs.declared.pivot.PivotRow.{PivotRow}
-use Rattle.gj_proof.proofs.LineLists.{bytes}
+use Rattle.gj_proof.proofs.LineLists.{title_line, bytes}
 use Rattle.gj_proof.proofs.ExtremeClaims.{IsExtremeText, of_extreme_text}
 use Rattle.gj_proof.proofs.ExtremeLines.{extreme_bytes, halves_bytes}
 use Rattle.gj_forms.proofs.WholeNumbers.{whole_is_short}

@@ -1,14 +1,21 @@
 -- Proof texts as a part of a text: what each line says, and which rule it breaks first (own).
-use Rattle.std.specs.Prelude.{ℕ, ℤ, ◌≡◌, List, [], ◌∷◌, map, codes}
+use Rattle.std.specs.Prelude.{ℕ, ℤ, pos, ◌≡◌, ◌≢◌, ◌<◌, ◌≤◌, ◌≤ℤ◌, List, [], ◌∷◌, map, codes}
 use Rattle.gj_frac.specs.declared.Frac.{Frac}
+use Rattle.gj_frac.specs.Fraction.{Fits}
+use Rattle.gj_lex.specs.Name.{IsName}
 use Rattle.gj_lex.specs.declared.spelling.Spelling.TheVariants.{Strict}
 use Rattle.gj_lex.specs.Parts.{Part, words_rule, line_part, empty_part, then_part, made_part, end_part}
 use Rattle.gj_shape.specs.declared.extremality.CoverLine.{CoverLine}
 use Rattle.gj_shape.specs.declared.extremality.Halves.{Halves}
+use Rattle.gj_shape.specs.declared.extremality.RowName.{RowName}
+use Rattle.gj_shape.specs.declared.faces.FaceKind.TheVariants.{Vertex}
+use Rattle.gj_shape.specs.declared.violations.Violation.{Violation}
+use Rattle.gj_shape.specs.Limits.{greatest_order, greatest_halves_order, greatest_halves_scale}
+use Rattle.gj_function_lines.specs.FaceLines.{cover_fields}
 use Rattle.gj_function_lines.specs.FunctionGrammar.{function_part}
-use Rattle.gj_forms.specs.LineForms.{LineForm, rule_of}
+use Rattle.gj_forms.specs.LineForms.{Field, LineForm, form_of, rule_of}
 use Rattle.gj_forms.specs.ListParts.{while_part, until_part, times_part}
-use Rattle.gj_proof.specs.ProofText.{title_form, claim_form, violation_form, head_form, term_form, cover_form, row_name_form, column_form, modulus_form, halves_form, pair_form, extreme_claim}
+use Rattle.gj_proof.specs.ProofText.{title_fields, claim_fields, violation_fields, row_fields, term_fields, modulus_fields, row_name_fields, column_fields, halves_fields, pair_fields, IsCoverLineBelow, IsRowNameBelow, extreme_claim}
 use Rattle.gj_lex.specs.Parts.{BeginsWithLine, BeginsWithWord, where_part}
 use Rattle.gj_proof.specs.declared.claim.Claim.{Claim}
 use Rattle.gj_proof.specs.declared.claim.Claim.TheVariants as claim
@@ -22,8 +29,86 @@ use Rattle.gj_proof.specs.declared.cut.CutLine.{CutLine}
 use Rattle.gj_proof.specs.declared.cut.CutLine.TheVariants as cuts
 use Rattle.gj_proof.specs.declared.cut.CutTerm.{CutTerm}
 use Rattle.gj_proof.specs.declared.pivot.PivotRow.{PivotRow}
+use Rattle.gj_proof.specs.declared.cut_rows.RowHead.{RowHead}
 use Rattle.gj_proof.specs.declared.cut_rows.RowKind.{RowKind}
+use Rattle.gj_proof.specs.declared.halves.HalvesHead.{HalvesHead}
 use Rattle.gj_proof.specs.declared.cut_rows.RowKind.TheVariants.{WithCut, Skipped}
+
+-- ---- the lines, each with the things that have words of its form, and those that have a line
+
+abbrev pub title_form : LineForm Numbers
+title_form = form_of title_fields
+
+-- the word behind `claim`
+abbrev pub claim_word_text : ClaimWord → List ℕ
+claim_word_text Minimal = codes "minimal"
+claim_word_text NotMinimal = codes "not-minimal"
+claim_word_text Cut = codes "cut"
+claim_word_text (Extreme numbers) = codes "extreme"
+claim_word_text NotExtreme = codes "not-extreme"
+
+-- the numbers of the texts in which a claim of the word stands
+abbrev pub numbers_of_word : ClaimWord → Numbers
+numbers_of_word Minimal = Whole
+numbers_of_word NotMinimal = Whole
+numbers_of_word Cut = Whole
+numbers_of_word (Extreme numbers) = numbers
+numbers_of_word NotExtreme = Whole
+
+-- in a text of these numbers
+abbrev pub claim_form : Numbers → LineForm ClaimWord
+claim_form numbers = record {
+  fields = λ w. claim_fields (claim_word_text w);
+  HasForm = λ w. numbers_of_word w ≡ numbers;
+  HasLine = λ w. numbers_of_word w ≡ numbers;
+}
+
+abbrev pub violation_form : LineForm Violation
+violation_form = form_of violation_fields
+
+-- the row of cuts of a first line, with these terms if it has a cut
+abbrev pub row_of : RowKind → List ℕ → Frac → List CutTerm → CutLine
+row_of WithCut name right terms = cuts.Cut name right terms
+row_of (Skipped reason) name right terms = cuts.Skip name right reason
+
+abbrev pub head_fields : RowKind → List ℕ → Frac → List Field
+head_fields kind name right = row_fields (row_of kind name right [])
+
+abbrev pub head_form : LineForm RowHead
+head_form = record {
+  fields = λ h. head_fields h.kind h.name h.right;
+  HasForm = λ h. IsName h.name;
+  HasLine = λ h. IsName h.name;
+}
+
+abbrev pub term_form : LineForm CutTerm
+term_form = record { fields = term_fields; HasForm = λ t. IsName t.name; HasLine = λ t. IsName t.name }
+
+abbrev pub cover_form : ℕ → LineForm CoverLine
+cover_form q = record { fields = cover_fields; HasForm = λ l. l.face.kind ≢ Vertex; HasLine = IsCoverLineBelow q }
+
+abbrev pub modulus_form : LineForm (Unit {0})
+modulus_form = form_of (λ t. modulus_fields)
+
+abbrev pub row_name_form : ℕ → LineForm RowName
+row_name_form q = record { fields = row_name_fields; HasForm = λ n. Unit {0}; HasLine = IsRowNameBelow q }
+
+-- a word and a column below 1,000
+abbrev pub column_form : List ℕ → LineForm ℕ
+column_form w = record { fields = column_fields w; HasForm = λ c. Unit {0}; HasLine = λ c. c < greatest_order }
+
+-- the order and the scale are within the limits
+pub record IsHeadInBounds (h : HalvesHead) : Type 0 where
+  pub order_low : 2 ≤ h.order
+  pub order_high : h.order ≤ greatest_halves_order
+  pub scale_low : pos 1 ≤ℤ h.scale
+  pub scale_high : h.scale ≤ℤ pos greatest_halves_scale
+
+abbrev pub halves_form : LineForm HalvesHead
+halves_form = record { fields = λ h. halves_fields h.order h.scale; HasForm = λ h. Unit {0}; HasLine = IsHeadInBounds }
+
+abbrev pub pair_form : LineForm (ℤ × ℤ)
+pair_form = record { fields = pair_fields; HasForm = λ p. Unit {0}; HasLine = λ p. Fits p.0 × Fits p.1 }
 
 -- a line of a form
 abbrev pub form_part : {A : Type 0} → LineForm A → Part A

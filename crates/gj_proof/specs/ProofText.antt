@@ -1,13 +1,11 @@
 -- The one spelling of a proof (own).
-use Rattle.std.specs.Prelude.{ℕ, ℤ, pos, ◌≡◌, ◌≢◌, ◌⊎◌, ◌+◌, ◌<◌, ◌≤◌, ◌≤ℤ◌, List, [], ◌∷◌, ◌++◌, All, Contains, length, map, flat_map, zip, codes}
+use Rattle.std.specs.Prelude.{ℕ, ℤ, ◌≡◌, ◌≢◌, ◌⊎◌, ◌+◌, ◌<◌, ◌≤◌, List, [], ◌∷◌, ◌++◌, All, Contains, length, map, flat_map, zip, codes}
 use Rattle.std.specs.List.{range_with_len}
 use Rattle.gj_shape.specs.Perturbation.{AreHalvesInBounds}
-use Rattle.gj_frac.specs.Fraction.{Fits}
-use Rattle.gj_frac.specs.declared.Frac.{Frac}
 use Rattle.gj_lex.specs.Name.{IsName}
-use Rattle.gj_forms.specs.LineForms.{Field, bytes_of, LineForm, form_of, line_of}
+use Rattle.gj_forms.specs.LineForms.{Field, bytes_of}
 use Rattle.gj_forms.specs.LineForms.Field.{word, fraction, count, whole}
-use Rattle.gj_shape.specs.Limits.{greatest_order, greatest_halves_order, greatest_halves_scale}
+use Rattle.gj_shape.specs.Limits.{greatest_order}
 use Rattle.gj_shape.specs.FunctionData.{FunctionData, IsWithinBounds}
 use Rattle.gj_shape.specs.declared.extremality.CoverLine.{CoverLine}
 use Rattle.gj_shape.specs.declared.extremality.Halves.{Halves}
@@ -16,13 +14,11 @@ use Rattle.gj_shape.specs.declared.extremality.RowName.TheVariants.{Period, F, P
 use Rattle.gj_shape.specs.declared.faces.FaceKind.TheVariants.{Vertex}
 use Rattle.gj_shape.specs.declared.violations.Violation.{Violation}
 use Rattle.gj_shape.specs.declared.violations.Violation.TheVariants as violation
-use Rattle.gj_function_lines.specs.FaceLines.{cover_fields, cover_line}
+use Rattle.gj_function_lines.specs.FaceLines.{cover_line}
 use Rattle.gj_function_lines.specs.FunctionLines.{line, AreFunctionLines}
 use Rattle.gj_proof.specs.declared.claim.Claim.{Claim}
 use Rattle.gj_theory.specs.Modulus.{modulus}
 use Rattle.gj_proof.specs.declared.claim.Claim.TheVariants.{Minimal, NotMinimal, Cut, Extreme, ExtremeByResidues, NotExtreme}
-use Rattle.gj_proof.specs.declared.claim.ClaimWord.{ClaimWord}
-use Rattle.gj_proof.specs.declared.claim.ClaimWord.TheVariants as words
 use Rattle.gj_proof.specs.declared.cut.CutRule.{CutRule}
 use Rattle.gj_proof.specs.declared.cut.CutRule.TheVariants.{Gmic, Table}
 use Rattle.gj_proof.specs.declared.cut.CutLine.{CutLine}
@@ -30,10 +26,6 @@ use Rattle.gj_proof.specs.declared.cut.CutLine.TheVariants as cuts
 use Rattle.gj_proof.specs.declared.cut.CutTerm.{CutTerm}
 use Rattle.gj_proof.specs.declared.cut.SkipReason.{SkipReason}
 use Rattle.gj_proof.specs.declared.cut.SkipReason.TheVariants.{Integral, Other}
-use Rattle.gj_proof.specs.declared.cut_rows.RowHead.{RowHead}
-use Rattle.gj_proof.specs.declared.cut_rows.RowKind.{RowKind}
-use Rattle.gj_proof.specs.declared.cut_rows.RowKind.TheVariants.{WithCut, Skipped}
-use Rattle.gj_proof.specs.declared.halves.HalvesHead.{HalvesHead}
 use Rattle.gj_proof.specs.declared.numbers.Numbers.{Numbers}
 use Rattle.gj_proof.specs.declared.numbers.Numbers.TheVariants.{Whole, Residues}
 use Rattle.gj_proof.specs.declared.pivot.PivotRow.{PivotRow}
@@ -89,6 +81,15 @@ IsShort (Extreme f lines rows) = ⊥
 IsShort (ExtremeByResidues f lines rows) = ⊥
 IsShort (NotExtreme f halves) = Unit {0}
 
+-- the numbers of the rows of a claim: residues, if it says so, and else whole numbers
+abbrev pub numbers_of : Claim → Numbers
+numbers_of (Minimal f) = Whole
+numbers_of (NotMinimal f v) = Whole
+numbers_of (Cut rule rows) = Whole
+numbers_of (Extreme f lines rows) = Whole
+numbers_of (ExtremeByResidues f lines rows) = Residues
+numbers_of (NotExtreme f halves) = Whole
+
 -- the claim that a function is extreme, by rows of these numbers
 abbrev pub extreme_claim : Numbers → FunctionData → List CoverLine → List PivotRow → Claim
 extreme_claim Whole f lines rows = Extreme f lines rows
@@ -97,57 +98,22 @@ extreme_claim Residues f lines rows = ExtremeByResidues f lines rows
 -- ---- the lines of a claim
 
 -- `gj-proof 1`, or of a claim by residues `gj-proof 2`
-abbrev pub title_number : Numbers → List ℕ
-title_number Whole = codes "1"
-title_number Residues = codes "2"
-
-abbrev pub title_form : LineForm Numbers
-title_form = form_of (λ n. word (codes "gj-proof") ∷ word (title_number n) ∷ [])
-
-abbrev pub title_line : Numbers → List ℕ
-title_line = line_of title_form
-
--- `claim W`, in a text of these numbers
-abbrev pub claim_word_text : ClaimWord → List ℕ
-claim_word_text words.Minimal = codes "minimal"
-claim_word_text words.NotMinimal = codes "not-minimal"
-claim_word_text words.Cut = codes "cut"
-claim_word_text (words.Extreme numbers) = codes "extreme"
-claim_word_text words.NotExtreme = codes "not-extreme"
-
--- the numbers of the texts in which a claim of the word stands
-abbrev pub numbers_of_word : ClaimWord → Numbers
-numbers_of_word words.Minimal = Whole
-numbers_of_word words.NotMinimal = Whole
-numbers_of_word words.Cut = Whole
-numbers_of_word (words.Extreme numbers) = numbers
-numbers_of_word words.NotExtreme = Whole
-
-abbrev pub claim_form : Numbers → LineForm ClaimWord
-claim_form numbers = record {
-  fields = λ w. word (codes "claim") ∷ word (claim_word_text w) ∷ [];
-  HasForm = λ w. numbers_of_word w ≡ numbers;
-  HasLine = λ w. numbers_of_word w ≡ numbers;
-}
+abbrev pub title_fields : Numbers → List Field
+title_fields Whole = word (codes "gj-proof") ∷ word (codes "1") ∷ []
+title_fields Residues = word (codes "gj-proof") ∷ word (codes "2") ∷ []
 
 -- the word of a claim
-abbrev pub word_of_claim : Claim → ClaimWord
-word_of_claim (Minimal f) = words.Minimal
-word_of_claim (NotMinimal f v) = words.NotMinimal
-word_of_claim (Cut rule rows) = words.Cut
-word_of_claim (Extreme f lines rows) = words.Extreme Whole
-word_of_claim (ExtremeByResidues f lines rows) = words.Extreme Residues
-word_of_claim (NotExtreme f halves) = words.NotExtreme
-
 abbrev pub claim_word : Claim → List ℕ
-claim_word c = claim_word_text (word_of_claim c)
+claim_word (Minimal f) = codes "minimal"
+claim_word (NotMinimal f v) = codes "not-minimal"
+claim_word (Cut rule rows) = codes "cut"
+claim_word (Extreme f lines rows) = codes "extreme"
+claim_word (ExtremeByResidues f lines rows) = codes "extreme"
+claim_word (NotExtreme f halves) = codes "not-extreme"
 
--- the numbers of the rows of a claim: residues, if it says so, and else whole numbers
-abbrev pub numbers_of : Claim → Numbers
-numbers_of c = numbers_of_word (word_of_claim c)
-
-abbrev pub claim_line : Claim → List ℕ
-claim_line c = line_of (claim_form (numbers_of c)) (word_of_claim c)
+-- `claim W`
+abbrev pub claim_fields : List ℕ → List Field
+claim_fields w = word (codes "claim") ∷ word w ∷ []
 
 -- a line of a proof text, by its place in the form: of a claim about cuts, the line of the i-th row, and that of the j-th term of
 -- the i-th row; of an extreme function, the line of the i-th covered interval, that of the modulus, the first line of the g-th
@@ -193,11 +159,8 @@ violation_fields (violation.Negative x) = word (codes "negative") ∷ fraction x
 violation_fields (violation.Asymmetric x) = word (codes "asymmetric") ∷ fraction x ∷ []
 violation_fields (violation.Superadditive x y) = word (codes "superadditive") ∷ fraction x ∷ fraction y ∷ []
 
-abbrev pub violation_form : LineForm Violation
-violation_form = form_of violation_fields
-
 abbrev pub violation_line : Violation → List ℕ
-violation_line = line_of violation_form
+violation_line v = bytes_of (violation_fields v)
 
 -- ---- the lines of cuts
 
@@ -207,35 +170,19 @@ reason_word Integral = codes "integral"
 reason_word Other = codes "other"
 
 -- `cut NAME B`, `skip NAME B integral` or `skip NAME B other`
-abbrev pub head_fields : RowKind → List ℕ → Frac → List Field
-head_fields WithCut name right = word (codes "cut") ∷ word name ∷ fraction right ∷ []
-head_fields (Skipped reason) name right = word (codes "skip") ∷ word name ∷ fraction right ∷ word (reason_word reason) ∷ []
-
-abbrev pub head_form : LineForm RowHead
-head_form = record {
-  fields = λ h. head_fields h.kind h.name h.right;
-  HasForm = λ h. IsName h.name;
-  HasLine = λ h. IsName h.name;
-}
-
--- `term NAME A C`
-abbrev pub term_form : LineForm CutTerm
-term_form = record {
-  fields = λ t. word (codes "term") ∷ word t.name ∷ fraction t.entry ∷ fraction t.cut ∷ [];
-  HasForm = λ t. IsName t.name;
-  HasLine = λ t. IsName t.name;
-}
-
--- what the first line of a row tells
-abbrev pub head_of : CutLine → RowHead
-head_of (cuts.Cut name right terms) = record { kind = WithCut; name = name; right = right }
-head_of (cuts.Skip name right reason) = record { kind = Skipped reason; name = name; right = right }
+abbrev pub row_fields : CutLine → List Field
+row_fields (cuts.Cut name right terms) = word (codes "cut") ∷ word name ∷ fraction right ∷ []
+row_fields (cuts.Skip name right reason) = word (codes "skip") ∷ word name ∷ fraction right ∷ word (reason_word reason) ∷ []
 
 abbrev pub row_line : CutLine → List ℕ
-row_line l = line_of head_form (head_of l)
+row_line l = bytes_of (row_fields l)
+
+-- `term NAME A C`
+abbrev pub term_fields : CutTerm → List Field
+term_fields t = word (codes "term") ∷ word t.name ∷ fraction t.entry ∷ fraction t.cut ∷ []
 
 abbrev pub term_line : CutTerm → List ℕ
-term_line = line_of term_form
+term_line t = bytes_of (term_fields t)
 
 -- the terms of a line of cuts: of one that passes its row over, none
 abbrev pub terms_of : CutLine → List CutTerm
@@ -254,49 +201,24 @@ row_lines i (l ∷ more) = record { name = cut i; bytes = row_line l } ∷ term_
 
 -- ---- the lines of an extreme function
 
--- the intervals and the square of a line of a covered interval are below the order, and its face is no vertex
-pub record IsCoverLineBelow (q : ℕ) (l : CoverLine) : Type 0 where
-  pub interval : l.interval < q
-  pub from : l.from < q
-  pub first : l.face.a < q
-  pub second : l.face.b < q
-  pub not_vertex : l.face.kind ≢ Vertex
-
--- a pair that names a row is ascending, from 1 to below the order
-abbrev pub IsRowNameBelow : ℕ → RowName → Type 0
-IsRowNameBelow q Period = Unit {0}
-IsRowNameBelow q F = Unit {0}
-IsRowNameBelow q (Pair a b) = (1 ≤ a) × (a ≤ b) × (b < q)
-
--- its face is no vertex
-abbrev pub cover_form : ℕ → LineForm CoverLine
-cover_form q = record {
-  fields = cover_fields;
-  HasForm = λ l. l.face.kind ≢ Vertex;
-  HasLine = IsCoverLineBelow q;
-}
-
 -- `row period`, `row f` or `row A B`
 abbrev pub row_name_fields : RowName → List Field
 row_name_fields Period = word (codes "row") ∷ word (codes "period") ∷ []
 row_name_fields F = word (codes "row") ∷ word (codes "f") ∷ []
 row_name_fields (Pair a b) = word (codes "row") ∷ count a ∷ count b ∷ []
 
-abbrev pub row_name_form : ℕ → LineForm RowName
-row_name_form q = record { fields = row_name_fields; HasForm = λ n. Unit {0}; HasLine = IsRowNameBelow q }
-
 abbrev pub group_line : RowName → List ℕ
 group_line name = bytes_of (row_name_fields name)
 
--- a word and a column below 1,000: `reduce C` or `pivot C`
-abbrev pub column_form : List ℕ → LineForm ℕ
-column_form w = record { fields = λ c. word w ∷ count c ∷ []; HasForm = λ c. Unit {0}; HasLine = λ c. c < greatest_order }
+-- `reduce C` or `pivot C`
+abbrev pub column_fields : List ℕ → ℕ → List Field
+column_fields w c = word w ∷ count c ∷ []
 
 abbrev pub reduction_line : ℕ → List ℕ
-reduction_line = line_of (column_form (codes "reduce"))
+reduction_line c = bytes_of (column_fields (codes "reduce") c)
 
 abbrev pub pivot_line : ℕ → List ℕ
-pivot_line = line_of (column_form (codes "pivot"))
+pivot_line c = bytes_of (column_fields (codes "pivot") c)
 
 -- the lines of covered intervals, from the i-th on
 abbrev pub covered_lines : ℕ → List CoverLine → List OwnLine
@@ -316,11 +238,11 @@ group_lines g (row ∷ more) =
     ++ record { name = group_pivot g; bytes = pivot_line row.pivot } ∷ group_lines (g + 1) more
 
 -- `modulus M`
-abbrev pub modulus_form : LineForm (Unit {0})
-modulus_form = form_of (λ t. word (codes "modulus") ∷ count modulus ∷ [])
+abbrev pub modulus_fields : List Field
+modulus_fields = word (codes "modulus") ∷ count modulus ∷ []
 
 abbrev pub modulus_line : List ℕ
-modulus_line = line_of modulus_form tt
+modulus_line = bytes_of modulus_fields
 
 -- by residues, this line
 abbrev pub modulus_lines : Numbers → List OwnLine
@@ -333,34 +255,19 @@ extreme_lines numbers lines rows = covered_lines 0 lines ++ (modulus_lines numbe
 
 -- ---- the lines of halves
 
--- the order and the scale are within the limits
-pub record IsHeadInBounds (h : HalvesHead) : Type 0 where
-  pub order_low : 2 ≤ h.order
-  pub order_high : h.order ≤ greatest_halves_order
-  pub scale_low : pos 1 ≤ℤ h.scale
-  pub scale_high : h.scale ≤ℤ pos greatest_halves_scale
-
 -- `halves N S`
-abbrev pub halves_form : LineForm HalvesHead
-halves_form = record {
-  fields = λ h. word (codes "halves") ∷ count h.order ∷ whole h.scale ∷ [];
-  HasForm = λ h. Unit {0};
-  HasLine = IsHeadInBounds;
-}
+abbrev pub halves_fields : ℕ → ℤ → List Field
+halves_fields n s = word (codes "halves") ∷ count n ∷ whole s ∷ []
 
 abbrev pub halves_line : Halves → List ℕ
-halves_line h = line_of halves_form (record { order = h.order; scale = h.scale })
+halves_line h = bytes_of (halves_fields h.order h.scale)
 
 -- `pair A B`
-abbrev pub pair_form : LineForm (ℤ × ℤ)
-pair_form = record {
-  fields = λ p. word (codes "pair") ∷ whole p.0 ∷ whole p.1 ∷ [];
-  HasForm = λ p. Unit {0};
-  HasLine = λ p. Fits p.0 × Fits p.1;
-}
+abbrev pub pair_fields : ℤ × ℤ → List Field
+pair_fields p = word (codes "pair") ∷ whole p.0 ∷ whole p.1 ∷ []
 
 abbrev pub pair_line : ℤ × ℤ → List ℕ
-pair_line = line_of pair_form
+pair_line p = bytes_of (pair_fields p)
 
 -- the lines of the halves' values, from the i-th on
 abbrev pub pair_lines : ℕ → List (ℤ × ℤ) → List OwnLine
@@ -385,7 +292,7 @@ proof_lines_of c = title ∷ claim ∷ [] ++ subject_lines (subject_of c) ++ map
 -- the bytes of the line of a claim's word, and of its own lines
 abbrev pub HasBytes : Claim → ProofLine → List ℕ → Type 0
 HasBytes c l bytes =
-    ((l ≡ claim) × (bytes ≡ claim_line c)) ⊎ Contains (own_lines c) (record { name = l; bytes = bytes })
+    ((l ≡ claim) × (bytes ≡ bytes_of (claim_fields (claim_word c)))) ⊎ Contains (own_lines c) (record { name = l; bytes = bytes })
 
 -- the line is the n-th of the text, counted from 1, and none before it
 pub record HasNumber (c : Claim) (l : ProofLine) (n : ℕ) : Type 0 where
@@ -396,6 +303,20 @@ pub record HasNumber (c : Claim) (l : ProofLine) (n : ℕ) : Type 0 where
   pub number : n ≡ length before + 1
 
 -- ---- the text of a claim
+
+-- the intervals and the square of a line of a covered interval are below the order, and its face is no vertex
+pub record IsCoverLineBelow (q : ℕ) (l : CoverLine) : Type 0 where
+  pub interval : l.interval < q
+  pub from : l.from < q
+  pub first : l.face.a < q
+  pub second : l.face.b < q
+  pub not_vertex : l.face.kind ≢ Vertex
+
+-- a pair that names a row is ascending, from 1 to below the order
+abbrev pub IsRowNameBelow : ℕ → RowName → Type 0
+IsRowNameBelow q Period = Unit {0}
+IsRowNameBelow q F = Unit {0}
+IsRowNameBelow q (Pair a b) = (1 ≤ a) × (a ≤ b) × (b < q)
 
 -- the columns of a row are below 1,000
 pub record IsPivotRowBelow (q : ℕ) (row : PivotRow) : Type 0 where
@@ -427,5 +348,5 @@ pub record IsProofText (c : Claim) (text : List ℕ) : Type 0 where
   pub has_text : HasText c
   pub subject : List ℕ
   pub are_subject_lines : AreSubjectLines (subject_of c) subject
-  pub spelled : text ≡ title_line (numbers_of c) ++ claim_line c ++ subject
+  pub spelled : text ≡ bytes_of (title_fields (numbers_of c)) ++ bytes_of (claim_fields (claim_word c)) ++ subject
       ++ flat_map (λ l. l.bytes) (own_lines c) ++ line (codes "end")

@@ -2,7 +2,8 @@
 ghost use Rattle.std.specs.Prelude.{◌≡◌, ◌↔◌, All, IsTrue};
 ghost use Rattle.gj_frac.specs.Fraction.{Fits};
 ghost use Rattle.gj_shape.specs.Perturbation.{AreHalvesInBounds};
-ghost use Rattle.gj_proof.specs.ProofText.{IsCoverLineBelow, IsRowNameBelow, IsHeadInBounds, IsPivotRowBelow};
+ghost use Rattle.gj_proof.specs.ProofText.{IsCoverLineBelow, IsRowNameBelow, IsPivotRowBelow};
+ghost use Rattle.gj_proof.specs.ProofGrammar.{IsHeadInBounds};
 
 use crate::pivot::PivotRow;
 use gj_shape::{

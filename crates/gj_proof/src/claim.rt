@@ -68,7 +68,7 @@ pub(crate) enum ClaimWord {
 }
 
 impl ClaimWord {
-    ghost use Rattle.gj_proof.specs.ProofText.{numbers_of_word, claim_word_text};
+    ghost use Rattle.gj_proof.specs.ProofGrammar.{numbers_of_word, claim_word_text};
 
     /// The words of all claims.
     pub const ALL: [ClaimWord; 6] = [

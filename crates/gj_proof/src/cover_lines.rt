@@ -7,8 +7,8 @@ ghost use Rattle.gj_shape.specs.Limits.{greatest_order};
 ghost use Rattle.gj_shape.specs.declared.faces.FaceKind.{FaceKind};
 ghost use Rattle.gj_shape.specs.declared.faces.FaceKind.TheVariants.{Vertex};
 ghost use Rattle.gj_function_lines.specs.FaceLines.{face_word, cover_line};
-ghost use Rattle.gj_proof.specs.ProofText.{IsCoverLineBelow, cover_form};
-ghost use Rattle.gj_proof.specs.ProofGrammar.{form_part, covered_part};
+ghost use Rattle.gj_proof.specs.ProofText.{IsCoverLineBelow};
+ghost use Rattle.gj_proof.specs.ProofGrammar.{cover_form, form_part, covered_part};
 
 use crate::fields::{behind_text, count_below, five_fields_of, split_at_byte};
 use gj_function_lines::face_word;

@@ -3,8 +3,7 @@ ghost use Rattle.std.specs.Prelude.{IfOk, IfErr};
 ghost use Rattle.gj_lex.specs.Words.{word_texts};
 ghost use Rattle.gj_lex.specs.Parts.{IsFaultOf};
 ghost use Rattle.gj_forms.specs.LineForms.{AreLine, BreaksForm};
-ghost use Rattle.gj_proof.specs.ProofText.{modulus_form};
-ghost use Rattle.gj_proof.specs.ProofGrammar.{form_part, modulus_part};
+ghost use Rattle.gj_proof.specs.ProofGrammar.{modulus_form, form_part, modulus_part};
 
 use crate::fields::whole_of;
 use crate::numbers::{MODULUS, Numbers};

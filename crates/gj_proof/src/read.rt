@@ -4,8 +4,8 @@ ghost use Rattle.std.specs.Prelude.{◌≡◌, [], IfOk, IfErr, IfSome, IfNone, 
 ghost use Rattle.gj_lex.specs.Words.{word_texts};
 ghost use Rattle.gj_lex.specs.Parts.{IsFaultOf};
 ghost use Rattle.gj_forms.specs.LineForms.{AreOfForm, AreLine};
-ghost use Rattle.gj_proof.specs.ProofText.{title_form, claim_form, IsBounded, IsProofText, extreme_claim};
-ghost use Rattle.gj_proof.specs.ProofGrammar.{form_part, claim_part, extreme_part, proof_text};
+ghost use Rattle.gj_proof.specs.ProofText.{IsBounded, IsProofText, extreme_claim};
+ghost use Rattle.gj_proof.specs.ProofGrammar.{title_form, claim_form, form_part, claim_part, extreme_part, proof_text};
 ghost use Rattle.gj_proof.specs.FirstFault.{NamesFirstFault, IsMemoryFault};
 ghost use Rattle.gj_proof.specs.declared.claim.Claim.{Claim};
 ghost use Rattle.gj_proof.specs.declared.claim.ClaimWord.TheVariants.{Minimal, NotMinimal, Cut, NotExtreme};

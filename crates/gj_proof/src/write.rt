@@ -1,8 +1,8 @@
 //! Proof texts, printed.
 
-ghost use Rattle.std.specs.Prelude.{◌≡◌, ◌++◌, ℕ, List, codes, flat_map, IfOk, OnOk};
-ghost use Rattle.gj_function_lines.specs.FunctionLines.{line};
-ghost use Rattle.gj_proof.specs.ProofText.{subject_of, numbers_of, AreSubjectLines, title_number, claim_word, violation_line, own_lines, HasText, IsProofText};
+ghost use Rattle.std.specs.Prelude.{◌≡◌, ◌++◌, ℕ, List, flat_map, IfOk, OnOk};
+ghost use Rattle.gj_forms.specs.LineForms.{bytes_of};
+ghost use Rattle.gj_proof.specs.ProofText.{subject_of, numbers_of, AreSubjectLines, title_fields, claim_fields, claim_word, violation_line, own_lines, HasText, IsProofText};
 
 use crate::claim::{Claim, Proof};
 use crate::numbers::Numbers;
@@ -27,11 +27,12 @@ pub fn write_proof(alloc: Global, proof: &Proof) -> Result<Vec<u8>, AllocError>
 
 /// The first two lines of a proof text: its title and the word of its claim.
 fn start_text(alloc: Global, claim: &Claim) -> Result<Vec<u8>, AllocError>
-    ensures { IfOk result (λ text. text.items ≡ line (codes "gj-proof " ++ title_number (numbers_of claim.now)) ++ line (codes "claim " ++ claim_word claim.now)) }
+    ensures { IfOk result (λ text. text.items
+        ≡ bytes_of (title_fields (numbers_of claim.now)) ++ bytes_of (claim_fields (claim_word claim.now))) }
 {
     let mut text = Vec::new(alloc);
     text.extend_from_slice(title(claim.numbers()))?;
-    text.extend_from_slice(b"\nclaim ")?;
+    text.extend_from_slice(b"claim ")?;
     text.extend_from_slice(claim.word().as_bytes())?;
     text.push(b'\n')?;
     Ok(text)
@@ -79,13 +80,13 @@ fn push_own_lines(alloc: Global, out: &mut Vec<u8>, claim: &Claim) -> Result<(),
     }
 }
 
-/// The words of the first line of a proof text.
+/// The first line of a proof text.
 fn title(numbers: Numbers) -> &'static [u8]
-    ensures { result.now ≡ codes "gj-proof " ++ title_number numbers }
+    ensures { result.now ≡ bytes_of (title_fields numbers) }
 {
     match numbers {
-        Numbers::Whole => b"gj-proof 1",
-        Numbers::Residues => b"gj-proof 2",
+        Numbers::Whole => b"gj-proof 1\n",
+        Numbers::Residues => b"gj-proof 2\n",
     }
 }
 

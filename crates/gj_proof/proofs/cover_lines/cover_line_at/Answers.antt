@@ -1,5 +1,5 @@
 use Rattle.gj_forms.proofs.LineLaws.{line_is_read}
-use Rattle.gj_proof.specs.ProofText.{cover_form}
+use Rattle.gj_proof.specs.ProofGrammar.{cover_form}
 use Rattle.gj_proof.proofs.ClearLines.{cover_is_clear}
 use Rattle.gj_proof.proofs.cover_lines.cover_line_at.Goals as goal
 

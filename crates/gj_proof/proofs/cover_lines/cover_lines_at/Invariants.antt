@@ -1,5 +1,4 @@
-use Rattle.gj_proof.specs.ProofText.{cover_form}
-use Rattle.gj_proof.specs.ProofGrammar.{form_part}
+use Rattle.gj_proof.specs.ProofGrammar.{cover_form, form_part}
 use Rattle.gj_proof.proofs.ListRead.{LeavesTimes}
 use Rattle.gj_proof.proofs.cover_lines.cover_lines_at.Given as goal
 

@@ -1,5 +1,5 @@
 use Rattle.gj_forms.proofs.LineLaws.{no_such_numbers}
-use Rattle.gj_proof.specs.ProofText.{head_form}
+use Rattle.gj_proof.specs.ProofGrammar.{head_form}
 use Rattle.gj_proof.proofs.BrokenLines.{zero_fraction, of_head, no_head_number}
 use Rattle.gj_proof.proofs.cut_rows.head_in.Goals as goal
 

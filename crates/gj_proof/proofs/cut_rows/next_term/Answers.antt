@@ -1,6 +1,6 @@
 use Rattle.std.proofs.Common.{refl, codes}
 use Rattle.gj_forms.proofs.LineLaws.{line_is_read, begins_so}
-use Rattle.gj_proof.specs.ProofText.{term_form}
+use Rattle.gj_proof.specs.ProofGrammar.{term_form}
 use Rattle.gj_proof.proofs.ClearLines.{term_is_clear}
 use Rattle.gj_proof.proofs.cut_rows.next_term.Goals as goal
 

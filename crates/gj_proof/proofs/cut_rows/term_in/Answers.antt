@@ -1,6 +1,6 @@
 use Rattle.std.proofs.Common.{refl}
 use Rattle.gj_forms.proofs.LineLaws.{no_such_numbers}
-use Rattle.gj_proof.specs.ProofText.{term_form}
+use Rattle.gj_proof.specs.ProofGrammar.{term_form}
 use Rattle.gj_proof.proofs.BrokenLines.{zero_fraction, no_term_numbers}
 use Rattle.gj_proof.proofs.cut_rows.term_in.Goals as goal
 

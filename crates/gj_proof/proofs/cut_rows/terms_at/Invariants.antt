@@ -1,8 +1,7 @@
 use Rattle.std.proofs.Common.{[], length}
 use Rattle.gj_lex.proofs.LoopRead.{LeadsOn}
 use Rattle.gj_forms.specs.ListParts.{next_while}
-use Rattle.gj_proof.specs.ProofText.{term_form}
-use Rattle.gj_proof.specs.ProofGrammar.{form_part}
+use Rattle.gj_proof.specs.ProofGrammar.{term_form, form_part}
 use Rattle.gj_proof.proofs.CutTexts.{BeginsTerm}
 use Rattle.gj_proof.proofs.cut_rows.terms_at.Given as goal
 

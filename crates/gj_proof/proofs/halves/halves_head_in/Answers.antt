@@ -1,6 +1,6 @@
 use Rattle.std.proofs.Common.{pos, refl}
 use Rattle.gj_forms.proofs.LineLaws.{no_such_numbers}
-use Rattle.gj_proof.specs.ProofText.{halves_form}
+use Rattle.gj_proof.specs.ProofGrammar.{halves_form}
 use Rattle.gj_proof.proofs.BrokenLines.{no_halves}
 use Rattle.gj_proof.proofs.halves.halves_head_in.Goals as goal
 

@@ -2,7 +2,7 @@ use Rattle.std.proofs.Common.{ℤ, ap, refl, sym, subst, ◌∙◌, arith}
 use Rattle.std.specs.Fmt.{signed_decimal}
 use Rattle.std.proofs.lemmas.Bool.{false≢true}
 use Rattle.gj_lex.proofs.CanonicalTexts.{within_bits}
-use Rattle.gj_proof.specs.ProofText.{IsHeadInBounds}
+use Rattle.gj_proof.specs.ProofGrammar.{IsHeadInBounds}
 use Rattle.gj_forms.proofs.PlainWords.{word_of_count}
 use Rattle.gj_proof.proofs.BrokenLines.{no_order, not_in_bounds}
 use Rattle.gj_proof.proofs.halves.head_of.Goals as goal

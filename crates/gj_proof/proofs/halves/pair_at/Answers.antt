@@ -1,5 +1,5 @@
 use Rattle.gj_forms.proofs.LineLaws.{line_is_read}
-use Rattle.gj_proof.specs.ProofText.{pair_form}
+use Rattle.gj_proof.specs.ProofGrammar.{pair_form}
 use Rattle.gj_proof.proofs.ClearLines.{pair_is_clear}
 use Rattle.gj_proof.proofs.halves.pair_at.Goals as goal
 

@@ -1,6 +1,6 @@
 use Rattle.std.proofs.Common.{pos, refl}
 use Rattle.gj_forms.proofs.LineLaws.{no_such_numbers}
-use Rattle.gj_proof.specs.ProofText.{pair_form}
+use Rattle.gj_proof.specs.ProofGrammar.{pair_form}
 use Rattle.gj_proof.proofs.BrokenLines.{no_pair}
 use Rattle.gj_proof.proofs.halves.pair_in.Goals as goal
 

@@ -2,7 +2,7 @@ use Rattle.std.proofs.Common.{◌≡◌, pos, refl, sym, ◌∙◌, lit<}
 use Rattle.gj_theory.specs.Modulus.{modulus}
 use Rattle.gj_forms.proofs.LineLaws.{no_such_numbers}
 use Rattle.gj_forms.proofs.WholeNumbers.{same_from_whole}
-use Rattle.gj_proof.specs.ProofText.{modulus_form}
+use Rattle.gj_proof.specs.ProofGrammar.{modulus_form}
 use Rattle.gj_proof.proofs.BrokenLines.{no_modulus}
 use Rattle.gj_proof.proofs.modulus.test_modulus.Goals as goal
 

@@ -5,7 +5,7 @@ use Rattle.gj_lex.proofs.Decimals.{same_from_decimal}
 use Rattle.gj_forms.specs.LineForms.{BreaksForm}
 use Rattle.gj_forms.proofs.LineLaws.{no_such_numbers, passed_on}
 use Rattle.gj_shape.specs.declared.extremality.RowName.TheVariants.{Pair}
-use Rattle.gj_proof.specs.ProofText.{row_name_form}
+use Rattle.gj_proof.specs.ProofGrammar.{row_name_form}
 use Rattle.gj_proof.proofs.BrokenLines.{no_pair_name}
 use Rattle.gj_proof.proofs.pivot_rows.row_name_in.Goals as goal
 use Rattle.gj_proof.proofs.pivot_rows.row_name_in.Goals.{then-a-lt1-via-then-a-lt1, then-a-lt1-via-else-a-lt1+then-b-a}

@@ -1,5 +1,5 @@
 use Rattle.std.proofs.Common.{◌≡◌, ℕ, ◌<◌, List, [], ◌∷◌, get_or, lit<, below_more, codes, rules, arith}
-use Rattle.gj_proof.specs.ProofText.{numbers_of_word, claim_word_text}
+use Rattle.gj_proof.specs.ProofGrammar.{numbers_of_word, claim_word_text}
 use Rattle.gj_proof.specs.declared.claim.ClaimWord.{ClaimWord}
 use Rattle.gj_proof.specs.declared.claim.ClaimWord.TheVariants.{Minimal, NotMinimal, Cut, Extreme, NotExtreme}
 use Rattle.gj_proof.specs.declared.numbers.Numbers.{Numbers}

@@ -1,5 +1,5 @@
 use Rattle.std.proofs.Common.{◌≡◌, ℕ, ◌<◌, get_or}
-use Rattle.gj_proof.specs.ProofText.{numbers_of_word, claim_word_text}
+use Rattle.gj_proof.specs.ProofGrammar.{numbers_of_word, claim_word_text}
 use Rattle.gj_proof.specs.declared.claim.ClaimWord.TheVariants.{Minimal}
 use Rattle.gj_proof.proofs.read.claim_word_of.Given as goal
 

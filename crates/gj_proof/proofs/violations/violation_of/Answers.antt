@@ -4,7 +4,7 @@ use Rattle.gj_lex.specs.Words.{word_texts}
 use Rattle.gj_forms.specs.LineForms.{BreaksForm}
 use Rattle.gj_forms.proofs.LineLaws.{no_such_numbers, passed_on}
 use Rattle.gj_shape.specs.declared.violations.Violation.TheVariants as violation
-use Rattle.gj_proof.specs.ProofText.{violation_form}
+use Rattle.gj_proof.specs.ProofGrammar.{violation_form}
 use Rattle.gj_proof.proofs.BrokenLines.{zero_fraction, no_point, no_points, no_violation}
 use Rattle.gj_proof.proofs.violations.violation_of.Goals as goal
 
