@@ -40,10 +40,11 @@ impl Sum {
             ≡ dot self.old.coefficients.items point +ℚ rational factor *ℚ (rational entry.value *ℚ value_at point entry.column)) }
         ensures wide { OnErr result (IsWideEntry self.old.coefficients.items factor entry) }
     {
-        let Some(coefficient) = self.coefficients.get_mut(entry.column as usize) else {
+        let column = entry.column as usize;
+        if column >= self.coefficients.len() {
             return Err(Wide);
-        };
-        *coefficient = with_multiple(*coefficient, factor, entry.value)?;
+        }
+        self.coefficients[column] = with_multiple(self.coefficients[column], factor, entry.value)?;
         Ok(())
     }
 
