@@ -7,7 +7,7 @@ use Rattle.gj_words.specs.declared.requests.Request.{Request}
 use Rattle.gj_top.specs.declared.reply.End.{End}
 use Rattle.gj_top.specs.declared.reply.End.TheVariants as end
 use Rattle.gj_top.specs.declared.status.Status.{Status}
-use Rattle.gj_top.specs.declared.status.Status.TheVariants.{Done, ReadFault, WriteFault, Memory}
+use Rattle.gj_top.specs.declared.status.Status.TheVariants.{Done, Input, ReadFault, WriteFault, Memory}
 use Rattle.gj_top.specs.Command.{IsNamed, promise_for, task_for}
 use Rattle.gj_top.specs.Promise.{Form, reads, Spells}
 use Rattle.gj_top.specs.Promise.Form.{reading, reading_nothing}
@@ -20,7 +20,8 @@ use Rattle.gj_top.specs.Outcome.{IsOutcome}
 use Rattle.gj_top.specs.Outcome.IsOutcome.{silent, told, cut_off}
 use Rattle.gj_top.specs.Causes.{IsTrueRun, IsDoneRun, IsInput, IsGoodInput, ReadNothing, IsStatusOf, IsCause, IsStatusOfReply}
 use Rattle.gj_top.proofs.Commands.{one_named}
-use Rattle.gj_top.proofs.Ends.{done_end, not_answered}
+use Rattle.gj_top.proofs.Ends.{one_end, no_end, not_answered}
+use Rattle.gj_top.specs.Reply.{status_of}
 use Rattle.gj_top.proofs.Sound.{sound}
 
 -- ---- forms that read nothing
@@ -64,11 +65,25 @@ answer_to_input words left after s text input given a =
 
 -- ---- answers to an input
 
--- one that ends with Done is a reply
-pub done_reply : (task : Task) (input text : List ℕ) → IsAnswerTo task input Done text → IsReply task input end.Done text
-done_reply task input text (too_long a) = absurd (let is = a.status_is in cc)
-done_reply task input text (refused a) = absurd (let is = a.status_is in cc)
-done_reply task input text (replied a) = subst (λ (e : End). IsReply task input e text) (done_end a.end a.status_is) a.reply
+-- one whose status is that of an end is a reply with this end
+pub ended_reply : (task : Task) (input text : List ℕ) (s : Status) (e : End) → s ≡ status_of e → IsAnswerTo task input s text →
+    IsReply task input e text
+ended_reply task input text s e is (too_long a) = absurd (no_end s Input e a.status_is refl is)
+ended_reply task input text s e is (refused a) = absurd (no_end s Input e a.status_is refl is)
+ended_reply task input text s e is (replied a) =
+    subst (λ (d : End). IsReply task input d text) (one_end s a.end e a.status_is is) a.reply
+
+-- so is a run whose status is that of an end
+pub caused_reply : (words : List (String Global)) (input : List ℕ) (s : Status) (e : End) (r : Request) → s ≡ status_of e → IsNamed words r →
+    IsCause words input s → (text : List ℕ) × IsReply (task_for r) input e text
+caused_reply words input s e r is n (inl same) = absurd (no_end s Memory e same refl is)
+caused_reply words input s e r is n (inr (inl same)) = absurd (no_end s ReadFault e same refl is)
+caused_reply words input s e r is n (inr (inr (inl same))) = absurd (no_end s WriteFault e same refl is)
+caused_reply words input s e r is n (inr (inr (inr (inl none)))) = absurd (none.1 r n)
+caused_reply words input s e r is n (inr (inr (inr (inr (c, m, text, a))))) = (
+  text,
+  subst (λ (d : Request). IsReply (task_for d) input e text) (one_named words c r m n) (ended_reply (task_for c) input text s e is a),
+)
 
 -- its status is one of the task
 status_of_answer : (c : Request) (input text : List ℕ) (s : Status) → IsAnswerTo (task_for c) input s text → IsStatusOf (task_for c) s
@@ -160,7 +175,7 @@ module _ (words : List (String Global)) (Fault : Type 0) (left left' written wri
     | read_fault a ↦ absurd (let is = a.status_is in cc)
     | of_request a ↦
         let answer = answer_to_input words left left' r o.text input t a in
-        let reply = done_reply (task_for a.request) input o.text (subst (λ (s : Status). IsAnswerTo (task_for a.request) input s o.text) e answer) in
+        let reply = ended_reply (task_for a.request) input o.text r end.Done e answer in
         weaker written (λ before. written' ≡ Some (before ++ o.text)) (λ before. IsDoneRun words input before written') (λ before gain. record {
           request = a.request;
           named = a.named;

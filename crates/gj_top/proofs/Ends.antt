@@ -36,9 +36,19 @@ end_of_status end.BadOrder = refl
 pub end_is : (s : Status) (e : End) → s ≡ status_of e → end_of s ≡ Some e
 end_is s e is = ap end_of is ∙ end_of_status e
 
--- the end Done
-pub done_end : (e : End) → Done ≡ status_of e → e ≡ end.Done
-done_end e is = let same = end_is Done e is in cc
+-- of one end at most
+pub one_end : (s : Status) (d e : End) → s ≡ status_of d → s ≡ status_of e → d ≡ e
+one_end s d e first second =
+    let one = end_is s d first in
+    let other = end_is s e second in
+    cc
+
+-- and not every status is that of one
+pub no_end : (s r : Status) (e : End) → s ≡ r → end_of r ≡ None → s ≡ status_of e → ⊥
+no_end s r e same none is =
+    let nothing : end_of s ≡ None = ap end_of same ∙ none in
+    let some = end_is s e is in
+    cc
 
 -- a status with which an input is answered
 abbrev pub is_answered : Status → Bool

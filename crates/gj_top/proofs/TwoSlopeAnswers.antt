@@ -1,5 +1,5 @@
 -- A minimal function with two slopes is called extreme.
-use Rattle.std.proofs.Common.{◌≡◌, ◌≢◌, inl, inr, ℕ, Bool, List, String, Option, refl, ap, subst, ◌∙◌}
+use Rattle.std.proofs.Common.{◌≡◌, ◌≢◌, ℕ, Bool, List, String, Option, refl, subst}
 use Rattle.std.specs.Prelude.{IfSome}
 use Rattle.std.specs.declared.alloc.Global.{Global}
 use Rattle.gj_words.specs.declared.requests.Request.{Request}
@@ -14,11 +14,9 @@ use Rattle.gj_top.specs.declared.reply.End.{End}
 use Rattle.gj_top.specs.declared.reply.End.TheVariants as end
 use Rattle.gj_top.specs.declared.status.Status.{Status}
 use Rattle.gj_top.specs.declared.status.Status.TheVariants.{Done, Wide, NotContinuous}
-use Rattle.gj_top.specs.Answer.{IsAnswerTo}
-use Rattle.gj_top.specs.Answer.IsAnswerTo.{too_long, refused, replied}
 use Rattle.gj_top.specs.Asked.{AskIfExtreme}
 use Rattle.gj_top.specs.Causes.{IsInput, IsCause, IsDoneRun}
-use Rattle.gj_top.specs.Command.{IsNamed, task_for}
+use Rattle.gj_top.specs.Command.{task_for}
 use Rattle.gj_top.specs.Decisive.{CallsExtreme, IsCalledExtreme}
 use Rattle.gj_top.specs.Extreme.{IsExtremality, IsExtremeText, extreme}
 use Rattle.gj_top.specs.Forms.{SpellsFunction}
@@ -26,7 +24,7 @@ use Rattle.gj_top.specs.Outcome.{IsOutcome}
 use Rattle.gj_top.specs.Reply.{status_of}
 use Rattle.gj_top.specs.Report.{IsToldReply}
 use Rattle.gj_top.specs.Task.{IsReply}
-use Rattle.gj_top.proofs.Clauses.{cause_clause, reply_clause, weaker}
+use Rattle.gj_top.proofs.Clauses.{cause_clause, caused_reply, reply_clause, weaker}
 use Rattle.gj_top.proofs.Commands.{one_named}
 use Rattle.gj_top.proofs.OneReport.{told}
 use Rattle.gj_top.proofs.TextLaws.{spelled_is_bounded, one_spelled}
@@ -63,32 +61,24 @@ two_slope_reply json f input text e spelled minimal two r =
 
 module _ (words : List (String Global)) (input : List ℕ) (json : Bool) (f : FunctionData) (asked : AskIfExtreme json words input f)
     (minimal : IsMinimal f) (two : HasTwoSlopes f) where
-  -- the request that was named is the one that was asked for
-  asked_reply : (r : Request) (e : End) (text : List ℕ) → IsNamed words r → IsReply (task_for r) input e text →
-      (e ≡ end.Done) × CallsExtreme json f text
-  asked_reply r e text named reply =
-      two_slope_reply json f input text e asked.spelled minimal two
-      (subst (λ (q : Request). IsReply (task_for q) input e text) (one_named words r _ named asked.named) reply)
-
-  answered : (r : Request) (s : Status) (text : List ℕ) → IsNamed words r → IsAnswerTo (task_for r) input s text →
-      (s ≢ Wide) × (s ≢ NotContinuous)
-  answered r s text named (too_long a) = let is = a.status_is in (λ e. (cc), λ e. (cc))
-  answered r s text named (refused a) = let is = a.status_is in (λ e. (cc), λ e. (cc))
-  answered r s text named (replied a) =
-      let is : s ≡ Done = a.status_is ∙ ap status_of (asked_reply r a.end text named a.reply).0 in (λ e. (cc), λ e. (cc))
+  -- a run whose status is that of an end ended with Done
+  ended : (s : Status) (e : End) → s ≡ status_of e → IsCause words input s → e ≡ end.Done
+  ended s e is cause =
+      let (text, reply) = caused_reply words input s e _ is asked.named cause in
+      (two_slope_reply json f input text e asked.spelled minimal two reply).0
 
   pub caused : (s : Status) → IsCause words input s → (s ≢ Wide) × (s ≢ NotContinuous)
-  caused s (inl is) = (λ e. (cc), λ e. (cc))
-  caused s (inr (inl is)) = (λ e. (cc), λ e. (cc))
-  caused s (inr (inr (inl is))) = (λ e. (cc), λ e. (cc))
-  caused s (inr (inr (inr (inl none)))) = let is = none.0 in (λ e. (cc), λ e. (cc))
-  caused s (inr (inr (inr (inr (r, named, text, a))))) = answered r s text named a
+  caused s cause = (
+    λ is. let done = ended s end.Wide is cause in cc,
+    λ is. let done = ended s end.NotContinuous is cause in cc,
+  )
 
   pub called : (before : List ℕ) (written : Option (List ℕ)) → IsDoneRun words input before written → IsCalledExtreme json f before written
   called before written d = record {
     text = d.text;
     gain = d.gain;
-    called = (asked_reply d.request end.Done d.text d.named d.reply).1;
+    called = (two_slope_reply json f input d.text end.Done asked.spelled minimal two
+        (subst (λ (q : Request). IsReply (task_for q) input end.Done d.text) (one_named words d.request _ d.named asked.named) d.reply)).1;
   }
 
 pub two_slopes_clause : (words : List (String Global)) (Fault : Type 0) (left left' written written' : Option (List ℕ)) (sure : ℕ) (r : Status) →

@@ -1,5 +1,8 @@
+use Rattle.std.proofs.Common.{refl}
+use Rattle.gj_top.specs.declared.reply.End.TheVariants as end
+use Rattle.gj_top.specs.declared.status.Status.TheVariants.{Done}
 use Rattle.gj_top.specs.Command.{task_for}
-use Rattle.gj_top.proofs.Clauses.{done_reply}
+use Rattle.gj_top.proofs.Clauses.{ended_reply}
 use Rattle.gj_top.proofs.Commands.{one_named}
 use Rattle.gj_top.proofs.OneAnswer.{one_answer}
 use Rattle.gj_top.proofs.laws.one_answer.Goals as goal
@@ -11,4 +14,4 @@ pub returns-clause-answer : goal.returns-clause-answer
 returns-clause-answer c = one_answer
 
 pub returns-clause-done : goal.returns-clause-done
-returns-clause-done c = λ r. done_reply (task_for r)
+returns-clause-done c = λ r input text. ended_reply (task_for r) input text Done end.Done refl
