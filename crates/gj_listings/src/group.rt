@@ -4,7 +4,6 @@ ghost use Rattle.gj_shape.specs.FunctionData.{FunctionData};
 ghost use Rattle.gj_group.specs.Decision.{IsFound};
 ghost use Rattle.gj_listings.specs.GroupText.{IsGroupText, verdict_lines};
 
-use gj_frac::Frac;
 use gj_function_lines::{push_fraction_line, push_order_line};
 use gj_group::GroupAnswer;
 use gj_proof::{push_halves, push_violation_line};
@@ -18,8 +17,7 @@ pub fn group_text(alloc: Global, shape: &Shape, answer: &GroupAnswer) -> Result<
 {
     let mut text = Vec::from_slice(alloc, b"gj-group 1\n")?;
     push_order_line(&mut text, shape.order())?;
-    let place = Frac::ratio(i64::from(shape.place()), shape.order());
-    push_fraction_line(alloc, &mut text, b"f ", place)?;
+    push_fraction_line(alloc, &mut text, b"f ", shape.f())?;
     push_verdict(alloc, &mut text, answer)?;
     text.extend_from_slice(b"end\n")?;
     Ok(text)

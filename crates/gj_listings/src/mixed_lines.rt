@@ -146,9 +146,9 @@ fn push_lines_by<E: Evaluator, G: Evaluator>(
     requires rows { All (IsRowWithinLimits (length columns.now)) rows.now }
     ensures { OnOk result (AppendsLines (Table shape) columns.now rows.now out.old.items out.new.items) }
 {
-    let continuous = continuous_columns(alloc, columns)?;
     let rule = Rule::new(RuleKind::Table(shape), eval);
     let slopes = Slopes::new(at_zero.up, at_zero.down, weigh);
+    let continuous = continuous_columns(alloc, columns)?;
     for row in rows {
         let line = line_by(alloc, &rule, &slopes, columns, row, continuous.as_slice())?;
         push_mixed_row(alloc, out, &line)?;
