@@ -12,7 +12,8 @@ use Rattle.gj_json.specs.JsonText.{IsPrintable, AreRatios, IsJsonText, IsReport,
 use Rattle.gj_proof.specs.declared.claim.Claim.{Claim}
 use Rattle.gj_proof.specs.declared.numbers.Numbers.{Numbers}
 use Rattle.gj_proof.specs.declared.numbers.Numbers.TheVariants.{Whole, Residues}
-use Rattle.gj_proof.specs.ProofText.{IsProofText, claim_word, title_text, numbers_of, own_lines}
+use Rattle.gj_proof.specs.ProofText.{IsProofText, claim_word, title_fields, numbers_of, own_lines}
+use Rattle.gj_forms.specs.LineForms.{bytes_of}
 use Rattle.gj_top.specs.declared.reply.End.{End}
 use Rattle.gj_top.specs.declared.reply.End.TheVariants as end
 use Rattle.gj_top.specs.Report.{Tells, IsToldReply}
@@ -49,6 +50,15 @@ NoFeed bs = All (λ b. b ≢ 10) bs
 printable_no_feed : (bs : List ℕ) → All IsPrintable bs → NoFeed bs
 printable_no_feed bs h = λ k d within e. let p = h k d within in absurd (omega (arith, p.0, e))
 
+-- the title without its line feed
+abbrev title_text : Numbers → List ℕ
+title_text Whole = codes "gj-proof 1"
+title_text Residues = codes "gj-proof 2"
+
+title_line : (n : Numbers) → bytes_of (title_fields n) ≡ line (title_text n)
+title_line Whole = refl
+title_line Residues = refl
+
 title_no_feed : (n : Numbers) → NoFeed (title_text n)
 title_no_feed Whole = printable_no_feed (title_text Whole) (known (title_text Whole) refl)
 title_no_feed Residues = printable_no_feed (title_text Residues) (known (title_text Residues) refl)
@@ -74,7 +84,8 @@ regrouped a b s l e = append_assoc (a ++ b ++ s) l e ∙ append_assoc (a ++ b) s
 
 by_title : (c : Claim) (text : List ℕ) (h : IsProofText c text) → text ≡ line (title_text (numbers_of c)) ++ behind_title c h.subject
 by_title c text h =
-    h.spelled
+    h.spelled ∙ ap (λ t. t ++ line (codes "claim " ++ claim_word c) ++ h.subject ++ flat_map (λ l. l.bytes) (own_lines c) ++ line (codes "end"))
+    (title_line (numbers_of c))
     ∙ regrouped (line (title_text (numbers_of c))) (line (codes "claim " ++ claim_word c)) h.subject (flat_map (λ l. l.bytes) (own_lines c))
     (line (codes "end"))
 
