@@ -9,54 +9,50 @@ use Rattle.gj_lex.specs.declared.spelling.Spelling.TheVariants.{Strict}
 use Rattle.gj_lex.specs.declared.reason.Reason.{Reason}
 use Rattle.gj_lex.proofs.CanonicalLines.{line_in}
 use Rattle.gj_lex.proofs.SpelledWords.{canonical_fraction, canonical_count}
-use Rattle.gj_forms.specs.LineForms.{Field, words_of, first_of, others_of, with_numbers, bytes_of, LineForm, line_of, form_of}
+use Rattle.gj_forms.specs.LineForms.{Field, word_of, words_of, first_of, with_numbers, bytes_of, LineForm, line_of, form_of}
 use Rattle.gj_forms.specs.LineForms.Field.{word, fraction, count, whole}
-use Rattle.gj_forms.specs.SpelledForms.{SpellNumbers, Spell, rule_in, turned_rule, barred_rule}
-use Rattle.gj_forms.proofs.FieldWords.{IsGood, AreGood, AreAlike, words_are_plain, own_numbers, joined_words}
+use Rattle.gj_forms.specs.SpelledForms.{IsWordOf, SpellFields, Spell, rule_in, turned_rule, barred_rule}
+use Rattle.gj_forms.proofs.FieldWords.{IsGood, AreGood, AreAlike, words_are_plain, joined_words}
 use Rattle.gj_forms.proofs.PlainWords.{word_of_count}
 use Rattle.gj_forms.proofs.SpelledLaws.{IsClearForm, made_rule_is_exact}
 
 -- ---- the words of a line spell its fields
 
-spelled_first : (s : Spelling) (f : Field) (fs : List Field) → IsGood f → SpellNumbers s fs (words_of fs) →
-    SpellNumbers s (f ∷ fs) (words_of (f ∷ fs))
-spelled_first s (word w) fs good h = h
-spelled_first s (fraction x) fs good h = (canonical_fraction s x, h)
-spelled_first s (count n) fs good h = (canonical_count s n good, h)
-spelled_first s (whole n) fs good h = ((refl, good), h)
+own_word : (s : Spelling) (f : Field) → IsGood f → IsWordOf s f (word_of f)
+own_word s (word w) good = refl
+own_word s (fraction x) good = canonical_fraction s x
+own_word s (count n) good = canonical_count s n good
+own_word s (whole n) good = (refl, good)
 
-own_words : (s : Spelling) (fs : List Field) → AreGood fs → SpellNumbers s fs (words_of fs)
+own_words : (s : Spelling) (fs : List Field) → AreGood fs → SpellFields s fs (words_of fs)
 own_words s [] good = absurd good
-own_words s (f ∷ []) good = spelled_first s f [] good tt
-own_words s (f ∷ g ∷ fs) good = spelled_first s f (g ∷ fs) good.0 (own_words s (g ∷ fs) good.1)
+own_words s (f ∷ []) good = (own_word s f good, tt)
+own_words s (f ∷ g ∷ fs) good = (own_word s f good.0, own_words s (g ∷ fs) good.1)
 
 pub spells_its_thing : {A : Type 0} (s : Spelling) (form : LineForm A) (a : A) → AreGood (form.fields a) → form.HasLine a →
     Spell s form (words_of (form.fields a)) a
-spells_its_thing s form a good has = (own_numbers (form.fields a), own_words s (form.fields a) good, has)
+spells_its_thing s form a good has = (own_words s (form.fields a) good, has)
 
 -- and in strict spelling no other words do
-strict_first : (f : Field) (fs : List Field) (words : List (List ℕ)) → IsGood f →
-    (SpellNumbers Strict fs (others_of words) → with_numbers fs (others_of words) ≡ words_of fs) →
-    SpellNumbers Strict (f ∷ fs) words → with_numbers (f ∷ fs) words ≡ words_of (f ∷ fs)
-strict_first (word w) fs words good more h = ap (λ ws. w ∷ ws) (more h)
-strict_first (fraction x) fs words good more h = λ i. h.0 i ∷ more h.1 i
-strict_first (count n) fs words good more h = λ i. word_of_count (first_of words) n good h.0 i ∷ more h.1 i
-strict_first (whole n) fs words good more h = λ i. h.0.0 i ∷ more h.1 i
+strict_word : (f : Field) (w : List ℕ) → IsGood f → IsWordOf Strict f w → w ≡ word_of f
+strict_word (word v) w good h = h
+strict_word (fraction x) w good h = h
+strict_word (count n) w good h = word_of_count w n good h
+strict_word (whole n) w good h = h.0
 
-strict_numbers : (fs : List Field) (words : List (List ℕ)) → AreGood fs → SpellNumbers Strict fs words → with_numbers fs words ≡ words_of fs
-strict_numbers [] words good h = absurd good
-strict_numbers (f ∷ []) words good h = strict_first f [] words good (λ t. refl) h
-strict_numbers (f ∷ g ∷ fs) words good h =
-    strict_first f (g ∷ fs) words good.0 (λ k. strict_numbers (g ∷ fs) (others_of words) good.1 k) h
+strict_words : (fs : List Field) (words : List (List ℕ)) → AreGood fs → SpellFields Strict fs words → words ≡ words_of fs
+strict_words [] words good h = absurd good
+strict_words (f ∷ fs) [] good h = absurd h
+strict_words (f ∷ []) (w ∷ []) good h = ap (λ v. v ∷ []) (strict_word f w good h.0)
+strict_words (f ∷ []) (w ∷ v ∷ words) good h = absurd h.1
+strict_words (f ∷ g ∷ fs) (w ∷ words) good h =
+    let first = strict_word f w good.0 h.0 in
+    let rest = strict_words (g ∷ fs) words good.1 h.1 in
+    λ i. first i ∷ rest i
 
 pub strict_words_are : {A : Type 0} (form : LineForm A) (words : List (List ℕ)) (a : A) → AreGood (form.fields a) → Spell Strict form words a →
     words ≡ words_of (form.fields a)
-strict_words_are form words a good h = h.0 ∙ strict_numbers (form.fields a) words good h.1
-
--- words of one kind spell what they are
-pub spelled_as : {A : Type 0} (s : Spelling) (form : LineForm A) (words known : List (List ℕ)) (a : A) → words ≡ known →
-    Spell s form known a → Spell s form words a
-spelled_as s form words known a is h = subst (λ ws. Spell s form ws a) (sym is) h
+strict_words_are form words a good h = strict_words (form.fields a) words good h.0
 
 -- ---- lines
 

@@ -7,20 +7,25 @@ use Rattle.gj_lex.specs.Parts.{LineRule}
 use Rattle.gj_lex.specs.declared.spelling.Spelling.{Spelling}
 use Rattle.gj_lex.specs.declared.reason.Reason.{Reason}
 use Rattle.gj_lex.specs.declared.reason.Reason.TheVariants as reason
-use Rattle.gj_forms.specs.LineForms.{Field, with_numbers, first_of, others_of, LineForm, AreOfForm}
+use Rattle.gj_forms.specs.LineForms.{Field, LineForm, AreOfForm}
 use Rattle.gj_forms.specs.LineForms.Field.{word, fraction, count, whole}
 
--- in the places of numbers stand words that spell them
-abbrev pub SpellNumbers : Spelling → List Field → List (List ℕ) → Type 0
-SpellNumbers s [] words = Unit {0}
-SpellNumbers s (word w ∷ fields) words = SpellNumbers s fields (others_of words)
-SpellNumbers s (fraction x ∷ fields) words = IsFractionWord s (first_of words) x × SpellNumbers s fields (others_of words)
-SpellNumbers s (count n ∷ fields) words = IsCountWord s (first_of words) n × SpellNumbers s fields (others_of words)
-SpellNumbers s (whole n ∷ fields) words = ((first_of words ≡ signed_decimal n) × Fits n) × SpellNumbers s fields (others_of words)
+-- the word spells the field
+abbrev pub IsWordOf : Spelling → Field → List ℕ → Type 0
+IsWordOf s (word v) w = w ≡ v
+IsWordOf s (fraction x) w = IsFractionWord s w x
+IsWordOf s (count n) w = IsCountWord s w n
+IsWordOf s (whole n) w = (w ≡ signed_decimal n) × Fits n
+
+-- the words spell the fields, one each
+abbrev pub SpellFields : Spelling → List Field → List (List ℕ) → Type 0
+SpellFields s [] [] = Unit {0}
+SpellFields s (f ∷ fields) (w ∷ words) = IsWordOf s f w × SpellFields s fields words
+SpellFields s fields words = ⊥
 
 -- the words spell the thing
 abbrev pub Spell : {A : Type 0} → Spelling → LineForm A → List (List ℕ) → A → Type 0
-Spell s form words a = (words ≡ with_numbers (form.fields a) words) × SpellNumbers s (form.fields a) words × form.HasLine a
+Spell s form words a = SpellFields s (form.fields a) words × form.HasLine a
 
 -- the rule by which a line of the form is read, in either spelling
 abbrev pub rule_in : {A : Type 0} → Spelling → LineForm A → LineRule A

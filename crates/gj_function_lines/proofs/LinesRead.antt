@@ -35,17 +35,17 @@ module _ (s : Spelling) (words : List (List ℕ)) where
   pub no_order_count : (w : List ℕ) → words ≡ codes "order" ∷ w ∷ [] → ((n : ℕ) → IsCountWord s w n → ⊥) →
       (order_rule s).Breaks words reason.Number
   no_order_count w is none =
-      subst (λ ws. (order_rule s).Breaks ws reason.Number) (sym is) (inl (inr (refl, (0, refl, tt), λ n h. none n h.1.0)))
+      subst (λ ws. (order_rule s).Breaks ws reason.Number) (sym is) (inl (inr (refl, (0, refl, tt), λ n h. none n h.0.1.0)))
 
   pub no_order : (w : List ℕ) (n : ℕ) → words ≡ codes "order" ∷ w ∷ [] → IsCountWord s w n → (IsOrder n → ⊥) →
       (order_rule s).Breaks words reason.Order
   no_order w n is count none =
-      subst (λ ws. (order_rule s).Breaks ws reason.Order) (sym is) (inr (n, (refl, (count, tt), tt), (refl, none)))
+      subst (λ ws. (order_rule s).Breaks ws reason.Order) (sym is) (inr (n, ((refl, (count, tt)), tt), (refl, none)))
 
   pub order_spelled : (w : List ℕ) (n : ℕ) → words ≡ codes "order" ∷ w ∷ [] → IsCountWord s w n → IsOrder n →
       (order_rule s).Spells words n
   order_spelled w n is count order =
-      subst (λ ws. (order_rule s).Spells ws n) (sym is) (n, (refl, (count, tt), tt), (refl, order))
+      subst (λ ws. (order_rule s).Spells ws n) (sym is) (n, ((refl, (count, tt)), tt), (refl, order))
 
   -- ---- `f F`
 
@@ -55,30 +55,30 @@ module _ (s : Spelling) (words : List (List ℕ)) where
   pub no_place_number : (w : List ℕ) → words ≡ codes "f" ∷ w ∷ [] → ((x : Frac) → IsFractionWord s w x → ⊥) →
       (rule_in s place_form).Breaks words reason.Number
   no_place_number w is none =
-      subst (λ ws. (rule_in s place_form).Breaks ws reason.Number) (sym is) (inr (refl, (zero, refl, tt), λ x h. none x h.1.0))
+      subst (λ ws. (rule_in s place_form).Breaks ws reason.Number) (sym is) (inr (refl, (zero, refl, tt), λ x h. none x h.0.1.0))
 
   pub place_spelled : (w : List ℕ) (x : Frac) → words ≡ codes "f" ∷ w ∷ [] → IsFractionWord s w x → (rule_in s place_form).Spells words x
-  place_spelled w x is h = subst (λ ws. (rule_in s place_form).Spells ws x) (sym is) (refl, (h, tt), tt)
+  place_spelled w x is h = subst (λ ws. (rule_in s place_form).Spells ws x) (sym is) ((refl, (h, tt)), tt)
 
 -- ---- the words of a point
 
 module _ (s : Spelling) where
   pub one_spelled : (w : List ℕ) (x : Frac) → IsFractionWord s w x → (numbers_rule s).Spells (w ∷ []) (even x)
-  one_spelled w x h = (one x, (refl, (h, tt), tt), refl)
+  one_spelled w x h = (one x, ((h, tt), tt), refl)
 
   pub three_spelled : (a b c : List ℕ) (p : Point) → IsFractionWord s a p.left → IsFractionWord s b p.value → IsFractionWord s c p.right →
       (numbers_rule s).Spells (a ∷ b ∷ c ∷ []) p
-  three_spelled a b c p left value right = (three p, (refl, (left, (value, (right, tt))), tt), refl)
+  three_spelled a b c p left value right = (three p, ((left, (value, (right, tt))), tt), refl)
 
   -- and each word spells its number
   pub one_spells : (w : List ℕ) (p : Point) → (numbers_rule s).Spells (w ∷ []) p → IsFractionWord s w p.value
-  one_spells w p (one x, (is, (h, t), u), p_is) = subst (λ (q : Point). IsFractionWord s w q.value) (sym p_is) h
-  one_spells w p (three q, (is, h, u), p_is) = absurd cc
+  one_spells w p (one x, ((h, t), u), p_is) = subst (λ (q : Point). IsFractionWord s w q.value) (sym p_is) h
+  one_spells w p (three q, (h, u), p_is) = absurd h.1
 
   pub three_spell : (a b c : List ℕ) (p : Point) → (numbers_rule s).Spells (a ∷ b ∷ c ∷ []) p →
       IsFractionWord s a p.left × IsFractionWord s b p.value × IsFractionWord s c p.right
-  three_spell a b c p (one x, (is, h, u), p_is) = absurd cc
-  three_spell a b c p (three q, (is, (left, (value, (right, t))), u), p_is) =
+  three_spell a b c p (one x, (h, u), p_is) = absurd h.1
+  three_spell a b c p (three q, ((left, (value, (right, t))), u), p_is) =
       subst (λ (r : Point). IsFractionWord s a r.left × IsFractionWord s b r.value × IsFractionWord s c r.right) (sym p_is) (left, value, right)
 
 -- ---- `point V` or `point L V R`
@@ -123,16 +123,13 @@ module _ (s : Spelling) (words : List (List ℕ)) where
       let (n, some) = some_numbers p in
       let of_form : AreOfForm point_form (codes "point" ∷ ws) = (n, ap (λ vs. codes "point" ∷ vs) some, tt) in
       subst (λ vs. (spelled_point_rule s).Breaks vs reason.Number) (sym is)
-      (inl (inr (not, inr (refl, of_form, λ m h. none (point_of m) (m, (tail _ _ _ _ h.0, h.1, tt), refl)))))
-    where
-      tail : (v w : List ℕ) (vs ws : List (List ℕ)) → v ∷ vs ≡ w ∷ ws → vs ≡ ws
-      tail v w vs ws e = cc
+      (inl (inr (not, inr (refl, of_form, λ m h. none (point_of m) (m, (h.0.1, tt), refl)))))
 
   pub point_spelled : (ws : List (List ℕ)) (p : Point) → words ≡ codes "point" ∷ ws → (AreThreeSame s (codes "point" ∷ ws) → ⊥) →
       (numbers_rule s).Spells ws p → (spelled_point_rule s).Spells words p
-  point_spelled ws p is not (n, (ws_are, h, t), p_is) =
+  point_spelled ws p is not (n, (h, t), p_is) =
       subst (λ vs. (spelled_point_rule s).Spells vs p) (sym is)
-      (n, (not, (ap (λ vs. codes "point" ∷ vs) ws_are, h, tt)), p_is)
+      (n, (not, ((refl, h), tt)), p_is)
 
 -- ---- `point X V` or `point X L V R`
 
@@ -149,18 +146,10 @@ module _ (words : List (List ℕ)) where
       let (n, some) = some_numbers p in
       let of_form : AreOfForm break_form (codes "point" ∷ w ∷ ws) = ((zero, n), ap (λ vs. codes "point" ∷ w ∷ vs) some, tt) in
       subst (λ vs. spelled_break_rule.Breaks vs reason.Number) (sym is)
-      (inl (inr (
-        refl,
-        of_form,
-        λ b h.
-            none (break_at b.0 (point_of b.1)) h.1.0 (b.1, (tail _ _ _ _ _ _ h.0, h.1.1, tt), refl),
-      )))
-    where
-      tail : (u v w x : List ℕ) (vs ws : List (List ℕ)) → u ∷ v ∷ vs ≡ w ∷ x ∷ ws → vs ≡ ws
-      tail u v w x vs ws e = cc
+      (inl (inr (refl, of_form, λ b h. none (break_at b.0 (point_of b.1)) h.0.1.0 (b.1, (h.0.1.1, tt), refl))))
 
   pub break_spelled : (w : List ℕ) (ws : List (List ℕ)) (b : Break) → words ≡ codes "point" ∷ w ∷ ws → IsFractionWord Lenient w b.x →
       (numbers_rule Lenient).Spells ws (point_at b) → spelled_break_rule.Spells words b
-  break_spelled w ws b is x (n, (ws_are, h, t), b_is) =
+  break_spelled w ws b is x (n, (h, t), b_is) =
       subst (λ vs. spelled_break_rule.Spells vs b) (sym is)
-      ((b.x, n), (ap (λ vs. codes "point" ∷ w ∷ vs) ws_are, (x, h), tt), ap (break_at b.x) b_is)
+      ((b.x, n), ((refl, (x, h)), tt), ap (break_at b.x) b_is)

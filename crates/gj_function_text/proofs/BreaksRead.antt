@@ -15,7 +15,7 @@ use Rattle.gj_shape.specs.declared.breaks.BreakFault.{BreakFault}
 use Rattle.gj_shape.specs.declared.breaks.BreakFault.TheVariants as fault
 use Rattle.gj_shape.specs.declared.faults.ShapeFault.{ShapeFault}
 use Rattle.gj_shape.specs.declared.faults.ShapeFault.TheVariants as shape
-use Rattle.gj_function_lines.specs.BreakLines.{SpellBreak}
+use Rattle.gj_function_lines.specs.BreakLines.{spelled_break_rule}
 use Rattle.gj_function_text.specs.BreaksText.{end_words, break_rule, end_rule, EndsHere, next_break}
 use Rattle.gj_function_text.specs.BreaksRead.{refusal_of, end_refusal}
 use Rattle.gj_function_text.proofs.ExactBreaks.{last_of, more_of}
@@ -24,12 +24,12 @@ use Rattle.gj_function_text.proofs.ExactBreaks.{last_of, more_of}
 
 -- the breakpoint of a line cannot follow
 pub break_refused : (text start rest : List ℕ) (words : List (List ℕ)) (s : BreakList) (b : Break) (f : BreakFault) →
-    HasLine Lenient text start words rest → SpellBreak words b → IsBreakFault s b f →
+    HasLine Lenient text start words rest → spelled_break_rule.Spells words b → IsBreakFault s b f →
     IsFaultOf (line_part Lenient (break_rule s)) text (refusal_of f (length start))
-break_refused text start rest words s b fault.Break line spelled h = (start, refl, inl (words, rest, line, inr (b, fault.Break, spelled, h, refl)))
-break_refused text start rest words s b fault.Pieces line spelled h = (start, refl, inl (words, rest, line, inr (b, fault.Pieces, spelled, h, refl)))
-break_refused text start rest words s b fault.Large line spelled h = (start, refl, inl (words, rest, line, inr (b, fault.Large, spelled, h, refl)))
-break_refused text start rest words s b fault.Fine line spelled h = (start, refl, inl (words, rest, line, inr (b, fault.Fine, spelled, h, refl)))
+break_refused text start rest words s b fault.Break line spelled h = (start, refl, inl (words, rest, line, inr (b, spelled, (fault.Break, h, refl))))
+break_refused text start rest words s b fault.Pieces line spelled h = (start, refl, inl (words, rest, line, inr (b, spelled, (fault.Pieces, h, refl))))
+break_refused text start rest words s b fault.Large line spelled h = (start, refl, inl (words, rest, line, inr (b, spelled, (fault.Large, h, refl))))
+break_refused text start rest words s b fault.Fine line spelled h = (start, refl, inl (words, rest, line, inr (b, spelled, (fault.Fine, h, refl))))
 break_refused text start rest words s b (fault.Memory a) line spelled h = tt
 
 -- ---- the line `end`
@@ -44,7 +44,7 @@ end_refused text start rest words s shape.Place line is h = absurd h
 end_refused text start rest words s shape.Count line is h = absurd h
 end_refused text start rest words s (shape.TooLarge i) line is h = absurd h
 end_refused text start rest words s (shape.TooFine i) line is (left, value, right, (points, grid, left_is, value_is, right_is), fine) =
-    (start, refl, inl (words, rest, line, inr (refl, is, (points, i, grid, rw (← left_is, ← value_is, ← right_is) fine))))
+    (start, refl, inl (words, rest, line, inr (tt, is, (refl, (points, i, grid, rw (← left_is, ← value_is, ← right_is) fine)))))
 
 -- ---- the lines in turn
 

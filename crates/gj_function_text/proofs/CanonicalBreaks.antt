@@ -1,36 +1,30 @@
 -- The canonical text of breakpoints is a function text of their function.
 use Rattle.std.proofs.Common.{◌≡◌, ◌≢◌, ℕ, inr, List, [], ◌∷◌, ◌++◌, map, flat_map, codes, refl, sym, subst, append_assoc, arith}
-use Rattle.std.specs.List.{All, AllZip}
-use Rattle.std.proofs.lemmas.List.Elements.{All-cons, All-nil}
+use Rattle.std.specs.List.{AllZip}
 use Rattle.gj_frac.specs.declared.Frac.{Frac}
-use Rattle.gj_lex.specs.NumberText.{fraction_text}
 use Rattle.gj_lex.specs.TextLines.{HasLine, HasLines}
 use Rattle.gj_lex.specs.declared.spelling.Spelling.TheVariants.{Lenient}
 use Rattle.gj_lex.proofs.CanonicalLines.{line_in, plain_by_test}
-use Rattle.gj_lex.proofs.SpelledWords.{canonical_fraction, fraction_is_plain}
-use Rattle.gj_lex.proofs.StrictLines.{IsPlain}
 use Rattle.gj_shape.specs.Breaks.{BreakList, AreBreaks, IsOfBreaks}
 use Rattle.gj_shape.specs.FunctionData.{FunctionData}
 use Rattle.gj_shape.specs.declared.breaks.Break.{Break}
-use Rattle.gj_function_lines.specs.BreakLines.{SpellBreak, break_line}
-use Rattle.gj_function_lines.specs.FunctionGrammar.{place_words}
-use Rattle.gj_function_lines.specs.FunctionLines.{line, place_line}
+use Rattle.gj_function_lines.specs.BreakLines.{break_line}
+use Rattle.gj_function_lines.specs.FunctionLines.{line, place_form, place_line}
+use Rattle.gj_function_lines.proofs.ClearLines.{good_place}
+use Rattle.gj_forms.specs.LineForms.{words_of}
+use Rattle.gj_forms.proofs.SpelledLines.{spells_its_thing, has_its_line}
 use Rattle.gj_function_lines.proofs.CanonicalBreaks.{words_of_break, break_is_read, break_is_spelled}
 use Rattle.gj_function_text.specs.BreaksText.{end_words}
 use Rattle.gj_function_text.specs.FunctionText.{breaks_title_words, canonical_breaks_text, IsFunctionText}
+use Rattle.gj_function_text.specs.LinesOfFunction.{SpellBreak}
 use Rattle.gj_function_text.proofs.LinesOfFunction.{lines_are_text}
 
 -- ---- the lines
 
 place_is_read : (place : Frac) (rest : List ℕ) →
-    HasLine Lenient (place_line place ++ rest) (place_line place ++ rest) (place_words (fraction_text place)) rest
+    HasLine Lenient (place_line place ++ rest) (place_line place ++ rest) (words_of (place_form.fields place)) rest
 place_is_read place rest =
-    let word = fraction_text place in
-    let plain : All IsPlain (place_words word) =
-    All-cons IsPlain (codes "f") (word ∷ []) (plain_by_test (codes "f" ∷ []) refl 0 [] (omega arith))
-    (All-cons IsPlain word [] (fraction_is_plain place) (All-nil IsPlain)) in
-    line_in Lenient (codes "f") (word ∷ []) (place_line place ++ rest) rest plain (λ z. omega arith)
-    (append_assoc (codes "f " ++ word) (10 ∷ []) rest)
+    has_its_line Lenient (place_form.fields place) (place_line place ++ rest) rest (good_place place) (λ z. omega arith) refl
 
 breaks_are_read : (breaks : List Break) (after : List ℕ) →
     HasLines Lenient (flat_map break_line breaks ++ (line (codes "end") ++ after)) (map words_of_break breaks ++ end_words ∷ []) after
@@ -66,17 +60,13 @@ breaks_read_again list f after are some of =
     let points = map words_of_break list.breaks in
     lines_are_text text f after
     (inr (inr (record {
-      lines = breaks_title_words ∷ place_words (fraction_text list.place) ∷ points ++ end_words ∷ [];
       has_lines = (text, middle, title, (middle, last, place_is_read list.place last, breaks_are_read list.breaks after));
-      are_lines = record {
-        place_word = fraction_text list.place;
-        points = points;
-        list = list;
-        are_breaks = are;
-        some = some;
-        place_spelled = canonical_fraction Lenient list.place;
-        points_spelled = breaks_are_spelled list.breaks;
-        function_is = of;
-        lines_are = refl;
-      };
+      place = words_of (place_form.fields list.place);
+      points = points;
+      list = list;
+      are_breaks = are;
+      some = some;
+      place_spelled = spells_its_thing Lenient place_form list.place (good_place list.place) tt;
+      points_spelled = breaks_are_spelled list.breaks;
+      function_is = of;
     })))

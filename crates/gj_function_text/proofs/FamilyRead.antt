@@ -1,28 +1,81 @@
 -- How the words that were read name a function of a family, or none.
-use Rattle.std.proofs.Common.{◌≡◌, inl, inr, ℕ, List, [], ◌∷◌, Bool, true, false, All, get_or, refl, sym, subst, arith, codes}
+use Rattle.std.proofs.Common.{◌≡◌, inl, inr, ℕ, pos, List, [], ◌∷◌, Bool, true, false, All, get_or, refl, sym, subst, ◌∙◌, arith, codes}
 use Rattle.std.proofs.lemmas.List.Elements.{All-map}
 use Rattle.gj_lex.specs.declared.reason.Reason.{Reason}
 use Rattle.gj_lex.specs.declared.spelling.Spelling.TheVariants.{Lenient}
-use Rattle.gj_lex.specs.SpelledNumbers.{IsCountWord}
+use Rattle.std.proofs.lemmas.Int.{ints}
+use Rattle.gj_frac.specs.declared.Frac.{Frac}
+use Rattle.gj_lex.specs.SpelledNumbers.{IsCountWord, IsFractionWord}
+use Rattle.gj_lex.specs.declared.reason.Reason.TheVariants as reason
+use Rattle.gj_forms.specs.LineForms.{AreOfForm}
+use Rattle.gj_forms.specs.SpelledForms.{rule_in}
+use Rattle.gj_forms.proofs.PlainWords.{apart}
+use Rattle.gj_forms.proofs.WholeNumbers.{whole}
 use Rattle.gj_shape.specs.FunctionData.{FunctionData, IsWithinBounds}
 use Rattle.gj_family.specs.Families.{IsTwoSlope}
 use Rattle.gj_family.specs.Faults.{HasTwoSlopeFault, HasNoTwoSlopeFault}
 use Rattle.gj_family.specs.declared.faults.FamilyFault.{FamilyFault}
 use Rattle.gj_family.specs.declared.faults.FamilyFault.TheVariants as fault
-use Rattle.gj_function_text.specs.FamilyLine.{Family, two_slope, FamilyWords, gmic_words, half_words, two_slope_words, words_of_line, sign_byte, AreSigns, SpellFamily, IsFaultOfFamily, IsReasonOf, Names, NamesNone}
-use Rattle.gj_function_text.specs.FamilyRead.{IsRefusedFor, IsSign, IsCut}
+use Rattle.gj_function_text.specs.FamilyLine.{Family, gmic, half, two_slope, family_form, sign_byte, AreSigns, IsFaultOfFamily, IsReasonOf, family_rule}
+use Rattle.gj_function_text.specs.FamilyRead.{gmic_words, half_words, two_slope_words, IsRefusedFor, IsSign, IsCut}
 use Rattle.gj_function_text.specs.declared.family.LineFault.{LineFault}
 use Rattle.gj_function_text.specs.declared.family.LineFault.TheVariants.{Broken, Memory}
 
 -- ---- words
 
+behind : (v w : List ℕ) (vs ws : List (List ℕ)) → v ∷ vs ≡ w ∷ ws → vs ≡ ws
+behind v w vs ws e = cc
+
+-- a number for a word that spells none
+zero : Frac
+zero = whole (pos 0) (omega (arith, ints))
+
 -- a line of no family
 pub no_line_words : (line rest : List (List ℕ)) → line ≡ codes "family" ∷ rest → ((v : List ℕ) → rest ≡ codes "gmic" ∷ v ∷ [] → ⊥) →
     ((v : List ℕ) → rest ≡ codes "half" ∷ v ∷ [] → ⊥) → ((v w : List ℕ) → rest ≡ codes "two-slope" ∷ v ∷ w ∷ [] → ⊥) →
-    (w : FamilyWords) → line ≡ words_of_line w → ⊥
-no_line_words line rest e no_gmic no_half no_slopes (gmic_words v) is = no_gmic v cc
-no_line_words line rest e no_gmic no_half no_slopes (half_words v) is = no_half v cc
-no_line_words line rest e no_gmic no_half no_slopes (two_slope_words v w) is = no_slopes v w cc
+    AreOfForm family_form line → ⊥
+no_line_words line rest e no_gmic no_half no_slopes (gmic f, is, t) = no_gmic _ (behind _ _ _ _ (sym e ∙ is))
+no_line_words line rest e no_gmic no_half no_slopes (half f, is, t) = no_half _ (behind _ _ _ _ (sym e ∙ is))
+no_line_words line rest e no_gmic no_half no_slopes (two_slope k w, is, t) = no_slopes _ _ (behind _ _ _ _ (sym e ∙ is))
+
+-- what words spell
+pub gmic_spelled : (w : List ℕ) (f : Frac) → IsFractionWord Lenient w f → (rule_in Lenient family_form).Spells (gmic_words w) (gmic f)
+gmic_spelled w f h = ((refl, (refl, (h, tt))), tt)
+
+pub half_spelled : (w : List ℕ) (f : Frac) → IsFractionWord Lenient w f → (rule_in Lenient family_form).Spells (half_words w) (half f)
+half_spelled w f h = ((refl, (refl, (h, tt))), tt)
+
+slopes_spelled : (v w : List ℕ) (n : ℕ) → IsCountWord Lenient v n → (rule_in Lenient family_form).Spells (two_slope_words v w) (two_slope n w)
+slopes_spelled v w n h = ((refl, (refl, (h, (refl, tt)))), tt)
+
+-- and which spell no number
+pub no_gmic_number : (w : List ℕ) → ((f : Frac) → IsFractionWord Lenient w f → ⊥) → family_rule.Breaks (gmic_words w) reason.Number
+no_gmic_number w none = inl (inr (refl, (gmic zero, refl, tt), no_family))
+  where
+    no_family : (a : Family) → (rule_in Lenient family_form).Spells (gmic_words w) a → ⊥
+    no_family (gmic f) h = none f h.0.1.1.0
+    no_family (half f) h = apart (codes "gmic") (codes "half") refl h.0.1.0
+    no_family (two_slope k v) h = h.0.1.1.1
+
+pub no_half_number : (w : List ℕ) → ((f : Frac) → IsFractionWord Lenient w f → ⊥) → family_rule.Breaks (half_words w) reason.Number
+no_half_number w none = inl (inr (refl, (half zero, refl, tt), no_family))
+  where
+    no_family : (a : Family) → (rule_in Lenient family_form).Spells (half_words w) a → ⊥
+    no_family (half f) h = none f h.0.1.1.0
+    no_family (gmic f) h = apart (codes "half") (codes "gmic") refl h.0.1.0
+    no_family (two_slope k v) h = h.0.1.1.1
+
+pub no_slopes_count : (v w : List ℕ) → ((n : ℕ) → IsCountWord Lenient v n → ⊥) → family_rule.Breaks (two_slope_words v w) reason.Number
+no_slopes_count v w none = inl (inr (refl, (two_slope 0 w, refl, tt), no_family))
+  where
+    no_family : (a : Family) → (rule_in Lenient family_form).Spells (two_slope_words v w) a → ⊥
+    no_family (two_slope k u) h = none k h.0.1.1.0
+    no_family (gmic f) h = h.0.1.1.1
+    no_family (half f) h = h.0.1.1.1
+
+pub no_slopes_signs : (v w : List ℕ) (n : ℕ) → IsCountWord Lenient v n → ((signs : List Bool) → AreSigns w signs → ⊥) →
+    family_rule.Breaks (two_slope_words v w) reason.Signs
+no_slopes_signs v w n counted none = inr (two_slope n w, slopes_spelled v w n counted, inl (refl, none))
 
 -- ---- signs
 
@@ -43,9 +96,11 @@ refused_for P Q (Broken d) step h = step d h
 refused_for P Q (Memory a) step h = tt
 
 -- the family that the words spell has a fault
-pub family_refused : (w : FamilyWords) (a : Family) (x : FamilyFault) (e : LineFault) → SpellFamily w a → IsFaultOfFamily a x →
-    IsRefusedFor (IsReasonOf x) e → IsRefusedFor (NamesNone w) e
-family_refused w a x e spelled h is = refused_for (IsReasonOf x) (NamesNone w) e (λ d why. inr (a, x, spelled, h, why)) is
+pub family_refused : (words : List (List ℕ)) (a : Family) (x : FamilyFault) (e : LineFault) →
+    (rule_in Lenient family_form).Spells words a → IsFaultOfFamily a x → IsRefusedFor (IsReasonOf x) e →
+    IsRefusedFor (family_rule.Breaks words) e
+family_refused words a x e spelled h is =
+    refused_for (IsReasonOf x) (family_rule.Breaks words) e (λ d why. inr (a, spelled, inr (x, h, why))) is
 
 -- ---- a place that was cut
 
@@ -73,17 +128,17 @@ not_cut n k signs (inr is) h =
 
 pub two_slope_named : (count word : List ℕ) (n k : ℕ) (signs : List Bool) (g : FunctionData) → IsCountWord Lenient count n →
     AreSigns word signs → IsCut n k → HasNoTwoSlopeFault k signs → IsTwoSlope k signs g → IsWithinBounds g →
-    Names (two_slope_words count word) g
+    family_rule.Spells (two_slope_words count word) g
 two_slope_named count word n k signs g counted spelled cut none is within =
     let same = not_cut n k signs cut none in (
-      two_slope n signs,
-      (counted, spelled),
-      (subst (λ m. HasNoTwoSlopeFault m signs) same none, subst (λ m. IsTwoSlope m signs g) same is),
-      within,
+      two_slope n word,
+      slopes_spelled count word n counted,
+      ((signs, spelled, subst (λ m. HasNoTwoSlopeFault m signs) same none, subst (λ m. IsTwoSlope m signs g) same is), within),
     )
 
 pub two_slope_refused : (count word : List ℕ) (n k : ℕ) (signs : List Bool) (x : FamilyFault) (e : LineFault) →
     IsCountWord Lenient count n → AreSigns word signs → IsCut n k → HasTwoSlopeFault k signs x → IsRefusedFor (IsReasonOf x) e →
-    IsRefusedFor (NamesNone (two_slope_words count word)) e
+    IsRefusedFor (family_rule.Breaks (two_slope_words count word)) e
 two_slope_refused count word n k signs x e counted spelled cut h is =
-    family_refused (two_slope_words count word) (two_slope n signs) x e (counted, spelled) (cut_fault n k signs x cut h) is
+    family_refused (two_slope_words count word) (two_slope n word) x e (slopes_spelled count word n counted)
+    (signs, spelled, cut_fault n k signs x cut h) is

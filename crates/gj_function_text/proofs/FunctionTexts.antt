@@ -9,7 +9,9 @@ use Rattle.gj_lex.proofs.PartLaws.{fault_in_first, fault_in_next}
 use Rattle.gj_lex.proofs.WhereLaws.{other_line, other_word}
 use Rattle.gj_shape.specs.FunctionData.{FunctionData, IsWithinBounds}
 use Rattle.gj_shape.specs.Breaks.{BreakList}
-use Rattle.gj_function_lines.specs.FunctionGrammar.{order_words, function_part}
+use Rattle.gj_forms.proofs.SpelledLaws.{spelled_words}
+use Rattle.gj_function_lines.specs.FunctionLines.{order_form}
+use Rattle.gj_function_lines.specs.FunctionGrammar.{function_part}
 use Rattle.gj_function_lines.proofs.FunctionRead.{within_bounds}
 use Rattle.gj_function_text.specs.BreaksText.{end_words, next_break}
 use Rattle.gj_function_text.specs.FunctionText.{title_words, breaks_title_words, body_part, points_text, breaks_text, IsFunctionText, IsWholeFunctionText}
@@ -42,10 +44,10 @@ fault_in_end text middle rest f fault title lines h =
 -- the lines of a function begin with no line of a family
 pub no_family_line : (text : List ℕ) (f : FunctionData) (rest : List ℕ) → (function_part Lenient).Reads text f rest →
     BeginsWithWord Lenient (codes "family") text → ⊥
-no_family_line text f rest (q, next, (start, words, line, (word, is, spelled, order)), h) =
-    other_word Lenient text start words (codes "family") next line (λ more e. not_both more word (sym e ∙ is))
+no_family_line text f rest (q, next, (start, words, line, (n, (spelled, t), order)), h) =
+    other_word Lenient text start words (codes "family") next line (λ more e. not_both more _ (sym e ∙ spelled_words Lenient (order_form.fields n) words spelled))
   where
-    not_both : (more : List (List ℕ)) (word : List ℕ) → codes "family" ∷ more ≡ order_words word → ⊥
+    not_both : (more : List (List ℕ)) (word : List ℕ) → codes "family" ∷ more ≡ codes "order" ∷ word ∷ [] → ⊥
     not_both more word e = cc
 
 -- the title of text 1 is not that of text 2
@@ -65,7 +67,7 @@ whole_text text rest f h nothing = (rest, (f, rest, h, (refl, refl, nothing)))
 
 -- what tells a function, and that it is within bounds
 body_is_within : (text : List ℕ) (f : FunctionData) (rest : List ℕ) → body_part.Reads text f rest → IsWithinBounds f
-body_is_within text f rest (inl (is, (start, words, line, (w, line_is, (family, spelled, of, within))))) = within
+body_is_within text f rest (inl (is, (start, words, line, (family, spelled, (of, within))))) = within
 body_is_within text f rest (inr (not, h)) = within_bounds Lenient text f rest h
 
 points_are_within : (text : List ℕ) (f : FunctionData) (rest : List ℕ) → points_text.Reads text f rest → IsWithinBounds f
@@ -75,7 +77,7 @@ points_are_within text f rest (t, m, title, (g, n, lines, (t', r, end, (same, at
 -- or breakpoints
 in_turn_within : (f : FunctionData) (rest : List ℕ) (s : BreakList) (text : List ℕ) → ReadsInTurn (λ t. (next_break t).Reads) f rest s text →
     IsWithinBounds f
-in_turn_within f rest s text (last _ _ (inl (ends, (g, (start, words, line, (is, (k, place, (points, grid, given)))), same)))) =
+in_turn_within f rest s text (last _ _ (inl (ends, (g, (start, words, line, (t, is, (k, place, (points, grid, given)))), same)))) =
     subst IsWithinBounds (sym (right_is f g same)) given.within
   where
     right_is : (f g : FunctionData) → ◌≡◌ {A = BreakList ⊎ FunctionData} (inr f) (inr g) → f ≡ g

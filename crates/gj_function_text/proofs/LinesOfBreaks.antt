@@ -5,18 +5,19 @@ use Rattle.gj_lex.specs.TextLines.{HasLines, HasNextLine}
 use Rattle.gj_lex.specs.Parts.{ReadsInTurn}
 use Rattle.gj_lex.specs.Parts.ReadsInTurn.{last, onward}
 use Rattle.gj_lex.specs.declared.spelling.Spelling.TheVariants.{Lenient}
-use Rattle.gj_lex.specs.SpelledNumbers.{IsFractionWord}
 use Rattle.gj_lex.proofs.WhereLaws.{other_word}
 use Rattle.gj_shape.specs.FunctionData.{FunctionData}
 use Rattle.gj_shape.specs.Breaks.{BreakList, no_breaks, AreBreaks, IsOfBreaks, Follows}
 use Rattle.gj_shape.specs.declared.breaks.Break.{Break}
 use Rattle.gj_shape.proofs.BreakLists.{breaks_of_none}
 use Rattle.gj_shape.proofs.BreakChains.{breaks_kept, next_follows, one_break_list, place_denominator}
-use Rattle.gj_function_lines.specs.FunctionGrammar.{place_words, point_words}
-use Rattle.gj_function_lines.specs.BreakLines.{SpellBreak}
+use Rattle.gj_forms.specs.SpelledForms.{Spell}
+use Rattle.gj_forms.proofs.SpelledLaws.{spelled_words}
+use Rattle.gj_function_lines.specs.FunctionLines.{place_form}
+use Rattle.gj_function_lines.specs.BreakLines.{break_form}
 use Rattle.gj_function_text.specs.BreaksText.{end_words, next_break}
 use Rattle.gj_function_text.specs.FunctionText.{breaks_title_words, breaks_text}
-use Rattle.gj_function_text.specs.LinesOfFunction.{HasLinesOfBreaks}
+use Rattle.gj_function_text.specs.LinesOfFunction.{SpellBreak, HasLinesOfBreaks}
 
 -- ---- from the grammar to the lines
 
@@ -45,7 +46,7 @@ not_both_ways s f e = cc
 
 turns_have_lines : (f : FunctionData) (rest : List ℕ) (s : BreakList) (text : List ℕ) → AreBreaks s →
     ReadsInTurn (λ t. (next_break t).Reads) f rest s text → HasBreakLines f rest s text
-turns_have_lines f rest s text are (last _ _ (inl ((some, begins), (g, (start, words, line, (is, of)), same)))) = record {
+turns_have_lines f rest s text are (last _ _ (inl ((some, begins), (g, (start, words, line, (t, is, of)), same)))) = record {
   points = [];
   added = [];
   list = s;
@@ -80,35 +81,31 @@ breaks_have_lines text f rest (
   t,
   m,
   (start, ws, title, title_is),
-  (s, n, (start1, ws1, line, (word, x, line_is, spelled, inside, few, list_is)), turns),
+  (s, n, (start1, ws1, line, (x, spelled, (inside, few, list_is))), turns),
 ) =
     let found = turns_have_lines f rest (no_breaks x) n (breaks_of_none x inside few)
     (subst (λ u. ReadsInTurn (λ t. (next_break t).Reads) f rest u n) list_is turns) in
     record {
-      lines = breaks_title_words ∷ place_words word ∷ found.points ++ end_words ∷ [];
       has_lines = (
         start,
         m,
         subst (λ vs. HasNextLine start vs m text) title_is title,
-        (start1, n, subst (λ vs. HasNextLine start1 vs n m) line_is line, found.lines),
+        (start1, n, line, found.lines),
       );
-      are_lines = record {
-        place_word = word;
-        points = found.points;
-        list = found.list;
-        are_breaks = found.are_breaks;
-        some = found.some;
-        place_spelled = subst (λ p. IsFractionWord Lenient word p) (sym found.place_is) spelled;
-        points_spelled = subst (λ bs. AllZip SpellBreak found.points bs) (sym found.breaks_are) found.spelled;
-        function_is = found.function_is;
-        lines_are = refl;
-      };
+      place = ws1;
+      points = found.points;
+      list = found.list;
+      are_breaks = found.are_breaks;
+      some = found.some;
+      place_spelled = subst (λ p. Spell Lenient place_form ws1 p) (sym found.place_is) spelled;
+      points_spelled = subst (λ bs. AllZip SpellBreak found.points bs) (sym found.breaks_are) found.spelled;
+      function_is = found.function_is;
     }
 
 -- ---- from the lines to the grammar
 
 -- the line of a breakpoint is not the last one
-not_the_end : (words more : List (List ℕ)) → point_words words ≡ codes "end" ∷ more → ⊥
+not_the_end : (words more : List (List ℕ)) → codes "point" ∷ words ≡ codes "end" ∷ more → ⊥
 not_the_end words more e = cc
 
 -- the lines of the breakpoints behind those of s, up to all of the list, are read in turn
@@ -122,17 +119,18 @@ lines_in_turn all f rest whole some of [] [] s text are place split spelled (sta
     last s text
     (inl (
       (subst (λ (u : BreakList). u.breaks ≢ []) same some, ([], (start, rest, end))),
-      (f, (start, end_words, end, (refl, subst (λ (u : BreakList). IsOfBreaks u f) same of)), refl),
+      (f, (start, end_words, end, (tt, refl, subst (λ (u : BreakList). IsOfBreaks u f) same of)), refl),
     ))
 lines_in_turn all f rest whole some of [] (b ∷ back) s text are place split spelled lines = absurd spelled
 lines_in_turn all f rest whole some of (words ∷ points) [] s text are place split spelled lines = absurd spelled
 lines_in_turn all f rest whole some of (words ∷ points) (b ∷ back) s text are place split (spelled, more) (start, next, line, lines) =
     let (order, follows) = next_follows all s b back whole are place split in
     let t : BreakList = record { place = s.place; order = order; breaks = s.breaks ++ b ∷ [] } in
-    let (word, ws, is, form, place_spelled, limits_spelled) = spelled in
+    let (numbers, (h, u), b_is) = spelled in
+    let is = spelled_words Lenient (break_form.fields numbers) words h in
     onward s text t next
     (inr (
-      λ begins. other_word Lenient text start words (codes "end") next line (λ tail e. not_the_end (word ∷ ws) tail (sym is ∙ e)) begins.1,
+      λ begins. other_word Lenient text start words (codes "end") next line (λ tail e. not_the_end _ tail (sym is ∙ e)) begins.1,
       (t, (start, words, line, (b, spelled, follows)), refl),
     ))
     (lines_in_turn all f rest whole some of points back t next (breaks_kept s t b are follows) place
@@ -140,11 +138,10 @@ lines_in_turn all f rest whole some of (words ∷ points) (b ∷ back) s text ar
 
 pub lines_are_breaks : (text : List ℕ) (f : FunctionData) (rest : List ℕ) → HasLinesOfBreaks text f rest → breaks_text.Reads text f rest
 lines_are_breaks text f rest h =
-    let are = h.are_lines in
-    let list = are.list in
-    let whole = are.are_breaks in
+    let list = h.list in
+    let whole = h.are_breaks in
     let few = place_denominator list whole in
-    let (start, m, title, (start1, n, line, lines)) = subst (λ ls. HasLines Lenient text ls rest) are.lines_are h.has_lines in (
+    let (start, m, title, (start1, n, line, lines)) = h.has_lines in (
       tt,
       m,
       (start, breaks_title_words, title, refl),
@@ -153,11 +150,11 @@ lines_are_breaks text f rest h =
         n,
         (
           start1,
-          place_words are.place_word,
+          h.place,
           line,
-          (are.place_word, list.place, refl, are.place_spelled, whole.inside, few, refl),
+          (list.place, h.place_spelled, (whole.inside, few, refl)),
         ),
-        lines_in_turn list f rest whole are.some are.function_is are.points list.breaks (no_breaks list.place) n
-            (breaks_of_none list.place whole.inside few) refl refl are.points_spelled lines,
+        lines_in_turn list f rest whole h.some h.function_is h.points list.breaks (no_breaks list.place) n
+            (breaks_of_none list.place whole.inside few) refl refl h.points_spelled lines,
       ),
     )

@@ -2,43 +2,31 @@
 -- breakpoint, and the line `end`.
 use Rattle.std.specs.Prelude.{ℕ, ◌≡◌, ◌≢◌, ◌⊎◌, ◌≤◌, List, [], ◌∷◌, codes, unsigned_abs}
 use Rattle.std.proofs.Common.{inl, inr}
-use Rattle.gj_frac.specs.declared.Frac.{Frac}
 use Rattle.gj_frac.specs.Fraction.{denominator, IsInside}
-use Rattle.gj_lex.specs.Parts.{LineRule, Part, line_part, then_part, made_part, where_part, loop_part, BeginsWithWord}
-use Rattle.gj_lex.specs.SpelledNumbers.{IsFractionWord}
+use Rattle.gj_lex.specs.Parts.{words_rule, LineRule, Part, line_part, then_part, made_part, where_part, loop_part, BeginsWithWord}
 use Rattle.gj_lex.specs.declared.spelling.Spelling.TheVariants.{Lenient}
 use Rattle.gj_lex.specs.declared.reason.Reason.{Reason}
 use Rattle.gj_lex.specs.declared.reason.Reason.TheVariants as reason
 use Rattle.gj_shape.specs.Limits.{greatest_order}
 use Rattle.gj_shape.specs.FunctionData.{FunctionData}
 use Rattle.gj_shape.specs.Breaks.{BreakList, no_breaks, Follows, IsBreakFault, IsOfBreaks, AreTooFine}
-use Rattle.gj_shape.specs.declared.breaks.Break.{Break}
 use Rattle.gj_shape.specs.declared.breaks.BreakFault.{BreakFault}
 use Rattle.gj_shape.specs.declared.breaks.BreakFault.TheVariants as fault
-use Rattle.gj_function_lines.specs.FunctionGrammar.{place_words}
-use Rattle.gj_function_lines.specs.BreakLines.{SpellBreak, BreaksBreakForm}
+use Rattle.gj_forms.specs.SpelledForms.{rule_in, made_rule}
+use Rattle.gj_function_lines.specs.FunctionLines.{place_form}
+use Rattle.gj_function_lines.specs.BreakLines.{spelled_break_rule}
 
 -- the words of the last line
 abbrev pub end_words : List (List ℕ)
 end_words = codes "end" ∷ []
 
--- ---- `f F`, with F between 0 and 1 and a denominator of at most 1,000
-
-abbrev pub BreaksStart : List (List ℕ) → Reason → Type 0
-BreaksStart words e =
-    ((e ≡ reason.Form) × ((word : List ℕ) → words ≡ place_words word → ⊥))
-    ⊎ ((e ≡ reason.Number) × ((word : List ℕ) × (words ≡ place_words word) × ((x : Frac) → IsFractionWord Lenient word x → ⊥)))
-    ⊎ ((e ≡ reason.Place) × ((word : List ℕ) × (x : Frac) × (words ≡ place_words word) × IsFractionWord Lenient word x
-    × (IsInside x → ⊥)))
-    ⊎ ((e ≡ reason.Pieces) × ((word : List ℕ) × (x : Frac) × (words ≡ place_words word) × IsFractionWord Lenient word x × IsInside x
-    × (unsigned_abs (denominator x) ≤ greatest_order → ⊥)))
-
+-- `f F`, with F between 0 and 1 and a denominator of at most 1,000
 abbrev pub start_rule : LineRule BreakList
-start_rule = record {
-  Spells = λ words s. (word : List ℕ) × (x : Frac) × (words ≡ place_words word) × IsFractionWord Lenient word x × IsInside x
-      × (unsigned_abs (denominator x) ≤ greatest_order) × (s ≡ no_breaks x);
-  Breaks = BreaksStart;
-}
+start_rule =
+    made_rule (λ x s. IsInside x × (unsigned_abs (denominator x) ≤ greatest_order) × (s ≡ no_breaks x))
+    (λ x e. ((e ≡ reason.Place) × (IsInside x → ⊥))
+    ⊎ ((e ≡ reason.Pieces) × IsInside x × (unsigned_abs (denominator x) ≤ greatest_order → ⊥)))
+    (rule_in Lenient place_form)
 
 -- ---- `point X V` or `point X L V R`, of a breakpoint that can follow those before
 
@@ -51,20 +39,13 @@ IsReasonOfBreak fault.Fine e = e ≡ reason.Fine
 IsReasonOfBreak (fault.Memory a) e = ⊥
 
 abbrev pub break_rule : BreakList → LineRule BreakList
-break_rule s = record {
-  Spells = λ words t. (b : Break) × SpellBreak words b × Follows s b t;
-  Breaks = λ words e. BreaksBreakForm words e
-      ⊎ ((b : Break) × (f : BreakFault) × SpellBreak words b × IsBreakFault s b f × IsReasonOfBreak f e);
-}
+break_rule s =
+    made_rule (Follows s) (λ b e. (f : BreakFault) × IsBreakFault s b f × IsReasonOfBreak f e) spelled_break_rule
 
--- ---- `end`, of a function whose fractions on the grid have a common denominator
-
+-- `end`, of a function whose fractions on the grid have a common denominator
 abbrev pub end_rule : BreakList → LineRule FunctionData
-end_rule s = record {
-  Spells = λ words f. (words ≡ end_words) × IsOfBreaks s f;
-  Breaks = λ words e. ((e ≡ reason.Form) × (words ≢ end_words))
-      ⊎ ((e ≡ reason.Fine) × (words ≡ end_words) × AreTooFine s.order s.breaks);
-}
+end_rule s =
+    made_rule (λ t f. IsOfBreaks s f) (λ t e. (e ≡ reason.Fine) × AreTooFine s.order s.breaks) (words_rule end_words)
 
 -- ---- the lines
 

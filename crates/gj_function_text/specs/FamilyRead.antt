@@ -1,13 +1,22 @@
 -- What the readers of the parts of a family line find (own).
-use Rattle.std.specs.Prelude.{ℕ, ◌≡◌, ◌⊎◌, ◌+◌, ◌<◌, ◌≤◌, ◌^◌}
+use Rattle.std.specs.Prelude.{ℕ, ◌≡◌, ◌⊎◌, ◌+◌, ◌<◌, ◌≤◌, ◌^◌, List, [], ◌∷◌, codes}
 use Rattle.gj_lex.specs.declared.reason.Reason.{Reason}
-use Rattle.gj_function_text.specs.FamilyLine.{FamilyWords, gmic_words, half_words, two_slope_words}
 use Rattle.gj_function_text.specs.declared.family.LineWords.{LineWords}
 use Rattle.gj_function_text.specs.declared.family.LineWords.TheVariants.{Gmic, Half, TwoSlope}
 use Rattle.gj_function_text.specs.declared.family.LineFault.{LineFault}
 use Rattle.gj_function_text.specs.declared.family.LineFault.TheVariants.{Broken, Memory}
 
-abbrev pub texts_of : LineWords → FamilyWords
+-- the words of a line, by those that differ from line to line
+abbrev pub gmic_words : List ℕ → List (List ℕ)
+gmic_words f = codes "family" ∷ codes "gmic" ∷ f ∷ []
+
+abbrev pub half_words : List ℕ → List (List ℕ)
+half_words f = codes "family" ∷ codes "half" ∷ f ∷ []
+
+abbrev pub two_slope_words : List ℕ → List ℕ → List (List ℕ)
+two_slope_words count signs = codes "family" ∷ codes "two-slope" ∷ count ∷ signs ∷ []
+
+abbrev pub texts_of : LineWords → List (List ℕ)
 texts_of (Gmic word) = gmic_words word.now
 texts_of (Half word) = half_words word.now
 texts_of (TwoSlope count signs) = two_slope_words count.now signs.now

@@ -1,69 +1,72 @@
 -- Function texts by the words of their lines (own).
-use Rattle.std.specs.Prelude.{ℕ, pos, ◌≡◌, ◌≢◌, List, [], ◌∷◌, ◌++◌, map}
+use Rattle.std.specs.Prelude.{ℕ, pos, ◌≡◌, ◌≢◌, List, [], ◌∷◌, ◌++◌}
 use Rattle.std.specs.List.{AllZip}
 use Rattle.gj_frac.specs.declared.Frac.{Frac}
 use Rattle.gj_frac.specs.Fraction.{IsRatio}
-use Rattle.gj_lex.specs.SpelledNumbers.{IsCountWord, IsFractionWord}
 use Rattle.gj_lex.specs.TextLines.{HasLines}
 use Rattle.gj_lex.specs.declared.spelling.Spelling.TheVariants.{Lenient}
 use Rattle.gj_shape.specs.FunctionData.{FunctionData, IsWithinBounds}
 use Rattle.gj_shape.specs.Points.{ArePointsOf}
 use Rattle.gj_shape.specs.Breaks.{BreakList, AreBreaks, IsOfBreaks}
+use Rattle.gj_shape.specs.declared.breaks.Break.{Break}
 use Rattle.gj_shape.specs.declared.points.Point.{Point}
-use Rattle.gj_function_lines.specs.FunctionGrammar.{SpellPoint, order_words, place_words, point_words}
-use Rattle.gj_function_lines.specs.BreakLines.{SpellBreak}
-use Rattle.gj_function_text.specs.FamilyLine.{FamilyWords, words_of_line, Names}
+use Rattle.gj_forms.specs.SpelledForms.{Spell}
+use Rattle.gj_function_lines.specs.FunctionLines.{order_form, place_form, PointNumbers, point_form}
+use Rattle.gj_function_lines.specs.FunctionGrammar.{point_of}
+use Rattle.gj_function_lines.specs.BreakLines.{break_form, break_at}
+use Rattle.gj_function_text.specs.FamilyLine.{Family, family_form, IsOfFamily}
 use Rattle.gj_function_text.specs.BreaksText.{end_words}
 use Rattle.gj_function_text.specs.FunctionText.{title_words, breaks_title_words}
 
 -- ---- functions by their points
 
--- the lines are `gj-function 1`, `order Q`, `f F`, a line `point V` or `point L V R` for each point of the function f, and `end`
-pub record AreLinesOf (f : FunctionData) (lines : List (List (List ℕ))) : Type 0 where
-  pub order_word : List ℕ
-  pub place_word : List ℕ
-  pub fractions : List (List (List ℕ))
-  pub place : Frac
-  pub points : List Point
-  pub order_is : IsCountWord Lenient order_word f.order
-  pub place_spelled : IsFractionWord Lenient place_word place
-  pub place_is : IsRatio place (pos f.place) (pos f.order)
-  pub points_spelled : AllZip (SpellPoint Lenient) fractions points
-  pub points_are : ArePointsOf f points
-  pub lines_are : lines ≡ title_words ∷ order_words order_word ∷ place_words place_word ∷ map point_words fractions ++ end_words ∷ []
+-- the words spell the point
+abbrev pub SpellPoint : List (List ℕ) → Point → Type 0
+SpellPoint words p = (n : PointNumbers) × Spell Lenient point_form words n × (p ≡ point_of n)
 
--- the text has the lines of f, a function within the bounds, and the rest follows
+-- the text has the lines `gj-function 1`, `order Q`, `f F`, a line `point V` or `point L V R` for each point of f, a function
+-- within the bounds, and `end`, and the rest follows
 pub record HasLinesOfFunction (text : List ℕ) (f : FunctionData) (rest : List ℕ) : Type 0 where
   pub within : IsWithinBounds f
-  pub lines : List (List (List ℕ))
-  pub has_lines : HasLines Lenient text lines rest
-  pub are_lines : AreLinesOf f lines
+  pub order : List (List ℕ)
+  pub place : List (List ℕ)
+  pub point_lines : List (List (List ℕ))
+  pub fraction : Frac
+  pub points : List Point
+  pub order_spelled : Spell Lenient order_form order f.order
+  pub place_spelled : Spell Lenient place_form place fraction
+  pub place_is : IsRatio fraction (pos f.place) (pos f.order)
+  pub points_spelled : AllZip SpellPoint point_lines points
+  pub points_are : ArePointsOf f points
+  pub has_lines : HasLines Lenient text (title_words ∷ order ∷ place ∷ point_lines ++ end_words ∷ []) rest
 
 -- ---- functions of families
 
 -- the text has the lines `gj-function 1`, one that names the function f of a family, and `end`, and the rest follows
 pub record HasLinesOfFamily (text : List ℕ) (f : FunctionData) (rest : List ℕ) : Type 0 where
-  pub words : FamilyWords
-  pub names : Names words f
-  pub has_lines : HasLines Lenient text (title_words ∷ words_of_line words ∷ end_words ∷ []) rest
+  pub words : List (List ℕ)
+  pub family : Family
+  pub spelled : Spell Lenient family_form words family
+  pub is_of : IsOfFamily family f
+  pub within : IsWithinBounds f
+  pub has_lines : HasLines Lenient text (title_words ∷ words ∷ end_words ∷ []) rest
 
 -- ---- functions by their breakpoints
 
--- the lines are `gj-function 2`, `f F` with F between 0 and 1, a line `point X V` or `point X L V R` for each of one or more
--- breakpoints, and `end`; f is the function of the breakpoints, of order the least common multiple of all denominators
-pub record AreLinesOfBreaks (f : FunctionData) (lines : List (List (List ℕ))) : Type 0 where
-  pub place_word : List ℕ
+-- the words spell the breakpoint
+abbrev pub SpellBreak : List (List ℕ) → Break → Type 0
+SpellBreak words b = (t : Frac × PointNumbers) × Spell Lenient break_form words t × (b ≡ break_at t.0 (point_of t.1))
+
+-- the text has the lines `gj-function 2`, `f F` with F between 0 and 1, a line `point X V` or `point X L V R` for each of one
+-- or more breakpoints, and `end`, and the rest follows; f is the function of the breakpoints, of order the least common multiple
+-- of all denominators
+pub record HasLinesOfBreaks (text : List ℕ) (f : FunctionData) (rest : List ℕ) : Type 0 where
+  pub place : List (List ℕ)
   pub points : List (List (List ℕ))
   pub list : BreakList
   pub are_breaks : AreBreaks list
   pub some : list.breaks ≢ []
-  pub place_spelled : IsFractionWord Lenient place_word list.place
+  pub place_spelled : Spell Lenient place_form place list.place
   pub points_spelled : AllZip SpellBreak points list.breaks
   pub function_is : IsOfBreaks list f
-  pub lines_are : lines ≡ breaks_title_words ∷ place_words place_word ∷ points ++ end_words ∷ []
-
--- the text has the lines of f by its breakpoints, and the rest follows
-pub record HasLinesOfBreaks (text : List ℕ) (f : FunctionData) (rest : List ℕ) : Type 0 where
-  pub lines : List (List (List ℕ))
-  pub has_lines : HasLines Lenient text lines rest
-  pub are_lines : AreLinesOfBreaks f lines
+  pub has_lines : HasLines Lenient text (breaks_title_words ∷ place ∷ points ++ end_words ∷ []) rest

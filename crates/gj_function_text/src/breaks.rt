@@ -5,7 +5,7 @@ ghost use Rattle.gj_lex.specs.Words.{word_texts};
 ghost use Rattle.gj_lex.specs.Parts.{line_part, loop_part, IsFaultOf};
 ghost use Rattle.gj_shape.specs.Limits.{greatest_order};
 ghost use Rattle.gj_shape.specs.Breaks.{no_breaks};
-ghost use Rattle.gj_function_text.specs.BreaksText.{BreaksStart, start_rule, break_rule, end_rule, EndsHere, next_break, breaks_part};
+ghost use Rattle.gj_function_text.specs.BreaksText.{start_rule, break_rule, end_rule, EndsHere, next_break, breaks_part};
 ghost use Rattle.gj_function_text.specs.BreaksRead.{refusal_of, end_refusal};
 
 use gj_frac::Frac;
@@ -43,7 +43,7 @@ fn start_in(line: &[u8]) -> Result<Frac, Reason>
     ensures found { IfOk result (λ x. start_rule.Spells (word_texts line.now) (no_breaks x)) }
     ensures inside { IfOk result IsInside }
     ensures few { IfOk result (λ x. unsigned_abs (denominator x) ≤ greatest_order) }
-    ensures broken { IfErr result (BreaksStart (word_texts line.now)) }
+    ensures broken { IfErr result (start_rule.Breaks (word_texts line.now)) }
 {
     let Some(word) = field_of(line, b"f") else {
         return Err(Reason::Form);

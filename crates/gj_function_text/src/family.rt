@@ -1,11 +1,12 @@
 //! Lines that name a function of a family, read.
-ghost use Rattle.std.specs.Prelude.{◌≡◌, ◌↔◌, ℕ, List, All, IfSome, IfNone, IfOk, IfErr, IsTrue};
+ghost use Rattle.std.specs.Prelude.{◌≡◌, ◌↔◌, All, IfSome, IfNone, IfOk, IfErr, IsTrue};
 ghost use Rattle.std.specs.Str.Parse.{digits_value};
 ghost use Rattle.gj_lex.specs.Words.{word_texts};
 ghost use Rattle.gj_lex.specs.Parts.{IsFaultOf};
 ghost use Rattle.gj_lex.specs.SpelledNumbers.{IsCountWord};
-ghost use Rattle.gj_function_text.specs.FamilyLine.{FamilyWords, gmic_words, half_words, two_slope_words, words_of_line, AreSigns, IsReasonOf, Names, NamesNone, family_rule};
-ghost use Rattle.gj_function_text.specs.FamilyRead.{texts_of, IsRefusedFor, IsSign, IsCut};
+ghost use Rattle.gj_forms.specs.LineForms.{AreOfForm};
+ghost use Rattle.gj_function_text.specs.FamilyLine.{family_form, AreSigns, IsReasonOf, family_rule};
+ghost use Rattle.gj_function_text.specs.FamilyRead.{gmic_words, half_words, two_slope_words, texts_of, IsRefusedFor, IsSign, IsCut};
 ghost use Rattle.gj_function_text.specs.FunctionText.{family_part};
 
 use gj_family::{FamilyFault, gmic, half, two_slope};
@@ -62,8 +63,8 @@ fn family_in(alloc: Global, line: &[u8]) -> Result<Shape, LineFault>
 
 /// The words of the line, if they are of a line that names a function.
 fn line_words(line: &[u8]) -> Option<LineWords<'_>>
-    ensures found { IfSome result (λ w. word_texts line.now ≡ words_of_line (texts_of w)) }
-    ensures none { IfNone result ((w : FamilyWords) → word_texts line.now ≡ words_of_line w → ⊥) }
+    ensures found { IfSome result (λ w. word_texts line.now ≡ texts_of w) }
+    ensures none { IfNone result (AreOfForm family_form (word_texts line.now) → ⊥) }
 {
     let line = behind_name(line, b"family")?;
     if let Some(word) = field_of(line, b"gmic") {
@@ -78,8 +79,8 @@ fn line_words(line: &[u8]) -> Option<LineWords<'_>>
 
 /// The function that the words name, or why they name none.
 fn family_of(alloc: Global, words: LineWords<'_>) -> Result<Shape, LineFault>
-    ensures found { IfOk result (Names (texts_of words.entry)) }
-    ensures broken { IfErr result (IsRefusedFor (NamesNone (texts_of words.entry))) }
+    ensures found { IfOk result (family_rule.Spells (texts_of words.entry)) }
+    ensures broken { IfErr result (IsRefusedFor (family_rule.Breaks (texts_of words.entry))) }
 {
     match words {
         LineWords::Gmic(word) => gmic_of(alloc, word),
@@ -90,8 +91,8 @@ fn family_of(alloc: Global, words: LineWords<'_>) -> Result<Shape, LineFault>
 
 /// The mixed-integer cut whose f the word spells.
 fn gmic_of(alloc: Global, word: &[u8]) -> Result<Shape, LineFault>
-    ensures found { IfOk result (Names (gmic_words word.now)) }
-    ensures broken { IfErr result (IsRefusedFor (NamesNone (gmic_words word.now))) }
+    ensures found { IfOk result (family_rule.Spells (gmic_words word.now)) }
+    ensures broken { IfErr result (IsRefusedFor (family_rule.Breaks (gmic_words word.now))) }
 {
     let Some(f) = fraction_of(Spelling::Lenient, word) else {
         return Err(LineFault::Broken(Reason::Number));
@@ -104,8 +105,8 @@ fn gmic_of(alloc: Global, word: &[u8]) -> Result<Shape, LineFault>
 
 /// The function that is 1/2 almost everywhere, whose f the word spells.
 fn half_of(alloc: Global, word: &[u8]) -> Result<Shape, LineFault>
-    ensures found { IfOk result (Names (half_words word.now)) }
-    ensures broken { IfErr result (IsRefusedFor (NamesNone (half_words word.now))) }
+    ensures found { IfOk result (family_rule.Spells (half_words word.now)) }
+    ensures broken { IfErr result (IsRefusedFor (family_rule.Breaks (half_words word.now))) }
 {
     let Some(f) = fraction_of(Spelling::Lenient, word) else {
         return Err(LineFault::Broken(Reason::Number));
@@ -118,8 +119,8 @@ fn half_of(alloc: Global, word: &[u8]) -> Result<Shape, LineFault>
 
 /// The function with two slopes whose place of f and whose signs the words spell.
 fn two_slope_of(alloc: Global, count: &[u8], word: &[u8]) -> Result<Shape, LineFault>
-    ensures found { IfOk result (Names (two_slope_words count.now word.now)) }
-    ensures broken { IfErr result (IsRefusedFor (NamesNone (two_slope_words count.now word.now))) }
+    ensures found { IfOk result (family_rule.Spells (two_slope_words count.now word.now)) }
+    ensures broken { IfErr result (IsRefusedFor (family_rule.Breaks (two_slope_words count.now word.now))) }
 {
     if !is_count(Spelling::Lenient, count) {
         return Err(LineFault::Broken(Reason::Number));

@@ -18,6 +18,8 @@ use Rattle.gj_function_lines.proofs.ExactFunctions.{function_part_is_exact}
 use Rattle.gj_function_lines.proofs.FunctionRead.{within_bounds}
 use Rattle.gj_function_lines.proofs.StrictFunctions.{strict_lines_are_canonical}
 use Rattle.gj_forms.specs.LineForms.{line_of}
+use Rattle.gj_forms.proofs.SpelledLaws.{spelled_words}
+use Rattle.gj_function_lines.specs.FunctionLines.{order_form}
 use Rattle.gj_forms.proofs.LineLaws.{part_is_exact, line_is_read, only_line}
 use Rattle.gj_proof.specs.ProofText.{IfFunction, IsBounded, subject_of_rule, extreme_claim, modulus_lines, AreSubjectLines, violation_line, IsProofText}
 use Rattle.gj_proof.specs.ProofGrammar.{title_form, numbers_of_word, claim_form, violation_form, form_part, rule_part, rows_part, covered_part, modulus_part, groups_part, halves_part, claim_part, proof_text}
@@ -150,8 +152,9 @@ gmic_reads rest =
 
 -- the lines of a function begin with none of that rule
 no_gmic_line : (text rest : List ℕ) (f : FunctionData) → (function_part Strict).Reads text f rest → BeginsWithLine Strict gmic_words text → ⊥
-no_gmic_line text rest f (q, next, (start, words, strict, (n, (is, numbers, has), order_is)), h) =
-    other_line Strict text start words gmic_words next strict (λ e. not_both _ (sym is ∙ e))
+no_gmic_line text rest f (q, next, (start, words, strict, (n, (spelled, has), order_is)), h) =
+    other_line Strict text start words gmic_words next strict
+    (λ e. not_both _ (sym (spelled_words Strict (order_form.fields n) words spelled) ∙ e))
   where
     not_both : (word : List ℕ) → codes "order" ∷ word ∷ [] ≡ gmic_words → ⊥
     not_both word e = cc

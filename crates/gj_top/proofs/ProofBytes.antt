@@ -15,9 +15,10 @@ use Rattle.gj_frac.specs.declared.Frac.{Frac}
 use Rattle.gj_shape.specs.Perturbation.{AreHalvesInBounds}
 use Rattle.gj_lex.specs.NumberText.{fraction_text, IsNumberByte}
 use Rattle.gj_lex.proofs.WordBytes.{decimal_bytes, fraction_bytes}
-use Rattle.gj_function_lines.specs.FunctionLines.{line, fraction_line, order_line, place_line, point_text, point_line, has_no_jump, AreFunctionLines}
+use Rattle.gj_forms.specs.LineForms.{line_of}
+use Rattle.gj_function_lines.specs.FunctionLines.{line, fraction_line, order_line, place_line, PointNumbers, point_form, numbers_of, point_line, AreFunctionLines}
+use Rattle.gj_function_lines.specs.FunctionLines.PointNumbers.{one, three}
 use Rattle.gj_function_lines.specs.FaceLines.{face_word, face_text, cover_line}
-use Rattle.gj_function_lines.proofs.PointLines.{text_of_one, text_of_three}
 use Rattle.gj_shape.specs.FunctionData.{FunctionData, IsWithinBounds}
 use Rattle.gj_shape.specs.declared.extremality.CoverLine.{CoverLine}
 use Rattle.gj_shape.specs.declared.extremality.Halves.{Halves}
@@ -75,9 +76,12 @@ joined = All-append IsPrintable
 both : (a b : List ℕ) → All IsProofByte a → All IsProofByte b → All IsProofByte (a ++ b)
 both = All-append IsProofByte
 
+printed : (bs : List ℕ) → All IsPrintable bs → All IsProofByte bs
+printed bs h = All-weaker IsPrintable IsProofByte (λ b p. inr p) bs h
+
 line_bytes : (bs : List ℕ) → All IsPrintable bs → All IsProofByte (line bs)
 line_bytes bs h =
-    both bs (10 ∷ []) (All-weaker IsPrintable IsProofByte (λ b p. inr p) bs h) (All-cons IsProofByte 10 [] (inl refl) (All-nil IsProofByte))
+    both bs (10 ∷ []) (printed bs h) (All-cons IsProofByte 10 [] (inl refl) (All-nil IsProofByte))
 
 -- ---- numbers
 
@@ -98,27 +102,19 @@ fraction_line_bytes word x h = line_bytes (word ++ fraction_text x) (joined word
 
 -- ---- the lines of a function
 
-point_printable : (p : Point) → All IsPrintable (point_text p)
-point_printable p = go (has_no_jump p) refl
-  where
-    go : (b : Bool) → has_no_jump p ≡ b → All IsPrintable (point_text p)
-    go true e = subst (All IsPrintable) (sym (text_of_one p e)) (fraction_printable p.value)
-    go false e =
-        let space = known (codes " ") refl in
-        let l = fraction_text p.left in
-        let v = fraction_text p.value in
-        subst (All IsPrintable) (sym (text_of_three p e))
-        (joined (l ++ codes " " ++ v ++ codes " ") (fraction_text p.right)
-        (joined (l ++ codes " " ++ v) (codes " ")
-        (joined (l ++ codes " ") v (joined l (codes " ") (fraction_printable p.left) space) (fraction_printable p.value)) space)
-        (fraction_printable p.right))
+point_bytes : (n : PointNumbers) → All IsProofByte (line_of point_form n)
+point_bytes (one x) = fraction_line_bytes (codes "point ") x (known (codes "point ") refl)
+point_bytes (three p) =
+    let number : (word : List ℕ) (x : Frac) (more : List ℕ) → All IsPrintable word → All IsProofByte more →
+        All IsProofByte (word ++ (fraction_text x ++ more)) =
+    λ word x more h k. both word (fraction_text x ++ more) (printed word h) (both (fraction_text x) more (printed (fraction_text x) (fraction_printable x)) k) in
+    number (codes "point ") p.left _ (known (codes "point ") refl)
+    (number (codes " ") p.value _ (known (codes " ") refl)
+    (number (codes " ") p.right (10 ∷ []) (known (codes " ") refl) (All-cons IsProofByte 10 [] (inl refl) (All-nil IsProofByte))))
 
 points_bytes : (ps : List Point) → All IsProofByte (flat_map point_line ps)
 points_bytes [] = All-nil IsProofByte
-points_bytes (p ∷ ps) =
-    both (point_line p) (flat_map point_line ps)
-    (line_bytes (codes "point " ++ point_text p) (joined (codes "point ") (point_text p) (known (codes "point ") refl) (point_printable p)))
-    (points_bytes ps)
+points_bytes (p ∷ ps) = both (point_line p) (flat_map point_line ps) (point_bytes (numbers_of p)) (points_bytes ps)
 
 function_bytes : (f : FunctionData) (text : List ℕ) → IsWithinBounds f → AreFunctionLines f text → All IsProofByte text
 function_bytes f text within a =
