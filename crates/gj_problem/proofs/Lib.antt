@@ -9,3 +9,4 @@ pub mod Prefixes
 pub mod OneColumn
 pub mod GridParts
 pub mod MovedEntries
+pub mod OneRow

@@ -9,7 +9,7 @@ ghost use Rattle.gj_problem.specs.declared.pieces.Piece.{Piece};
 ghost use Rattle.gj_rational.specs.Rational.{Rational, rational, ◌-ℚ◌};
 ghost use Rattle.gj_problem.specs.Problems.{IsFeasible, Holds, IsColumn, IsConstraint, value_at, surplus_at};
 ghost use Rattle.gj_problem.specs.Rows.{IsSignFor, IsMultiple, IsWholeInequality, HasWholeSurplus, IsRounded};
-ghost use Rattle.gj_problem.specs.Aggregates.{IsRow, IsSound, AddsUpAt, IsCutOver, IsTurnedBack};
+ghost use Rattle.gj_problem.specs.Aggregates.{IsRow, IsFirstFree, IsSound, AddsUpAt, IsCutOver, IsTurnedBack};
 
 /// A constraint times a whole number of the sign that its sense asks for holds. If the numbers of an inequality and its columns
 /// are whole, so is what its sum has above its right side.
@@ -35,6 +35,16 @@ pub fn row_by_multipliers()
     ensures adds_up { (p : Problem) (multipliers : List Frac) (at_upper : List Bool) (pieces : List Piece) (right : Frac) →
         IsRow p multipliers at_upper pieces right → length at_upper ≡ length p.columns →
         (point : List Rational) → IsFeasible p point → AddsUpAt point pieces right }
+{}
+
+/// The multipliers make rows of one right side, or one column is the first free one, and not both. So a cut is by that right side.
+pub fn one_row()
+    ensures right { (p : Problem) (multipliers : List Frac) (at_upper : List Bool) (pieces others : List Piece) (right other : Frac) →
+        IsRow p multipliers at_upper pieces right → IsRow p multipliers at_upper others other → right ≡ other }
+    ensures free { (p : Problem) (multipliers : List Frac) (at_upper : List Bool) (pieces : List Piece) (right : Frac) (j : ℕ) →
+        IsRow p multipliers at_upper pieces right → IsFirstFree p multipliers at_upper j → ⊥ }
+    ensures first { (p : Problem) (multipliers : List Frac) (at_upper : List Bool) (j k : ℕ) →
+        IsFirstFree p multipliers at_upper j → IsFirstFree p multipliers at_upper k → j ≡ k }
 {}
 
 /// What is rounded by the bounds holds.

@@ -1,0 +1,182 @@
+-- A problem and its multipliers have one sum, and either one right side or one first free column.
+use Rattle.std.proofs.Common.{◌≡◌, ⊎_elim, ℕ, List, [], ◌∷◌, ◌++◌, length, All, Bool, true, false, Option, Some, None, ℤ, pos, ◌-ℤ◌, ◌<ℤ◌, refl, sym, ap, ap₂, subst, ◌∙◌, arith}
+use Rattle.std.proofs.lemmas.Int.{ints}
+use Rattle.std.proofs.lemmas.List.Elements.{All-head, All-tail}
+use Rattle.gj_frac.specs.declared.Frac.{Frac}
+use Rattle.gj_frac.specs.SameParts.{same_parts_same}
+use Rattle.gj_frac.proofs.Floors.{same_from_IsFloor}
+use Rattle.gj_lemmas.proofs.Integers.{mul_lt_cancel_right_z}
+use Rattle.gj_lemmas.proofs.Lists.{All-back}
+use Rattle.gj_rational.specs.Rational.{Rational, whole, rational, ◌+ℚ◌, ◌*ℚ◌, ◌-ℚ◌}
+use Rattle.gj_rational.proofs.RationalRing.{by_ring_q, ring_q}
+use Rattle.gj_problem.specs.declared.problem.Problem.{Problem}
+use Rattle.gj_problem.specs.declared.pieces.Piece.{Piece}
+use Rattle.gj_problem.specs.Problems.{value_at, surplus_at}
+use Rattle.gj_problem.specs.Rows.{dot}
+use Rattle.gj_problem.specs.Aggregates.{pieces_at, AreMadeOf, Weighted, weighted, IsAggregate, Held, held, IsLeftOut, IsCeiling, IsLowerBound, IsUpperBound, IsFromLower, IsFromUpper, IsTurnedFrom, IsTurned, IsFree, IsRow, IsFirstFree}
+use Rattle.gj_problem.proofs.MadePieces.{Made}
+use Rattle.gj_problem.proofs.TurnedColumns.{none_free}
+
+-- ---- one sum
+
+rational_injective : (x y : Frac) → rational x ≡ rational y → x ≡ y
+rational_injective x y e = same_parts_same x y (ap (λ (q : Rational). q.top) e) (ap (λ (q : Rational). q.bottom) e)
+
+dot_none : (cs : List Frac) → dot cs [] ≡ whole (pos 0)
+dot_none [] = refl
+dot_none (c ∷ cs) = refl
+
+one_time : (c : Rational) → c *ℚ whole (pos 1) +ℚ whole (pos 0) ≡ c
+one_time c = by_ring_q (c ∷ []) (search ring_q depth 30) refl
+
+no_time : (c d : Rational) → c *ℚ whole (pos 0) +ℚ d ≡ d
+no_time c d = by_ring_q (c ∷ d ∷ []) (search ring_q depth 30) refl
+
+head_at : (c : Frac) (cs : List Frac) → dot (c ∷ cs) (whole (pos 1) ∷ []) ≡ rational c
+head_at c cs = ap (λ w. rational c *ℚ whole (pos 1) +ℚ w) (dot_none cs) ∙ one_time (rational c)
+
+-- sums that are equal at all points have equal coefficients
+same_coefficients : (cs ds : List Frac) → length cs ≡ length ds → ((point : List Rational) → dot cs point ≡ dot ds point) → cs ≡ ds
+same_coefficients [] [] n h = refl
+same_coefficients [] (d ∷ ds) n h = absurd (omega arith)
+same_coefficients (c ∷ cs) [] n h = absurd (omega arith)
+same_coefficients (c ∷ cs) (d ∷ ds) n h =
+    ap₂ (λ (x : Frac) (xs : List Frac). x ∷ xs)
+    (rational_injective c d (sym (head_at c cs) ∙ h (whole (pos 1) ∷ []) ∙ head_at d ds))
+    (same_coefficients cs ds (omega arith)
+    (λ (point : List Rational). sym (no_time (rational c) (dot cs point)) ∙ h (whole (pos 0) ∷ point) ∙ no_time (rational d) (dot ds point)))
+
+turned_twice : (r : Rational) → r ≡ whole (pos 0) -ℚ (whole (pos 0) -ℚ r)
+turned_twice r = by_ring_q (r ∷ []) (search ring_q depth 40) refl
+
+put_back : (d r : Rational) → d ≡ (d -ℚ r) +ℚ r
+put_back d r = by_ring_q (d ∷ r ∷ []) (search ring_q depth 40) refl
+
+right_at : (cs : List Frac) (r : Frac) → rational r ≡ whole (pos 0) -ℚ (dot cs [] -ℚ rational r)
+right_at cs r = turned_twice (rational r) ∙ ap (λ w. whole (pos 0) -ℚ (w -ℚ rational r)) (sym (dot_none cs))
+
+one_sum : (p : Problem) (ws : List Weighted) (cs ds : List Frac) (r s : Frac) → IsAggregate p ws cs r → IsAggregate p ws ds s →
+    (cs ≡ ds) × (r ≡ s)
+one_sum p ws cs ds r s h k =
+    let both : (point : List Rational) → dot cs point -ℚ rational r ≡ dot ds point -ℚ rational s = λ point. h.adds point ∙ sym (k.adds point) in
+    let right : rational r ≡ rational s = right_at cs r ∙ ap (λ w. whole (pos 0) -ℚ w) (both []) ∙ sym (right_at ds s) in (
+      same_coefficients cs ds (h.count ∙ sym k.count)
+          (λ (point : List Rational). put_back (dot cs point) (rational r) ∙ ap₂ (λ v w. v +ℚ w) (both point) right
+          ∙ sym (put_back (dot ds point) (rational s))),
+      rational_injective r s right,
+    )
+
+-- ---- one bound
+
+one_ceiling : (x : Frac) (n m : ℤ) → IsCeiling x n → IsCeiling x m → n ≡ m
+one_ceiling x n m h k =
+    let some : pos 0 <ℤ x.den = x.lowest.positive in
+    let low : (n -ℤ pos 1) <ℤ m = mul_lt_cancel_right_z (n -ℤ pos 1) m x.den some (omega (arith, ints, h.before_below, k.at_least)) in
+    let high : (m -ℤ pos 1) <ℤ n = mul_lt_cancel_right_z (m -ℤ pos 1) n x.den some (omega (arith, ints, k.before_below, h.at_least)) in
+    omega (arith, ints)
+
+one_lower : (b : Bool) (l x y : Frac) → IsLowerBound b l x → IsLowerBound b l y → rational x ≡ rational y
+one_lower true l x y h k = h.2 ∙ ap whole (one_ceiling l h.0 k.0 h.1 k.1) ∙ sym k.2
+one_lower false l x y h k = ap rational (h ∙ sym k)
+
+one_upper : (b : Bool) (u x y : Frac) → IsUpperBound b u x → IsUpperBound b u y → rational x ≡ rational y
+one_upper true u x y h k = h.2 ∙ ap whole (same_from_IsFloor u h.0 k.0 h.1 k.1) ∙ sym k.2
+one_upper false u x y h k = ap rational (h ∙ sym k)
+
+-- ---- one turned column
+
+-- the two pieces are equal at all points
+abbrev AreSame : Piece → Piece → Type 0
+AreSame s t = (point : List Rational) →
+    rational s.entry *ℚ surplus_at point s.inequality ≡ rational t.entry *ℚ surplus_at point t.inequality
+
+same_from_lower : (h : Held) (l : Frac) (s t : Piece) → IsFromLower h l s → IsFromLower h l t → AreSame s t
+same_from_lower h l s t a b point =
+    ap₂ (λ v w. v *ℚ w) (a.entry_is ∙ sym b.entry_is)
+    (a.surplus_is point ∙ ap (λ w. value_at point h.index -ℚ w) (one_lower h.column.is_whole l a.bound b.bound a.bound_is b.bound_is)
+    ∙ sym (b.surplus_is point))
+
+same_from_upper : (h : Held) (u : Frac) (s t : Piece) → IsFromUpper h u s → IsFromUpper h u t → AreSame s t
+same_from_upper h u s t a b point =
+    ap₂ (λ v w. v *ℚ w) (a.entry_is ∙ sym b.entry_is)
+    (a.surplus_is point ∙ ap (λ w. w -ℚ value_at point h.index) (one_upper h.column.is_whole u a.bound b.bound a.bound_is b.bound_is)
+    ∙ sym (b.surplus_is point))
+
+same_turned : (h : Held) (lower upper : Option Frac) (up : Bool) (s t : Piece) → IsTurnedFrom h lower upper up s →
+    IsTurnedFrom h lower upper up t → AreSame s t
+same_turned h None None up s t a b = absurd a
+same_turned h None (Some u) up s t a b = same_from_upper h u s t a b
+same_turned h (Some l) None up s t a b = same_from_lower h l s t a b
+same_turned h (Some l) (Some u) true s t a b = same_from_upper h u s t a b
+same_turned h (Some l) (Some u) false s t a b = same_from_lower h l s t a b
+
+-- ---- one row
+
+same_bounds : (hs : List Held) (ps qs : List Piece) → AreMadeOf IsLeftOut IsTurned hs ps → AreMadeOf IsLeftOut IsTurned hs qs →
+    (point : List Rational) → pieces_at point ps ≡ pieces_at point qs
+same_bounds [] ps qs a b point = ap (pieces_at point) (a ∙ sym b)
+same_bounds (h ∷ hs) ps qs a b point =
+    ⊎_elim
+    (λ (k : IsLeftOut h × AreMadeOf IsLeftOut IsTurned hs ps).
+    ⊎_elim
+    (λ (l : IsLeftOut h × AreMadeOf IsLeftOut IsTurned hs qs). same_bounds hs ps qs k.1 l.1 point)
+    (λ (l : Made IsLeftOut IsTurned h hs qs). absurd (l.0 k.0)) b)
+    (λ (k : Made IsLeftOut IsTurned h hs ps).
+    ⊎_elim
+    (λ (l : IsLeftOut h × AreMadeOf IsLeftOut IsTurned hs qs). absurd (k.0 l.0))
+    (λ (l : Made IsLeftOut IsTurned h hs qs).
+    ap (pieces_at point) k.3
+    ∙ ap₂ (λ v w. v +ℚ w) (same_turned h h.column.lower h.column.upper h.at_upper k.1 l.1 k.4.turned l.4.turned point)
+    (same_bounds hs k.2 l.2 k.5 l.5 point)
+    ∙ ap (pieces_at point) (sym l.3)) b)
+    a
+
+pub one_right : (p : Problem) (ms : List Frac) (ups : List Bool) (ps qs : List Piece) (r s : Frac) → IsRow p ms ups ps r → IsRow p ms ups qs s →
+    r ≡ s
+one_right p ms ups ps qs r s row other =
+    let same = one_sum p (weighted ms p.constraints) row.coefficients other.coefficients row.against other.against row.sum other.sum in
+    let made : AreMadeOf IsLeftOut IsTurned (held 0 p.columns other.coefficients ups) row.bounds =
+    subst (λ (cs : List Frac). AreMadeOf IsLeftOut IsTurned (held 0 p.columns cs ups) row.bounds) same.0 row.bounds_are in
+    rational_injective r s
+    (row.right_is
+    ∙ ap₂ (λ v w. v +ℚ w) (ap rational same.1)
+    (same_bounds (held 0 p.columns other.coefficients ups) row.bounds other.bounds made other.bounds_are [])
+    ∙ sym other.right_is)
+
+-- ---- no free column
+
+pub no_free : (p : Problem) (ms : List Frac) (ups : List Bool) (ps : List Piece) (r : Frac) (j : ℕ) → IsRow p ms ups ps r →
+    IsFirstFree p ms ups j → ⊥
+no_free p ms ups ps r j row free =
+    let same = one_sum p (weighted ms p.constraints) row.coefficients free.coefficients row.against free.against row.sum free.sum in
+    let hs = held 0 p.columns free.coefficients ups in
+    let none : All (λ h. IsFree h → ⊥) hs =
+    none_free hs row.bounds (subst (λ (cs : List Frac). AreMadeOf IsLeftOut IsTurned (held 0 p.columns cs ups) row.bounds) same.0 row.bounds_are) in
+    let first = free.first in
+    All-head (λ h. IsFree h → ⊥) first.column first.after
+    (All-back (λ h. IsFree h → ⊥) first.before (first.column ∷ first.after) (subst (All (λ h. IsFree h → ⊥)) first.place none)) first.free
+
+same_first : (b c : List Held) (h k : Held) (d e : List Held) → b ++ h ∷ d ≡ c ++ k ∷ e → All (λ x. IsFree x → ⊥) b → All (λ x. IsFree x → ⊥) c →
+    IsFree h → IsFree k → h ≡ k
+same_first [] [] h k d e same none other h_free k_free = head_of h d k e same
+  where
+    head_of : {A : Type 0} (x : A) (xs : List A) (y : A) (ys : List A) → x ∷ xs ≡ y ∷ ys → x ≡ y
+    head_of x xs y ys e = cc
+same_first [] (x ∷ c) h k d e same none other h_free k_free =
+    let is : h ≡ x = cc in absurd (All-head (λ x. IsFree x → ⊥) x c other (subst IsFree is h_free))
+same_first (x ∷ b) [] h k d e same none other h_free k_free =
+    let is : x ≡ k = cc in absurd (All-head (λ x. IsFree x → ⊥) x b none (subst IsFree (sym is) k_free))
+same_first (x ∷ b) (y ∷ c) h k d e same none other h_free k_free =
+    let rest : b ++ h ∷ d ≡ c ++ k ∷ e = cc in
+    same_first b c h k d e rest (All-tail (λ x. IsFree x → ⊥) x b none) (All-tail (λ x. IsFree x → ⊥) y c other) h_free k_free
+
+pub one_free : (p : Problem) (ms : List Frac) (ups : List Bool) (i j : ℕ) → IsFirstFree p ms ups i → IsFirstFree p ms ups j → i ≡ j
+one_free p ms ups i j h k =
+    let same = one_sum p (weighted ms p.constraints) h.coefficients k.coefficients h.against k.against h.sum k.sum in
+    let a = h.first in
+    let b = k.first in
+    let lists : a.before ++ a.column ∷ a.after ≡ b.before ++ b.column ∷ b.after =
+    sym a.place ∙ ap (λ (cs : List Frac). held 0 p.columns cs ups) same.0 ∙ b.place in
+    a.index
+    ∙ ap (λ (x : Held). x.index) (same_first a.before b.before a.column b.column a.after b.after lists a.none_before b.none_before a.free b.free)
+    ∙ sym b.index
