@@ -9,8 +9,6 @@ use Rattle.gj_function_text.proofs.OneText.{one_function_text, no_fault_of_text}
 use Rattle.gj_function_text.proofs.FunctionTexts.{function_is_within}
 use Rattle.gj_function_text.proofs.RuleTexts.{one_end, no_fault_of_rule}
 use Rattle.gj_row.specs.TableauText.{records_of, IsTableauText}
-use Rattle.gj_row.specs.FirstFault.{IsFirstFaultOfTableau}
-use Rattle.gj_row.specs.declared.faults.RowReason.{RowReason}
 use Rattle.gj_row.proofs.OneTableau.{no_first_fault}
 use Rattle.gj_proof.specs.declared.claim.Claim.TheVariants as claim
 use Rattle.gj_proof.specs.declared.cut.CutLine.{CutLine}
@@ -18,11 +16,7 @@ use Rattle.gj_proof.specs.declared.cut.CutRule.{CutRule}
 use Rattle.gj_proof.specs.declared.cut.CutRule.TheVariants.{Gmic, Table}
 use Rattle.gj_claims.specs.CutLines.{IsLineFor}
 use Rattle.gj_claims.proofs.CutClaims.{cuts_are_bounded}
-use Rattle.gj_top.specs.declared.reply.Unanswered.{Unanswered}
-use Rattle.gj_top.specs.declared.reply.Unanswered.TheVariants.{Refused, Memory}
-use Rattle.gj_top.specs.Task.{IsTaskRefusal}
-use Rattle.gj_top.specs.Forms.{IsRefusalOf}
-use Rattle.gj_top.specs.Cut.{BeginsWithRule, CutInput, SpellsCutInput, RefusesCutInput, IsRecordRefusalOf}
+use Rattle.gj_top.specs.Cut.{BeginsWithRule, CutInput, SpellsCutInput, RefusesCutInput}
 use Rattle.gj_top.specs.Cut.RefusesCutInput.{of_rule, of_function, of_tableau}
 use Rattle.gj_top.proofs.InputLines.{rule_of_lines}
 
@@ -68,29 +62,3 @@ cut_input_refuses_only_others input text thing h (of_tableau fault) =
     one_rest input thing.rule fault.rule h.rest fault.rest (rule_of_lines input thing.rule h.rest h.rule) fault.begins in
     no_first_fault (records_of fault.rest) thing.tableau fault.record_number fault.reason
     (subst (λ rest. IsTableauText rest thing.tableau) same h.tableau) fault.first
-
--- the refusal for the first fault of a rule text, of a function text, of what follows either
-pub refusal_of_rule : (input : List ℕ) (n : ℕ) (e : Reason) (u : Unanswered) → BeginsAsRule input → IsFirstFaultOfRule input n e →
-    IsRefusalOf n e u → IsTaskRefusal RefusesCutInput input u
-refusal_of_rule input n e (Refused text) begins first spelled =
-    of_rule begins (record { at_line = n; reason = e; first = first; spelled = spelled })
-refusal_of_rule input n e (Memory a) begins first spelled = tt
-
-pub refusal_of_function : (input : List ℕ) (n : ℕ) (e : Reason) (u : Unanswered) → (BeginsAsRule input → ⊥) → IsFirstFaultOfFunction input n e →
-    IsRefusalOf n e u → IsTaskRefusal RefusesCutInput input u
-refusal_of_function input n e (Refused text) begins first spelled =
-    of_function begins (record { at_line = n; reason = e; first = first; spelled = spelled })
-refusal_of_function input n e (Memory a) begins first spelled = tt
-
-pub refusal_of_tableau : (input rest : List ℕ) (r : CutRule) (n : ℕ) (e : RowReason) (u : Unanswered) → BeginsWithRule input r rest →
-    IsFirstFaultOfTableau rest n e → IsRecordRefusalOf n e u → IsTaskRefusal RefusesCutInput input u
-refusal_of_tableau input rest r n e (Refused text) begins first spelled = of_tableau (record {
-  «rule» = r;
-  rest = rest;
-  begins = begins;
-  record_number = n;
-  reason = e;
-  first = first;
-  spelled = spelled;
-})
-refusal_of_tableau input rest r n e (Memory a) begins first spelled = tt

@@ -26,8 +26,6 @@ use Rattle.gj_claims.specs.CutRules.{MakesCuts}
 pub use Rattle.gj_top.specs.declared.cut_input.CutInput.{CutInput}
 use Rattle.gj_top.specs.declared.reply.End.{End}
 use Rattle.gj_top.specs.declared.reply.End.TheVariants.{Done, NoFunction}
-use Rattle.gj_top.specs.declared.reply.Unanswered.{Unanswered}
-use Rattle.gj_top.specs.declared.reply.Unanswered.TheVariants.{Refused, Memory}
 use Rattle.gj_top.specs.Promise.{Form, Promise}
 use Rattle.gj_top.specs.Promise.Form.{reading}
 use Rattle.gj_top.specs.Task.{Task}
@@ -59,11 +57,6 @@ BeginsWithRule text (Table f) rest = (BeginsAsRule text → ⊥) × IsFunctionTe
 -- the line that refuses an input for the n-th record of its tableau
 abbrev pub refused_record_line : ℕ → RowReason → List ℕ
 refused_record_line n reason = line (codes "refused record " ++ decimal n ++ codes " " ++ reason_word reason)
-
--- an input is refused with that line, unless there was no memory for it
-abbrev pub IsRecordRefusalOf : ℕ → RowReason → Unanswered → Type 0
-IsRecordRefusalOf n reason (Refused text) = text.items ≡ refused_record_line n reason
-IsRecordRefusalOf n reason (Memory e) = Unit {0}
 
 -- the text names the record that is the first at fault in what follows a rule, and the reason
 pub record NamesRefusedRecord (input text : List ℕ) : Type 0 where

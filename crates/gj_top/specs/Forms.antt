@@ -15,8 +15,6 @@ use Rattle.gj_json.specs.JsonFunction.{IsJsonFunction}
 use Rattle.gj_json.specs.FirstReason.{HasFirstReason, reason_word as json_reason_word}
 use Rattle.gj_json.specs.declared.faults.JsonReason.{JsonReason}
 use Rattle.gj_top.specs.declared.reply.End.{End}
-use Rattle.gj_top.specs.declared.reply.Unanswered.{Unanswered}
-use Rattle.gj_top.specs.declared.reply.Unanswered.TheVariants.{Refused, Memory}
 use Rattle.gj_top.specs.Promise.{Form, Promise}
 use Rattle.gj_top.specs.Promise.Form.{reading}
 use Rattle.gj_top.specs.Task.{Task}
@@ -59,11 +57,6 @@ proof_form = reading IsProofOf
 abbrev pub refused_line : ℕ → Reason → List ℕ
 refused_line n reason = line (codes "refused line " ++ decimal n ++ codes " " ++ reason_word reason)
 
--- an input is refused with that line, unless there was no memory for it
-abbrev pub IsRefusalOf : ℕ → Reason → Unanswered → Type 0
-IsRefusalOf n reason (Refused text) = text.items ≡ refused_line n reason
-IsRefusalOf n reason (Memory e) = Unit {0}
-
 -- the text names the line that is the first at fault, and the reason
 pub record NamesFault (IsFirst : ℕ → Reason → Type 0) (text : List ℕ) : Type 0 where
   pub at_line : ℕ
@@ -82,11 +75,6 @@ RefusesProofText input text = NamesFault (IsFirstFaultOfProof input) text
 -- the line that refuses a JSON text
 abbrev pub json_refused_line : JsonReason → List ℕ
 json_refused_line reason = line (codes "refused json " ++ json_reason_word reason)
-
--- a JSON text is refused with that line, unless there was no memory for it
-abbrev pub IsJsonRefusalOf : JsonReason → Unanswered → Type 0
-IsJsonRefusalOf reason (Refused text) = text.items ≡ json_refused_line reason
-IsJsonRefusalOf reason (Memory e) = Unit {0}
 
 -- the input is no JSON function, and the text names the first reason
 pub record RefusesJson (input text : List ℕ) : Type 0 where

@@ -2,8 +2,8 @@
 ghost use Rattle.std.specs.Prelude.{◌≤◌, drop, length, IfOk, IfErr};
 ghost use Rattle.gj_proof.specs.declared.cut.CutRule.{CutRule};
 ghost use Rattle.gj_row.specs.TableauText.{IsTableauText};
-ghost use Rattle.gj_top.specs.Task.{IsReadingOf, IsTaskRefusal};
-ghost use Rattle.gj_top.specs.Cut.{SpellsCutInput, BeginsWithRule, RefusesCutInput, IsRecordRefusalOf};
+ghost use Rattle.gj_top.specs.Task.{IsReadingOf, IsTaskRefusal, IsRefusedWith};
+ghost use Rattle.gj_top.specs.Cut.{SpellsCutInput, BeginsWithRule, RefusesCutInput, refused_record_line};
 
 use crate::forms::refusal;
 use crate::lines::numbered_line;
@@ -64,7 +64,7 @@ fn tableau_behind(alloc: Global, input: &[u8], len: usize) -> Result<Tableau, Un
 
 /// The refusal of an input for a record of its tableau.
 fn record_refusal(alloc: Global, number: u64, reason: RowReason) -> Unanswered
-    ensures { IsRecordRefusalOf number reason result }
+    ensures { IsRefusedWith (refused_record_line number reason) result }
 {
     match numbered_line(alloc, b"refused record ", number, reason.word()) {
         Ok(line) => Unanswered::Refused(line),

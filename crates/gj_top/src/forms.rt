@@ -1,8 +1,8 @@
 //! The forms of input: each is read whole, or refused with the line that says why.
 ghost use Rattle.gj_function_lines.specs.FunctionLines.{line};
-ghost use Rattle.gj_top.specs.Task.{IsReadingOf};
+ghost use Rattle.gj_top.specs.Task.{IsReadingOf, IsRefusedWith};
 ghost use Rattle.gj_json.specs.JsonFunction.{IsJsonFunction};
-ghost use Rattle.gj_top.specs.Forms.{IsFunctionInput, SpellsFunction, IsProofOf, IsRefusalOf, IsJsonRefusalOf};
+ghost use Rattle.gj_top.specs.Forms.{IsFunctionInput, SpellsFunction, IsProofOf, refused_line, json_refused_line};
 ghost use Rattle.gj_top.specs.Forms.{RefusesFunctionText, RefusesJson, RefusesFunction, RefusesProofText};
 
 use crate::lines::{numbered_line, worded_line};
@@ -60,7 +60,7 @@ pub(crate) fn proof_of(alloc: Global, input: &[u8]) -> Result<Proof, Unanswered>
 
 /// The refusal of an input for a line of it.
 pub(crate) fn refusal(alloc: Global, at_line: u64, reason: Reason) -> Unanswered
-    ensures { IsRefusalOf at_line reason result }
+    ensures { IsRefusedWith (refused_line at_line reason) result }
 {
     match numbered_line(alloc, b"refused line ", at_line, reason.word()) {
         Ok(line) => Unanswered::Refused(line),
@@ -70,7 +70,7 @@ pub(crate) fn refusal(alloc: Global, at_line: u64, reason: Reason) -> Unanswered
 
 /// The refusal of a JSON text.
 fn json_refusal(alloc: Global, reason: JsonReason) -> Unanswered
-    ensures { IsJsonRefusalOf reason result }
+    ensures { IsRefusedWith (json_refused_line reason) result }
 {
     match worded_line(alloc, b"refused json ", reason.word()) {
         Ok(line) => Unanswered::Refused(line),

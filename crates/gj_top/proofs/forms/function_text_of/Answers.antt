@@ -1,6 +1,7 @@
-use Rattle.gj_function_text.specs.FirstFault.{IsFirstFaultOfWhole}
+use Rattle.std.proofs.Common.{refl}
+use Rattle.gj_top.specs.Forms.{RefusesFunctionText, refused_line}
 use Rattle.gj_top.proofs.InputLines.{input_of_whole}
-use Rattle.gj_top.proofs.Refusals.{refusal_of_fault}
+use Rattle.gj_top.proofs.Refusals.{refused_with}
 use Rattle.gj_top.proofs.forms.function_text_of.Goals as goal
 
 pub returns-in-Ok : goal.returns-in-Ok
@@ -8,5 +9,7 @@ returns-in-Ok c = input_of_whole c.args.input.now c.in-Ok.shape c.in-Ok.ensures.
 
 pub returns-in-Err-Refused : goal.returns-in-Err-Refused
 returns-in-Err-Refused c =
-    refusal_of_fault IsFirstFaultOfWhole c.args.input.now c.in-Err-Refused.at_line c.in-Err-Refused.reason _
-    (rw c.in-Err-Refused.field-0-is at c.in-Err-Refused.ensures.refused) c.refusal.ensures
+    let first = rw c.in-Err-Refused.field-0-is at c.in-Err-Refused.ensures.refused in
+    let n = c.in-Err-Refused.at_line in
+    let e = c.in-Err-Refused.reason in
+    refused_with RefusesFunctionText c.args.input.now (refused_line n e) _ (record { at_line = n; reason = e; first = first; spelled = refl }) c.refusal.ensures

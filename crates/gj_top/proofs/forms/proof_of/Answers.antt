@@ -1,8 +1,11 @@
-use Rattle.gj_proof.specs.FirstFault.{IsFirstFaultOfProof}
-use Rattle.gj_top.proofs.Refusals.{refusal_of_fault}
+use Rattle.std.proofs.Common.{refl}
+use Rattle.gj_top.specs.Forms.{RefusesProofText, refused_line}
+use Rattle.gj_top.proofs.Refusals.{refused_with}
 use Rattle.gj_top.proofs.forms.proof_of.Goals as goal
 
 pub returns-in-Err-Refused : goal.returns-in-Err-Refused
 returns-in-Err-Refused c =
-    refusal_of_fault IsFirstFaultOfProof c.args.input.now c.in-Err-Refused.at_line c.in-Err-Refused.reason _
-    (rw c.in-Err-Refused.field-0-is at c.in-Err-Refused.ensures.refused) c.refusal.ensures
+    let first = rw c.in-Err-Refused.field-0-is at c.in-Err-Refused.ensures.refused in
+    let n = c.in-Err-Refused.at_line in
+    let e = c.in-Err-Refused.reason in
+    refused_with RefusesProofText c.args.input.now (refused_line n e) _ (record { at_line = n; reason = e; first = first; spelled = refl }) c.refusal.ensures
