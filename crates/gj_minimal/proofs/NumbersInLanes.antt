@@ -13,9 +13,6 @@ natural_at numbers i = unsigned_abs (at numbers i)
 pub natural_is : (bound : ℕ) (numbers : List ℤ) (i : ℕ) → AreInRange (pos 0) bound numbers → pos (natural_at numbers i) ≡ at numbers i
 natural_is bound numbers i h = let low = (h i).0 in omega (arith, ints)
 
-pub natural_below : (bound : ℕ) (numbers : List ℤ) (i : ℕ) → AreInRange (pos 0) bound numbers → natural_at numbers i < bound
-natural_below bound numbers i h = let low = (h i).0 in let high = (h i).1 in omega (arith, ints)
-
 -- the range of lanes that begin at 0
 pub in_range_from_0 : {least : ℤ} {bound : ℕ} (numbers : List ℤ) → least ≡ pos 0 → AreInRange least bound numbers →
     AreInRange (pos 0) bound numbers
