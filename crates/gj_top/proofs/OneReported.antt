@@ -14,7 +14,8 @@ use Rattle.gj_json.proofs.OneReason.{one_reason}
 use Rattle.gj_proof.specs.declared.claim.Claim.{Claim}
 use Rattle.gj_proof.specs.declared.numbers.Numbers.{Numbers}
 use Rattle.gj_proof.specs.declared.numbers.Numbers.TheVariants.{Whole, Residues}
-use Rattle.gj_proof.specs.ProofText.{IsProofText, claim_word, title_text, numbers_of, own_lines}
+use Rattle.gj_proof.specs.ProofText.{IsProofText, claim_word, title_fields, numbers_of, own_text}
+use Rattle.gj_forms.specs.LineForms.{bytes_of}
 use Rattle.gj_top.specs.declared.reply.End.{End}
 use Rattle.gj_top.specs.declared.reply.End.TheVariants as end
 use Rattle.gj_top.specs.Extreme.{IsExtremality, extreme_json}
@@ -83,6 +84,15 @@ NoFeed bs = All (λ b. b ≢ 10) bs
 printable_no_feed : (bs : List ℕ) → All IsPrintable bs → NoFeed bs
 printable_no_feed bs h = λ k d within e. let p = h k d within in absurd (omega (arith, p.0, e))
 
+-- the title without its line feed
+abbrev title_text : Numbers → List ℕ
+title_text Whole = codes "gj-proof 1"
+title_text Residues = codes "gj-proof 2"
+
+title_line : (n : Numbers) → bytes_of (title_fields n) ≡ line (title_text n)
+title_line Whole = refl
+title_line Residues = refl
+
 title_no_feed : (n : Numbers) → NoFeed (title_text n)
 title_no_feed Whole = printable_no_feed (title_text Whole) (known (title_text Whole) refl)
 title_no_feed Residues = printable_no_feed (title_text Residues) (known (title_text Residues) refl)
@@ -98,7 +108,7 @@ first_lines a b r q h k e = one_cut a b r q h k (sym (append_assoc a (10 ∷ [])
 
 -- what follows the word of the claim, and what follows the title
 abbrev behind_word : Claim → List ℕ → List ℕ
-behind_word c subject = subject ++ (flat_map (λ l. l.bytes) (own_lines c) ++ line (codes "end"))
+behind_word c subject = subject ++ (own_text c ++ line (codes "end"))
 
 abbrev behind_title : Claim → List ℕ → List ℕ
 behind_title c subject = line (codes "claim " ++ claim_word c) ++ behind_word c subject
@@ -108,8 +118,9 @@ regrouped a b s l e = append_assoc (a ++ b ++ s) l e ∙ append_assoc (a ++ b) s
 
 by_title : (c : Claim) (text : List ℕ) (h : IsProofText c text) → text ≡ line (title_text (numbers_of c)) ++ behind_title c h.subject
 by_title c text h =
-    h.spelled
-    ∙ regrouped (line (title_text (numbers_of c))) (line (codes "claim " ++ claim_word c)) h.subject (flat_map (λ l. l.bytes) (own_lines c))
+    h.spelled ∙ ap (λ t. t ++ line (codes "claim " ++ claim_word c) ++ h.subject ++ own_text c ++ line (codes "end"))
+    (title_line (numbers_of c))
+    ∙ regrouped (line (title_text (numbers_of c))) (line (codes "claim " ++ claim_word c)) h.subject (own_text c)
     (line (codes "end"))
 
 one_word : (c d : Claim) (text : List ℕ) → IsProofText c text → IsProofText d text → claim_word c ≡ claim_word d

@@ -15,16 +15,15 @@ use Rattle.gj_frac.specs.declared.Frac.{Frac}
 use Rattle.gj_shape.specs.Perturbation.{AreHalvesInBounds}
 use Rattle.gj_lex.specs.NumberText.{fraction_text, IsNumberByte}
 use Rattle.gj_lex.proofs.WordBytes.{decimal_bytes, fraction_bytes}
-use Rattle.gj_forms.specs.LineForms.{line_of}
-use Rattle.gj_function_lines.specs.FunctionLines.{line, fraction_line, order_line, place_line, PointNumbers, point_form, numbers_of, point_line, AreFunctionLines}
+use Rattle.gj_function_lines.specs.FunctionLines.{line, order_form, order_line, place_form, place_line, PointNumbers, point_form, numbers_of as printed_numbers, point_line, AreFunctionLines}
 use Rattle.gj_function_lines.specs.FunctionLines.PointNumbers.{one, three}
-use Rattle.gj_function_lines.specs.FaceLines.{face_word, face_text, cover_line}
+use Rattle.gj_function_lines.specs.FaceLines.{face_word, cover_fields, cover_line}
+use Rattle.gj_forms.specs.LineForms.{Field, word_of, bytes_of}
 use Rattle.gj_shape.specs.FunctionData.{FunctionData, IsWithinBounds}
 use Rattle.gj_shape.specs.declared.extremality.CoverLine.{CoverLine}
 use Rattle.gj_shape.specs.declared.extremality.Halves.{Halves}
 use Rattle.gj_shape.specs.declared.extremality.RowName.{RowName}
 use Rattle.gj_shape.specs.declared.extremality.RowName.TheVariants.{Period, F, Pair}
-use Rattle.gj_shape.specs.declared.faces.Face.{Face}
 use Rattle.gj_shape.specs.declared.faces.FaceKind.{FaceKind}
 use Rattle.gj_shape.specs.declared.faces.FaceKind.TheVariants.{Vertex, Horizontal, Vertical, Diagonal, Lower, Upper}
 use Rattle.gj_shape.specs.declared.points.Point.{Point}
@@ -42,11 +41,10 @@ use Rattle.gj_lex.specs.Name.{IsNameByte, IsName}
 use Rattle.gj_theory.specs.Modulus.{modulus}
 use Rattle.gj_proof.specs.declared.numbers.Numbers.{Numbers}
 use Rattle.gj_proof.specs.declared.numbers.Numbers.TheVariants.{Whole, Residues}
-use Rattle.gj_proof.specs.ProofText.{title_text, numbers_of, modulus_line, modulus_lines, HasText, IsCoverLineBelow, IsRowNameBelow, IsPivotRowBelow, covered_lines, group_line, reduction_lines, pivot_line, group_lines, halves_line, pair_line, pair_lines, claim_word, OwnLine, own_lines, violation_line, row_line, term_line, reason_word, terms_of, term_lines, row_lines, HasNames, subject_of, AreSubjectLines, IsBounded, IsProofText}
-use Rattle.gj_proof.specs.ProofText.ProofLine.{group_pivot}
+use Rattle.gj_proof.specs.ProofText.{title_fields, numbers_of, claim_fields, violation_fields, row_fields, term_fields, column_fields, row_name_fields, modulus_fields, halves_fields, pair_fields, modulus_line, HasText, IsCoverLineBelow, IsRowNameBelow, IsPivotRowBelow, group_line, pivot_line, halves_line, pair_line, claim_word, row_line, term_line, reason_word, terms_of, HasNames, subject_of, AreSubjectLines, IsBounded, IsProofText, row_text, group_text, modulus_text, extreme_text, own_text, reduction_line}
 use Rattle.gj_proof.specs.declared.pivot.PivotRow.{PivotRow}
 use Rattle.gj_proof.proofs.OwnLines.{names_of_terms}
-use Rattle.gj_proof.proofs.WholeNumbers.{whole, text_of_whole}
+use Rattle.gj_forms.proofs.WholeNumbers.{whole, text_of_whole}
 use Rattle.gj_json.specs.JsonText.{IsPrintable, IsProofByte, IsEnded}
 
 -- ---- known texts
@@ -76,12 +74,21 @@ joined = All-append IsPrintable
 both : (a b : List ℕ) → All IsProofByte a → All IsProofByte b → All IsProofByte (a ++ b)
 both = All-append IsProofByte
 
-printed : (bs : List ℕ) → All IsPrintable bs → All IsProofByte bs
-printed bs h = All-weaker IsPrintable IsProofByte (λ b p. inr p) bs h
-
 line_bytes : (bs : List ℕ) → All IsPrintable bs → All IsProofByte (line bs)
 line_bytes bs h =
-    both bs (10 ∷ []) (printed bs h) (All-cons IsProofByte 10 [] (inl refl) (All-nil IsProofByte))
+    both bs (10 ∷ []) (All-weaker IsPrintable IsProofByte (λ b p. inr p) bs h) (All-cons IsProofByte 10 [] (inl refl) (All-nil IsProofByte))
+
+-- the words of the fields are printable
+abbrev ArePrintable : List Field → Type 0
+ArePrintable [] = Unit {0}
+ArePrintable (f ∷ fields) = All IsPrintable (word_of f) × ArePrintable fields
+
+fields_bytes : (fields : List Field) → ArePrintable fields → All IsProofByte (bytes_of fields)
+fields_bytes [] h = All-cons IsProofByte 10 [] (inl refl) (All-nil IsProofByte)
+fields_bytes (f ∷ []) h = line_bytes (word_of f) h.0
+fields_bytes (f ∷ g ∷ fields) h =
+    both (word_of f) (32 ∷ bytes_of (g ∷ fields)) (All-weaker IsPrintable IsProofByte (λ b p. inr p) (word_of f) h.0)
+    (All-cons IsProofByte 32 (bytes_of (g ∷ fields)) (inr (omega arith, omega arith)) (fields_bytes (g ∷ fields) h.1))
 
 -- ---- numbers
 
@@ -97,33 +104,28 @@ decimal_printable : (n : ℕ) → n ≤ 4000 → All IsPrintable (decimal n)
 decimal_printable n small =
     All-weaker IsAsciiDigit IsPrintable (λ b d. number_printable b (inl d)) (decimal n) (decimal_bytes n (omega arith))
 
-fraction_line_bytes : (word : List ℕ) (x : Frac) → All IsPrintable word → All IsProofByte (fraction_line word x)
-fraction_line_bytes word x h = line_bytes (word ++ fraction_text x) (joined word (fraction_text x) h (fraction_printable x))
-
 -- ---- the lines of a function
 
-point_bytes : (n : PointNumbers) → All IsProofByte (line_of point_form n)
-point_bytes (one x) = fraction_line_bytes (codes "point ") x (known (codes "point ") refl)
-point_bytes (three p) =
-    let number : (word : List ℕ) (x : Frac) (more : List ℕ) → All IsPrintable word → All IsProofByte more →
-        All IsProofByte (word ++ (fraction_text x ++ more)) =
-    λ word x more h k. both word (fraction_text x ++ more) (printed word h) (both (fraction_text x) more (printed (fraction_text x) (fraction_printable x)) k) in
-    number (codes "point ") p.left _ (known (codes "point ") refl)
-    (number (codes " ") p.value _ (known (codes " ") refl)
-    (number (codes " ") p.right (10 ∷ []) (known (codes " ") refl) (All-cons IsProofByte 10 [] (inl refl) (All-nil IsProofByte))))
+point_printable : (n : PointNumbers) → ArePrintable (point_form.fields n)
+point_printable (one x) = (known (codes "point") refl, (fraction_printable x, tt))
+point_printable (three p) =
+    (known (codes "point") refl, (fraction_printable p.left, (fraction_printable p.value, (fraction_printable p.right, tt))))
 
 points_bytes : (ps : List Point) → All IsProofByte (flat_map point_line ps)
 points_bytes [] = All-nil IsProofByte
-points_bytes (p ∷ ps) = both (point_line p) (flat_map point_line ps) (point_bytes (numbers_of p)) (points_bytes ps)
+points_bytes (p ∷ ps) =
+    both (point_line p) (flat_map point_line ps)
+    (fields_bytes (point_form.fields (printed_numbers p)) (point_printable (printed_numbers p)))
+    (points_bytes ps)
 
 function_bytes : (f : FunctionData) (text : List ℕ) → IsWithinBounds f → AreFunctionLines f text → All IsProofByte text
 function_bytes f text within a =
     subst (All IsProofByte) (sym a.spelled)
     (both (order_line f.order ++ place_line a.place) (flat_map point_line a.points)
     (both (order_line f.order) (place_line a.place)
-    (line_bytes (codes "order " ++ decimal f.order)
-    (joined (codes "order ") (decimal f.order) (known (codes "order ") refl) (decimal_printable f.order (let high = within.order_high in omega arith))))
-    (fraction_line_bytes (codes "f ") a.place (known (codes "f ") refl)))
+    (fields_bytes (order_form.fields f.order)
+    (known (codes "order") refl, (decimal_printable f.order (let high = within.order_high in omega arith), tt)))
+    (fields_bytes (place_form.fields a.place) (known (codes "f") refl, (fraction_printable a.place, tt))))
     (points_bytes a.points))
 
 -- ---- the lines of a claim
@@ -146,17 +148,12 @@ subject_bytes (NotExtreme f h) text within a = function_bytes f text within a
 subject_bytes (Cut Gmic rows) text within a =
     subst (All IsProofByte) (sym a) (line_bytes (codes "rule gmic") (known (codes "rule gmic") refl))
 
-violation_bytes : (v : Violation) → All IsProofByte (violation_line v)
-violation_bytes violation.Zero = line_bytes (codes "zero") (known (codes "zero") refl)
-violation_bytes (violation.Negative x) = fraction_line_bytes (codes "negative ") x (known (codes "negative ") refl)
-violation_bytes (violation.Asymmetric x) = fraction_line_bytes (codes "asymmetric ") x (known (codes "asymmetric ") refl)
-violation_bytes (violation.Superadditive x y) =
-    let word = codes "superadditive " in
-    line_bytes (word ++ fraction_text x ++ codes " " ++ fraction_text y)
-    (joined (word ++ fraction_text x ++ codes " ") (fraction_text y)
-    (joined (word ++ fraction_text x) (codes " ")
-    (joined word (fraction_text x) (known (codes "superadditive ") refl) (fraction_printable x)) (known (codes " ") refl))
-    (fraction_printable y))
+violation_printable : (v : Violation) → ArePrintable (violation_fields v)
+violation_printable violation.Zero = (known (codes "zero") refl, tt)
+violation_printable (violation.Negative x) = (known (codes "negative") refl, (fraction_printable x, tt))
+violation_printable (violation.Asymmetric x) = (known (codes "asymmetric") refl, (fraction_printable x, tt))
+violation_printable (violation.Superadditive x y) =
+    (known (codes "superadditive") refl, (fraction_printable x, (fraction_printable y, tt)))
 
 -- ---- the lines of cuts
 
@@ -166,59 +163,30 @@ name_printable name h = All-weaker IsNameByte IsPrintable byte name h.visible
     byte : (b : ℕ) → IsNameByte b → IsPrintable b
     byte b n = let low = n.above_space in let high = n.below_delete in (omega arith, omega arith)
 
-named : (word name : List ℕ) (x : Frac) → All IsPrintable word → IsName name →
-    All IsPrintable (word ++ name ++ codes " " ++ fraction_text x)
-named word name x w h =
-    joined (word ++ name ++ codes " ") (fraction_text x)
-    (joined (word ++ name) (codes " ") (joined word name w (name_printable name h)) (known (codes " ") refl)) (fraction_printable x)
-
 reason_printable : (r : SkipReason) → All IsPrintable (reason_word r)
 reason_printable Integral = known (codes "integral") refl
 reason_printable Other = known (codes "other") refl
 
 row_bytes : (l : CutLine) → HasNames l → All IsProofByte (row_line l)
 row_bytes (cuts.Cut name right terms) h =
-    line_bytes (codes "cut " ++ name ++ codes " " ++ fraction_text right) (named (codes "cut ") name right (known (codes "cut ") refl) h.0)
+    fields_bytes (row_fields (cuts.Cut name right terms))
+    (known (codes "cut") refl, (name_printable name h.0, (fraction_printable right, tt)))
 row_bytes (cuts.Skip name right reason) h =
-    let front = codes "skip " ++ name ++ codes " " ++ fraction_text right in
-    line_bytes (front ++ codes " " ++ reason_word reason)
-    (joined (front ++ codes " ") (reason_word reason)
-    (joined front (codes " ") (named (codes "skip ") name right (known (codes "skip ") refl) h) (known (codes " ") refl))
-    (reason_printable reason))
+    fields_bytes (row_fields (cuts.Skip name right reason))
+    (known (codes "skip") refl, (name_printable name h, (fraction_printable right, (reason_printable reason, tt))))
 
 term_bytes : (t : CutTerm) → IsName t.name → All IsProofByte (term_line t)
 term_bytes t h =
-    let front = codes "term " ++ t.name ++ codes " " ++ fraction_text t.entry in
-    line_bytes (front ++ codes " " ++ fraction_text t.cut)
-    (joined (front ++ codes " ") (fraction_text t.cut)
-    (joined front (codes " ") (named (codes "term ") t.name t.entry (known (codes "term ") refl) h) (known (codes " ") refl))
-    (fraction_printable t.cut))
+    fields_bytes (term_fields t)
+    (known (codes "term") refl, (name_printable t.name h, (fraction_printable t.entry, (fraction_printable t.cut, tt))))
 
-terms_bytes : (i j : ℕ) (terms : List CutTerm) → All (λ t. IsName t.name) terms →
-    All (λ (l : OwnLine). All IsProofByte l.bytes) (term_lines i j terms)
-terms_bytes i j [] h = All-nil (λ (l : OwnLine). All IsProofByte l.bytes)
-terms_bytes i j (t ∷ terms) h =
-    All-cons (λ (l : OwnLine). All IsProofByte l.bytes) _ (term_lines i (j + 1) terms)
-    (term_bytes t (All-head (λ u. IsName u.name) t terms h)) (terms_bytes i (j + 1) terms (All-tail (λ u. IsName u.name) t terms h))
-
-rows_bytes : (i : ℕ) (rows : List CutLine) → All HasNames rows → All (λ (l : OwnLine). All IsProofByte l.bytes) (row_lines i rows)
-rows_bytes i [] h = All-nil (λ (l : OwnLine). All IsProofByte l.bytes)
-rows_bytes i (l ∷ rows) h =
-    let P : OwnLine → Type 0 = λ o. All IsProofByte o.bytes in
-    let names = All-head HasNames l rows h in
-    All-cons P _ (term_lines i 0 (terms_of l) ++ row_lines (i + 1) rows) (row_bytes l names)
-    (All-append P (term_lines i 0 (terms_of l)) (row_lines (i + 1) rows) (terms_bytes i 0 (terms_of l) (names_of_terms l names))
-    (rows_bytes (i + 1) rows (All-tail HasNames l rows h)))
+row_text_bytes : (l : CutLine) → HasNames l → All IsProofByte (row_text l)
+row_text_bytes l h =
+    both (row_line l) (flat_map term_line (terms_of l)) (row_bytes l h)
+    (All-flat_map IsProofByte term_line (terms_of l)
+    (All-weaker (λ (t : CutTerm). IsName t.name) (λ t. All IsProofByte (term_line t)) term_bytes (terms_of l) (names_of_terms l h)))
 
 -- ---- the lines of an extreme function
-
--- a word, and a count of at most 1,000 behind it
-counted : (word : List ℕ) (n : ℕ) → All IsPrintable word → n ≤ 1000 → All IsPrintable (word ++ decimal n)
-counted word n h low = joined word (decimal n) h (decimal_printable n (omega arith))
-
--- and a blank
-spaced : (word : List ℕ) (n : ℕ) → All IsPrintable word → n ≤ 1000 → All IsPrintable (word ++ decimal n ++ codes " ")
-spaced word n h low = joined (word ++ decimal n) (codes " ") (counted word n h low) (known (codes " ") refl)
 
 kind_printable : (kind : FaceKind) → All IsPrintable (face_word kind)
 kind_printable Vertex = known (codes "vertex") refl
@@ -228,66 +196,45 @@ kind_printable Diagonal = known (codes "diagonal") refl
 kind_printable Lower = known (codes "lower") refl
 kind_printable Upper = known (codes "upper") refl
 
-face_printable : (face : Face) → face.a ≤ 1000 → face.b ≤ 1000 → All IsPrintable (face_text face)
-face_printable face a_low b_low =
-    let word = face_word face.kind ++ codes " " in
-    counted (word ++ decimal face.a ++ codes " ") face.b
-    (spaced word face.a (joined (face_word face.kind) (codes " ") (kind_printable face.kind) (known (codes " ") refl)) a_low) b_low
-
 cover_bytes : (q : ℕ) (l : CoverLine) → q ≤ 1000 → IsCoverLineBelow q l → All IsProofByte (cover_line l)
 cover_bytes q l high below =
-    let i_low = below.interval in
-    let j_low = below.from in
-    let a_low = below.first in
-    let b_low = below.second in
-    let front = codes "cover " ++ decimal l.interval ++ codes " " in
-    let place = front ++ decimal l.from ++ codes " " in
-    line_bytes (place ++ face_text l.face)
-    (joined place (face_text l.face)
-    (spaced front l.from (spaced (codes "cover ") l.interval (known (codes "cover ") refl) (omega arith)) (omega arith))
-    (face_printable l.face (omega arith) (omega arith)))
-
-covers_bytes : (q i : ℕ) (lines : List CoverLine) → q ≤ 1000 → All (IsCoverLineBelow q) lines →
-    All (λ (l : OwnLine). All IsProofByte l.bytes) (covered_lines i lines)
-covers_bytes q i [] high h = All-nil (λ (l : OwnLine). All IsProofByte l.bytes)
-covers_bytes q i (l ∷ lines) high h =
-    All-cons (λ (o : OwnLine). All IsProofByte o.bytes) _ (covered_lines (i + 1) lines)
-    (cover_bytes q l high (All-head (IsCoverLineBelow q) l lines h))
-    (covers_bytes q (i + 1) lines high (All-tail (IsCoverLineBelow q) l lines h))
+    let interval = below.interval in
+    let from = below.from in
+    let first = below.first in
+    let second = below.second in
+    fields_bytes (cover_fields l) (
+      known (codes "cover") refl,
+      (
+        decimal_printable l.interval (omega arith),
+        (
+          decimal_printable l.from (omega arith),
+          (kind_printable l.face.kind, (decimal_printable l.face.a (omega arith), (decimal_printable l.face.b (omega arith), tt))),
+        ),
+      ),
+    )
 
 -- the line of a word and a column
-column_bytes : (word : List ℕ) (c : ℕ) → All IsPrintable word → c < 1000 → All IsProofByte (line (word ++ decimal c))
-column_bytes word c h low = line_bytes (word ++ decimal c) (counted word c h (omega arith))
+column_bytes : (name : List ℕ) (c : ℕ) → All IsPrintable name → c < 1000 → All IsProofByte (bytes_of (column_fields name c))
+column_bytes name c h low = fields_bytes (column_fields name c) (h, (decimal_printable c (omega arith), tt))
 
-name_bytes : (q : ℕ) (name : RowName) → q ≤ 1000 → IsRowNameBelow q name → All IsProofByte (group_line name)
-name_bytes q Period high below = line_bytes (codes "row period") (known (codes "row period") refl)
-name_bytes q F high below = line_bytes (codes "row f") (known (codes "row f") refl)
-name_bytes q (Pair a b) high (a_low, up, b_low) =
-    let front = codes "row " ++ decimal a ++ codes " " in
-    line_bytes (front ++ decimal b)
-    (counted front b (spaced (codes "row ") a (known (codes "row ") refl) (omega arith)) (omega arith))
+name_printable_of_row : (q : ℕ) (name : RowName) → q ≤ 1000 → IsRowNameBelow q name → ArePrintable (row_name_fields name)
+name_printable_of_row q Period high below = (known (codes "row") refl, (known (codes "period") refl, tt))
+name_printable_of_row q F high below = (known (codes "row") refl, (known (codes "f") refl, tt))
+name_printable_of_row q (Pair a b) high (a_low, up, b_low) =
+    (known (codes "row") refl, (decimal_printable a (omega arith), (decimal_printable b (omega arith), tt)))
 
-steps_bytes : (g r : ℕ) (columns : List ℕ) → All (λ c. c < 1000) columns →
-    All (λ (l : OwnLine). All IsProofByte l.bytes) (reduction_lines g r columns)
-steps_bytes g r [] h = All-nil (λ (l : OwnLine). All IsProofByte l.bytes)
-steps_bytes g r (c ∷ columns) h =
-    All-cons (λ (o : OwnLine). All IsProofByte o.bytes) _ (reduction_lines g (r + 1) columns)
-    (column_bytes (codes "reduce ") c (known (codes "reduce ") refl) (All-head (λ d. d < 1000) c columns h))
-    (steps_bytes g (r + 1) columns (All-tail (λ d. d < 1000) c columns h))
+steps_bytes : (columns : List ℕ) → All (λ c. c < 1000) columns → All IsProofByte (flat_map reduction_line columns)
+steps_bytes columns h =
+    All-flat_map IsProofByte reduction_line columns
+    (All-weaker (λ c. c < 1000) (λ c. All IsProofByte (reduction_line c)) (λ c low. column_bytes (codes "reduce") c (known (codes "reduce") refl) low)
+    columns h)
 
-groups_bytes : (q g : ℕ) (rows : List PivotRow) → q ≤ 1000 → All (IsPivotRowBelow q) rows →
-    All (λ (l : OwnLine). All IsProofByte l.bytes) (group_lines g rows)
-groups_bytes q g [] high h = All-nil (λ (l : OwnLine). All IsProofByte l.bytes)
-groups_bytes q g (row ∷ rows) high h =
-    let P : OwnLine → Type 0 = λ o. All IsProofByte o.bytes in
-    let here = All-head (IsPivotRowBelow q) row rows h in
-    All-cons P _ (reduction_lines g 0 row.reduce ++ record { name = group_pivot g; bytes = pivot_line row.pivot } ∷ group_lines (g + 1) rows)
-    (name_bytes q row.name high here.name)
-    (All-append P (reduction_lines g 0 row.reduce) (record { name = group_pivot g; bytes = pivot_line row.pivot } ∷ group_lines (g + 1) rows)
-    (steps_bytes g 0 row.reduce here.reduce)
-    (All-cons P (record { name = group_pivot g; bytes = pivot_line row.pivot }) (group_lines (g + 1) rows)
-    (column_bytes (codes "pivot ") row.pivot (known (codes "pivot ") refl) here.pivot)
-    (groups_bytes q (g + 1) rows high (All-tail (IsPivotRowBelow q) row rows h))))
+group_bytes : (q : ℕ) → q ≤ 1000 → (row : PivotRow) → IsPivotRowBelow q row → All IsProofByte (group_text row)
+group_bytes q high row h =
+    both (group_line row.name ++ flat_map reduction_line row.reduce) (pivot_line row.pivot)
+    (both (group_line row.name) (flat_map reduction_line row.reduce)
+    (fields_bytes (row_name_fields row.name) (name_printable_of_row q row.name high h.name)) (steps_bytes row.reduce h.reduce))
+    (column_bytes (codes "pivot") row.pivot (known (codes "pivot") refl) h.pivot)
 
 -- ---- the lines of halves
 
@@ -300,82 +247,80 @@ halves_bytes h in_bounds =
     let low = in_bounds.scale_low in
     let high = in_bounds.scale_high in
     let fits : Fits h.scale = scale_fits h.scale low high in
-    let front = codes "halves " ++ decimal h.order in
-    line_bytes (front ++ codes " " ++ signed_decimal h.scale)
-    (joined (front ++ codes " ") (signed_decimal h.scale)
-    (joined front (codes " ")
-    (joined (codes "halves ") (decimal h.order) (known (codes "halves ") refl) (decimal_printable h.order order_high)) (known (codes " ") refl))
-    (whole_printable h.scale fits))
+    fields_bytes (halves_fields h.order h.scale)
+    (known (codes "halves") refl, (decimal_printable h.order order_high, (whole_printable h.scale fits, tt)))
   where
     scale_fits : (s : ℤ) → pos 1 ≤ℤ s → s ≤ℤ pos (2 ^ 124) → Fits s
     scale_fits s low high = omega (arith, ints)
 
 pair_bytes : (x y : ℤ) → Fits x → Fits y → All IsProofByte (pair_line (x, y))
 pair_bytes x y x_fits y_fits =
-    let front = codes "pair " ++ signed_decimal x in
-    line_bytes (front ++ codes " " ++ signed_decimal y)
-    (joined (front ++ codes " ") (signed_decimal y)
-    (joined front (codes " ") (joined (codes "pair ") (signed_decimal x) (known (codes "pair ") refl) (whole_printable x x_fits))
-    (known (codes " ") refl))
-    (whole_printable y y_fits))
+    fields_bytes (pair_fields (x, y)) (known (codes "pair") refl, (whole_printable x x_fits, (whole_printable y y_fits, tt)))
 
-pairs_bytes : (i : ℕ) (xs ys : List ℤ) → All Fits xs → All Fits ys →
-    All (λ (l : OwnLine). All IsProofByte l.bytes) (pair_lines i (zip xs ys))
-pairs_bytes i [] ys h k = All-nil (λ (l : OwnLine). All IsProofByte l.bytes)
-pairs_bytes i (x ∷ xs) [] h k = All-nil (λ (l : OwnLine). All IsProofByte l.bytes)
-pairs_bytes i (x ∷ xs) (y ∷ ys) h k =
-    All-cons (λ (o : OwnLine). All IsProofByte o.bytes) _ (pair_lines (i + 1) (zip xs ys))
-    (pair_bytes x y (All-head Fits x xs h) (All-head Fits y ys k))
-    (pairs_bytes (i + 1) xs ys (All-tail Fits x xs h) (All-tail Fits y ys k))
+pairs_bytes : (xs ys : List ℤ) → All Fits xs → All Fits ys → All IsProofByte (flat_map pair_line (zip xs ys))
+pairs_bytes [] ys h k = All-nil IsProofByte
+pairs_bytes (x ∷ xs) [] h k = All-nil IsProofByte
+pairs_bytes (x ∷ xs) (y ∷ ys) h k =
+    both (pair_line (x, y)) (flat_map pair_line (zip xs ys)) (pair_bytes x y (All-head Fits x xs h) (All-head Fits y ys k))
+    (pairs_bytes xs ys (All-tail Fits x xs h) (All-tail Fits y ys k))
 
 modulus_bytes : All IsProofByte modulus_line
 modulus_bytes =
-    line_bytes (codes "modulus " ++ decimal modulus)
-    (joined (codes "modulus ") (decimal modulus) (known (codes "modulus ") refl)
-    (All-weaker IsAsciiDigit IsPrintable (λ b d. number_printable b (inl d)) (decimal modulus) (decimal_bytes modulus (omega arith))))
+    fields_bytes modulus_fields (
+      known (codes "modulus") refl,
+      (All-weaker IsAsciiDigit IsPrintable (λ b d. number_printable b (inl d)) (decimal modulus) (decimal_bytes modulus (omega arith)), tt),
+    )
 
-title_bytes : (numbers : Numbers) → All IsProofByte (line (title_text numbers))
-title_bytes Whole = line_bytes (codes "gj-proof 1") (known (codes "gj-proof 1") refl)
-title_bytes Residues = line_bytes (codes "gj-proof 2") (known (codes "gj-proof 2") refl)
+title_bytes : (n : Numbers) → All IsProofByte (bytes_of (title_fields n))
+title_bytes Whole = fields_bytes (title_fields Whole) (known (codes "gj-proof") refl, (known (codes "1") refl, tt))
+title_bytes Residues = fields_bytes (title_fields Residues) (known (codes "gj-proof") refl, (known (codes "2") refl, tt))
 
 -- ---- all lines of the claim's own
 
-own_bytes : (c : Claim) → IsBounded c → HasText c → All IsProofByte (flat_map (λ l. l.bytes) (own_lines c))
+modulus_text_bytes : (n : Numbers) → All IsProofByte (modulus_text n)
+modulus_text_bytes Whole = All-nil IsProofByte
+modulus_text_bytes Residues = modulus_bytes
+
+extreme_bytes : (n : Numbers) (q : ℕ) (lines : List CoverLine) (rows : List PivotRow) → q ≤ 1000 → All (IsCoverLineBelow q) lines →
+    All (IsPivotRowBelow q) rows → All IsProofByte (extreme_text n lines rows)
+extreme_bytes n q lines rows high h k =
+    both (flat_map cover_line lines) (modulus_text n ++ flat_map group_text rows)
+    (All-flat_map IsProofByte cover_line lines
+    (All-weaker (IsCoverLineBelow q) (λ l. All IsProofByte (cover_line l)) (λ l below. cover_bytes q l high below) lines h))
+    (both (modulus_text n) (flat_map group_text rows) (modulus_text_bytes n)
+    (All-flat_map IsProofByte group_text rows
+    (All-weaker (IsPivotRowBelow q) (λ row. All IsProofByte (group_text row)) (group_bytes q high) rows k)))
+
+own_bytes : (c : Claim) → IsBounded c → HasText c → All IsProofByte (own_text c)
 own_bytes (Minimal f) within has = All-nil IsProofByte
-own_bytes (NotMinimal f v) within has = both (violation_line v) [] (violation_bytes v) (All-nil IsProofByte)
-own_bytes (Cut r rows) within has = All-flat_map IsProofByte (λ (l : OwnLine). l.bytes) (row_lines 0 rows) (rows_bytes 0 rows within.1)
-own_bytes (Extreme f lines rows) within has =
-    All-flat_map IsProofByte (λ (l : OwnLine). l.bytes) (covered_lines 0 lines ++ group_lines 0 rows)
-    (All-append (λ (l : OwnLine). All IsProofByte l.bytes) (covered_lines 0 lines) (group_lines 0 rows)
-    (covers_bytes f.order 0 lines within.order_high has.1) (groups_bytes f.order 0 rows within.order_high has.2))
-own_bytes (ExtremeByResidues f lines rows) within has =
-    All-flat_map IsProofByte (λ (l : OwnLine). l.bytes) (covered_lines 0 lines ++ (modulus_lines Residues ++ group_lines 0 rows))
-    (All-append (λ (l : OwnLine). All IsProofByte l.bytes) (covered_lines 0 lines) (modulus_lines Residues ++ group_lines 0 rows)
-    (covers_bytes f.order 0 lines within.order_high has.1)
-    (All-cons (λ (o : OwnLine). All IsProofByte o.bytes) _ (group_lines 0 rows) modulus_bytes (groups_bytes f.order 0 rows within.order_high has.2)))
+own_bytes (NotMinimal f v) within has = fields_bytes (violation_fields v) (violation_printable v)
+own_bytes (Cut r rows) within has =
+    All-flat_map IsProofByte row_text rows
+    (All-weaker HasNames (λ l. All IsProofByte (row_text l)) row_text_bytes rows within.1)
+own_bytes (Extreme f lines rows) within has = extreme_bytes Whole f.order lines rows within.order_high has.1 has.2
+own_bytes (ExtremeByResidues f lines rows) within has = extreme_bytes Residues f.order lines rows within.order_high has.1 has.2
 own_bytes (NotExtreme f h) within has =
-    both (halves_line h) (flat_map (λ (l : OwnLine). l.bytes) (pair_lines 0 (zip h.first h.second))) (halves_bytes h has)
-    (All-flat_map IsProofByte (λ (l : OwnLine). l.bytes) (pair_lines 0 (zip h.first h.second))
-    (pairs_bytes 0 h.first h.second has.first_fit has.second_fit))
+    both (halves_line h) (flat_map pair_line (zip h.first h.second)) (halves_bytes h has)
+    (pairs_bytes h.first h.second has.first_fit has.second_fit)
 
 pub proof_bytes : (c : Claim) (text : List ℕ) → IsBounded c → IsProofText c text → All IsProofByte text
 proof_bytes c text within p =
-    let head = line (title_text (numbers_of c)) ++ line (codes "claim " ++ claim_word c) in
-    let own = flat_map (λ (l : OwnLine). l.bytes) (own_lines c) in
+    let title = bytes_of (title_fields (numbers_of c)) in
+    let word = bytes_of (claim_fields (claim_word c)) in
+    let head = title ++ word in
+    let own = own_text c in
     subst (All IsProofByte) (sym p.spelled)
     (both (head ++ p.subject ++ own) (line (codes "end"))
     (both (head ++ p.subject) own
     (both head p.subject
-    (both (line (title_text (numbers_of c))) (line (codes "claim " ++ claim_word c))
-    (title_bytes (numbers_of c))
-    (line_bytes (codes "claim " ++ claim_word c)
-    (joined (codes "claim ") (claim_word c) (known (codes "claim ") refl) (claim_word_printable c))))
+    (both title word (title_bytes (numbers_of c))
+    (fields_bytes (claim_fields (claim_word c)) (known (codes "claim") refl, (claim_word_printable c, tt))))
     (subject_bytes c p.subject within p.are_subject_lines))
     (own_bytes c within p.has_text))
     (line_bytes (codes "end") (known (codes "end") refl)))
 
 pub proof_is_ended : (c : Claim) (text : List ℕ) → IsProofText c text → IsEnded text
 proof_is_ended c text p =
-    let front = line (title_text (numbers_of c)) ++ line (codes "claim " ++ claim_word c) ++ p.subject
-    ++ flat_map (λ (l : OwnLine). l.bytes) (own_lines c) in
+    let front = bytes_of (title_fields (numbers_of c)) ++ bytes_of (claim_fields (claim_word c)) ++ p.subject
+    ++ own_text c in
     inr (front ++ codes "end", p.spelled ∙ sym (append_assoc front (codes "end") (10 ∷ [])))
