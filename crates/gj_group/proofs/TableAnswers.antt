@@ -226,9 +226,5 @@ pub no_wide : {T : Type 0} (r : Result T GroupFault) (x : AllocError) → IsErr 
 no_wide (Ok v) x is_err h e = absurd cc
 no_wide (Err z) x is_err h e = absurd cc
 
-pub wide_asked : (f : FunctionData) (columns : ℕ) (all : List (List ℤ)) → IsAsked f columns all → AreRowsTooWide columns all → IsTooWideGroup f
-wide_asked f columns all asked wide =
-    rows_too_wide (subst₂ (λ (n : ℕ) (rows : List (List ℤ)). AreRowsTooWide n rows) asked.columns_is asked.all_is wide)
-
 pub some_is_not_none : (v : Violation) → Some v ≡ None → ⊥
 some_is_not_none v e = cc
