@@ -117,7 +117,8 @@ kernels_same n rows xs ys g h =
 
 -- ---- what the call settles
 
--- the function is within the limits and minimal, and these are the columns and the rows of its table
+-- the function is within the limits and minimal, and these are the columns and the rows of its
+-- table
 pub record IsAsked (f : FunctionData) (columns : ℕ) (all : List (List ℤ)) : Type 0 where
   pub within : IsWithinBounds f
   pub minimal : IsMinimal f

@@ -61,8 +61,8 @@ tokens_of (word ∷ rest) plain =
 
 -- ---- what `clap` makes of them
 
--- the kinds of its error; the command word, the first and the second word behind it and the flag that it finds; and the words without the
--- flag, and whether it stands there
+-- the kinds of its error; the command word, the first and the second word behind it and the flag
+-- that it finds; and the words without the flag, and whether it stands there
 abbrev pub Found : Type 0
 Found = Kinds × Option Text × Option Text × Option Text × Option Text × List Text × Bool
 
