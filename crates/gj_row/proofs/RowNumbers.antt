@@ -1,6 +1,6 @@
 -- The numbers of a row, one after the other.
-use Rattle.std.proofs.Common.{◌≡◌, ℕ, ◌+◌, ◌≤◌, List, [], ◌∷◌, ◌++◌, length, refl, sym, ap, ◌∙◌, append_assoc, arith}
-use Rattle.std.proofs.lemmas.List.{append-nil, length_push}
+use Rattle.std.proofs.Common.{◌≡◌, ℕ, ◌+◌, ◌≤◌, List, [], ◌∷◌, ◌++◌, length, map, refl, sym, ap, subst, ◌∙◌, append_assoc, arith}
+use Rattle.std.proofs.lemmas.List.{append-nil, length-map, length_push, map-append}
 use Rattle.std.proofs.lemmas.Slice.Zip.{AllZip-long}
 use Rattle.indexmap.proofs.SetLemmas.{AllZip-push}
 use Rattle.gj_frac.specs.declared.Frac.{Frac}
@@ -8,7 +8,7 @@ use Rattle.gj_lex.specs.SpelledNumbers.{IsFractionWord}
 use Rattle.gj_lex.specs.declared.spelling.Spelling.TheVariants.{Lenient}
 use Rattle.gj_shape.proofs.LeastDenominator.{within_of_least, least_with_next, least_of_none, no_common_with}
 use Rattle.gj_shape.specs.Limits.{greatest_number}
-use Rattle.gj_row.specs.TableauText.{SpellsEntry, SpellNumbers, entry_at, entries_from}
+use Rattle.gj_row.specs.TableauText.{SpellsEntry, SpellNumbers, entry_at, entries_from, word_of}
 use Rattle.gj_row.specs.FirstFault.{BreaksNumber, HasNumberFault}
 use Rattle.gj_row.specs.Reading.{HasRead, StopsNumber, StopsEntry}
 use Rattle.gj_shape.specs.Denominators.{Extends, AreWithinOver}
@@ -142,3 +142,49 @@ entry_stopped used front right scale entries w back words e h place stops = reco
     breaks Rows s = s
     breaks Name s = s
     breaks Twice s = s
+
+-- ---- field by field
+
+-- the numbers of the fields in front of those that are left have been read, up to this column
+pub record HasReadFront (used : ℕ) (fields left : List (List ℕ)) (right : Frac) (scale : ℕ) (entries : List Entry) (column : ℕ) : Type 0 where
+  pub front : List (List ℕ)
+  pub read : HasRead used (map word_of front) right scale entries
+  pub fields_are : fields ≡ front ++ left
+  pub place : column + 1 ≡ length front
+
+pub front_first : (used : ℕ) (fields left : List (List ℕ)) (f : List ℕ) (x : Frac) (m : ℕ) → used ≤ 100000 → fields ≡ f ∷ left →
+    IsFractionWord Lenient (word_of f) x → Extends greatest_number 1 x m → HasReadFront used fields left x m [] 0
+front_first used fields left f x m few is spelled next = record {
+  front = f ∷ [];
+  read = right_read used (word_of f) x m few spelled next;
+  fields_are = is;
+  place = omega arith;
+}
+
+pub front_next : (used : ℕ) (fields left behind : List (List ℕ)) (right : Frac) (scale : ℕ) (entries : List Entry) (column : ℕ) (f : List ℕ)
+    (x : Frac) (m : ℕ) (new : List Entry) → HasReadFront used fields left right scale entries column → left ≡ f ∷ behind →
+    SpellsEntry (word_of f) x → Extends greatest_number scale x m → new ≡ entries ++ entry_at column x → used + length new ≤ 100000 →
+    HasReadFront used fields behind right m new (column + 1)
+front_next used fields left behind right scale entries column f x m new h is spelled next new_is few =
+    let words = map-append word_of h.front (f ∷ []) in
+    let count = length-map h.front word_of in
+    record {
+      front = h.front ++ f ∷ [];
+      read = rw words (entry_read used (map word_of h.front) right scale entries column (word_of f) x m new h.read (omega (arith, h.place)) spelled next
+          new_is few);
+      fields_are = h.fields_are ∙ ap (λ l. h.front ++ l) is ∙ sym (append_assoc h.front (f ∷ []) behind);
+      place = let long = length_push h.front f in omega (arith, h.place);
+    }
+
+pub front_stopped : (used : ℕ) (fields left behind : List (List ℕ)) (right : Frac) (scale : ℕ) (entries : List Entry) (column : ℕ) (f : List ℕ)
+    (e : RowReason) → HasReadFront used fields left right scale entries column → left ≡ f ∷ behind →
+    StopsEntry (SpellsEntry (word_of f)) scale (used + length entries) e → HasNumberFault used (map word_of fields) e
+front_stopped used fields left behind right scale entries column f e h is stops =
+    entry_stopped used (map word_of h.front) right scale entries (word_of f) (map word_of behind) (map word_of fields) e h.read
+    (ap (map word_of) (h.fields_are ∙ ap (λ l. h.front ++ l) is) ∙ map-append word_of h.front (f ∷ behind)) stops
+
+pub front_all : (used : ℕ) (fields left : List (List ℕ)) (right : Frac) (scale : ℕ) (entries : List Entry) (column : ℕ) →
+    HasReadFront used fields left right scale entries column → left ≡ [] → HasRead used (map word_of fields) right scale entries
+front_all used fields left right scale entries column h is =
+    subst (λ fs. HasRead used (map word_of fs) right scale entries)
+    (sym (h.fields_are ∙ ap (λ l. h.front ++ l) is ∙ append-nil h.front)) h.read
