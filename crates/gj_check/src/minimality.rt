@@ -20,6 +20,12 @@ use gj_shape::{GREATEST_ORDER, Shape};
 /// How many entries there are: those of two periods of the greatest order.
 const COUNT: usize = 2 * GREATEST_ORDER as usize;
 
+/// The orders up to it are small.
+const SMALL_ORDER: u32 = 120;
+
+/// How many entries serve a small order.
+const SMALL_COUNT: usize = 2 * SMALL_ORDER as usize;
+
 /// How many lanes there are: those of two periods, and one more.
 const LANES: usize = COUNT + 1;
 
@@ -156,22 +162,26 @@ fn is_subadditive(shape: &Shape) -> bool
     )
 }
 
-/// Whether no slack at grid points is negative, over entries of the fewest bits that serve.
+/// Whether no slack at grid points is negative, over entries of the fewest bits that serve; of a small order, over few.
 fn is_subadditive_on_grid(shape: &Shape) -> bool
     requires { PassesSymmetry shape.now }
     ensures grid { IsTrue result ↔ IsSubadditiveOnGrid shape.now }
     ensures limits { IsWithinBounds shape.now }
 {
-    if shape.common_denominator() <= i128::from(i16::MAX) {
-        return is_subadditive_in(shape, &mut [0i16; COUNT]);
+    if shape.common_denominator() > i128::from(i16::MAX) {
+        return is_subadditive_in(shape, &mut [0i32; COUNT]);
     }
-    is_subadditive_in(shape, &mut [0i32; COUNT])
+    if shape.order() <= SMALL_ORDER {
+        is_subadditive_in(shape, &mut [0i16; SMALL_COUNT])
+    } else {
+        is_subadditive_in(shape, &mut [0i16; COUNT])
+    }
 }
 
 /// The same over entries of one width, in which the common denominator fits: these are written over.
 fn is_subadditive_in<E: Entry>(shape: &Shape, entries: &mut [E]) -> bool
     requires symmetric { PassesSymmetry shape.now }
-    requires room { length entries.old ≡ 2 * greatest_order }
+    requires room { 2 * shape.now.order ≤ length entries.old }
     requires fits { shape.now.scale < E.bound }
     ensures { IsTrue result ↔ IsSubadditiveOnGrid shape.now }
 {
@@ -182,7 +192,7 @@ fn is_subadditive_in<E: Entry>(shape: &Shape, entries: &mut [E]) -> bool
 /// Writes the values of two periods.
 fn write_two_periods<E: Entry>(shape: &Shape, entries: &mut [E])
     requires symmetric { PassesSymmetry shape.now }
-    requires room { length entries.old ≡ 2 * greatest_order }
+    requires room { 2 * shape.now.order ≤ length entries.old }
     requires fits { shape.now.scale < E.bound }
     ensures { AreTwoPeriods E.number entries.new shape.now.value }
 {

@@ -1,12 +1,11 @@
 -- The rows that the elimination keeps meet the rules for groups, over whole numbers and over residues.
-use Rattle.std.proofs.Common.{◌≡◌, ◌≢◌, ℕ, zero, suc, ◌⊎◌, inl, inr, ◌+◌, ◌<◌, ◌≤◌, Bool, true, false, if◌then◌else◌, Option, None, Some, ℤ, pos, ◌-ℤ◌, ◌*ℤ◌, List, [], ◌∷◌, ◌++◌, length, map, get_or, unsigned_abs, ◌^◌, refl, sym, ap, ap₂, subst, ◌∙◌, append_assoc, lit<, arith}
+use Rattle.std.proofs.Common.{◌≡◌, ◌≢◌, ℕ, zero, suc, ◌⊎◌, inl, inr, ◌+◌, ◌<◌, ◌≤◌, Bool, true, false, if◌then◌else◌, Option, None, Some, ℤ, pos, List, [], ◌∷◌, ◌++◌, length, map, get_or, unsigned_abs, ◌^◌, refl, sym, ap, ap₂, subst, ◌∙◌, append_assoc, lit<, arith}
 use Rattle.std.specs.Prelude.{All, Any, nat_le}
 use Rattle.std.specs.List.{range_with_len}
 use Rattle.std.specs.Ordering.{int_eq}
 use Rattle.std.proofs.Math.Seq.{get_or-append_seam}
 use Rattle.std.proofs.lemmas.Bool.{cases_eq}
 use Rattle.std.proofs.lemmas.Bool.Decides.{Decides-int_eq, not_from_Decides}
-use Rattle.std.proofs.lemmas.Int.{ints}
 use Rattle.std.proofs.lemmas.List.{append-nil, length_push, length-map}
 use Rattle.std.proofs.lemmas.List.FromFn.{length-map-range_with_len}
 use Rattle.std.proofs.lemmas.List.Elements.{All-head, All-tail}
@@ -14,7 +13,7 @@ use Rattle.gj_lemmas.specs.Divisors.{gcd_of}
 use Rattle.gj_cover.proofs.Parts.{any_none, any_cases, any_here, any_there}
 use Rattle.gj_shape.specs.Elimination.{KeptRow, Insertion, at_column, entries_of, row_with_pivot, insertion_by, inserted_by, inserted_at_by, kept_behind, Elimination, elimination_from_by, behind_insertion, with_pivot, Passes}
 use Rattle.gj_shape.specs.FunctionData.{FunctionData}
-use Rattle.gj_shape.specs.Residues.{residue, residues, inverse, reduced_modulo, times_inverse, modulo}
+use Rattle.gj_shape.specs.Residues.{residue, residues, inverse, times_inverse, modulo}
 use Rattle.gj_shape.specs.SlopeRows.{row_entry, row_names}
 use Rattle.gj_shape.specs.declared.extremality.CoverLine.{CoverLine}
 use Rattle.gj_shape.specs.declared.extremality.RowName.{RowName}

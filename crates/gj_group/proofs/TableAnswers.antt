@@ -1,5 +1,5 @@
 -- What the answers say of the table.
-use Rattle.std.proofs.Common.{◌≡◌, ◌≢◌, ℕ, ◌+◌, ◌*◌, ◌<◌, ◌≤◌, ◌<ℤ◌, ◌↔◌, ℤ, pos, List, Option, None, Some, length, get_or, Result, Ok, Err, refl, sym, ap, subst, subst₂, ◌∙◌, arith}
+use Rattle.std.proofs.Common.{◌≡◌, ℕ, ◌*◌, ◌<ℤ◌, ◌↔◌, ℤ, pos, List, Option, None, Some, length, Result, Ok, Err, refl, sym, ap, subst, subst₂, ◌∙◌, arith}
 use Rattle.std.specs.Prelude.{All, Any, IsErr, IsErrOf}
 use Rattle.std.specs.Result.{IsErrAnd}
 use Rattle.std.specs.declared.alloc.AllocError.{AllocError}
@@ -8,7 +8,7 @@ use Rattle.std.proofs.lemmas.Int.{ints}
 use Rattle.std.proofs.lemmas.List.{get_or_default}
 use Rattle.gj_frac.specs.Fraction.{Fits}
 use Rattle.gj_shape.proofs.AtLemmas.{at_below}
-use Rattle.gj_shape.specs.Elimination.{KeptRow, Solution, elimination, kernel, Passes}
+use Rattle.gj_shape.specs.Elimination.{Solution, elimination, kernel, Passes}
 use Rattle.gj_shape.specs.FunctionData.{FunctionData, IsWithinBounds, at}
 use Rattle.gj_shape.specs.Perturbation.{IsGreatestSize, AreHalvesOf, AreHalvesInBounds}
 use Rattle.gj_shape.specs.Table.{table, IsMinimal, IsMinimalOnGrid}

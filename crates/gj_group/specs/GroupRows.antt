@@ -1,6 +1,6 @@
 -- The linear system for the entries of a perturbation of a table, one column for each entry: Gomory's cyclic group problem, by
 -- the table alone (Gomory and Johnson 1972).
-use Rattle.std.specs.Prelude.{ℕ, ℤ, pos, ◌≡◌, ◌+◌, ◌-◌, ◌%◌, ◌==◌, ◌+ℤ◌, ◌-ℤ◌, Bool, if◌then◌else◌, List, ◌∷◌, map, flat_map, filter, length, All}
+use Rattle.std.specs.Prelude.{ℕ, ℤ, pos, ◌+◌, ◌-◌, ◌%◌, ◌==◌, ◌+ℤ◌, ◌-ℤ◌, Bool, if◌then◌else◌, List, ◌∷◌, map, flat_map, filter, All}
 use Rattle.std.specs.List.{range_with_len}
 use Rattle.std.specs.Ordering.{int_eq}
 use Rattle.gj_theory.specs.TriangularRows.{Solves}

@@ -1,8 +1,9 @@
 //! Whether the table of a function's own order is extreme.
 ghost use Rattle.std.specs.Prelude.{◌≡◌, ◌≤◌, ◌↔◌, IfOk, IsErrOf, OnOk};
-ghost use Rattle.gj_shape.specs.FunctionData.{IsContinuous};
+ghost use Rattle.gj_shape.specs.FunctionData.{IsContinuous, IsWithinBounds};
 ghost use Rattle.gj_shape.specs.Table.{IsMinimalOnGrid};
-ghost use Rattle.gj_group.specs.Decision.{greatest_group_order, SaysOfTable, IsFound, IsExtremeOnOwnGrid, IsTooWideGroup};
+ghost use Rattle.gj_residue.specs.Settled.{IsSettled, AnswersRows, AreRowsTooWide};
+ghost use Rattle.gj_group.specs.Decision.{greatest_group_order, own_rows, SaysOfTable, IsFound, IsExtremeOnOwnGrid, IsTooWideGroup};
 
 use crate::faults::GroupFault;
 use crate::table_rows::GroupRows;
@@ -45,8 +46,7 @@ pub fn decide_group(alloc: Global, shape: &Shape) -> Result<GroupAnswer, GroupFa
     if let Some(violation) = find_violation(shape) {
         return Ok(GroupAnswer::NotMinimal(violation));
     }
-    let mut rows = GroupRows::new(alloc, shape)?;
-    match settle(alloc, shape.order(), &mut rows)? {
+    match settled_table(alloc, shape)? {
         Settled::Plain(_) => Ok(GroupAnswer::Extreme),
         Settled::Residues(_) => Ok(GroupAnswer::Extreme),
         Settled::Kernel(numbers) => {
@@ -58,4 +58,16 @@ pub fn decide_group(alloc: Global, shape: &Shape) -> Result<GroupAnswer, GroupFa
             Ok(GroupAnswer::NotExtreme(halves))
         }
     }
+}
+
+/// What solves the rows of the table.
+fn settled_table(alloc: Global, shape: &Shape) -> Result<Settled, GroupFault>
+    ensures limits { IsWithinBounds shape.now }
+    ensures settled { IfOk result (IsSettled shape.now.order (own_rows shape.now)) }
+    ensures answers { IfOk result (AnswersRows shape.now.order (own_rows shape.now)) }
+    ensures wide { IsErrOf result GroupFault.Wide → AreRowsTooWide shape.now.order (own_rows shape.now) }
+{
+    let order = shape.order();
+    let mut rows = GroupRows::new(alloc, shape)?;
+    Ok(settle(alloc, order, &mut rows)?)
 }

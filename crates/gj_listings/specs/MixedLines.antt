@@ -15,7 +15,7 @@ use Rattle.gj_mixed.specs.MixedRows.{MixedCutHolds}
 use Rattle.gj_mixed.specs.Slopes.{AreSlopesAtZero}
 use Rattle.gj_mixed.specs.declared.cut.MixedCut.{MixedCut}
 use Rattle.gj_mixed.specs.declared.cut.MixedCut.TheVariants as mixed_cut
-use Rattle.gj_proof.specs.CutTexts.{row_text}
+use Rattle.gj_proof.specs.ProofText.{row_text}
 use Rattle.gj_proof.specs.ProofText.{AreSubjectLines, subject_of_rule}
 use Rattle.gj_proof.specs.declared.cut.CutLine.{CutLine}
 use Rattle.gj_proof.specs.declared.cut.CutLine.TheVariants.{Cut, Skip}

@@ -1,13 +1,17 @@
 //! Mixed cuts, printed.
-ghost use Rattle.std.specs.Prelude.{◌≡◌, ◌++◌, flat_map, IfOk, OnOk};
+ghost use Rattle.std.specs.Prelude.{◌≡◌, ◌++◌, flat_map, IfOk, OnOk, length};
 ghost use Rattle.gj_row.specs.TableauLimits.{IsTableau};
 ghost use Rattle.gj_proof.specs.ProofText.{IsBoundedRule};
-ghost use Rattle.gj_listings.specs.MixedLines.{AreMixedCutsOf, MakesMixedCuts, mixed_row_text, weight_line};
+ghost use Rattle.gj_listings.specs.MixedLines.{AreInColumns, AreMixedCutsOf, MakesMixedCuts, NamesMixedCut, mixed_row_text, weight_line};
+ghost use Rattle.gj_listings.specs.declared.mixed_lines.MixedLine.{MixedLine};
 
-use crate::mixed_lines::{MixedLine, push_mixed_lines};
+use crate::mixed_lines::push_mixed_lines;
+use crate::named::line_of;
 use gj_function_lines::push_fraction_line;
+use gj_lex::Name;
+use gj_mixed::MixedCut;
 use gj_proof::{CutRule, CutTerm, push_named, push_row, push_rule_lines};
-use gj_row::Tableau;
+use gj_row::{Row, Tableau};
 use std::alloc::{AllocError, Global};
 
 /// The text of the mixed cuts of the rows of the tableau by the rule: `gj-mixed 1`, the lines of the rule, a group of lines a row in
@@ -27,17 +31,23 @@ pub fn mixed_text(alloc: Global, rule: &CutRule, tableau: &Tableau) -> Result<Ve
     Ok(text)
 }
 
-/// Appends the lines of a row: those of its cut with the whole columns, or that it is passed over, and behind them a line for each
-/// continuous column.
-pub(crate) fn push_mixed_row(
+/// Appends the lines of a row with this cut: those of its whole columns, or that it is passed over,
+/// and behind them a line for each continuous column.
+pub(crate) fn push_cut(
     alloc: Global,
     out: &mut Vec<u8>,
-    line: &MixedLine,
+    columns: &[Name],
+    row: &Row,
+    cut: &MixedCut,
 ) -> Result<(), AllocError>
-    ensures { OnOk result (out.new.items ≡ out.old.items ++ mixed_row_text line.now) }
+    requires { AreInColumns (length columns.now) cut.now }
+    ensures { OnOk result ((m : MixedLine) × NamesMixedCut columns.now row.now cut.now m.line m.weights
+        × (out.new.items ≡ out.old.items ++ mixed_row_text m)) }
 {
+    let line = line_of(alloc, columns, row, cut)?;
     push_row(alloc, out, &line.line)?;
-    push_weights(alloc, out, line.weights.as_slice())
+    push_weights(alloc, out, line.weights.as_slice())?;
+    Ok(())
 }
 
 /// Appends the lines of continuous columns.

@@ -1,6 +1,6 @@
 //! The cuts of the rows of a tableau, with the names of their columns, and their lines.
-ghost use Rattle.std.specs.Prelude.{◌≡◌, All, IfOk, OnOk, length};
-ghost use Rattle.gj_shape.specs.FunctionData.{FunctionData, IsContinuous, IsWithinBounds};
+ghost use Rattle.std.specs.Prelude.{All, OnOk, length};
+ghost use Rattle.gj_shape.specs.FunctionData.{IsContinuous, IsWithinBounds};
 ghost use Rattle.gj_shape.specs.Limits.{IsRowNumber};
 ghost use Rattle.gj_shape.specs.Table.{IsMinimal};
 ghost use Rattle.gj_theory.specs.Cuts.{IsValueOf};
@@ -10,12 +10,10 @@ ghost use Rattle.gj_rule.specs.declared.kind.RuleKind.TheVariants as kind;
 ghost use Rattle.gj_mixed.specs.Slopes.{AreSlopesAtZero, IsSlope, IsWeight, Weighs};
 ghost use Rattle.gj_proof.specs.ProofText.{IsBoundedRule};
 ghost use Rattle.gj_proof.specs.declared.cut.CutRule.TheVariants.{Gmic, Table};
-ghost use Rattle.gj_listings.specs.Columns.{continuous_columns};
-ghost use Rattle.gj_listings.specs.MixedLines.{AppendsLines, IsMadeLine, MakesMixedCuts};
+ghost use Rattle.gj_listings.specs.MixedLines.{AppendsLines, MakesMixedCuts};
 
 use crate::columns::continuous_columns;
-use crate::mixed::push_mixed_row;
-use crate::named::line_of;
+use crate::mixed::push_cut;
 use gj_frac::Frac;
 use gj_lex::Name;
 use gj_mixed::{Slopes, SlopesAtZero, cut_mixed, gmic_cut_mixed};
@@ -69,26 +67,10 @@ fn push_gmic_lines(
 {
     let continuous = continuous_columns(alloc, columns)?;
     for row in rows {
-        let line = gmic_line(alloc, columns, row, continuous.as_slice())?;
-        push_mixed_row(alloc, out, &line)?;
+        let cut = gmic_cut_mixed(alloc, row, continuous.as_slice())?;
+        push_cut(alloc, out, columns, row, &cut)?;
     }
     Ok(())
-}
-
-/// The line of a row by the mixed-integer cut.
-fn gmic_line(
-    alloc: Global,
-    columns: &[Name],
-    row: &Row,
-    continuous: &[bool],
-) -> Result<MixedLine, AllocError>
-    requires row { IsRowWithinLimits (length columns.now) row.now }
-    requires continuous { continuous.now ≡ continuous_columns columns.now }
-    ensures { IfOk result (IsMadeLine Gmic columns.now row.now) }
-{
-    let cut = gmic_cut_mixed(alloc, row, continuous)?;
-    let line = line_of(alloc, columns, row, &cut)?;
-    Ok(line)
 }
 
 /// Appends the lines of each row by a minimal continuous function.
@@ -150,28 +132,8 @@ fn push_lines_by<E: Evaluator, G: Evaluator>(
     let slopes = Slopes::new(at_zero.up, at_zero.down, weigh);
     let continuous = continuous_columns(alloc, columns)?;
     for row in rows {
-        let line = line_by(alloc, &rule, &slopes, columns, row, continuous.as_slice())?;
-        push_mixed_row(alloc, out, &line)?;
+        let cut = cut_mixed(alloc, &rule, &slopes, row, continuous.as_slice())?;
+        push_cut(alloc, out, columns, row, &cut)?;
     }
     Ok(())
-}
-
-/// The line of a row by a rule that keeps a function, and its slopes at 0.
-fn line_by<E: Evaluator, G: Evaluator>(
-    alloc: Global,
-    rule: &Rule<E>,
-    slopes: &Slopes<G>,
-    columns: &[Name],
-    row: &Row,
-    continuous: &[bool],
-) -> Result<MixedLine, AllocError>
-    requires kind { (f : FunctionData) × (rule.now.kind ≡ kind.Table f) × IsMinimal f × IsContinuous f
-        × AreSlopesAtZero f slopes.now.up slopes.now.down }
-    requires row { IsRowWithinLimits (length columns.now) row.now }
-    requires continuous { continuous.now ≡ continuous_columns columns.now }
-    ensures { IfOk result (λ line. (f : FunctionData) → rule.now.kind ≡ kind.Table f → IsMadeLine (Table f) columns.now row.now line) }
-{
-    let cut = cut_mixed(alloc, rule, slopes, row, continuous)?;
-    let line = line_of(alloc, columns, row, &cut)?;
-    Ok(line)
 }

@@ -7,8 +7,6 @@
 
 mod faces;
 mod failures;
-mod filling;
-mod lanes;
 mod points;
 mod search;
 mod shown;
@@ -17,5 +15,6 @@ mod squares;
 mod symmetry;
 mod value_lanes;
 mod vertices;
+mod widths;
 
 pub use search::find_violation;

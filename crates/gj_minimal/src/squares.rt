@@ -31,14 +31,14 @@ pub(crate) fn squares_pass<L: UnsignedLane>(
         let value = values[b];
         let right = rights[b];
         let left = lefts[b + 1];
-        let least = value.lesser(right);
-        let greatest = values[next].greater(rights[next]);
         let at_sum = above(
             rights[sum],
             right_first.plus(value),
             least_first.plus(right),
         );
+        let least = value.lesser(right);
         let before_next = above(lefts[next], left_first.plus(least), least_first.plus(left));
+        let greatest = values[next].greater(rights[next]);
         let at_next = above(greatest, left_first.plus(right), right_first.plus(left));
         let before_last = lefts[next + 1].excess_over(left_first.plus(left));
         excess = excess

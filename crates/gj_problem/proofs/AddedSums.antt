@@ -5,7 +5,8 @@ use Rattle.std.proofs.lemmas.List.{take_more, take_all}
 use Rattle.std.specs.Prelude.{slice_set}
 use Rattle.gj_frac.specs.declared.Frac.{Frac}
 use Rattle.gj_frac.specs.Fraction.{SameValue, fraction_of, sum_of, product_of, quotient_of, negation_of}
-use Rattle.gj_lemmas.proofs.Integers.{mul_positive_z, positive_some_z, mul_cancel_right_z, swap_last_z, one_mul_z}
+use Rattle.gj_frac.proofs.Crosswise.{denominators_some}
+use Rattle.gj_lemmas.proofs.Integers.{positive_some_z, mul_cancel_right_z, swap_last_z, one_mul_z}
 use Rattle.gj_lemmas.proofs.Ring.{by_ring, ring}
 use Rattle.gj_lemmas.proofs.Ratios.{ratio_along}
 use Rattle.gj_rational.specs.Rational.{Rational, whole, rational, ◌+ℚ◌, ◌*ℚ◌, neg_ℚ, ◌-ℚ◌}
@@ -18,21 +19,18 @@ use lib.IntN.{zero-*ℤ}
 
 -- ---- what the code computes, as rational numbers
 
-both_some : (x y : Frac) → unsigned_abs (x.den *ℤ y.den) ≢ 0
-both_some x y = positive_some_z (x.den *ℤ y.den) (mul_positive_z x.den y.den x.lowest.positive y.lowest.positive)
-
 pub sum_value : (x y z : Frac) → SameValue (fraction_of z) (sum_of (fraction_of x) (fraction_of y)) → rational z ≡ rational x +ℚ rational y
 sum_value x y z h =
     let s = rational x +ℚ rational y in
     equal_q (rational z) s
-    (ratio_along z.num z.den (x.num *ℤ y.den +ℤ y.num *ℤ x.den) (x.den *ℤ y.den) s.top s.bottom (both_some x y) h
+    (ratio_along z.num z.den (x.num *ℤ y.den +ℤ y.num *ℤ x.den) (x.den *ℤ y.den) s.top s.bottom (denominators_some x y) h
     (sym (sum_is (rational x) (rational y))))
 
 pub product_value : (x y z : Frac) → SameValue (fraction_of z) (product_of (fraction_of x) (fraction_of y)) → rational z ≡ rational x *ℚ rational y
 product_value x y z h =
     let s = rational x *ℚ rational y in
     equal_q (rational z) s
-    (ratio_along z.num z.den (x.num *ℤ y.num) (x.den *ℤ y.den) s.top s.bottom (both_some x y) h
+    (ratio_along z.num z.den (x.num *ℤ y.num) (x.den *ℤ y.den) s.top s.bottom (denominators_some x y) h
     (sym (product_is (rational x) (rational y))))
 
 quotient_cross : (xt xd yt yd zt zd pt pd : ℤ) → zt *ℤ (xd *ℤ yt) ≡ (xt *ℤ yd) *ℤ zd → pt *ℤ (yd *ℤ zd) ≡ (yt *ℤ zt) *ℤ pd →
@@ -53,7 +51,7 @@ pub quotient_value : (x y z : Frac) → SameValue (fraction_of z) (quotient_of (
 quotient_value x y z h =
     let p = rational y *ℚ rational z in
     equal_q p (rational x)
-    (quotient_cross x.num x.den y.num y.den z.num z.den p.top p.bottom h (product_is (rational y) (rational z)) (both_some y z))
+    (quotient_cross x.num x.den y.num y.den z.num z.den p.top p.bottom h (product_is (rational y) (rational z)) (denominators_some y z))
 
 pub multiple_value : (x factor value product z : Frac) → SameValue (fraction_of product) (product_of (fraction_of factor) (fraction_of value)) →
     SameValue (fraction_of z) (sum_of (fraction_of x) (fraction_of product)) → rational z ≡ rational x +ℚ rational factor *ℚ rational value
@@ -136,9 +134,9 @@ inequality_added d now s old new factor right now_is sum_is =
 pub nothing_added : (d f : Rational) → d ≡ d +ℚ f *ℚ whole (pos 0)
 nothing_added d f = by_ring_q (d ∷ f ∷ []) (search ring_q depth 30) refl
 
-pub all_added : (d now s : Rational) (point : List Rational) (es : List Entry) (i : ℕ) (f : Rational) → length es ≤ i →
+pub all_added : (d now : Rational) (point : List Rational) (es : List Entry) (i : ℕ) (f : Rational) → length es ≤ i →
     now ≡ d +ℚ f *ℚ sum_at point (take i es) → now ≡ d +ℚ f *ℚ sum_at point es
-all_added d now s point es i f end is = is ∙ ap (λ xs. d +ℚ f *ℚ sum_at point xs) (take_all i es end)
+all_added d now point es i f end is = is ∙ ap (λ xs. d +ℚ f *ℚ sum_at point xs) (take_all i es end)
 
 pub add_zero_q : (d : Rational) → d ≡ d +ℚ whole (pos 0)
 add_zero_q d = sym (add_comm_q d (whole (pos 0)) ∙ zero_add_q d)

@@ -119,8 +119,8 @@ ceiling_from_floor l m n same floor =
 pub right_begun : (r : Rational) (ps : List Piece) → ps ≡ [] → r ≡ r +ℚ pieces_at [] ps
 right_begun r ps none = add_zero_q r ∙ ap (λ (qs : List Piece). r +ℚ pieces_at [] qs) (sym none)
 
-back : (x p : Rational) → x ≡ (x -ℚ p) +ℚ p
-back x p = by_ring_q (x ∷ p ∷ []) (search ring_q depth 30) refl
+pub put_back : (x p : Rational) → x ≡ (x -ℚ p) +ℚ p
+put_back x p = by_ring_q (x ∷ p ∷ []) (search ring_q depth 30) refl
 
 forth : (r p : Rational) → (r +ℚ p) -ℚ p ≡ r
 forth r p = by_ring_q (r ∷ p ∷ []) (search ring_q depth 30) refl
@@ -128,5 +128,5 @@ forth r p = by_ring_q (r ∷ p ∷ []) (search ring_q depth 30) refl
 pub right_more : (r old new : Rational) (ps qs : List Piece) → old ≡ r +ℚ pieces_at [] ps →
     new -ℚ pieces_at [] qs ≡ old -ℚ pieces_at [] ps → new ≡ r +ℚ pieces_at [] qs
 right_more r old new ps qs old_is kept =
-    back new (pieces_at [] qs)
+    put_back new (pieces_at [] qs)
     ∙ ap (λ w. w +ℚ pieces_at [] qs) (kept ∙ ap (λ w. w -ℚ pieces_at [] ps) old_is ∙ forth r (pieces_at [] ps))

@@ -15,6 +15,7 @@ use Rattle.gj_problem.specs.Problems.{value_at, surplus_at}
 use Rattle.gj_problem.specs.Rows.{dot}
 use Rattle.gj_problem.specs.Aggregates.{pieces_at, AreMadeOf, Weighted, weighted, IsAggregate, Held, held, IsLeftOut, IsCeiling, IsLowerBound, IsUpperBound, IsFromLower, IsFromUpper, IsTurnedFrom, IsTurned, IsFree, IsRow, IsFirstFree}
 use Rattle.gj_problem.proofs.MadePieces.{Made}
+use Rattle.gj_problem.proofs.OneColumn.{put_back}
 use Rattle.gj_problem.proofs.TurnedColumns.{none_free}
 
 -- ---- one sum
@@ -48,9 +49,6 @@ same_coefficients (c ∷ cs) (d ∷ ds) n h =
 
 turned_twice : (r : Rational) → r ≡ whole (pos 0) -ℚ (whole (pos 0) -ℚ r)
 turned_twice r = by_ring_q (r ∷ []) (search ring_q depth 40) refl
-
-put_back : (d r : Rational) → d ≡ (d -ℚ r) +ℚ r
-put_back d r = by_ring_q (d ∷ r ∷ []) (search ring_q depth 40) refl
 
 right_at : (cs : List Frac) (r : Frac) → rational r ≡ whole (pos 0) -ℚ (dot cs [] -ℚ rational r)
 right_at cs r = turned_twice (rational r) ∙ ap (λ w. whole (pos 0) -ℚ (w -ℚ rational r)) (sym (dot_none cs))

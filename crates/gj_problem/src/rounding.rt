@@ -26,9 +26,9 @@ pub enum RoundedCut {
 /// feasible point if the given one does.
 ///
 /// A coefficient goes up where its column has a lower bound, and down where it has only an upper
-/// one; the right side changes by the bound times the change, and goes down. `Free` exactly if a
-/// coefficient is off the grid in a column without bounds; `Wide` only where a number of this does
-/// not fit. The only error is want of memory.
+/// one; the right side changes by the bound times the change, and goes down. `Wide` where a number of
+/// this does not fit; that it comes nowhere else no clause says. Else `Free` exactly if a coefficient
+/// is off the grid in a column without bounds. The only error is want of memory.
 pub fn rounded(
     alloc: Global,
     problem: &Problem,

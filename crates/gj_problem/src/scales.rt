@@ -10,7 +10,7 @@ ghost use Rattle.gj_problem.specs.Aggregates.{IsScale, signed};
 use crate::problem::{Entry, Sense};
 use gj_frac::{Frac, Wide, gcd};
 
-/// The quotient. Wide exactly if the divisor is 0 or the quotient does not fit in lowest terms.
+/// The quotient. Wide only if the divisor is 0 or the quotient does not fit in lowest terms.
 pub fn divided(x: Frac, y: Frac) -> Result<Frac, Wide>
     ensures wide { OnErr result (¬ FitsQuotient x y) }
     ensures value { IfOk result (λ z. SameValue (fraction_of z) (quotient_of (fraction_of x) (fraction_of y))) }

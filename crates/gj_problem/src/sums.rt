@@ -48,10 +48,24 @@ impl Sum {
         Ok(())
     }
 
+    /// The sum with this multiple of each entry added.
+    fn add_entries(&mut self, factor: Frac, entries: &[Entry]) -> Result<(), Wide>
+        ensures right { self.new.right ≡ self.old.right }
+        ensures count { length self.new.coefficients.items ≡ length self.old.coefficients.items }
+        ensures added { IfOk result (λ _. (point : List Rational) → dot self.new.coefficients.items point
+            ≡ dot self.old.coefficients.items point +ℚ rational factor *ℚ sum_at point entries.now) }
+        ensures wide { OnErr result (IsWideWithin self.old.coefficients.items factor entries.now) }
+    {
+        for entry in entries {
+            self.add_entry(factor, *entry)?;
+        }
+        Ok(())
+    }
+
     /// The sum with this multiple of an inequality added.
     ///
-    /// Wide exactly if at one of the entries, or at the right side, a product or a sum does not fit,
-    /// or an entry has no column. Then a part of the entries has been added.
+    /// Wide only if at one of the entries, or at the right side, a product or a sum does not fit, or
+    /// an entry has no column. Then a part of the entries has been added.
     pub fn add(&mut self, factor: Frac, entries: &[Entry], right: Frac) -> Result<(), Wide>
         ensures count { length self.new.coefficients.items ≡ length self.old.coefficients.items }
         ensures added { IfOk result (λ _. (point : List Rational) → dot self.new.coefficients.items point -ℚ rational self.new.right
@@ -60,14 +74,12 @@ impl Sum {
         ensures wide { OnErr result (IsWideWithin self.old.coefficients.items factor entries.now
             ⊎ IsWideAt self.old.right factor right) }
     {
-        for entry in entries {
-            self.add_entry(factor, *entry)?;
-        }
+        self.add_entries(factor, entries)?;
         self.right = with_multiple(self.right, factor, right)?;
         Ok(())
     }
 
-    /// The inequality of the coefficients that are not 0; none exactly if there are more than 2^32
+    /// The inequality of the coefficients that are not 0; none only if there are more than 2^32
     /// columns. The only error is want of memory.
     pub fn inequality(self, alloc: Global) -> Result<Option<Inequality>, AllocError>
         ensures none { IfOk result (λ made. IsNone made → 2 ^ 32 < length self.coefficients.items) }

@@ -1,14 +1,15 @@
 //! Inequalities and rows of programs: theorems, each the contract of a function with no code.
-ghost use Rattle.std.specs.Prelude.{◌≡◌, ℕ, ℤ, Bool, List, All, Some, length};
+ghost use Rattle.std.specs.Prelude.{◌≡◌, ℕ, ℤ, pos, Bool, List, All, Some, length};
 ghost use Rattle.gj_frac.specs.declared.Frac.{Frac};
 ghost use Rattle.gj_problem.specs.declared.problem.Problem.{Problem};
 ghost use Rattle.gj_problem.specs.declared.problem.Constraint.{Constraint};
 ghost use Rattle.gj_problem.specs.declared.problem.Inequality.{Inequality};
 ghost use Rattle.gj_problem.specs.declared.problem.Column.{Column};
 ghost use Rattle.gj_problem.specs.declared.pieces.Piece.{Piece};
-ghost use Rattle.gj_rational.specs.Rational.{Rational, rational, ◌-ℚ◌};
+ghost use Rattle.gj_rational.specs.Rational.{Rational, whole, rational, ◌*ℚ◌, ◌-ℚ◌, ◌≤ℚ◌};
 ghost use Rattle.gj_problem.specs.Problems.{IsFeasible, Holds, IsColumn, IsConstraint, value_at, surplus_at};
 ghost use Rattle.gj_problem.specs.Rows.{IsSignFor, IsMultiple, IsWholeInequality, HasWholeSurplus, IsRounded};
+ghost use Rattle.gj_problem.specs.RoundedCuts.{IsBelowOnGrid};
 ghost use Rattle.gj_problem.specs.Aggregates.{IsRow, IsFirstFree, IsSound, AddsUpAt, IsCutOver, IsTurnedBack};
 
 /// A constraint times a whole number of the sign that its sense asks for holds. If the numbers of an inequality and its columns
@@ -56,4 +57,9 @@ pub fn rounded_cut()
 pub fn turned_back_cut()
     ensures { (p : Problem) (pieces : List Piece) (coefficients : List Frac) (q : Inequality) → IsCutOver p pieces coefficients →
         IsTurnedBack pieces coefficients q → Holds p q }
+{}
+
+/// The number on the grid to which x goes down is nearer than 1/n: what is 1/n above it is above x.
+pub fn rounded_near()
+    ensures { (n : ℕ) (x y z : Rational) → IsBelowOnGrid n x y → whole (pos n) *ℚ (z -ℚ y) ≡ whole (pos 1) → z ≤ℚ x → ⊥ }
 {}

@@ -26,7 +26,7 @@ use Rattle.gj_proof.specs.declared.claim.Claim.TheVariants.{Minimal, NotMinimal,
 use Rattle.gj_proof.specs.declared.numbers.Numbers.{Numbers}
 use Rattle.gj_proof.specs.declared.numbers.Numbers.TheVariants.{Whole, Residues}
 use Rattle.gj_proof.proofs.LineLists.{title_line, claim_line, names, bytes, bytes_append, Differ, differs_from_those_before, HasOneFeed, feeds_of_own}
-use Rattle.gj_proof.proofs.OwnLines.{own_lines_differ, IsOwn, own_lines_are_own, own_lines_have_one_feed}
+use Rattle.gj_proof.proofs.OwnLines.{own_lines_differ, IsOwn, own_lines_are_own, own_lines_have_one_feed, own_bytes}
 
 -- ---- one number
 
@@ -145,11 +145,17 @@ feeds_of_title : (n : Numbers) → line_feeds (title_line n) ≡ 1
 feeds_of_title Whole = refl
 feeds_of_title Residues = refl
 
+-- the text by its lines
+by_lines : (c : Claim) (text : List ℕ) → (p : IsProofText c text) →
+    text ≡ title_line (numbers_of c) ++ claim_line c ++ p.subject ++ bytes (own_lines c) ++ line (codes "end")
+by_lines c text p =
+    p.spelled ∙ ap (λ t. title_line (numbers_of c) ++ claim_line c ++ p.subject ++ t ++ line (codes "end")) (sym (own_bytes c))
+
 claim_at : (c : Claim) (text : List ℕ) → IsProofText c text → StandsAt text (claim_line c) 2
 claim_at c text p = (
   title_line (numbers_of c),
   p.subject ++ flat_map (λ l. l.bytes) (own_lines c) ++ line (codes "end"),
-  p.spelled
+  by_lines c text p
       ∙ regroup (title_line (numbers_of c)) (claim_line c) p.subject
       (flat_map (λ l. l.bytes) (own_lines c)) (line (codes "end")),
   ap (λ k. k + 1) (sym (feeds_of_title (numbers_of c))),
@@ -190,7 +196,7 @@ own_at c text a b l within p is =
     let z = line_feeds_append (title_bytes ++ claim_bytes ++ p.subject) (bytes a) in (
       front,
       bytes b ++ line (codes "end"),
-      p.spelled ∙ ap (λ ls. title_bytes ++ claim_bytes ++ p.subject ++ bytes ls ++ line (codes "end")) is
+      by_lines c text p ∙ ap (λ ls. title_bytes ++ claim_bytes ++ p.subject ++ bytes ls ++ line (codes "end")) is
           ∙ ap (λ t. title_bytes ++ claim_bytes ++ p.subject ++ t ++ line (codes "end")) (bytes_append a (l ∷ b))
           ∙ regroup (title_bytes ++ claim_bytes ++ p.subject) (bytes a) l.bytes (bytes b) (line (codes "end")),
       omega arith,

@@ -1,8 +1,8 @@
 //! Proof texts, printed.
 
-ghost use Rattle.std.specs.Prelude.{◌≡◌, ◌++◌, ℕ, List, flat_map, IfOk, OnOk};
+ghost use Rattle.std.specs.Prelude.{◌≡◌, ◌++◌, ℕ, List, IfOk, OnOk};
 ghost use Rattle.gj_forms.specs.LineForms.{bytes_of};
-ghost use Rattle.gj_proof.specs.ProofText.{subject_of, numbers_of, AreSubjectLines, title_fields, claim_fields, claim_word, violation_line, own_lines, HasText, IsProofText};
+ghost use Rattle.gj_proof.specs.ProofText.{subject_of, numbers_of, AreSubjectLines, title_fields, claim_fields, claim_word, violation_line, own_text, HasText, IsProofText};
 
 use crate::claim::{Claim, Proof};
 use crate::numbers::Numbers;
@@ -56,7 +56,7 @@ fn push_subject(alloc: Global, out: &mut Vec<u8>, claim: &Claim) -> Result<(), A
 /// Appends the lines of a claim's own, between those of its subject and the last.
 fn push_own_lines(alloc: Global, out: &mut Vec<u8>, claim: &Claim) -> Result<(), AllocError>
     requires { HasText claim.now }
-    ensures { OnOk result (out.new.items ≡ out.old.items ++ flat_map (λ l. l.bytes) (own_lines claim.now)) }
+    ensures { OnOk result (out.new.items ≡ out.old.items ++ own_text claim.now) }
 {
     match claim {
         Claim::Minimal(_) => Ok(()),

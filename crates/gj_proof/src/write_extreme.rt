@@ -4,8 +4,7 @@ ghost use Rattle.std.specs.Fmt.{signed_decimal};
 ghost use Rattle.gj_frac.specs.Fraction.{Fits};
 ghost use Rattle.gj_shape.specs.Perturbation.{AreHalvesInBounds};
 ghost use Rattle.gj_function_lines.specs.FunctionLines.{line};
-ghost use Rattle.gj_proof.specs.ProofText.{group_line, reduction_line, modulus_lines, extreme_lines, halves_line, pair_line};
-ghost use Rattle.gj_proof.specs.ExtremeTexts.{group_text, halves_text};
+ghost use Rattle.gj_proof.specs.ProofText.{group_line, reduction_line, modulus_text, extreme_text, halves_line, pair_line, group_text, halves_text};
 
 use crate::numbers::{MODULUS, Numbers};
 use crate::pivot::PivotRow;
@@ -24,7 +23,7 @@ pub(crate) fn push_extreme_lines(
     lines: &[CoverLine],
     rows: &[PivotRow],
 ) -> Result<(), AllocError>
-    ensures { OnOk result (out.new.items ≡ out.old.items ++ flat_map (λ l. l.bytes) (extreme_lines numbers lines.now rows.now)) }
+    ensures { OnOk result (out.new.items ≡ out.old.items ++ extreme_text numbers lines.now rows.now) }
 {
     push_cover_lines(out, lines)?;
     push_modulus(alloc, out, numbers)?;
@@ -33,7 +32,7 @@ pub(crate) fn push_extreme_lines(
 
 /// Appends the line of the modulus, by residues.
 fn push_modulus(alloc: Global, out: &mut Vec<u8>, numbers: Numbers) -> Result<(), AllocError>
-    ensures { OnOk result (out.new.items ≡ out.old.items ++ flat_map (λ l. l.bytes) (modulus_lines numbers)) }
+    ensures { OnOk result (out.new.items ≡ out.old.items ++ modulus_text numbers) }
 {
     match numbers {
         Numbers::Whole => Ok(()),

@@ -19,10 +19,11 @@ use std::alloc::{AllocError, Global};
 /// The mixed-integer cut of the row that the multipliers make of the problem, in its columns.
 ///
 /// There is a multiplier for each constraint, and nothing is asked of it. `at_upper` says of each
-/// column whether its upper bound is preferred. It is `Integral` exactly if the right side of the
-/// row is whole, `Free` exactly at the first column that has no bound and cannot be left out, and
-/// never `OtherFraction`. It is `Wide` only where a number of the row, a coefficient, or a number
-/// of the cut does not fit. The only error is want of memory.
+/// column whether its upper bound is preferred. It is `Wide` where a number of the row, a
+/// coefficient, or a number of the cut does not fit; that it is so nowhere else no clause says.
+/// Else it is `Integral` exactly if the right side of the row is whole, `Free` exactly at the first
+/// column that has no bound and cannot be left out, and never `OtherFraction`. The only error is
+/// want of memory.
 pub fn gmic_safe_cut(
     alloc: Global,
     problem: &Problem,
@@ -44,9 +45,9 @@ pub fn gmic_safe_cut(
 /// The cut of the row that the multipliers make of the problem by the rule and the slopes, in its
 /// columns.
 ///
-/// It is `OtherFraction` exactly if the right side of the row is not whole and its fractional part
-/// is not the rule's f, and `Wide` also where the rule is asked for its value at an entry that cannot
-/// stand in a row. For the rest see [`gmic_safe_cut`].
+/// It is `Wide` also where the rule is asked for its value at an entry that cannot stand in a row.
+/// Where it is not, it is `OtherFraction` exactly if the right side of the row is not whole and its
+/// fractional part is not the rule's f. For the rest see [`gmic_safe_cut`].
 pub fn safe_cut<E: Evaluator, G: Evaluator>(
     alloc: Global,
     rule: &Rule<E>,

@@ -14,7 +14,8 @@ use std::alloc::{AllocError, Global};
 /// The most bytes that are read of an input.
 const INPUT_LIMIT: usize = 16_777_216;
 
-/// What is to be written. The lines that say that no input was answered take no memory.
+/// What a run writes: a reply, or the line that says why there is none. The three lines that the
+/// program always has take no memory.
 #[derive(Drop)]
 pub enum Answer {
     /// The words name no request.

@@ -1,7 +1,13 @@
 //! The cut of a problem by its multipliers, before and after it is rounded. No command makes it.
+ghost use Rattle.gj_rule.specs.Kind.{IsKind};
+ghost use Rattle.gj_rule.specs.Kept.{Evaluates};
+ghost use Rattle.gj_mixed.specs.Slopes.{AreSlopesOfKind, IsSlope, Weighs};
+
 use gj_frac::Frac;
+use gj_mixed::{Slopes, SlopesAtZero};
 use gj_problem::{Column, Constraint, Entry, Inequality, Problem, RoundedCut, Sense, rounded};
-use gj_safe_cut::{SafeCut, gmic_safe_cut};
+use gj_rule::{Evaluator, Rule, RuleKind, gmic_value};
+use gj_safe_cut::{SafeCut, gmic_safe_cut, safe_cut};
 use gj_shape::List;
 use std::alloc::Global;
 
@@ -68,10 +74,69 @@ fn says(q: &Inequality, x: Frac, y: Frac, z: Frac, right: Frac) -> bool {
 
 /// The row is x + 3/5 s1 - 1/5 s2 + 1/5 z = 12/5, with s1 = 7 - 2x - y whole and s2 = 9 - x - 3y + z
 /// not: so 2/3 s1 + 1/3 s2 + 1/2 z >= 1, which is -5/3 x - 5/3 y + 5/6 z >= -20/3.
-fn safe_cut(alloc: Global) -> Option<bool> {
+fn mixed_integer(alloc: Global) -> Option<bool> {
     let cut = cut_of(alloc, &problem(alloc)?)?;
     let xy = Frac::ratio(-5, 3);
     Some(says(&cut, xy, xy, Frac::ratio(5, 6), Frac::ratio(-20, 3)))
+}
+
+/// The cut by any rule and slopes, and the same multipliers.
+fn cut_by<E: Evaluator, G: Evaluator>(
+    alloc: Global,
+    rule: &Rule<E>,
+    slopes: &Slopes<G>,
+    problem: &Problem,
+) -> Option<Inequality>
+    requires { AreSlopesOfKind rule.now.kind slopes.now.up slopes.now.down }
+{
+    let multipliers = [Frac::ratio(3, 5), Frac::ratio(-1, 5)];
+    let at_upper = [false, false, false];
+    if problem.constraints.as_slice().len() != 2 || problem.columns.as_slice().len() != 3 {
+        return None;
+    }
+    match safe_cut(alloc, rule, slopes, problem, &multipliers, &at_upper) {
+        Ok(SafeCut::Cut(cut)) => Some(cut),
+        _ => None,
+    }
+}
+
+/// The rule of this kind with this evaluator, and these slopes with this one, make the cut that the
+/// mixed-integer cut makes.
+fn is_made_by<E: Evaluator, G: Evaluator>(
+    alloc: Global,
+    kind: RuleKind,
+    eval: E,
+    at_zero: SlopesAtZero,
+    weigh: G,
+) -> Option<bool>
+    requires kind { IsKind kind }
+    requires evaluates { Evaluates E.can_answer E.answers kind eval }
+    requires up { IsSlope at_zero.up }
+    requires down { IsSlope at_zero.down }
+    requires weighs { Weighs G.can_answer G.answers at_zero.up at_zero.down weigh }
+    requires slopes { AreSlopesOfKind kind at_zero.up at_zero.down }
+{
+    let rule = Rule::new(kind, eval);
+    let slopes = Slopes::new(at_zero.up, at_zero.down, weigh);
+    let cut = cut_by(alloc, &rule, &slopes, &problem(alloc)?)?;
+    let xy = Frac::ratio(-5, 3);
+    Some(says(&cut, xy, xy, Frac::ratio(5, 6), Frac::ratio(-20, 3)))
+}
+
+/// The rule of the mixed-integer cut for 2/5, the fractional part of 12/5.
+fn by_rule(alloc: Global) -> Option<bool> {
+    let f = Frac::ratio(2, 5);
+    if !RuleKind::Gmic(f).is_valid() {
+        return None;
+    }
+    let at_zero = SlopesAtZero::of_gmic(f);
+    is_made_by(
+        alloc,
+        RuleKind::Gmic(f),
+        |x| gmic_value(f, x),
+        at_zero,
+        |c| at_zero.weight(c),
+    )
 }
 
 /// In whole numbers it is -x - y + z >= -7: the coefficients go up, since all lower bounds are 0,
@@ -88,6 +153,7 @@ fn rounded_cut(alloc: Global) -> Option<bool> {
 
 #[test]
 fn problems(rt: HostRuntime) {
-    assert!(rt; safe_cut(rt.alloc()) == Some(true));
+    assert!(rt; mixed_integer(rt.alloc()) == Some(true));
+    assert!(rt; by_rule(rt.alloc()) == Some(true));
     assert!(rt; rounded_cut(rt.alloc()) == Some(true));
 }

@@ -17,7 +17,8 @@ overflow_mul-result c =
     let n : to_z w128 (of_z w128 c.from.result) ≡ c.args.n = search rules in
     let m : to_z w128 (of_z w128 c.from-2.result) ≡ c.args.m = search rules in
     rw (n, m)
-    (fits_signed_mul w128 c.args.n c.args.m (2 ^ 62) (2 ^ 62) c.requires.n_small c.requires.m_small (omega arith))
+    (fits_signed_mul w128 c.args.n c.args.m (2 ^ 62) (2 ^ 62) c.requires.n_small c.requires.m_small
+    (omega arith))
 
 pub returns-clause-value : goal.returns-clause-value
 returns-clause-value c = product_is c
