@@ -125,6 +125,8 @@ fn likely_entries(fields: &ByteRecord) -> usize
 }
 
 /// Adds the entry that the word spells for the column, unless it is 0, and gives the least common denominator with it.
+// Most words are empty where a row has few entries: no call for them.
+#[inline(always)]
 fn with_entry(
     entries: &mut Vec<Entry>,
     scale: u32,
