@@ -96,7 +96,8 @@ fn is_symmetric(shape: &Shape) -> bool
     )
 }
 
-/// Whether each of the numbers adds up to the total with that of the others at the place less its index, modulo their count.
+/// Whether each of the numbers adds up to the total with that of the others at the place less its
+/// index, modulo their count.
 fn are_opposite(numbers: &[i64], others: &[i64], place: usize, total: i64) -> bool
     requires count { length others.now ≡ length numbers.now }
     requires few { length numbers.now ≤ greatest_order }
@@ -112,7 +113,8 @@ fn are_opposite(numbers: &[i64], others: &[i64], place: usize, total: i64) -> bo
     are_opposite_between(numbers, others, place + 1, count, place + count, total)
 }
 
-/// Whether each of the numbers from an index up to another adds up to the total with that of the others whose index makes up the sum.
+/// Whether each of the numbers from an index up to another adds up to the total with that of the
+/// others whose index makes up the sum.
 fn are_opposite_between(
     numbers: &[i64],
     others: &[i64],
@@ -137,8 +139,8 @@ fn are_opposite_between(
     true
 }
 
-/// Whether no limit of the slack is negative in any square. Those of a continuous function are slacks at grid points. The other
-/// functions are tested over lanes of the fewest bits that serve.
+/// Whether no limit of the slack is negative in any square. Those of a continuous function are
+/// slacks at grid points. The other functions are tested over lanes of the fewest bits that serve.
 fn is_subadditive(shape: &Shape) -> bool
     requires { PassesSymmetry shape.now }
     ensures { IsTrue result ↔ IsSubadditive shape.now }
@@ -162,7 +164,8 @@ fn is_subadditive(shape: &Shape) -> bool
     )
 }
 
-/// Whether no slack at grid points is negative, over entries of the fewest bits that serve; of a small order, over few.
+/// Whether no slack at grid points is negative, over entries of the fewest bits that serve; of a
+/// small order, over few.
 fn is_subadditive_on_grid(shape: &Shape) -> bool
     requires { PassesSymmetry shape.now }
     ensures grid { IsTrue result ↔ IsSubadditiveOnGrid shape.now }
@@ -178,7 +181,8 @@ fn is_subadditive_on_grid(shape: &Shape) -> bool
     }
 }
 
-/// The same over entries of one width, in which the common denominator fits: these are written over.
+/// The same over entries of one width, in which the common denominator fits: these are written
+/// over.
 fn is_subadditive_in<E: Entry>(shape: &Shape, entries: &mut [E]) -> bool
     requires symmetric { PassesSymmetry shape.now }
     requires room { 2 * shape.now.order ≤ length entries.old }
@@ -203,8 +207,8 @@ fn write_two_periods<E: Entry>(shape: &Shape, entries: &mut [E])
     }
 }
 
-/// Whether no limit of the slack is negative in any square, over lanes of one width, in which the common denominator fits: these
-/// are written over.
+/// Whether no limit of the slack is negative in any square, over lanes of one width, in which the
+/// common denominator fits: these are written over.
 fn is_subadditive_over<L: UnsignedLane>(
     shape: &Shape,
     value: &mut [L],
@@ -224,7 +228,8 @@ fn is_subadditive_over<L: UnsignedLane>(
     is_subadditive_between(shape, Lanes { value, right, left })
 }
 
-/// Whether no limit of the slack is negative in any square. The squares (a, b) and (b, a) have the same limits, so half are tested.
+/// Whether no limit of the slack is negative in any square. The squares (a, b) and (b, a) have the
+/// same limits, so half are tested.
 fn is_subadditive_between<L: UnsignedLane>(shape: &Shape, lanes: Lanes<'_, L>) -> bool
     requires { AreLanesOf L.number L.least L.bound shape.now lanes }
     ensures { IsTrue result ↔ IsSubadditive shape.now }

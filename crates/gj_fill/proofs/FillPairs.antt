@@ -1,10 +1,11 @@
 -- The points of a fill-in as pairs of fractions.
 use Rattle.std.proofs.Common.{◌≡◌, ℕ, ◌+◌, ◌<◌, ◌≤◌, ◌^◌, Bool, true, false, ◌&&◌, cond, ℤ, pos, neg_ℤ, int_lt, ◌+ℤ◌, ◌*ℤ◌, ◌<ℤ◌, unsigned_abs, FitsSigned, to_z, of_z, List, [], ◌∷◌, ◌++◌, flat_map, refl, ap, ap₂, sym, subst, ◌∙◌, append-nil, arith}
 use Rattle.std.specs.List.{range_with_len, AllZip}
-use Rattle.std.proofs.Math.Nat.{zero-add}
+use Rattle.std.proofs.Math.Nat.{zero-add, mul-le-mul}
 use Rattle.std.proofs.lemmas.Int.{ints, to_z-of_z, fits_signed_from_abs}
 use Rattle.std.proofs.lemmas.Grind.{flat_map-append}
 use mir.Syntax.{w64, w128}
+use Rattle.gj_lemmas.proofs.Integers.{unsigned_abs-mul}
 use Rattle.gj_lemmas.proofs.Lists.{range_split}
 use Rattle.gj_frac.specs.declared.Frac.{Frac}
 use Rattle.gj_frac.specs.Fraction.{IsRatio}
@@ -51,6 +52,28 @@ wide_small x low = subst (λ z. unsigned_abs z < 2 ^ 127) (sym (wide_itself x lo
 pub scale_itself : (x : ℤ) (n : ℕ) → x ≡ pos n → n < 2 ^ 31 → unsigned_abs (to_z w128 (of_z w128 x)) ≡ n
 scale_itself x n e low =
     ap (λ z. unsigned_abs (to_z w128 (of_z w128 z))) e ∙ ap unsigned_abs (wide_itself (pos n) (omega arith))
+
+-- the product of two numbers of 64 bits, as the code has it
+pub record IsSmallProduct (a b x y : ℤ) : Type 0 where
+  pub fits : FitsSigned w128 (to_z w128 (of_z w128 a) *ℤ to_z w128 (of_z w128 b))
+  pub value : to_z w128 (of_z w128 (to_z w128 (of_z w128 a) *ℤ to_z w128 (of_z w128 b))) ≡ x *ℤ y
+  pub small : unsigned_abs (to_z w128 (of_z w128 (to_z w128 (of_z w128 a) *ℤ to_z w128 (of_z w128 b)))) ≤ 2 ^ 106
+
+widened : (a x : ℤ) → a ≡ to_z w64 (of_z w64 x) → unsigned_abs x ≤ 2 ^ 53 → to_z w128 (of_z w128 a) ≡ x
+widened a x e low =
+    ap (λ z. to_z w128 (of_z w128 z)) (e ∙ to_z-of_z w64 x (fits_signed_from_abs w64 x (omega arith))) ∙ wide_itself x (omega arith)
+
+pub small_product : (a b x y : ℤ) → a ≡ to_z w64 (of_z w64 x) → b ≡ to_z w64 (of_z w64 y) → unsigned_abs x ≤ 2 ^ 53 →
+    unsigned_abs y ≤ 2 ^ 53 → IsSmallProduct a b x y
+small_product a b x y a_is b_is first second =
+    let parts = ap₂ (λ m n. m *ℤ n) (widened a x a_is first) (widened b y b_is second) in
+    let low : unsigned_abs (x *ℤ y) ≤ 2 ^ 106 =
+    subst (λ n. n ≤ 2 ^ 106) (sym (unsigned_abs-mul x y)) (mul-le-mul first second) in
+    let value = ap (λ z. to_z w128 (of_z w128 z)) parts ∙ wide_itself (x *ℤ y) (omega arith) in record {
+      fits = subst (FitsSigned w128) (sym parts) (fits_signed_from_abs w128 (x *ℤ y) (omega arith));
+      value = value;
+      small = subst (λ z. unsigned_abs z ≤ 2 ^ 106) (sym value) low;
+    }
 
 -- ---- the same fraction by equal numbers
 

@@ -117,7 +117,8 @@ kernels_same n rows xs ys g h =
 
 -- ---- what the call settles
 
--- the function is within the limits and minimal, and these are the columns and the rows of its table
+-- the function is within the limits and minimal, and these are the columns and the rows of its
+-- table
 pub record IsAsked (f : FunctionData) (columns : ℕ) (all : List (List ℤ)) : Type 0 where
   pub within : IsWithinBounds f
   pub minimal : IsMinimal f
@@ -225,10 +226,6 @@ wide_split (Err z) (split.Memory m) is_err h e = absurd cc
 pub no_wide : {T : Type 0} (r : Result T GroupFault) (x : AllocError) → IsErr r → IsErrAnd r (λ e. e ≡ Memory x) → IsErrOf r Wide → ⊥
 no_wide (Ok v) x is_err h e = absurd cc
 no_wide (Err z) x is_err h e = absurd cc
-
-pub wide_asked : (f : FunctionData) (columns : ℕ) (all : List (List ℤ)) → IsAsked f columns all → AreRowsTooWide columns all → IsTooWideGroup f
-wide_asked f columns all asked wide =
-    rows_too_wide (subst₂ (λ (n : ℕ) (rows : List (List ℤ)). AreRowsTooWide n rows) asked.columns_is asked.all_is wide)
 
 pub some_is_not_none : (v : Violation) → Some v ≡ None → ⊥
 some_is_not_none v e = cc

@@ -16,7 +16,8 @@ use std::alloc::Global;
 /// The greatest order of a table that is decided.
 pub const GREATEST_GROUP_ORDER: u32 = 120;
 
-/// What is decided of the table of a function's own order q, that of its values at the multiples of 1/q.
+/// What is decided of the table of a function's own order q, that of its values at the multiples of
+/// 1/q.
 #[derive(Debug, Drop)]
 pub enum GroupAnswer {
     /// It is not minimal; the function's first violation.
@@ -27,21 +28,25 @@ pub enum GroupAnswer {
     NotExtreme(Halves),
 }
 
-/// Whether the table of a continuous function's own order is minimal, and whether it is extreme: Gomory's cyclic group problem. Of a
-/// table that is not minimal the answer is the first violation that `find_violation` finds; of one that is minimal and not extreme
-/// the halves of the kernel of its rows.
+/// Whether the table of a continuous function's own order is minimal, and whether it is extreme:
+/// Gomory's cyclic group problem. Of a table that is not minimal the answer is the first violation
+/// that `find_violation` finds; of one that is minimal and not extreme the halves of the kernel of
+/// its rows.
 ///
-/// `Wide` comes exactly if the table is minimal and a number of the elimination of its rows passes 2^127 - 1 in absolute value and
-/// residues do not help, or a number of their kernel passes, or the scale of the halves passes 2^124. The only other error is want of
-/// memory. Source: Gomory and Johnson, "Some continuous functions related to corner polyhedra" (1972).
+/// `Wide` comes exactly if the table is minimal and a number of the elimination of its rows passes
+/// 2^127 - 1 in absolute value and residues do not help, or a number of their kernel passes, or the
+/// scale of the halves passes 2^124. The only other error is want of memory. Source: Gomory and
+/// Johnson, "Some continuous functions related to corner polyhedra" (1972).
 pub fn decide_group(alloc: Global, shape: &Shape) -> Result<GroupAnswer, GroupFault>
     requires continuous { IsContinuous shape.now }
     requires order { shape.now.order ≤ greatest_group_order }
     ensures says { IfOk result (SaysOfTable shape.now) }
     ensures found { IfOk result (IsFound shape.now) }
-    ensures extreme { IfOk result (λ answer. (answer ≡ GroupAnswer.Extreme) ↔ IsExtremeOnOwnGrid shape.now) }
+    ensures extreme { IfOk result (λ answer. (answer ≡ GroupAnswer.Extreme) ↔
+        IsExtremeOnOwnGrid shape.now) }
     ensures narrow { OnOk result (IsMinimalOnGrid shape.now 1 → IsTooWideGroup shape.now → ⊥) }
-    ensures wide { IsErrOf result GroupFault.Wide → IsMinimalOnGrid shape.now 1 × IsTooWideGroup shape.now }
+    ensures wide { IsErrOf result GroupFault.Wide → IsMinimalOnGrid shape.now 1 ×
+        IsTooWideGroup shape.now }
 {
     if let Some(violation) = find_violation(shape) {
         return Ok(GroupAnswer::NotMinimal(violation));
@@ -65,7 +70,8 @@ fn settled_table(alloc: Global, shape: &Shape) -> Result<Settled, GroupFault>
     ensures limits { IsWithinBounds shape.now }
     ensures settled { IfOk result (IsSettled shape.now.order (own_rows shape.now)) }
     ensures answers { IfOk result (AnswersRows shape.now.order (own_rows shape.now)) }
-    ensures wide { IsErrOf result GroupFault.Wide → AreRowsTooWide shape.now.order (own_rows shape.now) }
+    ensures wide { IsErrOf result GroupFault.Wide → AreRowsTooWide shape.now.order
+        (own_rows shape.now) }
 {
     let order = shape.order();
     let mut rows = GroupRows::new(alloc, shape)?;

@@ -23,8 +23,8 @@ const EDGES_AND_TRIANGLES: [FaceKind; 5] = [
     FaceKind::Upper,
 ];
 
-/// The first failed test of the slack on the faces that are no vertices, square by square. The limits of a continuous
-/// function are slacks at grid points, and need no test.
+/// The first failed test of the slack on the faces that are no vertices, square by square. The
+/// limits of a continuous function are slacks at grid points, and need no test.
 pub(crate) fn failed_face(shape: &Shape, is_continuous: bool) -> Option<Failure>
     requires vertices { PassesVertices shape.now }
     requires continuous { IsTrue is_continuous → IsContinuous shape.now }
@@ -132,8 +132,10 @@ fn failed_in_square(shape: &Shape, a: u32, b: u32) -> Option<Failure>
 
 /// The first corner of the square's face of this kind at which the limit of the slack is negative.
 fn first_negative(square: &Square, kind: FaceKind) -> Option<u32>
-    ensures found { IfSome result (IsFirstFailingIndex (IsNonnegativeIn square.now kind) (length (corners_of kind 0 0))) }
-    ensures none { IfNone result (HoldsBelow (IsNonnegativeIn square.now kind) (length (corners_of kind 0 0))) }
+    ensures found { IfSome result (IsFirstFailingIndex (IsNonnegativeIn square.now kind)
+        (length (corners_of kind 0 0))) }
+    ensures none { IfNone result (HoldsBelow (IsNonnegativeIn square.now kind)
+        (length (corners_of kind 0 0))) }
 {
     for corner in 0..corners(kind) {
         if square.limit(kind, corner) < 0 {

@@ -6,8 +6,8 @@ ghost use Rattle.gj_minimal.specs.Lanes.{AreLimits};
 use gj_lanes::UnsignedLane;
 use gj_shape::Shape;
 
-/// Whether no limit of the slack on the faces of the square (a, b) but its vertex is found to be negative, for each b
-/// from a to below q.
+/// Whether no limit of the slack on the faces of the square (a, b) but its vertex is found to be
+/// negative, for each b from a to below q.
 pub(crate) fn squares_pass<L: UnsignedLane>(
     lefts: &[L],
     values: &[L],
@@ -52,7 +52,8 @@ pub(crate) fn squares_pass<L: UnsignedLane>(
 
 /// By how much the sum is above the lesser of two others, and 0 if it is not.
 fn above<L: UnsignedLane>(sum: L, first: L, second: L) -> L
-    ensures { L.natural result ≡ 0 → (L.natural sum ≤ L.natural first) × (L.natural sum ≤ L.natural second) }
+    ensures { L.natural result ≡ 0 → (L.natural sum ≤ L.natural first) ×
+        (L.natural sum ≤ L.natural second) }
 {
     sum.excess_over(first.lesser(second))
 }

@@ -7,8 +7,9 @@ ghost use Rattle.gj_lanes.specs.Lanes.{ArePeriods};
 use gj_lanes::UnsignedLane;
 use gj_shape::Shape;
 
-/// Whether no slack at (a/q, b/q) is found to be negative, for each b and c from a with b at most c and with a + b + c
-/// the place modulo q. The pairs of any two of such indices pass or fail together, since the values are symmetric.
+/// Whether no slack at (a/q, b/q) is found to be negative, for each b and c from a with b at most c
+/// and with a + b + c the place modulo q. The pairs of any two of such indices pass or fail
+/// together, since the values are symmetric.
 ///
 /// The lanes are the values at i/q for each i up to 2 q, each times the common denominator.
 pub(crate) fn row_passes<L: UnsignedLane>(lanes: &[L], shape: &Shape, a: usize) -> bool
@@ -43,7 +44,8 @@ fn part_passes<L: UnsignedLane>(lanes: &[L], shape: &Shape, a: usize, rest: usiz
 fn rest_of(shape: &Shape, a: usize) -> usize
     requires { a < shape.now.order }
     ensures below { result < shape.now.order }
-    ensures sum { (a + result ≡ shape.now.place) ⊎ (a + result ≡ shape.now.place + shape.now.order) }
+    ensures sum { (a + result ≡ shape.now.place) ⊎
+        (a + result ≡ shape.now.place + shape.now.order) }
     ensures limits { IsWithinBounds shape.now }
 {
     let place = shape.place() as usize;

@@ -12,7 +12,8 @@ use crate::widths::{COUNT, SMALL_COUNT, SMALL_ORDER, is_short};
 use gj_lanes::{UnsignedLane, write_periods};
 use gj_shape::{Face, FaceKind, Shape};
 
-/// The first failed test of the slack at grid points, row by row, over lanes that are as narrow and as few as serve.
+/// The first failed test of the slack at grid points, row by row, over lanes that are as narrow and
+/// as few as serve.
 pub(crate) fn failed_vertex(shape: &Shape) -> Option<Failure>
     requires { PassesSymmetry shape.now }
     ensures found { IfSome result (FailsFirst shape.now) }
@@ -56,7 +57,8 @@ fn vertex(a: u32, b: u32) -> Face
     }
 }
 
-/// The first b at which the slack at (a/q, b/q) is negative. They are searched one by one if one may be.
+/// The first b at which the slack at (a/q, b/q) is negative. They are searched one by one if one
+/// may be.
 fn failed_in_row<L: UnsignedLane>(shape: &Shape, lanes: &[L], a: u32) -> Option<u32>
     requires within { a < shape.now.order }
     requires symmetry { PassesSymmetry shape.now }

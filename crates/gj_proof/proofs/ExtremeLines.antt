@@ -1,4 +1,5 @@
--- The lines of an extreme function and those of halves: their names differ, and each has one line feed, at its end.
+-- The lines of an extreme function and those of halves: their names differ, and each has one line
+-- feed, at its end.
 use Rattle.std.proofs.Common.{◌≡◌, ◌≢◌, ℕ, ℤ, ◌+◌, ◌<◌, ◌≤◌, List, [], ◌∷◌, ◌++◌, All, flat_map, zip, refl, sym, ap, subst, ◌∙◌, arith}
 use Rattle.std.proofs.lemmas.List.{append_assoc, append-nil, map-append}
 use Rattle.std.proofs.lemmas.List.Elements.{All-nil, All-cons, All-head, All-tail, All-append, All-weaker}

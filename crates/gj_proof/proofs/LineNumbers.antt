@@ -63,7 +63,8 @@ no_own_in_subject (function f) l own =
 no_own_in_subject gmic l own =
     All-cons (λ k. k ≢ l) rule_named [] (λ e. subst IsOwn (sym e) own) (All-nil (λ k. k ≢ l))
 
--- one of the claim's own lines stands behind the two first, those of the subject and those of its own before it
+-- one of the claim's own lines stands behind the two first, those of the subject and those of its
+-- own before it
 pub number_of_own : (c : Claim) (a b : List OwnLine) (l : OwnLine) → own_lines c ≡ a ++ l ∷ b →
     HasNumber c l.name (length (subject_lines (subject_of c)) + length a + 3)
 number_of_own c a b l is =
@@ -137,7 +138,8 @@ feeds_of_subject gmic text b l = ap line_feeds l
 
 -- ---- the line with a number
 
--- behind these bytes the text goes on with these, and this is the number of the line that begins there
+-- behind these bytes the text goes on with these, and this is the number of the line that begins
+-- there
 abbrev pub StandsAt : List ℕ → List ℕ → ℕ → Type 0
 StandsAt text bytes n = (before rest : List ℕ) × (text ≡ before ++ (bytes ++ rest)) × (n ≡ line_feeds before + 1)
 

@@ -70,8 +70,8 @@ after_title n = then_part (named_claim n) after_claim
 
 -- ---- each is exact
 
--- what follows the line of the modulus of a claim that a function is extreme, what follows the lines of covered intervals, and
--- what follows the function
+-- what follows the line of the modulus of a claim that a function is extreme, what follows the
+-- lines of covered intervals, and what follows the function
 abbrev pub makes_extreme : Numbers → FunctionData → List CoverLine → List PivotRow → Claim → Type 0
 makes_extreme n f lines rows c = c ≡ extreme_claim n f lines rows
 

@@ -63,7 +63,8 @@ HasNames (cuts.Skip name right reason) = IsName name
 abbrev pub IsBoundedRule : CutRule → Type 0
 IsBoundedRule rule = IfFunction (subject_of_rule rule) IsWithinBounds
 
--- what the types of a claim promise: a function that it is about is within the limits, and names are names
+-- what the types of a claim promise: a function that it is about is within the limits, and names
+-- are names
 abbrev pub IsBounded : Claim → Type 0
 IsBounded (Minimal f) = IsWithinBounds f
 IsBounded (NotMinimal f v) = IsWithinBounds f
@@ -233,7 +234,8 @@ own_text (Extreme f lines rows) = extreme_text Whole lines rows
 own_text (ExtremeByResidues f lines rows) = extreme_text Residues lines rows
 own_text (NotExtreme f h) = halves_text h
 
--- the intervals and the square of a line of a covered interval are below the order, and its face is no vertex
+-- the intervals and the square of a line of a covered interval are below the order, and its face is
+-- no vertex
 pub record IsCoverLineBelow (q : ℕ) (l : CoverLine) : Type 0 where
   pub interval : l.interval < q
   pub from : l.from < q
@@ -282,9 +284,11 @@ pub record IsProofText (c : Claim) (text : List ℕ) : Type 0 where
 
 -- ---- the lines by name
 
--- a line of a proof text, by its place in the form: of a claim about cuts, the line of the i-th row, and that of the j-th term of
--- the i-th row; of an extreme function, the line of the i-th covered interval, that of the modulus, the first line of the g-th
--- group, its r-th step and its pivot; of one that is not extreme, the line of its halves, and that of their i-th values; all from 0
+-- a line of a proof text, by its place in the form: of a claim about cuts, the line of the i-th
+-- row, and that of the j-th term of the i-th row; of an extreme function, the line of the i-th
+-- covered interval, that of the modulus, the first line of the g-th group, its r-th step and its
+-- pivot; of one that is not extreme, the line of its halves, and that of their i-th values; all
+-- from 0
 pub data ProofLine : Type 0 where
   title : ProofLine
   claim : ProofLine

@@ -28,7 +28,8 @@ pub fn write_proof(alloc: Global, proof: &Proof) -> Result<Vec<u8>, AllocError>
 /// The first two lines of a proof text: its title and the word of its claim.
 fn start_text(alloc: Global, claim: &Claim) -> Result<Vec<u8>, AllocError>
     ensures { IfOk result (λ text. text.items
-        ≡ bytes_of (title_fields (numbers_of claim.now)) ++ bytes_of (claim_fields (claim_word claim.now))) }
+        ≡ bytes_of (title_fields (numbers_of claim.now)) ++ bytes_of
+        (claim_fields (claim_word claim.now))) }
 {
     let mut text = Vec::new(alloc);
     text.extend_from_slice(title(claim.numbers()))?;
@@ -90,7 +91,8 @@ fn title(numbers: Numbers) -> &'static [u8]
     }
 }
 
-/// Appends the line of a violation. An error says that memory ran out; `out` may then have a part of it.
+/// Appends the line of a violation. An error says that memory ran out; `out` may then have a part
+/// of it.
 pub fn push_violation_line(
     alloc: Global,
     out: &mut Vec<u8>,

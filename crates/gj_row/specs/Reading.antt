@@ -126,7 +126,8 @@ StopsEntry P scale count Rows = ⊥
 StopsEntry P scale count Name = ⊥
 StopsEntry P scale count Twice = ⊥
 
--- numbers within the limits, whose least common denominator is `scale`, have been read from the words, with these entries that are not 0
+-- numbers within the limits, whose least common denominator is `scale`, have been read from the
+-- words, with these entries that are not 0
 pub record HasRead (used : ℕ) (words : List (List ℕ)) (right : Frac) (scale : ℕ) (entries : List Entry) : Type 0 where
   pub values : List Frac
   pub begins : BeginRow used words (right ∷ values)
@@ -201,7 +202,8 @@ abbrev pub StandsBehind : List ℕ → List (List (List ℕ)) → Records → Ty
 StandsBehind text before (text_records.Quoted reader) = ReaderStandsBehind text before reader
 StandsBehind text before (text_records.Plain left) = LinesStandBehind text before left.now
 
--- the next record is the one behind record 1 of the text, which names these columns; the names so far are theirs
+-- the next record is the one behind record 1 of the text, which names these columns; the names so
+-- far are theirs
 pub record StandsBehindHeader (text : List ℕ) (columns names : List (List ℕ)) (left : Records) : Type 0 where
   pub header : List (List ℕ)
   pub stands : StandsBehind text (header ∷ []) left

@@ -1,6 +1,7 @@
 //! The records of a text, one after the other.
 //!
-//! A text with a quote is read by `csv`. In any other the records are its lines, and the fields of a line stand between commas.
+//! A text with a quote is read by `csv`. In any other the records are its lines, and the fields of
+//! a line stand between commas.
 ghost use Rattle.std.specs.Prelude.{◌≡◌, [], IfOk, IfSome, IfNone, All, true, false, not};
 ghost use Rattle.std.specs.List.{position};
 ghost use Rattle.csv.specs.Reading.{strip_bom};
@@ -58,7 +59,8 @@ pub(crate) fn next_record<'a>(
     records: &mut Records<'a>,
     fields: &mut Fields<'a>,
 ) -> Result<bool, AllocError>
-    ensures some { IfOk result (λ found. found ≡ true → StepsOver records.old (fields_in fields.new) records.new) }
+    ensures some { IfOk result (λ found. found ≡ true →
+        StepsOver records.old (fields_in fields.new) records.new) }
     ensures end { IfOk result (λ found. found ≡ false → IsAtEnd records.old) }
 {
     match records {
@@ -80,7 +82,7 @@ pub(crate) fn next_record<'a>(
     }
 }
 
-/// The first line of the text that is not blank, and what follows it, from the byte on that ends it.
+/// The first line of the text that is not blank, and what follows it from its last byte on.
 fn first_line(text: &[u8]) -> Option<(&[u8], &[u8])>
     ensures some { IfSome result (λ r. IsFirstLine text.now r.0.now r.1.now) }
     ensures none { IfNone result (All (λ b. is_line_end b ≡ true) text.now) }

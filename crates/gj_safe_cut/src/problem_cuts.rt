@@ -59,7 +59,8 @@ pub fn safe_cut<E: Evaluator, G: Evaluator>(
     requires slopes { AreSlopesOfKind rule.now.kind slopes.now.up slopes.now.down }
     requires multipliers { length multipliers.now ≡ length problem.now.constraints }
     requires at_upper { length at_upper.now ≡ length problem.now.columns }
-    ensures is { IfOk result (IsSafeCutOf rule.now.kind slopes.now.up slopes.now.down problem.now multipliers.now at_upper.now) }
+    ensures is { IfOk result (IsSafeCutOf rule.now.kind slopes.now.up slopes.now.down problem.now
+        multipliers.now at_upper.now) }
     ensures holds { IfOk result (λ cut. IsMinimalKind rule.now.kind → HoldsFor problem.now cut) }
 {
     match rule_cut(alloc, rule, slopes, problem, multipliers, at_upper) {
@@ -88,7 +89,8 @@ fn gmic_cut(
 
 /// The mixed-integer cut of a row.
 fn gmic_cut_of_row(alloc: Global, columns: usize, row: &Row) -> Result<SafeCut, Fault>
-    ensures { IfOk result (IsGmicCutOfRow (row.now.slacks.items ++ row.now.bounds.items) row.now.right) }
+    ensures { IfOk result (IsGmicCutOfRow
+        (row.now.slacks.items ++ row.now.bounds.items) row.now.right) }
 {
     if row.right.den() == 1 {
         return Ok(SafeCut::Integral);
@@ -110,8 +112,10 @@ fn rule_cut<E: Evaluator, G: Evaluator>(
 ) -> Result<SafeCut, Fault>
     requires multipliers { length multipliers.now ≡ length problem.now.constraints }
     requires at_upper { length at_upper.now ≡ length problem.now.columns }
-    ensures is { IfOk result (IsSafeCutOf rule.now.kind slopes.now.up slopes.now.down problem.now multipliers.now at_upper.now) }
-    ensures limits { IfOk result (λ cut. (q : Inequality) → cut ≡ Cut q → IsKindWithinBounds rule.now.kind) }
+    ensures is { IfOk result (IsSafeCutOf rule.now.kind slopes.now.up slopes.now.down problem.now
+        multipliers.now at_upper.now) }
+    ensures limits { IfOk result (λ cut. (q : Inequality) → cut ≡ Cut q →
+        IsKindWithinBounds rule.now.kind) }
 {
     match row_of(alloc, problem, multipliers, at_upper)? {
         MadeRow::Row(row) => {
@@ -129,7 +133,8 @@ fn rule_cut_of_row<E: Evaluator, G: Evaluator>(
     columns: usize,
     row: &Row,
 ) -> Result<SafeCut, Fault>
-    ensures limits { IfOk result (λ cut. (q : Inequality) → cut ≡ Cut q → IsKindWithinBounds rule.now.kind) }
+    ensures limits { IfOk result (λ cut. (q : Inequality) → cut ≡ Cut q →
+        IsKindWithinBounds rule.now.kind) }
     ensures is { IfOk result
         (IsCutOfRow rule.now.kind slopes.now.up slopes.now.down (row.now.slacks.items ++ row.now.bounds.items) row.now.right) }
 {

@@ -1,5 +1,5 @@
--- Values and limits as lanes: once the tests of signs and of symmetry pass they are naturals up to the scale, and the
--- limits of the slack in a square are sums of such naturals.
+-- Values and limits as lanes: once the tests of signs and of symmetry pass they are naturals up to
+-- the scale, and the limits of the slack in a square are sums of such naturals.
 use Rattle.std.proofs.Common.{◌≡◌, ◌↔◌, ℕ, zero, suc, ◌+◌, ◌-◌, ◌%◌, ◌<◌, ◌≤◌, min, max, ℤ, pos, ◌+ℤ◌, ◌≤ℤ◌, List, length, get_or, map, lit<, refl, sym, ap, subst, ◌∙◌, below_none, below_more, arith}
 use Rattle.std.proofs.Math.Nat.{add_comm, add-mod, mod-lt}
 use Rattle.std.proofs.lemmas.Int.{ints}
@@ -130,8 +130,8 @@ mirrored_square f a b h Upper =
 
 -- ---- over lanes
 
--- the lanes are the values and the limits from the right at the indices below n, and the limits from the left one
--- further on
+-- the lanes are the values and the limits from the right at the indices below n, and the limits
+-- from the left one further on
 pub record HasLanes (f : FunctionData) (left value right : ℕ → ℕ) (n : ℕ) : Type 0 where
   pub lefts : (i : ℕ) → i < n → pos (left i) ≡ at f.left (i + 1)
   pub values : (i : ℕ) → i < n → pos (value i) ≡ at f.value i
@@ -146,7 +146,8 @@ pub record FitLanes (left value right : ℕ → ℕ) (a b : ℕ) : Type 0 where
   pub upper : (right (a + b + 1) ≤ left a + right b) × (right (a + b + 1) ≤ right a + left b)
       × (left (a + b + 1) ≤ left a + left b)
 
--- the same, by where the sum is: at the sum of the indices, before and at the next index, and before the one after that
+-- the same, by where the sum is: at the sum of the indices, before and at the next index, and
+-- before the one after that
 pub record FitAtSums (left value right : ℕ → ℕ) (a b : ℕ) : Type 0 where
   pub at_sum : (right (a + b) ≤ right a + value b) × (right (a + b) ≤ min (right a) (value a) + right b)
   pub before_next : (left (a + b) ≤ left a + min (value b) (right b)) × (left (a + b) ≤ min (right a) (value a) + left b)

@@ -1,5 +1,5 @@
 -- Inputs by their lines, and as the readers find them.
-use Rattle.std.proofs.Common.{◌≡◌, inl, inr, codes, ℕ, List, [], ◌∷◌, refl, sym, subst}
+use Rattle.std.proofs.Common.{◌≡◌, inl, inr, codes, ℕ, List, [], ◌∷◌, ◌++◌, refl, sym, subst}
 use Rattle.gj_lex.specs.TextLines.{HasLines, HasNextLine}
 use Rattle.gj_lex.specs.declared.spelling.Spelling.TheVariants.{Lenient}
 use Rattle.gj_lex.proofs.WhereLaws.{other_word}
@@ -37,9 +37,11 @@ no_rule_before text rest first more (start, next, line, behind) other begins =
     other_word Lenient text start first (codes "gj-rule") next line other begins
 
 no_rule : (text : List ℕ) (f : FunctionData) (rest : List ℕ) → BeginsWithFunction text f rest → BeginsAsRule text → ⊥
-no_rule text f rest (inl h) = no_rule_before text rest title_words _ h.has_lines title_is_other
-no_rule text f rest (inr (inl h)) = no_rule_before text rest title_words _ h.has_lines title_is_other
-no_rule text f rest (inr (inr h)) = no_rule_before text rest breaks_title_words _ h.has_lines breaks_title_is_other
+no_rule text f rest (inl h) =
+    no_rule_before text rest title_words (h.order ∷ h.place ∷ h.point_lines ++ end_words ∷ []) h.has_lines title_is_other
+no_rule text f rest (inr (inl h)) = no_rule_before text rest title_words (h.words ∷ end_words ∷ []) h.has_lines title_is_other
+no_rule text f rest (inr (inr h)) =
+    no_rule_before text rest breaks_title_words (h.place ∷ h.points ++ end_words ∷ []) h.has_lines breaks_title_is_other
 
 -- ---- rules
 

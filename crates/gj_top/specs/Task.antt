@@ -1,4 +1,5 @@
--- What a command does: what it promises, how it refuses an input that spells nothing, and how it answers a thing (own).
+-- What a command does: what it promises, how it refuses an input that spells nothing, and how it
+-- answers a thing (own).
 use Rattle.std.specs.Prelude.{ℕ, List, Result, Ok, Err}
 use Rattle.gj_top.specs.declared.reply.End.{End}
 use Rattle.gj_top.specs.declared.reply.End.TheVariants.{Done}

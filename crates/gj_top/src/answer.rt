@@ -87,7 +87,8 @@ pub(crate) fn answer_to<S: Source>(
 fn answer_of(alloc: Global, request: Request, input: &[u8]) -> Result<Answer, AllocError>
     requires in_bounds { IsInBounds request.command }
     requires within { length input.now ≤ input_limit }
-    ensures { IfOk result (λ answer. IsAnswerTo (task_for request) input.now (answer_status answer) (answer_text answer)) }
+    ensures { IfOk result (λ answer. IsAnswerTo (task_for request) input.now (answer_status answer)
+        (answer_text answer)) }
 {
     match reply_to(alloc, request, input) {
         Ok(reply) => Ok(Answer::Replied(reply)),

@@ -31,7 +31,8 @@ pub(crate) fn cut_input_of(alloc: Global, input: &[u8]) -> Result<CutInput, Unan
 
 /// The rule that the input begins with, and the number of bytes up to and with its line `end`.
 fn rule_of(alloc: Global, input: &[u8]) -> Result<(CutRule, usize), Unanswered>
-    ensures found { IfOk result (λ r. (r.1 ≤ length input.now) × BeginsWithRule input.now r.0 (drop r.1 input.now)) }
+    ensures found { IfOk result (λ r. (r.1 ≤ length input.now) ×
+        BeginsWithRule input.now r.0 (drop r.1 input.now)) }
     ensures refused { IfErr result (IsTaskRefusal RefusesCutInput input.now) }
 {
     if begins_as_rule(input) {
