@@ -1,12 +1,13 @@
 -- Where the first line and the first field end.
-use Rattle.std.proofs.Common.{◌≡◌, ◌≢◌, ℕ, suc, ◌+◌, ◌<◌, Bool, not, true, false, List, [], ◌∷◌, ◌++◌, All, Some, None, take, drop, length, unwrap_or, refl, sym, ap, ◌∙◌, subst, inl, inr, arith}
+use Rattle.std.proofs.Common.{◌≡◌, ◌≢◌, ℕ, zero, suc, ◌+◌, ◌<◌, ◌≤◌, Bool, not, true, false, cond, nat_lt, List, [], ◌∷◌, ◌++◌, All, Option, Some, None, take, drop, get_or, replicate, length, unwrap_or, refl, sym, ap, ◌∙◌, subst, inl, inr, arith}
 use Rattle.std.specs.List.{position, position_or_len}
-use Rattle.std.proofs.lemmas.Bool.{cases_Bool}
+use Rattle.std.proofs.lemmas.Bool.{cases_Bool, false_from_ne_true}
 use Rattle.std.proofs.lemmas.List.{take-append-drop}
 use Rattle.std.proofs.lemmas.List.Elements.{All-nil, All-cons, All-weaker}
 use Rattle.std.proofs.lemmas.List.Quantifiers.{position-Some}
-use Rattle.std.proofs.lemmas.List.Sums.{fails_before_first}
-use Rattle.std.proofs.lemmas.List.Splits.{slice_split_none, slice_split_first}
+use Rattle.std.proofs.lemmas.List.Sums.{fails_before_first, position_or_len_is}
+use Rattle.std.proofs.lemmas.List.Splits.{slice_split_none, slice_split_first, slice_split-cons_yes}
+use Rattle.memchr.specs.Find.{IsFirstByte}
 use Rattle.gj_lex.proofs.CanonicalTexts.{position_unwrapped}
 use Rattle.gj_row.specs.Reading.{EndsLine, IsFirstLine, fields_of_line, is_comma, is_line_end}
 
@@ -93,3 +94,41 @@ field_before line field behind end first field_is behind_is =
     slice_split_first is_comma line 0 (subst (λ n. n < length line) place within)
     ∙ ap (λ n. take n line ∷ fields_of_line (drop (n + 1) line)) (sym place)
     ∙ ap (λ f. f ∷ fields_of_line (drop (end + 1) line)) (sym field_is) ∙ ap (λ l. field ∷ fields_of_line l) (sym behind_is)
+
+-- commas at the start of a line end empty fields
+pub fields_behind_commas : (line : List ℕ) (run : ℕ) → run ≤ position_or_len (λ b. not (is_comma b)) line →
+    fields_of_line line ≡ replicate run [] ++ fields_of_line (drop run line)
+fields_behind_commas line zero short = refl
+fields_behind_commas [] (suc run) short = absurd (omega arith)
+fields_behind_commas (b ∷ line) (suc run) short =
+    let behind = position_or_len (λ b. not (is_comma b)) line in
+    elim (cases_Bool (is_comma b)) [
+      | inl comma ↦
+          let place : position_or_len (λ b. not (is_comma b)) (b ∷ line) ≡ 1 + behind = ap (λ t. cond (not (not t)) (1 + behind) 0) comma in
+          slice_split-cons_yes is_comma b line comma ∙ ap (λ fields. [] ∷ fields) (fields_behind_commas line run (omega arith))
+      | inr other ↦
+          let place : position_or_len (λ b. not (is_comma b)) (b ∷ line) ≡ 0 = ap (λ t. cond (not (not t)) (1 + behind) 0) other in
+          absurd (omega arith)
+    ]
+
+-- ---- a search for a byte
+
+some_place : (i n : ℕ) → i < n → Some i ≡ cond (nat_lt i n) (Some i) None
+some_place i n within = grind arith
+
+none_place : (n : ℕ) → None ≡ cond (nat_lt n n) (Some n) None
+none_place n = grind arith
+
+-- what it found is the first place
+pub place_found : (p : ℕ → Bool) (xs : List ℕ) (r : Option ℕ) → IsFirstByte p xs r → r ≡ position p xs
+place_found p xs None none =
+    let at : position_or_len p xs ≡ length xs =
+    position_or_len_is p xs (length xs) 0 (omega arith)
+    (λ k below. false_from_ne_true (p (get_or xs k 0)) (none k (omega arith) below)) (λ within. absurd (omega (arith, within))) in
+    none_place (length xs) ∙ ap (λ n. cond (nat_lt n (length xs)) (Some n) None) (sym at)
+place_found p xs (Some i) found =
+    let within : i < length xs = found.0.high in
+    let at : position_or_len p xs ≡ i =
+    position_or_len_is p xs i 0 (omega arith)
+    (λ k below. false_from_ne_true (p (get_or xs k 0)) (found.0.before k (omega arith) below)) (λ here. found.1) in
+    some_place i (length xs) within ∙ ap (λ n. cond (nat_lt n (length xs)) (Some n) None) (sym at)

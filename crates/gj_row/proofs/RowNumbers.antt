@@ -1,6 +1,6 @@
 -- The numbers of a row, one after the other.
-use Rattle.std.proofs.Common.{◌≡◌, ℕ, ◌+◌, ◌≤◌, List, [], ◌∷◌, ◌++◌, length, map, refl, sym, ap, subst, ◌∙◌, append_assoc, arith}
-use Rattle.std.proofs.lemmas.List.{append-nil, length-map, length_push, map-append}
+use Rattle.std.proofs.Common.{◌≡◌, ℕ, zero, suc, ◌+◌, ◌≤◌, List, [], ◌∷◌, ◌++◌, length, map, replicate, refl, sym, ap, subst, ◌∙◌, append_assoc, length-append, arith}
+use Rattle.std.proofs.lemmas.List.{append-nil, length-map, length-replicate, length_push, map-append}
 use Rattle.std.proofs.lemmas.Slice.Zip.{AllZip-long}
 use Rattle.indexmap.proofs.SetLemmas.{AllZip-push}
 use Rattle.gj_frac.specs.declared.Frac.{Frac}
@@ -15,7 +15,7 @@ use Rattle.gj_shape.specs.Denominators.{Extends, AreWithinOver}
 use Rattle.gj_row.specs.declared.tableau.Entry.{Entry}
 use Rattle.gj_row.specs.declared.faults.RowReason.{RowReason}
 use Rattle.gj_row.specs.declared.faults.RowReason.TheVariants.{Header, Fields, Columns, Rows, Name, Twice, Number, Large, Fine, Entries}
-use Rattle.gj_row.proofs.SpelledNumbers.{entry_one}
+use Rattle.gj_row.proofs.SpelledNumbers.{entry_none, entry_one, nothing_spells_zero}
 
 -- ---- one more entry
 
@@ -188,3 +188,45 @@ pub front_all : (used : ℕ) (fields left : List (List ℕ)) (right : Frac) (sca
 front_all used fields left right scale entries column h is =
     subst (λ fs. HasRead used (map word_of fs) right scale entries)
     (sym (h.fields_are ∙ ap (λ l. h.front ++ l) is ∙ append-nil h.front)) h.read
+
+-- ---- empty fields
+
+-- an empty field is 0
+front_empty : (used : ℕ) (fields left : List (List ℕ)) (right : Frac) (scale : ℕ) (entries : List Entry) (column : ℕ) →
+    HasReadFront used fields ([] ∷ left) right scale entries column → HasReadFront used fields left right scale entries (column + 1)
+front_empty used fields left right scale entries column h =
+    let nothing = nothing_spells_zero [] scale refl h.read.high in
+    let same = sym (append-nil entries) ∙ ap (λ l. entries ++ l) (sym (entry_none column nothing.0 nothing.3)) in
+    let count = ap length h.read.entries_are in
+    front_next used fields ([] ∷ left) left right scale entries column [] nothing.0 scale entries h refl nothing.1 nothing.2 same
+    (omega (arith, count, h.read.begins.few))
+
+skipped : (used : ℕ) (fields more : List (List ℕ)) (right : Frac) (scale : ℕ) (entries : List Entry) (column empty : ℕ) →
+    HasReadFront used fields (replicate empty [] ++ more) right scale entries column →
+    HasReadFront used fields more right scale entries (column + empty)
+skipped used fields more right scale entries column zero h =
+    let here : column ≡ column + 0 = omega arith in
+    subst (HasReadFront used fields more right scale entries) here h
+skipped used fields more right scale entries column (suc empty) h =
+    let at : column + 1 + empty ≡ column + suc empty = omega arith in
+    subst (HasReadFront used fields more right scale entries) at
+    (skipped used fields more right scale entries (column + 1) empty
+    (front_empty used fields (replicate empty [] ++ more) right scale entries column h))
+
+pub front_skips : {used : ℕ} {fields left : List (List ℕ)} {right : Frac} {scale : ℕ} {entries : List Entry} {column : ℕ} (more : List (List ℕ))
+    (empty : ℕ) → HasReadFront used fields left right scale entries column → left ≡ replicate empty [] ++ more →
+    HasReadFront used fields more right scale entries (column + empty)
+front_skips {used} {fields} {left} {right} {scale} {entries} {column} more empty h is =
+    skipped used fields more right scale entries column empty (subst (λ l. HasReadFront used fields l right scale entries column) is h)
+
+-- how many fields are left
+pub front_long : {used : ℕ} {fields left : List (List ℕ)} {right : Frac} {scale : ℕ} {entries : List Entry} {column : ℕ} →
+    HasReadFront used fields left right scale entries column → column + 1 + length left ≡ length fields
+front_long {left = left} h = let all = ap length h.fields_are in omega (arith, all, length-append h.front left, h.place)
+
+pub length_behind_empty : (left : List (List ℕ)) (empty : ℕ) (f : List ℕ) (behind : List (List ℕ)) →
+    left ≡ replicate empty [] ++ f ∷ behind → length left ≡ empty + 1 + length behind
+length_behind_empty left empty f behind is =
+    let all = ap length is in
+    let run : length (replicate {A = List ℕ} empty []) ≡ empty = length-replicate empty [] in
+    omega (arith, all, run, length-append (replicate empty []) (f ∷ behind))

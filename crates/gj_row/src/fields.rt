@@ -1,6 +1,6 @@
 //! The words in the fields of a record.
-ghost use Rattle.std.specs.Prelude.{◌≡◌, ◌<◌, ◌^◌, ◌∷◌, [], Some, IfOk, length, reverse, slice_get, not};
-ghost use Rattle.std.specs.List.{count_by, position};
+ghost use Rattle.std.specs.Prelude.{◌≡◌, ◌<◌, ◌≤◌, ◌^◌, ◌++◌, ◌∷◌, [], Some, IfOk, length, replicate, reverse, slice_get, not};
+ghost use Rattle.std.specs.List.{count_by, position, position_or_len};
 ghost use Rattle.csv.specs.Records.{fields_of};
 ghost use Rattle.gj_lex.specs.Words.{is_blank};
 ghost use Rattle.gj_row.specs.TableauText.{word_of, without_blanks_before};
@@ -43,7 +43,11 @@ fn commas(line: &[u8]) -> usize
     ensures count { result ≡ count_by is_comma line.now }
     ensures few { result < 2 ^ 63 }
 {
-    line.iter().filter(|byte| **byte == b',').count()
+    let mut count = 0;
+    for byte in line {
+        count += usize::from(*byte == b',');
+    }
+    count
 }
 
 /// The word in the first field.
@@ -65,6 +69,32 @@ pub(crate) fn first_field(line: &[u8]) -> (&[u8], Option<&[u8]>)
         Some(end) => (&line[..end], Some(&line[end + 1..])),
         None => (line, None),
     }
+}
+
+/// How many empty fields the line begins with, the field that follows them, and what follows the
+/// comma behind it.
+pub(crate) fn field_behind_empty(line: &[u8]) -> (usize, &[u8], Option<&[u8]>)
+    ensures { fields_of_line line.now ≡
+        replicate result.0 [] ++ result.1.now ∷ fields_behind result.2 }
+{
+    let empty = leading_commas(line);
+    let (field, behind) = first_field(&line[empty..]);
+    (empty, field, behind)
+}
+
+/// How many commas the line begins with.
+fn leading_commas(line: &[u8]) -> usize
+    ensures count { result ≡ position_or_len (λ b. not (is_comma b)) line.now }
+    ensures within { result ≤ length line.now }
+{
+    first_filled(line).unwrap_or(line.len())
+}
+
+/// Where the first byte stands that is no comma.
+fn first_filled(line: &[u8]) -> Option<usize>
+    ensures { result ≡ position (λ b. not (is_comma b)) line.now }
+{
+    line.iter().position(|byte| *byte != b',')
 }
 
 /// Where the first comma stands.

@@ -13,7 +13,7 @@ ghost use Rattle.gj_row.specs.FirstFault.{HasNumberFault};
 ghost use Rattle.gj_row.specs.Reading.{StopsNumber, StopsEntry, HasRead, NamesReason, fields_in, fields_of_line, words_in, words_of_fields};
 
 use crate::faults::{RecordFault, RowReason};
-use crate::fields::{Fields, first_field, word_at, word_of};
+use crate::fields::{Fields, field_behind_empty, first_field, word_at, word_of};
 use crate::limits::within;
 use crate::tableau::Entry;
 use csv::ByteRecord;
@@ -78,7 +78,8 @@ fn numbers_in_line(alloc: Global, line: &[u8], used: usize) -> Result<Numbers, R
     let mut column = 0;
     let mut left = behind;
     while let Some(rest) = left {
-        let (field, next) = first_field(rest);
+        let (empty, field, next) = field_behind_empty(rest);
+        column += empty as u32;
         match with_entry(&mut entries, scale, used, column, word_of(field)) {
             Ok(multiple) => scale = multiple,
             Err(fault) => return Err(fault),

@@ -9,7 +9,7 @@ ghost use Rattle.gj_row.specs.Reading.{IsAtEnd, IsFirstLine, ReaderStandsBehind,
 
 use crate::fields::Fields;
 use csv::{Reader, ReaderBuilder};
-use memchr::memchr;
+use memchr::{memchr, memchr2};
 use std::alloc::{AllocError, Global};
 
 /// What is left of the records of a text.
@@ -82,7 +82,8 @@ pub(crate) fn next_record<'a>(
     }
 }
 
-/// The first line of the text that is not blank, and what follows it from its last byte on.
+/// The first line of the text that is not blank, and what follows it, from the byte on that ends
+/// it.
 fn first_line(text: &[u8]) -> Option<(&[u8], &[u8])>
     ensures some { IfSome result (λ r. IsFirstLine text.now r.0.now r.1.now) }
     ensures none { IfNone result (All (λ b. is_line_end b ≡ true) text.now) }
@@ -104,5 +105,5 @@ fn line_start(text: &[u8]) -> Option<usize>
 fn line_end(text: &[u8]) -> Option<usize>
     ensures { result ≡ position is_line_end text.now }
 {
-    text.iter().position(|byte| matches!(*byte, b'\r' | b'\n'))
+    memchr2(b'\r', b'\n', text)
 }
