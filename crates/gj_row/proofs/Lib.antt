@@ -1,4 +1,6 @@
 pub mod CsvRecords
+pub mod Lines
+pub mod FirstPlaces
 pub mod Lists
 pub mod Names
 pub mod SpelledNumbers

@@ -1,6 +1,6 @@
 -- The numbers of a row, one after the other.
-use Rattle.std.proofs.Common.{◌≡◌, ℕ, ◌+◌, ◌≤◌, List, [], ◌∷◌, ◌++◌, length, refl, sym, ap, ◌∙◌, append_assoc, arith}
-use Rattle.std.proofs.lemmas.List.{append-nil, length_push}
+use Rattle.std.proofs.Common.{◌≡◌, ℕ, zero, suc, ◌+◌, ◌≤◌, List, [], ◌∷◌, ◌++◌, length, map, replicate, refl, sym, ap, subst, ◌∙◌, append_assoc, length-append, arith}
+use Rattle.std.proofs.lemmas.List.{append-nil, length-map, length-replicate, length_push, map-append}
 use Rattle.std.proofs.lemmas.Slice.Zip.{AllZip-long}
 use Rattle.indexmap.proofs.SetLemmas.{AllZip-push}
 use Rattle.gj_frac.specs.declared.Frac.{Frac}
@@ -8,14 +8,14 @@ use Rattle.gj_lex.specs.SpelledNumbers.{IsFractionWord}
 use Rattle.gj_lex.specs.declared.spelling.Spelling.TheVariants.{Lenient}
 use Rattle.gj_shape.proofs.LeastDenominator.{within_of_least, least_with_next, least_of_none, no_common_with}
 use Rattle.gj_shape.specs.Limits.{greatest_number}
-use Rattle.gj_row.specs.TableauText.{SpellsEntry, SpellNumbers, entry_at, entries_from}
+use Rattle.gj_row.specs.TableauText.{SpellsEntry, SpellNumbers, entry_at, entries_from, word_of}
 use Rattle.gj_row.specs.FirstFault.{BreaksNumber, HasNumberFault}
 use Rattle.gj_row.specs.Reading.{HasRead, StopsNumber, StopsEntry}
 use Rattle.gj_shape.specs.Denominators.{Extends, AreWithinOver}
 use Rattle.gj_row.specs.declared.tableau.Entry.{Entry}
 use Rattle.gj_row.specs.declared.faults.RowReason.{RowReason}
 use Rattle.gj_row.specs.declared.faults.RowReason.TheVariants.{Header, Fields, Columns, Rows, Name, Twice, Number, Large, Fine, Entries}
-use Rattle.gj_row.proofs.SpelledNumbers.{entry_one}
+use Rattle.gj_row.proofs.SpelledNumbers.{entry_none, entry_one, nothing_spells_zero}
 
 -- ---- one more entry
 
@@ -142,3 +142,91 @@ entry_stopped used front right scale entries w back words e h place stops = reco
     breaks Rows s = s
     breaks Name s = s
     breaks Twice s = s
+
+-- ---- field by field
+
+-- the numbers of the fields in front of those that are left have been read, up to this column
+pub record HasReadFront (used : ℕ) (fields left : List (List ℕ)) (right : Frac) (scale : ℕ) (entries : List Entry) (column : ℕ) : Type 0 where
+  pub front : List (List ℕ)
+  pub read : HasRead used (map word_of front) right scale entries
+  pub fields_are : fields ≡ front ++ left
+  pub place : column + 1 ≡ length front
+
+pub front_first : (used : ℕ) (fields left : List (List ℕ)) (f : List ℕ) (x : Frac) (m : ℕ) → used ≤ 100000 → fields ≡ f ∷ left →
+    IsFractionWord Lenient (word_of f) x → Extends greatest_number 1 x m → HasReadFront used fields left x m [] 0
+front_first used fields left f x m few is spelled next = record {
+  front = f ∷ [];
+  read = right_read used (word_of f) x m few spelled next;
+  fields_are = is;
+  place = omega arith;
+}
+
+pub front_next : (used : ℕ) (fields left behind : List (List ℕ)) (right : Frac) (scale : ℕ) (entries : List Entry) (column : ℕ) (f : List ℕ)
+    (x : Frac) (m : ℕ) (new : List Entry) → HasReadFront used fields left right scale entries column → left ≡ f ∷ behind →
+    SpellsEntry (word_of f) x → Extends greatest_number scale x m → new ≡ entries ++ entry_at column x → used + length new ≤ 100000 →
+    HasReadFront used fields behind right m new (column + 1)
+front_next used fields left behind right scale entries column f x m new h is spelled next new_is few =
+    let words = map-append word_of h.front (f ∷ []) in
+    let count = length-map h.front word_of in
+    record {
+      front = h.front ++ f ∷ [];
+      read = rw words (entry_read used (map word_of h.front) right scale entries column (word_of f) x m new h.read (omega (arith, h.place)) spelled next
+          new_is few);
+      fields_are = h.fields_are ∙ ap (λ l. h.front ++ l) is ∙ sym (append_assoc h.front (f ∷ []) behind);
+      place = let long = length_push h.front f in omega (arith, h.place);
+    }
+
+pub front_stopped : (used : ℕ) (fields left behind : List (List ℕ)) (right : Frac) (scale : ℕ) (entries : List Entry) (column : ℕ) (f : List ℕ)
+    (e : RowReason) → HasReadFront used fields left right scale entries column → left ≡ f ∷ behind →
+    StopsEntry (SpellsEntry (word_of f)) scale (used + length entries) e → HasNumberFault used (map word_of fields) e
+front_stopped used fields left behind right scale entries column f e h is stops =
+    entry_stopped used (map word_of h.front) right scale entries (word_of f) (map word_of behind) (map word_of fields) e h.read
+    (ap (map word_of) (h.fields_are ∙ ap (λ l. h.front ++ l) is) ∙ map-append word_of h.front (f ∷ behind)) stops
+
+pub front_all : (used : ℕ) (fields left : List (List ℕ)) (right : Frac) (scale : ℕ) (entries : List Entry) (column : ℕ) →
+    HasReadFront used fields left right scale entries column → left ≡ [] → HasRead used (map word_of fields) right scale entries
+front_all used fields left right scale entries column h is =
+    subst (λ fs. HasRead used (map word_of fs) right scale entries)
+    (sym (h.fields_are ∙ ap (λ l. h.front ++ l) is ∙ append-nil h.front)) h.read
+
+-- ---- empty fields
+
+-- an empty field is 0
+front_empty : (used : ℕ) (fields left : List (List ℕ)) (right : Frac) (scale : ℕ) (entries : List Entry) (column : ℕ) →
+    HasReadFront used fields ([] ∷ left) right scale entries column → HasReadFront used fields left right scale entries (column + 1)
+front_empty used fields left right scale entries column h =
+    let nothing = nothing_spells_zero [] scale refl h.read.high in
+    let same = sym (append-nil entries) ∙ ap (λ l. entries ++ l) (sym (entry_none column nothing.0 nothing.3)) in
+    let count = ap length h.read.entries_are in
+    front_next used fields ([] ∷ left) left right scale entries column [] nothing.0 scale entries h refl nothing.1 nothing.2 same
+    (omega (arith, count, h.read.begins.few))
+
+skipped : (used : ℕ) (fields more : List (List ℕ)) (right : Frac) (scale : ℕ) (entries : List Entry) (column empty : ℕ) →
+    HasReadFront used fields (replicate empty [] ++ more) right scale entries column →
+    HasReadFront used fields more right scale entries (column + empty)
+skipped used fields more right scale entries column zero h =
+    let here : column ≡ column + 0 = omega arith in
+    subst (HasReadFront used fields more right scale entries) here h
+skipped used fields more right scale entries column (suc empty) h =
+    let at : column + 1 + empty ≡ column + suc empty = omega arith in
+    subst (HasReadFront used fields more right scale entries) at
+    (skipped used fields more right scale entries (column + 1) empty
+    (front_empty used fields (replicate empty [] ++ more) right scale entries column h))
+
+pub front_skips : {used : ℕ} {fields left : List (List ℕ)} {right : Frac} {scale : ℕ} {entries : List Entry} {column : ℕ} (more : List (List ℕ))
+    (empty : ℕ) → HasReadFront used fields left right scale entries column → left ≡ replicate empty [] ++ more →
+    HasReadFront used fields more right scale entries (column + empty)
+front_skips {used} {fields} {left} {right} {scale} {entries} {column} more empty h is =
+    skipped used fields more right scale entries column empty (subst (λ l. HasReadFront used fields l right scale entries column) is h)
+
+-- how many fields are left
+pub front_long : {used : ℕ} {fields left : List (List ℕ)} {right : Frac} {scale : ℕ} {entries : List Entry} {column : ℕ} →
+    HasReadFront used fields left right scale entries column → column + 1 + length left ≡ length fields
+front_long {left = left} h = let all = ap length h.fields_are in omega (arith, all, length-append h.front left, h.place)
+
+pub length_behind_empty : (left : List (List ℕ)) (empty : ℕ) (f : List ℕ) (behind : List (List ℕ)) →
+    left ≡ replicate empty [] ++ f ∷ behind → length left ≡ empty + 1 + length behind
+length_behind_empty left empty f behind is =
+    let all = ap length is in
+    let run : length (replicate {A = List ℕ} empty []) ≡ empty = length-replicate empty [] in
+    omega (arith, all, run, length-append (replicate empty []) (f ∷ behind))

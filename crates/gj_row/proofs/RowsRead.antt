@@ -5,13 +5,15 @@ use Rattle.std.proofs.lemmas.List.Sums.{sum_by-append}
 use Rattle.std.proofs.lemmas.List.Elements.{All-nil, All-push}
 use Rattle.std.proofs.lemmas.Slice.Zip.{AllZip-long}
 use Rattle.indexmap.proofs.SetLemmas.{AllZip-push}
-use Rattle.csv.specs.Reading.{strip_bom}
-use Rattle.csv.specs.declared.reader.Reader.{Reader}
-use Rattle.std.specs.Borrow.{Bor}
+use Rattle.csv.specs.Reading.{default_config, Reached, strip_bom}
+use Rattle.csv.specs.declared.parser.State.{State}
+use Rattle.csv.specs.declared.parser.State.TheVariants.{StartRecord}
 use Rattle.gj_row.specs.TableauLimits.{IsRowWithinLimits, AreNames, names_of, entry_count}
 use Rattle.gj_row.specs.TableauText.{word_of, records_of, header_of, SpellsRow, SpellsTableau, IsTableauText}
 use Rattle.gj_row.specs.FirstFault.{IsNewName, HasHeaderFault, HasRowFault, IsFirstFaultOfTableau, header, in_header, in_row}
 use Rattle.gj_row.specs.Reading.{ReadsRow, StandsBehind, StandsBehindHeader, IsAtEnd, tableau_of}
+use Rattle.gj_row.specs.declared.records.Records.{Records}
+use Rattle.gj_row.specs.declared.records.Records.TheVariants as text_records
 use Rattle.gj_row.specs.declared.tableau.Row.{Row}
 use Rattle.gj_row.specs.declared.faults.RowReason.{RowReason}
 use Rattle.gj_row.specs.declared.faults.RowReason.TheVariants.{Header}
@@ -27,7 +29,7 @@ words_of fields = map (map word_of) fields
 
 -- records that spell the tableau of these columns and rows have been read, with these names and so
 -- many entries that are not 0
-pub record RowsRead (text : List ℕ) (it : Reader (Bor (List ℕ))) (names columns : List (List ℕ)) (rows : List Row)
+pub record RowsRead (text : List ℕ) (it : Records) (names columns : List (List ℕ)) (rows : List Row)
     (used : ℕ) : Type 0 where
   pub before : Words
   pub stands : StandsBehind text before it
@@ -51,13 +53,13 @@ header_spells words columns begins few names = record {
   };
 }
 
-pub behind_header : (text : List ℕ) (it : Reader (Bor (List ℕ))) (fields columns names same : List (List ℕ)) → same ≡ columns →
+pub behind_header : (text : List ℕ) (it : Records) (fields columns names same : List (List ℕ)) → same ≡ columns →
     StandsBehind text (fields ∷ []) it → map word_of fields ≡ header_of columns → length columns ≤ 10000 → AreNames columns →
     names ≡ columns → StandsBehindHeader text same names it
 behind_header text it fields columns names same e stands begins few valid named = subst (λ cs. StandsBehindHeader text cs names it) (sym e)
     (record { header = fields; stands = stands; begins = begins; few = few; valid = valid; named = named })
 
-pub header_read : (text : List ℕ) (it : Reader (Bor (List ℕ))) (columns names : List (List ℕ)) →
+pub header_read : (text : List ℕ) (it : Records) (columns names : List (List ℕ)) →
     StandsBehindHeader text columns names it → RowsRead text it names columns [] 0
 header_read text it columns names h = record {
   before = h.header ∷ [];
@@ -94,7 +96,7 @@ row_spells before words columns rows used row h counted room read new = record {
   };
 }
 
-pub row_added : (text : List ℕ) (old new : Reader (Bor (List ℕ))) (fields names columns names' : List (List ℕ)) (rows rows' : List Row)
+pub row_added : (text : List ℕ) (old new : Records) (fields names columns names' : List (List ℕ)) (rows rows' : List Row)
     (used used' : ℕ) (row : Row) → (h : RowsRead text old names columns rows used) → StandsBehind text (h.before ++ fields ∷ []) new →
     length rows < 10000 → ReadsRow (length columns) used (map word_of fields) row → IsNewName names row.basic →
     names' ≡ names ++ row.basic ∷ [] → rows' ≡ rows ++ row ∷ [] → used' ≡ used + length row.entries →
@@ -111,7 +113,7 @@ row_added text old new fields names columns names' rows rows' used used' row h s
     }
 
 -- all rows
-pub rows_end : (text : List ℕ) (it : Reader (Bor (List ℕ))) (names columns : List (List ℕ)) (rows : List Row) (used : ℕ) →
+pub rows_end : (text : List ℕ) (it : Records) (names columns : List (List ℕ)) (rows : List Row) (used : ℕ) →
     RowsRead text it names columns rows used → IsAtEnd it → IsTableauText text (tableau_of columns rows)
 rows_end text it names columns rows used h end =
     subst (λ ws. SpellsTableau ws (tableau_of columns rows)) (sym (ap words_of (end text h.before h.stands))) h.spelled
@@ -119,23 +121,29 @@ rows_end text it names columns rows used h end =
 -- ---- faults
 
 -- the records of the text, behind those that were read
-begin : (text : List ℕ) (before : Words) (it : Reader (Bor (List ℕ))) → StandsBehind text before it →
+reached_by : (text : List ℕ) (before : Words) (it : Records) → StandsBehind text before it →
+    (s : State) × (rest : List ℕ) × Reached default_config StartRecord (strip_bom text) before s rest
+reached_by text before (text_records.Quoted reader) stands = (_, stands.rest, stands.reached)
+reached_by text before (text_records.Plain left) stands = (stands.from, stands.rest, stands.reached)
+
+begin : (text : List ℕ) (before : Words) (it : Records) → StandsBehind text before it →
     (more : Words) × (records_of text ≡ words_of before ++ words_of more)
 begin text before it stands =
-    let more = records_begin (strip_bom text) before _ stands.rest stands.reached in
+    let at = reached_by text before it stands in
+    let more = records_begin (strip_bom text) before at.0 at.1 at.2 in
     (more.0, ap words_of more.1 ∙ map-append (map word_of) before more.0)
 
-pub no_record : (text : List ℕ) (it : Reader (Bor (List ℕ))) → StandsBehind text [] it → IsAtEnd it → IsFirstFaultOfTableau text 1 Header
+pub no_record : (text : List ℕ) (it : Records) → StandsBehind text [] it → IsAtEnd it → IsFirstFaultOfTableau text 1 Header
 no_record text it stands end =
     in_header refl (header (λ columns rows e. let none = ap words_of (end text [] stands) in cc (none, e)) refl)
 
-pub header_fault : (text : List ℕ) (it : Reader (Bor (List ℕ))) (fields : List (List ℕ)) (e : RowReason) →
+pub header_fault : (text : List ℕ) (it : Records) (fields : List (List ℕ)) (e : RowReason) →
     StandsBehind text (fields ∷ []) it → ((rows : Words) → HasHeaderFault (map word_of fields ∷ rows) e) → IsFirstFaultOfTableau text 1 e
 header_fault text it fields e stands fault =
     let more = begin text (fields ∷ []) it stands in
     in_header refl (subst (λ ws. HasHeaderFault ws e) (sym more.1) (fault (words_of more.0)))
 
-pub row_fault : (text : List ℕ) (old new : Reader (Bor (List ℕ))) (fields names columns : List (List ℕ)) (rows : List Row)
+pub row_fault : (text : List ℕ) (old new : Records) (fields names columns : List (List ℕ)) (rows : List Row)
     (used n : ℕ) (e : RowReason) → (h : RowsRead text old names columns rows used) → StandsBehind text (h.before ++ fields ∷ []) new →
     n ≡ length rows + 2 → HasRowFault (tableau_of columns rows) (map word_of fields) e → IsFirstFaultOfTableau text n e
 row_fault text old new fields names columns rows used n e h stands number fault =

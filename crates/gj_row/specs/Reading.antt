@@ -1,8 +1,11 @@
 -- What the steps of the reader answer (own).
-use Rattle.std.specs.Prelude.{ℕ, ◌≡◌, ◌+◌, ◌<◌, ◌≤◌, false, List, [], ◌∷◌, ◌++◌, Option, Some, None, length, map, Vec}
+use Rattle.std.specs.Prelude.{ℕ, ◌≡◌, ◌≢◌, ◌+◌, ◌<◌, ◌≤◌, ◌==◌, ◌||◌, Bool, true, false, List, [], ◌∷◌, ◌++◌, Option, Some, None, All, length, map, Vec}
+use Rattle.std.specs.List.{slice_split}
 use Rattle.std.specs.Borrow.{Bor}
+use Rattle.csv.specs.Machine.{next_record}
 use Rattle.csv.specs.Reading.{records, Reached, Ready, default_config, source_of, strip_bom, reader_trim, reader_config, reader_state}
 use Rattle.csv.specs.Records.{Row as FieldRow, fields_of}
+use Rattle.csv.specs.declared.parser.State.{State}
 use Rattle.csv.specs.declared.parser.State.TheVariants as state
 use Rattle.csv.specs.declared.reader.Reader.{Reader}
 use Rattle.csv.specs.declared.reader.Trim.TheVariants as trim
@@ -13,6 +16,9 @@ use Rattle.gj_shape.specs.Denominators.{Extends, HasNoCommonWith}
 use Rattle.gj_row.specs.TableauLimits.{most_columns, most_entries, AreNames, IsRowWithinLimits}
 use Rattle.gj_row.specs.TableauText.{word_of, is_zero, header_of, SpellsRow, entries_from}
 use Rattle.gj_row.specs.FirstFault.{BeginRow}
+use Rattle.gj_row.specs.declared.fields.Fields.{Fields as RecordFields}
+use Rattle.gj_row.specs.declared.records.Records.{Records}
+use Rattle.gj_row.specs.declared.records.Records.TheVariants as text_records
 use Rattle.gj_row.specs.declared.tableau.Entry.{Entry}
 use Rattle.gj_row.specs.declared.tableau.Row.{Row}
 use Rattle.gj_row.specs.declared.tableau.Tableau.{Tableau}
@@ -50,6 +56,30 @@ fault_in_record (record_fault.Memory a) n = row_fault.Memory a
 -- the words in the fields of a record
 abbrev pub words_in : FieldRow → List (List ℕ)
 words_in fields = map word_of (fields_of fields)
+
+abbrev pub is_comma : ℕ → Bool
+is_comma b = b == 44
+
+-- the fields of a line that has no quote stand between commas
+abbrev pub fields_of_line : List ℕ → List (List ℕ)
+fields_of_line line = slice_split is_comma line
+
+-- the fields that follow a field: none at the end of the line
+abbrev pub fields_behind : Option (Bor (List ℕ)) → List (List ℕ)
+fields_behind None = []
+fields_behind (Some line) = fields_of_line line.now
+
+-- the fields of the line, if there is one, and else those of the row
+abbrev pub fields_of_either : FieldRow → Option (Bor (List ℕ)) → List (List ℕ)
+fields_of_either row None = fields_of row
+fields_of_either row (Some line) = fields_of_line line.now
+
+abbrev pub fields_in : RecordFields → List (List ℕ)
+fields_in fields = fields_of_either fields.read fields.line
+
+-- the words in them
+abbrev pub words_of_fields : RecordFields → List (List ℕ)
+words_of_fields fields = map word_of (fields_in fields)
 
 -- ---- numbers
 
@@ -129,8 +159,29 @@ tableau_of columns rows = record { columns = columns; rows = rows }
 abbrev pub bytes_left : Bor (List ℕ) → Option (List ℕ)
 bytes_left s = Some s.now
 
+abbrev pub is_quote : ℕ → Bool
+is_quote b = b == 34
+
+-- the byte ends a line
+abbrev pub is_line_end : ℕ → Bool
+is_line_end b = (b == 13) || (b == 10)
+
+-- nothing follows a line, or a byte that ends it
+abbrev pub EndsLine : List ℕ → Type 0
+EndsLine [] = Unit {0}
+EndsLine (b ∷ after) = is_line_end b ≡ true
+
+-- the first line of the text that is not blank, and what follows it
+pub record IsFirstLine (text line after : List ℕ) : Type 0 where
+  pub blank : List ℕ
+  pub text_is : text ≡ blank ++ (line ++ after)
+  pub blanks : All (λ b. is_line_end b ≡ true) blank
+  pub full : line ≢ []
+  pub inside : All (λ b. is_line_end b ≡ false) line
+  pub ends : EndsLine after
+
 -- the next record that the reader gives is the one behind these records of the text
-pub record StandsBehind (text : List ℕ) (before : List (List (List ℕ))) (reader : Reader (Bor (List ℕ))) : Type 0 where
+pub record ReaderStandsBehind (text : List ℕ) (before : List (List (List ℕ))) (reader : Reader (Bor (List ℕ))) : Type 0 where
   pub no_trim : reader_trim reader ≡ trim.None
   pub ready : Ready reader
   pub config : reader_config reader ≡ default_config
@@ -138,30 +189,43 @@ pub record StandsBehind (text : List ℕ) (before : List (List (List ℕ))) (rea
   pub source : source_of bytes_left reader ≡ Some rest
   pub reached : Reached default_config state.StartRecord (strip_bom text) before (reader_state reader) rest
 
+-- the first record of what is left, which has no quote, is the one behind these records of the text
+pub record LinesStandBehind (text : List ℕ) (before : List (List (List ℕ))) (left : List ℕ) : Type 0 where
+  pub from : State
+  pub rest : List ℕ
+  pub reached : Reached default_config state.StartRecord (strip_bom text) before from rest
+  pub same : next_record default_config from [] [] rest ≡ next_record default_config state.StartRecord [] [] left
+  pub no_quote : All (λ b. is_quote b ≡ false) left
+
+-- the next record is the one behind these records of the text
+abbrev pub StandsBehind : List ℕ → List (List (List ℕ)) → Records → Type 0
+StandsBehind text before (text_records.Quoted reader) = ReaderStandsBehind text before reader
+StandsBehind text before (text_records.Plain left) = LinesStandBehind text before left.now
+
 -- the next record is the one behind record 1 of the text, which names these columns; the names so
 -- far are theirs
-pub record StandsBehindHeader (text : List ℕ) (columns names : List (List ℕ)) (reader : Reader (Bor (List ℕ))) : Type 0 where
+pub record StandsBehindHeader (text : List ℕ) (columns names : List (List ℕ)) (left : Records) : Type 0 where
   pub header : List (List ℕ)
-  pub stands : StandsBehind text (header ∷ []) reader
+  pub stands : StandsBehind text (header ∷ []) left
   pub begins : map word_of header ≡ header_of columns
   pub few : length columns ≤ most_columns
   pub valid : AreNames columns
   pub named : names ≡ columns
 
--- this holds of each text of which the reader has read nothing
-abbrev pub HoldsOfText : Reader (Bor (List ℕ)) → (List ℕ → Type 0) → Type 0
-HoldsOfText reader P = (text : List ℕ) → StandsBehind text [] reader → P text
+-- this holds of each text of which nothing has been read
+abbrev pub HoldsOfText : Records → (List ℕ → Type 0) → Type 0
+HoldsOfText left P = (text : List ℕ) → StandsBehind text [] left → P text
 
--- this holds of each text of which the reader has read record 1
-abbrev pub HoldsBehindHeader : List (List ℕ) → List (List ℕ) → Reader (Bor (List ℕ)) → (List ℕ → Type 0) → Type 0
-HoldsBehindHeader columns names reader P = (text : List ℕ) → StandsBehindHeader text columns names reader → P text
+-- this holds of each text of which record 1 has been read
+abbrev pub HoldsBehindHeader : List (List ℕ) → List (List ℕ) → Records → (List ℕ → Type 0) → Type 0
+HoldsBehindHeader columns names left P = (text : List ℕ) → StandsBehindHeader text columns names left → P text
 
 -- the step gave the record that is the next one
-abbrev pub StepsOver : Reader (Bor (List ℕ)) → FieldRow → Reader (Bor (List ℕ)) → Type 0
+abbrev pub StepsOver : Records → List (List ℕ) → Records → Type 0
 StepsOver old fields new =
-    (text : List ℕ) (before : List (List (List ℕ))) → StandsBehind text before old → StandsBehind text (before ++ fields_of fields ∷ []) new
+    (text : List ℕ) (before : List (List (List ℕ))) → StandsBehind text before old → StandsBehind text (before ++ fields ∷ []) new
 
 -- there is no next record
-abbrev pub IsAtEnd : Reader (Bor (List ℕ)) → Type 0
-IsAtEnd reader = (text : List ℕ) (before : List (List (List ℕ))) → StandsBehind text before reader →
+abbrev pub IsAtEnd : Records → Type 0
+IsAtEnd left = (text : List ℕ) (before : List (List (List ℕ))) → StandsBehind text before left →
     records default_config (strip_bom text) ≡ before

@@ -1,12 +1,122 @@
 //! The words in the fields of a record.
-ghost use Rattle.std.specs.Prelude.{◌≡◌, ◌<◌, Some, length, reverse, slice_get, not};
-ghost use Rattle.std.specs.List.{position};
+ghost use Rattle.std.specs.Prelude.{◌≡◌, ◌<◌, ◌≤◌, ◌^◌, ◌++◌, ◌∷◌, [], Some, IfOk, length, replicate, reverse, slice_get, not};
+ghost use Rattle.std.specs.List.{count_by, position, position_or_len};
 ghost use Rattle.csv.specs.Records.{fields_of};
 ghost use Rattle.gj_lex.specs.Words.{is_blank};
 ghost use Rattle.gj_row.specs.TableauText.{word_of, without_blanks_before};
-ghost use Rattle.gj_row.specs.Reading.{words_in};
+ghost use Rattle.gj_row.specs.Reading.{fields_behind, fields_in, fields_of_line, is_comma, words_in, words_of_fields};
 
 use csv::ByteRecord;
+use std::alloc::{AllocError, Global};
+
+/// The fields of a record.
+#[derive(Drop)]
+pub(crate) struct Fields<'a> {
+    /// As `csv` read them.
+    pub(crate) read: ByteRecord,
+    /// The line in which they stand between commas, if the text has no quote.
+    pub(crate) line: Option<&'a [u8]>,
+}
+
+/// Before the first record.
+pub(crate) fn no_fields<'a>(alloc: Global) -> Fields<'a>
+    ensures { fields_in result ≡ [] }
+{
+    Fields {
+        read: ByteRecord::new(alloc),
+        line: None,
+    }
+}
+
+/// How many fields there are.
+pub(crate) fn field_count(fields: &Fields<'_>) -> usize
+    ensures { result ≡ length (fields_in fields.now) }
+{
+    match fields.line {
+        Some(line) => commas(line) + 1,
+        None => fields.read.len(),
+    }
+}
+
+/// How many commas stand in the line.
+fn commas(line: &[u8]) -> usize
+    ensures count { result ≡ count_by is_comma line.now }
+    ensures few { result < 2 ^ 63 }
+{
+    let mut count = 0;
+    for byte in line {
+        count += usize::from(*byte == b',');
+    }
+    count
+}
+
+/// The word in the first field.
+pub(crate) fn first_word<'a>(fields: &'a Fields<'_>) -> &'a [u8]
+    requires { 0 < length (fields_in fields.now) }
+    ensures { slice_get (words_of_fields fields.now) 0 ≡ Some result.now }
+{
+    match fields.line {
+        Some(line) => word_of(first_field(line).0),
+        None => word_at(&fields.read, 0),
+    }
+}
+
+/// The first field of the line, and what follows the comma behind it.
+pub(crate) fn first_field(line: &[u8]) -> (&[u8], Option<&[u8]>)
+    ensures { fields_of_line line.now ≡ result.0.now ∷ fields_behind result.1 }
+{
+    match first_comma(line) {
+        Some(end) => (&line[..end], Some(&line[end + 1..])),
+        None => (line, None),
+    }
+}
+
+/// How many empty fields the line begins with, the field that follows them, and what follows the
+/// comma behind it.
+pub(crate) fn field_behind_empty(line: &[u8]) -> (usize, &[u8], Option<&[u8]>)
+    ensures { fields_of_line line.now ≡
+        replicate result.0 [] ++ result.1.now ∷ fields_behind result.2 }
+{
+    let empty = leading_commas(line);
+    let (field, behind) = first_field(&line[empty..]);
+    (empty, field, behind)
+}
+
+/// How many commas the line begins with.
+fn leading_commas(line: &[u8]) -> usize
+    ensures count { result ≡ position_or_len (λ b. not (is_comma b)) line.now }
+    ensures within { result ≤ length line.now }
+{
+    first_filled(line).unwrap_or(line.len())
+}
+
+/// Where the first byte stands that is no comma.
+fn first_filled(line: &[u8]) -> Option<usize>
+    ensures { result ≡ position (λ b. not (is_comma b)) line.now }
+{
+    line.iter().position(|byte| *byte != b',')
+}
+
+/// Where the first comma stands.
+fn first_comma(line: &[u8]) -> Option<usize>
+    ensures { result ≡ position is_comma line.now }
+{
+    line.iter().position(|byte| *byte == b',')
+}
+
+/// The record with the fields of the line.
+pub(crate) fn record_of_line(alloc: Global, line: &[u8]) -> Result<ByteRecord, AllocError>
+    ensures { IfOk result (λ row. fields_of row ≡ fields_of_line line.now) }
+{
+    let mut fields = ByteRecord::new(alloc);
+    let mut left = Some(line);
+    while let Some(rest) = left {
+        let (field, behind) = first_field(rest);
+        fields.push_field(field)?;
+        left = behind;
+    }
+    Ok(fields)
+}
 
 /// The word in the field at this place.
 pub(crate) fn word_at(fields: &ByteRecord, place: usize) -> &[u8]
@@ -20,7 +130,7 @@ pub(crate) fn word_at(fields: &ByteRecord, place: usize) -> &[u8]
 }
 
 /// The word in the field: what is left without the spaces and tabs at both its ends.
-fn word_of(field: &[u8]) -> &[u8]
+pub(crate) fn word_of(field: &[u8]) -> &[u8]
     ensures { result.now ≡ word_of field.now }
 {
     if field.is_empty() {

@@ -4,10 +4,10 @@ ghost use Rattle.csv.specs.Records.{fields_of};
 ghost use Rattle.gj_row.specs.TableauLimits.{most_columns, AreNames};
 ghost use Rattle.gj_row.specs.TableauText.{header_of};
 ghost use Rattle.gj_row.specs.FirstFault.{BreaksName, IsNewName, HasHeaderFault};
-ghost use Rattle.gj_row.specs.Reading.{NamesReason, bytes_of, words_in};
+ghost use Rattle.gj_row.specs.Reading.{NamesReason, bytes_of, words_in, words_of_fields};
 
 use crate::faults::{RecordFault, RowReason};
-use crate::fields::word_at;
+use crate::fields::{Fields, record_of_line, word_at};
 use csv::ByteRecord;
 use gj_lex::{Name, NameFault};
 use indexmap::IndexSet;
@@ -26,7 +26,25 @@ pub(crate) struct Header {
 }
 
 /// The names of the columns in record 1.
-pub(crate) fn header_in(alloc: Global, fields: &ByteRecord) -> Result<Header, RecordFault>
+pub(crate) fn header_of(alloc: Global, fields: &Fields<'_>) -> Result<Header, RecordFault>
+    ensures begins { IfOk result (λ h. words_of_fields fields.now ≡ header_of h.columns.items) }
+    ensures few { IfOk result (λ h. length h.columns.items ≤ most_columns) }
+    ensures names { IfOk result (λ h. AreNames h.columns.items) }
+    ensures kept { IfOk result (λ h. bytes_of h.names.keys ≡ h.columns.items) }
+    ensures refused { IfErr result (NamesReason (λ e.
+        (rows : List (List (List ℕ))) → HasHeaderFault (words_of_fields fields.now ∷ rows) e)) }
+{
+    match fields.line {
+        Some(line) => {
+            let record = record_of_line(alloc, line)?;
+            header_in(alloc, &record)
+        }
+        None => header_in(alloc, &fields.read),
+    }
+}
+
+/// The names of the columns in record 1, as a record of `csv`.
+fn header_in(alloc: Global, fields: &ByteRecord) -> Result<Header, RecordFault>
     ensures begins { IfOk result (λ h. words_in fields.now ≡ header_of h.columns.items) }
     ensures few { IfOk result (λ h. length h.columns.items ≤ most_columns) }
     ensures names { IfOk result (λ h. AreNames h.columns.items) }

@@ -15,6 +15,7 @@ mod laws;
 mod limits;
 mod numbers;
 mod read;
+mod records;
 mod tableau;
 
 pub use faults::{RowFault, RowReason};

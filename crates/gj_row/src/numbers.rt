@@ -1,5 +1,5 @@
 //! The numbers of a row.
-ghost use Rattle.std.specs.Prelude.{◌≡◌, ◌<◌, ◌≤◌, ◌+◌, ◌++◌, pos, Some, IfOk, IfErr, IfSome, IfNone, length, drop};
+ghost use Rattle.std.specs.Prelude.{◌≡◌, ◌<◌, ◌≤◌, ◌+◌, ◌++◌, pos, Some, IfOk, IfErr, IfSome, IfNone, length, drop, map};
 ghost use Rattle.csv.specs.Records.{fields_of};
 ghost use Rattle.gj_frac.specs.declared.Frac.{Frac};
 ghost use Rattle.gj_frac.specs.Fraction.{IsRatio};
@@ -8,12 +8,12 @@ ghost use Rattle.gj_lex.specs.declared.spelling.Spelling.{Spelling};
 ghost use Rattle.gj_shape.specs.Limits.{denominator_bound, greatest_number};
 ghost use Rattle.gj_shape.specs.Denominators.{Extends};
 ghost use Rattle.gj_row.specs.TableauLimits.{most_entries};
-ghost use Rattle.gj_row.specs.TableauText.{SpellsEntry, entry_at, is_zero};
+ghost use Rattle.gj_row.specs.TableauText.{SpellsEntry, entry_at, is_zero, word_of};
 ghost use Rattle.gj_row.specs.FirstFault.{HasNumberFault};
-ghost use Rattle.gj_row.specs.Reading.{StopsNumber, StopsEntry, HasRead, NamesReason, words_in};
+ghost use Rattle.gj_row.specs.Reading.{StopsNumber, StopsEntry, HasRead, NamesReason, fields_in, fields_of_line, words_in, words_of_fields};
 
 use crate::faults::{RecordFault, RowReason};
-use crate::fields::word_at;
+use crate::fields::{Fields, field_behind_empty, first_field, word_at, word_of};
 use crate::limits::within;
 use crate::tableau::Entry;
 use csv::ByteRecord;
@@ -35,13 +35,68 @@ pub(crate) struct Numbers {
     pub(crate) entries: Vec<Entry>,
 }
 
-/// The numbers that stand in the record behind the name, if the rows before it have `used` entries
-/// that are not 0.
-pub(crate) fn numbers_in(
+/// The numbers that stand behind the name, if the rows before it have `used` entries that are
+/// not 0.
+pub(crate) fn numbers_of(
     alloc: Global,
-    fields: &ByteRecord,
+    fields: &Fields<'_>,
     used: usize,
 ) -> Result<Numbers, RecordFault>
+    requires wide { 2 ≤ length (fields_in fields.now) }
+    requires narrow { length (fields_in fields.now) ≤ 10002 }
+    requires few { used ≤ most_entries }
+    ensures found { IfOk result (λ n. HasRead used (drop 1 (words_of_fields fields.now))
+        n.rhs n.scale n.entries.items) }
+    ensures refused { IfErr result
+        (NamesReason (HasNumberFault used (drop 1 (words_of_fields fields.now)))) }
+{
+    let Some(line) = fields.line else {
+        return numbers_in(alloc, &fields.read, used);
+    };
+    match first_field(line).1 {
+        Some(numbers) => numbers_in_line(alloc, numbers, used),
+        None => unreachable!(),
+    }
+}
+
+/// The numbers that stand in the line, if the rows before it have `used` entries that are not 0.
+fn numbers_in_line(alloc: Global, line: &[u8], used: usize) -> Result<Numbers, RecordFault>
+    requires narrow { length (fields_of_line line.now) ≤ 10001 }
+    requires few { used ≤ most_entries }
+    ensures found { IfOk result (λ n. HasRead used (map word_of (fields_of_line line.now))
+        n.rhs n.scale n.entries.items) }
+    ensures refused { IfErr result
+        (NamesReason (HasNumberFault used (map word_of (fields_of_line line.now)))) }
+{
+    let (right, behind) = first_field(line);
+    let (rhs, right_scale) = match right_side(word_of(right)) {
+        Ok(right) => right,
+        Err(reason) => return Err(RecordFault::Refused(reason)),
+    };
+    let mut scale = right_scale;
+    let mut entries = Vec::new(alloc);
+    let mut column = 0;
+    let mut left = behind;
+    while let Some(rest) = left {
+        let (empty, field, next) = field_behind_empty(rest);
+        column += empty as u32;
+        match with_entry(&mut entries, scale, used, column, word_of(field)) {
+            Ok(multiple) => scale = multiple,
+            Err(fault) => return Err(fault),
+        }
+        column += 1;
+        left = next;
+    }
+    Ok(Numbers {
+        rhs,
+        scale,
+        entries,
+    })
+}
+
+/// The numbers that stand in the record behind the name, if the rows before it have `used` entries
+/// that are not 0.
+fn numbers_in(alloc: Global, fields: &ByteRecord, used: usize) -> Result<Numbers, RecordFault>
     requires wide { 2 ≤ length (fields_of fields.now) }
     requires narrow { length (fields_of fields.now) ≤ 10002 }
     requires few { used ≤ most_entries }
@@ -81,6 +136,8 @@ fn likely_entries(fields: &ByteRecord) -> usize
 
 /// Adds the entry that the word spells for the column, unless it is 0, and gives the least common
 /// denominator with it.
+// Most words are empty where a row has few entries: no call for them.
+#[inline(always)]
 fn with_entry(
     entries: &mut Vec<Entry>,
     scale: u32,

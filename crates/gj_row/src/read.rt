@@ -3,19 +3,19 @@ ghost use Rattle.std.specs.Prelude.{◌≡◌, ◌<◌, ◌≤◌, ◌++◌, ◌
 ghost use Rattle.gj_row.specs.TableauLimits.{most_columns, most_entries, most_rows, IsTableau, names_of, entry_count};
 ghost use Rattle.gj_row.specs.TableauText.{IsTableauText};
 ghost use Rattle.gj_row.specs.FirstFault.{HasRowFault, IsFirstFaultOfTableau, IsNewName};
-ghost use Rattle.gj_row.specs.Reading.{IsMemoryFault, NamesRecord, NamesReason, ReadsRow, HoldsBehindHeader, HoldsOfText, StandsBehind, StepsOver, IsAtEnd, bytes_of, tableau_of, words_in};
+ghost use Rattle.gj_row.specs.Reading.{IsMemoryFault, NamesRecord, NamesReason, ReadsRow, HoldsBehindHeader, HoldsOfText, StandsBehind, bytes_of, tableau_of, words_of_fields};
 ghost use Rattle.gj_row.specs.declared.tableau.Tableau.{Tableau};
 
 use crate::faults::{RecordFault, RowFault, RowReason};
-use crate::fields::word_at;
-use crate::header::{Header, header_in, new_name};
-use crate::numbers::numbers_in;
+use crate::fields::{Fields, field_count, first_word, no_fields};
+use crate::header::{Header, header_of, new_name};
+use crate::numbers::numbers_of;
+use crate::records::{Records, next_record, records_of};
 use crate::tableau::{Row, Tableau};
-use csv::{ByteRecord, Reader, ReaderBuilder};
 use gj_lex::Name;
 use gj_shape::List;
 use indexmap::IndexSet;
-use std::alloc::{AllocError, Global};
+use std::alloc::Global;
 
 /// The greatest number of rows.
 const MOST_ROWS: usize = 10_000;
@@ -72,16 +72,16 @@ fn tableau_in(alloc: Global, bytes: &[u8]) -> Result<Tableau, RowFault>
 }
 
 /// The tableau that all records spell, or the first fault among them.
-fn tableau_from(alloc: Global, records: &mut Reader<&[u8]>) -> Result<Tableau, RowFault>
+fn tableau_from(alloc: Global, records: &mut Records<'_>) -> Result<Tableau, RowFault>
     ensures found { IfOk result (λ t. HoldsOfText records.old (λ text. IsTableauText text t)) }
     ensures refused { IfErr result (NamesRecord (λ n e. HoldsOfText records.old
         (λ text. IsFirstFaultOfTableau text n e))) }
 {
-    let mut fields = ByteRecord::new(alloc);
+    let mut fields = no_fields(alloc);
     if !next_record(records, &mut fields)? {
         return Err(RowFault::Refused(1, RowReason::Header));
     }
-    let header = match header_in(alloc, &fields) {
+    let header = match header_of(alloc, &fields) {
         Ok(header) => header,
         Err(fault) => return Err(fault.in_record(1)),
     };
@@ -96,10 +96,10 @@ fn tableau_from(alloc: Global, records: &mut Reader<&[u8]>) -> Result<Tableau, R
 
 /// The rows in the records that are left, behind a header with these columns, or the first fault
 /// among them.
-fn rows_in(
+fn rows_in<'a>(
     alloc: Global,
-    records: &mut Reader<&[u8]>,
-    fields: &mut ByteRecord,
+    records: &mut Records<'a>,
+    fields: &mut Fields<'a>,
     columns: &[Name],
     names: &mut IndexSet<Vec<u8>>,
 ) -> Result<Vec<Row>, RowFault>
@@ -125,36 +125,11 @@ fn rows_in(
     Ok(rows)
 }
 
-/// What reads the records of the text.
-fn records_of(alloc: Global, bytes: &[u8]) -> Reader<&[u8]>
-    ensures { StandsBehind bytes.now [] result }
-{
-    ReaderBuilder::new()
-        .has_headers(false)
-        .flexible(true)
-        .from_reader(alloc, bytes)
-}
-
-/// Reads the next record of a text into the fields, and says whether there is one.
-///
-/// Each error of `csv` is answered as want of memory: that reading from a slice fails in another
-/// way is left open by its contract, and never comes.
-fn next_record(records: &mut Reader<&[u8]>, fields: &mut ByteRecord) -> Result<bool, AllocError>
-    ensures some { IfOk result (λ found. found ≡ true →
-        StepsOver records.old fields.new records.new) }
-    ensures end { IfOk result (λ found. found ≡ false → IsAtEnd records.old) }
-{
-    let Ok(found) = records.read_byte_record(fields) else {
-        return Err(AllocError);
-    };
-    Ok(found)
-}
-
 /// The row in the record, behind so many rows, with `used` entries that are not 0, of a tableau
 /// with so many columns and these names.
 fn next_row(
     alloc: Global,
-    fields: &ByteRecord,
+    fields: &Fields<'_>,
     names: &mut IndexSet<Vec<u8>>,
     columns: usize,
     rows: usize,
@@ -163,23 +138,23 @@ fn next_row(
     requires narrow { columns ≤ most_columns }
     requires few { used ≤ most_entries }
     ensures room { OnOk result (rows < most_rows) }
-    ensures row { IfOk result (ReadsRow columns used (words_in fields.now)) }
+    ensures row { IfOk result (ReadsRow columns used (words_of_fields fields.now)) }
     ensures new { IfOk result (λ row. IsNewName (bytes_of names.old.keys) row.basic) }
     ensures kept { IfOk result
         (λ row. bytes_of names.new.keys ≡ bytes_of names.old.keys ++ row.basic ∷ []) }
     ensures refused { IfErr result (NamesReason (λ e. (t : Tableau) → length t.columns ≡ columns →
         length t.rows ≡ rows →
         names_of t ≡ bytes_of names.old.keys → entry_count t ≡ used →
-        HasRowFault t (words_in fields.now) e)) }
+        HasRowFault t (words_of_fields fields.now) e)) }
 {
-    if fields.len() != columns + 2 {
+    if field_count(fields) != columns + 2 {
         return Err(RecordFault::Refused(RowReason::Fields));
     }
     if rows >= MOST_ROWS {
         return Err(RecordFault::Refused(RowReason::Rows));
     }
-    let basic = new_name(alloc, names, word_at(fields, 0))?;
-    let numbers = numbers_in(alloc, fields, used)?;
+    let basic = new_name(alloc, names, first_word(fields))?;
+    let numbers = numbers_of(alloc, fields, used)?;
     Ok(Row {
         basic,
         rhs: numbers.rhs,

@@ -1,8 +1,7 @@
 use Rattle.std.proofs.Common.{◌≡◌, ◌+◌, ◌<◌, refl, length, sym, ap, arith}
-use Rattle.csv.specs.Records.{fields_of}
 use Rattle.gj_row.specs.TableauLimits.{names_of, entry_count}
 use Rattle.gj_row.specs.FirstFault.{HasRowFault, IsFirstFaultOfTableau}
-use Rattle.gj_row.specs.Reading.{HoldsBehindHeader, bytes_of, tableau_of, words_in}
+use Rattle.gj_row.specs.Reading.{HoldsBehindHeader, bytes_of, tableau_of, fields_in, words_of_fields}
 use Rattle.gj_row.specs.declared.tableau.Tableau.{Tableau}
 use Rattle.gj_row.proofs.Reasons.{names_record}
 use Rattle.gj_row.proofs.RowsRead.{header_read, row_added, rows_end, row_fault}
@@ -31,11 +30,11 @@ returns-in-Err-clause-refused c =
     rw c.in_record.ensures
     (names_record
     (λ e. (t : Tableau) → length t.columns ≡ length columns → length t.rows ≡ c.len.result → names_of t ≡ names →
-    entry_count t ≡ c.loop-rows.used → HasRowFault t (words_in fields) e)
+    entry_count t ≡ c.loop-rows.used → HasRowFault t (words_of_fields fields) e)
     (λ n e. HoldsBehindHeader columns (bytes_of c.args.names.now.keys) c.args.records.now (λ text. IsFirstFaultOfTableau text n e))
     c.in-Err.fault (c.len-in-Err.result + 2)
     (λ e fault text h. let so_far = c.loop-rows.invariant.read text h in
-    row_fault text c.loop-rows.records c.next_record.new.records (fields_of fields) names columns rows c.loop-rows.used
+    row_fault text c.loop-rows.records c.next_record.new.records (fields_in fields) names columns rows c.loop-rows.used
     (c.len-in-Err.result + 2) e so_far (c.in_ok-next_record.ensures.some c.if-branch.true text so_far.before so_far.stands) number
     (fault (tableau_of columns rows) refl many (sym so_far.named) (sym so_far.counted)))
     c.in-Err.ensures.refused)
@@ -50,7 +49,7 @@ loop-rows-preserved c =
     record {
       few = omega (arith, used, read.row.few);
       read = λ text h. let so_far = c.loop-rows.invariant.read text h in
-          row_added text c.loop-rows.records c.next_record.new.records (fields_of c.next_record.new.fields) (bytes_of c.loop-rows.names.keys)
+          row_added text c.loop-rows.records c.next_record.new.records (fields_in c.next_record.new.fields) (bytes_of c.loop-rows.names.keys)
           c.args.columns.now (bytes_of c.next_row.new.names.keys) rows c.push.new.self.items c.loop-rows.used
           (c.loop-rows.used + length c.as_slice.result.now) row so_far
           (c.in_ok-next_record.ensures.some c.if-branch.true text so_far.before so_far.stands) room read.row read.new read.kept

@@ -1,9 +1,8 @@
 use Rattle.std.proofs.Common.{◌∷◌, [], ℕ, List, subst}
 use Rattle.std.proofs.lemmas.Result.{err_from_is_err_and}
-use Rattle.csv.specs.Records.{fields_of}
 use Rattle.gj_row.specs.TableauText.{IsTableauText}
 use Rattle.gj_row.specs.FirstFault.{HasHeaderFault, IsFirstFaultOfTableau}
-use Rattle.gj_row.specs.Reading.{HoldsBehindHeader, HoldsOfText, bytes_of, tableau_of, words_in}
+use Rattle.gj_row.specs.Reading.{HoldsBehindHeader, HoldsOfText, bytes_of, tableau_of, fields_in, words_of_fields}
 use Rattle.gj_row.proofs.Reasons.{names_record, records_weaker}
 use Rattle.gj_row.proofs.RowsRead.{no_record, header_fault, behind_header}
 use Rattle.gj_row.proofs.read.tableau_from.Goals as goal
@@ -15,9 +14,9 @@ pub returns-in-Err-clause-refused : goal.returns-in-Err-clause-refused
 returns-in-Err-clause-refused c =
     let fields = c.next_record.new.fields in
     rw c.in_record.ensures
-    (names_record (λ e. (rows : List (List (List ℕ))) → HasHeaderFault (words_in fields ∷ rows) e)
+    (names_record (λ e. (rows : List (List (List ℕ))) → HasHeaderFault (words_of_fields fields ∷ rows) e)
     (λ n e. HoldsOfText c.args.records.now (λ text. IsFirstFaultOfTableau text n e)) c.in-Err.fault 1
-    (λ e fault text start. header_fault text c.next_record.new.records (fields_of fields) e
+    (λ e fault text start. header_fault text c.next_record.new.records (fields_in fields) e
     (c.in_ok-next_record.ensures.some c.if-not-branch.false text [] start) fault)
     c.in-Err.ensures.refused)
 
@@ -34,7 +33,7 @@ returns-in_err-rows-clause-refused c =
     rw (p.1, p.2)
     (records_weaker (λ n e. HoldsBehindHeader columns names new.records (λ text. IsFirstFaultOfTableau text n e))
     (λ n e. HoldsOfText c.args.records.now (λ text. IsFirstFaultOfTableau text n e)) c.in_err-rows.field-0.0
-    (λ n e fault text start. fault text (behind_header text new.records (fields_of new.fields) c.in-Ok.header.columns.items names columns
+    (λ n e fault text start. fault text (behind_header text new.records (fields_in new.fields) c.in-Ok.header.columns.items names columns
     c.deref.ensures.value (c.in_ok-next_record.ensures.some c.if-not-branch.false text [] start) header.begins header.few header.names header.kept))
     c.in_err-rows.ensures.refused)
 
@@ -47,5 +46,5 @@ returns-clause-found c = λ text start.
     let rows = c.in_ok-rows.rows.items in
     rw (c.of.ensures, c.of-2.ensures)
     (subst (λ cs. IsTableauText text (tableau_of cs rows)) c.deref.ensures.value
-    (c.in_ok-rows.ensures.found text (behind_header text new.records (fields_of new.fields) columns names c.deref.result.now
+    (c.in_ok-rows.ensures.found text (behind_header text new.records (fields_in new.fields) columns names c.deref.result.now
     c.deref.ensures.value (c.in_ok-next_record.ensures.some c.if-not-branch.false text [] start) header.begins header.few header.names header.kept)))

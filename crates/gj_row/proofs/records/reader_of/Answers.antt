@@ -1,6 +1,6 @@
 use Rattle.std.proofs.Common.{refl, sym, ap, ◌∙◌, true, inr}
 use Rattle.csv.specs.Reading.{Reached, strip_bom, builder_config, builder_names_headers, builder_trim, with_flexible}
-use Rattle.gj_row.proofs.read.records_of.Goals as goal
+use Rattle.gj_row.proofs.records.reader_of.Goals as goal
 
 pub returns : goal.returns
 unfolding Reached
