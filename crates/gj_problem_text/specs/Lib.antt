@@ -1,0 +1,2 @@
+pub mod ProblemLines
+pub mod LinesRead
