@@ -1,1 +1,2 @@
 pub mod LinesTold
+pub mod Bounds

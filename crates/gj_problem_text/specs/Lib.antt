@@ -1,2 +1,3 @@
 pub mod ProblemLines
 pub mod LinesRead
+pub mod Tasks

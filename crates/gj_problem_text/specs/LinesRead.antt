@@ -20,3 +20,8 @@ line_told (Grid n) = grid n
 abbrev pub IsRefusedFor : (Reason → Type 0) → LineFault → Type 0
 IsRefusedFor Q (Broken e) = Q e
 IsRefusedFor Q (Memory a) = Unit {0}
+
+-- there was no memory
+abbrev pub IsMemory : LineFault → Type 0
+IsMemory (Broken e) = ⊥
+IsMemory (Memory a) = Unit {0}

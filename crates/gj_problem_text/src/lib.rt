@@ -3,3 +3,7 @@
 
 mod faults;
 mod lines;
+mod steps;
+mod task;
+
+pub use task::{Request, Task};
